@@ -1,0 +1,20 @@
+-- What interning does to a list of texts. The id of a text is its place in the list.
+use Rattle.std.specs.Prelude.{◌≡◌, ℕ, ◌≤◌, List, [], ◌∷◌, ◌++◌, length, Contains, Some, ◌⊎◌, ◌↔◌, map, slice_get, String, string_bytes}
+use Rattle.std.specs.BTreeMap.{BTreeMap, get_by_text}
+
+-- the texts of a `Names`: none twice, none over 1,024 bytes, at most 65,536
+pub record AreNames (texts : List (List ℕ)) : Type 0 where
+  pub distinct : (i j : ℕ) (text : List ℕ) → slice_get texts i ≡ Some text → slice_get texts j ≡ Some text → i ≡ j
+  pub short : (text : List ℕ) → Contains texts text → length text ≤ 1024
+  pub few : length texts ≤ 65536
+
+-- a text that was there changes nothing, and a new one stands at the end
+abbrev pub Interns : List (List ℕ) → List (List ℕ) → List ℕ → Type 0
+Interns old new text = (Contains old text × (new ≡ old)) ⊎ (¬ Contains old text × (new ≡ old ++ text ∷ []))
+
+-- the look-up by text gives each text its place and finds nothing else, and the texts keep within the limits
+module _ {Y Z : Type 0} where
+  pub record Agrees (texts : List (String Y)) (ids : BTreeMap (String Z) ℕ) : Type 0 where
+    pub places : (text : List ℕ) (id : ℕ) → (get_by_text ids text ≡ Some id) ↔ (slice_get (map string_bytes texts) id ≡ Some text)
+    pub short : (text : List ℕ) → Contains (map string_bytes texts) text → length text ≤ 1024
+    pub few : length texts ≤ 65536

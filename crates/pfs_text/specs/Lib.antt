@@ -1,0 +1,5 @@
+pub mod Decimals
+pub mod Meeting
+pub mod Patterns
+pub mod Quotes
+pub mod Scanning

@@ -1,0 +1,21 @@
+//! Texts as lists of bytes: decimal numbers, `LIKE`, quoting and the conditions of a `WHERE`.
+#![tactic(auto)]
+
+mod conditions;
+pub mod laws;
+mod numbers;
+mod pattern;
+mod quoting;
+mod texts;
+
+pub use conditions::{Comparison, Literal, Shown, Test, TestKind, meets};
+pub use numbers::{put_u64, read_u64};
+pub use pattern::like;
+pub use quoting::{quote, unquote};
+pub use texts::Text;
+
+/// Memory ran out.
+pub type NoMemory = std::alloc::AllocError;
+
+#[cfg(test)]
+mod tests;
