@@ -1,0 +1,6 @@
+pub mod BuiltinLemmas
+pub mod Examples
+pub mod KindLemmas
+pub mod KnownLemmas
+pub mod NameLemmas
+pub mod RegistryLemmas

@@ -1,0 +1,4 @@
+pub mod Builtins
+pub mod Kinds
+pub mod Registry
+pub mod Settings

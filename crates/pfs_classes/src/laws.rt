@@ -1,0 +1,32 @@
+//! Laws of the definitions.
+
+ghost use Rattle.std.specs.Prelude.{◌≡◌, ◌<◌, List, ℕ, Contains, length, Some};
+ghost use Rattle.pfs_names.specs.Interning.{Interns};
+ghost use Rattle.pfs_classes.specs.declared.kind.Kind.{Kind};
+ghost use Rattle.pfs_classes.specs.declared.classes.Class.{Class};
+ghost use Rattle.pfs_classes.specs.Kinds.{Fits};
+ghost use Rattle.pfs_classes.specs.Registry.{Registry, class_at};
+ghost use Rattle.pfs_classes.specs.Builtins.{Row, builtins};
+ghost use Rattle.pfs_classes.specs.Settings.{ComesFrom, HasNames};
+
+/// A name has one kind at most.
+pub fn one_kind()
+    ensures { (name : List ℕ) (a b : Kind) → Fits name a → Fits name b → a ≡ b }
+{}
+
+/// Each row of the built-in list has the kind of its name.
+pub fn builtin_kinds()
+    ensures { (row : Row) → Contains builtins row → Fits row.name row.kind }
+{}
+
+/// A register that comes from the built-in list over some names does so over more names.
+pub fn more_names()
+    ensures { (old new : List (List ℕ)) (text : List ℕ) (r : Registry) → Interns old new text → ComesFrom old r → ComesFrom new r }
+{}
+
+/// The names of a register that comes from the built-in list over some names are of these names,
+/// so that the name of the class of each id may be asked for.
+pub fn known_names()
+    ensures come { (texts : List (List ℕ)) (r : Registry) → ComesFrom texts r → HasNames texts r }
+    ensures class { (texts : List (List ℕ)) (r : Registry) (id : ℕ) (class : Class) → HasNames texts r → class_at r id ≡ Some class → class.name < length texts }
+{}

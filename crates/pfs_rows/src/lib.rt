@@ -1,0 +1,11 @@
+//! Names for the rows of the shared board, for its tables and its readings, and the limits.
+#![tactic(auto)]
+
+pub mod laws;
+pub mod limits;
+pub mod place;
+pub mod table;
+
+pub use limits::{BadLimits, Layout, Limit, Limits};
+pub use place::{Place, place_of, row_of};
+pub use table::{EventTable, Reading, Seen, SummaryTable, Table, TableKind};
