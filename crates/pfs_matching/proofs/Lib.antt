@@ -1,0 +1,6 @@
+pub mod BestRow
+pub mod Examples
+pub mod KeyedRows
+pub mod LeastRole
+pub mod NamedPlaces
+pub mod Opening

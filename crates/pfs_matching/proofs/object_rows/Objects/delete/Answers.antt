@@ -1,0 +1,12 @@
+use Rattle.std.proofs.Common.{◌≤◌, sym, subst}
+use Rattle.pfs_matching.specs.ObjectRules.{object_key}
+use Rattle.pfs_matching.specs.Keyed.{AreRows}
+use Rattle.pfs_matching.proofs.NamedPlaces.{AreRows-without_named}
+use Rattle.pfs_matching.proofs.object_rows.Objects.delete.Goals as goal
+
+-- what stays is in order
+pub invariant_of-self : goal.invariant_of-self
+invariant_of-self c = (
+  subst (λ rs. AreRows object_key rs) (sym c.remove_places.ensures.rows) (AreRows-without_named object_key c.self.inside.rows.items c.args.keys.now c.self.invariant.0),
+  subst (λ n. 100 ≤ n) (sym c.remove_places.ensures.room) c.self.invariant.1,
+)

@@ -1,0 +1,3 @@
+pub mod ActorRules
+pub mod Keyed
+pub mod ObjectRules

@@ -1,0 +1,277 @@
+//! `setup_objects`: which tables are instrumented.
+ghost use Rattle.std.specs.Prelude.{◌≡◌, ℕ, ◌+◌, ◌<◌, ◌≤◌, ◌↔◌, [], ◌∷◌, ◌++◌, length, map, All, Contains, IfOk, IsTrue, OnOk, OnErr, Some, slice_get, vec_capacity, vec_len};
+ghost use Rattle.std.specs.List.{list_any, prefix_len};
+ghost use Rattle.std.specs.List.Sorted.{IsStrictlyIncreasing};
+ghost use Rattle.std.specs.Option.{option_map};
+ghost use Rattle.std.specs.Ordering.{is_eq};
+ghost use Rattle.pfs_matching.specs.Keyed.{AreRows, comes_before, key_cmp, with_named_changed, with_row, without_named};
+ghost use Rattle.pfs_matching.specs.ObjectRules.{changed_object, is_table as spec_is_table, kind_name as spec_kind_name, object_key, opening_objects, opening_of_kind, opening_row as spec_row, table_flags, table_row};
+
+use crate::places::remove_places;
+use crate::{FlagChange, MatchFault, NoMemory};
+use pfs_text::Text;
+use std::alloc::Global;
+use std::cmp::Ordering;
+use std::marker::Model;
+
+/// The most rows.
+const MOST_ROWS: usize = 100;
+
+/// The OBJECT_TYPE of a row. The kinds stand in the order of their names by bytes.
+#[derive(Clone, Copy, Debug, PartialEq, Eq)]
+pub enum ObjectKind {
+    Event,
+    Function,
+    Procedure,
+    Table,
+    Trigger,
+}
+
+/// The kinds in their order.
+const KINDS: [ObjectKind; 5] = [
+    ObjectKind::Event,
+    ObjectKind::Function,
+    ObjectKind::Procedure,
+    ObjectKind::Table,
+    ObjectKind::Trigger,
+];
+
+/// A row of `setup_objects`: OBJECT_TYPE, OBJECT_SCHEMA, OBJECT_NAME, ENABLED and TIMED. The text `%` stands for any schema or
+/// name.
+#[derive(Debug, Drop)]
+pub struct ObjectRow {
+    pub kind: ObjectKind,
+    pub schema: Text,
+    pub name: Text,
+    pub enabled: bool,
+    pub timed: bool,
+}
+
+/// The rows of `setup_objects` in the order of OBJECT_TYPE, OBJECT_SCHEMA and OBJECT_NAME by their bytes, with room for 100.
+#[derive(Drop)]
+pub struct Objects {
+    rows: Vec<ObjectRow>,
+}
+
+impl Model for Objects {
+    ghost use Rattle.std.specs.Prelude.{List, ◌≤◌, vec_capacity};
+    ghost use Rattle.pfs_matching.specs.declared.object_rows.ObjectRow.{ObjectRow};
+    ghost use Rattle.pfs_matching.specs.Keyed.{AreRows};
+    ghost use Rattle.pfs_matching.specs.ObjectRules.{object_key};
+
+    ghost Value = { List ObjectRow };
+
+    ghost view = { λ a. a.rows.items };
+
+    ghost invariant = { λ a. AreRows object_key a.rows.items × (100 ≤ vec_capacity a.rows) };
+}
+
+impl Objects {
+    /// The twenty opening rows: for each kind every object with YES and YES, but those of the schemas `information_schema`,
+    /// `mysql` and `performance_schema` with NO and NO. The room for 100 rows is taken here, and no other call takes memory.
+    pub fn open(alloc: Global) -> Result<Objects, NoMemory>
+        ensures { IfOk result (λ objects. objects ≡ opening_objects) }
+    {
+        let rows = opening_rows(alloc)?;
+        Ok(Objects { rows })
+    }
+
+    /// The number of rows.
+    pub fn count(&self) -> usize
+        ensures number { result ≡ length self.now }
+        ensures rows { AreRows object_key self.now }
+    {
+        self.rows.len()
+    }
+
+    /// The row at a place in key order.
+    pub fn row(&self, place: usize) -> &ObjectRow
+        requires { place < length self.now }
+        ensures { slice_get self.now place ≡ Some result.now }
+    {
+        &self.rows[place]
+    }
+
+    /// Adds a row at its place in key order. It comes with its own texts, so this takes no memory. Duplicate comes exactly where a
+    /// row with this type, schema and name is there, and is tested before Full, which comes exactly at 100 rows. The limit is
+    /// our own. A refusal changes nothing.
+    pub fn insert(&mut self, row: ObjectRow) -> Result<(), MatchFault>
+        ensures ok { OnOk result (self.new ≡ with_row object_key row self.old) }
+        ensures duplicate { (result ≡ Err MatchFault.Duplicate) ↔ Contains (map object_key self.old) (object_key row) }
+        ensures full { (result ≡ Err MatchFault.Full) ↔ ((¬ Contains (map object_key self.old) (object_key row)) × (length self.old ≡ 100)) }
+        ensures err { OnErr result (self.new ≡ self.old) }
+    {
+        if has_key(&self.rows, &row) {
+            return Err(MatchFault::Duplicate);
+        }
+        if self.rows.len() == MOST_ROWS {
+            return Err(MatchFault::Full);
+        }
+        let place = place_for(&self.rows, &row);
+        match self.rows.insert(place, row) {
+            Ok(()) => Ok(()),
+            Err(_) => unreachable!(),
+        }
+    }
+
+    /// Removes the rows at these places, which ascend.
+    pub fn delete(&mut self, keys: &[usize])
+        requires inside { All (λ place. place < length self.old) keys.now }
+        requires ascending { IsStrictlyIncreasing keys.now }
+        ensures { self.new ≡ without_named keys.now self.old }
+    {
+        remove_places(&mut self.rows, keys);
+    }
+
+    /// Changes ENABLED and TIMED of the rows at these places, which ascend.
+    pub fn update(&mut self, keys: &[usize], change: &FlagChange)
+        requires inside { All (λ place. place < length self.old) keys.now }
+        requires ascending { IsStrictlyIncreasing keys.now }
+        ensures { self.new ≡ with_named_changed (changed_object change.now) keys.now self.old }
+    {
+        change_places(&mut self.rows, keys, change);
+    }
+
+    /// Removes all rows.
+    pub fn truncate(&mut self)
+        ensures { self.new ≡ [] }
+    {
+        self.rows.clear();
+    }
+
+    /// ENABLED and TIMED of a table, from the rows of type TABLE: those of the row with its schema and name; else with its
+    /// schema and OBJECT_NAME `%`; else with `%` for both. This is MySQL's order. That a table without a row is off, NO and
+    /// NO, is our own rule. `%` is no pattern here: it stands alone.
+    pub fn decide_object(&self, schema: &[u8], name: &[u8]) -> (bool, bool)
+        ensures { result ≡ table_flags self.now schema.now name.now }
+    {
+        let rows = self.rows.as_slice();
+        if let Some(flags) = first_flags(rows, schema, name) {
+            return flags;
+        }
+        if let Some(flags) = first_flags(rows, schema, b"%") {
+            return flags;
+        }
+        first_flags(rows, b"%", b"%").unwrap_or((false, false))
+    }
+}
+
+fn opening_rows(alloc: Global) -> Result<Vec<ObjectRow>, NoMemory>
+    ensures rows { IfOk result (λ rows. rows.items ≡ opening_objects) }
+    ensures room { IfOk result (λ rows. 100 ≤ vec_capacity rows) }
+{
+    let mut rows = Vec::with_capacity(alloc, MOST_ROWS)?;
+    for kind in KINDS {
+        put_opening(alloc, &mut rows, kind)?;
+    }
+    Ok(rows)
+}
+
+// Appends the opening rows of a kind.
+fn put_opening(alloc: Global, rows: &mut Vec<ObjectRow>, kind: ObjectKind) -> Result<(), NoMemory>
+    requires { vec_len rows.old + 4 ≤ vec_capacity rows.old }
+    ensures rows { OnOk result (rows.new.items ≡ rows.old.items ++ opening_of_kind kind) }
+    ensures room { vec_capacity rows.new ≡ vec_capacity rows.old }
+{
+    rows.push_reserved(opening_row(alloc, kind, b"%", true)?);
+    rows.push_reserved(opening_row(alloc, kind, b"information_schema", false)?);
+    rows.push_reserved(opening_row(alloc, kind, b"mysql", false)?);
+    rows.push_reserved(opening_row(alloc, kind, b"performance_schema", false)?);
+    Ok(())
+}
+
+fn opening_row(
+    alloc: Global,
+    kind: ObjectKind,
+    schema: &[u8],
+    on: bool,
+) -> Result<ObjectRow, NoMemory>
+    ensures { IfOk result (λ row. row ≡ spec_row kind schema.now on) }
+{
+    Ok(ObjectRow {
+        kind,
+        schema: Text::from_slice(alloc, schema)?,
+        name: Text::from_slice(alloc, b"%")?,
+        enabled: on,
+        timed: on,
+    })
+}
+
+fn change_places(rows: &mut Vec<ObjectRow>, places: &[usize], change: &FlagChange)
+    requires inside { All (λ place. place < length rows.old.items) places.now }
+    requires ascending { IsStrictlyIncreasing places.now }
+    ensures rows { rows.new.items ≡ with_named_changed (changed_object change.now) places.now rows.old.items }
+    ensures room { vec_capacity rows.new ≡ vec_capacity rows.old }
+{
+    for place in places {
+        change_row(&mut rows[*place], change);
+    }
+}
+
+fn change_row(row: &mut ObjectRow, change: &FlagChange)
+    ensures { row.new ≡ changed_object change.now row.old }
+{
+    row.enabled = change.first.unwrap_or(row.enabled);
+    row.timed = change.second.unwrap_or(row.timed);
+}
+
+// ENABLED and TIMED of the first row for tables with this schema and name.
+fn first_flags(rows: &[ObjectRow], schema: &[u8], name: &[u8]) -> Option<(bool, bool)>
+    ensures { result ≡ option_map (λ row. (row.enabled, row.timed)) (table_row schema.now name.now rows.now) }
+{
+    rows.iter()
+        .find(|row| is_table(row.kind)
+            && row.schema.as_bytes() == schema
+            && row.name.as_bytes() == name)
+        .map(|row| (row.enabled, row.timed))
+}
+
+fn is_table(kind: ObjectKind) -> bool
+    ensures { result ≡ spec_is_table kind }
+{
+    matches!(kind, ObjectKind::Table)
+}
+
+// The name of a kind in a table.
+fn kind_name(kind: ObjectKind) -> &'static [u8]
+    ensures { result.now ≡ spec_kind_name kind }
+{
+    match kind {
+        ObjectKind::Event => b"EVENT",
+        ObjectKind::Function => b"FUNCTION",
+        ObjectKind::Procedure => b"PROCEDURE",
+        ObjectKind::Table => b"TABLE",
+        ObjectKind::Trigger => b"TRIGGER",
+    }
+}
+
+fn order(a: &ObjectRow, b: &ObjectRow) -> Ordering
+    ensures { result ≡ key_cmp (object_key a.now) (object_key b.now) }
+{
+    let kinds = kind_name(a.kind).cmp(kind_name(b.kind));
+    kinds
+        .then(a.schema.cmp(&b.schema))
+        .then(a.name.cmp(&b.name))
+}
+
+// Whether a row with this row's key is there.
+fn has_key(rows: &[ObjectRow], row: &ObjectRow) -> bool
+    ensures { IsTrue result ↔ Contains (map object_key rows.now) (object_key row.now) }
+{
+    any_equal(rows, row)
+}
+
+fn any_equal(rows: &[ObjectRow], row: &ObjectRow) -> bool
+    ensures { result ≡ list_any (λ other. is_eq (key_cmp (object_key other) (object_key row.now))) rows.now }
+{
+    rows.iter().any(|other| order(other, row).is_eq())
+}
+
+// How many rows come before this one.
+fn place_for(rows: &[ObjectRow], row: &ObjectRow) -> usize
+    ensures { result ≡ prefix_len (λ other. comes_before object_key other row.now) rows.now }
+{
+    rows.iter()
+        .take_while(|other| order(other, row).is_lt())
+        .count()
+}
