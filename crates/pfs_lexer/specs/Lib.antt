@@ -1,0 +1,9 @@
+pub mod Accounts
+pub mod Classes
+pub mod Comments
+pub mod Fronts
+pub mod Grammar
+pub mod Items
+pub mod Numbers
+pub mod Operators
+pub mod Quotes
