@@ -1,0 +1,72 @@
+-- What holds of a seat between calls, after it was split or joined, or a board opened.
+use Rattle.std.proofs.Common.{◌≡◌, ℕ, subst, ◌+◌, ◌*◌, ◌/◌, ◌%◌, ◌<◌, ◌≤◌, List, [], ◌∷◌, length, get_or, max, replicate, sym, refl, ap, ◌∙◌, arith}
+use Rattle.std.specs.Prelude.{Some}
+use Rattle.atomic_table.specs.Seated.{TableId}
+use Rattle.pfs_board.specs.declared.view.Corner.{Corner}
+use Rattle.pfs_board.specs.declared.view.Stage.{Stage}
+use Rattle.pfs_board.specs.declared.view.Stage.TheVariants.{Idle, Reading, Holding}
+use Rattle.pfs_board.specs.declared.view.View.{View}
+use Rattle.pfs_board.specs.Knowledge.{newcomer, corner, settled, joined, root}
+use Rattle.pfs_board.specs.Known.{Known, known, first_view, IsReady, split_off, given}
+use Rattle.pfs_board.specs.Sitting.{IsCalm}
+use Rattle.pfs_board.proofs.ViewFacts.{corners_stale, corners_start, corners_merged, length_stale, length_start, length_merged, corner_new}
+
+settled_calm : (st : Stage) → IsCalm st → IsCalm (settled st)
+settled_calm Idle c = tt
+settled_calm (Reading k xs) c = tt
+settled_calm (Holding k found put) c = c
+
+-- the view of a seat that a badge became
+pub view_of_seat : (z : TableId) (views views' : List View) (v : View) (k : Known) → views' ≡ v ∷ [] → views' ≡ views → known z (first_view views) ≡ k → v ≡ k.view
+view_of_seat z views views' v k e f g = sym (ap first_view e) ∙ (ap first_view f ∙ ap (λ (x : Known). x.view) g)
+
+pub ready_view : (z : TableId) (views views' : List View) (v : View) → views' ≡ v ∷ [] → views' ≡ views → IsReady z views → IsReady z (v ∷ [])
+ready_view z views views' v e f r = subst (IsReady z) (sym f ∙ e) r
+
+pub ready_left : (z : TableId) (v : View) (a : ℕ) → IsReady z (v ∷ []) → IsReady z (split_off v a ∷ [])
+ready_left z v a r = record {
+  one = refl;
+  live = r.live;
+  quiet = refl;
+  wide = ap (λ n. 17 * n) (length_stale v.rows) ∙ r.wide;
+  calm = λ q. corners_stale (λ c. IsCalm c.stage) v.rows q (settled_calm (corner v q).stage (r.calm q));
+  words = λ q. corners_stale (λ c. (n : ℕ) → c.last ≡ Some n → n % 4 < 3) v.rows q (r.words q);
+}
+
+pub ready_right : (z : TableId) (v : View) (a : ℕ) → IsReady z (v ∷ []) → IsReady z (given v a ∷ [])
+ready_right z v a r = record {
+  one = refl;
+  live = refl;
+  quiet = refl;
+  wide = ap (λ n. 17 * n) (length_start v.rows) ∙ r.wide;
+  calm = λ q. corners_start (λ c. IsCalm c.stage) v.rows q tt;
+  words = λ q. corners_start (λ c. (n : ℕ) → c.last ≡ Some n → n % 4 < 3) v.rows q (λ n e. cc);
+}
+
+pub ready_both : (z : TableId) (v w : View) → IsReady z (v ∷ []) → IsReady z (w ∷ []) → IsReady z (joined v w ∷ [])
+ready_both z v w r s = let a = r.wide in let b = s.wide in let same : length v.rows ≡ length w.rows = omega arith in record {
+  one = refl;
+  live = r.live;
+  quiet = r.quiet;
+  wide = ap (λ n. 17 * n) (length_merged v.rows w.rows) ∙ r.wide;
+  calm = λ q. corners_merged (λ c. IsCalm c.stage) v.rows w.rows q same (settled_calm (corner v q).stage (r.calm q));
+  words = λ q. corners_merged (λ c. (n : ℕ) → c.last ≡ Some n → n % 4 < 3) v.rows w.rows q same (r.words q);
+}
+
+length_new : (n : ℕ) → length (replicate n newcomer) ≡ n
+length_new Rattle.std.proofs.Common.zero = refl
+length_new (Rattle.std.proofs.Common.suc n) = let e = length_new n in omega arith
+
+pub ready_root : (z : TableId) (start : List ℕ) → z.words ≡ length start → length start ≡ 17 * (length start / 17) → IsReady z (root start ∷ [])
+ready_root z start w e = let rows : ℕ = length start / 17 in let l = length_new rows in record {
+  one = refl;
+  live = refl;
+  quiet = refl;
+  wide = omega arith;
+  calm = λ q. subst (λ (c : Corner). IsCalm c.stage) (sym (corner_new rows q)) tt;
+  words = λ q. subst (λ (c : Corner). (n : ℕ) → c.last ≡ Some n → n % 4 < 3) (sym (corner_new rows q)) (λ n e. cc);
+}
+
+-- what is told before a split is what the split reads
+pub said_none : (v : View) (a : ℕ) → v.said ≡ [] → record v { said = a ∷ v.said } ≡ record v { said = a ∷ [] }
+said_none v a e = ap (λ s. record v { said = a ∷ s }) e

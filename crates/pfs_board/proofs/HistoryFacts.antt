@@ -1,0 +1,215 @@
+-- What follows from a history alone.
+use Rattle.std.proofs.Common.{◌≡◌, ℕ, eqb, subst, eq-eqb, ne_eqb, ◌+◌, ◌-◌, ◌<◌, ◌≤◌, ◌≢◌, ◌⊎◌, Bool, true, false, cond, not, List, [], ◌∷◌, ◌++◌, length, sym, refl, ap, ◌∙◌, inl, inr, ⊎_elim, arith, length-append}
+use Rattle.std.specs.Prelude.{nat_lt}
+use Rattle.std.proofs.lemmas.Bool.Decides.{nat_tests}
+use mathlib.Core.Logic.{dite}
+use native.Mathlib.Decide.{ℕ_discrete}
+use Rattle.pfs_board.specs.declared.view.Change.{Change}
+use Rattle.pfs_board.specs.History.{total, Each, Some_of, step_of, version, stands, stood, is_free, IsFreedAt, Follows, IsChain, oldest, level, version_of, Floor}
+
+pub if_true : {A : Type 0} (b : Bool) (x y : A) → b ≡ true → cond b x y ≡ x
+if_true b x y e = subst (λ c. cond c x y ≡ x) (sym e) refl
+
+pub if_false : {A : Type 0} (b : Bool) (x y : A) → b ≡ false → cond b x y ≡ y
+if_false b x y e = subst (λ c. cond c x y ≡ y) (sym e) refl
+
+pub either_way : (b : Bool) → (b ≡ true) ⊎ (b ≡ false)
+either_way true = inl refl
+either_way false = inr refl
+
+module _ {A : Type 0} where
+  pub each_map : (P Q : A → Type 0) → ((x : A) → P x → Q x) → (xs : List A) → Each P xs → Each Q xs
+  each_map P Q f [] e = tt
+  each_map P Q f (x ∷ xs) e = (f x e.0, each_map P Q f xs e.1)
+
+  pub each_both : (P Q R : A → Type 0) → ((x : A) → P x → Q x → R x) → (xs : List A) → Each P xs → Each Q xs → Each R xs
+  each_both P Q R f [] e g = tt
+  each_both P Q R f (x ∷ xs) e g = (f x e.0 g.0, each_both P Q R f xs e.1 g.1)
+
+  pub each_append : (P : A → Type 0) (xs ys : List A) → Each P xs → Each P ys → Each P (xs ++ ys)
+  each_append P [] ys e f = f
+  each_append P (x ∷ xs) ys e f = (e.0, each_append P xs ys e.1 f)
+
+  pub some_map : (P Q : A → Type 0) → ((x : A) → P x → Q x) → (xs : List A) → Some_of P xs → Some_of Q xs
+  some_map P Q f [] e = absurd e
+  some_map P Q f (x ∷ xs) e = ⊎_elim (λ p. inl (f x p)) (λ p. inr (some_map P Q f xs p)) e
+
+  pub total_append : (h : A → ℕ) (xs ys : List A) → total h (xs ++ ys) ≡ total h xs + total h ys
+  total_append h [] ys = omega arith
+  total_append h (x ∷ xs) ys = let e = total_append h xs ys in omega arith
+
+pub version_here : (p : Change) (ps : List Change) (r : ℕ) → p.row ≡ r → version (p ∷ ps) r ≡ version ps r + step_of p
+version_here p ps r h = if_true (eqb p.row r) (version ps r + step_of p) (version ps r) (eq-eqb p.row r h)
+
+pub version_other : (p : Change) (ps : List Change) (r : ℕ) → p.row ≢ r → version (p ∷ ps) r ≡ version ps r
+version_other p ps r h = if_false (eqb p.row r) (version ps r + step_of p) (version ps r) (ne_eqb p.row r h)
+
+pub step_put : (p : Change) → p.puts ≡ true → step_of p ≡ 1
+step_put p e = if_true p.puts 1 0 e
+
+pub step_release : (p : Change) → p.puts ≡ false → step_of p ≡ 0
+step_release p e = if_false p.puts 1 0 e
+
+pub level_put : (p : Change) → p.puts ≡ true → level p ≡ p.version
+level_put p e = if_true p.puts p.version (p.version + 1) e
+
+pub level_release : (p : Change) → p.puts ≡ false → level p ≡ p.version + 1
+level_release p e = if_false p.puts p.version (p.version + 1) e
+
+pub version_more : (p : Change) (ps : List Change) (r : ℕ) → version ps r ≤ version (p ∷ ps) r
+version_more p ps r = dite (ℕ_discrete p.row r) (λ e. let v = version_here p ps r e in omega arith) (λ n. let v = version_other p ps r n in omega arith)
+
+pub version_below_total : (log : List Change) (r : ℕ) → version log r ≤ total step_of log
+version_below_total [] r = omega arith
+version_below_total (p ∷ ps) r = let b = version_below_total ps r in let x : ℕ = step_of p in let a : ℕ = total step_of ps in
+    dite (ℕ_discrete p.row r) (λ e. let v : version (p ∷ ps) r ≡ version ps r + x = version_here p ps r e in let g : version (p ∷ ps) r ≤ x + a = omega arith in g)
+    (λ n. let v = version_other p ps r n in let g : version (p ∷ ps) r ≤ x + a = omega arith in g)
+
+module _ (start : List ℕ) where
+  pub stands_other : (p : Change) (ps : List Change) (r i : ℕ) → p.row ≢ r → stands start (p ∷ ps) r i ≡ stands start ps r i
+  stands_other p ps r i h = if_false (eqb p.row r) _ (stands start ps r i) (ne_eqb p.row r h)
+
+  pub stands_put : (p : Change) (ps : List Change) (r i : ℕ) → p.row ≡ r → p.puts ≡ true → stands start (p ∷ ps) r i ≡ Rattle.std.specs.Prelude.slice_index p.put i
+  stands_put p ps r i h e = if_true (eqb p.row r) _ _ (eq-eqb p.row r h) ∙ if_true p.puts _ _ e
+
+  pub stands_release : (p : Change) (ps : List Change) (r i : ℕ) → p.row ≡ r → p.puts ≡ false → stands start (p ∷ ps) r i ≡ stands start ps r i
+  stands_release p ps r i h e = if_true (eqb p.row r) _ _ (eq-eqb p.row r h) ∙ if_false p.puts _ (stands start ps r i) e
+
+  pub free_other : (p : Change) (ps : List Change) (r : ℕ) → p.row ≢ r → is_free start (p ∷ ps) r ≡ is_free start ps r
+  free_other p ps r h = if_false (eqb p.row r) _ (is_free start ps r) (ne_eqb p.row r h)
+
+  pub free_here : (p : Change) (ps : List Change) (r : ℕ) → p.row ≡ r → is_free start (p ∷ ps) r ≡ not p.puts
+  free_here p ps r h = if_true (eqb p.row r) (not p.puts) _ (eq-eqb p.row r h)
+
+  stood_other : (p : Change) (ps : List Change) (r k i : ℕ) → p.row ≢ r → stood start (p ∷ ps) r k i ≡ stood start ps r k i
+  stood_other p ps r k i h = if_false (eqb p.row r) _ (stood start ps r k i) (ne_eqb p.row r h)
+
+  stood_release : (p : Change) (ps : List Change) (r k i : ℕ) → p.row ≡ r → p.puts ≡ false → stood start (p ∷ ps) r k i ≡ stood start ps r k i
+  stood_release p ps r k i h e = if_true (eqb p.row r) _ _ (eq-eqb p.row r h) ∙ if_false p.puts _ (stood start ps r k i) e
+
+  stood_at : (p : Change) (ps : List Change) (r k i : ℕ) → p.row ≡ r → p.puts ≡ true → p.version ≡ k → stood start (p ∷ ps) r k i ≡ Rattle.std.specs.Prelude.slice_index p.put i
+  stood_at p ps r k i h e v = if_true (eqb p.row r) _ _ (eq-eqb p.row r h) ∙ (if_true p.puts _ _ e ∙ if_true (eqb p.version k) _ _ (eq-eqb p.version k v))
+
+  stood_below : (p : Change) (ps : List Change) (r k i : ℕ) → p.row ≡ r → p.puts ≡ true → p.version ≢ k → stood start (p ∷ ps) r k i ≡ stood start ps r k i
+  stood_below p ps r k i h e v = if_true (eqb p.row r) _ _ (eq-eqb p.row r h) ∙ (if_true p.puts _ _ e ∙ if_false (eqb p.version k) _ (stood start ps r k i) (ne_eqb p.version k v))
+
+  -- an entry changes nothing at versions that were there before
+  pub stood_before : (p : Change) (ps : List Change) (r k i : ℕ) → Follows start ps p → k ≤ version ps r → stood start (p ∷ ps) r k i ≡ stood start ps r k i
+  stood_before p ps r k i f below = dite (ℕ_discrete p.row r)
+      (λ e. ⊎_elim (λ puts. stood_below p ps r k i e puts (λ same. let n = f.numbered in let s = step_put p puts in let a = ap (version ps) e in omega arith))
+      (λ releases. stood_release p ps r k i e releases) (either_way p.puts))
+      (λ n. stood_other p ps r k i n)
+
+  pub stood_now : (log : List Change) (r i : ℕ) → IsChain start log → stood start log r (version log r) i ≡ stands start log r i
+  stood_now [] r i c = refl
+  stood_now (p ∷ ps) r i c = let f = c.0 in dite (ℕ_discrete p.row r)
+      (λ e. ⊎_elim (λ puts. let v = version_here p ps r e in let a = ap (version ps) e in let n = f.numbered in stood_at p ps r (version (p ∷ ps) r) i e puts (omega arith) ∙ sym (stands_put p ps r i e puts))
+      (λ releases. let v : version (p ∷ ps) r ≡ version ps r = version_here p ps r e ∙ (ap (λ z. version ps r + z) (step_release p releases) ∙ omega arith) in
+      stood_release p ps r (version (p ∷ ps) r) i e releases ∙ (ap (λ k. stood start ps r k i) v ∙ (stood_now ps r i c.1 ∙ sym (if_true (eqb p.row r) _ _ (eq-eqb p.row r e) ∙ if_false p.puts _ (stands start ps r i) releases)))) (either_way p.puts))
+      (λ n. stood_other p ps r (version (p ∷ ps) r) i n ∙ (ap (λ k. stood start ps r k i) (version_other p ps r n) ∙ (stood_now ps r i c.1 ∙ sym (stands_other p ps r i n))))
+
+  pub below_all : (log : List Change) (r : ℕ) → IsChain start log → Each (λ (p : Change). p.row ≡ r → version_of p ≤ version log r) log
+  below_all [] r c = tt
+  below_all (p ∷ ps) r c = let n = c.0.numbered in (
+    (λ e. let v = version_here p ps r e in let a = ap (version ps) e in omega arith),
+    each_map (λ (q : Change). q.row ≡ r → version_of q ≤ version ps r) (λ (q : Change). q.row ≡ r → version_of q ≤ version (p ∷ ps) r) (λ q b e. let m = version_more p ps r in let l = b e in omega arith) ps (below_all ps r c.1),
+  )
+
+  pub level_next : (q : Change) → level q ≤ version_of q + 1
+  level_next q = ⊎_elim (λ e. let l = level_put q e in omega arith) (λ e. let l = level_release q e in omega arith) (either_way q.puts)
+
+  not_true : (b : Bool) → not b ≡ false → b ≡ true
+  not_true true e = refl
+  not_true false e = cc
+
+  not_false : (b : Bool) → not b ≡ true → b ≡ false
+  not_false true e = cc
+  not_false false e = refl
+
+  -- a row that is not free was published since each release
+  pub level_all : (log : List Change) (r : ℕ) → IsChain start log → is_free start log r ≡ false → Each (λ (p : Change). p.row ≡ r → level p ≤ version log r) log
+  level_all [] r c not_free = tt
+  level_all (p ∷ ps) r c not_free = let n = c.0.numbered in dite (ℕ_discrete p.row r)
+      (λ e. let puts : p.puts ≡ true = not_true p.puts (sym (free_here p ps r e) ∙ not_free) in let v = version_here p ps r e in let a = ap (version ps) e in let s = step_put p puts in let l = level_put p puts in (
+        (λ _. omega arith),
+        each_map (λ (q : Change). q.row ≡ r → version_of q ≤ version ps r) (λ (q : Change). q.row ≡ r → level q ≤ version (p ∷ ps) r) (λ q b e. let m = b e in let x = level_next q in omega arith) ps (below_all ps r c.1),
+      ))
+      (λ other. let v = version_other p ps r other in (
+        (λ e. absurd (other e)),
+        each_map (λ (q : Change). q.row ≡ r → level q ≤ version ps r) (λ (q : Change). q.row ≡ r → level q ≤ version (p ∷ ps) r) (λ q b e. let m = b e in omega arith) ps (level_all ps r c.1 (sym (free_other p ps r other) ∙ not_free)),
+      ))
+
+  pub freed_more : (p : Change) (ps : List Change) (r k : ℕ) → IsFreedAt start ps r k → IsFreedAt start (p ∷ ps) r k
+  freed_more p ps r k f = ⊎_elim (λ s. inl (inr s)) (λ t. inr t) f
+
+  test_eq : (a b : ℕ) → eqb a b ≡ true → a ≡ b
+  test_eq a b e = grind (arith, nat_tests)
+
+  pub freed_now : (log : List Change) (r : ℕ) → IsChain start log → is_free start log r ≡ true → IsFreedAt start log r (version log r)
+  freed_now [] r c f = inr (refl, test_eq _ 0 f)
+  freed_now (p ∷ ps) r c f = dite (ℕ_discrete p.row r)
+      (λ e. let rel : p.puts ≡ false = not_false p.puts (sym (free_here p ps r e) ∙ f) in inl (inl (e, rel, c.0.numbered ∙ (ap (λ z. version ps z + step_of p) e ∙ sym (version_here p ps r e)))))
+      (λ n. subst (λ k. IsFreedAt start (p ∷ ps) r k) (sym (version_other p ps r n)) (freed_more p ps r (version ps r) (freed_now ps r c.1 (sym (free_other p ps r n) ∙ f))))
+
+lt_false : (a b : ℕ) → b ≤ a → nat_lt a b ≡ false
+lt_false a b h = grind (arith, nat_tests)
+
+pub oldest_more : (n : ℕ) (p : Change) (ps : List Change) → n ≤ length ps → oldest n (p ∷ ps) ≡ oldest n ps
+oldest_more n p ps h = if_false (nat_lt (length ps) n) (p ∷ ps) (oldest n ps) (lt_false (length ps) n h)
+
+pub oldest_append : (n : ℕ) (qs ps : List Change) → n ≤ length ps → oldest n (qs ++ ps) ≡ oldest n ps
+oldest_append n [] ps h = refl
+oldest_append n (q ∷ qs) ps h = let e = length-append qs ps in oldest_more n q (qs ++ ps) (omega arith) ∙ oldest_append n qs ps h
+
+pub each_oldest : (P : Change → Type 0) (n : ℕ) (ps : List Change) → Each P ps → Each P (oldest n ps)
+each_oldest P n [] e = tt
+each_oldest P n (p ∷ ps) e = ⊎_elim (λ t. subst (Each P) (sym (if_true (nat_lt (length ps) n) (p ∷ ps) (oldest n ps) t)) e)
+    (λ t. subst (Each P) (sym (if_false (nat_lt (length ps) n) (p ∷ ps) (oldest n ps) t)) (each_oldest P n ps e.1)) (either_way (nat_lt (length ps) n))
+
+-- Of the changes that one seat has nothing is above k where nothing in the history is: how far each is above k is its weight
+module _ (f : Change → ℕ) (r k : ℕ) where
+  excess : Change → ℕ
+  excess p = cond (eqb p.row r) (f p - k) 0
+
+  none_over : (ps : List Change) → Each (λ (p : Change). p.row ≡ r → f p ≤ k) ps → total excess ps ≡ 0
+  unfolding excess
+  none_over [] e = refl
+  none_over (p ∷ ps) e = let rest = none_over ps e.1 in dite (ℕ_discrete p.row r)
+      (λ h. let b = e.0 h in let x : excess p ≡ 0 = if_true (eqb p.row r) (f p - k) 0 (eq-eqb p.row r h) ∙ omega arith in omega arith)
+      (λ n. let x : excess p ≡ 0 = if_false (eqb p.row r) (f p - k) 0 (ne_eqb p.row r n) in omega arith)
+
+  over_none : (ps : List Change) → total excess ps ≤ 0 → Each (λ (p : Change). p.row ≡ r → f p ≤ k) ps
+  unfolding excess
+  over_none [] e = tt
+  over_none (p ∷ ps) e = (
+    (λ h. let x : excess p ≡ f p - k = if_true (eqb p.row r) (f p - k) 0 (eq-eqb p.row r h) in omega arith),
+    over_none ps (omega arith),
+  )
+
+  pub of_all : (had log : List Change) → ((h : Change → ℕ) → total h had ≤ total h log) → Each (λ (p : Change). p.row ≡ r → f p ≤ k) log → Each (λ (p : Change). p.row ≡ r → f p ≤ k) had
+  of_all had log sub e = let z = none_over log e in let s = sub excess in over_none had (omega arith)
+
+module _ (f : Change → ℕ) (log had : List Change) (row k after base : ℕ) where
+  pub floor_new : after ≤ version log 0 → base ≤ length had → ((h : Change → ℕ) → total h had ≤ total h log) → Each (λ (p : Change). p.row ≡ row → f p ≤ k) log → Floor f log had row k after base
+  floor_new a b sub e = record {
+    ended = a;
+    split_at = b;
+    actions = each_map (λ (p : Change). p.row ≡ row → f p ≤ k) (λ (p : Change). p.row ≡ row → 0 < p.action → p.action ≤ after → f p ≤ k) (λ p g h _ _. g h) log e;
+    first = each_oldest (λ (p : Change). p.row ≡ row → f p ≤ k) base had (of_all f row k had log sub e);
+  }
+
+  pub floor_log : (p : Change) → (p.action ≡ 0) ⊎ (p.action ≡ version log 0 + 1) → Floor f log had row k after base → Floor f (p ∷ log) had row k after base
+  floor_log p act o = let a = o.ended in let m = version_more p log 0 in record {
+    ended = omega arith;
+    split_at = o.split_at;
+    actions = ((λ _ some_action below. absurd (⊎_elim (λ z. omega arith) (λ z. omega arith) act)), o.actions);
+    first = o.first;
+  }
+
+  pub floor_had : (had' : List Change) → length had ≤ length had' → oldest base had' ≡ oldest base had → Floor f log had row k after base → Floor f log had' row k after base
+  floor_had had' long same o = let b = o.split_at in record {
+    ended = o.ended;
+    split_at = omega arith;
+    actions = o.actions;
+    first = subst (Each (λ (p : Change). p.row ≡ row → f p ≤ k)) (sym same) o.first;
+  }

@@ -1,0 +1,12 @@
+pub mod HistoryFacts
+pub mod ViewFacts
+pub mod Keeps
+pub mod Looks
+pub mod Moves
+pub mod Publishes
+pub mod Seats
+pub mod Ends
+pub mod Calls
+pub mod WordFacts
+pub mod Between
+pub mod HandFacts

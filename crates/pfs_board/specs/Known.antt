@@ -1,0 +1,62 @@
+-- What contracts see of a board and of a seat, and what holds of them between calls.
+use Rattle.std.specs.Prelude.{◌≡◌, ℕ, ◌*◌, ◌/◌, ◌%◌, ◌^◌, ◌<◌, ◌≤◌, ◌++◌, true, Some, List, [], ◌∷◌, length}
+use Rattle.atomic_table.specs.Seated.{TableId}
+use Rattle.pfs_board.specs.declared.view.View.{View}
+use Rattle.pfs_board.specs.declared.answers.FinalRow.{FinalRow}
+use Rattle.pfs_board.specs.Knowledge.{corner, split_left, split_right, spent}
+use Rattle.pfs_board.specs.Sitting.{IsCalm}
+
+-- which board, and its opening words
+pub record Place : Type 0 where
+  pub id : TableId
+  pub start : List ℕ
+
+-- which board a seat is of, and what it knows
+pub record Known : Type 0 where
+  pub board : TableId
+  pub view : View
+
+abbrev pub place : TableId → List ℕ → Place
+place z start = record { id = z; start = start }
+
+abbrev pub known : TableId → View → Known
+known z v = record { board = z; view = v }
+
+abbrev pub first_view : List View → View
+first_view [] = spent
+first_view (v ∷ vs) = v
+
+-- rows of seventeen words, the slot of the kept value, and room for the rows at the end
+pub record IsSized (z : TableId) (start : List ℕ) (spare : List FinalRow) (room : ℕ) : Type 0 where
+  pub words : z.words ≡ length start
+  pub slots : z.slots ≡ 1
+  pub small : z.words < 2 ^ 64
+  pub rows : length start ≡ 17 * (length start / 17)
+  pub some_row : 0 < length start
+  pub empty : spare ≡ []
+  pub roomy : length start / 17 ≤ room
+
+-- between calls a seat is not spent and half way through nothing, and what it saw last are lock words
+pub record IsReady (z : TableId) (views : List View) : Type 0 where
+  pub one : views ≡ first_view views ∷ []
+  pub live : (first_view views).live ≡ true
+  pub quiet : (first_view views).said ≡ []
+  pub wide : 17 * length (first_view views).rows ≡ z.words
+  pub calm : (r : ℕ) → IsCalm (corner (first_view views) r).stage
+  pub words : (r n : ℕ) → (corner (first_view views) r).last ≡ Some n → n % 4 < 3
+
+-- the row is one of the board's
+abbrev pub HasRow : Place → ℕ → Type 0
+HasRow b r = 17 * r < length b.start
+
+-- what a seat keeps that gives this allowance away, and what the new seat has
+abbrev pub split_off : View → ℕ → View
+split_off v a = split_left (record v { said = a ∷ [] })
+
+abbrev pub given : View → ℕ → View
+given v a = split_right (record v { said = a ∷ [] })
+
+-- the words of rows
+abbrev pub final_words : List FinalRow → List ℕ
+final_words [] = []
+final_words (x ∷ xs) = x.word ∷ x.content ++ final_words xs

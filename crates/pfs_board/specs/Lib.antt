@@ -1,0 +1,11 @@
+pub mod History
+pub mod Knowledge
+pub mod Rule
+pub mod Plays
+pub mod Opening
+pub mod Closing
+pub mod Taking
+pub mod Seeing
+pub mod Sitting
+pub mod Known
+pub mod Hands

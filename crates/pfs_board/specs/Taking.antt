@@ -1,0 +1,21 @@
+-- What a take answers.
+use Rattle.std.specs.Prelude.{◌≡◌, ◌≢◌, ◌⊎◌, ℕ, ◌/◌, ◌%◌, ◌<◌, ◌≤◌, List, length, refl}
+use Rattle.pfs_board.specs.declared.answers.Taken.{Taken}
+use Rattle.pfs_board.specs.declared.answers.Taken.TheVariants.{Mine, Busy}
+use Rattle.pfs_board.specs.declared.view.View.{View}
+use Rattle.pfs_board.specs.Knowledge.{corner, root, IsWhole, took, missed}
+
+-- To a seat that knew v and knows w now. The word is at no version below what it saw, and was not dirty; the content is kept in the view as the one found.
+-- Busy shows a dirty word, or two different words of which the first was not dirty, and never comes to a seat that is alone.
+abbrev pub IsTaken : View → ℕ → Taken → View → Type 0
+IsTaken v r (Mine word content) w = (word % 4 < 3) × (word % 4 ≢ 1) × ((corner v r).seen ≤ word / 4) × (length content ≡ 16) × (w ≡ took v r word content)
+IsTaken v r (Busy first second) w = (((first % 4 ≡ 1) × (second ≡ first)) ⊎ ((first % 4 ≢ 1) × (second ≢ first))) × ((corner v r).seen ≤ second / 4) × (first / 4 ≤ second / 4) × (second % 4 < 3) × (¬ (IsWhole v)) × (w ≡ missed v r first second)
+
+-- A take that the root makes while no other seat is out is never busy
+pub example_never_busy : (start : List ℕ) (first second : ℕ) (w : View) → ¬ (IsTaken (root start) 1 (Busy first second) w)
+example_never_busy start first second w a = a.4 refl
+
+-- the word that a take began from
+abbrev pub IsFrom : Taken → ℕ → Type 0
+IsFrom (Mine word content) n = word ≡ n
+IsFrom (Busy first second) n = (first ≡ n) × (second ≢ n)

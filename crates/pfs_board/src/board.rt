@@ -1,0 +1,240 @@
+//! A board, its seats, and the calls.
+ghost use Rattle.std.specs.Prelude.{◌≡◌, ℕ, ◌+◌, ◌*◌, ◌/◌, ◌%◌, ◌<◌, ◌≤◌, ◌≢◌, [], List, length, slice_index, false, true, Some, IfOk, vec_capacity};
+ghost use Rattle.atomic_table.specs.Table.{Me};
+ghost use Rattle.pfs_board.specs.declared.answers.FinalRow.{FinalRow};
+ghost use Rattle.pfs_board.specs.declared.view.View.{View};
+ghost use Rattle.pfs_board.specs.Closing.{History};
+ghost use Rattle.pfs_board.specs.Hands.{IsAside, IsHandTaken, IsLetGo};
+ghost use Rattle.pfs_board.specs.History.{labels_of};
+ghost use Rattle.pfs_board.specs.Knowledge.{corner, is_holding, held, version_held, found_in, published_at, freed_at, joined, root, stake, IsWhole};
+ghost use Rattle.pfs_board.specs.Known.{Place, Known, place, known, first_view, IsSized, IsReady, HasRow, split_off, given, final_words};
+ghost use Rattle.pfs_board.specs.Opening.{opening_words};
+ghost use Rattle.pfs_board.specs.Seeing.{IsSeenAs};
+ghost use Rattle.pfs_board.specs.Taking.{IsTaken, IsFrom};
+
+use crate::answers::{Content, FinalRow, Opening, Seen, Taken};
+use crate::rules::{Cut, Glue, Kept, Rules, Tell};
+use crate::steps::{free_by, put_by, read_by, seize, take_by};
+use crate::view::View;
+use crate::words::{hand_back, open_words};
+use atomic_table::{Badge, Refused, Table};
+use std::alloc::{AllocError, Global};
+use std::marker::Model;
+use std::mem;
+
+/// There was no memory.
+pub type NoMemory = AllocError;
+
+/// Rows that many seats read and change, and one kept value. Contracts see which board it is and its opening words.
+#[derive(Drop)]
+pub struct Board<V: Kept> {
+    table: Table<Option<V>, View, Vec<u64>, Rules<V>, Global>,
+    // Room for the rows that `close` hands back.
+    rows: Vec<FinalRow>,
+}
+
+impl<V: Kept> Model for Board<V> {
+    ghost Value = { Place };
+
+    ghost view = { λ b. place b.table.shared.table_id b.table.shared.key.items };
+
+    ghost invariant = { λ b. IsSized b.table.shared.table_id b.table.shared.key.items b.rows.items (vec_capacity b.rows) };
+}
+
+/// What one actor knows of a board. It has no bytes. Contracts see which board it is of, and the view.
+#[derive(Drop)]
+pub struct BoardSeat {
+    badge: Badge<View>,
+}
+
+impl Model for BoardSeat {
+    ghost Value = { Known };
+
+    ghost view = { λ s. known s.badge.table_id (first_view s.badge.views) };
+
+    ghost invariant = { λ s. IsReady s.badge.table_id s.badge.views };
+}
+
+/// The rows as they were left, in their order. Contracts see the list.
+#[derive(Drop)]
+pub struct FinalRows {
+    rows: Vec<FinalRow>,
+}
+
+impl Model for FinalRows {
+    ghost Value = { List FinalRow };
+
+    ghost view = { λ r. r.rows.items };
+}
+
+impl FinalRows {
+    /// Lends the rows.
+    pub fn as_slice(&self) -> &[FinalRow]
+        ensures { result.now ≡ self.now }
+    {
+        self.rows.as_slice()
+    }
+}
+
+impl<V: Kept> Board<V> {
+    /// A board with these rows at version 0 and this value, and the root seat, which has the whole allowance. Row 0 is allocated whatever its opening says.
+    pub fn open(alloc: Global, rows: &[Opening], kept: V) -> Result<(Board<V>, BoardSeat), NoMemory>
+        requires rows { 0 < length rows.now }
+        requires kept { V.stands_for kept [] }
+        ensures board { IfOk result (λ b. (b.0.start ≡ opening_words rows.now) × (length b.0.start ≡ 17 * length rows.now)) }
+        ensures seat { IfOk result (λ b. b.1 ≡ known b.0.id (root b.0.start)) }
+        ensures hands { IfOk result (λ b. held b.1.view.rows ≡ 0) }
+    {
+        let words = open_words(alloc, rows)?;
+        let spare = Vec::with_capacity(alloc, rows.len())?;
+        let mut slots = Vec::with_capacity(alloc, 1)?;
+        slots.push_reserved(Some(kept));
+        match Table::new(alloc, words.as_slice(), slots, &words) {
+            Ok((table, seat)) => Ok((
+                Board { table, rows: spare },
+                BoardSeat {
+                    badge: seat.into_badge(),
+                },
+            )),
+            Err(Refused { slots: _ }) => Err(AllocError),
+        }
+    }
+
+    /// Ends a board. The root hands its seat in once it has taken all others in, and gets the rows as they were left, in room that `open` made, and the kept value.
+    pub fn close(self, seat: BoardSeat) -> (FinalRows, V)
+        requires board { seat.board ≡ self.id }
+        requires whole { IsWhole seat.view }
+        requires outside { (is_holding (corner seat.view 0).stage ≡ false) × (seat.view.lent ≡ false) }
+        ensures count { 17 * length result.0 ≡ length self.start }
+        ensures history { (h : History self.start (final_words result.0) seat.view) × V.stands_for result.1 (labels_of h.t.log) }
+    {
+        let Board { table, mut rows } = self;
+        let BoardSeat { badge } = seat;
+        let count = table.word_count() / 17;
+        let mut closed = table.close_with(badge.into_seat::<Option<V>>());
+        hand_back(&closed, &mut rows, count);
+        let Some(kept) = closed.take(0) else {
+            unreachable!()
+        };
+        closed.free();
+        (FinalRows { rows }, kept)
+    }
+
+    /// A read of the whole row, in eighteen loads. It waits for nobody.
+    pub fn read(&self, seat: &mut BoardSeat, row: u64) -> Seen
+        requires board { seat.old.board ≡ self.now.id }
+        requires row { HasRow self.now row × (is_holding (corner seat.old.view row).stage ≡ false) }
+        ensures board { seat.new.board ≡ seat.old.board }
+        ensures answer { IsSeenAs seat.old.view row result seat.new.view }
+        ensures hands { IsAside seat.old.view row seat.new.view }
+    {
+        let badge = mem::replace(&mut seat.badge, Badge::blank());
+        let mut sitting = badge.into_seat::<Option<V>>();
+        let seen = read_by(&self.table.shared, &mut sitting, row as usize);
+        seat.badge = sitting.into_badge();
+        seen
+    }
+
+    /// Takes a row, by one load and one exchange. It waits for nobody.
+    pub fn take(&self, seat: &mut BoardSeat, row: u64) -> Taken
+        requires board { seat.old.board ≡ self.now.id }
+        requires row { (0 < row) × HasRow self.now row × (is_holding (corner seat.old.view row).stage ≡ false) }
+        requires allowance { held seat.old.view.rows < seat.old.view.allowance }
+        ensures board { seat.new.board ≡ seat.old.board }
+        ensures answer { IsTaken seat.old.view row result seat.new.view }
+        ensures hands { IsHandTaken seat.old.view row result seat.new.view }
+    {
+        let badge = mem::replace(&mut seat.badge, Badge::blank());
+        let mut sitting = badge.into_seat::<Option<V>>();
+        let taken = take_by(&self.table.shared, &mut sitting, row as usize);
+        seat.badge = sitting.into_badge();
+        taken
+    }
+
+    /// Takes a row where its lock word is still the one that this seat saw or left there last, by one exchange. It waits for nobody.
+    pub fn take_at(&self, seat: &mut BoardSeat, row: u64, word: u64) -> Taken
+        requires board { seat.old.board ≡ self.now.id }
+        requires row { (0 < row) × HasRow self.now row × (is_holding (corner seat.old.view row).stage ≡ false) }
+        requires allowance { held seat.old.view.rows < seat.old.view.allowance }
+        requires word { (word % 4 ≢ 1) × ((corner seat.old.view row).fresh ≡ true) × ((corner seat.old.view row).last ≡ Some word) }
+        ensures board { seat.new.board ≡ seat.old.board }
+        ensures answer { IsTaken seat.old.view row result seat.new.view }
+        ensures hands { IsHandTaken seat.old.view row result seat.new.view }
+        ensures from { IsFrom result word }
+    {
+        let badge = mem::replace(&mut seat.badge, Badge::blank());
+        let mut sitting = badge.into_seat::<Option<V>>();
+        let taken = seize(&self.table.shared, &mut sitting, row as usize, word);
+        seat.badge = sitting.into_badge();
+        taken
+    }
+
+    /// Publishes a row in hand with this content, at the version one higher, which it answers.
+    pub fn put(&self, seat: &mut BoardSeat, row: u64, content: &Content) -> u64
+        requires board { seat.old.board ≡ self.now.id }
+        requires row { (0 < row) × HasRow self.now row × (is_holding (corner seat.old.view row).stage ≡ true) }
+        ensures board { seat.new.board ≡ seat.old.board }
+        ensures version { result ≡ version_held (corner seat.old.view row).stage + 1 }
+        ensures view { seat.new.view ≡ published_at seat.old.view row (version_held (corner seat.old.view row).stage) (found_in (corner seat.old.view row).stage) content.now }
+        ensures hands { IsLetGo seat.old.view row seat.new.view }
+    {
+        let badge = mem::replace(&mut seat.badge, Badge::blank());
+        let mut sitting = badge.into_seat::<Option<V>>();
+        let version = put_by(&self.table.shared, &mut sitting, row as usize, content);
+        seat.badge = sitting.into_badge();
+        version
+    }
+
+    /// Releases a row in hand to free, at the same version. What was found stays its content.
+    pub fn free(&self, seat: &mut BoardSeat, row: u64)
+        requires board { seat.old.board ≡ self.now.id }
+        requires row { (0 < row) × HasRow self.now row × (is_holding (corner seat.old.view row).stage ≡ true) }
+        ensures board { seat.new.board ≡ seat.old.board }
+        ensures view { seat.new.view ≡ freed_at seat.old.view row (version_held (corner seat.old.view row).stage) (found_in (corner seat.old.view row).stage) }
+        ensures hands { IsLetGo seat.old.view row seat.new.view }
+    {
+        let badge = mem::replace(&mut seat.badge, Badge::blank());
+        let mut sitting = badge.into_seat::<Option<V>>();
+        free_by(&self.table.shared, &mut sitting, row as usize);
+        seat.badge = sitting.into_badge();
+    }
+
+    /// A new seat that has seen what the root saw, with this part of its allowance. Its number is how many the root has then made.
+    pub fn split(&self, seat: &mut BoardSeat, allowance: u64) -> BoardSeat
+        requires board { seat.old.board ≡ self.now.id }
+        requires root { seat.old.view.number ≡ 0 }
+        requires allowance { (0 < allowance) × (held seat.old.view.rows + allowance < seat.old.view.allowance) }
+        ensures seat { seat.new ≡ known seat.old.board (split_off seat.old.view allowance) }
+        ensures new { result ≡ known seat.old.board (given seat.old.view allowance) }
+        ensures hands { (held seat.new.view.rows ≡ held seat.old.view.rows) × (held result.view.rows ≡ 0) }
+        ensures stake { (stake seat.new.view + allowance ≡ stake seat.old.view) × (stake result.view ≡ allowance) }
+    {
+        let badge = mem::replace(&mut seat.badge, Badge::blank());
+        let mut sitting = badge.into_seat::<Option<V>>();
+        let shared = &self.table.shared;
+        // The step tells the rule how much is cut off, and leaves the word as it is.
+        shared.compare_exchange::<Tell>(&mut sitting, 0, allowance, allowance);
+        let other = shared.split_seat::<Cut>(&mut sitting);
+        seat.badge = sitting.into_badge();
+        BoardSeat {
+            badge: other.into_badge(),
+        }
+    }
+
+    /// Takes a seat in: its changes, reads and sights with their makers' numbers, its allowance, and the greater of each version seen.
+    pub fn join(&self, seat: &mut BoardSeat, other: BoardSeat)
+        requires board { (seat.old.board ≡ self.now.id) × (other.board ≡ self.now.id) }
+        requires root { seat.old.view.number ≡ 0 }
+        requires empty { held other.view.rows ≡ 0 }
+        ensures seat { seat.new ≡ known seat.old.board (joined seat.old.view other.view) }
+        ensures hands { held seat.new.view.rows ≡ held seat.old.view.rows }
+        ensures stake { stake seat.new.view ≡ stake seat.old.view + stake other.view }
+    {
+        let BoardSeat { badge: other } = other;
+        let badge = mem::replace(&mut seat.badge, Badge::blank());
+        let mut sitting = badge.into_seat::<Option<V>>();
+        let shared = &self.table.shared;
+        shared.join_seat::<Glue>(&mut sitting, other.into_seat::<Option<V>>());
+        seat.badge = sitting.into_badge();
+    }
+}

@@ -1,0 +1,60 @@
+//! Rows as the words of the table, and back.
+ghost use Rattle.std.specs.Prelude.{◌≡◌, ℕ, ◌+◌, ◌*◌, ◌<◌, ◌≤◌, ◌++◌, ◌∷◌, [], length, take, drop, slice_range, vec_capacity, OnOk, IfOk};
+ghost use Rattle.std.specs.Slots.{slots_items, slots_len, IsFull};
+ghost use Rattle.pfs_board.specs.Known.{final_words};
+ghost use Rattle.pfs_board.specs.Opening.{IsOpening, opening_words};
+
+use crate::answers::{Content, FinalRow, Opening};
+use atomic_table::Closed;
+use std::alloc::{AllocError, Global};
+
+fn push_row(words: &mut Vec<u64>, lock: u64, content: &Content) -> Result<(), AllocError>
+    ensures words { OnOk result (words.new.items ≡ words.old.items ++ lock ∷ content.now) }
+    ensures told { OnOk result (length content.now ≡ 16) }
+{
+    words.push(lock)?;
+    words.extend_from_slice(content)?;
+    Ok(())
+}
+
+/// Row 0 is allocated.
+pub(crate) fn open_words(alloc: Global, rows: &[Opening]) -> Result<Vec<u64>, AllocError>
+    requires { 0 < length rows.now }
+    ensures words { IfOk result (λ w. w.items ≡ opening_words rows.now) }
+    ensures form { IfOk result (λ w. IsOpening w.items (length rows.now)) }
+{
+    let mut words = Vec::new(alloc);
+    push_row(&mut words, 2, &rows[0].content)?;
+    for row in &rows[1..] {
+        let lock = if row.allocated { 2 } else { 0 };
+        push_row(&mut words, lock, &row.content)?;
+    }
+    Ok(words)
+}
+
+// The row at a place of the closed table.
+fn final_row<S>(closed: &Closed<S, Global>, row: usize) -> FinalRow
+    requires { (17 * row + 17 ≤ slots_len closed.now.words) × IsFull closed.now.words × (slots_len closed.now.words ≡ length (slots_items closed.now.words)) }
+    ensures { slice_range (slots_items closed.now.words) (17 * row) (17 * row + 17) ≡ result.word ∷ result.content }
+{
+    let mut content = [0u64; 16];
+    for i in 0..16 {
+        content[i] = closed.word(17 * row + i + 1);
+    }
+    FinalRow {
+        word: closed.word(17 * row),
+        content,
+    }
+}
+
+/// The rows of the closed table.
+pub(crate) fn hand_back<S>(closed: &Closed<S, Global>, rows: &mut Vec<FinalRow>, count: usize)
+    requires words { (17 * count ≡ slots_len closed.now.words) × IsFull closed.now.words × (slots_len closed.now.words ≡ length (slots_items closed.now.words)) }
+    requires room { (rows.old.items ≡ []) × (count ≤ vec_capacity rows.old) }
+    ensures words { final_words rows.new.items ≡ slots_items closed.now.words }
+    ensures count { length rows.new.items ≡ count }
+{
+    for row in 0..count {
+        rows.push_reserved(final_row(closed, row));
+    }
+}
