@@ -1,0 +1,4 @@
+pub mod BracketLemmas
+pub mod Examples
+pub mod SameEvent
+pub mod WordLemmas

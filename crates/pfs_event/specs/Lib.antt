@@ -1,0 +1,6 @@
+pub mod Brackets
+pub mod Form
+pub mod Nesting
+pub mod Order
+pub mod Verdicts
+pub mod Words

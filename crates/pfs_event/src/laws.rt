@@ -1,0 +1,30 @@
+//! Laws of the definitions.
+
+ghost use Rattle.std.specs.Prelude.{◌≡◌, ◌↔◌, [], ◌∷◌, ◌++◌, List, Some};
+ghost use Rattle.pfs_event.specs.declared.event.Event.{Event};
+ghost use Rattle.pfs_event.specs.declared.open.Open.{Open};
+ghost use Rattle.pfs_event.specs.declared.verdict.Verdict.{Verdict};
+ghost use Rattle.pfs_event.specs.Brackets.{Step, Starts, ClosesNext, IsInside, Took, open_after};
+ghost use Rattle.pfs_event.specs.Nesting.{OpenEvents};
+ghost use Rattle.pfs_event.specs.Verdicts.{verdict_name};
+ghost use Rattle.pfs_event.specs.Words.{words_of};
+
+/// Different events have different words, so `of_words` gives back the very event of which
+/// `to_words` made them.
+pub fn words()
+    ensures { (a b : Event) → words_of a ≡ words_of b → a ≡ b }
+{}
+
+/// Different verdicts have different names.
+pub fn verdict_names_differ()
+    ensures { (a b : Verdict) → verdict_name a ≡ verdict_name b → a ≡ b }
+{}
+
+/// Starting and ending pairs as brackets do. After the steps that a nest took, those events are
+/// open that `open_after` says, and the event that an end then gives is the one whose opening has
+/// this end as its partner, the closing that brings the depth back. No other opening has.
+pub fn brackets()
+    ensures took { (old new : OpenEvents) → (steps : List Step) → Took old steps new → open_after steps old.events ≡ Some new.events }
+    ensures pairs { (steps : List Step) → (what : Open) → (others : List Open) → (open_after steps [] ≡ Some (what ∷ others)) ↔ ClosesNext steps what others }
+    ensures one { (before inside other between : List Step) → (what that : Open) → before ++ Starts what ∷ inside ≡ other ++ Starts that ∷ between → IsInside inside → IsInside between → before ≡ other }
+{}
