@@ -1,0 +1,8 @@
+use Rattle.std.proofs.Common.{refl, arith, rules, inl, inr}
+use Rattle.pfs_outside.proofs.memory.MemorySinkSink.write.Goals as goal
+use Rattle.pfs_outside.proofs.memory.MemorySinkSink.write.Goals.{then-n-eq0-via-then-n-eq0, then-n-eq0-via-else-n-eq0+then-contains}
+
+-- a refusal is of a full sink, or of a write that is to fail
+pub returns-then-n-eq0-clause-fails : goal.returns-then-n-eq0-clause-fails
+returns-then-n-eq0-clause-fails c =
+    (λ _. elim c.then-n-eq0.branch [ then-n-eq0-via-then-n-eq0 w ↦ inr (omega arith) | then-n-eq0-via-else-n-eq0+then-contains w ↦ inl (search rules) ], λ _. refl)

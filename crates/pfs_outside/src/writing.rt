@@ -1,0 +1,29 @@
+//! Offering a whole text to a sink.
+
+ghost use Rattle.std.specs.Prelude.{ℕ, ◌≡◌, ◌<◌, ◌≤◌, length};
+ghost use Rattle.pfs_outside.specs.Streams.{Puts};
+
+use crate::sink::{Sink, Wrote};
+
+/// Why a text was not written whole.
+#[derive(Clone, Copy, Debug, PartialEq, Eq)]
+pub enum WriteStop {
+    /// The sink failed.
+    Failed,
+    /// Memory ran out.
+    NoMemory,
+}
+
+/// Offers a text to a sink, and the rest of a part that was taken again, until all is taken.
+pub fn write_all<K: Sink>(sink: &mut K, text: &[u8]) -> Result<(), WriteStop>
+    ensures { Puts (K.written sink.old) (K.written sink.new) (K.faults sink.old) (K.faults sink.new) text.now result }
+{
+    let mut at = 0;
+    while at < text.len() {
+        match sink.write(&text[at..]) {
+            Wrote::Bytes(n) => at += n,
+            Wrote::Failed => return Err(WriteStop::Failed),
+        }
+    }
+    Ok(())
+}

@@ -1,0 +1,4 @@
+mod Exactness
+mod Numerals
+mod Splits
+mod Steps

@@ -1,0 +1,6 @@
+pub mod Numbers
+pub mod Words
+pub mod Forms
+pub mod Places
+pub mod Scripts
+pub mod Readings

@@ -1,0 +1,102 @@
+-- What a top call answers, and the text that goes with each answer.
+use Rattle.std.specs.Prelude.{ℕ, ◌≡◌, ◌≤◌, ◌<◌, ◌⊎◌, List, [], ◌∷◌, ◌++◌, length, map, codes, decimal, Option, Some, IfSome, Result, Ok, Err, string_bytes, String}
+use Rattle.std.specs.declared.alloc.Global.{Global}
+use Rattle.pfs_outside.specs.Outside.{Added}
+use Rattle.pfs_outside.specs.Streams.{AddedPart}
+use Rattle.pfs_outside.specs.declared.writing.WriteStop.{WriteStop}
+use Rattle.pfs_outside.specs.declared.writing.WriteStop.TheVariants as stop
+use Rattle.pfs_script.specs.declared.forms.Line.{Line}
+use Rattle.pfs_script.specs.declared.reading.Reason.{Reason}
+use Rattle.pfs_script.specs.declared.reading.Reason.TheVariants.{TooLong, NotBuilt}
+use Rattle.pfs_script.specs.Scripts.{IsScript, IsFirstFault}
+use Rattle.pfs_top.specs.declared.report.Report.{Report}
+use Rattle.pfs_top.specs.declared.commands.Status.{Status}
+use Rattle.pfs_top.specs.declared.commands.Status.TheVariants.{Done, Usage, BadScript, ReadFault, WriteFault, NoMemory}
+use Rattle.pfs_top.specs.Runs.{IsRun}
+use Rattle.pfs_top.specs.Spelling.{spelling}
+
+-- the words are the one command
+abbrev pub IsCommand : List (String Global) → Type 0
+IsCommand words = map string_bytes words ≡ codes "run" ∷ []
+
+-- how many bytes a script may have
+abbrev pub most_bytes : ℕ
+most_bytes = 1048576
+
+abbrev pub reason_number : Reason → ℕ
+reason_number TooLong = 11
+reason_number NotBuilt = 13
+
+unfoldable pub usage_text : List ℕ
+usage_text = codes "usage: run\n"
+
+unfoldable pub fault_text : ℕ → Reason → List ℕ
+fault_text line reason = codes "bad script: line " ++ decimal line ++ codes " reason " ++ decimal (reason_number reason) ++ codes "\n"
+
+-- which statuses have which text: of lines that were run
+abbrev pub HasRun : List Line → Status → List ℕ → Type 0
+HasRun lines Done due = (report : Report) × IsRun lines report × (due ≡ spelling report)
+HasRun lines _ due = ⊥
+
+-- of a fault
+abbrev pub HasFault : ℕ → Reason → Status → List ℕ → Type 0
+HasFault line reason (BadScript number cause) due = (number ≡ line) × (cause ≡ reason) × (due ≡ fault_text line reason)
+HasFault line reason _ due = ⊥
+
+-- of bytes that were read
+abbrev pub HasRead : List ℕ → Status → List ℕ → Type 0
+HasRead bytes Done due = (lines : List Line) × IsScript bytes lines × HasRun lines Done due
+HasRead bytes (BadScript line reason) due = IsFirstFault bytes line reason × (due ≡ fault_text line reason)
+HasRead bytes _ due = ⊥
+
+-- of a source with these bytes left, where it tells them
+abbrev pub HasInput : Option (List ℕ) → Status → List ℕ → Type 0
+HasInput input Done due = (bytes : List ℕ) × IfSome input (λ text. bytes ≡ text) × (length bytes ≤ most_bytes) × HasRead bytes Done due
+HasInput input (BadScript line reason) due =
+    ((line ≡ 0) × (reason ≡ TooLong) × (due ≡ fault_text line reason) × IfSome input (λ text. most_bytes < length text))
+    ⊎ ((bytes : List ℕ) × IfSome input (λ text. bytes ≡ text) × (length bytes ≤ most_bytes) × HasRead bytes (BadScript line reason) due)
+HasInput input _ due = ⊥
+
+-- of words that are no command
+abbrev pub HasUsage : Status → List ℕ → Type 0
+HasUsage Usage due = due ≡ usage_text
+HasUsage _ due = ⊥
+
+-- of words and a source
+abbrev pub Has : List (String Global) → Option (List ℕ) → Status → List ℕ → Type 0
+Has words input Usage due = (¬ IsCommand words) × (due ≡ usage_text)
+Has words input status due = IsCommand words × HasInput input status due
+
+-- a front of the text of some status was written
+abbrev pub ToldPart : (Status → List ℕ → Type 0) → Option (List ℕ) → Option (List ℕ) → Type 0
+ToldPart HasText before after = (status : Status) × (due : List ℕ) × HasText status due × AddedPart before after due
+
+-- what became of the text that goes with a status: it was written; or a write failed and a front of
+-- it was; or memory ran out
+abbrev pub Tells : (Status → List ℕ → Type 0) → Option (List ℕ) → Option (List ℕ) → Type 0 → Status → Type 0
+Tells HasText before after WriteRose ReadFault = ⊥
+Tells HasText before after WriteRose WriteFault = WriteRose × ToldPart HasText before after
+Tells HasText before after WriteRose NoMemory = (after ≡ before) ⊎ ToldPart HasText before after
+Tells HasText before after WriteRose status = (due : List ℕ) × HasText status due × Added before after due
+
+-- how a call ends: a read failed and nothing was written, or a status was told
+abbrev pub Ends : Type 0 → (Status → List ℕ → Type 0) → Option (List ℕ) → Option (List ℕ) → Type 0 → Type 0 → Status → Type 0
+Ends Ran HasText before after ReadRose WriteRose ReadFault = Ran × ReadRose × (after ≡ before)
+Ends Ran HasText before after ReadRose WriteRose status = Tells HasText before after WriteRose status
+
+-- the status where a text with this status was offered
+abbrev pub status_after : Result (Unit {0}) WriteStop → Status → Status
+status_after (Ok done) status = status
+status_after (Err stop.Failed) status = WriteFault
+status_after (Err stop.NoMemory) status = NoMemory
+
+-- a valid script, read and written without a failure, is done unless memory runs out
+abbrev pub Completes : List (String Global) → Option (List ℕ) → Type 0 → Type 0 → Status → Type 0
+Completes words input ReadRose WriteRose status =
+    (text : List ℕ) (lines : List Line) → IsCommand words → input ≡ Some text → length text ≤ most_bytes → IsScript text lines
+    → ¬ ReadRose → ¬ WriteRose → (status ≡ Done) ⊎ (status ≡ NoMemory)
+
+-- at the end the source has nothing left
+abbrev pub LeavesNothing : Option (List ℕ) → Status → Type 0
+LeavesNothing left Done = IfSome left (λ rest. rest ≡ [])
+LeavesNothing left _ = Unit {0}
