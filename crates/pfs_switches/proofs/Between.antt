@@ -1,0 +1,29 @@
+-- What holds of a seat and of the writer between calls.
+use Rattle.std.proofs.Common.{◌≡◌, ℕ, subst, List, [], ◌∷◌, length, sym, refl, ap, ◌∙◌}
+use Rattle.atomic_table.specs.Seated.{TableId}
+use Rattle.pfs_switches.specs.declared.view.View.{View}
+use Rattle.pfs_switches.specs.Knowledge.{whole, reader, writer, joined, met}
+use Rattle.pfs_switches.specs.Known.{Known, known, first_view, IsReady, IsWriting}
+use Rattle.pfs_switches.proofs.ViewFacts.{length_merged, length_zeros}
+
+-- the view of a seat that a badge became
+pub view_of_seat : (z : TableId) (views views' : List View) (v : View) (k : Known) → views' ≡ v ∷ [] → views' ≡ views → known z (first_view views) ≡ k → v ≡ k.view
+view_of_seat z views views' v k e f g = sym (ap first_view e) ∙ (ap first_view f ∙ ap (λ (x : Known). x.view) g)
+
+pub ready_view : (z : TableId) (views views' : List View) (v : View) → views' ≡ v ∷ [] → views' ≡ views → IsReady z views → IsReady z (v ∷ [])
+ready_view z views views' v e f r = subst (IsReady z) (sym f ∙ e) r
+
+pub writing_view : (z : TableId) (views views' : List View) (v : View) → views' ≡ v ∷ [] → views' ≡ views → IsWriting z views → IsWriting z (v ∷ [])
+writing_view z views views' v e f r = subst (IsWriting z) (sym f ∙ e) r
+
+pub ready_joined : (z : TableId) (v w : View) → IsReady z (v ∷ []) → IsReady z (joined v w ∷ [])
+ready_joined z v w r = record { one = refl; live = r.live; sits = r.sits; reads = r.reads; wide = length_merged v.seen w.seen ∙ r.wide }
+
+pub ready_met : (z : TableId) (v w : View) → IsReady z (v ∷ []) → IsReady z (met v w ∷ [])
+ready_met z v w r = record { one = refl; live = r.live; sits = r.sits; reads = r.reads; wide = length_merged v.seen w.seen ∙ r.wide }
+
+pub ready_reader : (z : TableId) (start : List ℕ) → z.words ≡ length start → IsReady z (reader (whole start) ∷ [])
+ready_reader z start e = record { one = refl; live = refl; sits = refl; reads = refl; wide = length_zeros (length start) ∙ sym e }
+
+pub ready_writer : (z : TableId) (start : List ℕ) → z.words ≡ length start → IsWriting z (writer (whole start) ∷ [])
+ready_writer z start e = record { one = refl; live = refl; stands = refl; writes = refl; wide = length_zeros (length start) ∙ sym e }

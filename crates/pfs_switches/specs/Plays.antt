@@ -1,0 +1,17 @@
+-- What each step tells the seat that makes it. `m` is the seat before, `m'` after, and n the word that was found.
+use Rattle.std.specs.Prelude.{◌≡◌, ℕ, ◌/◌, ◌%◌, ◌≤◌, slice_index}
+use Rattle.atomic_table.specs.Table.{Me, Step}
+use Rattle.pfs_switches.specs.declared.view.View.{View}
+use Rattle.pfs_switches.specs.Knowledge.{last_version, loaded, was_set}
+
+module _ {S : Type 0} where
+  -- a seat loads a word, at no version below what it saw
+  abbrev pub looks : Step S → Me S View → ℕ → Me S View → Type 0
+  looks st m n m' = (m' ≡ (loaded m.0 st.word (n / 65536) (n % 65536), m.1)) × (slice_index m.0.seen st.word ≤ n / 65536)
+
+  -- the writer loads a word, whose version it knows
+  abbrev pub weighs : Step S → Me S View → ℕ → Me S View → Type 0
+  weighs st m n m' = (m' ≡ m) × (n / 65536 ≡ slice_index m.0.seen st.word) × (n / 65536 ≤ last_version)
+
+  abbrev pub sets : Step S → Me S View → ℕ → Me S View → Type 0
+  sets st m n m' = m' ≡ (was_set m.0 st.word (st.first / 65536) (st.first % 65536), m.1)
