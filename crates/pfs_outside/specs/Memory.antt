@@ -1,5 +1,9 @@
 -- What a caller sees of the devices in memory: what is left or written, and which calls are to fail.
-use Rattle.std.specs.Prelude.{ℕ, ◌≡◌, ◌+◌, ◌≤◌, ◌⊎◌, List, [], length, drop, min, Contains}
+use Rattle.std.specs.Prelude.{ℕ, ◌≡◌, ◌+◌, ◌-◌, ◌≤◌, ◌⊎◌, List, [], length, drop, min, Contains}
+use Rattle.pfs_outside.specs.declared.source.Got.{Got}
+use Rattle.pfs_outside.specs.declared.source.Got.TheVariants.{Bytes, End, Failed}
+use Rattle.pfs_outside.specs.declared.sink.Wrote.{Wrote}
+use Rattle.pfs_outside.specs.declared.sink.Wrote.TheVariants as wrote
 use Rattle.pfs_outside.specs.declared.memory.MemorySource.{MemorySource}
 use Rattle.pfs_outside.specs.declared.memory.MemorySink.{MemorySink}
 
@@ -39,6 +43,18 @@ pub record CountsRead (before after : MemorySource) : Type 0 where
   pub counted : read_count after ≡ call_after (read_count before)
   pub same_failing : failing_reads after ≡ failing_reads before
 
+-- a read fills the buffer, or gives all that is left
+abbrev pub Fills : ℕ → ℕ → Got → Type 0
+Fills size left (Bytes n) = n ≡ min size left
+Fills size left End = Unit {0}
+Fills size left Failed = Unit {0}
+
+-- the count of failures rises by one at a failure alone; it stays at 2^64 - 1
+abbrev pub faults_after_read : ℕ → Got → ℕ
+faults_after_read faults (Bytes n) = faults
+faults_after_read faults End = faults
+faults_after_read faults Failed = call_after faults
+
 -- what was written
 abbrev pub text_of : MemorySink → List ℕ
 text_of s = s.text.items
@@ -76,3 +92,13 @@ pub record CountsWrite (before after : MemorySink) : Type 0 where
   pub counted : write_count after ≡ call_after (write_count before)
   pub same_failing : failing_writes after ≡ failing_writes before
   pub same_room : room_of after ≡ room_of before
+
+-- a write takes the whole buffer, or as much as there is room for
+abbrev pub TakesWhatFits : ℕ → ℕ → ℕ → Wrote → Type 0
+TakesWhatFits size room written (wrote.Bytes n) = n ≡ min size (room - written)
+TakesWhatFits size room written wrote.Failed = Unit {0}
+
+-- the count of failures rises by one at a failure alone; it stays at 2^64 - 1
+abbrev pub faults_after_write : ℕ → Wrote → ℕ
+faults_after_write faults (wrote.Bytes n) = faults
+faults_after_write faults wrote.Failed = call_after faults

@@ -1,5 +1,5 @@
 //! The outside of the engine: where its input comes from and where its text goes. A source and a sink
-//! count their own failures, so a contract can tie the answer "failed" to a failure that happened.
+//! count their own failures, so a contract can tie the answer "failed" to a count that rose.
 #![tactic(auto)]
 
 mod memory;

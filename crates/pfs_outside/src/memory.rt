@@ -37,7 +37,7 @@ impl MemorySource {
 }
 
 impl Source for MemorySource {
-    ghost use Rattle.pfs_outside.specs.Memory.{unread, read_faults, NextReadFails, CountsRead};
+    ghost use Rattle.pfs_outside.specs.Memory.{unread, read_faults, NextReadFails, CountsRead, Fills, faults_after_read};
 
     ghost left = { λ s. Some (unread s) };
 
@@ -49,6 +49,8 @@ impl Source for MemorySource {
         ensures cause { RoseAtFault (read_faults self.old) (read_faults self.new) result }
         ensures fails { (result ≡ Got.Failed) ↔ NextReadFails self.old }
         ensures counts { CountsRead self.old self.new }
+        ensures fills { Fills (length buffer.old) (length (unread self.old)) result }
+        ensures faults { read_faults self.new ≡ faults_after_read (read_faults self.old) result }
     {
         self.calls = self.calls.saturating_add(1);
         if self.fails.contains(&self.calls) {
@@ -69,6 +71,7 @@ fn copy_front(buffer: &mut [u8], bytes: &[u8], at: usize) -> usize
     requires room { 0 < length buffer.old }
     requires some { at < length bytes.now }
     ensures moves { (0 < result) × (result ≤ length buffer.old) × (at + result ≤ length bytes.now) }
+    ensures fills { result ≡ min (length buffer.old) (length (drop at bytes.now)) }
     ensures bytes { drop at bytes.now ≡ take result buffer.new ++ drop (at + result) bytes.now }
 {
     let n = buffer.len().min(bytes.len() - at);
@@ -114,7 +117,7 @@ impl MemorySink {
 }
 
 impl Sink for MemorySink {
-    ghost use Rattle.pfs_outside.specs.Memory.{text_of, write_faults, NextWriteFails, CountsWrite};
+    ghost use Rattle.pfs_outside.specs.Memory.{text_of, room_of, write_faults, NextWriteFails, CountsWrite, TakesWhatFits, faults_after_write};
 
     ghost written = { λ s. Some (text_of s) };
 
@@ -126,6 +129,8 @@ impl Sink for MemorySink {
         ensures cause { RoseAtRefusal (write_faults self.old) (write_faults self.new) result }
         ensures fails { (result ≡ Wrote.Failed) ↔ NextWriteFails self.old }
         ensures counts { CountsWrite self.old self.new }
+        ensures fits { TakesWhatFits (length buffer.now) (room_of self.old) (length (text_of self.old)) result }
+        ensures faults { write_faults self.new ≡ faults_after_write (write_faults self.old) result }
     {
         self.calls = self.calls.saturating_add(1);
         let n = buffer.len().min(self.room.saturating_sub(self.text.len()));

@@ -13,7 +13,7 @@ pub enum Wrote {
 }
 
 /// A sink of bytes. `written` is what it has taken, where it tells it. `faults` counts its failures:
-/// it never falls, and stays at 2^64 - 1 once there.
+/// it never falls, and at a failure it rises or stands at 2^64 - 1.
 pub trait Sink {
     ghost written: { Self → Option (List ℕ) };
 

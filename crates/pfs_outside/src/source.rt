@@ -15,7 +15,7 @@ pub enum Got {
 }
 
 /// A source of bytes. `left` is what is still to come, where the source tells it. `faults` counts its
-/// failures: it never falls, and stays at 2^64 - 1 once there.
+/// failures: it never falls, and at a failure it rises or stands at 2^64 - 1.
 pub trait Source {
     ghost left: { Self → Option (List ℕ) };
 

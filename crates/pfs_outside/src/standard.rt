@@ -1,6 +1,7 @@
 //! The standard streams as a source and a sink. They tell nothing of content: the trusted edge.
 
-ghost use Rattle.std.specs.Prelude.{ℕ, List, Option, None};
+ghost use Rattle.std.specs.Prelude.{ℕ, List, Option, None, ◌≡◌};
+ghost use Rattle.pfs_outside.specs.Standard.{source_faults, sink_faults};
 
 use crate::sink::{Sink, Wrote};
 use crate::source::{Got, Source};
@@ -15,7 +16,9 @@ pub struct StdSource<R: Read> {
 
 impl<R: Read> StdSource<R> {
     /// A source over this reader that has not failed yet.
-    pub fn new(reader: R) -> StdSource<R> {
+    pub fn new(reader: R) -> StdSource<R>
+        ensures { source_faults result ≡ 0 }
+    {
         StdSource { reader, faults: 0 }
     }
 }
@@ -23,7 +26,7 @@ impl<R: Read> StdSource<R> {
 impl<R: Read> Source for StdSource<R> {
     ghost left = { λ _. None };
 
-    ghost faults = { λ s. s.faults };
+    ghost faults = { λ s. source_faults s };
 
     fn read(&mut self, buffer: &mut [u8]) -> Got {
         match self.reader.read(buffer) {
@@ -46,7 +49,9 @@ pub struct StdSink<W: Write> {
 
 impl<W: Write> StdSink<W> {
     /// A sink over this writer that has not failed yet.
-    pub fn new(writer: W) -> StdSink<W> {
+    pub fn new(writer: W) -> StdSink<W>
+        ensures { sink_faults result ≡ 0 }
+    {
         StdSink { writer, faults: 0 }
     }
 }
@@ -54,7 +59,7 @@ impl<W: Write> StdSink<W> {
 impl<W: Write> Sink for StdSink<W> {
     ghost written = { λ _. None };
 
-    ghost faults = { λ s. s.faults };
+    ghost faults = { λ s. sink_faults s };
 
     fn write(&mut self, buffer: &[u8]) -> Wrote {
         match self.writer.write(buffer) {

@@ -1,6 +1,6 @@
 //! Offering a whole text to a sink.
 
-ghost use Rattle.std.specs.Prelude.{ℕ, ◌≡◌, ◌<◌, ◌≤◌, length};
+ghost use Rattle.std.specs.Prelude.{◌≢◌, Err, length};
 ghost use Rattle.pfs_outside.specs.Streams.{Puts};
 
 use crate::sink::{Sink, Wrote};
@@ -14,9 +14,11 @@ pub enum WriteStop {
     NoMemory,
 }
 
-/// Offers a text to a sink, and the rest of a part that was taken again, until all is taken.
+/// Offers a text to a sink, and the rest of a part that was taken again, until all is taken. It takes
+/// no memory.
 pub fn write_all<K: Sink>(sink: &mut K, text: &[u8]) -> Result<(), WriteStop>
-    ensures { Puts (K.written sink.old) (K.written sink.new) (K.faults sink.old) (K.faults sink.new) text.now result }
+    ensures puts { Puts (K.written sink.old) (K.written sink.new) (K.faults sink.old) (K.faults sink.new) text.now result }
+    ensures takes_no_memory { result ≢ Err WriteStop.NoMemory }
 {
     let mut at = 0;
     while at < text.len() {

@@ -27,6 +27,15 @@ abbrev pub reason_number : Reason → ℕ
 reason_number TooLong = 11
 reason_number NotBuilt = 13
 
+-- the exit status that a status is
+abbrev pub status_number : Status → ℕ
+status_number Done = 0
+status_number Usage = 1
+status_number (BadScript line reason) = 2
+status_number ReadFault = 3
+status_number WriteFault = 4
+status_number NoMemory = 5
+
 unfoldable pub usage_text : List ℕ
 usage_text = codes "usage: run\n"
 

@@ -4,7 +4,7 @@ ghost use Rattle.std.specs.Prelude.{◌≡◌, ◌∷◌, [], List, ◌↔◌, I
 ghost use Rattle.pfs_outside.specs.Outside.{Rose};
 ghost use Rattle.pfs_outside.specs.Streams.{Puts};
 ghost use Rattle.pfs_script.specs.Forms.{Follows};
-ghost use Rattle.pfs_top.specs.Commands.{IsCommand, reason_number, usage_text, fault_text, HasRun, HasFault, HasRead, HasInput, HasUsage, Has, Tells, Ends, status_after, Completes, LeavesNothing};
+ghost use Rattle.pfs_top.specs.Commands.{IsCommand, reason_number, status_number, usage_text, fault_text, HasRun, HasFault, HasRead, HasInput, HasUsage, Has, Tells, Ends, status_after, Completes, LeavesNothing};
 
 use crate::NoMemory;
 use crate::playing::run_script;
@@ -38,7 +38,9 @@ pub enum Status {
 
 impl Status {
     /// The exit status.
-    pub fn number(self) -> u8 {
+    pub fn number(self) -> u8
+        ensures { result ≡ status_number self }
+    {
         match self {
             Status::Done => 0,
             Status::Usage => 1,

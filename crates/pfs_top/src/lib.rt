@@ -1,4 +1,4 @@
-//! The top calls of the engine: words, a source and a sink in, a status out.
+//! The top call of the engine: words, a source and a sink in, a status out.
 #![tactic(auto)]
 
 mod commands;

@@ -58,7 +58,7 @@ impl Model for SessionList {
 pub struct ThreadRow {
     /// The number of the thread's session.
     pub session: u64,
-    /// What was counted since the last truncation.
+    /// What was counted of the script's ended waits.
     pub stat: Stat,
 }
 
@@ -80,7 +80,7 @@ impl Model for ThreadRowList {
 /// A row of the global wait summary.
 #[derive(Clone, Copy, Debug, PartialEq, Eq)]
 pub struct GlobalRow {
-    /// What was counted since the last truncation.
+    /// What was counted of the script's ended waits.
     pub stat: Stat,
 }
 
@@ -106,7 +106,7 @@ pub struct PhaseReport {
     pub number: u64,
     /// The sessions, in the order of their blocks.
     pub sessions: SessionList,
-    /// The wait summary by thread, ascending by session.
+    /// The wait summary by thread: at most one row so far.
     pub by_thread: ThreadRowList,
     /// The global wait summary.
     pub global: GlobalRowList,

@@ -9,8 +9,8 @@ loop-at-preserved g c =
     let t = c.in-Bytes.ensures.taken in
     (omega (arith, t.1, length-drop c.loop-at.at c.args.text.now), added_take _ _ _ c.args.text.now c.loop-at.at c.in-Bytes.n i.1 (rw take_rest at t.2), omega (arith, i.2, c.in-Bytes.ensures.cause))
 
-pub returns-in-Failed : goal.returns-in-Failed
-returns-in-Failed g c =
+pub returns-in-Failed-clause-puts : goal.returns-in-Failed-clause-puts
+returns-in-Failed-clause-puts g c =
     let i = c.loop-at.invariant in
     let f = c.in-Failed.ensures in
     (rw f.taken (part_of_take _ _ c.args.text.now c.loop-at.at i.1), rose_before _ _ _ i.2 f.cause.1, omega (arith, i.2, f.cause.0))

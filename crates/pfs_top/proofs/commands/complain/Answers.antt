@@ -11,5 +11,5 @@ returns-in-Ok g c =
     let written = g.K.Sink.written in
     let faults = g.K.Sink.faults in
     let P = HasFault c.args.line c.args.reason in
-    let t = told P (written c.args.sink.now) (written c.write_all.new.sink) (faults c.args.sink.now) (faults c.write_all.new.sink) c.deref.result.now (BadScript c.args.line c.args.reason) c.write_all.result tt (refl, refl, c.deref.ensures.value ∙ c.in-Ok.ensures) c.write_all.ensures in
+    let t = told P (written c.args.sink.now) (written c.write_all.new.sink) (faults c.args.sink.now) (faults c.write_all.new.sink) c.deref.result.now (BadScript c.args.line c.args.reason) c.write_all.result tt (refl, refl, c.deref.ensures.value ∙ c.in-Ok.ensures) c.write_all.ensures.puts in
     subst (λ (s : Status). Tells P (written c.args.sink.now) (written c.write_all.new.sink) (Rose (faults c.args.sink.now) (faults c.write_all.new.sink)) s) (sym c.status_after.ensures) t
