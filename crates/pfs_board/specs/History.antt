@@ -92,7 +92,8 @@ pub record Floor (f : Change → ℕ) (log had : List Change) (row k after base 
   pub actions : Each (λ (p : Change). p.row ≡ row → 0 < p.action → p.action ≤ after → f p ≤ k) log
   pub first : Each (λ (p : Change). p.row ≡ row → f p ≤ k) (oldest base had)
 
--- Two publications of row 1 on a board of two rows, by the seats 0 and 2, and a third entry that does not raise the version
+-- Two publications of row 1, by the seats 0 and 2, and the same where the second does not raise the version. The sixteen zeros stand
+-- for the opening words
 abbrev pub zeros : List ℕ
 zeros = replicate 16 0
 

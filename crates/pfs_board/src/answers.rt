@@ -22,7 +22,7 @@ pub enum Taken {
 /// What a read answers.
 #[derive(Clone, Copy, Debug, PartialEq, Eq)]
 pub enum Seen {
-    /// The content that was published at the version, and stood as the read's last word was loaded.
+    /// The row's content at the version: what was published at it, or the opening.
     Whole { version: u64, content: Content },
     /// The first load found the row free.
     Free { word: u64 },

@@ -120,7 +120,7 @@ impl<V: Kept> Board<V> {
         (FinalRows { rows }, kept)
     }
 
-    /// A read of the whole row, in eighteen loads. It waits for nobody.
+    /// A read of the whole row, in at most eighteen loads. It waits for nobody.
     pub fn read(&self, seat: &mut BoardSeat, row: u64) -> Seen
         requires board { seat.old.board ≡ self.now.id }
         requires row { HasRow self.now row × (is_holding (corner seat.old.view row).stage ≡ false) }
@@ -135,7 +135,7 @@ impl<V: Kept> Board<V> {
         seen
     }
 
-    /// Takes a row, by one load and one exchange. It waits for nobody.
+    /// Takes a row, by one load and, unless it is dirty, one exchange; then the content found is loaded. It waits for nobody.
     pub fn take(&self, seat: &mut BoardSeat, row: u64) -> Taken
         requires board { seat.old.board ≡ self.now.id }
         requires row { (0 < row) × HasRow self.now row × (is_holding (corner seat.old.view row).stage ≡ false) }
@@ -151,7 +151,7 @@ impl<V: Kept> Board<V> {
         taken
     }
 
-    /// Takes a row where its lock word is still the one that this seat saw or left there last, by one exchange. It waits for nobody.
+    /// Takes a row where its lock word is still the one that this seat saw or left there last, by one exchange; then the content found is loaded. It waits for nobody.
     pub fn take_at(&self, seat: &mut BoardSeat, row: u64, word: u64) -> Taken
         requires board { seat.old.board ≡ self.now.id }
         requires row { (0 < row) × HasRow self.now row × (is_holding (corner seat.old.view row).stage ≡ false) }

@@ -1,4 +1,4 @@
-//! What a seat knows, as plain data. No value of these types is made but of `Label`: they stand in contracts alone.
+//! What a seat knows, as plain data. No value of these types is made: they stand in contracts alone.
 //! A clause reads `[u64; 0]` as a list of any length, and a `LinkedList` as a list.
 use std::collections::LinkedList;
 
@@ -42,7 +42,7 @@ pub struct Finished {
     pub content: [u64; 0],
 }
 
-/// What a call that was busy, or found the row free, saw of its lock word.
+/// What a call that was busy, or a read that found the row free, saw of its lock word.
 pub struct Sight {
     pub by: u64,
     pub row: u64,
@@ -88,7 +88,7 @@ pub struct View {
     pub seats: u64,
     /// How many publications it may still make.
     pub allowance: u64,
-    /// Numbers that its next split or publication needs.
+    /// Numbers that its next split needs.
     pub said: [u64; 0],
     /// The opening words of the board.
     pub start: [u64; 0],
@@ -100,7 +100,7 @@ pub struct View {
     pub base: u64,
     /// The kept value is lent.
     pub lent: bool,
-    /// Its changes, newest first, and those of the seats that it took in.
+    /// Its changes and those of the seats that it took in, the last added first.
     pub made: LinkedList<Change>,
     pub reads: LinkedList<Finished>,
     pub sights: LinkedList<Sight>,

@@ -4,7 +4,7 @@ ghost use Rattle.std.specs.Prelude.{◌≤◌};
 
 use crate::form::{bit, has_form};
 
-/// The numbers of an event, MySQL's columns but for `link` and `ticket`, which are our own. Times are
+/// The numbers of an event, after MySQL's columns but for `link` and `ticket`, which are our own. Times are
 /// picoseconds on the session's clock. The class is at most 62, the link at most 64 and the nesting
 /// at most 4, so that they lie side by side in a word.
 #[derive(Clone, Copy, Debug, PartialEq, Eq)]

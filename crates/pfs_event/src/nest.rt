@@ -86,7 +86,7 @@ impl Nest {
 
     /// Starts an event inside the innermost open one. A wait may start anywhere, a transaction
     /// where nothing is open, a statement where nothing is open and inside a transaction or a
-    /// statement, and a stage inside a statement, for the stage before it has ended by then.
+    /// statement, and a stage inside a statement, so an open stage has to be ended first.
     /// The order is our own. WrongOrder comes exactly where it forbids the event, and is tested before
     /// TooDeep, which comes exactly where as many events are open as the nest was made for. A refusal
     /// changes nothing.

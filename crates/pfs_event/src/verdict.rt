@@ -3,7 +3,7 @@
 ghost use Rattle.std.specs.Prelude.{◌≡◌};
 ghost use Rattle.pfs_event.specs.Verdicts.{verdict_name};
 
-/// What was decided of an event at its start: the first that applies, in this order, which is
+/// What is decided of an event at its start: the first that applies, in this order, which is
 /// MySQL's. An event that is `Aside` or `Attributed` is let through. The names are our own.
 #[derive(Clone, Copy, Debug, PartialEq, Eq)]
 pub enum Verdict {

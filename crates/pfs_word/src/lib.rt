@@ -15,11 +15,11 @@ pub const LAST_VERSION: u64 = 4_611_686_018_427_387_903;
 /// What a lock word says of its row.
 #[derive(Clone, Copy, Debug, PartialEq, Eq)]
 pub enum State {
-    /// The row holds nothing.
+    /// Nobody has the row, and its content is not to be read.
     Free,
     /// One actor has the row in hand.
     Dirty,
-    /// The row holds the content that was published last.
+    /// The row holds the content that was published last, or that it opened with.
     Allocated,
 }
 
