@@ -6,12 +6,12 @@ use Rattle.pfs_board.specs.declared.view.Corner.{Corner}
 use Rattle.pfs_board.specs.declared.view.Stage.{Stage}
 use Rattle.pfs_board.specs.declared.view.Stage.TheVariants.{Idle, Reading, Holding}
 use Rattle.pfs_board.specs.declared.view.View.{View}
-use Rattle.pfs_board.specs.Knowledge.{newcomer, corner, settled, joined, root}
+use Rattle.pfs_board.specs.Knowledge.{newcomer, corner, settled, told, joined, root}
 use Rattle.pfs_board.specs.Known.{Known, known, first_view, IsReady, split_off, given}
 use Rattle.pfs_board.specs.Sitting.{IsCalm}
 use Rattle.pfs_board.proofs.ViewFacts.{corners_stale, corners_start, corners_merged, length_stale, length_start, length_merged, corner_new}
 
-settled_calm : (st : Stage) → IsCalm st → IsCalm (settled st)
+pub settled_calm : (st : Stage) → IsCalm st → IsCalm (settled st)
 settled_calm Idle c = tt
 settled_calm (Reading k xs) c = tt
 settled_calm (Holding k found put) c = c
@@ -28,6 +28,8 @@ ready_left z v a r = record {
   one = refl;
   live = r.live;
   quiet = refl;
+  still = r.still;
+  blank = r.blank;
   wide = ap (λ n. 17 * n) (length_stale v.rows) ∙ r.wide;
   calm = λ q. corners_stale (λ c. IsCalm c.stage) v.rows q (settled_calm (corner v q).stage (r.calm q));
   words = λ q. corners_stale (λ c. (n : ℕ) → c.last ≡ Some n → n % 4 < 3) v.rows q (r.words q);
@@ -38,6 +40,8 @@ ready_right z v a r = record {
   one = refl;
   live = refl;
   quiet = refl;
+  still = refl;
+  blank = λ e. refl;
   wide = ap (λ n. 17 * n) (length_start v.rows) ∙ r.wide;
   calm = λ q. corners_start (λ c. IsCalm c.stage) v.rows q tt;
   words = λ q. corners_start (λ c. (n : ℕ) → c.last ≡ Some n → n % 4 < 3) v.rows q (λ n e. cc);
@@ -48,6 +52,8 @@ ready_both z v w r s = let a = r.wide in let b = s.wide in let same : length v.r
   one = refl;
   live = r.live;
   quiet = r.quiet;
+  still = r.still;
+  blank = r.blank;
   wide = ap (λ n. 17 * n) (length_merged v.rows w.rows) ∙ r.wide;
   calm = λ q. corners_merged (λ c. IsCalm c.stage) v.rows w.rows q same (settled_calm (corner v q).stage (r.calm q));
   words = λ q. corners_merged (λ c. (n : ℕ) → c.last ≡ Some n → n % 4 < 3) v.rows w.rows q same (r.words q);
@@ -62,11 +68,13 @@ ready_root z start w e = let rows : ℕ = length start / 17 in let l = length_ne
   one = refl;
   live = refl;
   quiet = refl;
+  still = refl;
+  blank = λ e. refl;
   wide = omega arith;
   calm = λ q. subst (λ (c : Corner). IsCalm c.stage) (sym (corner_new rows q)) tt;
   words = λ q. subst (λ (c : Corner). (n : ℕ) → c.last ≡ Some n → n % 4 < 3) (sym (corner_new rows q)) (λ n e. cc);
 }
 
 -- what is told before a split is what the split reads
-pub said_none : (v : View) (a : ℕ) → v.said ≡ [] → record v { said = a ∷ v.said } ≡ record v { said = a ∷ [] }
-said_none v a e = ap (λ s. record v { said = a ∷ s }) e
+pub said_none : (v : View) (a : ℕ) → v.said ≡ [] → told v a ≡ record v { looks = v.looks + 1; said = a ∷ [] }
+said_none v a e = ap (λ s. record v { looks = v.looks + 1; said = a ∷ s }) e

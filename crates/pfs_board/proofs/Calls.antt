@@ -1,7 +1,9 @@
 -- The steps as the calls make them.
-use Rattle.std.proofs.Common.{◌≡◌, ℕ, eqb, subst, ◌+◌, ◌*◌, ◌/◌, ◌%◌, ◌<◌, ◌≤◌, ◌≢◌, true, false, eq-eqb, ne_eqb, List, [], ◌∷◌, ◌++◌, length, get_or, set, sym, refl, ap, ◌∙◌, inl, inr, arith, length-set, get_or-set_same}
+use Rattle.std.proofs.Common.{◌≡◌, ℕ, eqb, subst, ◌+◌, ◌*◌, ◌/◌, ◌%◌, ◌<◌, ◌≤◌, ◌≢◌, true, false, eq-eqb, ne_eqb, List, [], ◌∷◌, ◌++◌, length, get_or, set, sym, refl, ap, ◌∙◌, inl, inr, arith, length-set, get_or-set_other, get_or-set_same}
 use Rattle.std.specs.Prelude.{Option, Some, if◌then◌else◌, ◌==◌}
+use mathlib.Core.Logic.{dite}
 use mathlib.Core.Option.{none}
+use native.Mathlib.Decide.{ℕ_discrete}
 use lib.Seq.{set-get_or, set-set}
 use Rattle.atomic_table.specs.Seated.{TableId}
 use Rattle.atomic_table.specs.Table.{State, Me, step, Allows}
@@ -20,10 +22,10 @@ use Rattle.pfs_board.specs.declared.answers.Seen.TheVariants as seen
 use Rattle.pfs_board.specs.declared.answers.Taken.{Taken}
 use Rattle.pfs_board.specs.declared.answers.Taken.TheVariants.{Mine, Busy}
 use Rattle.pfs_board.specs.Seeing.{IsSeenAs}
-use Rattle.pfs_board.specs.Taking.{IsTaken}
+use Rattle.pfs_board.specs.Taking.{IsTaken, IsFrom, take_looks}
 use Rattle.pfs_board.proofs.HistoryFacts.{if_true, if_false}
 use Rattle.pfs_board.proofs.ViewFacts.{held_set, one}
-use Rattle.pfs_board.proofs.Looks.{recall_keeps, gather_keeps, finish_keeps, begun_at, begun_not}
+use Rattle.pfs_board.proofs.Looks.{some_same, recall_keeps, gather_keeps, finish_keeps, begun_at, begun_not}
 use Rattle.pfs_board.proofs.Moves.{store_keeps}
 use Rattle.pfs_board.proofs.Publishes.{publish_keeps, free_keeps}
 use Rattle.pfs_word.specs.declared.State.{State as RowState}
@@ -59,7 +61,7 @@ sight_corner v w q n st h e = ap (λ rows. get_or rows q newcomer) e ∙ get_or-
 pub at_next : (z z' y : TableId) (start : List ℕ) (v w : View) (q : ℕ) → IsAt z y start v q → z' ≡ z → length w.rows ≡ length v.rows → w.live ≡ v.live → IsAt z' y start w q
 at_next z z' y start v w q a e l live = let b = a.wide in record { same = e ∙ a.same; words = a.words; small = a.small; wide = omega arith; live = live ∙ a.live; inside = a.inside }
 
-held_look : (v : View) (q n : ℕ) (st : Stage) → q < length v.rows → is_holding (corner v q).stage ≡ false → is_holding st ≡ false → held (set v.rows q (sighted st n)) ≡ held v.rows
+pub held_look : (v : View) (q n : ℕ) (st : Stage) → q < length v.rows → is_holding (corner v q).stage ≡ false → is_holding st ≡ false → held (set v.rows q (sighted st n)) ≡ held v.rows
 held_look v q n st h a b = let e = held_set v.rows q (sighted st n) h in let x : one (sighted st n) ≡ 0 = if_false {A = ℕ} (is_holding st) 1 0 b in let y : one (corner v q) ≡ 0 = if_false {A = ℕ} (is_holding (corner v q).stage) 1 0 a in omega arith
 
 -- after its first look a take may go on
@@ -73,32 +75,45 @@ may_seize z z' y start v w q n a e is r look clean = let h = corner_in z y start
     )
 
 -- the sights are as they were where the word was not dirty
-tried_clean : (v : View) (q n : ℕ) → n % 4 ≢ 1 → tried v q n ≡ turned v q (sighted Idle n)
-tried_clean v q n c = ap (λ s. record (turned v q (sighted Idle n)) { sights = s }) (if_false (eqb (n % 4) 1) (sight_of v q n n ∷ v.sights) v.sights (ne_eqb (n % 4) 1 c))
+tried_clean : (v : View) (q n : ℕ) → n % 4 ≢ 1 → tried v q n ≡ record (turned v q (sighted Idle n)) { looks = v.looks + 1 }
+tried_clean v q n c = ap (λ s. record (turned v q (sighted Idle n)) { looks = v.looks + 1; sights = s }) (if_false (eqb (n % 4) 1) (sight_of v q n n ∷ v.sights) v.sights (ne_eqb (n % 4) 1 c))
 
-took_again : (v : View) (q n word : ℕ) (content : List ℕ) → took (turned v q (sighted Idle n)) q word content ≡ took v q word content
-took_again v q n word content = turned_again v q (sighted Idle n) (sighted (Holding (word / 4) content []) (4 * (word / 4) + 1))
+took_again : (v : View) (q n looks word : ℕ) (content : List ℕ) → record (took (record (turned v q (sighted Idle n)) { looks = v.looks + 1 }) q word content) { looks = looks } ≡ record (took v q word content) { looks = looks }
+took_again v q n looks word content = ap (λ rows. record (took v q word content) { looks = looks; rows = rows }) (set-set v.rows q (sighted Idle n) (sighted (Holding (word / 4) content []) (4 * (word / 4) + 1)))
 
-missed_again : (v : View) (q n first second : ℕ) → missed (turned v q (sighted Idle n)) q first second ≡ missed v q first second
-missed_again v q n first second = ap (λ rows. record (missed v q first second) { rows = rows }) (set-set v.rows q (sighted Idle n) (sighted Idle second))
+missed_again : (v : View) (q n looks first second : ℕ) → record (missed (record (turned v q (sighted Idle n)) { looks = v.looks + 1 }) q first second) { looks = looks } ≡ record (missed v q first second) { looks = looks }
+missed_again v q n looks first second = ap (λ rows. record (missed v q first second) { looks = looks; rows = rows }) (set-set v.rows q (sighted Idle n) (sighted Idle second))
 
 -- what a take answers that looked first
 pub take_answer : (v : View) (q n : ℕ) (x : Taken) (w : View) → q < length v.rows → IsLook v n q → n % 4 ≢ 1 → IsTaken (tried v q n) q x w → IsTaken v q x w
 take_answer v q n (Mine word content) w h look c a = let s = corner_turned v q (sighted Idle n) h in let seen : (corner (tried v q n) q).seen ≡ n / 4 = ap (λ (y : Corner). y.seen) s in let l = look.later in let b = a.2 in
-    (a.0, a.1, omega arith, a.3, a.4 ∙ (ap (λ (y : View). took y q word content) (tried_clean v q n c) ∙ took_again v q n word content))
+    (a.0, a.1, omega arith, a.3, a.4 ∙ (ap (λ (y : View). record (took y q word content) { looks = w.looks }) (tried_clean v q n c) ∙ took_again v q n w.looks word content), λ whole k fresh last. a.5 whole n (ap (λ (y : Corner). y.fresh) s) (ap (λ (y : Corner). y.last) s) ∙ look.same whole k fresh last)
 take_answer v q n (Busy first second) w h look c a = let s = corner_turned v q (sighted Idle n) h in let seen : (corner (tried v q n) q).seen ≡ n / 4 = ap (λ (y : Corner). y.seen) s in let l = look.later in let b = a.1 in
-    (a.0, omega arith, a.2, a.3, a.4, a.5 ∙ (ap (λ (y : View). missed y q first second) (tried_clean v q n c) ∙ missed_again v q n first second))
+    (a.0, omega arith, a.2, a.3, a.4, a.5 ∙ (ap (λ (y : View). record (missed y q first second) { looks = w.looks }) (tried_clean v q n c) ∙ missed_again v q n w.looks first second))
+
+-- an answer shows two words where there were two looks that differ
+pub two_looks : (first second : ℕ) → second ≢ first → ◌≡◌ {A = ℕ} (if first == second then 1 else 2) 2
+two_looks first second differ = if_false {A = ℕ} (eqb first second) 1 2 (ne_eqb first second (λ e. differ (sym e)))
+
+-- a take that began from a word which was not dirty has looked twice
+pub looked_twice : (n : ℕ) (x : Taken) → IsFrom x n → take_looks x ≡ 2
+looked_twice n (Mine word content) f = refl
+looked_twice n (Busy first second) f = two_looks first second (λ e. f.1 (e ∙ f.0))
+
+-- all is as it is said but the looks, whose number is its own
+any_looks : (w u : View) → w ≡ u → w ≡ record u { looks = w.looks }
+any_looks w u e = e ∙ ap (λ (x : View). record u { looks = x.looks }) (sym e)
 
 pub take_dirty : (v : View) (q n : ℕ) (w : View) → is_holding (corner v q).stage ≡ false → IsLook v n q → n % 4 ≡ 1 → w ≡ tried v q n → IsTaken v q (Busy n n) w
 take_dirty v q n w free look d is = let l = look.later in
-    (inl (d, refl), look.later, omega arith, look.state, (λ whole. look.clean whole free d), is ∙ ap (λ s. record (turned v q (sighted Idle n)) { sights = s }) (if_true (eqb (n % 4) 1) (sight_of v q n n ∷ v.sights) v.sights (eq-eqb (n % 4) 1 d)))
+    (inl (d, refl), look.later, omega arith, look.state, (λ whole. look.clean whole free d), any_looks w (missed v q n n) (is ∙ ap (λ s. record (turned v q (sighted Idle n)) { looks = v.looks + 1; sights = s }) (if_true (eqb (n % 4) 1) (sight_of v q n n ∷ v.sights) v.sights (eq-eqb (n % 4) 1 d))))
 
 -- what the exchange answers
 pub seize_hit : (v : View) (q word : ℕ) (content found : List ℕ) (w : View) → (word % 4 < 3) → word % 4 ≢ 1 → IsLook v word q → length found ≡ 16 → content ≡ found → w ≡ took v q word found → IsTaken v q (Mine word content) w
-seize_hit v q word content found w s c look long same is = (s, c, look.later, ap length same ∙ long, is ∙ ap (took v q word) (sym same))
+seize_hit v q word content found w s c look long same is = (s, c, look.later, ap length same ∙ long, any_looks w (took v q word content) (is ∙ ap (took v q word) (sym same)), look.same)
 
 pub seize_miss : (v : View) (q word n : ℕ) (w : View) → word % 4 ≢ 1 → (corner v q).fresh ≡ true → (corner v q).last ≡ Some word → IsLook v n q → n ≢ word → w ≡ missed v q word n → IsTaken v q (Busy word n) w
-seize_miss v q word n w c fresh last look differ is = (inr (c, differ), look.later, look.after word fresh last, look.state, (λ whole. differ (look.same whole word fresh last)), is)
+seize_miss v q word n w c fresh last look differ is = (inr (c, differ), look.later, look.after word fresh last, look.state, (λ whole. differ (look.same whole word fresh last)), any_looks w (missed v q word n) is)
 
 -- a row that was taken is held
 pub took_held : (v w : View) (q old : ℕ) (found : List ℕ) → q < length v.rows → w ≡ took v q old found → IsHeld w q × (found_in (corner w q).stage ≡ found)
@@ -116,6 +131,11 @@ module _ {K : Type 0} (means : K → List Label → Type 0) (start : List ℕ) w
       → Allows Rule slots id m' (word_at q i) (λ n. n) (recalls (step slots (word_at q i) 0 0 none) m')
   recall_call slots id m m' z y q i e a held low = subst (λ (x : M). Allows Rule slots id x (word_at q i) (λ n. n) (recalls (step slots (word_at q i) 0 0 none) x)) (sym e)
       (recall_keeps means start slots id m q i (version_held (corner m.0 q).stage) (found_in (corner m.0 q).stage) (row_in z y start m.0 q a) low a.live held)
+
+  -- one more content word is recalled
+  pub recall_next : (xs found : List ℕ) (i n : ℕ) → length xs ≡ 16 → i < 16 → n ≡ get_or found i 0 → ((j : ℕ) → j < i → get_or xs j 0 ≡ get_or found j 0) → (j : ℕ) → j < i + 1 → get_or (set xs i n) j 0 ≡ get_or found j 0
+  recall_next xs found i n wide low is before j h = dite (ℕ_discrete j i) (λ e. ap (λ z. get_or (set xs i n) z 0) e ∙ (get_or-set_same xs i n 0 (omega arith) ∙ (is ∙ ap (λ z. get_or found z 0) (sym e))))
+      (λ other. get_or-set_other xs i j n 0 other ∙ before j (omega arith))
 
   abbrev pub reading : M → ℕ → ℕ → List ℕ → M
   reading m q k xs = (turned m.0 q (restaged (corner m.0 q) (Reading k xs)), m.1)
@@ -182,20 +202,21 @@ finished_is : (v v1 : View) (q n k : ℕ) (xs : List ℕ) → q < length v.rows 
 finished_is v v1 q n k xs h e = let u : View = turned v q (restaged (corner v q) (Reading k xs)) in let s : (corner u q).stage ≡ Reading k xs = ap (λ (c : Corner). c.stage) (corner_turned v q (restaged (corner v q) (Reading k xs)) h) in
     ap (λ (x : View). finished x q n) e ∙ ap (λ (st : Stage). finished_at u q n (version_read st) (words_read st)) s
 
-pub whole_answer : (v v1 w : View) (q first n : ℕ) (xs : List ℕ) → q < length v.rows → v1 ≡ turned v q (restaged (corner v q) (Reading (first / 4) xs)) → w ≡ finished v1 q n → first % 4 ≡ 2 → n ≡ first → (corner v q).seen ≤ first / 4 → length xs ≡ 16
+pub whole_answer : (v v1 w : View) (q first n : ℕ) (xs : List ℕ) → q < length v.rows → v1 ≡ turned v q (restaged (corner v q) (Reading (first / 4) xs)) → w ≡ finished v1 q n → first % 4 ≡ 2 → n ≡ first → (corner v q).seen ≤ first / 4 → (corner v q).last ≡ Some first → length xs ≡ 16
     → IsSeenAs v q (seen.Whole (first / 4) xs) w
-whole_answer v v1 w q first n xs h e f two same seen wide = let k : ℕ = first / 4 in let c : Corner = restaged (corner v q) (Reading k xs) in let u : View = turned v q c in let is : n ≡ 4 * k + 2 = omega arith in
-    let A : View = record (turned u q (sighted Idle n)) { reads = read_of u q k xs ∷ u.reads } in let B : View = record (turned u q (sighted Idle n)) { sights = sight_of u q (4 * k + 2) n ∷ u.sights } in (
+whole_answer v v1 w q first n xs h e f two same seen last wide = let k : ℕ = first / 4 in let c : Corner = restaged (corner v q) (Reading k xs) in let u : View = turned v q c in let is : n ≡ 4 * k + 2 = omega arith in
+    let A : View = record (turned u q (sighted Idle n)) { looks = u.looks + 1; reads = read_of u q k xs ∷ u.reads } in let B : View = record (turned u q (sighted Idle n)) { looks = u.looks + 1; sights = sight_of u q (4 * k + 2) n ∷ u.sights } in (
       seen,
       wide,
-      f ∙ (finished_is v v1 q n k xs h e ∙ (if_true (eqb n (4 * k + 2)) A B (eq-eqb n (4 * k + 2) is)
-          ∙ (ap (λ rows. record v { rows = rows; reads = read_of v q k xs ∷ v.reads }) (set-set v.rows q c (sighted Idle n)) ∙ ap (λ z. record (turned v q (sighted Idle z)) { reads = read_of v q k xs ∷ v.reads }) is))),
+      any_looks w (record (turned v q (sighted Idle (4 * k + 2))) { looks = v.looks + 1; reads = read_of v q k xs ∷ v.reads }) (f ∙ (finished_is v v1 q n k xs h e ∙ (if_true (eqb n (4 * k + 2)) A B (eq-eqb n (4 * k + 2) is)
+          ∙ (ap (λ rows. record v { looks = v.looks + 1; rows = rows; reads = read_of v q k xs ∷ v.reads }) (set-set v.rows q c (sighted Idle n)) ∙ ap (λ z. record (turned v q (sighted Idle z)) { looks = v.looks + 1; reads = read_of v q k xs ∷ v.reads }) is)))),
+      (λ _ j _ other. let e : first ≡ j = some_same first j (sym last ∙ other) in omega arith),
     )
 
 pub busy_answer : (v v1 w : View) (q first n : ℕ) (xs : List ℕ) → q < length v.rows → v1 ≡ turned v q (restaged (corner v q) (Reading (first / 4) xs)) → w ≡ finished v1 q n → first % 4 ≡ 2 → n ≢ first → (corner v q).seen ≤ first / 4
     → (corner v q).fresh ≡ true → (corner v q).last ≡ Some first → IsLook v1 n q → IsSeenAs v q (seen.Busy first n) w
 busy_answer v v1 w q first n xs h e f two differ seen fresh last look = let k : ℕ = first / 4 in let c : Corner = restaged (corner v q) (Reading k xs) in let u : View = turned v q c in let not : n ≢ 4 * k + 2 = λ g. differ (omega arith) in
-    let A : View = record (turned u q (sighted Idle n)) { reads = read_of u q k xs ∷ u.reads } in let B : View = record (turned u q (sighted Idle n)) { sights = sight_of u q (4 * k + 2) n ∷ u.sights } in
+    let A : View = record (turned u q (sighted Idle n)) { looks = u.looks + 1; reads = read_of u q k xs ∷ u.reads } in let B : View = record (turned u q (sighted Idle n)) { looks = u.looks + 1; sights = sight_of u q (4 * k + 2) n ∷ u.sights } in
     let at : corner v1 q ≡ c = ap (λ (x : View). corner x q) e ∙ corner_turned v q c h in let first_is : 4 * k + 2 ≡ first = omega arith in
     let fresh1 : (corner v1 q).fresh ≡ true = ap (λ (x : Corner). x.fresh) at ∙ fresh in let last1 : (corner v1 q).last ≡ Some first = ap (λ (x : Corner). x.last) at ∙ last in (
       inr (two, differ),
@@ -203,42 +224,52 @@ busy_answer v v1 w q first n xs h e f two differ seen fresh last look = let k : 
       look.after first fresh1 last1,
       look.state,
       (λ whole. differ (look.same (subst IsWhole (sym e) whole) first fresh1 last1)),
-      f ∙ (finished_is v v1 q n k xs h e ∙ (if_false (eqb n (4 * k + 2)) A B (ne_eqb n (4 * k + 2) not)
-          ∙ (ap (λ rows. record v { rows = rows; sights = sight_of v q (4 * k + 2) n ∷ v.sights }) (set-set v.rows q c (sighted Idle n)) ∙ ap (λ z. record (turned v q (sighted Idle n)) { sights = sight_of v q z n ∷ v.sights }) first_is))),
+      any_looks w (record (turned v q (sighted Idle n)) { looks = v.looks + 1; sights = sight_of v q first n ∷ v.sights }) (f ∙ (finished_is v v1 q n k xs h e ∙ (if_false (eqb n (4 * k + 2)) A B (ne_eqb n (4 * k + 2) not)
+          ∙ (ap (λ rows. record v { looks = v.looks + 1; rows = rows; sights = sight_of v q (4 * k + 2) n ∷ v.sights }) (set-set v.rows q c (sighted Idle n)) ∙ ap (λ z. record (turned v q (sighted Idle n)) { looks = v.looks + 1; sights = sight_of v q z n ∷ v.sights }) first_is)))),
     )
 
-looked_two : (v : View) (q n : ℕ) → n % 4 ≡ 2 → looked v q n ≡ turned v q (sighted (Reading (n / 4) []) n)
-looked_two v q n e = ap (λ (st : Stage). record (turned v q (sighted st n)) { sights = if n % 4 == 2 then v.sights else sight_of v q n n ∷ v.sights }) (begun_at n e)
-    ∙ ap (λ s. record (turned v q (sighted (Reading (n / 4) []) n)) { sights = s }) (if_true (eqb (n % 4) 2) v.sights (sight_of v q n n ∷ v.sights) (eq-eqb (n % 4) 2 e))
+looked_two : (v : View) (q n : ℕ) → n % 4 ≡ 2 → looked v q n ≡ record (turned v q (sighted (Reading (n / 4) []) n)) { looks = v.looks + 1 }
+looked_two v q n e = ap (λ (st : Stage). record (turned v q (sighted st n)) { looks = v.looks + 1; sights = if n % 4 == 2 then v.sights else sight_of v q n n ∷ v.sights }) (begun_at n e)
+    ∙ ap (λ s. record (turned v q (sighted (Reading (n / 4) []) n)) { looks = v.looks + 1; sights = s }) (if_true (eqb (n % 4) 2) v.sights (sight_of v q n n ∷ v.sights) (eq-eqb (n % 4) 2 e))
 
-looked_else : (v : View) (q n : ℕ) → n % 4 ≢ 2 → looked v q n ≡ record (turned v q (sighted Idle n)) { sights = sight_of v q n n ∷ v.sights }
-looked_else v q n e = ap (λ (st : Stage). record (turned v q (sighted st n)) { sights = if n % 4 == 2 then v.sights else sight_of v q n n ∷ v.sights }) (begun_not n e)
-    ∙ ap (λ s. record (turned v q (sighted Idle n)) { sights = s }) (if_false (eqb (n % 4) 2) v.sights (sight_of v q n n ∷ v.sights) (ne_eqb (n % 4) 2 e))
+looked_else : (v : View) (q n : ℕ) → n % 4 ≢ 2 → looked v q n ≡ record (turned v q (sighted Idle n)) { looks = v.looks + 1; sights = sight_of v q n n ∷ v.sights }
+looked_else v q n e = ap (λ (st : Stage). record (turned v q (sighted st n)) { looks = v.looks + 1; sights = if n % 4 == 2 then v.sights else sight_of v q n n ∷ v.sights }) (begun_not n e)
+    ∙ ap (λ s. record (turned v q (sighted Idle n)) { looks = v.looks + 1; sights = s }) (if_false (eqb (n % 4) 2) v.sights (sight_of v q n n ∷ v.sights) (ne_eqb (n % 4) 2 e))
 
 pub free_answer : (v w : View) (q n : ℕ) → w ≡ looked v q n → n % 4 ≡ 0 → IsLook v n q → IsSeenAs v q (seen.Free n) w
-free_answer v w q n e nil look = (nil, look.later, e ∙ looked_else v q n (λ g. omega arith))
+free_answer v w q n e nil look = (nil, look.later, any_looks w (missed v q n n) (e ∙ looked_else v q n (λ g. omega arith)), look.same)
 
 pub dirty_answer : (v w : View) (q n : ℕ) → w ≡ looked v q n → n % 4 ≡ 1 → is_holding (corner v q).stage ≡ false → IsLook v n q → IsSeenAs v q (seen.Busy n n) w
-dirty_answer v w q n e odd free look = (inl (odd, refl), look.later, omega arith, look.state, (λ whole. look.clean whole free odd), e ∙ looked_else v q n (λ g. omega arith))
+dirty_answer v w q n e odd free look = (inl (odd, refl), look.later, omega arith, look.state, (λ whole. look.clean whole free odd), any_looks w (missed v q n n) (e ∙ looked_else v q n (λ g. omega arith)))
 
 -- after its first look a read may go on
 pub may_read : (z z' y : TableId) (start : List ℕ) (v w : View) (q n : ℕ) → IsAt z y start v q → z' ≡ z → w ≡ looked v q n → n % 4 ≡ 2
     → IsAt z' y start w q × ((n % 4 ≡ 2) × ((corner w q).seen ≤ n / 4) × ((corner w q).fresh ≡ true) × ((corner w q).last ≡ Some n)) × ((corner w q).stage ≡ Reading (n / 4) [])
-may_read z z' y start v w q n a e is two = let h = corner_in z y start v q a in let st : Stage = Reading (n / 4) [] in let is' : w ≡ turned v q (sighted st n) = is ∙ looked_two v q n two in
+may_read z z' y start v w q n a e is two = let h = corner_in z y start v q a in let st : Stage = Reading (n / 4) [] in let is' : w ≡ record (turned v q (sighted st n)) { looks = v.looks + 1 } = is ∙ looked_two v q n two in
     let c = sight_corner v w q n st h (ap (λ (x : View). x.rows) is') in let s : (corner w q).seen ≡ n / 4 = ap (λ (x : Corner). x.seen) c in (
       at_next z z' y start v w q a e (ap (λ (x : View). length x.rows) is' ∙ length-set v.rows q (sighted st n)) (ap (λ (x : View). x.live) is'),
       (two, omega arith, ap (λ (x : Corner). x.fresh) c, ap (λ (x : Corner). x.last) c),
       ap (λ (x : Corner). x.stage) c,
     )
 
-read_on : (v : View) (q n : ℕ) (x : Seen) (w : View) → q < length v.rows → IsLook v n q → IsSeenAs (turned v q (sighted (Reading (n / 4) []) n)) q x w → IsSeenAs v q x w
-read_on v q n (seen.Whole k xs) w h look a = let s : (corner (turned v q (sighted (Reading (n / 4) []) n)) q).seen ≡ n / 4 = ap (λ (c : Corner). c.seen) (corner_turned v q (sighted (Reading (n / 4) []) n) h) in let l = look.later in let b = a.0 in
-    (omega arith, a.1, a.2 ∙ ap (λ rows. record v { rows = rows; reads = read_of v q k xs ∷ v.reads }) (set-set v.rows q (sighted (Reading (n / 4) []) n) (sighted Idle (4 * k + 2))))
-read_on v q n (seen.Free m) w h look a = let s : (corner (turned v q (sighted (Reading (n / 4) []) n)) q).seen ≡ n / 4 = ap (λ (c : Corner). c.seen) (corner_turned v q (sighted (Reading (n / 4) []) n) h) in let l = look.later in let b = a.1 in
-    (a.0, omega arith, a.2 ∙ ap (λ rows. record v { rows = rows; sights = sight_of v q m m ∷ v.sights }) (set-set v.rows q (sighted (Reading (n / 4) []) n) (sighted Idle m)))
-read_on v q n (seen.Busy m o) w h look a = let s : (corner (turned v q (sighted (Reading (n / 4) []) n)) q).seen ≡ n / 4 = ap (λ (c : Corner). c.seen) (corner_turned v q (sighted (Reading (n / 4) []) n) h) in let l = look.later in let b = a.1 in
-    (a.0, omega arith, a.2, a.3, a.4, a.5 ∙ ap (λ rows. record v { rows = rows; sights = sight_of v q m o ∷ v.sights }) (set-set v.rows q (sighted (Reading (n / 4) []) n) (sighted Idle o)))
+abbrev begins : View → ℕ → ℕ → View
+begins v q n = record (turned v q (sighted (Reading (n / 4) []) n)) { looks = v.looks + 1 }
+
+read_on : (v : View) (q n : ℕ) (x : Seen) (w : View) → q < length v.rows → IsLook v n q → IsSeenAs (begins v q n) q x w → IsSeenAs v q x w
+read_on v q n (seen.Whole k xs) w h look a = let c : Corner = sighted (Reading (n / 4) []) n in let here = corner_turned v q c h in let s : (corner (turned v q c) q).seen ≡ n / 4 = ap (λ (d : Corner). d.seen) here in let l = look.later in let b = a.0 in
+    (omega arith, a.1, a.2 ∙ ap (λ rows. record v { looks = w.looks; rows = rows; reads = read_of v q k xs ∷ v.reads }) (set-set v.rows q c (sighted Idle (4 * k + 2))), λ whole j fresh last. a.3 whole n (ap (λ (d : Corner). d.fresh) here) (ap (λ (d : Corner). d.last) here) ∙ look.same whole j fresh last)
+read_on v q n (seen.Free m) w h look a = let c : Corner = sighted (Reading (n / 4) []) n in let here = corner_turned v q c h in let s : (corner (turned v q c) q).seen ≡ n / 4 = ap (λ (d : Corner). d.seen) here in let l = look.later in let b = a.1 in
+    (a.0, omega arith, a.2 ∙ ap (λ rows. record v { looks = w.looks; rows = rows; sights = sight_of v q m m ∷ v.sights }) (set-set v.rows q c (sighted Idle m)), λ whole j fresh last. a.3 whole n (ap (λ (d : Corner). d.fresh) here) (ap (λ (d : Corner). d.last) here) ∙ look.same whole j fresh last)
+read_on v q n (seen.Busy m o) w h look a = let c : Corner = sighted (Reading (n / 4) []) n in let here = corner_turned v q c h in let s : (corner (turned v q c) q).seen ≡ n / 4 = ap (λ (d : Corner). d.seen) here in let l = look.later in let b = a.1 in
+    (a.0, omega arith, a.2, a.3, a.4, a.5 ∙ ap (λ rows. record v { looks = w.looks; rows = rows; sights = sight_of v q m o ∷ v.sights }) (set-set v.rows q c (sighted Idle o)))
 
 -- what a read answers that looked first
 pub read_answer : (v : View) (q n : ℕ) (x : Seen) (w : View) → q < length v.rows → IsLook v n q → n % 4 ≡ 2 → IsSeenAs (looked v q n) q x w → IsSeenAs v q x w
 read_answer v q n x w h look two a = read_on v q n x w h look (subst (λ (u : View). IsSeenAs u q x w) (looked_two v q n two) a)
+
+-- the last look of a read counts one more
+pub finished_looks : (v v1 w : View) (q n k : ℕ) (xs : List ℕ) → q < length v.rows → v1 ≡ turned v q (restaged (corner v q) (Reading k xs)) → w ≡ finished v1 q n → w.looks ≡ v.looks + 1
+finished_looks v v1 w q n k xs h e f = let u : View = turned v q (restaged (corner v q) (Reading k xs)) in
+    let A : View = record (turned u q (sighted Idle n)) { looks = u.looks + 1; reads = read_of u q k xs ∷ u.reads } in let B : View = record (turned u q (sighted Idle n)) { looks = u.looks + 1; sights = sight_of u q (4 * k + 2) n ∷ u.sights } in
+    ap (λ (x : View). x.looks) (f ∙ finished_is v v1 q n k xs h e)
+    ∙ dite (ℕ_discrete n (4 * k + 2)) (λ g. ap (λ (x : View). x.looks) (if_true (eqb n (4 * k + 2)) A B (eq-eqb n (4 * k + 2) g))) (λ g. ap (λ (x : View). x.looks) (if_false (eqb n (4 * k + 2)) A B (ne_eqb n (4 * k + 2) g)))

@@ -11,7 +11,7 @@ use Rattle.pfs_board.specs.declared.view.Stage.TheVariants.{Idle, Holding}
 use Rattle.pfs_board.specs.declared.view.View.{View}
 use Rattle.pfs_board.specs.History.{total, step_of}
 use Rattle.pfs_board.specs.Hands.{IsAside, IsHandTaken, IsLetGo}
-use Rattle.pfs_board.specs.Knowledge.{corner, is_holding, held, stake, joined, sighted, published_at, freed_at, version_held, found_in}
+use Rattle.pfs_board.specs.Knowledge.{corner, is_holding, held, stake, joined, sighted, weighed, published_at, freed_at, version_held, found_in}
 use Rattle.pfs_board.specs.Known.{Known, known, first_view, IsReady}
 use Rattle.pfs_board.specs.Seeing.{IsSeenAs}
 use Rattle.pfs_board.specs.Taking.{IsTaken}
@@ -35,12 +35,12 @@ hands_seen v q (seen.Whole k xs) w h free a = aside v w q (4 * k + 2) h free (ap
 hands_seen v q (seen.Free n) w h free a = aside v w q n h free (ap (λ (x : View). x.rows) a.2) (ap stake a.2)
 hands_seen v q (seen.Busy m n) w h free a = aside v w q n h free (ap (λ (x : View). x.rows) a.5) (ap stake a.5)
 
-pub hands_put : (v w : View) (q : ℕ) (content : List ℕ) → q < length v.rows → 0 < v.allowance → is_holding (corner v q).stage ≡ true → w ≡ published_at v q (version_held (corner v q).stage) (found_in (corner v q).stage) content → IsLetGo v q w
+pub hands_put : (v w : View) (q : ℕ) (content : List ℕ) → q < length v.rows → 0 < v.allowance → is_holding (corner v q).stage ≡ true → w ≡ published_at (weighed v) q (version_held (corner v q).stage) (found_in (corner v q).stage) content → IsLetGo v q w
 hands_put v w q content h some_left held_it a = let n : ℕ = 4 * (version_held (corner v q).stage + 1) + 2 in let e : w.rows ≡ set v.rows q (sighted Idle n) = ap (λ (x : View). x.rows) a in
     let s = held_set v.rows q (sighted Idle n) h in let x : one (sighted Idle n) ≡ 0 = refl in let y : one (corner v q) ≡ 1 = if_true {A = ℕ} (is_holding (corner v q).stage) 1 0 held_it in
     let r = ap held e in let b : stake w ≡ (v.allowance - 1) + (1 + total step_of v.made) = ap stake a in let k : stake w ≡ stake v = b ∙ omega arith in (ap (λ (c : Corner). c.stage) (sight_corner v w q n Idle h e), omega arith, k)
 
-pub hands_free : (v w : View) (q : ℕ) → q < length v.rows → is_holding (corner v q).stage ≡ true → w ≡ freed_at v q (version_held (corner v q).stage) (found_in (corner v q).stage) → IsLetGo v q w
+pub hands_free : (v w : View) (q : ℕ) → q < length v.rows → is_holding (corner v q).stage ≡ true → w ≡ freed_at (weighed v) q (version_held (corner v q).stage) (found_in (corner v q).stage) → IsLetGo v q w
 hands_free v w q h held_it a = let n : ℕ = 4 * version_held (corner v q).stage in let e : w.rows ≡ set v.rows q (sighted Idle n) = ap (λ (x : View). x.rows) a in
     let s = held_set v.rows q (sighted Idle n) h in let x : one (sighted Idle n) ≡ 0 = refl in let y : one (corner v q) ≡ 1 = if_true {A = ℕ} (is_holding (corner v q).stage) 1 0 held_it in
     let r = ap held e in let b : stake w ≡ v.allowance + (0 + total step_of v.made) = ap stake a in let k : stake w ≡ stake v = b ∙ omega arith in (ap (λ (c : Corner). c.stage) (sight_corner v w q n Idle h e), omega arith, k)

@@ -1,11 +1,13 @@
 -- What follows from a history alone.
 use Rattle.std.proofs.Common.{◌≡◌, ℕ, eqb, subst, eq-eqb, ne_eqb, ◌+◌, ◌-◌, ◌<◌, ◌≤◌, ◌≢◌, ◌⊎◌, Bool, true, false, cond, not, List, [], ◌∷◌, ◌++◌, length, sym, refl, ap, ◌∙◌, inl, inr, ⊎_elim, arith, length-append}
+use Rattle.std.proofs.Common.{append-nil}
 use Rattle.std.specs.Prelude.{nat_lt}
 use Rattle.std.proofs.lemmas.Bool.Decides.{nat_tests}
 use mathlib.Core.Logic.{dite}
 use native.Mathlib.Decide.{ℕ_discrete}
 use Rattle.pfs_board.specs.declared.view.Change.{Change}
-use Rattle.pfs_board.specs.History.{total, Each, Some_of, step_of, version, stands, stood, is_free, IsFreedAt, Follows, IsChain, oldest, level, version_of, Floor}
+use Rattle.pfs_board.specs.declared.view.Label.{Label}
+use Rattle.pfs_board.specs.History.{total, Each, Some_of, step_of, version, stands, stood, is_free, IsFreedAt, labels_of, Follows, IsChain, Rises, oldest, level, version_of, Floor}
 
 pub if_true : {A : Type 0} (b : Bool) (x y : A) → b ≡ true → cond b x y ≡ x
 if_true b x y e = subst (λ c. cond c x y ≡ x) (sym e) refl
@@ -58,6 +60,31 @@ level_release p e = if_false p.puts p.version (p.version + 1) e
 
 pub version_more : (p : Change) (ps : List Change) (r : ℕ) → version ps r ≤ version (p ∷ ps) r
 version_more p ps r = dite (ℕ_discrete p.row r) (λ e. let v = version_here p ps r e in omega arith) (λ n. let v = version_other p ps r n in omega arith)
+
+pub labels_other : (p : Change) (ps : List Change) → p.row ≢ 0 → labels_of (p ∷ ps) ≡ labels_of ps
+labels_other p ps n = if_false (eqb p.row 0) _ (labels_of ps) (ne_eqb p.row 0 n)
+
+pub labels_release : (p : Change) (ps : List Change) → p.row ≡ 0 → p.puts ≡ false → labels_of (p ∷ ps) ≡ labels_of ps
+labels_release p ps h e = if_true (eqb p.row 0) _ (labels_of ps) (eq-eqb p.row 0 h) ∙ if_false p.puts _ (labels_of ps) e
+
+pub labels_put : (p : Change) (ps : List Change) → p.row ≡ 0 → p.puts ≡ true → labels_of (p ∷ ps) ≡ labels_of ps ++ p.label ∷ []
+labels_put p ps h e = if_true (eqb p.row 0) _ (labels_of ps) (eq-eqb p.row 0 h) ∙ if_true p.puts (labels_of ps ++ p.label ∷ []) (labels_of ps) e
+
+-- an entry takes no label back
+pub labels_more : (p : Change) (ps : List Change) → (more : List Label) × (labels_of (p ∷ ps) ≡ labels_of ps ++ more)
+labels_more p ps = dite (ℕ_discrete p.row 0)
+    (λ e. ⊎_elim (λ puts. (p.label ∷ [], labels_put p ps e puts)) (λ releases. ([], labels_release p ps e releases ∙ sym (append-nil (labels_of ps)))) (either_way p.puts))
+    (λ n. ([], labels_other p ps n ∙ sym (append-nil (labels_of ps))))
+
+-- there are as many labels as row 0 has publications
+pub length_labels : (log : List Change) → length (labels_of log) ≡ version log 0
+length_labels [] = refl
+length_labels (p ∷ ps) = let e = length_labels ps in dite (ℕ_discrete p.row 0)
+    (λ h. ⊎_elim
+    (λ puts. let l = ap (length {A = Label}) (labels_put p ps h puts) in let a = length-append (labels_of ps) (p.label ∷ []) in let v = version_here p ps 0 h in let s = step_put p puts in omega arith)
+    (λ releases. let l = ap (length {A = Label}) (labels_release p ps h releases) in let v = version_here p ps 0 h in let s = step_release p releases in omega arith)
+    (either_way p.puts))
+    (λ n. let l = ap (length {A = Label}) (labels_other p ps n) in let v = version_other p ps 0 n in omega arith)
 
 pub version_below_total : (log : List Change) (r : ℕ) → version log r ≤ total step_of log
 version_below_total [] r = omega arith
@@ -213,3 +240,42 @@ module _ (f : Change → ℕ) (log had : List Change) (row k after base : ℕ) w
     actions = o.actions;
     first = subst (Each (λ (p : Change). p.row ≡ row → f p ≤ k)) (sym same) o.first;
   }
+
+-- What a history says of actions
+module _ (start : List ℕ) where
+  pub actions_below : (log : List Change) → IsChain start log → Each (λ (p : Change). p.action ≤ version log 0 + 1) log
+  actions_below [] c = tt
+  actions_below (p ∷ ps) c = let m = version_more p ps 0 in (
+    ⊎_elim (λ z. omega arith) (λ z. omega arith) c.0.inside,
+    each_map (λ (q : Change). q.action ≤ version ps 0 + 1) (λ (q : Change). q.action ≤ version (p ∷ ps) 0 + 1) (λ q b. omega arith) ps (actions_below ps c.1),
+  )
+
+  pub rises : (log : List Change) → IsChain start log → Rises log
+  rises [] c = tt
+  rises (p ∷ ps) c = (
+    (λ some_action. each_map (λ (q : Change). q.action ≤ version ps 0 + 1) (λ (q : Change). q.row ≡ p.row → q.action ≤ p.action) (λ q b _. ⊎_elim (λ z. absurd (omega arith)) (λ z. omega arith) c.0.inside) ps (actions_below ps c.1)),
+    rises ps c.1,
+  )
+
+  pub afters_below : (log : List Change) → IsChain start log → Each (λ (p : Change). p.after ≤ version log 0) log
+  afters_below [] c = tt
+  afters_below (p ∷ ps) c = let m = version_more p ps 0 in let a = c.0.after_it in (
+    omega arith,
+    each_map (λ (q : Change). q.after ≤ version ps 0) (λ (q : Change). q.after ≤ version (p ∷ ps) 0) (λ q b. omega arith) ps (afters_below ps c.1),
+  )
+
+  level_now : (p : Change) (ps : List Change) → Follows start ps p → level p ≡ version ps p.row + 1
+  level_now p ps f = let n = f.numbered in ⊎_elim (λ g. let l = level_put p g in let s = step_put p g in omega arith) (λ g. let l = level_release p g in let s = step_release p g in omega arith) (either_way p.puts)
+
+  -- no entry is below what the actions did that had ended before it
+  pub above_actions : (log : List Change) → IsChain start log → Each (λ (p : Change). Each (λ (e : Change). e.row ≡ p.row → 0 < e.action → e.action ≤ p.after → level e ≤ level p) log) log
+  above_actions [] c = tt
+  above_actions (q ∷ ps) c = let top = level_now q ps c.0 in (
+    (
+      (λ _ _ _. omega arith),
+      each_map (λ (e : Change). e.row ≡ q.row → version_of e ≤ version ps q.row) (λ (e : Change). e.row ≡ q.row → 0 < e.action → e.action ≤ q.after → level e ≤ level q) (λ e b h _ _. let m = b h in let l = level_next start e in omega arith) ps (below_all start ps q.row c.1),
+    ),
+    each_both (λ (p : Change). p.after ≤ version ps 0) (λ (p : Change). Each (λ (e : Change). e.row ≡ p.row → 0 < e.action → e.action ≤ p.after → level e ≤ level p) ps)
+        (λ (p : Change). Each (λ (e : Change). e.row ≡ p.row → 0 < e.action → e.action ≤ p.after → level e ≤ level p) (q ∷ ps))
+        (λ p b rest. ((λ _ some_action low. absurd (⊎_elim (λ z. omega arith) (λ z. omega arith) c.0.inside)), rest)) ps (afters_below ps c.1) (above_actions ps c.1),
+  )

@@ -18,7 +18,7 @@ use Rattle.pfs_board.specs.declared.view.Sight.{Sight}
 use Rattle.pfs_board.specs.declared.view.Stage.{Stage}
 use Rattle.pfs_board.specs.declared.view.Stage.TheVariants.{Idle, Reading, Holding}
 use Rattle.pfs_board.specs.declared.view.View.{View}
-use Rattle.pfs_board.specs.History.{total, Each, lock_at, step_of, version, stands, is_free}
+use Rattle.pfs_board.specs.History.{total, Each, lock_at, step_of, version, stands, is_free, labels_of}
 use Rattle.pfs_board.specs.Knowledge.{newcomer, corner, is_holding, held, IsWhole, spent}
 use Rattle.pfs_board.specs.Rule.{Moment, moment, lock, now, Knows, IsRead, IsKnown, IsSight, IsEntered, IsLast, IsInside, FitsRow, Fits, IsRow, IsRoot, IsHome, IsCurrent, Joint, Ruled}
 use Rattle.pfs_board.proofs.HistoryFacts.{each_map}
@@ -68,7 +68,7 @@ module _ (start : List ℕ) where
     pub knows : (j r : ℕ) (st : Stage) → j ≢ me → Knows start t j r st → Knows start t' j r st
     pub version_up : (r : ℕ) → version t.log r ≤ version t'.log r
     pub last : (j r : ℕ) (k : Option ℕ) → j ≢ me → IsLast start t j r k → IsLast start t' j r k
-    pub inside : (j : ℕ) (v : View) → j ≢ me → Knows start t j 0 (corner v 0).stage → IsInside start t v → IsInside start t' v
+    pub inside : (j : ℕ) (v : View) → j ≢ me → (¬ (IsWhole v)) → Knows start t j 0 (corner v 0).stage → IsInside start t v → IsInside start t' v
     pub known : (row n after base : ℕ) → IsKnown start t row n after base → IsKnown start t' row n after base
     pub read : (f : Finished) → IsRead start t f → IsRead start t' f
     pub sight : (x : Sight) → IsSight start t x → IsSight start t' x
@@ -90,7 +90,7 @@ module _ (start : List ℕ) where
       known = λ k fresh last. l.known r k v.after v.base (c.known k fresh last);
       alone = λ w. absurd (not_whole w);
     };
-    inside = l.inside j v n (f.corners 0).knows f.inside;
+    inside = l.inside j v n not_whole (f.corners 0).knows f.inside;
     ended = omega arith;
     split_at = omega arith;
     reads = each_map (IsRead start t) (IsRead start t') l.read v.reads f.reads;
@@ -103,7 +103,7 @@ module _ (start : List ℕ) where
     knows = λ j r st n k. k;
     version_up = λ r. omega arith;
     last = λ j r k n l. l;
-    inside = λ j v n k i. i;
+    inside = λ j v n w k i. i;
     known = λ row n after base k. k;
     read = λ f r. r;
     sight = λ x s. s;
@@ -153,8 +153,18 @@ module _ (start : List ℕ) where
     entered = entered;
   }
 
-  pub inside_same : (t t' : Moment) (v w : View) → w.action ≡ v.action → version t'.log 0 ≡ version t.log 0 → is_holding (corner w 0).stage ≡ is_holding (corner v 0).stage → IsInside start t v → IsInside start t' w
-  inside_same t t' v w a n h i = ⊎_elim (λ x. inl (a ∙ x.0, h ∙ x.1)) (λ x. inr (a ∙ (x.0 ∙ ap (λ z. z + 1) (sym n)), h ∙ x.1)) i
+  -- where an action and the value are stays
+  pub record SameAction (v w : View) : Type 0 where
+    pub action_is : w.action ≡ v.action
+    pub after_is : w.after ≡ v.after
+    pub lent_is : w.lent ≡ v.lent
+    pub labels_is : w.labels ≡ v.labels
+    pub whole_then : IsWhole v → IsWhole w
+
+  pub inside_same : (t t' : Moment) (v w : View) → SameAction v w → version t'.log 0 ≡ version t.log 0 → labels_of t'.log ≡ labels_of t.log → is_holding (corner w 0).stage ≡ is_holding (corner v 0).stage → IsInside start t v → IsInside start t' w
+  inside_same t t' v w a n l h i = ⊎_elim
+      (λ x. inl (a.action_is ∙ x.0, h ∙ x.1, λ out. let y = x.2 (sym a.lent_is ∙ out) in (a.whole_then y.0, a.labels_is ∙ (y.1 ∙ sym l))))
+      (λ x. inr (a.action_is ∙ (x.0 ∙ ap (λ z. z + 1) (sym n)), h ∙ x.1, a.lent_is ∙ x.2, a.labels_is ∙ (x.3 ∙ sym l), a.after_is ∙ (x.4 ∙ sym n))) i
 
 module _ {K : Type 0} (means : K → List Label → Type 0) (start : List ℕ) where
   abbrev St : Type 0
@@ -171,31 +181,47 @@ module _ {K : Type 0} (means : K → List Label → Type 0) (start : List ℕ) w
       let s = o.counted step_of in let w = o.allowed in absurd (omega arith))
 
   -- what the sums see of a view stays
-  pub record Alike (v w : View) : Type 0 where
+  pub record Sums (v w : View) : Type 0 where
     pub live_is : w.live ≡ true
     pub made_is : w.made ≡ v.made
     pub allowance_is : w.allowance ≡ v.allowance
     pub seats_is : w.seats ≡ v.seats
-    pub lent_is : w.lent ≡ v.lent
 
-  pub root_set : (t t' : Moment) (homes homes' : List (maybe.Option (Option K))) (views : List View) (id : ℕ) (v w : View) → get_elem? views id ≡ some v
+  -- and where the value is
+  pub record Alike (v w : View) : Type 0 where
+    pub sums : Sums v w
+    pub lent_is : w.lent ≡ v.lent
+    pub moving_is : w.moving ≡ v.moving
+
+  pub root_home : (t : Moment) (homes : List (maybe.Option (Option K))) (views : List View) → Joint means start t homes views → (u : View) → get_elem? views 0 ≡ some u → IsHome start t means homes u.lent
+  root_home t homes views o u at = let r = o.root_is in subst (λ (x : View). IsHome start t means homes x.lent) (some-injective _ _ (sym r.1 ∙ at)) r.3
+
+  pub home_set : (t t' : Moment) (homes homes' : List (maybe.Option (Option K))) (views : List View) (id : ℕ) (v w : View) → get_elem? views id ≡ some v → w.lent ≡ v.lent
+      → ((lent : Bool) → IsHome start t means homes lent → IsHome start t' means homes' lent) → ((u : View) → get_elem? views 0 ≡ some u → IsHome start t means homes u.lent)
+      → (u : View) → get_elem? (set views id w) 0 ≡ some u → IsHome start t' means homes' u.lent
+  home_set t t' homes homes' views id v w at lent_is home old u there = ⊎_elim
+      (λ (h : (0 ≡ id) × (w ≡ u)). subst (λ b. IsHome start t' means homes' b) (sym lent_is ∙ ap (λ (x : View). x.lent) h.1) (home v.lent (old v (ap (get_elem? views) h.0 ∙ at))))
+      (λ (h : (0 ≢ id) × (get_elem? views 0 ≡ some u)). home u.lent (old u h.1))
+      (at_set views id 0 w u there)
+
+  pub root_set : (t t' : Moment) (homes' : List (maybe.Option (Option K))) (views : List View) (id : ℕ) (v w : View) → get_elem? views id ≡ some v
       → ((u : View) → get_elem? views 0 ≡ some u → 0 ≢ id → IsRoot start t (length views) u → IsRoot start t' (length views) u)
-      → (0 ≡ id → IsRoot start t (length views) v → IsRoot start t' (length views) w) → w.lent ≡ v.lent
-      → ((lent : Bool) → IsHome start t means homes lent → IsHome start t' means homes' lent)
-      → ((u : View) × (get_elem? views 0 ≡ some u) × IsRoot start t (length views) u × IsHome start t means homes u.lent)
+      → (0 ≡ id → IsRoot start t (length views) v → IsRoot start t' (length views) w)
+      → ((u : View) → get_elem? (set views id w) 0 ≡ some u → IsHome start t' means homes' u.lent)
+      → (u : View) → get_elem? views 0 ≡ some u → IsRoot start t (length views) u
       → (u : View) × (get_elem? (set views id w) 0 ≡ some u) × IsRoot start t' (length (set views id w)) u × IsHome start t' means homes' u.lent
-  root_set t t' homes homes' views id v w at other own lent_is home r = dite (ℕ_discrete 0 id)
-      (λ e. let same : r.0 ≡ v = some-injective _ _ (sym r.1 ∙ (ap (get_elem? views) e ∙ at)) in (
+  root_set t t' homes' views id v w at other own home u there root = dite (ℕ_discrete 0 id)
+      (λ e. let same : u ≡ v = some-injective _ _ (sym there ∙ (ap (get_elem? views) e ∙ at)) in let here : get_elem? (set views id w) 0 ≡ some w = ap (get_elem? (set views id w)) e ∙ set_here views id w (at_below views id v at) in (
         w,
-        ap (get_elem? (set views id w)) e ∙ set_here views id w (at_below views id v at),
-        subst (λ n. IsRoot start t' n w) (sym (length-set views id w)) (own e (subst (IsRoot start t (length views)) same r.2)),
-        subst (λ b. IsHome start t' means homes' b) (ap (λ (x : View). x.lent) same ∙ sym lent_is) (home r.0.lent r.3),
+        here,
+        subst (λ n. IsRoot start t' n w) (sym (length-set views id w)) (own e (subst (IsRoot start t (length views)) same root)),
+        home w here,
       ))
-      (λ n. (
-        r.0,
-        set_else views id 0 w n ∙ r.1,
-        subst (λ c. IsRoot start t' c r.0) (sym (length-set views id w)) (other r.0 r.1 n r.2),
-        home r.0.lent r.3,
+      (λ n. let here : get_elem? (set views id w) 0 ≡ some u = set_else views id 0 w n ∙ there in (
+        u,
+        here,
+        subst (λ c. IsRoot start t' c u) (sym (length-set views id w)) (other u there n root),
+        home u here,
       ))
 
   pub spent_set : (views : List View) (id : ℕ) (w : View) → w.live ≡ true → ((j : ℕ) (u : View) → get_elem? views j ≡ some u → u.live ≡ false → u ≡ spent)
@@ -205,15 +231,20 @@ module _ {K : Type 0} (means : K → List Label → Type 0) (start : List ℕ) w
   pub sums_same : (f : View → ℕ) (views : List View) (id : ℕ) (v w : View) → get_elem? views id ≡ some v → f w ≡ f v → total f (set views id w) ≡ total f views
   sums_same f views id v w at e = let s = total_set f views id v w at in omega arith
 
-  pub lent_set : (homes : List (maybe.Option (Option K))) (views : List View) (id : ℕ) (v w : View) → get_elem? views id ≡ some v → w.lent ≡ v.lent → ((j : ℕ) (u : View) → get_elem? views j ≡ some u → u.lent ≡ true → get_elem? homes 0 ≡ some (some None))
-      → (j : ℕ) (u : View) → get_elem? (set views id w) j ≡ some u → u.lent ≡ true → get_elem? homes 0 ≡ some (some None)
-  lent_set homes views id v w at same old j u there lent = ⊎_elim (λ (h : (j ≡ id) × (w ≡ u)). old id v at (sym same ∙ (ap (λ (x : View). x.lent) h.1 ∙ lent))) (λ (h : (j ≢ id) × (get_elem? views j ≡ some u)). old j u h.1 lent) (at_set views id j w u there)
+  pub lent_set : (homes : List (maybe.Option (Option K))) (views : List View) (id : ℕ) (v w : View) → get_elem? views id ≡ some v → w.lent ≡ v.lent → w.moving ≡ v.moving
+      → ((j : ℕ) (u : View) → get_elem? views j ≡ some u → u.lent ≡ true → u.moving ≡ false → get_elem? homes 0 ≡ some (some None))
+      → (j : ℕ) (u : View) → get_elem? (set views id w) j ≡ some u → u.lent ≡ true → u.moving ≡ false → get_elem? homes 0 ≡ some (some None)
+  lent_set homes views id v w at same still old j u there lent rests = ⊎_elim
+      (λ (h : (j ≡ id) × (w ≡ u)). old id v at (sym same ∙ (ap (λ (x : View). x.lent) h.1 ∙ lent)) (sym still ∙ (ap (λ (x : View). x.moving) h.1 ∙ rests)))
+      (λ (h : (j ≢ id) × (get_elem? views j ≡ some u)). old j u h.1 lent rests)
+      (at_set views id j w u there)
 
-  pub joint_same : (t : Moment) (ws : List ℕ) (hd : ℕ → ℕ) (homes homes' : List (maybe.Option (Option K))) (views : List View) (id : ℕ) (v w : View) → get_elem? views id ≡ some v → Alike v w
+  pub joint_on : (t : Moment) (ws : List ℕ) (hd : ℕ → ℕ) (homes homes' : List (maybe.Option (Option K))) (views : List View) (id : ℕ) (v w : View) → get_elem? views id ≡ some v → Sums v w
       → length ws ≡ length t.words → IsCurrent start (record { words = ws; log = t.log; had = t.had; holder = hd }) t.log
-      → ((lent : Bool) → IsHome start t means homes lent → IsHome start (record { words = ws; log = t.log; had = t.had; holder = hd }) means homes' lent)
-      → (get_elem? homes 0 ≡ some (some None) → get_elem? homes' 0 ≡ some (some None)) → Joint means start t homes views → Joint means start (record { words = ws; log = t.log; had = t.had; holder = hd }) homes' (set views id w)
-  joint_same t ws hd homes homes' views id v w at a wide current home still_empty o = let t' : Moment = record { words = ws; log = t.log; had = t.had; holder = hd } in record {
+      → ((u : View) → get_elem? (set views id w) 0 ≡ some u → IsHome start (record { words = ws; log = t.log; had = t.had; holder = hd }) means homes' u.lent)
+      → ((j : ℕ) (u : View) → get_elem? (set views id w) j ≡ some u → u.lent ≡ true → u.moving ≡ false → get_elem? homes' 0 ≡ some (some None))
+      → Joint means start t homes views → Joint means start (record { words = ws; log = t.log; had = t.had; holder = hd }) homes' (set views id w)
+  joint_on t ws hd homes homes' views id v w at a wide current home empty o = let t' : Moment = record { words = ws; log = t.log; had = t.had; holder = hd } in let root = o.root_is in record {
     wide = wide ∙ o.wide;
     chain = o.chain;
     counted = λ h. sums_same (λ (x : View). total h x.made) views id v w at (ap (total h) a.made_is) ∙ o.counted h;
@@ -221,9 +252,9 @@ module _ {K : Type 0} (means : K → List Label → Type 0) (start : List ℕ) w
     makers = subst (λ n. Each (λ (p : Change). p.by < n) t.log) (sym (length-set views id w)) o.makers;
     floors = o.floors;
     current = current;
-    root_is = root_set t t' homes homes' views id v w at (λ u at0 n r. record { here = r.here; seats = r.seats; made = r.made })
-        (λ _ r. record { here = a.live_is; seats = r.seats ∙ ap (λ z. z + 1) (sym a.seats_is); made = a.made_is ∙ r.made }) a.lent_is home o.root_is;
-    empty = λ j u there lent. still_empty (lent_set homes views id v w at a.lent_is o.empty j u there lent);
+    root_is = root_set t t' homes' views id v w at (λ u at0 n r. record { here = r.here; seats = r.seats; made = r.made })
+        (λ _ r. record { here = a.live_is; seats = r.seats ∙ ap (λ z. z + 1) (sym a.seats_is); made = a.made_is ∙ r.made }) home root.0 root.1 root.2;
+    empty = empty;
     spent_is = spent_set views id w a.live_is o.spent_is;
   }
 
@@ -236,22 +267,35 @@ module _ {K : Type 0} (means : K → List Label → Type 0) (start : List ℕ) w
       (λ (h : (j ≢ id) × (get_elem? views j ≡ some u)). others_fit start id t t' j u later h.0 (λ whole. h.0 (whole_is_one t homes views o id j v u at some_left h.1 whole)) (old j u h.1 live))
       (at_set views id j w u there)
 
-  pub moved : (s : St) (r : Ruled means start s) (ws : List ℕ) (hd : ℕ → ℕ) (homes' : List (maybe.Option (Option K))) (id : ℕ) (v w : View) → get_elem? s.views id ≡ some v → 0 < v.allowance + total step_of v.made → Alike v w
+  -- a step that changes words and no history, after which the value is where it is said to be
+  pub moved_on : (s : St) (r : Ruled means start s) (ws : List ℕ) (hd : ℕ → ℕ) (homes' : List (maybe.Option (Option K))) (id : ℕ) (v w : View) → get_elem? s.views id ≡ some v → 0 < v.allowance + total step_of v.made → Sums v w
       → length ws ≡ length s.words → IsCurrent start (record { words = ws; log = r.log; had = r.had; holder = hd }) r.log
-      → ((lent : Bool) → IsHome start (at_moment s r) means s.homes lent → IsHome start (record { words = ws; log = r.log; had = r.had; holder = hd }) means homes' lent)
-      → (get_elem? s.homes 0 ≡ some (some None) → get_elem? homes' 0 ≡ some (some None))
+      → ((u : View) → get_elem? (set s.views id w) 0 ≡ some u → IsHome start (record { words = ws; log = r.log; had = r.had; holder = hd }) means homes' u.lent)
+      → ((j : ℕ) (u : View) → get_elem? (set s.views id w) j ≡ some u → u.lent ≡ true → u.moving ≡ false → get_elem? homes' 0 ≡ some (some None))
       → Later start id (at_moment s r) (record { words = ws; log = r.log; had = r.had; holder = hd })
       → Fits start (record { words = ws; log = r.log; had = r.had; holder = hd }) id w
       → ((q : ℕ) → lock_at q < length start → IsRow start (record { words = ws; log = r.log; had = r.had; holder = hd }) (set s.views id w) q)
       → Ruled means start record { words = ws; homes = homes'; views = set s.views id w }
-  moved s r ws hd homes' id v w at some_left a wide current home still_empty later mine rows = record {
+  moved_on s r ws hd homes' id v w at some_left a wide current home empty later mine rows = record {
     log = r.log;
     had = r.had;
     holder = hd;
-    joint = joint_same (at_moment s r) ws hd s.homes homes' s.views id v w at a wide current home still_empty r.joint;
+    joint = joint_on (at_moment s r) ws hd s.homes homes' s.views id v w at a wide current home empty r.joint;
     seats = seats_set (at_moment s r) (record { words = ws; log = r.log; had = r.had; holder = hd }) s.homes s.views id v w r.joint at some_left later mine r.seats;
     rows = rows;
   }
+
+  -- and leaves the value where it is
+  pub moved : (s : St) (r : Ruled means start s) (ws : List ℕ) (hd : ℕ → ℕ) (id : ℕ) (v w : View) → get_elem? s.views id ≡ some v → 0 < v.allowance + total step_of v.made → Alike v w
+      → length ws ≡ length s.words → IsCurrent start (record { words = ws; log = r.log; had = r.had; holder = hd }) r.log
+      → ((lent : Bool) → IsHome start (at_moment s r) means s.homes lent → IsHome start (record { words = ws; log = r.log; had = r.had; holder = hd }) means s.homes lent)
+      → Later start id (at_moment s r) (record { words = ws; log = r.log; had = r.had; holder = hd })
+      → Fits start (record { words = ws; log = r.log; had = r.had; holder = hd }) id w
+      → ((q : ℕ) → lock_at q < length start → IsRow start (record { words = ws; log = r.log; had = r.had; holder = hd }) (set s.views id w) q)
+      → Ruled means start record { words = ws; homes = s.homes; views = set s.views id w }
+  moved s r ws hd id v w at some_left a wide current home later mine rows = moved_on s r ws hd s.homes id v w at some_left a.sums wide current
+      (home_set (at_moment s r) (record { words = ws; log = r.log; had = r.had; holder = hd }) s.homes s.homes s.views id v w at a.lent_is home (root_home (at_moment s r) s.homes s.views r.joint))
+      (lent_set s.homes s.views id v w at a.lent_is a.moving_is r.joint.empty) later mine rows
 
   pub holders_set : (views : List View) (id : ℕ) (v w : View) (q : ℕ) → get_elem? views id ≡ some v → w.live ≡ true → (is_holding (corner v q).stage ≡ true → is_holding (corner w q).stage ≡ true)
       → (j : ℕ) (u : View) → get_elem? views j ≡ some u → u.live ≡ true → is_holding (corner u q).stage ≡ true
@@ -269,5 +313,5 @@ module _ {K : Type 0} (means : K → List Label → Type 0) (start : List ℕ) w
       → ((q : ℕ) → is_holding (corner v q).stage ≡ true → is_holding (corner w q).stage ≡ true)
       → Fits start (at_moment s r) id w → Ruled means start (stepped s i (get_or s.words i 0) id cs w keeps)
   unmoved s r i id cs v w at some_left a stays mine = subst (λ (ws : List ℕ). Ruled means start record { words = ws; homes = s.homes; views = set s.views id w }) (sym (set-get_or s.words i 0))
-      (moved s r s.words r.holder s.homes id v w at some_left a refl r.joint.current (λ lent h. h) (λ e. e) (no_change start id (at_moment s r)) mine
-      (λ q inside. same_row start (at_moment s r) (at_moment s r) s.views (set s.views id w) q (same_everywhere (at_moment s r) q) (holders_set s.views id v w q at a.live_is (stays q) (r.holder q)) (r.rows q inside)))
+      (moved s r s.words r.holder id v w at some_left a refl r.joint.current (λ lent h. h) (no_change start id (at_moment s r)) mine
+      (λ q inside. same_row start (at_moment s r) (at_moment s r) s.views (set s.views id w) q (same_everywhere (at_moment s r) q) (holders_set s.views id v w q at a.sums.live_is (stays q) (r.holder q)) (r.rows q inside)))

@@ -6,6 +6,11 @@ pub mod Moves
 pub mod Publishes
 pub mod Seats
 pub mod Ends
+pub mod Lends
+pub mod Enters
+pub mod Departs
+pub mod SlotFacts
+pub mod Waiting
 pub mod Calls
 pub mod WordFacts
 pub mod Between

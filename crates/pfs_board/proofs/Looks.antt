@@ -18,7 +18,7 @@ use Rattle.pfs_board.specs.declared.view.Stage.{Stage}
 use Rattle.pfs_board.specs.declared.view.Stage.TheVariants.{Idle, Reading, Holding}
 use Rattle.pfs_board.specs.declared.view.View.{View}
 use Rattle.pfs_board.specs.History.{all_changes, total, Each, lock_at, word_at, version, stood, IsFreedAt, level, version_of, Floor}
-use Rattle.pfs_board.specs.Knowledge.{newcomer, corner, is_holding, held, IsWhole, turned, sighted, begun, sight_of, read_of, version_read, words_read, version_held, found_in, peeked, restaged, tried, looked, finished_at, finished}
+use Rattle.pfs_board.specs.Knowledge.{newcomer, corner, is_holding, held, IsWhole, turned, sighted, begun, sight_of, read_of, version_read, words_read, version_held, found_in, peeked, restaged, tried, looked, finished_at, finished, weighed, told}
 use Rattle.pfs_board.specs.Rule.{Moment, lock, now, Knows, IsRead, IsKnown, IsSeen, IsSight, IsLast, FitsRow, Fits, Ruled}
 use Rattle.pfs_board.specs.Plays.{IsLook, tries, looks, finishes, gathers, recalls, weighs, tells}
 use Rattle.pfs_board.proofs.HistoryFacts.{if_true, if_false, each_map, version_below_total, stood_now, below_all, level_all, freed_now, floor_new}
@@ -97,18 +97,18 @@ module _ {K : Type 0} (means : K → List Label → Type 0) (start : List ℕ) w
     }
 
     -- a look at the lock word of a row that the seat does not hold, after which it may know more reads and sights
-    pub sees : (id q : ℕ) (cs : List (ℕ × Option K)) (v : View) (st : Stage) (reads : List Finished) (sights : List Sight) → get_elem? s.views id ≡ some v → v.live ≡ true → lock_at q < length start
+    pub sees : (id q looks : ℕ) (cs : List (ℕ × Option K)) (v : View) (st : Stage) (reads : List Finished) (sights : List Sight) → get_elem? s.views id ≡ some v → v.live ≡ true → lock_at q < length start
         → is_holding (corner v q).stage ≡ false → is_holding st ≡ false → Knows start here id q st → ((k : ℕ) (xs : List ℕ) → st ≡ Reading k xs → lock here q ≡ 4 * k + 2)
         → Each (IsRead start here) reads → Each (IsSight start here) sights
-        → Rule (stepped s (lock_at q) (get_or s.words (lock_at q) 0) id cs (record (turned v q (sighted st (lock here q))) { reads = reads; sights = sights }) keeps)
-    sees id q cs v st reads sights at live inside not_held idle knows tied each_read each_sight =
-        let f = r.seats id v at live in let n : ℕ = lock here q in let c : Corner = sighted st n in let w : View = record (turned v q c) { reads = reads; sights = sights } in
+        → Rule (stepped s (lock_at q) (get_or s.words (lock_at q) 0) id cs (record (turned v q (sighted st (lock here q))) { looks = looks; reads = reads; sights = sights }) keeps)
+    sees id q looks cs v st reads sights at live inside not_held idle knows tied each_read each_sight =
+        let f = r.seats id v at live in let n : ℕ = lock here q in let c : Corner = sighted st n in let w : View = record (turned v q c) { looks = looks; reads = reads; sights = sights } in
         let wide = f.wide in let within : q < length v.rows = omega arith in let same = hold_set v.rows q c within (idle ∙ sym not_held) in
         let h = held_set v.rows q c within in let x : one c ≡ 0 = if_false {A = ℕ} (is_holding st) 1 0 idle in let y : one (corner v q) ≡ 0 = if_false {A = ℕ} (is_holding (corner v q).stage) 1 0 not_held in
         let enough = f.enough in let fits : held (set v.rows q c) ≤ v.allowance = omega arith in
-        unmoved means start s r (lock_at q) id cs v w at f.some_left record { live_is = live; made_is = refl; allowance_is = refl; seats_is = refl; lent_is = refl } (λ p g. same p ∙ g)
+        unmoved means start s r (lock_at q) id cs v w at f.some_left record { sums = record { live_is = live; made_is = refl; allowance_is = refl; seats_is = refl }; lent_is = refl; moving_is = refl } (λ p g. same p ∙ g)
         (fits_after start id here here v w q c f record { rows_are = refl; number_same = refl; start_same = refl; after_same = refl; base_same = refl; whole_before = λ z. z } within (no_change start id here) (λ p _. same_everywhere means start here p)
-        (λ p k _ l. l) f.some_left fits (sighted_row id q v.after v.base (IsWhole v) st inside f.ended f.split_at knows tied) (inside_same start here here v w refl refl (same 0) f.inside) each_read each_sight f.entered)
+        (λ p k _ l. l) f.some_left fits (sighted_row id q v.after v.base (IsWhole v) st inside f.ended f.split_at knows tied) (inside_same start here here v w record { action_is = refl; after_is = refl; lent_is = refl; labels_is = refl; whole_then = λ z. z } refl refl (same 0) f.inside) each_read each_sight f.entered)
 
     pub sight_now : (id q : ℕ) (v : View) → get_elem? s.views id ≡ some v → v.live ≡ true → lock_at q < length start → is_holding (corner v q).stage ≡ false → IsSight start here (sight_of v q (lock here q) (lock here q))
     sight_now id q v at live inside not_held = let f = r.seats id v at live in
@@ -133,9 +133,9 @@ module _ {K : Type 0} (means : K → List Label → Type 0) (start : List ℕ) w
     tt,
     dite (ℕ_discrete (n % 4) 1)
         (λ e. let same = if_true (eqb (n % 4) 1) (sight_of v q n n ∷ v.sights) v.sights (eq-eqb (n % 4) 1 e) in
-        sees s r id q me.1 v Idle v.reads w.sights at live inside not_held refl tt (λ k xs is. cc) (r.seats id v at live).reads (subst (Each (IsSight start t)) (sym same) (sight_now s r id q v at live inside not_held, (r.seats id v at live).sights)))
+        sees s r id q (v.looks + 1) me.1 v Idle v.reads w.sights at live inside not_held refl tt (λ k xs is. cc) (r.seats id v at live).reads (subst (Each (IsSight start t)) (sym same) (sight_now s r id q v at live inside not_held, (r.seats id v at live).sights)))
         (λ e. let same = if_false (eqb (n % 4) 1) (sight_of v q n n ∷ v.sights) v.sights (ne_eqb (n % 4) 1 e) in
-        sees s r id q me.1 v Idle v.reads w.sights at live inside not_held refl tt (λ k xs is. cc) (r.seats id v at live).reads (subst (Each (IsSight start t)) (sym same) (r.seats id v at live).sights)),
+        sees s r id q (v.looks + 1) me.1 v Idle v.reads w.sights at live inside not_held refl tt (λ k xs is. cc) (r.seats id v at live).reads (subst (Each (IsSight start t)) (sym same) (r.seats id v at live).sights)),
     λ p e. let is : q ≡ p = omega arith in subst (λ z. (◌≡◌ {A = M} (w, me.1) (tried v z n, me.1)) × IsLook v n z) is (refl, look s r id q v at live inside),
   )
 
@@ -147,10 +147,10 @@ module _ {K : Type 0} (means : K → List Label → Type 0) (start : List ℕ) w
     tt,
     dite (ℕ_discrete (n % 4) 2)
         (λ e. let same = if_true (eqb (n % 4) 2) v.sights (sight_of v q n n ∷ v.sights) (eq-eqb (n % 4) 2 e) in let start_is = begun_at n e in
-        sees s r id q me.1 v (begun n) v.reads w.sights at live inside not_held (ap is_holding start_is) (subst (Knows start t id q) (sym start_is) (omega arith, omega arith, λ _ i h. absurd (omega arith)))
+        sees s r id q (v.looks + 1) me.1 v (begun n) v.reads w.sights at live inside not_held (ap is_holding start_is) (subst (Knows start t id q) (sym start_is) (omega arith, omega arith, λ _ i h. absurd (omega arith)))
         (λ k xs is. let g : k ≡ n / 4 = ap version_read (sym is ∙ start_is) in omega arith) f.reads (subst (Each (IsSight start t)) (sym same) f.sights))
         (λ e. let same = if_false (eqb (n % 4) 2) v.sights (sight_of v q n n ∷ v.sights) (ne_eqb (n % 4) 2 e) in let start_is = begun_not n e in
-        sees s r id q me.1 v (begun n) v.reads w.sights at live inside not_held (ap is_holding start_is) (subst (Knows start t id q) (sym start_is) tt)
+        sees s r id q (v.looks + 1) me.1 v (begun n) v.reads w.sights at live inside not_held (ap is_holding start_is) (subst (Knows start t id q) (sym start_is) tt)
         (λ k xs is. let g : Reading k xs ≡ Idle = sym is ∙ start_is in cc) f.reads (subst (Each (IsSight start t)) (sym same) (sight_now s r id q v at live inside not_held, f.sights))),
     λ p e. let is : q ≡ p = omega arith in subst (λ z. (◌≡◌ {A = M} (w, me.1) (looked v z n, me.1)) × IsLook v n z) is (refl, look s r id q v at live inside),
   )
@@ -169,16 +169,16 @@ module _ {K : Type 0} (means : K → List Label → Type 0) (start : List ℕ) w
       → Allows Rule slots id me (lock_at q) (λ n. n) (finishes (step slots (lock_at q) 0 0 none) me)
   finish_keeps slots id me q k xs inside live reading wide s r _ at _ = let v : View = me.0 in let t = here s r in let n : ℕ = lock t q in let f = r.seats id v at live in let not_held : is_holding (corner v q).stage ≡ false = ap is_holding reading in
       let same : finished v q n ≡ finished_at v q n k xs = ap (λ z. finished_at v q n (version_read z) (words_read z)) reading in
-      let w1 : View = record (turned v q (sighted Idle n)) { reads = read_of v q k xs ∷ v.reads } in let w2 : View = record (turned v q (sighted Idle n)) { sights = sight_of v q (4 * k + 2) n ∷ v.sights } in
+      let w1 : View = record (turned v q (sighted Idle n)) { looks = v.looks + 1; reads = read_of v q k xs ∷ v.reads } in let w2 : View = record (turned v q (sighted Idle n)) { looks = v.looks + 1; sights = sight_of v q (4 * k + 2) n ∷ v.sights } in
       let tied = (f.corners q).tied k xs reading in (
         finished_at v q n k xs,
         keeps,
         tt,
         dite (ℕ_discrete n (4 * k + 2))
             (λ e. subst (λ (x : View). Rule (stepped s (lock_at q) (get_or s.words (lock_at q) 0) id me.1 x keeps)) (sym (if_true (eqb n (4 * k + 2)) w1 w2 (eq-eqb n (4 * k + 2) e)))
-            (sees s r id q me.1 v Idle w1.reads v.sights at live inside not_held refl tt (λ k xs is. cc) (read_now s r id q k xs v at live inside (subst (Knows start t id q) reading (f.corners q).knows) wide e, f.reads) f.sights))
+            (sees s r id q (v.looks + 1) me.1 v Idle w1.reads v.sights at live inside not_held refl tt (λ k xs is. cc) (read_now s r id q k xs v at live inside (subst (Knows start t id q) reading (f.corners q).knows) wide e, f.reads) f.sights))
             (λ e. subst (λ (x : View). Rule (stepped s (lock_at q) (get_or s.words (lock_at q) 0) id me.1 x keeps)) (sym (if_false (eqb n (4 * k + 2)) w1 w2 (ne_eqb n (4 * k + 2) e)))
-            (sees s r id q me.1 v Idle v.reads w2.sights at live inside not_held refl tt (λ k xs is. cc) f.reads (sight_then s r id q (4 * k + 2) v at live inside not_held (λ z. omega arith) tied.0 tied.1, f.sights))),
+            (sees s r id q (v.looks + 1) me.1 v Idle v.reads w2.sights at live inside not_held refl tt (λ k xs is. cc) f.reads (sight_then s r id q (4 * k + 2) v at live inside not_held (λ z. omega arith) tied.0 tied.1, f.sights))),
         λ p e. let is : q ≡ p = omega arith in subst (λ z. (◌≡◌ {A = M} (finished_at v q n k xs, me.1) (finished v z n, me.1)) × IsLook v n z) is (ap (λ (x : View). (x, me.1)) (sym same), look s r id q v at live inside),
       )
 
@@ -189,9 +189,9 @@ module _ {K : Type 0} (means : K → List Label → Type 0) (start : List ℕ) w
   restages s r i id q cs v st at live inside still knows tied = let t = here s r in let f = r.seats id v at live in let o = f.corners q in let c : Corner = restaged (corner v q) st in let w : View = turned v q c in
       let wide = f.wide in let within : q < length v.rows = omega arith in let same = hold_set v.rows q c within still in
       let h = held_set v.rows q c within in let x : one c ≡ one (corner v q) = ap (λ b. cond b 1 0) still in let enough = f.enough in let fits : held (set v.rows q c) ≤ v.allowance = omega arith in
-      unmoved means start s r i id cs v w at f.some_left record { live_is = live; made_is = refl; allowance_is = refl; seats_is = refl; lent_is = refl } (λ p g. same p ∙ g)
+      unmoved means start s r i id cs v w at f.some_left record { sums = record { live_is = live; made_is = refl; allowance_is = refl; seats_is = refl }; lent_is = refl; moving_is = refl } (λ p g. same p ∙ g)
       (fits_after start id t t v w q c f record { rows_are = refl; number_same = refl; start_same = refl; after_same = refl; base_same = refl; whole_before = λ z. z } within (no_change start id t) (λ p _. same_everywhere means start t p)
-      (λ p k _ l. l) f.some_left fits record { knows = knows; seen = o.seen; last = o.last; tied = tied; known = o.known; alone = o.alone } (inside_same start t t v w refl refl (same 0) f.inside) f.reads f.sights f.entered)
+      (λ p k _ l. l) f.some_left fits record { knows = knows; seen = o.seen; last = o.last; tied = tied; known = o.known; alone = o.alone } (inside_same start t t v w record { action_is = refl; after_is = refl; lent_is = refl; labels_is = refl; whole_then = λ z. z } refl refl (same 0) f.inside) f.reads f.sights f.entered)
 
   one_more : (xs : List ℕ) (i n : ℕ) (word : ℕ → ℕ) → length xs ≡ i → word i ≡ n → ((j : ℕ) → j < length xs → get_or xs j 0 ≡ word j) → (j : ℕ) → j < length (xs ++ n ∷ []) → get_or (xs ++ n ∷ []) j 0 ≡ word j
   one_more xs i n word wide is before j h = let l = length-append xs (n ∷ []) in dite (ℕ_discrete j i)
@@ -212,42 +212,8 @@ module _ {K : Type 0} (means : K → List Label → Type 0) (start : List ℕ) w
         λ p j e h. let is : q ≡ p = omega arith in subst (λ z. ◌≡◌ {A = M} (w, me.1) (turned v z (restaged (corner v z) (peeked (corner v z).stage n)), me.1)) is refl,
       )
 
-  unseen : (s : St) (r : Rule s) (i id : ℕ) (cs : List (ℕ × Option K)) (v : View) → get_elem? s.views id ≡ some v → v.live ≡ true → Rule (stepped s i (get_or s.words i 0) id cs v keeps)
-  unseen s r i id cs v at live = let f = r.seats id v at live in unmoved means start s r i id cs v v at f.some_left record { live_is = live; made_is = refl; allowance_is = refl; seats_is = refl; lent_is = refl } (λ p g. g) f
-
-  pub recall_keeps : (slots id : ℕ) (me : M) (q i k : ℕ) (found : List ℕ) → lock_at q < length start → i < 16 → me.0.live ≡ true → (corner me.0 q).stage ≡ Holding k found []
-      → Allows Rule slots id me (word_at q i) (λ n. n) (recalls (step slots (word_at q i) 0 0 none) me)
-  recall_keeps slots id me q i k found inside low live holding s r _ at _ = let v : View = me.0 in let t = here s r in let n : ℕ = now t q i in let f = r.seats id v at live in
-      let known = subst (Knows start t id q) holding (f.corners q).knows in let value : n ≡ get_or found i 0 = known.6 i (omega arith) low ∙ sym (known.4 i low) in (
-        v,
-        keeps,
-        tt,
-        unseen s r (word_at q i) id me.1 v at live,
-        (
-          refl,
-          λ p j e h. let is : q ≡ p = omega arith in let too : i ≡ j = omega arith in
-              value ∙ (ap (λ z. get_or (found_in z) i 0) (sym holding) ∙ (λ x. get_or (found_in (corner v (is x)).stage) (too x) 0)),
-        ),
-      )
-
-  pub weigh_keeps : (slots id : ℕ) (me : M) (q k : ℕ) (found put : List ℕ) → lock_at q < length start → me.0.live ≡ true → (corner me.0 q).stage ≡ Holding k found put
-      → Allows Rule slots id me (lock_at q) (λ n. n) (weighs (step slots (lock_at q) 0 0 none) me)
-  weigh_keeps slots id me q k found put inside live holding s r _ at _ = let v : View = me.0 in let t = here s r in let n : ℕ = lock t q in let f = r.seats id v at live in
-      let known = subst (Knows start t id q) holding (f.corners q).knows in let room = (look s r id q v at live inside).room in let is_now : n ≡ 4 * k + 1 = known.0 in
-      let same : k ≡ version_held (corner v q).stage = ap version_held (sym holding) in let fits : k + v.allowance ≤ all_changes = omega arith in let some_held = held_some v.rows q (ap is_holding holding) in let enough = f.enough in let some_left : 0 < v.allowance = omega arith in (
-        v,
-        keeps,
-        tt,
-        unseen s r (lock_at q) id me.1 v at live,
-        (
-          refl,
-          λ p e. let is : q ≡ p = omega arith in
-              subst (λ z. (n ≡ 4 * version_held (corner v z).stage + 1) × (version_held (corner v z).stage + v.allowance ≤ all_changes) × (0 < v.allowance)) is (subst (λ z. (n ≡ 4 * z + 1) × (z + v.allowance ≤ all_changes) × (0 < v.allowance)) same (is_now, fits, some_left)),
-        ),
-      )
-
-  said_fits : (s : St) (r : Rule s) (id a : ℕ) (v : View) → Fits start (here s r) id v → Fits start (here s r) id (record v { said = a ∷ v.said })
-  said_fits s r id a v f = record {
+  counted_fits : (s : St) (r : Rule s) (id looks : ℕ) (said : List ℕ) (v : View) → Fits start (here s r) id v → Fits start (here s r) id (record v { looks = looks; said = said })
+  counted_fits s r id looks said v f = record {
     number_is = f.number_is;
     start_is = f.start_is;
     wide = f.wide;
@@ -262,13 +228,47 @@ module _ {K : Type 0} (means : K → List Label → Type 0) (start : List ℕ) w
     entered = f.entered;
   }
 
-  -- an exchange of a word for itself tells the number
-  pub tell_keeps : (slots id : ℕ) (me : M) (a : ℕ) → me.0.live ≡ true → Allows Rule slots id me 0 (λ n. either (eqb n a) a n) (tells (step slots 0 a a none) me)
-  tell_keeps slots id me a live s r _ at _ = let v : View = me.0 in let n : ℕ = get_or s.words 0 0 in let w : View = record v { said = a ∷ v.said } in let f = r.seats id v at live in
-      let same : either (eqb n a) a n ≡ n = exchanged n a a (λ z. z ≡ n) (λ e. sym e) (λ e. refl) in (
-        w,
+  -- a step that tells nothing of a row
+  unseen : (s : St) (r : Rule s) (i id looks : ℕ) (said : List ℕ) (cs : List (ℕ × Option K)) (v : View) → get_elem? s.views id ≡ some v → v.live ≡ true → Rule (stepped s i (get_or s.words i 0) id cs (record v { looks = looks; said = said }) keeps)
+  unseen s r i id looks said cs v at live = let f = r.seats id v at live in
+      unmoved means start s r i id cs v (record v { looks = looks; said = said }) at f.some_left record { sums = record { live_is = live; made_is = refl; allowance_is = refl; seats_is = refl }; lent_is = refl; moving_is = refl } (λ p g. g) (counted_fits s r id looks said v f)
+
+  pub recall_keeps : (slots id : ℕ) (me : M) (q i k : ℕ) (found : List ℕ) → lock_at q < length start → i < 16 → me.0.live ≡ true → (corner me.0 q).stage ≡ Holding k found []
+      → Allows Rule slots id me (word_at q i) (λ n. n) (recalls (step slots (word_at q i) 0 0 none) me)
+  recall_keeps slots id me q i k found inside low live holding s r _ at _ = let v : View = me.0 in let t = here s r in let n : ℕ = now t q i in let f = r.seats id v at live in
+      let known = subst (Knows start t id q) holding (f.corners q).knows in let value : n ≡ get_or found i 0 = known.6 i (omega arith) low ∙ sym (known.4 i low) in (
+        v,
         keeps,
         tt,
-        subst (λ z. Rule (stepped s 0 z id me.1 w keeps)) (sym same) (unmoved means start s r 0 id me.1 v w at f.some_left record { live_is = live; made_is = refl; allowance_is = refl; seats_is = refl; lent_is = refl } (λ p g. g) (said_fits s r id a v f)),
+        unseen s r (word_at q i) id v.looks v.said me.1 v at live,
+        λ p j e h. let is : q ≡ p = omega arith in let too : i ≡ j = omega arith in
+            (refl, value ∙ (ap (λ z. get_or (found_in z) i 0) (sym holding) ∙ (λ x. get_or (found_in (corner v (is x)).stage) (too x) 0))),
+      )
+
+  pub weigh_keeps : (slots id : ℕ) (me : M) (q k : ℕ) (found put : List ℕ) → lock_at q < length start → me.0.live ≡ true → (corner me.0 q).stage ≡ Holding k found put
+      → Allows Rule slots id me (lock_at q) (λ n. n) (weighs (step slots (lock_at q) 0 0 none) me)
+  weigh_keeps slots id me q k found put inside live holding s r _ at _ = let v : View = me.0 in let t = here s r in let n : ℕ = lock t q in let f = r.seats id v at live in
+      let known = subst (Knows start t id q) holding (f.corners q).knows in let seen = look s r id q v at live inside in let room = seen.room in let later = seen.later in let is_now : n ≡ 4 * k + 1 = known.0 in
+      let same : k ≡ version_held (corner v q).stage = ap version_held (sym holding) in let fits : k + v.allowance ≤ all_changes = omega arith in let some_held = held_some v.rows q (ap is_holding holding) in let enough = f.enough in let some_left : 0 < v.allowance = omega arith in let low : (corner v q).seen ≤ k = omega arith in (
+        weighed v,
+        keeps,
+        tt,
+        unseen s r (lock_at q) id (v.looks + 1) v.said me.1 v at live,
+        (
+          refl,
+          λ p e. let is : q ≡ p = omega arith in
+              subst (λ z. (n ≡ 4 * version_held (corner v z).stage + 1) × (version_held (corner v z).stage + v.allowance ≤ all_changes) × (0 < v.allowance) × ((corner v z).seen ≤ version_held (corner v z).stage)) is
+              (subst (λ z. (n ≡ 4 * z + 1) × (z + v.allowance ≤ all_changes) × (0 < v.allowance) × ((corner v q).seen ≤ z)) same (is_now, fits, some_left, low)),
+        ),
+      )
+
+  -- an exchange of a word for itself tells the number
+  pub tell_keeps : (slots id : ℕ) (me : M) (a : ℕ) → me.0.live ≡ true → Allows Rule slots id me 0 (λ n. either (eqb n a) a n) (tells (step slots 0 a a none) me)
+  tell_keeps slots id me a live s r _ at _ = let v : View = me.0 in let n : ℕ = get_or s.words 0 0 in
+      let same : either (eqb n a) a n ≡ n = exchanged n a a (λ z. z ≡ n) (λ e. sym e) (λ e. refl) in (
+        told v a,
+        keeps,
+        tt,
+        subst (λ z. Rule (stepped s 0 z id me.1 (told v a) keeps)) (sym same) (unseen s r 0 id (v.looks + 1) (a ∷ v.said) me.1 v at live),
         refl,
       )

@@ -88,7 +88,7 @@ module _ (start : List ℕ) where
     knows = λ j p st n k. dite (ℕ_discrete p q) (λ e. subst (λ z. Knows start t' j z st) (sym e) (knows_set t id q i x hd mine no_read j n st (subst (λ z. Knows start t j z st) e k))) (λ ne. same_knows start t t' p j st (same p ne) k);
     version_up = λ p. omega arith;
     last = λ j p k n l. last_set t i x hd j p k l;
-    inside = λ j v n k a. inside_same start t t' v v refl refl refl a;
+    inside = λ j v n w k a. inside_same start t t' v v record { action_is = refl; after_is = refl; lent_is = refl; labels_is = refl; whole_then = λ z. z } refl refl refl a;
     known = known_set t i x hd;
     read = λ f a. record { below = a.below; wide = a.wide; content_is = a.content_is; floor = a.floor };
     sight = λ y a. record { one = seen_set t q i x hd same others y.by y.row y.first y.after y.base a.one; two = seen_set t q i x hd same others y.by y.row y.second y.after y.base a.two; between = a.between };
@@ -111,7 +111,7 @@ module _ {K : Type 0} (means : K → List Label → Type 0) (start : List ℕ) w
   current_same t ws hd l h c = each_map (λ (p : Change). p.action ≡ version t.log 0 + 1 → (lock t 0 % 4 ≡ 1) × (p.by ≡ t.holder 0)) (λ (p : Change). p.action ≡ version t.log 0 + 1 → (get_or ws 0 0 % 4 ≡ 1) × (p.by ≡ hd 0))
       (λ p g e. let x = g e in (ap (λ z. z % 4) l ∙ x.0, x.1 ∙ sym h)) t.log c
 
-  abbrev taker : ℕ → ℕ → (ℕ → ℕ) → ℕ → ℕ
+  abbrev pub taker : ℕ → ℕ → (ℕ → ℕ) → ℕ → ℕ
   taker q id hd p = cond (eqb p q) id (hd p)
 
   taken : (s : St) (r : Rule s) (id q old : ℕ) (cs : List (ℕ × Option K)) (v : View) → get_elem? s.views id ≡ some v → v.live ≡ true → lock_at q < length start → 0 < q → is_holding (corner v q).stage ≡ false
@@ -146,10 +146,10 @@ module _ {K : Type 0} (means : K → List Label → Type 0) (start : List ℕ) w
         alone = λ _ n fresh a. lock_now ∙ some_same x n a;
       } in
       let still : is_holding (corner w 0).stage ≡ is_holding (corner v 0).stage = ap (λ (z : Corner). is_holding z.stage) (get_or-set_other v.rows q 0 c newcomer (λ a. omega arith)) in
-      moved means start s r t'.words hd s.homes id v w at f.some_left record { live_is = live; made_is = refl; allowance_is = refl; seats_is = refl; lent_is = refl } (length-set s.words (lock_at q) x)
-      (current_same t t'.words hd zero_same.lock_is zero_same.holder_is r.joint.current) (λ lent home not_lent not_dirty. home not_lent (λ z. not_dirty (ap (λ b. b % 4) zero_same.lock_is ∙ z))) (λ e. e) later
+      moved means start s r t'.words hd id v w at f.some_left record { sums = record { live_is = live; made_is = refl; allowance_is = refl; seats_is = refl }; lent_is = refl; moving_is = refl } (length-set s.words (lock_at q) x)
+      (current_same t t'.words hd zero_same.lock_is zero_same.holder_is r.joint.current) (λ lent home not_lent not_dirty. home not_lent (λ z. not_dirty (ap (λ b. b % 4) zero_same.lock_is ∙ z))) later
       (fits_after start id t t' v w q c f record { rows_are = refl; number_same = refl; start_same = refl; after_same = refl; base_same = refl; whole_before = λ z. z } within later same (λ p b _ l. last_set start t (lock_at q) x hd id p b l) f.some_left fits row
-      (inside_same start t t' v w refl refl still f.inside) (each_map (IsRead start t) (IsRead start t') later.read v.reads f.reads) (each_map (IsSight start t) (IsSight start t') later.sight v.sights f.sights)
+      (inside_same start t t' v w record { action_is = refl; after_is = refl; lent_is = refl; labels_is = refl; whole_then = λ z. z } refl refl still f.inside) (each_map (IsRead start t) (IsRead start t') later.read v.reads f.reads) (each_map (IsSight start t) (IsSight start t') later.sight v.sights f.sights)
       (each_map (IsEntered start t) (IsEntered start t') later.entered v.entered f.entered))
       (λ p there. dite (ℕ_discrete p q)
       (λ a. subst (IsRow start t' (set s.views id w)) (sym a) record {
@@ -181,7 +181,7 @@ module _ {K : Type 0} (means : K → List Label → Type 0) (start : List ℕ) w
         keeps,
         tt,
         subst (λ b. Rule (stepped s (lock_at q) (either b new n) id me.1 w keeps)) (sym (ne_eqb n old miss))
-            (sees means start s r id q me.1 v Idle v.reads w.sights at live inside not_held refl tt (λ k xs is. cc) f.reads (sight_then means start s r id q old v at live inside not_held clean fresh last, f.sights)),
+            (sees means start s r id q (v.looks + 1) me.1 v Idle v.reads w.sights at live inside not_held refl tt (λ k xs is. cc) f.reads (sight_then means start s r id q old v at live inside not_held clean fresh last, f.sights)),
         λ p e. let is : q ≡ p = omega arith in subst (λ z. (n ≡ old → (found : List ℕ) × (length found ≡ 16) × (◌≡◌ {A = M} (w, me.1) (took v z old found, me.1))) × (n ≢ old → ◌≡◌ {A = M} (w, me.1) (missed v z old n, me.1)) × IsLook v n z) is
             ((λ hit. absurd (miss hit)), (λ _. refl), seen),
       ))
@@ -220,10 +220,10 @@ module _ {K : Type 0} (means : K → List Label → Type 0) (start : List ℕ) w
       let held_now : is_holding c.stage ≡ is_holding (corner v q).stage = sym (ap is_holding holding) in let same_hold = hold_set v.rows q c within held_now in
       let h = held_set v.rows q c within in let y : one c ≡ one (corner v q) = ap (λ z. cond z 1 0) held_now in let enough = f.enough in let fits : held (set v.rows q c) ≤ v.allowance = omega arith in
       let later : Later start id t t' = later_set start t id q (word_at q i) b r.holder (omega arith) (omega arith) (λ p _. refl) (λ j e. sym known.1) (λ j e. omega arith) (λ by n odd e other. (lock_same ∙ e, other)) in
-      moved means start s r t'.words r.holder s.homes id v w at f.some_left record { live_is = live; made_is = refl; allowance_is = refl; seats_is = refl; lent_is = refl } (length-set s.words (word_at q i) b)
-      (current_same t t'.words r.holder zero_lock refl r.joint.current) (λ lent home not_lent not_dirty. home not_lent (λ z. not_dirty (ap (λ x. x % 4) zero_lock ∙ z))) (λ e. e) later
+      moved means start s r t'.words r.holder id v w at f.some_left record { sums = record { live_is = live; made_is = refl; allowance_is = refl; seats_is = refl }; lent_is = refl; moving_is = refl } (length-set s.words (word_at q i) b)
+      (current_same t t'.words r.holder zero_lock refl r.joint.current) (λ lent home not_lent not_dirty. home not_lent (λ z. not_dirty (ap (λ x. x % 4) zero_lock ∙ z))) later
       (fits_after start id t t' v w q c f record { rows_are = refl; number_same = refl; start_same = refl; after_same = refl; base_same = refl; whole_before = λ z. z } within later same (λ p x _ l. last_set start t (word_at q i) b r.holder id p x l) f.some_left fits
-      (stored_row s r id q i k b found put v at live inside low holding long) (inside_same start t t' v w refl refl (same_hold 0) f.inside)
+      (stored_row s r id q i k b found put v at live inside low holding long) (inside_same start t t' v w record { action_is = refl; after_is = refl; lent_is = refl; labels_is = refl; whole_then = λ z. z } refl refl (same_hold 0) f.inside)
       (each_map (IsRead start t) (IsRead start t') later.read v.reads f.reads) (each_map (IsSight start t) (IsSight start t') later.sight v.sights f.sights) (each_map (IsEntered start t) (IsEntered start t') later.entered v.entered f.entered))
       (λ p there. dite (ℕ_discrete p q)
       (λ a. subst (IsRow start t' (set s.views id w)) (sym a) (let e = g.counts in record {

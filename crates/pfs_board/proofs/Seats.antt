@@ -18,7 +18,7 @@ use Rattle.pfs_board.specs.Knowledge.{corner, is_holding, held, IsWhole, settled
 use Rattle.pfs_board.specs.Rule.{Moment, Knows, IsRead, IsKnown, IsSeen, IsSight, IsEntered, IsLast, IsInside, FitsRow, Fits, IsRoot, IsHome, Joint, Ruled}
 use Rattle.pfs_board.proofs.HistoryFacts.{each_map, each_append, total_append, oldest_append, floor_had}
 use Rattle.pfs_board.proofs.ViewFacts.{total_set, held_none, settled_holds, corners_stale, corners_start, corners_merged, length_stale, length_start, length_merged, held_stale, held_start, held_merged, at_below}
-use Rattle.pfs_board.proofs.Keeps.{true_not_false, Later, spent_set, lent_set}
+use Rattle.pfs_board.proofs.Keeps.{true_not_false, Later, whole_is_one, spent_set, lent_set}
 use Rattle.pfs_board.proofs.Looks.{here}
 
 -- the last of a list that is one longer has its length for its place
@@ -43,9 +43,9 @@ max_below a b n h g = omega arith
 
 module _ (start : List ℕ) where
   -- a corner that is fresh no more
-  settled_row : (t : Moment) (seat r after base : ℕ) (whole whole' : Type 0) (c : Corner) (n : ℕ) → n ≤ version t.log r → FitsRow start t seat r after base whole c
-      → FitsRow start t seat r after base whole' (record c { stage = settled c.stage; fresh = false; seen = n })
-  settled_row t seat r after base whole whole' c n below f = record {
+  pub settled_row : (t : Moment) (seat r after after' base : ℕ) (whole whole' : Type 0) (c : Corner) (n : ℕ) → n ≤ version t.log r → FitsRow start t seat r after base whole c
+      → FitsRow start t seat r after' base whole' (record c { stage = settled c.stage; fresh = false; seen = n })
+  settled_row t seat r after after' base whole whole' c n below f = record {
     knows = settled_knows start t seat r c.stage f.knows;
     seen = below;
     last = f.last;
@@ -54,8 +54,8 @@ module _ (start : List ℕ) where
     alone = λ w m fresh e. cc;
   }
 
-  settled_inside : (t : Moment) (v w : View) → w.action ≡ v.action → is_holding (corner w 0).stage ≡ is_holding (corner v 0).stage → IsInside start t v → IsInside start t w
-  settled_inside t v w a h i = ⊎_elim (λ x. inl (a ∙ x.0, h ∙ x.1)) (λ x. inr (a ∙ x.0, h ∙ x.1)) i
+  settled_inside : (t : Moment) (v w : View) → w.action ≡ v.action → w.after ≡ v.after → w.lent ≡ v.lent → w.labels ≡ v.labels → is_holding (corner w 0).stage ≡ is_holding (corner v 0).stage → (v.action ≡ 0 → v.lent ≡ true → IsWhole v → IsWhole w) → IsInside start t v → IsInside start t w
+  settled_inside t v w a b c d h whole i = ⊎_elim (λ x. inl (a ∙ x.0, h ∙ x.1, λ out. let y = x.2 (sym c ∙ out) in (whole x.0 (sym c ∙ out) y.0, d ∙ y.1))) (λ x. inr (a ∙ x.0, h ∙ x.1, c ∙ x.2, d ∙ x.3, b ∙ x.4)) i
 
   abbrev with_had : Moment → List Change → Moment
   with_had t had = record { words = t.words; log = t.log; had = had; holder = t.holder }
@@ -84,7 +84,7 @@ module _ (start : List ℕ) where
     knows = λ j r st n k. knows_more t more j r st k;
     version_up = λ r. omega arith;
     last = λ j r k n l. last_more t more j r k l;
-    inside = λ j v n k i. i;
+    inside = λ j v n w k i. i;
     known = known_more t more;
     read = λ f a. record { below = a.below; wide = a.wide; content_is = a.content_is; floor = floor_more _ t more f.row f.version f.after f.base a.floor };
     sight = λ x a. record { one = seen_more t more x.by x.row x.first x.after x.base a.one; two = seen_more t more x.by x.row x.second x.after x.base a.two; between = a.between };
@@ -149,15 +149,15 @@ module _ {K : Type 0} (means : K → List Label → Type 0) (start : List ℕ) w
     split_sum : (f : View → ℕ) → total f views' + f v ≡ total f s.views + f L + f R
     split_sum f = let e = total_append f (set s.views id L) (R ∷ []) in let g = total_set f s.views id v L at in let z : total f (R ∷ []) ≡ f R + 0 = refl in omega arith
 
-    left_fits : held v.rows + get_or v.said 0 0 < v.allowance → Fits start t id L
-    left_fits room = let f = r.seats id v at live in let h = held_stale v.rows in record {
+    left_fits : held v.rows + get_or v.said 0 0 < v.allowance → (v.lent ≡ false) ⊎ (0 < v.action) → Fits start t id L
+    left_fits room home = let f = r.seats id v at live in let h = held_stale v.rows in record {
       number_is = f.number_is;
       start_is = f.start_is;
       wide = ap (λ n. 17 * n) (length_stale v.rows) ∙ f.wide;
       some_left = omega arith;
       enough = omega arith;
-      corners = λ q. corners_stale (FitsRow start t id q v.after v.base (IsWhole L)) v.rows q (settled_row start t id q v.after v.base (IsWhole v) (IsWhole L) (corner v q) (corner v q).seen (f.corners q).seen (f.corners q));
-      inside = settled_inside start t v L refl (corners_stale (λ c. is_holding c.stage ≡ is_holding (corner v 0).stage) v.rows 0 (settled_holds (corner v 0).stage)) f.inside;
+      corners = λ q. corners_stale (FitsRow start t id q v.after v.base (IsWhole L)) v.rows q (settled_row start t id q v.after v.after v.base (IsWhole v) (IsWhole L) (corner v q) (corner v q).seen (f.corners q).seen (f.corners q));
+      inside = settled_inside start t v L refl refl refl refl (corners_stale (λ c. is_holding c.stage ≡ is_holding (corner v 0).stage) v.rows 0 (settled_holds (corner v 0).stage)) (λ outside out _. absurd (⊎_elim (λ e. true_not_false v.lent out e) (λ e. omega arith) home)) f.inside;
       ended = f.ended;
       split_at = f.split_at;
       reads = f.reads;
@@ -180,7 +180,7 @@ module _ {K : Type 0} (means : K → List Label → Type 0) (start : List ℕ) w
         known = λ n fresh e. cc;
         alone = λ w n fresh e. cc;
       };
-      inside = inl (refl, corners_start (λ c. is_holding c.stage ≡ false) v.rows 0 refl);
+      inside = inl (refl, corners_start (λ c. is_holding c.stage ≡ false) v.rows 0 refl, λ out. cc);
       ended = omega arith;
       split_at = omega arith;
       reads = tt;
@@ -188,8 +188,8 @@ module _ {K : Type 0} (means : K → List Label → Type 0) (start : List ℕ) w
       entered = tt;
     }
 
-    split_rule : 0 < get_or v.said 0 0 → held v.rows + get_or v.said 0 0 < v.allowance → Rule record { words = s.words; homes = s.homes; views = views' }
-    split_rule some_given room = let o = r.joint in let more = length_views in record {
+    split_rule : 0 < get_or v.said 0 0 → held v.rows + get_or v.said 0 0 < v.allowance → (v.lent ≡ false) ⊎ (0 < v.action) → Rule record { words = s.words; homes = s.homes; views = views' }
+    split_rule some_given room home = let o = r.joint in let more = length_views in record {
       log = r.log;
       had = r.had;
       holder = r.holder;
@@ -207,11 +207,11 @@ module _ {K : Type 0} (means : K → List Label → Type 0) (start : List ℕ) w
           record { here = live; seats = more ∙ ap (λ n. n + 1) root_here.seats; made = root_here.made },
           (let x = o.root_is in let same : x.0 ≡ v = some-injective _ _ (sym x.1 ∙ (ap (get_elem? s.views) (sym id_is) ∙ at)) in subst (λ (u : View). IsHome start t means s.homes u.lent) same x.3),
         );
-        empty = λ j u there lent. ⊎_elim (λ e. lent_set means start s.homes s.views id v L at refl o.empty j u e lent) (λ (e : (j ≡ length (set s.views id L)) × (R ≡ u)). absurd (true_not_false u.lent lent (sym (ap (λ (x : View). x.lent) e.1)))) (at_end (set s.views id L) R u j there);
+        empty = λ j u there lent rests. ⊎_elim (λ e. lent_set means start s.homes s.views id v L at refl refl o.empty j u e lent rests) (λ (e : (j ≡ length (set s.views id L)) × (R ≡ u)). absurd (true_not_false u.lent lent (sym (ap (λ (x : View). x.lent) e.1)))) (at_end (set s.views id L) R u j there);
         spent_is = λ j u there dead. ⊎_elim (λ e. spent_set means start s.views id L live o.spent_is j u e dead) (λ (e : (j ≡ length (set s.views id L)) × (R ≡ u)). absurd (true_not_false u.live (sym (ap (λ (x : View). x.live) e.1)) dead)) (at_end (set s.views id L) R u j there);
       };
       seats = λ j u there u_live. ⊎_elim
-          (λ e. ⊎_elim (λ (h : (j ≡ id) × (L ≡ u)). subst (λ (z : ℕ × View). Fits start t z.0 z.1) (λ i. (sym h.0 i, h.1 i)) (left_fits room)) (λ (h : (j ≢ id) × (get_elem? s.views j ≡ some u)). r.seats j u h.1 u_live) (at_set s.views id j L u e))
+          (λ e. ⊎_elim (λ (h : (j ≡ id) × (L ≡ u)). subst (λ (z : ℕ × View). Fits start t z.0 z.1) (λ i. (sym h.0 i, h.1 i)) (left_fits room home)) (λ (h : (j ≢ id) × (get_elem? s.views j ≡ some u)). r.seats j u h.1 u_live) (at_set s.views id j L u e))
           (λ (e : (j ≡ length (set s.views id L)) × (R ≡ u)). subst (λ (z : ℕ × View). Fits start t z.0 z.1) (λ i. (sym (e.0 ∙ length-set s.views id L) i, e.1 i)) (right_fits some_given))
           (at_end (set s.views id L) R u j there);
       rows = λ q inside. let g = r.rows q inside in record {
@@ -262,8 +262,9 @@ module _ {K : Type 0} (means : K → List Label → Type 0) (start : List ℕ) w
             some_left = omega arith;
             enough = omega arith;
             corners = λ q. corners_merged (FitsRow start u id q v.after v.base (IsWhole B)) v.rows w.rows q same_width
-                (settled_row start u id q v.after v.base (IsWhole v) (IsWhole B) (corner v q) (max (corner v q).seen (corner w q).seen) (max_below (corner v q).seen (corner w q).seen (version r.log q) (f.corners q).seen (g.corners q).seen) (m.corners q));
-            inside = settled_inside start u v B refl (corners_merged (λ c. is_holding c.stage ≡ is_holding (corner v 0).stage) v.rows w.rows 0 same_width (settled_holds (corner v 0).stage)) m.inside;
+                (settled_row start u id q v.after v.after v.base (IsWhole v) (IsWhole B) (corner v q) (max (corner v q).seen (corner w q).seen) (max_below (corner v q).seen (corner w q).seen (version r.log q) (f.corners q).seen (g.corners q).seen) (m.corners q));
+            inside = settled_inside start u v B refl refl refl refl (corners_merged (λ c. is_holding c.stage ≡ is_holding (corner v 0).stage) v.rows w.rows 0 same_width (settled_holds (corner v 0).stage))
+                (λ _ _ whole. absurd (apart (sym (whole_is_one means start t s.homes s.views r.joint other id w v w_at g.some_left at whole)))) m.inside;
             ended = f.ended;
             split_at = omega arith;
             reads = each_append (IsRead start u) w.reads v.reads (each_map (IsRead start t) (IsRead start u) later.read w.reads g.reads) m.reads;
@@ -289,7 +290,7 @@ module _ {K : Type 0} (means : K → List Label → Type 0) (start : List ℕ) w
           record { here = live; seats = length_after ∙ root_here.seats; made = ap (λ z. w.made ++ z) root_here.made },
           (let x = o.root_is in let same : x.0 ≡ v = some-injective _ _ (sym x.1 ∙ (ap (get_elem? s.views) (sym id_is) ∙ at)) in subst (λ (y : View). IsHome start u means s.homes y.lent) same x.3),
         );
-        empty = λ j y e lent. ⊎_elim (λ (h : (j ≡ other) × (spent ≡ y)). absurd (true_not_false y.lent lent (sym (ap (λ (x : View). x.lent) h.1)))) (λ (h : (j ≢ other) × (get_elem? (set s.views id B) j ≡ some y)). lent_set means start s.homes s.views id v B at refl o.empty j y h.1 lent) (at_set (set s.views id B) other j spent y e);
+        empty = λ j y e lent rests. ⊎_elim (λ (h : (j ≡ other) × (spent ≡ y)). absurd (true_not_false y.lent lent (sym (ap (λ (x : View). x.lent) h.1)))) (λ (h : (j ≢ other) × (get_elem? (set s.views id B) j ≡ some y)). lent_set means start s.homes s.views id v B at refl refl o.empty j y h.1 lent rests) (at_set (set s.views id B) other j spent y e);
         spent_is = λ j y e dead. ⊎_elim (λ (h : (j ≡ other) × (spent ≡ y)). sym h.1) (λ (h : (j ≢ other) × (get_elem? (set s.views id B) j ≡ some y)). spent_set means start s.views id B live o.spent_is j y h.1 dead) (at_set (set s.views id B) other j spent y e);
       }
 
@@ -322,8 +323,8 @@ module _ {K : Type 0} (means : K → List Label → Type 0) (start : List ℕ) w
         };
       }
 
-  pub splits : (id : ℕ) (v : View) → v.live ≡ true → v.number ≡ 0 → 0 < get_or v.said 0 0 → held v.rows + get_or v.said 0 0 < v.allowance → Splits Rule id v (split_left v) (split_right v)
-  splits id v live first some_given room s r at = split_rule s r id v at live first some_given room
+  pub splits : (id : ℕ) (v : View) → v.live ≡ true → v.number ≡ 0 → 0 < get_or v.said 0 0 → held v.rows + get_or v.said 0 0 < v.allowance → (v.lent ≡ false) ⊎ (0 < v.action) → Splits Rule id v (split_left v) (split_right v)
+  splits id v live first some_given room home s r at = split_rule s r id v at live first some_given room home
 
   pub joins : (id : ℕ) (v : View) (other : ℕ) (w : View) → v.live ≡ true → v.number ≡ 0 → w.live ≡ true → held w.rows ≡ 0 → Joins Rule id v other w (joined v w) spent
   joins id v other w live first w_live empty s r at apart there = join_rule s r id v at live first other w apart there w_live empty

@@ -60,7 +60,7 @@ abbrev pub labels_of : List Change → List Label
 labels_of [] = []
 labels_of (p ∷ ps) = if p.row == 0 then (if p.puts then labels_of ps ++ p.label ∷ [] else labels_of ps) else labels_of ps
 
--- an entry has the next version of its row and found what stood there. Inside an action it has that action's number
+-- An entry has the next version of its row and found what stood there. Inside an action it has that action's number. Row 0 is published by each action, once
 pub record Follows (start : List ℕ) (ps : List Change) (p : Change) : Type 0 where
   pub numbered : p.version ≡ version ps p.row + step_of p
   pub found_wide : length p.found ≡ 16
@@ -68,10 +68,21 @@ pub record Follows (start : List ℕ) (ps : List Change) (p : Change) : Type 0 w
   pub found_is : (i : ℕ) → i < 16 → slice_index p.found i ≡ stands start ps p.row i
   pub inside : (p.action ≡ 0) ⊎ (p.action ≡ version ps 0 + 1)
   pub after_it : p.after ≤ version ps 0
+  pub first : p.row ≡ 0 → (p.puts ≡ true) × (p.action ≡ p.version)
 
 abbrev pub IsChain : List ℕ → List Change → Type 0
 IsChain start [] = Unit {0}
 IsChain start (p ∷ ps) = Follows start ps p × IsChain start ps
+
+-- along a row the numbers of the actions never fall
+abbrev pub Rises : List Change → Type 0
+Rises [] = Unit {0}
+Rises (p ∷ ps) = (0 < p.action → Each (λ (e : Change). e.row ≡ p.row → e.action ≤ p.action) ps) × Rises ps
+
+-- the entries of one history in the order of time are those of the list, each once
+pub record IsPast (start : List ℕ) (made log : List Change) : Type 0 where
+  pub chain : IsChain start log
+  pub once : (h : Change → ℕ) → total h made ≡ total h log
 
 -- the oldest n entries
 abbrev pub oldest : ℕ → List Change → List Change

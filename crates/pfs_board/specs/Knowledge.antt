@@ -37,6 +37,10 @@ stake v = v.allowance + total step_of v.made
 abbrev pub IsWhole : View → Type 0
 IsWhole v = stake v ≡ all_changes
 
+-- the lock word of a row is the one that the seat saw or left there last, where it is alone and that word is fresh
+abbrev pub IsAsLeft : View → ℕ → ℕ → Type 0
+IsAsLeft v r n = IsWhole v → (k : ℕ) → (corner v r).fresh ≡ true → (corner v r).last ≡ Some k → n ≡ k
+
 -- the view with another corner
 abbrev pub turned : View → ℕ → Corner → View
 turned v r c = record v { rows = slice_set v.rows r c }
@@ -92,26 +96,34 @@ restaged c stage = record c { stage = stage }
 
 -- the first look of a take, which has nothing to tell of a row that is free
 abbrev pub tried : View → ℕ → ℕ → View
-tried v r n = record (turned v r (sighted Idle n)) { sights = if n % 4 == 1 then sight_of v r n n ∷ v.sights else v.sights }
+tried v r n = record (turned v r (sighted Idle n)) { looks = v.looks + 1; sights = if n % 4 == 1 then sight_of v r n n ∷ v.sights else v.sights }
 
 -- the first look of a read
 abbrev pub looked : View → ℕ → ℕ → View
-looked v r n = record (turned v r (sighted (begun n) n)) { sights = if n % 4 == 2 then v.sights else sight_of v r n n ∷ v.sights }
+looked v r n = record (turned v r (sighted (begun n) n)) { looks = v.looks + 1; sights = if n % 4 == 2 then v.sights else sight_of v r n n ∷ v.sights }
 
 -- the last look of a read, whose first look found the row allocated at the version k, and then the words xs
 abbrev pub finished_at : View → ℕ → ℕ → ℕ → List ℕ → View
-finished_at v r n k xs = if n == 4 * k + 2 then record (turned v r (sighted Idle n)) { reads = read_of v r k xs ∷ v.reads } else record (turned v r (sighted Idle n)) { sights = sight_of v r (4 * k + 2) n ∷ v.sights }
+finished_at v r n k xs = if n == 4 * k + 2 then record (turned v r (sighted Idle n)) { looks = v.looks + 1; reads = read_of v r k xs ∷ v.reads } else record (turned v r (sighted Idle n)) { looks = v.looks + 1; sights = sight_of v r (4 * k + 2) n ∷ v.sights }
 
 abbrev pub finished : View → ℕ → ℕ → View
 finished v r n = finished_at v r n (version_read (corner v r).stage) (words_read (corner v r).stage)
 
 -- a take from `old` that found it, and the content
 abbrev pub took : View → ℕ → ℕ → List ℕ → View
-took v r old found = turned v r (sighted (Holding (old / 4) found []) (4 * (old / 4) + 1))
+took v r old found = record (turned v r (sighted (Holding (old / 4) found []) (4 * (old / 4) + 1))) { looks = v.looks + 1; replaced = old }
 
 -- a take from `old` that found n
 abbrev pub missed : View → ℕ → ℕ → ℕ → View
-missed v r old n = record (turned v r (sighted Idle n)) { sights = sight_of v r old n ∷ v.sights }
+missed v r old n = record (turned v r (sighted Idle n)) { looks = v.looks + 1; sights = sight_of v r old n ∷ v.sights }
+
+-- the holder looked at its lock word
+abbrev pub weighed : View → View
+weighed v = record v { looks = v.looks + 1 }
+
+-- a number was told, by an exchange of the lock word of row 0
+abbrev pub told : View → ℕ → View
+told v a = record v { looks = v.looks + 1; said = a ∷ v.said }
 
 -- a publication of a row but row 0
 abbrev pub published_at : View → ℕ → ℕ → List ℕ → List ℕ → View
@@ -127,6 +139,14 @@ freed_at v r k found = record (turned v r (sighted Idle (4 * k))) { made = chang
 abbrev pub freed : View → ℕ → View
 freed v r = freed_at v r (version_held (corner v r).stage) (found_in (corner v r).stage)
 
+-- a look at row 0 by a seat that waits to begin an action
+abbrev pub waited : View → ℕ → View
+waited v n = record (turned v 0 (sighted Idle n)) { looks = v.looks + 1 }
+
+-- a label as a seat has told it
+abbrev pub label_told : View → Label
+label_told v = record { session = slice_index v.said 0; line = slice_index v.said 1 }
+
 -- between calls a row is in hand or not
 abbrev pub settled : Stage → Stage
 settled (Holding k found put) = Holding k found put
@@ -135,6 +155,46 @@ settled _ = Idle
 -- A split, a join and the beginning of an action leave no last word fresh
 abbrev pub stale : List Corner → List Corner
 stale cs = map (λ (c : Corner). record c { stage = settled c.stage; fresh = false }) cs
+
+-- An action begins, with this label, after the actions of these labels: row 0 was taken with this content, and the value stood for the labels
+abbrev pub begun_with : View → Label → List Label → List ℕ → View
+begun_with v label labels found = record v {
+  said = [];
+  looks = v.looks + 1;
+  action = length labels + 1;
+  after = length labels;
+  lent = true;
+  label = label;
+  labels = labels;
+  entered = record { by = v.number; action = length labels + 1; labels = labels } ∷ v.entered;
+  rows = slice_set (stale v.rows) 0 (sighted (Holding (length labels) found []) (4 * length labels + 1));
+}
+
+-- An action ends: row 0 is published with the content that was found, and the value is at home
+abbrev pub ended_with : View → List ℕ → View
+ended_with v found = record (turned v 0 (sighted Idle (4 * v.action + 2))) {
+  allowance = v.allowance - 1;
+  action = 0;
+  after = v.action;
+  lent = false;
+  label = no_label;
+  labels = [];
+  made = change_of v 0 v.action true v.label found found ∷ v.made;
+}
+
+abbrev pub ended : View → View
+ended v = ended_with v (found_in (corner v 0).stage)
+
+-- the value goes out, and stands for these labels
+abbrev pub lent_with : View → List Label → View
+lent_with v labels = record v { lent = true; labels = labels }
+
+abbrev pub restored : View → View
+restored v = record v { lent = false; labels = [] }
+
+-- half way through a call that hands the value over, or not
+abbrev pub halfway : View → Bool → View
+halfway v half = record v { moving = half }
 
 -- what a new seat has of each row
 abbrev pub fresh_start : List Corner → List Corner
@@ -162,6 +222,11 @@ split_right v = record {
   after = 0;
   base = length v.made;
   lent = false;
+  moving = false;
+  label = no_label;
+  labels = [];
+  looks = 0;
+  replaced = 0;
   made = [];
   reads = [];
   sights = [];
@@ -172,6 +237,7 @@ split_right v = record {
 abbrev pub joined : View → View → View
 joined v w = record v {
   allowance = v.allowance + w.allowance;
+  looks = v.looks + w.looks;
   made = w.made ++ v.made;
   reads = w.reads ++ v.reads;
   sights = w.sights ++ v.sights;
@@ -192,6 +258,11 @@ spent = record {
   after = 0;
   base = 0;
   lent = false;
+  moving = false;
+  label = no_label;
+  labels = [];
+  looks = 0;
+  replaced = 0;
   made = [];
   reads = [];
   sights = [];
@@ -212,6 +283,11 @@ root start = record {
   after = 0;
   base = 0;
   lent = false;
+  moving = false;
+  label = no_label;
+  labels = [];
+  looks = 0;
+  replaced = 0;
   made = [];
   reads = [];
   sights = [];

@@ -1,5 +1,5 @@
 -- What contracts see of a board and of a seat, and what holds of them between calls.
-use Rattle.std.specs.Prelude.{◌≡◌, ℕ, ◌*◌, ◌/◌, ◌%◌, ◌^◌, ◌<◌, ◌≤◌, ◌++◌, true, Some, List, [], ◌∷◌, length}
+use Rattle.std.specs.Prelude.{◌≡◌, ℕ, ◌+◌, ◌*◌, ◌/◌, ◌%◌, ◌^◌, ◌<◌, ◌≤◌, ◌++◌, true, false, Some, List, [], ◌∷◌, length}
 use Rattle.atomic_table.specs.Seated.{TableId}
 use Rattle.pfs_board.specs.declared.view.View.{View}
 use Rattle.pfs_board.specs.declared.answers.FinalRow.{FinalRow}
@@ -36,11 +36,13 @@ pub record IsSized (z : TableId) (start : List ℕ) (spare : List FinalRow) (roo
   pub empty : spare ≡ []
   pub roomy : length start / 17 ≤ room
 
--- between calls a seat is not spent and half way through nothing, and what it saw last are lock words
+-- between calls a seat is not spent and half way through nothing, and what it saw last are lock words. It has labels while the value is out with it
 pub record IsReady (z : TableId) (views : List View) : Type 0 where
   pub one : views ≡ first_view views ∷ []
   pub live : (first_view views).live ≡ true
   pub quiet : (first_view views).said ≡ []
+  pub still : (first_view views).moving ≡ false
+  pub blank : (first_view views).lent ≡ false → (first_view views).labels ≡ []
   pub wide : 17 * length (first_view views).rows ≡ z.words
   pub calm : (r : ℕ) → IsCalm (corner (first_view views) r).stage
   pub words : (r n : ℕ) → (corner (first_view views) r).last ≡ Some n → n % 4 < 3
@@ -51,7 +53,7 @@ HasRow b r = 17 * r < length b.start
 
 -- what a seat keeps that gives this allowance away, and what the new seat has
 abbrev pub split_off : View → ℕ → View
-split_off v a = split_left (record v { said = a ∷ [] })
+split_off v a = split_left (record v { looks = v.looks + 1; said = a ∷ [] })
 
 abbrev pub given : View → ℕ → View
 given v a = split_right (record v { said = a ∷ [] })

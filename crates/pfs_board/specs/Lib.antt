@@ -9,3 +9,4 @@ pub mod Seeing
 pub mod Sitting
 pub mod Known
 pub mod Hands
+pub mod Acting

@@ -80,9 +80,10 @@ module _ (start : List ℕ) (t : Moment) where
   IsLast seat r None = Each (λ (p : Change). p.row ≡ r → p.by ≢ seat) t.log
   IsLast seat r (Some n) = Each (λ (p : Change). p.row ≡ r → p.by ≡ seat → p.version ≤ n / 4) t.log
 
-  -- it is in no action, or in the one that holds row 0 and is the next
+  -- It is in no action, or in the one that holds row 0 and is the next. Where the value is out with it, it stood for the labels. Outside an action it goes out to a seat that is alone
   abbrev pub IsInside : View → Type 0
-  IsInside v = ((v.action ≡ 0) × (is_holding (corner v 0).stage ≡ false)) ⊎ ((v.action ≡ version t.log 0 + 1) × (is_holding (corner v 0).stage ≡ true))
+  IsInside v = ((v.action ≡ 0) × (is_holding (corner v 0).stage ≡ false) × (v.lent ≡ true → IsWhole v × (v.labels ≡ labels_of t.log)))
+      ⊎ ((v.action ≡ version t.log 0 + 1) × (is_holding (corner v 0).stage ≡ true) × (v.lent ≡ true) × (v.labels ≡ labels_of t.log) × (v.after ≡ version t.log 0))
 
   -- What a seat knows of a row is so. The word that it saw or left last, if that is fresh, stands there still where it is the only seat
   pub record FitsRow (seat r after base : ℕ) (whole : Type 0) (c : Corner) : Type 0 where
@@ -123,7 +124,7 @@ module _ (start : List ℕ) (t : Moment) where
     pub seats : count ≡ v.seats + 1
     pub made : v.made ≡ t.had
 
-  -- the value is at home, and stands for the labels, but while an action has it or it is lent
+  -- the value is at home, and stands for the labels, but while an action has it or the root lent it
   abbrev pub IsHome : {K : Type 0} → (K → List Label → Type 0) → List (maybe.Option (Option K)) → Bool → Type 0
   IsHome {K} means homes lent = lent ≡ false → lock t 0 % 4 ≢ 1 → (x : K) × (get_elem? homes 0 ≡ some (some (Some x))) × means x (labels_of t.log)
 
@@ -142,7 +143,7 @@ module _ {K : Type 0} (means : K → List Label → Type 0) (start : List ℕ) w
     pub floors : Each (λ (p : Change). (p.base ≤ length t.had) × Each (λ (e : Change). e.row ≡ p.row → level e ≤ level p) (oldest p.base t.had)) t.log
     pub current : IsCurrent start t t.log
     pub root_is : (v : View) × (get_elem? views 0 ≡ some v) × IsRoot start t (length views) v × IsHome start t means homes v.lent
-    pub empty : (j : ℕ) (v : View) → get_elem? views j ≡ some v → v.lent ≡ true → get_elem? homes 0 ≡ some (some None)
+    pub empty : (j : ℕ) (v : View) → get_elem? views j ≡ some v → v.lent ≡ true → v.moving ≡ false → get_elem? homes 0 ≡ some (some None)
     pub spent_is : (j : ℕ) (v : View) → get_elem? views j ≡ some v → v.live ≡ false → v ≡ spent
 
   pub record Ruled (s : State (Option K) View) : Type 0 where

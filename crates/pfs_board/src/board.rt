@@ -1,26 +1,30 @@
 //! A board, its seats, and the calls.
-ghost use Rattle.std.specs.Prelude.{◌≡◌, ℕ, ◌+◌, ◌*◌, ◌/◌, ◌%◌, ◌<◌, ◌≤◌, ◌≢◌, [], List, length, slice_index, false, true, Some, IfOk, vec_capacity};
+ghost use Rattle.std.specs.Prelude.{◌≡◌, ℕ, ◌+◌, ◌*◌, ◌/◌, ◌%◌, ◌^◌, ◌<◌, ◌≤◌, ◌≢◌, ◌⊎◌, [], ◌∷◌, ◌++◌, List, length, slice_index, false, true, Some, IfOk, vec_capacity};
 ghost use Rattle.atomic_table.specs.Table.{Me};
 ghost use Rattle.pfs_board.specs.declared.answers.FinalRow.{FinalRow};
+ghost use Rattle.pfs_board.specs.declared.view.Change.{Change};
 ghost use Rattle.pfs_board.specs.declared.view.View.{View};
+ghost use Rattle.pfs_board.specs.Acting.{HasBegun};
 ghost use Rattle.pfs_board.specs.Closing.{History};
 ghost use Rattle.pfs_board.specs.Hands.{IsAside, IsHandTaken, IsLetGo};
-ghost use Rattle.pfs_board.specs.History.{labels_of};
-ghost use Rattle.pfs_board.specs.Knowledge.{corner, is_holding, held, version_held, found_in, published_at, freed_at, joined, root, stake, IsWhole};
+ghost use Rattle.pfs_board.specs.History.{labels_of, IsPast};
+ghost use Rattle.pfs_board.specs.Knowledge.{corner, is_holding, held, version_held, found_in, published_at, freed_at, joined, root, stake, weighed, ended, lent_with, restored, IsWhole};
 ghost use Rattle.pfs_board.specs.Known.{Place, Known, place, known, first_view, IsSized, IsReady, HasRow, split_off, given, final_words};
 ghost use Rattle.pfs_board.specs.Opening.{opening_words};
-ghost use Rattle.pfs_board.specs.Seeing.{IsSeenAs};
-ghost use Rattle.pfs_board.specs.Taking.{IsTaken, IsFrom};
+ghost use Rattle.pfs_board.specs.Seeing.{IsSeenAs, read_looks};
+ghost use Rattle.pfs_board.specs.Taking.{IsTaken, IsFrom, take_looks};
 
+use crate::actions::{enter_by, leave_by, lend_by, restore_by};
 use crate::answers::{Content, FinalRow, Opening, Seen, Taken};
 use crate::rules::{Cut, Glue, Kept, Rules, Tell};
 use crate::steps::{free_by, put_by, read_by, seize, take_by};
-use crate::view::View;
+use crate::view::{Label, View};
 use crate::words::{hand_back, open_words};
 use atomic_table::{Badge, Refused, Table};
 use std::alloc::{AllocError, Global};
 use std::marker::Model;
 use std::mem;
+use std::sync::Wait;
 
 /// There was no memory.
 pub type NoMemory = AllocError;
@@ -126,6 +130,7 @@ impl<V: Kept> Board<V> {
         requires row { HasRow self.now row × (is_holding (corner seat.old.view row).stage ≡ false) }
         ensures board { seat.new.board ≡ seat.old.board }
         ensures answer { IsSeenAs seat.old.view row result seat.new.view }
+        ensures looks { seat.new.view.looks ≡ seat.old.view.looks + read_looks result }
         ensures hands { IsAside seat.old.view row seat.new.view }
     {
         let badge = mem::replace(&mut seat.badge, Badge::blank());
@@ -143,6 +148,7 @@ impl<V: Kept> Board<V> {
         ensures board { seat.new.board ≡ seat.old.board }
         ensures answer { IsTaken seat.old.view row result seat.new.view }
         ensures hands { IsHandTaken seat.old.view row result seat.new.view }
+        ensures looks { seat.new.view.looks ≡ seat.old.view.looks + take_looks result }
     {
         let badge = mem::replace(&mut seat.badge, Badge::blank());
         let mut sitting = badge.into_seat::<Option<V>>();
@@ -161,6 +167,7 @@ impl<V: Kept> Board<V> {
         ensures answer { IsTaken seat.old.view row result seat.new.view }
         ensures hands { IsHandTaken seat.old.view row result seat.new.view }
         ensures from { IsFrom result word }
+        ensures looks { seat.new.view.looks ≡ seat.old.view.looks + 1 }
     {
         let badge = mem::replace(&mut seat.badge, Badge::blank());
         let mut sitting = badge.into_seat::<Option<V>>();
@@ -175,7 +182,8 @@ impl<V: Kept> Board<V> {
         requires row { (0 < row) × HasRow self.now row × (is_holding (corner seat.old.view row).stage ≡ true) }
         ensures board { seat.new.board ≡ seat.old.board }
         ensures version { result ≡ version_held (corner seat.old.view row).stage + 1 }
-        ensures view { seat.new.view ≡ published_at seat.old.view row (version_held (corner seat.old.view row).stage) (found_in (corner seat.old.view row).stage) content.now }
+        ensures later { (corner seat.old.view row).seen < result }
+        ensures view { seat.new.view ≡ published_at (weighed seat.old.view) row (version_held (corner seat.old.view row).stage) (found_in (corner seat.old.view row).stage) content.now }
         ensures hands { IsLetGo seat.old.view row seat.new.view }
     {
         let badge = mem::replace(&mut seat.badge, Badge::blank());
@@ -190,7 +198,8 @@ impl<V: Kept> Board<V> {
         requires board { seat.old.board ≡ self.now.id }
         requires row { (0 < row) × HasRow self.now row × (is_holding (corner seat.old.view row).stage ≡ true) }
         ensures board { seat.new.board ≡ seat.old.board }
-        ensures view { seat.new.view ≡ freed_at seat.old.view row (version_held (corner seat.old.view row).stage) (found_in (corner seat.old.view row).stage) }
+        ensures later { (corner seat.old.view row).seen ≤ version_held (corner seat.old.view row).stage }
+        ensures view { seat.new.view ≡ freed_at (weighed seat.old.view) row (version_held (corner seat.old.view row).stage) (found_in (corner seat.old.view row).stage) }
         ensures hands { IsLetGo seat.old.view row seat.new.view }
     {
         let badge = mem::replace(&mut seat.badge, Badge::blank());
@@ -199,10 +208,81 @@ impl<V: Kept> Board<V> {
         seat.badge = sitting.into_badge();
     }
 
+    /// Begins an action: tries until it has row 0, and hands out the kept value. It answers the action's number, which is the number of labels plus one, and the value,
+    /// which stands for the labels of all actions before it. The seat keeps these labels with the number, and each change that it makes inside carries the number.
+    /// It waits while another seat is in an action, and no clause says that it returns.
+    pub fn enter<R: Wait>(&self, rt: &R, seat: &mut BoardSeat, label: Label) -> (u64, V)
+        requires board { seat.old.board ≡ self.now.id }
+        requires outside { (seat.old.view.action ≡ 0) × (seat.old.view.lent ≡ false) }
+        requires allowance { held seat.old.view.rows < seat.old.view.allowance }
+        ensures board { seat.new.board ≡ seat.old.board }
+        ensures number { (result.0 ≡ length seat.new.view.labels + 1) × (result.0 ≤ 2 ^ 47) }
+        ensures value { V.stands_for result.1 seat.new.view.labels }
+        ensures begun { HasBegun seat.old.view label seat.new.view }
+        ensures hands { (is_holding (corner seat.new.view 0).stage ≡ true) × (held seat.new.view.rows ≡ held seat.old.view.rows + 1) × (stake seat.new.view ≡ stake seat.old.view) }
+    {
+        let badge = mem::replace(&mut seat.badge, Badge::blank());
+        let mut sitting = badge.into_seat::<Option<V>>();
+        let begun = enter_by(rt, &self.table.shared, &mut sitting, label);
+        seat.badge = sitting.into_badge();
+        begun
+    }
+
+    /// Ends the seat's action: takes the value back, which now stands for the action's label too, and publishes row 0 with that label and the content that `enter` found.
+    /// It waits for nobody.
+    pub fn leave(&self, seat: &mut BoardSeat, value: V)
+        requires board { seat.old.board ≡ self.now.id }
+        requires inside { 0 < seat.old.view.action }
+        requires hands { held seat.old.view.rows ≡ 1 }
+        requires value { V.stands_for value (seat.old.view.labels ++ seat.old.view.label ∷ []) }
+        ensures board { seat.new.board ≡ seat.old.board }
+        ensures view { seat.new.view ≡ ended (weighed seat.old.view) }
+        ensures hands { IsLetGo seat.old.view 0 seat.new.view }
+    {
+        let badge = mem::replace(&mut seat.badge, Badge::blank());
+        let mut sitting = badge.into_seat::<Option<V>>();
+        leave_by(&self.table.shared, &mut sitting, value);
+        seat.badge = sitting.into_badge();
+    }
+
+    /// Hands out the kept value to the root while no other seat is out. It stands for the labels of row 0's publications, in their order, which the seat keeps until `restore`.
+    /// No row changes. Until `restore` the seat splits off no other, begins no action, and ends no board. It waits for nobody.
+    pub fn lend(&self, seat: &mut BoardSeat) -> V
+        requires board { seat.old.board ≡ self.now.id }
+        requires whole { IsWhole seat.old.view }
+        requires outside { (seat.old.view.action ≡ 0) × (seat.old.view.lent ≡ false) }
+        ensures board { seat.new.board ≡ seat.old.board }
+        ensures value { V.stands_for result seat.new.view.labels }
+        ensures labels { (log : List Change) × IsPast seat.old.view.start seat.old.view.made log × (seat.new.view.labels ≡ labels_of log) }
+        ensures view { (seat.new.view ≡ lent_with seat.old.view seat.new.view.labels) × (restored seat.new.view ≡ seat.old.view) }
+    {
+        let badge = mem::replace(&mut seat.badge, Badge::blank());
+        let mut sitting = badge.into_seat::<Option<V>>();
+        let value = lend_by(&self.table.shared, &mut sitting);
+        seat.badge = sitting.into_badge();
+        value
+    }
+
+    /// Takes back the value that was lent, or another that stands for the same labels. No row changes. It waits for nobody.
+    pub fn restore(&self, seat: &mut BoardSeat, value: V)
+        requires board { seat.old.board ≡ self.now.id }
+        requires lent { (seat.old.view.action ≡ 0) × (seat.old.view.lent ≡ true) }
+        requires value { V.stands_for value seat.old.view.labels }
+        ensures board { seat.new.board ≡ seat.old.board }
+        ensures view { seat.new.view ≡ restored seat.old.view }
+    {
+        let badge = mem::replace(&mut seat.badge, Badge::blank());
+        let mut sitting = badge.into_seat::<Option<V>>();
+        restore_by(&self.table.shared, &mut sitting, value);
+        seat.badge = sitting.into_badge();
+    }
+
     /// A new seat that has seen what the root saw, with this part of its allowance. Its number is how many the root has then made.
+    /// The root may be in an action, but may not have lent the value.
     pub fn split(&self, seat: &mut BoardSeat, allowance: u64) -> BoardSeat
         requires board { seat.old.board ≡ self.now.id }
         requires root { seat.old.view.number ≡ 0 }
+        requires home { (seat.old.view.lent ≡ false) ⊎ (0 < seat.old.view.action) }
         requires allowance { (0 < allowance) × (held seat.old.view.rows + allowance < seat.old.view.allowance) }
         ensures seat { seat.new ≡ known seat.old.board (split_off seat.old.view allowance) }
         ensures new { result ≡ known seat.old.board (given seat.old.view allowance) }
@@ -221,7 +301,7 @@ impl<V: Kept> Board<V> {
         }
     }
 
-    /// Takes a seat in: its changes, reads and sights with their makers' numbers, its allowance, and the greater of each version seen.
+    /// Takes a seat in: its changes, reads, sights and what its actions found, with their makers' numbers, its allowance, and the greater of each version seen.
     pub fn join(&self, seat: &mut BoardSeat, other: BoardSeat)
         requires board { (seat.old.board ≡ self.now.id) × (other.board ≡ self.now.id) }
         requires root { seat.old.view.number ≡ 0 }

@@ -1,8 +1,13 @@
 //! The slot board: rows of seventeen words that many actors read and change, with no lock but the row's own word.
 #![tactic(auto)]
 
+#[cfg(test)]
+mod action_tests;
+mod actions;
 mod answers;
 mod board;
+#[cfg(test)]
+mod hostile_tests;
 mod rules;
 mod steps;
 #[cfg(test)]

@@ -3,7 +3,7 @@ ghost use Rattle.std.specs.Prelude.{List};
 ghost use Rattle.pfs_board.specs.declared.view.Label.{Label};
 ghost use Rattle.pfs_board.specs.Knowledge.{root, split_left, split_right, joined, spent};
 ghost use Rattle.pfs_board.specs.Rule.{Ruled};
-ghost use Rattle.pfs_board.specs.Plays.{tries, looks, finishes, takes, gathers, recalls, weighs, stores, publishes, frees, tells};
+ghost use Rattle.pfs_board.specs.Plays.{tries, looks, finishes, takes, gathers, recalls, weighs, stores, publishes, frees, tells, waits, enters, lends, hands, fetches, restores, leaves};
 
 use crate::view::{Label, View};
 use atomic_table::{Join, Play, Split, TableRule};
@@ -88,6 +88,52 @@ pub(crate) struct Tell;
 
 impl<S> Play<S, View> for Tell {
     ghost then = { tells };
+}
+
+pub(crate) struct Retry;
+
+impl<S> Play<S, View> for Retry {
+    ghost then = { waits };
+}
+
+pub(crate) struct Enter<K> {
+    marker: PhantomData<K>,
+}
+
+impl<K: Kept> Play<Option<K>, View> for Enter<K> {
+    ghost then = { enters K.stands_for };
+}
+
+pub(crate) struct Lend<K> {
+    marker: PhantomData<K>,
+}
+
+impl<K: Kept> Play<Option<K>, View> for Lend<K> {
+    ghost then = { lends K.stands_for };
+}
+
+pub(crate) struct Hand;
+
+impl<K> Play<Option<K>, View> for Hand {
+    ghost then = { hands };
+}
+
+pub(crate) struct Fetch;
+
+impl<K> Play<Option<K>, View> for Fetch {
+    ghost then = { fetches };
+}
+
+pub(crate) struct Restore;
+
+impl<K> Play<Option<K>, View> for Restore {
+    ghost then = { restores };
+}
+
+pub(crate) struct Leave;
+
+impl<K> Play<Option<K>, View> for Leave {
+    ghost then = { leaves };
 }
 
 pub(crate) struct Cut;

@@ -1,10 +1,10 @@
 //! The calls on one row, by the steps of the table. The seat is one of the table's, and a row is its place.
 ghost use Rattle.std.specs.Prelude.{◌≡◌, ◌≢◌, ℕ, ◌+◌, ◌*◌, ◌/◌, ◌%◌, ◌<◌, ◌≤◌, Some, true, false, [], length};
 ghost use Rattle.pfs_board.specs.declared.view.Stage.TheVariants.{Reading, Holding};
-ghost use Rattle.pfs_board.specs.Knowledge.{corner, is_holding, held, version_held, found_in, published_at, freed_at};
-ghost use Rattle.pfs_board.specs.Seeing.{IsSeenAs};
+ghost use Rattle.pfs_board.specs.Knowledge.{corner, is_holding, held, version_held, found_in, published_at, freed_at, weighed};
+ghost use Rattle.pfs_board.specs.Seeing.{IsSeenAs, read_looks};
 ghost use Rattle.pfs_board.specs.Sitting.{IsAt, IsHeld};
-ghost use Rattle.pfs_board.specs.Taking.{IsTaken, IsFrom};
+ghost use Rattle.pfs_board.specs.Taking.{IsTaken, IsFrom, take_looks};
 
 use crate::answers::{Content, Seen, Taken};
 use crate::rules::{
@@ -41,6 +41,7 @@ pub(crate) fn seize<V: Kept>(top: &Top<V>, seat: &mut Sitting<V>, row: usize, wo
     ensures seat { (seat.new.table_id ≡ seat.old.table_id) × (seat.new.me.1 ≡ seat.old.me.1) }
     ensures answer { IsTaken seat.old.me.0 row result seat.new.me.0 }
     ensures from { IsFrom result word }
+    ensures looks { seat.new.me.0.looks ≡ seat.old.me.0.looks + 1 }
 {
     let dirty = LockWord::new(word).to_dirty().word();
     let found = top.compare_exchange::<Seize>(seat, 17 * row, word, dirty);
@@ -60,6 +61,7 @@ pub(crate) fn take_by<V: Kept>(top: &Top<V>, seat: &mut Sitting<V>, row: usize) 
     requires row { (0 < row) × (is_holding (corner seat.old.me.0 row).stage ≡ false) × (held seat.old.me.0.rows < seat.old.me.0.allowance) }
     ensures seat { (seat.new.table_id ≡ seat.old.table_id) × (seat.new.me.1 ≡ seat.old.me.1) }
     ensures answer { IsTaken seat.old.me.0 row result seat.new.me.0 }
+    ensures looks { seat.new.me.0.looks ≡ seat.old.me.0.looks + take_looks result }
 {
     let word = top.load::<Try>(seat, 17 * row);
     if let State::Dirty = LockWord::new(word).state() {
@@ -79,6 +81,7 @@ fn read_rest<V: Kept>(top: &Top<V>, seat: &mut Sitting<V>, row: usize, first: u6
     requires begun { (corner seat.old.me.0 row).stage ≡ Reading (first / 4) [] }
     ensures seat { (seat.new.table_id ≡ seat.old.table_id) × (seat.new.me.1 ≡ seat.old.me.1) }
     ensures answer { IsSeenAs seat.old.me.0 row result seat.new.me.0 }
+    ensures looks { (seat.new.me.0.looks ≡ seat.old.me.0.looks + 1) × (read_looks result ≡ 2) }
 {
     let mut content = [0u64; 16];
     for i in 0..16 {
@@ -100,6 +103,7 @@ pub(crate) fn read_by<V: Kept>(top: &Top<V>, seat: &mut Sitting<V>, row: usize) 
     requires row { is_holding (corner seat.old.me.0 row).stage ≡ false }
     ensures seat { (seat.new.table_id ≡ seat.old.table_id) × (seat.new.me.1 ≡ seat.old.me.1) }
     ensures answer { IsSeenAs seat.old.me.0 row result seat.new.me.0 }
+    ensures looks { seat.new.me.0.looks ≡ seat.old.me.0.looks + read_looks result }
 {
     let first = top.load::<Look>(seat, 17 * row);
     match LockWord::new(first).state() {
@@ -122,8 +126,9 @@ pub(crate) fn put_by<V: Kept>(
     requires row { (0 < row) × IsHeld seat.old.me.0 row }
     ensures seat { (seat.new.table_id ≡ seat.old.table_id) × (seat.new.me.1 ≡ seat.old.me.1) }
     ensures version { result ≡ version_held (corner seat.old.me.0 row).stage + 1 }
+    ensures later { (corner seat.old.me.0 row).seen < result }
     ensures allowance { 0 < seat.old.me.0.allowance }
-    ensures view { seat.new.me.0 ≡ published_at seat.old.me.0 row (version_held (corner seat.old.me.0 row).stage) (found_in (corner seat.old.me.0 row).stage) content.now }
+    ensures view { seat.new.me.0 ≡ published_at (weighed seat.old.me.0) row (version_held (corner seat.old.me.0 row).stage) (found_in (corner seat.old.me.0 row).stage) content.now }
 {
     let word = top.load::<Weigh>(seat, 17 * row);
     for i in 0..16 {
@@ -140,7 +145,8 @@ pub(crate) fn free_by<V: Kept>(top: &Top<V>, seat: &mut Sitting<V>, row: usize)
     requires at { IsAt seat.old.table_id top.now.table_id top.now.key.items seat.old.me.0 row }
     requires row { (0 < row) × IsHeld seat.old.me.0 row }
     ensures seat { (seat.new.table_id ≡ seat.old.table_id) × (seat.new.me.1 ≡ seat.old.me.1) }
-    ensures view { seat.new.me.0 ≡ freed_at seat.old.me.0 row (version_held (corner seat.old.me.0 row).stage) (found_in (corner seat.old.me.0 row).stage) }
+    ensures later { (corner seat.old.me.0 row).seen ≤ version_held (corner seat.old.me.0 row).stage }
+    ensures view { seat.new.me.0 ≡ freed_at (weighed seat.old.me.0) row (version_held (corner seat.old.me.0 row).stage) (found_in (corner seat.old.me.0 row).stage) }
 {
     let word = top.load::<Weigh>(seat, 17 * row);
     let free = LockWord::new(word).to_free().word();

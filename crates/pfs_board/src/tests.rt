@@ -9,20 +9,20 @@ use std::thread::join;
 
 // How many actions there were.
 #[derive(Drop)]
-struct Tally {
-    count: u64,
+pub(crate) struct Tally {
+    pub(crate) count: u64,
 }
 
 impl Kept for Tally {
     ghost stands_for = { λ x labels. x.count ≡ length labels };
 }
 
-const FIRST: Content = [7, 0, 0, 0, 0, 0, 0, 0, 0, 0, 0, 0, 0, 0, 0, 9];
+pub(crate) const FIRST: Content = [7, 0, 0, 0, 0, 0, 0, 0, 0, 0, 0, 0, 0, 0, 0, 9];
 
 // A board of two rows with zeros, of which row 1 is allocated or free.
-fn opened(alloc: Global, allocated: bool) -> Result<(Board<Tally>, BoardSeat), NoMemory>
+pub(crate) fn opened(alloc: Global, allocated: bool) -> Result<(Board<Tally>, BoardSeat), NoMemory>
     ensures board { IfOk result (λ b. (b.1.board ≡ b.0.id) × HasRow b.0 1) }
-    ensures root { IfOk result (λ b. IsWhole b.1.view × (b.1.view.number ≡ 0) × (b.1.view.lent ≡ false) × (held b.1.view.rows ≡ 0) × (1000000 < b.1.view.allowance)) }
+    ensures root { IfOk result (λ b. IsWhole b.1.view × (b.1.view.number ≡ 0) × (b.1.view.action ≡ 0) × (b.1.view.lent ≡ false) × (held b.1.view.rows ≡ 0) × (1000000 < b.1.view.allowance)) }
 {
     let rows = [
         Opening {
@@ -39,14 +39,14 @@ fn opened(alloc: Global, allocated: bool) -> Result<(Board<Tally>, BoardSeat), N
 
 // A take that the root makes alone is never busy.
 #[tactic(auto, using(crate::proofs::ViewFacts::held_none))]
-fn take_alone(board: &Board<Tally>, root: &mut BoardSeat) -> (u64, Content)
-    requires board { (root.old.board ≡ board.now.id) × HasRow board.now 1 }
+pub(crate) fn take_alone(board: &Board<Tally>, root: &mut BoardSeat, row: u64) -> (u64, Content)
+    requires board { (root.old.board ≡ board.now.id) × HasRow board.now row × (0 < row) }
     requires root { IsWhole root.old.view × (held root.old.view.rows ≡ 0) × (0 < root.old.view.allowance) }
     ensures board { root.new.board ≡ root.old.board }
-    ensures row { is_holding (corner root.new.view 1).stage ≡ true }
+    ensures row { is_holding (corner root.new.view row).stage ≡ true }
     ensures root { IsWhole root.new.view × (held root.new.view.rows ≡ 1) × (root.new.view.number ≡ root.old.view.number) × (root.new.view.lent ≡ root.old.view.lent) × (root.new.view.allowance ≡ root.old.view.allowance) }
 {
-    match board.take(root, 1) {
+    match board.take(root, row) {
         Taken::Mine { word, content } => (word, content),
         Taken::Busy {
             first: _,
@@ -77,7 +77,7 @@ fn put_once(board: &Board<Tally>, seat: &mut BoardSeat, content: &Content) -> Op
 }
 
 #[tactic(auto, using(crate::proofs::ViewFacts::held_none))]
-fn read_once(board: &Board<Tally>, seat: &mut BoardSeat, row: u64) -> Seen
+pub(crate) fn read_once(board: &Board<Tally>, seat: &mut BoardSeat, row: u64) -> Seen
     requires board { (seat.old.board ≡ board.now.id) × HasRow board.now row }
     requires seat { held seat.old.view.rows ≡ 0 }
     ensures board { seat.new.board ≡ seat.old.board }
@@ -90,7 +90,7 @@ fn read_once(board: &Board<Tally>, seat: &mut BoardSeat, row: u64) -> Seen
 #[test]
 fn one_row_is_taken_put_and_read(rt: HostRuntime) -> Result<(), NoMemory> {
     let (board, mut root) = opened(rt.alloc(), true)?;
-    let (word, content) = take_alone(&board, &mut root);
+    let (word, content) = take_alone(&board, &mut root, 1);
     assert_eq!(rt; word, 2);
     assert!(rt; content == [0; 16]);
     assert_eq!(rt; board.put(&mut root, 1, &FIRST), 1);
@@ -138,7 +138,7 @@ fn a_row_that_opened_free_is_seen_free(rt: HostRuntime) -> Result<(), NoMemory> 
     let (board, mut root) = opened(rt.alloc(), false)?;
     let seen = read_once(&board, &mut root, 1);
     assert!(rt; seen == Seen::Free { word: 0 });
-    let (word, content) = take_alone(&board, &mut root);
+    let (word, content) = take_alone(&board, &mut root, 1);
     assert_eq!(rt; word, 0);
     assert!(rt; content == [0; 16]);
     assert_eq!(rt; board.put(&mut root, 1, &FIRST), 1);
@@ -157,14 +157,14 @@ fn a_row_that_opened_free_is_seen_free(rt: HostRuntime) -> Result<(), NoMemory> 
 #[test]
 fn a_row_is_released(rt: HostRuntime) -> Result<(), NoMemory> {
     let (board, mut root) = opened(rt.alloc(), true)?;
-    take_alone(&board, &mut root);
+    take_alone(&board, &mut root, 1);
     assert_eq!(rt; board.put(&mut root, 1, &FIRST), 1);
-    let (word, content) = take_alone(&board, &mut root);
+    let (word, content) = take_alone(&board, &mut root, 1);
     assert_eq!(rt; word, 6);
     board.free(&mut root, 1);
     let seen = read_once(&board, &mut root, 1);
     assert!(rt; seen == Seen::Free { word: 4 });
-    let (word, found) = take_alone(&board, &mut root);
+    let (word, found) = take_alone(&board, &mut root, 1);
     assert_eq!(rt; word, 4);
     assert!(rt; found == content);
     assert_eq!(rt; board.put(&mut root, 1, &found), 2);

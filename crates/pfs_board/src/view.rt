@@ -20,7 +20,7 @@ pub struct Change {
     pub puts: bool,
     /// The number of the action that it was made in, or 0.
     pub action: u64,
-    /// The newest action under this number that had ended, or 0.
+    /// Each action up to this had ended: outside an action the newest under this number, or 0, and inside one the number before it.
     pub after: u64,
     /// How many changes the root had when the seat was split from it.
     pub base: u64,
@@ -94,12 +94,23 @@ pub struct View {
     pub start: [u64; 0],
     /// The number of the action that it is in, or 0.
     pub action: u64,
-    /// The newest of its actions that ended, or 0.
+    /// Each action up to this has ended: outside an action its newest, or 0, and inside one the number before it.
     pub after: u64,
     /// How many changes the root had when it was split off.
     pub base: u64,
-    /// The kept value is lent.
+    /// The kept value is out with it or its caller, for an action or lent.
     pub lent: bool,
+    /// It is half way through a call that hands the value over.
+    pub moving: bool,
+    /// The label of the action that it is in.
+    pub label: Label,
+    /// The labels that the value stood for as it went out.
+    pub labels: LinkedList<Label>,
+    /// How often it, and the seats that it took in, looked at a lock word: by a load or an exchange that told it what stood there.
+    /// A load that tells nothing, as the one inside a split or a join, is no look.
+    pub looks: u64,
+    /// The lock word that its last take of a row but row 0 replaced.
+    pub replaced: u64,
     /// Its changes and those of the seats that it took in, the last added first.
     pub made: LinkedList<Change>,
     pub reads: LinkedList<Finished>,

@@ -32,6 +32,7 @@ returns-then-found-word g c = let at = c.requires.at in let word = c.requires.wo
       seat = (r.seat.0 ∙ e.0, rest ∙ more);
       answer = seize_hit c.args.seat.now.me.0 c.args.row c.args.word c.recall-content.result hit.0 c.recall-content.new.seat.me.0 word.0 word.1 (subst (λ n. IsLook c.args.seat.now.me.0 n c.args.row) c.if-found-word.true x.2) hit.1 (r.content ∙ h.1) (final ∙ w_is);
       from = refl;
+      looks = ap (λ (v : View). v.looks) (final ∙ w_is);
     }
 
 pub returns-else-found-word : goal.returns-else-found-word
@@ -40,4 +41,5 @@ returns-else-found-word g c = let word = c.requires.word in let e = c.compare_ex
       seat = (e.0, more);
       answer = seize_miss c.args.seat.now.me.0 c.args.row c.args.word c.compare_exchange-found.result c.compare_exchange-found.new.seat.me.0 word.1 word.2 word.3 x.2 c.if-found-word.false w_is;
       from = (refl, c.if-found-word.false);
+      looks = ap (λ (v : View). v.looks) w_is;
     }

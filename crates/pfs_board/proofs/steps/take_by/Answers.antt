@@ -1,8 +1,8 @@
-use Rattle.std.proofs.Common.{◌≡◌, ◌≢◌, ◌∙◌, ◌%◌, sym, refl, ap, subst}
+use Rattle.std.proofs.Common.{◌≡◌, ◌≢◌, ◌∙◌, ◌%◌, sym, refl, ap, subst, arith}
 use Rattle.pfs_board.specs.declared.view.View.{View}
 use Rattle.pfs_board.specs.Knowledge.{tried}
 use Rattle.pfs_board.specs.Taking.{IsTaken}
-use Rattle.pfs_board.proofs.Calls.{row_in, corner_in, not_dirty, may_seize, take_answer}
+use Rattle.pfs_board.proofs.Calls.{row_in, corner_in, not_dirty, may_seize, take_answer, looked_twice}
 use Rattle.pfs_board.proofs.Looks.{try_keeps}
 use Rattle.pfs_board.proofs.steps.take_by.Goals as goal
 
@@ -24,4 +24,5 @@ returns-in_default g c = let at = c.requires.at in let x = c.load-word.ensures.2
       seat = (c.seize.ensures.seat.0 ∙ c.load-word.ensures.0, c.seize.ensures.seat.1 ∙ more);
       answer = take_answer c.args.seat.now.me.0 c.args.row c.load-word.result c.seize.result c.seize.new.seat.me.0 (corner_in _ _ _ _ c.args.row at) x.1 clean
           (subst (λ (v : View). IsTaken v c.args.row c.seize.result c.seize.new.seat.me.0) w_is c.seize.ensures.answer);
+      looks = let first = ap (λ (v : View). v.looks) w_is in let then = c.seize.ensures.looks in let both = looked_twice c.load-word.result c.seize.result c.seize.ensures.from in omega arith;
     }

@@ -1,6 +1,6 @@
 use Rattle.std.proofs.Common.{◌≡◌, ◌∙◌, length, sym, ap}
 use Rattle.pfs_board.specs.declared.view.View.{View}
-use Rattle.pfs_board.specs.Knowledge.{corner, version_held, found_in, freed_at}
+use Rattle.pfs_board.specs.Knowledge.{corner, version_held, found_in, freed_at, weighed}
 use Rattle.pfs_board.specs.Known.{Known, Place, first_view}
 use Rattle.pfs_board.proofs.Between.{view_of_seat}
 use Rattle.pfs_board.proofs.HandFacts.{has_corner, hands_free}
@@ -14,4 +14,4 @@ returns-clause-hands g c = let s = c.into_seat-sitting.ensures in let b = c.repl
     let words = ap (λ (z : _). z.words) table ∙ (c.self.invariant.words ∙ ap (λ (p : Place). length p.start) c.self.view_is) in
     let h = has_corner c.seat.inside.badge.table_id c.seat.inside.badge.views c.args.seat.now c.args.self.now.start c.args.row c.seat.view_is c.seat.invariant words c.requires.row.1 in
     hands_free c.args.seat.now.view (first_view c.into_badge.result.views) c.args.row h c.requires.row.2
-    (sym w_is ∙ (c.free_by.ensures.view ∙ ap (λ (v : View). freed_at v c.args.row (version_held (corner v c.args.row).stage) (found_in (corner v c.args.row).stage)) v_is))
+    (sym w_is ∙ (c.free_by.ensures.view ∙ ap (λ (v : View). freed_at (weighed v) c.args.row (version_held (corner v c.args.row).stage) (found_in (corner v c.args.row).stage)) v_is))
