@@ -1,6 +1,7 @@
 -- The kinds of classes, and which kind a class's name has.
-use Rattle.std.specs.Prelude.{◌≡◌, ℕ, ◌≤◌, Bool, true, false, ◌&&◌, ◌||◌, ◌==◌, not, nat_le, IsTrue, List, ◌∷◌, ◌++◌, length, ◌⊎◌, codes}
-use Rattle.std.specs.List.{list_all, slice_split}
+use Rattle.std.specs.Prelude.{◌≡◌, ℕ, ◌≤◌, Bool, true, false, ◌&&◌, ◌||◌, ◌==◌, not, nat_le, IsTrue, List, [], ◌∷◌, ◌++◌, length, drop, ◌+◌, nat_eq, if◌then◌else◌, Option, Some, None, find, ◌⊎◌, codes}
+use Rattle.std.specs.List.{list_all, slice_split, starts_with}
+use Rattle.std.specs.Str.{bytes_eq}
 use Rattle.pfs_rows.specs.declared.limits.Limits.{Limits}
 use Rattle.pfs_classes.specs.declared.kind.Kind.{Kind}
 use Rattle.pfs_classes.specs.declared.kind.Kind.TheVariants.{Mutex, Rwlock, Cond, File, Socket, TableIo, TableLock, Stage, Statement, Transaction}
@@ -53,6 +54,19 @@ are_parts text = list_all is_part (slice_split (λ b. b == 47) text)
 -- a name has a kind: the kind's name, `/` and parts, 128 bytes at most; or it is `transaction` alone
 abbrev pub Fits : List ℕ → Kind → Type 0
 Fits name kind = ((name ≡ codes "transaction") × (kind ≡ Transaction)) ⊎ ((parts : List ℕ) × (name ≡ kind_name kind ++ 47 ∷ parts) × IsTrue (are_parts parts) × (length name ≤ 128))
+
+-- a name is the kind's name, `/` and parts
+abbrev pub is_of_kind : List ℕ → Kind → Bool
+is_of_kind name kind = starts_with nat_eq name (kind_name kind ++ 47 ∷ []) && are_parts (drop (length (kind_name kind) + 1) name)
+
+abbrev pub all_kinds : List Kind
+all_kinds = Mutex ∷ Rwlock ∷ Cond ∷ File ∷ Socket ∷ TableIo ∷ TableLock ∷ Stage ∷ Statement ∷ Transaction ∷ []
+
+-- the kind that a name has, where it has one
+unfoldable pub kind_of : List ℕ → Option Kind
+kind_of name =
+    if bytes_eq name (codes "transaction") then Some Transaction
+    else (if nat_le (length name) 128 then find (is_of_kind name) all_kinds else None)
 
 -- the place of a kind in their order
 abbrev pub kind_order : Kind → ℕ

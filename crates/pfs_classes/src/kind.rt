@@ -3,7 +3,7 @@
 ghost use Rattle.std.specs.Prelude.{◌≡◌, ◌==◌, ◌++◌, ◌∷◌, IsTrue, ◌↔◌, MatchOption, IfSome, List, ℕ};
 ghost use Rattle.std.specs.List.{list_all};
 ghost use Rattle.pfs_classes.specs.declared.kind.Kind.{Kind};
-ghost use Rattle.pfs_classes.specs.Kinds.{kind_name, room_of, is_fixed, is_part_byte, is_part, are_parts, Fits};
+ghost use Rattle.pfs_classes.specs.Kinds.{kind_name, room_of, is_fixed, is_part_byte, is_part, are_parts, Fits, kind_of};
 
 use pfs_rows::Limits;
 
@@ -91,20 +91,29 @@ impl Kind {
     pub fn of_name(name: &[u8]) -> Option<Kind>
         ensures kind { MatchOption result ((kind : Kind) → ¬ Fits name.now kind) (λ kind. Fits name.now kind) }
         ensures only { IfSome result (λ kind. (other : Kind) → Fits name.now other → other ≡ kind) }
+        ensures value { result ≡ kind_of name.now }
     {
-        if name == Kind::Transaction.name().as_bytes() {
-            return Some(Kind::Transaction);
-        }
-        if name.len() > MOST_BYTES {
-            return None;
-        }
-        for kind in Kind::ALL {
-            if is_below(name, kind) {
-                return Some(kind);
-            }
-        }
-        None
+        find_kind(name)
     }
+}
+
+// What the name's kind is, by its cases.
+fn find_kind(name: &[u8]) -> Option<Kind>
+    ensures kind { MatchOption result ((kind : Kind) → ¬ Fits name.now kind) (λ kind. Fits name.now kind) }
+    ensures only { IfSome result (λ kind. (other : Kind) → Fits name.now other → other ≡ kind) }
+{
+    if name == Kind::Transaction.name().as_bytes() {
+        return Some(Kind::Transaction);
+    }
+    if name.len() > MOST_BYTES {
+        return None;
+    }
+    for kind in Kind::ALL {
+        if is_below(name, kind) {
+            return Some(kind);
+        }
+    }
+    None
 }
 
 // Whether the name is the kind's, `/` and parts.

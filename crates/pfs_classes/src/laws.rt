@@ -1,10 +1,10 @@
 //! Laws of the definitions.
 
-ghost use Rattle.std.specs.Prelude.{◌≡◌, ◌<◌, List, ℕ, Contains, length, Some};
+ghost use Rattle.std.specs.Prelude.{◌≡◌, ◌↔◌, ◌<◌, List, ℕ, Contains, length, Some};
 ghost use Rattle.pfs_names.specs.Interning.{Interns};
 ghost use Rattle.pfs_classes.specs.declared.kind.Kind.{Kind};
 ghost use Rattle.pfs_classes.specs.declared.classes.Class.{Class};
-ghost use Rattle.pfs_classes.specs.Kinds.{Fits};
+ghost use Rattle.pfs_classes.specs.Kinds.{Fits, kind_of};
 ghost use Rattle.pfs_classes.specs.Registry.{Registry, class_at};
 ghost use Rattle.pfs_classes.specs.Builtins.{Row, builtins};
 ghost use Rattle.pfs_classes.specs.Settings.{ComesFrom, HasNames};
@@ -13,6 +13,13 @@ ghost use Rattle.pfs_classes.specs.Settings.{ComesFrom, HasNames};
 pub fn one_kind()
     ensures { (name : List ℕ) (a b : Kind) → Fits name a → Fits name b → a ≡ b }
 {}
+
+/// The kind that is computed for a name is the one that the name has.
+pub fn computed_kind()
+    ensures { (name : List ℕ) (kind : Kind) → kind_of name ≡ Some kind ↔ Fits name kind }
+{
+    one_kind();
+}
 
 /// Each row of the built-in list has the kind of its name.
 pub fn builtin_kinds()

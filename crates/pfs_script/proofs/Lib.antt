@@ -1,4 +1,25 @@
-mod Exactness
-mod Numerals
-mod Splits
-mod Steps
+pub mod BaseLemmas
+pub mod Behind
+pub mod BlockLemmas
+pub mod CountLemmas
+pub mod Coursing
+pub mod Exactness
+pub mod Faultless
+pub mod FormExamples
+pub mod FormLemmas
+pub mod Fronting
+pub mod HeadLemmas
+pub mod LikeLemmas
+pub mod NamedLemmas
+pub mod NameLemmas
+pub mod NumberLemmas
+pub mod PassLemmas
+pub mod ReadingExamples
+pub mod ReferLemmas
+pub mod RegisterLemmas
+pub mod RunLemmas
+pub mod SetLemmas
+pub mod Splits
+pub mod Steps
+pub mod Taking
+pub mod Totalling

@@ -1,6 +1,13 @@
 pub mod Numbers
 pub mod Words
 pub mod Forms
+pub mod Likes
+pub mod Headings
+pub mod Counts
+pub mod Next
 pub mod Places
+pub mod Blocks
+pub mod Runnable
+pub mod RunnableProps
 pub mod Scripts
 pub mod Readings

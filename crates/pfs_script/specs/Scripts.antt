@@ -1,35 +1,58 @@
 -- Which bytes are a script, and the first line with which they are none.
-use Rattle.std.specs.Prelude.{ℕ, ◌≡◌, ◌≢◌, ◌+◌, ◌==◌, ◌↔◌, List, [], ◌∷◌, ◌++◌, length, Result, Ok, Err}
-use Rattle.std.specs.List.{slice_split}
-use Rattle.pfs_script.specs.declared.forms.Line.{Line}
-use Rattle.pfs_script.specs.declared.reading.Reason.{Reason}
-use Rattle.pfs_script.specs.declared.reading.Reason.TheVariants.{NotBuilt}
-use Rattle.pfs_script.specs.Forms.{next}
+use Rattle.std.specs.Prelude.{ℕ, ◌≡◌, ◌≢◌, ◌+◌, ◌==◌, if◌then◌else◌, List, [], ◌∷◌, ◌++◌, length, Result, Ok, Err}
+use Rattle.std.specs.List.{slice_split, list_all}
+use Rattle.pfs_classes.specs.declared.setting.Setting.{Setting}
+use Rattle.pfs_script.specs.declared.blocks.Phase.{Phase}
+use Rattle.pfs_script.specs.declared.forms.Form.{Form}
+use Rattle.pfs_script.specs.declared.reasons.Reason.{Reason}
+use Rattle.pfs_script.specs.declared.reasons.Reason.TheVariants.{BadByte, OpenLine}
+use Rattle.pfs_script.specs.Words.{is_script_byte}
+use Rattle.pfs_script.specs.Headings.{Head, head_of, resolved}
+use Rattle.pfs_script.specs.Next.{next}
+use Rattle.pfs_script.specs.Blocks.{phases_of}
 
 -- the lines, each without its line feed, and what stands behind the last line feed
 abbrev pub parts_of : List ℕ → List (List ℕ)
 parts_of text = slice_split (λ byte. byte == 10) text
 
 -- behind the lines before it, each of these says the line beside it
-abbrev pub Begins : List Line → List (List ℕ) → List Line → Type 0
+abbrev pub Begins : List Form → List (List ℕ) → List Form → Type 0
 Begins before [] [] = Unit {0}
 Begins before (raw ∷ raws) (line ∷ lines) = (next before raw ≡ Ok line) × Begins (before ++ line ∷ []) raws lines
 Begins before [] (line ∷ lines) = ⊥
 Begins before (raw ∷ raws) [] = ⊥
 
--- the text is a script that says these lines: each line is ended, and each may stand where it does
-abbrev pub IsScript : List ℕ → List Line → Type 0
-IsScript text lines = (raws : List (List ℕ)) × (parts_of text ≡ raws ++ [] ∷ []) × Begins [] raws lines
+-- the text says these lines: each is ended, and each may stand where it does
+abbrev pub IsText : List ℕ → List Form → Type 0
+IsText text lines = (raws : List (List ℕ)) × (parts_of text ≡ raws ++ [] ∷ []) × Begins [] raws lines
+
+-- why a line that isn't ended is faulty
+abbrev pub open_reason : List ℕ → Reason
+open_reason bytes = if list_all is_script_byte bytes then OpenLine else BadByte
 
 -- the part is faulty behind these lines: as a line, or as what has no line feed
-abbrev pub IsBad : List Line → List ℕ → List (List ℕ) → Reason → Type 0
-IsBad before bad [] reason = (bad ≢ []) × (reason ≡ NotBuilt)
+abbrev pub IsBad : List Form → List ℕ → List (List ℕ) → Reason → Type 0
+IsBad before bad [] reason = (bad ≢ []) × (reason ≡ open_reason bad)
 IsBad before bad (part ∷ parts) reason = next before bad ≡ Err reason
 
--- the first faulty line, counted from 1: the lines before it begin a script, and with it they don't
-abbrev pub IsFirstFault : List ℕ → ℕ → Reason → Type 0
+-- the setting has what the lines before the first phase fix, and neither tables nor digest texts
+pub record IsSetting (head : Head) (setting : Setting) : Type 0 where
+  pub names : setting.names ≡ head.names
+  pub classes : setting.classes ≡ head.classes
+  pub tables : setting.tables ≡ []
+  pub digests : setting.digests ≡ []
+  pub limits : setting.limits ≡ head.limits
+  pub consumers : setting.consumers ≡ head.consumers
+
+-- the text is a script with this setting and these phases: they are what its lines fix and say
+unfoldable pub IsScript : List ℕ → Setting → List Phase → Type 0
+IsScript text setting phases =
+    (lines : List Form) × IsText text lines × IsSetting (head_of lines) setting × (phases ≡ phases_of (resolved (head_of lines)) lines)
+
+-- the first faulty line, counted from 1, with its least reason: the lines before it begin a script, and with it they don't
+unfoldable pub IsFirstFault : List ℕ → ℕ → Reason → Type 0
 IsFirstFault text number reason =
-    (raws : List (List ℕ)) × (lines : List Line) × (bad : List ℕ) × (more : List (List ℕ))
+    (raws : List (List ℕ)) × (lines : List Form) × (bad : List ℕ) × (more : List (List ℕ))
     × (number ≡ length raws + 1) × (parts_of text ≡ raws ++ bad ∷ more) × Begins [] raws lines × IsBad lines bad more reason
 
 -- a faulty line and its reason
@@ -38,28 +61,36 @@ pub record Fault : Type 0 where
   pub reason : Reason
 
 -- what follows from one line: the rest, or its fault
-abbrev pub on_line : Result Line Reason → ℕ → (Line → Result (List Line) Fault) → Result (List Line) Fault
+abbrev pub on_line : Result Form Reason → ℕ → (Form → Result (List Form) Fault) → Result (List Form) Fault
 on_line (Ok line) number rest = rest line
 on_line (Err reason) number rest = Err (record { number = number; reason = reason })
 
 -- behind the last line feed nothing may stand
-abbrev pub last_of : List Line → List ℕ → Result (List Line) Fault
+abbrev pub last_of : List Form → List ℕ → Result (List Form) Fault
 last_of before [] = Ok before
-last_of before (byte ∷ bytes) = Err (record { number = length before + 1; reason = NotBuilt })
+last_of before (byte ∷ bytes) = Err (record { number = length before + 1; reason = open_reason (byte ∷ bytes) })
 
 -- what the parts of a text say behind these lines, in one pass
-unfoldable pub lines_from : List Line → List (List ℕ) → Result (List Line) Fault
+unfoldable pub lines_from : List Form → List (List ℕ) → Result (List Form) Fault
 lines_from before [] = Ok before
 lines_from before (bytes ∷ []) = last_of before bytes
 lines_from before (bytes ∷ (more ∷ parts)) = on_line (next before bytes) (length before + 1) (λ line. lines_from (before ++ line ∷ []) (more ∷ parts))
 
 -- what the text says
-abbrev pub script_of : List ℕ → Result (List Line) Fault
+abbrev pub script_of : List ℕ → Result (List Form) Fault
 script_of text = lines_from [] (parts_of text)
 
--- the one pass finds the script, and finds the first fault
-abbrev pub IsExact : Type 0
-IsExact =
-    (text : List ℕ) →
-    ((lines : List Line) → script_of text ≡ Ok lines ↔ IsScript text lines)
-    × ((number : ℕ) (reason : Reason) → script_of text ≡ Err (record { number = number; reason = reason }) ↔ IsFirstFault text number reason)
+-- two settings that agree in all that they fix
+pub record AreAlike (a b : Setting) : Type 0 where
+  pub names : a.names ≡ b.names
+  pub classes : a.classes ≡ b.classes
+  pub tables : a.tables ≡ b.tables
+  pub digests : a.digests ≡ b.digests
+  pub limits : a.limits ≡ b.limits
+  pub consumers : a.consumers ≡ b.consumers
+
+-- a text that is a script has no fault; it has one first fault at most, and is at most one script
+pub record IsExact : Type 0 where
+  pub excludes : (text : List ℕ) (setting : Setting) (phases : List Phase) (number : ℕ) (reason : Reason) → IsScript text setting phases → ¬ IsFirstFault text number reason
+  pub one_fault : (text : List ℕ) (m n : ℕ) (r s : Reason) → IsFirstFault text m r → IsFirstFault text n s → (m ≡ n) × (r ≡ s)
+  pub one_script : (text : List ℕ) (a b : Setting) (p q : List Phase) → IsScript text a p → IsScript text b q → AreAlike a b × (p ≡ q)

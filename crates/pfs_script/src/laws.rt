@@ -1,9 +1,30 @@
-//! What holds of all texts.
+//! What holds of all texts, lines and names.
 
+ghost use Rattle.std.specs.Prelude.{◌≡◌, ◌↔◌, IsTrue, List, ℕ, is_some, false, length, Some, codes, ◌<◌};
+ghost use Rattle.std.specs.Str.{bytes_eq};
+ghost use Rattle.pfs_text.specs.Patterns.{IsLike};
+ghost use Rattle.pfs_classes.specs.declared.classes.ClassRef.TheVariants as refs;
+ghost use Rattle.pfs_script.specs.declared.forms.Form.{Form};
+ghost use Rattle.pfs_script.specs.Likes.{is_like};
+ghost use Rattle.pfs_script.specs.Headings.{is_known, resolved, head_of};
 ghost use Rattle.pfs_script.specs.Scripts.{IsExact};
 
-/// A text is a script of these lines exactly where the reader's pass gives them, and its first faulty
-/// line and reason are exactly those that the pass gives. So a text has at most one reading.
+/// A text is a script or has a first fault, and not both. It is at most one script, and has at most
+/// one first fault, with one reason.
 pub fn exact()
     ensures { IsExact }
+{}
+
+/// The test for a name that an `instrument` line means is true exactly of the names that are `LIKE`
+/// its pattern.
+pub fn patterns()
+    ensures { (pattern text : List ℕ) → IsTrue (is_like pattern text) ↔ IsLike pattern text }
+{}
+
+/// Behind any lines a name stands for a class or a lost class exactly where it is known, and a name
+/// but `transaction` for a class below their number.
+pub fn known_names()
+    ensures known { (lines : List Form) (name : List ℕ) → is_some (resolved (head_of lines) name) ≡ is_known lines name }
+    ensures within { (lines : List Form) (name : List ℕ) (id : ℕ) → bytes_eq name (codes "transaction") ≡ false
+        → resolved (head_of lines) name ≡ Some (refs.Class id) → id < length (head_of lines).classes.classes }
 {}

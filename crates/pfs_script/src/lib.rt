@@ -2,13 +2,31 @@
 //! its first faulty line. One pass over the bytes.
 #![tactic(auto)]
 
+mod block_lines;
+pub mod blocks;
+mod building;
+mod courses;
+#[cfg(test)]
+mod form_tests;
 mod forms;
+mod fronts;
+mod heading;
+mod heading_lines;
 pub mod laws;
+mod likes;
+mod numerals;
 mod places;
 mod reading;
+mod reasons;
+mod scripts;
+mod starts;
 #[cfg(test)]
 mod tests;
+mod texts;
+mod totals;
 mod words;
 
-pub use forms::Line;
-pub use reading::{Reason, Script, ScriptFault};
+pub use blocks::{Block, BlockLine, BlockLineList, BlockList, Phase, PhaseList};
+pub use reading::ScriptFault;
+pub use reasons::Reason;
+pub use scripts::Script;

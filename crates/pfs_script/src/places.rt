@@ -1,18 +1,25 @@
 //! What the lines so far allow next.
 
-ghost use Rattle.std.specs.Prelude.{◌≡◌, List, true, ◌∷◌, ◌++◌, []};
-ghost use Rattle.pfs_script.specs.declared.forms.Line.{Line};
-ghost use Rattle.pfs_script.specs.Forms.{may_follow};
+ghost use Rattle.std.specs.Prelude.{◌≡◌, ◌≤◌, List, ◌∷◌, ◌++◌, [], true, None};
+ghost use Rattle.pfs_script.specs.declared.forms.Form.{Form};
+ghost use Rattle.pfs_script.specs.Headings.{head_of};
+ghost use Rattle.pfs_script.specs.Next.{is_built, is_class_limit, is_out_of_place, is_bad_number, is_unknown, is_not_built_here, is_wait_class, fault_of, least_reason};
 ghost use Rattle.pfs_script.specs.Places.{Knows};
 
-use crate::forms::Line;
+use crate::courses::{Course, no_course};
+use crate::forms::Form;
+use crate::fronts::{Front, no_front};
+use crate::heading::{Heading, find_consumer, find_limit};
+use crate::reasons::Reason;
+use crate::totals::{Totals, no_lines};
+use pfs_rows::Limit;
 
 /// What the lines so far amount to, as far as the next line depends on it.
 #[derive(Clone, Copy)]
 pub struct Place {
-    pub has_phase: bool,
-    pub has_session: bool,
-    pub is_open: bool,
+    pub front: Front,
+    pub course: Course,
+    pub totals: Totals,
 }
 
 /// The place before the first line.
@@ -20,37 +27,155 @@ pub fn start() -> Place
     ensures { Knows result [] }
 {
     Place {
-        has_phase: false,
-        has_session: false,
-        is_open: false,
+        front: no_front(),
+        course: no_course(),
+        totals: no_lines(),
     }
 }
 
 impl Place {
-    /// Whether the line may follow the lines so far.
-    pub fn admits(&self, line: Line) -> bool
-        ensures { (before : List Line) → Knows self.now before → result ≡ may_follow before line }
+    /// Why the line may not stand behind the lines so far: the least reason, or none.
+    #[tactic(auto, unfolding(crate::specs::Next::fault_of))]
+    pub fn fault(&self, heading: &Heading, line: &Form) -> Option<Reason>
+        ensures { (before : List Form) → Knows self.now before → heading.now ≡ head_of before → result ≡ fault_of before line.now }
     {
-        match line {
-            Line::Silent => true,
-            Line::Phase => !self.has_phase,
-            Line::Session(_) => self.has_phase && !self.has_session,
-            Line::Start => self.has_session && !self.is_open,
-            Line::Spend(_) => self.has_session,
-            Line::End => self.is_open,
+        if is_built(line) {
+            self.least_reason(heading, line)
+        } else {
+            Some(Reason::NotBuilt)
+        }
+    }
+
+    #[tactic(auto, unfolding(crate::specs::Next::least_reason))]
+    fn least_reason(&self, heading: &Heading, line: &Form) -> Option<Reason>
+        requires { is_built line.now ≡ true }
+        ensures { (before : List Form) → Knows self.now before → heading.now ≡ head_of before → result ≡ least_reason before line.now }
+    {
+        if self.is_out_of_place(line) {
+            Some(Reason::OutOfPlace)
+        } else if is_bad_number(line) {
+            Some(Reason::BadNumber)
+        } else if self.course.is_bad_session(line) {
+            Some(Reason::BadSession)
+        } else if is_unknown(heading, line) {
+            Some(Reason::UnknownName)
+        } else if self.front.is_bad_limit(line) {
+            Some(Reason::BadLimit)
+        } else if self.course.is_bad_nesting(line) {
+            Some(Reason::BadNesting)
+        } else if self.totals.is_too_long(line) {
+            Some(Reason::TooLong)
+        } else if self.totals.is_too_much(line) {
+            Some(Reason::TooMuch)
+        } else if self.is_not_built_here(line) {
+            Some(Reason::NotBuilt)
+        } else {
+            None
         }
     }
 
     /// The place behind one more line.
-    pub fn pass(&mut self, line: Line)
-        ensures { (before : List Line) → Knows self.old before → may_follow before line ≡ true → Knows self.new (before ++ line ∷ []) }
+    pub fn pass(&mut self, line: &Form)
+        requires blocks { self.old.course.blocks ≤ 32 }
+        requires lines { self.old.totals.lines ≤ 200000 }
+        requires classes { self.old.totals.classes ≤ 256 }
+        requires weight { self.old.totals.weight ≤ 5000000 }
+        ensures { (before : List Form) → Knows self.old before → fault_of before line.now ≡ None → Knows self.new (before ++ line.now ∷ []) }
+    {
+        self.front.pass(line);
+        self.course.pass(line);
+        self.totals.pass(line);
+    }
+
+    fn is_out_of_place(&self, line: &Form) -> bool
+        ensures { (before : List Form) → Knows self.now before → result ≡ is_out_of_place before line.now }
     {
         match line {
-            Line::Silent | Line::Spend(_) => {}
-            Line::Phase => self.has_phase = true,
-            Line::Session(_) => self.has_session = true,
-            Line::Start => self.is_open = true,
-            Line::End => self.is_open = false,
+            Form::Limit { .. } => !self.front.limits_alone,
+            Form::Class { .. } | Form::Consumer { .. } | Form::Instrument { .. } => {
+                self.front.has_phase
+            }
+            Form::Connect { .. } => !self.front.has_phase,
+            Form::Wait { .. } | Form::Spend { .. } | Form::End => self.course.has_no_block(),
+            _ => false,
         }
     }
+
+    fn is_not_built_here(&self, line: &Form) -> bool
+        ensures { (before : List Form) → Knows self.now before → result ≡ is_not_built_here before line.now }
+    {
+        match line {
+            Form::Phase => self.front.has_phase,
+            _ => self.course.is_not_built_here(line),
+        }
+    }
+}
+
+// Whether the line's form is built.
+fn is_built(line: &Form) -> bool
+    ensures { result ≡ is_built line.now }
+{
+    match line {
+        Form::Limit { name, .. } => is_class_limit(find_limit(name.bytes())),
+        Form::Silent
+        | Form::Class { .. }
+        | Form::Consumer { .. }
+        | Form::Instrument { .. }
+        | Form::Phase
+        | Form::Connect { .. }
+        | Form::Wait { .. }
+        | Form::Spend { .. }
+        | Form::End => true,
+        _ => false,
+    }
+}
+
+// Whether the limit is one of a kind of classes.
+fn is_class_limit(limit: Option<Limit>) -> bool
+    ensures { result ≡ is_class_limit limit }
+{
+    match limit {
+        Some(limit) => matches!(
+            limit,
+            Limit::MutexClasses
+                | Limit::RwlockClasses
+                | Limit::CondClasses
+                | Limit::FileClasses
+                | Limit::SocketClasses
+                | Limit::StageClasses
+                | Limit::StatementClasses
+        ),
+        None => false,
+    }
+}
+
+// Whether a number of the line is over 2^64 - 1.
+fn is_bad_number(line: &Form) -> bool
+    ensures { result ≡ is_bad_number line.now }
+{
+    match line {
+        Form::Limit { value, .. } => value.is_none(),
+        Form::Connect { session, .. } => session.is_none(),
+        Form::Spend { time } => time.is_none(),
+        _ => false,
+    }
+}
+
+// Whether the line names what isn't known, or gives a class a name or kind that it may not have.
+fn is_unknown(heading: &Heading, line: &Form) -> bool
+    ensures { (before : List Form) → heading.now ≡ head_of before → result ≡ is_unknown before line.now }
+{
+    match line {
+        Form::Class { name, kind, .. } => kind.is_fixed() || heading.is_known(name.bytes()),
+        Form::Consumer { name, .. } => find_consumer(name.bytes()).is_none(),
+        Form::Wait { class } => !is_wait_class(heading, class.bytes()),
+        _ => false,
+    }
+}
+
+// Whether a wait can have this class.
+fn is_wait_class(heading: &Heading, class: &[u8]) -> bool
+    ensures { (before : List Form) → heading.now ≡ head_of before → result ≡ is_wait_class before class.now }
+{
+    heading.is_known(class) && class != b"transaction".as_slice()
 }

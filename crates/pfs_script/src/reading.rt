@@ -1,89 +1,72 @@
 //! The whole script: one pass over the bytes, line by line.
 
-ghost use Rattle.std.specs.Prelude.{◌≡◌, ◌+◌, ◌<◌, List, ◌∷◌, ◌++◌, [], length, ◌^◌, ◌==◌, position, MatchOption};
-ghost use Rattle.pfs_script.specs.declared.forms.Line.{Line};
-ghost use Rattle.pfs_script.specs.Forms.{next, Follows};
+ghost use Rattle.std.specs.Prelude.{◌≡◌, ◌+◌, ◌<◌, ◌^◌, List, [], ◌∷◌, ◌++◌, length, ◌==◌, position, MatchOption, IfOk};
+ghost use Rattle.std.specs.List.{list_all};
+ghost use Rattle.pfs_script.specs.declared.forms.Form.{Form};
+ghost use Rattle.pfs_script.specs.Forms.{HasItsKind};
+ghost use Rattle.pfs_script.specs.Headings.{head_of};
+ghost use Rattle.pfs_script.specs.Next.{next};
 ghost use Rattle.pfs_script.specs.Places.{Knows};
-ghost use Rattle.pfs_script.specs.Scripts.{parts_of};
-ghost use Rattle.pfs_script.specs.Readings.{Says, Reads, Gives};
+ghost use Rattle.pfs_script.specs.Scripts.{parts_of, open_reason};
+ghost use Rattle.pfs_script.specs.Readings.{Reads, Gives};
 
-use crate::forms::{Line, parse_line};
-use crate::laws::exact;
+use crate::building::phases;
+use crate::forms::{Form, parse_line};
+use crate::heading::Heading;
 use crate::places::{Place, start};
+use crate::reasons::Reason;
+use crate::scripts::Script;
+use crate::words::is_clean;
 use std::alloc::Global;
-use std::marker::Model;
-
-/// Why a script is none.
-#[derive(Clone, Copy, Debug, PartialEq, Eq)]
-pub enum Reason {
-    /// There are more bytes than a script may have.
-    TooLong = 11,
-    /// The line has no form that is built, or breaks a rule of its form or place.
-    NotBuilt = 13,
-}
 
 /// Why bytes were not read as a script.
 #[derive(Clone, Copy, Debug, PartialEq, Eq)]
 pub enum ScriptFault {
-    /// The first faulty line, counted from 1, and its reason.
+    /// The first faulty line, counted from 1, and its least reason.
     Bad { line: u64, reason: Reason },
     /// Memory ran out.
     NoMemory,
 }
 
-/// A script: its lines in order, silent ones too. Each may stand where it does, which the type keeps.
+/// The lines of a text, and what they fix.
 #[derive(Drop)]
-pub struct Script {
-    lines: Vec<Line>,
-}
-
-impl Model for Script {
-    ghost use Rattle.std.specs.Prelude.{List};
-    ghost use Rattle.pfs_script.specs.declared.forms.Line.{Line};
-
-    ghost Value = { List Line };
-
-    ghost view = { λ s. s.lines.items };
-
-    ghost use Rattle.std.specs.Prelude.{[]};
-    ghost use Rattle.pfs_script.specs.Forms.{Follows};
-
-    ghost invariant = { λ s. Follows [] s.lines.items };
+pub struct Reading<'a> {
+    pub lines: Vec<Form<'a>>,
+    pub heading: Heading,
 }
 
 impl Script {
-    /// The script that these bytes are; else the first faulty line with its reason.
+    /// The script that these bytes are; else the first faulty line, counted from 1, with its least
+    /// reason. The rules are our own; the names, classes and limits are MySQL's. One pass over the bytes.
     pub fn read(alloc: Global, bytes: &[u8]) -> Result<Script, ScriptFault>
         ensures { Gives bytes.now result }
     {
-        exact();
-        match read_lines(alloc, bytes) {
-            Ok(lines) => Ok(Script { lines }),
-            Err(fault) => Err(fault),
-        }
-    }
-
-    /// The lines, in order.
-    pub fn lines(&self) -> &[Line]
-        ensures all { result.now ≡ self.now }
-        ensures order { Follows [] self.now }
-    {
-        self.lines.as_slice()
+        let reading = match read_lines(alloc, bytes) {
+            Ok(reading) => reading,
+            Err(fault) => return Err(fault),
+        };
+        let phases = match phases(alloc, &reading.heading, reading.lines.as_slice()) {
+            Ok(phases) => phases,
+            Err(_) => return Err(ScriptFault::NoMemory),
+        };
+        let setting = reading.heading.into_setting(alloc);
+        Ok(Script { setting, phases })
     }
 }
 
-/// What the line says, where it may follow the lines so far.
-#[tactic(auto, unfolding(crate::specs::Forms::next))]
-fn read_line(place: &Place, count: usize, bytes: &[u8]) -> Result<Line, ScriptFault>
-    requires { count < 2 ^ 63 }
-    ensures { (before : List Line) → Knows place.now before → length before ≡ count → Says before bytes.now result }
+/// What the line says, where it may follow the lines so far; else its least reason.
+#[tactic(auto, unfolding(crate::specs::Next::next))]
+fn read_line<'a>(place: &Place, heading: &Heading, bytes: &'a [u8]) -> Result<Form<'a>, Reason>
+    ensures says { (before : List Form) → Knows place.now before → heading.now ≡ head_of before → result ≡ next before bytes.now }
+    ensures kind { IfOk result HasItsKind }
 {
-    match parse_line(bytes) {
-        Some(line) if place.admits(line) => Ok(line),
-        _ => Err(ScriptFault::Bad {
-            line: count as u64 + 1,
-            reason: Reason::NotBuilt,
-        }),
+    let line = match parse_line(bytes) {
+        Ok(line) => line,
+        Err(reason) => return Err(reason),
+    };
+    match place.fault(heading, &line) {
+        Some(reason) => Err(reason),
+        None => Ok(line),
     }
 }
 
@@ -106,19 +89,49 @@ fn split_line(bytes: &[u8]) -> Option<(&[u8], &[u8])>
     }
 }
 
+/// Why a line that isn't ended is faulty.
+fn open_reason(bytes: &[u8]) -> Reason
+    ensures { result ≡ open_reason bytes.now }
+{
+    if is_clean(bytes) {
+        Reason::OpenLine
+    } else {
+        Reason::BadByte
+    }
+}
+
+// The fault of the line behind so many.
+fn bad(count: usize, reason: Reason) -> ScriptFault
+    requires { count < 2 ^ 63 }
+    ensures { result ≡ ScriptFault.Bad (count + 1) reason }
+{
+    ScriptFault::Bad {
+        line: count as u64 + 1,
+        reason,
+    }
+}
+
 /// All lines, in one pass.
-fn read_lines(alloc: Global, bytes: &[u8]) -> Result<Vec<Line>, ScriptFault>
+fn read_lines(alloc: Global, bytes: &[u8]) -> Result<Reading, ScriptFault>
     ensures { Reads bytes.now result }
 {
     let mut lines = Vec::new(alloc);
     let mut place = start();
+    let mut heading = match Heading::begin(alloc) {
+        Ok(heading) => heading,
+        Err(_) => return Err(ScriptFault::NoMemory),
+    };
     let mut rest = bytes;
     while let Some((line, after)) = split_line(rest) {
-        let line = match read_line(&place, lines.len(), line) {
+        let line = match read_line(&place, &heading, line) {
             Ok(line) => line,
-            Err(fault) => return Err(fault),
+            Err(reason) => return Err(bad(lines.len(), reason)),
         };
-        place.pass(line);
+        match heading.pass(alloc, &line) {
+            Ok(()) => {}
+            Err(_) => return Err(ScriptFault::NoMemory),
+        }
+        place.pass(&line);
         match lines.push(line) {
             Ok(()) => {}
             Err(_) => return Err(ScriptFault::NoMemory),
@@ -126,10 +139,7 @@ fn read_lines(alloc: Global, bytes: &[u8]) -> Result<Vec<Line>, ScriptFault>
         rest = after;
     }
     if !rest.is_empty() {
-        return Err(ScriptFault::Bad {
-            line: lines.len() as u64 + 1,
-            reason: Reason::NotBuilt,
-        });
+        return Err(bad(lines.len(), open_reason(rest)));
     }
-    Ok(lines)
+    Ok(Reading { lines, heading })
 }

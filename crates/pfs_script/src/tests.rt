@@ -1,71 +1,249 @@
-use super::*;
-use std::alloc::Global;
+//! Scripts, and the first faulty line of what is none, with its reason.
 
-/// The first faulty line of these bytes, or 0 where they are a script.
-fn fault(alloc: Global, bytes: &[u8]) -> Option<u64> {
+use super::*;
+use pfs_classes::{ClassId, ClassRef, Kind};
+use std::alloc::Global;
+use std::process::Abort;
+use std::test::Fail;
+
+/// The first faulty line and its reason's number; zeros where the bytes are a script.
+fn fault(alloc: Global, bytes: &[u8]) -> Option<(u64, u64)> {
     match Script::read(alloc, bytes) {
-        Ok(_) => Some(0),
-        Err(
-            ScriptFault::Bad {
-                line,
-                reason: Reason::NotBuilt,
-            },
-        ) => Some(line),
-        Err(_) => None,
+        Ok(_) => Some((0, 0)),
+        Err(ScriptFault::Bad { line, reason }) => Some((line, reason as u64)),
+        Err(ScriptFault::NoMemory) => None,
+    }
+}
+
+fn expect_all(rt: &impl Abort, alloc: Global, cases: &[(&[u8], u64, u64)]) {
+    for (bytes, line, reason) in cases {
+        assert_eq!(rt; fault(alloc, bytes), Some((*line, *reason)));
     }
 }
 
 #[test]
-fn scripts_are_told_from_what_is_none(rt: HostRuntime) {
-    let cases: [(&[u8], u64); 17] = [
-        (b"", 0),
-        (b"\n# a comment\nphase\n", 0),
+fn scripts(rt: HostRuntime) {
+    let cases: [(&[u8], u64, u64); 9] = [
+        (b"", 0, 0),
+        (b"\n# a comment\n\tphase\n", 3, 3),
+        (b"\n# a\tcomment\nphase\n", 0, 0),
         (
             b"phase\nsession 64 u.x_-y h-1.example\nspend 18446744073709551615\n",
             0,
-        ),
-        (
-            b"phase\nsession 1 u h\nspend 0012\nstart wait/io/file/sql/binlog\n",
             0,
         ),
-        (b"phase\nend\n", 2),
-        (b"phase\nphase\n", 2),
-        (b"session 1 u h\n", 1),
-        (b"phase\nsession 0 u h\n", 2),
-        (b"phase\nsession 65 u h\n", 2),
-        (b"phase\nsession 1 u  h\n", 2),
-        (b"phase\nsession 1 012345678901234567890123456789012 h\n", 2),
-        (b"phase\nsession 1 u h\nspend 18446744073709551616\n", 3),
-        (b"phase\nsession 1 u h\nspend 12", 3),
-        (b"phase\nsession 1 u h\n\0spend 5\n", 3),
-        (b"phase\nsession 1 u h\nend\n", 3),
         (
-            b"phase\nsession 1 u h\nstart wait/io/file/sql/binlog\nstart wait/io/file/sql/binlog\n",
-            4,
+            b"\nlimit file_classes 8\n\nlimit mutex_classes 0000\nclass stage/a/b NO YES\nconsumer statements_digest NO\ninstrument % NO NO\nphase\n",
+            0,
+            0,
         ),
-        (b"phase\nsession 1 u h\nnothing\nphase\n", 3),
+        (
+            b"class wait/io/file/a/b YES NO\nphase\nsession 3 u h\nstart wait/io/file/a/b\nend\nstart wait/synch/cond/sql/COND_thread_cache\n",
+            0,
+            0,
+        ),
+        (
+            b"limit file_classes 3\nclass wait/io/file/a/b YES YES\nphase\nsession 1 u h\nstart wait/io/file/a/b\nend\n",
+            0,
+            0,
+        ),
+        (
+            b"phase\nsession 2 u h\nstart wait/io/socket/sql/client_connection\nsession 1 u h\nstart wait/io/file/sql/binlog\n",
+            0,
+            0,
+        ),
+        (
+            b"class wait/io/file/0123456789012345678901234567890123456789012345678901234567890123456789012345678901234567890123456789012345678901234 YES YES\n",
+            0,
+            0,
+        ),
     ];
-    for (bytes, line) in cases {
-        assert_eq!(rt; fault(rt.alloc(), bytes), Some(line));
-    }
+    expect_all(&rt, rt.alloc(), cases.as_slice());
 }
 
 #[test]
-fn a_script_is_its_lines(rt: HostRuntime) {
+fn faults_of_bytes_and_forms(rt: HostRuntime) {
+    let cases: [(&[u8], u64, u64); 10] = [
+        (b"phase\nsession 1 u h\n\0spend 5\nend\n", 3, 1),
+        (b"phase\nsession 1 u h\nspend 12", 3, 2),
+        (b"phase\nses\x07", 2, 1),
+        (b"phase\nsession 1 u  h\n", 2, 3),
+        (b"phase \n", 1, 3),
+        (b"consumer\tglobal_instrumentation YES\n", 1, 3),
+        (
+            b"phase\nsession 1 012345678901234567890123456789012 h\n",
+            2,
+            3,
+        ),
+        (
+            b"class wait/io/file/01234567890123456789012345678901234567890123456789012345678901234567890123456789012345678901234567890123456789012345 YES YES\n",
+            1,
+            3,
+        ),
+        (b"phase\nsession 1 u h\nnothing\nspend 5\nend\n", 3, 3),
+        (b"class transaction YES YES\n", 1, 3),
+    ];
+    expect_all(&rt, rt.alloc(), cases.as_slice());
+}
+
+#[test]
+fn faults_of_places_and_numbers(rt: HostRuntime) {
+    let cases: [(&[u8], u64, u64); 13] = [
+        (
+            b"class wait/io/file/a/b YES YES\nlimit file_classes 1\n",
+            2,
+            4,
+        ),
+        (
+            b"class wait/io/file/a/b YES YES\nlimit file_classes 99\n",
+            2,
+            4,
+        ),
+        (b"phase\nclass wait/io/file/sql/binlog YES YES\n", 2, 4),
+        (b"phase\nconsumer no_such YES\n", 2, 4),
+        (b"phase\ninstrument % YES YES\n", 2, 4),
+        (b"session 0 u h\n", 1, 4),
+        (b"phase\nspend 18446744073709551616\n", 2, 4),
+        (b"phase\nend\n", 2, 4),
+        (b"phase\nsession 1 u h\nspend 18446744073709551616\n", 3, 5),
+        (b"limit file_classes 18446744073709551616\n", 1, 5),
+        (b"phase\nsession 0 u h\n", 2, 6),
+        (b"phase\nsession 65 u h\n", 2, 6),
+        (
+            b"phase\nsession 7 u h\nsession 8 u h\nspend 1\nsession 7 u h\n",
+            5,
+            6,
+        ),
+    ];
+    expect_all(&rt, rt.alloc(), cases.as_slice());
+}
+
+#[test]
+fn faults_of_names_and_limits(rt: HostRuntime) {
+    let cases: [(&[u8], u64, u64); 13] = [
+        (b"phase\nsession 1 u h\nstart wait/io/file/a/b\n", 3, 7),
+        (b"consumer no_such YES\n", 1, 7),
+        (b"class wait/io/file/sql/binlog YES YES\n", 1, 7),
+        (b"class wait/io/table/a/b YES YES\n", 1, 7),
+        (b"class stage/a/b YES YES\nclass stage/a/b YES YES\n", 2, 7),
+        (
+            b"limit file_classes 3\nclass wait/io/file/a/b YES YES\nclass wait/io/file/a/b YES YES\n",
+            3,
+            7,
+        ),
+        (b"limit file_classes 9\n", 1, 8),
+        (
+            b"limit socket_classes 4\nlimit file_classes 8\nlimit socket_classes 4\n",
+            3,
+            8,
+        ),
+        (b"phase\nsession 1 u h\nend\n", 3, 9),
+        (
+            b"phase\nsession 1 u h\nstart wait/io/file/sql/binlog\nsession 2 u h\nend\n",
+            5,
+            9,
+        ),
+        (
+            b"phase\nsession 1 u h\nstart wait/io/file/sql/binlog\nstart wait/io/file/sql/binlog\n",
+            4,
+            13,
+        ),
+        (b"phase\nphase\n", 2, 13),
+        (b"limit users 99\n", 1, 13),
+    ];
+    expect_all(&rt, rt.alloc(), cases.as_slice());
+}
+
+#[test]
+fn forms_that_are_not_built(rt: HostRuntime) {
+    let cases: [(&[u8], u64, u64); 12] = [
+        (b"limit no_such 18446744073709551616\n", 1, 13),
+        (b"start statement/sql/select SELECT 1\n", 1, 13),
+        (b"start statement/sql/select\n", 1, 13),
+        (b"start transaction ro\n", 1, 13),
+        (b"start wait/io/table/sql/handler a.b\n", 1, 13),
+        (b"stage -\n", 1, 13),
+        (b"stage stage/no/such\n", 1, 13),
+        (b"end 1 2 3 4 5 6\n", 1, 13),
+        (b"sql SELECT\n", 1, 13),
+        (b"quit\n", 1, 13),
+        (b"repeat 0\n", 1, 13),
+        (b"session 99\n", 1, 13),
+    ];
+    expect_all(&rt, rt.alloc(), cases.as_slice());
+}
+
+/// Such a line so many times, behind these lines.
+fn many(alloc: Global, front: &[u8], line: &[u8], times: usize) -> Result<Vec<u8>, Fail> {
+    let mut bytes = Vec::new(alloc);
+    bytes.extend_from_slice(front)?;
+    for _ in 0..times {
+        bytes.extend_from_slice(line)?;
+    }
+    Ok(bytes)
+}
+
+/// So many `class` lines.
+fn classes(alloc: Global, count: u64) -> Result<Vec<u8>, Fail> {
+    let mut bytes = Vec::new(alloc);
+    for n in 0..count {
+        let line = format!(in alloc; "class wait/io/file/x/c{n} YES NO\n")?;
+        bytes.extend_from_slice(line.as_bytes())?;
+    }
+    Ok(bytes)
+}
+
+/// A phase with a block of each of so many sessions.
+fn sessions(alloc: Global, count: u64) -> Result<Vec<u8>, Fail> {
+    let mut bytes = many(alloc, b"phase\n", b"", 0)?;
+    for n in 0..count {
+        let line = format!(in alloc; "session {} u h\n", n + 1)?;
+        bytes.extend_from_slice(line.as_bytes())?;
+    }
+    Ok(bytes)
+}
+
+#[test]
+fn the_most_of_each(rt: HostRuntime) -> Result<(), Fail> {
+    let alloc = rt.alloc();
+    let lines = many(alloc, b"", b"\n", 200_000)?;
+    assert_eq!(rt; fault(alloc, lines.as_slice()), Some((0, 0)));
+    let lines = many(alloc, b"", b"\n", 200_001)?;
+    assert_eq!(rt; fault(alloc, lines.as_slice()), Some((200_001, 11)));
+    let lines = classes(alloc, 256)?;
+    assert_eq!(rt; fault(alloc, lines.as_slice()), Some((0, 0)));
+    let lines = classes(alloc, 257)?;
+    assert_eq!(rt; fault(alloc, lines.as_slice()), Some((257, 12)));
+    let lines = sessions(alloc, 32)?;
+    assert_eq!(rt; fault(alloc, lines.as_slice()), Some((0, 0)));
+    let lines = sessions(alloc, 33)?;
+    assert_eq!(rt; fault(alloc, lines.as_slice()), Some((34, 13)));
+    Ok(())
+}
+
+#[test]
+fn a_script_is_its_setting_and_phases(rt: HostRuntime) {
     let script = Script::read(
         rt.alloc(),
-        b"phase\nsession 7 u h\n\nstart wait/io/file/sql/binlog\nspend 5\nend\n",
+        b"limit file_classes 3\nclass wait/io/file/a/b YES YES\nconsumer global_instrumentation NO\nphase\nsession 7 u h\n\nstart wait/io/file/sql/binlog\nspend 5\nend\nsession 2 u h\nstart wait/io/file/a/b\n",
     );
     let Ok(script) = script else {
         panic!(rt; "it is a script");
     };
-    let lines = [
-        Line::Phase,
-        Line::Session(7),
-        Line::Silent,
-        Line::Start,
-        Line::Spend(5),
-        Line::End,
+    assert_eq!(rt; script.setting.consumers, 24_792);
+    assert_eq!(rt; script.setting.limits.file_classes, 3);
+    assert_eq!(rt; script.setting.classes.count(), 24);
+    assert_eq!(rt; script.phases.as_slice().len(), 1);
+    let blocks = script.phases.as_slice()[0].blocks.as_slice();
+    assert_eq!(rt; blocks.len(), 2);
+    let first = [
+        BlockLine::Start(ClassRef::Class(ClassId(6))),
+        BlockLine::Spend(5),
+        BlockLine::End,
     ];
-    assert_eq!(rt; script.lines(), lines.as_slice());
+    assert_eq!(rt; blocks[0].session, 7);
+    assert_eq!(rt; blocks[0].lines.as_slice(), first.as_slice());
+    let second = [BlockLine::Start(ClassRef::Lost(Kind::File))];
+    assert_eq!(rt; blocks[1].session, 2);
+    assert_eq!(rt; blocks[1].lines.as_slice(), second.as_slice());
 }

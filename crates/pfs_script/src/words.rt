@@ -1,9 +1,16 @@
-//! The words of a line, and the names and numbers among them.
+//! The words of a line, and the names, numbers and switches among them.
 
-ghost use Rattle.std.specs.Prelude.{◌≡◌, ◌==◌, length, position};
-ghost use Rattle.std.specs.List.{list_all, before_first, after_first};
+ghost use Rattle.std.specs.Prelude.{◌≡◌, ◌==◌, length, position, option_map, codes};
+ghost use Rattle.std.specs.List.{list_all};
 ghost use Rattle.std.specs.Str.{bytes_eq};
-ghost use Rattle.pfs_script.specs.Words.{is_script_byte, is_name_byte, is_name, is_space};
+ghost use Rattle.pfs_script.specs.Words.{is_script_byte, is_name_byte, is_table_byte, is_name, is_table_name, is_space, is_dot, is_word, word_of, rest_of, schema_of, table_of, switch_of, switches_of};
+
+/// Whether a class or the classes of a pattern are enabled, and whether they are timed.
+#[derive(Clone, Copy, Debug, PartialEq, Eq)]
+pub struct Switches {
+    pub enabled: bool,
+    pub timed: bool,
+}
 
 /// Whether a script may have this byte: a tab, or one of the printable ones.
 fn is_script_byte(byte: u8) -> bool
@@ -19,6 +26,14 @@ pub fn is_clean(bytes: &[u8]) -> bool
     bytes.iter().all(|byte| is_script_byte(*byte))
 }
 
+/// Whether there is a byte at all.
+#[tactic(auto, unfolding(crate::specs::Words::is_word))]
+pub fn is_word(bytes: &[u8]) -> bool
+    ensures { result ≡ is_word bytes.now }
+{
+    bytes.len() > 0
+}
+
 /// Whether a user's or a host's name may have this byte.
 fn is_name_byte(byte: u8) -> bool
     ensures { result ≡ is_name_byte byte }
@@ -27,6 +42,7 @@ fn is_name_byte(byte: u8) -> bool
 }
 
 /// Whether these bytes are such a name, of at most so many bytes.
+#[tactic(auto, unfolding(crate::specs::Words::is_name))]
 pub fn is_name(most: usize, bytes: &[u8]) -> bool
     ensures { result ≡ is_name most bytes.now }
 {
@@ -39,20 +55,60 @@ fn all_name_bytes(bytes: &[u8]) -> bool
     bytes.iter().all(|byte| is_name_byte(*byte))
 }
 
+/// Whether a schema's or a table's name may have this byte.
+fn is_table_byte(byte: u8) -> bool
+    ensures { result ≡ is_table_byte byte }
+{
+    byte.is_ascii_alphanumeric() || byte == b'_' || byte == b'$'
+}
+
+/// Whether these bytes are such a name, of at most 64 bytes.
+#[tactic(auto, unfolding(crate::specs::Words::is_table_name))]
+pub fn is_table_name(bytes: &[u8]) -> bool
+    ensures { result ≡ is_table_name bytes.now }
+{
+    bytes.len() > 0 && bytes.len() <= 64 && all_table_bytes(bytes)
+}
+
+fn all_table_bytes(bytes: &[u8]) -> bool
+    ensures { result ≡ list_all is_table_byte bytes.now }
+{
+    bytes.iter().all(|byte| is_table_byte(*byte))
+}
+
 fn first_space(bytes: &[u8]) -> Option<usize>
     ensures { result ≡ position is_space bytes.now }
 {
     bytes.iter().position(|byte| *byte == b' ')
 }
 
-/// The first word, and what follows the space behind it; nothing where there is none.
-pub fn split_word(bytes: &[u8]) -> (&[u8], &[u8])
-    ensures word { result.0.now ≡ before_first is_space bytes.now }
-    ensures rest { result.1.now ≡ after_first is_space bytes.now }
+fn first_dot(bytes: &[u8]) -> Option<usize>
+    ensures { result ≡ position is_dot bytes.now }
+{
+    bytes.iter().position(|byte| *byte == b'.')
+}
+
+/// The first word, and what stands behind the first space; None where there is no space.
+#[tactic(auto, unfolding(crate::specs::Words::word_of, crate::specs::Words::rest_of))]
+pub fn split_word(bytes: &[u8]) -> (&[u8], Option<&[u8]>)
+    ensures word { result.0.now ≡ word_of bytes.now }
+    ensures rest { option_map (λ rest. rest.now) result.1 ≡ rest_of bytes.now }
 {
     match first_space(bytes) {
-        Some(at) => (&bytes[..at], &bytes[at + 1..]),
-        None => (bytes, &[]),
+        Some(at) => (&bytes[..at], Some(&bytes[at + 1..])),
+        None => (bytes, None),
+    }
+}
+
+/// The schema, which stands before the first dot, and the name behind it; None where there is no dot.
+#[tactic(auto, unfolding(crate::specs::Words::schema_of, crate::specs::Words::table_of))]
+pub fn split_table(bytes: &[u8]) -> (&[u8], Option<&[u8]>)
+    ensures schema { result.0.now ≡ schema_of bytes.now }
+    ensures name { option_map (λ name. name.now) result.1 ≡ table_of bytes.now }
+{
+    match first_dot(bytes) {
+        Some(at) => (&bytes[..at], Some(&bytes[at + 1..])),
+        None => (bytes, None),
     }
 }
 
@@ -61,4 +117,29 @@ pub fn is_text(bytes: &[u8], text: &[u8]) -> bool
     ensures { result ≡ bytes_eq bytes.now text.now }
 {
     bytes == text
+}
+
+/// The switch that a word is: `YES` or `NO`.
+#[tactic(auto, unfolding(crate::specs::Words::switch_of))]
+pub fn parse_switch(word: &[u8]) -> Option<bool>
+    ensures { result ≡ switch_of word.now }
+{
+    if is_text(word, b"YES") {
+        Some(true)
+    } else if is_text(word, b"NO") {
+        Some(false)
+    } else {
+        None
+    }
+}
+
+/// The two switches that the words are.
+#[tactic(auto, unfolding(crate::specs::Words::switches_of))]
+pub fn parse_switches(words: &[u8]) -> Option<Switches>
+    ensures { result ≡ switches_of words.now }
+{
+    let (enabled, timed) = split_word(words);
+    let enabled = parse_switch(enabled)?;
+    let timed = parse_switch(timed?)?;
+    Some(Switches { enabled, timed })
 }

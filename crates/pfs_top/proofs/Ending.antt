@@ -9,8 +9,10 @@ use Rattle.pfs_outside.specs.declared.writing.WriteStop.{WriteStop}
 use Rattle.pfs_outside.specs.declared.writing.WriteStop.TheVariants as stop
 use Rattle.pfs_top.specs.declared.commands.Status.{Status}
 use Rattle.pfs_top.specs.declared.commands.Status.TheVariants.{Done, Usage, BadScript, ReadFault, WriteFault, NoMemory}
-use Rattle.pfs_script.specs.declared.forms.Line.{Line}
-use Rattle.pfs_script.specs.declared.reading.Reason.{Reason}
+use Rattle.pfs_classes.specs.declared.setting.Setting.{Setting}
+use Rattle.pfs_script.specs.declared.blocks.Phase.{Phase}
+use Rattle.pfs_script.specs.declared.reasons.Reason.{Reason}
+use Rattle.pfs_script.specs.declared.reasons.Reason.TheVariants.{TooLong}
 use Rattle.pfs_script.specs.Scripts.{IsScript, IsFirstFault, IsExact}
 use Rattle.pfs_top.specs.Commands.{most_bytes, HasRun, HasFault, HasRead, HasInput, ToldPart, Tells, Ends, status_after}
 
@@ -66,14 +68,14 @@ ends_as Ran Goes P Q before after R W ReadFault g f t = (g, t.1, t.2)
 ends_as Ran Goes P Q before after R W WriteFault g f t = tells_as P Q before after W WriteFault f t
 ends_as Ran Goes P Q before after R W NoMemory g f t = tells_as P Q before after W NoMemory f t
 
--- the text of a script's lines is that of its bytes
-pub read_ran : (bytes : List ℕ) (lines : List Line) → IsScript bytes lines → (status : Status) (due : List ℕ) → HasRun lines status due → HasRead bytes status due
-read_ran bytes lines script Done due h = (lines, script, h)
-read_ran bytes lines script Usage due h = absurd h
-read_ran bytes lines script (BadScript line reason) due h = absurd h
-read_ran bytes lines script ReadFault due h = absurd h
-read_ran bytes lines script WriteFault due h = absurd h
-read_ran bytes lines script NoMemory due h = absurd h
+-- the text of a script's phases is that of its bytes
+pub read_ran : (bytes : List ℕ) (setting : Setting) (phases : List Phase) → IsScript bytes setting phases → (status : Status) (due : List ℕ) → HasRun setting phases status due → HasRead bytes status due
+read_ran bytes setting phases script Done due h = (setting, phases, script, h)
+read_ran bytes setting phases script Usage due h = absurd h
+read_ran bytes setting phases script (BadScript line reason) due h = absurd h
+read_ran bytes setting phases script ReadFault due h = absurd h
+read_ran bytes setting phases script WriteFault due h = absurd h
+read_ran bytes setting phases script NoMemory due h = absurd h
 
 -- the text of a fault is that of the bytes that have it
 pub read_faulty : (bytes : List ℕ) (line : ℕ) (reason : Reason) → IsFirstFault bytes line reason → (status : Status) (due : List ℕ) → HasFault line reason status due → HasRead bytes status due
@@ -93,12 +95,14 @@ input_read input bytes came short ReadFault due h = absurd h
 input_read input bytes came short WriteFault due h = absurd h
 input_read input bytes came short NoMemory due h = absurd h
 
--- a script has no first fault
-no_fault : IsExact → (text : List ℕ) (lines : List Line) (line : ℕ) (reason : Reason) → IsScript text lines → ¬ IsFirstFault text line reason
-no_fault exact text lines line reason script fault =
-    let yes = ((exact text).0 lines).1 script in
-    let no = ((exact text).1 line reason).1 fault in
-    cc
+-- too many bytes are the fault of the source
+pub input_long : (input : Option (List ℕ)) → IfSome input (λ text. most_bytes < length text) → (status : Status) (due : List ℕ) → HasFault 0 TooLong status due → HasInput input status due
+input_long input long Done due h = absurd h
+input_long input long Usage due h = absurd h
+input_long input long (BadScript line reason) due h = inl (h.0, h.1, rw (h.0, h.1) h.2, long)
+input_long input long ReadFault due h = absurd h
+input_long input long WriteFault due h = absurd h
+input_long input long NoMemory due h = absurd h
 
 -- the bytes of a told source
 told_bytes : (input : Option (List ℕ)) (bytes text : List ℕ) → input ≡ Some text → IfSome input (λ t. bytes ≡ t) → bytes ≡ text
@@ -108,16 +112,16 @@ told_long : (input : Option (List ℕ)) (text : List ℕ) → input ≡ Some tex
 told_long input text e h = rw e at h
 
 -- what was told of a valid script that was read and written without a failure is its report
-pub completes : IsExact → (input : Option (List ℕ)) (before after : Option (List ℕ)) (R W : Type 0) (status : Status) → Ends (Unit {0}) (HasInput input) before after R W status → (text : List ℕ) (lines : List Line) → input ≡ Some text → length text ≤ most_bytes → IsScript text lines → ¬ R → ¬ W → (status ≡ Done) ⊎ (status ≡ NoMemory)
-completes exact input before after R W Done t text lines e short script no_read no_write = inl refl
-completes exact input before after R W NoMemory t text lines e short script no_read no_write = inr refl
-completes exact input before after R W Usage t text lines e short script no_read no_write = absurd t.1
-completes exact input before after R W ReadFault t text lines e short script no_read no_write = absurd (no_read t.1)
-completes exact input before after R W WriteFault t text lines e short script no_read no_write = absurd (no_write t.0)
-completes exact input before after R W (BadScript line reason) t text lines e short script no_read no_write =
+pub completes : IsExact → (input : Option (List ℕ)) (before after : Option (List ℕ)) (R W : Type 0) (status : Status) → Ends (Unit {0}) (HasInput input) before after R W status → (text : List ℕ) (setting : Setting) (phases : List Phase) → input ≡ Some text → length text ≤ most_bytes → IsScript text setting phases → ¬ R → ¬ W → (status ≡ Done) ⊎ (status ≡ NoMemory)
+completes exact input before after R W Done t text setting phases e short script no_read no_write = inl refl
+completes exact input before after R W NoMemory t text setting phases e short script no_read no_write = inr refl
+completes exact input before after R W Usage t text setting phases e short script no_read no_write = absurd t.1
+completes exact input before after R W ReadFault t text setting phases e short script no_read no_write = absurd (no_read t.1)
+completes exact input before after R W WriteFault t text setting phases e short script no_read no_write = absurd (no_write t.0)
+completes exact input before after R W (BadScript line reason) t text setting phases e short script no_read no_write =
     elim t.1 [
       | inl h ↦ let long = told_long input text e h.3 in absurd (omega (arith, short, long))
-      | inr h ↦ absurd (no_fault exact text lines line reason script (subst (λ b. IsFirstFault b line reason) (told_bytes input h.0 text e h.1) h.3.0))
+      | inr h ↦ absurd (exact.excludes text setting phases line reason script (subst (λ b. IsFirstFault b line reason) (told_bytes input h.0 text e h.1) h.3.0))
     ]
 
 -- a list of one

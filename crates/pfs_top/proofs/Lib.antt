@@ -1,3 +1,9 @@
-mod Ending
-mod Plays
+mod Cells
+mod Steps
+mod Blocks
+mod Ranges
+mod Totals
+mod PhaseSteps
 mod Streams
+mod Ending
+mod Examples

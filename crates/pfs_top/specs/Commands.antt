@@ -5,9 +5,10 @@ use Rattle.pfs_outside.specs.Outside.{Added}
 use Rattle.pfs_outside.specs.Streams.{AddedPart}
 use Rattle.pfs_outside.specs.declared.writing.WriteStop.{WriteStop}
 use Rattle.pfs_outside.specs.declared.writing.WriteStop.TheVariants as stop
-use Rattle.pfs_script.specs.declared.forms.Line.{Line}
-use Rattle.pfs_script.specs.declared.reading.Reason.{Reason}
-use Rattle.pfs_script.specs.declared.reading.Reason.TheVariants.{TooLong, NotBuilt}
+use Rattle.pfs_classes.specs.declared.setting.Setting.{Setting}
+use Rattle.pfs_script.specs.declared.blocks.Phase.{Phase}
+use Rattle.pfs_script.specs.declared.reasons.Reason.{Reason}
+use Rattle.pfs_script.specs.declared.reasons.Reason.TheVariants.{BadByte, OpenLine, BadForm, OutOfPlace, BadNumber, BadSession, UnknownName, BadLimit, BadNesting, TooLong, TooMuch, NotBuilt}
 use Rattle.pfs_script.specs.Scripts.{IsScript, IsFirstFault}
 use Rattle.pfs_top.specs.declared.report.Report.{Report}
 use Rattle.pfs_top.specs.declared.commands.Status.{Status}
@@ -24,7 +25,17 @@ abbrev pub most_bytes : ℕ
 most_bytes = 1048576
 
 abbrev pub reason_number : Reason → ℕ
+reason_number BadByte = 1
+reason_number OpenLine = 2
+reason_number BadForm = 3
+reason_number OutOfPlace = 4
+reason_number BadNumber = 5
+reason_number BadSession = 6
+reason_number UnknownName = 7
+reason_number BadLimit = 8
+reason_number BadNesting = 9
 reason_number TooLong = 11
+reason_number TooMuch = 12
 reason_number NotBuilt = 13
 
 -- the exit status that a status is
@@ -42,10 +53,10 @@ usage_text = codes "usage: run\n"
 unfoldable pub fault_text : ℕ → Reason → List ℕ
 fault_text line reason = codes "bad script: line " ++ decimal line ++ codes " reason " ++ decimal (reason_number reason) ++ codes "\n"
 
--- which statuses have which text: of lines that were run
-abbrev pub HasRun : List Line → Status → List ℕ → Type 0
-HasRun lines Done due = (report : Report) × IsRun lines report × (due ≡ spelling report)
-HasRun lines _ due = ⊥
+-- which statuses have which text: of phases that were run
+abbrev pub HasRun : Setting → List Phase → Status → List ℕ → Type 0
+HasRun setting phases Done due = (report : Report) × IsRun setting phases report × (due ≡ spelling report)
+HasRun setting phases _ due = ⊥
 
 -- of a fault
 abbrev pub HasFault : ℕ → Reason → Status → List ℕ → Type 0
@@ -54,7 +65,7 @@ HasFault line reason _ due = ⊥
 
 -- of bytes that were read
 abbrev pub HasRead : List ℕ → Status → List ℕ → Type 0
-HasRead bytes Done due = (lines : List Line) × IsScript bytes lines × HasRun lines Done due
+HasRead bytes Done due = (setting : Setting) × (phases : List Phase) × IsScript bytes setting phases × HasRun setting phases Done due
 HasRead bytes (BadScript line reason) due = IsFirstFault bytes line reason × (due ≡ fault_text line reason)
 HasRead bytes _ due = ⊥
 
@@ -102,7 +113,7 @@ status_after (Err stop.NoMemory) status = NoMemory
 -- a valid script, read and written without a failure, is done unless memory runs out
 abbrev pub Completes : List (String Global) → Option (List ℕ) → Type 0 → Type 0 → Status → Type 0
 Completes words input ReadRose WriteRose status =
-    (text : List ℕ) (lines : List Line) → IsCommand words → input ≡ Some text → length text ≤ most_bytes → IsScript text lines
+    (text : List ℕ) (setting : Setting) (phases : List Phase) → IsCommand words → input ≡ Some text → length text ≤ most_bytes → IsScript text setting phases
     → ¬ ReadRose → ¬ WriteRose → (status ≡ Done) ⊎ (status ≡ NoMemory)
 
 -- at the end the source has nothing left

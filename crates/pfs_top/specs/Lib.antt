@@ -1,6 +1,11 @@
-pub mod Brackets
+pub mod Events
+pub mod Verdicts
+pub mod Summaries
 pub mod Journals
+pub mod Counters
 pub mod Runs
+pub mod Blocks
 pub mod Playing
+pub mod Phases
 pub mod Spelling
 pub mod Commands

@@ -1,14 +1,23 @@
 -- The spelling of a report: its lines, each ended by a line feed.
-use Rattle.std.specs.Prelude.{ℕ, ◌/◌, ◌==◌, nat_le, if◌then◌else◌, List, [], ◌++◌, codes, decimal, length}
+use Rattle.std.specs.Prelude.{ℕ, ◌/◌, ◌==◌, nat_le, if◌then◌else◌, List, [], ◌∷◌, ◌++◌, Option, Some, None, codes, decimal, length}
 use Rattle.std.specs.List.{flat_map}
 use Rattle.pfs_stat.specs.declared.Stat.{Stat}
-use Rattle.pfs_top.specs.declared.report.Entry.{Entry}
-use Rattle.pfs_top.specs.declared.report.Entry.TheVariants.{Start, End, Add}
+use Rattle.pfs_text.specs.Quotes.{quoted}
+use Rattle.pfs_event.specs.declared.entry.Entry.{Entry}
+use Rattle.pfs_event.specs.declared.entry.Entry.TheVariants as entry
+use Rattle.pfs_event.specs.Verdicts.{verdict_name}
+use Rattle.pfs_rows.specs.declared.table.TableKind.TheVariants.{Waits}
+use Rattle.pfs_rows.specs.declared.table.SummaryTable.TheVariants.{ByThread, Global}
+use Rattle.pfs_rows.specs.declared.table.Table.{Table}
+use Rattle.pfs_rows.specs.declared.table.Table.TheVariants.{Summary}
+use Rattle.pfs_rows.specs.Tables.{table_name}
 use Rattle.pfs_top.specs.declared.report.SessionReport.{SessionReport}
 use Rattle.pfs_top.specs.declared.report.ThreadRow.{ThreadRow}
 use Rattle.pfs_top.specs.declared.report.GlobalRow.{GlobalRow}
+use Rattle.pfs_top.specs.declared.report.LostRow.{LostRow}
 use Rattle.pfs_top.specs.declared.report.PhaseReport.{PhaseReport}
 use Rattle.pfs_top.specs.declared.report.Report.{Report}
+use Rattle.pfs_top.specs.Counters.{counter_name}
 
 -- a least or greatest, 0 where nothing was timed
 abbrev pub timed_number : Stat → ℕ → ℕ
@@ -22,17 +31,47 @@ average stat = if stat.count == 0 then 0 else stat.sum / stat.count
 unfoldable pub field_text : ℕ → List ℕ
 field_text number = codes " " ++ decimal number
 
+-- the same, or `-` where there is none
+abbrev pub optional_text : Option ℕ → List ℕ
+optional_text None = codes " -"
+optional_text (Some number) = field_text number
+
 -- a row's numbers: count, sum, least, average and greatest
 unfoldable pub stat_text : Stat → List ℕ
 stat_text stat =
     field_text stat.count ++ field_text stat.sum ++ field_text (timed_number stat stat.min)
     ++ field_text (average stat) ++ field_text (timed_number stat stat.max)
 
+-- a word and its numbers
+unfoldable pub numbers_text : List ℕ → List (Option ℕ) → List ℕ
+numbers_text word numbers = word ++ flat_map optional_text numbers ++ codes "\n"
+
 -- a journal entry's line
-unfoldable pub entry_text : Entry → List ℕ
-entry_text (Start event) = codes "start " ++ decimal event ++ codes " attributed 0 0 0 -\n"
-entry_text (End event) = codes "end " ++ decimal event ++ codes " " ++ decimal event ++ codes " 0 0\n"
-entry_text (Add version) = codes "add 135 " ++ decimal version ++ codes "\n"
+abbrev pub entry_text : Entry → List ℕ
+entry_text (entry.Connect action thread account user host) = numbers_text (codes "connect") (Some action ∷ thread ∷ account ∷ user ∷ host ∷ [])
+entry_text (entry.Start event verdict consumers thread class table) =
+    numbers_text (codes "start" ++ optional_text event ++ codes " " ++ verdict_name verdict) (consumers ∷ thread ∷ class ∷ table ∷ [])
+entry_text (entry.End event last consumers thread) = numbers_text (codes "end") (event ∷ last ∷ consumers ∷ thread ∷ [])
+entry_text (entry.Add row version) = numbers_text (codes "add") (Some row ∷ Some version ∷ [])
+entry_text (entry.Held row first second) = numbers_text (codes "held") (Some row ∷ Some first ∷ Some second ∷ [])
+entry_text (entry.Ring row version) = numbers_text (codes "ring") (Some row ∷ Some version ∷ [])
+entry_text (entry.Long row version ticket) = numbers_text (codes "long") (Some row ∷ Some version ∷ Some ticket ∷ [])
+entry_text (entry.Busy row first second) = numbers_text (codes "busy") (Some row ∷ Some first ∷ Some second ∷ [])
+entry_text (entry.Late row ticket greater) = numbers_text (codes "late") (Some row ∷ Some ticket ∷ Some greater ∷ [])
+entry_text entry.Settle = numbers_text (codes "settle") []
+entry_text (entry.Act action) = numbers_text (codes "act") (Some action ∷ [])
+entry_text (entry.Take row version) = numbers_text (codes "take") (Some row ∷ Some version ∷ [])
+entry_text (entry.Give row version source) = numbers_text (codes "give") (Some row ∷ Some version ∷ Some source ∷ [])
+entry_text (entry.Tag row version) = numbers_text (codes "tag") (Some row ∷ Some version ∷ [])
+entry_text (entry.Free row version) = numbers_text (codes "free") (Some row ∷ Some version ∷ [])
+entry_text (entry.Set word version flags) = numbers_text (codes "set") (Some word ∷ Some version ∷ Some flags ∷ [])
+entry_text (entry.Reply number) = numbers_text (codes "reply") (Some number ∷ [])
+entry_text (entry.Error number) = numbers_text (codes "error") (Some number ∷ [])
+entry_text entry.Query = numbers_text (codes "query") []
+entry_text (entry.Seen row version) = numbers_text (codes "seen") (Some row ∷ Some version ∷ [])
+entry_text (entry.Vacant row) = numbers_text (codes "vacant") (Some row ∷ [])
+entry_text (entry.Saw word version) = numbers_text (codes "saw") (Some word ∷ Some version ∷ [])
+entry_text (entry.Rows number) = numbers_text (codes "rows") (Some number ∷ [])
 
 -- a session's line
 unfoldable pub session_line : SessionReport → List ℕ
@@ -44,35 +83,40 @@ session_text session = session_line session ++ flat_map entry_text session.entri
 
 -- a row's line, by thread and globally
 unfoldable pub thread_row_text : ThreadRow → List ℕ
-thread_row_text row = codes "row " ++ decimal row.session ++ codes " 'wait/io/file/sql/binlog'" ++ stat_text row.stat ++ codes "\n"
+thread_row_text row = codes "row " ++ decimal row.session ++ codes " " ++ quoted row.class ++ stat_text row.stat ++ codes "\n"
 
 unfoldable pub global_row_text : GlobalRow → List ℕ
-global_row_text row = codes "row 'wait/io/file/sql/binlog'" ++ stat_text row.stat ++ codes "\n"
+global_row_text row = codes "row " ++ quoted row.class ++ stat_text row.stat ++ codes "\n"
+
+-- a counter's line
+unfoldable pub lost_row_text : LostRow → List ℕ
+lost_row_text row = codes "lost " ++ counter_name row.counter ++ codes " " ++ decimal row.number ++ codes "\n"
 
 -- a table's name and rows; a table without rows isn't printed
-abbrev pub table_text : {Row : Type 0} → List ℕ → (Row → List ℕ) → List Row → List ℕ
-table_text name row_text rows = if length rows == 0 then [] else name ++ flat_map row_text rows
+unfoldable pub table_line : Table → List ℕ
+table_line table = codes "table " ++ table_name table ++ codes "\n"
 
-unfoldable pub thread_table_name : List ℕ
-thread_table_name = codes "table events_waits_summary_by_thread_by_event_name\n"
-
-unfoldable pub global_table_name : List ℕ
-global_table_name = codes "table events_waits_summary_global_by_event_name\n"
+abbrev pub table_text : {Row : Type 0} → Table → (Row → List ℕ) → List Row → List ℕ
+table_text table row_text rows = if length rows == 0 then [] else table_line table ++ flat_map row_text rows
 
 -- the tables at a phase's end
 unfoldable pub tables_text : List ThreadRow → List GlobalRow → List ℕ
-tables_text by_thread global = table_text thread_table_name thread_row_text by_thread ++ table_text global_table_name global_row_text global
+tables_text by_thread global = table_text (Summary Waits ByThread) thread_row_text by_thread ++ table_text (Summary Waits Global) global_row_text global
+
+-- the tables and counters
+unfoldable pub results_text : List ThreadRow → List GlobalRow → List LostRow → List ℕ
+results_text by_thread global lost = tables_text by_thread global ++ flat_map lost_row_text lost
 
 unfoldable pub final_line : List ℕ
 final_line = codes "final\n"
 
 -- what follows a phase's journals
-unfoldable pub final_text : List ThreadRow → List GlobalRow → List ℕ
-final_text by_thread global = final_line ++ tables_text by_thread global
+unfoldable pub final_text : List ThreadRow → List GlobalRow → List LostRow → List ℕ
+final_text by_thread global lost = final_line ++ results_text by_thread global lost
 
--- what follows a phase's line: its sessions, and its tables
-unfoldable pub body_text : List SessionReport → List ThreadRow → List GlobalRow → List ℕ
-body_text sessions by_thread global = flat_map session_text sessions ++ final_text by_thread global
+-- what follows a phase's line: its sessions, and its tables and counters
+unfoldable pub body_text : List SessionReport → List ThreadRow → List GlobalRow → List LostRow → List ℕ
+body_text sessions by_thread global lost = flat_map session_text sessions ++ final_text by_thread global lost
 
 -- a phase's line
 unfoldable pub phase_line : PhaseReport → List ℕ
@@ -80,7 +124,7 @@ phase_line phase = codes "phase " ++ decimal phase.number ++ codes "\n"
 
 -- a phase
 unfoldable pub phase_text : PhaseReport → List ℕ
-phase_text phase = phase_line phase ++ body_text phase.sessions phase.by_thread phase.global
+phase_text phase = phase_line phase ++ body_text phase.sessions phase.by_thread phase.global phase.lost
 
 -- the phases, and the last line
 unfoldable pub phases_text : List PhaseReport → List ℕ

@@ -3,15 +3,14 @@
 ghost use Rattle.std.specs.Prelude.{◌≡◌, ◌∷◌, [], List, ◌↔◌, IsTrue, length, IfOk, IfSome};
 ghost use Rattle.pfs_outside.specs.Outside.{Rose};
 ghost use Rattle.pfs_outside.specs.Streams.{Puts};
-ghost use Rattle.pfs_script.specs.Forms.{Follows};
 ghost use Rattle.pfs_top.specs.Commands.{IsCommand, reason_number, status_number, usage_text, fault_text, HasRun, HasFault, HasRead, HasInput, HasUsage, Has, Tells, Ends, status_after, Completes, LeavesNothing};
 
 use crate::NoMemory;
-use crate::playing::run_script;
+use crate::phases::run_phases;
 use crate::spelling::Spelled;
 use crate::texts::put_text;
 use pfs_outside::{ReadStop, Sink, Source, WriteStop, read_all, write_all};
-use pfs_script::{Line, Reason, Script, ScriptFault, laws};
+use pfs_script::{Reason, Script, ScriptFault, laws};
 use pfs_text::put_u64;
 use std::alloc::Global;
 
@@ -104,12 +103,11 @@ fn complain<K: Sink>(alloc: Global, sink: &mut K, line: u64, reason: Reason) -> 
     }
 }
 
-/// Runs a script's lines and writes the report.
-fn report<K: Sink>(alloc: Global, sink: &mut K, lines: &[Line]) -> Status
-    requires { Follows [] lines.now }
-    ensures { Tells (HasRun lines.now) (K.written sink.old) (K.written sink.new) (Rose (K.faults sink.old) (K.faults sink.new)) result }
+/// Runs a script and writes the report.
+fn report<K: Sink>(alloc: Global, sink: &mut K, script: &Script) -> Status
+    ensures { Tells (HasRun script.now.setting script.now.phases) (K.written sink.old) (K.written sink.new) (Rose (K.faults sink.old) (K.faults sink.new)) result }
 {
-    match run_script(alloc, lines) {
+    match run_phases(alloc, &script.setting, script.phases.as_slice()) {
         Ok(report) => status_after(report.put(alloc, sink), Status::Done),
         Err(_) => Status::NoMemory,
     }
@@ -120,7 +118,7 @@ fn run_bytes<K: Sink>(alloc: Global, sink: &mut K, bytes: &[u8]) -> Status
     ensures { Tells (HasRead bytes.now) (K.written sink.old) (K.written sink.new) (Rose (K.faults sink.old) (K.faults sink.new)) result }
 {
     match Script::read(alloc, bytes) {
-        Ok(script) => report(alloc, sink, script.lines()),
+        Ok(script) => report(alloc, sink, &script),
         Err(ScriptFault::Bad { line, reason }) => complain(alloc, sink, line, reason),
         Err(ScriptFault::NoMemory) => Status::NoMemory,
     }

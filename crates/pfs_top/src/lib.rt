@@ -2,6 +2,7 @@
 #![tactic(auto)]
 
 mod commands;
+mod phases;
 mod playing;
 mod report;
 mod spelling;
@@ -11,7 +12,7 @@ mod texts;
 
 pub use commands::{Status, pfs};
 pub use report::{
-    Entry, EntryList, GlobalRow, GlobalRowList, PhaseList, PhaseReport, Report, SessionList,
-    SessionReport, ThreadRow, ThreadRowList,
+    Counter, EntryList, GlobalRow, GlobalRowList, LostRow, LostRowList, PhaseList, PhaseReport,
+    Report, SessionList, SessionReport, ThreadRow, ThreadRowList,
 };
 pub use std::alloc::AllocError as NoMemory;

@@ -3,13 +3,15 @@
 ghost use Rattle.std.specs.Prelude.{ℕ, List, ◌≡◌, ◌++◌, OnOk, IfOk, codes, decimal};
 ghost use Rattle.std.specs.List.{flat_map};
 ghost use Rattle.pfs_outside.specs.Streams.{Puts};
-ghost use Rattle.pfs_top.specs.Spelling.{entry_text, session_line, session_text, thread_row_text, global_row_text, table_text, thread_table_name, global_table_name, tables_text, final_line, final_text, body_text, phase_line, phase_text, phases_text, first_line, spelling};
+ghost use Rattle.pfs_top.specs.Spelling.{entry_text, session_line, session_text, thread_row_text, global_row_text, lost_row_text, table_line, table_text, tables_text, results_text, final_line, final_text, body_text, phase_line, phase_text, phases_text, first_line, spelling};
 
 use crate::NoMemory;
-use crate::report::{Entry, GlobalRow, PhaseReport, Report, SessionReport, ThreadRow};
-use crate::texts::{put_stat, put_text};
+use crate::report::{GlobalRow, LostRow, PhaseReport, Report, SessionReport, ThreadRow};
+use crate::texts::{numbers_line, put_stat, put_text, start_words};
+use pfs_event::Entry;
 use pfs_outside::{Sink, WriteStop, write_all};
-use pfs_text::put_u64;
+use pfs_rows::{SummaryTable, Table, TableKind};
+use pfs_text::{put_u64, quote};
 use std::alloc::Global;
 
 /// A part of a report that is spelled in lines.
@@ -45,31 +47,84 @@ fn put_line<K: Sink>(sink: &mut K, line: Result<Vec<u8>, NoMemory>) -> Result<()
     }
 }
 
-#[tactic(auto, unfolding(crate::specs::Spelling::entry_text))]
+/// The line of an entry.
 fn entry_line(alloc: Global, entry: &Entry) -> Result<Vec<u8>, NoMemory>
     ensures { IfOk result (λ line. line.items ≡ entry_text entry.now) }
 {
-    let mut line = Vec::new(alloc);
     match entry {
-        Entry::Start { event } => {
-            put_text(&mut line, b"start ")?;
-            put_u64(&mut line, *event)?;
-            put_text(&mut line, b" attributed 0 0 0 -\n")?;
+        Entry::Connect {
+            action,
+            thread,
+            account,
+            user,
+            host,
+        } => numbers_line(
+            alloc,
+            b"connect",
+            &[Some(*action), *thread, *account, *user, *host],
+        ),
+        Entry::Start {
+            event,
+            verdict,
+            consumers,
+            thread,
+            class,
+            table,
+        } => {
+            let words = start_words(alloc, *event, *verdict)?;
+            numbers_line(alloc, &words, &[*consumers, *thread, *class, *table])
         }
-        Entry::End { event } => {
-            put_text(&mut line, b"end ")?;
-            put_u64(&mut line, *event)?;
-            put_text(&mut line, b" ")?;
-            put_u64(&mut line, *event)?;
-            put_text(&mut line, b" 0 0\n")?;
-        }
-        Entry::Add { version } => {
-            put_text(&mut line, b"add 135 ")?;
-            put_u64(&mut line, *version)?;
-            put_text(&mut line, b"\n")?;
-        }
+        Entry::End {
+            event,
+            last,
+            consumers,
+            thread,
+        } => numbers_line(alloc, b"end", &[*event, *last, *consumers, *thread]),
+        Entry::Add { row, version } => numbers_line(alloc, b"add", &[Some(*row), Some(*version)]),
+        Entry::Held { row, first, second } => numbers_line(
+            alloc,
+            b"held",
+            &[Some(*row), Some(*first), Some(*second)],
+        ),
+        Entry::Ring { row, version } => numbers_line(alloc, b"ring", &[Some(*row), Some(*version)]),
+        Entry::Long {
+            row,
+            version,
+            ticket,
+        } => numbers_line(alloc, b"long", &[Some(*row), Some(*version), Some(*ticket)]),
+        Entry::Busy { row, first, second } => numbers_line(
+            alloc,
+            b"busy",
+            &[Some(*row), Some(*first), Some(*second)],
+        ),
+        Entry::Late {
+            row,
+            ticket,
+            greater,
+        } => numbers_line(alloc, b"late", &[Some(*row), Some(*ticket), Some(*greater)]),
+        Entry::Settle => numbers_line(alloc, b"settle", &[]),
+        Entry::Act { action } => numbers_line(alloc, b"act", &[Some(*action)]),
+        Entry::Take { row, version } => numbers_line(alloc, b"take", &[Some(*row), Some(*version)]),
+        Entry::Give {
+            row,
+            version,
+            source,
+        } => numbers_line(alloc, b"give", &[Some(*row), Some(*version), Some(*source)]),
+        Entry::Tag { row, version } => numbers_line(alloc, b"tag", &[Some(*row), Some(*version)]),
+        Entry::Free { row, version } => numbers_line(alloc, b"free", &[Some(*row), Some(*version)]),
+        Entry::Set {
+            word,
+            version,
+            flags,
+        } => numbers_line(alloc, b"set", &[Some(*word), Some(*version), Some(*flags)]),
+        Entry::Reply { number } => numbers_line(alloc, b"reply", &[Some(*number)]),
+        Entry::Error { number } => numbers_line(alloc, b"error", &[Some(*number)]),
+        Entry::Query => numbers_line(alloc, b"query", &[]),
+        Entry::Seen { row, version } => numbers_line(alloc, b"seen", &[Some(*row), Some(*version)]),
+        Entry::Vacant { row } => numbers_line(alloc, b"vacant", &[Some(*row)]),
+        Entry::Saw { word, version } => numbers_line(alloc, b"saw", &[Some(*word), Some(*version)]),
+        Entry::Rows { number } => numbers_line(alloc, b"rows", &[Some(*number)]),
     }
-    Ok(line)
 }
 
 impl Spelled for Entry {
@@ -107,7 +162,7 @@ impl Spelled for SessionReport {
     #[tactic(auto, using(pfs_outside::proofs::Writes::puts_then, pfs_outside::proofs::Writes::puts_stop), unfolding(crate::specs::Spelling::session_text))]
     fn put<K: Sink>(&self, alloc: Global, sink: &mut K) -> Result<(), WriteStop> {
         put_session_line(alloc, sink, self)?;
-        put_each(alloc, sink, &self.entries.items)
+        put_each(alloc, sink, self.entries.as_slice())
     }
 }
 
@@ -118,7 +173,8 @@ fn thread_row_line(alloc: Global, row: &ThreadRow) -> Result<Vec<u8>, NoMemory>
     let mut line = Vec::new(alloc);
     put_text(&mut line, b"row ")?;
     put_u64(&mut line, row.session)?;
-    put_text(&mut line, b" 'wait/io/file/sql/binlog'")?;
+    put_text(&mut line, b" ")?;
+    quote(&mut line, row.class.as_bytes())?;
     put_stat(&mut line, &row.stat)?;
     put_text(&mut line, b"\n")?;
     Ok(line)
@@ -137,7 +193,8 @@ fn global_row_line(alloc: Global, row: &GlobalRow) -> Result<Vec<u8>, NoMemory>
     ensures { IfOk result (λ line. line.items ≡ global_row_text row.now) }
 {
     let mut line = Vec::new(alloc);
-    put_text(&mut line, b"row 'wait/io/file/sql/binlog'")?;
+    put_text(&mut line, b"row ")?;
+    quote(&mut line, row.class.as_bytes())?;
     put_stat(&mut line, &row.stat)?;
     put_text(&mut line, b"\n")?;
     Ok(line)
@@ -151,17 +208,55 @@ impl Spelled for GlobalRow {
     }
 }
 
+#[tactic(auto, unfolding(crate::specs::Spelling::lost_row_text))]
+fn lost_row_line(alloc: Global, row: &LostRow) -> Result<Vec<u8>, NoMemory>
+    ensures { IfOk result (λ line. line.items ≡ lost_row_text row.now) }
+{
+    let mut line = Vec::new(alloc);
+    put_text(&mut line, b"lost ")?;
+    put_text(&mut line, row.counter.name().as_bytes())?;
+    put_text(&mut line, b" ")?;
+    put_u64(&mut line, row.number)?;
+    put_text(&mut line, b"\n")?;
+    Ok(line)
+}
+
+impl Spelled for LostRow {
+    ghost text = { lost_row_text };
+
+    fn put<K: Sink>(&self, alloc: Global, sink: &mut K) -> Result<(), WriteStop> {
+        put_line(sink, lost_row_line(alloc, self))
+    }
+}
+
+#[tactic(auto, unfolding(crate::specs::Spelling::table_line))]
+fn table_line(alloc: Global, table: Table) -> Result<Vec<u8>, NoMemory>
+    ensures { IfOk result (λ line. line.items ≡ table_line table) }
+{
+    let mut line = Vec::new(alloc);
+    put_text(&mut line, b"table ")?;
+    put_text(&mut line, table.name().as_bytes())?;
+    put_text(&mut line, b"\n")?;
+    Ok(line)
+}
+
+fn put_table_line<K: Sink>(alloc: Global, sink: &mut K, table: Table) -> Result<(), WriteStop>
+    ensures { Puts (K.written sink.old) (K.written sink.new) (K.faults sink.old) (K.faults sink.new) (table_line table) result }
+{
+    put_line(sink, table_line(alloc, table))
+}
+
 /// Offers a table's name and its rows.
 #[tactic(auto, using(pfs_outside::proofs::Writes::puts_then, pfs_outside::proofs::Writes::puts_stop))]
 fn put_rows<T: Spelled, K: Sink>(
     alloc: Global,
     sink: &mut K,
-    name: &[u8],
+    table: Table,
     rows: &[T],
 ) -> Result<(), WriteStop>
-    ensures { Puts (K.written sink.old) (K.written sink.new) (K.faults sink.old) (K.faults sink.new) (name.now ++ flat_map T.text rows.now) result }
+    ensures { Puts (K.written sink.old) (K.written sink.new) (K.faults sink.old) (K.faults sink.new) (table_line table ++ flat_map T.text rows.now) result }
 {
-    write_all(sink, name)?;
+    put_table_line(alloc, sink, table)?;
     put_each(alloc, sink, rows)
 }
 
@@ -169,49 +264,23 @@ fn put_rows<T: Spelled, K: Sink>(
 fn put_table<T: Spelled, K: Sink>(
     alloc: Global,
     sink: &mut K,
-    name: &[u8],
+    table: Table,
     rows: &[T],
 ) -> Result<(), WriteStop>
-    ensures { Puts (K.written sink.old) (K.written sink.new) (K.faults sink.old) (K.faults sink.new) (table_text name.now T.text rows.now) result }
+    ensures { Puts (K.written sink.old) (K.written sink.new) (K.faults sink.old) (K.faults sink.new) (table_text table T.text rows.now) result }
 {
     if rows.is_empty() {
         Ok(())
     } else {
-        put_rows(alloc, sink, name, rows)
+        put_rows(alloc, sink, table, rows)
     }
 }
 
-#[tactic(auto, unfolding(crate::specs::Spelling::thread_table_name))]
-fn put_thread_table<K: Sink>(
-    alloc: Global,
-    sink: &mut K,
-    rows: &[ThreadRow],
-) -> Result<(), WriteStop>
-    ensures { Puts (K.written sink.old) (K.written sink.new) (K.faults sink.old) (K.faults sink.new) (table_text thread_table_name thread_row_text rows.now) result }
-{
-    put_table(
-        alloc,
-        sink,
-        b"table events_waits_summary_by_thread_by_event_name\n",
-        rows,
-    )
-}
+/// The wait summary by thread.
+const BY_THREAD: Table = Table::Summary(TableKind::Waits, SummaryTable::ByThread);
 
-#[tactic(auto, unfolding(crate::specs::Spelling::global_table_name))]
-fn put_global_table<K: Sink>(
-    alloc: Global,
-    sink: &mut K,
-    rows: &[GlobalRow],
-) -> Result<(), WriteStop>
-    ensures { Puts (K.written sink.old) (K.written sink.new) (K.faults sink.old) (K.faults sink.new) (table_text global_table_name global_row_text rows.now) result }
-{
-    put_table(
-        alloc,
-        sink,
-        b"table events_waits_summary_global_by_event_name\n",
-        rows,
-    )
-}
+/// The global wait summary.
+const GLOBAL: Table = Table::Summary(TableKind::Waits, SummaryTable::Global);
 
 /// Offers the tables at a phase's end.
 #[tactic(auto, using(pfs_outside::proofs::Writes::puts_then, pfs_outside::proofs::Writes::puts_stop), unfolding(crate::specs::Spelling::tables_text))]
@@ -223,8 +292,23 @@ fn put_tables<K: Sink>(
 ) -> Result<(), WriteStop>
     ensures { Puts (K.written sink.old) (K.written sink.new) (K.faults sink.old) (K.faults sink.new) (tables_text by_thread.now global.now) result }
 {
-    put_thread_table(alloc, sink, by_thread)?;
-    put_global_table(alloc, sink, global)
+    put_table(alloc, sink, BY_THREAD, by_thread)?;
+    put_table(alloc, sink, GLOBAL, global)
+}
+
+/// Offers the tables and counters.
+#[tactic(auto, using(pfs_outside::proofs::Writes::puts_then, pfs_outside::proofs::Writes::puts_stop), unfolding(crate::specs::Spelling::results_text))]
+fn put_results<K: Sink>(
+    alloc: Global,
+    sink: &mut K,
+    by_thread: &[ThreadRow],
+    global: &[GlobalRow],
+    lost: &[LostRow],
+) -> Result<(), WriteStop>
+    ensures { Puts (K.written sink.old) (K.written sink.new) (K.faults sink.old) (K.faults sink.new) (results_text by_thread.now global.now lost.now) result }
+{
+    put_tables(alloc, sink, by_thread, global)?;
+    put_each(alloc, sink, lost)
 }
 
 #[tactic(auto, unfolding(crate::specs::Spelling::final_line))]
@@ -240,25 +324,26 @@ fn put_final<K: Sink>(
     sink: &mut K,
     by_thread: &[ThreadRow],
     global: &[GlobalRow],
+    lost: &[LostRow],
 ) -> Result<(), WriteStop>
-    ensures { Puts (K.written sink.old) (K.written sink.new) (K.faults sink.old) (K.faults sink.new) (final_text by_thread.now global.now) result }
+    ensures { Puts (K.written sink.old) (K.written sink.new) (K.faults sink.old) (K.faults sink.new) (final_text by_thread.now global.now lost.now) result }
 {
     put_final_line(sink)?;
-    put_tables(alloc, sink, by_thread, global)
+    put_results(alloc, sink, by_thread, global, lost)
 }
 
 #[tactic(auto, using(pfs_outside::proofs::Writes::puts_then, pfs_outside::proofs::Writes::puts_stop), unfolding(crate::specs::Spelling::body_text))]
-fn put_body<K: Sink>(
-    alloc: Global,
-    sink: &mut K,
-    sessions: &[SessionReport],
-    by_thread: &[ThreadRow],
-    global: &[GlobalRow],
-) -> Result<(), WriteStop>
-    ensures { Puts (K.written sink.old) (K.written sink.new) (K.faults sink.old) (K.faults sink.new) (body_text sessions.now by_thread.now global.now) result }
+fn put_body<K: Sink>(alloc: Global, sink: &mut K, phase: &PhaseReport) -> Result<(), WriteStop>
+    ensures { Puts (K.written sink.old) (K.written sink.new) (K.faults sink.old) (K.faults sink.new) (body_text phase.now.sessions phase.now.by_thread phase.now.global phase.now.lost) result }
 {
-    put_each(alloc, sink, sessions)?;
-    put_final(alloc, sink, by_thread, global)
+    put_each(alloc, sink, phase.sessions.as_slice())?;
+    put_final(
+        alloc,
+        sink,
+        phase.by_thread.as_slice(),
+        phase.global.as_slice(),
+        phase.lost.as_slice(),
+    )
 }
 
 #[tactic(auto, unfolding(crate::specs::Spelling::phase_line))]
@@ -288,13 +373,7 @@ impl Spelled for PhaseReport {
     #[tactic(auto, using(pfs_outside::proofs::Writes::puts_then, pfs_outside::proofs::Writes::puts_stop), unfolding(crate::specs::Spelling::phase_text))]
     fn put<K: Sink>(&self, alloc: Global, sink: &mut K) -> Result<(), WriteStop> {
         put_phase_line(alloc, sink, self)?;
-        put_body(
-            alloc,
-            sink,
-            &self.sessions.items,
-            &self.by_thread.items,
-            &self.global.items,
-        )
+        put_body(alloc, sink, self)
     }
 }
 
@@ -319,6 +398,6 @@ impl Spelled for Report {
     #[tactic(auto, using(pfs_outside::proofs::Writes::puts_then, pfs_outside::proofs::Writes::puts_stop), unfolding(crate::specs::Spelling::spelling))]
     fn put<K: Sink>(&self, alloc: Global, sink: &mut K) -> Result<(), WriteStop> {
         put_first_line(sink)?;
-        put_phases(alloc, sink, &self.phases.items)
+        put_phases(alloc, sink, self.phases.as_slice())
     }
 }

@@ -35,23 +35,64 @@ fn ran(
     Ok((status, sink))
 }
 
+/// Whether `run` on each script writes the report beside it.
+fn reports(alloc: Global, cases: &[(&[u8], &[u8])]) -> Result<bool, AllocError> {
+    for (script, report) in cases {
+        let (status, sink) = ran(alloc, script, 2_000, &[], &[])?;
+        if status != Status::Done || sink.bytes() != *report {
+            return Ok(false);
+        }
+    }
+    Ok(true)
+}
+
 #[test]
 fn reports_are_those_of_the_worked_scripts(rt: HostRuntime) -> Result<(), Fail> {
-    let (status, sink) = ran(rt.alloc(), ONE_WAIT, 1_000, &[], &[])?;
-    assert_eq!(rt; status, Status::Done);
-    assert_eq!(rt; sink.bytes(), ONE_WAIT_REPORT);
-    let (status, sink) = ran(rt.alloc(), b"", 1_000, &[], &[])?;
-    assert_eq!(rt; status, Status::Done);
-    assert_eq!(rt; sink.bytes(), b"pfs-report 0\nend\n".as_slice());
-    let (status, sink) = ran(rt.alloc(), b"phase\nend\n", 1_000, &[], &[])?;
-    assert_eq!(rt;
-        status,
-        Status::BadScript {
-            line: 2,
-            reason: Reason::NotBuilt
-        }
-    );
-    assert_eq!(rt; sink.bytes(), b"bad script: line 2 reason 13\n".as_slice());
+    let cases: [(&[u8], &[u8]); 3] = [
+        (ONE_WAIT, ONE_WAIT_REPORT),
+        (b"", b"pfs-report 0\nend\n"),
+        (
+            b"limit mutex_classes 3\nclass wait/synch/mutex/a/b YES YES\nclass wait/io/file/x/y YES NO\ninstrument wait/synch/% YES YES\nphase\nsession 3 a h1\nstart wait/io/file/x/y\nspend 9\nend\nsession 1 b h2\nstart wait/synch/mutex/a/b\nend\nstart wait/synch/mutex/sql/LOCK_open\nspend 4\nend\nsession 64 c h3\nspend 1\n",
+            b"pfs-report 0\nphase 1\nsession 3\nstart 1 attributed 0 0 0 -\nend 1 1 0 0\nadd 153 1\nsession 1\nstart - lost-class - - - -\nend - - - -\nstart 1 attributed 0 0 0 -\nend 1 1 0 0\nadd 193 1\nsession 64\nfinal\ntable events_waits_summary_by_thread_by_event_name\nrow 1 'wait/synch/mutex/sql/LOCK_open' 1 4 4 4 4\nrow 3 'wait/io/file/x/y' 1 0 0 0 0\ntable events_waits_summary_global_by_event_name\nrow 'wait/synch/mutex/sql/LOCK_open' 1 4 4 4 4\nrow 'wait/io/file/x/y' 1 0 0 0 0\nlost Performance_schema_mutex_classes_lost 1\nend\n",
+        ),
+    ];
+    assert!(rt; reports(rt.alloc(), &cases)?);
+    Ok(())
+}
+
+#[test]
+fn events_that_are_lost_or_off_count_nowhere(rt: HostRuntime) -> Result<(), Fail> {
+    let cases: [(&[u8], &[u8]); 3] = [
+        (
+            b"limit file_classes 1\nphase\nsession 1 u h\nstart wait/io/file/innodb/innodb_data_file\nend\n",
+            b"pfs-report 0\nphase 1\nsession 1\nstart - lost-class - - - -\nend - - - -\nfinal\nlost Performance_schema_file_classes_lost 2\nend\n",
+        ),
+        (
+            b"consumer global_instrumentation NO\nphase\nsession 1 u h\nstart wait/io/file/sql/binlog\nspend 5\nend\n",
+            b"pfs-report 0\nphase 1\nsession 1\nstart - off-global 0 0 0 -\nend - - - -\nfinal\nend\n",
+        ),
+        (
+            b"phase\nsession 1 u h\nstart wait/synch/cond/sql/COND_thread_cache\nend\nstart wait/io/file/sql/binlog\n",
+            b"pfs-report 0\nphase 1\nsession 1\nstart - off-class 0 0 0 -\nend - - - -\nstart 1 attributed 0 0 0 -\nfinal\nend\n",
+        ),
+    ];
+    assert!(rt; reports(rt.alloc(), &cases)?);
+    Ok(())
+}
+
+#[test]
+fn events_aside_and_untimed_ones_are_counted(rt: HostRuntime) -> Result<(), Fail> {
+    let cases: [(&[u8], &[u8]); 2] = [
+        (
+            b"consumer thread_instrumentation NO\nphase\nsession 1 u h\nstart wait/io/file/sql/binlog\nspend 5\nend\nsession 2 v h\nstart wait/io/file/sql/binlog\nspend 7\nend\n",
+            b"pfs-report 0\nphase 1\nsession 1\nstart 1 aside 0 0 0 -\nend 1 1 0 0\nadd 8327 1\nsession 2\nstart 1 aside 0 0 0 -\nend 1 1 0 0\nadd 8327 2\nfinal\ntable events_waits_summary_global_by_event_name\nrow 'wait/io/file/sql/binlog' 2 12 5 6 7\nend\n",
+        ),
+        (
+            b"instrument wait/io/file/% YES NO\nphase\nsession 1 u h\nstart wait/io/file/sql/binlog\nspend 7\nend\nstart wait/io/file/sql/binlog\nspend 7\nend\n",
+            b"pfs-report 0\nphase 1\nsession 1\nstart 1 attributed 0 0 0 -\nend 1 1 0 0\nadd 135 1\nstart 2 attributed 0 0 0 -\nend 2 2 0 0\nadd 135 2\nfinal\ntable events_waits_summary_by_thread_by_event_name\nrow 1 'wait/io/file/sql/binlog' 2 0 0 0 0\ntable events_waits_summary_global_by_event_name\nrow 'wait/io/file/sql/binlog' 2 0 0 0 0\nend\n",
+        ),
+    ];
+    assert!(rt; reports(rt.alloc(), &cases)?);
     Ok(())
 }
 
@@ -99,7 +140,16 @@ fn failures_leave_what_was_written_before_them(rt: HostRuntime) -> Result<(), Fa
 }
 
 #[test]
-fn too_many_bytes_are_no_script(rt: HostRuntime) -> Result<(), Fail> {
+fn faulty_scripts_get_their_line_and_reason(rt: HostRuntime) -> Result<(), Fail> {
+    let (status, sink) = ran(rt.alloc(), b"phase\nsession 1 u h\nend\n", 1_000, &[], &[])?;
+    assert_eq!(rt;
+        status,
+        Status::BadScript {
+            line: 3,
+            reason: Reason::BadNesting
+        }
+    );
+    assert_eq!(rt; sink.bytes(), b"bad script: line 3 reason 9\n".as_slice());
     let many = vec![in rt.alloc(); 10u8; 1_048_577]?;
     let (status, sink) = ran(rt.alloc(), &many, 1_000, &[], &[])?;
     assert_eq!(rt;

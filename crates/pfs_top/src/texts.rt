@@ -1,11 +1,15 @@
 //! Lines of text, built by appending.
 
-ghost use Rattle.std.specs.Prelude.{◌≡◌, ◌++◌, OnOk};
-ghost use Rattle.pfs_top.specs.Spelling.{timed_number, field_text, stat_text};
+ghost use Rattle.std.specs.Prelude.{◌≡◌, ◌++◌, IfOk, OnOk, codes};
+ghost use Rattle.std.specs.List.{flat_map};
+ghost use Rattle.pfs_event.specs.Verdicts.{verdict_name};
+ghost use Rattle.pfs_top.specs.Spelling.{timed_number, field_text, optional_text, numbers_text, stat_text};
 
 use crate::NoMemory;
+use pfs_event::Verdict;
 use pfs_stat::Stat;
 use pfs_text::put_u64;
+use std::alloc::Global;
 
 /// Appends a text.
 pub fn put_text(out: &mut Vec<u8>, text: &[u8]) -> Result<(), NoMemory>
@@ -30,6 +34,54 @@ fn put_field(out: &mut Vec<u8>, number: u64) -> Result<(), NoMemory>
     put_text(out, b" ")?;
     put_u64(out, number)?;
     Ok(())
+}
+
+/// Appends a space and a number, or `-` where there is none.
+fn put_optional(out: &mut Vec<u8>, number: Option<u64>) -> Result<(), NoMemory>
+    ensures { OnOk result (out.new.items ≡ out.old.items ++ optional_text number) }
+{
+    match number {
+        Some(number) => put_field(out, number),
+        None => put_text(out, b" -"),
+    }
+}
+
+/// Appends such numbers.
+fn put_numbers(out: &mut Vec<u8>, numbers: &[Option<u64>]) -> Result<(), NoMemory>
+    ensures { OnOk result (out.new.items ≡ out.old.items ++ flat_map optional_text numbers.now) }
+{
+    for number in numbers {
+        put_optional(out, *number)?;
+    }
+    Ok(())
+}
+
+/// A line: a word, and numbers behind it.
+#[tactic(auto, unfolding(crate::specs::Spelling::numbers_text))]
+pub fn numbers_line(
+    alloc: Global,
+    word: &[u8],
+    numbers: &[Option<u64>],
+) -> Result<Vec<u8>, NoMemory>
+    ensures { IfOk result (λ line. line.items ≡ numbers_text word.now numbers.now) }
+{
+    let mut line = Vec::new(alloc);
+    put_text(&mut line, word)?;
+    put_numbers(&mut line, numbers)?;
+    put_text(&mut line, b"\n")?;
+    Ok(line)
+}
+
+/// What a start's line begins with: its word, number and verdict.
+pub fn start_words(alloc: Global, event: Option<u64>, verdict: Verdict) -> Result<Vec<u8>, NoMemory>
+    ensures { IfOk result (λ words. words.items ≡ codes "start" ++ optional_text event ++ codes " " ++ verdict_name verdict) }
+{
+    let mut words = Vec::new(alloc);
+    put_text(&mut words, b"start")?;
+    put_optional(&mut words, event)?;
+    put_text(&mut words, b" ")?;
+    put_text(&mut words, verdict.name().as_bytes())?;
+    Ok(words)
 }
 
 /// Appends a summary row's numbers: count, sum, least, average, greatest, each behind a space. The

@@ -1,8 +1,10 @@
-use Rattle.std.proofs.Common.{refl, sym, subst}
+use Rattle.std.proofs.Common.{List, refl, sym, subst}
+use Rattle.pfs_script.specs.declared.blocks.Phase.{Phase}
 use Rattle.pfs_outside.specs.Outside.{Rose}
 use Rattle.pfs_top.specs.declared.commands.Status.{Status}
 use Rattle.pfs_top.specs.declared.commands.Status.TheVariants.{Done}
 use Rattle.pfs_top.specs.Commands.{HasRun, Tells}
+use Rattle.pfs_top.specs.Runs.{IsRun}
 use Rattle.pfs_top.specs.Spelling.{spelling}
 use Rattle.pfs_top.proofs.Ending.{told}
 use Rattle.pfs_top.proofs.commands.report.Goals as goal
@@ -11,6 +13,7 @@ pub returns-in-Ok : goal.returns-in-Ok
 returns-in-Ok g c =
     let written = g.K.Sink.written in
     let faults = g.K.Sink.faults in
-    let P = HasRun c.args.lines.now in
-    let t = told P (written c.args.sink.now) (written c.put.new.sink) (faults c.args.sink.now) (faults c.put.new.sink) (spelling c.in-Ok.report) Done c.put.result tt (c.in-Ok.report, c.in-Ok.ensures, refl) c.put.ensures in
+    let P = HasRun c.args.script.now.setting c.args.script.now.phases in
+    let run = subst (λ (phases : List Phase). IsRun c.args.script.now.setting phases c.in-Ok.report) c.as_slice.ensures c.in-Ok.ensures in
+    let t = told P (written c.args.sink.now) (written c.put.new.sink) (faults c.args.sink.now) (faults c.put.new.sink) (spelling c.in-Ok.report) Done c.put.result tt (c.in-Ok.report, run, refl) c.put.ensures in
     subst (λ (s : Status). Tells P (written c.args.sink.now) (written c.put.new.sink) (Rose (faults c.args.sink.now) (faults c.put.new.sink)) s) (sym c.status_after.ensures) t

@@ -1,0 +1,5 @@
+use Rattle.pfs_script.proofs.NamedLemmas.{limit_is}
+use Rattle.pfs_script.proofs.heading.find_limit.Goals as goal
+
+pub returns : goal.returns
+returns c = limit_is c.find.result c.args.name.now c.find.ensures

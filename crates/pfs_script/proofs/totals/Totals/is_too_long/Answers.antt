@@ -1,0 +1,5 @@
+use Rattle.pfs_script.proofs.Totalling.{too_long}
+use Rattle.pfs_script.proofs.totals.Totals.is_too_long.Goals as goal
+
+pub returns : goal.returns
+returns c before knows done = too_long c.args.self.now before c.args.line.now knows done

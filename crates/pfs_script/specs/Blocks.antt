@@ -1,0 +1,57 @@
+-- The phases of a script, their blocks, and what the lines of a block say to its session.
+use Rattle.std.specs.Prelude.{ℕ, ◌||◌, Bool, true, false, if◌then◌else◌, List, [], ◌∷◌, Option, Some, None, option_map}
+use Rattle.pfs_classes.specs.declared.classes.ClassRef.{ClassRef}
+use Rattle.pfs_script.specs.declared.forms.Form.{Form}
+use Rattle.pfs_script.specs.declared.forms.Form.TheVariants as form
+use Rattle.pfs_script.specs.declared.blocks.BlockLine.{BlockLine}
+use Rattle.pfs_script.specs.declared.blocks.BlockLine.TheVariants.{Start, Spend, End}
+use Rattle.pfs_script.specs.declared.blocks.Block.{Block}
+use Rattle.pfs_script.specs.declared.blocks.Phase.{Phase}
+use Rattle.pfs_script.specs.Next.{is_phase, is_connect}
+
+-- what a line says to the session of its block, or that it says nothing; `refer` tells what a class's name stands for,
+-- and tells it of each class that a script starts
+abbrev pub block_line : (List ℕ → Option ClassRef) → Form → Option BlockLine
+block_line refer (form.Wait class) = option_map Start (refer class)
+block_line refer (form.Spend time) = option_map Spend time
+block_line refer form.End = Some End
+block_line refer _ = None
+
+-- with an element in front, where there is one
+abbrev pub with_front : {A : Type 0} → Option A → List A → List A
+with_front None more = more
+with_front (Some one) more = one ∷ more
+
+-- the line ends the block before it
+abbrev pub ends_block : Form → Bool
+ends_block line = is_phase line || is_connect line
+
+-- what the lines say to their session, up to the next block or phase
+unfoldable pub block_lines : (List ℕ → Option ClassRef) → List Form → List BlockLine
+block_lines refer [] = []
+block_lines refer (line ∷ lines) = if ends_block line then [] else with_front (block_line refer line) (block_lines refer lines)
+
+-- the session whose block the line begins
+abbrev pub session_of : Form → Option ℕ
+session_of (form.Connect session user host) = session
+session_of _ = None
+
+-- the block that a line begins, with these lines behind it
+abbrev pub block_behind : (List ℕ → Option ClassRef) → List Form → ℕ → Block
+block_behind refer lines session = record { session = session; lines = block_lines refer lines }
+
+-- the blocks of the lines, up to the next phase
+unfoldable pub blocks_of : (List ℕ → Option ClassRef) → List Form → List Block
+blocks_of refer [] = []
+blocks_of refer (line ∷ lines) =
+    if is_phase line then [] else with_front (option_map (block_behind refer lines) (session_of line)) (blocks_of refer lines)
+
+-- with a phase of these blocks in front, where one begins
+abbrev pub with_phase : Bool → List Block → List Phase → List Phase
+with_phase true blocks more = record { blocks = blocks } ∷ more
+with_phase false blocks more = more
+
+-- the phases of the lines
+unfoldable pub phases_of : (List ℕ → Option ClassRef) → List Form → List Phase
+phases_of refer [] = []
+phases_of refer (line ∷ lines) = with_phase (is_phase line) (blocks_of refer lines) (phases_of refer lines)

@@ -1,0 +1,126 @@
+//! A script as its phases, their blocks, and what the lines of a block say to its session.
+
+ghost use Rattle.std.specs.Prelude.{◌≡◌};
+
+use pfs_classes::ClassRef;
+use std::marker::Model;
+
+/// A line of a block. Lines that say nothing are not kept.
+#[derive(Clone, Copy, Debug, PartialEq, Eq)]
+pub enum BlockLine {
+    /// Starts a wait of a class, or of a lost one.
+    Start(ClassRef),
+    /// Moves the session's clock by so many picoseconds.
+    Spend(u64),
+    /// Ends the wait that is open.
+    End,
+}
+
+/// The lines of a block, in order.
+#[derive(Drop)]
+pub struct BlockLineList {
+    items: Vec<BlockLine>,
+}
+
+impl Model for BlockLineList {
+    ghost use Rattle.std.specs.Prelude.{List};
+    ghost use Rattle.pfs_script.specs.declared.blocks.BlockLine.{BlockLine};
+
+    ghost Value = { List BlockLine };
+
+    ghost view = { λ list. list.items.items };
+}
+
+impl BlockLineList {
+    /// The list of these lines. It takes no memory.
+    pub fn new(items: Vec<BlockLine>) -> BlockLineList
+        ensures { result ≡ items.items }
+    {
+        BlockLineList { items }
+    }
+
+    /// The lines, in order.
+    pub fn as_slice(&self) -> &[BlockLine]
+        ensures { result.now ≡ self.now }
+    {
+        self.items.as_slice()
+    }
+}
+
+/// A block: what one session does in a phase.
+#[derive(Drop)]
+pub struct Block {
+    /// The session's number K, from 1 to 64.
+    pub session: u64,
+    /// What its lines say, in order.
+    pub lines: BlockLineList,
+}
+
+/// The blocks of a phase, in order.
+#[derive(Drop)]
+pub struct BlockList {
+    items: Vec<Block>,
+}
+
+impl Model for BlockList {
+    ghost use Rattle.std.specs.Prelude.{List};
+    ghost use Rattle.pfs_script.specs.declared.blocks.Block.{Block};
+
+    ghost Value = { List Block };
+
+    ghost view = { λ list. list.items.items };
+}
+
+impl BlockList {
+    /// The list of these blocks. It takes no memory.
+    pub fn new(items: Vec<Block>) -> BlockList
+        ensures { result ≡ items.items }
+    {
+        BlockList { items }
+    }
+
+    /// The blocks, in order.
+    pub fn as_slice(&self) -> &[Block]
+        ensures { result.now ≡ self.now }
+    {
+        self.items.as_slice()
+    }
+}
+
+/// A phase of a script.
+#[derive(Drop)]
+pub struct Phase {
+    /// Its blocks, in order.
+    pub blocks: BlockList,
+}
+
+/// The phases of a script, in order.
+#[derive(Drop)]
+pub struct PhaseList {
+    items: Vec<Phase>,
+}
+
+impl Model for PhaseList {
+    ghost use Rattle.std.specs.Prelude.{List};
+    ghost use Rattle.pfs_script.specs.declared.blocks.Phase.{Phase};
+
+    ghost Value = { List Phase };
+
+    ghost view = { λ list. list.items.items };
+}
+
+impl PhaseList {
+    /// The list of these phases. It takes no memory.
+    pub fn new(items: Vec<Phase>) -> PhaseList
+        ensures { result ≡ items.items }
+    {
+        PhaseList { items }
+    }
+
+    /// The phases, in order.
+    pub fn as_slice(&self) -> &[Phase]
+        ensures { result.now ≡ self.now }
+    {
+        self.items.as_slice()
+    }
+}

@@ -1,0 +1,144 @@
+//! The phases and blocks that a script's lines make.
+
+ghost use Rattle.std.specs.Prelude.{◌≡◌, IfOk, OnOk, List, ◌++◌, option_map};
+ghost use Rattle.pfs_script.specs.declared.forms.Form.{Form};
+ghost use Rattle.pfs_script.specs.Headings.{resolved};
+ghost use Rattle.pfs_script.specs.Next.{is_phase};
+ghost use Rattle.pfs_script.specs.Blocks.{with_front, block_line, block_lines, block_behind, ends_block, session_of, blocks_of, with_phase, phases_of};
+ghost use Rattle.pfs_script.specs.declared.blocks.BlockLine.{BlockLine};
+ghost use Rattle.pfs_script.specs.declared.blocks.Block.{Block};
+ghost use Rattle.pfs_script.specs.declared.blocks.Phase.{Phase};
+
+use crate::blocks::{Block, BlockLine, BlockLineList, BlockList, Phase, PhaseList};
+use crate::forms::Form;
+use crate::heading::Heading;
+use pfs_classes::NoMemory;
+use std::alloc::Global;
+
+/// The phases of the lines, in order.
+pub fn phases(alloc: Global, heading: &Heading, lines: &[Form]) -> Result<PhaseList, NoMemory>
+    ensures { IfOk result (λ phases. phases ≡ phases_of (resolved heading.now) lines.now) }
+{
+    let mut phases = Vec::new(alloc);
+    for at in 0..lines.len() {
+        add_phase(alloc, heading, &mut phases, &lines[at], &lines[at + 1..])?;
+    }
+    Ok(PhaseList::new(phases))
+}
+
+// Adds the phase that the line begins, with the blocks of the lines behind it.
+fn add_phase(
+    alloc: Global,
+    heading: &Heading,
+    phases: &mut Vec<Phase>,
+    line: &Form,
+    behind: &[Form],
+) -> Result<(), NoMemory>
+    ensures { OnOk result ((more : List Phase) → phases.new.items ++ more ≡ phases.old.items ++ with_phase (is_phase line.now) (blocks_of (resolved heading.now) behind.now) more) }
+{
+    if is_phase(line) {
+        let blocks = blocks(alloc, heading, behind)?;
+        phases.push(Phase { blocks })?;
+    }
+    Ok(())
+}
+
+// The blocks of the lines up to the next phase, in order.
+fn blocks(alloc: Global, heading: &Heading, lines: &[Form]) -> Result<BlockList, NoMemory>
+    ensures { IfOk result (λ blocks. blocks ≡ blocks_of (resolved heading.now) lines.now) }
+{
+    let mut blocks = Vec::new(alloc);
+    for at in 0..lines.len() {
+        let line = &lines[at];
+        if is_phase(line) {
+            break;
+        }
+        add_block(alloc, heading, &mut blocks, line, &lines[at + 1..])?;
+    }
+    Ok(BlockList::new(blocks))
+}
+
+// Adds the block that the line begins, with what the lines behind it say.
+fn add_block(
+    alloc: Global,
+    heading: &Heading,
+    blocks: &mut Vec<Block>,
+    line: &Form,
+    behind: &[Form],
+) -> Result<(), NoMemory>
+    ensures { OnOk result ((more : List Block) → blocks.new.items ++ more ≡ blocks.old.items ++ with_front (option_map (block_behind (resolved heading.now) behind.now) (session_of line.now)) more) }
+{
+    if let Some(session) = session(line) {
+        let lines = block_lines(alloc, heading, behind)?;
+        blocks.push(Block { session, lines })?;
+    }
+    Ok(())
+}
+
+// What the lines up to the next block or phase say to their session, in order.
+fn block_lines(alloc: Global, heading: &Heading, lines: &[Form]) -> Result<BlockLineList, NoMemory>
+    ensures { IfOk result (λ said. said ≡ block_lines (resolved heading.now) lines.now) }
+{
+    let mut said = Vec::new(alloc);
+    for line in lines {
+        if ends_block(line) {
+            break;
+        }
+        add_line(heading, &mut said, line)?;
+    }
+    Ok(BlockLineList::new(said))
+}
+
+// Adds what the line says to its session.
+fn add_line(heading: &Heading, said: &mut Vec<BlockLine>, line: &Form) -> Result<(), NoMemory>
+    ensures { OnOk result ((more : List BlockLine) → said.new.items ++ more ≡ said.old.items ++ with_front (block_line (resolved heading.now) line.now) more) }
+{
+    add_some(said, block_line(heading, line))
+}
+
+// Adds the line, where there is one.
+fn add_some(said: &mut Vec<BlockLine>, line: Option<BlockLine>) -> Result<(), NoMemory>
+    ensures { OnOk result ((more : List BlockLine) → said.new.items ++ more ≡ said.old.items ++ with_front line more) }
+{
+    match line {
+        Some(BlockLine::Start(class)) => said.push(BlockLine::Start(class))?,
+        Some(BlockLine::Spend(time)) => said.push(BlockLine::Spend(time))?,
+        Some(BlockLine::End) => said.push(BlockLine::End)?,
+        None => {}
+    }
+    Ok(())
+}
+
+// What the line says to the session of its block; none where it says nothing.
+fn block_line(heading: &Heading, line: &Form) -> Option<BlockLine>
+    ensures { result ≡ block_line (resolved heading.now) line.now }
+{
+    match line {
+        Form::Wait { class } => heading.find(class.bytes()).map(BlockLine::Start),
+        Form::Spend { time } => time.map(BlockLine::Spend),
+        Form::End => Some(BlockLine::End),
+        _ => None,
+    }
+}
+
+// The session whose block the line begins.
+fn session(line: &Form) -> Option<u64>
+    ensures { result ≡ session_of line.now }
+{
+    match line {
+        Form::Connect { session, .. } => *session,
+        _ => None,
+    }
+}
+
+fn is_phase(line: &Form) -> bool
+    ensures { result ≡ is_phase line.now }
+{
+    matches!(line, Form::Phase)
+}
+
+fn ends_block(line: &Form) -> bool
+    ensures { result ≡ ends_block line.now }
+{
+    matches!(line, Form::Phase | Form::Connect { .. })
+}

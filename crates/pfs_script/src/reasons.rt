@@ -1,0 +1,30 @@
+//! Why a line of a script is faulty.
+
+/// Why a line is faulty. The reasons have numbers; where several apply to a line, the least is told.
+#[derive(Clone, Copy, Debug, PartialEq, Eq)]
+pub enum Reason {
+    /// A byte of the line is neither a tab nor printable.
+    BadByte = 1,
+    /// The line has no line feed.
+    OpenLine = 2,
+    /// The line has none of the forms, or a name of it breaks its rule.
+    BadForm = 3,
+    /// The form isn't allowed there.
+    OutOfPlace = 4,
+    /// A number is over 2^64 - 1.
+    BadNumber = 5,
+    /// The session's number isn't 1 to 64, or its block is a second one of the phase.
+    BadSession = 6,
+    /// There is no class or consumer of the name, or a class of it may not be registered.
+    UnknownName = 7,
+    /// A limit's value is outside its range, or the limit was given before.
+    BadLimit = 8,
+    /// A rule of opening and ending is broken.
+    BadNesting = 9,
+    /// With this line there are more lines than a script may have.
+    TooLong = 11,
+    /// With this line a script has more classes, or more weight, than it may have.
+    TooMuch = 12,
+    /// The form isn't built yet.
+    NotBuilt = 13,
+}

@@ -1,0 +1,20 @@
+//! A script in hand.
+
+ghost use Rattle.std.specs.Prelude.{length};
+ghost use Rattle.pfs_script.specs.Runnable.{IsRunnable};
+ghost use Rattle.pfs_script.specs.RunnableProps.{runnable_prop};
+
+use crate::blocks::PhaseList;
+use pfs_classes::Setting;
+
+/// A script: what its lines before the first phase fix, and its phases. The type keeps that its blocks
+/// can be run: at most one phase so far, in it at most 32 blocks of different sessions from 1 to 64,
+/// waits that don't nest, and classes of the setting.
+#[derive(Drop)]
+pub struct Script {
+    /// Names, classes, limits and the consumers' opening flags.
+    pub setting: Setting,
+    /// The phases, in order.
+    pub phases: PhaseList,
+    pub ghost runs: { IsRunnable (length setting.classes.classes) phases } by { runnable_prop _ _ },
+}

@@ -1,0 +1,63 @@
+//! A word of a line, or the rest of a line, as a text.
+
+ghost use Rattle.std.specs.Prelude.{◌≡◌, ◌==◌};
+ghost use Rattle.std.specs.Cmp.{partial_equiv_from_equiv};
+ghost use Rattle.std.specs.Cmp.Lexicographic.{pointwise, nat_list_eq_equiv};
+
+use std::fmt::{self, Debug, Formatter};
+use std::marker::Model;
+
+/// Bytes of a line. A clause sees the bytes alone, not where they stand.
+#[derive(Drop)]
+pub struct Text<'a> {
+    bytes: &'a [u8],
+}
+
+impl<'a> Model for Text<'a> {
+    ghost use Rattle.std.specs.Prelude.{List, ℕ};
+
+    ghost Value = { List ℕ };
+
+    ghost view = { λ text. text.bytes.now };
+}
+
+impl<'a> Text<'a> {
+    /// The text that has these bytes.
+    pub fn new(bytes: &'a [u8]) -> Text<'a>
+        ensures { result ≡ bytes.now }
+    {
+        Text { bytes }
+    }
+
+    /// Its bytes.
+    pub fn bytes(&self) -> &'a [u8]
+        ensures { result.now ≡ self.now }
+    {
+        self.bytes
+    }
+}
+
+/// Texts are equal where their bytes are.
+impl<'a> PartialEq for Text<'a> {
+    ghost eq = { λ a b. pointwise ◌==◌ a b };
+
+    ghost laws = { partial_equiv_from_equiv nat_list_eq_equiv };
+
+    fn eq(&self, other: &Text<'a>) -> bool {
+        self.bytes == other.bytes
+    }
+}
+
+impl<'a> Eq for Text<'a> {
+    ghost laws = { nat_list_eq_equiv };
+}
+
+/// Bytes that are a text print as it does.
+impl<'a> Debug for Text<'a> {
+    fn fmt<W: fmt::Write>(&self, f: &mut Formatter<W>) -> fmt::Result {
+        match std::str::from_utf8(self.bytes) {
+            Ok(text) => Debug::fmt(&text, f),
+            Err(_) => Debug::fmt(&self.bytes, f),
+        }
+    }
+}

@@ -1,0 +1,12 @@
+use Rattle.std.proofs.Common.{◌≡◌, take}
+use Rattle.std.specs.Prelude.{map}
+use Rattle.std.specs.List.{AllZip, range_with_len}
+use Rattle.pfs_top.specs.declared.report.PhaseReport.{PhaseReport}
+use Rattle.pfs_top.specs.Runs.{IsPhaseRun}
+use Rattle.pfs_top.proofs.phases.run_phases.Given as goal
+
+abbrev pub invariant-loop-phase : goal.invariant-loop-phase
+invariant-loop-phase l = record {
+  numbers : map (λ (report : PhaseReport). report.number) l.reports.items ≡ range_with_len 1 l.phase-index;
+  each : AllZip (IsPhaseRun l.setting) (take l.phase-index l.phases) l.reports.items;
+}
