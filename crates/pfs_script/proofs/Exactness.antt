@@ -1,38 +1,38 @@
 -- The one pass over a text finds exactly its lines, or exactly its first fault.
-use Rattle.std.proofs.Common.{ℕ, ◌≡◌, ◌≢◌, ◌+◌, ◌<◌, ◌⊎◌, inl, inr, List, [], ◌∷◌, ◌++◌, length, Result, Ok, Err, sym, ap, ◌∙◌, subst, refl, arith, append_assoc, append-nil, length-append}
+use Rattle.std.proofs.Common.{ℕ, ◌≡◌, ◌+◌, ◌<◌, ◌⊎◌, inl, inr, Bool, true, false, cond, List, [], ◌∷◌, ◌++◌, length, Result, Ok, Err, sym, ap, ◌∙◌, subst, refl, arith, append_assoc, append-nil, length-append}
 use Rattle.pfs_script.specs.declared.forms.Form.{Form}
 use Rattle.pfs_script.specs.declared.reasons.Reason.{Reason}
+use Rattle.pfs_script.specs.declared.reasons.Reason.TheVariants.{OutOfPlace}
+use Rattle.pfs_script.specs.Counts.{is_in_repeat}
 use Rattle.pfs_script.specs.Next.{next}
 use Rattle.pfs_script.specs.Scripts.{parts_of, Begins, IsText, IsScript, IsFirstFault, IsSetting, AreAlike, IsBad, Fault, lines_from, script_of, open_reason, IsExact}
 use Rattle.pfs_classes.specs.declared.setting.Setting.{Setting}
 use Rattle.pfs_script.specs.declared.blocks.Phase.{Phase}
 use Rattle.pfs_script.specs.Headings.{Head, head_of}
 use Rattle.pfs_script.proofs.Splits.{some_parts}
-use Rattle.pfs_script.proofs.Steps.{says_line, says_fault, says_all, says_open}
+use Rattle.pfs_script.proofs.Steps.{says_line, says_fault, says_all, says_undone, says_open}
 
 result_cases : {A B : Type 0} (r : Result A B) → ((x : A) × (r ≡ Ok x)) ⊎ ((y : B) × (r ≡ Err y))
 result_cases (Ok x) = inl (x, refl)
 result_cases (Err y) = inr (y, refl)
 
-some_bytes : (bytes : List ℕ) → bytes ≢ [] → 0 < length bytes
-some_bytes [] h = absurd (h refl)
-some_bytes (byte ∷ bytes) h = omega arith
-
 some_more : (raws : List (List ℕ)) (bad : List ℕ) (more : List (List ℕ)) → 0 < length (raws ++ bad ∷ more)
 some_more raws bad more = omega (arith, length-append raws (bad ∷ more))
 
 -- lines that begin a script, and nothing behind them, are what the pass gives
-lines_are_found : (before : List Form) (raws : List (List ℕ)) (lines : List Form) → Begins before raws lines → lines_from before (raws ++ [] ∷ []) ≡ Ok (before ++ lines)
-lines_are_found before [] [] b = says_all before [] refl ∙ ap Ok (sym (append-nil before))
-lines_are_found before [] (line ∷ lines) b = absurd b
-lines_are_found before (raw ∷ raws) [] b = absurd b
-lines_are_found before (raw ∷ raws) (line ∷ lines) b =
+lines_are_found : (before : List Form) (raws : List (List ℕ)) (lines : List Form) → Begins before raws lines → is_in_repeat (before ++ lines) ≡ false → lines_from before (raws ++ [] ∷ []) ≡ Ok (before ++ lines)
+lines_are_found before [] [] b done = says_all before [] refl (rw append-nil at done) ∙ ap Ok (sym (append-nil before))
+lines_are_found before [] (line ∷ lines) b done = absurd b
+lines_are_found before (raw ∷ raws) [] b done = absurd b
+lines_are_found before (raw ∷ raws) (line ∷ lines) b done =
     says_line before raw (raws ++ [] ∷ []) line (some_more raws [] []) b.0
-    ∙ (lines_are_found (before ++ line ∷ []) raws lines b.1 ∙ ap Ok (append_assoc before (line ∷ []) lines))
+    ∙ (lines_are_found (before ++ line ∷ []) raws lines b.1 (ap is_in_repeat (append_assoc before (line ∷ []) lines) ∙ done) ∙ ap Ok (append_assoc before (line ∷ []) lines))
 
 -- a faulty part behind lines that begin a script is what the pass stops at
 fault_is_found : (before : List Form) (raws : List (List ℕ)) (lines : List Form) (bad : List ℕ) (more : List (List ℕ)) (reason : Reason) (number : ℕ) → number ≡ length before + length raws + 1 → Begins before raws lines → IsBad (before ++ lines) bad more reason → lines_from before (raws ++ bad ∷ more) ≡ Err (record { number = number; reason = reason })
-fault_is_found before [] [] bad [] reason number n b h = says_open before bad number (omega arith) (some_bytes bad h.0) ∙ ap (λ r. Err (record { number = number; reason = r })) (sym h.1)
+fault_is_found before [] [] [] [] reason number n b h =
+    says_undone before [] number (omega arith) refl (ap is_in_repeat (sym (append-nil before)) ∙ h.0) ∙ ap (λ r. Err (record { number = number; reason = r })) (sym h.1)
+fault_is_found before [] [] (byte ∷ bytes) [] reason number n b h = says_open before (byte ∷ bytes) number (omega arith) (omega arith) ∙ ap (λ r. Err (record { number = number; reason = r })) (sym h)
 fault_is_found before [] [] bad (part ∷ parts) reason number n b h = says_fault before bad (part ∷ parts) reason number (omega arith) (omega arith) (rw append-nil at h)
 fault_is_found before [] (line ∷ lines) bad more reason number n b h = absurd b
 fault_is_found before (raw ∷ raws) [] bad more reason number n b h = absurd b
@@ -47,11 +47,18 @@ pub record Found (before : List Form) (parts : List (List ℕ)) (all : List Form
   pub together : all ≡ before ++ lines
   pub are_all : parts ≡ raws ++ [] ∷ []
   pub begin : Begins before raws lines
+  pub done : is_in_repeat all ≡ false
+
+found_end : (before all : List Form) (b : Bool) → is_in_repeat before ≡ b → cond {A = Result (List Form) Fault} b (Err (record { number = length before + 1; reason = OutOfPlace })) (Ok before) ≡ Ok all → Found before ([] ∷ []) all
+found_end before all true is e = cc
+found_end before all false is e =
+    let q : before ≡ all = cc in
+    record { lines = []; raws = []; together = sym q ∙ sym (append-nil before); are_all = refl; begin = tt; done = ap is_in_repeat (sym q) ∙ is }
 
 found_lines : (before : List Form) (parts : List (List ℕ)) (all : List Form) → 0 < length parts → lines_from before parts ≡ Ok all → Found before parts all
 unfolding lines_from
 found_lines before [] all h e = absurd (omega arith)
-found_lines before ([] ∷ []) all h e = record { lines = []; raws = []; together = (let q : all ≡ before = cc in q ∙ sym (append-nil before)); are_all = refl; begin = tt }
+found_lines before ([] ∷ []) all h e = found_end before all (is_in_repeat before) refl e
 found_lines before ((byte ∷ bytes) ∷ []) all h e = cc
 found_lines before (bytes ∷ (more ∷ parts)) all h e =
     elim (result_cases (next before bytes)) [
@@ -63,6 +70,7 @@ found_lines before (bytes ∷ (more ∷ parts)) all h e =
             together = rest.together ∙ append_assoc before (w.0 ∷ []) rest.lines;
             are_all = ap (λ z. bytes ∷ z) rest.are_all;
             begin = (w.1, rest.begin);
+            done = rest.done;
           }
       | inr w ↦ let q = says_fault before bytes (more ∷ parts) w.0 (length before + 1) refl (omega arith) w.1 in cc
     ]
@@ -83,13 +91,20 @@ same_fault m n r s e =
     let q : ◌≡◌ {A = Fault} (record { number = m; reason = r }) (record { number = n; reason = s }) = cc in
     (ap (λ (f : Fault). f.number) q, ap (λ (f : Fault). f.reason) q)
 
+undone_end : (before : List Form) (number : ℕ) (reason : Reason) (b : Bool) → is_in_repeat before ≡ b
+    → cond {A = Result (List Form) Fault} b (Err (record { number = length before + 1; reason = OutOfPlace })) (Ok before) ≡ Err (record { number = number; reason = reason }) → FoundFault before ([] ∷ []) number reason
+undone_end before number reason true is e =
+    let q = same_fault (length before + 1) number OutOfPlace reason e in
+    record { raws = []; lines = []; bad = []; more = []; number_is = omega (arith, q.0); are_all = refl; begin = tt; is_bad = (ap is_in_repeat (append-nil before) ∙ is, sym q.1) }
+undone_end before number reason false is e = cc
+
 found_fault : (before : List Form) (parts : List (List ℕ)) (number : ℕ) (reason : Reason) → 0 < length parts → lines_from before parts ≡ Err (record { number = number; reason = reason }) → FoundFault before parts number reason
 unfolding lines_from
 found_fault before [] number reason h e = absurd (omega arith)
-found_fault before ([] ∷ []) number reason h e = cc
+found_fault before ([] ∷ []) number reason h e = undone_end before number reason (is_in_repeat before) refl e
 found_fault before ((byte ∷ bytes) ∷ []) number reason h e =
     let q = same_fault (length before + 1) number (open_reason (byte ∷ bytes)) reason e in
-    record { raws = []; lines = []; bad = byte ∷ bytes; more = []; number_is = omega (arith, q.0); are_all = refl; begin = tt; is_bad = (λ z. cc, sym q.1) }
+    record { raws = []; lines = []; bad = byte ∷ bytes; more = []; number_is = omega (arith, q.0); are_all = refl; begin = tt; is_bad = sym q.1 }
 found_fault before (bytes ∷ (more ∷ parts)) number reason h e =
     elim (result_cases (next before bytes)) [
       | inl w ↦
@@ -111,10 +126,10 @@ found_fault before (bytes ∷ (more ∷ parts)) number reason h e =
 
 -- the pass gives the lines of a text that says them, and nothing else
 pub text_is_found : (text : List ℕ) (lines : List Form) → IsText text lines → script_of text ≡ Ok lines
-text_is_found text lines s = rw s.1 (lines_are_found [] s.0 lines s.2)
+text_is_found text lines s = rw s.1 (lines_are_found [] s.0 lines s.2 s.3)
 
 pub found_text : (text : List ℕ) (lines : List Form) → script_of text ≡ Ok lines → IsText text lines
-found_text text lines e = let f = found_lines [] (parts_of text) lines (some_parts _ text) e in subst (λ z. IsText text z) (sym f.together) (f.raws, f.are_all, f.begin)
+found_text text lines e = let f = found_lines [] (parts_of text) lines (some_parts _ text) e in (f.raws, f.are_all, subst (λ z. Begins [] f.raws z) (sym f.together) f.begin, f.done)
 
 -- the pass stops at the first fault, and at nothing else
 pub first_is_found : (text : List ℕ) (number : ℕ) (reason : Reason) → IsFirstFault text number reason → script_of text ≡ Err (record { number = number; reason = reason })

@@ -1,10 +1,8 @@
 -- What holds of a line that has no fault where it stands.
 use Rattle.std.proofs.Common.{◌≡◌, Bool, false, true, cond, List, Option, Some, None, refl}
 use Rattle.pfs_script.specs.declared.forms.Form.{Form}
-use Rattle.pfs_script.specs.declared.forms.Form.TheVariants as form
 use Rattle.pfs_script.specs.declared.reasons.Reason.{Reason}
 use Rattle.pfs_script.specs.declared.reasons.Reason.TheVariants.{OutOfPlace, BadNumber, BadSession, UnknownName, BadLimit, BadNesting, TooLong, TooMuch, NotBuilt}
-use Rattle.pfs_script.specs.Counts.{is_done}
 use Rattle.pfs_script.specs.Next.{is_built, is_out_of_place, is_bad_number, is_bad_session, is_unknown, is_bad_limit, is_bad_nesting, is_too_long, is_too_much, is_not_built_here, least_reason, fault_of}
 
 -- each test for a fault fails
@@ -42,8 +40,3 @@ passes before line h =
     let j = unless (is_too_much before line) TooMuch _ i.1 in
     let k = unless (is_not_built_here before line) NotBuilt _ j.1 in
     record { built = a.0; place = b.0; number = c.0; session = d.0; known = e.0; limit = f.0; nesting = g.0; long = i.0; much = j.0; here = k.0 }
-
--- a `done` isn't built
-pub not_done : (line : Form) → is_built line ≡ true → is_done line ≡ false
-not_done form.Done h = cc
-not_done _ h = refl

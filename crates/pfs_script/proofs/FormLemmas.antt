@@ -8,7 +8,7 @@ use Rattle.pfs_classes.specs.Kinds.{Fits, kind_of}
 use Rattle.pfs_script.specs.Numbers.{number_of, numbers_of}
 use Rattle.pfs_script.specs.Words.{word_of, rest_of, schema_of, table_of, is_word, is_name, is_table_name, switch_of, switches_of}
 use Rattle.pfs_script.specs.declared.words.Switches.{Switches}
-use Rattle.pfs_script.specs.declared.forms.Access.TheVariants.{ReadWrite, ReadOnly}
+use Rattle.pfs_script.specs.declared.blocks.Access.TheVariants.{ReadWrite, ReadOnly}
 use Rattle.pfs_script.specs.declared.forms.Form.{Form}
 use Rattle.pfs_script.specs.declared.forms.Form.TheVariants.{Limit, Class, Consumer, Instrument, Phase, Connect, TableWait, Transaction, StageEnd, Spend, End, EndStatement, Sql, Quit, Repeat, Done}
 use Rattle.pfs_script.specs.Forms.{HasItsKind, limit_of, limit_form, class_kind_of, class_of, class_form, consumer_of, consumer_form, instrument_of, instrument_form, connect_of, connect_form, session_of, session_form, start_of_kind, start_class, transaction_form, table_wait_of, table_wait_form, start_of_kind_with, start_class_with, start_of, start_form, stage_of, stage_form, spend_form, end_form, sql_form, repeat_form, bare_form, block_form, long_form, form_of, words_form}

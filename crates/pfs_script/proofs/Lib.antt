@@ -12,7 +12,10 @@ pub mod HeadLemmas
 pub mod LikeLemmas
 pub mod NamedLemmas
 pub mod NameLemmas
+pub mod Nesting
+pub mod NestingExamples
 pub mod NumberLemmas
+pub mod Opening
 pub mod PassLemmas
 pub mod ReadingExamples
 pub mod ReferLemmas
@@ -23,3 +26,4 @@ pub mod Splits
 pub mod Steps
 pub mod Taking
 pub mod Totalling
+pub mod Writing

@@ -1,7 +1,6 @@
 -- The phases of a script's lines can be run.
-use Rattle.std.proofs.Common.{ℕ, zero, suc, ◌≡◌, ◌<◌, ◌≤◌, ◌+◌, Bool, true, false, ◌||◌, ◌&&◌, not, List, [], ◌∷◌, ◌++◌, Option, Some, None, refl, sym, ◌∙◌, subst, length, get_or, map, nat_le, append_assoc, ◌⊎◌, inl, inr, arith}
-use Rattle.std.proofs.lemmas.List.Sums.{sum_by-append}
-use Rattle.std.specs.Prelude.{cond, count_by, option_map, if◌then◌else◌, Contains, codes}
+use Rattle.std.proofs.Common.{ℕ, zero, suc, ◌≡◌, ◌<◌, ◌≤◌, ◌+◌, Bool, true, false, ◌||◌, ◌&&◌, not, List, [], ◌∷◌, ◌++◌, Option, Some, None, refl, ap, sym, ◌∙◌, subst, length, get_or, map, nat_lt, nat_le, append_assoc, append-nil, ◌⊎◌, inl, inr, arith}
+use Rattle.std.specs.Prelude.{count_by, option_map, if◌then◌else◌, Contains, codes}
 use Rattle.std.specs.List.{list_any, All}
 use Rattle.std.specs.Str.{bytes_eq}
 use Rattle.std.proofs.lemmas.Bool.Decides.{nat_tests}
@@ -15,12 +14,19 @@ use Rattle.pfs_script.specs.declared.blocks.BlockLine.{BlockLine}
 use Rattle.pfs_script.specs.declared.blocks.BlockLine.TheVariants as said
 use Rattle.pfs_script.specs.declared.blocks.Block.{Block}
 use Rattle.pfs_script.specs.Headings.{head_of, resolved, is_known, is_builtin, is_class_named}
-use Rattle.pfs_script.specs.Next.{is_phase, is_connect, is_block_of, is_start, is_end, is_open, phase_of, block_of}
-use Rattle.pfs_script.specs.Blocks.{with_front, block_line, block_lines, block_behind, ends_block, session_of, blocks_of, phases_of}
+use Rattle.pfs_script.specs.Next.{is_phase, is_connect, is_block_of, is_blockless, is_event_class, is_bad_nesting, phase_of, mark_of_form, kinds_open, same_kinds, one_each}
+use Rattle.pfs_script.specs.Blocks.{with_front, statement_numbers, block_line, block_lines, block_behind, ends_block, session_of, blocks_of, phases_of}
 use Rattle.pfs_script.specs.Runnable as run
 use Rattle.pfs_script.specs.Scripts.{Begins}
-use Rattle.pfs_script.proofs.Behind.{count_more, any_more}
-use Rattle.pfs_script.proofs.Coursing.{phase_new, phase_same, block_new, block_same}
+use Rattle.pfs_event.specs.declared.kind.EventKind.{EventKind}
+use Rattle.pfs_script.specs.Marks.{mark_of, Passes as Passing}
+use Rattle.pfs_script.specs.Brackets.{kinds_behind, may_stand}
+use Rattle.pfs_script.specs.Nested.{IsNested}
+use Rattle.pfs_script.specs.Counts.{ahead_of_last, is_repeat, is_done, is_in_repeat, counted}
+use Rattle.pfs_script.proofs.Behind.{count_more, any_more, ahead_more, in_repeat-begun, in_repeat-done, in_repeat-same, counted_none}
+use Rattle.pfs_script.proofs.Coursing.{phase_new, phase_same, open_new, open_more, stands}
+use Rattle.pfs_script.proofs.Opening.{same_all}
+use Rattle.pfs_script.proofs.Writing.{written_short}
 use Rattle.pfs_script.proofs.Faultless.{Passes, passes}
 use Rattle.pfs_script.proofs.ReferLemmas.{known_resolved, resolved_within}
 use Rattle.pfs_script.proofs.Taking.{next_none}
@@ -76,6 +82,15 @@ or_longer false false c h = cc
 or_true : (a : Bool) → (a || true) ≡ true
 or_true true = refl
 or_true false = refl
+
+-- few lines
+
+few_so : (number : ℕ) → nat_lt 200000 number ≡ false → number ≤ 200000
+few_so number h = grind (arith, nat_tests, h)
+
+few_lines : (before lines : List Form) → Stand before lines → counted one_each before ≤ 200000 → counted one_each (before ++ lines) ≤ 200000
+few_lines before [] s h = rw append-nil h
+few_lines before (line ∷ lines) s h = rw append_assoc at (few_lines (before ++ line ∷ []) lines s.1 (few_so (counted one_each (before ++ line ∷ [])) s.0.long))
 
 -- one phase
 
@@ -207,86 +222,182 @@ module _ (refer : List ℕ → Option ClassRef) where
         | inr p ↦ rw p (apart_front refer before line lines (blocks_of refer lines) s.0 p (apart (before ++ line ∷ []) lines s.1))
       ]
 
--- waits that don't nest
+-- known classes
 
 known_longer : (before more : List Form) (name : List ℕ) → is_known before name ≡ true → is_known (before ++ more) name ≡ true
 unfolding is_known
 known_longer before more name h = rw (list_any-append (is_class_named name) before more) (or_longer (is_builtin name) (list_any (is_class_named name) before) (list_any (is_class_named name) more) h)
 
-wait_known : (before : List Form) (class : List ℕ) → Passes before (form.Wait class) → is_known before class ≡ true
-wait_known before class p = both_first (is_known before class) (not (bytes_eq class (codes "transaction"))) (not_false (is_known before class && not (bytes_eq class (codes "transaction"))) p.known)
+event_known : (before : List Form) (class : List ℕ) → not (is_event_class before class) ≡ false → is_known before class ≡ true
+event_known before class h = both_first (is_known before class) (not (bytes_eq class (codes "transaction"))) (not_false (is_event_class before class) h)
 
-wait_other : (before : List Form) (class : List ℕ) → Passes before (form.Wait class) → bytes_eq class (codes "transaction") ≡ false
-wait_other before class p = not_true (bytes_eq class (codes "transaction")) (both_second (is_known before class) (not (bytes_eq class (codes "transaction"))) (not_false (is_known before class && not (bytes_eq class (codes "transaction"))) p.known))
+event_other : (before : List Form) (class : List ℕ) → not (is_event_class before class) ≡ false → bytes_eq class (codes "transaction") ≡ false
+event_other before class h = not_true (bytes_eq class (codes "transaction")) (both_second (is_known before class) (not (bytes_eq class (codes "transaction"))) (not_false (is_event_class before class) h))
 
--- what was said to a session starts and ends as many waits as the lines of its block
-record Says (before : List Form) (sayings : List BlockLine) : Type 0 where
-  starts : count_by run.is_start sayings ≡ count_by is_start (block_of before)
-  ends : count_by run.is_end sayings ≡ count_by is_end (block_of before)
+-- events that nest
 
-said_more : (test : BlockLine → Bool) (sayings : List BlockLine) (one : BlockLine) → count_by test (sayings ++ one ∷ []) ≡ count_by test sayings + (if test one then 1 else 0)
-said_more test sayings one = omega (arith, sum_by-append (λ x. cond (test x) 1 0) sayings (one ∷ []))
+-- the line neither begins a repeat nor ends one
+abbrev IsPlain : BlockLine → Type 0
+IsPlain (said.Wait class) = Unit {0}
+IsPlain (said.Statement class) = Unit {0}
+IsPlain (said.Transaction access) = Unit {0}
+IsPlain (said.Stage class) = Unit {0}
+IsPlain said.StageEnd = Unit {0}
+IsPlain (said.Spend time) = Unit {0}
+IsPlain said.End = Unit {0}
+IsPlain (said.EndStatement numbers) = Unit {0}
+IsPlain (said.Repeat times) = ⊥
+IsPlain said.Done = ⊥
 
-says_nothing : (before : List Form) (line : Form) (sayings : List BlockLine) → is_connect line ≡ false → is_start line ≡ false → is_end line ≡ false → Says before sayings → Says (before ++ line ∷ []) sayings
-says_nothing before line sayings c s e k = record {
-  starts = rw (block_same before line c, count_more is_start (block_of before) line, s) (omega (arith, k.starts));
-  ends = rw (block_same before line c, count_more is_end (block_of before) line, e) (omega (arith, k.ends));
-}
+plain_nested : (kinds : List EventKind) (start : Option (List EventKind)) (line : BlockLine) (more : List BlockLine) → IsPlain line → may_stand kinds (mark_of line) ≡ true → IsNested (kinds_behind (mark_of line) kinds) start more → IsNested kinds start (line ∷ more)
+unfolding IsNested
+plain_nested kinds None (said.Wait class) more plain may rest = (may, rest)
+plain_nested kinds (Some first) (said.Wait class) more plain may rest = (may, rest)
+plain_nested kinds None (said.Statement class) more plain may rest = (may, rest)
+plain_nested kinds (Some first) (said.Statement class) more plain may rest = (may, rest)
+plain_nested kinds None (said.Transaction access) more plain may rest = (may, rest)
+plain_nested kinds (Some first) (said.Transaction access) more plain may rest = (may, rest)
+plain_nested kinds None (said.Stage class) more plain may rest = (may, rest)
+plain_nested kinds (Some first) (said.Stage class) more plain may rest = (may, rest)
+plain_nested kinds None said.StageEnd more plain may rest = (may, rest)
+plain_nested kinds (Some first) said.StageEnd more plain may rest = (may, rest)
+plain_nested kinds None (said.Spend time) more plain may rest = (may, rest)
+plain_nested kinds (Some first) (said.Spend time) more plain may rest = (may, rest)
+plain_nested kinds None said.End more plain may rest = (may, rest)
+plain_nested kinds (Some first) said.End more plain may rest = (may, rest)
+plain_nested kinds None (said.EndStatement numbers) more plain may rest = (may, rest)
+plain_nested kinds (Some first) (said.EndStatement numbers) more plain may rest = (may, rest)
+plain_nested kinds start (said.Repeat times) more plain may rest = absurd plain
+plain_nested kinds start said.Done more plain may rest = absurd plain
 
-says_more : (before : List Form) (line : Form) (sayings : List BlockLine) (one : BlockLine) → is_connect line ≡ false → run.is_start one ≡ is_start line → run.is_end one ≡ is_end line → Says before sayings → Says (before ++ line ∷ []) (sayings ++ one ∷ [])
-says_more before line sayings one c s e k = record {
-  starts = rw (block_same before line c, count_more is_start (block_of before) line, said_more run.is_start sayings one, s) (omega (arith, k.starts));
-  ends = rw (block_same before line c, count_more is_end (block_of before) line, said_more run.is_end sayings one, e) (omega (arith, k.ends));
-}
+repeat_nested : (kinds : List EventKind) (times : ℕ) (more : List BlockLine) → IsNested kinds (Some kinds) more → IsNested kinds None (said.Repeat times ∷ more)
+unfolding IsNested
+repeat_nested kinds times more rest = rest
 
-says_none : (before : List Form) (line : Form) → is_connect line ≡ true → Says (before ++ line ∷ []) []
-says_none before line c = record { starts = rw (block_new before line c) refl; ends = rw (block_new before line c) refl }
+done_nested : (kinds start : List EventKind) (more : List BlockLine) → kinds ≡ start → IsNested kinds None more → IsNested kinds (Some start) (said.Done ∷ more)
+unfolding IsNested
+done_nested kinds start more same rest = (same, rest)
 
-same_open : (before : List Form) (sayings : List BlockLine) → Says before sayings → run.is_open sayings ≡ is_open before
-same_open before sayings k = rw (k.starts, k.ends) refl
+nothing_nested : (kinds : List EventKind) (start : Option (List EventKind)) → IsNested kinds start []
+unfolding IsNested
+nothing_nested kinds start = tt
+
+-- the kinds that were open where a repeat began, while it isn't done
+abbrev start_of : List Form → Option (List EventKind)
+start_of before = if is_in_repeat before then Some (kinds_open (ahead_of_last is_repeat before)) else None
+
+start_same : (before : List Form) (line : Form) → is_repeat line ≡ false → is_done line ≡ false → start_of (before ++ line ∷ []) ≡ start_of before
+start_same before line r d = rw (in_repeat-same before line r d, ahead_more is_repeat before line, r) refl
+
+start_begun : (before : List Form) (times : Option ℕ) → start_of (before ++ form.Repeat times ∷ []) ≡ Some (kinds_open before)
+start_begun before times = rw (in_repeat-begun before (form.Repeat times) refl, ahead_more is_repeat before (form.Repeat times)) refl
+
+-- no repeat goes on in another block
+start_connect : (before : List Form) (number : ℕ) (user host : List ℕ) → Passes before (form.Connect (Some number) user host) → start_of (before ++ form.Connect (Some number) user host ∷ []) ≡ None
+start_connect before number user host p =
+    let line = form.Connect (Some number) user host in
+    let out : is_in_repeat before ≡ false = second_false (not (list_any is_phase before)) (is_in_repeat before) p.place in
+    start_same before line refl refl ∙ rw out refl
+
+start_done : (before : List Form) → start_of (before ++ form.Done ∷ []) ≡ None
+start_done before = rw (in_repeat-done before) refl
+
+-- behind the lines so far, the events of these nest
+abbrev Nests : List Form → List BlockLine → Type 0
+Nests before more = IsNested (kinds_open before) (start_of before) more
+
+nests_same : (before : List Form) (line : Form) (more : List BlockLine) → is_connect line ≡ false → mark_of_form line ≡ Passing → is_repeat line ≡ false → is_done line ≡ false → Nests (before ++ line ∷ []) more → Nests before more
+nests_same before line more c m r d h =
+    let kinds : kinds_open (before ++ line ∷ []) ≡ kinds_open before = open_more before line c ∙ ap (λ mark. kinds_behind mark (kinds_open before)) m in
+    rw (kinds, start_same before line r d) at h
+
+nests_more : (before : List Form) (line : Form) (one : BlockLine) (more : List BlockLine) → is_connect line ≡ false → is_repeat line ≡ false → is_done line ≡ false → IsPlain one → mark_of one ≡ mark_of_form line
+    → is_bad_nesting before line ≡ false → Nests (before ++ line ∷ []) more → Nests before (one ∷ more)
+nests_more before line one more c r d plain m nesting h =
+    let kinds : kinds_open (before ++ line ∷ []) ≡ kinds_behind (mark_of one) (kinds_open before) = open_more before line c ∙ ap (λ mark. kinds_behind mark (kinds_open before)) (sym m) in
+    plain_nested (kinds_open before) (start_of before) one more plain (rw m (stands before line nesting)) (rw (kinds, start_same before line r d) at h)
+
+nests_repeat : (before : List Form) (times : ℕ) (more : List BlockLine) → is_in_repeat before ≡ false → Nests (before ++ form.Repeat (Some times) ∷ []) more → Nests before (said.Repeat times ∷ more)
+nests_repeat before times more out h =
+    let line = form.Repeat (Some times) in
+    let kinds : kinds_open (before ++ line ∷ []) ≡ kinds_open before = open_more before line refl in
+    rw out (repeat_nested (kinds_open before) times more (rw (kinds, start_begun before (Some times)) at h))
+
+nests_done : (before : List Form) (more : List BlockLine) → is_in_repeat before ≡ true → same_kinds (kinds_open before) (kinds_open (ahead_of_last is_repeat before)) ≡ true → Nests (before ++ form.Done ∷ []) more → Nests before (said.Done ∷ more)
+nests_done before more within same h =
+    let kinds : kinds_open (before ++ form.Done ∷ []) ≡ kinds_open before = open_more before form.Done refl in
+    rw within (done_nested (kinds_open before) (kinds_open (ahead_of_last is_repeat before)) more (same_all (kinds_open before) (kinds_open (ahead_of_last is_repeat before)) same) (rw (kinds, start_done before) at h))
 
 all_none : {A : Type 0} (P : A → Type 0) → All P []
 all_none P k d h = absurd (omega (arith, h))
 
-module _ (all : List Form) where
-  follow_front : (before : List Form) (line : Form) (more sayings : List BlockLine) → Passes before line → ends_block line ≡ false → ((name : List ℕ) → is_known before name ≡ true → is_known all name ≡ true) → Says before sayings
-      → ((later : List BlockLine) → Says (before ++ line ∷ []) later → run.Follows later more) → run.Follows sayings (with_front (block_line (resolved (head_of all)) line) more)
-  follow_front before (form.Wait class) more sayings p n known k rest =
-      let r = known_resolved all class (known class (wait_known before class p)) in
-      let may : run.may_follow sayings (said.Start r.0) ≡ true = rw (same_open before sayings k, p.here) refl in
-      rw r.1 (may, rest (sayings ++ said.Start r.0 ∷ []) (says_more before (form.Wait class) sayings (said.Start r.0) refl refl refl k))
-  follow_front before (form.Spend (Some time)) more sayings p n known k rest =
-      (refl, rest (sayings ++ said.Spend time ∷ []) (says_more before (form.Spend (Some time)) sayings (said.Spend time) refl refl refl k))
-  follow_front before (form.Spend None) more sayings p n known k rest = rest sayings (says_nothing before (form.Spend None) sayings refl refl refl k)
-  follow_front before form.End more sayings p n known k rest =
-      (same_open before sayings k ∙ not_false (is_open before) p.nesting, rest (sayings ++ said.End ∷ []) (says_more before form.End sayings said.End refl refl refl k))
-  follow_front before form.Phase more sayings p n known k rest = cc
-  follow_front before (form.Connect session user host) more sayings p n known k rest = cc
-  follow_front before line more sayings p n known k rest = rest sayings (says_nothing before line sayings refl refl refl k)
+module _ (all : List Form) (few : counted one_each all ≤ 200000) where
+  class_nests : (before : List Form) (line : Form) (class : List ℕ) (starts : ClassRef → BlockLine) (more : List BlockLine) → ((name : List ℕ) → is_known before name ≡ true → is_known all name ≡ true) → not (is_event_class before class) ≡ false
+      → ((ref : ClassRef) → Nests before (starts ref ∷ more)) → Nests before (with_front (option_map starts (resolved (head_of all) class)) more)
+  class_nests before line class starts more known h nests =
+      let r = known_resolved all class (known class (event_known before class h)) in
+      rw r.1 (nests r.0)
 
-  follow : (before lines : List Form) → Stand before lines → all ≡ before ++ lines → (sayings : List BlockLine) → Says before sayings → run.Follows sayings (block_lines (resolved (head_of all)) lines)
+  nest_front : (before : List Form) (line : Form) (more : List BlockLine) → Passes before line → ends_block line ≡ false → ((name : List ℕ) → is_known before name ≡ true → is_known all name ≡ true)
+      → Nests (before ++ line ∷ []) more → Nests before (with_front (block_line (resolved (head_of all)) line) more)
+  nest_front before (form.Wait class) more p n known rest =
+      class_nests before (form.Wait class) class said.Wait more known p.known (λ ref. nests_more before (form.Wait class) (said.Wait ref) more refl refl refl tt refl p.nesting rest)
+  nest_front before (form.Statement class text) more p n known rest =
+      class_nests before (form.Statement class text) class said.Statement more known p.known (λ ref. nests_more before (form.Statement class text) (said.Statement ref) more refl refl refl tt refl p.nesting rest)
+  nest_front before (form.Stage class) more p n known rest =
+      class_nests before (form.Stage class) class said.Stage more known p.known (λ ref. nests_more before (form.Stage class) (said.Stage ref) more refl refl refl tt refl p.nesting rest)
+  nest_front before (form.Transaction access) more p n known rest = nests_more before (form.Transaction access) (said.Transaction access) more refl refl refl tt refl p.nesting rest
+  nest_front before form.StageEnd more p n known rest = nests_more before form.StageEnd said.StageEnd more refl refl refl tt refl p.nesting rest
+  nest_front before (form.Spend (Some time)) more p n known rest = nests_more before (form.Spend (Some time)) (said.Spend time) more refl refl refl tt refl p.nesting rest
+  nest_front before (form.Spend None) more p n known rest = nests_same before (form.Spend None) more refl refl refl refl rest
+  nest_front before form.End more p n known rest = nests_more before form.End said.End more refl refl refl tt refl p.nesting rest
+  nest_front before (form.EndStatement numbers) more p n known rest = nests_more before (form.EndStatement numbers) (said.EndStatement (statement_numbers numbers)) more refl refl refl tt refl p.nesting rest
+  nest_front before (form.Repeat (Some times)) more p n known rest = nests_repeat before times more (second_false (is_blockless before) (is_in_repeat before) p.place) rest
+  nest_front before (form.Repeat None) more p n known rest = absurd (let q = p.number in cc)
+  nest_front before form.Done more p n known rest =
+      nests_done before more (not_false (is_in_repeat before) p.place) (not_false (same_kinds (kinds_open before) (kinds_open (ahead_of_last is_repeat before))) p.nesting) rest
+  nest_front before (form.TableWait class schema name) more p n known rest = absurd (let q = p.built in cc)
+  nest_front before form.Phase more p n known rest = cc
+  nest_front before (form.Connect session user host) more p n known rest = cc
+  nest_front before line more p n known rest = nests_same before line more refl refl refl refl rest
+
+  nest : (before lines : List Form) → Stand before lines → all ≡ before ++ lines → Nests before (block_lines (resolved (head_of all)) lines)
   unfolding block_lines
-  follow before [] s e sayings k = tt
-  follow before (line ∷ lines) s e sayings k =
+  nest before [] s e = nothing_nested (kinds_open before) (start_of before)
+  nest before (line ∷ lines) s e =
       elim (bool_cases (ends_block line)) [
-        | inl p ↦ rw p tt
-        | inr p ↦ rw p (follow_front before line (block_lines (resolved (head_of all)) lines) sayings s.0 p (λ name h. rw e (known_longer before (line ∷ lines) name h)) k (λ later says. follow (before ++ line ∷ []) lines s.1 (e ∙ sym (append_assoc before (line ∷ []) lines)) later says))
+        | inl p ↦ rw p (nothing_nested (kinds_open before) (start_of before))
+        | inr p ↦ rw p (nest_front before line (block_lines (resolved (head_of all)) lines) s.0 p (λ name h. rw e (known_longer before (line ∷ lines) name h)) (nest (before ++ line ∷ []) lines s.1 (e ∙ sym (append_assoc before (line ∷ []) lines))))
       ]
 
-  reference_known : (before : List Form) (class : List ℕ) (more : List BlockLine) (ref : Option ClassRef) → Passes before (form.Wait class) → resolved (head_of all) class ≡ ref → All (run.IsKnown (length (head_of all).classes.classes)) more
-      → All (run.IsKnown (length (head_of all).classes.classes)) (with_front (option_map said.Start ref) more)
-  reference_known before class more None p e h = h
-  reference_known before class more (Some (refs.Class id)) p e h = All-cons (run.IsKnown (length (head_of all).classes.classes)) (said.Start (refs.Class id)) more (resolved_within all class id (wait_other before class p) e) h
-  reference_known before class more (Some (refs.Lost kind)) p e h = All-cons (run.IsKnown (length (head_of all).classes.classes)) (said.Start (refs.Lost kind)) more tt h
+  abbrev AreKnown : List BlockLine → Type 0
+  AreKnown lines = All (run.IsKnown (length (head_of all).classes.classes)) lines
 
-  known_front : (before : List Form) (line : Form) (more : List BlockLine) → Passes before line → All (run.IsKnown (length (head_of all).classes.classes)) more → All (run.IsKnown (length (head_of all).classes.classes)) (with_front (block_line (resolved (head_of all)) line) more)
-  known_front before (form.Wait class) more p h = reference_known before class more (resolved (head_of all) class) p refl h
-  known_front before (form.Spend (Some time)) more p h = All-cons (run.IsKnown (length (head_of all).classes.classes)) (said.Spend time) more tt h
+  known_more : (one : BlockLine) (more : List BlockLine) → run.IsKnown (length (head_of all).classes.classes) one → AreKnown more → AreKnown (one ∷ more)
+  known_more one more k h = All-cons (run.IsKnown (length (head_of all).classes.classes)) one more k h
+
+  reference_known : (before : List Form) (class : List ℕ) (starts : ClassRef → BlockLine) (more : List BlockLine) (ref : Option ClassRef) → not (is_event_class before class) ≡ false → resolved (head_of all) class ≡ ref
+      → ((one : ClassRef) → run.IsKnownClass (length (head_of all).classes.classes) one → run.IsKnown (length (head_of all).classes.classes) (starts one)) → AreKnown more → AreKnown (with_front (option_map starts ref) more)
+  reference_known before class starts more None p e k h = h
+  reference_known before class starts more (Some (refs.Class id)) p e k h = known_more (starts (refs.Class id)) more (k (refs.Class id) (resolved_within all class id (event_other before class p) e)) h
+  reference_known before class starts more (Some (refs.Lost kind)) p e k h = known_more (starts (refs.Lost kind)) more (k (refs.Lost kind) tt) h
+
+  known_front : (before : List Form) (line : Form) (more : List BlockLine) → Passes before line → AreKnown more → AreKnown (with_front (block_line (resolved (head_of all)) line) more)
+  known_front before (form.Wait class) more p h = reference_known before class said.Wait more (resolved (head_of all) class) p.known refl (λ one k. k) h
+  known_front before (form.Statement class text) more p h = reference_known before class said.Statement more (resolved (head_of all) class) p.known refl (λ one k. k) h
+  known_front before (form.Stage class) more p h = reference_known before class said.Stage more (resolved (head_of all) class) p.known refl (λ one k. k) h
+  known_front before (form.Transaction access) more p h = known_more (said.Transaction access) more tt h
+  known_front before form.StageEnd more p h = known_more said.StageEnd more tt h
+  known_front before (form.Spend (Some time)) more p h = known_more (said.Spend time) more tt h
   known_front before (form.Spend None) more p h = h
-  known_front before form.End more p h = All-cons (run.IsKnown (length (head_of all).classes.classes)) said.End more tt h
+  known_front before form.End more p h = known_more said.End more tt h
+  known_front before (form.EndStatement numbers) more p h = known_more (said.EndStatement (statement_numbers numbers)) more tt h
+  known_front before (form.Repeat (Some times)) more p h = known_more (said.Repeat times) more tt h
+  known_front before (form.Repeat None) more p h = h
+  known_front before form.Done more p h = known_more said.Done more tt h
   known_front before line more p h = h
 
-  knowns : (before lines : List Form) → Stand before lines → All (run.IsKnown (length (head_of all).classes.classes)) (block_lines (resolved (head_of all)) lines)
+  knowns : (before lines : List Form) → Stand before lines → AreKnown (block_lines (resolved (head_of all)) lines)
   unfolding block_lines
   knowns before [] s = all_none (run.IsKnown (length (head_of all).classes.classes))
   knowns before (line ∷ lines) s =
@@ -302,8 +413,9 @@ module _ (all : List Form) where
       All-cons (run.IsBlock (length (head_of all).classes.classes)) (block_behind (resolved (head_of all)) lines number) more (record {
         low = bounds.0;
         high = bounds.1;
-        nested = follow (before ++ form.Connect (Some number) user host ∷ []) lines s e [] (says_none before (form.Connect (Some number) user host) refl);
+        nested = (let first = before ++ form.Connect (Some number) user host ∷ [] in rw (open_new before (form.Connect (Some number) user host) refl, start_connect before number user host p) at (nest first lines s e));
         known = knowns (before ++ form.Connect (Some number) user host ∷ []) lines s;
+        short = written_short (resolved (head_of all)) all (before ++ form.Connect (Some number) user host ∷ []) lines e few;
       }) h
   block_front before line lines more p s e h = h
 
@@ -341,4 +453,4 @@ module _ (all : List Form) where
 pub runnable : (raws : List (List ℕ)) (lines : List Form) → Begins [] raws lines → run.IsRunnable (length (head_of lines).classes.classes) (phases_of (resolved (head_of lines)) lines)
 runnable raws lines b =
     let s = stand_of [] raws lines b in
-    record { one = one_phase (resolved (head_of lines)) [] lines s; each = phases_run lines [] lines s refl }
+    record { one = one_phase (resolved (head_of lines)) [] lines s; each = phases_run lines (few_lines [] lines s (omega (arith, counted_none one_each))) [] lines s refl }

@@ -1,7 +1,9 @@
 -- One line more of the pass over a text.
-use Rattle.std.proofs.Common.{ℕ, ◌≡◌, ◌+◌, ◌<◌, List, [], ◌∷◌, ◌++◌, length, Ok, Err, refl, arith}
+use Rattle.std.proofs.Common.{ℕ, ◌≡◌, ◌+◌, ◌<◌, List, [], ◌∷◌, ◌++◌, length, Ok, Err, true, false, refl, arith}
 use Rattle.pfs_script.specs.declared.forms.Form.{Form}
 use Rattle.pfs_script.specs.declared.reasons.Reason.{Reason}
+use Rattle.pfs_script.specs.declared.reasons.Reason.TheVariants.{OutOfPlace}
+use Rattle.pfs_script.specs.Counts.{is_in_repeat}
 use Rattle.pfs_script.specs.Next.{next}
 use Rattle.pfs_script.specs.Scripts.{lines_from, open_reason}
 
@@ -17,11 +19,17 @@ unfolding lines_from
 says_fault before bytes [] reason number m h e = absurd (omega arith)
 says_fault before bytes (more ∷ parts) reason number m h e = rw (e, m) refl
 
--- nothing stands behind the last line feed: the pass ends with the lines
-pub says_all : (before : List Form) (bytes : List ℕ) → length bytes ≡ 0 → lines_from before (bytes ∷ []) ≡ Ok before
+-- nothing stands behind the last line feed, and each repeat is done: the pass ends with the lines
+pub says_all : (before : List Form) (bytes : List ℕ) → length bytes ≡ 0 → is_in_repeat before ≡ false → lines_from before (bytes ∷ []) ≡ Ok before
 unfolding lines_from
-says_all before [] h = refl
-says_all before (byte ∷ bytes) h = absurd (omega arith)
+says_all before [] h done = rw done refl
+says_all before (byte ∷ bytes) h done = absurd (omega arith)
+
+-- a repeat isn't done there
+pub says_undone : (before : List Form) (bytes : List ℕ) (number : ℕ) → number ≡ length before + 1 → length bytes ≡ 0 → is_in_repeat before ≡ true → lines_from before (bytes ∷ []) ≡ Err (record { number = number; reason = OutOfPlace })
+unfolding lines_from
+says_undone before [] number m h undone = rw (undone, m) refl
+says_undone before (byte ∷ bytes) number m h undone = absurd (omega arith)
 
 -- something stands there: it is an unended line
 pub says_open : (before : List Form) (bytes : List ℕ) (number : ℕ) → number ≡ length before + 1 → 0 < length bytes → lines_from before (bytes ∷ []) ≡ Err (record { number = number; reason = open_reason bytes })

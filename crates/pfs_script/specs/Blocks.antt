@@ -1,20 +1,40 @@
 -- The phases of a script, their blocks, and what the lines of a block say to its session.
-use Rattle.std.specs.Prelude.{ℕ, ◌||◌, Bool, true, false, if◌then◌else◌, List, [], ◌∷◌, Option, Some, None, option_map}
+use Rattle.std.specs.Prelude.{ℕ, ◌||◌, Bool, true, false, if◌then◌else◌, List, [], ◌∷◌, Option, Some, None, option_map, unwrap_or}
 use Rattle.pfs_classes.specs.declared.classes.ClassRef.{ClassRef}
+use Rattle.pfs_script.specs.declared.forms.Numbers.{Numbers}
 use Rattle.pfs_script.specs.declared.forms.Form.{Form}
 use Rattle.pfs_script.specs.declared.forms.Form.TheVariants as form
 use Rattle.pfs_script.specs.declared.blocks.BlockLine.{BlockLine}
-use Rattle.pfs_script.specs.declared.blocks.BlockLine.TheVariants.{Start, Spend, End}
+use Rattle.pfs_script.specs.declared.blocks.BlockLine.TheVariants as said
+use Rattle.pfs_script.specs.declared.blocks.StatementNumbers.{StatementNumbers}
 use Rattle.pfs_script.specs.declared.blocks.Block.{Block}
 use Rattle.pfs_script.specs.declared.blocks.Phase.{Phase}
 use Rattle.pfs_script.specs.Next.{is_phase, is_connect}
 
+-- the numbers of a statement's end; one that is over 2^64 - 1 stands on no line of a script
+abbrev pub statement_numbers : Numbers → StatementNumbers
+statement_numbers numbers = record {
+  lock = unwrap_or numbers.lock 0;
+  errors = unwrap_or numbers.errors 0;
+  warnings = unwrap_or numbers.warnings 0;
+  affected = unwrap_or numbers.affected 0;
+  sent = unwrap_or numbers.sent 0;
+  examined = unwrap_or numbers.examined 0;
+}
+
 -- what a line says to the session of its block, or that it says nothing; `refer` tells what a class's name stands for,
 -- and tells it of each class that a script starts
 abbrev pub block_line : (List ℕ → Option ClassRef) → Form → Option BlockLine
-block_line refer (form.Wait class) = option_map Start (refer class)
-block_line refer (form.Spend time) = option_map Spend time
-block_line refer form.End = Some End
+block_line refer (form.Wait class) = option_map said.Wait (refer class)
+block_line refer (form.Statement class text) = option_map said.Statement (refer class)
+block_line refer (form.Transaction access) = Some (said.Transaction access)
+block_line refer (form.Stage class) = option_map said.Stage (refer class)
+block_line refer form.StageEnd = Some said.StageEnd
+block_line refer (form.Spend time) = option_map said.Spend time
+block_line refer form.End = Some said.End
+block_line refer (form.EndStatement numbers) = Some (said.EndStatement (statement_numbers numbers))
+block_line refer (form.Repeat times) = option_map said.Repeat times
+block_line refer form.Done = Some said.Done
 block_line refer _ = None
 
 -- with an element in front, where there is one

@@ -8,7 +8,7 @@ use Rattle.pfs_classes.specs.Kinds.{Fits, kind_of}
 use Rattle.pfs_script.specs.Numbers.{number_of, numbers_of}
 use Rattle.pfs_script.specs.Words.{is_script_byte, word_of, rest_of, schema_of, table_of, is_word, is_name, is_table_name, switch_of, switches_of}
 use Rattle.pfs_script.specs.declared.words.Switches.{Switches}
-use Rattle.pfs_script.specs.declared.forms.Access.TheVariants.{ReadWrite, ReadOnly}
+use Rattle.pfs_script.specs.declared.blocks.Access.TheVariants.{ReadWrite, ReadOnly}
 use Rattle.pfs_script.specs.declared.forms.Form.{Form}
 use Rattle.pfs_script.specs.declared.forms.Form.TheVariants.{Silent, Limit, Class, Consumer, Instrument, Phase, Connect, Resume, Wait, TableWait, Statement, Transaction, Stage, StageEnd, Spend, End, EndStatement, Sql, Quit, Repeat, Done}
 use Rattle.pfs_script.specs.declared.reasons.Reason.{Reason}

@@ -3,6 +3,9 @@ pub mod Words
 pub mod Forms
 pub mod Likes
 pub mod Headings
+pub mod Marks
+pub mod Brackets
+pub mod Nested
 pub mod Counts
 pub mod Next
 pub mod Places

@@ -1,17 +1,22 @@
 -- Whether a line may stand behind the lines before it, by counts and tests of them all; else the least reason why not.
-use Rattle.std.specs.Prelude.{ℕ, ◌==◌, ◌&&◌, ◌||◌, Bool, true, false, not, nat_lt, nat_le, if◌then◌else◌, List, [], ◌∷◌, ◌++◌, codes, Option, Some, None, is_none, Result, Ok, Err, count_by}
+use Rattle.std.specs.Prelude.{ℕ, ◌==◌, ◌&&◌, ◌||◌, Bool, true, false, not, nat_lt, nat_le, if◌then◌else◌, List, [], ◌∷◌, ◌++◌, length, map, codes, Option, Some, None, is_none, Result, Ok, Err, count_by}
 use Rattle.std.specs.List.{list_any, list_all}
 use Rattle.std.specs.Str.{bytes_eq}
 use Rattle.pfs_rows.specs.declared.limits.Limit.{Limit}
 use Rattle.pfs_rows.specs.declared.limits.Limit.TheVariants as limit
 use Rattle.pfs_rows.specs.Limits.{order_of, least_of, most_of}
 use Rattle.pfs_classes.specs.Kinds.{is_fixed}
+use Rattle.pfs_event.specs.declared.kind.EventKind.{EventKind}
+use Rattle.pfs_event.specs.declared.kind.EventKind.TheVariants as kinds
 use Rattle.pfs_script.specs.declared.forms.Form.{Form}
 use Rattle.pfs_script.specs.declared.forms.Form.TheVariants as form
 use Rattle.pfs_script.specs.declared.reasons.Reason.{Reason}
 use Rattle.pfs_script.specs.declared.reasons.Reason.TheVariants.{OutOfPlace, BadNumber, BadSession, UnknownName, BadLimit, BadNesting, TooLong, TooMuch, NotBuilt}
 use Rattle.pfs_script.specs.Headings.{named_limit, named_consumer, is_before_limits, is_known}
-use Rattle.pfs_script.specs.Counts.{behind_last, counted}
+use Rattle.pfs_script.specs.Marks.{Mark, Opens, Ends, EndsStage, Passes}
+use Rattle.pfs_script.specs.Brackets.{open_in, kinds_of, may_stand, is_in_statement}
+use Rattle.pfs_script.specs.Counts.{behind_last, ahead_of_last, is_repeat, is_in_repeat, counted}
+use Rattle.pfs_script.specs.declared.forms.Numbers.{Numbers}
 use Rattle.pfs_script.specs.Forms.{form}
 
 abbrev pub is_class : Form → Bool
@@ -32,14 +37,6 @@ abbrev pub is_block_of : ℕ → Form → Bool
 is_block_of number (form.Connect (Some session) user host) = session == number
 is_block_of number _ = false
 
-abbrev pub is_start : Form → Bool
-is_start (form.Wait class) = true
-is_start _ = false
-
-abbrev pub is_end : Form → Bool
-is_end form.End = true
-is_end _ = false
-
 -- the lines of the phase so far
 abbrev pub phase_of : List Form → List Form
 phase_of before = behind_last is_phase before
@@ -48,53 +45,111 @@ phase_of before = behind_last is_phase before
 abbrev pub block_of : List Form → List Form
 block_of before = behind_last is_connect before
 
--- more waits of the block were started than ended
-abbrev pub is_open : List Form → Bool
-is_open before = nat_lt (count_by is_end (block_of before)) (count_by is_start (block_of before))
+-- what a line does to the events of its block that are open
+abbrev pub mark_of_form : Form → Mark
+mark_of_form (form.Wait class) = Opens kinds.Wait
+mark_of_form (form.TableWait class schema name) = Opens kinds.Wait
+mark_of_form (form.Statement class text) = Opens kinds.Statement
+mark_of_form (form.Transaction access) = Opens kinds.Transaction
+mark_of_form (form.Stage class) = Opens kinds.Stage
+mark_of_form form.StageEnd = EndsStage
+mark_of_form form.End = Ends
+mark_of_form (form.EndStatement numbers) = Ends
+mark_of_form _ = Passes
 
--- a limit of a kind of classes
-abbrev pub is_class_limit : Option Limit → Bool
-is_class_limit (Some limit.MutexClasses) = true
-is_class_limit (Some limit.RwlockClasses) = true
-is_class_limit (Some limit.CondClasses) = true
-is_class_limit (Some limit.FileClasses) = true
-is_class_limit (Some limit.SocketClasses) = true
-is_class_limit (Some limit.StageClasses) = true
-is_class_limit (Some limit.StatementClasses) = true
-is_class_limit _ = false
+-- the kinds of the events that are open behind the lines of the block so far, from the innermost on
+unfoldable pub kinds_open : List Form → List EventKind
+kinds_open before = kinds_of (open_in (map mark_of_form (block_of before)))
+
+abbrev pub same_kind : EventKind → EventKind → Bool
+same_kind kinds.Wait kinds.Wait = true
+same_kind kinds.Stage kinds.Stage = true
+same_kind kinds.Statement kinds.Statement = true
+same_kind kinds.Transaction kinds.Transaction = true
+same_kind _ _ = false
+
+-- the same kinds in the same order
+abbrev pub same_kinds : List EventKind → List EventKind → Bool
+same_kinds [] [] = true
+same_kinds [] (other ∷ others) = false
+same_kinds (kind ∷ kinds) [] = false
+same_kinds (kind ∷ kinds) (other ∷ others) = same_kind kind other && same_kinds kinds others
+
+-- the limits that are built: those of a kind of classes, and how many statements are recorded inside one another
+abbrev pub is_built_limit : Option Limit → Bool
+is_built_limit (Some limit.StatementStack) = true
+is_built_limit (Some limit.MutexClasses) = true
+is_built_limit (Some limit.RwlockClasses) = true
+is_built_limit (Some limit.CondClasses) = true
+is_built_limit (Some limit.FileClasses) = true
+is_built_limit (Some limit.SocketClasses) = true
+is_built_limit (Some limit.StageClasses) = true
+is_built_limit (Some limit.StatementClasses) = true
+is_built_limit _ = false
 
 -- the forms that are built
 abbrev pub is_built : Form → Bool
 is_built form.Silent = true
-is_built (form.Limit name value) = is_class_limit (named_limit name)
+is_built (form.Limit name value) = is_built_limit (named_limit name)
 is_built (form.Class name kind enabled timed) = true
 is_built (form.Consumer name on) = true
 is_built (form.Instrument pattern enabled timed) = true
 is_built form.Phase = true
 is_built (form.Connect session user host) = true
 is_built (form.Wait class) = true
+is_built (form.Statement class text) = length text == 0
+is_built (form.Transaction access) = true
+is_built (form.Stage class) = true
+is_built form.StageEnd = true
 is_built (form.Spend time) = true
 is_built form.End = true
+is_built (form.EndStatement numbers) = true
+is_built (form.Repeat times) = true
+is_built form.Done = true
 is_built _ = false
 
--- limits stand before all other lines but silent ones, what sets up before the first phase, sessions in a phase, and
--- the lines of a block behind its session
+-- no block has begun in the phase
+abbrev pub is_blockless : List Form → Bool
+is_blockless before = count_by is_connect (phase_of before) == 0
+
+-- limits stand before all other lines but silent ones, what sets up before the first phase, sessions in a phase, and the lines of a
+-- block behind its session; a repeat holds no other repeat, no session and no phase
 abbrev pub is_out_of_place : List Form → Form → Bool
 is_out_of_place before (form.Limit name value) = not (list_all is_before_limits before)
 is_out_of_place before (form.Class name kind enabled timed) = list_any is_phase before
 is_out_of_place before (form.Consumer name on) = list_any is_phase before
 is_out_of_place before (form.Instrument pattern enabled timed) = list_any is_phase before
-is_out_of_place before (form.Connect session user host) = not (list_any is_phase before)
-is_out_of_place before (form.Wait class) = count_by is_connect (phase_of before) == 0
-is_out_of_place before (form.Spend time) = count_by is_connect (phase_of before) == 0
-is_out_of_place before form.End = count_by is_connect (phase_of before) == 0
+is_out_of_place before (form.Connect session user host) = not (list_any is_phase before) || is_in_repeat before
+is_out_of_place before form.Phase = is_in_repeat before
+is_out_of_place before (form.Wait class) = is_blockless before
+is_out_of_place before (form.Statement class text) = is_blockless before
+is_out_of_place before (form.Transaction access) = is_blockless before
+is_out_of_place before (form.Stage class) = is_blockless before
+is_out_of_place before form.StageEnd = is_blockless before
+is_out_of_place before (form.Spend time) = is_blockless before
+is_out_of_place before form.End = is_blockless before
+is_out_of_place before (form.EndStatement numbers) = is_blockless before
+is_out_of_place before (form.Repeat times) = is_blockless before || is_in_repeat before
+is_out_of_place before form.Done = not (is_in_repeat before)
 is_out_of_place before _ = false
 
--- a number is over 2^64 - 1
+-- one of the six numbers is over 2^64 - 1
+abbrev pub has_bad_number : Numbers → Bool
+has_bad_number numbers =
+    is_none numbers.lock || is_none numbers.errors || is_none numbers.warnings || is_none numbers.affected || is_none numbers.sent || is_none numbers.examined
+
+-- it is over 2^64 - 1, or 0
+abbrev pub is_no_count : Option ℕ → Bool
+is_no_count None = true
+is_no_count (Some times) = times == 0
+
+-- a number is over 2^64 - 1, or a repeat runs no time
 abbrev pub is_bad_number : Form → Bool
 is_bad_number (form.Limit name value) = is_none value
 is_bad_number (form.Connect session user host) = is_none session
 is_bad_number (form.Spend time) = is_none time
+is_bad_number (form.EndStatement numbers) = has_bad_number numbers
+is_bad_number (form.Repeat times) = is_no_count times
 is_bad_number _ = false
 
 -- the sessions have the numbers 1 to 64, and one block each in a phase
@@ -102,15 +157,17 @@ abbrev pub is_bad_session : List Form → Form → Bool
 is_bad_session before (form.Connect (Some number) user host) = not (nat_le 1 number && nat_le number 64) || list_any (is_block_of number) (phase_of before)
 is_bad_session before _ = false
 
--- the name is that of a class which a wait can have
-abbrev pub is_wait_class : List Form → List ℕ → Bool
-is_wait_class before class = is_known before class && not (bytes_eq class (codes "transaction"))
+-- the name is that of a class which a wait, a statement or a stage can have; the forms see to it that it is of their kind
+abbrev pub is_event_class : List Form → List ℕ → Bool
+is_event_class before class = is_known before class && not (bytes_eq class (codes "transaction"))
 
--- a new class has a name of its own and a kind that a script may add to; a consumer's name is in the table; a wait's class is known, though it may be lost
+-- a new class has a name of its own and a kind that a script may add to; a consumer's name is in the table; an event's class is known, though it may be lost
 abbrev pub is_unknown : List Form → Form → Bool
 is_unknown before (form.Class name kind enabled timed) = is_fixed kind || is_known before name
 is_unknown before (form.Consumer name on) = is_none (named_consumer name)
-is_unknown before (form.Wait class) = not (is_wait_class before class)
+is_unknown before (form.Wait class) = not (is_event_class before class)
+is_unknown before (form.Statement class text) = not (is_event_class before class)
+is_unknown before (form.Stage class) = not (is_event_class before class)
 is_unknown before _ = false
 
 -- the value is in the limit's range
@@ -132,10 +189,12 @@ abbrev pub is_bad_limit : List Form → Form → Bool
 is_bad_limit before (form.Limit name (Some value)) = not (is_within (named_limit name) value) || list_any (gives (named_limit name)) before
 is_bad_limit before _ = false
 
--- an `end` ends what is open
+-- an event starts where its kind may, an end has something to end, and one with numbers a statement; a repeat leaves events of the kinds
+-- open that were open where it began
 abbrev pub is_bad_nesting : List Form → Form → Bool
-is_bad_nesting before form.End = not (is_open before)
-is_bad_nesting before _ = false
+is_bad_nesting before (form.EndStatement numbers) = not (is_in_statement (kinds_open before))
+is_bad_nesting before form.Done = not (same_kinds (kinds_open before) (kinds_open (ahead_of_last is_repeat before)))
+is_bad_nesting before line = not (may_stand (kinds_open before) (mark_of_form line))
 
 abbrev pub one_each : Form → ℕ
 one_each line = 1
@@ -165,11 +224,10 @@ abbrev pub is_too_much : List Form → Form → Bool
 is_too_much before line =
     nat_lt 256 (count_by is_class (before ++ line ∷ [])) || nat_lt 5000000 (counted weight_of (before ++ line ∷ []))
 
--- what isn't built where the line stands: a second phase, a 33rd block, a wait in another
+-- what isn't built where the line stands: a second phase, a 33rd block
 abbrev pub is_not_built_here : List Form → Form → Bool
 is_not_built_here before form.Phase = list_any is_phase before
 is_not_built_here before (form.Connect session user host) = nat_le 32 (count_by is_connect (phase_of before))
-is_not_built_here before (form.Wait class) = is_open before
 is_not_built_here before _ = false
 
 -- the least reason for which a line of a built form may not stand there

@@ -1,53 +1,46 @@
 -- What holds of the phases and blocks of a script in hand, so that it can be run.
-use Rattle.std.specs.Prelude.{ℕ, ◌≡◌, ◌≤◌, ◌<◌, Bool, true, false, not, nat_lt, List, [], ◌∷◌, ◌++◌, length, map, count_by, Contains}
+use Rattle.std.specs.Prelude.{ℕ, ◌≤◌, ◌<◌, List, [], ◌∷◌, length, map, None, Contains}
 use Rattle.std.specs.List.{All}
+use Rattle.pfs_classes.specs.declared.classes.ClassRef.{ClassRef}
 use Rattle.pfs_classes.specs.declared.classes.ClassRef.TheVariants.{Class, Lost}
 use Rattle.pfs_script.specs.declared.blocks.BlockLine.{BlockLine}
-use Rattle.pfs_script.specs.declared.blocks.BlockLine.TheVariants.{Start, Spend, End}
+use Rattle.pfs_script.specs.declared.blocks.BlockLine.TheVariants as said
 use Rattle.pfs_script.specs.declared.blocks.Block.{Block}
 use Rattle.pfs_script.specs.declared.blocks.Phase.{Phase}
-
-abbrev pub is_start : BlockLine → Bool
-is_start (Start class) = true
-is_start _ = false
-
-abbrev pub is_end : BlockLine → Bool
-is_end End = true
-is_end _ = false
-
--- more waits were started than ended
-abbrev pub is_open : List BlockLine → Bool
-is_open before = nat_lt (count_by is_end before) (count_by is_start before)
-
--- waits don't nest
-abbrev pub may_follow : List BlockLine → BlockLine → Bool
-may_follow before (Start class) = not (is_open before)
-may_follow before (Spend time) = true
-may_follow before End = is_open before
-
--- behind the lines before them, each of these lines may stand where it does
-abbrev pub Follows : List BlockLine → List BlockLine → Type 0
-Follows before [] = Unit {0}
-Follows before (line ∷ lines) = (may_follow before line ≡ true) × Follows (before ++ line ∷ []) lines
+use Rattle.pfs_script.specs.Marks.{written_out}
+use Rattle.pfs_script.specs.Nested.{IsNested}
 
 -- the class is one of so many, or lost
+abbrev pub IsKnownClass : ℕ → ClassRef → Type 0
+IsKnownClass classes (Class id) = id < classes
+IsKnownClass classes (Lost kind) = Unit {0}
+
+-- what the line starts is of such a class
 abbrev pub IsKnown : ℕ → BlockLine → Type 0
-IsKnown classes (Start (Class id)) = id < classes
-IsKnown classes (Start (Lost kind)) = Unit {0}
-IsKnown classes (Spend time) = Unit {0}
-IsKnown classes End = Unit {0}
+IsKnown classes (said.Wait class) = IsKnownClass classes class
+IsKnown classes (said.Statement class) = IsKnownClass classes class
+IsKnown classes (said.Stage class) = IsKnownClass classes class
+IsKnown classes (said.Transaction access) = Unit {0}
+IsKnown classes said.StageEnd = Unit {0}
+IsKnown classes (said.Spend time) = Unit {0}
+IsKnown classes said.End = Unit {0}
+IsKnown classes (said.EndStatement numbers) = Unit {0}
+IsKnown classes (said.Repeat times) = Unit {0}
+IsKnown classes said.Done = Unit {0}
 
 -- no number stands twice
 abbrev pub AreDistinct : List ℕ → Type 0
 AreDistinct [] = Unit {0}
 AreDistinct (number ∷ numbers) = (¬ Contains numbers number) × AreDistinct numbers
 
--- a block's session has a number from 1 to 64, its waits don't nest, and its classes are of so many
+-- a block's session has a number from 1 to 64, its events nest, its classes are of so many, and it has at most 200,000 lines with each
+-- repeat written out
 pub record IsBlock (classes : ℕ) (block : Block) : Type 0 where
   pub low : 1 ≤ block.session
   pub high : block.session ≤ 64
-  pub nested : Follows [] block.lines
+  pub nested : IsNested [] None block.lines
   pub known : All (IsKnown classes) block.lines
+  pub short : length (written_out block.lines) ≤ 200000
 
 -- a phase has at most 32 blocks, of different sessions
 pub record IsPhase (classes : ℕ) (phase : Phase) : Type 0 where

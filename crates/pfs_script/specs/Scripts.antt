@@ -1,13 +1,14 @@
 -- Which bytes are a script, and the first line with which they are none.
-use Rattle.std.specs.Prelude.{ℕ, ◌≡◌, ◌≢◌, ◌+◌, ◌==◌, if◌then◌else◌, List, [], ◌∷◌, ◌++◌, length, Result, Ok, Err}
+use Rattle.std.specs.Prelude.{ℕ, ◌≡◌, ◌+◌, ◌==◌, true, false, if◌then◌else◌, List, [], ◌∷◌, ◌++◌, length, Result, Ok, Err}
 use Rattle.std.specs.List.{slice_split, list_all}
 use Rattle.pfs_classes.specs.declared.setting.Setting.{Setting}
 use Rattle.pfs_script.specs.declared.blocks.Phase.{Phase}
 use Rattle.pfs_script.specs.declared.forms.Form.{Form}
 use Rattle.pfs_script.specs.declared.reasons.Reason.{Reason}
-use Rattle.pfs_script.specs.declared.reasons.Reason.TheVariants.{BadByte, OpenLine}
+use Rattle.pfs_script.specs.declared.reasons.Reason.TheVariants.{BadByte, OpenLine, OutOfPlace}
 use Rattle.pfs_script.specs.Words.{is_script_byte}
 use Rattle.pfs_script.specs.Headings.{Head, head_of, resolved}
+use Rattle.pfs_script.specs.Counts.{is_in_repeat}
 use Rattle.pfs_script.specs.Next.{next}
 use Rattle.pfs_script.specs.Blocks.{phases_of}
 
@@ -22,17 +23,18 @@ Begins before (raw ∷ raws) (line ∷ lines) = (next before raw ≡ Ok line) ×
 Begins before [] (line ∷ lines) = ⊥
 Begins before (raw ∷ raws) [] = ⊥
 
--- the text says these lines: each is ended, and each may stand where it does
+-- the text says these lines: each is ended, each may stand where it does, and each repeat is done
 abbrev pub IsText : List ℕ → List Form → Type 0
-IsText text lines = (raws : List (List ℕ)) × (parts_of text ≡ raws ++ [] ∷ []) × Begins [] raws lines
+IsText text lines = (raws : List (List ℕ)) × (parts_of text ≡ raws ++ [] ∷ []) × Begins [] raws lines × (is_in_repeat lines ≡ false)
 
 -- why a line that isn't ended is faulty
 abbrev pub open_reason : List ℕ → Reason
 open_reason bytes = if list_all is_script_byte bytes then OpenLine else BadByte
 
--- the part is faulty behind these lines: as a line, or as what has no line feed
+-- the part is faulty behind these lines: as a line, as what has no line feed, or as the end of a text in which a repeat isn't done
 abbrev pub IsBad : List Form → List ℕ → List (List ℕ) → Reason → Type 0
-IsBad before bad [] reason = (bad ≢ []) × (reason ≡ open_reason bad)
+IsBad before [] [] reason = (is_in_repeat before ≡ true) × (reason ≡ OutOfPlace)
+IsBad before (byte ∷ bytes) [] reason = reason ≡ open_reason (byte ∷ bytes)
 IsBad before bad (part ∷ parts) reason = next before bad ≡ Err reason
 
 -- the setting has what the lines before the first phase fix, and neither tables nor digest texts
@@ -49,7 +51,8 @@ unfoldable pub IsScript : List ℕ → Setting → List Phase → Type 0
 IsScript text setting phases =
     (lines : List Form) × IsText text lines × IsSetting (head_of lines) setting × (phases ≡ phases_of (resolved (head_of lines)) lines)
 
--- the first faulty line, counted from 1, with its least reason: the lines before it begin a script, and with it they don't
+-- the first faulty line, counted from 1, with its least reason: the lines before it begin a script, and with it they don't; where a
+-- repeat isn't done at the end, that is the line behind the last
 unfoldable pub IsFirstFault : List ℕ → ℕ → Reason → Type 0
 IsFirstFault text number reason =
     (raws : List (List ℕ)) × (lines : List Form) × (bad : List ℕ) × (more : List (List ℕ))
@@ -65,9 +68,9 @@ abbrev pub on_line : Result Form Reason → ℕ → (Form → Result (List Form)
 on_line (Ok line) number rest = rest line
 on_line (Err reason) number rest = Err (record { number = number; reason = reason })
 
--- behind the last line feed nothing may stand
+-- behind the last line feed nothing may stand, and each repeat is done there
 abbrev pub last_of : List Form → List ℕ → Result (List Form) Fault
-last_of before [] = Ok before
+last_of before [] = if is_in_repeat before then Err (record { number = length before + 1; reason = OutOfPlace }) else Ok before
 last_of before (byte ∷ bytes) = Err (record { number = length before + 1; reason = open_reason (byte ∷ bytes) })
 
 -- what the parts of a text say behind these lines, in one pass

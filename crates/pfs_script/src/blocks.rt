@@ -5,15 +5,53 @@ ghost use Rattle.std.specs.Prelude.{◌≡◌};
 use pfs_classes::ClassRef;
 use std::marker::Model;
 
+/// How a transaction uses the data.
+#[derive(Clone, Copy, Debug, PartialEq, Eq)]
+pub enum Access {
+    /// `rw`: READ WRITE.
+    ReadWrite,
+    /// `ro`: READ ONLY.
+    ReadOnly,
+}
+
+/// What a statement's end tells of it, after MySQL's columns.
+#[derive(Clone, Copy, Debug, PartialEq, Eq)]
+pub struct StatementNumbers {
+    /// The lock time in picoseconds.
+    pub lock: u64,
+    pub errors: u64,
+    pub warnings: u64,
+    /// How many rows it changed.
+    pub affected: u64,
+    /// How many rows it sent.
+    pub sent: u64,
+    /// How many rows it examined.
+    pub examined: u64,
+}
+
 /// A line of a block. Lines that say nothing are not kept.
 #[derive(Clone, Copy, Debug, PartialEq, Eq)]
 pub enum BlockLine {
     /// Starts a wait of a class, or of a lost one.
-    Start(ClassRef),
+    Wait(ClassRef),
+    /// Starts a statement of a class, or of a lost one.
+    Statement(ClassRef),
+    /// Starts a transaction.
+    Transaction(Access),
+    /// Ends the open stage, if any, and starts one of a class, or of a lost one.
+    Stage(ClassRef),
+    /// Ends the open stage.
+    StageEnd,
     /// Moves the session's clock by so many picoseconds.
     Spend(u64),
-    /// Ends the wait that is open.
+    /// Ends the innermost event, and its statement too where that is a stage.
     End,
+    /// The same for a statement, with its numbers.
+    EndStatement(StatementNumbers),
+    /// The lines up to the next `Done` run so many times.
+    Repeat(u64),
+    /// Ends the lines of a repeat.
+    Done,
 }
 
 /// The lines of a block, in order.

@@ -4,13 +4,15 @@ ghost use Rattle.std.specs.Prelude.{◌≡◌, IfOk, OnOk, List, ◌++◌, optio
 ghost use Rattle.pfs_script.specs.declared.forms.Form.{Form};
 ghost use Rattle.pfs_script.specs.Headings.{resolved};
 ghost use Rattle.pfs_script.specs.Next.{is_phase};
-ghost use Rattle.pfs_script.specs.Blocks.{with_front, block_line, block_lines, block_behind, ends_block, session_of, blocks_of, with_phase, phases_of};
+ghost use Rattle.pfs_script.specs.Blocks.{with_front, statement_numbers, block_line, block_lines, block_behind, ends_block, session_of, blocks_of, with_phase, phases_of};
 ghost use Rattle.pfs_script.specs.declared.blocks.BlockLine.{BlockLine};
 ghost use Rattle.pfs_script.specs.declared.blocks.Block.{Block};
 ghost use Rattle.pfs_script.specs.declared.blocks.Phase.{Phase};
 
-use crate::blocks::{Block, BlockLine, BlockLineList, BlockList, Phase, PhaseList};
-use crate::forms::Form;
+use crate::blocks::{
+    Block, BlockLine, BlockLineList, BlockList, Phase, PhaseList, StatementNumbers,
+};
+use crate::forms::{Form, Numbers};
 use crate::heading::Heading;
 use pfs_classes::NoMemory;
 use std::alloc::Global;
@@ -101,9 +103,16 @@ fn add_some(said: &mut Vec<BlockLine>, line: Option<BlockLine>) -> Result<(), No
     ensures { OnOk result ((more : List BlockLine) → said.new.items ++ more ≡ said.old.items ++ with_front line more) }
 {
     match line {
-        Some(BlockLine::Start(class)) => said.push(BlockLine::Start(class))?,
+        Some(BlockLine::Wait(class)) => said.push(BlockLine::Wait(class))?,
+        Some(BlockLine::Statement(class)) => said.push(BlockLine::Statement(class))?,
+        Some(BlockLine::Transaction(access)) => said.push(BlockLine::Transaction(access))?,
+        Some(BlockLine::Stage(class)) => said.push(BlockLine::Stage(class))?,
+        Some(BlockLine::StageEnd) => said.push(BlockLine::StageEnd)?,
         Some(BlockLine::Spend(time)) => said.push(BlockLine::Spend(time))?,
         Some(BlockLine::End) => said.push(BlockLine::End)?,
+        Some(BlockLine::EndStatement(numbers)) => said.push(BlockLine::EndStatement(numbers))?,
+        Some(BlockLine::Repeat(times)) => said.push(BlockLine::Repeat(times))?,
+        Some(BlockLine::Done) => said.push(BlockLine::Done)?,
         None => {}
     }
     Ok(())
@@ -114,10 +123,33 @@ fn block_line(heading: &Heading, line: &Form) -> Option<BlockLine>
     ensures { result ≡ block_line (resolved heading.now) line.now }
 {
     match line {
-        Form::Wait { class } => heading.find(class.bytes()).map(BlockLine::Start),
+        Form::Wait { class } => heading.find(class.bytes()).map(BlockLine::Wait),
+        Form::Statement { class, .. } => heading.find(class.bytes()).map(BlockLine::Statement),
+        Form::Transaction { access } => Some(BlockLine::Transaction(*access)),
+        Form::Stage { class } => heading.find(class.bytes()).map(BlockLine::Stage),
+        Form::StageEnd => Some(BlockLine::StageEnd),
         Form::Spend { time } => time.map(BlockLine::Spend),
         Form::End => Some(BlockLine::End),
+        Form::EndStatement { numbers } => {
+            Some(BlockLine::EndStatement(statement_numbers(numbers)))
+        }
+        Form::Repeat { times } => times.map(BlockLine::Repeat),
+        Form::Done => Some(BlockLine::Done),
         _ => None,
+    }
+}
+
+// The numbers of a statement's end; one that is over 2^64 - 1 stands on no line of a script.
+fn statement_numbers(numbers: &Numbers) -> StatementNumbers
+    ensures { result ≡ statement_numbers numbers.now }
+{
+    StatementNumbers {
+        lock: numbers.lock.unwrap_or(0),
+        errors: numbers.errors.unwrap_or(0),
+        warnings: numbers.warnings.unwrap_or(0),
+        affected: numbers.affected.unwrap_or(0),
+        sent: numbers.sent.unwrap_or(0),
+        examined: numbers.examined.unwrap_or(0),
     }
 }
 

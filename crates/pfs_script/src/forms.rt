@@ -4,6 +4,7 @@ ghost use Rattle.std.specs.Prelude.{◌≡◌, IfOk};
 ghost use Rattle.pfs_script.specs.Forms.{is_silent, words_form, form, bare_form, long_form, block_form, HasItsKind};
 
 use crate::block_lines::{parse_end, parse_repeat, parse_session, parse_spend, parse_sql};
+use crate::blocks::Access;
 use crate::heading_lines::{parse_class, parse_consumer, parse_instrument, parse_limit};
 use crate::reasons::Reason;
 use crate::starts::{parse_stage, parse_start};
@@ -14,15 +15,6 @@ use pfs_classes::laws::computed_kind;
 
 /// A number of a line; None where it is over 2^64 - 1.
 pub type Number = Option<u64>;
-
-/// What a transaction may do.
-#[derive(Clone, Copy, Debug, PartialEq, Eq)]
-pub enum Access {
-    /// `rw`: READ WRITE.
-    ReadWrite,
-    /// `ro`: READ ONLY.
-    ReadOnly,
-}
 
 /// The numbers of an `end` that ends a statement, in the line's order.
 #[derive(Clone, Copy, Debug, PartialEq, Eq)]

@@ -1,12 +1,14 @@
-//! What holds of all texts, lines and names.
+//! What holds of all texts, lines and names, and of events as brackets.
 
-ghost use Rattle.std.specs.Prelude.{◌≡◌, ◌↔◌, IsTrue, List, ℕ, is_some, false, length, Some, codes, ◌<◌};
+ghost use Rattle.std.specs.Prelude.{◌≡◌, ◌↔◌, ◌++◌, ◌∷◌, [], IsTrue, List, ℕ, is_some, false, length, take, drop, Some, codes, ◌<◌};
 ghost use Rattle.std.specs.Str.{bytes_eq};
 ghost use Rattle.pfs_text.specs.Patterns.{IsLike};
 ghost use Rattle.pfs_classes.specs.declared.classes.ClassRef.TheVariants as refs;
 ghost use Rattle.pfs_script.specs.declared.forms.Form.{Form};
 ghost use Rattle.pfs_script.specs.Likes.{is_like};
 ghost use Rattle.pfs_script.specs.Headings.{is_known, resolved, head_of};
+ghost use Rattle.pfs_script.specs.Marks.{Mark, copies};
+ghost use Rattle.pfs_script.specs.Brackets.{open_in, closed_at, kinds_of, ended_by, opened_by, Follows};
 ghost use Rattle.pfs_script.specs.Scripts.{IsExact};
 
 /// A text is a script or has a first fault, and not both. It is at most one script, and has at most
@@ -27,4 +29,19 @@ pub fn known_names()
     ensures known { (lines : List Form) (name : List ℕ) → is_some (resolved (head_of lines) name) ≡ is_known lines name }
     ensures within { (lines : List Form) (name : List ℕ) (id : ℕ) → bytes_eq name (codes "transaction") ≡ false
         → resolved (head_of lines) name ≡ Some (refs.Class id) → id < length (head_of lines).classes.classes }
+{}
+
+/// Brackets nest as a stack makes it. Behind one more mark those events are open that were open before
+/// it, but for as many of the innermost as it ends, and the one that it opens. What it ends is what
+/// closes at its place, whatever stands behind it.
+pub fn nested()
+    ensures opens { (marks : List Mark) → (mark : Mark) → open_in (marks ++ mark ∷ []) ≡ opened_by (length marks) mark ++ drop (ended_by mark (kinds_of (open_in marks))) (open_in marks) }
+    ensures closes { (marks : List Mark) → (mark : Mark) → (more : List Mark) → closed_at (marks ++ mark ∷ more) (length marks) ≡ take (ended_by mark (kinds_of (open_in marks))) (open_in marks) }
+{}
+
+/// Marks that may stand, and behind which events of the same kinds are open as before them, may stand
+/// so many times as one likes, and still leave those kinds.
+pub fn repeats()
+    ensures follow { (before body : List Mark) → Follows before body → kinds_of (open_in (before ++ body)) ≡ kinds_of (open_in before) → (times : ℕ) → Follows before (copies times body) }
+    ensures leave { (before body : List Mark) → Follows before body → kinds_of (open_in (before ++ body)) ≡ kinds_of (open_in before) → (times : ℕ) → kinds_of (open_in (before ++ copies times body)) ≡ kinds_of (open_in before) }
 {}

@@ -14,7 +14,10 @@ mod heading;
 mod heading_lines;
 pub mod laws;
 mod likes;
+#[cfg(test)]
+mod nesting_tests;
 mod numerals;
+mod open_kinds;
 mod places;
 mod reading;
 mod reasons;
@@ -26,7 +29,9 @@ mod texts;
 mod totals;
 mod words;
 
-pub use blocks::{Block, BlockLine, BlockLineList, BlockList, Phase, PhaseList};
+pub use blocks::{
+    Access, Block, BlockLine, BlockLineList, BlockList, Phase, PhaseList, StatementNumbers,
+};
 pub use reading::ScriptFault;
 pub use reasons::Reason;
 pub use scripts::Script;

@@ -1,13 +1,13 @@
 //! What the lines so far allow next.
 
-ghost use Rattle.std.specs.Prelude.{◌≡◌, ◌≤◌, List, ◌∷◌, ◌++◌, [], true, None};
+ghost use Rattle.std.specs.Prelude.{◌≡◌, ◌≤◌, ◌<◌, ◌^◌, List, ◌∷◌, ◌++◌, [], true, None};
 ghost use Rattle.pfs_script.specs.declared.forms.Form.{Form};
 ghost use Rattle.pfs_script.specs.Headings.{head_of};
-ghost use Rattle.pfs_script.specs.Next.{is_built, is_class_limit, is_out_of_place, is_bad_number, is_unknown, is_not_built_here, is_wait_class, fault_of, least_reason};
+ghost use Rattle.pfs_script.specs.Next.{is_built, is_built_limit, has_bad_number, is_no_count, is_out_of_place, is_bad_number, is_unknown, is_not_built_here, is_event_class, fault_of, least_reason};
 ghost use Rattle.pfs_script.specs.Places.{Knows};
 
 use crate::courses::{Course, no_course};
-use crate::forms::Form;
+use crate::forms::{Form, Number, Numbers};
 use crate::fronts::{Front, no_front};
 use crate::heading::{Heading, find_consumer, find_limit};
 use crate::reasons::Reason;
@@ -77,9 +77,9 @@ impl Place {
     /// The place behind one more line.
     pub fn pass(&mut self, line: &Form)
         requires blocks { self.old.course.blocks ≤ 32 }
-        requires lines { self.old.totals.lines ≤ 200000 }
+        requires waits { self.old.course.events.waits < 2 ^ 63 }
+        requires statements { self.old.course.events.statements < 2 ^ 63 }
         requires classes { self.old.totals.classes ≤ 256 }
-        requires weight { self.old.totals.weight ≤ 5000000 }
         ensures { (before : List Form) → Knows self.old before → fault_of before line.now ≡ None → Knows self.new (before ++ line.now ∷ []) }
     {
         self.front.pass(line);
@@ -95,8 +95,18 @@ impl Place {
             Form::Class { .. } | Form::Consumer { .. } | Form::Instrument { .. } => {
                 self.front.has_phase
             }
-            Form::Connect { .. } => !self.front.has_phase,
-            Form::Wait { .. } | Form::Spend { .. } | Form::End => self.course.has_no_block(),
+            Form::Connect { .. } => !self.front.has_phase || self.course.is_in_repeat(),
+            Form::Phase => self.course.is_in_repeat(),
+            Form::Repeat { .. } => self.course.has_no_block() || self.course.is_in_repeat(),
+            Form::Done => !self.course.is_in_repeat(),
+            Form::Wait { .. }
+            | Form::Statement { .. }
+            | Form::Transaction { .. }
+            | Form::Stage { .. }
+            | Form::StageEnd
+            | Form::Spend { .. }
+            | Form::End
+            | Form::EndStatement { .. } => self.course.has_no_block(),
             _ => false,
         }
     }
@@ -116,7 +126,8 @@ fn is_built(line: &Form) -> bool
     ensures { result ≡ is_built line.now }
 {
     match line {
-        Form::Limit { name, .. } => is_class_limit(find_limit(name.bytes())),
+        Form::Limit { name, .. } => is_built_limit(find_limit(name.bytes())),
+        Form::Statement { text, .. } => text.bytes().is_empty(),
         Form::Silent
         | Form::Class { .. }
         | Form::Consumer { .. }
@@ -124,20 +135,28 @@ fn is_built(line: &Form) -> bool
         | Form::Phase
         | Form::Connect { .. }
         | Form::Wait { .. }
+        | Form::Transaction { .. }
+        | Form::Stage { .. }
+        | Form::StageEnd
         | Form::Spend { .. }
-        | Form::End => true,
+        | Form::End
+        | Form::EndStatement { .. }
+        | Form::Repeat { .. }
+        | Form::Done => true,
         _ => false,
     }
 }
 
-// Whether the limit is one of a kind of classes.
-fn is_class_limit(limit: Option<Limit>) -> bool
-    ensures { result ≡ is_class_limit limit }
+// Whether the limit is built: one of a kind of classes, or how many statements are recorded inside one
+// another.
+fn is_built_limit(limit: Option<Limit>) -> bool
+    ensures { result ≡ is_built_limit limit }
 {
     match limit {
         Some(limit) => matches!(
             limit,
-            Limit::MutexClasses
+            Limit::StatementStack
+                | Limit::MutexClasses
                 | Limit::RwlockClasses
                 | Limit::CondClasses
                 | Limit::FileClasses
@@ -149,7 +168,7 @@ fn is_class_limit(limit: Option<Limit>) -> bool
     }
 }
 
-// Whether a number of the line is over 2^64 - 1.
+// Whether a number of the line is over 2^64 - 1, or it repeats no time.
 fn is_bad_number(line: &Form) -> bool
     ensures { result ≡ is_bad_number line.now }
 {
@@ -157,7 +176,31 @@ fn is_bad_number(line: &Form) -> bool
         Form::Limit { value, .. } => value.is_none(),
         Form::Connect { session, .. } => session.is_none(),
         Form::Spend { time } => time.is_none(),
+        Form::EndStatement { numbers } => has_bad_number(numbers),
+        Form::Repeat { times } => is_no_count(*times),
         _ => false,
+    }
+}
+
+// Whether one of the six numbers is over 2^64 - 1.
+fn has_bad_number(numbers: &Numbers) -> bool
+    ensures { result ≡ has_bad_number numbers.now }
+{
+    numbers.lock.is_none()
+        || numbers.errors.is_none()
+        || numbers.warnings.is_none()
+        || numbers.affected.is_none()
+        || numbers.sent.is_none()
+        || numbers.examined.is_none()
+}
+
+// Whether it is over 2^64 - 1, or 0.
+fn is_no_count(times: Number) -> bool
+    ensures { result ≡ is_no_count times }
+{
+    match times {
+        Some(times) => times == 0,
+        None => true,
     }
 }
 
@@ -168,14 +211,16 @@ fn is_unknown(heading: &Heading, line: &Form) -> bool
     match line {
         Form::Class { name, kind, .. } => kind.is_fixed() || heading.is_known(name.bytes()),
         Form::Consumer { name, .. } => find_consumer(name.bytes()).is_none(),
-        Form::Wait { class } => !is_wait_class(heading, class.bytes()),
+        Form::Wait { class } | Form::Statement { class, .. } | Form::Stage { class } => {
+            !is_event_class(heading, class.bytes())
+        }
         _ => false,
     }
 }
 
-// Whether a wait can have this class.
-fn is_wait_class(heading: &Heading, class: &[u8]) -> bool
-    ensures { (before : List Form) → heading.now ≡ head_of before → result ≡ is_wait_class before class.now }
+// Whether a wait, a statement or a stage can have this class.
+fn is_event_class(heading: &Heading, class: &[u8]) -> bool
+    ensures { (before : List Form) → heading.now ≡ head_of before → result ≡ is_event_class before class.now }
 {
     heading.is_known(class) && class != b"transaction".as_slice()
 }

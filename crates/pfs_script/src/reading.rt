@@ -141,5 +141,8 @@ fn read_lines(alloc: Global, bytes: &[u8]) -> Result<Reading, ScriptFault>
     if !rest.is_empty() {
         return Err(bad(lines.len(), open_reason(rest)));
     }
+    if place.course.is_in_repeat() {
+        return Err(bad(lines.len(), Reason::OutOfPlace));
+    }
     Ok(Reading { lines, heading })
 }

@@ -9,9 +9,10 @@ pub enum Reason {
     OpenLine = 2,
     /// The line has none of the forms, or a name of it breaks its rule.
     BadForm = 3,
-    /// The form isn't allowed there.
+    /// The form isn't allowed there; or a repeat isn't done at the end, which is told of the line behind
+    /// the last.
     OutOfPlace = 4,
-    /// A number is over 2^64 - 1.
+    /// A number is over 2^64 - 1, or a repeat runs no time.
     BadNumber = 5,
     /// The session's number isn't 1 to 64, or its block is a second one of the phase.
     BadSession = 6,
@@ -19,11 +20,12 @@ pub enum Reason {
     UnknownName = 7,
     /// A limit's value is outside its range, or the limit was given before.
     BadLimit = 8,
-    /// A rule of opening and ending is broken.
+    /// A rule of opening and ending is broken, or six numbers stand on an `end` that ends no statement.
     BadNesting = 9,
-    /// With this line there are more lines than a script may have.
+    /// With this line there are more lines than a script may have; a repeat counts in full at its `done`.
     TooLong = 11,
-    /// With this line a script has more classes, or more weight, than it may have.
+    /// With this line a script has more classes, or more weight, than it may have; a repeat weighs in
+    /// full at its `done`.
     TooMuch = 12,
     /// The form isn't built yet.
     NotBuilt = 13,

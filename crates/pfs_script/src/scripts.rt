@@ -9,7 +9,8 @@ use pfs_classes::Setting;
 
 /// A script: what its lines before the first phase fix, and its phases. The type keeps that its blocks
 /// can be run: at most one phase so far, in it at most 32 blocks of different sessions from 1 to 64,
-/// waits that don't nest, and classes of the setting.
+/// events that nest, repeats that leave the open events' kinds as they were, classes of the setting, and
+/// in each block at most 200,000 lines with each repeat written out.
 #[derive(Drop)]
 pub struct Script {
     /// Names, classes, limits and the consumers' opening flags.

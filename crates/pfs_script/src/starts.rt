@@ -3,7 +3,8 @@
 ghost use Rattle.std.specs.Prelude.{◌≡◌};
 ghost use Rattle.pfs_script.specs.Forms.{start_form, start_class, start_class_with, start_of_kind, start_of_kind_with, transaction_form, table_wait_form, stage_form};
 
-use crate::forms::{Access, Form};
+use crate::blocks::Access;
+use crate::forms::Form;
 use crate::texts::Text;
 use crate::words::{is_table_name, is_text, split_table, split_word};
 use pfs_classes::Kind;

@@ -120,7 +120,7 @@ fn faults_of_places_and_numbers(rt: HostRuntime) {
 
 #[test]
 fn faults_of_names_and_limits(rt: HostRuntime) {
-    let cases: [(&[u8], u64, u64); 13] = [
+    let cases: [(&[u8], u64, u64); 17] = [
         (b"phase\nsession 1 u h\nstart wait/io/file/a/b\n", 3, 7),
         (b"consumer no_such YES\n", 1, 7),
         (b"class wait/io/file/sql/binlog YES YES\n", 1, 7),
@@ -131,7 +131,20 @@ fn faults_of_names_and_limits(rt: HostRuntime) {
             3,
             7,
         ),
+        (b"phase\nsession 1 u h\nstart statement/no/such\n", 3, 7),
+        (
+            b"phase\nsession 1 u h\nstart statement/sql/select\nstage stage/no/such\n",
+            4,
+            7,
+        ),
         (b"limit file_classes 9\n", 1, 8),
+        (b"limit statement_stack 0\n", 1, 8),
+        (
+            b"limit statement_stack 10\nlimit statement_stack 10\n",
+            2,
+            8,
+        ),
+        (b"limit statement_stack 11\n", 1, 8),
         (
             b"limit socket_classes 4\nlimit file_classes 8\nlimit socket_classes 4\n",
             3,
@@ -143,11 +156,6 @@ fn faults_of_names_and_limits(rt: HostRuntime) {
             5,
             9,
         ),
-        (
-            b"phase\nsession 1 u h\nstart wait/io/file/sql/binlog\nstart wait/io/file/sql/binlog\n",
-            4,
-            13,
-        ),
         (b"phase\nphase\n", 2, 13),
         (b"limit users 99\n", 1, 13),
     ];
@@ -156,19 +164,14 @@ fn faults_of_names_and_limits(rt: HostRuntime) {
 
 #[test]
 fn forms_that_are_not_built(rt: HostRuntime) {
-    let cases: [(&[u8], u64, u64); 12] = [
+    let cases: [(&[u8], u64, u64); 7] = [
         (b"limit no_such 18446744073709551616\n", 1, 13),
         (b"start statement/sql/select SELECT 1\n", 1, 13),
-        (b"start statement/sql/select\n", 1, 13),
-        (b"start transaction ro\n", 1, 13),
         (b"start wait/io/table/sql/handler a.b\n", 1, 13),
-        (b"stage -\n", 1, 13),
-        (b"stage stage/no/such\n", 1, 13),
-        (b"end 1 2 3 4 5 6\n", 1, 13),
         (b"sql SELECT\n", 1, 13),
         (b"quit\n", 1, 13),
-        (b"repeat 0\n", 1, 13),
         (b"session 99\n", 1, 13),
+        (b"phase\nsession 1 u h\nrepeat 2\nquit\n", 4, 13),
     ];
     expect_all(&rt, rt.alloc(), cases.as_slice());
 }
@@ -237,13 +240,13 @@ fn a_script_is_its_setting_and_phases(rt: HostRuntime) {
     let blocks = script.phases.as_slice()[0].blocks.as_slice();
     assert_eq!(rt; blocks.len(), 2);
     let first = [
-        BlockLine::Start(ClassRef::Class(ClassId(6))),
+        BlockLine::Wait(ClassRef::Class(ClassId(6))),
         BlockLine::Spend(5),
         BlockLine::End,
     ];
     assert_eq!(rt; blocks[0].session, 7);
     assert_eq!(rt; blocks[0].lines.as_slice(), first.as_slice());
-    let second = [BlockLine::Start(ClassRef::Lost(Kind::File))];
+    let second = [BlockLine::Wait(ClassRef::Lost(Kind::File))];
     assert_eq!(rt; blocks[1].session, 2);
     assert_eq!(rt; blocks[1].lines.as_slice(), second.as_slice());
 }

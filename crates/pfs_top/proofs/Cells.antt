@@ -1,106 +1,103 @@
--- Cells that have counted one event more.
-use Rattle.std.proofs.Common.{ℕ, ◌≡◌, ◌+◌, ◌<◌, inl, inr, Bool, true, false, cond, ◌&&◌, List, [], ◌∷◌, ◌++◌, length, set, sym, ap, ◌∙◌, subst, refl, arith, eq-eqb, append-nil, length-set, get_or-set_same, get_or-set_other, count_by}
-use Rattle.std.specs.Prelude.{map, filter, fold, if◌then◌else◌}
-use Rattle.std.proofs.lemmas.Bool.{cases_eq, ne_eqb}
-use Rattle.std.proofs.lemmas.List.{map_push}
+-- What one more ended event does to the cells.
+use Rattle.std.proofs.Common.{◌≡◌, ◌≢◌, ℕ, ◌+◌, ◌<◌, ◌==◌, ◌&&◌, Bool, true, false, cond, List, [], ◌∷◌, ◌++◌, length, map, filter, count_by, Some, inl, inr, refl, sym, ap, subst, ◌∙◌, arith, get_or-set_same, get_or-set_other}
+use Rattle.std.proofs.lemmas.List.{map-append, length-set}
 use Rattle.std.proofs.lemmas.List.Elements.{filter-append}
-use Rattle.std.proofs.lemmas.List.Sums.{sum_by_push, fold_push}
+use Rattle.std.proofs.lemmas.List.Sums.{sum_by-append, sum_by-cons, fold-append}
+use Rattle.std.proofs.lemmas.Bool.{cases_eq}
 use Rattle.pfs_stat.specs.declared.Stat.{Stat}
-use Rattle.pfs_stat.specs.Stat.{merge_of, zero_of}
-use Rattle.pfs_classes.specs.declared.classes.ClassRef.{ClassRef}
-use Rattle.pfs_classes.specs.declared.classes.ClassRef.TheVariants as refs
+use Rattle.pfs_stat.specs.Stat.{merge_of, merge_all, zero_of}
 use Rattle.pfs_classes.specs.Registry.{Registry}
 use Rattle.pfs_event.specs.declared.verdict.Verdict.{Verdict}
-use Rattle.pfs_top.specs.declared.playing.Cell.{Cell}
-use Rattle.pfs_top.specs.Events.{Event, duration_of}
-use Rattle.pfs_top.specs.Verdicts.{verdict_of}
-use Rattle.pfs_top.specs.Summaries.{is_class, counts_at, stat_of_wait, stat_of_event}
-use Rattle.pfs_top.specs.Playing.{IsKnownClass, cell_of, empty_cell, added_to, cells_with, AreCells}
+use Rattle.pfs_top.specs.declared.player.Cell.{Cell}
+use Rattle.pfs_top.specs.Ended.{Ended}
+use Rattle.pfs_top.specs.Sums.{cell_of, is_cell, counts_in, stat_of_event, summary_of}
+use Rattle.pfs_top.specs.Player.{empty_cell, cell_at, added_to, AreCells}
 
--- one element more at the end counts where it passes
-count_yes : {X : Type 0} (p : X → Bool) (xs : List X) (x : X) → p x ≡ true → count_by p (xs ++ x ∷ []) ≡ count_by p xs + 1
-count_yes p xs x e = sum_by_push (λ y. cond (p y) 1 0) xs x ∙ subst (λ b. count_by p xs + cond b 1 0 ≡ count_by p xs + 1) (sym e) refl
+pub count_push : {Item : Type 0} (test : Item → Bool) (items : List Item) (item : Item) → count_by test (items ++ item ∷ []) ≡ count_by test items + cond (test item) 1 0
+count_push test items item =
+    sum_by-append (λ x. cond (test x) 1 0) items (item ∷ []) ∙ ap (λ n. count_by test items + n) (sum_by-cons (λ x. cond (test x) 1 0) item [] ∙ omega arith)
 
-count_no : {X : Type 0} (p : X → Bool) (xs : List X) (x : X) → p x ≡ false → count_by p (xs ++ x ∷ []) ≡ count_by p xs
-count_no p xs x e = sum_by_push (λ y. cond (p y) 1 0) xs x ∙ subst (λ b. count_by p xs + cond b 1 0 ≡ count_by p xs) (sym e) (omega arith)
+filter_push : {Item : Type 0} (test : Item → Bool) (items : List Item) (item : Item) → filter test (items ++ item ∷ []) ≡ filter test items ++ cond (test item) (item ∷ []) []
+filter_push test items item = filter-append test items (item ∷ [])
 
-filter_yes : {X : Type 0} (p : X → Bool) (xs : List X) (x : X) → p x ≡ true → filter p (xs ++ x ∷ []) ≡ filter p xs ++ x ∷ []
-filter_yes {X} p xs x e = filter-append p xs (x ∷ []) ∙ ap (λ (z : List X). filter p xs ++ z) (subst (λ b. cond b (x ∷ []) [] ≡ x ∷ []) (sym e) refl)
+summary_push_no : (classes : Registry) (test : Verdict → Bool) (cell : ℕ) (events : List Ended) (event : Ended) → counts_in test cell event ≡ false → summary_of classes test cell (events ++ event ∷ []) ≡ summary_of classes test cell events
+summary_push_no classes test cell events event out =
+    let same : filter (counts_in test cell) (events ++ event ∷ []) ≡ filter (counts_in test cell) events ++ [] = filter_push (counts_in test cell) events event ∙ ap (λ b. filter (counts_in test cell) events ++ cond b (event ∷ []) []) out in
+    ap (λ es. merge_all (map (stat_of_event classes) es)) same ∙ ap merge_all (map-append (stat_of_event classes) (filter (counts_in test cell) events) []) ∙ fold-append merge_of zero_of (map (stat_of_event classes) (filter (counts_in test cell) events)) []
 
-filter_no : {X : Type 0} (p : X → Bool) (xs : List X) (x : X) → p x ≡ false → filter p (xs ++ x ∷ []) ≡ filter p xs ++ []
-filter_no {X} p xs x e = filter-append p xs (x ∷ []) ∙ ap (λ (z : List X). filter p xs ++ z) (subst (λ b. cond b (x ∷ []) [] ≡ []) (sym e) refl)
+summary_push : (classes : Registry) (test : Verdict → Bool) (cell : ℕ) (events : List Ended) (event : Ended) → counts_in test cell event ≡ true → summary_of classes test cell (events ++ event ∷ []) ≡ merge_of (summary_of classes test cell events) (stat_of_event classes event)
+summary_push classes test cell events event counts =
+    let same : filter (counts_in test cell) (events ++ event ∷ []) ≡ filter (counts_in test cell) events ++ event ∷ [] = filter_push (counts_in test cell) events event ∙ ap (λ b. filter (counts_in test cell) events ++ cond b (event ∷ []) []) counts in
+    ap (λ es. merge_all (map (stat_of_event classes) es)) same ∙ ap merge_all (map-append (stat_of_event classes) (filter (counts_in test cell) events) (event ∷ [])) ∙ fold-append merge_of zero_of (map (stat_of_event classes) (filter (counts_in test cell) events)) (stat_of_event classes event ∷ [])
 
--- a merge over the elements that pass, with one element more
-merged_yes : {X : Type 0} (f : X → Stat) (p : X → Bool) (xs : List X) (x : X) → p x ≡ true → fold merge_of zero_of (map f (filter p (xs ++ x ∷ []))) ≡ merge_of (fold merge_of zero_of (map f (filter p xs))) (f x)
-merged_yes {X} f p xs x e = ap (λ (z : List X). fold merge_of zero_of (map f z)) (filter_yes p xs x e) ∙ (ap (λ (z : List Stat). fold merge_of zero_of z) (map_push f (filter p xs) x) ∙ fold_push merge_of zero_of (map f (filter p xs)) (f x))
-
-merged_no : {X : Type 0} (f : X → Stat) (p : X → Bool) (xs : List X) (x : X) → p x ≡ false → fold merge_of zero_of (map f (filter p (xs ++ x ∷ []))) ≡ fold merge_of zero_of (map f (filter p xs))
-merged_no {X} f p xs x e = ap (λ (z : List X). fold merge_of zero_of (map f z)) (filter_no p xs x e ∙ append-nil (filter p xs))
-
--- an event that doesn't count leaves the cells as they are
-cells_same : (flags : ℕ) (classes : Registry) (passes : Verdict → Bool) (events : List Event) (cells : List Cell) (event : Event) → AreCells flags classes passes events cells → ((id : ℕ) → counts_at flags classes passes id event ≡ false) → AreCells flags classes passes (events ++ event ∷ []) cells
-cells_same flags classes passes events cells event a no_count = record {
-  size = a.size;
-  versions = λ id h. a.versions id h ∙ sym (count_no (counts_at flags classes passes id) events event (no_count id));
-  stats = λ id h. a.stats id h ∙ sym (merged_no (stat_of_event classes id) (counts_at flags classes passes id) events event (no_count id));
+-- an event that doesn't count changes no cell
+pub cells_kept : (classes : Registry) (test : Verdict → Bool) (events : List Ended) (event : Ended) (cells : List Cell) → AreCells classes test events cells → ((cell : ℕ) → counts_in test cell event ≡ false) → AreCells classes test (events ++ event ∷ []) cells
+cells_kept classes test events event cells are out = record {
+  size = are.size;
+  versions = λ id low. are.versions id low ∙ sym (count_push (counts_in test id) events event ∙ ap (λ b. count_by (counts_in test id) events + cond b 1 0) (out id) ∙ omega arith);
+  stats = λ id low. are.stats id low ∙ sym (summary_push_no classes test id events event (out id));
 }
 
--- an event of this class with such a verdict counts in the cell of the class, and in no other
-counts_here : (flags : ℕ) (classes : Registry) (passes : Verdict → Bool) (event : Event) (n id : ℕ) → refs.Class n ≡ event.class → passes (verdict_of flags classes event.class) ≡ true → id ≡ n → counts_at flags classes passes id event ≡ true
-counts_here flags classes passes event n id e y same =
-    let t : is_class id event.class ≡ true = subst (λ c. is_class id c ≡ true) e (eq-eqb n id (sym same)) in
-    rw (t, y) refl
+pub added_same : (cells : List Cell) (cell : ℕ) (stat : Stat) → cell < length cells → cell_at (added_to cells cell stat) cell ≡ record { version = (cell_at cells cell).version + 1; stat = merge_of (cell_at cells cell).stat stat }
+added_same cells cell stat low = get_or-set_same cells cell _ empty_cell low
 
-counts_elsewhere : (flags : ℕ) (classes : Registry) (passes : Verdict → Bool) (event : Event) (n id : ℕ) → refs.Class n ≡ event.class → (id ≡ n → ⊥) → counts_at flags classes passes id event ≡ false
-counts_elsewhere flags classes passes event n id e other =
-    let t : is_class id event.class ≡ false = subst (λ c. is_class id c ≡ false) e (ne_eqb n id (λ q. other (sym q))) in
-    rw t refl
+pub added_other : (cells : List Cell) (cell other : ℕ) (stat : Stat) → other ≢ cell → cell_at (added_to cells cell stat) other ≡ cell_at cells other
+added_other cells cell other stat apart = get_or-set_other cells cell other _ empty_cell apart
 
-cells_more : (flags : ℕ) (classes : Registry) (passes : Verdict → Bool) (events : List Event) (cells : List Cell) (event : Event) (n : ℕ) → AreCells flags classes passes events cells → refs.Class n ≡ event.class → n < length cells → passes (verdict_of flags classes event.class) ≡ true → AreCells flags classes passes (events ++ event ∷ []) (added_to cells n (stat_of_event classes n event))
-cells_more flags classes passes events cells event n a e lt y =
-    let new : Cell = record { version = (cell_of cells n).version + 1; stat = merge_of (cell_of cells n).stat (stat_of_event classes n event) } in
-    record {
-      size = length-set cells n new ∙ a.size;
-      versions = λ id h. elim (cases_eq id n) [
-        | inl q ↦
-            let at : cell_of (set cells n new) id ≡ new = ap (λ k. cell_of (set cells n new) k) q ∙ get_or-set_same cells n new empty_cell lt in
-            let count = count_yes (counts_at flags classes passes id) events event (counts_here flags classes passes event n id e y q) in
-            ap (λ (c : Cell). c.version) at ∙ (ap (λ k. (cell_of cells k).version + 1) (sym q) ∙ (ap (λ k. k + 1) (a.versions id (subst (λ k. k < length cells) (sym q) lt)) ∙ sym count))
-        | inr q ↦
-            let at : cell_of (set cells n new) id ≡ cell_of cells id = get_or-set_other cells n id new empty_cell q in
-            ap (λ (c : Cell). c.version) at ∙ (a.versions id (subst (λ k. id < k) (length-set cells n new) h) ∙ sym (count_no (counts_at flags classes passes id) events event (counts_elsewhere flags classes passes event n id e q)))
-      ];
-      stats = λ id h. elim (cases_eq id n) [
-        | inl q ↦
-            let at : cell_of (set cells n new) id ≡ new = ap (λ k. cell_of (set cells n new) k) q ∙ get_or-set_same cells n new empty_cell lt in
-            let more = merged_yes (stat_of_event classes id) (counts_at flags classes passes id) events event (counts_here flags classes passes event n id e y q) in
-            ap (λ (c : Cell). c.stat) at ∙ (ap (λ k. merge_of (cell_of cells k).stat (stat_of_event classes k event)) (sym q) ∙ (ap (λ (s : Stat). merge_of s (stat_of_event classes id event)) (a.stats id (subst (λ k. k < length cells) (sym q) lt)) ∙ sym more))
-        | inr q ↦
-            let at : cell_of (set cells n new) id ≡ cell_of cells id = get_or-set_other cells n id new empty_cell q in
-            ap (λ (c : Cell). c.stat) at ∙ (a.stats id (subst (λ k. id < k) (length-set cells n new) h) ∙ sym (merged_no (stat_of_event classes id) (counts_at flags classes passes id) events event (counts_elsewhere flags classes passes event n id e q)))
-      ];
-    }
+same_number : (n : ℕ) → (n == n) ≡ true
+same_number n = grind arith
 
--- an event of a lost class counts nowhere
-lost_nowhere : (flags : ℕ) (classes : Registry) (passes : Verdict → Bool) (event : Event) (class : ClassRef) (id : ℕ) → class ≡ event.class → is_class id class ≡ false → counts_at flags classes passes id event ≡ false
-lost_nowhere flags classes passes event class id e h =
-    let t : is_class id event.class ≡ false = subst (λ c. is_class id c ≡ false) e h in
-    rw t refl
+other_number : (n m : ℕ) → (m ≡ n → ⊥) → (n == m) ≡ false
+other_number n m apart = grind (arith, apart)
 
-and_false : (a b : Bool) → b ≡ false → (a && b) ≡ false
-and_false true b h = h
-and_false false b h = refl
+and_true : (a b : Bool) → a ≡ true → b ≡ true → (a && b) ≡ true
+and_true a b first second = rw (first, second) refl
 
--- nor one without such a verdict
-other_nowhere : (flags : ℕ) (classes : Registry) (passes : Verdict → Bool) (event : Event) (id : ℕ) → passes (verdict_of flags classes event.class) ≡ false → counts_at flags classes passes id event ≡ false
-other_nowhere flags classes passes event id h = and_false (is_class id event.class) (passes (verdict_of flags classes event.class)) h
+and_false : (a b : Bool) → a ≡ false → (a && b) ≡ false
+and_false a b first = rw first refl
 
--- the cells when an event has ended
-pub cells_ended : (flags : ℕ) (classes : Registry) (passes : Verdict → Bool) (events : List Event) (cells : List Cell) (event : Event) (class : ClassRef) (lasted : ℕ) (test : Bool) → AreCells flags classes passes events cells → IsKnownClass (length classes.classes) class → class ≡ event.class → test ≡ passes (verdict_of flags classes class) → lasted ≡ duration_of event → AreCells flags classes passes (events ++ event ∷ []) (if test then cells_with classes cells class lasted else cells)
-cells_ended flags classes passes events cells event (refs.Class n) lasted true a known e t d =
-    let y : passes (verdict_of flags classes event.class) ≡ true = subst (λ c. passes (verdict_of flags classes c) ≡ true) e (sym t) in
-    let lt : n < length cells = subst (λ k. n < k) (sym a.size) known in
-    subst (λ k. AreCells flags classes passes (events ++ event ∷ []) (added_to cells n (stat_of_wait classes n k))) (sym d) (cells_more flags classes passes events cells event n a e lt y)
-cells_ended flags classes passes events cells event (refs.Lost kind) lasted true a known e t d = cells_same flags classes passes events cells event a (λ id. lost_nowhere flags classes passes event (refs.Lost kind) id e refl)
-cells_ended flags classes passes events cells event class lasted false a known e t d =
-    cells_same flags classes passes events cells event a (λ id. other_nowhere flags classes passes event id (subst (λ c. passes (verdict_of flags classes c) ≡ false) e (sym t)))
+and_false_right : (a b : Bool) → b ≡ false → (a && b) ≡ false
+and_false_right true b second = second
+and_false_right false b second = refl
+
+counts_here : (test : Verdict → Bool) (event : Ended) (cell : ℕ) → cell_of event.begun.subject ≡ Some cell → test event.begun.verdict ≡ true → counts_in test cell event ≡ true
+counts_here test event cell in_cell passes = and_true _ _ (ap (is_cell cell) in_cell ∙ same_number cell) passes
+
+counts_apart : (test : Verdict → Bool) (event : Ended) (cell other : ℕ) → cell_of event.begun.subject ≡ Some cell → (other ≡ cell → ⊥) → counts_in test other event ≡ false
+counts_apart test event cell other in_cell apart = and_false _ _ (ap (is_cell other) in_cell ∙ other_number cell other apart)
+
+version_added : (test : Verdict → Bool) (events : List Ended) (event : Ended) (cells : List Cell) (cell : ℕ) (stat : Stat) → length cells ≡ 64 → cell < 64 → ((id : ℕ) → id < 64 → (cell_at cells id).version ≡ count_by (counts_in test id) events) → cell_of event.begun.subject ≡ Some cell → test event.begun.verdict ≡ true → (id : ℕ) → id < 64 → (cell_at (added_to cells cell stat) id).version ≡ count_by (counts_in test id) (events ++ event ∷ [])
+version_added test events event cells cell stat size low versions in_cell passes id below =
+    elim (cases_eq id cell) [
+      | inl same ↦
+          let P : ℕ → Type 0 = λ n. (cell_at (added_to cells cell stat) n).version ≡ count_by (counts_in test n) (events ++ event ∷ []) in
+          subst P (sym same) (ap (λ (c : Cell). c.version) (added_same cells cell stat (omega (arith, size, low))) ∙ ap (λ n. n + 1) (versions cell low)
+          ∙ sym (count_push (counts_in test cell) events event ∙ ap (λ b. count_by (counts_in test cell) events + cond b 1 0) (counts_here test event cell in_cell passes)))
+      | inr apart ↦
+          ap (λ (c : Cell). c.version) (added_other cells cell id stat apart) ∙ versions id below
+          ∙ sym (count_push (counts_in test id) events event ∙ ap (λ b. count_by (counts_in test id) events + cond b 1 0) (counts_apart test event cell id in_cell apart) ∙ omega arith)
+    ]
+
+stat_added : (classes : Registry) (test : Verdict → Bool) (events : List Ended) (event : Ended) (cells : List Cell) (cell : ℕ) (stat : Stat) → length cells ≡ 64 → cell < 64 → ((id : ℕ) → id < 64 → (cell_at cells id).stat ≡ summary_of classes test id events) → cell_of event.begun.subject ≡ Some cell → test event.begun.verdict ≡ true → stat_of_event classes event ≡ stat → (id : ℕ) → id < 64 → (cell_at (added_to cells cell stat) id).stat ≡ summary_of classes test id (events ++ event ∷ [])
+stat_added classes test events event cells cell stat size low stats in_cell passes same_stat id below =
+    elim (cases_eq id cell) [
+      | inl same ↦
+          let P : ℕ → Type 0 = λ n. (cell_at (added_to cells cell stat) n).stat ≡ summary_of classes test n (events ++ event ∷ []) in
+          subst P (sym same) (ap (λ (c : Cell). c.stat) (added_same cells cell stat (omega (arith, size, low))) ∙ ap (λ s. merge_of s stat) (stats cell low)
+          ∙ sym (summary_push classes test cell events event (counts_here test event cell in_cell passes) ∙ ap (merge_of (summary_of classes test cell events)) same_stat))
+      | inr apart ↦
+          ap (λ (c : Cell). c.stat) (added_other cells cell id stat apart) ∙ stats id below
+          ∙ sym (summary_push_no classes test id events event (counts_apart test event cell id in_cell apart))
+    ]
+
+-- an event that counts is added to its cell
+pub cells_added : (classes : Registry) (test : Verdict → Bool) (events : List Ended) (event : Ended) (cells : List Cell) (cell : ℕ) (stat : Stat) → AreCells classes test events cells → cell < 64 → cell_of event.begun.subject ≡ Some cell → test event.begun.verdict ≡ true → stat_of_event classes event ≡ stat → AreCells classes test (events ++ event ∷ []) (added_to cells cell stat)
+cells_added classes test events event cells cell stat are low in_cell passes same = record {
+  size = length-set cells cell _ ∙ are.size;
+  versions = version_added test events event cells cell stat are.size low are.versions in_cell passes;
+  stats = stat_added classes test events event cells cell stat are.size low are.stats in_cell passes same;
+}
+
+-- an event whose verdict doesn't pass counts in no cell
+pub no_cell : (test : Verdict → Bool) (event : Ended) → test event.begun.verdict ≡ false → (cell : ℕ) → counts_in test cell event ≡ false
+no_cell test event out cell = and_false_right _ _ out

@@ -1,11 +1,12 @@
-pub mod Events
-pub mod Verdicts
-pub mod Summaries
-pub mod Journals
+pub mod Begun
+pub mod Ended
+pub mod Sums
+pub mod Entries
+pub mod Player
 pub mod Counters
+pub mod Summaries
 pub mod Runs
 pub mod Blocks
-pub mod Playing
 pub mod Phases
 pub mod Spelling
 pub mod Commands

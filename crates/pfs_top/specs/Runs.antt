@@ -1,81 +1,98 @@
 -- When a report is a run of a script: its journals are what the blocks' lines ask for, each summary row is the merge over the ended
--- events that lead to its key, and each counter is that of the classes that were lost.
-use Rattle.std.specs.Prelude.{ℕ, ◌≡◌, ◌+◌, ◌==◌, if◌then◌else◌, List, [], ◌∷◌, ◌++◌, length, map, reverse}
+-- events that lead to its key, and each counter is that of the events and classes that were lost.
+use Rattle.std.specs.Prelude.{ℕ, ◌≡◌, ◌+◌, ◌==◌, if◌then◌else◌, List, [], ◌∷◌, ◌++◌, length, map, reverse, Option}
 use Rattle.std.specs.List.{AllZip, flat_map, range_with_len}
-use Rattle.pfs_stat.specs.declared.Stat.{Stat}
 use Rattle.pfs_classes.specs.declared.setting.Setting.{Setting}
-use Rattle.pfs_classes.specs.Registry.{Registry, lost_of, text_of}
 use Rattle.pfs_event.specs.declared.entry.Entry.{Entry}
+use Rattle.pfs_rows.specs.declared.table.SummaryTable.TheVariants.{ByThread, Global}
+use Rattle.pfs_rows.specs.declared.table.Table.TheVariants.{Summary}
+use Rattle.pfs_rows.specs.declared.table.TableKind.{TableKind}
+use Rattle.pfs_rows.specs.declared.table.TableKind.TheVariants.{Waits, Stages, Statements, Transactions}
 use Rattle.pfs_script.specs.declared.blocks.Block.{Block}
+use Rattle.pfs_script.specs.declared.blocks.BlockLine.{BlockLine}
 use Rattle.pfs_script.specs.declared.blocks.Phase.{Phase}
+use Rattle.pfs_script.specs.Marks.{written_out}
 use Rattle.pfs_top.specs.declared.report.Counter.{Counter}
-use Rattle.pfs_top.specs.Counters.{counters, counted_kind}
-use Rattle.pfs_top.specs.declared.report.Report.{Report}
-use Rattle.pfs_top.specs.declared.report.PhaseReport.{PhaseReport}
-use Rattle.pfs_top.specs.declared.report.SessionReport.{SessionReport}
-use Rattle.pfs_top.specs.declared.report.ThreadRow.{ThreadRow}
-use Rattle.pfs_top.specs.declared.report.GlobalRow.{GlobalRow}
 use Rattle.pfs_top.specs.declared.report.LostRow.{LostRow}
-use Rattle.pfs_top.specs.Events.{Event, events_of}
-use Rattle.pfs_top.specs.Verdicts.{is_let_through, is_attributed, class_of}
-use Rattle.pfs_top.specs.Summaries.{summary_of}
-use Rattle.pfs_top.specs.Journals.{journal_of}
+use Rattle.pfs_top.specs.declared.report.Owner.TheVariants.{Thread, All}
+use Rattle.pfs_top.specs.declared.report.PhaseReport.{PhaseReport}
+use Rattle.pfs_top.specs.declared.report.Report.{Report}
+use Rattle.pfs_top.specs.declared.report.SessionReport.{SessionReport}
+use Rattle.pfs_top.specs.declared.report.SummaryRow.{SummaryRow}
+use Rattle.pfs_top.specs.declared.report.TableReport.{TableReport}
+use Rattle.pfs_top.specs.Begun.{Begun, begun_of, is_let_through, setup_of}
+use Rattle.pfs_top.specs.Counters.{counters, lost_by}
+use Rattle.pfs_top.specs.Ended.{Ended, ended_in}
+use Rattle.pfs_top.specs.Entries.{journal_of}
+use Rattle.pfs_top.specs.Summaries.{rows_of}
+use Rattle.pfs_top.specs.Sums.{is_attributed, summary_of}
 
--- the events of blocks, block after block
-abbrev pub all_events : List Block → List Event
-all_events blocks = flat_map (λ (block : Block). events_of block.lines) blocks
+-- a block's lines with each repeat written out, the last of them first
+abbrev pub played : Block → List BlockLine
+played block = reverse (written_out block.lines)
+
+-- the events that ended in a block, in the order of their ends, and those that began in it, by the places of its lines
+abbrev pub events_of : Setting → Block → List Ended
+events_of setting block = ended_in (setup_of setting) (played block)
+
+abbrev pub begun_in : Setting → Block → List (Option Begun)
+begun_in setting block = begun_of (setup_of setting) (played block)
+
+-- those of blocks, block after block
+abbrev pub all_events : Setting → List Block → List Ended
+all_events setting blocks = flat_map (events_of setting) blocks
+
+abbrev pub all_begun : Setting → List Block → List (Option Begun)
+all_begun setting blocks = flat_map (begun_in setting) blocks
 
 -- the journals of blocks in their places, the first in this thread slot, behind these events
-unfoldable pub journals_of : Setting → ℕ → List Event → List Block → List (List Entry)
+unfoldable pub journals_of : Setting → ℕ → List Ended → List Block → List (List Entry)
 journals_of setting slot others [] = []
 journals_of setting slot others (block ∷ blocks) =
-    journal_of setting.consumers setting.classes slot others (reverse block.lines)
-    ∷ journals_of setting (slot + 1) (others ++ events_of block.lines) blocks
+    journal_of (setup_of setting) slot others (played block) ∷ journals_of setting (slot + 1) (others ++ events_of setting block) blocks
 
--- the name of a class
-abbrev pub class_name : Setting → ℕ → List ℕ
-class_name setting id = text_of setting.names (class_of setting.classes id).name
+-- a session's rows: over its attributed events
+abbrev pub block_rows : Setting → TableKind → Block → List SummaryRow
+block_rows setting kind block = rows_of setting kind (Thread block.session) (λ cell. summary_of setting.classes is_attributed cell (events_of setting block))
 
--- the classes beside `transaction`
-abbrev pub class_ids : Setting → List ℕ
-class_ids setting = range_with_len 0 (length setting.classes.classes)
+-- the rows of the blocks of a session number
+abbrev pub rows_if : Setting → TableKind → ℕ → Block → List SummaryRow
+rows_if setting kind number block = if block.session == number then block_rows setting kind block else []
 
--- a row stands where something was counted
-abbrev pub listed : {Row : Type 0} → Stat → Row → List Row
-listed stat row = if stat.count == 0 then [] else row ∷ []
+abbrev pub session_rows : Setting → List Block → TableKind → ℕ → List SummaryRow
+session_rows setting blocks kind number = flat_map (rows_if setting kind number) blocks
 
--- a session's row of a class: over its attributed events
-abbrev pub thread_row : Setting → Block → ℕ → List ThreadRow
-thread_row setting block id =
-    let stat = summary_of setting.consumers setting.classes is_attributed id (events_of block.lines) in
-    listed stat (record { session = block.session; class = class_name setting id; stat = stat })
+-- the rows by thread, ascending by session number, then class. The session numbers go from 1 to 64
+unfoldable pub thread_rows : Setting → List Block → TableKind → List SummaryRow
+thread_rows setting blocks kind = flat_map (session_rows setting blocks kind) (range_with_len 1 64)
 
--- the rows of the blocks of a session number, by class
-abbrev pub rows_of_block : Setting → ℕ → Block → List ThreadRow
-rows_of_block setting number block = if block.session == number then flat_map (thread_row setting block) (class_ids setting) else []
+-- the global rows: over all events that are let through
+abbrev pub global_rows : Setting → List Block → TableKind → List SummaryRow
+global_rows setting blocks kind = rows_of setting kind All (λ cell. summary_of setting.classes is_let_through cell (all_events setting blocks))
 
-abbrev pub rows_of_session : Setting → List Block → ℕ → List ThreadRow
-rows_of_session setting blocks number = flat_map (rows_of_block setting number) blocks
+-- a kind's tables
+abbrev pub tables_of : Setting → List Block → TableKind → List TableReport
+tables_of setting blocks kind =
+    record { table = Summary kind ByThread; rows = thread_rows setting blocks kind }
+    ∷ record { table = Summary kind Global; rows = global_rows setting blocks kind }
+    ∷ []
 
--- the global row of a class: over all events that are let through
-abbrev pub global_row : Setting → List Event → ℕ → List GlobalRow
-global_row setting events id =
-    let stat = summary_of setting.consumers setting.classes is_let_through id events in
-    listed stat (record { class = class_name setting id; stat = stat })
+-- the kinds in their order
+abbrev pub table_kinds : List TableKind
+table_kinds = Waits ∷ Stages ∷ Statements ∷ Transactions ∷ []
 
 -- a counter stands where it isn't 0
-abbrev pub lost_row : Registry → Counter → List LostRow
-lost_row classes counter =
-    let number = lost_of classes (counted_kind counter) in
+abbrev pub lost_row : Setting → List Block → Counter → List LostRow
+lost_row setting blocks counter =
+    let number = lost_by setting.classes (all_begun setting blocks) counter in
     if number == 0 then [] else record { counter = counter; number = number } ∷ []
 
--- a phase of the run. The session numbers go from 1 to 64
+-- a phase of the run
 pub record IsPhaseRun (setting : Setting) (phase : Phase) (report : PhaseReport) : Type 0 where
   pub sessions : map (λ (session : SessionReport). session.number) report.sessions ≡ map (λ (block : Block). block.session) phase.blocks
   pub journals : map (λ (session : SessionReport). session.entries) report.sessions ≡ journals_of setting 0 [] phase.blocks
-  pub by_thread : report.by_thread ≡ flat_map (rows_of_session setting phase.blocks) (range_with_len 1 64)
-  pub global : report.global ≡ flat_map (global_row setting (all_events phase.blocks)) (class_ids setting)
-  pub lost : report.lost ≡ flat_map (lost_row setting.classes) counters
+  pub tables : report.tables ≡ flat_map (tables_of setting phase.blocks) table_kinds
+  pub lost : report.lost ≡ flat_map (lost_row setting phase.blocks) counters
 
 -- the report is a run of the script: its phases are numbered from 1, and each is a run of the script's
 pub record IsRun (setting : Setting) (phases : List Phase) (report : Report) : Type 0 where

@@ -2,18 +2,20 @@
 use Rattle.std.specs.Prelude.{ℕ, ◌/◌, ◌==◌, nat_le, if◌then◌else◌, List, [], ◌∷◌, ◌++◌, Option, Some, None, codes, decimal, length}
 use Rattle.std.specs.List.{flat_map}
 use Rattle.pfs_stat.specs.declared.Stat.{Stat}
+use Rattle.pfs_stat.specs.Stat.{merge_of}
 use Rattle.pfs_text.specs.Quotes.{quoted}
 use Rattle.pfs_event.specs.declared.entry.Entry.{Entry}
 use Rattle.pfs_event.specs.declared.entry.Entry.TheVariants as entry
 use Rattle.pfs_event.specs.Verdicts.{verdict_name}
-use Rattle.pfs_rows.specs.declared.table.TableKind.TheVariants.{Waits}
-use Rattle.pfs_rows.specs.declared.table.SummaryTable.TheVariants.{ByThread, Global}
 use Rattle.pfs_rows.specs.declared.table.Table.{Table}
-use Rattle.pfs_rows.specs.declared.table.Table.TheVariants.{Summary}
 use Rattle.pfs_rows.specs.Tables.{table_name}
 use Rattle.pfs_top.specs.declared.report.SessionReport.{SessionReport}
-use Rattle.pfs_top.specs.declared.report.ThreadRow.{ThreadRow}
-use Rattle.pfs_top.specs.declared.report.GlobalRow.{GlobalRow}
+use Rattle.pfs_top.specs.declared.report.Owner.{Owner}
+use Rattle.pfs_top.specs.declared.report.Owner.TheVariants.{Thread, All}
+use Rattle.pfs_top.specs.declared.report.Numbers.{Numbers}
+use Rattle.pfs_top.specs.declared.report.Numbers.TheVariants.{Times, Statements, Transactions}
+use Rattle.pfs_top.specs.declared.report.SummaryRow.{SummaryRow}
+use Rattle.pfs_top.specs.declared.report.TableReport.{TableReport}
 use Rattle.pfs_top.specs.declared.report.LostRow.{LostRow}
 use Rattle.pfs_top.specs.declared.report.PhaseReport.{PhaseReport}
 use Rattle.pfs_top.specs.declared.report.Report.{Report}
@@ -36,11 +38,23 @@ abbrev pub optional_text : Option ℕ → List ℕ
 optional_text None = codes " -"
 optional_text (Some number) = field_text number
 
--- a row's numbers: count, sum, least, average and greatest
+-- a count and times: count, sum, least, average and greatest
 unfoldable pub stat_text : Stat → List ℕ
 stat_text stat =
     field_text stat.count ++ field_text stat.sum ++ field_text (timed_number stat stat.min)
     ++ field_text (average stat) ++ field_text (timed_number stat stat.max)
+
+-- a statement's sums: lock time, errors, warnings, and rows affected, sent and examined
+unfoldable pub sums_text : Stat → List ℕ
+sums_text stat =
+    field_text stat.lock ++ field_text stat.errors ++ field_text stat.warnings
+    ++ field_text stat.affected ++ field_text stat.sent ++ field_text stat.examined
+
+-- a row's numbers. Those of transactions are of both access modes in one, then of each
+unfoldable pub counted_text : Numbers → List ℕ
+counted_text (Times stat) = stat_text stat
+counted_text (Statements stat) = stat_text stat ++ sums_text stat
+counted_text (Transactions read_write read_only) = stat_text (merge_of read_write read_only) ++ stat_text read_write ++ stat_text read_only
 
 -- a word and its numbers
 unfoldable pub numbers_text : List ℕ → List (Option ℕ) → List ℕ
@@ -81,42 +95,41 @@ session_line session = codes "session " ++ decimal session.number ++ codes "\n"
 unfoldable pub session_text : SessionReport → List ℕ
 session_text session = session_line session ++ flat_map entry_text session.entries
 
--- a row's line, by thread and globally
-unfoldable pub thread_row_text : ThreadRow → List ℕ
-thread_row_text row = codes "row " ++ decimal row.session ++ codes " " ++ quoted row.class ++ stat_text row.stat ++ codes "\n"
+-- whose row it is: a thread by its session number
+unfoldable pub owner_text : Owner → List ℕ
+owner_text (Thread session) = decimal session ++ codes " "
+owner_text All = []
 
-unfoldable pub global_row_text : GlobalRow → List ℕ
-global_row_text row = codes "row " ++ quoted row.class ++ stat_text row.stat ++ codes "\n"
+-- a row's line
+unfoldable pub row_text : SummaryRow → List ℕ
+row_text row = codes "row " ++ owner_text row.owner ++ quoted row.class ++ counted_text row.numbers ++ codes "\n"
 
 -- a counter's line
 unfoldable pub lost_row_text : LostRow → List ℕ
 lost_row_text row = codes "lost " ++ counter_name row.counter ++ codes " " ++ decimal row.number ++ codes "\n"
 
--- a table's name and rows; a table without rows isn't printed
+-- a table's name
 unfoldable pub table_line : Table → List ℕ
 table_line table = codes "table " ++ table_name table ++ codes "\n"
 
-abbrev pub table_text : {Row : Type 0} → Table → (Row → List ℕ) → List Row → List ℕ
-table_text table row_text rows = if length rows == 0 then [] else table_line table ++ flat_map row_text rows
-
--- the tables at a phase's end
-unfoldable pub tables_text : List ThreadRow → List GlobalRow → List ℕ
-tables_text by_thread global = table_text (Summary Waits ByThread) thread_row_text by_thread ++ table_text (Summary Waits Global) global_row_text global
+-- a table's name and rows; a table without rows isn't printed
+unfoldable pub table_text : TableReport → List ℕ
+table_text report = if length report.rows == 0 then [] else table_line report.table ++ flat_map row_text report.rows
 
 -- the tables and counters
-unfoldable pub results_text : List ThreadRow → List GlobalRow → List LostRow → List ℕ
-results_text by_thread global lost = tables_text by_thread global ++ flat_map lost_row_text lost
+unfoldable pub results_text : List TableReport → List LostRow → List ℕ
+results_text tables lost = flat_map table_text tables ++ flat_map lost_row_text lost
 
 unfoldable pub final_line : List ℕ
 final_line = codes "final\n"
 
 -- what follows a phase's journals
-unfoldable pub final_text : List ThreadRow → List GlobalRow → List LostRow → List ℕ
-final_text by_thread global lost = final_line ++ results_text by_thread global lost
+unfoldable pub final_text : List TableReport → List LostRow → List ℕ
+final_text tables lost = final_line ++ results_text tables lost
 
 -- what follows a phase's line: its sessions, and its tables and counters
-unfoldable pub body_text : List SessionReport → List ThreadRow → List GlobalRow → List LostRow → List ℕ
-body_text sessions by_thread global lost = flat_map session_text sessions ++ final_text by_thread global lost
+unfoldable pub body_text : List SessionReport → List TableReport → List LostRow → List ℕ
+body_text sessions tables lost = flat_map session_text sessions ++ final_text tables lost
 
 -- a phase's line
 unfoldable pub phase_line : PhaseReport → List ℕ
@@ -124,7 +137,7 @@ phase_line phase = codes "phase " ++ decimal phase.number ++ codes "\n"
 
 -- a phase
 unfoldable pub phase_text : PhaseReport → List ℕ
-phase_text phase = phase_line phase ++ body_text phase.sessions phase.by_thread phase.global phase.lost
+phase_text phase = phase_line phase ++ body_text phase.sessions phase.tables phase.lost
 
 -- the phases, and the last line
 unfoldable pub phases_text : List PhaseReport → List ℕ

@@ -1,30 +1,67 @@
--- What is counted of events: how many, and the merge of their numbers.
-use Rattle.std.specs.Prelude.{ℕ, Bool, false, ◌&&◌, ◌==◌, List, map, filter}
+-- The rows of a summary: for each class of the table's kind what was counted of it.
+use Rattle.std.specs.Prelude.{ℕ, Bool, false, ◌==◌, if◌then◌else◌, List, [], ◌∷◌, Option, Some, None}
+use Rattle.std.specs.List.{flat_map, range_with_len}
 use Rattle.pfs_stat.specs.declared.Stat.{Stat}
-use Rattle.pfs_stat.specs.Stat.{stat_of, merge_all}
-use Rattle.pfs_classes.specs.declared.classes.ClassRef.{ClassRef}
-use Rattle.pfs_classes.specs.declared.classes.ClassRef.TheVariants as refs
-use Rattle.pfs_classes.specs.Registry.{Registry}
-use Rattle.pfs_event.specs.declared.verdict.Verdict.{Verdict}
-use Rattle.pfs_top.specs.Events.{Event, duration_of}
-use Rattle.pfs_top.specs.Verdicts.{verdict_of, class_of}
+use Rattle.pfs_stat.specs.Stat.{merge_of}
+use Rattle.pfs_classes.specs.declared.classes.Class.{Class}
+use Rattle.pfs_classes.specs.declared.kind.Kind.{Kind}
+use Rattle.pfs_classes.specs.declared.kind.Kind.TheVariants as kinds
+use Rattle.pfs_classes.specs.declared.setting.Setting.{Setting}
+use Rattle.pfs_classes.specs.Registry.{class_at, text_of}
+use Rattle.pfs_rows.specs.declared.table.TableKind.{TableKind}
+use Rattle.pfs_rows.specs.declared.table.TableKind.TheVariants.{Waits, Stages, Statements, Transactions}
+use Rattle.pfs_rows.specs.Tables.{kind_number}
+use Rattle.pfs_top.specs.declared.report.Numbers.{Numbers}
+use Rattle.pfs_top.specs.declared.report.Numbers.TheVariants as numbers
+use Rattle.pfs_top.specs.declared.report.Owner.{Owner}
+use Rattle.pfs_top.specs.declared.report.SummaryRow.{SummaryRow}
+use Rattle.pfs_top.specs.Begun.{class_of}
 
--- the reference is to the class of this id
-abbrev pub is_class : ℕ → ClassRef → Bool
-is_class id (refs.Class number) = number == id
-is_class id (refs.Lost kind) = false
+-- the kind of the table that has the rows of a class
+abbrev pub table_kind : Kind → TableKind
+table_kind kinds.Mutex = Waits
+table_kind kinds.Rwlock = Waits
+table_kind kinds.Cond = Waits
+table_kind kinds.File = Waits
+table_kind kinds.Socket = Waits
+table_kind kinds.TableIo = Waits
+table_kind kinds.TableLock = Waits
+table_kind kinds.Stage = Stages
+table_kind kinds.Statement = Statements
+table_kind kinds.Transaction = Transactions
 
--- an event of this class, with such a verdict
-abbrev pub counts_at : ℕ → Registry → (Verdict → Bool) → ℕ → Event → Bool
-counts_at flags classes passes id event = is_class id event.class && passes (verdict_of flags classes event.class)
+abbrev pub is_of : TableKind → Option Class → Bool
+is_of kind None = false
+is_of kind (Some class) = kind_number (table_kind class.kind) == kind_number kind
 
--- the numbers of one wait of this class, which is timed where the class's TIMED is YES
-abbrev pub stat_of_wait : Registry → ℕ → ℕ → Stat
-stat_of_wait classes id wait = stat_of (record { timed = (class_of classes id).timed; wait = wait; lock = 0; errors = 0; warnings = 0; affected = 0; sent = 0; examined = 0 })
+-- the numbers of a class's row, where this was counted by cell. READ WRITE transactions have the cell 62, READ ONLY ones the cell 63
+abbrev pub numbers_of : TableKind → (ℕ → Stat) → ℕ → Numbers
+numbers_of Waits counted id = numbers.Times (counted id)
+numbers_of Stages counted id = numbers.Times (counted id)
+numbers_of Statements counted id = numbers.Statements (counted id)
+numbers_of Transactions counted id = numbers.Transactions (counted 62) (counted 63)
 
-abbrev pub stat_of_event : Registry → ℕ → Event → Stat
-stat_of_event classes id event = stat_of_wait classes id (duration_of event)
+-- how many events a row counts
+abbrev pub count_of : Numbers → ℕ
+count_of (numbers.Times stat) = stat.count
+count_of (numbers.Statements stat) = stat.count
+count_of (numbers.Transactions read_write read_only) = (merge_of read_write read_only).count
 
--- the merge over the events of a class with such a verdict
-abbrev pub summary_of : ℕ → Registry → (Verdict → Bool) → ℕ → List Event → Stat
-summary_of flags classes passes id events = merge_all (map (stat_of_event classes id) (filter (counts_at flags classes passes id) events))
+-- the name of a class
+abbrev pub class_name : Setting → ℕ → List ℕ
+class_name setting id = text_of setting.names (class_of setting.classes id).name
+
+-- a row stands where something was counted
+abbrev pub listed : Numbers → SummaryRow → List SummaryRow
+listed counted row = if count_of counted == 0 then [] else row ∷ []
+
+-- the row of the class with this id, where it is of the kind
+abbrev pub row_of : Setting → TableKind → Owner → (ℕ → Stat) → ℕ → List SummaryRow
+row_of setting kind owner counted id =
+    if is_of kind (class_at setting.classes id)
+    then listed (numbers_of kind counted id) (record { owner = owner; class = class_name setting id; numbers = numbers_of kind counted id })
+    else []
+
+-- an owner's rows, ascending by class id. The ids go from 0 to 62
+unfoldable pub rows_of : Setting → TableKind → Owner → (ℕ → Stat) → List SummaryRow
+rows_of setting kind owner counted = flat_map (row_of setting kind owner counted) (range_with_len 0 63)

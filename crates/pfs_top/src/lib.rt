@@ -3,16 +3,18 @@
 
 mod commands;
 mod phases;
-mod playing;
+mod player;
 mod report;
+mod rounds;
 mod spelling;
+mod summaries;
 #[cfg(test)]
 mod tests;
 mod texts;
 
 pub use commands::{Status, pfs};
 pub use report::{
-    Counter, EntryList, GlobalRow, GlobalRowList, LostRow, LostRowList, PhaseList, PhaseReport,
-    Report, SessionList, SessionReport, ThreadRow, ThreadRowList,
+    Counter, EntryList, LostRow, LostRowList, Numbers, Owner, PhaseList, PhaseReport, Report,
+    SessionList, SessionReport, SummaryRow, SummaryRowList, TableList, TableReport,
 };
 pub use std::alloc::AllocError as NoMemory;

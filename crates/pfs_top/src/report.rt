@@ -2,10 +2,11 @@
 //! phase's end.
 
 ghost use Rattle.std.specs.Prelude.{◌≡◌};
-ghost use Rattle.pfs_top.specs.Counters.{counted_kind, counter_name};
+ghost use Rattle.pfs_top.specs.Counters.{counter_name};
+ghost use Rattle.pfs_top.specs.Summaries.{count_of};
 
-use pfs_classes::Kind;
 use pfs_event::Entry;
+use pfs_rows::Table;
 use pfs_stat::Stat;
 use pfs_text::Text;
 use std::marker::Model;
@@ -81,82 +82,118 @@ impl SessionList {
     }
 }
 
-/// A row of the wait summary by thread.
+/// Whose events a summary row counts.
+#[derive(Clone, Copy, Debug, PartialEq, Eq)]
+pub enum Owner {
+    /// Those of the session with this number K.
+    Thread(u64),
+    /// Those of all sessions.
+    All,
+}
+
+/// The numbers of a summary row, as its kind of events has them.
+#[derive(Clone, Copy, Debug, PartialEq, Eq)]
+pub enum Numbers {
+    /// The count and the times of waits or stages.
+    Times(Stat),
+    /// The count, the times and the six sums of statements.
+    Statements(Stat),
+    /// The count and the times of the READ WRITE transactions, and those of the READ ONLY ones. A row
+    /// shows those of all transactions before them.
+    Transactions { read_write: Stat, read_only: Stat },
+}
+
+impl Numbers {
+    /// How many events the row counts, MySQL's COUNT_STAR.
+    pub fn count(&self) -> u64
+        ensures { result ≡ count_of self.now }
+    {
+        match self {
+            Numbers::Times(stat) | Numbers::Statements(stat) => stat.count,
+            Numbers::Transactions {
+                read_write,
+                read_only,
+            } => read_write.merge(*read_only).count,
+        }
+    }
+}
+
+/// A row of a summary.
 #[derive(Drop)]
-pub struct ThreadRow {
-    /// The number of the thread's session.
-    pub session: u64,
-    /// The name of the class.
+pub struct SummaryRow {
+    /// Whose events it counts.
+    pub owner: Owner,
+    /// The name of the class of the events.
     pub class: Text,
-    /// What was counted of the session's events of this class.
-    pub stat: Stat,
+    /// What was counted.
+    pub numbers: Numbers,
 }
 
-/// A list of rows by thread.
+/// The rows of a summary, in order.
 #[derive(Drop)]
-pub struct ThreadRowList {
-    items: Vec<ThreadRow>,
+pub struct SummaryRowList {
+    items: Vec<SummaryRow>,
 }
 
-impl Model for ThreadRowList {
+impl Model for SummaryRowList {
     ghost use Rattle.std.specs.Prelude.{List};
-    ghost use Rattle.pfs_top.specs.declared.report.ThreadRow.{ThreadRow};
+    ghost use Rattle.pfs_top.specs.declared.report.SummaryRow.{SummaryRow};
 
-    ghost Value = { List ThreadRow };
+    ghost Value = { List SummaryRow };
 
     ghost view = { λ list. list.items.items };
 }
 
-impl ThreadRowList {
+impl SummaryRowList {
     /// The list of these rows. It takes no memory.
-    pub fn new(items: Vec<ThreadRow>) -> ThreadRowList
+    pub fn new(items: Vec<SummaryRow>) -> SummaryRowList
         ensures { result ≡ items.items }
     {
-        ThreadRowList { items }
+        SummaryRowList { items }
     }
 
     /// The rows, in order.
-    pub fn as_slice(&self) -> &[ThreadRow]
+    pub fn as_slice(&self) -> &[SummaryRow]
         ensures { result.now ≡ self.now }
     {
         self.items.as_slice()
     }
 }
 
-/// A row of the global wait summary.
+/// A table at a phase's end. One without rows isn't printed.
 #[derive(Drop)]
-pub struct GlobalRow {
-    /// The name of the class.
-    pub class: Text,
-    /// What was counted of all events of this class.
-    pub stat: Stat,
+pub struct TableReport {
+    /// Which table it is.
+    pub table: Table,
+    /// Its rows, ascending by its key.
+    pub rows: SummaryRowList,
 }
 
-/// A list of global rows.
+/// The tables at a phase's end, in order.
 #[derive(Drop)]
-pub struct GlobalRowList {
-    items: Vec<GlobalRow>,
+pub struct TableList {
+    items: Vec<TableReport>,
 }
 
-impl Model for GlobalRowList {
+impl Model for TableList {
     ghost use Rattle.std.specs.Prelude.{List};
-    ghost use Rattle.pfs_top.specs.declared.report.GlobalRow.{GlobalRow};
+    ghost use Rattle.pfs_top.specs.declared.report.TableReport.{TableReport};
 
-    ghost Value = { List GlobalRow };
+    ghost Value = { List TableReport };
 
     ghost view = { λ list. list.items.items };
 }
 
-impl GlobalRowList {
-    /// The list of these rows. It takes no memory.
-    pub fn new(items: Vec<GlobalRow>) -> GlobalRowList
+impl TableList {
+    /// The list of these tables. It takes no memory.
+    pub fn new(items: Vec<TableReport>) -> TableList
         ensures { result ≡ items.items }
     {
-        GlobalRowList { items }
+        TableList { items }
     }
 
-    /// The rows, in order.
-    pub fn as_slice(&self) -> &[GlobalRow]
+    /// The tables, in order.
+    pub fn as_slice(&self) -> &[TableReport]
         ensures { result.now ≡ self.now }
     {
         self.items.as_slice()
@@ -166,6 +203,8 @@ impl GlobalRowList {
 /// A counter of what was lost, in the order of a report. The names are MySQL's.
 #[derive(Clone, Copy, Debug, PartialEq, Eq)]
 pub enum Counter {
+    NestedStatements,
+    Lockers,
     MutexClasses,
     RwlockClasses,
     CondClasses,
@@ -177,7 +216,9 @@ pub enum Counter {
 
 impl Counter {
     /// All counters, in their order.
-    pub const ALL: [Counter; 7] = [
+    pub const ALL: [Counter; 9] = [
+        Counter::NestedStatements,
+        Counter::Lockers,
         Counter::MutexClasses,
         Counter::RwlockClasses,
         Counter::CondClasses,
@@ -187,26 +228,13 @@ impl Counter {
         Counter::StatementClasses,
     ];
 
-    /// The kind whose lost classes it counts.
-    pub fn kind(self) -> Kind
-        ensures { result ≡ counted_kind self }
-    {
-        match self {
-            Counter::MutexClasses => Kind::Mutex,
-            Counter::RwlockClasses => Kind::Rwlock,
-            Counter::CondClasses => Kind::Cond,
-            Counter::FileClasses => Kind::File,
-            Counter::SocketClasses => Kind::Socket,
-            Counter::StageClasses => Kind::Stage,
-            Counter::StatementClasses => Kind::Statement,
-        }
-    }
-
     /// The counter's name.
     pub fn name(self) -> &'static str
         ensures { result.now ≡ counter_name self }
     {
         match self {
+            Counter::NestedStatements => "Performance_schema_nested_statement_lost",
+            Counter::Lockers => "Performance_schema_locker_lost",
             Counter::MutexClasses => "Performance_schema_mutex_classes_lost",
             Counter::RwlockClasses => "Performance_schema_rwlock_classes_lost",
             Counter::CondClasses => "Performance_schema_cond_classes_lost",
@@ -265,10 +293,8 @@ pub struct PhaseReport {
     pub number: u64,
     /// The sessions, in the order of their blocks.
     pub sessions: SessionList,
-    /// The wait summary by thread, ascending by session, then class.
-    pub by_thread: ThreadRowList,
-    /// The global wait summary, ascending by class.
-    pub global: GlobalRowList,
+    /// The tables at its end, those of each kind of events by thread and then globally.
+    pub tables: TableList,
     /// The counters that are not 0.
     pub lost: LostRowList,
 }

@@ -3,14 +3,14 @@
 ghost use Rattle.std.specs.Prelude.{ℕ, List, ◌≡◌, ◌++◌, OnOk, IfOk, codes, decimal};
 ghost use Rattle.std.specs.List.{flat_map};
 ghost use Rattle.pfs_outside.specs.Streams.{Puts};
-ghost use Rattle.pfs_top.specs.Spelling.{entry_text, session_line, session_text, thread_row_text, global_row_text, lost_row_text, table_line, table_text, tables_text, results_text, final_line, final_text, body_text, phase_line, phase_text, phases_text, first_line, spelling};
+ghost use Rattle.pfs_top.specs.Spelling.{entry_text, session_line, session_text, row_text, lost_row_text, table_line, table_text, results_text, final_line, final_text, body_text, phase_line, phase_text, phases_text, first_line, spelling};
 
 use crate::NoMemory;
-use crate::report::{GlobalRow, LostRow, PhaseReport, Report, SessionReport, ThreadRow};
-use crate::texts::{numbers_line, put_stat, put_text, start_words};
+use crate::report::{LostRow, PhaseReport, Report, SessionReport, SummaryRow, TableReport};
+use crate::texts::{numbers_line, put_counted, put_owner, put_text, start_words};
 use pfs_event::Entry;
 use pfs_outside::{Sink, WriteStop, write_all};
-use pfs_rows::{SummaryTable, Table, TableKind};
+use pfs_rows::Table;
 use pfs_text::{put_u64, quote};
 use std::alloc::Global;
 
@@ -166,45 +166,24 @@ impl Spelled for SessionReport {
     }
 }
 
-#[tactic(auto, unfolding(crate::specs::Spelling::thread_row_text))]
-fn thread_row_line(alloc: Global, row: &ThreadRow) -> Result<Vec<u8>, NoMemory>
-    ensures { IfOk result (λ line. line.items ≡ thread_row_text row.now) }
+#[tactic(auto, unfolding(crate::specs::Spelling::row_text))]
+fn row_line(alloc: Global, row: &SummaryRow) -> Result<Vec<u8>, NoMemory>
+    ensures { IfOk result (λ line. line.items ≡ row_text row.now) }
 {
     let mut line = Vec::new(alloc);
     put_text(&mut line, b"row ")?;
-    put_u64(&mut line, row.session)?;
-    put_text(&mut line, b" ")?;
+    put_owner(&mut line, row.owner)?;
     quote(&mut line, row.class.as_bytes())?;
-    put_stat(&mut line, &row.stat)?;
+    put_counted(&mut line, &row.numbers)?;
     put_text(&mut line, b"\n")?;
     Ok(line)
 }
 
-impl Spelled for ThreadRow {
-    ghost text = { thread_row_text };
+impl Spelled for SummaryRow {
+    ghost text = { row_text };
 
     fn put<K: Sink>(&self, alloc: Global, sink: &mut K) -> Result<(), WriteStop> {
-        put_line(sink, thread_row_line(alloc, self))
-    }
-}
-
-#[tactic(auto, unfolding(crate::specs::Spelling::global_row_text))]
-fn global_row_line(alloc: Global, row: &GlobalRow) -> Result<Vec<u8>, NoMemory>
-    ensures { IfOk result (λ line. line.items ≡ global_row_text row.now) }
-{
-    let mut line = Vec::new(alloc);
-    put_text(&mut line, b"row ")?;
-    quote(&mut line, row.class.as_bytes())?;
-    put_stat(&mut line, &row.stat)?;
-    put_text(&mut line, b"\n")?;
-    Ok(line)
-}
-
-impl Spelled for GlobalRow {
-    ghost text = { global_row_text };
-
-    fn put<K: Sink>(&self, alloc: Global, sink: &mut K) -> Result<(), WriteStop> {
-        put_line(sink, global_row_line(alloc, self))
+        put_line(sink, row_line(alloc, self))
     }
 }
 
@@ -248,52 +227,30 @@ fn put_table_line<K: Sink>(alloc: Global, sink: &mut K, table: Table) -> Result<
 
 /// Offers a table's name and its rows.
 #[tactic(auto, using(pfs_outside::proofs::Writes::puts_then, pfs_outside::proofs::Writes::puts_stop))]
-fn put_rows<T: Spelled, K: Sink>(
+fn put_rows<K: Sink>(
     alloc: Global,
     sink: &mut K,
     table: Table,
-    rows: &[T],
+    rows: &[SummaryRow],
 ) -> Result<(), WriteStop>
-    ensures { Puts (K.written sink.old) (K.written sink.new) (K.faults sink.old) (K.faults sink.new) (table_line table ++ flat_map T.text rows.now) result }
+    ensures { Puts (K.written sink.old) (K.written sink.new) (K.faults sink.old) (K.faults sink.new) (table_line table ++ flat_map row_text rows.now) result }
 {
     put_table_line(alloc, sink, table)?;
     put_each(alloc, sink, rows)
 }
 
-/// Offers a table; nothing of one without rows.
-fn put_table<T: Spelled, K: Sink>(
-    alloc: Global,
-    sink: &mut K,
-    table: Table,
-    rows: &[T],
-) -> Result<(), WriteStop>
-    ensures { Puts (K.written sink.old) (K.written sink.new) (K.faults sink.old) (K.faults sink.new) (table_text table T.text rows.now) result }
-{
-    if rows.is_empty() {
-        Ok(())
-    } else {
-        put_rows(alloc, sink, table, rows)
+impl Spelled for TableReport {
+    ghost text = { table_text };
+
+    #[tactic(auto, unfolding(crate::specs::Spelling::table_text))]
+    fn put<K: Sink>(&self, alloc: Global, sink: &mut K) -> Result<(), WriteStop> {
+        let rows = self.rows.as_slice();
+        if rows.is_empty() {
+            Ok(())
+        } else {
+            put_rows(alloc, sink, self.table, rows)
+        }
     }
-}
-
-/// The wait summary by thread.
-const BY_THREAD: Table = Table::Summary(TableKind::Waits, SummaryTable::ByThread);
-
-/// The global wait summary.
-const GLOBAL: Table = Table::Summary(TableKind::Waits, SummaryTable::Global);
-
-/// Offers the tables at a phase's end.
-#[tactic(auto, using(pfs_outside::proofs::Writes::puts_then, pfs_outside::proofs::Writes::puts_stop), unfolding(crate::specs::Spelling::tables_text))]
-fn put_tables<K: Sink>(
-    alloc: Global,
-    sink: &mut K,
-    by_thread: &[ThreadRow],
-    global: &[GlobalRow],
-) -> Result<(), WriteStop>
-    ensures { Puts (K.written sink.old) (K.written sink.new) (K.faults sink.old) (K.faults sink.new) (tables_text by_thread.now global.now) result }
-{
-    put_table(alloc, sink, BY_THREAD, by_thread)?;
-    put_table(alloc, sink, GLOBAL, global)
 }
 
 /// Offers the tables and counters.
@@ -301,13 +258,12 @@ fn put_tables<K: Sink>(
 fn put_results<K: Sink>(
     alloc: Global,
     sink: &mut K,
-    by_thread: &[ThreadRow],
-    global: &[GlobalRow],
+    tables: &[TableReport],
     lost: &[LostRow],
 ) -> Result<(), WriteStop>
-    ensures { Puts (K.written sink.old) (K.written sink.new) (K.faults sink.old) (K.faults sink.new) (results_text by_thread.now global.now lost.now) result }
+    ensures { Puts (K.written sink.old) (K.written sink.new) (K.faults sink.old) (K.faults sink.new) (results_text tables.now lost.now) result }
 {
-    put_tables(alloc, sink, by_thread, global)?;
+    put_each(alloc, sink, tables)?;
     put_each(alloc, sink, lost)
 }
 
@@ -322,28 +278,21 @@ fn put_final_line<K: Sink>(sink: &mut K) -> Result<(), WriteStop>
 fn put_final<K: Sink>(
     alloc: Global,
     sink: &mut K,
-    by_thread: &[ThreadRow],
-    global: &[GlobalRow],
+    tables: &[TableReport],
     lost: &[LostRow],
 ) -> Result<(), WriteStop>
-    ensures { Puts (K.written sink.old) (K.written sink.new) (K.faults sink.old) (K.faults sink.new) (final_text by_thread.now global.now lost.now) result }
+    ensures { Puts (K.written sink.old) (K.written sink.new) (K.faults sink.old) (K.faults sink.new) (final_text tables.now lost.now) result }
 {
     put_final_line(sink)?;
-    put_results(alloc, sink, by_thread, global, lost)
+    put_results(alloc, sink, tables, lost)
 }
 
 #[tactic(auto, using(pfs_outside::proofs::Writes::puts_then, pfs_outside::proofs::Writes::puts_stop), unfolding(crate::specs::Spelling::body_text))]
 fn put_body<K: Sink>(alloc: Global, sink: &mut K, phase: &PhaseReport) -> Result<(), WriteStop>
-    ensures { Puts (K.written sink.old) (K.written sink.new) (K.faults sink.old) (K.faults sink.new) (body_text phase.now.sessions phase.now.by_thread phase.now.global phase.now.lost) result }
+    ensures { Puts (K.written sink.old) (K.written sink.new) (K.faults sink.old) (K.faults sink.new) (body_text phase.now.sessions phase.now.tables phase.now.lost) result }
 {
     put_each(alloc, sink, phase.sessions.as_slice())?;
-    put_final(
-        alloc,
-        sink,
-        phase.by_thread.as_slice(),
-        phase.global.as_slice(),
-        phase.lost.as_slice(),
-    )
+    put_final(alloc, sink, phase.tables.as_slice(), phase.lost.as_slice())
 }
 
 #[tactic(auto, unfolding(crate::specs::Spelling::phase_line))]

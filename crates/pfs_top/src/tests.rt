@@ -38,7 +38,7 @@ fn ran(
 /// Whether `run` on each script writes the report beside it.
 fn reports(alloc: Global, cases: &[(&[u8], &[u8])]) -> Result<bool, AllocError> {
     for (script, report) in cases {
-        let (status, sink) = ran(alloc, script, 2_000, &[], &[])?;
+        let (status, sink) = ran(alloc, script, 3_000, &[], &[])?;
         if status != Status::Done || sink.bytes() != *report {
             return Ok(false);
         }
@@ -99,6 +99,78 @@ fn events_aside_and_untimed_ones_are_counted(rt: HostRuntime) -> Result<(), Fail
 /// Whether a text has this part.
 fn has(text: &[u8], part: &[u8]) -> bool {
     text.windows(part.len().max(1)).any(|window| window == part)
+}
+
+#[test]
+fn events_of_four_kinds_nest(rt: HostRuntime) -> Result<(), Fail> {
+    let cases: [(&[u8], &[u8]); 4] = [
+        (
+            b"phase\nsession 1 u h\nstart transaction rw\nstart statement/sql/select\nspend 5\nstage stage/sql/init\nspend 10\nstart wait/io/file/sql/binlog\nspend 20\nend\nspend 30\nstage stage/sql/executing\nspend 40\nend 1 2 3 4 5 6\nstart statement/sql/call_procedure\nstart statement/sp/stmt\nspend 3\nend\nstage stage/sql/end\nstage -\nend\nend\n",
+            b"pfs-report 0\nphase 1\nsession 1\nstart 1 attributed 0 0 0 -\nstart 2 attributed 0 0 0 -\nstart 3 attributed 0 0 0 -\nstart 4 attributed 0 0 0 -\nend 4 4 0 0\nadd 135 1\nend 3 4 0 0\nadd 141 1\nstart 5 attributed 0 0 0 -\nend 5 5 0 0\nadd 144 1\nend 2 5 0 0\nadd 146 1\nstart 6 attributed 0 0 0 -\nstart 7 attributed 0 0 0 -\nend 7 7 0 0\nadd 152 1\nstart 8 attributed 0 0 0 -\nend 8 8 0 0\nadd 145 1\nend 6 8 0 0\nadd 151 1\nend 1 8 0 0\nadd 191 1\nfinal\ntable events_waits_summary_by_thread_by_event_name\nrow 1 'wait/io/file/sql/binlog' 1 20 20 20 20\ntable events_waits_summary_global_by_event_name\nrow 'wait/io/file/sql/binlog' 1 20 20 20 20\ntable events_stages_summary_by_thread_by_event_name\nrow 1 'stage/sql/init' 1 60 60 60 60\nrow 1 'stage/sql/executing' 1 40 40 40 40\nrow 1 'stage/sql/end' 1 0 0 0 0\ntable events_stages_summary_global_by_event_name\nrow 'stage/sql/init' 1 60 60 60 60\nrow 'stage/sql/executing' 1 40 40 40 40\nrow 'stage/sql/end' 1 0 0 0 0\ntable events_statements_summary_by_thread_by_event_name\nrow 1 'statement/sql/select' 1 105 105 105 105 1 2 3 4 5 6\nrow 1 'statement/sql/call_procedure' 1 3 3 3 3 0 0 0 0 0 0\nrow 1 'statement/sp/stmt' 1 3 3 3 3 0 0 0 0 0 0\ntable events_statements_summary_global_by_event_name\nrow 'statement/sql/select' 1 105 105 105 105 1 2 3 4 5 6\nrow 'statement/sql/call_procedure' 1 3 3 3 3 0 0 0 0 0 0\nrow 'statement/sp/stmt' 1 3 3 3 3 0 0 0 0 0 0\ntable events_transactions_summary_by_thread_by_event_name\nrow 1 'transaction' 1 108 108 108 108 1 108 108 108 108 0 0 0 0 0\ntable events_transactions_summary_global_by_event_name\nrow 'transaction' 1 108 108 108 108 1 108 108 108 108 0 0 0 0 0\nend\n",
+        ),
+        (
+            b"phase\nsession 1 u h\nstart transaction rw\nspend 5\nend\nstart transaction ro\nspend 7\nend\n",
+            b"pfs-report 0\nphase 1\nsession 1\nstart 1 attributed 0 0 0 -\nend 1 1 0 0\nadd 191 1\nstart 2 attributed 0 0 0 -\nend 2 2 0 0\nadd 192 1\nfinal\ntable events_transactions_summary_by_thread_by_event_name\nrow 1 'transaction' 2 12 5 6 7 1 5 5 5 5 1 7 7 7 7\ntable events_transactions_summary_global_by_event_name\nrow 'transaction' 2 12 5 6 7 1 5 5 5 5 1 7 7 7 7\nend\n",
+        ),
+        (
+            b"limit statement_stack 2\nphase\nsession 2 u h\nrepeat 2\nstart statement/sql/insert\nspend 3\nstart statement/sp/stmt\nstart statement/sp/stmt\nspend 1\nend\nend\nend 0 1 0 1 0 0\ndone\n",
+            b"pfs-report 0\nphase 1\nsession 2\nstart 1 attributed 0 0 0 -\nstart 2 attributed 0 0 0 -\nstart - lost-nested 0 0 0 -\nend - - - -\nend 2 2 0 0\nadd 152 1\nend 1 2 0 0\nadd 147 1\nstart 3 attributed 0 0 0 -\nstart 4 attributed 0 0 0 -\nstart - lost-nested 0 0 0 -\nend - - - -\nend 4 4 0 0\nadd 152 2\nend 3 4 0 0\nadd 147 2\nfinal\ntable events_statements_summary_by_thread_by_event_name\nrow 2 'statement/sql/insert' 2 8 4 4 4 0 2 0 2 0 0\nrow 2 'statement/sp/stmt' 2 2 1 1 1 0 0 0 0 0 0\ntable events_statements_summary_global_by_event_name\nrow 'statement/sql/insert' 2 8 4 4 4 0 2 0 2 0 0\nrow 'statement/sp/stmt' 2 2 1 1 1 0 0 0 0 0 0\nlost Performance_schema_nested_statement_lost 2\nend\n",
+        ),
+        // The greatest number of rounds, with nothing in them.
+        (
+            b"phase\nsession 1 u h\nrepeat 18446744073709551615\ndone\n",
+            b"pfs-report 0\nphase 1\nsession 1\nfinal\nend\n",
+        ),
+    ];
+    assert!(rt; reports(rt.alloc(), &cases)?);
+    Ok(())
+}
+
+/// A script of one session with so many events of a class, each inside the one before.
+fn nested(alloc: Global, class: &[u8], depth: u64) -> Result<Vec<u8>, AllocError> {
+    let mut script = Vec::from_slice(alloc, b"phase\nsession 1 u h\n")?;
+    for _ in 0..depth {
+        script.extend_from_slice(b"start ")?;
+        script.extend_from_slice(class)?;
+        script.extend_from_slice(b"\n")?;
+    }
+    for _ in 0..depth {
+        script.extend_from_slice(b"end\n")?;
+    }
+    Ok(script)
+}
+
+#[test]
+fn events_beyond_the_depth_are_lost(rt: HostRuntime) -> Result<(), Fail> {
+    let cases: [(&[u8], u64, &[u8]); 4] = [
+        (
+            b"wait/io/file/sql/binlog",
+            4,
+            b"\nrow 'wait/io/file/sql/binlog' 4 0 0 0 0\nend\n",
+        ),
+        (
+            b"wait/io/file/sql/binlog",
+            5,
+            b"\nrow 'wait/io/file/sql/binlog' 4 0 0 0 0\nlost Performance_schema_locker_lost 1\nend\n",
+        ),
+        (
+            b"statement/sp/stmt",
+            10,
+            b"\nrow 'statement/sp/stmt' 10 0 0 0 0 0 0 0 0 0 0\nend\n",
+        ),
+        (
+            b"statement/sp/stmt",
+            11,
+            b"\nrow 'statement/sp/stmt' 10 0 0 0 0 0 0 0 0 0 0\nlost Performance_schema_nested_statement_lost 1\nend\n",
+        ),
+    ];
+    for (class, depth, last) in cases {
+        let script = nested(rt.alloc(), class, depth)?;
+        let (status, sink) = ran(rt.alloc(), &script, 2_000, &[], &[])?;
+        assert_eq!(rt; status, Status::Done);
+        assert!(rt; has(sink.bytes(), last));
+    }
+    Ok(())
 }
 
 #[test]

@@ -1,7 +1,7 @@
 use Rattle.std.proofs.Common.{◌≡◌, ◌∙◌, ◌<◌, length, sym, arith}
 use Rattle.std.proofs.lemmas.Bool.Decides.{nat_tests}
 use Rattle.pfs_script.proofs.Splits.{some_parts}
-use Rattle.pfs_script.proofs.Steps.{says_line, says_fault, says_all, says_open}
+use Rattle.pfs_script.proofs.Steps.{says_line, says_fault, says_all, says_undone, says_open}
 use Rattle.pfs_script.proofs.Faultless.{passes}
 use Rattle.pfs_script.proofs.Taking.{may_come, stands_in, next_none}
 use Rattle.pfs_script.proofs.reading.read_lines.Goals as goal
@@ -34,8 +34,16 @@ returns-then-not-is_empty c =
     let some : 0 < length c.loop-line.rest.now = grind (arith, nat_tests, c.if-not-is_empty.ensures) in
     rw (c.bad-then-not-is_empty.ensures, c.open_reason.ensures) (sym i ∙ says_open c.loop-line.lines.items c.loop-line.rest.now _ (omega (arith, c.loop-line.lines.ok)) some)
 
+pub returns-then-is_in_repeat : goal.returns-then-is_in_repeat
+returns-then-is_in_repeat c =
+    let i = rw c.in_default.ensures at c.loop-line.invariant.rest in
+    let none : length c.loop-line.rest.now ≡ 0 = grind (arith, nat_tests, c.if-not-is_empty.ensures) in
+    let undone = c.if-is_in_repeat.ensures c.loop-line.lines.items c.loop-line.invariant.place.course in
+    rw c.bad-then-is_in_repeat.ensures (sym i ∙ says_undone c.loop-line.lines.items c.loop-line.rest.now _ (omega (arith, c.loop-line.lines.ok)) none (sym undone))
+
 pub returns : goal.returns
 returns c =
     let i = rw c.in_default.ensures at c.loop-line.invariant.rest in
     let none : length c.loop-line.rest.now ≡ 0 = grind (arith, nat_tests, c.if-not-is_empty.ensures) in
-    (sym i ∙ says_all c.loop-line.lines.items c.loop-line.rest.now none, c.loop-line.invariant.head)
+    let done = c.if-is_in_repeat.ensures c.loop-line.lines.items c.loop-line.invariant.place.course in
+    (sym i ∙ says_all c.loop-line.lines.items c.loop-line.rest.now none (sym done), c.loop-line.invariant.head)

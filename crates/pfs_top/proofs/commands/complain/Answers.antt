@@ -3,7 +3,7 @@ use Rattle.pfs_outside.specs.Outside.{Rose}
 use Rattle.pfs_top.specs.declared.commands.Status.{Status}
 use Rattle.pfs_top.specs.declared.commands.Status.TheVariants.{BadScript}
 use Rattle.pfs_top.specs.Commands.{HasFault, Tells}
-use Rattle.pfs_top.proofs.Ending.{told}
+use Rattle.pfs_top.proofs.Outcomes.{told}
 use Rattle.pfs_top.proofs.commands.complain.Goals as goal
 
 pub returns-in-Ok : goal.returns-in-Ok

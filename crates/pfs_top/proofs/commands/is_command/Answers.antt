@@ -1,6 +1,6 @@
 use Rattle.std.proofs.Common.{◌≡◌, ◌∙◌, ◌∷◌, [], length, sym, ap, arith, string_bytes}
 use Rattle.std.specs.Prelude.{map}
-use Rattle.pfs_top.proofs.Ending.{map_one, one_word}
+use Rattle.pfs_top.proofs.Outcomes.{map_one, one_word}
 use Rattle.pfs_top.proofs.commands.is_command.Goals as goal
 
 pub returns-in-len1 : goal.returns-in-len1

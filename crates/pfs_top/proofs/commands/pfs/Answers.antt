@@ -1,4 +1,4 @@
-use Rattle.pfs_top.proofs.Ending.{completes}
+use Rattle.pfs_top.proofs.Outcomes.{completes}
 use Rattle.pfs_top.proofs.commands.pfs.Goals as goal
 
 pub returns-then-is_command-clause-completes : goal.returns-then-is_command-clause-completes

@@ -6,7 +6,7 @@ use Rattle.pfs_top.specs.declared.commands.Status.TheVariants.{Done}
 use Rattle.pfs_top.specs.Commands.{HasRun, Tells}
 use Rattle.pfs_top.specs.Runs.{IsRun}
 use Rattle.pfs_top.specs.Spelling.{spelling}
-use Rattle.pfs_top.proofs.Ending.{told}
+use Rattle.pfs_top.proofs.Outcomes.{told}
 use Rattle.pfs_top.proofs.commands.report.Goals as goal
 
 pub returns-in-Ok : goal.returns-in-Ok

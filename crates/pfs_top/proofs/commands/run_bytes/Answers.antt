@@ -1,5 +1,5 @@
 use Rattle.pfs_top.specs.Commands.{HasRun, HasRead}
-use Rattle.pfs_top.proofs.Ending.{tells_as, read_ran}
+use Rattle.pfs_top.proofs.Outcomes.{tells_as, read_ran}
 use Rattle.pfs_top.proofs.commands.run_bytes.Goals as goal
 
 pub returns-in-Ok : goal.returns-in-Ok

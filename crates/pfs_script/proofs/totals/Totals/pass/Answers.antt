@@ -1,7 +1,16 @@
-use Rattle.std.proofs.Common.{refl, ap, ◌+◌}
+use Rattle.std.proofs.Common.{ap, ◌∙◌, ◌+◌}
 use Rattle.pfs_script.proofs.Totalling.{totals_more}
 use Rattle.pfs_script.proofs.totals.Totals.pass.Goals as goal
 
 pub returns : goal.returns
-returns c before knows done long much =
-    totals_more c.args.self.now _ before c.args.line.now knows done long much refl (ap (λ n. c.args.self.now.classes + n) c.classes.ensures.value) (ap (λ n. c.args.self.now.weight + n) c.weight.ensures.value)
+returns c before knows out long much =
+    totals_more c.args.self.now _ before c.args.line.now c.added-lines.result c.added-weight.result knows out long much (record {
+      added_lines = c.added-lines.ensures;
+      added_weight = rw c.weight.ensures.value at c.added-weight.ensures;
+      lines = c.pass_repeat.ensures.lines ∙ c.saturating_add-self.ensures;
+      classes = c.pass_repeat.ensures.classes ∙ ap (λ n. c.args.self.now.classes + n) c.classes.ensures.value;
+      weight = c.pass_repeat.ensures.weight ∙ c.saturating_add-self-2.ensures;
+      more = c.pass_repeat.ensures.more;
+      body_lines = c.pass_repeat.ensures.body_lines;
+      body_weight = c.pass_repeat.ensures.body_weight;
+    })
