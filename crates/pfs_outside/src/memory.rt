@@ -7,6 +7,7 @@ use crate::NoMemory;
 use crate::sink::{Sink, Wrote};
 use crate::source::{Got, Source};
 use std::alloc::Global;
+use std::marker::Model;
 
 /// A source over bytes in memory. It tells what it has left.
 #[derive(Drop)]
@@ -18,13 +19,22 @@ pub struct MemorySource {
     faults: u64,
 }
 
+impl Model for MemorySource {
+    ghost use Rattle.std.specs.Prelude.{drop};
+    ghost use Rattle.pfs_outside.specs.Memory.{Reading};
+
+    ghost Value = { Reading };
+
+    ghost view = { λ s. record { left = drop s.at s.bytes.items; fails = s.fails.items; calls = s.calls; faults = s.faults } };
+}
+
 impl MemorySource {
-    ghost use Rattle.pfs_outside.specs.Memory.{IsNewSource};
+    ghost use Rattle.pfs_outside.specs.Memory.{new_source};
 
     /// A source that gives a copy of these bytes, as many at a time as the buffer takes, and fails at
     /// the calls of these numbers, counted from 1.
     pub fn new(alloc: Global, bytes: &[u8], fails: &[u64]) -> Result<MemorySource, NoMemory>
-        ensures { IfOk result (λ source. IsNewSource source bytes.now fails.now) }
+        ensures { IfOk result (λ source. source ≡ new_source bytes.now fails.now) }
     {
         Ok(MemorySource {
             bytes: Vec::from_slice(alloc, bytes)?,
@@ -37,20 +47,20 @@ impl MemorySource {
 }
 
 impl Source for MemorySource {
-    ghost use Rattle.pfs_outside.specs.Memory.{unread, read_faults, NextReadFails, CountsRead, Fills, faults_after_read};
+    ghost use Rattle.pfs_outside.specs.Memory.{NextReadFails, CountsRead, Fills, faults_after_read};
 
-    ghost left = { λ s. Some (unread s) };
+    ghost left = { λ s. Some s.left };
 
-    ghost faults = { λ s. read_faults s };
+    ghost faults = { λ s. s.faults };
 
     fn read(&mut self, buffer: &mut [u8]) -> Got
         requires { 0 < length buffer.old }
-        ensures moved { Moved (Some (unread self.old)) (Some (unread self.new)) (length buffer.old) buffer.new result }
-        ensures cause { RoseAtFault (read_faults self.old) (read_faults self.new) result }
+        ensures moved { Moved (Some self.old.left) (Some self.new.left) (length buffer.old) buffer.new result }
+        ensures cause { RoseAtFault self.old.faults self.new.faults result }
         ensures fails { (result ≡ Got.Failed) ↔ NextReadFails self.old }
         ensures counts { CountsRead self.old self.new }
-        ensures fills { Fills (length buffer.old) (length (unread self.old)) result }
-        ensures faults { read_faults self.new ≡ faults_after_read (read_faults self.old) result }
+        ensures fills { Fills (length buffer.old) (length self.old.left) result }
+        ensures faults { self.new.faults ≡ faults_after_read self.old.faults result }
     {
         self.calls = self.calls.saturating_add(1);
         if self.fails.contains(&self.calls) {
@@ -87,16 +97,26 @@ pub struct MemorySink {
     fails: Vec<u64>,
     calls: u64,
     faults: u64,
-    ghost has_room: { room ≤ vec_capacity text },
+}
+
+impl Model for MemorySink {
+    ghost use Rattle.std.specs.Prelude.{◌≤◌, vec_capacity};
+    ghost use Rattle.pfs_outside.specs.Memory.{Writing};
+
+    ghost Value = { Writing };
+
+    ghost view = { λ s. record { text = s.text.items; room = s.room; fails = s.fails.items; calls = s.calls; faults = s.faults } };
+
+    ghost invariant = { λ s. s.room ≤ vec_capacity s.text };
 }
 
 impl MemorySink {
-    ghost use Rattle.pfs_outside.specs.Memory.{IsNewSink, text_of};
+    ghost use Rattle.pfs_outside.specs.Memory.{new_sink};
 
     /// A sink with room for so many bytes, taken here, that fails at the calls of these numbers,
     /// counted from 1. A write past its room takes what fits; where nothing fits, it fails.
     pub fn new(alloc: Global, room: u64, fails: &[u64]) -> Result<MemorySink, NoMemory>
-        ensures { IfOk result (λ sink. IsNewSink sink room fails.now) }
+        ensures { IfOk result (λ sink. sink ≡ new_sink room fails.now) }
     {
         let room = room as usize;
         Ok(MemorySink {
@@ -110,27 +130,27 @@ impl MemorySink {
 
     /// What was written.
     pub fn bytes(&self) -> &[u8]
-        ensures { result.now ≡ text_of self.now }
+        ensures { result.now ≡ self.now.text }
     {
         self.text.as_slice()
     }
 }
 
 impl Sink for MemorySink {
-    ghost use Rattle.pfs_outside.specs.Memory.{text_of, room_of, write_faults, NextWriteFails, CountsWrite, TakesWhatFits, faults_after_write};
+    ghost use Rattle.pfs_outside.specs.Memory.{NextWriteFails, CountsWrite, TakesWhatFits, faults_after_write};
 
-    ghost written = { λ s. Some (text_of s) };
+    ghost written = { λ s. Some s.text };
 
-    ghost faults = { λ s. write_faults s };
+    ghost faults = { λ s. s.faults };
 
     fn write(&mut self, buffer: &[u8]) -> Wrote
         requires { 0 < length buffer.now }
-        ensures taken { Taken (Some (text_of self.old)) (Some (text_of self.new)) buffer.now result }
-        ensures cause { RoseAtRefusal (write_faults self.old) (write_faults self.new) result }
+        ensures taken { Taken (Some self.old.text) (Some self.new.text) buffer.now result }
+        ensures cause { RoseAtRefusal self.old.faults self.new.faults result }
         ensures fails { (result ≡ Wrote.Failed) ↔ NextWriteFails self.old }
         ensures counts { CountsWrite self.old self.new }
-        ensures fits { TakesWhatFits (length buffer.now) (room_of self.old) (length (text_of self.old)) result }
-        ensures faults { write_faults self.new ≡ faults_after_write (write_faults self.old) result }
+        ensures fits { TakesWhatFits (length buffer.now) self.old.room (length self.old.text) result }
+        ensures faults { self.new.faults ≡ faults_after_write self.old.faults result }
     {
         self.calls = self.calls.saturating_add(1);
         let n = buffer.len().min(self.room.saturating_sub(self.text.len()));
