@@ -4,3 +4,4 @@ pub mod Nesting
 pub mod Order
 pub mod Verdicts
 pub mod Words
+pub mod Kinds

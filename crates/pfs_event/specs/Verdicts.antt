@@ -1,5 +1,5 @@
--- The verdicts' names.
-use Rattle.std.specs.Prelude.{ℕ, List, codes}
+-- The verdicts' names, and which let an event through.
+use Rattle.std.specs.Prelude.{ℕ, Bool, true, false, List, codes}
 use Rattle.pfs_event.specs.declared.verdict.Verdict.{Verdict}
 use Rattle.pfs_event.specs.declared.verdict.Verdict.TheVariants.{LostThread, LostClass, OffGlobal, OffClass, OffTable, OffThread, LostNested, LostLocker, Aside, Attributed}
 
@@ -15,3 +15,9 @@ verdict_name LostNested = codes "lost-nested"
 verdict_name LostLocker = codes "lost-locker"
 verdict_name Aside = codes "aside"
 verdict_name Attributed = codes "attributed"
+
+-- the event counts somewhere
+abbrev pub is_let_through : Verdict → Bool
+is_let_through Attributed = true
+is_let_through Aside = true
+is_let_through _ = false

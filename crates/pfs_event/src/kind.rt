@@ -1,6 +1,7 @@
 //! The four kinds of event, and which may start inside which.
 
-ghost use Rattle.std.specs.Prelude.{◌≡◌};
+ghost use Rattle.std.specs.Prelude.{◌≡◌, ◌≤◌};
+ghost use Rattle.pfs_event.specs.Kinds.{nesting_number};
 ghost use Rattle.pfs_event.specs.Order.{may_start};
 
 /// The kind of an event, as MySQL has them.
@@ -10,6 +11,22 @@ pub enum EventKind {
     Stage,
     Statement,
     Transaction,
+}
+
+impl EventKind {
+    /// The number by which an event tells that it lies in one of this kind: 1 transaction, 2 statement, 3 stage, 4 wait.
+    /// The numbers are our own.
+    pub fn nesting_number(self) -> u64
+        ensures number { result ≡ nesting_number self }
+        ensures fits { result ≤ 4 }
+    {
+        match self {
+            EventKind::Transaction => 1,
+            EventKind::Statement => 2,
+            EventKind::Stage => 3,
+            EventKind::Wait => 4,
+        }
+    }
 }
 
 /// Whether an event of this kind may start where the innermost open event is of that kind, or

@@ -1,10 +1,12 @@
 //! Laws of the definitions.
 
-ghost use Rattle.std.specs.Prelude.{◌≡◌, ◌↔◌, [], ◌∷◌, ◌++◌, List, Some};
+ghost use Rattle.std.specs.Prelude.{◌≡◌, ◌↔◌, ◌<◌, [], ◌∷◌, ◌++◌, List, Some};
 ghost use Rattle.pfs_event.specs.declared.event.Event.{Event};
+ghost use Rattle.pfs_event.specs.declared.kind.EventKind.{EventKind};
 ghost use Rattle.pfs_event.specs.declared.open.Open.{Open};
 ghost use Rattle.pfs_event.specs.declared.verdict.Verdict.{Verdict};
 ghost use Rattle.pfs_event.specs.Brackets.{Step, Starts, ClosesNext, IsInside, Took, open_after};
+ghost use Rattle.pfs_event.specs.Kinds.{nesting_number};
 ghost use Rattle.pfs_event.specs.Nesting.{OpenEvents};
 ghost use Rattle.pfs_event.specs.Verdicts.{verdict_name};
 ghost use Rattle.pfs_event.specs.Words.{words_of};
@@ -13,6 +15,12 @@ ghost use Rattle.pfs_event.specs.Words.{words_of};
 /// `to_words` made them.
 pub fn words()
     ensures { (a b : Event) → words_of a ≡ words_of b → a ≡ b }
+{}
+
+/// Different kinds have different nesting numbers, and none has 0.
+pub fn nesting_numbers_differ()
+    ensures differ { (a b : EventKind) → nesting_number a ≡ nesting_number b → a ≡ b }
+    ensures some { (kind : EventKind) → 0 < nesting_number kind }
 {}
 
 /// Different verdicts have different names.

@@ -1,10 +1,10 @@
 //! What becomes of an event.
 
 ghost use Rattle.std.specs.Prelude.{◌≡◌};
-ghost use Rattle.pfs_event.specs.Verdicts.{verdict_name};
+ghost use Rattle.pfs_event.specs.Verdicts.{is_let_through, verdict_name};
 
-/// What is decided of an event at its start: the first that applies, in this order, which is
-/// MySQL's. An event that is `Aside` or `Attributed` is let through. The names are our own.
+/// What is decided of an event at its start: the first that applies, in this order. The order and the
+/// names are our own; what each looks at is MySQL's.
 #[derive(Clone, Copy, Debug, PartialEq, Eq)]
 pub enum Verdict {
     /// The session has no thread slot.
@@ -30,6 +30,13 @@ pub enum Verdict {
 }
 
 impl Verdict {
+    /// Whether an event with this verdict counts anywhere: it is `Aside` or `Attributed`.
+    pub fn is_let_through(self) -> bool
+        ensures { result ≡ is_let_through self }
+    {
+        matches!(self, Verdict::Aside | Verdict::Attributed)
+    }
+
     /// The verdict's name in a report.
     pub fn name(self) -> &'static str
         ensures { result.now ≡ verdict_name self }
