@@ -9,7 +9,6 @@ pub mod FormExamples
 pub mod FormLemmas
 pub mod Fronting
 pub mod HeadLemmas
-pub mod LikeLemmas
 pub mod NamedLemmas
 pub mod NameLemmas
 pub mod Nesting

@@ -4,7 +4,7 @@ use Rattle.std.specs.Prelude.{slice_get, slice_set, slice_index_or}
 use Rattle.std.proofs.lemmas.Bool.{ne_eqb}
 use Rattle.pfs_classes.specs.declared.classes.Class.{Class}
 use Rattle.pfs_classes.specs.Registry.{Registry, class_at, text_of, with_flags}
-use Rattle.pfs_script.specs.Likes.{is_like}
+use Rattle.pfs_text.specs.Likes.{is_like}
 use Rattle.pfs_script.specs.Headings.{set_if_like, flags_set_like}
 
 -- the first so many classes made others

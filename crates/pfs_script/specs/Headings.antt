@@ -18,7 +18,7 @@ use Rattle.pfs_classes.specs.Kinds.{Fits, is_fixed}
 use Rattle.pfs_classes.specs.Registry.{Registry, registered, text_of}
 use Rattle.pfs_classes.specs.Builtins.{builtins, id_of, interned, with_builtins, builtin_of}
 use Rattle.pfs_classes.specs.Settings.{ComesFrom}
-use Rattle.pfs_script.specs.Likes.{is_like}
+use Rattle.pfs_text.specs.Likes.{is_like}
 use Rattle.pfs_script.specs.declared.forms.Form.{Form}
 use Rattle.pfs_script.specs.declared.forms.Form.TheVariants as form
 

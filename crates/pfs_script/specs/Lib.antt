@@ -1,7 +1,6 @@
 pub mod Numbers
 pub mod Words
 pub mod Forms
-pub mod Likes
 pub mod Headings
 pub mod Marks
 pub mod Brackets

@@ -1,11 +1,9 @@
 //! What holds of all texts, lines and names, and of events as brackets.
 
-ghost use Rattle.std.specs.Prelude.{◌≡◌, ◌↔◌, ◌++◌, ◌∷◌, [], IsTrue, List, ℕ, is_some, false, length, take, drop, Some, codes, ◌<◌};
+ghost use Rattle.std.specs.Prelude.{◌≡◌, ◌++◌, ◌∷◌, [], List, ℕ, is_some, false, length, take, drop, Some, codes, ◌<◌};
 ghost use Rattle.std.specs.Str.{bytes_eq};
-ghost use Rattle.pfs_text.specs.Patterns.{IsLike};
 ghost use Rattle.pfs_classes.specs.declared.classes.ClassRef.TheVariants as refs;
 ghost use Rattle.pfs_script.specs.declared.forms.Form.{Form};
-ghost use Rattle.pfs_script.specs.Likes.{is_like};
 ghost use Rattle.pfs_script.specs.Headings.{is_known, resolved, head_of};
 ghost use Rattle.pfs_script.specs.Marks.{Mark, copies};
 ghost use Rattle.pfs_script.specs.Brackets.{open_in, closed_at, kinds_of, ended_by, opened_by, Follows};
@@ -15,12 +13,6 @@ ghost use Rattle.pfs_script.specs.Scripts.{IsExact};
 /// one first fault, with one reason.
 pub fn exact()
     ensures { IsExact }
-{}
-
-/// The test for a name that an `instrument` line means is true exactly of the names that are `LIKE`
-/// its pattern.
-pub fn patterns()
-    ensures { (pattern text : List ℕ) → IsTrue (is_like pattern text) ↔ IsLike pattern text }
 {}
 
 /// Behind any lines a name stands for a class or a lost class exactly where it is known, and a name

@@ -4,7 +4,7 @@ ghost use Rattle.std.specs.Prelude.{◌≡◌, Some, if◌then◌else◌};
 ghost use Rattle.pfs_classes.specs.declared.classes.Class.{Class};
 ghost use Rattle.pfs_classes.specs.Registry.{IsId, class_at, text_of, with_flags};
 ghost use Rattle.pfs_classes.specs.Settings.{ComesFrom};
-ghost use Rattle.pfs_script.specs.Likes.{is_like};
+ghost use Rattle.pfs_text.specs.Likes.{is_like};
 ghost use Rattle.pfs_script.specs.Headings.{flags_set_like};
 
 use pfs_classes::classes::TRANSACTION;
@@ -50,14 +50,7 @@ fn set_if_like(
 {
     known_names();
     let class = classes.class(id);
-    if is_like(pattern, names.get(class.name).as_bytes()) {
+    if like(pattern, names.get(class.name).as_bytes()) {
         classes.set(id, enabled, timed);
     }
-}
-
-// Whether the text is like the pattern.
-fn is_like(pattern: &[u8], text: &[u8]) -> bool
-    ensures { result ≡ is_like pattern.now text.now }
-{
-    like(pattern, text)
 }

@@ -50,7 +50,7 @@ module _ (pattern text : List ℕ) where
   further : (parts : List Part) (n at : ℕ) → StandFor parts (drop n (drop at text)) → StandFor parts (drop (at + n) text)
   further parts n at fits = subst (λ xs. StandFor parts xs) (drop-drop n at text) fits
 
-  nearer : (parts : List Part) (at k : ℕ) → at ≤ k → StandFor parts (drop k text) → StandFor parts (drop (k - at) (drop at text))
+  pub nearer : (parts : List Part) (at k : ℕ) → at ≤ k → StandFor parts (drop k text) → StandFor parts (drop (k - at) (drop at text))
   nearer parts at k le fits =
       let sum : at + (k - at) ≡ k = omega arith in
       subst (λ xs. StandFor parts xs) (sym (drop-drop (k - at) at text ∙ ap (λ m. drop m text) sum)) fits

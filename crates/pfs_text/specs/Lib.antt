@@ -1,4 +1,5 @@
 pub mod Decimals
+pub mod Likes
 pub mod Meeting
 pub mod Patterns
 pub mod Quotes

@@ -1,5 +1,5 @@
 -- What a scan of a text with a pattern keeps from step to step.
-use Rattle.std.specs.Prelude.{◌≡◌, ℕ, ◌+◌, ◌-◌, ◌*◌, ◌<◌, ◌≤◌, ◌⊎◌, ◌↔◌, List, [], ◌∷◌, length, drop, IsTrue}
+use Rattle.std.specs.Prelude.{◌≡◌, ℕ, ◌==◌, ◌+◌, ◌-◌, ◌*◌, ◌<◌, ◌≤◌, ◌⊎◌, ◌↔◌, Bool, true, false, if◌then◌else◌, List, [], ◌∷◌, length, drop, IsTrue, Option, None, Some}
 use Rattle.pfs_text.specs.Patterns.{StandFor, parts_of}
 use Rattle.pfs_text.specs.declared.pattern.Part.{Part}
 use Rattle.pfs_text.specs.declared.pattern.Part.TheVariants.{AnyBytes, OneByte, Byte}
@@ -14,6 +14,15 @@ StandsFirst OneByte [] = ⊥
 StandsFirst OneByte (x ∷ text) = Unit {0}
 StandsFirst (Byte b) [] = ⊥
 StandsFirst (Byte b) (x ∷ text) = b ≡ x
+
+-- the byte is none of `%`, `_` and `\`, so it stands for itself whatever is next to it
+abbrev pub is_literal : ℕ → Bool
+is_literal b = if b == 37 then false else if b == 95 then false else if b == 92 then false else true
+
+-- the text is like the pattern from no place before this one on, or from none at all
+abbrev pub MayBeginAt : List ℕ → List ℕ → Option ℕ → Type 0
+MayBeginAt pattern text None = (k : ℕ) → ¬ StandFor (parts_of pattern) (drop k text)
+MayBeginAt pattern text (Some n) = (n ≤ length text) × ((k : ℕ) → k < n → ¬ StandFor (parts_of pattern) (drop k text))
 
 module _ (pattern text : List ℕ) where
   -- what is left of the pattern from a place on stands for what is left of the text

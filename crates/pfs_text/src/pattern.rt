@@ -1,8 +1,12 @@
 //! `LIKE`: whether a text is like a pattern.
-ghost use Rattle.std.specs.Prelude.{◌≡◌, ◌+◌, ◌<◌, ◌≤◌, [], ◌∷◌, ◌↔◌, IsTrue, MatchOption, drop, length};
+ghost use Rattle.std.specs.Prelude.{◌≡◌, ℕ, ◌+◌, ◌<◌, ◌≤◌, [], ◌∷◌, ◌↔◌, IsTrue, MatchOption, drop, length, take};
 ghost use Rattle.std.specs.Bool.{OnTrue};
+ghost use Rattle.std.specs.List.{prefix_len};
+ghost use Rattle.pfs_text.specs.Likes.{is_like};
 ghost use Rattle.pfs_text.specs.Patterns.{IsLike, StandFor, part_of, parts_of};
-ghost use Rattle.pfs_text.specs.Scanning.{Moves, Stands, StandsFirst};
+ghost use Rattle.pfs_text.specs.Scanning.{MayBeginAt, Moves, Stands, StandsFirst, is_literal};
+
+use memchr::memmem;
 
 /// What a piece of a pattern stands for.
 #[derive(Clone, Copy)]
@@ -30,8 +34,16 @@ enum Step {
 
 /// Whether the text is like the pattern: `%` stands for any bytes, `_` for one byte, `\` makes the next byte of the
 /// pattern stand for itself, and a last `\` and every other byte stand for themselves. Bytes are compared, so letter case
-/// counts. A mismatch goes back to the last `%` alone, so the time is at most the product of both lengths.
+/// counts. A mismatch goes back to the last `%` alone, and from there to the next place at which the bytes stand that follow
+/// the `%`, so the time is at most the product of both lengths and mostly near their sum.
 pub fn like(pattern: &[u8], text: &[u8]) -> bool
+    ensures like { IsTrue result ↔ IsLike pattern.now text.now }
+    ensures test { result ≡ is_like pattern.now text.now }
+{
+    like_by_steps(pattern, text)
+}
+
+fn like_by_steps(pattern: &[u8], text: &[u8]) -> bool
     ensures { IsTrue result ↔ IsLike pattern.now text.now }
 {
     let mut scan = Scan {
@@ -81,7 +93,7 @@ fn next_step(pattern: &[u8], text: &[u8], scan: Scan) -> Step
     later_start(pattern, text, scan)
 }
 
-// After a mismatch: the parts after the last `%` are tried one byte later.
+// After a mismatch: the parts after the last `%` are tried at the next place at which they may begin.
 fn later_start(pattern: &[u8], text: &[u8], scan: Scan) -> Step
     requires stands { Stands pattern.now text.now scan }
     requires stuck { ¬ StandFor (parts_of (drop scan.place pattern.now)) (drop (scan.start + scan.passed) text.now) }
@@ -90,13 +102,41 @@ fn later_start(pattern: &[u8], text: &[u8], scan: Scan) -> Step
     if !scan.moves || scan.start == text.len() {
         return Step::Ends(false);
     }
-    Step::Goes(Scan {
-        begin: scan.begin,
-        start: scan.start + 1,
-        place: scan.begin,
-        passed: 0,
-        moves: true,
-    })
+    let from = scan.start + 1;
+    match next_place(&pattern[scan.begin..], &text[from..]) {
+        None => Step::Ends(false),
+        Some(skipped) => Step::Goes(Scan {
+            begin: scan.begin,
+            start: from + skipped,
+            place: scan.begin,
+            passed: 0,
+            moves: true,
+        }),
+    }
+}
+
+// The first place from which on the text may be like the pattern: the bytes stand there with which the pattern begins.
+fn next_place(pattern: &[u8], text: &[u8]) -> Option<usize>
+    ensures { MayBeginAt pattern.now text.now result }
+{
+    memmem::find(text, literal_front(pattern))
+}
+
+// The bytes before the first `%`, `_` or `\`.
+fn literal_front(pattern: &[u8]) -> &[u8]
+    ensures { result.now ≡ take (prefix_len is_literal pattern.now) pattern.now }
+{
+    let length = literal_length(pattern);
+    &pattern[..length]
+}
+
+fn literal_length(pattern: &[u8]) -> usize
+    ensures { result ≡ prefix_len is_literal pattern.now }
+{
+    pattern
+        .iter()
+        .take_while(|byte| !matches!(**byte, b'%' | b'_' | b'\\'))
+        .count()
 }
 
 // The part at a place of the pattern, and the place after it.

@@ -1,7 +1,7 @@
 use Rattle.std.proofs.Common.{◌↔◌}
 use Rattle.pfs_text.specs.Patterns.{IsLike}
 use Rattle.pfs_text.specs.Scanning.{MayFit, Stands, steps_left}
-use Rattle.pfs_text.proofs.pattern.like.Given as goal
+use Rattle.pfs_text.proofs.pattern.like_by_steps.Given as goal
 
 abbrev pub invariant-loop-next : goal.invariant-loop-next
 invariant-loop-next l = Stands l.pattern l.text l.scan × (IsLike l.pattern l.text ↔ MayFit l.pattern l.text l.scan)

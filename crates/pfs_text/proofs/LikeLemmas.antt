@@ -4,7 +4,7 @@ use Rattle.std.specs.Prelude.{IsTrue}
 use Rattle.std.proofs.lemmas.Bool.{false≢true, or_left, or_right, or_cases, and_parts, and_from}
 use Rattle.std.proofs.lemmas.Bool.Decides.{Decides-eqb}
 use Rattle.pfs_text.specs.Patterns.{IsLike, StandFor, part_of, parts_of}
-use Rattle.pfs_script.specs.Likes.{is_like, is_empty, passes_somewhere, passes_behind, passes_behind_any, stands_first}
+use Rattle.pfs_text.specs.Likes.{is_like, is_empty, passes_somewhere, passes_behind, passes_behind_any, stands_first}
 
 -- the test says of each text whether the fact holds
 abbrev pub Tells : (List ℕ → Bool) → (List ℕ → Type 0) → Type 0
