@@ -1,21 +1,12 @@
 -- The built-in classes under a list of names, and the names with theirs.
-use Rattle.std.specs.Prelude.{ℕ, Bool, true, false, if◌then◌else◌, List, [], ◌∷◌, ◌++◌, Contains, codes, map, fold}
-use Rattle.std.specs.List.{list_any, position_or_len}
-use Rattle.std.specs.Str.{bytes_eq}
+use Rattle.std.specs.Prelude.{ℕ, Bool, true, false, List, [], ◌∷◌, Contains, codes, map, fold}
+use Rattle.pfs_names.specs.Interning.{id_of, interned}
 use Rattle.pfs_rows.specs.declared.limits.Limits.{Limits}
 use Rattle.pfs_classes.specs.declared.kind.Kind.TheVariants.{Mutex, Rwlock, Cond, File, Socket, TableIo, TableLock, Stage, Statement, Transaction}
 use Rattle.pfs_classes.specs.declared.classes.Class.{Class}
 use Rattle.pfs_classes.specs.declared.builtin.Builtin.{Builtin}
 use Rattle.pfs_classes.specs.declared.kind.Kind.{Kind}
 use Rattle.pfs_classes.specs.Registry.{Registry, registered}
-
--- the id of a text among names: its first place, or the number of names
-abbrev pub id_of : List (List ℕ) → List ℕ → ℕ
-id_of texts text = position_or_len (λ one. bytes_eq one text) texts
-
--- names with one text interned
-unfoldable pub interned : List (List ℕ) → List ℕ → List (List ℕ)
-interned texts text = if list_any (λ one. bytes_eq one text) texts then texts else texts ++ text ∷ []
 
 -- a row of the built-in list: a class's name, its kind, and whether it is ENABLED and TIMED at first
 pub record Row : Type 0 where

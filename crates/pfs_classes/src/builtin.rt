@@ -1,10 +1,10 @@
 //! The built-in classes.
 
 ghost use Rattle.std.specs.Prelude.{◌≡◌, ◌≤◌, length, IfOk, OnOk, OnErr, Contains, map};
-ghost use Rattle.pfs_names.specs.Interning.{AreNames};
+ghost use Rattle.pfs_names.specs.Interning.{AreNames, id_of, interned};
 ghost use Rattle.pfs_rows.specs.Limits.{AreInRange};
 ghost use Rattle.pfs_classes.specs.Settings.{ComesFrom};
-ghost use Rattle.pfs_classes.specs.Builtins.{id_of, row_of, with_rows, with_builtins, HasRows, HasBuiltins, interned, after_rows, builtin_of};
+ghost use Rattle.pfs_classes.specs.Builtins.{row_of, with_rows, with_builtins, HasRows, HasBuiltins, after_rows, builtin_of};
 
 use crate::{Class, Classes, Kind, NoMemory};
 use pfs_names::{NameId, Names};

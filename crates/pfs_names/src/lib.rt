@@ -2,6 +2,7 @@
 #![tactic(auto)]
 
 mod interned;
+pub mod laws;
 
 pub use interned::{NameFault, NameId, Names};
 

@@ -10,7 +10,8 @@ use Rattle.std.proofs.lemmas.Option.{same_Some, slice_get_within}
 use Rattle.pfs_rows.specs.declared.limits.Limits.{Limits}
 use Rattle.pfs_classes.specs.declared.classes.Class.{Class}
 use Rattle.pfs_classes.specs.Registry.{Registry, has_room, registered}
-use Rattle.pfs_classes.specs.Builtins.{builtins, id_of, interned, with_builtins, class_of, start_of, builtin_of}
+use Rattle.pfs_names.specs.Interning.{id_of, interned}
+use Rattle.pfs_classes.specs.Builtins.{builtins, with_builtins, class_of, start_of, builtin_of}
 use Rattle.pfs_rows.specs.Limits.{AreInRange}
 use Rattle.pfs_classes.specs.Settings.{ComesFrom}
 use Rattle.pfs_script.specs.Headings.{IsSound, count_named, naming_under, head_with}

@@ -11,8 +11,8 @@ use Rattle.pfs_rows.specs.declared.limits.Limits.{Limits}
 use Rattle.pfs_classes.specs.declared.kind.Kind.{Kind}
 use Rattle.pfs_classes.specs.declared.classes.ClassRef.{ClassRef}
 use Rattle.pfs_classes.specs.Registry.{is_given, RefersTo, registered}
-use Rattle.pfs_classes.specs.Builtins.{Row, builtins, id_of, interned, builtin_of}
-use Rattle.pfs_names.specs.Interning.{Interns}
+use Rattle.pfs_classes.specs.Builtins.{Row, builtins, builtin_of}
+use Rattle.pfs_names.specs.Interning.{Interns, id_of, interned}
 use Rattle.pfs_script.specs.declared.forms.Form.{Form}
 use Rattle.pfs_script.specs.declared.forms.Form.TheVariants as form
 use Rattle.pfs_script.specs.Headings.{Naming, Head, IsSound, count_named, ref_of, resolved, is_class_named, is_builtin, is_known, naming_behind, naming_under, naming_of, limits_of, with_class, with_flags_like, head_of}

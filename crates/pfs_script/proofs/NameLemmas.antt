@@ -8,8 +8,7 @@ use Rattle.std.proofs.lemmas.List.Folds.{Any-from_list_any, list_any_at, positio
 use Rattle.std.proofs.lemmas.List.Sums.{position_or_len_is}
 use Rattle.std.proofs.lemmas.Option.{slice_get-get_or, slice_get_within, get_or_from_slice_get}
 use Rattle.std.proofs.lemmas.Slice.Eq.{bytes_eq-Decides}
-use Rattle.pfs_names.specs.Interning.{AreNames, Interns}
-use Rattle.pfs_classes.specs.Builtins.{id_of, interned}
+use Rattle.pfs_names.specs.Interning.{AreNames, Interns, id_of, interned}
 
 -- the test for a text, and that it is there
 pub contains_from_any : (texts : List (List ℕ)) (text : List ℕ) → list_any (λ one. bytes_eq one text) texts ≡ true → Contains texts text

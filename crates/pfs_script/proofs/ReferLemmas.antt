@@ -8,14 +8,14 @@ use Rattle.std.proofs.lemmas.List.Sums.{passes_at_first}
 use Rattle.std.proofs.lemmas.Option.{same_Some, slice_get-get_or, slice_get_within}
 use Rattle.std.proofs.lemmas.Slice.Eq.{bytes_eq-Decides}
 use Rattle.pfs_rows.specs.declared.limits.Limits.{Limits}
-use Rattle.pfs_names.specs.Interning.{Interns}
+use Rattle.pfs_names.specs.Interning.{Interns, id_of, interned}
 use Rattle.pfs_classes.specs.declared.kind.Kind.{Kind}
 use Rattle.pfs_classes.specs.declared.classes.Class.{Class}
 use Rattle.pfs_classes.specs.declared.classes.LostClass.{LostClass}
 use Rattle.pfs_classes.specs.declared.classes.ClassRef.{ClassRef}
 use Rattle.pfs_classes.specs.declared.classes.ClassRef.TheVariants as refs
 use Rattle.pfs_classes.specs.Registry.{Registry, has_room, registered}
-use Rattle.pfs_classes.specs.Builtins.{builtins, id_of, interned, class_of, start_of, builtin_of}
+use Rattle.pfs_classes.specs.Builtins.{builtins, class_of, start_of, builtin_of}
 use Rattle.pfs_script.specs.declared.forms.Form.{Form}
 use Rattle.pfs_script.specs.declared.forms.Form.TheVariants as form
 use Rattle.pfs_script.specs.Headings.{Naming, naming_behind, naming_under, naming_of, limits_of, with_class, head_of, is_known, ref_of, lost_ref, class_ref, resolved}

@@ -8,14 +8,13 @@ use Rattle.std.proofs.lemmas.Bool.Decides.{nat_tests}
 use Rattle.std.proofs.lemmas.List.Elements.{Contains-push_cases}
 use Rattle.std.proofs.lemmas.Str.{IsUtf8-from_ascii}
 use Rattle.std.proofs.lemmas.Option.{slice_get_within}
-use Rattle.pfs_names.specs.Interning.{AreNames, Interns}
+use Rattle.pfs_names.specs.Interning.{AreNames, Interns, id_of, interned}
 use Rattle.pfs_classes.specs.declared.kind.Kind.{Kind}
 use Rattle.pfs_classes.specs.declared.kind.Kind.TheVariants.{Mutex}
 use Rattle.pfs_classes.specs.Kinds.{kind_name, is_part_byte, is_part, Fits}
 use Rattle.std.proofs.lemmas.List.Folds.{list_all-append}
 use Rattle.pfs_classes.specs.declared.classes.Class.{Class}
 use Rattle.pfs_classes.specs.Registry.{Registry, registered}
-use Rattle.pfs_classes.specs.Builtins.{id_of, interned}
 use Rattle.pfs_classes.specs.Settings.{ComesFrom}
 use Rattle.pfs_script.specs.Headings.{Head, IsSound, count_named, ref_of, resolved, with_class, naming_in, head_with}
 use Rattle.pfs_script.proofs.CountLemmas.{count-registered, ref-counted}

@@ -1,5 +1,5 @@
 use Rattle.std.proofs.Common.{◌∙◌, List, ℕ, ap}
-use Rattle.pfs_classes.specs.Builtins.{interned}
+use Rattle.pfs_names.specs.Interning.{interned}
 use Rattle.pfs_classes.proofs.NameLemmas.{interned_next}
 use Rattle.pfs_classes.proofs.builtin.copied.Goals as goal
 

@@ -1,5 +1,5 @@
 use Rattle.std.proofs.Common.{sym}
-use Rattle.pfs_classes.proofs.NameLemmas.{id_is}
+use Rattle.pfs_names.proofs.Ids.{id_is}
 use Rattle.pfs_classes.proofs.builtin.id_of.Goals as goal
 
 pub returns : goal.returns

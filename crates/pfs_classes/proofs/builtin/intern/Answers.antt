@@ -1,4 +1,4 @@
-use Rattle.pfs_classes.proofs.NameLemmas.{interned_is}
+use Rattle.pfs_names.proofs.Ids.{interned_is}
 use Rattle.pfs_classes.proofs.builtin.intern.Goals as goal
 
 pub returns-in-Ok-clause-ok : goal.returns-in-Ok-clause-ok
