@@ -23,8 +23,8 @@ pub struct Builtin {
 /// The name of the class that stands beside those of the list.
 pub const TRANSACTION_NAME: &str = "transaction";
 
-/// The built-in classes beside `transaction`, in the order in which they are registered. The names
-/// and the flags are MySQL's.
+/// The built-in classes beside `transaction`, in the order in which they are registered. Which there
+/// are and their flags are our own; the names of their kinds are MySQL's.
 pub const BUILTINS: [Builtin; 24] = [
     Builtin {
         name: "wait/synch/mutex/sql/LOCK_open",

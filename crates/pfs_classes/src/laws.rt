@@ -1,13 +1,15 @@
 //! Laws of the definitions.
 
-ghost use Rattle.std.specs.Prelude.{◌≡◌, ◌↔◌, ◌<◌, List, ℕ, Contains, length, Some};
+ghost use Rattle.std.specs.Prelude.{◌≡◌, ◌↔◌, ◌<◌, List, ℕ, Contains, length, Some, slice_get};
 ghost use Rattle.pfs_names.specs.Interning.{Interns};
 ghost use Rattle.pfs_classes.specs.declared.kind.Kind.{Kind};
 ghost use Rattle.pfs_classes.specs.declared.classes.Class.{Class};
-ghost use Rattle.pfs_classes.specs.Kinds.{Fits, kind_of};
+ghost use Rattle.pfs_classes.specs.Kinds.{Fits, kind_of, kind_order};
 ghost use Rattle.pfs_classes.specs.Registry.{Registry, class_at};
 ghost use Rattle.pfs_classes.specs.Builtins.{Row, builtins};
 ghost use Rattle.pfs_classes.specs.Settings.{ComesFrom, HasNames};
+
+use crate::Kind;
 
 /// A name has one kind at most.
 pub fn one_kind()
@@ -20,6 +22,11 @@ pub fn computed_kind()
 {
     one_kind();
 }
+
+/// Each kind stands in `Kind::ALL` at its place in their order.
+pub fn all_kinds_in_order()
+    ensures { (kind : Kind) → slice_get Kind.ALL (kind_order kind) ≡ Some kind }
+{}
 
 /// Each row of the built-in list has the kind of its name.
 pub fn builtin_kinds()

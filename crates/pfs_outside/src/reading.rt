@@ -6,18 +6,22 @@ ghost use Rattle.pfs_outside.specs.Streams.{Reads};
 use crate::NoMemory;
 use crate::source::{Got, Source};
 use std::alloc::Global;
+use thiserror::Error;
 
 /// How many bytes are asked for at a time, at most.
 const PIECE: usize = 65_536;
 
 /// Why the bytes of a source were not read to its end.
-#[derive(Clone, Copy, Debug, PartialEq, Eq)]
+#[derive(Clone, Copy, Debug, PartialEq, Eq, Error)]
 pub enum ReadStop {
     /// More bytes came than may be.
+    #[error("too many bytes came")]
     TooLong,
     /// A read failed.
+    #[error("a read failed")]
     Failed,
     /// Memory ran out.
+    #[error("out of memory")]
     NoMemory,
 }
 

@@ -4,13 +4,16 @@ ghost use Rattle.std.specs.Prelude.{◌≢◌, Err, length};
 ghost use Rattle.pfs_outside.specs.Streams.{Puts};
 
 use crate::sink::{Sink, Wrote};
+use thiserror::Error;
 
 /// Why a text was not written whole.
-#[derive(Clone, Copy, Debug, PartialEq, Eq)]
+#[derive(Clone, Copy, Debug, PartialEq, Eq, Error)]
 pub enum WriteStop {
     /// The sink failed.
+    #[error("a write failed")]
     Failed,
     /// Memory ran out.
+    #[error("out of memory")]
     NoMemory,
 }
 

@@ -1,3 +1,4 @@
 pub mod Examples
 pub mod Found
 pub mod Ranges
+pub mod TableNames

@@ -1,11 +1,16 @@
 //! Laws of the definitions.
 
-ghost use Rattle.std.specs.Prelude.{◌≡◌, ◌<◌, ◌≤◌, ◌↔◌, ℕ, Some, None};
+ghost use Rattle.std.specs.Prelude.{◌≡◌, ◌<◌, ◌≤◌, ◌↔◌, ℕ, Some, None, slice_get};
 ghost use Rattle.pfs_rows.specs.declared.limits.Limit.{Limit};
 ghost use Rattle.pfs_rows.specs.declared.limits.Limits.{Limits};
 ghost use Rattle.pfs_rows.specs.declared.place.Place.{Place};
+ghost use Rattle.pfs_rows.specs.declared.table.Table.{Table};
+ghost use Rattle.pfs_rows.specs.declared.table.TableKind.{TableKind};
 ghost use Rattle.pfs_rows.specs.Limits.{AreInRange, IsWithin, limit_name};
 ghost use Rattle.pfs_rows.specs.Rows.{IsPlace, row_number, place_at};
+ghost use Rattle.pfs_rows.specs.Tables.{kind_number, table_name};
+
+use crate::TableKind;
 
 /// Each place has one row below 14,242, each such row is one place, and the two ways undo each
 /// other.
@@ -25,4 +30,14 @@ pub fn ranges()
 /// Different limits have different names.
 pub fn limit_names_differ()
     ensures { (a b : Limit) → limit_name a ≡ limit_name b → a ≡ b }
+{}
+
+/// Different tables have different names.
+pub fn table_names_differ()
+    ensures { (a b : Table) → table_name a ≡ table_name b → a ≡ b }
+{}
+
+/// Each kind of events stands in `TableKind::ALL` at the place of its number.
+pub fn all_kinds_by_number()
+    ensures { (kind : TableKind) → slice_get TableKind.ALL (kind_number kind) ≡ Some kind }
 {}

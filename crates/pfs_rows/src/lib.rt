@@ -2,9 +2,9 @@
 #![tactic(auto)]
 
 pub mod laws;
-pub mod limits;
-pub mod place;
-pub mod table;
+mod limits;
+mod place;
+mod table;
 
 pub use limits::{BadLimits, Layout, Limit, Limits};
 pub use place::{Place, place_of, row_of};

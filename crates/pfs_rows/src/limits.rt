@@ -5,6 +5,7 @@ ghost use Rattle.pfs_rows.specs.declared.limits.Limit.{Limit};
 ghost use Rattle.pfs_rows.specs.Limits.{limit_name, least_of, most_of, value_of, with_limit, default_limits, AreInRange, IsFirstOutside};
 
 use std::marker::Model;
+use thiserror::Error;
 
 /// A limit, in the order in which limits are tested.
 #[derive(Clone, Copy, Debug, PartialEq, Eq)]
@@ -44,7 +45,8 @@ pub struct Limits {
 }
 
 /// A limit is outside its range: the name of the first such.
-#[derive(Clone, Copy, Debug, PartialEq, Eq)]
+#[derive(Clone, Copy, Debug, PartialEq, Eq, Error)]
+#[error("the limit {name} is outside its range")]
 pub struct BadLimits {
     pub name: &'static str,
 }

@@ -7,9 +7,8 @@ ghost use Rattle.pfs_classes.specs.Settings.{ComesFrom};
 ghost use Rattle.pfs_text.specs.Likes.{is_like};
 ghost use Rattle.pfs_script.specs.Headings.{flags_set_like};
 
-use pfs_classes::classes::TRANSACTION;
 use pfs_classes::laws::known_names;
-use pfs_classes::{ClassId, Classes};
+use pfs_classes::{ClassId, Classes, TRANSACTION};
 use pfs_names::Names;
 use pfs_text::like;
 

@@ -50,12 +50,25 @@ merge_of a b = record {
   examined = (a.examined + b.examined) % 2 ^ 64;
 }
 
--- what merging rows does not depend on: their order and grouping, and rows that counted nothing
+-- an event's numbers are of 64 bits each
+pub record IsInRange (m : Measure) : Type 0 where
+  pub wait : m.wait < 2 ^ 64
+  pub lock : m.lock < 2 ^ 64
+  pub errors : m.errors < 2 ^ 64
+  pub warnings : m.warnings < 2 ^ 64
+  pub affected : m.affected < 2 ^ 64
+  pub sent : m.sent < 2 ^ 64
+  pub examined : m.examined < 2 ^ 64
+
+-- what merging rows does not depend on: their order and grouping, and rows that counted nothing; the rows that events give and those
+-- that rows give fit
 pub record MergeIsMonoid : Type 0 where
   pub unit : (a : Stat) → Fits a → merge_of zero_of a ≡ a
   pub commutes : (a b : Stat) → merge_of a b ≡ merge_of b a
   pub associates : (a b c : Stat) → merge_of (merge_of a b) c ≡ merge_of a (merge_of b c)
   pub fits : (a b : Stat) → Fits a → Fits b → Fits (merge_of a b)
+  pub zero_fits : Fits zero_of
+  pub event_fits : (m : Measure) → IsInRange m → Fits (stat_of m)
 
 -- the rows of a list, from the first on, in one
 abbrev pub merge_all : List Stat → Stat
