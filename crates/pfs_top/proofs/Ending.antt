@@ -19,7 +19,8 @@ use Rattle.pfs_script.specs.declared.blocks.StatementNumbers.{StatementNumbers}
 use Rattle.pfs_script.specs.Brackets.{Opening}
 use Rattle.pfs_top.specs.declared.player.Cell.{Cell}
 use Rattle.pfs_top.specs.declared.player.Player.{Player}
-use Rattle.pfs_top.specs.Begun.{Begun, begun_at, is_statement, is_wait, is_let_through, if_through, passes, add_through, through, count_kind}
+use Rattle.pfs_event.specs.Verdicts.{is_let_through}
+use Rattle.pfs_top.specs.Begun.{Begun, begun_at, is_statement, is_wait, if_through, passes, add_through, through, count_kind}
 use Rattle.pfs_top.specs.Ended.{Ended, numbers_for}
 use Rattle.pfs_top.specs.Sums.{is_attributed, is_aside, cell_for, cell_of_class, cell_of, stat_of_event, counts_in}
 use Rattle.pfs_top.specs.Entries.{add_to, end_of, ends_of}

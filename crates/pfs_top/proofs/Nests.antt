@@ -6,8 +6,10 @@ use Rattle.pfs_classes.specs.Registry.{Registry}
 use Rattle.pfs_event.specs.declared.open.Open.{Open}
 use Rattle.pfs_script.specs.Brackets.{Opening, kinds_of}
 use Rattle.pfs_top.specs.declared.player.Outer.{Outer}
-use Rattle.pfs_top.specs.Begun.{Begun, begun_at, is_let_through, add_through, through, around_of}
-use Rattle.pfs_top.specs.Player.{kind_number, as_outer, outer_of, IsOpened, AreOpened, kinds_open}
+use Rattle.pfs_event.specs.Verdicts.{is_let_through}
+use Rattle.pfs_top.specs.Begun.{Begun, begun_at, add_through, through, around_of}
+use Rattle.pfs_event.specs.Kinds.{nesting_number}
+use Rattle.pfs_top.specs.Player.{as_outer, outer_of, IsOpened, AreOpened, kinds_open}
 
 -- one more line doesn't change what is known of the events before it
 pub begun_kept : (begun : List (Option Begun)) (more : Option Begun) (place : ℕ) → place < length begun → begun_at (begun ++ more ∷ []) place ≡ begun_at begun place
@@ -42,12 +44,12 @@ opened_kept classes begun more (opening ∷ opens) (what ∷ events) are = (
 outer_by : (event : Begun) (what : Open) (rest : List Open) (classes : Registry) (others : List Begun) → IsOpened classes event what → event.around ≡ around_of others → (b : Bool) → is_let_through event.verdict ≡ b → outer_of (what ∷ rest) ≡ as_outer (around_of (add_through (Some event) others))
 outer_by event what rest classes others opened around true h =
     let number : event.number ≡ Some what.event.number = opened.number ∙ ap (λ b. cond b (Some what.event.number) None) h in
-    ap (λ b. cond {A = Outer} b (record { nesting = kind_number what.kind; parent = what.event.number }) (record { nesting = what.event.nesting; parent = what.event.parent })) (ap is_let_through opened.verdict ∙ h)
-    ∙ ap (λ kind. record { nesting = kind_number kind; parent = what.event.number }) opened.kind
+    ap (λ b. cond {A = Outer} b (record { nesting = nesting_number what.kind; parent = what.event.number }) (record { nesting = what.event.nesting; parent = what.event.parent })) (ap is_let_through opened.verdict ∙ h)
+    ∙ ap (λ kind. record { nesting = nesting_number kind; parent = what.event.number }) opened.kind
     ∙ ap (λ n. as_outer (option_map (λ number. record { kind = event.subject.kind; number = number }) n)) (sym number)
     ∙ ap (λ b. as_outer (around_of (cond b (event ∷ others) others))) (sym h)
 outer_by event what rest classes others opened around false h =
-    ap (λ b. cond {A = Outer} b (record { nesting = kind_number what.kind; parent = what.event.number }) (record { nesting = what.event.nesting; parent = what.event.parent })) (ap is_let_through opened.verdict ∙ h)
+    ap (λ b. cond {A = Outer} b (record { nesting = nesting_number what.kind; parent = what.event.number }) (record { nesting = what.event.nesting; parent = what.event.parent })) (ap is_let_through opened.verdict ∙ h)
     ∙ opened.outer ∙ ap as_outer around
     ∙ ap (λ b. as_outer (around_of (cond b (event ∷ others) others))) (sym h)
 

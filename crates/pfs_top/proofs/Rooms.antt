@@ -5,7 +5,8 @@ use Rattle.pfs_event.specs.declared.verdict.Verdict.{Verdict}
 use Rattle.pfs_top.specs.declared.player.Cell.{Cell}
 use Rattle.pfs_top.specs.declared.player.Player.{Player}
 use Rattle.pfs_top.specs.declared.player.Subject.{Subject}
-use Rattle.pfs_top.specs.Begun.{Setup, is_let_through, is_statement, is_wait, verdict_of}
+use Rattle.pfs_event.specs.Verdicts.{is_let_through}
+use Rattle.pfs_top.specs.Begun.{Setup, is_statement, is_wait, verdict_of}
 use Rattle.pfs_top.specs.Sums.{is_nested_lost, is_locker_lost}
 use Rattle.pfs_top.specs.Player.{AreRoomy, HasRoom, IsSteady, IsStarted, one_if, one_of}
 use Rattle.pfs_top.proofs.Several.{roomy_more}

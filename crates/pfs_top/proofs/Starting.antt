@@ -15,7 +15,8 @@ use Rattle.pfs_script.specs.Brackets.{Opening}
 use Rattle.pfs_top.specs.declared.player.Cell.{Cell}
 use Rattle.pfs_top.specs.declared.player.Player.{Player}
 use Rattle.pfs_top.specs.declared.player.Subject.{Subject}
-use Rattle.pfs_top.specs.Begun.{Setup, Begun, begun_at, verdict_of, time_of, is_statement, is_wait, is_let_through, if_through, passes, add_through, through, around_of, count_kind, begin}
+use Rattle.pfs_event.specs.Verdicts.{is_let_through}
+use Rattle.pfs_top.specs.Begun.{Setup, Begun, begun_at, verdict_of, time_of, is_statement, is_wait, if_through, passes, add_through, through, around_of, count_kind, begin}
 use Rattle.pfs_top.specs.Ended.{Ended}
 use Rattle.pfs_top.specs.Sums.{is_attributed, is_nested_lost, is_locker_lost, is_lost_statement, is_lost_wait}
 use Rattle.pfs_top.specs.Entries.{start_of}

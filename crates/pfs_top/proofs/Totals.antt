@@ -9,7 +9,7 @@ use Rattle.pfs_stat.specs.Stat.{Fits, merge_of, zero_of, merge_all, MergeIsMonoi
 use Rattle.pfs_classes.specs.Registry.{Registry}
 use Rattle.pfs_event.specs.declared.verdict.Verdict.{Verdict}
 use Rattle.pfs_event.specs.declared.verdict.Verdict.TheVariants.{Attributed, Aside}
-use Rattle.pfs_top.specs.Begun.{is_let_through}
+use Rattle.pfs_event.specs.Verdicts.{is_let_through}
 use Rattle.pfs_top.specs.Ended.{Ended}
 use Rattle.pfs_top.specs.Sums.{is_attributed, is_aside, is_cell, cell_of, counts_in, stat_of_event, summary_of}
 

@@ -12,6 +12,7 @@ use Rattle.pfs_event.specs.declared.kind.EventKind.{EventKind}
 use Rattle.pfs_event.specs.declared.kind.EventKind.TheVariants as kinds
 use Rattle.pfs_event.specs.declared.verdict.Verdict.{Verdict}
 use Rattle.pfs_event.specs.declared.verdict.Verdict.TheVariants.{LostClass, OffGlobal, OffClass, LostNested, LostLocker, Aside, Attributed}
+use Rattle.pfs_event.specs.Verdicts.{is_let_through}
 use Rattle.pfs_script.specs.declared.blocks.Access.{Access}
 use Rattle.pfs_script.specs.declared.blocks.Access.TheVariants.{ReadWrite, ReadOnly}
 use Rattle.pfs_script.specs.declared.blocks.BlockLine.{BlockLine}
@@ -92,12 +93,6 @@ class_verdict setup kind statements waits (refs.Class id) =
 
 abbrev pub verdict_of : Setup → Subject → ℕ → ℕ → Verdict
 verdict_of setup subject statements waits = class_verdict setup subject.kind statements waits subject.class
-
--- the event counts somewhere
-abbrev pub is_let_through : Verdict → Bool
-is_let_through Attributed = true
-is_let_through Aside = true
-is_let_through _ = false
 
 -- a number that only an event that is let through has
 abbrev pub if_through : Verdict → ℕ → Option ℕ

@@ -6,6 +6,7 @@ use Rattle.pfs_stat.specs.Stat.{stat_of, merge_of, zero_of}
 use Rattle.pfs_classes.specs.declared.classes.ClassRef.{ClassRef}
 use Rattle.pfs_classes.specs.declared.classes.ClassRef.TheVariants as refs
 use Rattle.pfs_classes.specs.Registry.{Registry, IsId}
+use Rattle.pfs_event.specs.Kinds.{nesting_number}
 use Rattle.pfs_event.specs.declared.entry.Entry.{Entry}
 use Rattle.pfs_event.specs.declared.entry.Entry.TheVariants.{Start, End, Add}
 use Rattle.pfs_event.specs.declared.kind.EventKind.{EventKind}
@@ -25,7 +26,8 @@ use Rattle.pfs_script.specs.Nested.{IsNested}
 use Rattle.pfs_top.specs.declared.player.Player.{Player}
 use Rattle.pfs_top.specs.declared.rounds.Repeat.{Repeat}
 use Rattle.pfs_top.specs.declared.player.Subject.{Subject}
-use Rattle.pfs_top.specs.Begun.{Setup, Begun, Around, subject_of, verdict_of, begun_at, begun_of, marks_of, time_of, is_wait, is_statement, is_let_through, if_through, passes, through, around_of, count_kind}
+use Rattle.pfs_event.specs.Verdicts.{is_let_through}
+use Rattle.pfs_top.specs.Begun.{Setup, Begun, Around, subject_of, verdict_of, begun_at, begun_of, marks_of, time_of, is_wait, is_statement, if_through, passes, through, around_of, count_kind}
 use Rattle.pfs_top.specs.Ended.{Ended, numbers_for, ended_in}
 use Rattle.pfs_top.specs.Sums.{is_attributed, is_aside, cell_for, counts_in, is_timed, summary_of, is_nested_lost, is_locker_lost, is_lost_statement, is_lost_wait}
 use Rattle.pfs_top.specs.Entries.{loaded, ends_of, journal_of}
@@ -61,23 +63,17 @@ pub record AreCells (classes : Registry) (test : Verdict → Bool) (events : Lis
   pub versions : (id : ℕ) → id < 64 → (cell_at cells id).version ≡ count_by (counts_in test id) events
   pub stats : (id : ℕ) → id < 64 → (cell_at cells id).stat ≡ summary_of classes test id events
 
--- the number of a kind in an event's words, and 0 where nothing lies around it
-abbrev pub kind_number : EventKind → ℕ
-kind_number kinds.Transaction = 1
-kind_number kinds.Statement = 2
-kind_number kinds.Stage = 3
-kind_number kinds.Wait = 4
-
+-- the number of the kind of what lies around an event, and 0 where nothing does
 abbrev pub as_outer : Option Around → Outer
 as_outer None = record { nesting = 0; parent = 0 }
-as_outer (Some around) = record { nesting = kind_number around.kind; parent = around.number }
+as_outer (Some around) = record { nesting = nesting_number around.kind; parent = around.number }
 
 -- what lies around an event that starts where these are open
 abbrev pub outer_of : List Open → Outer
 outer_of [] = record { nesting = 0; parent = 0 }
 outer_of (what ∷ events) =
     if is_let_through what.verdict
-    then record { nesting = kind_number what.kind; parent = what.event.number }
+    then record { nesting = nesting_number what.kind; parent = what.event.number }
     else record { nesting = what.event.nesting; parent = what.event.parent }
 
 -- the class of an event that is let through

@@ -20,7 +20,8 @@ use Rattle.pfs_top.specs.declared.report.Report.{Report}
 use Rattle.pfs_top.specs.declared.report.SessionReport.{SessionReport}
 use Rattle.pfs_top.specs.declared.report.SummaryRow.{SummaryRow}
 use Rattle.pfs_top.specs.declared.report.TableReport.{TableReport}
-use Rattle.pfs_top.specs.Begun.{Begun, begun_of, is_let_through, setup_of}
+use Rattle.pfs_event.specs.Verdicts.{is_let_through}
+use Rattle.pfs_top.specs.Begun.{Begun, begun_of, setup_of}
 use Rattle.pfs_top.specs.Counters.{counters, lost_by}
 use Rattle.pfs_top.specs.Ended.{Ended, ended_in}
 use Rattle.pfs_top.specs.Entries.{journal_of}

@@ -8,11 +8,11 @@ ghost use Rattle.pfs_event.specs.declared.entry.Entry.{Entry};
 ghost use Rattle.pfs_script.specs.declared.blocks.BlockLine.{BlockLine};
 ghost use Rattle.pfs_script.specs.Brackets.{Opening, ended_by, stages_first, may_stand, kinds_behind};
 ghost use Rattle.pfs_script.specs.Marks.{Ends, mark_of};
-ghost use Rattle.pfs_top.specs.Begun.{Begun, time_of, setup_of, subject_of, Setup, is_wait, is_statement, verdict_of, is_let_through, if_through};
+ghost use Rattle.pfs_top.specs.Begun.{Begun, time_of, setup_of, subject_of, Setup, is_wait, is_statement, verdict_of, if_through};
 ghost use Rattle.pfs_top.specs.Ended.{Ended, numbers_for, numbers_on};
 ghost use Rattle.pfs_top.specs.Sums.{is_attributed, is_aside, is_timed, cell_for, is_nested_lost, is_locker_lost};
 ghost use Rattle.pfs_top.specs.Entries.{loaded};
-ghost use Rattle.pfs_top.specs.Player.{HasRoom, IsKnownClass, IsKnownSubject, IsPlayed, cell_at, added_to, AreRoomy, kind_number, outer_of, one_of, cell_of_open, stat_of_open, cells_after, add_entries, end_entry, start_entry, IsFinished, IsRoomy, IsNew, IsCounted, IsStarted, IsClassOf, IsEnded, end_entries, kinds_open, Holds, HoldsEnded, AreBefore, IsSteady, class_number, one_if};
+ghost use Rattle.pfs_top.specs.Player.{HasRoom, IsKnownClass, IsKnownSubject, IsPlayed, cell_at, added_to, AreRoomy, outer_of, one_of, cell_of_open, stat_of_open, cells_after, add_entries, end_entry, start_entry, IsFinished, IsRoomy, IsNew, IsCounted, IsStarted, IsClassOf, IsEnded, end_entries, kinds_open, Holds, HoldsEnded, AreBefore, IsSteady, class_number, one_if};
 
 use crate::NoMemory;
 use pfs_classes::{ClassId, ClassRef, Classes, Setting};
@@ -135,18 +135,11 @@ fn judge(setting: &Setting, subject: &Subject, statements: u64, waits: u64) -> V
     }
 }
 
-/// Whether an event with this verdict counts anywhere.
-fn is_let_through(verdict: Verdict) -> bool
-    ensures { result ≡ is_let_through verdict }
-{
-    matches!(verdict, Verdict::Aside | Verdict::Attributed)
-}
-
 /// A number that only an event that is let through has.
 fn if_through(verdict: Verdict, number: u64) -> Option<u64>
     ensures { result ≡ if_through verdict number }
 {
-    if is_let_through(verdict) {
+    if verdict.is_let_through() {
         Some(number)
     } else {
         None
@@ -167,7 +160,7 @@ fn loaded(verdict: Verdict) -> Option<u64>
 fn one_statement(kind: EventKind, verdict: Verdict) -> u64
     ensures { result ≡ one_of is_statement kind verdict }
 {
-    if is_let_through(verdict) && is_statement(kind) {
+    if verdict.is_let_through() && is_statement(kind) {
         1
     } else {
         0
@@ -177,22 +170,10 @@ fn one_statement(kind: EventKind, verdict: Verdict) -> u64
 fn one_wait(kind: EventKind, verdict: Verdict) -> u64
     ensures { result ≡ one_of is_wait kind verdict }
 {
-    if is_let_through(verdict) && is_wait(kind) {
+    if verdict.is_let_through() && is_wait(kind) {
         1
     } else {
         0
-    }
-}
-
-fn kind_number(kind: EventKind) -> u64
-    ensures number { result ≡ kind_number kind }
-    ensures fits { result ≤ 4 }
-{
-    match kind {
-        EventKind::Transaction => 1,
-        EventKind::Statement => 2,
-        EventKind::Stage => 3,
-        EventKind::Wait => 4,
     }
 }
 
@@ -215,9 +196,9 @@ fn outer_behind(what: &Open) -> Outer
     ensures value { result ≡ outer_of (what.now ∷ []) }
     ensures fits { result.nesting ≤ 4 }
 {
-    if is_let_through(what.verdict) {
+    if what.verdict.is_let_through() {
         Outer {
-            nesting: kind_number(what.kind),
+            nesting: what.kind.nesting_number(),
             parent: what.event.number,
         }
     } else {
@@ -475,7 +456,7 @@ fn count(player: &mut Player, kind: EventKind, verdict: Verdict)
     ensures nest { player.new.nest ≡ player.old.nest }
     ensures entries { player.new.entries.items ≡ player.old.entries.items }
 {
-    player.drawn += one_if(is_let_through(verdict));
+    player.drawn += one_if(verdict.is_let_through());
     player.statements += one_statement(kind, verdict);
     player.waits += one_wait(kind, verdict);
     player.lost_statements += one_if(is_nested_lost(verdict));

@@ -4,7 +4,7 @@ ghost use Rattle.std.specs.Prelude.{ℕ, Bool, ◌≡◌, ◌<◌, ◌++◌, [],
 ghost use Rattle.std.specs.List.{flat_map, slice_index_or};
 ghost use Rattle.pfs_classes.specs.Registry.{IsId, class_at};
 ghost use Rattle.pfs_event.specs.declared.verdict.Verdict.{Verdict};
-ghost use Rattle.pfs_top.specs.Begun.{is_let_through};
+ghost use Rattle.pfs_event.specs.Verdicts.{is_let_through};
 ghost use Rattle.pfs_top.specs.Ended.{Ended};
 ghost use Rattle.pfs_script.specs.declared.blocks.Block.{Block};
 ghost use Rattle.pfs_top.specs.declared.player.Cell.{Cell};

@@ -1,6 +1,6 @@
 use Rattle.std.proofs.Common.{◌++◌, List, ap, ◌∙◌}
 use Rattle.pfs_top.specs.declared.report.SummaryRow.{SummaryRow}
-use Rattle.pfs_top.specs.Begun.{is_let_through}
+use Rattle.pfs_event.specs.Verdicts.{is_let_through}
 use Rattle.pfs_top.specs.Runs.{all_events, global_rows}
 use Rattle.pfs_top.proofs.summaries.global_rows.Goals as goal
 

@@ -1,5 +1,5 @@
 use Rattle.std.proofs.Common.{ℕ, ◌≡◌, ◌<◌, length}
-use Rattle.pfs_top.specs.Begun.{is_let_through}
+use Rattle.pfs_event.specs.Verdicts.{is_let_through}
 use Rattle.pfs_top.specs.Phases.{stat_at}
 use Rattle.pfs_top.specs.Runs.{all_events}
 use Rattle.pfs_top.specs.Sums.{summary_of}
