@@ -6,3 +6,4 @@ pub mod Fusion
 pub mod Joins
 pub mod Spelling
 pub mod StackSteps
+pub mod Searching

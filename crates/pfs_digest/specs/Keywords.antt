@@ -1,5 +1,8 @@
 -- The words that a digest text shows in upper case.
-use Rattle.std.specs.Prelude.{ℕ, Bool, List, [], ◌∷◌, ◌++◌, Option, None, Some, map, codes}
+use Rattle.std.specs.Prelude.{ℕ, Bool, true, ◌&&◌, List, [], ◌∷◌, ◌++◌, Option, None, Some, map, codes}
+use Rattle.std.specs.declared.cmp.Ordering.{Ordering}
+use Rattle.std.specs.Cmp.Lexicographic.{slice_cmp}
+use Rattle.std.specs.Ordering.{is_lt, nat_cmp}
 use Rattle.std.specs.List.{find}
 use Rattle.std.specs.Char.{to_ascii_lowercase}
 use Rattle.std.specs.Str.{bytes_eq}
@@ -21,6 +24,20 @@ keywords =
 -- the words are one but for the case of their letters
 abbrev pub is_in_any_case : List ℕ → List ℕ → Bool
 is_in_any_case word keyword = bytes_eq (map to_ascii_lowercase word) (map to_ascii_lowercase keyword)
+
+-- how words stand to each other, whatever the case of their letters
+abbrev pub any_case_cmp : List ℕ → List ℕ → Ordering
+any_case_cmp a b = slice_cmp nat_cmp (map to_ascii_lowercase a) (map to_ascii_lowercase b)
+
+-- the word is less than the first of the others
+abbrev pub is_below : List ℕ → List (List ℕ) → Bool
+is_below word [] = true
+is_below word (next ∷ words) = is_lt (any_case_cmp word next)
+
+-- each word is less than the next
+abbrev pub ascend : List (List ℕ) → Bool
+ascend [] = true
+ascend (word ∷ words) = is_below word words && ascend words
 
 -- the keyword that a word is
 unfoldable pub keyword_of : List ℕ → Option (List ℕ)

@@ -1,11 +1,14 @@
 //! The words that a digest text shows in upper case.
 #![tactic(auto)]
 
-ghost use Rattle.std.specs.Prelude.{◌≡◌, map, option_map};
+ghost use Rattle.std.specs.Prelude.{◌≡◌, IsTrue, map, option_map};
 ghost use Rattle.std.specs.List.{find};
 ghost use Rattle.pfs_digest.specs.Keywords as spec;
 
-const KEYWORDS: [&str; 66] = [
+use std::cmp::Ordering;
+
+// The keywords, in the order of their bytes.
+const KEYWORDS: &[&str] = &[
     "ALL",
     "ALTER",
     "AND",
@@ -79,32 +82,52 @@ const KEYWORDS: [&str; 66] = [
 pub(crate) fn keyword_of(word: &[u8]) -> Option<&'static str>
     ensures { option_map (λ keyword. keyword.now) result ≡ spec.keyword_of word.now }
 {
-    find_word(keywords().as_slice(), word)
+    find_word(keywords(), word)
 }
 
-/// The keywords.
-fn keywords() -> [&'static str; 66]
-    ensures { map (λ keyword. keyword.now) result ≡ spec.keywords }
+// The keywords.
+fn keywords() -> &'static [&'static str]
+    ensures words { map (λ keyword. keyword.now) result.now ≡ spec.keywords }
+    ensures ascend { IsTrue (spec.ascend (map (λ keyword. keyword.now) result.now)) }
 {
     KEYWORDS
 }
 
-/// The first of the keywords that the word is.
+// The one of the keywords, which ascend, that the word is. Those before `low` are less than the word, and those from `high`
+// on greater.
 fn find_word(keywords: &[&'static str], word: &[u8]) -> Option<&'static str>
+    requires { IsTrue (spec.ascend (map (λ keyword. keyword.now) keywords.now)) }
     ensures { option_map (λ keyword. keyword.now) result
         ≡ find (λ keyword. spec.is_in_any_case word.now keyword) (map (λ keyword. keyword.now) keywords.now) }
 {
-    for keyword in keywords {
-        if is_in_any_case(word, keyword) {
-            return Some(keyword);
+    let (mut low, mut high) = (0, keywords.len());
+    while low < high {
+        let middle = low + (high - low) / 2;
+        match order(keywords[middle].as_bytes(), word) {
+            Ordering::Less => low = middle + 1,
+            Ordering::Greater => high = middle,
+            Ordering::Equal => return Some(keywords[middle]),
         }
     }
     None
 }
 
-/// The word is the keyword, in any case of its letters.
-fn is_in_any_case(word: &[u8], keyword: &str) -> bool
-    ensures { result ≡ spec.is_in_any_case word.now keyword.now }
+// How the keyword stands to the word, in any case of the letters of both. It goes no further than the shorter one.
+fn order(keyword: &[u8], word: &[u8]) -> Ordering
+    ensures { result ≡ spec.any_case_cmp keyword.now word.now }
 {
-    word.eq_ignore_ascii_case(keyword.as_bytes())
+    match keyword {
+        [] => if word.is_empty() {
+            Ordering::Equal
+        } else {
+            Ordering::Less
+        },
+        [a, keyword @ ..] => match word {
+            [] => Ordering::Greater,
+            [b, word @ ..] => {
+                let first = a.to_ascii_lowercase().cmp(&b.to_ascii_lowercase());
+                first.then(order(keyword, word))
+            }
+        },
+    }
 }

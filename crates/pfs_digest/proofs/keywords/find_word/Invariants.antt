@@ -1,9 +1,14 @@
-use Rattle.std.proofs.Common.{◌≡◌, map, drop}
-use Rattle.std.specs.List.{find}
-use Rattle.pfs_digest.specs.Keywords as spec
+use Rattle.std.proofs.Common.{◌-◌, ◌≤◌, length}
+use Rattle.pfs_digest.proofs.Searching.{AreLess, AreGreater}
 use Rattle.pfs_digest.proofs.keywords.find_word.Given as goal
 
-abbrev pub invariant-loop-keyword : goal.invariant-loop-keyword
-invariant-loop-keyword l =
-    find (λ keyword. spec.is_in_any_case l.word keyword) (map (λ keyword. keyword.now) (drop l.keyword-index l.keywords))
-    ≡ find (λ keyword. spec.is_in_any_case l.word keyword) (map (λ keyword. keyword.now) l.keywords)
+-- the word is none of those before `low` and none of those from `high` on
+abbrev pub invariant-loop-low : goal.invariant-loop-low
+invariant-loop-low l = record {
+  within : l.high ≤ length l.keywords;
+  less : AreLess (λ keyword. keyword.now) l.keywords l.word l.low;
+  greater : AreGreater (λ keyword. keyword.now) l.keywords l.word l.high;
+}
+
+abbrev pub decreases-loop-low : goal.decreases-loop-low
+decreases-loop-low l = l.high - l.low
