@@ -1,0 +1,5 @@
+use Rattle.pfs_model.proofs.Locals.{misfits}
+use Rattle.pfs_model.proofs.laws.misfits.Goals as goal
+
+pub returns : goal.returns
+returns c = misfits

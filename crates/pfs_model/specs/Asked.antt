@@ -1,0 +1,72 @@
+-- What an action asks for, and what its entries say it did.
+use Rattle.std.specs.Prelude.{ℕ, ◌≡◌, ◌<◌, ◌==◌, Bool, cond, List, [], ◌∷◌, ◌++◌}
+use Rattle.pfs_event.specs.declared.entry.Entry.{Entry}
+use Rattle.pfs_event.specs.declared.entry.Entry.TheVariants as says
+use Rattle.pfs_model.specs.Places.{Placed, chosen}
+use Rattle.pfs_model.specs.Chains.{each_of}
+
+-- one row is taken, and what was found goes to these, ascending
+pub record Move : Type 0 where
+  pub from : ℕ
+  pub to : List ℕ
+
+-- an info row or a place is released or written
+pub data Sign : Type 0 where
+  Frees : ℕ → Sign
+  Tags : ℕ → Sign
+
+-- a switch word gets these flags
+pub record Flagging : Type 0 where
+  pub word : ℕ
+  pub flags : ℕ
+
+-- The moves stand level after level, and within a level ascending by row; the signs ascend by row, the sets by word.
+pub record Asked : Type 0 where
+  pub moves : List Move
+  pub signs : List Sign
+  pub sets : List Flagging
+
+-- what was done, without its version
+pub data Did : Type 0 where
+  Took : ℕ → Did
+  Gave : ℕ → ℕ → Did
+  Freed : ℕ → Did
+  Tagged : ℕ → Did
+  Flagged : ℕ → ℕ → Did
+
+abbrev pub did : Entry → List Did
+did (says.Take row version) = Took row ∷ []
+did (says.Give row version from) = Gave row from ∷ []
+did (says.Free row version) = Freed row ∷ []
+did (says.Tag row version) = Tagged row ∷ []
+did (says.Set word version flags) = Flagged word flags ∷ []
+did entry = []
+
+abbrev pub given_to : ℕ → List ℕ → List Did
+given_to from [] = []
+given_to from (row ∷ rows) = Gave row from ∷ given_to from rows
+
+-- a give is made where what the take found has counted something
+abbrev pub moved_by : (ℕ → Bool) → List Move → List Did
+moved_by counted [] = []
+moved_by counted (move ∷ moves) = Took move.from ∷ (cond (counted move.from) (given_to move.from move.to) [] ++ moved_by counted moves)
+
+abbrev pub signed_by : List Sign → List Did
+signed_by [] = []
+signed_by (Frees row ∷ signs) = Freed row ∷ signed_by signs
+signed_by (Tags row ∷ signs) = Tagged row ∷ signed_by signs
+
+abbrev pub flagged_by : List Flagging → List Did
+flagged_by [] = []
+flagged_by (one ∷ others) = Flagged one.word one.flags ∷ flagged_by others
+
+abbrev pub asked_of : (ℕ → Bool) → Asked → List Did
+asked_of counted asked = moved_by counted asked.moves ++ (signed_by asked.signs ++ flagged_by asked.sets)
+
+-- the entries of an action
+abbrev pub of_action : ℕ → List Placed → List Placed
+of_action number places = chosen (λ place. place.context.action == number) places
+
+-- Each action does just what it asks for, in this order. `counted action row` says whether the action's take of the row found an event.
+abbrev pub DoAsAsked : (ℕ → Asked) → (ℕ → ℕ → Bool) → List Placed → Type 0
+DoAsAsked asked counted all = (number : ℕ) → 0 < number → each_of did (of_action number all) ≡ asked_of (counted number) (asked number)

@@ -1,0 +1,17 @@
+pub mod Actions
+pub mod Asked
+pub mod Asks
+pub mod Causes
+pub mod Chains
+pub mod Contents
+pub mod Contexts
+pub mod Cuts
+pub mod Floors
+pub mod Journals
+pub mod Numbers
+pub mod Places
+pub mod Plain
+pub mod Rings
+pub mod Setups
+pub mod Shapes
+pub mod Summaries
