@@ -1,0 +1,5 @@
+use Rattle.pfs_conservation.proofs.Acted.{reported_stats}
+use Rattle.pfs_conservation.proofs.laws.reported.Goals as goal
+
+pub returns : goal.returns
+returns c = reported_stats c.merge.ensures

@@ -1,0 +1,25 @@
+//! What holds of all journals.
+
+ghost use Rattle.pfs_conservation.specs.Laws.{Conserved, Discarded, Reported};
+
+/// Whatever the interleaving, what a summary row shows is the merge of the events that count there.
+pub fn conserved()
+    ensures { Conserved }
+{
+    pfs_stat::laws::merge();
+}
+
+/// Every event is shown by the global row or was discarded by one take of its cell.
+pub fn discarded()
+    ensures { Discarded }
+{
+    pfs_stat::laws::merge();
+}
+
+/// Of the printed changes of one kind's rows, by any number of sessions, that keep the rules of chains, actions, moves and floors: what
+/// the rows of a key show after the last action is the merge of the events that lead to the key and that no covering action took since they were added.
+pub fn reported()
+    ensures { Reported }
+{
+    pfs_stat::laws::merge();
+}
