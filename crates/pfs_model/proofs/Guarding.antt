@@ -13,7 +13,8 @@ use Rattle.pfs_model.specs.declared.shapes.Ask.TheVariants as asks
 use Rattle.pfs_model.specs.declared.shapes.Item.{Item}
 use Rattle.pfs_model.specs.declared.shapes.Often.{Often}
 use Rattle.pfs_model.specs.declared.shapes.Often.TheVariants.{One, Maybe, Many}
-use Rattle.pfs_model.specs.Asks.{fits, is_through}
+use Rattle.pfs_event.specs.Verdicts.{is_let_through}
+use Rattle.pfs_model.specs.Asks.{fits}
 use Rattle.pfs_model.specs.Actions.{is_acted}
 use Rattle.pfs_model.specs.Contexts.{Context}
 use Rattle.pfs_model.specs.Cuts.{behind, step, then_cut, cut}
@@ -155,7 +156,7 @@ guards_counting slot event false = refl
 
 guards_first : (slot : Option ℕ) (events : List Opened) → guards (ending_first slot events) ≡ true
 guards_first slot [] = refl
-guards_first slot (event ∷ events) = guards_counting slot event (is_through event.verdict)
+guards_first slot (event ∷ events) = guards_counting slot event (is_let_through event.verdict)
 
 guards_if : (b : Bool) (xs : List Item) → guards xs ≡ true → guards (if b then xs else []) ≡ true
 guards_if true xs c = c
@@ -163,11 +164,11 @@ guards_if false xs c = refl
 
 guards_stage : (slot : Option ℕ) (events : List Opened) → guards (ending_stage slot events) ≡ true
 guards_stage slot [] = refl
-guards_stage slot (event ∷ events) = guards_if (is_stage event.subject.kind) _ (guards_counting slot event (is_through event.verdict))
+guards_stage slot (event ∷ events) = guards_if (is_stage event.subject.kind) _ (guards_counting slot event (is_let_through event.verdict))
 
 guards_both : (slot : Option ℕ) (events : List Opened) → guards (ending_both slot events) ≡ true
 guards_both slot [] = refl
-guards_both slot (event ∷ events) = guards_join (ending slot event) _ (guards_counting slot event (is_through event.verdict)) (guards_if (is_stage event.subject.kind) _ (guards_first slot events))
+guards_both slot (event ∷ events) = guards_join (ending slot event) _ (guards_counting slot event (is_let_through event.verdict)) (guards_if (is_stage event.subject.kind) _ (guards_first slot events))
 
 pub shape_guards : (context : Context) (line : Line) → guards (shape context line) ≡ true
 shape_guards context lines.Connect = refl

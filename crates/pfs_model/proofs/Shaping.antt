@@ -8,7 +8,7 @@ use Rattle.pfs_model.specs.declared.lines.Line.{Line}
 use Rattle.pfs_model.specs.declared.lines.Line.TheVariants as lines
 use Rattle.pfs_model.specs.declared.lines.Opened.{Opened}
 use Rattle.pfs_model.specs.declared.shapes.Item.{Item}
-use Rattle.pfs_model.specs.Asks.{is_through}
+use Rattle.pfs_event.specs.Verdicts.{is_let_through}
 use Rattle.pfs_model.specs.Cuts.{cut, front, is_closed, are_closed, has_head, is_headed}
 use Rattle.pfs_model.specs.Contexts.{Context, after}
 use Rattle.pfs_model.specs.Shapes.{shape, added, settling, puts, digest_of, counting, ending, ending_first, ending_stage, ending_both, starting, is_stage}
@@ -42,7 +42,7 @@ closed_counting slot event false = refl
 
 closed_first : (slot : Option ℕ) (events : List Opened) → are_closed (ending_first slot events) ≡ true
 closed_first slot [] = refl
-closed_first slot (event ∷ events) = closed_counting slot event (is_through event.verdict)
+closed_first slot (event ∷ events) = closed_counting slot event (is_let_through event.verdict)
 
 closed_if : (b : Bool) (xs : List Item) → are_closed xs ≡ true → are_closed (if b then xs else []) ≡ true
 closed_if true xs c = c
@@ -50,11 +50,11 @@ closed_if false xs c = refl
 
 closed_stage : (slot : Option ℕ) (events : List Opened) → are_closed (ending_stage slot events) ≡ true
 closed_stage slot [] = refl
-closed_stage slot (event ∷ events) = closed_if (is_stage event.subject.kind) _ (closed_counting slot event (is_through event.verdict))
+closed_stage slot (event ∷ events) = closed_if (is_stage event.subject.kind) _ (closed_counting slot event (is_let_through event.verdict))
 
 closed_both : (slot : Option ℕ) (events : List Opened) → are_closed (ending_both slot events) ≡ true
 closed_both slot [] = refl
-closed_both slot (event ∷ events) = closed_join (ending slot event) _ (closed_counting slot event (is_through event.verdict)) (closed_if (is_stage event.subject.kind) _ (closed_first slot events))
+closed_both slot (event ∷ events) = closed_join (ending slot event) _ (closed_counting slot event (is_let_through event.verdict)) (closed_if (is_stage event.subject.kind) _ (closed_first slot events))
 
 pub shape_closed : (context : Context) (line : Line) → are_closed (shape context line) ≡ true
 shape_closed context lines.Connect = refl

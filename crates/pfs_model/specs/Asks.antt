@@ -7,11 +7,6 @@ use Rattle.pfs_event.specs.declared.verdict.Verdict.TheVariants.{Aside, Attribut
 use Rattle.pfs_model.specs.declared.shapes.Ask.{Ask}
 use Rattle.pfs_model.specs.declared.shapes.Ask.TheVariants as asks
 
-abbrev pub is_through : Verdict → Bool
-is_through Attributed = true
-is_through Aside = true
-is_through _ = false
-
 -- the verdict may stand where the session has a slot or none, and the class is lost or isn't
 abbrev pub verdict_fits : Bool → Bool → Verdict → Bool
 verdict_fits slot lost Attributed = slot && not lost

@@ -10,7 +10,7 @@ use Rattle.pfs_model.specs.declared.lines.Line.{Line}
 use Rattle.pfs_model.specs.declared.lines.Line.TheVariants as lines
 use Rattle.pfs_model.specs.declared.lines.Opened.{Opened}
 use Rattle.pfs_model.specs.declared.lines.Subject.{Subject}
-use Rattle.pfs_model.specs.Asks.{is_through}
+use Rattle.pfs_event.specs.Verdicts.{is_let_through}
 
 -- an event that is held for a row
 pub record Waiting : Type 0 where
@@ -111,7 +111,7 @@ noted subject context (says.Connect action thread account user host) = record co
 noted subject context (says.Start event verdict consumers thread class table) = record context {
   opened = with_opened subject (λ s. record { subject = s; verdict = verdict; index = context.begun; number = event; consumers = consumers; thread = thread; class = class; table = table }) context.opened;
   begun = context.begun + 1;
-  drawn = context.drawn + cond (is_through verdict) 1 0;
+  drawn = context.drawn + cond (is_let_through verdict) 1 0;
 }
 noted subject context (says.End event last consumers thread) = record context { opened = drop 1 context.opened; ended = first_of context.opened }
 noted subject context (says.Held row first second) = record context { held = with_row row context.held; waiting = own_wait row context.ended ++ context.waiting }

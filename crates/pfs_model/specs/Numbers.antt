@@ -2,17 +2,15 @@
 use Rattle.std.specs.Prelude.{ℕ, ◌≡◌, ◌+◌, cond, List, [], ◌∷◌, Option, Some, None}
 use Rattle.pfs_event.specs.declared.entry.Entry.{Entry}
 use Rattle.pfs_event.specs.declared.entry.Entry.TheVariants as says
-use Rattle.pfs_event.specs.declared.kind.EventKind.{EventKind}
-use Rattle.pfs_event.specs.declared.kind.EventKind.TheVariants as kinds
 use Rattle.pfs_event.specs.declared.verdict.Verdict.{Verdict}
 use Rattle.pfs_model.specs.declared.lines.Opened.{Opened}
-use Rattle.pfs_model.specs.Asks.{is_through}
+use Rattle.pfs_event.specs.Verdicts.{is_let_through}
 use Rattle.pfs_model.specs.Contexts.{Context}
 use Rattle.pfs_model.specs.Places.{Placed}
 
 -- the EVENT_ID of an event that starts: its position among the session's let-through events
 abbrev pub event_id : Context → Verdict → Option ℕ
-event_id context verdict = cond (is_through verdict) (Some (context.drawn + 1)) None
+event_id context verdict = cond (is_let_through verdict) (Some (context.drawn + 1)) None
 
 -- of the event that ends: its own number, and the last that was drawn; none where it isn't let through
 abbrev pub ending_id : List Opened → Option ℕ
@@ -21,7 +19,7 @@ ending_id (event ∷ events) = event.number
 
 abbrev pub end_event_id : Context → List Opened → Option ℕ
 end_event_id context [] = None
-end_event_id context (event ∷ events) = cond (is_through event.verdict) (Some context.drawn) None
+end_event_id context (event ∷ events) = cond (is_let_through event.verdict) (Some context.drawn) None
 
 abbrev pub IsNumbered : Context → Entry → Type 0
 IsNumbered context (says.Start event verdict consumers thread class table) = event ≡ event_id context verdict
@@ -35,11 +33,4 @@ AreNumbered (place ∷ places) = IsNumbered place.context place.entry × AreNumb
 -- the innermost let-through event that is open: what an event that starts lies in
 abbrev pub nesting_of : List Opened → Option Opened
 nesting_of [] = None
-nesting_of (event ∷ events) = cond (is_through event.verdict) (Some event) (nesting_of events)
-
--- the number of its kind in an event's words
-abbrev pub nesting_number : EventKind → ℕ
-nesting_number kinds.Transaction = 1
-nesting_number kinds.Statement = 2
-nesting_number kinds.Stage = 3
-nesting_number kinds.Wait = 4
+nesting_of (event ∷ events) = cond (is_let_through event.verdict) (Some event) (nesting_of events)

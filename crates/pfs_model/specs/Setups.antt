@@ -13,7 +13,7 @@ use Rattle.pfs_event.specs.declared.verdict.Verdict.TheVariants.{LostThread, Los
 use Rattle.pfs_model.specs.declared.changes.Change.{Change}
 use Rattle.pfs_model.specs.declared.lines.Opened.{Opened}
 use Rattle.pfs_model.specs.declared.lines.Subject.{Subject}
-use Rattle.pfs_model.specs.Asks.{is_through}
+use Rattle.pfs_event.specs.Verdicts.{is_let_through}
 use Rattle.pfs_model.specs.Contexts.{Context, subject_of}
 use Rattle.pfs_model.specs.Places.{Placed}
 use Rattle.pfs_model.specs.Chains.{times, change_at}
@@ -112,7 +112,7 @@ is_statement kinds.Transaction = false
 
 -- how many let-through events that pass the test are open
 abbrev pub open_through : (EventKind → Bool) → List Opened → ℕ
-open_through test opened = times (λ event. is_through event.verdict && test event.subject.kind) opened
+open_through test opened = times (λ event. is_let_through event.verdict && test event.subject.kind) opened
 
 -- The verdict: the first case that holds, of a session with this slot and these open events, under at most `stack` nested statements.
 abbrev pub verdict_on : ℕ → Subject → SeenSetup → List Opened → Verdict
@@ -150,7 +150,7 @@ is_timed flags slot event =
 -- a let-through statement is digested where `statements_digest` acts at its start
 abbrev pub is_digested : (ℕ → ℕ → ℕ) → Option ℕ → Opened → Bool
 is_digested flags slot event =
-    is_statement event.subject.kind && is_through event.verdict && acts_of (seen_by flags slot event).consumers consumers.StatementsDigest
+    is_statement event.subject.kind && is_let_through event.verdict && acts_of (seen_by flags slot event).consumers consumers.StatementsDigest
 
 abbrev pub current_consumer : EventKind → Consumer
 current_consumer kinds.Wait = consumers.WaitsCurrent

@@ -12,7 +12,7 @@ use Rattle.pfs_model.specs.declared.shapes.Ask.{Ask}
 use Rattle.pfs_model.specs.declared.shapes.Ask.TheVariants as asks
 use Rattle.pfs_model.specs.declared.shapes.Item.{Item}
 use Rattle.pfs_model.specs.declared.shapes.Often.TheVariants.{One, Maybe, Many}
-use Rattle.pfs_model.specs.Asks.{is_through}
+use Rattle.pfs_event.specs.Verdicts.{is_let_through}
 use Rattle.pfs_model.specs.Contexts.{Context}
 
 abbrev pub one : Ask → Item
@@ -46,7 +46,7 @@ counting slot event true = one (asks.Summary (counted_slot slot event.verdict) e
 counting slot event false = []
 
 abbrev pub ending : Option ℕ → Opened → List Item
-ending slot event = one (asks.End (is_through event.verdict)) ∷ counting slot event (is_through event.verdict)
+ending slot event = one (asks.End (is_let_through event.verdict)) ∷ counting slot event (is_let_through event.verdict)
 
 abbrev pub is_stage : EventKind → Bool
 is_stage kinds.Stage = true
