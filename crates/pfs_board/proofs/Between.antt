@@ -1,5 +1,5 @@
 -- What holds of a seat between calls, after it was split or joined, or a board opened.
-use Rattle.std.proofs.Common.{◌≡◌, ℕ, subst, ◌+◌, ◌*◌, ◌/◌, ◌%◌, ◌<◌, ◌≤◌, List, [], ◌∷◌, length, get_or, max, replicate, sym, refl, ap, ◌∙◌, arith}
+use Rattle.std.proofs.Common.{◌≡◌, ℕ, subst, ◌+◌, ◌*◌, ◌/◌, ◌%◌, ◌<◌, ◌≤◌, true, List, [], ◌∷◌, length, get_or, max, replicate, sym, refl, ap, ◌∙◌, arith}
 use Rattle.std.specs.Prelude.{Some}
 use Rattle.atomic_table.specs.Seated.{TableId}
 use Rattle.pfs_board.specs.declared.view.Corner.{Corner}
@@ -33,6 +33,7 @@ ready_left z v a r = record {
   wide = ap (λ n. 17 * n) (length_stale v.rows) ∙ r.wide;
   calm = λ q. corners_stale (λ c. IsCalm c.stage) v.rows q (settled_calm (corner v q).stage (r.calm q));
   words = λ q. corners_stale (λ c. (n : ℕ) → c.last ≡ Some n → n % 4 < 3) v.rows q (r.words q);
+  tops = λ q. corners_stale (λ c. (n : ℕ) → c.fresh ≡ true → c.last ≡ Some n → c.seen ≤ n / 4) v.rows q (λ n e. cc);
 }
 
 pub ready_right : (z : TableId) (v : View) (a : ℕ) → IsReady z (v ∷ []) → IsReady z (given v a ∷ [])
@@ -45,6 +46,7 @@ ready_right z v a r = record {
   wide = ap (λ n. 17 * n) (length_start v.rows) ∙ r.wide;
   calm = λ q. corners_start (λ c. IsCalm c.stage) v.rows q tt;
   words = λ q. corners_start (λ c. (n : ℕ) → c.last ≡ Some n → n % 4 < 3) v.rows q (λ n e. cc);
+  tops = λ q. corners_start (λ c. (n : ℕ) → c.fresh ≡ true → c.last ≡ Some n → c.seen ≤ n / 4) v.rows q (λ n e. cc);
 }
 
 pub ready_both : (z : TableId) (v w : View) → IsReady z (v ∷ []) → IsReady z (w ∷ []) → IsReady z (joined v w ∷ [])
@@ -57,6 +59,7 @@ ready_both z v w r s = let a = r.wide in let b = s.wide in let same : length v.r
   wide = ap (λ n. 17 * n) (length_merged v.rows w.rows) ∙ r.wide;
   calm = λ q. corners_merged (λ c. IsCalm c.stage) v.rows w.rows q same (settled_calm (corner v q).stage (r.calm q));
   words = λ q. corners_merged (λ c. (n : ℕ) → c.last ≡ Some n → n % 4 < 3) v.rows w.rows q same (r.words q);
+  tops = λ q. corners_merged (λ c. (n : ℕ) → c.fresh ≡ true → c.last ≡ Some n → c.seen ≤ n / 4) v.rows w.rows q same (λ n e. cc);
 }
 
 length_new : (n : ℕ) → length (replicate n newcomer) ≡ n
@@ -73,6 +76,7 @@ ready_root z start w e = let rows : ℕ = length start / 17 in let l = length_ne
   wide = omega arith;
   calm = λ q. subst (λ (c : Corner). IsCalm c.stage) (sym (corner_new rows q)) tt;
   words = λ q. subst (λ (c : Corner). (n : ℕ) → c.last ≡ Some n → n % 4 < 3) (sym (corner_new rows q)) (λ n e. cc);
+  tops = λ q. subst (λ (c : Corner). (n : ℕ) → c.fresh ≡ true → c.last ≡ Some n → c.seen ≤ n / 4) (sym (corner_new rows q)) (λ n e. cc);
 }
 
 -- what is told before a split is what the split reads

@@ -66,12 +66,12 @@ held_look v q n st h a b = let e = held_set v.rows q (sighted st n) h in let x :
 
 -- after its first look a take may go on
 pub may_seize : (z z' y : TableId) (start : List ℕ) (v w : View) (q n : ℕ) → IsAt z y start v q → z' ≡ z → w ≡ tried v q n → (0 < q) × (is_holding (corner v q).stage ≡ false) × (held v.rows < v.allowance) → IsLook v n q → n % 4 ≢ 1
-    → IsAt z' y start w q × ((0 < q) × (is_holding (corner w q).stage ≡ false) × (held w.rows < w.allowance)) × ((n % 4 < 3) × (n % 4 ≢ 1) × ((corner w q).fresh ≡ true) × ((corner w q).last ≡ Some n))
+    → IsAt z' y start w q × ((0 < q) × (is_holding (corner w q).stage ≡ false) × (held w.rows < w.allowance)) × ((n % 4 < 3) × (n % 4 ≢ 1) × ((corner w q).fresh ≡ true) × ((corner w q).last ≡ Some n) × ((corner w q).seen ≤ n / 4))
 may_seize z z' y start v w q n a e is r look clean = let h = corner_in z y start v q a in let rows : w.rows ≡ set v.rows q (sighted Idle n) = ap (λ (x : View). x.rows) is in let c = sight_corner v w q n Idle h rows in
     let same = held_look v q n Idle h r.1 refl in let held_is : held w.rows ≡ held (set v.rows q (sighted Idle n)) = ap held rows in let room = r.2 in let allow : w.allowance ≡ v.allowance = ap (λ (x : View). x.allowance) is in (
       at_next z z' y start v w q a e (ap length rows ∙ length-set v.rows q (sighted Idle n)) (ap (λ (x : View). x.live) is),
       (r.0, ap (λ (x : Corner). is_holding x.stage) c, omega arith),
-      (look.state, clean, ap (λ (x : Corner). x.fresh) c, ap (λ (x : Corner). x.last) c),
+      (look.state, clean, ap (λ (x : Corner). x.fresh) c, ap (λ (x : Corner). x.last) c, let l : (corner w q).seen ≡ n / 4 = ap (λ (x : Corner). x.seen) c in omega (arith, l)),
     )
 
 -- the sights are as they were where the word was not dirty
@@ -88,8 +88,8 @@ missed_again v q n looks first second = ap (λ rows. record (missed v q first se
 pub take_answer : (v : View) (q n : ℕ) (x : Taken) (w : View) → q < length v.rows → IsLook v n q → n % 4 ≢ 1 → IsTaken (tried v q n) q x w → IsTaken v q x w
 take_answer v q n (Mine word content) w h look c a = let s = corner_turned v q (sighted Idle n) h in let seen : (corner (tried v q n) q).seen ≡ n / 4 = ap (λ (y : Corner). y.seen) s in let l = look.later in let b = a.2 in
     (a.0, a.1, omega arith, a.3, a.4 ∙ (ap (λ (y : View). record (took y q word content) { looks = w.looks }) (tried_clean v q n c) ∙ took_again v q n w.looks word content), λ whole k fresh last. a.5 whole n (ap (λ (y : Corner). y.fresh) s) (ap (λ (y : Corner). y.last) s) ∙ look.same whole k fresh last)
-take_answer v q n (Busy first second) w h look c a = let s = corner_turned v q (sighted Idle n) h in let seen : (corner (tried v q n) q).seen ≡ n / 4 = ap (λ (y : Corner). y.seen) s in let l = look.later in let b = a.1 in
-    (a.0, omega arith, a.2, a.3, a.4, a.5 ∙ (ap (λ (y : View). record (missed y q first second) { looks = w.looks }) (tried_clean v q n c) ∙ missed_again v q n w.looks first second))
+take_answer v q n (Busy first second) w h look c a = let s = corner_turned v q (sighted Idle n) h in let seen : (corner (tried v q n) q).seen ≡ n / 4 = ap (λ (y : Corner). y.seen) s in let l = look.later in let b = a.1 in let f = a.6 in
+    (a.0, omega arith, a.2, a.3, a.4, a.5 ∙ (ap (λ (y : View). record (missed y q first second) { looks = w.looks }) (tried_clean v q n c) ∙ missed_again v q n w.looks first second), omega (arith, seen, l, f), a.7, a.8)
 
 -- an answer shows two words where there were two looks that differ
 pub two_looks : (first second : ℕ) → second ≢ first → ◌≡◌ {A = ℕ} (if first == second then 1 else 2) 2
@@ -106,14 +106,14 @@ any_looks w u e = e ∙ ap (λ (x : View). record u { looks = x.looks }) (sym e)
 
 pub take_dirty : (v : View) (q n : ℕ) (w : View) → is_holding (corner v q).stage ≡ false → IsLook v n q → n % 4 ≡ 1 → w ≡ tried v q n → IsTaken v q (Busy n n) w
 take_dirty v q n w free look d is = let l = look.later in
-    (inl (d, refl), look.later, omega arith, look.state, (λ whole. look.clean whole free d), any_looks w (missed v q n n) (is ∙ ap (λ s. record (turned v q (sighted Idle n)) { looks = v.looks + 1; sights = s }) (if_true (eqb (n % 4) 1) (sight_of v q n n ∷ v.sights) v.sights (eq-eqb (n % 4) 1 d))))
+    (inl (d, refl), look.later, omega arith, look.state, (λ whole. look.clean whole free d), any_looks w (missed v q n n) (is ∙ ap (λ s. record (turned v q (sighted Idle n)) { looks = v.looks + 1; sights = s }) (if_true (eqb (n % 4) 1) (sight_of v q n n ∷ v.sights) v.sights (eq-eqb (n % 4) 1 d))), look.later, look.state, λ free. absurd (omega (arith, free, d)))
 
 -- what the exchange answers
 pub seize_hit : (v : View) (q word : ℕ) (content found : List ℕ) (w : View) → (word % 4 < 3) → word % 4 ≢ 1 → IsLook v word q → length found ≡ 16 → content ≡ found → w ≡ took v q word found → IsTaken v q (Mine word content) w
 seize_hit v q word content found w s c look long same is = (s, c, look.later, ap length same ∙ long, any_looks w (took v q word content) (is ∙ ap (took v q word) (sym same)), look.same)
 
-pub seize_miss : (v : View) (q word n : ℕ) (w : View) → word % 4 ≢ 1 → (corner v q).fresh ≡ true → (corner v q).last ≡ Some word → IsLook v n q → n ≢ word → w ≡ missed v q word n → IsTaken v q (Busy word n) w
-seize_miss v q word n w c fresh last look differ is = (inr (c, differ), look.later, look.after word fresh last, look.state, (λ whole. differ (look.same whole word fresh last)), any_looks w (missed v q word n) is)
+pub seize_miss : (v : View) (q word n : ℕ) (w : View) → word % 4 < 3 → (corner v q).seen ≤ word / 4 → (word % 4 ≡ 0 → n % 4 ≡ 2 → word / 4 < n / 4) → word % 4 ≢ 1 → (corner v q).fresh ≡ true → (corner v q).last ≡ Some word → IsLook v n q → n ≢ word → w ≡ missed v q word n → IsTaken v q (Busy word n) w
+seize_miss v q word n w s seen again c fresh last look differ is = (inr (c, differ), look.later, look.after word fresh last, look.state, (λ whole. differ (look.same whole word fresh last)), any_looks w (missed v q word n) is, seen, s, again)
 
 -- a row that was taken is held
 pub took_held : (v w : View) (q old : ℕ) (found : List ℕ) → q < length v.rows → w ≡ took v q old found → IsHeld w q × (found_in (corner w q).stage ≡ found)

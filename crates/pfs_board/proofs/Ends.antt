@@ -160,6 +160,10 @@ module _ {K : Type 0} (means : K → List Label → Type 0) (start : List ℕ) w
         rows = final_row;
       }
 
+      pub ended : (ws : List ℕ) → s.words ≡ ws → (h : History start ws v) × (h.t.log ≡ r.log)
+      unfolding ends
+      ended ws words_are = (ends ws words_are, refl)
+
   -- what a closed table shows to the seat with the whole sum
   pub closes : (id : ℕ) (v : View) (ws : List ℕ) (xs : List (Option K)) → Final (Seen (Ruled means start) id v) ws xs → v.live ≡ true → IsWhole v → v.lent ≡ false → is_holding (corner v 0).stage ≡ false → 0 < length start
       → (h : History start ws v) × (x : K) × (get_elem? xs 0 ≡ some (Some x)) × means x (labels_of h.t.log)

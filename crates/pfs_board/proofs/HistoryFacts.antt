@@ -7,7 +7,7 @@ use mathlib.Core.Logic.{dite}
 use native.Mathlib.Decide.{ℕ_discrete}
 use Rattle.pfs_board.specs.declared.view.Change.{Change}
 use Rattle.pfs_board.specs.declared.view.Label.{Label}
-use Rattle.pfs_board.specs.History.{total, Each, Some_of, step_of, version, stands, stood, is_free, IsFreedAt, labels_of, Follows, IsChain, Rises, oldest, level, version_of, Floor}
+use Rattle.pfs_board.specs.History.{total, Each, Some_of, lock_at, step_of, version, stands, stood, is_free, IsFreedAt, labels_of, Follows, IsChain, Rises, oldest, level, version_of, Floor}
 
 pub if_true : {A : Type 0} (b : Bool) (x y : A) → b ≡ true → cond b x y ≡ x
 if_true b x y e = subst (λ c. cond c x y ≡ x) (sym e) refl
@@ -171,6 +171,38 @@ module _ (start : List ℕ) where
 
   test_eq : (a b : ℕ) → eqb a b ≡ true → a ≡ b
   test_eq a b e = grind (arith, nat_tests)
+
+  -- a release at the last version is the row's last entry
+  pub freed_last : (log : List Change) (r : ℕ) → IsChain start log → IsFreedAt start log r (version log r) → is_free start log r ≡ true
+  freed_last [] r c (inl none) = absurd none
+  freed_last [] r c (inr opened) = eq-eqb _ 0 opened.1
+  freed_last (p ∷ ps) r c f = dite (ℕ_discrete p.row r)
+      (λ e. ⊎_elim (λ puts. absurd (later e puts f)) (λ releases. free_here p ps r e ∙ ap not releases) (either_way p.puts))
+      (λ n. free_other p ps r n ∙ freed_last ps r c.1 (subst (IsFreedAt start ps r) (version_other p ps r n) (before n (version (p ∷ ps) r) f))) where
+        before : p.row ≢ r → (k : ℕ) → IsFreedAt start (p ∷ ps) r k → IsFreedAt start ps r k
+        before n k (inl (inl here)) = absurd (n here.0)
+        before n k (inl (inr there)) = inl there
+        before n k (inr opened) = inr opened
+
+        below : (k : ℕ) (qs : List Change) → Each (λ (q : Change). q.row ≡ r → version_of q ≤ k) qs → Some_of (λ (q : Change). (q.row ≡ r) × (q.puts ≡ false) × (q.version ≡ k + 1)) qs → ⊥
+        below k [] b s = s
+        below k (q ∷ qs) b (inl here) = let l : q.version ≤ k = b.0 here.0 in let v : q.version ≡ k + 1 = here.2 in absurd (omega (arith, l, v))
+        below k (q ∷ qs) b (inr there) = below k qs b.1 there
+
+        up : p.row ≡ r → p.puts ≡ true → version (p ∷ ps) r ≡ version ps r + 1
+        up e puts = let v = version_here p ps r e in let s = step_put p puts in omega arith
+
+        later : p.row ≡ r → p.puts ≡ true → IsFreedAt start (p ∷ ps) r (version (p ∷ ps) r) → ⊥
+        later e puts (inl (inl here)) = let x : true ≡ false = sym puts ∙ here.1 in cc
+        later e puts (inl (inr there)) = below (version ps r) ps (below_all ps r c.1) (subst (λ k. Some_of (λ (q : Change). (q.row ≡ r) × (q.puts ≡ false) × (q.version ≡ k)) ps) (up e puts) there)
+        later e puts (inr opened) = let z : version (p ∷ ps) r ≡ 0 = opened.0 in let u = up e puts in absurd (omega (arith, z, u))
+
+  -- a row that was never published and isn't free opened allocated
+  pub never_opened : (log : List Change) (r : ℕ) → IsChain start log → version log r ≡ 0 → is_free start log r ≡ false → Rattle.std.specs.Prelude.slice_index start (lock_at r) ≢ 0
+  never_opened [] r c none f = λ e. let x : true ≡ false = sym (eq-eqb _ 0 e) ∙ f in cc
+  never_opened (p ∷ ps) r c none f = dite (ℕ_discrete p.row r)
+      (λ e. let puts : p.puts ≡ true = not_true p.puts (sym (free_here p ps r e) ∙ f) in let v = version_here p ps r e in let s = step_put p puts in absurd (omega (arith, v, s, none)))
+      (λ n. never_opened ps r c.1 (sym (version_other p ps r n) ∙ none) (sym (free_other p ps r n) ∙ f))
 
   pub freed_now : (log : List Change) (r : ℕ) → IsChain start log → is_free start log r ≡ true → IsFreedAt start log r (version log r)
   freed_now [] r c f = inr (refl, test_eq _ 0 f)

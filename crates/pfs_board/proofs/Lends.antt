@@ -11,7 +11,8 @@ use Rattle.pfs_board.specs.declared.view.Label.{Label}
 use Rattle.pfs_board.specs.declared.view.Stage.{Stage}
 use Rattle.pfs_board.specs.declared.view.Stage.TheVariants.{Idle, Reading, Holding}
 use Rattle.pfs_board.specs.declared.view.View.{View}
-use Rattle.pfs_board.specs.History.{all_changes, version, labels_of, IsPast}
+use Rattle.pfs_board.specs.Closing.{History}
+use Rattle.pfs_board.specs.History.{all_changes, version, labels_of}
 use Rattle.pfs_board.specs.Knowledge.{corner, is_holding, IsWhole, version_held, found_in, stored_in, lent_with, restored, halfway}
 use Rattle.pfs_board.specs.Rule.{Moment, lock, Knows, IsInside, Fits, IsHome, Ruled}
 use Rattle.pfs_board.specs.Plays.{hands, fetches, lends, restores}
@@ -19,7 +20,7 @@ use Rattle.pfs_board.proofs.HistoryFacts.{either_way}
 use Rattle.pfs_board.proofs.Keeps.{true_not_false, no_change, whole_is_one, moved_on, same_row, same_everywhere, holders_set}
 use Rattle.pfs_board.proofs.Looks.{here}
 use Rattle.pfs_board.proofs.Publishes.{holding_knows}
-use Rattle.pfs_board.proofs.Ends.{all_made, value_home}
+use Rattle.pfs_board.proofs.Ends.{ended, value_home}
 
 -- what is held, in its parts
 pub holding_is : (st : Stage) → is_holding st ≡ true → st ≡ Holding (version_held st) (found_in st) (stored_in st)
@@ -128,23 +129,21 @@ module _ {K : Type 0} (means : K → List Label → Type 0) (start : List ℕ) w
       )
 
   pub lend_keeps : (slots id : ℕ) (me : M) → 0 < length start → me.0.live ≡ true → IsWhole me.0 → me.0.action ≡ 0 → me.0.lent ≡ false → Allows Rule slots id me 0 (λ n. n) (lends means (step slots 0 0 0 none) me)
-  lend_keeps slots id me some_row live whole outside home s r many at _ = let v : View = me.0 in let t : Moment = here means start s r in let f = r.seats id v at live in let w : View = halfway (lent_with v (labels_of r.log)) true in
+  lend_keeps slots id me some_row live whole outside home s r many at _ = let v : View = me.0 in let t : Moment = here means start s r in let f = r.seats id v at live in
       let not_held : is_holding (corner v 0).stage ≡ false = ⊎_elim (λ x. x.1) (λ x. let z = x.0 in absurd (omega arith)) f.inside in
       let value = value_home means start s r id v at live whole not_held some_row home in let o = r.joint.root_is in
+      let told = ended means start s r id v at live whole not_held some_row s.words refl in
+      let own : (h : History v.start s.words v) × (h.t.log ≡ r.log) = subst (λ z. (h : History z s.words v) × (h.t.log ≡ r.log)) (sym f.start_is) told in
+      let labels : List Label = labels_of own.0.t.log in let labels_are : labels ≡ labels_of r.log = ap labels_of own.1 in
+      let w : View = halfway (lent_with v labels) true in
       let is_root : id ≡ 0 = whole_is_one means start t s.homes s.views r.joint 0 id o.0 v o.1 (r.seats 0 o.0 o.1 o.2.here).some_left at whole in (
         w,
         takes 0 (Some value.0),
         value.1,
-        handed s r 0 id (set s.homes 0 none) v true true (labels_of r.log) at live (inl (outside, not_held, λ _. (whole, refl)))
+        handed s r 0 id (set s.homes 0 none) v true true labels at live (inl (outside, not_held, λ _. (whole, labels_are)))
             (λ u there not_out. ⊎_elim (λ (h : (0 ≡ id) × (w ≡ u)). absurd (true_not_false u.lent (ap (λ (x : View). x.lent) (sym h.1)) not_out)) (λ (h : (0 ≢ id) × (get_elem? s.views 0 ≡ some u)). absurd (h.0 (sym is_root))) (at_set s.views id 0 w u there))
             (λ j u there lent still. ⊎_elim (λ (h : (j ≡ id) × (w ≡ u)). absurd (true_not_false u.moving (ap (λ (x : View). x.moving) (sym h.1)) still)) (λ (h : (j ≢ id) × (get_elem? s.views j ≡ some u)). absurd (h.0 (alone_out s r id v at whole j u h.1 lent))) (at_set s.views id j w u there)),
-        (
-          r.log,
-          value.0,
-          record { chain = subst (λ z. Rattle.pfs_board.specs.History.IsChain z r.log) (sym f.start_is) r.joint.chain; once = all_made means start s r id v at live whole },
-          value.2,
-          refl,
-        ),
+        (s.words, own.0, value.0, subst (means value.0) (sym labels_are) value.2, refl),
       )
 
   pub restore_keeps : (slots id : ℕ) (me : M) (y : K) (i : ℕ) → 0 < slots → me.0.live ≡ true → me.0.action ≡ 0 → me.0.lent ≡ true → me.1 ≡ (0, Some y) ∷ [] → means y me.0.labels → Allows Rule slots id me i (λ n. n) (restores (step slots i 0 0 none) me)

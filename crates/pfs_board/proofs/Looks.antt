@@ -21,7 +21,7 @@ use Rattle.pfs_board.specs.History.{all_changes, total, Each, lock_at, word_at, 
 use Rattle.pfs_board.specs.Knowledge.{newcomer, corner, is_holding, held, IsWhole, turned, sighted, begun, sight_of, read_of, version_read, words_read, version_held, found_in, peeked, restaged, tried, looked, finished_at, finished, weighed, told}
 use Rattle.pfs_board.specs.Rule.{Moment, lock, now, Knows, IsRead, IsKnown, IsSeen, IsSight, IsLast, FitsRow, Fits, Ruled}
 use Rattle.pfs_board.specs.Plays.{IsLook, tries, looks, finishes, gathers, recalls, weighs, tells}
-use Rattle.pfs_board.proofs.HistoryFacts.{if_true, if_false, each_map, version_below_total, stood_now, below_all, level_all, freed_now, floor_new}
+use Rattle.pfs_board.proofs.HistoryFacts.{if_true, if_false, each_map, version_below_total, stood_now, below_all, level_all, freed_now, never_opened, floor_new}
 use Rattle.pfs_board.proofs.ViewFacts.{total_one, held_set, held_some, corners_set, one}
 use Rattle.pfs_board.proofs.Keeps.{true_not_false, no_change, fits_after, inside_same, at_moment, whole_is_one, unmoved, same_everywhere}
 
@@ -162,6 +162,7 @@ module _ {K : Type 0} (means : K → List Label → Type 0) (start : List ℕ) w
     below = knows.0;
     wide = wide;
     content_is = λ i h. knows.2 is i (omega arith) ∙ (w.clean (λ z. omega arith) i h ∙ (sym (stood_now start r.log q i r.joint.chain) ∙ ap (λ z. stood start r.log q z i) at_k));
+    opened = λ none. never_opened start r.log q r.joint.chain (at_k ∙ none) (w.allocated (omega arith));
     floor = subst (λ z. Floor level r.log r.had q z v.after v.base) at_k (floor_new level r.log r.had q (version r.log q) v.after v.base f.ended f.split_at (sub s r) (level_all start r.log q r.joint.chain (w.allocated (omega arith))));
   }
 

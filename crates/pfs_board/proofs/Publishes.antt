@@ -117,6 +117,7 @@ module _ (start : List ℕ) (t : Moment) (id q k n : ℕ) (p : Change) (x : Leav
     below = omega arith;
     wide = a.wide;
     content_is = λ i h. a.content_is i h ∙ sym (stood_before start p t.log f.row f.version i x.follows a.below);
+    opened = a.opened;
     floor = floor_left level f.row f.version f.after f.base a.floor;
   }
 

@@ -86,7 +86,7 @@ module _ (start : List ℕ) where
     last = λ j r k n l. last_more t more j r k l;
     inside = λ j v n w k i. i;
     known = known_more t more;
-    read = λ f a. record { below = a.below; wide = a.wide; content_is = a.content_is; floor = floor_more _ t more f.row f.version f.after f.base a.floor };
+    read = λ f a. record { below = a.below; wide = a.wide; content_is = a.content_is; opened = a.opened; floor = floor_more _ t more f.row f.version f.after f.base a.floor };
     sight = λ x a. record { one = seen_more t more x.by x.row x.first x.after x.base a.one; two = seen_more t more x.by x.row x.second x.after x.base a.two; between = a.between };
     entered = λ e a. record { count = a.count; later = a.later; labels_are = a.labels_are };
     had_more = let e = length-append more t.had in omega arith;

@@ -1,5 +1,5 @@
 -- What a seat knows that waits for row 0, and then has it.
-use Rattle.std.proofs.Common.{◌≡◌, ℕ, ◌+◌, ◌*◌, ◌%◌, ◌<◌, true, false, List, [], ◌∷◌, length, get_or, set, subst, sym, refl, ap, ◌∙◌, arith, length-set, get_or-set_same}
+use Rattle.std.proofs.Common.{◌≡◌, ℕ, ◌+◌, ◌*◌, ◌/◌, ◌%◌, ◌<◌, ◌≤◌, true, false, List, [], ◌∷◌, length, get_or, set, subst, sym, refl, ap, ◌∙◌, arith, length-set, get_or-set_same}
 use Rattle.std.specs.Prelude.{Some}
 use Rattle.atomic_table.specs.Seated.{TableId}
 use Rattle.pfs_board.specs.declared.view.Corner.{Corner}
@@ -34,6 +34,8 @@ ready_begun z v w label h r b = let n : ℕ = 4 * length w.labels + 1 in let c :
       calm = λ q. subst (λ (xs : List Corner). IsCalm (get_or xs q newcomer).stage) (sym rows) (corners_set (λ _ (d : Corner). IsCalm d.stage) (stale v.rows) 0 c inside refl (λ p _. corners_stale (λ (d : Corner). IsCalm d.stage) v.rows p (settled_calm (corner v p).stage (r.calm p))) q);
       words = λ q. subst (λ (xs : List Corner). (k : ℕ) → (get_or xs q newcomer).last ≡ Some k → k % 4 < 3) (sym rows)
           (corners_set (λ _ (d : Corner). (k : ℕ) → d.last ≡ Some k → k % 4 < 3) (stale v.rows) 0 c inside (λ k e. let is : n ≡ k = some_same n k e in omega arith) (λ p _. corners_stale (λ (d : Corner). (k : ℕ) → d.last ≡ Some k → k % 4 < 3) v.rows p (r.words p)) q);
+      tops = λ q. subst (λ (xs : List Corner). (k : ℕ) → (get_or xs q newcomer).fresh ≡ true → (get_or xs q newcomer).last ≡ Some k → (get_or xs q newcomer).seen ≤ k / 4) (sym rows)
+          (corners_set (λ _ (d : Corner). (k : ℕ) → d.fresh ≡ true → d.last ≡ Some k → d.seen ≤ k / 4) (stale v.rows) 0 c inside (λ k f e. let is : n ≡ k = some_same n k e in let s : n / 4 ≡ k / 4 = ap (λ z. z / 4) is in omega (arith, s)) (λ p _. corners_stale (λ (d : Corner). (k : ℕ) → d.fresh ≡ true → d.last ≡ Some k → d.seen ≤ k / 4) v.rows p (λ k f. cc)) q);
     }
 
 pub hands_begun : (v w : View) (label : Label) → 0 < length v.rows → is_holding (corner v 0).stage ≡ false → HasBegun v label w → (is_holding (corner w 0).stage ≡ true) × (held w.rows ≡ held v.rows + 1) × (stake w ≡ stake v)

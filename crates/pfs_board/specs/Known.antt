@@ -46,6 +46,7 @@ pub record IsReady (z : TableId) (views : List View) : Type 0 where
   pub wide : 17 * length (first_view views).rows ≡ z.words
   pub calm : (r : ℕ) → IsCalm (corner (first_view views) r).stage
   pub words : (r n : ℕ) → (corner (first_view views) r).last ≡ Some n → n % 4 < 3
+  pub tops : (r n : ℕ) → (corner (first_view views) r).fresh ≡ true → (corner (first_view views) r).last ≡ Some n → (corner (first_view views) r).seen ≤ n / 4
 
 -- the row is one of the board's
 abbrev pub HasRow : Place → ℕ → Type 0

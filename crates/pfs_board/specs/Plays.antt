@@ -1,10 +1,10 @@
 -- What each step tells the seat that makes it. Each that tells what lock word it found counts one look more. `m` is the seat before, `m'` after, and n the word that was found.
 use Rattle.std.specs.Prelude.{◌≡◌, ◌≢◌, ℕ, ◌+◌, ◌*◌, ◌/◌, ◌%◌, ◌<◌, ◌≤◌, true, false, List, ◌∷◌, length, slice_index, Option, Some, None}
 use Rattle.atomic_table.specs.Table.{Me, Step, rest}
-use Rattle.pfs_board.specs.declared.view.Change.{Change}
 use Rattle.pfs_board.specs.declared.view.Label.{Label}
 use Rattle.pfs_board.specs.declared.view.View.{View}
-use Rattle.pfs_board.specs.History.{all_changes, lock_at, word_at, labels_of, IsPast}
+use Rattle.pfs_board.specs.History.{all_changes, lock_at, word_at, labels_of}
+use Rattle.pfs_board.specs.Closing.{History}
 use Rattle.pfs_board.specs.Knowledge.{corner, is_holding, IsWhole, turned, restaged, peeked, stored, version_held, found_in, tried, looked, finished, took, missed, weighed, told, published, freed, waited, label_told, begun_with, ended, lent_with, restored, halfway}
 
 -- What a look at the lock word of a row shows: a word at a version that is not below what the seat saw or knows, and not above what all allowances leave.
@@ -37,6 +37,7 @@ module _ {S : Type 0} where
       → (n ≡ st.first → (found : List ℕ) × (length found ≡ 16) × (m' ≡ (took m.0 r st.first found, m.1)))
       × (n ≢ st.first → m' ≡ (missed m.0 r st.first n, m.1))
       × IsLook m.0 n r
+      × (st.first % 4 ≡ 0 → n % 4 ≡ 2 → st.first / 4 < n / 4)
 
   -- a reader loads a content word
   abbrev pub gathers : Step S → Me S View → ℕ → Me S View → Type 0
@@ -75,9 +76,9 @@ module _ {K : Type 0} (means : K → List Label → Type 0) where
       × (n ≢ st.first → m' ≡ (waited m.0 n, m.1))
       × IsLook m.0 n 0
 
-  -- the seat that is alone takes the value
+  -- the seat that is alone takes the value, and knows the whole history
   abbrev pub lends : Step (Option K) → Me (Option K) View → ℕ → Me (Option K) View → Type 0
-  lends st m n m' = (log : List Change) × (x : K) × IsPast m.0.start m.0.made log × means x (labels_of log) × (m' ≡ (halfway (lent_with m.0 (labels_of log)) true, (0, Some x) ∷ m.1))
+  lends st m n m' = (words : List ℕ) × (h : History m.0.start words m.0) × (x : K) × means x (labels_of h.t.log) × (m' ≡ (halfway (lent_with m.0 (labels_of h.t.log)) true, (0, Some x) ∷ m.1))
 
 module _ {K : Type 0} where
   -- the slot goes home empty

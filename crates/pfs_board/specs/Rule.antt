@@ -42,11 +42,12 @@ module _ (start : List ℕ) (t : Moment) where
       × ((i : ℕ) → i < 16 → slice_index found i ≡ stands start t.log r i)
       × ((i : ℕ) → i < length put → now t r i ≡ slice_index put i) × ((i : ℕ) → length put ≤ i → i < 16 → now t r i ≡ stands start t.log r i)
 
-  -- a finished read has what stood at its version
+  -- a finished read has what stood at its version, and none is at version 0 of a row that opened free
   pub record IsRead (f : Finished) : Type 0 where
     pub below : f.version ≤ version t.log f.row
     pub wide : length f.content ≡ 16
     pub content_is : (i : ℕ) → i < 16 → slice_index f.content i ≡ stood start t.log f.row f.version i
+    pub opened : f.version ≡ 0 → slice_index start (lock_at f.row) ≢ 0
     pub floor : Floor level t.log t.had f.row f.version f.after f.base
 
   -- what one word shows that was seen: the row had that version, and where it was free, it was released at it

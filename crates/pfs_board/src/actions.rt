@@ -1,8 +1,9 @@
 //! The calls of an action, which has row 0 and the kept value, and those that lend the value, by the steps of the table.
-ghost use Rattle.std.specs.Prelude.{◌≡◌, ℕ, ◌+◌, ◌*◌, ◌<◌, ◌≤◌, ◌++◌, ◌∷◌, true, false, [], length, Some, IfSome, IfNone};
+ghost use Rattle.std.specs.Prelude.{◌≡◌, ℕ, ◌+◌, ◌*◌, ◌<◌, ◌≤◌, ◌++◌, ◌∷◌, true, false, [], length, Some, IfSome, IfNone, List};
 ghost use Rattle.pfs_board.specs.declared.view.Label.{Label};
 ghost use Rattle.pfs_board.specs.Acting.{HasWaited, HasTaken, HasBegun};
-ghost use Rattle.pfs_board.specs.History.{all_changes, labels_of, IsPast};
+ghost use Rattle.pfs_board.specs.Closing.{History};
+ghost use Rattle.pfs_board.specs.History.{all_changes, labels_of};
 ghost use Rattle.pfs_board.specs.Knowledge.{corner, is_holding, held, told, weighed, ended, lent_with, restored, IsWhole};
 ghost use Rattle.pfs_board.specs.Sitting.{IsAt, IsCalm};
 
@@ -114,7 +115,7 @@ pub(crate) fn lend_by<V: Kept>(top: &Top<V>, seat: &mut Sitting<V>) -> V
     requires outside { (seat.old.me.0.action ≡ 0) × (seat.old.me.0.lent ≡ false) }
     ensures seat { (seat.new.table_id ≡ seat.old.table_id) × (seat.new.me.1 ≡ []) }
     ensures value { V.stands_for result seat.new.me.0.labels }
-    ensures labels { (log : _) × IsPast seat.old.me.0.start seat.old.me.0.made log × (seat.new.me.0.labels ≡ labels_of log) }
+    ensures history { (words : List ℕ) × (h : History seat.old.me.0.start words seat.old.me.0) × (seat.new.me.0.labels ≡ labels_of h.t.log) }
     ensures view { seat.new.me.0 ≡ lent_with seat.old.me.0 seat.new.me.0.labels }
 {
     top.load::<Lend<V>>(seat, 0);

@@ -2,12 +2,11 @@
 ghost use Rattle.std.specs.Prelude.{◌≡◌, ℕ, ◌+◌, ◌*◌, ◌/◌, ◌%◌, ◌^◌, ◌<◌, ◌≤◌, ◌≢◌, ◌⊎◌, [], ◌∷◌, ◌++◌, List, length, slice_index, false, true, Some, IfOk, vec_capacity};
 ghost use Rattle.atomic_table.specs.Table.{Me};
 ghost use Rattle.pfs_board.specs.declared.answers.FinalRow.{FinalRow};
-ghost use Rattle.pfs_board.specs.declared.view.Change.{Change};
 ghost use Rattle.pfs_board.specs.declared.view.View.{View};
 ghost use Rattle.pfs_board.specs.Acting.{HasBegun};
 ghost use Rattle.pfs_board.specs.Closing.{History};
 ghost use Rattle.pfs_board.specs.Hands.{IsAside, IsHandTaken, IsLetGo};
-ghost use Rattle.pfs_board.specs.History.{labels_of, IsPast};
+ghost use Rattle.pfs_board.specs.History.{labels_of};
 ghost use Rattle.pfs_board.specs.Knowledge.{corner, is_holding, held, version_held, found_in, published_at, freed_at, joined, root, stake, weighed, ended, lent_with, restored, IsWhole};
 ghost use Rattle.pfs_board.specs.Known.{Place, Known, place, known, first_view, IsSized, IsReady, HasRow, split_off, given, final_words};
 ghost use Rattle.pfs_board.specs.Opening.{opening_words};
@@ -246,14 +245,14 @@ impl<V: Kept> Board<V> {
     }
 
     /// Hands out the kept value to the root while no other seat is out. It stands for the labels of row 0's publications, in their order, which the seat keeps until `restore`.
-    /// No row changes. Until `restore` the seat splits off no other, begins no action, and ends no board. It waits for nobody.
+    /// It tells the whole history of the board, as `close` does, and the words as they are. No row changes. Until `restore` the seat splits off no other, begins no action, and ends no board. It waits for nobody.
     pub fn lend(&self, seat: &mut BoardSeat) -> V
         requires board { seat.old.board ≡ self.now.id }
         requires whole { IsWhole seat.old.view }
         requires outside { (seat.old.view.action ≡ 0) × (seat.old.view.lent ≡ false) }
         ensures board { seat.new.board ≡ seat.old.board }
         ensures value { V.stands_for result seat.new.view.labels }
-        ensures labels { (log : List Change) × IsPast seat.old.view.start seat.old.view.made log × (seat.new.view.labels ≡ labels_of log) }
+        ensures history { (words : List ℕ) × (h : History seat.old.view.start words seat.old.view) × (seat.new.view.labels ≡ labels_of h.t.log) }
         ensures view { (seat.new.view ≡ lent_with seat.old.view seat.new.view.labels) × (restored seat.new.view ≡ seat.old.view) }
     {
         let badge = mem::replace(&mut seat.badge, Badge::blank());

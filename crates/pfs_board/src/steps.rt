@@ -37,7 +37,7 @@ fn recall<V: Kept>(top: &Top<V>, seat: &mut Sitting<V>, row: usize) -> Content
 pub(crate) fn seize<V: Kept>(top: &Top<V>, seat: &mut Sitting<V>, row: usize, word: u64) -> Taken
     requires at { IsAt seat.old.table_id top.now.table_id top.now.key.items seat.old.me.0 row }
     requires row { (0 < row) × (is_holding (corner seat.old.me.0 row).stage ≡ false) × (held seat.old.me.0.rows < seat.old.me.0.allowance) }
-    requires word { (word % 4 < 3) × (word % 4 ≢ 1) × ((corner seat.old.me.0 row).fresh ≡ true) × ((corner seat.old.me.0 row).last ≡ Some word) }
+    requires word { (word % 4 < 3) × (word % 4 ≢ 1) × ((corner seat.old.me.0 row).fresh ≡ true) × ((corner seat.old.me.0 row).last ≡ Some word) × ((corner seat.old.me.0 row).seen ≤ word / 4) }
     ensures seat { (seat.new.table_id ≡ seat.old.table_id) × (seat.new.me.1 ≡ seat.old.me.1) }
     ensures answer { IsTaken seat.old.me.0 row result seat.new.me.0 }
     ensures from { IsFrom result word }

@@ -19,3 +19,6 @@ load-requires-2 g c = let at = c.requires.at in let x = c.load.ensures in let l 
   hand_keeps g.V.Kept.stands_for c.args.top.now.key.items _ _ c.exchange.new.seat.me 0 (omega arith) ((λ i. (e.3 i).0.live) ∙ ((λ i. (l.4 i).0.live) ∙ at.live)) ((λ i. (e.3 i).0.lent) ∙ (λ i. (l.4 i).0.lent))
       ((λ i. (e.3 i).1) ∙ (λ i. (0, None) ∷ rest (l.4 i).1) ∙ ap (λ (z : List (ℕ × Option g.row.V.Denot)). (0, None) ∷ z) c.requires.calm.0),
 )
+
+pub returns-clause-history : goal.returns-clause-history
+returns-clause-history g c = let l = c.load.ensures.2 in let e = c.exchange.ensures in let h = c.load-2.ensures.2 in (l.0, l.1, (λ i. (h i).0.labels) ∙ ((λ i. (e.3 i).0.labels) ∙ (λ i. (l.4 i).0.labels)))

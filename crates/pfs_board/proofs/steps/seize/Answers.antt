@@ -39,7 +39,7 @@ pub returns-else-found-word : goal.returns-else-found-word
 returns-else-found-word g c = let word = c.requires.word in let e = c.compare_exchange-found.ensures in let x = e.2 c.args.row refl in let miss = x.1 c.if-found-word.false in
     let w_is : c.compare_exchange-found.new.seat.me.0 ≡ missed c.args.seat.now.me.0 c.args.row c.args.word c.compare_exchange-found.result = λ i. (miss i).0 in let more : c.compare_exchange-found.new.seat.me.1 ≡ c.args.seat.now.me.1 = λ i. (miss i).1 in record {
       seat = (e.0, more);
-      answer = seize_miss c.args.seat.now.me.0 c.args.row c.args.word c.compare_exchange-found.result c.compare_exchange-found.new.seat.me.0 word.1 word.2 word.3 x.2 c.if-found-word.false w_is;
+      answer = seize_miss c.args.seat.now.me.0 c.args.row c.args.word c.compare_exchange-found.result c.compare_exchange-found.new.seat.me.0 word.0 word.4 x.3 word.1 word.2 word.3 x.2 c.if-found-word.false w_is;
       from = (refl, c.if-found-word.false);
       looks = ap (λ (v : View). v.looks) w_is;
     }
