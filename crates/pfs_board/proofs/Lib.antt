@@ -15,3 +15,4 @@ pub mod Calls
 pub mod WordFacts
 pub mod Between
 pub mod HandFacts
+pub mod VersionFacts

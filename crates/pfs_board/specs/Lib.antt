@@ -5,6 +5,7 @@ pub mod Plays
 pub mod Opening
 pub mod Closing
 pub mod Taking
+pub mod Versions
 pub mod Seeing
 pub mod Sitting
 pub mod Known

@@ -8,6 +8,7 @@ mod answers;
 mod board;
 #[cfg(test)]
 mod hostile_tests;
+pub mod laws;
 mod rules;
 mod steps;
 #[cfg(test)]
