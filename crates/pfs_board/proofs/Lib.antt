@@ -16,3 +16,4 @@ pub mod WordFacts
 pub mod Between
 pub mod HandFacts
 pub mod VersionFacts
+pub mod OpeningFacts

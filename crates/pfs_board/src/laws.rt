@@ -1,5 +1,6 @@
 //! Laws of a board's history.
 
+ghost use Rattle.pfs_board.specs.Opening.{OpeningLaw};
 ghost use Rattle.pfs_board.specs.Versions.{ChainLaw, MadeLaw};
 
 /// A chain in its own words: a row's publications have the versions from 1 up to their number, each once; each release stands
@@ -12,4 +13,9 @@ pub fn chains()
 /// What a test says of each entry of a history it says of each entry that a seat has which made or took in all of them.
 pub fn made()
     ensures { MadeLaw }
+{}
+
+/// A board's opening words have each row's lock word and content at their places; row 0 is allocated whatever its opening says.
+pub fn opened()
+    ensures { OpeningLaw }
 {}
