@@ -1,15 +1,15 @@
 -- What holds of a seat between calls, after it was split or joined, or a board opened.
-use Rattle.std.proofs.Common.{◌≡◌, ℕ, subst, ◌+◌, ◌*◌, ◌/◌, ◌%◌, ◌<◌, ◌≤◌, true, List, [], ◌∷◌, length, get_or, max, replicate, sym, refl, ap, ◌∙◌, arith}
+use Rattle.std.proofs.Common.{◌≡◌, ℕ, subst, ◌+◌, ◌*◌, ◌/◌, ◌%◌, ◌<◌, ◌≤◌, true, false, List, [], ◌∷◌, length, get_or, max, replicate, sym, refl, ap, ◌∙◌, arith}
 use Rattle.std.specs.Prelude.{Some}
 use Rattle.atomic_table.specs.Seated.{TableId}
 use Rattle.pfs_board.specs.declared.view.Corner.{Corner}
 use Rattle.pfs_board.specs.declared.view.Stage.{Stage}
 use Rattle.pfs_board.specs.declared.view.Stage.TheVariants.{Idle, Reading, Holding}
 use Rattle.pfs_board.specs.declared.view.View.{View}
-use Rattle.pfs_board.specs.Knowledge.{newcomer, corner, settled, told, joined, root}
+use Rattle.pfs_board.specs.Knowledge.{newcomer, corner, is_holding, settled, told, joined, root}
 use Rattle.pfs_board.specs.Known.{Known, known, first_view, IsReady, split_off, given}
 use Rattle.pfs_board.specs.Sitting.{IsCalm}
-use Rattle.pfs_board.proofs.ViewFacts.{corners_stale, corners_start, corners_merged, length_stale, length_start, length_merged, corner_new}
+use Rattle.pfs_board.proofs.ViewFacts.{corners_stale, corners_start, corners_merged, length_stale, length_start, length_merged, corner_new, settled_holds}
 
 pub settled_calm : (st : Stage) → IsCalm st → IsCalm (settled st)
 settled_calm Idle c = tt
@@ -33,6 +33,10 @@ ready_left z v a r = record {
   wide = ap (λ n. 17 * n) (length_stale v.rows) ∙ r.wide;
   calm = λ q. corners_stale (λ c. IsCalm c.stage) v.rows q (settled_calm (corner v q).stage (r.calm q));
   words = λ q. corners_stale (λ c. (n : ℕ) → c.last ≡ Some n → n % 4 < 3) v.rows q (r.words q);
+  poised = record {
+    outside = λ a. corners_stale (λ c. is_holding c.stage ≡ false) v.rows 0 (settled_holds (corner v 0).stage ∙ r.poised.outside a);
+    inside = λ a. let p = r.poised.inside a in (corners_stale (λ c. is_holding c.stage ≡ true) v.rows 0 (settled_holds (corner v 0).stage ∙ p.0), p.1, p.2, p.3);
+  };
   tops = λ q. corners_stale (λ c. (n : ℕ) → c.fresh ≡ true → c.last ≡ Some n → c.seen ≤ n / 4) v.rows q (λ n e. cc);
 }
 
@@ -46,6 +50,7 @@ ready_right z v a r = record {
   wide = ap (λ n. 17 * n) (length_start v.rows) ∙ r.wide;
   calm = λ q. corners_start (λ c. IsCalm c.stage) v.rows q tt;
   words = λ q. corners_start (λ c. (n : ℕ) → c.last ≡ Some n → n % 4 < 3) v.rows q (λ n e. cc);
+  poised = record { outside = λ a. corners_start (λ c. is_holding c.stage ≡ false) v.rows 0 refl; inside = λ a. absurd (omega (arith, a)) };
   tops = λ q. corners_start (λ c. (n : ℕ) → c.fresh ≡ true → c.last ≡ Some n → c.seen ≤ n / 4) v.rows q (λ n e. cc);
 }
 
@@ -59,6 +64,10 @@ ready_both z v w r s = let a = r.wide in let b = s.wide in let same : length v.r
   wide = ap (λ n. 17 * n) (length_merged v.rows w.rows) ∙ r.wide;
   calm = λ q. corners_merged (λ c. IsCalm c.stage) v.rows w.rows q same (settled_calm (corner v q).stage (r.calm q));
   words = λ q. corners_merged (λ c. (n : ℕ) → c.last ≡ Some n → n % 4 < 3) v.rows w.rows q same (r.words q);
+  poised = record {
+    outside = λ a. corners_merged (λ c. is_holding c.stage ≡ false) v.rows w.rows 0 same (settled_holds (corner v 0).stage ∙ r.poised.outside a);
+    inside = λ a. let p = r.poised.inside a in (corners_merged (λ c. is_holding c.stage ≡ true) v.rows w.rows 0 same (settled_holds (corner v 0).stage ∙ p.0), p.1, p.2, p.3);
+  };
   tops = λ q. corners_merged (λ c. (n : ℕ) → c.fresh ≡ true → c.last ≡ Some n → c.seen ≤ n / 4) v.rows w.rows q same (λ n e. cc);
 }
 
@@ -76,6 +85,7 @@ ready_root z start w e = let rows : ℕ = length start / 17 in let l = length_ne
   wide = omega arith;
   calm = λ q. subst (λ (c : Corner). IsCalm c.stage) (sym (corner_new rows q)) tt;
   words = λ q. subst (λ (c : Corner). (n : ℕ) → c.last ≡ Some n → n % 4 < 3) (sym (corner_new rows q)) (λ n e. cc);
+  poised = record { outside = λ a. subst (λ (c : Corner). is_holding c.stage ≡ false) (sym (corner_new rows 0)) refl; inside = λ a. absurd (omega (arith, a)) };
   tops = λ q. subst (λ (c : Corner). (n : ℕ) → c.fresh ≡ true → c.last ≡ Some n → c.seen ≤ n / 4) (sym (corner_new rows q)) (λ n e. cc);
 }
 

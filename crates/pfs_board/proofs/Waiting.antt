@@ -34,6 +34,15 @@ ready_begun z v w label h r b = let n : ℕ = 4 * length w.labels + 1 in let c :
       calm = λ q. subst (λ (xs : List Corner). IsCalm (get_or xs q newcomer).stage) (sym rows) (corners_set (λ _ (d : Corner). IsCalm d.stage) (stale v.rows) 0 c inside refl (λ p _. corners_stale (λ (d : Corner). IsCalm d.stage) v.rows p (settled_calm (corner v p).stage (r.calm p))) q);
       words = λ q. subst (λ (xs : List Corner). (k : ℕ) → (get_or xs q newcomer).last ≡ Some k → k % 4 < 3) (sym rows)
           (corners_set (λ _ (d : Corner). (k : ℕ) → d.last ≡ Some k → k % 4 < 3) (stale v.rows) 0 c inside (λ k e. let is : n ≡ k = some_same n k e in omega arith) (λ p _. corners_stale (λ (d : Corner). (k : ℕ) → d.last ≡ Some k → k % 4 < 3) v.rows p (r.words p)) q);
+      poised = record {
+        outside = λ a. let n = ap (λ (x : View). x.action) b.view_is in absurd (omega (arith, a, n));
+        inside = λ _. (
+          ap (λ (x : View). is_holding (corner x 0).stage) b.view_is ∙ ap (λ (d : Corner). is_holding d.stage) (get_or-set_same (stale v.rows) 0 c newcomer inside),
+          ap (λ (x : View). x.lent) b.view_is,
+          sym (ap (λ (x : View). x.action) b.view_is),
+          (let f = ap (λ (x : View). x.after) b.view_is in let n = ap (λ (x : View). x.action) b.view_is in omega (arith, f, n)),
+        );
+      };
       tops = λ q. subst (λ (xs : List Corner). (k : ℕ) → (get_or xs q newcomer).fresh ≡ true → (get_or xs q newcomer).last ≡ Some k → (get_or xs q newcomer).seen ≤ k / 4) (sym rows)
           (corners_set (λ _ (d : Corner). (k : ℕ) → d.fresh ≡ true → d.last ≡ Some k → d.seen ≤ k / 4) (stale v.rows) 0 c inside (λ k f e. let is : n ≡ k = some_same n k e in let s : n / 4 ≡ k / 4 = ap (λ z. z / 4) is in omega (arith, s)) (λ p _. corners_stale (λ (d : Corner). (k : ℕ) → d.fresh ≡ true → d.last ≡ Some k → d.seen ≤ k / 4) v.rows p (λ k f. cc)) q);
     }

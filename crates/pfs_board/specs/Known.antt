@@ -3,7 +3,7 @@ use Rattle.std.specs.Prelude.{◌≡◌, ℕ, ◌+◌, ◌*◌, ◌/◌, ◌%◌
 use Rattle.atomic_table.specs.Seated.{TableId}
 use Rattle.pfs_board.specs.declared.view.View.{View}
 use Rattle.pfs_board.specs.declared.answers.FinalRow.{FinalRow}
-use Rattle.pfs_board.specs.Knowledge.{corner, split_left, split_right, spent}
+use Rattle.pfs_board.specs.Knowledge.{corner, is_holding, split_left, split_right, spent}
 use Rattle.pfs_board.specs.Sitting.{IsCalm}
 
 -- which board, and its opening words
@@ -36,6 +36,11 @@ pub record IsSized (z : TableId) (start : List ℕ) (spare : List FinalRow) (roo
   pub empty : spare ≡ []
   pub roomy : length start / 17 ≤ room
 
+-- A seat that is in no action doesn't hold row 0. In one it does, the value is out with it, and it has the labels of the actions before
+pub record IsPoised (v : View) : Type 0 where
+  pub outside : v.action ≡ 0 → is_holding (corner v 0).stage ≡ false
+  pub inside : 0 < v.action → (is_holding (corner v 0).stage ≡ true) × (v.lent ≡ true) × (length v.labels + 1 ≡ v.action) × (v.after + 1 ≡ v.action)
+
 -- between calls a seat is not spent and half way through nothing, and what it saw last are lock words. It has labels while the value is out with it
 pub record IsReady (z : TableId) (views : List View) : Type 0 where
   pub one : views ≡ first_view views ∷ []
@@ -46,6 +51,7 @@ pub record IsReady (z : TableId) (views : List View) : Type 0 where
   pub wide : 17 * length (first_view views).rows ≡ z.words
   pub calm : (r : ℕ) → IsCalm (corner (first_view views) r).stage
   pub words : (r n : ℕ) → (corner (first_view views) r).last ≡ Some n → n % 4 < 3
+  pub poised : IsPoised (first_view views)
   pub tops : (r n : ℕ) → (corner (first_view views) r).fresh ≡ true → (corner (first_view views) r).last ≡ Some n → (corner (first_view views) r).seen ≤ n / 4
 
 -- the row is one of the board's

@@ -8,7 +8,7 @@ ghost use Rattle.pfs_board.specs.Closing.{History};
 ghost use Rattle.pfs_board.specs.Hands.{IsAside, IsHandTaken, IsLetGo};
 ghost use Rattle.pfs_board.specs.History.{labels_of};
 ghost use Rattle.pfs_board.specs.Knowledge.{corner, is_holding, held, version_held, found_in, published_at, freed_at, joined, root, stake, weighed, ended, lent_with, restored, IsWhole};
-ghost use Rattle.pfs_board.specs.Known.{Place, Known, place, known, first_view, IsSized, IsReady, HasRow, split_off, given, final_words};
+ghost use Rattle.pfs_board.specs.Known.{Place, Known, IsPoised, place, known, first_view, IsSized, IsReady, HasRow, split_off, given, final_words};
 ghost use Rattle.pfs_board.specs.Opening.{opening_words};
 ghost use Rattle.pfs_board.specs.Seeing.{IsSeenAs, read_looks};
 ghost use Rattle.pfs_board.specs.Taking.{IsTaken, IsFrom, take_looks};
@@ -56,6 +56,21 @@ impl Model for BoardSeat {
     ghost view = { λ s. known s.badge.table_id (first_view s.badge.views) };
 
     ghost invariant = { λ s. IsReady s.badge.table_id s.badge.views };
+}
+
+impl BoardSeat {
+    /// What holds of a seat between calls. Outside an action it doesn't hold row 0. Inside one it does, the value is out with it, the labels that it found are
+    /// one fewer than the action's number, and each action before it has ended. It has seventeen words of the board for each row that its view has, and its last word of a row
+    /// that it saw since its last split, join and beginning of an action is a lock word at no version below what it saw.
+    pub fn tell(&self)
+        ensures poised { IsPoised self.now.view }
+        ensures rows { 17 * length self.now.view.rows ≡ self.now.board.words }
+        ensures words { (r n : ℕ) → (corner self.now.view r).last ≡ Some n → n % 4 < 3 }
+        ensures tops { (r n : ℕ) → (corner self.now.view r).fresh ≡ true → (corner self.now.view r).last ≡ Some n → (corner self.now.view r).seen ≤ n / 4 }
+        ensures live { self.now.view.live ≡ true }
+    {
+        let _ = &self.badge;
+    }
 }
 
 /// The rows as they were left, in their order. Contracts see the list.
