@@ -12,7 +12,7 @@ use Rattle.pfs_board.specs.declared.view.Stage.{Stage}
 use Rattle.pfs_board.specs.declared.view.Stage.TheVariants.{Idle, Reading, Holding}
 use Rattle.pfs_board.specs.declared.view.View.{View}
 use Rattle.pfs_board.specs.Closing.{History}
-use Rattle.pfs_board.specs.History.{all_changes, version, labels_of}
+use Rattle.pfs_board.specs.History.{labels_of}
 use Rattle.pfs_board.specs.Knowledge.{corner, is_holding, IsWhole, version_held, found_in, stored_in, lent_with, restored, halfway}
 use Rattle.pfs_board.specs.Rule.{Moment, lock, Knows, IsInside, Fits, IsHome, Ruled}
 use Rattle.pfs_board.specs.Plays.{hands, fetches, lends, restores}

@@ -1,10 +1,9 @@
 -- Where the opening words of a row stand.
-use Rattle.std.proofs.Common.{◌≡◌, ℕ, zero, suc, ◌+◌, ◌-◌, ◌*◌, ◌<◌, ◌≤◌, true, List, [], ◌∷◌, ◌++◌, length, get_or, sym, refl, ap, ◌∙◌, arith}
+use Rattle.std.proofs.Common.{◌≡◌, ℕ, zero, suc, ◌+◌, ◌*◌, ◌<◌, true, List, [], ◌∷◌, ◌++◌, length, get_or, refl, ap, ◌∙◌, arith}
 use Rattle.std.proofs.Math.ListN.{get_or-append}
 use Rattle.std.proofs.Math.Seq.{get_or-append_right}
 use Rattle.pfs_board.specs.declared.answers.Opening.{Opening}
-use Rattle.pfs_board.specs.History.{lock_at, word_at}
-use Rattle.pfs_board.specs.Opening.{lock_of, words_of, opening_words, closed, row_of, AreWide, AreOpened, OpeningLaw}
+use Rattle.pfs_board.specs.Opening.{lock_of, words_of, opening_words, row_of, AreWide, OpeningLaw}
 
 -- behind the first row stands the next
 past : (o : Opening) (os : List Opening) (k : ℕ) → length o.content ≡ 16 → get_or (words_of (o ∷ os)) (17 + k) 0 ≡ get_or (words_of os) k 0

@@ -1,12 +1,9 @@
 -- A chain counts and orders a row's entries; and what holds of each entry of a history holds of each that was made.
-use Rattle.std.proofs.Common.{◌≡◌, ℕ, ◌+◌, ◌<◌, ◌≤◌, ◌≢◌, ◌==◌, ◌&&◌, Bool, true, false, cond, not, nat_lt, nat_le, List, [], ◌∷◌, sym, refl, ap, ◌∙◌, subst, inl, inr, ⊎_elim, arith, eq-eqb, ne_eqb}
-use mathlib.Core.Logic.{dite}
-use native.Mathlib.Decide.{ℕ_discrete}
+use Rattle.std.proofs.Common.{◌≡◌, ℕ, ◌+◌, ◌<◌, ◌≤◌, ◌==◌, ◌&&◌, Bool, true, false, cond, not, nat_lt, nat_le, List, [], ◌∷◌, sym, refl, ap, subst, arith}
 use Rattle.pfs_board.specs.declared.view.Change.{Change}
-use Rattle.pfs_board.specs.declared.view.Label.{Label}
-use Rattle.pfs_board.specs.History.{total, Each, step_of, version, is_free, IsFreedAt, IsChain}
-use Rattle.pfs_board.specs.Versions.{one_if, publishes, publishes_at, AreBetween, AreVersions, ChainLaw}
-use Rattle.pfs_board.proofs.HistoryFacts.{if_true, if_false, either_way, freed_now, freed_last}
+use Rattle.pfs_board.specs.History.{total, Each, step_of, version, IsChain}
+use Rattle.pfs_board.specs.Versions.{one_if, publishes, publishes_at, AreBetween, ChainLaw}
+use Rattle.pfs_board.proofs.HistoryFacts.{freed_now, freed_last}
 
 eq_of : (a b : ℕ) → (a == b) ≡ true → a ≡ b
 eq_of a b q = grind arith
@@ -43,9 +40,10 @@ once_of start (p ∷ ps) r k c = at (p.row == r) p.puts refl refl (once_of start
 
 between : (start : List ℕ) (log : List Change) (r : ℕ) → IsChain start log → AreBetween r log
 between start [] r c = tt
-between start (p ∷ ps) r c =
-    ((λ e releases. let n : p.version ≡ version ps p.row + step_of p = c.0.numbered in let s : step_of p ≡ 0 = ap (λ z. cond {A = ℕ} z 1 0) releases in let same : version ps p.row ≡ version ps r = ap (version ps) e in omega (arith, n, s, same)),
-     between start ps r c.1)
+between start (p ∷ ps) r c = (
+  (λ e releases. let n : p.version ≡ version ps p.row + step_of p = c.0.numbered in let s : step_of p ≡ 0 = ap (λ z. cond {A = ℕ} z 1 0) releases in let same : version ps p.row ≡ version ps r = ap (version ps) e in omega (arith, n, s, same)),
+  between start ps r c.1,
+)
 
 pub chain_law : ChainLaw
 chain_law start log c r = record {

@@ -1,6 +1,6 @@
 -- The chain of a row in its own words: its publications have the versions 1 to k, each once; a release stands between two of them; and it is free
 -- exactly where its last entry is a release, or it opened free and has no publication.
-use Rattle.std.specs.Prelude.{◌≡◌, ◌↔◌, ℕ, ◌≤◌, ◌==◌, nat_lt, nat_le, Bool, true, false, not, ◌&&◌, if◌then◌else◌, List, [], ◌∷◌, refl}
+use Rattle.std.specs.Prelude.{◌≡◌, ◌↔◌, ℕ, ◌==◌, nat_lt, nat_le, Bool, true, false, ◌&&◌, if◌then◌else◌, List, [], ◌∷◌, refl}
 use Rattle.pfs_board.specs.declared.view.Change.{Change}
 use Rattle.pfs_board.specs.History.{total, version, is_free, IsFreedAt, IsChain, zeros, sevens, entry_of}
 

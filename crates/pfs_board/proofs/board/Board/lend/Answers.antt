@@ -1,4 +1,4 @@
-use Rattle.std.proofs.Common.{◌≡◌, ◌∙◌, ℕ, List, sym, ap, subst}
+use Rattle.std.proofs.Common.{◌≡◌, ℕ, List, sym, ap, subst}
 use Rattle.pfs_board.specs.declared.view.View.{View}
 use Rattle.pfs_board.specs.Closing.{History}
 use Rattle.pfs_board.specs.History.{labels_of}
