@@ -1,7 +1,6 @@
 -- Which sessions are instrumented.
-use Rattle.std.specs.Prelude.{◌≡◌, ℕ, suc, ◌<◌, ◌⊎◌, Bool, true, false, if◌then◌else◌, List, [], ◌∷◌, ◌&&◌, ◌≢◌, Option, None, Some, unwrap_or, codes, Contains}
-use Rattle.std.specs.List.{find}
-use Rattle.std.specs.Option.{option_map, option_or}
+use Rattle.std.specs.Prelude.{ℕ, Bool, true, List, [], ◌∷◌, ◌&&◌, ◌≢◌, unwrap_or, codes}
+use Rattle.std.specs.Option.{option_map}
 use Rattle.std.specs.Ordering.{nat_cmp}
 use Rattle.std.specs.Str.{bytes_eq}
 use Rattle.std.specs.Cmp.Lexicographic.{slice_cmp}
@@ -9,6 +8,7 @@ use Rattle.std.specs.declared.cmp.Ordering.TheVariants.{Greater}
 use Rattle.pfs_matching.specs.declared.actor_rows.ActorRow.{ActorRow}
 use Rattle.pfs_matching.specs.declared.faults.FlagChange.{FlagChange}
 use Rattle.pfs_matching.specs.Keyed.{AreOrdered}
+use Rattle.pfs_matching.specs.Ways.{Decides, first_match, flags_or_off}
 
 abbrev pub actor_key : ActorRow → List (List ℕ)
 actor_key row = row.host ∷ row.user ∷ row.role ∷ []
@@ -22,44 +22,25 @@ abbrev pub changed_actor : FlagChange → ActorRow → ActorRow
 changed_actor change row = record row { enabled = unwrap_or change.first row.enabled; history = unwrap_or change.second row.history }
 
 -- the row has this HOST and this USER
-abbrev pub is_for : List ℕ → List ℕ → ActorRow → Bool
-is_for host user row = bytes_eq row.host host && bytes_eq row.user user
-
--- the first row in key order for a HOST and a USER
-abbrev pub first_for : List ℕ → List ℕ → List ActorRow → Option ActorRow
-first_for host user rows = find (is_for host user) rows
+abbrev pub actor_has : List ℕ × List ℕ → ActorRow → Bool
+actor_has way row = bytes_eq row.host way.0 && bytes_eq row.user way.1
 
 -- the HOST and USER that a row may have: those of the session; any host and its user; its host and any user; any of both
 abbrev pub actor_ways : List ℕ → List ℕ → List (List ℕ × List ℕ)
 actor_ways user host = (host, user) ∷ (codes "%", user) ∷ (host, codes "%") ∷ (codes "%", codes "%") ∷ []
 
--- the first row for the first of the ways that has one
-abbrev pub first_match : List (List ℕ × List ℕ) → List ActorRow → Option ActorRow
-first_match [] rows = None
-first_match (way ∷ ways) rows = option_or (first_for way.0 way.1 rows) (first_match ways rows)
+-- ENABLED and HISTORY of the row
+abbrev pub actor_says : ActorRow → Bool × Bool
+actor_says row = (row.enabled, row.history)
 
--- ENABLED and HISTORY of the row, or NO and NO
-abbrev pub flags_of : Option ActorRow → Bool × Bool
-flags_of (Some row) = (row.enabled, row.history)
-flags_of None = (false, false)
-
+-- those of the row for the first of the ways that any row has, or NO and NO
 abbrev pub actor_flags : List ActorRow → List ℕ → List ℕ → Bool × Bool
-actor_flags rows user host = flags_of (first_match (actor_ways user host) rows)
+actor_flags rows user host = flags_or_off (option_map actor_says (first_match actor_has (actor_ways user host) rows))
 
--- the number of the first way that the row has
-abbrev pub fit : List (List ℕ × List ℕ) → ActorRow → Option ℕ
-fit [] row = None
-fit (way ∷ ways) row = if is_for way.0 way.1 row then Some 0 else option_map suc (fit ways row)
+-- of rows with one HOST and USER, the one whose ROLE is not greater leads
+abbrev pub HasLesserRole : ActorRow → ActorRow → Type 0
+HasLesserRole row other = slice_cmp nat_cmp row.role other.role ≢ Greater
 
--- a row of the table has none of the ways earlier, and none with the same way has a lesser ROLE
-pub record FitsBest (ways : List (List ℕ × List ℕ)) (rows : List ActorRow) (row : ActorRow) : Type 0 where
-  pub there : Contains rows row
-  pub number : ℕ
-  pub fits : fit ways row ≡ Some number
-  pub best : (other : ActorRow) (m : ℕ) → Contains rows other → fit ways other ≡ Some m → (number < m) ⊎ ((number ≡ m) × (slice_cmp nat_cmp row.role other.role ≢ Greater))
-
--- what is decided is what the row says that fits best, or NO and NO where none fits
-abbrev pub BestDecides : Type 0
-BestDecides = (rows : List ActorRow) (user host : List ℕ) → AreOrdered actor_key rows
-    → ((row : ActorRow) × FitsBest (actor_ways user host) rows row × (actor_flags rows user host ≡ (row.enabled, row.history)))
-    ⊎ (((other : ActorRow) → Contains rows other → fit (actor_ways user host) other ≡ None) × (actor_flags rows user host ≡ (false, false)))
+-- what is decided is what the row says that fits best, of the least ROLE among those of one HOST and USER
+abbrev pub ActorsDecideBest : Type 0
+ActorsDecideBest = (rows : List ActorRow) (user host : List ℕ) → AreOrdered actor_key rows → Decides actor_has HasLesserRole actor_says (actor_ways user host) rows (actor_flags rows user host)

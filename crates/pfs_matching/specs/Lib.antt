@@ -1,3 +1,4 @@
 pub mod ActorRules
 pub mod Keyed
 pub mod ObjectRules
+pub mod Ways

@@ -1,12 +1,14 @@
 -- Which tables are instrumented.
-use Rattle.std.specs.Prelude.{ℕ, Bool, true, false, List, [], ◌∷◌, ◌&&◌, Option, None, Some, unwrap_or, codes}
-use Rattle.std.specs.List.{find, flat_map}
-use Rattle.std.specs.Option.{option_or}
+use Rattle.std.specs.Prelude.{◌≡◌, ℕ, Bool, true, false, List, [], ◌∷◌, ◌&&◌, unwrap_or, codes}
+use Rattle.std.specs.List.{flat_map}
+use Rattle.std.specs.Option.{option_map}
 use Rattle.std.specs.Str.{bytes_eq}
 use Rattle.pfs_matching.specs.declared.object_rows.ObjectRow.{ObjectRow}
 use Rattle.pfs_matching.specs.declared.object_rows.ObjectKind.{ObjectKind}
 use Rattle.pfs_matching.specs.declared.object_rows.ObjectKind.TheVariants.{Event, Function, Procedure, Table, Trigger}
 use Rattle.pfs_matching.specs.declared.faults.FlagChange.{FlagChange}
+use Rattle.pfs_matching.specs.Keyed.{AreOrdered}
+use Rattle.pfs_matching.specs.Ways.{Decides, first_match, flags_or_off}
 
 -- the OBJECT_TYPE of a row
 abbrev pub kind_name : ObjectKind → List ℕ
@@ -47,25 +49,37 @@ is_table Table = true
 is_table Trigger = false
 
 -- the row is for tables, with this schema and this name
-abbrev pub is_for_table : List ℕ → List ℕ → ObjectRow → Bool
-is_for_table schema name row = is_table row.kind && bytes_eq row.schema schema && bytes_eq row.name name
-
-abbrev pub table_row : List ℕ → List ℕ → List ObjectRow → Option ObjectRow
-table_row schema name rows = find (is_for_table schema name) rows
+abbrev pub table_has : List ℕ × List ℕ → ObjectRow → Bool
+table_has way row = is_table row.kind && bytes_eq row.schema way.0 && bytes_eq row.name way.1
 
 -- the schema and name that a row may have: those of the table; its schema and any name; any of both
 abbrev pub table_ways : List ℕ → List ℕ → List (List ℕ × List ℕ)
 table_ways schema name = (schema, name) ∷ (schema, codes "%") ∷ (codes "%", codes "%") ∷ []
 
--- the row for the first of the ways that has one
-abbrev pub first_match : List (List ℕ × List ℕ) → List ObjectRow → Option ObjectRow
-first_match [] rows = None
-first_match (way ∷ ways) rows = option_or (table_row way.0 way.1 rows) (first_match ways rows)
+-- ENABLED and TIMED of the row
+abbrev pub object_says : ObjectRow → Bool × Bool
+object_says row = (row.enabled, row.timed)
 
--- ENABLED and TIMED of the row, or off
-abbrev pub flags_of : Option ObjectRow → Bool × Bool
-flags_of (Some row) = (row.enabled, row.timed)
-flags_of None = (false, false)
-
+-- those of the row for the first of the ways that any row has, or off
 abbrev pub table_flags : List ObjectRow → List ℕ → List ℕ → Bool × Bool
-table_flags rows schema name = flags_of (first_match (table_ways schema name) rows)
+table_flags rows schema name = flags_or_off (option_map object_says (first_match table_has (table_ways schema name) rows))
+
+-- no other row has the same way
+abbrev pub IsAlone : ObjectRow → ObjectRow → Type 0
+IsAlone row other = other ≡ row
+
+-- what is decided of a table is what the one row says that fits best
+abbrev pub ObjectsDecideBest : Type 0
+ObjectsDecideBest = (rows : List ObjectRow) (schema name : List ℕ) → AreOrdered object_key rows → Decides table_has IsAlone object_says (table_ways schema name) rows (table_flags rows schema name)
+
+-- different kinds have different names
+abbrev pub KindNamesDiffer : Type 0
+KindNamesDiffer = (a b : ObjectKind) → kind_name a ≡ kind_name b → a ≡ b
+
+-- the place of a kind among all
+abbrev pub kind_place : ObjectKind → ℕ
+kind_place Event = 0
+kind_place Function = 1
+kind_place Procedure = 2
+kind_place Table = 3
+kind_place Trigger = 4

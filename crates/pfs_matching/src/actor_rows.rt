@@ -1,11 +1,11 @@
 //! `setup_actors`: which sessions are instrumented.
 ghost use Rattle.std.specs.Prelude.{◌≡◌, ℕ, ◌+◌, ◌<◌, ◌≤◌, ◌↔◌, [], ◌∷◌, ◌++◌, length, map, All, Contains, IfOk, IsTrue, OnOk, OnErr, Some, slice_get, vec_capacity, vec_len};
-ghost use Rattle.std.specs.List.{list_any, prefix_len};
+ghost use Rattle.std.specs.List.{find, list_any, prefix_len};
 ghost use Rattle.std.specs.List.Sorted.{IsStrictlyIncreasing};
 ghost use Rattle.std.specs.Option.{option_map};
 ghost use Rattle.std.specs.Ordering.{is_eq};
 ghost use Rattle.pfs_matching.specs.Keyed.{AreRows, comes_before, key_cmp, with_named_changed, with_row, without_named};
-ghost use Rattle.pfs_matching.specs.ActorRules.{actor_flags, actor_key, changed_actor, first_for, opening_actors};
+ghost use Rattle.pfs_matching.specs.ActorRules.{actor_flags, actor_has, actor_key, actor_says, changed_actor, opening_actors};
 
 use crate::places::remove_places;
 use crate::{FlagChange, MatchFault, NoMemory};
@@ -166,7 +166,7 @@ fn change_row(row: &mut ActorRow, change: &FlagChange)
 
 // ENABLED and HISTORY of the first row with this HOST and USER.
 fn first_flags(rows: &[ActorRow], host: &[u8], user: &[u8]) -> Option<(bool, bool)>
-    ensures { result ≡ option_map (λ row. (row.enabled, row.history)) (first_for host.now user.now rows.now) }
+    ensures { result ≡ option_map actor_says (find (actor_has (host.now, user.now)) rows.now) }
 {
     rows.iter()
         .find(|row| row.host.as_bytes() == host && row.user.as_bytes() == user)

@@ -1,11 +1,12 @@
 //! `setup_objects`: which tables are instrumented.
-ghost use Rattle.std.specs.Prelude.{◌≡◌, ℕ, ◌+◌, ◌<◌, ◌≤◌, ◌↔◌, [], ◌∷◌, ◌++◌, length, map, All, Contains, IfOk, IsTrue, OnOk, OnErr, Some, slice_get, vec_capacity, vec_len};
-ghost use Rattle.std.specs.List.{list_any, prefix_len};
+ghost use Rattle.std.specs.Prelude.{◌≡◌, ◌≢◌, ℕ, ◌+◌, ◌<◌, ◌≤◌, ◌↔◌, [], ◌∷◌, ◌++◌, length, map, All, Contains, IfOk, IsTrue, MatchOption, OnOk, OnErr, Some, slice_get, vec_capacity, vec_len};
+ghost use Rattle.std.specs.List.{find, list_any, prefix_len};
 ghost use Rattle.std.specs.List.Sorted.{IsStrictlyIncreasing};
 ghost use Rattle.std.specs.Option.{option_map};
 ghost use Rattle.std.specs.Ordering.{is_eq};
+ghost use Rattle.pfs_matching.specs.declared.object_rows.ObjectKind.{ObjectKind};
 ghost use Rattle.pfs_matching.specs.Keyed.{AreRows, comes_before, key_cmp, with_named_changed, with_row, without_named};
-ghost use Rattle.pfs_matching.specs.ObjectRules.{changed_object, is_table as spec_is_table, kind_name as spec_kind_name, object_key, opening_objects, opening_of_kind, opening_row as spec_row, table_flags, table_row};
+ghost use Rattle.pfs_matching.specs.ObjectRules.{changed_object, is_table as spec_is_table, kind_name, object_key, opening_objects, opening_of_kind, object_says, opening_row as spec_row, table_flags, table_has};
 
 use crate::places::remove_places;
 use crate::{FlagChange, MatchFault, NoMemory};
@@ -27,14 +28,41 @@ pub enum ObjectKind {
     Trigger,
 }
 
-/// The kinds in their order.
-const KINDS: [ObjectKind; 5] = [
-    ObjectKind::Event,
-    ObjectKind::Function,
-    ObjectKind::Procedure,
-    ObjectKind::Table,
-    ObjectKind::Trigger,
-];
+impl ObjectKind {
+    /// All kinds, in their order.
+    pub const ALL: [ObjectKind; 5] = [
+        ObjectKind::Event,
+        ObjectKind::Function,
+        ObjectKind::Procedure,
+        ObjectKind::Table,
+        ObjectKind::Trigger,
+    ];
+
+    /// The kind's name in a table, MySQL's own.
+    pub fn name(self) -> &'static str
+        ensures { result.now ≡ kind_name self }
+    {
+        match self {
+            ObjectKind::Event => "EVENT",
+            ObjectKind::Function => "FUNCTION",
+            ObjectKind::Procedure => "PROCEDURE",
+            ObjectKind::Table => "TABLE",
+            ObjectKind::Trigger => "TRIGGER",
+        }
+    }
+
+    /// The kind of that name, compared byte by byte; none where no kind has it.
+    pub fn find(name: &[u8]) -> Option<ObjectKind>
+        ensures { MatchOption result ((kind : ObjectKind) → kind_name kind ≢ name.now) (λ kind. kind_name kind ≡ name.now) }
+    {
+        for kind in ObjectKind::ALL {
+            if kind.name().as_bytes() == name {
+                return Some(kind);
+            }
+        }
+        None
+    }
+}
 
 /// A row of `setup_objects`: OBJECT_TYPE, OBJECT_SCHEMA, OBJECT_NAME, ENABLED and TIMED. The text `%` stands for any schema or
 /// name.
@@ -161,7 +189,7 @@ fn opening_rows(alloc: Global) -> Result<Vec<ObjectRow>, NoMemory>
     ensures room { IfOk result (λ rows. 100 ≤ vec_capacity rows) }
 {
     let mut rows = Vec::with_capacity(alloc, MOST_ROWS)?;
-    for kind in KINDS {
+    for kind in ObjectKind::ALL {
         put_opening(alloc, &mut rows, kind)?;
     }
     Ok(rows)
@@ -217,7 +245,7 @@ fn change_row(row: &mut ObjectRow, change: &FlagChange)
 
 // ENABLED and TIMED of the first row for tables with this schema and name.
 fn first_flags(rows: &[ObjectRow], schema: &[u8], name: &[u8]) -> Option<(bool, bool)>
-    ensures { result ≡ option_map (λ row. (row.enabled, row.timed)) (table_row schema.now name.now rows.now) }
+    ensures { result ≡ option_map object_says (find (table_has (schema.now, name.now)) rows.now) }
 {
     rows.iter()
         .find(|row| is_table(row.kind)
@@ -232,23 +260,10 @@ fn is_table(kind: ObjectKind) -> bool
     matches!(kind, ObjectKind::Table)
 }
 
-// The name of a kind in a table.
-fn kind_name(kind: ObjectKind) -> &'static [u8]
-    ensures { result.now ≡ spec_kind_name kind }
-{
-    match kind {
-        ObjectKind::Event => b"EVENT",
-        ObjectKind::Function => b"FUNCTION",
-        ObjectKind::Procedure => b"PROCEDURE",
-        ObjectKind::Table => b"TABLE",
-        ObjectKind::Trigger => b"TRIGGER",
-    }
-}
-
 fn order(a: &ObjectRow, b: &ObjectRow) -> Ordering
     ensures { result ≡ key_cmp (object_key a.now) (object_key b.now) }
 {
-    let kinds = kind_name(a.kind).cmp(kind_name(b.kind));
+    let kinds = a.kind.name().as_bytes().cmp(b.kind.name().as_bytes());
     kinds
         .then(a.schema.cmp(&b.schema))
         .then(a.name.cmp(&b.name))
