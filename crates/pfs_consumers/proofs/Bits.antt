@@ -4,7 +4,7 @@ use Rattle.std.specs.Prelude.{slice_get, bit_and, bit_or}
 use Rattle.std.specs.Int.{bit_at, w16}
 use Rattle.std.proofs.lemmas.Nat.Bits.{bit_at_or, bit_at_and, bit_at-pow_same, bit_at-pow_other, bit_at_not, bit_at-lt, same_from_bits_below}
 use Rattle.std.proofs.lemmas.Bool.Decides.{nat_tests}
-use Rattle.pfs_consumers.specs.declared.TheConstants.{ALL}
+use Rattle.pfs_consumers.specs.declared.TheConstants.Consumer.{ALL}
 use Rattle.pfs_consumers.specs.declared.Consumer.{Consumer}
 use Rattle.pfs_consumers.specs.declared.Consumer.TheVariants.{StagesCurrent, StagesHistory, StagesHistoryLong, StatementsCurrent, StatementsHistory, StatementsHistoryLong, TransactionsCurrent, TransactionsHistory, TransactionsHistoryLong, WaitsCurrent, WaitsHistory, WaitsHistoryLong, GlobalInstrumentation, ThreadInstrumentation, StatementsDigest}
 use Rattle.pfs_consumers.specs.Tree.{bit_of, is_on, with_flag}

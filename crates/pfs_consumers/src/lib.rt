@@ -32,33 +32,26 @@ pub enum Consumer {
 #[derive(Clone, Copy, Debug, PartialEq, Eq)]
 pub struct Flags(pub u16);
 
-/// How many consumers there are.
-pub const COUNT: usize = 15;
-
-/// All consumers, each at the place of its bit.
-pub const ALL: [Consumer; COUNT] = [
-    Consumer::StagesCurrent,
-    Consumer::StagesHistory,
-    Consumer::StagesHistoryLong,
-    Consumer::StatementsCurrent,
-    Consumer::StatementsHistory,
-    Consumer::StatementsHistoryLong,
-    Consumer::TransactionsCurrent,
-    Consumer::TransactionsHistory,
-    Consumer::TransactionsHistoryLong,
-    Consumer::WaitsCurrent,
-    Consumer::WaitsHistory,
-    Consumer::WaitsHistoryLong,
-    Consumer::GlobalInstrumentation,
-    Consumer::ThreadInstrumentation,
-    Consumer::StatementsDigest,
-];
-
-/// The flags at first: the current and history consumers of statements and transactions, both
-/// instrumentations and the digest are YES, as MySQL has them.
-pub const OPENING: Flags = Flags(28_888);
-
 impl Consumer {
+    /// All consumers, each at the place of its bit.
+    pub const ALL: [Consumer; 15] = [
+        Consumer::StagesCurrent,
+        Consumer::StagesHistory,
+        Consumer::StagesHistoryLong,
+        Consumer::StatementsCurrent,
+        Consumer::StatementsHistory,
+        Consumer::StatementsHistoryLong,
+        Consumer::TransactionsCurrent,
+        Consumer::TransactionsHistory,
+        Consumer::TransactionsHistoryLong,
+        Consumer::WaitsCurrent,
+        Consumer::WaitsHistory,
+        Consumer::WaitsHistoryLong,
+        Consumer::GlobalInstrumentation,
+        Consumer::ThreadInstrumentation,
+        Consumer::StatementsDigest,
+    ];
+
     /// The place of the consumer's flag in a word, from 0.
     pub fn bit(self) -> u32
         ensures { result ≡ bit_of self }
@@ -118,7 +111,7 @@ impl Consumer {
     pub fn find(name: &[u8]) -> Option<Consumer>
         ensures { MatchOption result ((c : Consumer) → name_of c ≢ name.now) (λ c. name_of c ≡ name.now) }
     {
-        for c in ALL {
+        for c in Consumer::ALL {
             if c.name().as_bytes() == name {
                 return Some(c);
             }
@@ -128,6 +121,10 @@ impl Consumer {
 }
 
 impl Flags {
+    /// The flags at first: the current and history consumers of statements and transactions, both
+    /// instrumentations and the digest are YES, as MySQL has them.
+    pub const OPENING: Flags = Flags(28_888);
+
     /// Whether the consumer's own flag is YES, whatever stands above it.
     pub fn get(self, c: Consumer) -> bool
         ensures { result ≡ is_on self.0 c }

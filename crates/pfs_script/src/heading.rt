@@ -13,7 +13,7 @@ use crate::forms::{Form, Number};
 use crate::likes::set_like;
 use pfs_classes::laws::{more_names, one_kind};
 use pfs_classes::{ClassFault, ClassRef, Classes, DigestList, Kind, NoMemory, Setting, TableList};
-use pfs_consumers::{Consumer, Flags, OPENING};
+use pfs_consumers::{Consumer, Flags};
 use pfs_names::{NameId, Names};
 use pfs_rows::{Limit, Limits};
 use std::alloc::{AllocError, Global};
@@ -46,7 +46,7 @@ impl Heading {
     pub fn begin(alloc: Global) -> Result<Heading, NoMemory>
         ensures { IfOk result (λ heading. heading ≡ head_of []) }
     {
-        Heading::under(alloc, Limits::opening(), OPENING)
+        Heading::under(alloc, Limits::opening(), Flags::OPENING)
     }
 
     /// Takes one more line, which has a place behind those so far: a `limit` in its range behind
