@@ -4,7 +4,7 @@ use Rattle.std.specs.Prelude.{◌==◌, ◌&&◌, ◌||◌, not, nat_lt, codes}
 use Rattle.std.specs.List.{prefix_len, position_or_len, list_any, starts_with, concat}
 use Rattle.std.specs.Char.{is_ascii_digit}
 use Rattle.std.proofs.Math.Seq.{take-add}
-use Rattle.std.proofs.lemmas.Bool.{cases_Bool, cond_both, and_parts, or_cases, or_parts, or_from, not-false, not_from_false, eqb-true, ltb-true, ltb-false}
+use Rattle.std.proofs.lemmas.Bool.{cases_Bool, cond_both, and_parts, or_cases, or_parts, or_from, or_right, false≢true, not-false, not_from_false, eqb-true, ltb-true, ltb-false}
 use Rattle.std.proofs.lemmas.List.{length-take-le, take-append-drop, take_at, drop_at, append-nil, length-append, length-drop}
 use Rattle.std.proofs.lemmas.List.Sums.{prefix_len-le-length}
 use Rattle.std.proofs.lemmas.Slice.Eq.{starts_is}
@@ -23,7 +23,7 @@ use Rattle.pfs_lexer.specs.Operators.{singles, operator_len}
 use Rattle.pfs_lexer.specs.Fronts.{closed, commented, token_of, front_of}
 use Rattle.pfs_lexer.specs.Items.{placed, items_from, items_of}
 use Rattle.pfs_lexer.specs.Grammar.{IsBetween, IsToken, begins_nothing}
-use Rattle.pfs_lexer.specs.Accounts.{EndsLine, BeginsBlank, HasNoClose, IsLineComment, IsComment, IsOpen, IsFault, Accounts}
+use Rattle.pfs_lexer.specs.Accounts.{EndsLine, BeginsBlank, BeginsComment, BeginsWith, GoesOn, HasNoClose, IsLineComment, IsComment, IsOpen, IsFault, Accounts}
 use Rattle.pfs_lexer.proofs.ItemSteps.{items-past, items-here, items-behind}
 use Rattle.pfs_lexer.proofs.Steps.{comment-close, comment-on, comment-none}
 use Rattle.pfs_lexer.proofs.QuotesAre.{more-some, more-none, quoted_closes, StaysOpen, quoted_opens}
@@ -32,12 +32,12 @@ use Rattle.pfs_lexer.proofs.Longest.{word_most, operator_most, number_most, betw
 use Rattle.pfs_lexer.proofs.NumbersAre.{run_all, number_is, number_within, word_is, operator_is, operator_within, no_operator}
 
 -- one blank, where these bytes stand behind it
-abbrev IsOneBlank : List ℕ → List ℕ → Type 0
+abbrev pub IsOneBlank : List ℕ → List ℕ → Type 0
 IsOneBlank piece after =
     ((b : ℕ) × (piece ≡ b ∷ []) × (is_blank b ≡ true)) ⊎ (IsLineComment piece after ⊎ IsComment piece after)
 
 -- no longer front is a token
-abbrev NoLonger : List ℕ → ℕ → Type 0
+abbrev pub NoLonger : List ℕ → ℕ → Type 0
 NoLonger bytes len = (kind : TokenKind) (m : ℕ) → len < m → m ≤ length bytes → IsToken kind (take m bytes) → ⊥
 
 -- it is enough to ask of the kind that the first byte tells
@@ -49,9 +49,9 @@ no_longer kind b xs len tells most other (suc m) less fits is =
     absurd (omega (arith, bound))
 
 -- what stands at the front of the bytes is what the front says
-abbrev FrontIs : List ℕ → Front → Type 0
+abbrev pub FrontIs : List ℕ → Front → Type 0
 FrontIs bytes (fronts.Blank len) = (0 < len) × (len ≤ length bytes) × IsOneBlank (take len bytes) (drop len bytes)
-FrontIs bytes (fronts.Piece kind len) = (0 < len) × (len ≤ length bytes) × IsToken kind (take len bytes) × NoLonger bytes len
+FrontIs bytes (fronts.Piece kind len) = (0 < len) × (len ≤ length bytes) × IsToken kind (take len bytes) × NoLonger bytes len × (¬ GoesOn kind (take len bytes) (drop len bytes))
 FrontIs bytes fronts.OpenString = IsOpen 39 bytes ⊎ (IsOpen 34 bytes ⊎ IsOpen 96 bytes)
 FrontIs bytes fronts.OpenComment = (rest : List ℕ) × (bytes ≡ codes "/*" ++ rest) × HasNoClose rest []
 FrontIs bytes fronts.BadByte = (b : ℕ) × (rest : List ℕ) × (bytes ≡ b ∷ rest) × (begins_nothing b ≡ true)
@@ -188,6 +188,7 @@ record ClosedIs (kind : TokenKind) (q : ℕ) : Type 0 where
   pub no_slash : q ≢ 92
   pub is_between : (b : ℕ) (xs : List ℕ) (m : ℕ) → b ≡ q → IsToken kind (take m (b ∷ xs)) → IsBetween q (take m (b ∷ xs))
   pub is_token : (bytes : List ℕ) → IsBetween q bytes → IsToken kind bytes
+  pub ends : (xs : List ℕ) (m : ℕ) (behind : List ℕ) → ¬ BeginsWith q behind → ¬ GoesOn kind (take m (q ∷ xs)) behind
   pub is_open : (bytes : List ℕ) → IsOpen q bytes → IsOpen 39 bytes ⊎ (IsOpen 34 bytes ⊎ IsOpen 96 bytes)
 
 open_is : (q : ℕ) (xs : List ℕ) → StaysOpen q xs → IsOpen q (q ∷ xs)
@@ -209,6 +210,7 @@ closed_by kind q xs say (Some n) e =
       say.is_token (take (1 + n) (q ∷ xs)) (c.body, piece, c.is),
       no_longer kind q xs (1 + n) say.tells
           (λ m fits is. between_most q q xs n m say.no_slash refl e fits (say.is_between q xs m refl is)),
+      say.ends xs (1 + n) (drop (1 + n) (q ∷ xs)) (λ again. c.stops (subst (BeginsWith q) (drop_more_one n q xs ∙ ap (drop n) split ∙ drop_at (c.body ++ q ∷ []) c.rest n len) again)),
     )
 
 quote_is : (kind : TokenKind) (q b : ℕ) (xs : List ℕ) → ClosedIs kind q → b ≡ q → FrontIs (b ∷ xs) (closed kind (quoted_len b xs))
@@ -222,12 +224,19 @@ other_between q r b xs (suc m) first apart is =
     let same : b ≡ r = cc (is.1) in
     absurd (apart (sym first ∙ same))
 
+not_between : (q r : ℕ) (xs : List ℕ) (m : ℕ) → q ≢ r → ¬ IsBetween r (take m (q ∷ xs))
+not_between q r xs zero apart is = absurd (cc (is.1))
+not_between q r xs (suc m) apart is =
+    let same : q ≡ r = cc (is.1) in
+    apart same
+
 quote_says : ClosedIs String 39
 quote_says = record {
   tells = refl;
   no_slash = λ e. absurd (omega (arith, e));
   is_between = λ b xs m same token. elim token [ inl is ↦ is | inr is ↦ other_between 39 34 b xs m same (λ e. absurd (omega (arith, e))) is ];
   is_token = λ bytes is. inl is;
+  ends = λ xs m behind stops goes. elim goes [ inl own ↦ stops own.1 | inr other ↦ not_between 39 34 xs m (λ e. absurd (omega (arith, e))) other.0 ];
   is_open = λ bytes is. inl is;
 }
 
@@ -237,6 +246,7 @@ double_quote_says = record {
   no_slash = λ e. absurd (omega (arith, e));
   is_between = λ b xs m same token. elim token [ inl is ↦ other_between 34 39 b xs m same (λ e. absurd (omega (arith, e))) is | inr is ↦ is ];
   is_token = λ bytes is. inr is;
+  ends = λ xs m behind stops goes. elim goes [ inl other ↦ not_between 34 39 xs m (λ e. absurd (omega (arith, e))) other.0 | inr own ↦ stops own.1 ];
   is_open = λ bytes is. inr (inl is);
 }
 
@@ -246,6 +256,7 @@ backquote_says = record {
   no_slash = λ e. absurd (omega (arith, e));
   is_between = λ b xs m same token. token;
   is_token = λ bytes is. is;
+  ends = λ xs m behind stops goes. stops goes.1;
   is_open = λ bytes is. inr (inr is);
 }
 
@@ -272,14 +283,14 @@ token_is b xs blank line =
     (λ back. cond_both (is_ascii_digit b) (fronts.Piece Number (number_len (b ∷ xs))) _ (FrontIs (b ∷ xs))
     (λ digit.
     let within = number_within (b ∷ xs) (omega arith) in
-    (within.0, within.1, number_is (b ∷ xs) b refl digit, no_longer Number b xs (number_len (b ∷ xs)) (digit-kind b digit) (number_most b xs)))
+    (within.0, within.1, number_is (b ∷ xs) b refl digit, no_longer Number b xs (number_len (b ∷ xs)) (digit-kind b digit) (number_most b xs), λ no. no))
     (λ digit. cond_both (is_word_start b) (fronts.Piece Word (1 + prefix_len is_word_byte xs)) _ (FrontIs (b ∷ xs))
-    (λ start. (omega arith, word_within b xs, word_is (b ∷ xs) b refl start, no_longer Word b xs (1 + prefix_len is_word_byte xs) (start-kind b start) (word_most b xs)))
+    (λ start. (omega arith, word_within b xs, word_is (b ∷ xs) b refl start, no_longer Word b xs (1 + prefix_len is_word_byte xs) (start-kind b start) (word_most b xs), λ no. no))
     (λ start. cond_both (nat_lt 0 (operator_len (b ∷ xs))) (fronts.Piece Operator (operator_len (b ∷ xs))) fronts.BadByte (FrontIs (b ∷ xs))
     (λ some.
     let positive = ltb-true 0 (operator_len (b ∷ xs)) some in
     let token = operator_is (b ∷ xs) positive in
-    (positive, operator_within (b ∷ xs), token, no_longer Operator b xs (operator_len (b ∷ xs)) (operator-tells b xs (operator_len (b ∷ xs)) positive token) (operator_most (b ∷ xs))))
+    (positive, operator_within (b ∷ xs), token, no_longer Operator b xs (operator_len (b ∷ xs)) (operator-tells b xs (operator_len (b ∷ xs)) positive token) (operator_most (b ∷ xs)), λ no. no))
     (λ none. (
       b,
       xs,
@@ -288,16 +299,52 @@ token_is b xs blank line =
           (no_operator b xs (omega (arith, ltb-false 0 (operator_len (b ∷ xs)) none))),
     ))))))
 
-front_is : (b : ℕ) (xs : List ℕ) → FrontIs (b ∷ xs) (front_of (b ∷ xs))
+-- the same, and no comment begins where a token stands
+abbrev pub PlaceIs : List ℕ → Front → Type 0
+PlaceIs bytes (fronts.Blank len) = FrontIs bytes (fronts.Blank len)
+PlaceIs bytes (fronts.Piece kind len) = FrontIs bytes (fronts.Piece kind len) × (¬ BeginsComment bytes)
+PlaceIs bytes fronts.OpenString = FrontIs bytes fronts.OpenString
+PlaceIs bytes fronts.OpenComment = FrontIs bytes fronts.OpenComment
+PlaceIs bytes fronts.BadByte = FrontIs bytes fronts.BadByte
+
+place_by : (bytes : List ℕ) (front : Front) → (¬ BeginsComment bytes) → FrontIs bytes front → PlaceIs bytes front
+place_by bytes (fronts.Blank len) none is = is
+place_by bytes (fronts.Piece kind len) none is = (is, none)
+place_by bytes fronts.OpenString none is = is
+place_by bytes fronts.OpenComment none is = is
+place_by bytes fronts.BadByte none is = is
+
+-- a comment by its first bytes, and the tests that find it
+dash_test : (rest : List ℕ) → BeginsBlank rest → (length (45 ∷ 45 ∷ rest) == 2 || is_blank (byte_at (45 ∷ 45 ∷ rest) 2)) ≡ true
+dash_test [] blank = refl
+dash_test (c ∷ rest) blank = or_right (length (45 ∷ 45 ∷ c ∷ rest) == 2) (is_blank c) blank
+
+pub dashes_begin : (rest : List ℕ) → BeginsBlank rest → begins_line_comment (45 ∷ 45 ∷ rest) ≡ true
+dashes_begin rest blank = dash_test rest blank
+
+no_comment : (bytes : List ℕ) → begins_line_comment bytes ≡ false → begins_comment bytes ≡ false → ¬ BeginsComment bytes
+no_comment bytes line comment (rest, inl hash) = let is : begins_line_comment bytes ≡ true = ap begins_line_comment hash in false≢true (sym line ∙ is)
+no_comment bytes line comment (rest, inr (inl dashes)) =
+    let is : begins_line_comment bytes ≡ true = ap begins_line_comment dashes.0 ∙ dashes_begin rest dashes.1 in false≢true (sym line ∙ is)
+no_comment bytes line comment (rest, inr (inr slash)) = let is : begins_comment bytes ≡ true = ap begins_comment slash in false≢true (sym comment ∙ is)
+
+blank_place : (bytes : List ℕ) (len : ℕ) → FrontIs bytes (fronts.Blank len) → PlaceIs bytes (fronts.Blank len)
+blank_place bytes len is = is
+
+commented_place : (bytes : List ℕ) (o : Option ℕ) → FrontIs bytes (commented o) → PlaceIs bytes (commented o)
+commented_place bytes None is = is
+commented_place bytes (Some n) is = is
+
+pub place_is : (b : ℕ) (xs : List ℕ) → PlaceIs (b ∷ xs) (front_of (b ∷ xs))
 unfolding front_of
-front_is b xs =
-    cond_both (is_blank b) (fronts.Blank 1) _ (FrontIs (b ∷ xs))
+place_is b xs =
+    cond_both (is_blank b) (fronts.Blank 1) _ (PlaceIs (b ∷ xs))
     (λ blank. (lit< tt, omega arith, inl (b, refl, blank)))
-    (λ blank. cond_both (begins_line_comment (b ∷ xs)) (fronts.Blank (1 + position_or_len (λ b. b == 10) xs)) _ (FrontIs (b ∷ xs))
+    (λ blank. cond_both (begins_line_comment (b ∷ xs)) (fronts.Blank (1 + position_or_len (λ b. b == 10) xs)) _ (PlaceIs (b ∷ xs))
     (λ line. line_is b xs line)
-    (λ line. cond_both (begins_comment (b ∷ xs)) (commented (comment_len (drop 2 (b ∷ xs)))) (token_of (b ∷ xs)) (FrontIs (b ∷ xs))
-    (λ comment. comment_is b xs comment)
-    (λ _. token_is b xs blank line)))
+    (λ line. cond_both (begins_comment (b ∷ xs)) (commented (comment_len (drop 2 (b ∷ xs)))) (token_of (b ∷ xs)) (PlaceIs (b ∷ xs))
+    (λ comment. commented_place (b ∷ xs) (comment_len (drop 2 (b ∷ xs))) (comment_is b xs comment))
+    (λ comment. place_by (b ∷ xs) (token_of (b ∷ xs)) (no_comment (b ∷ xs) line comment) (token_is b xs blank line))))
 
 -- a blank before what is accounted for
 prepend : (place start : ℕ) (piece rest : List ℕ) (items : List (Result Token LexFault)) → start ≡ place + length piece → IsOneBlank piece rest → Accounts start rest items → Accounts place (piece ++ rest) items
@@ -314,6 +361,8 @@ prepend place start piece rest (Ok token ∷ items) e blank a = (
   a.7,
   a.8,
   a.9,
+  a.10,
+  a.11,
 )
 prepend place start piece rest (Err fault ∷ items) e blank a =
     let at : start + length (concat a.0) ≡ place + length (concat (piece ∷ a.0)) = omega (arith, length-append piece (concat a.0)) in (
@@ -329,7 +378,7 @@ prepend place start piece rest (Err fault ∷ items) e blank a =
 abbrev AccountsBehind : ℕ → List ℕ → (ℕ → List (Result Token LexFault)) → Type 0
 AccountsBehind place bytes behind = (len : ℕ) → 0 < len → len ≤ length bytes → Accounts (place + len) (drop len bytes) (behind len)
 
-account_by : (place : ℕ) (bytes : List ℕ) (behind : ℕ → List (Result Token LexFault)) (front : Front) → FrontIs bytes front → AccountsBehind place bytes behind → Accounts place bytes (placed place front behind)
+account_by : (place : ℕ) (bytes : List ℕ) (behind : ℕ → List (Result Token LexFault)) (front : Front) → PlaceIs bytes front → AccountsBehind place bytes behind → Accounts place bytes (placed place front behind)
 account_by place bytes behind (fronts.Blank len) is more =
     let start : place + len ≡ place + length (take len bytes) = omega (arith, length-take-le len bytes is.1) in
     subst (λ bs. Accounts place bs (behind len)) (take-append-drop len bytes)
@@ -341,10 +390,12 @@ account_by place bytes behind (fronts.Piece kind len) is more = (
   sym (take-append-drop len bytes),
   tt,
   omega arith,
-  omega (arith, length-take-le len bytes is.1),
-  is.2,
-  λ other n some fits token. is.3 other (len + n) (omega arith) (omega (arith, fits, length-drop len bytes)) (subst (IsToken other) (sym (take-add len n bytes)) token),
-  more len is.0 is.1,
+  omega (arith, length-take-le len bytes is.0.1),
+  is.0.2,
+  λ other n some fits token. is.0.3 other (len + n) (omega arith) (omega (arith, fits, length-drop len bytes)) (subst (IsToken other) (sym (take-add len n bytes)) token),
+  λ comment. is.1 (subst BeginsComment (take-append-drop len bytes) comment),
+  is.0.4,
+  more len is.0.0 is.0.1,
 )
 account_by place bytes behind fronts.OpenString is more = ([], bytes, refl, tt, (omega arith, is), refl)
 account_by place bytes behind fronts.OpenComment is more = ([], bytes, refl, tt, (omega arith, is.0, is.1, is.2), refl)
@@ -359,7 +410,7 @@ accounts_within (suc most) place (b ∷ bytes) h =
     subst (Accounts (place + len) (drop len (b ∷ bytes))) (sym (items-behind place len b bytes some))
     (accounts_within most (place + len) (drop len (b ∷ bytes)) (omega (arith, length-drop len (b ∷ bytes)))) in
     subst (Accounts place (b ∷ bytes)) (sym (items-here place b bytes))
-    (account_by place (b ∷ bytes) behind (front_of (b ∷ bytes)) (front_is b bytes) more)
+    (account_by place (b ∷ bytes) behind (front_of (b ∷ bytes)) (place_is b bytes) more)
 
 pub accounts : (text : List ℕ) → Accounts 0 text (items_of text)
 accounts text = accounts_within (length text) 0 text (omega arith)

@@ -4,5 +4,6 @@ pub mod ItemSteps
 pub mod FirstBytes
 pub mod Longest
 pub mod NumbersAre
+pub mod OneReading
 pub mod QuotesAre
 pub mod Steps

@@ -122,7 +122,7 @@ operator_most xs m h is =
     ]
 
 -- between quotes
-plain-single : (q b c : ℕ) → IsPlain q b → is_pair q b c ≡ false
+pub plain-single : (q b c : ℕ) → IsPlain q b → is_pair q b c ≡ false
 plain-single q b c plain =
     cond-false (b == q) (c == q) (not (q == 96) && b == 92) (ne_eqb b q plain.0)
     ∙ elim plain.1 [
@@ -130,7 +130,7 @@ plain-single q b c plain =
       | inr other ↦ and_right (not (q == 96)) (b == 92) (ne_eqb b 92 other)
     ]
 
-doubled-pair : (q b c : ℕ) → q ≢ 92 → IsDoubled q b c → is_pair q b c ≡ true
+pub doubled-pair : (q b c : ℕ) → q ≢ 92 → IsDoubled q b c → is_pair q b c ≡ true
 doubled-pair q b c no_slash doubled = elim doubled [
   | inl same ↦ cond-true (b == q) (c == q) (not (q == 96) && b == 92) (eq-eqb b q same.0) ∙ eq-eqb c q same.1
   | inr slash ↦

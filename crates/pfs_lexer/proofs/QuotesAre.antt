@@ -1,9 +1,10 @@
 -- What stands between quotes is what the grammar says.
 use Rattle.std.proofs.Common.{◌≡◌, ◌≢◌, ◌⊎◌, ℕ, ◌+◌, true, false, List, [], ◌∷◌, ◌++◌, length, Option, None, Some, refl, ap, sym, ◌∙◌, inl, inr, arith}
 use Rattle.std.specs.Prelude.{◌==◌, ◌&&◌, not}
-use Rattle.std.proofs.lemmas.Bool.{cases_Bool, cases_eq, eqb-true, eqb-false, eq-eqb, ne_eqb, and_parts, and_cases, cond-true, cond-false, not-false}
+use Rattle.std.proofs.lemmas.Bool.{cases_Bool, cases_eq, eqb-true, eqb-false, eq-eqb, ne_eqb, and_parts, and_cases, cond-true, cond-false, not-false, false≢true}
 use Rattle.pfs_lexer.specs.Quotes.{is_pair, more, quoted_len}
 use Rattle.pfs_lexer.specs.Grammar.{IsPlain, IsDoubled, IsBody}
+use Rattle.pfs_lexer.specs.Accounts.{BeginsWith}
 use Rattle.pfs_lexer.proofs.Steps.{quoted-pair, quoted-end, quoted-other, last-end, last-other, quoted-none}
 
 -- a length of some bytes more
@@ -52,13 +53,14 @@ pub record Closes (q : ℕ) (xs : List ℕ) (n : ℕ) : Type 0 where
   pub split : xs ≡ body ++ q ∷ rest
   pub len : n ≡ length body + 1
   pub is : IsBody q body
+  pub stops : ¬ BeginsWith q rest
 
 pub quoted_closes : (q : ℕ) (xs : List ℕ) (n : ℕ) → quoted_len q xs ≡ Some n → Closes q xs n
 quoted_closes q [] n e = absurd (cc (quoted-none q, e))
 quoted_closes q (b ∷ []) n e = elim (cases_eq b q) [
   | inl same ↦
       let one : Some 1 ≡ Some n = sym (last-end q b (eq-eqb b q same)) ∙ e in
-      record { body = []; rest = []; split = ap (λ x. x ∷ []) same; len = sym (cc one); is = tt }
+      record { body = []; rest = []; split = ap (λ x. x ∷ []) same; len = sym (cc one); is = tt; stops = λ no. no }
   | inr other ↦ absurd (cc (more-none_is, last-other q b (ne_eqb b q other), e))
 ]
   where
@@ -74,11 +76,12 @@ quoted_closes q (b ∷ c ∷ xs) n e = elim (cases_Bool (is_pair q b c)) [
         split = ap (λ r. b ∷ c ∷ r) inner.split;
         len = omega (arith, l.sum, inner.len);
         is = inr (pair-doubled q b c pair, inner.is);
+        stops = inner.stops;
       }
   | inr single ↦ elim (cases_eq b q) [
     | inl same ↦
         let one : Some 1 ≡ Some n = sym (quoted-end q b c xs single (eq-eqb b q same)) ∙ e in
-        record { body = []; rest = c ∷ xs; split = ap (λ x. x ∷ c ∷ xs) same; len = sym (cc one); is = tt }
+        record { body = []; rest = c ∷ xs; split = ap (λ x. x ∷ c ∷ xs) same; len = sym (cc one); is = tt; stops = λ again. false≢true (sym single ∙ (cond-true (b == q) (c == q) (not (q == 96) && b == 92) (eq-eqb b q same) ∙ eq-eqb c q again)) }
     | inr other ↦
         let l = more-some 1 n (quoted_len q (c ∷ xs)) (sym (quoted-other q b c xs single (ne_eqb b q other)) ∙ e) in
         let inner = quoted_closes q (c ∷ xs) l.less l.is in
@@ -88,6 +91,7 @@ quoted_closes q (b ∷ c ∷ xs) n e = elim (cases_Bool (is_pair q b c)) [
           split = ap (λ r. b ∷ r) inner.split;
           len = omega (arith, l.sum, inner.len);
           is = body-plain q b inner.body (single-plain q b c single other) inner.is;
+          stops = inner.stops;
         }
   ]
 ]

@@ -2,11 +2,13 @@
 use Rattle.std.specs.Prelude.{◌≡◌, ◌≢◌, ℕ, ◌+◌, ◌<◌, ◌≤◌, ◌==◌, true, false, not, List, [], ◌∷◌, ◌++◌, length, take, nat_eq, codes, ◌⊎◌, Result, Ok, Err}
 use Rattle.std.specs.List.{concat, list_all, starts_with}
 use Rattle.pfs_lexer.specs.declared.tokens.TokenKind.{TokenKind}
+use Rattle.pfs_lexer.specs.declared.tokens.TokenKind.TheVariants.{String, QuotedName, Number, Word, Operator}
 use Rattle.pfs_lexer.specs.declared.tokens.Token.{Token}
 use Rattle.pfs_lexer.specs.declared.tokens.LexFault.{LexFault}
 use Rattle.pfs_lexer.specs.declared.tokens.LexFault.TheVariants as faults
 use Rattle.pfs_lexer.specs.Classes.{is_blank}
-use Rattle.pfs_lexer.specs.Grammar.{IsBody, IsToken, begins_nothing}
+use Rattle.pfs_lexer.specs.Items.{items_of}
+use Rattle.pfs_lexer.specs.Grammar.{IsBetween, IsBody, IsToken, begins_nothing}
 
 -- the line, or the text, ends here
 abbrev pub EndsLine : List ℕ → Type 0
@@ -17,6 +19,24 @@ EndsLine (b ∷ bytes) = b ≡ 10
 abbrev pub BeginsBlank : List ℕ → Type 0
 BeginsBlank [] = Unit {0}
 BeginsBlank (b ∷ bytes) = is_blank b ≡ true
+
+-- a comment begins here: `#`, or `--` where white space or the end of the text follows, or `/*`
+abbrev pub BeginsComment : List ℕ → Type 0
+BeginsComment bytes = (rest : List ℕ)
+    × ((bytes ≡ codes "#" ++ rest) ⊎ (((bytes ≡ codes "--" ++ rest) × BeginsBlank rest) ⊎ (bytes ≡ codes "/*" ++ rest)))
+
+-- the byte stands first
+abbrev pub BeginsWith : ℕ → List ℕ → Type 0
+BeginsWith q [] = ⊥
+BeginsWith q (b ∷ bytes) = b ≡ q
+
+-- a string or a quoted name isn't at its end where its own quote stands behind it
+abbrev pub GoesOn : TokenKind → List ℕ → List ℕ → Type 0
+GoesOn String body more = (IsBetween 39 body × BeginsWith 39 more) ⊎ (IsBetween 34 body × BeginsWith 34 more)
+GoesOn QuotedName body more = IsBetween 96 body × BeginsWith 96 more
+GoesOn Number body more = ⊥
+GoesOn Word body more = ⊥
+GoesOn Operator body more = ⊥
 
 -- `*/` begins at none of the first bytes
 abbrev pub HasNoClose : List ℕ → List ℕ → Type 0
@@ -59,13 +79,19 @@ abbrev pub IsLongest : List ℕ → List ℕ → Type 0
 IsLongest body more = (kind : TokenKind) (n : ℕ) → 0 < n → n ≤ length more → IsToken kind (body ++ take n more) → ⊥
 
 -- The text from a place on is blanks and tokens in turn, and all of it stands in one of them: each token is of its
--- kind, the longest there, begins behind the blanks before it, and ends where the next blanks begin. A fault comes last.
+-- kind, the longest there, begins behind the blanks before it, where no comment begins, doesn't go on behind its end,
+-- and ends where the next blanks begin. A fault comes last.
 abbrev pub Accounts : ℕ → List ℕ → List (Result Token LexFault) → Type 0
 Accounts place bytes [] = (blanks : List (List ℕ)) × (bytes ≡ concat blanks) × AreBlanks blanks []
 Accounts place bytes (Ok token ∷ items) = (blanks : List (List ℕ)) × (body : List ℕ) × (more : List ℕ)
     × (bytes ≡ concat blanks ++ (body ++ more)) × AreBlanks blanks (body ++ more)
     × (token.start ≡ place + length (concat blanks)) × (token.end ≡ token.start + length body)
-    × IsToken token.kind body × IsLongest body more × Accounts token.end more items
+    × IsToken token.kind body × IsLongest body more × (¬ BeginsComment (body ++ more)) × (¬ GoesOn token.kind body more)
+    × Accounts token.end more items
 Accounts place bytes (Err fault ∷ items) = (blanks : List (List ℕ)) × (bad : List ℕ)
     × (bytes ≡ concat blanks ++ bad) × AreBlanks blanks bad × IsFault fault (place + length (concat blanks)) bad
     × (items ≡ [])
+
+-- whatever accounts for a text is what the lexer gives for it
+abbrev pub OneReading : Type 0
+OneReading = (text : List ℕ) (items : List (Result Token LexFault)) → Accounts 0 text items → items ≡ items_of text

@@ -8,6 +8,7 @@
 mod classes;
 mod comments;
 mod fronts;
+pub mod laws;
 mod numbers;
 mod operators;
 mod quotes;

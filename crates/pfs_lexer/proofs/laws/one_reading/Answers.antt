@@ -1,0 +1,5 @@
+use Rattle.pfs_lexer.proofs.OneReading.{one_reading}
+use Rattle.pfs_lexer.proofs.laws.one_reading.Goals as goal
+
+pub returns : goal.returns
+returns c = one_reading
