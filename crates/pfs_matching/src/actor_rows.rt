@@ -7,15 +7,12 @@ ghost use Rattle.std.specs.Ordering.{is_eq};
 ghost use Rattle.pfs_matching.specs.Keyed.{AreRows, comes_before, key_cmp, with_named_changed, with_row, without_named};
 ghost use Rattle.pfs_matching.specs.ActorRules.{actor_flags, actor_has, actor_key, actor_says, changed_actor, opening_actors};
 
-use crate::places::remove_places;
+use crate::keyed_rows::{KeyedRow, KeyedRows, MOST_ROWS};
 use crate::{FlagChange, MatchFault, NoMemory};
 use pfs_text::Text;
 use std::alloc::Global;
 use std::cmp::Ordering;
 use std::marker::Model;
-
-/// The most rows.
-const MOST_ROWS: usize = 100;
 
 /// A row of `setup_actors`: HOST, USER, ROLE, ENABLED and HISTORY. The text `%` stands for any host or user.
 #[derive(Debug, Drop)]
@@ -27,23 +24,42 @@ pub struct ActorRow {
     pub history: bool,
 }
 
+impl KeyedRow for ActorRow {
+    ghost use Rattle.std.specs.Prelude.{refl};
+    ghost use Rattle.pfs_matching.specs.ActorRules.{actor_key, changed_actor};
+
+    ghost key = { actor_key };
+
+    ghost changed = { changed_actor };
+
+    ghost keeps = { λ change row. refl };
+
+    fn order(&self, other: &ActorRow) -> Ordering {
+        self.host
+            .cmp(&other.host)
+            .then(self.user.cmp(&other.user))
+            .then(self.role.cmp(&other.role))
+    }
+
+    fn change(&mut self, change: &FlagChange) {
+        self.enabled = change.first.unwrap_or(self.enabled);
+        self.history = change.second.unwrap_or(self.history);
+    }
+}
+
 /// The rows of `setup_actors` in the order of HOST, USER and ROLE by their bytes, with room for 100.
 #[derive(Drop)]
 pub struct Actors {
-    rows: Vec<ActorRow>,
+    rows: KeyedRows<ActorRow>,
 }
 
 impl Model for Actors {
-    ghost use Rattle.std.specs.Prelude.{List, ◌≤◌, vec_capacity};
+    ghost use Rattle.std.specs.Prelude.{List};
     ghost use Rattle.pfs_matching.specs.declared.actor_rows.ActorRow.{ActorRow};
-    ghost use Rattle.pfs_matching.specs.Keyed.{AreRows};
-    ghost use Rattle.pfs_matching.specs.ActorRules.{actor_key};
 
     ghost Value = { List ActorRow };
 
-    ghost view = { λ a. a.rows.items };
-
-    ghost invariant = { λ a. AreRows actor_key a.rows.items × (100 ≤ vec_capacity a.rows) };
+    ghost view = { λ a. a.rows };
 }
 
 impl Actors {
@@ -60,7 +76,9 @@ impl Actors {
             history: true,
         };
         rows.push_reserved(row);
-        Ok(Actors { rows })
+        Ok(Actors {
+            rows: KeyedRows::new(rows),
+        })
     }
 
     /// The number of rows.
@@ -68,7 +86,7 @@ impl Actors {
         ensures number { result ≡ length self.now }
         ensures rows { AreRows actor_key self.now }
     {
-        self.rows.len()
+        self.rows.rows().len()
     }
 
     /// The row at a place in key order.
@@ -76,7 +94,7 @@ impl Actors {
         requires { place < length self.now }
         ensures { slice_get self.now place ≡ Some result.now }
     {
-        &self.rows[place]
+        &self.rows.rows()[place]
     }
 
     /// Adds a row at its place in key order. It comes with its own texts, so this takes no memory. Duplicate comes exactly where a
@@ -88,17 +106,7 @@ impl Actors {
         ensures full { (result ≡ Err MatchFault.Full) ↔ ((¬ Contains (map actor_key self.old) (actor_key row)) × (length self.old ≡ 100)) }
         ensures err { OnErr result (self.new ≡ self.old) }
     {
-        if has_key(&self.rows, &row) {
-            return Err(MatchFault::Duplicate);
-        }
-        if self.rows.len() == MOST_ROWS {
-            return Err(MatchFault::Full);
-        }
-        let place = place_for(&self.rows, &row);
-        match self.rows.insert(place, row) {
-            Ok(()) => Ok(()),
-            Err(_) => unreachable!(),
-        }
+        self.rows.insert(row)
     }
 
     /// Removes the rows at these places, which ascend.
@@ -107,7 +115,7 @@ impl Actors {
         requires ascending { IsStrictlyIncreasing keys.now }
         ensures { self.new ≡ without_named keys.now self.old }
     {
-        remove_places(&mut self.rows, keys);
+        self.rows.delete(keys);
     }
 
     /// Changes ENABLED and HISTORY of the rows at these places, which ascend.
@@ -116,14 +124,14 @@ impl Actors {
         requires ascending { IsStrictlyIncreasing keys.now }
         ensures { self.new ≡ with_named_changed (changed_actor change.now) keys.now self.old }
     {
-        change_places(&mut self.rows, keys, change);
+        self.rows.update(keys, change);
     }
 
     /// Removes all rows.
     pub fn truncate(&mut self)
         ensures { self.new ≡ [] }
     {
-        self.rows.clear();
+        self.rows.truncate();
     }
 
     /// ENABLED and HISTORY for a new session: those of the row with its host and user; else with HOST `%` and its user; else
@@ -132,7 +140,7 @@ impl Actors {
     pub fn decide(&self, user: &[u8], host: &[u8]) -> (bool, bool)
         ensures { result ≡ actor_flags self.now user.now host.now }
     {
-        let rows = self.rows.as_slice();
+        let rows = self.rows.rows();
         if let Some(flags) = first_flags(rows, host, user) {
             return flags;
         }
@@ -146,24 +154,6 @@ impl Actors {
     }
 }
 
-fn change_places(rows: &mut Vec<ActorRow>, places: &[usize], change: &FlagChange)
-    requires inside { All (λ place. place < length rows.old.items) places.now }
-    requires ascending { IsStrictlyIncreasing places.now }
-    ensures rows { rows.new.items ≡ with_named_changed (changed_actor change.now) places.now rows.old.items }
-    ensures room { vec_capacity rows.new ≡ vec_capacity rows.old }
-{
-    for place in places {
-        change_row(&mut rows[*place], change);
-    }
-}
-
-fn change_row(row: &mut ActorRow, change: &FlagChange)
-    ensures { row.new ≡ changed_actor change.now row.old }
-{
-    row.enabled = change.first.unwrap_or(row.enabled);
-    row.history = change.second.unwrap_or(row.history);
-}
-
 // ENABLED and HISTORY of the first row with this HOST and USER.
 fn first_flags(rows: &[ActorRow], host: &[u8], user: &[u8]) -> Option<(bool, bool)>
     ensures { result ≡ option_map actor_says (find (actor_has (host.now, user.now)) rows.now) }
@@ -171,35 +161,4 @@ fn first_flags(rows: &[ActorRow], host: &[u8], user: &[u8]) -> Option<(bool, boo
     rows.iter()
         .find(|row| row.host.as_bytes() == host && row.user.as_bytes() == user)
         .map(|row| (row.enabled, row.history))
-}
-
-fn order(a: &ActorRow, b: &ActorRow) -> Ordering
-    ensures { result ≡ key_cmp (actor_key a.now) (actor_key b.now) }
-{
-    a.host
-        .cmp(&b.host)
-        .then(a.user.cmp(&b.user))
-        .then(a.role.cmp(&b.role))
-}
-
-// Whether a row with this row's key is there.
-fn has_key(rows: &[ActorRow], row: &ActorRow) -> bool
-    ensures { IsTrue result ↔ Contains (map actor_key rows.now) (actor_key row.now) }
-{
-    any_equal(rows, row)
-}
-
-fn any_equal(rows: &[ActorRow], row: &ActorRow) -> bool
-    ensures { result ≡ list_any (λ other. is_eq (key_cmp (actor_key other) (actor_key row.now))) rows.now }
-{
-    rows.iter().any(|other| order(other, row).is_eq())
-}
-
-// How many rows come before this one.
-fn place_for(rows: &[ActorRow], row: &ActorRow) -> usize
-    ensures { result ≡ prefix_len (λ other. comes_before actor_key other row.now) rows.now }
-{
-    rows.iter()
-        .take_while(|other| order(other, row).is_lt())
-        .count()
 }

@@ -3,6 +3,7 @@
 
 mod actor_rows;
 mod faults;
+mod keyed_rows;
 pub mod laws;
 mod object_rows;
 mod places;

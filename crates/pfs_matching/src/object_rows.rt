@@ -8,15 +8,12 @@ ghost use Rattle.pfs_matching.specs.declared.object_rows.ObjectKind.{ObjectKind}
 ghost use Rattle.pfs_matching.specs.Keyed.{AreRows, comes_before, key_cmp, with_named_changed, with_row, without_named};
 ghost use Rattle.pfs_matching.specs.ObjectRules.{changed_object, is_table as spec_is_table, kind_name, object_key, opening_objects, opening_of_kind, object_says, opening_row as spec_row, table_flags, table_has};
 
-use crate::places::remove_places;
+use crate::keyed_rows::{KeyedRow, KeyedRows, MOST_ROWS};
 use crate::{FlagChange, MatchFault, NoMemory};
 use pfs_text::Text;
 use std::alloc::Global;
 use std::cmp::Ordering;
 use std::marker::Model;
-
-/// The most rows.
-const MOST_ROWS: usize = 100;
 
 /// The OBJECT_TYPE of a row. The kinds stand in the order of their names by bytes.
 #[derive(Clone, Copy, Debug, PartialEq, Eq)]
@@ -75,23 +72,46 @@ pub struct ObjectRow {
     pub timed: bool,
 }
 
+impl KeyedRow for ObjectRow {
+    ghost use Rattle.std.specs.Prelude.{refl};
+    ghost use Rattle.pfs_matching.specs.ObjectRules.{object_key, changed_object};
+
+    ghost key = { object_key };
+
+    ghost changed = { changed_object };
+
+    ghost keeps = { λ change row. refl };
+
+    fn order(&self, other: &ObjectRow) -> Ordering {
+        let kinds = self
+            .kind
+            .name()
+            .as_bytes()
+            .cmp(other.kind.name().as_bytes());
+        kinds
+            .then(self.schema.cmp(&other.schema))
+            .then(self.name.cmp(&other.name))
+    }
+
+    fn change(&mut self, change: &FlagChange) {
+        self.enabled = change.first.unwrap_or(self.enabled);
+        self.timed = change.second.unwrap_or(self.timed);
+    }
+}
+
 /// The rows of `setup_objects` in the order of OBJECT_TYPE, OBJECT_SCHEMA and OBJECT_NAME by their bytes, with room for 100.
 #[derive(Drop)]
 pub struct Objects {
-    rows: Vec<ObjectRow>,
+    rows: KeyedRows<ObjectRow>,
 }
 
 impl Model for Objects {
-    ghost use Rattle.std.specs.Prelude.{List, ◌≤◌, vec_capacity};
+    ghost use Rattle.std.specs.Prelude.{List};
     ghost use Rattle.pfs_matching.specs.declared.object_rows.ObjectRow.{ObjectRow};
-    ghost use Rattle.pfs_matching.specs.Keyed.{AreRows};
-    ghost use Rattle.pfs_matching.specs.ObjectRules.{object_key};
 
     ghost Value = { List ObjectRow };
 
-    ghost view = { λ a. a.rows.items };
-
-    ghost invariant = { λ a. AreRows object_key a.rows.items × (100 ≤ vec_capacity a.rows) };
+    ghost view = { λ a. a.rows };
 }
 
 impl Objects {
@@ -101,7 +121,9 @@ impl Objects {
         ensures { IfOk result (λ objects. objects ≡ opening_objects) }
     {
         let rows = opening_rows(alloc)?;
-        Ok(Objects { rows })
+        Ok(Objects {
+            rows: KeyedRows::new(rows),
+        })
     }
 
     /// The number of rows.
@@ -109,7 +131,7 @@ impl Objects {
         ensures number { result ≡ length self.now }
         ensures rows { AreRows object_key self.now }
     {
-        self.rows.len()
+        self.rows.rows().len()
     }
 
     /// The row at a place in key order.
@@ -117,7 +139,7 @@ impl Objects {
         requires { place < length self.now }
         ensures { slice_get self.now place ≡ Some result.now }
     {
-        &self.rows[place]
+        &self.rows.rows()[place]
     }
 
     /// Adds a row at its place in key order. It comes with its own texts, so this takes no memory. Duplicate comes exactly where a
@@ -129,17 +151,7 @@ impl Objects {
         ensures full { (result ≡ Err MatchFault.Full) ↔ ((¬ Contains (map object_key self.old) (object_key row)) × (length self.old ≡ 100)) }
         ensures err { OnErr result (self.new ≡ self.old) }
     {
-        if has_key(&self.rows, &row) {
-            return Err(MatchFault::Duplicate);
-        }
-        if self.rows.len() == MOST_ROWS {
-            return Err(MatchFault::Full);
-        }
-        let place = place_for(&self.rows, &row);
-        match self.rows.insert(place, row) {
-            Ok(()) => Ok(()),
-            Err(_) => unreachable!(),
-        }
+        self.rows.insert(row)
     }
 
     /// Removes the rows at these places, which ascend.
@@ -148,7 +160,7 @@ impl Objects {
         requires ascending { IsStrictlyIncreasing keys.now }
         ensures { self.new ≡ without_named keys.now self.old }
     {
-        remove_places(&mut self.rows, keys);
+        self.rows.delete(keys);
     }
 
     /// Changes ENABLED and TIMED of the rows at these places, which ascend.
@@ -157,14 +169,14 @@ impl Objects {
         requires ascending { IsStrictlyIncreasing keys.now }
         ensures { self.new ≡ with_named_changed (changed_object change.now) keys.now self.old }
     {
-        change_places(&mut self.rows, keys, change);
+        self.rows.update(keys, change);
     }
 
     /// Removes all rows.
     pub fn truncate(&mut self)
         ensures { self.new ≡ [] }
     {
-        self.rows.clear();
+        self.rows.truncate();
     }
 
     /// ENABLED and TIMED of a table, from the rows of type TABLE: those of the row with its schema and name; else with its
@@ -173,7 +185,7 @@ impl Objects {
     pub fn decide_object(&self, schema: &[u8], name: &[u8]) -> (bool, bool)
         ensures { result ≡ table_flags self.now schema.now name.now }
     {
-        let rows = self.rows.as_slice();
+        let rows = self.rows.rows();
         if let Some(flags) = first_flags(rows, schema, name) {
             return flags;
         }
@@ -225,24 +237,6 @@ fn opening_row(
     })
 }
 
-fn change_places(rows: &mut Vec<ObjectRow>, places: &[usize], change: &FlagChange)
-    requires inside { All (λ place. place < length rows.old.items) places.now }
-    requires ascending { IsStrictlyIncreasing places.now }
-    ensures rows { rows.new.items ≡ with_named_changed (changed_object change.now) places.now rows.old.items }
-    ensures room { vec_capacity rows.new ≡ vec_capacity rows.old }
-{
-    for place in places {
-        change_row(&mut rows[*place], change);
-    }
-}
-
-fn change_row(row: &mut ObjectRow, change: &FlagChange)
-    ensures { row.new ≡ changed_object change.now row.old }
-{
-    row.enabled = change.first.unwrap_or(row.enabled);
-    row.timed = change.second.unwrap_or(row.timed);
-}
-
 // ENABLED and TIMED of the first row for tables with this schema and name.
 fn first_flags(rows: &[ObjectRow], schema: &[u8], name: &[u8]) -> Option<(bool, bool)>
     ensures { result ≡ option_map object_says (find (table_has (schema.now, name.now)) rows.now) }
@@ -258,35 +252,4 @@ fn is_table(kind: ObjectKind) -> bool
     ensures { result ≡ spec_is_table kind }
 {
     matches!(kind, ObjectKind::Table)
-}
-
-fn order(a: &ObjectRow, b: &ObjectRow) -> Ordering
-    ensures { result ≡ key_cmp (object_key a.now) (object_key b.now) }
-{
-    let kinds = a.kind.name().as_bytes().cmp(b.kind.name().as_bytes());
-    kinds
-        .then(a.schema.cmp(&b.schema))
-        .then(a.name.cmp(&b.name))
-}
-
-// Whether a row with this row's key is there.
-fn has_key(rows: &[ObjectRow], row: &ObjectRow) -> bool
-    ensures { IsTrue result ↔ Contains (map object_key rows.now) (object_key row.now) }
-{
-    any_equal(rows, row)
-}
-
-fn any_equal(rows: &[ObjectRow], row: &ObjectRow) -> bool
-    ensures { result ≡ list_any (λ other. is_eq (key_cmp (object_key other) (object_key row.now))) rows.now }
-{
-    rows.iter().any(|other| order(other, row).is_eq())
-}
-
-// How many rows come before this one.
-fn place_for(rows: &[ObjectRow], row: &ObjectRow) -> usize
-    ensures { result ≡ prefix_len (λ other. comes_before object_key other row.now) rows.now }
-{
-    rows.iter()
-        .take_while(|other| order(other, row).is_lt())
-        .count()
 }
