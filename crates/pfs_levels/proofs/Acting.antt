@@ -1,0 +1,59 @@
+-- A plain store's actions: row 0 counts them, and is in hand inside one.
+use Rattle.std.proofs.Common.{ℕ, ◌≡◌, ◌<◌, ◌≤◌, ◌+◌, ◌==◌, cond, false, true, Bool, List, [], ◌∷◌, ◌++◌, Option, Some, None, IsSome, slice_set, slice_index_or, length, refl, ap, sym, ◌∙◌, subst, arith, eq-eqb, ne_eqb, length-append}
+use Rattle.pfs_board.specs.declared.view.Label.{Label}
+use Rattle.pfs_rows.specs.declared.table.Seen.TheVariants.{Whole, Free}
+use Rattle.pfs_rows.specs.declared.table.Seen.TheVariants as sees
+use Rattle.pfs_levels.specs.declared.answers.Added.TheVariants.{Counted, Held}
+use Rattle.pfs_levels.specs.declared.answers.RingPut.TheVariants.{Done, Busy, Late}
+use Rattle.pfs_levels.specs.declared.answers.Word.{Word}
+use Rattle.pfs_levels.specs.declared.plain.Slot.{Slot}
+use Rattle.pfs_levels.specs.Calls.{Call, Adds, Rings, Reads, Loads, Draws, Takes, Puts, Frees, Sets, Enters, Leaves, IsRow, IsCell, IsRing, label_in}
+use Rattle.pfs_levels.specs.Plain.{Effect, Merges, Becomes, Holds, Renews, Releases, Op, op, ops_by, ops_of, slot, slot_by, slot_after, slot_at, in_hand, Answers, AllAnswer, IsAt, labels_after}
+use Rattle.pfs_levels.proofs.Steps.{at_row, here, read_is, away, held, ring_high}
+
+-- something done to another row
+elsewhere : (o : Op) (os : List Op) → 0 < o.row → slot_after (o ∷ os) 0 ≡ slot_after os 0
+unfolding slot_after
+elsewhere o os up = ap (λ b. cond b (slot_by o.effect (slot_after os 0)) (slot_after os 0)) (ne_eqb o.row 0 (λ z. absurd (omega arith)))
+
+-- row 0's version is the number of the actions that ended
+pub labels_count : (flags : List ℕ) (calls : List Call) → AllAnswer flags calls → length (labels_after calls) ≡ (slot_after (ops_of calls) 0).version
+unfolding labels_after slot_after ops_of
+labels_count flags [] a = refl
+labels_count flags (Adds row amount (Counted r v) ∷ calls) a = labels_count flags calls a.1 ∙ sym (ap (λ (s : Slot). s.version) (elsewhere (op r (Merges amount)) (ops_of calls) (omega (arith, a.0.0.0, a.0.1))))
+labels_count flags (Adds row amount (Held r v w) ∷ calls) a = absurd a.0
+labels_count flags (Rings row content (Done v) ∷ calls) a = labels_count flags calls a.1 ∙ sym (ap (λ (s : Slot). s.version) (elsewhere (op row (Becomes content)) (ops_of calls) (ring_high row content a.0.0)))
+labels_count flags (Rings row content (Busy v w) ∷ calls) a = absurd a.0
+labels_count flags (Rings row content (Late t) ∷ calls) a = labels_count flags calls a.1
+labels_count flags (Reads row seen ∷ calls) a = labels_count flags calls a.1
+labels_count flags (Loads w v found ∷ calls) a = labels_count flags calls a.1
+labels_count flags (Draws kind ticket ∷ calls) a = labels_count flags calls a.1
+labels_count flags (Takes row v found ∷ calls) a = labels_count flags calls a.1 ∙ sym (ap (λ (s : Slot). s.version) (elsewhere (op row Holds) (ops_of calls) a.0.0.0))
+labels_count flags (Puts row content v ∷ calls) a = labels_count flags calls a.1 ∙ sym (ap (λ (s : Slot). s.version) (elsewhere (op row (Becomes content)) (ops_of calls) a.0.0.0))
+labels_count flags (Frees row v ∷ calls) a = labels_count flags calls a.1 ∙ sym (ap (λ (s : Slot). s.version) (elsewhere (op row Releases) (ops_of calls) a.0.0.0))
+labels_count flags (Sets w to v ∷ calls) a = labels_count flags calls a.1
+labels_count flags (Enters label labels ∷ calls) a = labels_count flags calls a.1
+labels_count flags (Leaves ∷ calls) a = length-append (labels_after calls) (label_in calls ∷ []) ∙ ap (λ n. n + 1) (labels_count flags calls a.1)
+
+pub at_enter : (slots : List Slot) (words : List Word) (tickets flags : List ℕ) (calls : List Call) (label : Label) (x : Slot) → length slots ≡ 14242 → x ≡ slice_index_or slots 0 x → in_hand (slot_at slots 0) ≡ None
+    → IsAt slots words tickets flags calls → (labels : List Label) × ((x.version + 1 ≡ length labels + 1) × IsAt (slice_set slots 0 (slot x.version true x.allocated x.content)) words tickets flags (Enters label labels ∷ calls))
+at_enter slots words tickets flags calls label x wide read free at =
+    let is = read_is slots 0 x (omega arith) wide read in
+    let now = here slots words tickets flags calls 0 x (omega arith) wide read at in
+    let idle : x.taken ≡ false = ap (λ (s : Slot). s.taken) is ∙ away _ _ free in (
+      labels_after calls,
+      (
+        ap (λ (s : Slot). s.version + 1) now ∙ ap (λ n. n + 1) (sym (labels_count flags calls at.answers)),
+        at_row slots words tickets flags calls (Enters label (labels_after calls)) 0 Holds (slot x.version true x.allocated x.content) refl refl refl (omega arith) wide (ap (slot_by Holds) is)
+          (sym (ap (λ (s : Slot). s.taken) now) ∙ idle, refl) at,
+      ),
+    )
+
+pub at_leave : (slots : List Slot) (words : List Word) (tickets flags : List ℕ) (calls : List Call) (x : Slot) → length slots ≡ 14242 → x ≡ slice_index_or slots 0 x → IsSome (in_hand (slot_at slots 0))
+    → IsAt slots words tickets flags calls → IsAt (slice_set slots 0 (slot (x.version + 1) false true x.content)) words tickets flags (Leaves ∷ calls)
+at_leave slots words tickets flags calls x wide read mine at =
+    let is = read_is slots 0 x (omega arith) wide read in
+    let now = here slots words tickets flags calls 0 x (omega arith) wide read at in
+    let taken : x.taken ≡ true = ap (λ (s : Slot). s.taken) is ∙ held _ _ mine in
+    at_row slots words tickets flags calls Leaves 0 Renews (slot (x.version + 1) false true x.content) refl refl refl (omega arith) wide (ap (slot_by Renews) is)
+      (sym (ap (λ (s : Slot). s.taken) now) ∙ taken) at

@@ -1,0 +1,27 @@
+-- A plain store as it opens.
+use Rattle.std.proofs.Common.{ℕ, zero, suc, ◌≡◌, ◌<◌, ◌≤◌, ◌+◌, false, Bool, true, cond, if◌then◌else◌, List, [], ◌∷◌, map, slice_index_or, length, ap, sym, ◌∙◌, subst, arith, lit≤, refl, Option, Some, None, inl, inr, ◌⊎◌, nat_lt}
+use Rattle.std.proofs.lemmas.List.{length-map, get_or-map}
+use Rattle.pfs_levels.specs.declared.plain.Slot.{Slot}
+use Rattle.pfs_levels.specs.declared.answers.Word.{Word}
+use Rattle.pfs_levels.specs.Joint.{sets_of, draws_of, drawn}
+use Rattle.pfs_levels.specs.Plain.{IsAt, HasRoom, slot, word, slot_at, word_at, opening_slot, slot_after, word_after, ops_of, in_hand}
+
+abbrev no_tickets : List ℕ
+no_tickets = 0 ∷ 0 ∷ 0 ∷ 0 ∷ []
+
+zeros : (kind : ℕ) → slice_index_or no_tickets kind 0 ≡ 0
+zeros zero = refl
+zeros (suc zero) = refl
+zeros (suc (suc zero)) = refl
+zeros (suc (suc (suc zero))) = refl
+zeros (suc (suc (suc (suc kind)))) = refl
+
+pub opened : (slots : List Slot) (words : List Word) (flags from : List ℕ) → length flags ≡ 160 → from ≡ flags → ((row : ℕ) → row < 14242 → slot_at slots row ≡ opening_slot row) → words ≡ map (word 0) flags → IsAt slots words (0 ∷ 0 ∷ 0 ∷ 0 ∷ []) from []
+unfolding slot_after word_after ops_of sets_of draws_of drawn
+opened slots words flags from wide same each w = record {
+  slots_are = each;
+  words_are = λ at low. ap (λ x. word_at x at) w ∙ get_or-map (word 0) flags at 0 _ (omega arith) ∙ ap (λ x. word 0 (slice_index_or x at 0)) (sym same);
+  tickets_are = λ kind low. zeros kind;
+  answers = tt;
+}
+

@@ -1,0 +1,198 @@
+-- A call leaves a plain store where the calls with it lead.
+use Rattle.std.proofs.Common.{ℕ, ◌≡◌, ◌≢◌, ◌⊎◌, inl, inr, ◌<◌, ◌≤◌, ◌+◌, ◌-◌, ◌*◌, ◌==◌, cond, false, true, Bool, List, [], ◌∷◌, ◌++◌, Option, Some, None, IsSome, slice_set, slice_index_or, slice_index, length, refl, ap, sym, ◌∙◌, subst, arith, eq-eqb, ne_eqb}
+use Rattle.std.proofs.lemmas.Bool.{cases_eq}
+use Rattle.std.proofs.lemmas.List.{get_or_read, get_or-set_same, get_or-set_other}
+use Rattle.pfs_board.specs.declared.view.Label.{Label}
+use Rattle.pfs_rows.specs.declared.table.Seen.TheVariants.{Whole, Free}
+use Rattle.pfs_stat.specs.declared.Stat.{Stat}
+use Rattle.pfs_levels.specs.declared.answers.Added.TheVariants.{Counted}
+use Rattle.pfs_levels.specs.declared.answers.RingPut.TheVariants.{Done, Late}
+use Rattle.pfs_levels.specs.declared.answers.Word.{Word}
+use Rattle.pfs_levels.specs.declared.plain.Slot.{Slot}
+use Rattle.pfs_levels.specs.Calls.{Call, Adds, Rings, Reads, Loads, Draws, Takes, Puts, Frees, Sets, Enters, Leaves, IsRow, IsCell, IsRing}
+use Rattle.pfs_levels.specs.Contents.{merged}
+use Rattle.pfs_levels.specs.Joint.{Setting, sets_by, sets_of, Draw, draws_by, draws_of, drawn}
+use Rattle.pfs_levels.specs.Plain.{Effect, Merges, Becomes, Renews, Holds, Releases, Op, op, ops_by, ops_of, slot, slot_by, slot_after, slot_at, in_hand, word, word_at, word_after, Answers, AllAnswer, IsAt, IsFresh, labels_after}
+
+-- a read after a write
+pub set_read : (slots : List Slot) (x : Slot) (at row : ℕ) → at < length slots → slot_at (slice_set slots at x) row ≡ cond (at == row) x (slot_at slots row)
+set_read slots x at row k = elim (cases_eq at row) [
+  | inl e ↦ (let P : ℕ → Type 0 = λ r. slot_at (slice_set slots at x) r ≡ x in subst P e (get_or-set_same slots at x (slot 0 false false []) k)) ∙ sym (ap (λ b. cond b x (slot_at slots row)) (eq-eqb at row e))
+  | inr e ↦ get_or-set_other slots at row x (slot 0 false false []) (λ z. e (sym z)) ∙ sym (ap (λ b. cond b x (slot_at slots row)) (ne_eqb at row e))
+]
+
+word_read : (words : List Word) (x : Word) (at row : ℕ) → at < length words → word_at (slice_set words at x) row ≡ cond (at == row) x (word_at words row)
+word_read words x at row k = elim (cases_eq at row) [
+  | inl e ↦ (let P : ℕ → Type 0 = λ r. word_at (slice_set words at x) r ≡ x in subst P e (get_or-set_same words at x (word 0 0) k)) ∙ sym (ap (λ b. cond b x (word_at words row)) (eq-eqb at row e))
+  | inr e ↦ get_or-set_other words at row x (word 0 0) (λ z. e (sym z)) ∙ sym (ap (λ b. cond b x (word_at words row)) (ne_eqb at row e))
+]
+
+number_read : (xs : List ℕ) (x at row : ℕ) → at < length xs → slice_index_or (slice_set xs at x) row 0 ≡ cond (at == row) x (slice_index_or xs row 0)
+number_read xs x at row k = elim (cases_eq at row) [
+  | inl e ↦ (let P : ℕ → Type 0 = λ r. slice_index_or (slice_set xs at x) r 0 ≡ x in subst P e (get_or-set_same xs at x 0 k)) ∙ sym (ap (λ b. cond b x (slice_index_or xs row 0)) (eq-eqb at row e))
+  | inr e ↦ get_or-set_other xs at row x 0 (λ z. e (sym z)) ∙ sym (ap (λ b. cond b x (slice_index_or xs row 0)) (ne_eqb at row e))
+]
+
+-- the fold with one more
+moved_to : (slots : List Slot) (os : List Op) (row : ℕ) (effect : Effect) (x : Slot) → row < 14242 → length slots ≡ 14242 → x ≡ slot_by effect (slot_at slots row)
+    → ((r : ℕ) → r < 14242 → slot_at slots r ≡ slot_after os r) → (r : ℕ) → r < 14242 → slot_at (slice_set slots row x) r ≡ slot_after (op row effect ∷ os) r
+unfolding slot_after
+moved_to slots os row effect x known wide is all r low = set_read slots x row r (omega arith) ∙ elim (cases_eq row r) [
+  | inl e ↦ rw (eq-eqb row r e) (is ∙ ap (slot_by effect) (ap (slot_at slots) e ∙ all r low))
+  | inr e ↦ rw (ne_eqb row r e) (all r low)
+]
+
+-- a call that changes, takes or releases a row
+pub at_row : (slots : List Slot) (words : List Word) (tickets flags : List ℕ) (calls : List Call) (call : Call) (row : ℕ) (effect : Effect) (x : Slot)
+    → ops_by call ≡ op row effect ∷ [] → sets_by call ≡ [] → draws_by call ≡ [] → row < 14242 → length slots ≡ 14242 → x ≡ slot_by effect (slot_at slots row)
+    → Answers flags calls call → IsAt slots words tickets flags calls → IsAt (slice_set slots row x) words tickets flags (call ∷ calls)
+unfolding ops_of sets_of draws_of
+at_row slots words tickets flags calls call row effect x o s d known wide is answer at = record {
+  slots_are = λ r low. moved_to slots (ops_of calls) row effect x known wide is at.slots_are r low ∙ ap (λ z. slot_after (z ++ ops_of calls) r) (sym o);
+  words_are = λ w low. at.words_are w low ∙ ap (λ z. word_after flags (z ++ sets_of calls) w) (sym s);
+  tickets_are = λ k low. at.tickets_are k low ∙ ap (λ z. drawn (z ++ draws_of calls) k) (sym d);
+  answers = (answer, at.answers);
+}
+
+-- a call that only looks
+pub at_look : (slots : List Slot) (words : List Word) (tickets flags : List ℕ) (calls : List Call) (call : Call)
+    → ops_by call ≡ [] → sets_by call ≡ [] → draws_by call ≡ [] → Answers flags calls call → IsAt slots words tickets flags calls → IsAt slots words tickets flags (call ∷ calls)
+unfolding ops_of sets_of draws_of
+at_look slots words tickets flags calls call o s d answer at = record {
+  slots_are = λ r low. at.slots_are r low ∙ ap (λ z. slot_after (z ++ ops_of calls) r) (sym o);
+  words_are = λ w low. at.words_are w low ∙ ap (λ z. word_after flags (z ++ sets_of calls) w) (sym s);
+  tickets_are = λ k low. at.tickets_are k low ∙ ap (λ z. drawn (z ++ draws_of calls) k) (sym d);
+  answers = (answer, at.answers);
+}
+
+pub away : (b : Bool) (v : ℕ) → cond b (Some v) None ≡ None → b ≡ false
+away false v e = refl
+away true v e = cc
+
+pub held : (b : Bool) (v : ℕ) → IsSome (cond b (Some v) None) → b ≡ true
+held true v e = refl
+held false v e = cc
+
+kept_at : (b : Bool) (v k : ℕ) → cond b (Some v) None ≡ Some k → (b ≡ true) × (v ≡ k)
+kept_at true v k e = (refl, cc)
+kept_at false v k e = cc
+
+-- the slot that was read is the fold's
+pub here : (slots : List Slot) (words : List Word) (tickets flags : List ℕ) (calls : List Call) (row : ℕ) (x : Slot) → row < 14242 → length slots ≡ 14242 → x ≡ slice_index_or slots row x → IsAt slots words tickets flags calls → x ≡ slot_after (ops_of calls) row
+here slots words tickets flags calls row x known wide read at = get_or_read slots row x (omega arith) read (slot 0 false false []) ∙ at.slots_are row known
+
+pub read_is : (slots : List Slot) (row : ℕ) (x : Slot) → row < 14242 → length slots ≡ 14242 → x ≡ slice_index_or slots row x → x ≡ slot_at slots row
+read_is slots row x known wide read = get_or_read slots row x (omega arith) read (slot 0 false false [])
+
+pub at_add : (slots : List Slot) (words : List Word) (tickets flags : List ℕ) (calls : List Call) (row : ℕ) (amount : Stat) (content : List ℕ) (x : Slot) → IsCell row → length slots ≡ 14242
+    → x ≡ slice_index_or slots row x → in_hand (slot_at slots row) ≡ None → content ≡ merged x.content amount → IsAt slots words tickets flags calls
+    → IsAt (slice_set slots row (slot (x.version + 1) false true content)) words tickets flags (Adds row amount (Counted row (x.version + 1)) ∷ calls)
+at_add slots words tickets flags calls row amount content x cell wide read free sum at =
+    let low : row < 14242 = omega arith in
+    let is = read_is slots row x low wide read in
+    let now = here slots words tickets flags calls row x low wide read at in
+    let idle : x.taken ≡ false = ap (λ (s : Slot). s.taken) is ∙ away _ _ free in
+    at_row slots words tickets flags calls (Adds row amount (Counted row (x.version + 1))) row (Merges amount) (slot (x.version + 1) false true content) refl refl refl low wide
+      (ap (λ z. slot (x.version + 1) false true z) sum ∙ ap (slot_by (Merges amount)) is)
+      (cell, refl, sym (ap (λ (s : Slot). s.taken) now) ∙ idle, ap (λ (s : Slot). s.version + 1) now) at
+
+pub at_ring : (slots : List Slot) (words : List Word) (tickets flags : List ℕ) (calls : List Call) (row : ℕ) (content : List ℕ) (x : Slot) → IsRing row content → row < 14242 → length slots ≡ 14242
+    → x ≡ slice_index_or slots row x → in_hand (slot_at slots row) ≡ None → IsFresh row x content → IsAt slots words tickets flags calls
+    → IsAt (slice_set slots row (slot (x.version + 1) false true content)) words tickets flags (Rings row content (Done (x.version + 1)) ∷ calls)
+at_ring slots words tickets flags calls row content x ring low wide read free newer at =
+    let is = read_is slots row x low wide read in
+    let now = here slots words tickets flags calls row x low wide read at in
+    let idle : x.taken ≡ false = ap (λ (s : Slot). s.taken) is ∙ away _ _ free in
+    at_row slots words tickets flags calls (Rings row content (Done (x.version + 1))) row (Becomes content) (slot (x.version + 1) false true content) refl refl refl low wide
+      (ap (slot_by (Becomes content)) is)
+      (ring, sym (ap (λ (s : Slot). s.taken) now) ∙ idle, ap (λ (s : Slot). s.version + 1) now, subst (λ (s : Slot). IsFresh row s content) now newer) at
+
+pub at_late : (slots : List Slot) (words : List Word) (tickets flags : List ℕ) (calls : List Call) (row ticket : ℕ) (content : List ℕ) (x : Slot) → IsRing row content → row < 14242 → length slots ≡ 14242
+    → x ≡ slice_index_or slots row x → x.allocated ≡ true → 10242 ≤ row → slice_index x.content 15 ≡ ticket + 1 → slice_index content 15 ≤ ticket → IsAt slots words tickets flags calls
+    → IsAt slots words tickets flags (Rings row content (Late ticket) ∷ calls)
+at_late slots words tickets flags calls row ticket content x ring low wide read whole far holds less at =
+    let now = here slots words tickets flags calls row x low wide read at in
+    at_look slots words tickets flags calls (Rings row content (Late ticket)) refl refl refl
+      (ring, sym (ap (λ (s : Slot). s.allocated) now) ∙ whole, far, sym (ap (λ (s : Slot). slice_index s.content 15) now) ∙ holds, less) at
+
+pub at_whole : (slots : List Slot) (words : List Word) (tickets flags : List ℕ) (calls : List Call) (row : ℕ) (x : Slot) → IsRow row → length slots ≡ 14242 → x ≡ slice_index_or slots row x → x.allocated ≡ true
+    → IsAt slots words tickets flags calls → IsAt slots words tickets flags (Reads row (Whole x.version x.content) ∷ calls)
+at_whole slots words tickets flags calls row x known wide read whole at =
+    let now = here slots words tickets flags calls row x known.1 wide read at in
+    at_look slots words tickets flags calls (Reads row (Whole x.version x.content)) refl refl refl
+      (known, sym (ap (λ (s : Slot). s.allocated) now) ∙ whole, ap (λ (s : Slot). s.version) now, ap (λ (s : Slot). s.content) now) at
+
+pub at_vacant : (slots : List Slot) (words : List Word) (tickets flags : List ℕ) (calls : List Call) (row : ℕ) (x : Slot) → IsRow row → length slots ≡ 14242 → x ≡ slice_index_or slots row x → x.allocated ≡ false
+    → IsAt slots words tickets flags calls → IsAt slots words tickets flags (Reads row (Free (4 * x.version)) ∷ calls)
+at_vacant slots words tickets flags calls row x known wide read free at =
+    let now = here slots words tickets flags calls row x known.1 wide read at in
+    at_look slots words tickets flags calls (Reads row (Free (4 * x.version))) refl refl refl
+      (known, sym (ap (λ (s : Slot). s.allocated) now) ∙ free, ap (λ (s : Slot). 4 * s.version) now) at
+
+pub at_take : (slots : List Slot) (words : List Word) (tickets flags : List ℕ) (calls : List Call) (row : ℕ) (x : Slot) → IsRow row → length slots ≡ 14242 → x ≡ slice_index_or slots row x → in_hand (slot_at slots row) ≡ None
+    → IsAt slots words tickets flags calls → IsAt (slice_set slots row (slot x.version true x.allocated x.content)) words tickets flags (Takes row x.version x.content ∷ calls)
+at_take slots words tickets flags calls row x known wide read free at =
+    let is = read_is slots row x known.1 wide read in
+    let now = here slots words tickets flags calls row x known.1 wide read at in
+    let idle : x.taken ≡ false = ap (λ (s : Slot). s.taken) is ∙ away _ _ free in
+    at_row slots words tickets flags calls (Takes row x.version x.content) row Holds (slot x.version true x.allocated x.content) refl refl refl known.1 wide (ap (slot_by Holds) is)
+      (known, sym (ap (λ (s : Slot). s.taken) now) ∙ idle, ap (λ (s : Slot). s.version) now, ap (λ (s : Slot). s.content) now) at
+
+pub at_put : (slots : List Slot) (words : List Word) (tickets flags : List ℕ) (calls : List Call) (row : ℕ) (content : List ℕ) (x : Slot) → IsRow row → length slots ≡ 14242 → x ≡ slice_index_or slots row x → IsSome (in_hand (slot_at slots row))
+    → IsAt slots words tickets flags calls → IsAt (slice_set slots row (slot (x.version + 1) false true content)) words tickets flags (Puts row content (x.version + 1) ∷ calls)
+at_put slots words tickets flags calls row content x known wide read mine at =
+    let is = read_is slots row x known.1 wide read in
+    let now = here slots words tickets flags calls row x known.1 wide read at in
+    let taken : x.taken ≡ true = ap (λ (s : Slot). s.taken) is ∙ held _ _ mine in
+    at_row slots words tickets flags calls (Puts row content (x.version + 1)) row (Becomes content) (slot (x.version + 1) false true content) refl refl refl known.1 wide (ap (slot_by (Becomes content)) is)
+      (known, sym (ap (λ (s : Slot). s.taken) now) ∙ taken, ap (λ (s : Slot). s.version + 1) now) at
+
+pub at_free : (slots : List Slot) (words : List Word) (tickets flags : List ℕ) (calls : List Call) (row v : ℕ) (x : Slot) → IsRow row → length slots ≡ 14242 → x ≡ slice_index_or slots row x → in_hand (slot_at slots row) ≡ Some v
+    → IsAt slots words tickets flags calls → IsAt (slice_set slots row (slot x.version false false x.content)) words tickets flags (Frees row v ∷ calls)
+at_free slots words tickets flags calls row v x known wide read mine at =
+    let is = read_is slots row x known.1 wide read in
+    let now = here slots words tickets flags calls row x known.1 wide read at in
+    let both = kept_at _ _ _ mine in
+    let taken : x.taken ≡ true = ap (λ (s : Slot). s.taken) is ∙ both.0 in
+    at_row slots words tickets flags calls (Frees row v) row Releases (slot x.version false false x.content) refl refl refl known.1 wide (ap (slot_by Releases) is)
+      (known, sym (ap (λ (s : Slot). s.taken) now) ∙ taken, sym both.1 ∙ ap (λ (s : Slot). s.version) (sym is) ∙ ap (λ (s : Slot). s.version) now) at
+
+pub at_load : (slots : List Slot) (words : List Word) (tickets flags : List ℕ) (calls : List Call) (w : ℕ) (x : Word) → w < 160 → length words ≡ 160 → x ≡ slice_index_or words w x → IsAt slots words tickets flags calls
+    → IsAt slots words tickets flags (Loads w x.version x.flags ∷ calls)
+at_load slots words tickets flags calls w x known wide read at =
+    at_look slots words tickets flags calls (Loads w x.version x.flags) refl refl refl (known, get_or_read words w x (omega arith) read (word 0 0) ∙ at.words_are w known) at
+
+pub at_set : (slots : List Slot) (words : List Word) (tickets flags : List ℕ) (calls : List Call) (w to : ℕ) (x : Word) → w < 160 → length words ≡ 160 → x ≡ slice_index_or words w x → IsAt slots words tickets flags calls
+    → IsAt slots (slice_set words w (word (x.version + 1) to)) tickets flags (Sets w to (x.version + 1) ∷ calls)
+unfolding ops_of sets_of draws_of word_after
+at_set slots words tickets flags calls w to x known wide read at =
+    let now : x ≡ word_after flags (sets_of calls) w = get_or_read words w x (omega arith) read (word 0 0) ∙ at.words_are w known in
+    record {
+      slots_are = at.slots_are;
+      words_are = λ r low. word_read words (word (x.version + 1) to) w r (omega arith) ∙ ap (λ z. cond (w == r) (word (x.version + 1) to) z) (at.words_are r low);
+      tickets_are = at.tickets_are;
+      answers = ((known, ap (λ (y : Word). y.version + 1) now), at.answers);
+    }
+
+pub at_ticket : (slots : List Slot) (words : List Word) (tickets flags : List ℕ) (calls : List Call) (kind x : ℕ) → kind < 4 → length tickets ≡ 4 → x ≡ slice_index_or tickets kind 0 → IsAt slots words tickets flags calls
+    → IsAt slots words (slice_set tickets kind (x + 1)) flags (Draws kind x ∷ calls)
+unfolding ops_of sets_of draws_of drawn
+at_ticket slots words tickets flags calls kind x known wide read at =
+    let now : x ≡ drawn (draws_of calls) kind = read ∙ at.tickets_are kind known in
+    record {
+      slots_are = at.slots_are;
+      words_are = at.words_are;
+      tickets_are = λ k low. number_read tickets (x + 1) kind k (omega arith) ∙ elim (cases_eq kind k) [
+        | inl e ↦ rw (eq-eqb kind k e) (ap (λ z. z + 1) (now ∙ ap (drawn (draws_of calls)) e))
+        | inr e ↦ rw (ne_eqb kind k e) (at.tickets_are k low)
+      ];
+      answers = ((known, now), at.answers);
+    }
+
+pub ring_low : (row : ℕ) (content : List ℕ) → IsRing row content → row < 14242
+ring_low row content (inl near) = omega (arith, near.1)
+ring_low row content (inr far) = far.1
+
+pub ring_high : (row : ℕ) (content : List ℕ) → IsRing row content → 0 < row
+ring_high row content (inl near) = omega (arith, near.0)
+ring_high row content (inr far) = omega (arith, far.0)

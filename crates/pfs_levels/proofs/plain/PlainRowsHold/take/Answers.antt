@@ -1,0 +1,5 @@
+use Rattle.pfs_levels.proofs.Steps.{at_take}
+use Rattle.pfs_levels.proofs.plain.PlainRowsHold.take.Goals as goal
+
+pub returns-clause-call : goal.returns-clause-call
+returns-clause-call c = λ start calls at. at_take _ _ _ start.flags calls c.args.row c.index-found.result.now c.requires.known c.args.self.now.room.slots_wide c.index-found.ensures c.requires.away at

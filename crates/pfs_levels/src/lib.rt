@@ -1,0 +1,14 @@
+//! The shared store as an actor sees it, a plain store, and the moves of numbers from row to row.
+#![tactic(auto)]
+
+pub mod answers;
+pub mod plain;
+pub mod store;
+
+pub use answers::{Added, RingPut, Word};
+pub use pfs_board::{Content, Label};
+pub use plain::PlainRows;
+pub use store::{Acts, Hold, Rows};
+
+/// Memory ran out.
+pub type NoMemory = std::alloc::AllocError;
