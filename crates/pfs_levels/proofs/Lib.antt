@@ -1,3 +1,4 @@
 mod Steps
 mod Acting
 mod Opening
+pub mod Moving

@@ -1,4 +1,8 @@
 pub mod Calls
 pub mod Contents
+pub mod Flushes
 pub mod Joint
+pub mod Journal
+pub mod Moves
+pub mod Order
 pub mod Plain

@@ -2,11 +2,17 @@
 #![tactic(auto)]
 
 pub mod answers;
+pub mod log;
+pub mod moves;
+pub mod places;
 pub mod plain;
 pub mod store;
 
 pub use answers::{Added, RingPut, Word};
+pub use log::Log;
+pub use moves::{clear, move_up, purge};
 pub use pfs_board::{Content, Label};
+pub use places::{Level, NumberList, Places, Targets, Up, UpList};
 pub use plain::PlainRows;
 pub use store::{Acts, Hold, Rows};
 

@@ -1,0 +1,70 @@
+//! A list of journal entries with its room.
+
+ghost use Rattle.std.specs.Prelude.{◌≡◌, ◌<◌, ◌-◌, ◌++◌, ◌∷◌, [], IfOk};
+
+use crate::NoMemory;
+use pfs_event::Entry;
+use std::alloc::Global;
+use std::marker::Model;
+
+/// Entries in the order in which they were added, and room for more. Contracts see both, the room as a number.
+#[derive(Drop)]
+pub struct Log {
+    entries: Vec<Entry>,
+    room: u64,
+}
+
+impl Model for Log {
+    ghost use Rattle.std.specs.Prelude.{◌+◌, ◌≤◌, vec_len, vec_capacity};
+    ghost use Rattle.pfs_levels.specs.Journal.{Journal};
+
+    ghost Value = { Journal };
+
+    ghost view = { λ s. record { entries = s.entries.items; room = s.room } };
+
+    ghost invariant = { λ s. vec_len s.entries + s.room ≤ vec_capacity s.entries };
+}
+
+impl Log {
+    /// An empty log with room for so many entries. The room is taken here, and no other call takes memory.
+    pub fn with_room(alloc: Global, entries: u64) -> Result<Log, NoMemory>
+        ensures { IfOk result (λ log. log ≡ record { entries = []; room = entries }) }
+    {
+        let list = Vec::with_capacity(alloc, entries as usize)?;
+        Ok(Log {
+            entries: list,
+            room: entries,
+        })
+    }
+
+    /// Adds an entry at the end.
+    pub fn push(&mut self, entry: Entry)
+        requires { 0 < self.old.room }
+        ensures { self.new ≡ record { entries = self.old.entries ++ entry ∷ []; room = self.old.room - 1 } }
+    {
+        self.room -= 1;
+        self.entries.push_reserved(entry);
+    }
+
+    /// How many more entries have room.
+    pub fn room(&self) -> u64
+        ensures { result ≡ self.now.room }
+    {
+        let _ = &self.entries;
+        self.room
+    }
+
+    /// The entries, in the order in which they were added.
+    pub fn entries(&self) -> &[Entry]
+        ensures { result.now ≡ self.now.entries }
+    {
+        self.entries.as_slice()
+    }
+
+    /// Hands out the entries.
+    pub fn into_entries(self) -> Vec<Entry>
+        ensures { result.items ≡ self.entries }
+    {
+        self.entries
+    }
+}
