@@ -2,3 +2,4 @@ mod Steps
 mod Acting
 mod Opening
 pub mod Moving
+pub mod Flushing

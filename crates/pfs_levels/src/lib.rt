@@ -2,6 +2,7 @@
 #![tactic(auto)]
 
 pub mod answers;
+pub mod flushes;
 pub mod log;
 pub mod moves;
 pub mod places;
@@ -9,6 +10,7 @@ pub mod plain;
 pub mod store;
 
 pub use answers::{Added, RingPut, Word};
+pub use flushes::flush;
 pub use log::Log;
 pub use moves::{clear, move_up, purge};
 pub use pfs_board::{Content, Label};
