@@ -1,5 +1,7 @@
 mod Steps
 mod Acting
 mod Opening
+mod PlainRowsFacts
+pub mod PlainJoint
 pub mod Moving
 pub mod Flushing

@@ -1,5 +1,5 @@
 -- A plain store is the fold of the calls so far, and each call's answer is what the fold gives at its place.
-use Rattle.std.specs.Prelude.{ℕ, ◌≡◌, ◌+◌, ◌*◌, ◌<◌, ◌≤◌, ◌^◌, ◌==◌, ◌&&◌, ◌⊎◌, Bool, true, false, not, if◌then◌else◌, List, [], ◌∷◌, ◌++◌, length, slice_index, Option, Some, None}
+use Rattle.std.specs.Prelude.{ℕ, ◌≡◌, ◌+◌, ◌*◌, ◌<◌, ◌≤◌, ◌^◌, ◌==◌, nat_lt, ◌&&◌, ◌⊎◌, Bool, true, false, not, if◌then◌else◌, List, [], ◌∷◌, ◌++◌, length, slice_index, Option, Some, None}
 use Rattle.std.specs.List.{slice_index_or}
 use Rattle.pfs_board.specs.declared.view.Label.{Label}
 use Rattle.pfs_board.specs.Knowledge.{no_label}
@@ -143,3 +143,27 @@ pub record HasRoom (left draws : ℕ) (slots : List Slot) (words : List Word) (t
   pub tickets_wide : length tickets ≡ 4
   pub slots_few : (row : ℕ) → row < 14242 → (slot_at slots row).version + (if (slot_at slots row).taken then 1 else 0) + left ≤ 2 ^ 47
   pub tickets_few : (kind : ℕ) → kind < 4 → slice_index_or tickets kind 0 + draws ≤ 2 ^ 47
+
+abbrev pub is_put : Effect → Bool
+is_put (Merges amount) = true
+is_put (Becomes content) = true
+is_put Renews = true
+is_put Holds = false
+is_put Releases = false
+
+-- how often a row was published
+unfoldable pub puts_in : List Op → ℕ → ℕ
+puts_in [] row = 0
+puts_in (o ∷ os) row = if (o.row == row) && is_put o.effect then puts_in os row + 1 else puts_in os row
+
+abbrev pub content_by : Effect → List ℕ → List ℕ
+content_by (Merges amount) here = merged here amount
+content_by (Becomes content) here = content
+content_by Renews here = here
+content_by Holds here = here
+content_by Releases here = here
+
+-- the content of a row after so many publications
+unfoldable pub content_at : List Op → ℕ → ℕ → List ℕ
+content_at [] row k = opening_content row
+content_at (o ∷ os) row k = if (o.row == row) && (is_put o.effect && nat_lt (puts_in os row) k) then content_by o.effect (content_at os row k) else content_at os row k
