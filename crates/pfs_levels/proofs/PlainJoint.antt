@@ -233,3 +233,103 @@ extends flags call calls a = record {
   flag = λ at k low. all_flags_kept flags (sets_by call) (sets_of calls) at k (plain_words flags (call ∷ calls) a) low;
   words = words_more (sets_by call) (sets_of calls);
 }
+
+-- the content of a row, from its newest publication on
+now_at : (os : List Op) (row k : ℕ) → k ≡ puts_in os row → (slot_after os row).content ≡ content_at os row k
+now_at os row k e = contents os row k (omega (arith, e))
+
+slot_puts : (os : List Op) (row v : ℕ) → v ≡ (slot_after os row).version + 1 → v ≡ puts_in os row + 1
+slot_puts os row v e = e ∙ ap (λ z. z + 1) (versions os row)
+
+-- the newest call
+newest_put : (calls : List Call) (row : ℕ) (e : Effect) (v : ℕ) → is_put e ≡ true → v ≡ (slot_after (ops_of calls) row).version + 1 → content_at (op row e ∷ ops_of calls) row v ≡ content_by e (slot_after (ops_of calls) row).content
+newest_put calls row e v put next = put_new (ops_of calls) row e v put (slot_puts (ops_of calls) row v next)
+
+put_low : (cs : List At) (row v n : ℕ) → v ≡ n + 1 → count cs row ≡ n → v ≤ count (at_put row v ∷ cs) row
+unfolding count
+put_low cs row v n e f = rw (eq-eqb row row refl) (omega (arith, e, f))
+
+fresh_newer : (calls : List Call) (flags : List ℕ) (row : ℕ) (put found : List ℕ) (log : List At) (n : ℕ) → AllAnswer flags calls → 0 < row → n ≡ puts_in (ops_of calls) row → found ≡ (slot_after (ops_of calls) row).content
+    → ((0 < frees_at (changes_of calls) row n) → 0 < frees_at log row n) → IsFresh row (slot_after (ops_of calls) row) put → IsNewer row found put (frees_at log row n)
+fresh_newer calls flags row put found log n a up e f more fresh far = elim (fresh far) [
+  | inl h ↦ inl (more (as_freed (changes_of calls) row n (puts_in (ops_of calls) row) e (frees flags calls row a up h)))
+  | inr h ↦ inr (omega (arith, ap (λ z. slice_index z 15) f, h))
+]
+
+newest_set : (flags : List ℕ) (at to v : ℕ) (ss : List Setting) → v ≡ word_version ss at + 1 → (flags_at flags (record { word = at; version = v; flags = to } ∷ ss) at v ≡ to) × (v ≤ word_version (record { word = at; version = v; flags = to } ∷ ss) at)
+unfolding flags_at word_version
+newest_set flags at to v ss next = (rw (eq-eqb at at refl, eq-eqb v v refl) refl, rw (eq-eqb at at refl) (omega (arith, next)))
+
+newest : (flags : List ℕ) (call : Call) (calls : List Call) → AllAnswer flags (call ∷ calls) → Agrees flags (content_at (ops_of (call ∷ calls))) (changes_of (call ∷ calls)) (sets_of (call ∷ calls)) call × Bound (changes_of (call ∷ calls)) (sets_of (call ∷ calls)) call
+unfolding ops_of changes_of sets_of
+newest flags (Adds row amount (Counted r v)) calls a =
+    let os = ops_of calls in
+    let up : 0 < row = omega (arith, a.0.0.0) in
+    let P : ℕ → Type 0 = λ z. ((n : ℕ) × ((v ≡ n + 1) × (content_at (op z (Merges amount) ∷ os) z v ≡ merged (content_at (op z (Merges amount) ∷ os) z n) amount))) × ((0 < z) × (v ≤ count (at_put z v ∷ changes_of calls) z)) in
+    let n = puts_in os row in
+    let next : v ≡ n + 1 = slot_puts os row v a.0.3 in
+    let before : (slot_after os row).content ≡ content_at (op row (Merges amount) ∷ os) row n = now_at os row n refl ∙ sym (contents_kept (op row (Merges amount) ∷ []) os row n (omega arith)) in
+    subst P (sym a.0.1) ((n, (next, newest_put calls row (Merges amount) v refl a.0.3 ∙ ap (λ z. merged z amount) before)), (up, put_low (changes_of calls) row v n next (counts calls row up)))
+newest flags (Adds row amount (Held r v w)) calls a = absurd a.0
+newest flags (Rings row put (Done v)) calls a =
+    let os = ops_of calls in
+    let up : 0 < row = ring_high row put a.0.0 in
+    let n = puts_in os row in
+    let next : v ≡ n + 1 = slot_puts os row v a.0.2 in
+    let before : content_at (op row (Becomes put) ∷ os) row n ≡ (slot_after os row).content = contents_kept (op row (Becomes put) ∷ []) os row n (omega arith) ∙ sym (now_at os row n refl) in
+    ((n, (next, newest_put calls row (Becomes put) v refl a.0.2, fresh_newer calls flags row put _ (at_put row v ∷ changes_of calls) n a.1 up refl before (still_freed (at_put row v) (changes_of calls) row n) a.0.3)), (up, put_low (changes_of calls) row v n next (counts calls row up)))
+newest flags (Rings row put (Busy v w)) calls a = absurd a.0
+newest flags (Rings row put (Late t)) calls a =
+    let os = ops_of calls in
+    let up : 0 < row = ring_high row put a.0.0 in
+    ((puts_in os row, (omega (arith, counts calls row up), ap (λ z. slice_index z 15) (sym (now_at os row _ refl)) ∙ a.0.3)), up)
+newest flags (Reads row (Whole v found)) calls a =
+    let up = a.0.0.0 in
+    let e : v ≡ puts_in (ops_of calls) row = a.0.2 ∙ versions (ops_of calls) row in
+    ((a.0.3 ∙ now_at (ops_of calls) row v e, omega (arith, e, counts calls row up)), up)
+newest flags (Reads row (Free w)) calls a =
+    let up = a.0.0.0 in
+    ((puts_in (ops_of calls) row, (a.0.2 ∙ ap (λ z. 4 * z) (versions (ops_of calls) row), frees flags calls row a.1 up a.0.1)), up)
+newest flags (Reads row (sees.Busy v w)) calls a = absurd a.0
+newest flags (Loads at v found) calls a =
+    let ws = plain_words flags calls a.1 in
+    let e : v ≡ word_version (sets_of calls) at = ap (λ (y : Word). y.version) a.0.1 ∙ word_versions flags (sets_of calls) at ws in
+    ((ap (λ (y : Word). y.flags) a.0.1 ∙ word_flags flags (sets_of calls) at ws ∙ ap (λ z. flags_at flags (sets_of calls) at z) (sym e), omega (arith, e)), tt)
+newest flags (Draws kind ticket) calls a = (tt, tt)
+newest flags (Takes row v found) calls a =
+    let up = a.0.0.0 in
+    let e : v ≡ puts_in (ops_of calls) row = a.0.2 ∙ versions (ops_of calls) row in
+    ((a.0.3 ∙ now_at (ops_of calls) row v e ∙ sym (contents_kept (op row Holds ∷ []) (ops_of calls) row v (omega (arith, e))), omega (arith, e, counts calls row up)), up)
+newest flags (Puts row put v) calls a =
+    let up = a.0.0.0 in
+    let n = puts_in (ops_of calls) row in
+    let next : v ≡ n + 1 = slot_puts (ops_of calls) row v a.0.2 in
+    (newest_put calls row (Becomes put) v refl a.0.2, (up, put_low (changes_of calls) row v n next (counts calls row up)))
+newest flags (Frees row v) calls a = (tt, tt)
+newest flags (Sets at to v) calls a = newest_set flags at to v (sets_of calls) (plain_words flags (Sets at to v ∷ calls) a).0
+newest flags (Enters label labels) calls a = (tt, tt)
+newest flags Leaves calls a = (tt, tt)
+
+pub plain_found : (flags : List ℕ) (calls : List Call) → AllAnswer flags calls → AllBound flags (content_at (ops_of calls)) (changes_of calls) (sets_of calls) calls
+plain_found flags [] a = tt
+plain_found flags (call ∷ calls) a = (newest flags call calls a, all_more flags (content_at (ops_of calls)) (content_at (ops_of (call ∷ calls))) (changes_of calls) (changes_of (call ∷ calls)) (sets_of calls) (sets_of (call ∷ calls)) calls (extends flags call calls a) (plain_found flags calls a.1))
+
+agree_all : (flags : List ℕ) (content : ℕ → ℕ → List ℕ) (log : List At) (sets : List Setting) (calls : List Call) → AllBound flags content log sets calls → AllAgree flags content log sets calls
+agree_all flags content log sets [] f = tt
+agree_all flags content log sets (call ∷ calls) f = (f.0.0, agree_all flags content log sets calls f.1)
+
+-- any number of actors that used a plain store one after another, the last one first
+pub plain_joint : (flags : List ℕ) (actors : List (List Call)) → AllAnswer flags (all_calls actors)
+    → Joint flags actors (content_at (ops_of (all_calls actors))) (changes_of (all_calls actors)) (sets_of (all_calls actors)) (draws_of (all_calls actors))
+plain_joint flags actors a =
+    let calls = all_calls actors in
+    record {
+      chain = plain_chain flags calls a;
+      words = plain_words flags calls a;
+      tickets = plain_tickets flags calls a;
+      opens = λ row up low. content_opens (ops_of calls) row;
+      once = λ h. refl;
+      sets_once = λ h. refl;
+      draws_once = λ h. refl;
+      agrees = agree_all flags (content_at (ops_of calls)) (changes_of calls) (sets_of calls) calls (plain_found flags calls a);
+    }
