@@ -12,7 +12,7 @@ use Rattle.pfs_levels.specs.Plain.{Effect, Merges, Becomes, Holds, Renews, Relea
 use Rattle.pfs_levels.proofs.Steps.{at_row, here, read_is, away, held, ring_high}
 
 -- something done to another row
-elsewhere : (o : Op) (os : List Op) → 0 < o.row → slot_after (o ∷ os) 0 ≡ slot_after os 0
+pub elsewhere : (o : Op) (os : List Op) → 0 < o.row → slot_after (o ∷ os) 0 ≡ slot_after os 0
 unfolding slot_after
 elsewhere o os up = ap (λ b. cond b (slot_by o.effect (slot_after os 0)) (slot_after os 0)) (ne_eqb o.row 0 (λ z. absurd (omega arith)))
 

@@ -3,5 +3,6 @@ mod Acting
 mod Opening
 mod PlainRowsFacts
 pub mod PlainJoint
+pub mod PlainOrder
 pub mod Moving
 pub mod Flushing

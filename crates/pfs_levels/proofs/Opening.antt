@@ -25,3 +25,12 @@ opened slots words flags from wide same each w = record {
   answers = tt;
 }
 
+
+opens_all : (flags : List ℕ) (at : ℕ) → (word_at (map (word 0) flags) at).version ≡ 0
+opens_all [] at = refl
+opens_all (x ∷ xs) zero = refl
+opens_all (x ∷ xs) (suc at) = opens_all xs at
+
+-- each word opens at version 0
+pub word_opens : (words : List Word) (flags : List ℕ) (at : ℕ) → words ≡ map (word 0) flags → (word_at words at).version ≡ 0
+word_opens words flags at w = ap (λ x. (word_at x at).version) w ∙ opens_all flags at

@@ -8,6 +8,8 @@ pub mod moves;
 pub mod places;
 pub mod plain;
 pub mod store;
+#[cfg(test)]
+mod tests;
 
 pub use answers::{Added, RingPut, Word};
 pub use flushes::flush;

@@ -1,7 +1,7 @@
 //! The store as plain vectors.
 
 ghost use Rattle.std.specs.Prelude.{◌≡◌, ◌<◌, ◌≤◌, ◌+◌, ◌^◌, [], ℕ, List, None, Some, IfOk, length, map, replicate, if◌then◌else◌};
-ghost use Rattle.pfs_levels.specs.Calls.{Opening};
+ghost use Rattle.pfs_levels.specs.Calls.{Opening, known_version};
 ghost use Rattle.pfs_levels.specs.Contents.{zero_words};
 ghost use Rattle.pfs_levels.specs.Plain.{IsAt, HasRoom, slot_at, in_hand, word, opening_slot};
 
@@ -203,6 +203,7 @@ impl PlainRows {
         ensures draws { IfOk result (λ rows. ⟦<PlainRows as Rows>⟧.draws rows ≡ 2 ^ 47) }
         ensures hand { IfOk result (λ rows. (r : ℕ) → ⟦<PlainRows as Rows>⟧.hand rows r ≡ None) }
         ensures words { IfOk result (λ rows. ⟦<PlainRows as Rows>⟧.words rows ≡ Some (map (word 0) flags.now)) }
+        ensures versions { IfOk result (λ rows. (at : ℕ) → known_version (⟦<PlainRows as Rows>⟧.words rows) at ≡ 0) }
     {
         let slots = opening_slots(alloc)?;
         let words = opening_words(alloc, flags)?;
