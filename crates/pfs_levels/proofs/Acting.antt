@@ -1,14 +1,12 @@
 -- A plain store's actions: row 0 counts them, and is in hand inside one.
-use Rattle.std.proofs.Common.{ℕ, ◌≡◌, ◌<◌, ◌≤◌, ◌+◌, ◌==◌, cond, false, true, Bool, List, [], ◌∷◌, ◌++◌, Option, Some, None, IsSome, slice_set, slice_index_or, length, refl, ap, sym, ◌∙◌, subst, arith, eq-eqb, ne_eqb, length-append}
+use Rattle.std.proofs.Common.{ℕ, ◌≡◌, ◌<◌, ◌+◌, cond, false, true, List, [], ◌∷◌, None, IsSome, slice_set, slice_index_or, length, refl, ap, sym, ◌∙◌, arith, ne_eqb, length-append}
 use Rattle.pfs_board.specs.declared.view.Label.{Label}
-use Rattle.pfs_rows.specs.declared.table.Seen.TheVariants.{Whole, Free}
-use Rattle.pfs_rows.specs.declared.table.Seen.TheVariants as sees
 use Rattle.pfs_levels.specs.declared.answers.Added.TheVariants.{Counted, Held}
 use Rattle.pfs_levels.specs.declared.answers.RingPut.TheVariants.{Done, Busy, Late}
 use Rattle.pfs_levels.specs.declared.answers.Word.{Word}
 use Rattle.pfs_levels.specs.declared.plain.Slot.{Slot}
-use Rattle.pfs_levels.specs.Calls.{Call, Adds, Rings, Reads, Loads, Draws, Takes, Puts, Frees, Sets, Enters, Leaves, IsRow, IsCell, IsRing, label_in}
-use Rattle.pfs_levels.specs.Plain.{Effect, Merges, Becomes, Holds, Renews, Releases, Op, op, ops_by, ops_of, slot, slot_by, slot_after, slot_at, in_hand, Answers, AllAnswer, IsAt, labels_after}
+use Rattle.pfs_levels.specs.Calls.{Call, Adds, Rings, Reads, Loads, Draws, Takes, Puts, Frees, Sets, Enters, Leaves, label_in}
+use Rattle.pfs_levels.specs.Plain.{Merges, Becomes, Holds, Renews, Releases, Op, op, ops_of, slot, slot_by, slot_after, slot_at, in_hand, AllAnswer, IsAt, labels_after}
 use Rattle.pfs_levels.proofs.Steps.{at_row, here, read_is, away, held, ring_high}
 
 -- something done to another row
@@ -45,7 +43,7 @@ at_enter slots words tickets flags calls label x wide read free at =
       (
         ap (λ (s : Slot). s.version + 1) now ∙ ap (λ n. n + 1) (sym (labels_count flags calls at.answers)),
         at_row slots words tickets flags calls (Enters label (labels_after calls)) 0 Holds (slot x.version true x.allocated x.content) refl refl refl (omega arith) wide (ap (slot_by Holds) is)
-          (sym (ap (λ (s : Slot). s.taken) now) ∙ idle, refl) at,
+            (sym (ap (λ (s : Slot). s.taken) now) ∙ idle, refl) at,
       ),
     )
 
@@ -56,4 +54,4 @@ at_leave slots words tickets flags calls x wide read mine at =
     let now = here slots words tickets flags calls 0 x (omega arith) wide read at in
     let taken : x.taken ≡ true = ap (λ (s : Slot). s.taken) is ∙ held _ _ mine in
     at_row slots words tickets flags calls Leaves 0 Renews (slot (x.version + 1) false true x.content) refl refl refl (omega arith) wide (ap (slot_by Renews) is)
-      (sym (ap (λ (s : Slot). s.taken) now) ∙ taken) at
+    (sym (ap (λ (s : Slot). s.taken) now) ∙ taken) at

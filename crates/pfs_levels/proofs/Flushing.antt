@@ -1,14 +1,14 @@
 -- Flushes, ask by ask.
-use Rattle.std.proofs.Common.{ℕ, zero, suc, ◌≡◌, ◌<◌, ◌≤◌, ◌+◌, List, [], ◌∷◌, ◌++◌, Option, length, take, drop, map, slice_index_or, refl, ap, sym, ◌∙◌, subst, arith}
+use Rattle.std.proofs.Common.{ℕ, zero, suc, ◌≡◌, ◌<◌, ◌≤◌, ◌+◌, List, [], ◌∷◌, ◌++◌, Option, length, take, drop, map, slice_index_or, ap, sym, ◌∙◌, subst, arith}
 use Rattle.std.specs.List.{flat_map, All}
 use Rattle.std.proofs.lemmas.List.{take_more, append-nil, map-append, take-append-drop}
 use Rattle.std.proofs.lemmas.Grind.{flat_map-append}
 use Rattle.pfs_levels.specs.declared.answers.Word.{Word}
 use Rattle.pfs_levels.specs.declared.flushes.Source.{Source}
 use Rattle.pfs_levels.specs.Calls.{Call, Opening}
-use Rattle.pfs_levels.specs.Flushes.{Ascends, ask_of, asks_of, CellsAreAway}
+use Rattle.pfs_levels.specs.Flushes.{Ascends, asks_of, CellsAreAway}
 use Rattle.pfs_levels.specs.Journal.{Journal}
-use Rattle.pfs_levels.specs.Moves.{Ask, ask, Moved, Stays, cost, IsAway, AreAway, AskIsAway}
+use Rattle.pfs_levels.specs.Moves.{Ask, ask, Moved, Stays, cost, AreAway}
 use Rattle.pfs_levels.proofs.Moving.{moved_then}
 
 pub cost_then : (xs ys : List Ask) → cost (xs ++ ys) ≡ cost xs + cost ys

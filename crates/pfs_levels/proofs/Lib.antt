@@ -3,6 +3,10 @@ mod Acting
 mod Opening
 mod PlainRowsFacts
 pub mod PlainJoint
-pub mod PlainOrder
+mod PlainFloors
+mod PlainOrder
+pub mod PlainKept
+mod PlainRising
+pub mod PlainNamed
 pub mod Moving
 pub mod Flushing

@@ -1,13 +1,12 @@
 -- Moves one after another.
-use Rattle.std.proofs.Common.{ℕ, ◌≡◌, ◌+◌, ◌==◌, cond, Bool, true, false, eq-eqb, ne_eqb, List, [], ◌∷◌, ◌++◌, refl, ap, sym, ◌∙◌, subst}
+use Rattle.std.proofs.Common.{ℕ, ◌≡◌, ◌==◌, cond, Bool, true, false, eq-eqb, ne_eqb, List, [], ◌∷◌, ◌++◌, refl, ap, sym, ◌∙◌, subst}
 use Rattle.std.proofs.lemmas.List.{append_assoc, append-nil}
 use Rattle.pfs_event.specs.declared.entry.Entry.{Entry}
 use Rattle.pfs_event.specs.declared.entry.Entry.TheVariants as says
 use Rattle.pfs_stat.specs.declared.Stat.{Stat}
-use Rattle.pfs_stat.specs.Stat.{stat_of_words}
 use Rattle.pfs_levels.specs.Calls.{Call, Puts, Takes, Frees, Opening, Goes}
 use Rattle.pfs_levels.specs.Journal.{Journal}
-use Rattle.pfs_levels.specs.Moves.{Ask, ask, Gift, Move, AreGifts, receivers, due, IsMove, gift_calls, gift_entries, empty_calls, move_calls, move_entries, AreMoves, moves_calls, moves_entries, Did, Moved, Emptied, Given, Purged}
+use Rattle.pfs_levels.specs.Moves.{Ask, ask, Gift, Move, AreGifts, receivers, IsMove, gift_calls, gift_entries, empty_calls, move_calls, move_entries, AreMoves, moves_calls, moves_entries, Did, Moved, Emptied, Given, Purged}
 
 pub did_none : (log : Journal) (was : Opening → List Call → Type 0) → Did [] [] log log was was
 did_none log was = record { entries_are = sym (append-nil log.entries); goes = λ start calls h. h }

@@ -1,10 +1,10 @@
 -- A plain store as it opens.
-use Rattle.std.proofs.Common.{ℕ, zero, suc, ◌≡◌, ◌<◌, ◌≤◌, ◌+◌, false, Bool, true, cond, if◌then◌else◌, List, [], ◌∷◌, map, slice_index_or, length, ap, sym, ◌∙◌, subst, arith, lit≤, refl, Option, Some, None, inl, inr, ◌⊎◌, nat_lt}
-use Rattle.std.proofs.lemmas.List.{length-map, get_or-map}
+use Rattle.std.proofs.Common.{ℕ, zero, suc, ◌≡◌, ◌<◌, List, [], ◌∷◌, map, slice_index_or, length, ap, sym, ◌∙◌, arith, refl}
+use Rattle.std.proofs.lemmas.List.{get_or-map}
 use Rattle.pfs_levels.specs.declared.plain.Slot.{Slot}
 use Rattle.pfs_levels.specs.declared.answers.Word.{Word}
 use Rattle.pfs_levels.specs.Joint.{sets_of, draws_of, drawn}
-use Rattle.pfs_levels.specs.Plain.{IsAt, HasRoom, slot, word, slot_at, word_at, opening_slot, slot_after, word_after, ops_of, in_hand}
+use Rattle.pfs_levels.specs.Plain.{IsAt, word, slot_at, word_at, opening_slot, slot_after, word_after, ops_of}
 
 abbrev no_tickets : List ℕ
 no_tickets = 0 ∷ 0 ∷ 0 ∷ 0 ∷ []
@@ -24,7 +24,6 @@ opened slots words flags from wide same each w = record {
   tickets_are = λ kind low. zeros kind;
   answers = tt;
 }
-
 
 opens_all : (flags : List ℕ) (at : ℕ) → (word_at (map (word 0) flags) at).version ≡ 0
 opens_all [] at = refl

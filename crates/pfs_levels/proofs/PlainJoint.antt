@@ -1,18 +1,17 @@
 -- The calls that led to a plain store have one order: their own.
-use Rattle.std.proofs.Common.{ℕ, ◌⊎◌, inl, inr, ◌≡◌, ◌<◌, ◌≤◌, ◌+◌, ◌*◌, ◌==◌, false, true, Bool, cond, not, ◌&&◌, List, [], ◌∷◌, ◌++◌, slice_index, slice_index_or, refl, ap, sym, ◌∙◌, subst, arith, eq-eqb, ne_eqb}
-use Rattle.std.proofs.lemmas.Bool.{cases_eq, eqb-true}
-use Rattle.pfs_board.specs.declared.view.Label.{Label}
+use Rattle.std.proofs.Common.{ℕ, inl, inr, ◌≡◌, ◌<◌, ◌≤◌, ◌+◌, ◌*◌, ◌==◌, false, true, Bool, cond, not, ◌&&◌, List, [], ◌∷◌, slice_index, refl, ap, sym, ◌∙◌, subst, arith, eq-eqb, ne_eqb}
+use Rattle.std.proofs.lemmas.Bool.{cases_eq}
 use Rattle.pfs_rows.specs.declared.table.Seen.TheVariants.{Whole, Free}
 use Rattle.pfs_rows.specs.declared.table.Seen.TheVariants as sees
 use Rattle.pfs_levels.specs.declared.answers.Added.TheVariants.{Counted, Held}
 use Rattle.pfs_levels.specs.declared.answers.RingPut.TheVariants.{Done, Busy, Late}
 use Rattle.pfs_levels.specs.declared.plain.Slot.{Slot}
 use Rattle.pfs_levels.specs.declared.answers.Word.{Word}
-use Rattle.pfs_levels.specs.Calls.{Call, Adds, Rings, Reads, Loads, Draws, Takes, Puts, Frees, Sets, Enters, Leaves, IsRow}
-use Rattle.pfs_levels.specs.Contents.{merged, opening_content}
-use Rattle.pfs_levels.specs.Joint.{total, one_if, At, at_put, at_free, changes_by, changes_of, count, IsCounted, Setting, sets_by, sets_of, word_version, flags_at, AreWordsCounted, Draw, draws_by, draws_of, drawn, AreDrawn, opens_free, frees_at, IsNewer, Agrees, AllAgree, all_calls, Joint}
-use Rattle.pfs_levels.specs.Plain.{Effect, Merges, Becomes, Renews, Holds, Releases, Op, op, ops_by, ops_of, slot, slot_by, slot_after, opening_slot, word, word_at, word_after, Answers, AllAnswer, IsFresh, is_put, puts_in, content_by, content_at}
-use Rattle.pfs_levels.proofs.PlainRowsFacts.{versions, contents, contents_kept, puts_more, put_new, content_opens, word_versions, words_more, all_flags_kept, word_flags, count_more, frees_more}
+use Rattle.pfs_levels.specs.Calls.{Call, Adds, Rings, Reads, Loads, Draws, Takes, Puts, Frees, Sets, Enters, Leaves}
+use Rattle.pfs_levels.specs.Contents.{merged}
+use Rattle.pfs_levels.specs.Joint.{total, At, at_put, at_free, changes_by, changes_of, count, IsCounted, Setting, sets_by, sets_of, word_version, flags_at, AreWordsCounted, draws_of, AreDrawn, opens_free, frees_at, IsNewer, Agrees, AllAgree, all_calls, Joint}
+use Rattle.pfs_levels.specs.Plain.{Effect, Merges, Becomes, Renews, Holds, Releases, Op, op, ops_by, ops_of, slot_by, slot_after, AllAnswer, IsFresh, is_put, puts_in, content_by, content_at}
+use Rattle.pfs_levels.proofs.PlainRowsFacts.{versions, contents, contents_kept, put_new, content_opens, word_versions, words_more, all_flags_kept, word_flags, count_more, frees_more}
 use Rattle.pfs_levels.proofs.Steps.{ring_high}
 
 no_put : (b : Bool) (n : ℕ) → cond (b && false) (n + 1) n ≡ n
@@ -134,13 +133,13 @@ frees flags (Adds at amount (Counted r v) ∷ calls) row a up free =
     let os = ops_of calls in
     let t = slot_by (Merges amount) (slot_after os row) in
     as_freed (at_put r v ∷ changes_of calls) row _ (puts_in os row) (put_elsewhere (r == row) (puts_in os row) (not_put (r == row) (slot_after os row) t refl free))
-      (still_freed (at_put r v) (changes_of calls) row (puts_in os row) (frees flags calls row a.1 up (no_put_free (r == row) (slot_after os row) t refl free)))
+    (still_freed (at_put r v) (changes_of calls) row (puts_in os row) (frees flags calls row a.1 up (no_put_free (r == row) (slot_after os row) t refl free)))
 frees flags (Adds at amount (Held r v w) ∷ calls) row a up free = absurd a.0
 frees flags (Rings at content (Done v) ∷ calls) row a up free =
     let os = ops_of calls in
     let t = slot_by (Becomes content) (slot_after os row) in
     as_freed (at_put at v ∷ changes_of calls) row _ (puts_in os row) (put_elsewhere (at == row) (puts_in os row) (not_put (at == row) (slot_after os row) t refl free))
-      (still_freed (at_put at v) (changes_of calls) row (puts_in os row) (frees flags calls row a.1 up (no_put_free (at == row) (slot_after os row) t refl free)))
+    (still_freed (at_put at v) (changes_of calls) row (puts_in os row) (frees flags calls row a.1 up (no_put_free (at == row) (slot_after os row) t refl free)))
 frees flags (Rings at content (Busy v w) ∷ calls) row a up free = absurd a.0
 frees flags (Rings at content (Late t) ∷ calls) row a up free = frees flags calls row a.1 up free
 frees flags (Reads at seen ∷ calls) row a up free = frees flags calls row a.1 up free
@@ -151,7 +150,7 @@ frees flags (Puts at content v ∷ calls) row a up free =
     let os = ops_of calls in
     let t = slot_by (Becomes content) (slot_after os row) in
     as_freed (at_put at v ∷ changes_of calls) row _ (puts_in os row) (put_elsewhere (at == row) (puts_in os row) (not_put (at == row) (slot_after os row) t refl free))
-      (still_freed (at_put at v) (changes_of calls) row (puts_in os row) (frees flags calls row a.1 up (no_put_free (at == row) (slot_after os row) t refl free)))
+    (still_freed (at_put at v) (changes_of calls) row (puts_in os row) (frees flags calls row a.1 up (no_put_free (at == row) (slot_after os row) t refl free)))
 frees flags (Frees at v ∷ calls) row a up free = as_freed (at_free at v ∷ changes_of calls) row _ (puts_in (ops_of calls) row) (no_put (at == row) (puts_in (ops_of calls) row)) (elim (cases_eq at row) [
   | inl e ↦ new_freed (changes_of calls) at row v (puts_in (ops_of calls) row) e (a.0.2 ∙ versions (ops_of calls) at ∙ ap (puts_in (ops_of calls)) e)
   | inr e ↦ still_freed (at_free at v) (changes_of calls) row (puts_in (ops_of calls) row) (frees flags calls row a.1 up (let R : Bool → Type 0 = λ b. (cond b (slot_by Releases (slot_after (ops_of calls) row)) (slot_after (ops_of calls) row)).allocated ≡ false in subst R (ne_eqb at row e) free))

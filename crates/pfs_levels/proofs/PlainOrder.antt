@@ -1,20 +1,14 @@
 -- The order of the calls that led to a plain store, by any number of actors one after another: numbers, floors, causes and labels.
-use Rattle.std.proofs.Common.{ℕ, ◌⊎◌, inl, inr, ◌≡◌, ◌<◌, ◌≤◌, ◌+◌, ◌-◌, ◌*◌, ◌==◌, nat_lt, nat_le, false, true, Bool, cond, not, ◌&&◌, List, [], ◌∷◌, ◌++◌, slice_index, slice_index_or, length, refl, ap, sym, ◌∙◌, subst, arith, eq-eqb, ne_eqb, length-append, append_assoc}
-use Rattle.std.proofs.lemmas.Bool.{cases_eq}
-use Rattle.std.proofs.lemmas.Bool.Decides.{nat_tests}
+use Rattle.std.proofs.Common.{ℕ, ◌⊎◌, inl, inr, ◌≡◌, ◌<◌, ◌≤◌, ◌+◌, ◌==◌, false, true, Bool, cond, ◌&&◌, List, [], ◌∷◌, ◌++◌, length, refl, ap, sym, ◌∙◌, subst, arith, length-append}
 use Rattle.pfs_board.specs.declared.view.Label.{Label}
-use Rattle.pfs_board.specs.Knowledge.{no_label}
-use Rattle.pfs_rows.specs.declared.table.Seen.TheVariants.{Whole, Free}
-use Rattle.pfs_rows.specs.declared.table.Seen.TheVariants as sees
 use Rattle.pfs_levels.specs.declared.answers.Added.TheVariants.{Counted, Held}
 use Rattle.pfs_levels.specs.declared.answers.RingPut.TheVariants.{Done, Busy, Late}
 use Rattle.pfs_levels.specs.declared.plain.Slot.{Slot}
-use Rattle.pfs_levels.specs.declared.answers.Word.{Word}
 use Rattle.pfs_levels.specs.Calls.{Call, Adds, Rings, Reads, Loads, Draws, Takes, Puts, Frees, Sets, Enters, Leaves, action_in, after_in, label_in}
-use Rattle.pfs_levels.specs.Joint.{total, one_if, Setting, sets_by, sets_of, word_version, all_calls}
-use Rattle.pfs_levels.specs.Order.{Mark, mark, marks_by, marks_of, all_marks, word_marks_by, word_marks_of, all_word_marks, marked, AreMarked, is_past, above, reaching, freed, IsFloored, AreFloored, AllCalls}
-use Rattle.pfs_levels.specs.Plain.{Effect, Merges, Becomes, Renews, Holds, Releases, Op, op, ops_by, ops_of, slot, slot_by, slot_after, word, word_after, Answers, AllAnswer, puts_in, labels_after}
-use Rattle.pfs_levels.proofs.PlainRowsFacts.{versions, word_versions, not_lt, yes_lt}
+use Rattle.pfs_levels.specs.Joint.{sets_of, word_version}
+use Rattle.pfs_levels.specs.Order.{Mark, marks_of, word_marks_of, marked, AreMarked}
+use Rattle.pfs_levels.specs.Plain.{Merges, Becomes, Holds, Releases, Op, op, ops_of, slot_after, AllAnswer, puts_in, labels_after}
+use Rattle.pfs_levels.proofs.PlainRowsFacts.{versions, word_versions}
 use Rattle.pfs_levels.proofs.PlainJoint.{plain_words}
 use Rattle.pfs_levels.proofs.Acting.{elsewhere, labels_count}
 use Rattle.pfs_levels.proofs.Steps.{ring_high}
@@ -24,7 +18,7 @@ no_put true n = refl
 no_put false n = refl
 
 -- marks are publications and releases, row 0 too
-marks_count : (calls rest : List Call) (log : List Mark) (row : ℕ) → marked log row ≡ puts_in (ops_of rest) row → marked (marks_of calls ++ log) row ≡ puts_in (ops_of (calls ++ rest)) row
+pub marks_count : (calls rest : List Call) (log : List Mark) (row : ℕ) → marked log row ≡ puts_in (ops_of rest) row → marked (marks_of calls ++ log) row ≡ puts_in (ops_of (calls ++ rest)) row
 unfolding marks_of ops_of marked puts_in
 marks_count [] rest log row h = h
 marks_count (Adds at amount (Counted r v) ∷ calls) rest log row h = ap (λ n. cond ((r == row) && true) (n + 1) n) (marks_count calls rest log row h)
@@ -46,7 +40,7 @@ and_yes : (b : Bool) → (b && true) ≡ b
 and_yes true = refl
 and_yes false = refl
 
-word_marks_count : (calls rest : List Call) (log : List Mark) (w : ℕ) → marked log w ≡ word_version (sets_of rest) w → marked (word_marks_of calls ++ log) w ≡ word_version (sets_of (calls ++ rest)) w
+pub word_marks_count : (calls rest : List Call) (log : List Mark) (w : ℕ) → marked log w ≡ word_version (sets_of rest) w → marked (word_marks_of calls ++ log) w ≡ word_version (sets_of (calls ++ rest)) w
 unfolding word_marks_of sets_of marked word_version
 word_marks_count [] rest log w h = h
 word_marks_count (Sets at to v ∷ calls) rest log w h = ap (λ b. cond b (marked (word_marks_of calls ++ log) w + 1) (marked (word_marks_of calls ++ log) w)) (and_yes (at == w)) ∙ ap (λ n. cond (at == w) (n + 1) n) (word_marks_count calls rest log w h)
@@ -62,7 +56,7 @@ word_marks_count (Enters label labels ∷ calls) rest log w h = word_marks_count
 word_marks_count (Leaves ∷ calls) rest log w h = word_marks_count calls rest log w h
 
 -- an actor is in an action exactly where row 0 is in hand, and the action's number is one above those that ended
-abbrev IsInside : Slot → ℕ → ℕ → Type 0
+abbrev pub IsInside : Slot → ℕ → ℕ → Type 0
 IsInside s action ended = ((s.taken ≡ false) × (action ≡ 0)) ⊎ ((s.taken ≡ true) × (action ≡ ended + 1))
 
 zero_here : (calls rest : List Call) → Slot
@@ -90,11 +84,11 @@ inside flags (Enters label labels ∷ calls) rest a idle = inr (refl, ap (λ ls.
 inside flags (Leaves ∷ calls) rest a idle = inl (refl, refl)
 
 -- what the actor knew as ended had ended
-ended_more : (ls : List Label) (l : Label) → length (ls ++ l ∷ []) ≡ length ls + 1
+pub ended_more : (ls : List Label) (l : Label) → length (ls ++ l ∷ []) ≡ length ls + 1
 ended_more ls l = length-append ls (l ∷ [])
 
 -- at the end of an action, its number
-leaving : (s : Slot) (action ended : ℕ) → s.taken ≡ true → IsInside s action ended → action ≡ ended + 1
+pub leaving : (s : Slot) (action ended : ℕ) → s.taken ≡ true → IsInside s action ended → action ≡ ended + 1
 leaving s action ended taken (inl h) = let no : true ≡ false = sym taken ∙ h.0 in cc
 leaving s action ended taken (inr h) = h.1
 
@@ -114,7 +108,7 @@ after_low flags (Enters label labels ∷ calls) rest a idle = omega (arith, ap (
 after_low flags (Leaves ∷ calls) rest a idle = omega (arith, ended_more (labels_after (calls ++ rest)) (label_in (calls ++ rest)), leaving (slot_after (ops_of (calls ++ rest)) 0) (action_in calls) (length (labels_after (calls ++ rest))) a.0 (inside flags calls rest a.1 idle))
 
 -- chains
-at_count : (calls rest : List Call) (log : List Mark) (row : ℕ) → ((r : ℕ) → marked log r ≡ puts_in (ops_of rest) r) → (slot_after (ops_of (calls ++ rest)) row).version ≡ marked (marks_of calls ++ log) row
+pub at_count : (calls rest : List Call) (log : List Mark) (row : ℕ) → ((r : ℕ) → marked log r ≡ puts_in (ops_of rest) r) → (slot_after (ops_of (calls ++ rest)) row).version ≡ marked (marks_of calls ++ log) row
 at_count calls rest log row h = versions (ops_of (calls ++ rest)) row ∙ sym (marks_count calls rest log row (h row))
 
 pub marks_chain : (flags : List ℕ) (calls rest : List Call) (log : List Mark) → AllAnswer flags (calls ++ rest) → (slot_after (ops_of rest) 0).taken ≡ false → ((r : ℕ) → marked log r ≡ puts_in (ops_of rest) r) → AreMarked log → AreMarked (marks_of calls ++ log)
@@ -137,3 +131,19 @@ marks_chain flags (Sets at to v ∷ calls) rest log a idle h m = marks_chain fla
 marks_chain flags (Enters label labels ∷ calls) rest log a idle h m = marks_chain flags calls rest log a.1 idle h m
 marks_chain flags (Leaves ∷ calls) rest log a idle h m =
     (leaving (slot_after (ops_of (calls ++ rest)) 0) (action_in calls) (length (labels_after (calls ++ rest))) a.0 (inside flags calls rest a.1 idle) ∙ ap (λ z. z + 1) (labels_count flags (calls ++ rest) a.1 ∙ at_count calls rest log 0 h), marks_chain flags calls rest log a.1 idle h m)
+
+pub word_marks_chain : (flags : List ℕ) (calls rest : List Call) (log : List Mark) → AllAnswer flags (calls ++ rest) → ((w : ℕ) → marked log w ≡ word_version (sets_of rest) w) → AreMarked log → AreMarked (word_marks_of calls ++ log)
+unfolding word_marks_of
+word_marks_chain flags [] rest log a h m = m
+word_marks_chain flags (Sets at to v ∷ calls) rest log a h m =
+    (a.0.1 ∙ ap (λ z. z + 1) (word_versions flags (sets_of (calls ++ rest)) at (plain_words flags (calls ++ rest) a.1) ∙ sym (word_marks_count calls rest log at (h at))), word_marks_chain flags calls rest log a.1 h m)
+word_marks_chain flags (Adds at amount answer ∷ calls) rest log a h m = word_marks_chain flags calls rest log a.1 h m
+word_marks_chain flags (Rings at content answer ∷ calls) rest log a h m = word_marks_chain flags calls rest log a.1 h m
+word_marks_chain flags (Reads at seen ∷ calls) rest log a h m = word_marks_chain flags calls rest log a.1 h m
+word_marks_chain flags (Loads at v found ∷ calls) rest log a h m = word_marks_chain flags calls rest log a.1 h m
+word_marks_chain flags (Draws kind ticket ∷ calls) rest log a h m = word_marks_chain flags calls rest log a.1 h m
+word_marks_chain flags (Takes at v found ∷ calls) rest log a h m = word_marks_chain flags calls rest log a.1 h m
+word_marks_chain flags (Puts at content v ∷ calls) rest log a h m = word_marks_chain flags calls rest log a.1 h m
+word_marks_chain flags (Frees at v ∷ calls) rest log a h m = word_marks_chain flags calls rest log a.1 h m
+word_marks_chain flags (Enters label labels ∷ calls) rest log a h m = word_marks_chain flags calls rest log a.1 h m
+word_marks_chain flags (Leaves ∷ calls) rest log a h m = word_marks_chain flags calls rest log a.1 h m

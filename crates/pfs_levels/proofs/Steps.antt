@@ -1,18 +1,17 @@
 -- A call leaves a plain store where the calls with it lead.
-use Rattle.std.proofs.Common.{ℕ, ◌≡◌, ◌≢◌, ◌⊎◌, inl, inr, ◌<◌, ◌≤◌, ◌+◌, ◌-◌, ◌*◌, ◌==◌, cond, false, true, Bool, List, [], ◌∷◌, ◌++◌, Option, Some, None, IsSome, slice_set, slice_index_or, slice_index, length, refl, ap, sym, ◌∙◌, subst, arith, eq-eqb, ne_eqb}
+use Rattle.std.proofs.Common.{ℕ, ◌≡◌, inl, inr, ◌<◌, ◌≤◌, ◌+◌, ◌*◌, ◌==◌, cond, false, true, Bool, List, [], ◌∷◌, ◌++◌, Some, None, IsSome, slice_set, slice_index_or, slice_index, length, refl, ap, sym, ◌∙◌, subst, arith, eq-eqb, ne_eqb}
 use Rattle.std.proofs.lemmas.Bool.{cases_eq}
 use Rattle.std.proofs.lemmas.List.{get_or_read, get_or-set_same, get_or-set_other}
-use Rattle.pfs_board.specs.declared.view.Label.{Label}
 use Rattle.pfs_rows.specs.declared.table.Seen.TheVariants.{Whole, Free}
 use Rattle.pfs_stat.specs.declared.Stat.{Stat}
 use Rattle.pfs_levels.specs.declared.answers.Added.TheVariants.{Counted}
 use Rattle.pfs_levels.specs.declared.answers.RingPut.TheVariants.{Done, Late}
 use Rattle.pfs_levels.specs.declared.answers.Word.{Word}
 use Rattle.pfs_levels.specs.declared.plain.Slot.{Slot}
-use Rattle.pfs_levels.specs.Calls.{Call, Adds, Rings, Reads, Loads, Draws, Takes, Puts, Frees, Sets, Enters, Leaves, IsRow, IsCell, IsRing}
+use Rattle.pfs_levels.specs.Calls.{Call, Adds, Rings, Reads, Loads, Draws, Takes, Puts, Frees, Sets, IsRow, IsCell, IsRing}
 use Rattle.pfs_levels.specs.Contents.{merged}
-use Rattle.pfs_levels.specs.Joint.{Setting, sets_by, sets_of, Draw, draws_by, draws_of, drawn}
-use Rattle.pfs_levels.specs.Plain.{Effect, Merges, Becomes, Renews, Holds, Releases, Op, op, ops_by, ops_of, slot, slot_by, slot_after, slot_at, in_hand, word, word_at, word_after, Answers, AllAnswer, IsAt, IsFresh, labels_after}
+use Rattle.pfs_levels.specs.Joint.{sets_by, sets_of, draws_by, draws_of, drawn}
+use Rattle.pfs_levels.specs.Plain.{Effect, Merges, Becomes, Holds, Releases, Op, op, ops_by, ops_of, slot, slot_by, slot_after, slot_at, in_hand, word, word_at, word_after, Answers, IsAt, IsFresh}
 
 -- a read after a write
 pub set_read : (slots : List Slot) (x : Slot) (at row : ℕ) → at < length slots → slot_at (slice_set slots at x) row ≡ cond (at == row) x (slot_at slots row)
@@ -93,8 +92,8 @@ at_add slots words tickets flags calls row amount content x cell wide read free 
     let now = here slots words tickets flags calls row x low wide read at in
     let idle : x.taken ≡ false = ap (λ (s : Slot). s.taken) is ∙ away _ _ free in
     at_row slots words tickets flags calls (Adds row amount (Counted row (x.version + 1))) row (Merges amount) (slot (x.version + 1) false true content) refl refl refl low wide
-      (ap (λ z. slot (x.version + 1) false true z) sum ∙ ap (slot_by (Merges amount)) is)
-      (cell, refl, sym (ap (λ (s : Slot). s.taken) now) ∙ idle, ap (λ (s : Slot). s.version + 1) now) at
+    (ap (λ z. slot (x.version + 1) false true z) sum ∙ ap (slot_by (Merges amount)) is)
+    (cell, refl, sym (ap (λ (s : Slot). s.taken) now) ∙ idle, ap (λ (s : Slot). s.version + 1) now) at
 
 pub at_ring : (slots : List Slot) (words : List Word) (tickets flags : List ℕ) (calls : List Call) (row : ℕ) (content : List ℕ) (x : Slot) → IsRing row content → row < 14242 → length slots ≡ 14242
     → x ≡ slice_index_or slots row x → in_hand (slot_at slots row) ≡ None → IsFresh row x content → IsAt slots words tickets flags calls
@@ -104,8 +103,8 @@ at_ring slots words tickets flags calls row content x ring low wide read free ne
     let now = here slots words tickets flags calls row x low wide read at in
     let idle : x.taken ≡ false = ap (λ (s : Slot). s.taken) is ∙ away _ _ free in
     at_row slots words tickets flags calls (Rings row content (Done (x.version + 1))) row (Becomes content) (slot (x.version + 1) false true content) refl refl refl low wide
-      (ap (slot_by (Becomes content)) is)
-      (ring, sym (ap (λ (s : Slot). s.taken) now) ∙ idle, ap (λ (s : Slot). s.version + 1) now, subst (λ (s : Slot). IsFresh row s content) now newer) at
+    (ap (slot_by (Becomes content)) is)
+    (ring, sym (ap (λ (s : Slot). s.taken) now) ∙ idle, ap (λ (s : Slot). s.version + 1) now, subst (λ (s : Slot). IsFresh row s content) now newer) at
 
 pub at_late : (slots : List Slot) (words : List Word) (tickets flags : List ℕ) (calls : List Call) (row ticket : ℕ) (content : List ℕ) (x : Slot) → IsRing row content → row < 14242 → length slots ≡ 14242
     → x ≡ slice_index_or slots row x → x.allocated ≡ true → 10242 ≤ row → slice_index x.content 15 ≡ ticket + 1 → slice_index content 15 ≤ ticket → IsAt slots words tickets flags calls
@@ -113,21 +112,21 @@ pub at_late : (slots : List Slot) (words : List Word) (tickets flags : List ℕ)
 at_late slots words tickets flags calls row ticket content x ring low wide read whole far holds less at =
     let now = here slots words tickets flags calls row x low wide read at in
     at_look slots words tickets flags calls (Rings row content (Late ticket)) refl refl refl
-      (ring, sym (ap (λ (s : Slot). s.allocated) now) ∙ whole, far, sym (ap (λ (s : Slot). slice_index s.content 15) now) ∙ holds, less) at
+    (ring, sym (ap (λ (s : Slot). s.allocated) now) ∙ whole, far, sym (ap (λ (s : Slot). slice_index s.content 15) now) ∙ holds, less) at
 
 pub at_whole : (slots : List Slot) (words : List Word) (tickets flags : List ℕ) (calls : List Call) (row : ℕ) (x : Slot) → IsRow row → length slots ≡ 14242 → x ≡ slice_index_or slots row x → x.allocated ≡ true
     → IsAt slots words tickets flags calls → IsAt slots words tickets flags (Reads row (Whole x.version x.content) ∷ calls)
 at_whole slots words tickets flags calls row x known wide read whole at =
     let now = here slots words tickets flags calls row x known.1 wide read at in
     at_look slots words tickets flags calls (Reads row (Whole x.version x.content)) refl refl refl
-      (known, sym (ap (λ (s : Slot). s.allocated) now) ∙ whole, ap (λ (s : Slot). s.version) now, ap (λ (s : Slot). s.content) now) at
+    (known, sym (ap (λ (s : Slot). s.allocated) now) ∙ whole, ap (λ (s : Slot). s.version) now, ap (λ (s : Slot). s.content) now) at
 
 pub at_vacant : (slots : List Slot) (words : List Word) (tickets flags : List ℕ) (calls : List Call) (row : ℕ) (x : Slot) → IsRow row → length slots ≡ 14242 → x ≡ slice_index_or slots row x → x.allocated ≡ false
     → IsAt slots words tickets flags calls → IsAt slots words tickets flags (Reads row (Free (4 * x.version)) ∷ calls)
 at_vacant slots words tickets flags calls row x known wide read free at =
     let now = here slots words tickets flags calls row x known.1 wide read at in
     at_look slots words tickets flags calls (Reads row (Free (4 * x.version))) refl refl refl
-      (known, sym (ap (λ (s : Slot). s.allocated) now) ∙ free, ap (λ (s : Slot). 4 * s.version) now) at
+    (known, sym (ap (λ (s : Slot). s.allocated) now) ∙ free, ap (λ (s : Slot). 4 * s.version) now) at
 
 pub at_take : (slots : List Slot) (words : List Word) (tickets flags : List ℕ) (calls : List Call) (row : ℕ) (x : Slot) → IsRow row → length slots ≡ 14242 → x ≡ slice_index_or slots row x → in_hand (slot_at slots row) ≡ None
     → IsAt slots words tickets flags calls → IsAt (slice_set slots row (slot x.version true x.allocated x.content)) words tickets flags (Takes row x.version x.content ∷ calls)
@@ -136,7 +135,7 @@ at_take slots words tickets flags calls row x known wide read free at =
     let now = here slots words tickets flags calls row x known.1 wide read at in
     let idle : x.taken ≡ false = ap (λ (s : Slot). s.taken) is ∙ away _ _ free in
     at_row slots words tickets flags calls (Takes row x.version x.content) row Holds (slot x.version true x.allocated x.content) refl refl refl known.1 wide (ap (slot_by Holds) is)
-      (known, sym (ap (λ (s : Slot). s.taken) now) ∙ idle, ap (λ (s : Slot). s.version) now, ap (λ (s : Slot). s.content) now) at
+    (known, sym (ap (λ (s : Slot). s.taken) now) ∙ idle, ap (λ (s : Slot). s.version) now, ap (λ (s : Slot). s.content) now) at
 
 pub at_put : (slots : List Slot) (words : List Word) (tickets flags : List ℕ) (calls : List Call) (row : ℕ) (content : List ℕ) (x : Slot) → IsRow row → length slots ≡ 14242 → x ≡ slice_index_or slots row x → IsSome (in_hand (slot_at slots row))
     → IsAt slots words tickets flags calls → IsAt (slice_set slots row (slot (x.version + 1) false true content)) words tickets flags (Puts row content (x.version + 1) ∷ calls)
@@ -145,7 +144,7 @@ at_put slots words tickets flags calls row content x known wide read mine at =
     let now = here slots words tickets flags calls row x known.1 wide read at in
     let taken : x.taken ≡ true = ap (λ (s : Slot). s.taken) is ∙ held _ _ mine in
     at_row slots words tickets flags calls (Puts row content (x.version + 1)) row (Becomes content) (slot (x.version + 1) false true content) refl refl refl known.1 wide (ap (slot_by (Becomes content)) is)
-      (known, sym (ap (λ (s : Slot). s.taken) now) ∙ taken, ap (λ (s : Slot). s.version + 1) now) at
+    (known, sym (ap (λ (s : Slot). s.taken) now) ∙ taken, ap (λ (s : Slot). s.version + 1) now) at
 
 pub at_free : (slots : List Slot) (words : List Word) (tickets flags : List ℕ) (calls : List Call) (row v : ℕ) (x : Slot) → IsRow row → length slots ≡ 14242 → x ≡ slice_index_or slots row x → in_hand (slot_at slots row) ≡ Some v
     → IsAt slots words tickets flags calls → IsAt (slice_set slots row (slot x.version false false x.content)) words tickets flags (Frees row v ∷ calls)
@@ -155,7 +154,7 @@ at_free slots words tickets flags calls row v x known wide read mine at =
     let both = kept_at _ _ _ mine in
     let taken : x.taken ≡ true = ap (λ (s : Slot). s.taken) is ∙ both.0 in
     at_row slots words tickets flags calls (Frees row v) row Releases (slot x.version false false x.content) refl refl refl known.1 wide (ap (slot_by Releases) is)
-      (known, sym (ap (λ (s : Slot). s.taken) now) ∙ taken, sym both.1 ∙ ap (λ (s : Slot). s.version) (sym is) ∙ ap (λ (s : Slot). s.version) now) at
+    (known, sym (ap (λ (s : Slot). s.taken) now) ∙ taken, sym both.1 ∙ ap (λ (s : Slot). s.version) (sym is) ∙ ap (λ (s : Slot). s.version) now) at
 
 pub at_load : (slots : List Slot) (words : List Word) (tickets flags : List ℕ) (calls : List Call) (w : ℕ) (x : Word) → w < 160 → length words ≡ 160 → x ≡ slice_index_or words w x → IsAt slots words tickets flags calls
     → IsAt slots words tickets flags (Loads w x.version x.flags ∷ calls)

@@ -1,12 +1,10 @@
 -- The calls of a store, each with its arguments and its answer. Lists of calls have the newest first.
-use Rattle.std.specs.Prelude.{ℕ, ◌≡◌, List, [], ◌∷◌, ◌++◌, ◌+◌, ◌-◌, ◌*◌, ◌/◌, ◌%◌, ◌<◌, ◌≤◌, ◌==◌, ◌⊎◌, if◌then◌else◌, Option, Some, None, length, slice_index, slice_set}
+use Rattle.std.specs.Prelude.{ℕ, ◌≡◌, List, [], ◌∷◌, ◌++◌, ◌+◌, ◌-◌, ◌%◌, ◌<◌, ◌≤◌, ◌==◌, ◌⊎◌, if◌then◌else◌, Option, Some, None, length, slice_index, slice_set}
 use Rattle.std.specs.List.{slice_index_or}
 use Rattle.atomic_table.specs.Seated.{TableId}
 use Rattle.pfs_board.specs.Knowledge.{no_label}
 use Rattle.pfs_board.specs.declared.view.Label.{Label}
 use Rattle.pfs_rows.specs.declared.table.Seen.{Seen}
-use Rattle.pfs_rows.specs.declared.table.Seen.TheVariants.{Whole, Free}
-use Rattle.pfs_rows.specs.declared.table.Seen.TheVariants as sees
 use Rattle.pfs_stat.specs.declared.Stat.{Stat}
 use Rattle.pfs_levels.specs.declared.answers.Added.{Added}
 use Rattle.pfs_levels.specs.declared.answers.Added.TheVariants.{Counted, Held}
@@ -15,16 +13,16 @@ use Rattle.pfs_levels.specs.declared.answers.RingPut.TheVariants.{Done, Busy, La
 use Rattle.pfs_levels.specs.declared.answers.Word.{Word}
 
 pub data Call : Type 0 where
-  Adds : ℕ → Stat → Added → Call             -- to a row, this amount
-  Rings : ℕ → List ℕ → RingPut → Call        -- to a row, this content
-  Reads : ℕ → Seen → Call                    -- of a row
-  Loads : ℕ → ℕ → ℕ → Call                   -- of a word: its version and flags
-  Draws : ℕ → ℕ → Call                       -- of a kind: the ticket
-  Takes : ℕ → ℕ → List ℕ → Call              -- of a row: its version and what it held
-  Puts : ℕ → List ℕ → ℕ → Call               -- to a row, this content: the version
-  Frees : ℕ → ℕ → Call                       -- of a row, at this version
-  Sets : ℕ → ℕ → ℕ → Call                    -- of a word, to these flags: the version
-  Enters : Label → List Label → Call         -- with this label, after the actions with those
+  Adds : ℕ → Stat → Added → Call  -- to a row, this amount
+  Rings : ℕ → List ℕ → RingPut → Call  -- to a row, this content
+  Reads : ℕ → Seen → Call  -- of a row
+  Loads : ℕ → ℕ → ℕ → Call  -- of a word: its version and flags
+  Draws : ℕ → ℕ → Call  -- of a kind: the ticket
+  Takes : ℕ → ℕ → List ℕ → Call  -- of a row: its version and what it held
+  Puts : ℕ → List ℕ → ℕ → Call  -- to a row, this content: the version
+  Frees : ℕ → ℕ → Call  -- of a row, at this version
+  Sets : ℕ → ℕ → ℕ → Call  -- of a word, to these flags: the version
+  Enters : Label → List Label → Call  -- with this label, after the actions with those
   Leaves : Call
 
 -- where an actor began on one of the shared tables: which table, which seat, how much it may use in all, and how many changes stood before

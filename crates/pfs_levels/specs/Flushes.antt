@@ -1,5 +1,5 @@
 -- What a flush asks for: every cell of a kind at a level, in ascending order, moved up as the level says.
-use Rattle.std.specs.Prelude.{ℕ, ◌≡◌, ◌+◌, ◌<◌, ◌≤◌, List, [], ◌∷◌, ◌++◌, map, All, Option, Some, None}
+use Rattle.std.specs.Prelude.{ℕ, ◌+◌, ◌<◌, ◌≤◌, List, [], ◌∷◌, map, All, Option, Some, None}
 use Rattle.std.specs.List.{flat_map}
 use Rattle.pfs_event.specs.declared.kind.EventKind.{EventKind}
 use Rattle.pfs_event.specs.declared.kind.EventKind.TheVariants.{Wait, Stage, Statement, Transaction}
@@ -11,7 +11,6 @@ use Rattle.pfs_levels.specs.declared.places.Places.{Places}
 use Rattle.pfs_levels.specs.declared.places.Up.{Up}
 use Rattle.pfs_levels.specs.declared.flushes.Source.{Source}
 use Rattle.pfs_levels.specs.declared.flushes.Source.TheVariants as of
-use Rattle.pfs_levels.specs.Calls.{IsRow}
 use Rattle.pfs_levels.specs.Moves.{Ask, ask, AskIsAway}
 
 -- the cells of a kind

@@ -2,7 +2,6 @@
 use Rattle.std.specs.Prelude.{ℕ, ◌≡◌, ◌+◌, ◌*◌, ◌<◌, ◌≤◌, ◌^◌, ◌==◌, nat_lt, ◌&&◌, ◌⊎◌, Bool, true, false, not, if◌then◌else◌, List, [], ◌∷◌, ◌++◌, length, slice_index, Option, Some, None}
 use Rattle.std.specs.List.{slice_index_or}
 use Rattle.pfs_board.specs.declared.view.Label.{Label}
-use Rattle.pfs_board.specs.Knowledge.{no_label}
 use Rattle.pfs_rows.specs.declared.table.Seen.TheVariants.{Whole, Free}
 use Rattle.pfs_rows.specs.declared.table.Seen.TheVariants as sees
 use Rattle.pfs_stat.specs.declared.Stat.{Stat}
@@ -12,13 +11,13 @@ use Rattle.pfs_levels.specs.declared.answers.Word.{Word}
 use Rattle.pfs_levels.specs.declared.plain.Slot.{Slot}
 use Rattle.pfs_levels.specs.Calls.{Call, Adds, Rings, Reads, Loads, Draws, Takes, Puts, Frees, Sets, Enters, Leaves, IsRow, IsCell, IsRing, label_in}
 use Rattle.pfs_levels.specs.Contents.{merged, opening_content}
-use Rattle.pfs_levels.specs.Joint.{Setting, sets_of, Draw, draws_of, drawn, opens_free}
+use Rattle.pfs_levels.specs.Joint.{Setting, sets_of, draws_of, drawn, opens_free}
 
 -- what a call does to a row
 pub data Effect : Type 0 where
   Merges : Stat → Effect
   Becomes : List ℕ → Effect
-  Renews : Effect              -- published with the content that it has
+  Renews : Effect  -- published with the content that it has
   Holds : Effect
   Releases : Effect
 

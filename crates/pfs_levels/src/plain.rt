@@ -5,9 +5,9 @@ ghost use Rattle.pfs_levels.specs.Calls.{Opening, known_version};
 ghost use Rattle.pfs_levels.specs.Contents.{zero_words};
 ghost use Rattle.pfs_levels.specs.Plain.{IsAt, HasRoom, slot_at, in_hand, word, opening_slot};
 
+use crate::NoMemory;
 use crate::answers::{Added, RingPut, Word};
 use crate::store::{Acts, Hold, Rows};
-use crate::NoMemory;
 use pfs_board::{Content, Label};
 use pfs_rows::Seen;
 use pfs_stat::{Stat, zero};

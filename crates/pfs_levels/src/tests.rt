@@ -132,7 +132,10 @@ fn a_late_event_is_told_the_greater_ticket(rt: HostRuntime) -> Result<(), Fail> 
     let mut early = [0; 16];
     early[15] = 1001;
     assert_eq!(rt; rows.ring_try(10_242, &early), RingPut::Done { version: 1 });
-    assert_eq!(rt; rows.ring_try(10_242, &late), RingPut::Late { ticket: 1000 });
+    assert_eq!(rt;
+        rows.ring_try(10_242, &late),
+        RingPut::Late { ticket: 1000 }
+    );
     Ok(())
 }
 

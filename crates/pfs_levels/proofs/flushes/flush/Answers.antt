@@ -1,8 +1,6 @@
-use Rattle.std.proofs.Common.{ℕ, ◌≡◌, ◌+◌, ◌<◌, List, ◌++◌, length, take, arith, sym, ap, ◌∙◌, subst, slice_index_or}
+use Rattle.std.proofs.Common.{ℕ, ◌≡◌, ◌+◌, ◌<◌, List, ◌++◌, length, take, arith, sym, subst, slice_index_or}
 use Rattle.std.specs.List.{flat_map, All}
-use Rattle.pfs_levels.specs.declared.flushes.Source.{Source}
-use Rattle.pfs_levels.specs.Flushes.{asks_of, cells_of, sources_of, CellsAreAway}
-use Rattle.pfs_levels.specs.Moves.{Ask, cost}
+use Rattle.pfs_levels.specs.Flushes.{asks_of, cells_of, sources_of}
 use Rattle.pfs_levels.proofs.Flushing.{sources_more_at, sources_fit, enough, moved_more, stays_more, ascends_below, away_now, away_as}
 use Rattle.pfs_levels.proofs.flushes.flush.Goals as goal
 
@@ -17,7 +15,7 @@ flush_cells-requires-clause-away g c =
     let s = c.source.result in
     let low : c.loop-at.at < length ss = omega (arith, c.loop-at-test.true, c.count-at-end.ensures) in
     away_now (g.H.Rows.hand c.args.rows.now) (g.H.Rows.hand c.loop-at.rows) c.cells-cells.result.now s c.loop-at.invariant.stays.hand
-      (away_as (g.H.Rows.hand c.args.rows.now) (cells_of c.args.places.now c.args.kind) c.cells-cells.result.now (slice_index_or ss c.loop-at.at s) s (sym c.cells-cells.ensures) (sym (c.source.ensures s)) (c.requires.away c.loop-at.at s low))
+    (away_as (g.H.Rows.hand c.args.rows.now) (cells_of c.args.places.now c.args.kind) c.cells-cells.result.now (slice_index_or ss c.loop-at.at s) s (sym c.cells-cells.ensures) (sym (c.source.ensures s)) (c.requires.away c.loop-at.at s low))
 
 pub flush_cells-requires-clause-spare : goal.flush_cells-requires-clause-spare
 flush_cells-requires-clause-spare g c =
@@ -26,7 +24,7 @@ flush_cells-requires-clause-spare g c =
     let i = c.loop-at.at in
     let low : i < length ss = omega (arith, c.loop-at-test.true, c.count-at-end.ensures) in
     enough (flat_map k (take i ss)) (asks_of c.cells-cells.result.now c.source.result) (flat_map k (take (i + 1) ss)) (flat_map k ss) (g.H.Rows.left c.args.rows.now) (g.H.Rows.left c.loop-at.rows)
-      (sources_more_at _ c.cells-cells.result.now ss i c.source.result low (sym c.cells-cells.ensures) (c.source.ensures c.source.result)) (sources_fit k ss (i + 1)) c.requires.spare c.loop-at.invariant.stays.left
+    (sources_more_at _ c.cells-cells.result.now ss i c.source.result low (sym c.cells-cells.ensures) (c.source.ensures c.source.result)) (sources_fit k ss (i + 1)) c.requires.spare c.loop-at.invariant.stays.left
 
 pub flush_cells-requires-clause-room : goal.flush_cells-requires-clause-room
 flush_cells-requires-clause-room g c =
@@ -35,7 +33,7 @@ flush_cells-requires-clause-room g c =
     let i = c.loop-at.at in
     let low : i < length ss = omega (arith, c.loop-at-test.true, c.count-at-end.ensures) in
     enough (flat_map k (take i ss)) (asks_of c.cells-cells.result.now c.source.result) (flat_map k (take (i + 1) ss)) (flat_map k ss) c.args.log.now.room c.loop-at.log.room
-      (sources_more_at _ c.cells-cells.result.now ss i c.source.result low (sym c.cells-cells.ensures) (c.source.ensures c.source.result)) (sources_fit k ss (i + 1)) c.requires.room c.loop-at.invariant.stays.room
+    (sources_more_at _ c.cells-cells.result.now ss i c.source.result low (sym c.cells-cells.ensures) (c.source.ensures c.source.result)) (sources_fit k ss (i + 1)) c.requires.room c.loop-at.invariant.stays.room
 
 pub loop-at-preserved : goal.loop-at-preserved
 loop-at-preserved g c =

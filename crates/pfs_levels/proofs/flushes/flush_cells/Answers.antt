@@ -1,4 +1,4 @@
-use Rattle.std.proofs.Common.{ℕ, ◌≡◌, ◌+◌, List, [], ◌∷◌, ◌++◌, length, map, take, arith}
+use Rattle.std.proofs.Common.{◌≡◌, ◌+◌, List, [], ◌∷◌, ◌++◌, length, map, take, arith}
 use Rattle.pfs_levels.specs.Flushes.{ask_of}
 use Rattle.pfs_levels.specs.Moves.{Ask, ask, targets_of, cost}
 use Rattle.pfs_levels.proofs.Flushing.{cells_more, cells_fit, enough, moved_more, stays_more, stays_as}
@@ -10,8 +10,11 @@ move_up-requires-clause-spare g c =
     let cells = c.args.cells.now in
     let i = c.loop-cell.cell-index in
     let to = targets_of c.targets-to.result in
-    omega (arith, enough (map f (take i cells)) (ask c.row_from-from.result to ∷ []) (map f (take (i + 1) cells)) (map f cells) (g.H.Rows.left c.args.rows.now) (g.H.Rows.left c.loop-cell.rows)
-      (cells_more f cells i c.row_from-from.result to c.loop-cell-test.true c.row_from-from.ensures c.targets-to.ensures) (cells_fit f cells (i + 1)) c.requires.spare c.loop-cell.invariant.stays.left)
+    omega (
+      arith,
+      enough (map f (take i cells)) (ask c.row_from-from.result to ∷ []) (map f (take (i + 1) cells)) (map f cells) (g.H.Rows.left c.args.rows.now) (g.H.Rows.left c.loop-cell.rows)
+          (cells_more f cells i c.row_from-from.result to c.loop-cell-test.true c.row_from-from.ensures c.targets-to.ensures) (cells_fit f cells (i + 1)) c.requires.spare c.loop-cell.invariant.stays.left,
+    )
 
 pub move_up-requires-clause-room : goal.move_up-requires-clause-room
 move_up-requires-clause-room g c =
@@ -19,8 +22,11 @@ move_up-requires-clause-room g c =
     let cells = c.args.cells.now in
     let i = c.loop-cell.cell-index in
     let to = targets_of c.targets-to.result in
-    omega (arith, enough (map f (take i cells)) (ask c.row_from-from.result to ∷ []) (map f (take (i + 1) cells)) (map f cells) c.args.log.now.room c.loop-cell.log.room
-      (cells_more f cells i c.row_from-from.result to c.loop-cell-test.true c.row_from-from.ensures c.targets-to.ensures) (cells_fit f cells (i + 1)) c.requires.room c.loop-cell.invariant.stays.room)
+    omega (
+      arith,
+      enough (map f (take i cells)) (ask c.row_from-from.result to ∷ []) (map f (take (i + 1) cells)) (map f cells) c.args.log.now.room c.loop-cell.log.room
+          (cells_more f cells i c.row_from-from.result to c.loop-cell-test.true c.row_from-from.ensures c.targets-to.ensures) (cells_fit f cells (i + 1)) c.requires.room c.loop-cell.invariant.stays.room,
+    )
 
 pub loop-cell-preserved : goal.loop-cell-preserved
 loop-cell-preserved g c =

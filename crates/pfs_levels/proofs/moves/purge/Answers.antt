@@ -1,4 +1,4 @@
-use Rattle.std.proofs.Common.{rules, subst, ℕ}
+use Rattle.std.proofs.Common.{rules}
 use Rattle.pfs_levels.proofs.Moving.{purged_row}
 use Rattle.pfs_levels.proofs.moves.purge.Goals as goal
 

@@ -1,4 +1,4 @@
-use Rattle.std.proofs.Common.{◌<◌, ◌≤◌, ◌≡◌, ◌+◌, ◌-◌, inl, inr, arith, slice_index, false}
+use Rattle.std.proofs.Common.{◌-◌, inl, inr, arith, slice_index}
 use Rattle.pfs_levels.specs.Plain.{IsFresh}
 use Rattle.pfs_levels.proofs.Steps.{at_ring, at_late, ring_low}
 use Rattle.pfs_levels.proofs.plain.PlainRowsRows.ring_try.Goals.{else-row-ge-LONG-via-then-row-ge-LONG+then-found+else-found-content, else-row-ge-LONG-via-then-row-ge-LONG+else-found, else-row-ge-LONG-via-else-row-ge-LONG}
