@@ -1,12 +1,16 @@
-mod Steps
 mod Acting
-mod Opening
-mod PlainRowsFacts
-pub mod PlainJoint
-mod PlainFloors
-mod PlainOrder
-pub mod PlainKept
-mod PlainRising
-pub mod PlainNamed
-pub mod Moving
+mod Ascending
+pub mod Examples
 pub mod Flushing
+pub mod Moving
+mod Opening
+mod PlainFloors
+pub mod PlainJoint
+pub mod PlainKept
+pub mod PlainNamed
+pub mod PlainNext
+mod PlainOrder
+mod PlainOrdered
+mod PlainRising
+mod PlainRowsFacts
+mod Steps

@@ -38,7 +38,7 @@ counts (Enters label labels ∷ calls) row up = counts calls row up ∙ sym (no_
 counts (Leaves ∷ calls) row up = counts calls row up ∙ sym (ap (λ b. cond (b && true) (puts_in (ops_of calls) row + 1) (puts_in (ops_of calls) row)) (ne_eqb 0 row (λ z. absurd (omega (arith, up, z)))))
 
 -- the version of a row's slot is the number of its changes
-slot_version : (calls : List Call) (row : ℕ) → 0 < row → (slot_after (ops_of calls) row).version ≡ count (changes_of calls) row
+pub slot_version : (calls : List Call) (row : ℕ) → 0 < row → (slot_after (ops_of calls) row).version ≡ count (changes_of calls) row
 slot_version calls row up = versions (ops_of calls) row ∙ sym (counts calls row up)
 
 pub plain_chain : (flags : List ℕ) (calls : List Call) → AllAnswer flags calls → IsCounted (changes_of calls)

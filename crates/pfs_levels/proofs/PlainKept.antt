@@ -108,7 +108,7 @@ newest flags (Enters label labels) calls rest log words a l = tt
 newest flags Leaves calls rest log words a l = tt
 
 -- labels are only added
-labels_grow : (call : Call) (calls : List Call) → length (labels_after calls) ≤ length (labels_after (call ∷ calls))
+pub labels_grow : (call : Call) (calls : List Call) → length (labels_after calls) ≤ length (labels_after (call ∷ calls))
 unfolding labels_after
 labels_grow Leaves calls = omega (arith, ended_more (labels_after calls) (label_in calls))
 labels_grow (Adds at amount answer) calls = omega arith

@@ -16,6 +16,7 @@ use Rattle.pfs_levels.proofs.Acting.{labels_count}
 use Rattle.pfs_levels.proofs.PlainFloors.{AllLater, not_past, above_more, none_above, KnowUpTo, marks_later, marked_more}
 use Rattle.pfs_levels.proofs.PlainKept.{Left, floors_of, later_is, stood, AllOutside, answers_rest}
 use Rattle.pfs_levels.proofs.PlainOrder.{marks_count, inside, leaving, marks_chain}
+use Rattle.pfs_levels.proofs.PlainOrdered.{ordered}
 use Rattle.pfs_levels.proofs.PlainRising.{top_low, rising}
 use Rattle.pfs_levels.proofs.PlainRowsFacts.{versions, contents, contents_kept}
 
@@ -316,6 +317,7 @@ plain_order flags actors a out =
     record {
       chain = s.left.chain;
       word_chain = s.left.word_chain;
+      ordered = ordered flags actors a out;
       once = λ h. refl;
       words_once = λ h. refl;
       ended = labels_count flags (all_calls actors) a ∙ versions (ops_of (all_calls actors)) 0 ∙ sym (s.left.rows 0);

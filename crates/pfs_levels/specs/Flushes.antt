@@ -91,3 +91,10 @@ CellsAreAway hand cells source = All (λ cell. AskIsAway hand (ask_of source cel
 
 abbrev pub AllAreAway : (ℕ → Option ℕ) → List ℕ → List Source → Type 0
 AllAreAway hand cells sources = All (CellsAreAway hand cells) sources
+
+abbrev pub from_of : Ask → ℕ
+from_of a = a.from
+
+-- the rows that a flush takes ascend, and none comes twice
+abbrev pub FlushesAscend : Type 0
+FlushesAscend = (p : Places) (kind : EventKind) (level : Level) → ArePlaces p kind level → Ascends 1 14242 (map from_of (flushed p kind level))

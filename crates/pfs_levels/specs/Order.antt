@@ -79,6 +79,15 @@ abbrev pub AreMarked : List Mark → Type 0
 AreMarked [] = Unit {0}
 AreMarked (x ∷ xs) = (x.version ≡ (if x.puts then marked xs x.row + 1 else marked xs x.row)) × AreMarked xs
 
+-- a change of the same row by an action with a greater number, where this one is an action's
+abbrev pub falls : Mark → Mark → Bool
+falls x p = (p.row == x.row) && nat_lt 0 x.action && nat_lt x.action p.action
+
+-- newest first: along a row the numbers of the actions never fall
+abbrev pub AreOrdered : List Mark → Type 0
+AreOrdered [] = Unit {0}
+AreOrdered (x ∷ xs) = (total (λ p. one_if (falls x p)) xs ≡ 0) × AreOrdered xs
+
 -- a change by an action up to `after`
 abbrev pub is_past : ℕ → ℕ → Mark → Bool
 is_past row after p = (p.row == row) && nat_lt 0 p.action && nat_le p.action after
@@ -276,6 +285,7 @@ AllCalls P (calls ∷ actors) = P calls × AllCalls P actors
 pub record Order (actors : List (List Call)) (content : ℕ → ℕ → List ℕ) (log words : List Mark) (labels : List Label) : Type 0 where
   pub chain : AreMarked log
   pub word_chain : AreMarked words
+  pub ordered : AreOrdered log
   pub once : (h : Mark → ℕ) → total h (all_marks actors) ≡ total h log
   pub words_once : (h : Mark → ℕ) → total h (all_word_marks actors) ≡ total h words
   pub ended : length labels ≡ marked log 0

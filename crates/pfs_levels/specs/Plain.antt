@@ -11,7 +11,7 @@ use Rattle.pfs_levels.specs.declared.answers.Word.{Word}
 use Rattle.pfs_levels.specs.declared.plain.Slot.{Slot}
 use Rattle.pfs_levels.specs.Calls.{Call, Adds, Rings, Reads, Loads, Draws, Takes, Puts, Frees, Sets, Enters, Leaves, IsRow, IsCell, IsRing, label_in}
 use Rattle.pfs_levels.specs.Contents.{merged, opening_content}
-use Rattle.pfs_levels.specs.Joint.{Setting, sets_of, draws_of, drawn, opens_free}
+use Rattle.pfs_levels.specs.Joint.{changes_of, count, Setting, sets_of, word_version, draws_of, drawn, opens_free}
 
 -- what a call does to a row
 pub data Effect : Type 0 where
@@ -166,3 +166,26 @@ content_by Releases here = here
 unfoldable pub content_at : List Op → ℕ → ℕ → List ℕ
 content_at [] row k = opening_content row
 content_at (o ∷ os) row k = if (o.row == row) && (is_put o.effect && nat_lt (puts_in os row) k) then content_by o.effect (content_at os row k) else content_at os row k
+
+-- a call of a plain store names the next version, number or ticket, or the last one, by the calls before it
+abbrev pub IsNext : List Call → Call → Type 0
+IsNext calls (Adds row amount (Counted r version)) = (r ≡ row) × (version ≡ count (changes_of calls) row + 1)
+IsNext calls (Adds row amount (Held r first second)) = ⊥
+IsNext calls (Rings row content (Done version)) = version ≡ count (changes_of calls) row + 1
+IsNext calls (Rings row content (Busy first second)) = ⊥
+IsNext calls (Rings row content (Late ticket)) = slice_index content 15 ≤ ticket
+IsNext calls (Reads row (Whole version content)) = version ≡ count (changes_of calls) row
+IsNext calls (Reads row (Free w)) = w ≡ 4 * count (changes_of calls) row
+IsNext calls (Reads row (sees.Busy first second)) = ⊥
+IsNext calls (Loads at version found) = version ≡ word_version (sets_of calls) at
+IsNext calls (Draws kind ticket) = ticket ≡ drawn (draws_of calls) kind
+IsNext calls (Takes row version found) = version ≡ count (changes_of calls) row
+IsNext calls (Puts row content version) = version ≡ count (changes_of calls) row + 1
+IsNext calls (Frees row version) = version ≡ count (changes_of calls) row
+IsNext calls (Sets at to version) = version ≡ word_version (sets_of calls) at + 1
+IsNext calls (Enters label labels) = labels ≡ labels_after calls
+IsNext calls Leaves = Unit {0}
+
+abbrev pub AreNext : List Call → Type 0
+AreNext [] = Unit {0}
+AreNext (call ∷ calls) = IsNext calls call × AreNext calls

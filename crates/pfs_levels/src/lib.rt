@@ -3,6 +3,7 @@
 
 pub mod answers;
 pub mod flushes;
+pub mod laws;
 pub mod log;
 pub mod moves;
 pub mod places;

@@ -1,0 +1,126 @@
+-- Worked examples, by computation.
+use Rattle.std.proofs.Common.{ℕ, ◌≡◌, ◌≢◌, ◌⊎◌, inl, inr, ◌<◌, ◌≤◌, ◌+◌, true, false, List, [], ◌∷◌, ◌++◌, replicate, Option, Some, None, refl, arith, lit<, lit≤, slice_index}
+use Rattle.pfs_event.specs.declared.entry.Entry.{Entry}
+use Rattle.pfs_stat.specs.declared.Stat.{Stat}
+use Rattle.pfs_stat.specs.Stat.{zero_of, merge_of, words_of, stat_of}
+use Rattle.pfs_board.specs.declared.view.Label.{Label}
+use Rattle.pfs_levels.specs.declared.answers.Added.TheVariants.{Counted, Held}
+use Rattle.pfs_levels.specs.declared.places.Up.{Up}
+use Rattle.pfs_levels.specs.declared.flushes.Source.TheVariants as of
+use Rattle.pfs_levels.specs.Calls.{Call, Adds, Takes, Puts, Frees, Enters, Leaves, action_in, after_in, hand_in, IsLongPlace}
+use Rattle.pfs_levels.specs.Contents.{merged, zero_words, opening_content}
+use Rattle.pfs_levels.specs.Flushes.{ask_of, asks_of, upper, Ascends}
+use Rattle.pfs_levels.specs.Joint.{total, At, at_put, at_free, count, IsCounted, frees_at}
+use Rattle.pfs_levels.specs.Moves.{Ask, ask, due, cost}
+use Rattle.pfs_levels.specs.Order.{Mark, mark, marked, AreMarked, AreOrdered, IsFloored, IsCaused, IsOthers, IsRising}
+use Rattle.pfs_levels.specs.Plain.{Op, op, Merges, Becomes, Holds, Releases, slot_after, puts_in, content_at}
+
+-- a cell opens with nothing counted, a thread's information with zeros
+pub cell_opens : opening_content 129 ≡ zero_words
+cell_opens = refl
+
+pub info_opens : opening_content 1 ≡ replicate 16 0
+info_opens = refl
+
+-- a row that was published twice and released between; a version given twice is no chain, nor is a release at a version that is to come
+pub chain : IsCounted (at_put 1 2 ∷ at_free 1 1 ∷ at_put 1 1 ∷ [])
+unfolding count
+chain = (refl, (refl, (refl, tt)))
+
+pub twice : ¬ IsCounted (at_put 129 1 ∷ at_put 129 1 ∷ [])
+unfolding count
+twice h = omega (arith, h.0)
+
+pub early_release : ¬ IsCounted (at_free 1 1 ∷ [])
+unfolding count
+early_release h = omega (arith, h.0)
+
+-- a thread's information is free at first, and at the version at which it was released; a cell never is at first
+pub free_at_first : frees_at [] 1 0 ≡ 1
+unfolding total
+free_at_first = refl
+
+pub released_once : frees_at (at_free 1 1 ∷ at_put 1 1 ∷ []) 1 1 ≡ 1
+unfolding total
+released_once = refl
+
+pub cell_not_free : frees_at [] 129 0 ≡ 0
+unfolding total
+cell_not_free = refl
+
+-- an addition, a take that leaves zero, and what stood there after each
+pub after_addition : (amount : Stat) → content_at (op 129 (Becomes zero_words) ∷ op 129 Holds ∷ op 129 (Merges amount) ∷ []) 129 1 ≡ merged zero_words amount
+unfolding content_at puts_in
+after_addition amount = refl
+
+pub after_take : (amount : Stat) → content_at (op 129 (Becomes zero_words) ∷ op 129 Holds ∷ op 129 (Merges amount) ∷ []) 129 2 ≡ zero_words
+unfolding content_at puts_in
+after_take amount = refl
+
+-- numbers of actions
+pub numbers : AreMarked (mark 0 2 true 2 1 ∷ mark 129 1 true 2 1 ∷ mark 0 1 true 1 0 ∷ [])
+unfolding marked
+numbers = (refl, (refl, (refl, tt)))
+
+pub skipped_number : ¬ AreMarked (mark 0 2 true 2 1 ∷ [])
+unfolding marked
+skipped_number h = omega (arith, h.0)
+
+-- along a row actions don't fall: the take of action 1 can't stand after that of action 2
+pub fallen : ¬ AreOrdered (mark 129 2 true 1 0 ∷ mark 129 1 true 2 1 ∷ [])
+unfolding total
+fallen h = omega (arith, h.0)
+
+-- an actor that knows action 1, which made version 3 of a row, as ended adds above that, not at it
+pub above_floor : (amount : Stat) → IsFloored (mark 129 3 true 1 0 ∷ []) [] 1 (Adds 129 amount (Counted 129 4))
+unfolding total
+above_floor amount = refl
+
+pub below_floor : (amount : Stat) → ¬ IsFloored (mark 129 3 true 1 0 ∷ []) [] 1 (Adds 129 amount (Counted 129 3))
+unfolding total
+below_floor amount h = omega (arith, h)
+
+-- a held word counts for the floor of what follows
+pub forgets_a_held_word : (amount : Stat) → ¬ IsRising (Adds 129 amount (Held 129 13 13) ∷ []) (Adds 129 amount (Counted 129 3))
+forgets_a_held_word amount h = omega (arith, h)
+
+-- a row that was found dirty at version 1 was in the hand of another, who made version 2; it can't have been in one's own
+pub another_had_it : IsOthers (mark 129 2 true 0 0 ∷ mark 129 1 true 0 0 ∷ []) [] 129 1
+unfolding total
+another_had_it = inl (refl, lit< tt)
+
+pub nobody_had_it : ¬ IsOthers (mark 129 2 true 0 0 ∷ mark 129 1 true 0 0 ∷ []) (mark 129 2 true 0 0 ∷ []) 129 1
+unfolding total
+nobody_had_it (inl h) = omega (arith, h.0)
+nobody_had_it (inr h) = omega (arith, h)
+
+-- ticket 1000 belongs to the first place of a kind; the second isn't its place
+pub first_place : IsLongPlace 11242 (0 ∷ 0 ∷ 0 ∷ 0 ∷ 0 ∷ 0 ∷ 0 ∷ 0 ∷ 0 ∷ 0 ∷ 0 ∷ 0 ∷ 0 ∷ 0 ∷ 0 ∷ 1001 ∷ [])
+first_place = (lit≤ tt, lit< tt, lit< tt, refl)
+
+pub not_its_place : ¬ IsLongPlace 11243 (0 ∷ 0 ∷ 0 ∷ 0 ∷ 0 ∷ 0 ∷ 0 ∷ 0 ∷ 0 ∷ 0 ∷ 0 ∷ 0 ∷ 0 ∷ 0 ∷ 0 ∷ 1001 ∷ [])
+not_its_place h = omega (arith, h.3)
+
+-- nothing is given of a row that counted nothing; a thread without an account, of a user alone, gives to the user and the global cell
+pub nothing_due : due zero_words (4225 ∷ 8321 ∷ []) ≡ []
+nothing_due = refl
+
+pub user_alone : asks_of (3 ∷ 5 ∷ []) (of.Thread (record { place = 2; account = None; user = Some 0; host = None })) ≡ ask 260 (4228 ∷ 8324 ∷ []) ∷ ask 262 (4230 ∷ 8326 ∷ []) ∷ []
+user_alone = refl
+
+-- a user's cells are dropped
+pub user_dropped : asks_of (3 ∷ []) (of.User 1) ≡ ask 4292 [] ∷ []
+user_dropped = refl
+
+pub cost_of_two : cost (ask 260 (4228 ∷ 8324 ∷ []) ∷ ask 4292 [] ∷ []) ≡ 4
+cost_of_two = refl
+
+pub descends : ¬ Ascends 0 32 (2 ∷ 1 ∷ [])
+descends h = omega (arith, h.1.1.0)
+
+-- inside an action a row is in hand until it is put
+pub in_hand_inside : (label : Label) → hand_in (Takes 129 7 zero_words ∷ Enters label [] ∷ []) 129 ≡ Some 7
+in_hand_inside label = refl
+
+pub put_back : (label : Label) → hand_in (Puts 129 zero_words 8 ∷ Takes 129 7 zero_words ∷ Enters label [] ∷ []) 129 ≡ None
+put_back label = refl
