@@ -13,4 +13,5 @@ mod PlainOrder
 mod PlainOrdered
 mod PlainRising
 mod PlainRowsFacts
+pub mod PlainSince
 mod Steps

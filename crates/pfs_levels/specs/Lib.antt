@@ -6,3 +6,4 @@ pub mod Journal
 pub mod Moves
 pub mod Order
 pub mod Plain
+pub mod Since
