@@ -1,5 +1,5 @@
 -- The rows that a flush takes ascend.
-use Rattle.std.proofs.Common.{ℕ, ◌≡◌, ◌<◌, ◌≤◌, ◌+◌, ◌*◌, List, [], ◌∷◌, ◌++◌, map, refl, ap, sym, ◌∙◌, subst, arith}
+use Rattle.std.proofs.Common.{ℕ, ◌≡◌, ◌≤◌, ◌+◌, ◌*◌, List, [], ◌∷◌, ◌++◌, map, refl, ap, sym, subst, arith}
 use Rattle.std.specs.List.{flat_map}
 use Rattle.std.proofs.lemmas.List.{map-append}
 use Rattle.pfs_event.specs.declared.kind.EventKind.{EventKind}
@@ -8,8 +8,7 @@ use Rattle.pfs_levels.specs.declared.flushes.Source.TheVariants as of
 use Rattle.pfs_levels.specs.declared.places.Level.{Level}
 use Rattle.pfs_levels.specs.declared.places.Level.TheVariants as levels
 use Rattle.pfs_levels.specs.declared.places.Places.{Places}
-use Rattle.pfs_levels.specs.declared.places.Up.{Up}
-use Rattle.pfs_levels.specs.Flushes.{Ascends, ArePlaces, ask_of, asks_of, cells_of, sources_of, flushed, from_of, place_of_up}
+use Rattle.pfs_levels.specs.Flushes.{Ascends, ArePlaces, ask_of, asks_of, cells_of, flushed, from_of, place_of_up}
 use Rattle.pfs_levels.specs.Moves.{Ask}
 
 wider : (low low2 limit limit2 : ℕ) (xs : List ℕ) → low2 ≤ low → limit ≤ limit2 → Ascends low limit xs → Ascends low2 limit2 xs
@@ -32,8 +31,8 @@ places_ascend g place base low cells (x ∷ xs) h k a =
     let here : Ascends (base + 64 * place x + 0) (base + 64 * place x + 64) (map from_of (asks_of cells (g x))) = cells_ascend (ask_of (g x)) (base + 64 * place x) 0 cells (h x) k in
     let more : Ascends (base + 64 * (place x + 1)) (base + 2048) (map from_of (flat_map (asks_of cells) (map g xs))) = places_ascend g place base (place x + 1) cells xs h k a.1.1 in
     let all : Ascends (base + 64 * low) (base + 2048) (map from_of (asks_of cells (g x)) ++ map from_of (flat_map (asks_of cells) (map g xs))) =
-      then_up (base + 64 * low) (base + 64 * (place x + 1)) (base + 2048) _ _ (omega (arith, a.1.0)) (omega (arith, a.0))
-        (wider (base + 64 * place x + 0) (base + 64 * low) (base + 64 * place x + 64) (base + 64 * (place x + 1)) (map from_of (asks_of cells (g x))) (omega (arith, a.0)) (omega arith) here) more in
+    then_up (base + 64 * low) (base + 64 * (place x + 1)) (base + 2048) _ _ (omega (arith, a.1.0)) (omega (arith, a.0))
+    (wider (base + 64 * place x + 0) (base + 64 * low) (base + 64 * place x + 64) (base + 64 * (place x + 1)) (map from_of (asks_of cells (g x))) (omega (arith, a.0)) (omega arith) here) more in
     subst (λ z. Ascends (base + 64 * low) (base + 2048) z) (sym (map-append from_of (asks_of cells (g x)) (flat_map (asks_of cells) (map g xs)))) all
 
 abbrev itself : ℕ → ℕ

@@ -1,19 +1,16 @@
 -- Worked examples, by computation.
-use Rattle.std.proofs.Common.{ℕ, ◌≡◌, ◌≢◌, ◌⊎◌, inl, inr, ◌<◌, ◌≤◌, ◌+◌, true, false, List, [], ◌∷◌, ◌++◌, replicate, Option, Some, None, refl, arith, lit<, lit≤, slice_index}
-use Rattle.pfs_event.specs.declared.entry.Entry.{Entry}
+use Rattle.std.proofs.Common.{◌≡◌, inl, inr, true, [], ◌∷◌, replicate, Some, None, refl, arith, lit<, lit≤}
 use Rattle.pfs_stat.specs.declared.Stat.{Stat}
-use Rattle.pfs_stat.specs.Stat.{zero_of, merge_of, words_of, stat_of}
 use Rattle.pfs_board.specs.declared.view.Label.{Label}
 use Rattle.pfs_levels.specs.declared.answers.Added.TheVariants.{Counted, Held}
-use Rattle.pfs_levels.specs.declared.places.Up.{Up}
 use Rattle.pfs_levels.specs.declared.flushes.Source.TheVariants as of
-use Rattle.pfs_levels.specs.Calls.{Call, Adds, Takes, Puts, Frees, Enters, Leaves, action_in, after_in, hand_in, IsLongPlace}
+use Rattle.pfs_levels.specs.Calls.{Adds, Takes, Puts, Enters, hand_in, IsLongPlace}
 use Rattle.pfs_levels.specs.Contents.{merged, zero_words, opening_content}
-use Rattle.pfs_levels.specs.Flushes.{ask_of, asks_of, upper, Ascends}
-use Rattle.pfs_levels.specs.Joint.{total, At, at_put, at_free, count, IsCounted, frees_at}
-use Rattle.pfs_levels.specs.Moves.{Ask, ask, due, cost}
-use Rattle.pfs_levels.specs.Order.{Mark, mark, marked, AreMarked, AreOrdered, IsFloored, IsCaused, IsOthers, IsRising}
-use Rattle.pfs_levels.specs.Plain.{Op, op, Merges, Becomes, Holds, Releases, slot_after, puts_in, content_at}
+use Rattle.pfs_levels.specs.Flushes.{asks_of, Ascends}
+use Rattle.pfs_levels.specs.Joint.{total, at_put, at_free, count, IsCounted, frees_at}
+use Rattle.pfs_levels.specs.Moves.{ask, due, cost}
+use Rattle.pfs_levels.specs.Order.{mark, marked, AreMarked, AreOrdered, IsFloored, IsOthers, IsRising}
+use Rattle.pfs_levels.specs.Plain.{op, Merges, Becomes, Holds, puts_in, content_at}
 
 -- a cell opens with nothing counted, a thread's information with zeros
 pub cell_opens : opening_content 129 ≡ zero_words

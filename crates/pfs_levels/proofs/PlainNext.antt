@@ -1,5 +1,5 @@
 -- A plain store's calls name the next versions, numbers and tickets, or the last ones.
-use Rattle.std.proofs.Common.{ℕ, ◌≡◌, ◌<◌, ◌≤◌, ◌+◌, ◌*◌, List, [], ◌∷◌, ap, ◌∙◌, arith}
+use Rattle.std.proofs.Common.{ℕ, ◌+◌, ◌*◌, List, [], ◌∷◌, ap, ◌∙◌, arith}
 use Rattle.pfs_rows.specs.declared.table.Seen.TheVariants.{Whole, Free}
 use Rattle.pfs_rows.specs.declared.table.Seen.TheVariants as sees
 use Rattle.pfs_levels.specs.declared.answers.Added.TheVariants.{Counted, Held}
@@ -7,7 +7,7 @@ use Rattle.pfs_levels.specs.declared.answers.RingPut.TheVariants.{Done, Busy, La
 use Rattle.pfs_levels.specs.declared.answers.Word.{Word}
 use Rattle.pfs_levels.specs.Calls.{Call, Adds, Rings, Reads, Loads, Draws, Takes, Puts, Frees, Sets, Enters, Leaves}
 use Rattle.pfs_levels.specs.Joint.{sets_of}
-use Rattle.pfs_levels.specs.Plain.{Answers, AllAnswer, IsNext, AreNext}
+use Rattle.pfs_levels.specs.Plain.{AllAnswer, IsNext, AreNext}
 use Rattle.pfs_levels.proofs.PlainJoint.{slot_version, plain_words}
 use Rattle.pfs_levels.proofs.PlainRowsFacts.{word_versions}
 use Rattle.pfs_levels.proofs.Steps.{ring_high}

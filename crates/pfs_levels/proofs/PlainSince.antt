@@ -1,5 +1,5 @@
 -- No call of a plain store is below what earlier actors left.
-use Rattle.std.proofs.Common.{ℕ, ◌⊎◌, inl, inr, ◌≡◌, ◌<◌, ◌≤◌, ◌+◌, ◌*◌, ◌/◌, ◌==◌, true, false, Bool, cond, not, ◌&&◌, List, [], ◌∷◌, ◌++◌, slice_index, refl, ap, sym, ◌∙◌, subst, arith, append_assoc, zero-add, eq-eqb, ne_eqb}
+use Rattle.std.proofs.Common.{ℕ, inl, inr, ◌≡◌, ◌<◌, ◌≤◌, ◌+◌, ◌==◌, true, false, Bool, cond, not, ◌&&◌, List, [], ◌∷◌, ◌++◌, slice_index, refl, ap, sym, ◌∙◌, subst, arith, append_assoc, zero-add, eq-eqb, ne_eqb}
 use Rattle.std.proofs.lemmas.Bool.{cases_eq, eqb-true}
 use Rattle.pfs_rows.specs.declared.table.Seen.TheVariants.{Whole, Free}
 use Rattle.pfs_rows.specs.declared.table.Seen.TheVariants as sees
@@ -8,9 +8,8 @@ use Rattle.pfs_levels.specs.declared.answers.RingPut.TheVariants.{Done, Busy, La
 use Rattle.pfs_levels.specs.declared.answers.Word.{Word}
 use Rattle.pfs_levels.specs.declared.plain.Slot.{Slot}
 use Rattle.pfs_levels.specs.Calls.{Call, Adds, Rings, Reads, Loads, Draws, Takes, Puts, Frees, Sets, Enters, Leaves}
-use Rattle.pfs_levels.specs.Joint.{total, one_if, At, at_put, at_free, changes_by, changes_of, count, IsCounted, Setting, sets_by, sets_of, word_version, opens_free, frees_at, all_calls}
-use Rattle.pfs_levels.specs.Order.{AllCalls}
-use Rattle.pfs_levels.specs.Plain.{Effect, Merges, Becomes, Renews, Holds, Releases, Op, op, is_put, ops_by, ops_of, slot_by, slot_after, word_after, AllAnswer, puts_in, content_at}
+use Rattle.pfs_levels.specs.Joint.{total, one_if, At, at_put, at_free, changes_by, changes_of, count, IsCounted, sets_by, sets_of, word_version, opens_free, frees_at, all_calls}
+use Rattle.pfs_levels.specs.Plain.{Effect, Merges, Becomes, Renews, Holds, Releases, Op, is_put, ops_by, ops_of, slot_by, slot_after, AllAnswer, puts_in, content_at}
 use Rattle.pfs_levels.specs.Since.{IsSince, AreSince, AllSince}
 use Rattle.pfs_levels.proofs.PlainJoint.{slot_version, counts, plain_words, plain_chain}
 use Rattle.pfs_levels.proofs.PlainKept.{answers_rest}
