@@ -7,7 +7,7 @@ ghost use Rattle.pfs_classes.specs.Kinds.{kind_name, room_of, is_fixed, is_part_
 
 use pfs_rows::Limits;
 
-/// The most bytes of a class's name.
+// The most bytes of a class's name.
 const MOST_BYTES: usize = 128;
 
 /// A kind of classes. The first seven are waits.

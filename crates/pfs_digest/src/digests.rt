@@ -62,7 +62,7 @@ pub fn digest(digest_text: &[u8]) -> [u8; 32]
     Sha256::digest(digest_text)
 }
 
-/// The pieces of a statement, in one pass over its tokens. A `;` at the end is still there.
+// The pieces of a statement, in one pass over its tokens. A `;` at the end is still there.
 fn reduced(alloc: Global, text: &str) -> Result<Vec<Piece>, DigestFault>
     ensures { spec.Gives (λ stack. reverse stack.items) result (finished text.now [] (items_of text.now)) }
 {
@@ -77,7 +77,7 @@ fn reduced(alloc: Global, text: &str) -> Result<Vec<Piece>, DigestFault>
     Ok(stack)
 }
 
-/// Drops each `;` at the end.
+// Drops each `;` at the end.
 fn drop_semicolons(stack: &mut Vec<Piece>)
     ensures { stack.new.items ≡ steps.without_last stack.old.items }
 {

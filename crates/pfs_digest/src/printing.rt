@@ -28,7 +28,7 @@ pub(crate) fn spelled(alloc: Global, text: &[u8], pieces: &[Piece]) -> Result<Ve
     Ok(out)
 }
 
-/// Appends the text of a piece.
+// Appends the text of a piece.
 #[tactic(auto, unfolding(crate::specs::Printed::printed))]
 fn print_piece(out: &mut Vec<u8>, text: &[u8], piece: Piece) -> Result<(), NoMemory>
     ensures { OnOk result (out.new.items ≡ out.old.items ++ spec.printed text.now piece) }
@@ -48,7 +48,7 @@ fn print_piece(out: &mut Vec<u8>, text: &[u8], piece: Piece) -> Result<(), NoMem
     }
 }
 
-/// Appends a token that is no value: a word, or what stands as it is written.
+// Appends a token that is no value: a word, or what stands as it is written.
 fn print_token(out: &mut Vec<u8>, text: &[u8], token: Token) -> Result<(), NoMemory>
     ensures { OnOk result (out.new.items ≡ out.old.items ++ spec.token_text token.kind (slices.slice_of text.now token)) }
 {
@@ -59,7 +59,7 @@ fn print_token(out: &mut Vec<u8>, text: &[u8], token: Token) -> Result<(), NoMem
     }
 }
 
-/// Appends a keyword in upper case, or another word in backquotes.
+// Appends a keyword in upper case, or another word in backquotes.
 fn print_word(out: &mut Vec<u8>, word: &[u8]) -> Result<(), NoMemory>
     ensures { OnOk result (out.new.items ≡ out.old.items ++ words.word_text word.now) }
 {
@@ -69,7 +69,7 @@ fn print_word(out: &mut Vec<u8>, word: &[u8]) -> Result<(), NoMemory>
     }
 }
 
-/// Appends a word in backquotes.
+// Appends a word in backquotes.
 fn print_name(out: &mut Vec<u8>, word: &[u8]) -> Result<(), NoMemory>
     ensures { OnOk result (out.new.items ≡ out.old.items ++ words.keyword_or_name word.now None) }
 {

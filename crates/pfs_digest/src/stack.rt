@@ -20,7 +20,7 @@ pub(crate) fn push(stack: &mut Vec<Piece>, piece: Piece) -> Result<(), NoMemory>
     }
 }
 
-/// Pushes a `)`.
+// Pushes a `)`.
 fn close(stack: &mut Vec<Piece>) -> Result<(), NoMemory>
     ensures { OnOk result (reverse stack.new.items
         ≡ spec.closed_by (spec.brackets (reverse stack.old.items)) (reverse stack.old.items)) }
@@ -34,7 +34,7 @@ fn close(stack: &mut Vec<Piece>) -> Result<(), NoMemory>
     }
 }
 
-/// Pushes the shape once more.
+// Pushes the shape once more.
 fn put(stack: &mut Vec<Piece>, shape: Shape) -> Result<(), NoMemory>
     ensures { OnOk result (reverse stack.new.items ≡ spec.put shape (reverse stack.old.items)) }
 {
@@ -46,7 +46,7 @@ fn put(stack: &mut Vec<Piece>, shape: Shape) -> Result<(), NoMemory>
     }
 }
 
-/// What a `)` makes of the end of the stack.
+// What a `)` makes of the end of the stack.
 fn brackets(stack: &[Piece]) -> Option<Shape>
     ensures shape { result ≡ spec.brackets (reverse stack.now) }
     ensures two { IsSome result → 2 ≤ length stack.now }
@@ -58,7 +58,7 @@ fn brackets(stack: &[Piece]) -> Option<Shape>
     }
 }
 
-/// The stack ends with the shape and a `,`.
+// The stack ends with the shape and a `,`.
 fn awaits(stack: &[Piece], shape: Shape) -> bool
     ensures end { result ≡ spec.awaits shape (reverse stack.now) }
     ensures two { IsTrue result → 2 ≤ length stack.now }
@@ -69,7 +69,7 @@ fn awaits(stack: &[Piece], shape: Shape) -> bool
     }
 }
 
-/// The piece is the shape, once or more often.
+// The piece is the shape, once or more often.
 fn is_of(shape: Shape, piece: Piece) -> bool
     ensures { result ≡ spec.is_of shape piece }
 {
@@ -79,7 +79,7 @@ fn is_of(shape: Shape, piece: Piece) -> bool
     }
 }
 
-/// The two shapes are one.
+// The two shapes are one.
 fn same_shape(shape: Shape, other: Shape) -> bool
     ensures { result ≡ steps.same_shape shape other }
 {

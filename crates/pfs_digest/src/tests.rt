@@ -3,7 +3,7 @@ use pfs_lexer::LexFault;
 use std::alloc::Global;
 use std::test::Fail;
 
-/// Statements and their digest texts: of the first part a MySQL server gives the same.
+// Statements and their digest texts: of the first part a MySQL server gives the same.
 const ROWS: [(&str, &str); 50] = [
     ("SELECT f(1)", "SELECT `f` (?)"),
     ("SELECT f((1))", "SELECT `f` ( (?) )"),

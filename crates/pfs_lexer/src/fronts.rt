@@ -48,7 +48,7 @@ pub(crate) fn front_of(bytes: &[u8]) -> Front
     }
 }
 
-/// The token at the front of the bytes, where no white space and no comment stands there.
+// The token at the front of the bytes, where no white space and no comment stands there.
 #[tactic(auto, unfolding(crate::specs::Fronts::token_of))]
 fn token_of(bytes: &[u8]) -> Front
     requires { 0 < length bytes.now }
@@ -67,7 +67,7 @@ fn token_of(bytes: &[u8]) -> Front
     }
 }
 
-/// The token that begins with the quote at the front.
+// The token that begins with the quote at the front.
 fn quoted(kind: TokenKind, bytes: &[u8]) -> Front
     requires { 0 < length bytes.now }
     ensures within { spec.IsWithin (length bytes.now) result }

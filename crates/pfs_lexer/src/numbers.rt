@@ -16,7 +16,7 @@ pub(crate) fn number_len(bytes: &[u8]) -> usize
     hex_len(bytes).max(decimal_len(bytes))
 }
 
-/// `0x` and hexadecimal digits.
+// `0x` and hexadecimal digits.
 #[tactic(auto, unfolding(crate::specs::Numbers::hex_len))]
 fn hex_len(bytes: &[u8]) -> usize
     ensures len { result ≡ spec.hex_len bytes.now }
@@ -29,7 +29,7 @@ fn hex_len(bytes: &[u8]) -> usize
     if digits > 0 { 2 + digits } else { 0 }
 }
 
-/// Digits, a fraction and an exponent.
+// Digits, a fraction and an exponent.
 #[tactic(auto, unfolding(crate::specs::Numbers::decimal_len))]
 fn decimal_len(bytes: &[u8]) -> usize
     requires { 0 < length bytes.now }
@@ -43,7 +43,7 @@ fn decimal_len(bytes: &[u8]) -> usize
     whole + fraction + exponent
 }
 
-/// `.` and digits.
+// `.` and digits.
 #[tactic(auto, unfolding(crate::specs::Numbers::fraction_len))]
 fn fraction_len(bytes: &[u8]) -> usize
     ensures len { result ≡ spec.fraction_len bytes.now }
@@ -56,7 +56,7 @@ fn fraction_len(bytes: &[u8]) -> usize
     if digits > 0 { 1 + digits } else { 0 }
 }
 
-/// A sign.
+// A sign.
 #[tactic(auto, unfolding(crate::specs::Numbers::sign_len))]
 fn sign_len(bytes: &[u8]) -> usize
     ensures len { result ≡ spec.sign_len bytes.now }
@@ -68,7 +68,7 @@ fn sign_len(bytes: &[u8]) -> usize
     }
 }
 
-/// `e` or `E`, a sign and digits.
+// `e` or `E`, a sign and digits.
 #[tactic(auto, unfolding(crate::specs::Numbers::exponent_len))]
 fn exponent_len(bytes: &[u8]) -> usize
     ensures len { result ≡ spec.exponent_len bytes.now }

@@ -23,7 +23,7 @@ pub(crate) fn quoted_len(bytes: &[u8], quote: u8) -> Option<usize>
     None
 }
 
-/// Two bytes at the place stand for one.
+// Two bytes at the place stand for one.
 fn pair_at(bytes: &[u8], at: usize, quote: u8) -> bool
     requires { at < length bytes.now }
     ensures { result ≡ spec.pair_at quote bytes.now at }

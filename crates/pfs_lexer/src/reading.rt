@@ -56,7 +56,7 @@ impl<'a> Lexer<'a> {
     }
 }
 
-/// The first item from a place on, and the place behind it. The end of the text lies behind a fault.
+// The first item from a place on, and the place behind it. The end of the text lies behind a fault.
 fn item_from(text: &[u8], from: usize) -> (Option<Result<Token, LexFault>>, usize)
     requires { from ≤ length text.now }
     ensures item { items_from from 0 (drop from text.now)
@@ -86,7 +86,7 @@ fn item_from(text: &[u8], from: usize) -> (Option<Result<Token, LexFault>>, usiz
     (None, text.len())
 }
 
-/// What stands at a place.
+// What stands at a place.
 fn front_at(text: &[u8], place: usize) -> Front
     requires { place < length text.now }
     ensures front { result ≡ spec.front_of (drop place text.now) }

@@ -10,11 +10,11 @@ use std::env::FillError;
 use std::process::ExitCode;
 use std::rt::Env;
 
-/// The most bytes of a word. The limit is our own: no command has a longer one.
+// The most bytes of a word. The limit is our own: no command has a longer one.
 const MOST_BYTES: usize = 4096;
 
-/// The words behind the program's name. A list in which one is no UTF-8 or too long is no command, as the empty list is
-/// none, and is answered as that one.
+// The words behind the program's name. A list in which one is no UTF-8 or too long is no command, as the empty list is
+// none, and is answered as that one.
 fn words<R: Env + AllocGlobal>(rt: &R) -> Result<Vec<String>, NoMemory> {
     let alloc = rt.alloc();
     let mut buffer = zeros(alloc, MOST_BYTES)?;
@@ -32,15 +32,15 @@ fn words<R: Env + AllocGlobal>(rt: &R) -> Result<Vec<String>, NoMemory> {
     Ok(words)
 }
 
-/// A buffer of so many bytes.
+// A buffer of so many bytes.
 fn zeros(alloc: Global, len: usize) -> Result<Vec<u8>, NoMemory>
     ensures { IfOk result (λ buffer. length buffer.items ≡ len) }
 {
     Vec::from_elem(alloc, 0, len)
 }
 
-/// Runs the command of the words over the standard streams. Where what the buffer still holds can't be written out, the
-/// status is that of a failed write, whatever came before.
+// Runs the command of the words over the standard streams. Where what the buffer still holds can't be written out, the
+// status is that of a failed write, whatever came before.
 fn run(rt: &HostRuntime) -> Result<Status, NoMemory> {
     let words = words(rt)?;
     let mut source = StdSource::new(rt.stdin());

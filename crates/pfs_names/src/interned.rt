@@ -9,10 +9,10 @@ use std::collections::BTreeMap;
 use std::marker::Model;
 use thiserror::Error;
 
-/// The most bytes of a text.
+// The most bytes of a text.
 const MOST_BYTES: usize = 1024;
 
-/// The most texts.
+// The most texts.
 const MOST_TEXTS: usize = 65536;
 
 /// The id of a text: the number of texts that were interned before it.

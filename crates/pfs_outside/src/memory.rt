@@ -76,7 +76,7 @@ impl Source for MemorySource {
     }
 }
 
-/// Copies what stands at a place of the bytes to the front of the buffer, as much as fits.
+// Copies what stands at a place of the bytes to the front of the buffer, as much as fits.
 fn copy_front(buffer: &mut [u8], bytes: &[u8], at: usize) -> usize
     requires room { 0 < length buffer.old }
     requires some { at < length bytes.now }

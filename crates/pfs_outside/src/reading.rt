@@ -8,7 +8,7 @@ use crate::source::{Got, Source};
 use std::alloc::Global;
 use thiserror::Error;
 
-/// How many bytes are asked for at a time, at most.
+// How many bytes are asked for at a time, at most.
 const PIECE: usize = 65_536;
 
 /// Why the bytes of a source were not read to its end.
@@ -35,14 +35,14 @@ pub fn read_all<S: Source>(alloc: Global, source: &mut S, most: usize) -> Result
     read_by(alloc, source, most, &mut piece)
 }
 
-/// A buffer of so many bytes.
+// A buffer of so many bytes.
 fn zeros(alloc: Global, len: usize) -> Result<Vec<u8>, NoMemory>
     ensures { IfOk result (λ buffer. length buffer.items ≡ len) }
 {
     Vec::from_elem(alloc, 0, len)
 }
 
-/// Reads by a buffer that is there.
+// Reads by a buffer that is there.
 fn read_by<S: Source>(
     alloc: Global,
     source: &mut S,

@@ -18,14 +18,14 @@ use std::marker::Model;
 #[cfg(test)]
 mod tests;
 
-/// How often a read is made that is interrupted each time, before it counts as failed. The number is our own.
+// How often a read is made that is interrupted each time, before it counts as failed. The number is our own.
 const MOST_TRIES: u32 = 1000;
 
-/// How many bytes a sink holds back from its writer, at most.
+// How many bytes a sink holds back from its writer, at most.
 const ROOM: usize = 65_536;
 
-/// How many bytes of a buffer are taken at a time, at most. They are fewer than the room, so that the writer is offered
-/// held bytes alone, by std's loop, which makes an interrupted write again.
+// How many bytes of a buffer are taken at a time, at most. They are fewer than the room, so that the writer is offered
+// held bytes alone, by std's loop, which makes an interrupted write again.
 const PIECE: usize = 32_768;
 
 /// A reader of the system, as standard input.
@@ -72,7 +72,7 @@ impl<R: Read> Source for StdSource<R> {
     }
 }
 
-/// One read, made again where it is interrupted.
+// One read, made again where it is interrupted.
 fn read_again<R: Read>(reader: &mut R, buffer: &mut [u8]) -> Got
     requires { 0 < length buffer.old }
     ensures moved { Moved None None (length buffer.old) buffer.new result }

@@ -34,11 +34,11 @@ const RINGS: u64 = 8_450;
 
 const LONG_HISTORY: u64 = 10_242;
 
-/// Cells of a level's place: one for each class, the last two for transactions.
+// Cells of a level's place: one for each class, the last two for transactions.
 const CELLS: u64 = 64;
-/// Ring places of a thread: 16 current ones, and ten of history for each kind.
+// Ring places of a thread: 16 current ones, and ten of history for each kind.
 const RING_PLACES: u64 = 56;
-/// Places of a kind's long history.
+// Places of a kind's long history.
 const LONG_PLACES: u64 = 1_000;
 
 /// A place of the board, in the order of the rows.

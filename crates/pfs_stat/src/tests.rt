@@ -1,6 +1,6 @@
 use super::*;
 
-/// One timed wait, with no other number.
+// One timed wait, with no other number.
 fn wait(time: u64) -> Measure {
     Measure {
         timed: true,

@@ -8,7 +8,7 @@ ghost use Rattle.pfs_text.specs.Scanning.{MayBeginAt, Moves, Stands, StandsFirst
 
 use memchr::memmem;
 
-/// What a piece of a pattern stands for.
+// What a piece of a pattern stands for.
 #[derive(Clone, Copy)]
 enum Part {
     AnyBytes,
@@ -16,8 +16,8 @@ enum Part {
     Byte(u8),
 }
 
-/// Where a scan stands. The parts before `place` and after the last `%`, which is just before `begin`, stand for the
-/// `passed` bytes from `start` on. `moves` says that there was a `%`, so that a later start may do as well.
+// Where a scan stands. The parts before `place` and after the last `%`, which is just before `begin`, stand for the
+// `passed` bytes from `start` on. `moves` says that there was a `%`, so that a later start may do as well.
 #[derive(Clone, Copy)]
 struct Scan {
     begin: usize,
