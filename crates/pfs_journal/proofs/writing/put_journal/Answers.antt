@@ -1,0 +1,15 @@
+use Rattle.std.proofs.Common.{arith, drop}
+use Rattle.std.proofs.lemmas.List.{drop_more}
+use Rattle.pfs_journal.proofs.Journals.{leaves_more, leaves_stop, leaves_none}
+use Rattle.pfs_journal.proofs.writing.put_journal.Goals as goal
+
+pub loop-entry-preserved : goal.loop-entry-preserved
+loop-entry-preserved g c =
+    leaves_more _ _ _ _ _ _ c.args.entries.now c.args.answers.now c.loop-entry.entry-index c.loop-entry.place _ c.loop-entry-test.true (drop_more c.args.entries.now c.loop-entry.entry-index _ c.loop-entry-test.true) c.loop-entry.invariant c.in-Ok.ensures c.place_behind-place.result c.place_behind-place.ensures
+
+pub returns-in-Err : goal.returns-in-Err
+returns-in-Err g c =
+    leaves_stop _ _ _ _ _ _ c.args.entries.now c.args.answers.now c.loop-entry.entry-index c.loop-entry.place _ c.in-Err.stop c.loop-entry-test.true (drop_more c.args.entries.now c.loop-entry.entry-index _ c.loop-entry-test.true) c.loop-entry.invariant c.in-Err.ensures
+
+pub returns : goal.returns
+returns g c = leaves_none _ _ _ _ c.args.entries.now c.args.answers.now c.loop-entry.entry-index c.loop-entry.place c.loop-entry-test.false c.loop-entry.invariant

@@ -1,0 +1,133 @@
+//! What is reported of a block of a phase: the session's journal, and the answers of its SELECTs.
+
+ghost use Rattle.std.specs.Prelude.{◌≡◌};
+
+use crate::values::RowList;
+use pfs_event::Entry;
+use std::marker::Model;
+
+/// The entries of a journal, in order.
+#[derive(Drop)]
+pub struct EntryList {
+    items: Vec<Entry>,
+}
+
+impl Model for EntryList {
+    ghost use Rattle.std.specs.Prelude.{List};
+    ghost use Rattle.pfs_event.specs.declared.entry.Entry.{Entry};
+
+    ghost Value = { List Entry };
+
+    ghost view = { λ list. list.items.items };
+}
+
+impl EntryList {
+    /// The list of these entries. It takes no memory.
+    pub fn new(items: Vec<Entry>) -> EntryList
+        ensures { result ≡ items.items }
+    {
+        EntryList { items }
+    }
+
+    /// The entries, in order.
+    pub fn as_slice(&self) -> &[Entry]
+        ensures { result.now ≡ self.now }
+    {
+        self.items.as_slice()
+    }
+
+    /// The entries, given back without taking memory.
+    pub fn into_vec(self) -> Vec<Entry>
+        ensures { result.items ≡ self }
+    {
+        self.items
+    }
+}
+
+/// The answers of SELECTs, in order.
+#[derive(Drop)]
+pub struct AnswerList {
+    items: Vec<RowList>,
+}
+
+impl Model for AnswerList {
+    ghost use Rattle.std.specs.Prelude.{List};
+    ghost use Rattle.pfs_journal.specs.declared.values.RowValue.{RowValue};
+
+    ghost Value = { List (List (List RowValue)) };
+
+    ghost view = { λ list. list.items.items };
+}
+
+impl AnswerList {
+    /// The list of these answers. It takes no memory.
+    pub fn new(items: Vec<RowList>) -> AnswerList
+        ensures { result ≡ items.items }
+    {
+        AnswerList { items }
+    }
+
+    /// The answers, in order.
+    pub fn as_slice(&self) -> &[RowList]
+        ensures { result.now ≡ self.now }
+    {
+        self.items.as_slice()
+    }
+
+    /// The answers, given back without taking memory.
+    pub fn into_vec(self) -> Vec<RowList>
+        ensures { result.items ≡ self }
+    {
+        self.items
+    }
+}
+
+/// What one session did in a phase.
+#[derive(Drop)]
+pub struct BlockReport {
+    /// The session's number K.
+    pub session: u64,
+    /// Its journal, in order.
+    pub entries: EntryList,
+    /// The rows of its answers: for each entry `Rows` of the journal, in their order, so many rows
+    /// as that entry says.
+    pub answers: AnswerList,
+}
+
+/// What is reported of a phase's blocks, in their order.
+#[derive(Drop)]
+pub struct BlockList {
+    items: Vec<BlockReport>,
+}
+
+impl Model for BlockList {
+    ghost use Rattle.std.specs.Prelude.{List};
+    ghost use Rattle.pfs_journal.specs.declared.blocks.BlockReport.{BlockReport};
+
+    ghost Value = { List BlockReport };
+
+    ghost view = { λ list. list.items.items };
+}
+
+impl BlockList {
+    /// The list of these blocks. It takes no memory.
+    pub fn new(items: Vec<BlockReport>) -> BlockList
+        ensures { result ≡ items.items }
+    {
+        BlockList { items }
+    }
+
+    /// The blocks, in order.
+    pub fn as_slice(&self) -> &[BlockReport]
+        ensures { result.now ≡ self.now }
+    {
+        self.items.as_slice()
+    }
+
+    /// The blocks, given back without taking memory.
+    pub fn into_vec(self) -> Vec<BlockReport>
+        ensures { result.items ≡ self }
+    {
+        self.items
+    }
+}

@@ -1,0 +1,14 @@
+//! The report of a run as plain values: its spelling in lines, and its reading back.
+#![tactic(auto)]
+
+mod blocks;
+mod lines;
+mod report;
+mod values;
+mod writing;
+
+pub use blocks::{AnswerList, BlockList, BlockReport, EntryList};
+pub use report::{PhaseList, PhaseParts, PhaseReport, Report, ReportParts};
+pub use std::alloc::AllocError as NoMemory;
+pub use values::{LostList, LostReport, Row, RowList, TableList, TableReport, RowValue};
+pub use writing::write;
