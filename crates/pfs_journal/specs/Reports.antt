@@ -49,9 +49,16 @@ abbrev pub rows_asked : Entry → Option ℕ
 rows_asked (entry.Rows number) = Some number
 rows_asked _ = None
 
+-- how many rows each answer has
+abbrev pub sizes_of : List (List (List RowValue)) → List ℕ
+sizes_of answers = map (λ (answer : List (List RowValue)). length answer) answers
+
 -- each answer has so many rows as its entry says
+abbrev pub AreAnswered : List Entry → List (List (List RowValue)) → Type 0
+AreAnswered entries answers = sizes_of answers ≡ filter_map rows_asked entries
+
 pub record IsBlock (block : BlockReport) : Type 0 where
-  pub answered : map (λ (answer : List (List RowValue)). length answer) block.answers ≡ filter_map rows_asked block.entries
+  pub answered : AreAnswered block.entries block.answers
   pub rows : All (All IsRow) block.answers
 
 pub record IsPhase (phase : PhaseParts) : Type 0 where

@@ -2,6 +2,7 @@
 #![tactic(auto)]
 
 mod blocks;
+mod checks;
 mod lines;
 mod report;
 mod values;

@@ -3,6 +3,7 @@
 ghost use Rattle.std.specs.Prelude.{◌≡◌};
 
 use crate::blocks::BlockList;
+use crate::checks::is_phase;
 use crate::values::{LostList, TableList};
 use std::marker::Model;
 
@@ -39,6 +40,7 @@ impl Model for PhaseReport {
 }
 
 impl PhaseReport {
+    ghost use Rattle.std.specs.Prelude.{◌≡◌, MatchOption};
     ghost use Rattle.pfs_journal.specs.Reports.{IsPhase};
 
     /// The phase of these parts. It takes no memory.
@@ -47,6 +49,13 @@ impl PhaseReport {
         ensures { result ≡ parts }
     {
         PhaseReport { parts }
+    }
+
+    /// The phase of these parts, or None where a report can't have them. It takes no memory.
+    pub fn checked(parts: PhaseParts) -> Option<PhaseReport>
+        ensures { MatchOption result (¬ IsPhase parts) (λ phase. (phase ≡ parts) × IsPhase parts) }
+    {
+        if is_phase(&parts) { Some(PhaseReport::new(parts)) } else { None }
     }
 
     /// Its parts.
