@@ -10,7 +10,6 @@ mod Running
 mod Several
 mod Starting
 mod Ranges
-mod Streams
 mod Blocks
 mod Totals
 mod Rows

@@ -1,5 +1,5 @@
 -- One block more of a phase.
-use Rattle.std.proofs.Common.{ℕ, suc, ◌≡◌, ◌+◌, ◌-◌, ◌*◌, ◌^◌, ◌<◌, Bool, cond, inl, inr, List, [], ◌∷◌, ◌++◌, length, get_or, take, drop, count_by, replicate, Option, refl, sym, ap, ◌∙◌, subst, arith, append_assoc, append-nil}
+use Rattle.std.proofs.Common.{ℕ, suc, ◌≡◌, ◌+◌, ◌-◌, ◌*◌, ◌^◌, ◌<◌, Bool, cond, inl, inr, List, [], ◌∷◌, ◌++◌, length, get_or, take, drop, count_by, replicate, Option, Result, Ok, Err, IfOk, refl, sym, ap, ◌∙◌, subst, arith, append_assoc, append-nil}
 use Rattle.std.specs.Prelude.{map}
 use Rattle.std.specs.List.{AllZip, range_with_len}
 use Rattle.std.proofs.lemmas.List.{take_more, take_all, drop_all, map_push, length_push, length-map, at_drop_more, get_or_push, get_or_append_left}
@@ -11,9 +11,10 @@ use Rattle.pfs_classes.specs.declared.setting.Setting.{Setting}
 use Rattle.pfs_event.specs.declared.entry.Entry.{Entry}
 use Rattle.pfs_script.specs.declared.blocks.Block.{Block}
 use Rattle.pfs_script.specs.declared.blocks.Phase.{Phase}
-use Rattle.pfs_top.specs.declared.report.PhaseReport.{PhaseReport}
+use Rattle.pfs_journal.specs.declared.blocks.BlockReport.{BlockReport}
+use Rattle.pfs_journal.specs.declared.report.PhaseParts.{PhaseParts}
+use Rattle.pfs_journal.specs.Reports.{IsPhase}
 use Rattle.pfs_top.specs.declared.player.Cell.{Cell}
-use Rattle.pfs_top.specs.declared.report.SessionReport.{SessionReport}
 use Rattle.pfs_top.specs.Begun.{Begun}
 use Rattle.pfs_top.specs.Blocks.{no_block, block_at, journal_at}
 use Rattle.pfs_top.specs.Ended.{Ended}
@@ -77,17 +78,17 @@ none_played setting blocks asides e = record {
 }
 
 -- one block more was played
-pub played_more : (setting : Setting) (blocks : List Block) (place : ℕ) (block : Block) (sessions : List SessionReport) (threads : List (List Stat)) (statements waits : ℕ) (asides : List Cell) (session : SessionReport) (counted : List Stat) (more_statements more_waits : ℕ) (asides' : List Cell)
-    → place < length blocks → block ≡ get_or blocks place block → ArePlayed setting blocks place sessions threads statements waits asides → session.number ≡ block.session
+pub played_more : (setting : Setting) (blocks : List Block) (place : ℕ) (block : Block) (sessions : List BlockReport) (threads : List (List Stat)) (statements waits : ℕ) (asides : List Cell) (session : BlockReport) (counted : List Stat) (more_statements more_waits : ℕ) (asides' : List Cell)
+    → place < length blocks → block ≡ get_or blocks place block → ArePlayed setting blocks place sessions threads statements waits asides → session.session ≡ block.session
     → IsBlockPlayed setting blocks place session.entries counted more_statements more_waits asides'
     → ArePlayed setting blocks (place + 1) (sessions ++ session ∷ []) (threads ++ counted ∷ []) (statements + more_statements) (waits + more_waits) asides'
 played_more setting blocks place block sessions threads statements waits asides session counted more_statements more_waits asides' h e p n b =
-    let number : SessionReport → ℕ = λ s. s.number in
-    let entries : SessionReport → List Entry = λ s. s.entries in
+    let number : BlockReport → ℕ = λ s. s.session in
+    let entries : BlockReport → List Entry = λ s. s.entries in
     let K : Block → ℕ = λ b. b.session in
     let t : take (place + 1) blocks ≡ take place blocks ++ block ∷ [] = take_more blocks place block h ∙ ap (λ (b : Block). take place blocks ++ b ∷ []) (sym e) in
     record {
-      numbers = map_push number sessions session ∙ (ap (λ (z : List ℕ). z ++ session.number ∷ []) p.numbers ∙ (ap (λ k. map K (take place blocks) ++ k ∷ []) n ∙ (sym (map_push K (take place blocks) block) ∙ ap (map K) (sym t))));
+      numbers = map_push number sessions session ∙ (ap (λ (z : List ℕ). z ++ session.session ∷ []) p.numbers ∙ (ap (λ k. map K (take place blocks) ++ k ∷ []) n ∙ (sym (map_push K (take place blocks) block) ∙ ap (map K) (sym t))));
       journals = ap (λ (z : List (List Entry)). z ++ journals_of setting (place + 1) (all_events setting (take (place + 1) blocks)) (drop (place + 1) blocks)) (map_push entries sessions session) ∙ (sym (journals_more setting blocks place (map entries sessions) session.entries h b.journal) ∙ p.journals);
       threads_are = threads_more setting blocks place threads counted p.threads_are b.counts;
       asides_are = b.asides_are;
@@ -114,11 +115,11 @@ zip_more R (a ∷ others) [] x y all one = absurd all
 zip_more R (a ∷ others) (b ∷ bs) x y all one = (all.0, zip_more R others bs x y all.1 one)
 
 -- one phase more was run, whose number is one more than there were
-pub phases_more : (setting : Setting) (phases : List Phase) (i : ℕ) (phase : Phase) (reports : List PhaseReport) (report : PhaseReport)
-    → i < length phases → phase ≡ get_or phases i phase → map (λ (r : PhaseReport). r.number) reports ≡ range_with_len 1 i → AllZip (IsPhaseRun setting) (take i phases) reports → report.number ≡ length reports + 1 → IsPhaseRun setting phase report
-    → (map (λ (r : PhaseReport). r.number) (reports ++ report ∷ []) ≡ range_with_len 1 (i + 1)) × AllZip (IsPhaseRun setting) (take (i + 1) phases) (reports ++ report ∷ [])
+pub phases_more : (setting : Setting) (phases : List Phase) (i : ℕ) (phase : Phase) (reports : List PhaseParts) (report : PhaseParts)
+    → i < length phases → phase ≡ get_or phases i phase → map (λ (r : PhaseParts). r.number) reports ≡ range_with_len 1 i → AllZip (IsPhaseRun setting) (take i phases) reports → report.number ≡ length reports + 1 → IsPhaseRun setting phase report
+    → (map (λ (r : PhaseParts). r.number) (reports ++ report ∷ []) ≡ range_with_len 1 (i + 1)) × AllZip (IsPhaseRun setting) (take (i + 1) phases) (reports ++ report ∷ [])
 phases_more setting phases i phase reports report h e numbers each number run =
-    let number_of : PhaseReport → ℕ = λ r. r.number in
+    let number_of : PhaseParts → ℕ = λ r. r.number in
     let size = (sym (length-map reports number_of) ∙ ap (λ (z : List ℕ). length z) numbers) ∙ length-range_with_len 1 i in
     let suc_is : i + 1 ≡ suc i = omega arith in
     let next : report.number ≡ 1 + i = omega (arith, number, size) in
@@ -126,3 +127,12 @@ phases_more setting phases i phase reports report h e numbers each number run =
       map_push number_of reports report ∙ (ap (λ (z : List ℕ). z ++ report.number ∷ []) numbers ∙ (ap (λ n. range_with_len 1 i ++ n ∷ []) next ∙ sym (ap (λ k. range_with_len 1 k) suc_is ∙ range_push 1 i))),
       subst (λ (z : List Phase). AllZip (IsPhaseRun setting) z (reports ++ report ∷ [])) (sym t) (zip_more (IsPhaseRun setting) (take i phases) reports phase report each run),
     )
+
+-- a phase that was made of parts is as they are, and one that a report can have
+pub if_ok_same : {Fault : Type 0} (r : Result PhaseParts Fault) (parts : PhaseParts) (P : PhaseParts → Type 0) → IfOk r (λ report. (report ≡ parts) × IsPhase parts) → P parts → IfOk r P
+if_ok_same (Ok report) parts P made p = subst P (sym made.0) p
+if_ok_same (Err fault) parts P made p = tt
+
+pub if_ok_good : {Fault : Type 0} (r : Result PhaseParts Fault) (parts : PhaseParts) → IfOk r (λ report. (report ≡ parts) × IsPhase parts) → IfOk r (λ report. IsPhase report)
+if_ok_good (Ok report) parts made = subst (λ (p : PhaseParts). IsPhase p) (sym made.0) made.1
+if_ok_good (Err fault) parts made = tt

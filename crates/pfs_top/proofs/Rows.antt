@@ -9,10 +9,11 @@ use Rattle.pfs_classes.specs.Registry.{class_at}
 use Rattle.pfs_event.specs.declared.verdict.Verdict.{Verdict}
 use Rattle.pfs_rows.specs.declared.table.TableKind.{TableKind}
 use Rattle.pfs_rows.specs.declared.table.TableKind.TheVariants.{Waits, Stages, Statements, Transactions}
-use Rattle.pfs_top.specs.declared.report.Numbers.{Numbers}
-use Rattle.pfs_top.specs.declared.report.Numbers.TheVariants as numbers
-use Rattle.pfs_top.specs.declared.report.Owner.{Owner}
-use Rattle.pfs_top.specs.declared.report.SummaryRow.{SummaryRow}
+use Rattle.pfs_top.specs.declared.summary_rows.Numbers.{Numbers}
+use Rattle.pfs_top.specs.declared.summary_rows.Numbers.TheVariants as numbers
+use Rattle.pfs_top.specs.declared.summary_rows.Owner.{Owner}
+use Rattle.pfs_journal.specs.declared.values.RowValue.{RowValue}
+use Rattle.pfs_top.specs.RowValues.{row_values}
 use Rattle.pfs_top.specs.Ended.{Ended}
 use Rattle.pfs_top.specs.Phases.{stat_at, AreStats}
 use Rattle.pfs_top.specs.Summaries.{is_of, numbers_of, class_name, listed, row_of, rows_of}
@@ -28,7 +29,7 @@ numbers_same Transactions a b id h same =
 
 row_same : (setting : Setting) (kind : TableKind) (owner : Owner) (a b : ℕ → Stat) (id : ℕ) → id < 63 → ((cell : ℕ) → cell < 64 → a cell ≡ b cell) → row_of setting kind owner a id ≡ row_of setting kind owner b id
 row_same setting kind owner a b id h same =
-    let row : Numbers → SummaryRow = λ counted. record { owner = owner; class = class_name setting id; numbers = counted } in
+    let row : Numbers → List RowValue = λ counted. row_values owner (class_name setting id) counted in
     ap (λ (counted : Numbers). if is_of kind (class_at setting.classes id) then listed counted (row counted) else []) (numbers_same kind a b id h same)
 
 -- lists that are made number by number

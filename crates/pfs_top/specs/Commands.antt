@@ -10,11 +10,12 @@ use Rattle.pfs_script.specs.declared.blocks.Phase.{Phase}
 use Rattle.pfs_script.specs.declared.reasons.Reason.{Reason}
 use Rattle.pfs_script.specs.declared.reasons.Reason.TheVariants.{BadByte, OpenLine, BadForm, OutOfPlace, BadNumber, BadSession, UnknownName, BadLimit, BadNesting, TooLong, TooMuch, NotBuilt}
 use Rattle.pfs_script.specs.Scripts.{IsScript, IsFirstFault}
-use Rattle.pfs_top.specs.declared.report.Report.{Report}
+use Rattle.pfs_journal.specs.declared.report.ReportParts.{ReportParts}
+use Rattle.pfs_journal.specs.Reports.{IsReport}
+use Rattle.pfs_journal.specs.Spelling.{spelling}
 use Rattle.pfs_top.specs.declared.commands.Status.{Status}
 use Rattle.pfs_top.specs.declared.commands.Status.TheVariants.{Done, Usage, BadScript, ReadFault, WriteFault, NoMemory}
 use Rattle.pfs_top.specs.Runs.{IsRun}
-use Rattle.pfs_top.specs.Spelling.{spelling}
 
 -- the words are the one command
 abbrev pub IsCommand : List (String Global) → Type 0
@@ -55,7 +56,7 @@ fault_text line reason = codes "bad script: line " ++ decimal line ++ codes " re
 
 -- which statuses have which text: of phases that were run
 abbrev pub HasRun : Setting → List Phase → Status → List ℕ → Type 0
-HasRun setting phases Done due = (report : Report) × IsRun setting phases report × (due ≡ spelling report)
+HasRun setting phases Done due = (report : ReportParts) × IsReport report × IsRun setting phases report × (due ≡ spelling report)
 HasRun setting phases _ due = ⊥
 
 -- of a fault

@@ -2,8 +2,8 @@
 use Rattle.std.specs.Prelude.{ℕ, List, [], ◌∷◌, codes, count_by, Option}
 use Rattle.pfs_classes.specs.declared.kind.Kind.TheVariants.{Mutex, Rwlock, Cond, File, Socket, Stage, Statement}
 use Rattle.pfs_classes.specs.Registry.{Registry, lost_of}
-use Rattle.pfs_top.specs.declared.report.Counter.{Counter}
-use Rattle.pfs_top.specs.declared.report.Counter.TheVariants.{NestedStatements, Lockers, MutexClasses, RwlockClasses, CondClasses, FileClasses, SocketClasses, StageClasses, StatementClasses}
+use Rattle.pfs_top.specs.declared.counters.Counter.{Counter}
+use Rattle.pfs_top.specs.declared.counters.Counter.TheVariants.{NestedStatements, Lockers, MutexClasses, RwlockClasses, CondClasses, FileClasses, SocketClasses, StageClasses, StatementClasses}
 use Rattle.pfs_top.specs.Begun.{Begun}
 use Rattle.pfs_top.specs.Sums.{is_lost_statement, is_lost_wait}
 

@@ -4,9 +4,9 @@ pub mod Sums
 pub mod Entries
 pub mod Player
 pub mod Counters
+pub mod RowValues
 pub mod Summaries
 pub mod Runs
 pub mod Blocks
 pub mod Phases
-pub mod Spelling
 pub mod Commands

@@ -9,7 +9,7 @@ use Rattle.pfs_event.specs.declared.entry.Entry.{Entry}
 use Rattle.pfs_event.specs.declared.verdict.Verdict.{Verdict}
 use Rattle.pfs_script.specs.declared.blocks.Block.{Block}
 use Rattle.pfs_top.specs.declared.player.Cell.{Cell}
-use Rattle.pfs_top.specs.declared.report.SessionReport.{SessionReport}
+use Rattle.pfs_journal.specs.declared.blocks.BlockReport.{BlockReport}
 use Rattle.pfs_top.specs.Blocks.{block_at, journal_at}
 use Rattle.pfs_top.specs.Ended.{Ended}
 use Rattle.pfs_top.specs.Player.{AreCells, AreRoomy}
@@ -54,9 +54,9 @@ pub record IsBlockPlayed (setting : Setting) (blocks : List Block) (place : ℕ)
   pub few_waits : waits ≤ 200000
 
 -- so many blocks were played
-pub record ArePlayed (setting : Setting) (blocks : List Block) (places : ℕ) (sessions : List SessionReport) (threads : List (List Stat)) (statements waits : ℕ) (asides : List Cell) : Type 0 where
-  pub numbers : map (λ (session : SessionReport). session.number) sessions ≡ map (λ (block : Block). block.session) (take places blocks)
-  pub journals : map (λ (session : SessionReport). session.entries) sessions ++ journals_of setting places (all_events setting (take places blocks)) (drop places blocks) ≡ journals_of setting 0 [] blocks
+pub record ArePlayed (setting : Setting) (blocks : List Block) (places : ℕ) (sessions : List BlockReport) (threads : List (List Stat)) (statements waits : ℕ) (asides : List Cell) : Type 0 where
+  pub numbers : map (λ (block : BlockReport). block.session) sessions ≡ map (λ (block : Block). block.session) (take places blocks)
+  pub journals : map (λ (block : BlockReport). block.entries) sessions ++ journals_of setting places (all_events setting (take places blocks)) (drop places blocks) ≡ journals_of setting 0 [] blocks
   pub threads_are : AreThreads setting blocks places threads
   pub asides_are : AreAsides setting (take places blocks) asides
   pub room : HasRoomFrom places asides

@@ -4,25 +4,27 @@ use Rattle.std.specs.Prelude.{ℕ, ◌≡◌, ◌+◌, ◌==◌, if◌then◌els
 use Rattle.std.specs.List.{AllZip, flat_map, range_with_len}
 use Rattle.pfs_classes.specs.declared.setting.Setting.{Setting}
 use Rattle.pfs_event.specs.declared.entry.Entry.{Entry}
+use Rattle.pfs_journal.specs.declared.blocks.BlockReport.{BlockReport}
+use Rattle.pfs_journal.specs.declared.report.PhaseParts.{PhaseParts}
+use Rattle.pfs_journal.specs.declared.report.ReportParts.{ReportParts}
+use Rattle.pfs_journal.specs.declared.values.LostReport.{LostReport}
+use Rattle.pfs_journal.specs.declared.values.RowValue.{RowValue}
+use Rattle.pfs_journal.specs.declared.values.TableReport.{TableReport}
 use Rattle.pfs_rows.specs.declared.table.SummaryTable.TheVariants.{ByThread, Global}
+use Rattle.pfs_rows.specs.declared.table.Table.{Table}
 use Rattle.pfs_rows.specs.declared.table.Table.TheVariants.{Summary}
 use Rattle.pfs_rows.specs.declared.table.TableKind.{TableKind}
 use Rattle.pfs_rows.specs.declared.table.TableKind.TheVariants.{Waits, Stages, Statements, Transactions}
+use Rattle.pfs_rows.specs.Tables.{table_name}
 use Rattle.pfs_script.specs.declared.blocks.Block.{Block}
 use Rattle.pfs_script.specs.declared.blocks.BlockLine.{BlockLine}
 use Rattle.pfs_script.specs.declared.blocks.Phase.{Phase}
 use Rattle.pfs_script.specs.Marks.{written_out}
-use Rattle.pfs_top.specs.declared.report.Counter.{Counter}
-use Rattle.pfs_top.specs.declared.report.LostRow.{LostRow}
-use Rattle.pfs_top.specs.declared.report.Owner.TheVariants.{Thread, All}
-use Rattle.pfs_top.specs.declared.report.PhaseReport.{PhaseReport}
-use Rattle.pfs_top.specs.declared.report.Report.{Report}
-use Rattle.pfs_top.specs.declared.report.SessionReport.{SessionReport}
-use Rattle.pfs_top.specs.declared.report.SummaryRow.{SummaryRow}
-use Rattle.pfs_top.specs.declared.report.TableReport.{TableReport}
+use Rattle.pfs_top.specs.declared.counters.Counter.{Counter}
+use Rattle.pfs_top.specs.declared.summary_rows.Owner.TheVariants.{Thread, All}
 use Rattle.pfs_event.specs.Verdicts.{is_let_through}
 use Rattle.pfs_top.specs.Begun.{Begun, begun_of, setup_of}
-use Rattle.pfs_top.specs.Counters.{counters, lost_by}
+use Rattle.pfs_top.specs.Counters.{counters, counter_name, lost_by}
 use Rattle.pfs_top.specs.Ended.{Ended, ended_in}
 use Rattle.pfs_top.specs.Entries.{journal_of}
 use Rattle.pfs_top.specs.Summaries.{rows_of}
@@ -53,49 +55,51 @@ journals_of setting slot others (block ∷ blocks) =
     journal_of (setup_of setting) slot others (played block) ∷ journals_of setting (slot + 1) (others ++ events_of setting block) blocks
 
 -- a session's rows: over its attributed events
-abbrev pub block_rows : Setting → TableKind → Block → List SummaryRow
+abbrev pub block_rows : Setting → TableKind → Block → List (List RowValue)
 block_rows setting kind block = rows_of setting kind (Thread block.session) (λ cell. summary_of setting.classes is_attributed cell (events_of setting block))
 
 -- the rows of the blocks of a session number
-abbrev pub rows_if : Setting → TableKind → ℕ → Block → List SummaryRow
+abbrev pub rows_if : Setting → TableKind → ℕ → Block → List (List RowValue)
 rows_if setting kind number block = if block.session == number then block_rows setting kind block else []
 
-abbrev pub session_rows : Setting → List Block → TableKind → ℕ → List SummaryRow
+abbrev pub session_rows : Setting → List Block → TableKind → ℕ → List (List RowValue)
 session_rows setting blocks kind number = flat_map (rows_if setting kind number) blocks
 
 -- the rows by thread, ascending by session number, then class. The session numbers go from 1 to 64
-unfoldable pub thread_rows : Setting → List Block → TableKind → List SummaryRow
+unfoldable pub thread_rows : Setting → List Block → TableKind → List (List RowValue)
 thread_rows setting blocks kind = flat_map (session_rows setting blocks kind) (range_with_len 1 64)
 
 -- the global rows: over all events that are let through
-abbrev pub global_rows : Setting → List Block → TableKind → List SummaryRow
+abbrev pub global_rows : Setting → List Block → TableKind → List (List RowValue)
 global_rows setting blocks kind = rows_of setting kind All (λ cell. summary_of setting.classes is_let_through cell (all_events setting blocks))
+
+-- a table stands where it has rows
+abbrev pub table_if : Table → List (List RowValue) → List TableReport
+table_if table rows = if length rows == 0 then [] else record { name = table_name table; rows = rows } ∷ []
 
 -- a kind's tables
 abbrev pub tables_of : Setting → List Block → TableKind → List TableReport
-tables_of setting blocks kind =
-    record { table = Summary kind ByThread; rows = thread_rows setting blocks kind }
-    ∷ record { table = Summary kind Global; rows = global_rows setting blocks kind }
-    ∷ []
+tables_of setting blocks kind = table_if (Summary kind ByThread) (thread_rows setting blocks kind) ++ table_if (Summary kind Global) (global_rows setting blocks kind)
 
 -- the kinds in their order
 abbrev pub table_kinds : List TableKind
 table_kinds = Waits ∷ Stages ∷ Statements ∷ Transactions ∷ []
 
 -- a counter stands where it isn't 0
-abbrev pub lost_row : Setting → List Block → Counter → List LostRow
+abbrev pub lost_row : Setting → List Block → Counter → List LostReport
 lost_row setting blocks counter =
     let number = lost_by setting.classes (all_begun setting blocks) counter in
-    if number == 0 then [] else record { counter = counter; number = number } ∷ []
+    if number == 0 then [] else record { name = counter_name counter; number = number } ∷ []
 
--- a phase of the run
-pub record IsPhaseRun (setting : Setting) (phase : Phase) (report : PhaseReport) : Type 0 where
-  pub sessions : map (λ (session : SessionReport). session.number) report.sessions ≡ map (λ (block : Block). block.session) phase.blocks
-  pub journals : map (λ (session : SessionReport). session.entries) report.sessions ≡ journals_of setting 0 [] phase.blocks
+-- a phase of the run. No journal has an answer's `rows` yet, so a phase that a report can have has no answers
+pub record IsPhaseRun (setting : Setting) (phase : Phase) (report : PhaseParts) : Type 0 where
+  pub sessions : map (λ (block : BlockReport). block.session) report.blocks ≡ map (λ (block : Block). block.session) phase.blocks
+  pub journals : map (λ (block : BlockReport). block.entries) report.blocks ≡ journals_of setting 0 [] phase.blocks
   pub tables : report.tables ≡ flat_map (tables_of setting phase.blocks) table_kinds
   pub lost : report.lost ≡ flat_map (lost_row setting phase.blocks) counters
 
--- the report is a run of the script: its phases are numbered from 1, and each is a run of the script's
-pub record IsRun (setting : Setting) (phases : List Phase) (report : Report) : Type 0 where
-  pub numbers : map (λ (phase : PhaseReport). phase.number) report.phases ≡ range_with_len 1 (length phases)
+-- the report is a run of the script: its format is the one of a report in part, its phases are numbered from 1, and each is a run of the script's
+pub record IsRun (setting : Setting) (phases : List Phase) (report : ReportParts) : Type 0 where
+  pub format : report.format ≡ 0
+  pub numbers : map (λ (phase : PhaseParts). phase.number) report.phases ≡ range_with_len 1 (length phases)
   pub each : AllZip (IsPhaseRun setting) phases report.phases

@@ -11,11 +11,12 @@ use Rattle.pfs_classes.specs.Registry.{class_at, text_of}
 use Rattle.pfs_rows.specs.declared.table.TableKind.{TableKind}
 use Rattle.pfs_rows.specs.declared.table.TableKind.TheVariants.{Waits, Stages, Statements, Transactions}
 use Rattle.pfs_rows.specs.Tables.{kind_number}
-use Rattle.pfs_top.specs.declared.report.Numbers.{Numbers}
-use Rattle.pfs_top.specs.declared.report.Numbers.TheVariants as numbers
-use Rattle.pfs_top.specs.declared.report.Owner.{Owner}
-use Rattle.pfs_top.specs.declared.report.SummaryRow.{SummaryRow}
+use Rattle.pfs_top.specs.declared.summary_rows.Numbers.{Numbers}
+use Rattle.pfs_top.specs.declared.summary_rows.Numbers.TheVariants as numbers
+use Rattle.pfs_top.specs.declared.summary_rows.Owner.{Owner}
+use Rattle.pfs_journal.specs.declared.values.RowValue.{RowValue}
 use Rattle.pfs_top.specs.Begun.{class_of}
+use Rattle.pfs_top.specs.RowValues.{row_values}
 
 -- the kind of the table that has the rows of a class
 abbrev pub table_kind : Kind → TableKind
@@ -52,16 +53,16 @@ abbrev pub class_name : Setting → ℕ → List ℕ
 class_name setting id = text_of setting.names (class_of setting.classes id).name
 
 -- a row stands where something was counted
-abbrev pub listed : Numbers → SummaryRow → List SummaryRow
+abbrev pub listed : Numbers → List RowValue → List (List RowValue)
 listed counted row = if count_of counted == 0 then [] else row ∷ []
 
 -- the row of the class with this id, where it is of the kind
-abbrev pub row_of : Setting → TableKind → Owner → (ℕ → Stat) → ℕ → List SummaryRow
+abbrev pub row_of : Setting → TableKind → Owner → (ℕ → Stat) → ℕ → List (List RowValue)
 row_of setting kind owner counted id =
     if is_of kind (class_at setting.classes id)
-    then listed (numbers_of kind counted id) (record { owner = owner; class = class_name setting id; numbers = numbers_of kind counted id })
+    then listed (numbers_of kind counted id) (row_values owner (class_name setting id) (numbers_of kind counted id))
     else []
 
 -- an owner's rows, ascending by class id. The ids go from 0 to 62
-unfoldable pub rows_of : Setting → TableKind → Owner → (ℕ → Stat) → List SummaryRow
+unfoldable pub rows_of : Setting → TableKind → Owner → (ℕ → Stat) → List (List RowValue)
 rows_of setting kind owner counted = flat_map (row_of setting kind owner counted) (range_with_len 0 63)

@@ -7,8 +7,8 @@ ghost use Rattle.pfs_top.specs.Commands.{IsCommand, reason_number, status_number
 
 use crate::NoMemory;
 use crate::phases::run_phases;
-use crate::spelling::Spelled;
 use crate::texts::put_text;
+use pfs_journal::write;
 use pfs_outside::{ReadStop, Sink, Source, WriteStop, read_all, write_all};
 use pfs_script::{Reason, Script, ScriptFault, laws};
 use pfs_text::put_u64;
@@ -108,7 +108,7 @@ fn report<K: Sink>(alloc: Global, sink: &mut K, script: &Script) -> Status
     ensures { Tells (HasRun script.now.setting script.now.phases) (K.written sink.old) (K.written sink.new) (Rose (K.faults sink.old) (K.faults sink.new)) result }
 {
     match run_phases(alloc, &script.setting, script.phases.as_slice()) {
-        Ok(report) => status_after(report.put(alloc, sink), Status::Done),
+        Ok(report) => status_after(write(alloc, &report, sink), Status::Done),
         Err(_) => Status::NoMemory,
     }
 }

@@ -2,19 +2,15 @@
 #![tactic(auto)]
 
 mod commands;
+mod counters;
 mod phases;
 mod player;
-mod report;
 mod rounds;
-mod spelling;
 mod summaries;
+mod summary_rows;
 #[cfg(test)]
 mod tests;
 mod texts;
 
 pub use commands::{Status, pfs};
-pub use report::{
-    Counter, EntryList, LostRow, LostRowList, Numbers, Owner, PhaseList, PhaseReport, Report,
-    SessionList, SessionReport, SummaryRow, SummaryRowList, TableList, TableReport,
-};
 pub use std::alloc::AllocError as NoMemory;

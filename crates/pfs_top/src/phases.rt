@@ -4,21 +4,27 @@ ghost use Rattle.std.specs.Prelude.{◌≡◌, ◌<◌, ◌≤◌, ◌++◌, Lis
 ghost use Rattle.std.specs.List.{All, flat_map};
 ghost use Rattle.pfs_script.specs.declared.blocks.Block.{Block};
 ghost use Rattle.pfs_script.specs.Runnable.{IsBlock, IsPhase, IsRunnable};
-ghost use Rattle.pfs_top.specs.Counters.{counters, lost_by};
+ghost use Rattle.pfs_journal.specs.Reports as reports;
+ghost use Rattle.pfs_top.specs.Counters.{counters, counter_name, lost_by};
 ghost use Rattle.pfs_top.specs.Phases.{AreAsides, AreLost, ArePlayed, HasRoomFrom, IsBlockPlayed};
 ghost use Rattle.pfs_top.specs.Runs.{all_begun, lost_row, IsPhaseRun, IsRun};
 
 use crate::NoMemory;
+use crate::counters::Counter;
 use crate::player::{Cell, Player};
-use crate::report::{
-    Counter, EntryList, LostRow, LostRowList, PhaseList, PhaseReport, Report, SessionList,
-    SessionReport,
-};
 use crate::rounds::{empty_cells, play};
 use crate::summaries::{StatList, stats_of, tables};
 use pfs_classes::{Kind, Setting};
+use pfs_journal::{
+    AnswerList, BlockList, BlockReport, EntryList, LostList, LostReport, PhaseList, PhaseParts,
+    PhaseReport, Report, ReportParts,
+};
 use pfs_script::{Block, Phase};
-use std::alloc::Global;
+use pfs_text::Text;
+use std::alloc::{AllocError, Global};
+
+/// The number of the report's format: parts of the report are not built yet.
+const FORMAT: u64 = 0;
 
 /// How many events were lost because too many were open.
 #[derive(Clone, Copy, Debug, PartialEq, Eq)]
@@ -39,7 +45,7 @@ pub struct PlayedBlock {
 /// What the blocks of a phase leave: the same of each, and the cells of the events aside.
 #[derive(Drop)]
 pub struct Played {
-    sessions: Vec<SessionReport>,
+    sessions: Vec<BlockReport>,
     threads: Vec<StatList>,
     lost: LostEvents,
     asides: Vec<Cell>,
@@ -102,9 +108,11 @@ fn play_blocks(alloc: Global, setting: &Setting, blocks: &[Block]) -> Result<Pla
         statements += lost.statements;
         waits += lost.waits;
         threads.push(counted)?;
-        sessions.push(SessionReport {
-            number: blocks[place].session,
+        let answers = AnswerList::new(Vec::new(alloc));
+        sessions.push(BlockReport {
+            session: blocks[place].session,
             entries,
+            answers,
         })?;
     }
     Ok(Played {
@@ -132,12 +140,23 @@ fn lost_by(setting: &Setting, lost: &LostEvents, counter: Counter) -> u64
     }
 }
 
+/// A counter with its value.
+fn lost_row(alloc: Global, counter: Counter, number: u64) -> Result<LostReport, NoMemory>
+    ensures { IfOk result (λ row. row ≡ record { name = counter_name counter; number = number }) }
+{
+    Ok(LostReport {
+        name: Text::from_slice(alloc, counter.name().as_bytes())?,
+        number,
+    })
+}
+
 /// Puts a counter, where it isn't 0.
 fn put_lost_row(
+    alloc: Global,
     setting: &Setting,
     lost: &LostEvents,
     counter: Counter,
-    rows: &mut Vec<LostRow>,
+    rows: &mut Vec<LostReport>,
 ) -> Result<(), NoMemory>
     ensures { (blocks : List Block) → AreLost setting.now blocks lost.now.statements lost.now.waits → OnOk result (rows.new.items ≡ rows.old.items ++ lost_row setting.now blocks counter) }
 {
@@ -145,22 +164,33 @@ fn put_lost_row(
     if number == 0 {
         return Ok(());
     }
-    rows.push(LostRow { counter, number })?;
+    rows.push(lost_row(alloc, counter, number)?)?;
     Ok(())
 }
 
 /// The counters that aren't 0.
-fn lost_rows(alloc: Global, setting: &Setting, lost: &LostEvents) -> Result<LostRowList, NoMemory>
+fn lost_rows(alloc: Global, setting: &Setting, lost: &LostEvents) -> Result<LostList, NoMemory>
     ensures { (blocks : List Block) → AreLost setting.now blocks lost.now.statements lost.now.waits → IfOk result (λ rows. rows ≡ flat_map (lost_row setting.now blocks) counters) }
 {
     let mut rows = Vec::new(alloc);
     for counter in &Counter::ALL {
-        match put_lost_row(setting, lost, *counter, &mut rows) {
+        match put_lost_row(alloc, setting, lost, *counter, &mut rows) {
             Ok(()) => {}
             Err(fault) => return Err(fault),
         }
     }
-    Ok(LostRowList::new(rows))
+    Ok(LostList::new(rows))
+}
+
+/// The phase of these parts. A run's parts are always such as a report can have; with others there
+/// would be no report to write, and the answer is that of a want of memory.
+fn checked(parts: PhaseParts) -> Result<PhaseReport, NoMemory>
+    ensures { IfOk result (λ report. (report ≡ parts) × reports.IsPhase parts) }
+{
+    match PhaseReport::checked(parts) {
+        Some(report) => Ok(report),
+        None => Err(AllocError),
+    }
 }
 
 /// Runs the blocks of a phase, and makes its tables and counters.
@@ -173,23 +203,26 @@ fn run_phase(
     requires { IsPhase (length setting.now.classes.classes) phase.now }
     ensures run { IfOk result (λ report. IsPhaseRun setting.now phase.now report) }
     ensures number { IfOk result (λ report. report.number ≡ number) }
+    ensures good { IfOk result (λ report. reports.IsPhase report) }
 {
     let blocks = phase.blocks.as_slice();
     let played = play_blocks(alloc, setting, blocks)?;
     let tables = tables(alloc, setting, blocks, &played.threads, &played.asides)?;
     let lost = lost_rows(alloc, setting, &played.lost)?;
-    Ok(PhaseReport {
+    let parts = PhaseParts {
         number,
-        sessions: SessionList::new(played.sessions),
+        blocks: BlockList::new(played.sessions),
         tables,
         lost,
-    })
+    };
+    checked(parts)
 }
 
 /// What a run of a script reports.
 pub fn run_phases(alloc: Global, setting: &Setting, phases: &[Phase]) -> Result<Report, NoMemory>
     requires { IsRunnable (length setting.now.classes.classes) phases.now }
-    ensures { IfOk result (λ report. IsRun setting.now phases.now report) }
+    ensures run { IfOk result (λ report. IsRun setting.now phases.now report) }
+    ensures good { IfOk result (λ report. reports.IsReport report) }
 {
     let mut reports = Vec::new(alloc);
     for phase in phases {
@@ -199,7 +232,8 @@ pub fn run_phases(alloc: Global, setting: &Setting, phases: &[Phase]) -> Result<
             Err(fault) => return Err(fault),
         }
     }
-    Ok(Report {
+    Ok(Report::new(ReportParts {
+        format: FORMAT,
         phases: PhaseList::new(reports),
-    })
+    }))
 }

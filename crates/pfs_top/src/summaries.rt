@@ -11,13 +11,15 @@ ghost use Rattle.pfs_top.specs.declared.player.Cell.{Cell};
 ghost use Rattle.pfs_top.specs.Player.{cell_at};
 ghost use Rattle.pfs_top.specs.Sums.{is_attributed, summary_of};
 ghost use Rattle.pfs_top.specs.Summaries.{table_kind, is_of, numbers_of, class_name, listed, row_of, rows_of};
-ghost use Rattle.pfs_top.specs.Runs.{all_events, events_of, block_rows, session_rows, thread_rows, global_rows, tables_of, table_kinds};
+ghost use Rattle.pfs_top.specs.RowValues.{row_values};
+ghost use Rattle.pfs_top.specs.Runs.{table_if, all_events, events_of, block_rows, session_rows, thread_rows, global_rows, tables_of, table_kinds};
 ghost use Rattle.pfs_top.specs.Phases.{stat_at, AreStats, AreThreads, AreAsides};
 
 use crate::NoMemory;
 use crate::player::{Cell, READ_ONLY_CELL, READ_WRITE_CELL};
-use crate::report::{Numbers, Owner, SummaryRow, SummaryRowList, TableList, TableReport};
+use crate::summary_rows::{Numbers, Owner, summary_row};
 use pfs_classes::{Class, ClassId, Kind, Setting, laws};
+use pfs_journal::{Row, RowList, TableList, TableReport};
 use pfs_rows::{SummaryTable, Table, TableKind};
 use pfs_script::Block;
 use pfs_stat::{Stat, zero};
@@ -159,20 +161,17 @@ fn put_listed(
     owner: Owner,
     id: ClassId,
     numbers: Numbers,
-    rows: &mut Vec<SummaryRow>,
+    rows: &mut Vec<Row>,
 ) -> Result<(), NoMemory>
     requires { IsId setting.now.classes id }
-    ensures { OnOk result (rows.new.items ≡ rows.old.items ++ listed numbers (record { owner = owner; class = class_name setting.now id; numbers = numbers })) }
+    ensures { OnOk result (rows.new.items ≡ rows.old.items ++ listed numbers (row_values owner (class_name setting.now id) numbers)) }
 {
     if numbers.count() == 0 {
         return Ok(());
     }
     let class = class_name(alloc, setting, id)?;
-    rows.push(SummaryRow {
-        owner,
-        class,
-        numbers,
-    })?;
+    let row = summary_row(alloc, owner, class, &numbers)?;
+    rows.push(row)?;
     Ok(())
 }
 
@@ -184,7 +183,7 @@ fn put_row(
     owner: Owner,
     counted: &[Stat],
     id: u64,
-    rows: &mut Vec<SummaryRow>,
+    rows: &mut Vec<Row>,
 ) -> Result<(), NoMemory>
     requires cells { length counted.now ≡ 64 }
     requires class { id < 63 }
@@ -205,7 +204,7 @@ fn put_rows(
     kind: TableKind,
     owner: Owner,
     counted: &[Stat],
-    rows: &mut Vec<SummaryRow>,
+    rows: &mut Vec<Row>,
 ) -> Result<(), NoMemory>
     requires { length counted.now ≡ 64 }
     ensures { (events : List Ended) (test : Verdict → Bool) → AreStats setting.now.classes test events counted.now → OnOk result (rows.new.items ≡ rows.old.items ++ rows_of setting.now kind owner (λ cell. summary_of setting.now.classes test cell events)) }
@@ -226,7 +225,7 @@ fn put_block_rows(
     block: &Block,
     counted: &[Stat],
     kind: TableKind,
-    rows: &mut Vec<SummaryRow>,
+    rows: &mut Vec<Row>,
 ) -> Result<(), NoMemory>
     requires { AreStats setting.now.classes is_attributed (events_of setting.now block.now) counted.now }
     ensures { OnOk result (rows.new.items ≡ rows.old.items ++ block_rows setting.now kind block.now) }
@@ -249,7 +248,7 @@ fn put_session_rows(
     threads: &[StatList],
     kind: TableKind,
     number: u64,
-    rows: &mut Vec<SummaryRow>,
+    rows: &mut Vec<Row>,
 ) -> Result<(), NoMemory>
     requires { AreThreads setting.now blocks.now (length blocks.now) threads.now }
     ensures { OnOk result (rows.new.items ≡ rows.old.items ++ session_rows setting.now blocks.now kind number) }
@@ -280,7 +279,7 @@ fn thread_rows(
     blocks: &[Block],
     threads: &[StatList],
     kind: TableKind,
-) -> Result<SummaryRowList, NoMemory>
+) -> Result<RowList, NoMemory>
     requires { AreThreads setting.now blocks.now (length blocks.now) threads.now }
     ensures { IfOk result (λ rows. rows ≡ thread_rows setting.now blocks.now kind) }
 {
@@ -291,7 +290,7 @@ fn thread_rows(
             Err(fault) => return Err(fault),
         }
     }
-    Ok(SummaryRowList::new(rows))
+    Ok(RowList::new(rows))
 }
 
 /// What all threads counted in a cell.
@@ -351,15 +350,32 @@ fn global_rows(
     setting: &Setting,
     counted: &[Stat],
     kind: TableKind,
-) -> Result<SummaryRowList, NoMemory>
+) -> Result<RowList, NoMemory>
     requires { length counted.now ≡ 64 }
     ensures { (blocks : List Block) → AreStats setting.now.classes is_let_through (all_events setting.now blocks) counted.now → IfOk result (λ rows. rows ≡ global_rows setting.now blocks kind) }
 {
     let mut rows = Vec::new(alloc);
     match put_rows(alloc, setting, kind, Owner::All, counted, &mut rows) {
-        Ok(()) => Ok(SummaryRowList::new(rows)),
+        Ok(()) => Ok(RowList::new(rows)),
         Err(fault) => Err(fault),
     }
+}
+
+/// Puts a table, where it has rows.
+fn put_table(
+    alloc: Global,
+    table: Table,
+    rows: RowList,
+    tables: &mut Vec<TableReport>,
+) -> Result<(), NoMemory>
+    ensures { OnOk result (tables.new.items ≡ tables.old.items ++ table_if table rows) }
+{
+    if rows.as_slice().is_empty() {
+        return Ok(());
+    }
+    let name = Text::from_slice(alloc, table.name().as_bytes())?;
+    tables.push(TableReport { name, rows })?;
+    Ok(())
 }
 
 /// Puts a kind's tables: by thread, then globally.
@@ -378,15 +394,18 @@ fn put_tables(
 {
     let by_thread = thread_rows(alloc, setting, blocks, threads, kind)?;
     let global = global_rows(alloc, setting, counted, kind)?;
-    tables.push(TableReport {
-        table: Table::Summary(kind, SummaryTable::ByThread),
-        rows: by_thread,
-    })?;
-    tables.push(TableReport {
-        table: Table::Summary(kind, SummaryTable::Global),
-        rows: global,
-    })?;
-    Ok(())
+    put_table(
+        alloc,
+        Table::Summary(kind, SummaryTable::ByThread),
+        by_thread,
+        tables,
+    )?;
+    put_table(
+        alloc,
+        Table::Summary(kind, SummaryTable::Global),
+        global,
+        tables,
+    )
 }
 
 /// The tables at a phase's end, kind after kind.

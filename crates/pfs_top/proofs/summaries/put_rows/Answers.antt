@@ -1,5 +1,5 @@
 use Rattle.std.proofs.Common.{◌++◌, List, refl, ap, ◌∙◌, arith}
-use Rattle.pfs_top.specs.declared.report.SummaryRow.{SummaryRow}
+use Rattle.pfs_journal.specs.declared.values.RowValue.{RowValue}
 use Rattle.pfs_top.specs.Phases.{stat_at}
 use Rattle.pfs_top.specs.Summaries.{row_of}
 use Rattle.pfs_top.proofs.Ranges.{rows_more}
@@ -12,4 +12,4 @@ loop-id-preserved c =
 
 pub returns : goal.returns
 returns c = λ events test are.
-    c.loop-id.invariant ∙ ap (λ (z : List SummaryRow). c.args.rows.now.items ++ z) (rows_whole c.args.setting.now c.args.kind c.args.owner c.args.counted.now test events c.loop-id.id (omega arith) are)
+    c.loop-id.invariant ∙ ap (λ (z : List (List RowValue)). c.args.rows.now.items ++ z) (rows_whole c.args.setting.now c.args.kind c.args.owner c.args.counted.now test events c.loop-id.id (omega arith) are)

@@ -1,7 +1,0 @@
-use Rattle.std.proofs.Common.{◌≤◌, take}
-use Rattle.std.specs.List.{flat_map}
-use Rattle.pfs_outside.specs.Outside.{Added}
-use Rattle.pfs_top.proofs.spelling.put_each.Given as goal
-
-abbrev pub invariant-loop-part : goal.invariant-loop-part
-invariant-loop-part g l = Added (g.K.Sink.written l.fn.sink) (g.K.Sink.written l.sink) (flat_map g.T.Spelled.text (take l.part-index l.parts)) × (g.K.Sink.faults l.fn.sink ≤ g.K.Sink.faults l.sink)
