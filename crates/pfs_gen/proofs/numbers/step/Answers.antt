@@ -1,0 +1,5 @@
+use Rattle.pfs_gen.proofs.Drawing.{step_wrapped}
+use Rattle.pfs_gen.proofs.numbers.step.Goals as goal
+
+pub returns : goal.returns
+returns c = step_wrapped c.args.state

@@ -1,0 +1,11 @@
+//! Scripts made from numbers: for each number one script, and the same at every call.
+#![tactic(auto)]
+
+mod numbers;
+mod script;
+#[cfg(test)]
+mod tests;
+mod units;
+
+pub use script::script_of;
+pub use std::alloc::AllocError as NoMemory;
