@@ -1,3 +1,6 @@
 mod Answered
 mod Journals
+mod JournalsRead
+mod PartsRead
+mod PhasesRead
 mod Streams

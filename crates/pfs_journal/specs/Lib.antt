@@ -1,2 +1,4 @@
+pub mod Lines
+pub mod Readings
 pub mod Reports
 pub mod Spelling

@@ -47,7 +47,7 @@ fn is_value(value: &RowValue) -> bool
     }
 }
 
-fn is_row(row: &Row) -> bool
+pub fn is_row(row: &Row) -> bool
     ensures { IsTrue result ↔ IsRow row.now }
 {
     row.as_slice().iter().all(|value| is_value(value))
@@ -78,7 +78,7 @@ fn are_answers(answers: &[RowList]) -> bool
 }
 
 /// How many rows the answer behind an entry has, where one is.
-fn rows_asked(entry: &Entry) -> Option<u64>
+pub fn rows_asked(entry: &Entry) -> Option<u64>
     ensures { result ≡ rows_asked entry.now }
 {
     match entry {

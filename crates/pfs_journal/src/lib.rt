@@ -3,12 +3,19 @@
 
 mod blocks;
 mod checks;
+mod guess;
+mod line;
+mod reading;
+mod parts;
+mod phases;
 mod lines;
 mod report;
 mod values;
 mod writing;
 
 pub use blocks::{AnswerList, BlockList, BlockReport, EntryList};
+pub use phases::read;
+pub use reading::ReadStop;
 pub use report::{PhaseList, PhaseParts, PhaseReport, Report, ReportParts};
 pub use std::alloc::AllocError as NoMemory;
 pub use values::{LostList, LostReport, Row, RowList, TableList, TableReport, RowValue};

@@ -20,7 +20,7 @@ fn put_text(line: &mut Vec<u8>, text: &[u8]) -> Result<(), NoMemory>
 }
 
 /// Makes this text the front of a line.
-fn begin(line: &mut Vec<u8>, text: &[u8]) -> Result<(), NoMemory>
+pub fn begin(line: &mut Vec<u8>, text: &[u8]) -> Result<(), NoMemory>
     ensures { OnOk result (line.new.items ≡ text.now) }
 {
     line.clear();
