@@ -1,6 +1,7 @@
 mod Answered
 mod Journals
 mod JournalsRead
+mod LastLines
 mod PartsRead
 mod PhasesRead
 mod Streams

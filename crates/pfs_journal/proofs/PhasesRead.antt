@@ -56,10 +56,10 @@ unfolding line_text
 phase_line_is n = refl
 
 -- a phase's line, its blocks, and its tables and counters
-pub phase_read : (number : ℕ) (blocks : List BlockReport) (phase : PhaseParts) (before mid then after : List ℕ) (first final line : Line) → IsTaken first before mid → IsRead (flat_map block_text blocks) (All IsBlock blocks) first mid final then
-    → final ≡ says.Final → PhaseEnds number blocks phase then line after → IsRead (phase_text phase) (IsPhase phase) (says.Phase number) before line after
+pub phase_read : (number : ℕ) (blocks : List BlockReport) (phase : PhaseParts) (before mid then after : List ℕ) (first ended line : Line) → IsTaken first before mid → IsRead (flat_map block_text blocks) (All IsBlock blocks) first mid ended then
+    → ended ≡ says.Final → PhaseEnds number blocks phase then line after → IsRead (phase_text phase) (IsPhase phase) (says.Phase number) before line after
 unfolding phase_text body_text
-phase_read number blocks phase before mid then after first final line t r is e = record {
+phase_read number blocks phase before mid then after first ended line t r is e = record {
   good = e.good;
   same = ap (λ (z : List ℕ). z ++ before) (phase_line_is number ∙ ap phase_line (sym e.number_is)) ∙ (ap (λ (z : List ℕ). phase_line phase.number ++ z) (t.text ∙ (r.same
       ∙ (ap (λ (l : Line). flat_map block_text blocks ++ (line_text l ++ then)) is
@@ -80,15 +80,15 @@ report_read format phases before mid after first last t r is none =
       ∙ ap (λ (z : List ℕ). flat_map phase_text phases ++ z) (ap (λ (z : List ℕ). codes "end\n" ++ z) none ∙ append-nil (codes "end\n")))))
 
 -- the same of what a call answers
-pub phase_answered : {Stop : Type 0} (r : Result (PhaseParts × Line) Stop) (number : ℕ) (blocks : List BlockReport) (before mid then after : List ℕ) (first final : Line) → IsTaken first before mid → IsRead (flat_map block_text blocks) (All IsBlock blocks) first mid final then
-    → final ≡ says.Final → IfOk r (λ x. PhaseEnds number blocks x.0 then x.1 after) → IfOk r (λ x. IsRead (phase_text x.0) (IsPhase x.0) (says.Phase number) before x.1 after)
-phase_answered (Ok (phase, line)) number blocks before mid then after first final t r is e = phase_read number blocks phase before mid then after first final line t r is e
-phase_answered (Err stop) number blocks before mid then after first final t r is e = tt
+pub phase_answered : {Stop : Type 0} (r : Result (PhaseParts × Line) Stop) (number : ℕ) (blocks : List BlockReport) (before mid then after : List ℕ) (first ended : Line) → IsTaken first before mid → IsRead (flat_map block_text blocks) (All IsBlock blocks) first mid ended then
+    → ended ≡ says.Final → IfOk r (λ x. PhaseEnds number blocks x.0 then x.1 after) → IfOk r (λ x. IsRead (phase_text x.0) (IsPhase x.0) (says.Phase number) before x.1 after)
+phase_answered (Ok (phase, line)) number blocks before mid then after first ended t r is e = phase_read number blocks phase before mid then after first ended line t r is e
+phase_answered (Err stop) number blocks before mid then after first ended t r is e = tt
 
-pub phase_shorter : {Stop : Type 0} (r : Result (PhaseParts × Line) Stop) (number : ℕ) (blocks : List BlockReport) (before mid then after : List ℕ) (first final : Line) → IsTaken first before mid → IsRead (flat_map block_text blocks) (All IsBlock blocks) first mid final then
+pub phase_shorter : {Stop : Type 0} (r : Result (PhaseParts × Line) Stop) (number : ℕ) (blocks : List BlockReport) (before mid then after : List ℕ) (first ended : Line) → IsTaken first before mid → IsRead (flat_map block_text blocks) (All IsBlock blocks) first mid ended then
     → IfOk r (λ x. PhaseEnds number blocks x.0 then x.1 after) → IfOk r (λ x. length after < length before)
-phase_shorter (Ok (phase, line)) number blocks before mid then after first final t r e = omega (arith, t.shorter, r.shorter, e.shorter)
-phase_shorter (Err stop) number blocks before mid then after first final t r e = tt
+phase_shorter (Ok (phase, line)) number blocks before mid then after first ended t r e = omega (arith, t.shorter, r.shorter, e.shorter)
+phase_shorter (Err stop) number blocks before mid then after first ended t r e = tt
 
 pub report_answered : {Stop : Type 0} (r : Result ReportParts Stop) (format : ℕ) (phases : List PhaseParts) (before mid after : List ℕ) (first last : Line) → IsTaken first before mid → IsRead (flat_map phase_text phases) (All IsPhase phases) first mid last after → last ≡ says.End
     → IfOk r (λ report. report ≡ record { format = format; phases = phases }) → IfOk r (λ _. after ≡ []) → IfOk r (λ report. line_text (says.Head format) ++ before ≡ spelling report)

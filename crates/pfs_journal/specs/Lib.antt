@@ -1,4 +1,5 @@
 pub mod Lines
+pub mod OneSpelling
 pub mod Readings
 pub mod Reports
 pub mod Spelling

@@ -4,12 +4,15 @@
 mod blocks;
 mod checks;
 mod guess;
+pub mod laws;
 mod line;
 mod reading;
 mod parts;
 mod phases;
 mod lines;
 mod report;
+#[cfg(test)]
+mod tests;
 mod values;
 mod writing;
 
