@@ -1,5 +1,5 @@
 -- The draws of a unit.
-use Rattle.std.proofs.Common.{ℕ, suc, ◌≡◌, ◌+◌, ◌*◌, ◌/◌, ◌%◌, ◌^◌, List, ap, ◌∙◌, sym, refl, arith}
+use Rattle.std.proofs.Common.{ℕ, suc, ◌≡◌, ◌+◌, ◌*◌, ◌/◌, ◌%◌, ◌^◌, ap, ◌∙◌, sym, refl, arith}
 use Rattle.std.proofs.Math.Nat.{mod-add-mod, mul_comm}
 use Rattle.pfs_gen.specs.Draws.{step, state_after, draw}
 use Rattle.pfs_gen.specs.Generated.{unit_text, unit_at}

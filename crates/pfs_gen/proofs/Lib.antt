@@ -1,2 +1,3 @@
 mod Drawing
+mod Examples
 mod Ranges

@@ -1,4 +1,5 @@
 mod Answered
+mod Examples
 mod Journals
 mod JournalsRead
 mod LastLines
