@@ -24,10 +24,13 @@ module _ (entry : Entry) (rest : List Entry) (n : ℕ) (answers : List (List (Li
   -- the answer that is due is there
   pub fits_here : place < length answers → get_or (sizes_of answers) place 0 ≡ n → (place + 1 ≤ length answers) × (AreAnswered (entry ∷ rest) (drop place answers) ↔ AreAnswered rest (drop (place + 1) answers))
   fits_here within size =
-      let left : sizes_of (drop place answers) ≡ n ∷ sizes_of (drop (place + 1) answers) = sizes_are within ∙ ap (λ k. k ∷ sizes_of (drop (place + 1) answers)) size in
-      (omega arith,
-      (λ same. let e : n ∷ sizes_of (drop (place + 1) answers) ≡ n ∷ filter_map rows_asked rest = sym left ∙ (same ∙ asked_is) in cc,
-      λ same. left ∙ (ap (λ (z : List ℕ). n ∷ z) same ∙ sym asked_is)))
+      let left : sizes_of (drop place answers) ≡ n ∷ sizes_of (drop (place + 1) answers) = sizes_are within ∙ ap (λ k. k ∷ sizes_of (drop (place + 1) answers)) size in (
+        omega arith,
+        (
+          λ same. let e : n ∷ sizes_of (drop (place + 1) answers) ≡ n ∷ filter_map rows_asked rest = sym left ∙ (same ∙ asked_is) in cc,
+          λ same. left ∙ (ap (λ (z : List ℕ). n ∷ z) same ∙ sym asked_is),
+        ),
+      )
 
   -- it isn't
   pub fits_not : ¬ ((place < length answers) × (get_or (sizes_of answers) place 0 ≡ n)) → ¬ AreAnswered (entry ∷ rest) (drop place answers)
@@ -45,9 +48,10 @@ module _ (entry : Entry) (rest : List Entry) (n : ℕ) (answers : List (List (Li
 pub fits_end : (entries : List Entry) (answers : List (List (List RowValue))) (index place : ℕ) → length entries ≤ index → place ≤ length answers
     → (AreAnswered entries answers ↔ AreAnswered (drop index entries) (drop place answers)) → (IsTrue (eqb place (length answers)) ↔ AreAnswered entries answers)
 fits_end entries answers index place none within same =
-    let no_entry : filter_map rows_asked (drop index entries) ≡ [] = ap (filter_map rows_asked) (drop_all index entries none) in
-    (λ yes. let e : place ≡ length answers = (Decides-eqb place (length answers)).0 yes in same.1 (ap sizes_of (drop_all place answers (omega arith)) ∙ sym no_entry),
-    λ all. (Decides-eqb place (length answers)).1 (ends (same.0 all ∙ no_entry)))
+    let no_entry : filter_map rows_asked (drop index entries) ≡ [] = ap (filter_map rows_asked) (drop_all index entries none) in (
+      λ yes. let e : place ≡ length answers = (Decides-eqb place (length answers)).0 yes in same.1 (ap sizes_of (drop_all place answers (omega arith)) ∙ sym no_entry),
+      λ all. (Decides-eqb place (length answers)).1 (ends (same.0 all ∙ no_entry)),
+    )
   where
     ends : sizes_of (drop place answers) ≡ [] → place ≡ length answers
     ends empty = elim (cases_lt place (length answers)) [

@@ -72,9 +72,9 @@ journal_more entries entries' answers answers' e first before mid here line afte
       answered = answered_push entries answers e g.more r.answered g.sizes;
       rows = All-append (All IsRow) answers g.more r.rows g.rows;
       same = r.same ∙ (ap (λ (z : List ℕ). journal_text entries answers ++ (z ++ mid)) (ap line_text is ∙ entry_line e)
-        ∙ (ap (λ (z : List ℕ). journal_text entries answers ++ (entry_text e ++ z)) g.same
-        ∙ (regroup (journal_text entries answers) (entry_text e) (flat_map (flat_map row_text) g.more) (line_text line ++ after)
-        ∙ ap (λ (z : List ℕ). z ++ (line_text line ++ after)) (sym (journal_push entries answers e g.more r.answered g.sizes)))));
+          ∙ (ap (λ (z : List ℕ). journal_text entries answers ++ (entry_text e ++ z)) g.same
+          ∙ (regroup (journal_text entries answers) (entry_text e) (flat_map (flat_map row_text) g.more) (line_text line ++ after)
+          ∙ ap (λ (z : List ℕ). z ++ (line_text line ++ after)) (sym (journal_push entries answers e g.more r.answered g.sizes)))));
       next_good = g.next_good;
       shorter = omega (arith, r.shorter, g.shorter);
     }))

@@ -182,8 +182,8 @@ unfolding field_text no_feed
 entry_passes (entry.Connect action thread account user host) = numbers_pass (codes "connect") (Some action ∷ thread ∷ account ∷ user ∷ host ∷ []) refl refl
 entry_passes (entry.Start event verdict consumers thread class table) =
     numbers_pass (codes "start" ++ optional_text event ++ codes " " ++ verdict_name verdict) (consumers ∷ thread ∷ class ∷ table ∷ [])
-      (clean_append (codes "start" ++ optional_text event ++ codes " ") (verdict_name verdict) (clean_append (codes "start" ++ optional_text event) (codes " ") (clean_append (codes "start") (optional_text event) refl (optional_clean event)) refl) (verdict_clean verdict))
-      refl
+    (clean_append (codes "start" ++ optional_text event ++ codes " ") (verdict_name verdict) (clean_append (codes "start" ++ optional_text event) (codes " ") (clean_append (codes "start") (optional_text event) refl (optional_clean event)) refl) (verdict_clean verdict))
+    refl
 entry_passes (entry.End None last consumers thread) = numbers_pass (codes "end") (None ∷ last ∷ consumers ∷ thread ∷ []) refl refl
 entry_passes (entry.End (Some event) last consumers thread) = numbers_pass (codes "end") (Some event ∷ last ∷ consumers ∷ thread ∷ []) refl refl
 entry_passes (entry.Add row version) = numbers_pass (codes "add") (Some row ∷ Some version ∷ []) refl refl
@@ -215,8 +215,8 @@ table_passes : (table : TableReport) → IsTable table → Passes (table_text ta
 unfolding table_text table_line no_feed
 table_passes table good =
     passes_append (codes "table " ++ table.name ++ codes "\n") (flat_map row_text table.rows)
-      (passes_line (codes "table " ++ table.name) (clean_append (codes "table ") table.name refl (bytes_clean is_name_byte refl table.name good.name.bytes)) refl)
-      (passes_flat row_text IsRow row_passes table.rows good.rows)
+    (passes_line (codes "table " ++ table.name) (clean_append (codes "table ") table.name refl (bytes_clean is_name_byte refl table.name good.name.bytes)) refl)
+    (passes_flat row_text IsRow row_passes table.rows good.rows)
 
 lost_passes : (lost : LostReport) → IsLost lost → Passes (lost_text lost)
 unfolding lost_text no_feed
@@ -243,9 +243,9 @@ unfolding journal_text answered_text
 journal_passes [] answers all = passes_none
 journal_passes (e ∷ entries) answers all =
     passes_append (answered_text e answers) (journal_text entries (if is_answered e then drop 1 answers else answers))
-      (passes_append (entry_text e) (if is_answered e then flat_map row_text (slice_index_or answers 0 []) else []) (entry_passes e)
-        (if_passes (is_answered e) (flat_map row_text (slice_index_or answers 0 [])) (passes_flat row_text IsRow row_passes (slice_index_or answers 0 []) (first_good answers all))))
-      (journal_passes entries (if is_answered e then drop 1 answers else answers) (rest_good (is_answered e) answers all))
+    (passes_append (entry_text e) (if is_answered e then flat_map row_text (slice_index_or answers 0 []) else []) (entry_passes e)
+    (if_passes (is_answered e) (flat_map row_text (slice_index_or answers 0 [])) (passes_flat row_text IsRow row_passes (slice_index_or answers 0 []) (first_good answers all))))
+    (journal_passes entries (if is_answered e then drop 1 answers else answers) (rest_good (is_answered e) answers all))
 
 block_passes : (block : BlockReport) → IsBlock block → Passes (block_text block)
 unfolding block_text session_line no_feed
@@ -255,9 +255,9 @@ phase_passes : (phase : PhaseParts) → IsPhase phase → Passes (phase_text pha
 unfolding phase_text phase_line body_text final_text final_line results_text no_feed
 phase_passes phase good =
     passes_append (phase_line phase.number) (body_text phase) (numbers_pass (codes "phase") (Some phase.number ∷ []) refl refl)
-      (passes_append (flat_map block_text phase.blocks) (final_text phase.tables phase.lost) (passes_flat block_text IsBlock block_passes phase.blocks good.blocks)
-        (passes_append final_line (results_text phase.tables phase.lost) (passes_line (codes "final") refl refl)
-          (passes_append (flat_map table_text phase.tables) (flat_map lost_text phase.lost) (passes_flat table_text IsTable table_passes phase.tables good.tables) (passes_flat lost_text IsLost lost_passes phase.lost good.lost))))
+    (passes_append (flat_map block_text phase.blocks) (final_text phase.tables phase.lost) (passes_flat block_text IsBlock block_passes phase.blocks good.blocks)
+    (passes_append final_line (results_text phase.tables phase.lost) (passes_line (codes "final") refl refl)
+    (passes_append (flat_map table_text phase.tables) (flat_map lost_text phase.lost) (passes_flat table_text IsTable table_passes phase.tables good.tables) (passes_flat lost_text IsLost lost_passes phase.lost good.lost))))
 
 -- what stands behind a report
 report_ends : (report : ReportParts) → IsReport report → (s : List ℕ) → behind_end [] (spelling report ++ s) ≡ Some s

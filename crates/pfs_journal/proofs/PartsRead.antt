@@ -23,8 +23,8 @@ pub read_more : {Part : Type 0} (part_text : Part → List ℕ) (IsGood : Part �
 read_more {Part} part_text IsGood old new first before line mid next after r g = record {
   good = subst (λ (z : List Part). All IsGood z) (sym g.pushed) (All-push IsGood old g.part r.good g.good);
   same = r.same ∙ (ap (λ (z : List ℕ). flat_map part_text old ++ z) g.same
-    ∙ (sym (append_assoc (flat_map part_text old) (part_text g.part) (line_text next ++ after))
-    ∙ ap (λ (z : List ℕ). z ++ (line_text next ++ after)) (sym more)));
+      ∙ (sym (append_assoc (flat_map part_text old) (part_text g.part) (line_text next ++ after))
+      ∙ ap (λ (z : List ℕ). z ++ (line_text next ++ after)) (sym more)));
   next_good = g.next_good;
   shorter = omega (arith, r.shorter, g.shorter);
 }

@@ -34,7 +34,7 @@ unfolding line_text final_text results_text
 results_read tables lost before mid then after first behind line t r s = record {
   good = (r.good, s.good);
   same = ap (λ (z : List ℕ). final_line ++ z) (t.text ∙ (r.same ∙ (ap (λ (z : List ℕ). flat_map table_text tables ++ z) s.same ∙ sym (append_assoc (flat_map table_text tables) (flat_map lost_text lost) (line_text line ++ after)))))
-    ∙ sym (append_assoc final_line (flat_map table_text tables ++ flat_map lost_text lost) (line_text line ++ after));
+      ∙ sym (append_assoc final_line (flat_map table_text tables ++ flat_map lost_text lost) (line_text line ++ after));
   next_good = s.next_good;
   shorter = omega (arith, t.shorter, r.shorter, s.shorter);
 }
@@ -66,7 +66,7 @@ phase_read number blocks phase before mid then after first ended line t r is e =
       ∙ (ap (λ (z : List ℕ). flat_map block_text blocks ++ z) e.same
       ∙ (ap (λ (bs : List BlockReport). flat_map block_text bs ++ (final_text phase.tables phase.lost ++ (line_text line ++ after))) (sym e.blocks_are)
       ∙ sym (append_assoc (flat_map block_text phase.blocks) (final_text phase.tables phase.lost) (line_text line ++ after)))))))
-    ∙ sym (append_assoc (phase_line phase.number) (flat_map block_text phase.blocks ++ final_text phase.tables phase.lost) (line_text line ++ after)));
+      ∙ sym (append_assoc (phase_line phase.number) (flat_map block_text phase.blocks ++ final_text phase.tables phase.lost) (line_text line ++ after)));
   next_good = e.next_good;
   shorter = omega (arith, t.shorter, r.shorter, e.shorter);
 }
@@ -77,7 +77,7 @@ pub report_read : (format : ℕ) (phases : List PhaseParts) (before mid after : 
 unfolding line_text spelling phases_text
 report_read format phases before mid after first last t r is none =
     ap (λ (z : List ℕ). first_line format ++ z) (t.text ∙ (r.same ∙ (ap (λ (l : Line). flat_map phase_text phases ++ (line_text l ++ after)) is
-      ∙ ap (λ (z : List ℕ). flat_map phase_text phases ++ z) (ap (λ (z : List ℕ). codes "end\n" ++ z) none ∙ append-nil (codes "end\n")))))
+    ∙ ap (λ (z : List ℕ). flat_map phase_text phases ++ z) (ap (λ (z : List ℕ). codes "end\n" ++ z) none ∙ append-nil (codes "end\n")))))
 
 -- the same of what a call answers
 pub phase_answered : {Stop : Type 0} (r : Result (PhaseParts × Line) Stop) (number : ℕ) (blocks : List BlockReport) (before mid then after : List ℕ) (first ended : Line) → IsTaken first before mid → IsRead (flat_map block_text blocks) (All IsBlock blocks) first mid ended then

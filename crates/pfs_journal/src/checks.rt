@@ -21,7 +21,10 @@ fn is_text_byte(byte: u8) -> bool
 fn is_name_byte(byte: u8) -> bool
     ensures { result ≡ is_name_byte byte }
 {
-    (byte >= 97 && byte <= 122) || (byte >= 65 && byte <= 90) || (byte >= 48 && byte <= 57) || byte == 95
+    (byte >= 97 && byte <= 122)
+        || (byte >= 65 && byte <= 90)
+        || (byte >= 48 && byte <= 57)
+        || byte == 95
 }
 
 /// Whether a report can have the text.
@@ -128,7 +131,8 @@ fn are_answered(entries: &[Entry], answers: &[RowList]) -> bool
 fn is_block(block: &BlockReport) -> bool
     ensures { IsTrue result ↔ IsBlock block.now }
 {
-    are_answered(block.entries.as_slice(), block.answers.as_slice()) && are_answers(block.answers.as_slice())
+    are_answered(block.entries.as_slice(), block.answers.as_slice())
+        && are_answers(block.answers.as_slice())
 }
 
 fn are_blocks(blocks: &[BlockReport]) -> bool
@@ -153,5 +157,7 @@ fn are_lost(lost: &[LostReport]) -> bool
 pub fn is_phase(parts: &PhaseParts) -> bool
     ensures { IsTrue result ↔ IsPhase parts.now }
 {
-    are_blocks(parts.blocks.as_slice()) && are_tables(parts.tables.as_slice()) && are_lost(parts.lost.as_slice())
+    are_blocks(parts.blocks.as_slice())
+        && are_tables(parts.tables.as_slice())
+        && are_lost(parts.lost.as_slice())
 }

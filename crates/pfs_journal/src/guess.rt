@@ -198,12 +198,7 @@ fn with_fields(word: &[u8], fields: Fields) -> Option<Line> {
         0 => alone(word),
         1 => with_one(word, numbers[0]?),
         2 => Some(Line::Entry(with_two(word, numbers[0]?, numbers[1]?)?)),
-        3 => Some(Line::Entry(with_three(
-            word,
-            numbers[0]?,
-            numbers[1]?,
-            numbers[2]?,
-        )?)),
+        3 => Some(Line::Entry(with_three(word, numbers[0]?, numbers[1]?, numbers[2]?)?)),
         _ => Some(Line::Entry(with_more(word, fields)?)),
     }
 }

@@ -79,11 +79,7 @@ pub fn numbers_line(
 }
 
 /// What a start's line begins with: its word, number and verdict.
-fn begin_start(
-    line: &mut Vec<u8>,
-    event: Option<u64>,
-    verdict: Verdict,
-) -> Result<(), NoMemory>
+fn begin_start(line: &mut Vec<u8>, event: Option<u64>, verdict: Verdict) -> Result<(), NoMemory>
     ensures { OnOk result (line.new.items ≡ codes "start" ++ optional_text event ++ codes " " ++ verdict_name verdict) }
 {
     begin(line, b"start")?;
@@ -130,7 +126,12 @@ pub fn entry_line(line: &mut Vec<u8>, entry: &Entry) -> Result<(), NoMemory>
             thread,
             class,
             table,
-        } => start_line(line, *event, *verdict, &[*consumers, *thread, *class, *table]),
+        } => start_line(
+            line,
+            *event,
+            *verdict,
+            &[*consumers, *thread, *class, *table],
+        ),
         Entry::End {
             event,
             last,

@@ -32,11 +32,7 @@ fn take_row(
 }
 
 /// Rows, as many as there are.
-fn read_rows(
-    alloc: Global,
-    lines: &mut Lines<'_>,
-    first: Line,
-) -> Result<(RowList, Line), ReadStop>
+fn read_rows(alloc: Global, lines: &mut Lines<'_>, first: Line) -> Result<(RowList, Line), ReadStop>
     requires { IsLine first }
     ensures { IfOk result (λ x. IsRead (flat_map row_text x.0) (All IsRow x.0) first lines.old.rest.now x.1 lines.new.rest.now) }
 {
@@ -215,7 +211,13 @@ pub fn read_journal(
     let mut line = first;
     'entries: loop {
         match line {
-            Line::Entry(entry) => line = take_entry(alloc, lines, &mut entries, &mut answers, entry)?,
+            Line::Entry(entry) => line = take_entry(
+                alloc,
+                lines,
+                &mut entries,
+                &mut answers,
+                entry,
+            )?,
             other => return Ok((EntryList::new(entries), AnswerList::new(answers), other)),
         }
     }

@@ -165,11 +165,7 @@ fn end_report(lines: &Lines<'_>, format: u64, phases: PhaseList) -> Result<Repor
 }
 
 /// What follows the first line.
-fn read_report(
-    alloc: Global,
-    lines: &mut Lines<'_>,
-    format: u64,
-) -> Result<Report, ReadStop>
+fn read_report(alloc: Global, lines: &mut Lines<'_>, format: u64) -> Result<Report, ReadStop>
     requires { format ≤ 2 }
     ensures { IfOk result (λ report. line_text (says.Head format) ++ lines.old.rest.now ≡ spelling report) }
 {

@@ -46,11 +46,7 @@ fn is_spelled(buffer: &mut Vec<u8>, line: &[u8], says: &Line) -> Result<bool, No
 }
 
 /// What a line says, with its line feed, where a report can have it.
-fn read_line(
-    alloc: Global,
-    buffer: &mut Vec<u8>,
-    line: &[u8],
-) -> Result<Option<Line>, NoMemory>
+fn read_line(alloc: Global, buffer: &mut Vec<u8>, line: &[u8]) -> Result<Option<Line>, NoMemory>
     requires { 0 < length line.now }
     ensures { IfOk result (λ found. IfSome found (λ says. IsLine says × (line.now ≡ line_text says))) }
 {

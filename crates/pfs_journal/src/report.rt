@@ -55,7 +55,11 @@ impl PhaseReport {
     pub fn checked(parts: PhaseParts) -> Option<PhaseReport>
         ensures { MatchOption result (¬ IsPhase parts) (λ phase. (phase ≡ parts) × IsPhase parts) }
     {
-        if is_phase(&parts) { Some(PhaseReport::new(parts)) } else { None }
+        if is_phase(&parts) {
+            Some(PhaseReport::new(parts))
+        } else {
+            None
+        }
     }
 
     /// Its parts.

@@ -51,11 +51,7 @@ fn offer<K: Sink>(sink: &mut K, line: &[u8], built: Result<(), NoMemory>) -> Res
     }
 }
 
-fn put_entry_line<K: Sink>(
-    line: &mut Vec<u8>,
-    sink: &mut K,
-    entry: &Entry,
-) -> Result<(), WriteStop>
+fn put_entry_line<K: Sink>(line: &mut Vec<u8>, sink: &mut K, entry: &Entry) -> Result<(), WriteStop>
     ensures { Puts (K.written sink.old) (K.written sink.new) (K.faults sink.old) (K.faults sink.new) (entry_text entry.now) result }
 {
     let built = entry_line(line, entry);
@@ -90,7 +86,11 @@ fn place_behind(entry: &Entry, place: usize) -> usize
 fn answer_at(answers: &[RowList], place: usize) -> &[Row]
     ensures { result.now ≡ slice_index_or (drop place answers.now) 0 [] }
 {
-    if place < answers.len() { answers[place].as_slice() } else { &[] }
+    if place < answers.len() {
+        answers[place].as_slice()
+    } else {
+        &[]
+    }
 }
 
 /// Offers the answer that is due behind an entry, where one is.
@@ -146,11 +146,7 @@ fn put_journal<K: Sink>(
 }
 
 #[tactic(auto, unfolding(crate::specs::Spelling::session_line))]
-fn put_session_line<K: Sink>(
-    line: &mut Vec<u8>,
-    sink: &mut K,
-    number: u64,
-) -> Result<(), WriteStop>
+fn put_session_line<K: Sink>(line: &mut Vec<u8>, sink: &mut K, number: u64) -> Result<(), WriteStop>
     ensures { Puts (K.written sink.old) (K.written sink.new) (K.faults sink.old) (K.faults sink.new) (session_line number) result }
 {
     let built = numbers_line(line, b"session", &[Some(number)]);
@@ -228,11 +224,7 @@ fn put_final<K: Sink>(
 }
 
 #[tactic(auto, using(pfs_outside::proofs::Writes::puts_then, pfs_outside::proofs::Writes::puts_stop), unfolding(crate::specs::Spelling::body_text))]
-fn put_body<K: Sink>(
-    line: &mut Vec<u8>,
-    sink: &mut K,
-    phase: &PhaseParts,
-) -> Result<(), WriteStop>
+fn put_body<K: Sink>(line: &mut Vec<u8>, sink: &mut K, phase: &PhaseParts) -> Result<(), WriteStop>
     ensures { Puts (K.written sink.old) (K.written sink.new) (K.faults sink.old) (K.faults sink.new) (body_text phase.now) result }
 {
     put_each(line, sink, phase.blocks.as_slice())?;
@@ -248,11 +240,7 @@ fn put_phase_line<K: Sink>(line: &mut Vec<u8>, sink: &mut K, number: u64) -> Res
 }
 
 #[tactic(auto, using(pfs_outside::proofs::Writes::puts_then, pfs_outside::proofs::Writes::puts_stop), unfolding(crate::specs::Spelling::phase_text))]
-fn put_phase<K: Sink>(
-    line: &mut Vec<u8>,
-    sink: &mut K,
-    phase: &PhaseParts,
-) -> Result<(), WriteStop>
+fn put_phase<K: Sink>(line: &mut Vec<u8>, sink: &mut K, phase: &PhaseParts) -> Result<(), WriteStop>
     ensures { Puts (K.written sink.old) (K.written sink.new) (K.faults sink.old) (K.faults sink.new) (phase_text phase.now) result }
 {
     put_phase_line(line, sink, phase.number)?;
