@@ -8,8 +8,8 @@ use Rattle.pfs_script.specs.declared.forms.Form.{Form}
 use Rattle.pfs_script.specs.declared.blocks.BlockLine.{BlockLine}
 use Rattle.pfs_script.specs.declared.blocks.Block.{Block}
 use Rattle.pfs_script.specs.declared.blocks.Phase.{Phase}
-use Rattle.pfs_script.specs.Next.{is_phase}
-use Rattle.pfs_script.specs.Blocks.{with_front, block_line, block_lines, block_behind, ends_block, session_of, blocks_of, with_phase, phases_of}
+use Rattle.pfs_script.specs.Sessions.{is_phase, ends_block}
+use Rattle.pfs_script.specs.Blocks.{with_front, block_line, block_lines, block_behind, blocks_of, with_phase, phases_of}
 
 here : (lines : List Form) (at : ℕ) (line : Form) → at < length lines → line ≡ get_or lines at line → drop at lines ≡ line ∷ drop (at + 1) lines
 here lines at line within is = drop_more lines at line within ∙ ap (λ z. z ∷ drop (at + 1) lines) (sym is)
@@ -22,7 +22,7 @@ phases_last : (refer : List ℕ → Option ClassRef) → phases_of refer [] ≡ 
 unfolding phases_of
 phases_last refer = refl
 
-blocks_first : (refer : List ℕ → Option ClassRef) (line : Form) (lines : List Form) → is_phase line ≡ false → blocks_of refer (line ∷ lines) ≡ with_front (option_map (block_behind refer lines) (session_of line)) (blocks_of refer lines)
+blocks_first : (refer : List ℕ → Option ClassRef) (line : Form) (lines : List Form) → is_phase line ≡ false → blocks_of refer (line ∷ lines) ≡ with_front (block_behind refer lines line) (blocks_of refer lines)
 unfolding blocks_of
 blocks_first refer line lines p = rw p refl
 
@@ -57,7 +57,7 @@ phases_end refer lines at phases past i =
     sym (append-nil phases) ∙ (ap (λ z. phases ++ z) (sym (ap (λ z. phases_of refer z) (drop_of_length-le lines past) ∙ phases_last refer)) ∙ i)
 
 pub blocks_step : (refer : List ℕ → Option ClassRef) (lines : List Form) (at : ℕ) (line : Form) (before after : List Block) → at < length lines → line ≡ get_or lines at line → is_phase line ≡ false
-    → ((more : List Block) → after ++ more ≡ before ++ with_front (option_map (block_behind refer (drop (at + 1) lines)) (session_of line)) more)
+    → ((more : List Block) → after ++ more ≡ before ++ with_front (block_behind refer (drop (at + 1) lines) line) more)
     → before ++ blocks_of refer (drop at lines) ≡ blocks_of refer lines → after ++ blocks_of refer (drop (at + 1) lines) ≡ blocks_of refer lines
 blocks_step refer lines at line before after within is p h i =
     h (blocks_of refer (drop (at + 1) lines)) ∙ (sym (ap (λ z. before ++ z) (ap (λ z. blocks_of refer z) (here lines at line within is) ∙ blocks_first refer line (drop (at + 1) lines) p)) ∙ i)

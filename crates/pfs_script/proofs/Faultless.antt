@@ -1,13 +1,14 @@
 -- What holds of a line that has no fault where it stands.
 use Rattle.std.proofs.Common.{◌≡◌, Bool, false, true, cond, List, Option, Some, None, refl}
 use Rattle.pfs_script.specs.declared.forms.Form.{Form}
+use Rattle.pfs_script.specs.declared.reasons.Extent.{Extent}
 use Rattle.pfs_script.specs.declared.reasons.Reason.{Reason}
 use Rattle.pfs_script.specs.declared.reasons.Reason.TheVariants.{OutOfPlace, BadNumber, BadSession, UnknownName, BadLimit, BadNesting, TooLong, TooMuch, NotBuilt}
-use Rattle.pfs_script.specs.Next.{is_built, is_out_of_place, is_bad_number, is_bad_session, is_unknown, is_bad_limit, is_bad_nesting, is_too_long, is_too_much, is_not_built_here, least_reason, fault_of}
+use Rattle.pfs_script.specs.Next.{is_let_in, is_out_of_place, is_bad_number, is_bad_session, is_unknown, is_bad_limit, is_bad_nesting, is_too_long, is_too_much, least_reason, fault_of}
 
 -- each test for a fault fails
-pub record Passes (before : List Form) (line : Form) : Type 0 where
-  pub built : is_built line ≡ true
+pub record Passes (extent : Extent) (before : List Form) (line : Form) : Type 0 where
+  pub let_in : is_let_in extent before line ≡ true
   pub place : is_out_of_place before line ≡ false
   pub number : is_bad_number line ≡ false
   pub session : is_bad_session before line ≡ false
@@ -16,7 +17,6 @@ pub record Passes (before : List Form) (line : Form) : Type 0 where
   pub nesting : is_bad_nesting before line ≡ false
   pub long : is_too_long before line ≡ false
   pub much : is_too_much before line ≡ false
-  pub here : is_not_built_here before line ≡ false
 
 unless : (test : Bool) (reason : Reason) (rest : Option Reason) → cond test (Some reason) rest ≡ None → (test ≡ false) × (rest ≡ None)
 unless true reason rest h = cc
@@ -26,10 +26,10 @@ when : (test : Bool) (rest : Option Reason) (reason : Reason) → cond test rest
 when true rest reason h = (refl, h)
 when false rest reason h = cc
 
-pub passes : (before : List Form) (line : Form) → fault_of before line ≡ None → Passes before line
+pub passes : (extent : Extent) (before : List Form) (line : Form) → fault_of extent before line ≡ None → Passes extent before line
 unfolding fault_of least_reason
-passes before line h =
-    let a = when (is_built line) _ NotBuilt h in
+passes extent before line h =
+    let a = when (is_let_in extent before line) _ NotBuilt h in
     let b = unless (is_out_of_place before line) OutOfPlace _ a.1 in
     let c = unless (is_bad_number line) BadNumber _ b.1 in
     let d = unless (is_bad_session before line) BadSession _ c.1 in
@@ -38,5 +38,4 @@ passes before line h =
     let g = unless (is_bad_nesting before line) BadNesting _ f.1 in
     let i = unless (is_too_long before line) TooLong _ g.1 in
     let j = unless (is_too_much before line) TooMuch _ i.1 in
-    let k = unless (is_not_built_here before line) NotBuilt _ j.1 in
-    record { built = a.0; place = b.0; number = c.0; session = d.0; known = e.0; limit = f.0; nesting = g.0; long = i.0; much = j.0; here = k.0 }
+    record { let_in = a.0; place = b.0; number = c.0; session = d.0; known = e.0; limit = f.0; nesting = g.0; long = i.0; much = j.0 }

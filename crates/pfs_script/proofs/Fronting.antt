@@ -9,7 +9,8 @@ use Rattle.pfs_script.specs.declared.forms.Form.{Form}
 use Rattle.pfs_script.specs.declared.forms.Form.TheVariants as form
 use Rattle.pfs_script.specs.declared.fronts.Front.{Front}
 use Rattle.pfs_script.specs.Headings.{is_before_limits}
-use Rattle.pfs_script.specs.Next.{is_phase, gives}
+use Rattle.pfs_script.specs.Sessions.{is_phase}
+use Rattle.pfs_script.specs.Next.{gives}
 use Rattle.pfs_script.specs.Places.{KnowsFront}
 use Rattle.pfs_script.proofs.Behind.{any_more}
 

@@ -25,4 +25,6 @@ pub mod Splits
 pub mod Steps
 pub mod Taking
 pub mod Totalling
+pub mod Turns
+pub mod Wholly
 pub mod Writing

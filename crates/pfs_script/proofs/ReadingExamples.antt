@@ -10,40 +10,84 @@ use Rattle.pfs_script.specs.declared.reasons.Reason.TheVariants.{OutOfPlace, Bad
 use Rattle.pfs_script.specs.declared.blocks.BlockLine.TheVariants as said
 use Rattle.pfs_script.specs.Brackets.{closing_from, brackets_from}
 use Rattle.pfs_script.specs.Counts.{behind_last, ahead_of_last, counted}
-use Rattle.pfs_script.specs.Next.{one_each, weight_of, kinds_open, is_too_much, least_reason, fault_of}
+use Rattle.pfs_script.specs.declared.reasons.Extent.TheVariants.{Whole, Built}
+use Rattle.pfs_script.specs.declared.blocks.Connect.{Connect}
+use Rattle.pfs_script.specs.Sessions.{session_now, lines_in}
+use Rattle.pfs_script.specs.Next.{one_each, weight_of, sql_weight, command_of, begins_with, kinds_open, is_too_much, least_reason, fault_of}
 use Rattle.pfs_script.specs.Blocks.{block_lines, blocks_of}
 
 abbrev connect : ℕ → Form
 connect session = form.Connect (Some session) (codes "u") (codes "h")
 
 -- session 0 before a phase: the least of two reasons
-two_faults : fault_of [] (connect 0) ≡ Some OutOfPlace
+two_faults : fault_of Whole [] (connect 0) ≡ Some OutOfPlace
 unfolding fault_of least_reason
 two_faults = refl
 
 -- and in one
-bad_session : fault_of (form.Phase ∷ []) (connect 0) ≡ Some BadSession
-unfolding fault_of least_reason behind_last
+bad_session : fault_of Whole (form.Phase ∷ []) (connect 0) ≡ Some BadSession
+unfolding fault_of least_reason
 bad_session = refl
 
 -- a second block of a session; one of another session is none
-second_block : fault_of (form.Phase ∷ connect 7 ∷ []) (connect 7) ≡ Some BadSession
-unfolding fault_of least_reason behind_last
+second_block : fault_of Whole (form.Phase ∷ connect 7 ∷ []) (connect 7) ≡ Some BadSession
+unfolding fault_of least_reason
 second_block = refl
 
-other_block : fault_of (form.Phase ∷ connect 7 ∷ []) (connect 8) ≡ None
-unfolding fault_of least_reason behind_last counted
+other_block : fault_of Whole (form.Phase ∷ connect 7 ∷ []) (connect 8) ≡ None
+unfolding fault_of least_reason lines_in session_now kinds_open brackets_from counted
 other_block = refl
 
+-- no names at the first block; names at a later one; and a later one as it should be
+no_names : fault_of Whole (form.Phase ∷ []) (form.Resume (Some 7)) ≡ Some BadSession
+unfolding fault_of least_reason
+no_names = refl
+
+names_again : fault_of Whole (form.Phase ∷ connect 7 ∷ form.Phase ∷ []) (connect 7) ≡ Some BadSession
+unfolding fault_of least_reason
+names_again = refl
+
+later_block : fault_of Whole (form.Phase ∷ connect 7 ∷ form.Phase ∷ []) (form.Resume (Some 7)) ≡ None
+unfolding fault_of least_reason behind_last lines_in session_now kinds_open brackets_from counted
+later_block = refl
+
+-- and none behind a `quit`
+quit_before : fault_of Whole (form.Phase ∷ connect 7 ∷ form.Quit ∷ form.Phase ∷ []) (form.Resume (Some 7)) ≡ Some BadSession
+unfolding fault_of least_reason behind_last lines_in
+quit_before = refl
+
 -- an end in a new block, while a wait of the block before it is open
-other_end : fault_of (form.Phase ∷ connect 7 ∷ form.Wait (codes "wait/io/file/sql/binlog") ∷ connect 8 ∷ []) form.End ≡ Some BadNesting
-unfolding fault_of least_reason behind_last kinds_open brackets_from closing_from
+other_end : fault_of Whole (form.Phase ∷ connect 7 ∷ form.Wait (codes "wait/io/file/sql/binlog") ∷ connect 8 ∷ []) form.End ≡ Some BadNesting
+unfolding fault_of least_reason session_now lines_in kinds_open brackets_from closing_from
 other_end = refl
 
--- a form that isn't built is told before its place
-not_built : fault_of [] form.Quit ≡ Some NotBuilt
+-- an end in a later phase, of a wait that its session opened in an earlier one
+later_end : fault_of Whole (form.Phase ∷ connect 7 ∷ form.Wait (codes "wait/io/file/sql/binlog") ∷ form.Phase ∷ connect 8 ∷ form.Resume (Some 7) ∷ []) form.End ≡ None
+unfolding fault_of least_reason session_now lines_in kinds_open brackets_from closing_from counted
+later_end = refl
+
+-- a `quit` with a wait open
+early_quit : fault_of Whole (form.Phase ∷ connect 7 ∷ form.Wait (codes "wait/io/file/sql/binlog") ∷ []) form.Quit ≡ Some BadNesting
+unfolding fault_of least_reason session_now lines_in kinds_open brackets_from closing_from
+early_quit = refl
+
+-- what isn't built is told before its place
+not_built : fault_of Built [] form.Quit ≡ Some NotBuilt
 unfolding fault_of
 not_built = refl
+
+-- SQL commands by their first letters
+select_weight : sql_weight (codes " \tsElEcTx") ≡ 10000
+unfolding begins_with command_of
+select_weight = refl
+
+truncate_weight : sql_weight (codes "TRUNCATE t") ≡ 20000
+unfolding begins_with command_of
+truncate_weight = refl
+
+other_weight : sql_weight (codes "SELEC") ≡ 300
+unfolding begins_with command_of
+other_weight = refl
 
 -- three rounds of two lines, the repeat and its end; while it isn't done its lines count once
 repeated : counted one_each (form.Silent ∷ form.Repeat (Some 3) ∷ form.End ∷ form.Silent ∷ form.Done ∷ []) ≡ 9
@@ -61,8 +105,11 @@ not_done = refl
 abbrev lost_file : List ℕ → Option ClassRef
 lost_file name = Some (refs.Lost File)
 
+abbrev names : Connect
+names = record { user = codes "u"; host = codes "h" }
+
 -- the lines of a block end with the next one
-two_blocks : blocks_of lost_file (connect 7 ∷ form.Wait [] ∷ form.Silent ∷ connect 2 ∷ form.Spend (Some 5) ∷ []) ≡ record { session = 7; lines = said.Wait (refs.Lost File) ∷ [] } ∷ record { session = 2; lines = said.Spend 5 ∷ [] } ∷ []
+two_blocks : blocks_of lost_file (connect 7 ∷ form.Wait [] ∷ form.Silent ∷ connect 2 ∷ form.Spend (Some 5) ∷ []) ≡ record { session = 7; connect = Some names; lines = said.Wait (refs.Lost File) ∷ [] } ∷ record { session = 2; connect = Some names; lines = said.Spend 5 ∷ [] } ∷ []
 unfolding blocks_of block_lines
 two_blocks = refl
 
@@ -73,22 +120,22 @@ wait = form.Wait (codes "wait/io/file/sql/binlog")
 abbrev repeated_lines : Form → List Form
 repeated_lines again = form.Phase ∷ connect 7 ∷ wait ∷ form.Repeat (Some 2) ∷ form.End ∷ again ∷ []
 
-same_kinds_open : fault_of (repeated_lines wait) form.Done ≡ None
-unfolding fault_of least_reason behind_last ahead_of_last kinds_open brackets_from closing_from counted
+same_kinds_open : fault_of Whole (repeated_lines wait) form.Done ≡ None
+unfolding fault_of least_reason behind_last ahead_of_last session_now lines_in kinds_open brackets_from closing_from counted
 same_kinds_open = refl
 
-other_kinds_open : fault_of (repeated_lines (form.Statement (codes "statement/sql/select") [])) form.Done ≡ Some BadNesting
-unfolding fault_of least_reason behind_last ahead_of_last kinds_open brackets_from closing_from
+other_kinds_open : fault_of Whole (repeated_lines (form.Statement (codes "statement/sql/select") [])) form.Done ≡ Some BadNesting
+unfolding fault_of least_reason behind_last ahead_of_last session_now lines_in kinds_open brackets_from closing_from
 other_kinds_open = refl
 
 -- while a repeat isn't done, another may not begin
-repeat_in_repeat : fault_of (repeated_lines wait) (form.Repeat None) ≡ Some OutOfPlace
-unfolding fault_of least_reason behind_last
+repeat_in_repeat : fault_of Whole (repeated_lines wait) (form.Repeat None) ≡ Some OutOfPlace
+unfolding fault_of least_reason behind_last session_now lines_in
 repeat_in_repeat = refl
 
 -- in full at its `done`, a repeat has too many lines, or too much weight
-too_long : fault_of (form.Phase ∷ connect 7 ∷ form.Repeat (Some 199997) ∷ form.Spend (Some 1) ∷ []) form.Done ≡ Some TooLong
-unfolding fault_of least_reason behind_last ahead_of_last kinds_open brackets_from counted
+too_long : fault_of Whole (form.Phase ∷ connect 7 ∷ form.Repeat (Some 199997) ∷ form.Spend (Some 1) ∷ []) form.Done ≡ Some TooLong
+unfolding fault_of least_reason behind_last ahead_of_last session_now lines_in kinds_open brackets_from counted
 too_long = refl
 
 too_heavy : is_too_much (form.Phase ∷ connect 7 ∷ form.Repeat (Some 623713) ∷ form.End ∷ []) form.Done ≡ true

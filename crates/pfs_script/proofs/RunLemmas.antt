@@ -1,5 +1,5 @@
 -- The phases of a script's lines can be run.
-use Rattle.std.proofs.Common.{ℕ, zero, suc, ◌≡◌, ◌<◌, ◌≤◌, ◌+◌, Bool, true, false, ◌||◌, ◌&&◌, not, List, [], ◌∷◌, ◌++◌, Option, Some, None, refl, ap, sym, ◌∙◌, subst, length, get_or, map, nat_lt, nat_le, append_assoc, append-nil, ◌⊎◌, inl, inr, arith}
+use Rattle.std.proofs.Common.{ℕ, zero, suc, ◌≡◌, ◌<◌, ◌≤◌, ◌+◌, Bool, true, false, ◌||◌, ◌&&◌, not, cond, List, [], ◌∷◌, ◌++◌, Option, Some, None, refl, ap, sym, ◌∙◌, subst, length, get_or, map, nat_lt, nat_le, append_assoc, append-nil, ◌⊎◌, inl, inr, arith}
 use Rattle.std.specs.Prelude.{count_by, option_map, if◌then◌else◌, Contains, codes}
 use Rattle.std.specs.List.{list_any, All}
 use Rattle.std.specs.Str.{bytes_eq}
@@ -12,19 +12,24 @@ use Rattle.pfs_script.specs.declared.forms.Form.{Form}
 use Rattle.pfs_script.specs.declared.forms.Form.TheVariants as form
 use Rattle.pfs_script.specs.declared.blocks.BlockLine.{BlockLine}
 use Rattle.pfs_script.specs.declared.blocks.BlockLine.TheVariants as said
+use Rattle.pfs_classes.specs.declared.setting.Setting.{Setting}
 use Rattle.pfs_script.specs.declared.blocks.Block.{Block}
+use Rattle.pfs_script.specs.declared.blocks.Phase.{Phase}
 use Rattle.pfs_script.specs.Headings.{head_of, resolved, is_known, is_builtin, is_class_named}
-use Rattle.pfs_script.specs.Next.{is_phase, is_connect, is_block_of, is_blockless, is_event_class, is_bad_nesting, phase_of, mark_of_form, kinds_open, same_kinds, one_each}
-use Rattle.pfs_script.specs.Blocks.{with_front, statement_numbers, block_line, block_lines, block_behind, ends_block, session_of, blocks_of, phases_of}
+use Rattle.pfs_script.specs.declared.reasons.Extent.TheVariants.{Built}
+use Rattle.pfs_script.specs.Sessions.{is_phase, is_session, is_block_of, ends_block, phase_of}
+use Rattle.pfs_script.specs.Next.{is_blockless, is_event_class, is_bad_nesting, mark_of_form, session_kinds, kinds_open, same_kinds, one_each}
+use Rattle.pfs_script.specs.Blocks.{with_front, statement_numbers, block_line, block_lines, block_behind, blocks_of, phases_of}
 use Rattle.pfs_script.specs.Runnable as run
-use Rattle.pfs_script.specs.Scripts.{Begins}
+use Rattle.pfs_script.specs.Scripts.{Begins, IsScript}
 use Rattle.pfs_event.specs.declared.kind.EventKind.{EventKind}
 use Rattle.pfs_script.specs.Marks.{mark_of, Passes as Passing}
-use Rattle.pfs_script.specs.Brackets.{kinds_behind, may_stand}
+use Rattle.pfs_script.specs.Brackets.{brackets_from, open_in, kinds_of, kinds_behind, may_stand}
 use Rattle.pfs_script.specs.Nested.{IsNested}
-use Rattle.pfs_script.specs.Counts.{ahead_of_last, is_repeat, is_done, is_in_repeat, counted}
+use Rattle.pfs_script.specs.Counts.{behind_last, ahead_of_last, is_repeat, is_done, is_in_repeat, counted}
 use Rattle.pfs_script.proofs.Behind.{count_more, any_more, ahead_more, in_repeat-begun, in_repeat-done, in_repeat-same, counted_none}
-use Rattle.pfs_script.proofs.Coursing.{phase_new, phase_same, open_new, open_more, stands}
+use Rattle.pfs_script.proofs.Turns.{now_more, lines_ends, lines_none, open_more}
+use Rattle.pfs_script.proofs.Coursing.{phase_new, phase_same, stands}
 use Rattle.pfs_script.proofs.Opening.{same_all}
 use Rattle.pfs_script.proofs.Writing.{written_short}
 use Rattle.pfs_script.proofs.Faultless.{Passes, passes}
@@ -34,13 +39,13 @@ use Rattle.pfs_script.proofs.Taking.{next_none}
 -- behind the lines before them, none of these lines has a fault
 abbrev pub Stand : List Form → List Form → Type 0
 Stand before [] = Unit {0}
-Stand before (line ∷ lines) = Passes before line × Stand (before ++ line ∷ []) lines
+Stand before (line ∷ lines) = Passes Built before line × Stand (before ++ line ∷ []) lines
 
-pub stand_of : (before : List Form) (raws : List (List ℕ)) (lines : List Form) → Begins before raws lines → Stand before lines
+pub stand_of : (before : List Form) (raws : List (List ℕ)) (lines : List Form) → Begins Built before raws lines → Stand before lines
 stand_of before [] [] b = tt
 stand_of before [] (line ∷ lines) b = absurd b
 stand_of before (raw ∷ raws) [] b = absurd b
-stand_of before (raw ∷ raws) (line ∷ lines) b = (passes before line (next_none before raw line b.0), stand_of (before ++ line ∷ []) raws lines b.1)
+stand_of before (raw ∷ raws) (line ∷ lines) b = (passes Built before line (next_none Built before raw line b.0), stand_of (before ++ line ∷ []) raws lines b.1)
 
 bool_cases : (b : Bool) → (b ≡ true) ⊎ (b ≡ false)
 bool_cases true = inl refl
@@ -94,8 +99,8 @@ few_lines before (line ∷ lines) s h = rw append_assoc at (few_lines (before ++
 
 -- one phase
 
-phase_again : (before : List Form) (line : Form) → Passes before line → list_any is_phase before ≡ true → is_phase line ≡ false
-phase_again before form.Phase p h = absurd (let q = p.here in cc)
+phase_again : (before : List Form) (line : Form) → Passes Built before line → list_any is_phase before ≡ true → is_phase line ≡ false
+phase_again before form.Phase p h = absurd (let q = p.let_in in cc)
 phase_again before _ p h = refl
 
 later : (refer : List ℕ → Option ClassRef) (before lines : List Form) → Stand before lines → list_any is_phase before ≡ true → phases_of refer lines ≡ []
@@ -116,23 +121,22 @@ module _ (refer : List ℕ → Option ClassRef) where
 
 -- few blocks
 
-none_session : (line : Form) → is_connect line ≡ false → session_of line ≡ None
-none_session (form.Connect session user host) h = cc
-none_session _ h = refl
+none_block : (refer : List ℕ → Option ClassRef) (lines : List Form) (line : Form) → is_session line ≡ false → block_behind refer lines line ≡ None
+none_block refer lines (form.Connect session user host) h = cc
+none_block refer lines (form.Resume session) h = cc
+none_block refer lines _ h = refl
 
-few_here : (before : List Form) (line : Form) → Passes before line → is_connect line ≡ true → count_by is_connect (phase_of before) < 32
-few_here before (form.Connect session user host) p h = let q = p.here in grind (arith, nat_tests, q)
+few_here : (before : List Form) (line : Form) → Passes Built before line → is_session line ≡ true → count_by is_session (phase_of before) < 32
+few_here before (form.Connect session user host) p h = let q = p.let_in in grind (arith, nat_tests, q)
+few_here before (form.Resume session) p h = absurd (let q = p.let_in in cc)
 few_here before _ p h = cc
 
 front_length : {A : Type 0} (o : Option A) (more : List A) → length (with_front o more) ≤ 1 + length more
 front_length None more = omega arith
 front_length (Some one) more = omega arith
 
-not_both_kinds : (line : Form) → is_phase line ≡ false → is_connect line ≡ false → ends_block line ≡ false
-not_both_kinds line p c = rw (p, c) refl
-
 module _ (refer : List ℕ → Option ClassRef) where
-  few_blocks : (before lines : List Form) → Stand before lines → count_by is_connect (phase_of before) ≤ 32 → count_by is_connect (phase_of before) + length (blocks_of refer lines) ≤ 32
+  few_blocks : (before lines : List Form) → Stand before lines → count_by is_session (phase_of before) ≤ 32 → count_by is_session (phase_of before) + length (blocks_of refer lines) ≤ 32
   unfolding blocks_of
   few_blocks before [] s h = omega arith
   few_blocks before (line ∷ lines) s h =
@@ -140,16 +144,16 @@ module _ (refer : List ℕ → Option ClassRef) where
         | inl p ↦ rw p (omega arith)
         | inr p ↦
             let same = phase_same before line p in
-            elim (bool_cases (is_connect line)) [
+            elim (bool_cases (is_session line)) [
               | inl c ↦
                   let room = few_here before line s.0 c in
-                  let more : count_by is_connect (phase_of (before ++ line ∷ [])) ≡ count_by is_connect (phase_of before) + 1 = rw (same, count_more is_connect (phase_of before) line, c) refl in
+                  let more : count_by is_session (phase_of (before ++ line ∷ [])) ≡ count_by is_session (phase_of before) + 1 = rw (same, count_more is_session (phase_of before) line, c) refl in
                   let rest = few_blocks (before ++ line ∷ []) lines s.1 (omega (arith, more)) in
-                  rw p (omega (arith, more, rest, front_length (option_map (block_behind refer lines) (session_of line)) (blocks_of refer lines)))
+                  rw p (omega (arith, more, rest, front_length (block_behind refer lines line) (blocks_of refer lines)))
               | inr c ↦
-                  let more : count_by is_connect (phase_of (before ++ line ∷ [])) ≡ count_by is_connect (phase_of before) = rw (same, count_more is_connect (phase_of before) line, c) (omega arith) in
+                  let more : count_by is_session (phase_of (before ++ line ∷ [])) ≡ count_by is_session (phase_of before) = rw (same, count_more is_session (phase_of before) line, c) (omega arith) in
                   let rest = few_blocks (before ++ line ∷ []) lines s.1 (omega (arith, more)) in
-                  rw (p, none_session line c) (omega (arith, more, rest))
+                  rw (p, none_block refer lines line c) (omega (arith, more, rest))
             ]
       ]
 
@@ -162,10 +166,24 @@ contains_at x xs y (suc k) h e = inr (k, omega arith, e)
 contains_none : (y : ℕ) → Contains [] y → ⊥
 contains_none y c = omega (arith, c.1)
 
-free_session : (before : List Form) (number : ℕ) (user host : List ℕ) → Passes before (form.Connect (Some number) user host) → list_any (is_block_of number) (phase_of before) ≡ false
-free_session before number user host p = second_false (not (nat_le 1 number && nat_le number 64)) (list_any (is_block_of number) (phase_of before)) p.session
+any_rest : (test last : Form → Bool) (line : Form) (lines : List Form) (a b : Bool) → (test line || list_any test lines) ≡ false → list_any test (behind_last last lines) ≡ false → list_any test (cond a (behind_last last lines) (cond b lines (line ∷ lines))) ≡ false
+any_rest test last line lines true b h rest = rest
+any_rest test last line lines false true h rest = second_false (test line) (list_any test lines) h
+any_rest test last line lines false false h rest = h
 
-low_session : (before : List Form) (number : ℕ) (user host : List ℕ) → Passes before (form.Connect (Some number) user host) → (1 ≤ number) × (number ≤ 64)
+any_behind : (test last : Form → Bool) (before : List Form) → list_any test before ≡ false → list_any test (behind_last last before) ≡ false
+unfolding behind_last
+any_behind test last [] h = refl
+any_behind test last (line ∷ before) h =
+    any_rest test last line before (list_any last before) (last line) h (any_behind test last before (second_false (test line) (list_any test before) h))
+
+new_session : (before : List Form) (number : ℕ) (user host : List ℕ) → Passes Built before (form.Connect (Some number) user host) → list_any (is_block_of number) before ≡ false
+new_session before number user host p = second_false (not (nat_le 1 number && nat_le number 64)) (list_any (is_block_of number) before) p.session
+
+free_session : (before : List Form) (number : ℕ) (user host : List ℕ) → Passes Built before (form.Connect (Some number) user host) → list_any (is_block_of number) (phase_of before) ≡ false
+free_session before number user host p = any_behind (is_block_of number) is_phase before (new_session before number user host p)
+
+low_session : (before : List Form) (number : ℕ) (user host : List ℕ) → Passes Built before (form.Connect (Some number) user host) → (1 ≤ number) × (number ≤ 64)
 low_session before number user host p = let q = p.session in (grind (arith, nat_tests, q), grind (arith, nat_tests, q))
 
 same_block : (number : ℕ) (user host : List ℕ) → is_block_of number (form.Connect (Some number) user host) ≡ true
@@ -185,7 +203,7 @@ apart_less before line sessions p a = record {
   free = λ number h. first_false (list_any (is_block_of number) (phase_of before)) (is_block_of number line) (sym (rw (phase_same before line p) (any_more (is_block_of number) (phase_of before) line)) ∙ a.free number h);
 }
 
-apart_more : (before : List Form) (number : ℕ) (user host : List ℕ) (sessions : List ℕ) → Passes before (form.Connect (Some number) user host) → Apart (before ++ form.Connect (Some number) user host ∷ []) sessions → Apart before (number ∷ sessions)
+apart_more : (before : List Form) (number : ℕ) (user host : List ℕ) (sessions : List ℕ) → Passes Built before (form.Connect (Some number) user host) → Apart (before ++ form.Connect (Some number) user host ∷ []) sessions → Apart before (number ∷ sessions)
 apart_more before number user host sessions p a =
     let line = form.Connect (Some number) user host in
     let less = apart_less before line sessions refl a in
@@ -205,10 +223,11 @@ apart_more before number user host sessions p a =
 apart_none : (before : List Form) → Apart before []
 apart_none before = record { distinct = tt; free = λ number h. absurd (contains_none number h) }
 
-apart_front : (refer : List ℕ → Option ClassRef) (before : List Form) (line : Form) (lines : List Form) (blocks : List Block) → Passes before line → is_phase line ≡ false → Apart (before ++ line ∷ []) (sessions_of blocks)
-    → Apart before (sessions_of (with_front (option_map (block_behind refer lines) (session_of line)) blocks))
+apart_front : (refer : List ℕ → Option ClassRef) (before : List Form) (line : Form) (lines : List Form) (blocks : List Block) → Passes Built before line → is_phase line ≡ false → Apart (before ++ line ∷ []) (sessions_of blocks)
+    → Apart before (sessions_of (with_front (block_behind refer lines line) blocks))
 apart_front refer before (form.Connect (Some number) user host) lines blocks p h a = apart_more before number user host (sessions_of blocks) p a
 apart_front refer before (form.Connect None user host) lines blocks p h a = apart_less before (form.Connect None user host) (sessions_of blocks) h a
+apart_front refer before (form.Resume session) lines blocks p h a = absurd (let q = p.let_in in cc)
 apart_front refer before form.Phase lines blocks p h a = cc
 apart_front refer before line lines blocks p h a = apart_less before line (sessions_of blocks) h a
 
@@ -244,6 +263,8 @@ IsPlain (said.Transaction access) = Unit {0}
 IsPlain (said.Stage class) = Unit {0}
 IsPlain said.StageEnd = Unit {0}
 IsPlain (said.Spend time) = Unit {0}
+IsPlain (said.Sql text) = Unit {0}
+IsPlain said.Quit = Unit {0}
 IsPlain said.End = Unit {0}
 IsPlain (said.EndStatement numbers) = Unit {0}
 IsPlain (said.Repeat times) = ⊥
@@ -263,6 +284,10 @@ plain_nested kinds None said.StageEnd more plain may rest = (may, rest)
 plain_nested kinds (Some first) said.StageEnd more plain may rest = (may, rest)
 plain_nested kinds None (said.Spend time) more plain may rest = (may, rest)
 plain_nested kinds (Some first) (said.Spend time) more plain may rest = (may, rest)
+plain_nested kinds None (said.Sql text) more plain may rest = (may, rest)
+plain_nested kinds (Some first) (said.Sql text) more plain may rest = (may, rest)
+plain_nested kinds None said.Quit more plain may rest = (may, rest)
+plain_nested kinds (Some first) said.Quit more plain may rest = (may, rest)
 plain_nested kinds None said.End more plain may rest = (may, rest)
 plain_nested kinds (Some first) said.End more plain may rest = (may, rest)
 plain_nested kinds None (said.EndStatement numbers) more plain may rest = (may, rest)
@@ -292,8 +317,16 @@ start_same before line r d = rw (in_repeat-same before line r d, ahead_more is_r
 start_begun : (before : List Form) (times : Option ℕ) → start_of (before ++ form.Repeat times ∷ []) ≡ Some (kinds_open before)
 start_begun before times = rw (in_repeat-begun before (form.Repeat times) refl, ahead_more is_repeat before (form.Repeat times)) refl
 
+-- nothing is open where a session begins
+open_new : (before : List Form) (number : ℕ) (user host : List ℕ) → 1 ≤ number → list_any (is_block_of number) before ≡ false → kinds_open (before ++ form.Connect (Some number) user host ∷ []) ≡ []
+unfolding kinds_open brackets_from
+open_new before number user host low new =
+    let line = form.Connect (Some number) user host in
+    ap (λ session. session_kinds session (before ++ line ∷ [])) (now_more before line)
+    ∙ ap (λ lines. kinds_of (open_in (map mark_of_form lines))) (lines_ends number before line refl ∙ lines_none number before low new)
+
 -- no repeat goes on in another block
-start_connect : (before : List Form) (number : ℕ) (user host : List ℕ) → Passes before (form.Connect (Some number) user host) → start_of (before ++ form.Connect (Some number) user host ∷ []) ≡ None
+start_connect : (before : List Form) (number : ℕ) (user host : List ℕ) → Passes Built before (form.Connect (Some number) user host) → start_of (before ++ form.Connect (Some number) user host ∷ []) ≡ None
 start_connect before number user host p =
     let line = form.Connect (Some number) user host in
     let out : is_in_repeat before ≡ false = second_false (not (list_any is_phase before)) (is_in_repeat before) p.place in
@@ -306,12 +339,12 @@ start_done before = rw (in_repeat-done before) refl
 abbrev Nests : List Form → List BlockLine → Type 0
 Nests before more = IsNested (kinds_open before) (start_of before) more
 
-nests_same : (before : List Form) (line : Form) (more : List BlockLine) → is_connect line ≡ false → mark_of_form line ≡ Passing → is_repeat line ≡ false → is_done line ≡ false → Nests (before ++ line ∷ []) more → Nests before more
+nests_same : (before : List Form) (line : Form) (more : List BlockLine) → ends_block line ≡ false → mark_of_form line ≡ Passing → is_repeat line ≡ false → is_done line ≡ false → Nests (before ++ line ∷ []) more → Nests before more
 nests_same before line more c m r d h =
     let kinds : kinds_open (before ++ line ∷ []) ≡ kinds_open before = open_more before line c ∙ ap (λ mark. kinds_behind mark (kinds_open before)) m in
     rw (kinds, start_same before line r d) at h
 
-nests_more : (before : List Form) (line : Form) (one : BlockLine) (more : List BlockLine) → is_connect line ≡ false → is_repeat line ≡ false → is_done line ≡ false → IsPlain one → mark_of one ≡ mark_of_form line
+nests_more : (before : List Form) (line : Form) (one : BlockLine) (more : List BlockLine) → ends_block line ≡ false → is_repeat line ≡ false → is_done line ≡ false → IsPlain one → mark_of one ≡ mark_of_form line
     → is_bad_nesting before line ≡ false → Nests (before ++ line ∷ []) more → Nests before (one ∷ more)
 nests_more before line one more c r d plain m nesting h =
     let kinds : kinds_open (before ++ line ∷ []) ≡ kinds_behind (mark_of one) (kinds_open before) = open_more before line c ∙ ap (λ mark. kinds_behind mark (kinds_open before)) (sym m) in
@@ -338,7 +371,7 @@ module _ (all : List Form) (few : counted one_each all ≤ 200000) where
       let r = known_resolved all class (known class (event_known before class h)) in
       rw r.1 (nests r.0)
 
-  nest_front : (before : List Form) (line : Form) (more : List BlockLine) → Passes before line → ends_block line ≡ false → ((name : List ℕ) → is_known before name ≡ true → is_known all name ≡ true)
+  nest_front : (before : List Form) (line : Form) (more : List BlockLine) → Passes Built before line → ends_block line ≡ false → ((name : List ℕ) → is_known before name ≡ true → is_known all name ≡ true)
       → Nests (before ++ line ∷ []) more → Nests before (with_front (block_line (resolved (head_of all)) line) more)
   nest_front before (form.Wait class) more p n known rest =
       class_nests before (form.Wait class) class said.Wait more known p.known (λ ref. nests_more before (form.Wait class) (said.Wait ref) more refl refl refl tt refl p.nesting rest)
@@ -356,7 +389,10 @@ module _ (all : List Form) (few : counted one_each all ≤ 200000) where
   nest_front before (form.Repeat None) more p n known rest = absurd (let q = p.number in cc)
   nest_front before form.Done more p n known rest =
       nests_done before more (not_false (is_in_repeat before) p.place) (not_false (same_kinds (kinds_open before) (kinds_open (ahead_of_last is_repeat before))) p.nesting) rest
-  nest_front before (form.TableWait class schema name) more p n known rest = absurd (let q = p.built in cc)
+  nest_front before (form.TableWait class schema name) more p n known rest = absurd (let q = p.let_in in cc)
+  nest_front before (form.Sql text) more p n known rest = absurd (let q = p.let_in in cc)
+  nest_front before form.Quit more p n known rest = absurd (let q = p.let_in in cc)
+  nest_front before (form.Resume session) more p n known rest = cc
   nest_front before form.Phase more p n known rest = cc
   nest_front before (form.Connect session user host) more p n known rest = cc
   nest_front before line more p n known rest = nests_same before line more refl refl refl refl rest
@@ -382,7 +418,7 @@ module _ (all : List Form) (few : counted one_each all ≤ 200000) where
   reference_known before class starts more (Some (refs.Class id)) p e k h = known_more (starts (refs.Class id)) more (k (refs.Class id) (resolved_within all class id (event_other before class p) e)) h
   reference_known before class starts more (Some (refs.Lost kind)) p e k h = known_more (starts (refs.Lost kind)) more (k (refs.Lost kind) tt) h
 
-  known_front : (before : List Form) (line : Form) (more : List BlockLine) → Passes before line → AreKnown more → AreKnown (with_front (block_line (resolved (head_of all)) line) more)
+  known_front : (before : List Form) (line : Form) (more : List BlockLine) → Passes Built before line → AreKnown more → AreKnown (with_front (block_line (resolved (head_of all)) line) more)
   known_front before (form.Wait class) more p h = reference_known before class said.Wait more (resolved (head_of all) class) p.known refl (λ one k. k) h
   known_front before (form.Statement class text) more p h = reference_known before class said.Statement more (resolved (head_of all) class) p.known refl (λ one k. k) h
   known_front before (form.Stage class) more p h = reference_known before class said.Stage more (resolved (head_of all) class) p.known refl (λ one k. k) h
@@ -394,6 +430,8 @@ module _ (all : List Form) (few : counted one_each all ≤ 200000) where
   known_front before (form.EndStatement numbers) more p h = known_more (said.EndStatement (statement_numbers numbers)) more tt h
   known_front before (form.Repeat (Some times)) more p h = known_more (said.Repeat times) more tt h
   known_front before (form.Repeat None) more p h = h
+  known_front before (form.Sql text) more p h = known_more (said.Sql text) more tt h
+  known_front before form.Quit more p h = known_more said.Quit more tt h
   known_front before form.Done more p h = known_more said.Done more tt h
   known_front before line more p h = h
 
@@ -406,17 +444,19 @@ module _ (all : List Form) (few : counted one_each all ≤ 200000) where
         | inr p ↦ rw p (known_front before line (block_lines (resolved (head_of all)) lines) s.0 (knowns (before ++ line ∷ []) lines s.1))
       ]
 
-  block_front : (before : List Form) (line : Form) (lines : List Form) (more : List Block) → Passes before line → Stand (before ++ line ∷ []) lines → all ≡ (before ++ line ∷ []) ++ lines → All (run.IsBlock (length (head_of all).classes.classes)) more
-      → All (run.IsBlock (length (head_of all).classes.classes)) (with_front (option_map (block_behind (resolved (head_of all)) lines) (session_of line)) more)
+  block_front : (before : List Form) (line : Form) (lines : List Form) (more : List Block) → Passes Built before line → Stand (before ++ line ∷ []) lines → all ≡ (before ++ line ∷ []) ++ lines → All (run.IsBlock (length (head_of all).classes.classes)) more
+      → All (run.IsBlock (length (head_of all).classes.classes)) (with_front (block_behind (resolved (head_of all)) lines line) more)
   block_front before (form.Connect (Some number) user host) lines more p s e h =
       let bounds = low_session before number user host p in
-      All-cons (run.IsBlock (length (head_of all).classes.classes)) (block_behind (resolved (head_of all)) lines number) more (record {
+      All-cons (run.IsBlock (length (head_of all).classes.classes)) (record { session = number; connect = Some (record { user = user; host = host }); lines = block_lines (resolved (head_of all)) lines }) more (record {
         low = bounds.0;
         high = bounds.1;
-        nested = (let first = before ++ form.Connect (Some number) user host ∷ [] in rw (open_new before (form.Connect (Some number) user host) refl, start_connect before number user host p) at (nest first lines s e));
+        nested = (let first = before ++ form.Connect (Some number) user host ∷ [] in rw (open_new before number user host bounds.0 (new_session before number user host p), start_connect before number user host p) at (nest first lines s e));
         known = knowns (before ++ form.Connect (Some number) user host ∷ []) lines s;
         short = written_short (resolved (head_of all)) all (before ++ form.Connect (Some number) user host ∷ []) lines e few;
       }) h
+  block_front before (form.Resume session) lines more p s e h = absurd (let q = p.let_in in cc)
+  block_front before (form.Connect None user host) lines more p s e h = h
   block_front before line lines more p s e h = h
 
   blocks_run : (before lines : List Form) → Stand before lines → all ≡ before ++ lines → All (run.IsBlock (length (head_of all).classes.classes)) (blocks_of (resolved (head_of all)) lines)
@@ -431,7 +471,7 @@ module _ (all : List Form) (few : counted one_each all ≤ 200000) where
 
   phase_runs : (before : List Form) (line : Form) (lines : List Form) → is_phase line ≡ true → Stand (before ++ line ∷ []) lines → all ≡ (before ++ line ∷ []) ++ lines → run.IsPhase (length (head_of all).classes.classes) (record { blocks = blocks_of (resolved (head_of all)) lines })
   phase_runs before line lines p s e =
-      let none : count_by is_connect (phase_of (before ++ line ∷ [])) ≡ 0 = rw (phase_new before line p) refl in
+      let none : count_by is_session (phase_of (before ++ line ∷ [])) ≡ 0 = rw (phase_new before line p) refl in
       record {
         few = omega (arith, few_blocks (resolved (head_of all)) (before ++ line ∷ []) lines s (omega (arith, none)), none);
         sessions = (apart (resolved (head_of all)) (before ++ line ∷ []) lines s).distinct;
@@ -450,7 +490,12 @@ module _ (all : List Form) (few : counted one_each all ≤ 200000) where
       ]
 
 -- the phases of lines that begin a script can be run
-pub runnable : (raws : List (List ℕ)) (lines : List Form) → Begins [] raws lines → run.IsRunnable (length (head_of lines).classes.classes) (phases_of (resolved (head_of lines)) lines)
+pub runnable : (raws : List (List ℕ)) (lines : List Form) → Begins Built [] raws lines → run.IsRunnable (length (head_of lines).classes.classes) (phases_of (resolved (head_of lines)) lines)
 runnable raws lines b =
     let s = stand_of [] raws lines b in
     record { one = one_phase (resolved (head_of lines)) [] lines s; each = phases_run lines (few_lines [] lines s (omega (arith, counted_none one_each))) [] lines s refl }
+
+-- a script that is built can be run
+pub script_runs : (text : List ℕ) (setting : Setting) (phases : List Phase) → IsScript Built text setting phases → run.IsRunnable (length setting.classes.classes) phases
+unfolding IsScript
+script_runs text setting phases s = rw (s.2.classes, s.3) (runnable s.1.0 s.0 s.1.2)

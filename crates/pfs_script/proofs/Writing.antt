@@ -11,7 +11,8 @@ use Rattle.pfs_script.specs.declared.blocks.BlockLine.TheVariants as said
 use Rattle.pfs_script.specs.Marks.{Repeated, copies, written_from, written_out}
 use Rattle.pfs_script.specs.Counts.{is_done, until_done, again, counted}
 use Rattle.pfs_script.specs.Next.{one_each}
-use Rattle.pfs_script.specs.Blocks.{with_front, block_line, block_lines, ends_block}
+use Rattle.pfs_script.specs.Sessions.{ends_block}
+use Rattle.pfs_script.specs.Blocks.{with_front, block_line, block_lines}
 
 abbrev IsNoRepeat : BlockLine → Type 0
 IsNoRepeat (said.Wait class) = Unit {0}
@@ -20,6 +21,8 @@ IsNoRepeat (said.Transaction access) = Unit {0}
 IsNoRepeat (said.Stage class) = Unit {0}
 IsNoRepeat said.StageEnd = Unit {0}
 IsNoRepeat (said.Spend time) = Unit {0}
+IsNoRepeat (said.Sql text) = Unit {0}
+IsNoRepeat said.Quit = Unit {0}
 IsNoRepeat said.End = Unit {0}
 IsNoRepeat (said.EndStatement numbers) = Unit {0}
 IsNoRepeat said.Done = Unit {0}
@@ -32,6 +35,8 @@ IsNoDone (said.Transaction access) = Unit {0}
 IsNoDone (said.Stage class) = Unit {0}
 IsNoDone said.StageEnd = Unit {0}
 IsNoDone (said.Spend time) = Unit {0}
+IsNoDone (said.Sql text) = Unit {0}
+IsNoDone said.Quit = Unit {0}
 IsNoDone said.End = Unit {0}
 IsNoDone (said.EndStatement numbers) = Unit {0}
 IsNoDone (said.Repeat times) = Unit {0}
@@ -45,6 +50,8 @@ plain_none (said.Transaction access) rest plain = refl
 plain_none (said.Stage class) rest plain = refl
 plain_none said.StageEnd rest plain = refl
 plain_none (said.Spend time) rest plain = refl
+plain_none (said.Sql text) rest plain = refl
+plain_none said.Quit rest plain = refl
 plain_none said.End rest plain = refl
 plain_none (said.EndStatement numbers) rest plain = refl
 plain_none said.Done rest plain = refl
@@ -58,6 +65,8 @@ plain_some loop (said.Transaction access) rest plain = refl
 plain_some loop (said.Stage class) rest plain = refl
 plain_some loop said.StageEnd rest plain = refl
 plain_some loop (said.Spend time) rest plain = refl
+plain_some loop (said.Sql text) rest plain = refl
+plain_some loop said.Quit rest plain = refl
 plain_some loop said.End rest plain = refl
 plain_some loop (said.EndStatement numbers) rest plain = refl
 plain_some loop (said.Repeat times) rest plain = refl
@@ -135,6 +144,11 @@ bool_cases false = inr refl
 counted_first : (line : Form) (lines : List Form) → counted one_each (line ∷ lines) ≡ 1 + again one_each line lines + counted one_each lines
 unfolding counted
 counted_first line lines = refl
+
+-- each line counts once at least
+pub length_counted : (lines : List Form) → length lines ≤ counted one_each lines
+length_counted [] = omega arith
+length_counted (line ∷ lines) = omega (arith, length_counted lines, counted_first line lines)
 
 sum_ones : (lines : List Form) → sum_by one_each lines ≡ length lines
 sum_ones [] = refl

@@ -9,7 +9,7 @@ use Rattle.pfs_script.specs.declared.blocks.BlockLine.TheVariants as said
 use Rattle.pfs_script.specs.declared.blocks.StatementNumbers.{StatementNumbers}
 use Rattle.pfs_script.specs.declared.blocks.Block.{Block}
 use Rattle.pfs_script.specs.declared.blocks.Phase.{Phase}
-use Rattle.pfs_script.specs.Next.{is_phase, is_connect}
+use Rattle.pfs_script.specs.Sessions.{is_phase, ends_block}
 
 -- the numbers of a statement's end; one that is over 2^64 - 1 stands on no line of a script
 abbrev pub statement_numbers : Numbers → StatementNumbers
@@ -32,6 +32,8 @@ block_line refer (form.Stage class) = option_map said.Stage (refer class)
 block_line refer form.StageEnd = Some said.StageEnd
 block_line refer (form.Spend time) = option_map said.Spend time
 block_line refer form.End = Some said.End
+block_line refer (form.Sql text) = Some (said.Sql text)
+block_line refer form.Quit = Some said.Quit
 block_line refer (form.EndStatement numbers) = Some (said.EndStatement (statement_numbers numbers))
 block_line refer (form.Repeat times) = option_map said.Repeat times
 block_line refer form.Done = Some said.Done
@@ -42,29 +44,26 @@ abbrev pub with_front : {A : Type 0} → Option A → List A → List A
 with_front None more = more
 with_front (Some one) more = one ∷ more
 
--- the line ends the block before it
-abbrev pub ends_block : Form → Bool
-ends_block line = is_phase line || is_connect line
-
 -- what the lines say to their session, up to the next block or phase
 unfoldable pub block_lines : (List ℕ → Option ClassRef) → List Form → List BlockLine
 block_lines refer [] = []
 block_lines refer (line ∷ lines) = if ends_block line then [] else with_front (block_line refer line) (block_lines refer lines)
 
--- the session whose block the line begins
-abbrev pub session_of : Form → Option ℕ
-session_of (form.Connect session user host) = session
-session_of _ = None
+-- the block that a line begins, with these lines behind it: at its first one a session gives its names
+abbrev pub block_with : List BlockLine → Form → Option Block
+block_with lines (form.Connect session user host) =
+    option_map (λ number. record { session = number; connect = Some (record { user = user; host = host }); lines = lines }) session
+block_with lines (form.Resume session) = option_map (λ number. record { session = number; connect = None; lines = lines }) session
+block_with lines _ = None
 
--- the block that a line begins, with these lines behind it
-abbrev pub block_behind : (List ℕ → Option ClassRef) → List Form → ℕ → Block
-block_behind refer lines session = record { session = session; lines = block_lines refer lines }
+abbrev pub block_behind : (List ℕ → Option ClassRef) → List Form → Form → Option Block
+block_behind refer lines line = block_with (block_lines refer lines) line
 
 -- the blocks of the lines, up to the next phase
 unfoldable pub blocks_of : (List ℕ → Option ClassRef) → List Form → List Block
 blocks_of refer [] = []
 blocks_of refer (line ∷ lines) =
-    if is_phase line then [] else with_front (option_map (block_behind refer lines) (session_of line)) (blocks_of refer lines)
+    if is_phase line then [] else with_front (block_behind refer lines line) (blocks_of refer lines)
 
 -- with a phase of these blocks in front, where one begins
 abbrev pub with_phase : Bool → List Block → List Phase → List Phase

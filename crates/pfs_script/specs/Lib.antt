@@ -6,6 +6,8 @@ pub mod Marks
 pub mod Brackets
 pub mod Nested
 pub mod Counts
+pub mod Sessions
+pub mod Built
 pub mod Next
 pub mod Places
 pub mod Blocks

@@ -1,5 +1,5 @@
 -- What the reader keeps of the lines so far.
-use Rattle.std.specs.Prelude.{ℕ, zero, suc, ◌≡◌, ◌+◌, ◌*◌, ◌<◌, ◌≤◌, Bool, true, false, List, [], ◌∷◌, length, Some, is_some, IfSome, count_by, get_or}
+use Rattle.std.specs.Prelude.{ℕ, zero, suc, ◌≡◌, ◌+◌, ◌*◌, ◌^◌, ◌<◌, ◌≤◌, slice_set, Bool, true, false, List, [], ◌∷◌, length, Some, is_some, IfSome, count_by, get_or}
 use Rattle.std.specs.List.{list_any, list_all}
 use Rattle.pfs_rows.specs.declared.limits.Limit.{Limit}
 use Rattle.pfs_rows.specs.Limits.{order_of}
@@ -10,11 +10,13 @@ use Rattle.pfs_script.specs.declared.forms.Form.TheVariants as form
 use Rattle.pfs_script.specs.declared.places.Place.{Place}
 use Rattle.pfs_script.specs.declared.fronts.Front.{Front}
 use Rattle.pfs_script.specs.declared.courses.Course.{Course}
+use Rattle.pfs_script.specs.declared.open_kinds.SessionState.{SessionState}
 use Rattle.pfs_script.specs.declared.open_kinds.OpenKinds.{OpenKinds}
 use Rattle.pfs_script.specs.declared.totals.Totals.{Totals}
 use Rattle.pfs_script.specs.Headings.{is_before_limits}
 use Rattle.pfs_script.specs.Counts.{ahead_of_last, is_repeat, is_in_repeat, counted, once_more, more_times, pending}
-use Rattle.pfs_script.specs.Next.{is_class, is_phase, is_connect, is_block_of, phase_of, kinds_open, gives, one_each, weight_of}
+use Rattle.pfs_script.specs.Sessions.{is_phase, is_session, is_block_of, phase_of, session_now, has_quit}
+use Rattle.pfs_script.specs.Next.{is_class, is_select, session_kinds, kinds_open, gives, one_each, weight_of}
 
 -- the flags are true of the lines, and a limit's flag says whether it was given
 pub record KnowsFront (front : Front) (before : List Form) : Type 0 where
@@ -40,17 +42,43 @@ kinds_from waits has_stage statements has_transaction =
 abbrev pub kinds_in : OpenKinds → List EventKind
 kinds_in events = kinds_from events.waits events.has_stage events.statements events.has_transaction
 
--- a session's flag says whether it has a block in the phase; the blocks are counted; the open events are known, and those that were
--- open where a repeat began that isn't done
+-- nothing of a session
+abbrev pub no_session : SessionState
+no_session = record { has_begun = false; has_quit = false; events = record { waits = 0; has_stage = false; statements = 0; has_transaction = false } }
+
+abbrev pub state_at : List SessionState → ℕ → SessionState
+state_at sessions number = get_or sessions number no_session
+
+-- the flags tell whether the session has a block at all and whether it quit, and the events are those open behind all its lines
+pub record KnowsSession (state : SessionState) (number : ℕ) (before : List Form) : Type 0 where
+  pub begun : state.has_begun ≡ list_any (is_block_of number) before
+  pub quits : state.has_quit ≡ has_quit number before
+  pub kinds : kinds_in state.events ≡ session_kinds number before
+  pub inside : state.events.has_stage ≡ true → 1 ≤ state.events.statements
+  pub few_waits : state.events.waits ≤ length before
+  pub few_statements : state.events.statements ≤ length before
+
+-- each session is known; a flag says whether it has a block in the phase; the blocks of the phase are counted; the session of the block
+-- is known; and so are the events that were open where a repeat began that isn't done
 pub record KnowsCourse (course : Course) (before : List Form) : Type 0 where
-  pub sessions : (number : ℕ) → number < 65 → get_or course.sessions number false ≡ list_any (is_block_of number) (phase_of before)
+  pub sessions : (number : ℕ) → number < 65 → KnowsSession (state_at course.sessions number) number before
   pub numbers : length course.sessions ≡ 65
-  pub blocks : course.blocks ≡ count_by is_connect (phase_of before)
-  pub kinds : kinds_in course.events ≡ kinds_open before
-  pub inside : course.events.has_stage ≡ true → 1 ≤ course.events.statements
+  pub here : (number : ℕ) → number < 65 → get_or course.here number false ≡ list_any (is_block_of number) (phase_of before)
+  pub here_numbers : length course.here ≡ 65
+  pub present : course.present ≡ session_now before
+  pub low : course.present < 65
+  pub blocks : course.blocks ≡ count_by is_session (phase_of before)
+  pub few_blocks : course.blocks ≤ length before
   pub repeats : is_some course.repeat ≡ is_in_repeat before
   pub first : IfSome course.repeat (λ events. kinds_in events ≡ kinds_open (ahead_of_last is_repeat before))
-  pub few : course.blocks ≤ 32
+
+-- a block of this session has begun
+pub record HasBegun (old new : Course) (number : ℕ) : Type 0 where
+  pub sessions : new.sessions ≡ slice_set old.sessions number (record (state_at old.sessions number) { has_begun = true })
+  pub here : new.here ≡ slice_set old.here number true
+  pub present : new.present ≡ number
+  pub blocks : old.blocks < 2 ^ 63 → new.blocks ≡ old.blocks + 1
+  pub repeat : new.repeat ≡ old.repeat
 
 -- how often more than once the next line runs, behind this one
 abbrev pub more_with : Form → ℕ → ℕ
@@ -64,13 +92,17 @@ body_with (form.Repeat times) measure body = 0
 body_with form.Done measure body = 0
 body_with _ measure body = body + measure
 
--- the lines, the classes among them and their weight, within what a script may have; and what a `done` would add to them
+-- the lines, the phases, classes and SELECTs among them and their weight, within what a script may have; and what a `done` would add
 pub record KnowsTotals (totals : Totals) (before : List Form) : Type 0 where
   pub lines : totals.lines ≡ counted one_each before
+  pub phases : totals.phases ≡ count_by is_phase before
   pub classes : totals.classes ≡ count_by is_class before
+  pub selects : totals.selects ≡ count_by is_select before
   pub weight : totals.weight ≡ counted weight_of before
   pub few_lines : totals.lines ≤ 200000
+  pub few_phases : totals.phases ≤ 64
   pub few_classes : totals.classes ≤ 256
+  pub few_selects : totals.selects ≤ 256
   pub low_weight : totals.weight ≤ 5000000
   pub more : totals.more ≡ more_times before
   pub body_lines : pending one_each before ≡ totals.more * totals.body_lines
@@ -84,5 +116,3 @@ pub record Knows (place : Place) (before : List Form) : Type 0 where
   pub front : KnowsFront place.front before
   pub course : KnowsCourse place.course before
   pub totals : KnowsTotals place.totals before
-  pub few_waits : place.course.events.waits ≤ place.totals.lines
-  pub few_statements : place.course.events.statements ≤ place.totals.lines

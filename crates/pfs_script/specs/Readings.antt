@@ -3,18 +3,19 @@ use Rattle.std.specs.Prelude.{ℕ, ◌≡◌, List, Result, Ok, Err}
 use Rattle.pfs_script.specs.declared.reading.ScriptFault.{ScriptFault}
 use Rattle.pfs_script.specs.declared.reading.ScriptFault.TheVariants.{Bad, NoMemory}
 use Rattle.pfs_script.specs.declared.reading.Reading.{Reading}
+use Rattle.pfs_script.specs.declared.reasons.Extent.{Extent}
 use Rattle.pfs_script.specs.declared.scripts.Script.{Script}
 use Rattle.pfs_script.specs.Headings.{head_of}
 use Rattle.pfs_script.specs.Scripts.{script_of, IsScript, IsFirstFault}
 
 -- the answer is what the text's lines say and fix, or their first fault
-abbrev pub Reads : List ℕ → Result Reading ScriptFault → Type 0
-Reads text (Ok reading) = (script_of text ≡ Ok reading.lines.items) × (reading.heading ≡ head_of reading.lines.items)
-Reads text (Err (Bad number reason)) = script_of text ≡ Err (record { number = number; reason = reason })
-Reads text (Err NoMemory) = Unit {0}
+abbrev pub Reads : Extent → List ℕ → Result Reading ScriptFault → Type 0
+Reads extent text (Ok reading) = (script_of extent text ≡ Ok reading.lines.items) × (reading.heading ≡ head_of reading.lines.items)
+Reads extent text (Err (Bad number reason)) = script_of extent text ≡ Err (record { number = number; reason = reason })
+Reads extent text (Err NoMemory) = Unit {0}
 
 -- the answer is the text's script, or its first fault
-abbrev pub Gives : List ℕ → Result Script ScriptFault → Type 0
-Gives text (Ok script) = IsScript text script.setting script.phases
-Gives text (Err (Bad number reason)) = IsFirstFault text number reason
-Gives text (Err NoMemory) = Unit {0}
+abbrev pub Gives : Extent → List ℕ → Result Script ScriptFault → Type 0
+Gives extent text (Ok script) = IsScript extent text script.setting script.phases
+Gives extent text (Err (Bad number reason)) = IsFirstFault extent text number reason
+Gives extent text (Err NoMemory) = Unit {0}

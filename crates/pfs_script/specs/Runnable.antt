@@ -1,4 +1,4 @@
--- What holds of the phases and blocks of a script in hand, so that it can be run.
+-- What holds of the phases and blocks of a script that the engine runs.
 use Rattle.std.specs.Prelude.{ℕ, ◌≤◌, ◌<◌, List, [], ◌∷◌, length, map, None, Contains}
 use Rattle.std.specs.List.{All}
 use Rattle.pfs_classes.specs.declared.classes.ClassRef.{ClassRef}
@@ -23,6 +23,8 @@ IsKnown classes (said.Stage class) = IsKnownClass classes class
 IsKnown classes (said.Transaction access) = Unit {0}
 IsKnown classes said.StageEnd = Unit {0}
 IsKnown classes (said.Spend time) = Unit {0}
+IsKnown classes (said.Sql text) = Unit {0}
+IsKnown classes said.Quit = Unit {0}
 IsKnown classes said.End = Unit {0}
 IsKnown classes (said.EndStatement numbers) = Unit {0}
 IsKnown classes (said.Repeat times) = Unit {0}

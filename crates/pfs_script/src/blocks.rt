@@ -3,6 +3,7 @@
 ghost use Rattle.std.specs.Prelude.{◌≡◌};
 
 use pfs_classes::ClassRef;
+use pfs_text::Text;
 use std::marker::Model;
 
 /// How a transaction uses the data.
@@ -30,7 +31,7 @@ pub struct StatementNumbers {
 }
 
 /// A line of a block. Lines that say nothing are not kept.
-#[derive(Clone, Copy, Debug, PartialEq, Eq)]
+#[derive(Debug, PartialEq, Eq, Drop)]
 pub enum BlockLine {
     /// Starts a wait of a class, or of a lost one.
     Wait(ClassRef),
@@ -48,6 +49,10 @@ pub enum BlockLine {
     End,
     /// The same for a statement, with its numbers.
     EndStatement(StatementNumbers),
+    /// One SQL command, as it stands on the line.
+    Sql(Text),
+    /// Ends the session.
+    Quit,
     /// The lines up to the next `Done` run so many times.
     Repeat(u64),
     /// Ends the lines of a repeat.
@@ -85,11 +90,20 @@ impl BlockLineList {
     }
 }
 
+/// Whose session it is: the names that its first block gives.
+#[derive(Debug, PartialEq, Eq, Drop)]
+pub struct Connect {
+    pub user: Text,
+    pub host: Text,
+}
+
 /// A block: what one session does in a phase.
 #[derive(Drop)]
 pub struct Block {
     /// The session's number K, from 1 to 64.
     pub session: u64,
+    /// The session's names, at its first block alone, which connects it.
+    pub connect: Option<Connect>,
     /// What its lines say, in order.
     pub lines: BlockLineList,
 }

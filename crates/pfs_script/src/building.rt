@@ -1,20 +1,22 @@
 //! The phases and blocks that a script's lines make.
 
-ghost use Rattle.std.specs.Prelude.{◌≡◌, IfOk, OnOk, List, ◌++◌, option_map};
+ghost use Rattle.std.specs.Prelude.{◌≡◌, IfOk, OnOk, ℕ, List, ◌++◌, ◌∷◌, []};
+ghost use Rattle.pfs_script.specs.declared.forms.Form.TheVariants as form;
 ghost use Rattle.pfs_script.specs.declared.forms.Form.{Form};
 ghost use Rattle.pfs_script.specs.Headings.{resolved};
-ghost use Rattle.pfs_script.specs.Next.{is_phase};
-ghost use Rattle.pfs_script.specs.Blocks.{with_front, statement_numbers, block_line, block_lines, block_behind, ends_block, session_of, blocks_of, with_phase, phases_of};
+ghost use Rattle.pfs_script.specs.Sessions.{is_phase, ends_block};
+ghost use Rattle.pfs_script.specs.Blocks.{with_front, statement_numbers, block_line, block_lines, block_behind, blocks_of, with_phase, phases_of};
 ghost use Rattle.pfs_script.specs.declared.blocks.BlockLine.{BlockLine};
 ghost use Rattle.pfs_script.specs.declared.blocks.Block.{Block};
 ghost use Rattle.pfs_script.specs.declared.blocks.Phase.{Phase};
 
 use crate::blocks::{
-    Block, BlockLine, BlockLineList, BlockList, Phase, PhaseList, StatementNumbers,
+    Block, BlockLine, BlockLineList, BlockList, Connect, Phase, PhaseList, StatementNumbers,
 };
 use crate::forms::{Form, Numbers};
 use crate::heading::Heading;
 use pfs_classes::NoMemory;
+use pfs_text::Text;
 use std::alloc::Global;
 
 /// The phases of the lines, in order.
@@ -68,12 +70,50 @@ fn add_block(
     line: &Form,
     behind: &[Form],
 ) -> Result<(), NoMemory>
-    ensures { OnOk result ((more : List Block) → blocks.new.items ++ more ≡ blocks.old.items ++ with_front (option_map (block_behind (resolved heading.now) behind.now) (session_of line.now)) more) }
+    ensures { OnOk result ((more : List Block) → blocks.new.items ++ more ≡ blocks.old.items ++ with_front (block_behind (resolved heading.now) behind.now line.now) more) }
 {
-    if let Some(session) = session(line) {
-        let lines = block_lines(alloc, heading, behind)?;
-        blocks.push(Block { session, lines })?;
+    match line {
+        Form::Connect {
+            session: Some(session),
+            user,
+            host,
+        } => {
+            let connect = connect(alloc, user.bytes(), host.bytes())?;
+            let lines = block_lines(alloc, heading, behind)?;
+            push_block(blocks, *session, Some(connect), lines)
+        }
+        Form::Resume {
+            session: Some(session),
+        } => {
+            let lines = block_lines(alloc, heading, behind)?;
+            push_block(blocks, *session, None, lines)
+        }
+        _ => Ok(()),
     }
+}
+
+fn connect(alloc: Global, user: &[u8], host: &[u8]) -> Result<Connect, NoMemory>
+    ensures { IfOk result (λ connect. connect ≡ record { user = user.now; host = host.now }) }
+{
+    Ok(Connect {
+        user: Text::from_slice(alloc, user)?,
+        host: Text::from_slice(alloc, host)?,
+    })
+}
+
+fn push_block(
+    blocks: &mut Vec<Block>,
+    session: u64,
+    connect: Option<Connect>,
+    lines: BlockLineList,
+) -> Result<(), NoMemory>
+    ensures { OnOk result (blocks.new.items ≡ blocks.old.items ++ record { session = session; connect = connect; lines = lines } ∷ []) }
+{
+    blocks.push(Block {
+        session,
+        connect,
+        lines,
+    })?;
     Ok(())
 }
 
@@ -86,41 +126,44 @@ fn block_lines(alloc: Global, heading: &Heading, lines: &[Form]) -> Result<Block
         if ends_block(line) {
             break;
         }
-        add_line(heading, &mut said, line)?;
+        add_line(alloc, heading, &mut said, line)?;
     }
     Ok(BlockLineList::new(said))
 }
 
 // Adds what the line says to its session.
-fn add_line(heading: &Heading, said: &mut Vec<BlockLine>, line: &Form) -> Result<(), NoMemory>
+fn add_line(
+    alloc: Global,
+    heading: &Heading,
+    said: &mut Vec<BlockLine>,
+    line: &Form,
+) -> Result<(), NoMemory>
     ensures { OnOk result ((more : List BlockLine) → said.new.items ++ more ≡ said.old.items ++ with_front (block_line (resolved heading.now) line.now) more) }
 {
-    add_some(said, block_line(heading, line))
-}
-
-// Adds the line, where there is one.
-fn add_some(said: &mut Vec<BlockLine>, line: Option<BlockLine>) -> Result<(), NoMemory>
-    ensures { OnOk result ((more : List BlockLine) → said.new.items ++ more ≡ said.old.items ++ with_front line more) }
-{
-    match line {
-        Some(BlockLine::Wait(class)) => said.push(BlockLine::Wait(class))?,
-        Some(BlockLine::Statement(class)) => said.push(BlockLine::Statement(class))?,
-        Some(BlockLine::Transaction(access)) => said.push(BlockLine::Transaction(access))?,
-        Some(BlockLine::Stage(class)) => said.push(BlockLine::Stage(class))?,
-        Some(BlockLine::StageEnd) => said.push(BlockLine::StageEnd)?,
-        Some(BlockLine::Spend(time)) => said.push(BlockLine::Spend(time))?,
-        Some(BlockLine::End) => said.push(BlockLine::End)?,
-        Some(BlockLine::EndStatement(numbers)) => said.push(BlockLine::EndStatement(numbers))?,
-        Some(BlockLine::Repeat(times)) => said.push(BlockLine::Repeat(times))?,
-        Some(BlockLine::Done) => said.push(BlockLine::Done)?,
-        None => {}
+    if let Some(line) = block_line(alloc, heading, line)? {
+        said.push(line)?;
     }
     Ok(())
 }
 
 // What the line says to the session of its block; none where it says nothing.
-fn block_line(heading: &Heading, line: &Form) -> Option<BlockLine>
-    ensures { result ≡ block_line (resolved heading.now) line.now }
+fn block_line(
+    alloc: Global,
+    heading: &Heading,
+    line: &Form,
+) -> Result<Option<BlockLine>, NoMemory>
+    ensures { IfOk result (λ said. said ≡ block_line (resolved heading.now) line.now) }
+{
+    let said = match line {
+        Form::Sql { text } => Some(BlockLine::Sql(Text::from_slice(alloc, text.bytes())?)),
+        _ => plain_line(heading, line),
+    };
+    Ok(said)
+}
+
+// The same for a line other than a command.
+fn plain_line(heading: &Heading, line: &Form) -> Option<BlockLine>
+    ensures { ((text : List ℕ) → line.now ≡ form.Sql text → ⊥) → result ≡ block_line (resolved heading.now) line.now }
 {
     match line {
         Form::Wait { class } => heading.find(class.bytes()).map(BlockLine::Wait),
@@ -133,6 +176,7 @@ fn block_line(heading: &Heading, line: &Form) -> Option<BlockLine>
         Form::EndStatement { numbers } => {
             Some(BlockLine::EndStatement(statement_numbers(numbers)))
         }
+        Form::Quit => Some(BlockLine::Quit),
         Form::Repeat { times } => times.map(BlockLine::Repeat),
         Form::Done => Some(BlockLine::Done),
         _ => None,
@@ -153,16 +197,6 @@ fn statement_numbers(numbers: &Numbers) -> StatementNumbers
     }
 }
 
-// The session whose block the line begins.
-fn session(line: &Form) -> Option<u64>
-    ensures { result ≡ session_of line.now }
-{
-    match line {
-        Form::Connect { session, .. } => *session,
-        _ => None,
-    }
-}
-
 fn is_phase(line: &Form) -> bool
     ensures { result ≡ is_phase line.now }
 {
@@ -172,5 +206,8 @@ fn is_phase(line: &Form) -> bool
 fn ends_block(line: &Form) -> bool
     ensures { result ≡ ends_block line.now }
 {
-    matches!(line, Form::Phase | Form::Connect { .. })
+    matches!(
+        line,
+        Form::Phase | Form::Connect { .. } | Form::Resume { .. }
+    )
 }

@@ -1,58 +1,81 @@
-//! The phase and the block that the next line would stand in.
+//! The phase, the block and the session in which the next line would stand.
 
-ghost use Rattle.std.specs.Prelude.{◌≡◌, ◌≤◌, ◌<◌, ◌+◌, ◌^◌, ◌&&◌, ◌||◌, not, nat_le, ℕ, List, ◌∷◌, ◌++◌, [], Bool, true, false, IfSome, length, get_or, slice_set};
+ghost use Rattle.std.specs.Prelude.{◌≡◌, ◌≤◌, ◌<◌, ◌+◌, ◌^◌, ◌&&◌, ◌||◌, not, nat_le, nat_lt, ℕ, List, ◌∷◌, ◌++◌, [], Bool, true, false, IfSome, Option, length, get_or, slice_set, unwrap_or, count_by, if◌then◌else◌};
 ghost use Rattle.std.specs.List.{list_any};
 ghost use Rattle.pfs_script.specs.declared.forms.Form.{Form};
-ghost use Rattle.pfs_script.specs.Next.{is_bad_number, is_bad_session, is_bad_nesting, is_out_of_place, is_blockless, kinds_open, same_kinds, phase_of, is_block_of, is_phase, is_not_built_here};
+ghost use Rattle.pfs_script.specs.Sessions.{is_block_of, is_session, phase_of, has_quit};
+ghost use Rattle.pfs_script.specs.Next.{is_bad_number, is_bad_session, is_bad_nesting, is_out_of_place, is_blockless, kinds_open, same_kinds};
 ghost use Rattle.pfs_script.specs.Counts.{ahead_of_last, is_repeat, is_in_repeat};
-ghost use Rattle.pfs_script.specs.Places.{KnowsCourse, kinds_in};
+ghost use Rattle.pfs_script.specs.Places.{KnowsCourse, state_at, no_session, kinds_in};
 
 use crate::forms::Form;
-use crate::open_kinds::{OpenKinds, nothing_open};
+use crate::open_kinds::{OpenKinds, SessionState, no_session};
 
-/// The most blocks of a phase.
+/// The most blocks of a phase that the engine runs.
 const MOST_BLOCKS: u64 = 32;
 
-/// The sessions that have a block in the phase so far, how many blocks there are, and which events of
-/// the block are open.
+/// What is known of each session, which of them have a block in the phase, and the block of the next
+/// line.
 #[derive(Clone, Copy)]
 pub struct Course {
     /// By session number; no session has the number 0.
-    pub sessions: [bool; 65],
+    pub sessions: [SessionState; 65],
+    /// Which sessions have a block in the phase so far.
+    pub here: [bool; 65],
+    /// The session of the block; 0 where the phase has no block yet.
+    pub present: u64,
+    /// How many blocks the phase has so far.
     pub blocks: u64,
-    pub events: OpenKinds,
     /// The events that were open where a repeat began, while it isn't done.
     pub repeat: Option<OpenKinds>,
 }
 
 /// The course before the first line.
 pub fn no_course() -> Course
-    ensures knows { KnowsCourse result [] }
-    ensures waits { result.events.waits ≡ 0 }
-    ensures statements { result.events.statements ≡ 0 }
+    ensures { KnowsCourse result [] }
 {
     Course {
         sessions: no_sessions(),
+        here: nobody(),
+        present: 0,
         blocks: 0,
-        events: nothing_open(),
         repeat: None,
     }
 }
 
-// No session has a block.
-fn no_sessions() -> [bool; 65]
+// No session has a block in the phase.
+fn nobody() -> [bool; 65]
     ensures none { (number : ℕ) → number < 65 → get_or result number false ≡ false }
     ensures numbers { length result ≡ 65 }
 {
     [false; 65]
 }
 
+// No session has had a block.
+fn no_sessions() -> [SessionState; 65]
+    ensures none { (number : ℕ) → number < 65 → state_at result number ≡ no_session }
+    ensures numbers { length result ≡ 65 }
+{
+    [no_session(); 65]
+}
+
 impl Course {
-    /// Whether no block is there for a block's line.
+    // What is known of the session of the block; of session 0 where there is none.
+    fn state(&self) -> SessionState
+        ensures { self.now.present < 65 → result ≡ state_at self.now.sessions self.now.present }
+    {
+        if self.present < 65 {
+            self.sessions[self.present as usize]
+        } else {
+            no_session()
+        }
+    }
+
+    /// Whether no line of a block may stand there: there is no block yet, or its session has quit.
     pub fn has_no_block(&self) -> bool
         ensures { (before : List Form) → KnowsCourse self.now before → result ≡ is_blockless before }
     {
-        self.blocks == 0
+        self.present == 0 || self.state().has_quit
     }
 
     /// Whether a repeat isn't done.
@@ -62,7 +85,15 @@ impl Course {
         self.repeat.is_some()
     }
 
-    /// Whether the line begins a block of a session that there isn't, or that has a block already.
+    /// Whether a phase may have one more block that the engine runs.
+    pub fn has_room(&self) -> bool
+        ensures { (before : List Form) → KnowsCourse self.now before → result ≡ nat_lt (count_by is_session (phase_of before)) 32 }
+    {
+        self.blocks < MOST_BLOCKS
+    }
+
+    /// Whether the line begins a block of a session that there isn't, that has a block in the phase
+    /// already or has quit; or names are missing at its first block or given at a later one.
     pub fn is_bad_session(&self, line: &Form) -> bool
         ensures { (before : List Form) → KnowsCourse self.now before → result ≡ is_bad_session before line.now }
     {
@@ -70,20 +101,51 @@ impl Course {
             Form::Connect {
                 session: Some(number),
                 ..
-            } => self.is_bad_number(*number),
+            } => self.is_bad_first(*number),
+            Form::Resume {
+                session: Some(number),
+            } => self.is_bad_later(*number),
             _ => false,
         }
+    }
+
+    // Whether it can't be the session's first block.
+    fn is_bad_first(&self, number: u64) -> bool
+        ensures { (before : List Form) → KnowsCourse self.now before → result ≡ (not (nat_le 1 number && nat_le number 64) || list_any (is_block_of number) before) }
+    {
+        number < 1 || number > 64 || self.sessions[number as usize].has_begun
+    }
+
+    // Whether it can't be a later block of the session.
+    fn is_bad_later(&self, number: u64) -> bool
+        ensures { (before : List Form) → KnowsCourse self.now before
+            → result ≡ (not (nat_le 1 number && nat_le number 64) || (not (list_any (is_block_of number) before) || (list_any (is_block_of number) (phase_of before) || has_quit number before))) }
+    {
+        if number < 1 || number > 64 {
+            return true;
+        }
+        let state = self.sessions[number as usize];
+        !state.has_begun || self.here[number as usize] || state.has_quit
     }
 
     /// Whether the line breaks a rule of opening and ending.
     pub fn is_bad_nesting(&self, line: &Form) -> bool
         ensures { (before : List Form) → KnowsCourse self.now before → is_out_of_place before line.now ≡ false → result ≡ is_bad_nesting before line.now }
     {
+        let events = self.events();
         match line {
-            Form::EndStatement { .. } => !self.events.is_in_statement(),
+            Form::EndStatement { .. } => !events.is_in_statement(),
+            Form::Quit => !events.is_empty(),
             Form::Done => !self.are_as_at_repeat(),
-            _ => !self.events.may_stand(line),
+            _ => !events.may_stand(line),
         }
+    }
+
+    // The open events of the session in whose block the next line stands.
+    fn events(&self) -> OpenKinds
+        ensures { (before : List Form) → KnowsCourse self.now before → kinds_in result ≡ kinds_open before }
+    {
+        self.state().events
     }
 
     // Whether events of the kinds are open that were open where the repeat began.
@@ -92,74 +154,70 @@ impl Course {
             → result ≡ same_kinds (kinds_open before) (kinds_open (ahead_of_last is_repeat before)) }
     {
         match &self.repeat {
-            Some(first) => self.events.is_same(first),
+            Some(first) => self.events().is_same(first),
             None => false,
-        }
-    }
-
-    /// Whether the line stands where its form isn't built: it begins one block too many.
-    pub fn is_not_built_here(&self, line: &Form) -> bool
-        ensures { (before : List Form) → KnowsCourse self.now before → is_phase line.now ≡ false → result ≡ is_not_built_here before line.now }
-    {
-        match line {
-            Form::Connect { .. } => self.blocks >= MOST_BLOCKS,
-            _ => false,
         }
     }
 
     /// The course with one more line.
     pub fn pass(&mut self, line: &Form)
-        requires blocks { self.old.blocks ≤ 32 }
-        requires waits { self.old.events.waits < 2 ^ 63 }
-        requires statements { self.old.events.statements < 2 ^ 63 }
-        ensures knows { (before : List Form) → KnowsCourse self.old before → is_bad_number line.now ≡ false → is_bad_session before line.now ≡ false → is_bad_nesting before line.now ≡ false
-            → is_not_built_here before line.now ≡ false → KnowsCourse self.new (before ++ line.now ∷ []) }
-        ensures waits { self.new.events.waits ≤ self.old.events.waits + 1 }
-        ensures statements { self.new.events.statements ≤ self.old.events.statements + 1 }
+        ensures { (before : List Form) → length before < 2 ^ 63 → KnowsCourse self.old before → is_bad_number line.now ≡ false → is_bad_session before line.now ≡ false → is_bad_nesting before line.now ≡ false
+            → KnowsCourse self.new (before ++ line.now ∷ []) }
     {
         match line {
             Form::Phase => self.begin_phase(),
-            Form::Connect { session, .. } => self.begin_block(*session),
-            Form::Repeat { .. } => self.repeat = Some(self.events),
+            Form::Connect { session, .. } => self.begin_block(session.unwrap_or(0)),
+            Form::Resume { session } => self.begin_block(session.unwrap_or(0)),
+            Form::Repeat { .. } => self.repeat = Some(self.events()),
             Form::Done => self.repeat = None,
-            _ => self.events.pass(line),
+            _ => {
+                let mut state = self.state();
+                state.pass(line);
+                self.put(state);
+            }
         }
-    }
-
-    fn is_bad_number(&self, number: u64) -> bool
-        ensures { (before : List Form) → KnowsCourse self.now before → result ≡ not (nat_le 1 number && nat_le number 64) || list_any (is_block_of number) (phase_of before) }
-    {
-        number < 1 || number > 64 || self.sessions[number as usize]
     }
 
     fn begin_phase(&mut self)
+        ensures here { (number : ℕ) → number < 65 → get_or self.new.here number false ≡ false }
+        ensures here_numbers { length self.new.here ≡ 65 }
+        ensures present { self.new.present ≡ 0 }
         ensures blocks { self.new.blocks ≡ 0 }
-        ensures sessions { (number : ℕ) → number < 65 → get_or self.new.sessions number false ≡ false }
-        ensures numbers { length self.new.sessions ≡ 65 }
-        ensures events { self.new.events ≡ self.old.events }
+        ensures sessions { self.new.sessions ≡ self.old.sessions }
         ensures repeat { self.new.repeat ≡ self.old.repeat }
     {
-        self.sessions = no_sessions();
+        self.here = nobody();
+        self.present = 0;
         self.blocks = 0;
     }
 
-    fn begin_block(&mut self, session: Option<u64>)
-        requires few { self.old.blocks ≤ 32 }
-        ensures blocks { self.new.blocks ≡ self.old.blocks + 1 }
-        ensures numbers { length self.new.sessions ≡ length self.old.sessions }
-        ensures sessions { IfSome session (λ number. number < 65 → self.new.sessions ≡ slice_set self.old.sessions number true) }
-        ensures events { kinds_in self.new.events ≡ [] }
-        ensures inside { self.new.events.has_stage ≡ true → 1 ≤ self.new.events.statements }
-        ensures waits { self.new.events.waits ≡ 0 }
-        ensures statements { self.new.events.statements ≡ 0 }
+    fn begin_block(&mut self, number: u64)
+        ensures sessions { number < 65 → self.new.sessions ≡ slice_set self.old.sessions number (record (state_at self.old.sessions number) { has_begun = true }) }
+        ensures here { number < 65 → self.new.here ≡ slice_set self.old.here number true }
+        ensures present { number < 65 → self.new.present ≡ number }
+        ensures blocks { number < 65 → self.old.blocks < 2 ^ 63 → self.new.blocks ≡ self.old.blocks + 1 }
+        ensures repeat { number < 65 → self.new.repeat ≡ self.old.repeat }
+    {
+        if number < 65 {
+            let mut state = self.sessions[number as usize];
+            state.has_begun = true;
+            self.sessions[number as usize] = state;
+            self.here[number as usize] = true;
+            self.present = number;
+            self.blocks = self.blocks.saturating_add(1);
+        }
+    }
+
+    // Puts what is known of the session of the block.
+    fn put(&mut self, state: SessionState)
+        ensures sessions { self.old.present < 65 → self.new.sessions ≡ slice_set self.old.sessions self.old.present state }
+        ensures here { self.new.here ≡ self.old.here }
+        ensures present { self.new.present ≡ self.old.present }
+        ensures blocks { self.new.blocks ≡ self.old.blocks }
         ensures repeat { self.new.repeat ≡ self.old.repeat }
     {
-        if let Some(number) = session {
-            if number < 65 {
-                self.sessions[number as usize] = true;
-            }
+        if self.present < 65 {
+            self.sessions[self.present as usize] = state;
         }
-        self.blocks += 1;
-        self.events = nothing_open();
     }
 }

@@ -5,6 +5,7 @@
 mod block_lines;
 pub mod blocks;
 mod building;
+mod commands;
 mod courses;
 #[cfg(test)]
 mod form_tests;
@@ -30,8 +31,9 @@ mod totals;
 mod words;
 
 pub use blocks::{
-    Access, Block, BlockLine, BlockLineList, BlockList, Phase, PhaseList, StatementNumbers,
+    Access, Block, BlockLine, BlockLineList, BlockList, Connect, Phase, PhaseList,
+    StatementNumbers,
 };
 pub use reading::ScriptFault;
-pub use reasons::Reason;
+pub use reasons::{Extent, Reason};
 pub use scripts::Script;

@@ -138,7 +138,7 @@ fn rules_of_repeats_broken(rt: HostRuntime) -> Result<(), Fail> {
         (b"repeat 2\nspend 1", 4, 2),
         (b"repeat 0\n", 3, 5),
         (b"repeat 18446744073709551616\n", 3, 5),
-        (b"repeat 2\nquit\n", 4, 13),
+        (b"repeat 2\nquit\n", 4, 4),
         (b"repeat 2\nsession 2 u h\n", 4, 4),
         (b"repeat 2\nphase\n", 4, 4),
         (b"repeat 2\nrepeat 0\n", 4, 4),

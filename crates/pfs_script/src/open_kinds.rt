@@ -1,10 +1,11 @@
 //! How many events of each kind are open.
 
-ghost use Rattle.std.specs.Prelude.{◌≡◌, ◌≤◌, ◌<◌, ◌+◌, ◌^◌, ◌==◌, ◌&&◌, not, [], true};
+ghost use Rattle.std.specs.Prelude.{◌≡◌, ◌≤◌, ◌<◌, ◌+◌, ◌^◌, ◌==◌, ◌&&◌, ◌||◌, not, [], true, false, is_some};
+ghost use Rattle.pfs_script.specs.Sessions.{is_quit};
 ghost use Rattle.pfs_script.specs.Marks.{Ends};
-ghost use Rattle.pfs_script.specs.Brackets.{is_in_statement, kinds_behind, may_stand};
+ghost use Rattle.pfs_script.specs.Brackets.{innermost, is_in_statement, kinds_behind, may_stand};
 ghost use Rattle.pfs_script.specs.Next.{mark_of_form, same_kinds};
-ghost use Rattle.pfs_script.specs.Places.{kinds_in};
+ghost use Rattle.pfs_script.specs.Places.{kinds_in, no_session};
 
 use crate::forms::Form;
 
@@ -24,6 +25,8 @@ pub fn nothing_open() -> OpenKinds
     ensures inside { result.has_stage ≡ true → 1 ≤ result.statements }
     ensures waits { result.waits ≡ 0 }
     ensures statements { result.statements ≡ 0 }
+    ensures has_stage { result.has_stage ≡ false }
+    ensures has_transaction { result.has_transaction ≡ false }
 {
     OpenKinds {
         waits: 0,
@@ -42,8 +45,9 @@ impl OpenKinds {
     }
 
     /// Whether nothing is open.
-    fn is_empty(&self) -> bool
-        ensures { result ≡ (self.now.waits == 0 && not self.now.has_stage && self.now.statements == 0 && not self.now.has_transaction) }
+    pub fn is_empty(&self) -> bool
+        ensures value { result ≡ (self.now.waits == 0 && not self.now.has_stage && self.now.statements == 0 && not self.now.has_transaction) }
+        ensures none { result ≡ not (is_some (innermost (kinds_in self.now))) }
     {
         self.waits == 0 && !self.has_stage && self.statements == 0 && !self.has_transaction
     }
@@ -69,11 +73,9 @@ impl OpenKinds {
         }
     }
 
-    /// The events that are open behind the line.
+    /// The events that are open behind the line. Numbers past 2^64 - 1 stay there.
     pub fn pass(&mut self, line: &Form)
-        requires waits { self.old.waits < 2 ^ 63 }
-        requires statements { self.old.statements < 2 ^ 63 }
-        ensures kinds { may_stand (kinds_in self.old) (mark_of_form line.now) ≡ true → (self.old.has_stage ≡ true → 1 ≤ self.old.statements)
+        ensures kinds { self.old.waits < 2 ^ 63 → self.old.statements < 2 ^ 63 → may_stand (kinds_in self.old) (mark_of_form line.now) ≡ true → (self.old.has_stage ≡ true → 1 ≤ self.old.statements)
             → kinds_in self.new ≡ kinds_behind (mark_of_form line.now) (kinds_in self.old) }
         ensures inside { may_stand (kinds_in self.old) (mark_of_form line.now) ≡ true → (self.old.has_stage ≡ true → 1 ≤ self.old.statements)
             → self.new.has_stage ≡ true → 1 ≤ self.new.statements }
@@ -81,8 +83,8 @@ impl OpenKinds {
         ensures statements { self.new.statements ≤ self.old.statements + 1 }
     {
         match line {
-            Form::Wait { .. } | Form::TableWait { .. } => self.waits += 1,
-            Form::Statement { .. } => self.statements += 1,
+            Form::Wait { .. } | Form::TableWait { .. } => self.waits = self.waits.saturating_add(1),
+            Form::Statement { .. } => self.statements = self.statements.saturating_add(1),
             Form::Transaction { .. } => self.has_transaction = true,
             Form::Stage { .. } => self.has_stage = true,
             Form::StageEnd => self.has_stage = false,
@@ -108,5 +110,42 @@ impl OpenKinds {
         } else {
             self.has_transaction = false;
         }
+    }
+}
+
+/// What is known of a session behind its lines so far.
+#[derive(Clone, Copy)]
+pub struct SessionState {
+    /// It has had a block.
+    pub has_begun: bool,
+    pub has_quit: bool,
+    pub events: OpenKinds,
+}
+
+/// The state of a session without a line.
+pub fn no_session() -> SessionState
+    ensures { result ≡ no_session }
+{
+    SessionState {
+        has_begun: false,
+        has_quit: false,
+        events: nothing_open(),
+    }
+}
+
+impl SessionState {
+    /// The state behind one more line of its block.
+    pub fn pass(&mut self, line: &Form)
+        ensures begun { self.new.has_begun ≡ self.old.has_begun }
+        ensures quits { self.new.has_quit ≡ (self.old.has_quit || is_quit line.now) }
+        ensures kinds { self.old.events.waits < 2 ^ 63 → self.old.events.statements < 2 ^ 63 → may_stand (kinds_in self.old.events) (mark_of_form line.now) ≡ true → (self.old.events.has_stage ≡ true → 1 ≤ self.old.events.statements)
+            → kinds_in self.new.events ≡ kinds_behind (mark_of_form line.now) (kinds_in self.old.events) }
+        ensures inside { may_stand (kinds_in self.old.events) (mark_of_form line.now) ≡ true → (self.old.events.has_stage ≡ true → 1 ≤ self.old.events.statements)
+            → self.new.events.has_stage ≡ true → 1 ≤ self.new.events.statements }
+        ensures waits { self.new.events.waits ≤ self.old.events.waits + 1 }
+        ensures statements { self.new.events.statements ≤ self.old.events.statements + 1 }
+    {
+        self.has_quit = self.has_quit || matches!(line, Form::Quit);
+        self.events.pass(line);
     }
 }

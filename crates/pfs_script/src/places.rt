@@ -1,16 +1,18 @@
 //! What the lines so far allow next.
 
-ghost use Rattle.std.specs.Prelude.{◌≡◌, ◌≤◌, ◌<◌, ◌^◌, List, ◌∷◌, ◌++◌, [], true, None};
+ghost use Rattle.std.specs.Prelude.{◌≡◌, ◌≤◌, List, ◌∷◌, ◌++◌, [], None};
 ghost use Rattle.pfs_script.specs.declared.forms.Form.{Form};
 ghost use Rattle.pfs_script.specs.Headings.{head_of};
-ghost use Rattle.pfs_script.specs.Next.{is_built, is_built_limit, has_bad_number, is_no_count, is_out_of_place, is_bad_number, is_unknown, is_not_built_here, is_event_class, fault_of, least_reason};
+ghost use Rattle.pfs_script.specs.Built.{is_built, is_built_limit, is_read};
+ghost use Rattle.pfs_script.specs.declared.reasons.Extent.{Extent};
+ghost use Rattle.pfs_script.specs.Next.{has_bad_number, is_no_count, is_out_of_place, is_bad_number, is_unknown, is_event_class, is_let_in, fault_of, least_reason};
 ghost use Rattle.pfs_script.specs.Places.{Knows};
 
 use crate::courses::{Course, no_course};
 use crate::forms::{Form, Number, Numbers};
 use crate::fronts::{Front, no_front};
 use crate::heading::{Heading, find_consumer, find_limit};
-use crate::reasons::Reason;
+use crate::reasons::{Extent, Reason};
 use crate::totals::{Totals, no_lines};
 use pfs_rows::Limit;
 
@@ -34,12 +36,13 @@ pub fn start() -> Place
 }
 
 impl Place {
-    /// Why the line may not stand behind the lines so far: the least reason, or none.
+    /// Why the line may not stand behind the lines so far: the least reason, or none. One that isn't let
+    /// in is tested for nothing else.
     #[tactic(auto, unfolding(crate::specs::Next::fault_of))]
-    pub fn fault(&self, heading: &Heading, line: &Form) -> Option<Reason>
-        ensures { (before : List Form) → Knows self.now before → heading.now ≡ head_of before → result ≡ fault_of before line.now }
+    pub fn fault(&self, extent: Extent, heading: &Heading, line: &Form) -> Option<Reason>
+        ensures { (before : List Form) → Knows self.now before → heading.now ≡ head_of before → result ≡ fault_of extent before line.now }
     {
-        if is_built(line) {
+        if self.is_let_in(extent, line) {
             self.least_reason(heading, line)
         } else {
             Some(Reason::NotBuilt)
@@ -48,7 +51,6 @@ impl Place {
 
     #[tactic(auto, unfolding(crate::specs::Next::least_reason))]
     fn least_reason(&self, heading: &Heading, line: &Form) -> Option<Reason>
-        requires { is_built line.now ≡ true }
         ensures { (before : List Form) → Knows self.now before → heading.now ≡ head_of before → result ≡ least_reason before line.now }
     {
         if self.is_out_of_place(line) {
@@ -67,8 +69,6 @@ impl Place {
             Some(Reason::TooLong)
         } else if self.totals.is_too_much(line) {
             Some(Reason::TooMuch)
-        } else if self.is_not_built_here(line) {
-            Some(Reason::NotBuilt)
         } else {
             None
         }
@@ -76,15 +76,49 @@ impl Place {
 
     /// The place behind one more line.
     pub fn pass(&mut self, line: &Form)
-        requires blocks { self.old.course.blocks ≤ 32 }
-        requires waits { self.old.course.events.waits < 2 ^ 63 }
-        requires statements { self.old.course.events.statements < 2 ^ 63 }
+        requires phases { self.old.totals.phases ≤ 64 }
         requires classes { self.old.totals.classes ≤ 256 }
-        ensures { (before : List Form) → Knows self.old before → fault_of before line.now ≡ None → Knows self.new (before ++ line.now ∷ []) }
+        requires selects { self.old.totals.selects ≤ 256 }
+        ensures { (extent : Extent) (before : List Form) → Knows self.old before → fault_of extent before line.now ≡ None → Knows self.new (before ++ line.now ∷ []) }
     {
         self.front.pass(line);
         self.course.pass(line);
         self.totals.pass(line);
+    }
+
+    fn is_let_in(&self, extent: Extent, line: &Form) -> bool
+        ensures { (before : List Form) → Knows self.now before → result ≡ is_let_in extent before line.now }
+    {
+        match extent {
+            Extent::Whole => is_read(line),
+            Extent::Built => self.is_built(line),
+        }
+    }
+
+    // Whether the engine runs the line.
+    fn is_built(&self, line: &Form) -> bool
+        ensures { (before : List Form) → Knows self.now before → result ≡ is_built before line.now }
+    {
+        match line {
+            Form::Limit { name, .. } => is_built_limit(find_limit(name.bytes())),
+            Form::Statement { text, .. } => text.bytes().is_empty(),
+            Form::Phase => !self.front.has_phase,
+            Form::Connect { .. } => self.course.has_room(),
+            Form::Silent
+            | Form::Class { .. }
+            | Form::Consumer { .. }
+            | Form::Instrument { .. }
+            | Form::Wait { .. }
+            | Form::Transaction { .. }
+            | Form::Stage { .. }
+            | Form::StageEnd
+            | Form::Spend { .. }
+            | Form::End
+            | Form::EndStatement { .. }
+            | Form::Repeat { .. }
+            | Form::Done => true,
+            _ => false,
+        }
     }
 
     fn is_out_of_place(&self, line: &Form) -> bool
@@ -95,55 +129,37 @@ impl Place {
             Form::Class { .. } | Form::Consumer { .. } | Form::Instrument { .. } => {
                 self.front.has_phase
             }
-            Form::Connect { .. } => !self.front.has_phase || self.course.is_in_repeat(),
+            Form::Connect { .. } | Form::Resume { .. } => {
+                !self.front.has_phase || self.course.is_in_repeat()
+            }
             Form::Phase => self.course.is_in_repeat(),
-            Form::Repeat { .. } => self.course.has_no_block() || self.course.is_in_repeat(),
+            Form::Repeat { .. } | Form::Quit => {
+                self.course.has_no_block() || self.course.is_in_repeat()
+            }
             Form::Done => !self.course.is_in_repeat(),
             Form::Wait { .. }
+            | Form::TableWait { .. }
             | Form::Statement { .. }
             | Form::Transaction { .. }
             | Form::Stage { .. }
             | Form::StageEnd
             | Form::Spend { .. }
             | Form::End
-            | Form::EndStatement { .. } => self.course.has_no_block(),
+            | Form::EndStatement { .. }
+            | Form::Sql { .. } => self.course.has_no_block(),
             _ => false,
-        }
-    }
-
-    fn is_not_built_here(&self, line: &Form) -> bool
-        ensures { (before : List Form) → Knows self.now before → result ≡ is_not_built_here before line.now }
-    {
-        match line {
-            Form::Phase => self.front.has_phase,
-            _ => self.course.is_not_built_here(line),
         }
     }
 }
 
-// Whether the line's form is built.
-fn is_built(line: &Form) -> bool
-    ensures { result ≡ is_built line.now }
+// Whether the line is read at all.
+fn is_read(line: &Form) -> bool
+    ensures { result ≡ is_read line.now }
 {
     match line {
-        Form::Limit { name, .. } => is_built_limit(find_limit(name.bytes())),
+        Form::TableWait { .. } => false,
         Form::Statement { text, .. } => text.bytes().is_empty(),
-        Form::Silent
-        | Form::Class { .. }
-        | Form::Consumer { .. }
-        | Form::Instrument { .. }
-        | Form::Phase
-        | Form::Connect { .. }
-        | Form::Wait { .. }
-        | Form::Transaction { .. }
-        | Form::Stage { .. }
-        | Form::StageEnd
-        | Form::Spend { .. }
-        | Form::End
-        | Form::EndStatement { .. }
-        | Form::Repeat { .. }
-        | Form::Done => true,
-        _ => false,
+        _ => true,
     }
 }
 
@@ -175,6 +191,7 @@ fn is_bad_number(line: &Form) -> bool
     match line {
         Form::Limit { value, .. } => value.is_none(),
         Form::Connect { session, .. } => session.is_none(),
+        Form::Resume { session } => session.is_none(),
         Form::Spend { time } => time.is_none(),
         Form::EndStatement { numbers } => has_bad_number(numbers),
         Form::Repeat { times } => is_no_count(*times),
@@ -209,9 +226,11 @@ fn is_unknown(heading: &Heading, line: &Form) -> bool
     ensures { (before : List Form) → heading.now ≡ head_of before → result ≡ is_unknown before line.now }
 {
     match line {
+        Form::Limit { name, .. } => find_limit(name.bytes()).is_none(),
         Form::Class { name, kind, .. } => kind.is_fixed() || heading.is_known(name.bytes()),
         Form::Consumer { name, .. } => find_consumer(name.bytes()).is_none(),
-        Form::Wait { class } | Form::Statement { class, .. } | Form::Stage { class } => {
+        Form::Wait { class } | Form::Stage { class } => !is_event_class(heading, class.bytes()),
+        Form::TableWait { class, .. } | Form::Statement { class, .. } => {
             !is_event_class(heading, class.bytes())
         }
         _ => false,

@@ -8,13 +8,15 @@ ghost use Rattle.pfs_script.specs.Headings.{head_of};
 ghost use Rattle.pfs_script.specs.Next.{next};
 ghost use Rattle.pfs_script.specs.Places.{Knows};
 ghost use Rattle.pfs_script.specs.Scripts.{parts_of, open_reason};
+ghost use Rattle.pfs_script.specs.declared.reasons.Extent.TheVariants.{Whole, Built};
 ghost use Rattle.pfs_script.specs.Readings.{Reads, Gives};
+ghost use Rattle.pfs_script.specs.Runnable.{IsRunnable};
 
 use crate::building::phases;
 use crate::forms::{Form, parse_line};
 use crate::heading::Heading;
 use crate::places::{Place, start};
-use crate::reasons::Reason;
+use crate::reasons::{Extent, Reason};
 use crate::scripts::Script;
 use crate::words::is_clean;
 use std::alloc::Global;
@@ -39,32 +41,52 @@ impl Script {
     /// The script that these bytes are; else the first faulty line, counted from 1, with its least
     /// reason. The rules are our own; the names, classes and limits are MySQL's. One pass over the bytes.
     pub fn read(alloc: Global, bytes: &[u8]) -> Result<Script, ScriptFault>
-        ensures { Gives bytes.now result }
+        ensures { Gives Whole bytes.now result }
     {
-        let reading = match read_lines(alloc, bytes) {
-            Ok(reading) => reading,
-            Err(fault) => return Err(fault),
-        };
-        let phases = match phases(alloc, &reading.heading, reading.lines.as_slice()) {
-            Ok(phases) => phases,
-            Err(_) => return Err(ScriptFault::NoMemory),
-        };
-        let setting = reading.heading.into_setting(alloc);
-        Ok(Script { setting, phases })
+        read_script(alloc, Extent::Whole, bytes)
     }
+
+    /// The same for a script that the engine runs: the first line that it doesn't run yet is refused with
+    /// NotBuilt, where no line before it is faulty.
+    pub fn read_built(alloc: Global, bytes: &[u8]) -> Result<Script, ScriptFault>
+        ensures gives { Gives Built bytes.now result }
+        ensures runs { IfOk result (λ script. IsRunnable (length script.setting.classes.classes) script.phases) }
+    {
+        read_script(alloc, Extent::Built, bytes)
+    }
+}
+
+fn read_script(alloc: Global, extent: Extent, bytes: &[u8]) -> Result<Script, ScriptFault>
+    ensures { Gives extent bytes.now result }
+{
+    let reading = match read_lines(alloc, extent, bytes) {
+        Ok(reading) => reading,
+        Err(fault) => return Err(fault),
+    };
+    let phases = match phases(alloc, &reading.heading, reading.lines.as_slice()) {
+        Ok(phases) => phases,
+        Err(_) => return Err(ScriptFault::NoMemory),
+    };
+    let setting = reading.heading.into_setting(alloc);
+    Ok(Script { setting, phases })
 }
 
 /// What the line says, where it may follow the lines so far; else its least reason.
 #[tactic(auto, unfolding(crate::specs::Next::next))]
-fn read_line<'a>(place: &Place, heading: &Heading, bytes: &'a [u8]) -> Result<Form<'a>, Reason>
-    ensures says { (before : List Form) → Knows place.now before → heading.now ≡ head_of before → result ≡ next before bytes.now }
+fn read_line<'a>(
+    place: &Place,
+    extent: Extent,
+    heading: &Heading,
+    bytes: &'a [u8],
+) -> Result<Form<'a>, Reason>
+    ensures says { (before : List Form) → Knows place.now before → heading.now ≡ head_of before → result ≡ next extent before bytes.now }
     ensures kind { IfOk result HasItsKind }
 {
     let line = match parse_line(bytes) {
         Ok(line) => line,
         Err(reason) => return Err(reason),
     };
-    match place.fault(heading, &line) {
+    match place.fault(extent, heading, &line) {
         Some(reason) => Err(reason),
         None => Ok(line),
     }
@@ -112,8 +134,8 @@ fn bad(count: usize, reason: Reason) -> ScriptFault
 }
 
 /// All lines, in one pass.
-fn read_lines(alloc: Global, bytes: &[u8]) -> Result<Reading, ScriptFault>
-    ensures { Reads bytes.now result }
+fn read_lines(alloc: Global, extent: Extent, bytes: &[u8]) -> Result<Reading, ScriptFault>
+    ensures { Reads extent bytes.now result }
 {
     let mut lines = Vec::new(alloc);
     let mut place = start();
@@ -123,7 +145,7 @@ fn read_lines(alloc: Global, bytes: &[u8]) -> Result<Reading, ScriptFault>
     };
     let mut rest = bytes;
     while let Some((line, after)) = split_line(rest) {
-        let line = match read_line(&place, &heading, line) {
+        let line = match read_line(&place, extent, &heading, line) {
             Ok(line) => line,
             Err(reason) => return Err(bad(lines.len(), reason)),
         };

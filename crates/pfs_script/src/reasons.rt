@@ -14,9 +14,10 @@ pub enum Reason {
     OutOfPlace = 4,
     /// A number is over 2^64 - 1, or a repeat runs no time.
     BadNumber = 5,
-    /// The session's number isn't 1 to 64, or its block is a second one of the phase.
+    /// The session's number isn't 1 to 64; its block is a second one of the phase, or stands behind its
+    /// `quit`; or names are missing at its first block or given at a later one.
     BadSession = 6,
-    /// There is no class or consumer of the name, or a class of it may not be registered.
+    /// There is no limit, class or consumer of the name, or a class of it may not be registered.
     UnknownName = 7,
     /// A limit's value is outside its range, or the limit was given before.
     BadLimit = 8,
@@ -24,9 +25,17 @@ pub enum Reason {
     BadNesting = 9,
     /// With this line there are more lines than a script may have; a repeat counts in full at its `done`.
     TooLong = 11,
-    /// With this line a script has more classes, or more weight, than it may have; a repeat weighs in
-    /// full at its `done`.
+    /// With this line a script has more phases, classes or SELECTs, or more weight, than it may have; a
+    /// repeat weighs in full at its `done`.
     TooMuch = 12,
-    /// The form isn't built yet.
+    /// The engine doesn't run the line yet.
     NotBuilt = 13,
+}
+
+/// What is read as a script: all that is one, or what the engine runs so far. A line that isn't let in is
+/// tested for nothing but its bytes and its form.
+#[derive(Clone, Copy, Debug, PartialEq, Eq)]
+pub enum Extent {
+    Whole,
+    Built,
 }

@@ -8,7 +8,16 @@ use std::test::Fail;
 
 /// The first faulty line and its reason's number; zeros where the bytes are a script.
 fn fault(alloc: Global, bytes: &[u8]) -> Option<(u64, u64)> {
-    match Script::read(alloc, bytes) {
+    told(Script::read(alloc, bytes))
+}
+
+/// The same where the engine is to run the script.
+fn built_fault(alloc: Global, bytes: &[u8]) -> Option<(u64, u64)> {
+    told(Script::read_built(alloc, bytes))
+}
+
+fn told(read: Result<Script, ScriptFault>) -> Option<(u64, u64)> {
+    match read {
         Ok(_) => Some((0, 0)),
         Err(ScriptFault::Bad { line, reason }) => Some((line, reason as u64)),
         Err(ScriptFault::NoMemory) => None,
@@ -120,7 +129,7 @@ fn faults_of_places_and_numbers(rt: HostRuntime) {
 
 #[test]
 fn faults_of_names_and_limits(rt: HostRuntime) {
-    let cases: [(&[u8], u64, u64); 17] = [
+    let cases: [(&[u8], u64, u64); 19] = [
         (b"phase\nsession 1 u h\nstart wait/io/file/a/b\n", 3, 7),
         (b"consumer no_such YES\n", 1, 7),
         (b"class wait/io/file/sql/binlog YES YES\n", 1, 7),
@@ -156,15 +165,100 @@ fn faults_of_names_and_limits(rt: HostRuntime) {
             5,
             9,
         ),
-        (b"phase\nphase\n", 2, 13),
-        (b"limit users 99\n", 1, 13),
+        (b"limit no_such 1\n", 1, 7),
+        (b"limit hosts 33\n", 1, 8),
+        (b"limit digests 65\n", 1, 8),
+        (
+            b"phase\nsession 1 u h\nstart statement/sql/select\nquit\n",
+            4,
+            9,
+        ),
+    ];
+    expect_all(&rt, rt.alloc(), cases.as_slice());
+}
+
+#[test]
+fn blocks_of_a_session(rt: HostRuntime) {
+    let cases: [(&[u8], u64, u64); 16] = [
+        (b"phase\nsession 1\n", 2, 6),
+        (b"phase\nsession 1 u h\nphase\nsession 1 u h\n", 4, 6),
+        (b"phase\nsession 1 u h\nsession 2 u h\nsession 1\n", 4, 6),
+        (
+            b"phase\nsession 1 u h\nquit\nphase\nsession 2 u h\nsession 1\n",
+            6,
+            6,
+        ),
+        (b"phase\nsession 1 u h\nphase\nsession 1\nspend 1\n", 0, 0),
+        (b"phase\nsession 18446744073709551616\n", 2, 5),
+        (b"phase\nsession 65\n", 2, 6),
+        (b"session 1\n", 1, 4),
+        (b"phase\nsession 1 u h\nquit\nspend 1\n", 4, 4),
+        (b"phase\nsession 1 u h\nquit\nquit\n", 4, 4),
+        (b"phase\nquit\n", 2, 4),
+        (b"phase\nsession 1 u h\nphase\nspend 1\n", 4, 4),
+        (b"phase\nsession 1 u h\nrepeat 1\nphase\n", 4, 4),
+        (
+            b"phase\nsession 1 u h\nstart wait/io/file/sql/binlog\nphase\nsession 2 u h\nsession 1\nend\nend\n",
+            8,
+            9,
+        ),
+        (
+            b"phase\nsession 1 u h\nstart wait/io/file/sql/binlog\nphase\nsession 2 u h\nsession 1\nquit\n",
+            7,
+            9,
+        ),
+        (
+            b"phase\nsession 1 u h\nstart statement/sql/select\nphase\nsession 1\nstage stage/sql/init\nphase\nsession 1\nend 1 2 3 4 5 6\nquit\n",
+            0,
+            0,
+        ),
+    ];
+    expect_all(&rt, rt.alloc(), cases.as_slice());
+}
+
+#[test]
+fn the_heaviest_repeats(rt: HostRuntime) {
+    let cases: [(&[u8], u64, u64); 6] = [
+        (
+            b"phase\nsession 1 u h\nrepeat 249\nsql TRUNCATE threads\ndone\n",
+            0,
+            0,
+        ),
+        (
+            b"phase\nsession 1 u h\nrepeat 250\nsql  \ttruncate\ndone\n",
+            5,
+            12,
+        ),
+        (
+            b"phase\nsession 1 u h\nrepeat 16632\nsql UPDATE x\ndone\n",
+            0,
+            0,
+        ),
+        (
+            b"phase\nsession 1 u h\nrepeat 16633\nsql UPDATE x\ndone\n",
+            5,
+            12,
+        ),
+        (
+            b"phase\nsession 1 u h\nrepeat 498\nsql select\ndone\n",
+            0,
+            0,
+        ),
+        (
+            b"phase\nsession 1 u h\nrepeat 499\nsql select\ndone\n",
+            5,
+            12,
+        ),
     ];
     expect_all(&rt, rt.alloc(), cases.as_slice());
 }
 
 #[test]
 fn forms_that_are_not_built(rt: HostRuntime) {
-    let cases: [(&[u8], u64, u64); 7] = [
+    let cases: [(&[u8], u64, u64); 10] = [
+        (b"phase\nphase\n", 2, 13),
+        (b"limit users 99\n", 1, 13),
+        (b"phase\nsession 1 u h\nend\nquit\n", 3, 9),
         (b"limit no_such 18446744073709551616\n", 1, 13),
         (b"start statement/sql/select SELECT 1\n", 1, 13),
         (b"start wait/io/table/sql/handler a.b\n", 1, 13),
@@ -173,7 +267,9 @@ fn forms_that_are_not_built(rt: HostRuntime) {
         (b"session 99\n", 1, 13),
         (b"phase\nsession 1 u h\nrepeat 2\nquit\n", 4, 13),
     ];
-    expect_all(&rt, rt.alloc(), cases.as_slice());
+    for (bytes, line, reason) in &cases {
+        assert_eq!(rt; built_fault(rt.alloc(), bytes), Some((*line, *reason)));
+    }
 }
 
 /// Such a line so many times, behind these lines.
@@ -218,9 +314,22 @@ fn the_most_of_each(rt: HostRuntime) -> Result<(), Fail> {
     let lines = classes(alloc, 257)?;
     assert_eq!(rt; fault(alloc, lines.as_slice()), Some((257, 12)));
     let lines = sessions(alloc, 32)?;
-    assert_eq!(rt; fault(alloc, lines.as_slice()), Some((0, 0)));
+    assert_eq!(rt; built_fault(alloc, lines.as_slice()), Some((0, 0)));
     let lines = sessions(alloc, 33)?;
-    assert_eq!(rt; fault(alloc, lines.as_slice()), Some((34, 13)));
+    assert_eq!(rt; built_fault(alloc, lines.as_slice()), Some((34, 13)));
+    let lines = sessions(alloc, 64)?;
+    assert_eq!(rt; fault(alloc, lines.as_slice()), Some((0, 0)));
+    let lines = sessions(alloc, 65)?;
+    assert_eq!(rt; fault(alloc, lines.as_slice()), Some((66, 6)));
+    let lines = many(alloc, b"", b"phase\n", 64)?;
+    assert_eq!(rt; fault(alloc, lines.as_slice()), Some((0, 0)));
+    let lines = many(alloc, b"", b"phase\n", 65)?;
+    assert_eq!(rt; fault(alloc, lines.as_slice()), Some((65, 12)));
+    let select = b"sql  seLECT 1\n".as_slice();
+    let lines = many(alloc, b"phase\nsession 1 u h\n", select, 256)?;
+    assert_eq!(rt; fault(alloc, lines.as_slice()), Some((0, 0)));
+    let lines = many(alloc, b"phase\nsession 1 u h\n", select, 257)?;
+    assert_eq!(rt; fault(alloc, lines.as_slice()), Some((259, 12)));
     Ok(())
 }
 

@@ -160,6 +160,8 @@ subject_mark (lines.Transaction access) subject is = let k : subject.kind ≡ ki
 subject_mark (lines.Stage class) subject is = let k : subject.kind ≡ kinds.Stage = cc in (ap Opens (sym k), refl)
 subject_mark lines.StageEnd subject is = absurd (cc)
 subject_mark (lines.Spend time) subject is = absurd (cc)
+subject_mark (lines.Sql text) subject is = absurd (cc)
+subject_mark lines.Quit subject is = absurd (cc)
 subject_mark lines.End subject is = absurd (cc)
 subject_mark (lines.EndStatement numbers) subject is = absurd (cc)
 subject_mark (lines.Repeat times) subject is = absurd (cc)
@@ -172,6 +174,8 @@ no_subject (lines.Transaction access) place is = absurd (cc)
 no_subject (lines.Stage class) place is = absurd (cc)
 no_subject lines.StageEnd place is = refl
 no_subject (lines.Spend time) place is = refl
+no_subject (lines.Sql text) place is = refl
+no_subject lines.Quit place is = refl
 no_subject lines.End place is = refl
 no_subject (lines.EndStatement numbers) place is = refl
 no_subject (lines.Repeat times) place is = refl

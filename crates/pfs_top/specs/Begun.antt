@@ -38,6 +38,8 @@ marks_of earlier = reverse (map mark_of earlier)
 abbrev pub time_of : BlockLine → ℕ
 time_of (lines.Spend time) = time
 time_of (lines.Wait class) = 0
+time_of (lines.Sql text) = 0
+time_of lines.Quit = 0
 time_of (lines.Statement class) = 0
 time_of (lines.Transaction access) = 0
 time_of (lines.Stage class) = 0
@@ -59,6 +61,8 @@ subject_of (lines.Transaction access) = Some (record { kind = kinds.Transaction;
 subject_of (lines.Stage class) = Some (record { kind = kinds.Stage; class = class; read_only = false })
 subject_of lines.StageEnd = None
 subject_of (lines.Spend time) = None
+subject_of (lines.Sql text) = None
+subject_of lines.Quit = None
 subject_of lines.End = None
 subject_of (lines.EndStatement numbers) = None
 subject_of (lines.Repeat times) = None

@@ -1,5 +1,5 @@
 -- What the block in a place of a phase asks for.
-use Rattle.std.specs.Prelude.{ℕ, List, [], take}
+use Rattle.std.specs.Prelude.{ℕ, List, [], take, None}
 use Rattle.std.specs.List.{slice_index_or}
 use Rattle.pfs_classes.specs.declared.setting.Setting.{Setting}
 use Rattle.pfs_event.specs.declared.entry.Entry.{Entry}
@@ -10,7 +10,7 @@ use Rattle.pfs_top.specs.Runs.{all_events, played}
 
 -- the block, or an empty one where there is none
 abbrev pub no_block : Block
-no_block = record { session = 0; lines = [] }
+no_block = record { session = 0; connect = None; lines = [] }
 
 abbrev pub block_at : List Block → ℕ → Block
 block_at blocks place = slice_index_or blocks place no_block

@@ -10,40 +10,40 @@ pub returns-in-Err-read_line : goal.returns-in-Err-read_line
 returns-in-Err-read_line c =
     let i = rw c.in-Some.ensures.0 at c.loop-line.invariant.rest in
     let says = c.in-Err-read_line.ensures.says c.loop-line.lines.items c.loop-line.invariant.place c.loop-line.invariant.head in
-    rw c.bad.ensures (sym i ∙ says_fault c.loop-line.lines.items c.in-Some.line.now _ c.in-Err-read_line.reason _ (omega (arith, c.loop-line.lines.ok)) (some_parts _ c.in-Some.after.now) (sym says))
+    rw c.bad.ensures (sym i ∙ says_fault c.args.extent c.loop-line.lines.items c.in-Some.line.now _ c.in-Err-read_line.reason _ (omega (arith, c.loop-line.lines.ok)) (some_parts _ c.in-Some.after.now) (sym says))
 
 pub pass-requires : goal.pass-requires
 pass-requires c =
     let says = c.in-Ok-read_line.ensures.says c.loop-line.lines.items c.loop-line.invariant.place c.loop-line.invariant.head in
-    let none = next_none c.loop-line.lines.items c.in-Some.line.now c.in-Ok-read_line.line (sym says) in
-    rw c.loop-line.invariant.head (may_come c.loop-line.lines.items c.in-Ok-read_line.line (passes c.loop-line.lines.items c.in-Ok-read_line.line none) c.in-Ok-read_line.ensures.kind)
+    let none = next_none c.args.extent c.loop-line.lines.items c.in-Some.line.now c.in-Ok-read_line.line (sym says) in
+    rw c.loop-line.invariant.head (may_come c.args.extent c.loop-line.lines.items c.in-Ok-read_line.line (passes c.args.extent c.loop-line.lines.items c.in-Ok-read_line.line none) c.in-Ok-read_line.ensures.kind)
 
 pub loop-line-preserved : goal.loop-line-preserved
 loop-line-preserved c =
     let i = rw c.in-Some.ensures.0 at c.loop-line.invariant.rest in
     let says = c.in-Ok-read_line.ensures.says c.loop-line.lines.items c.loop-line.invariant.place c.loop-line.invariant.head in
-    let none = next_none c.loop-line.lines.items c.in-Some.line.now c.in-Ok-read_line.line (sym says) in
-    let more = says_line c.loop-line.lines.items c.in-Some.line.now _ c.in-Ok-read_line.line (some_parts _ c.in-Some.after.now) (sym says) in
-    let knows = c.pass-in-Some.ensures c.loop-line.lines.items c.loop-line.invariant.place none in
-    let head = c.in-Ok-pass.ensures c.loop-line.lines.items (stands_in c.loop-line.lines.items c.in-Ok-read_line.line (passes c.loop-line.lines.items c.in-Ok-read_line.line none)) c.loop-line.invariant.head in
+    let none = next_none c.args.extent c.loop-line.lines.items c.in-Some.line.now c.in-Ok-read_line.line (sym says) in
+    let more = says_line c.args.extent c.loop-line.lines.items c.in-Some.line.now _ c.in-Ok-read_line.line (some_parts _ c.in-Some.after.now) (sym says) in
+    let knows = c.pass-in-Some.ensures c.args.extent c.loop-line.lines.items c.loop-line.invariant.place none in
+    let head = c.in-Ok-pass.ensures c.loop-line.lines.items (stands_in c.args.extent c.loop-line.lines.items c.in-Ok-read_line.line (passes c.args.extent c.loop-line.lines.items c.in-Ok-read_line.line none)) c.loop-line.invariant.head in
     rw c.in-Ok-push.ensures.items (record { rest = sym more ∙ i; place = knows; head = head })
 
 pub returns-then-not-is_empty : goal.returns-then-not-is_empty
 returns-then-not-is_empty c =
     let i = rw c.in_default.ensures at c.loop-line.invariant.rest in
     let some : 0 < length c.loop-line.rest.now = grind (arith, nat_tests, c.if-not-is_empty.ensures) in
-    rw (c.bad-then-not-is_empty.ensures, c.open_reason.ensures) (sym i ∙ says_open c.loop-line.lines.items c.loop-line.rest.now _ (omega (arith, c.loop-line.lines.ok)) some)
+    rw (c.bad-then-not-is_empty.ensures, c.open_reason.ensures) (sym i ∙ says_open c.args.extent c.loop-line.lines.items c.loop-line.rest.now _ (omega (arith, c.loop-line.lines.ok)) some)
 
 pub returns-then-is_in_repeat : goal.returns-then-is_in_repeat
 returns-then-is_in_repeat c =
     let i = rw c.in_default.ensures at c.loop-line.invariant.rest in
     let none : length c.loop-line.rest.now ≡ 0 = grind (arith, nat_tests, c.if-not-is_empty.ensures) in
     let undone = c.if-is_in_repeat.ensures c.loop-line.lines.items c.loop-line.invariant.place.course in
-    rw c.bad-then-is_in_repeat.ensures (sym i ∙ says_undone c.loop-line.lines.items c.loop-line.rest.now _ (omega (arith, c.loop-line.lines.ok)) none (sym undone))
+    rw c.bad-then-is_in_repeat.ensures (sym i ∙ says_undone c.args.extent c.loop-line.lines.items c.loop-line.rest.now _ (omega (arith, c.loop-line.lines.ok)) none (sym undone))
 
 pub returns : goal.returns
 returns c =
     let i = rw c.in_default.ensures at c.loop-line.invariant.rest in
     let none : length c.loop-line.rest.now ≡ 0 = grind (arith, nat_tests, c.if-not-is_empty.ensures) in
     let done = c.if-is_in_repeat.ensures c.loop-line.lines.items c.loop-line.invariant.place.course in
-    (sym i ∙ says_all c.loop-line.lines.items c.loop-line.rest.now none (sym done), c.loop-line.invariant.head)
+    (sym i ∙ says_all c.args.extent c.loop-line.lines.items c.loop-line.rest.now none (sym done), c.loop-line.invariant.head)

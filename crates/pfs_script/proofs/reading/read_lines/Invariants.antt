@@ -6,7 +6,7 @@ use Rattle.pfs_script.proofs.reading.read_lines.Given as goal
 
 abbrev pub invariant-loop-line : goal.invariant-loop-line
 invariant-loop-line l = record {
-  rest : lines_from l.lines.items (parts_of l.rest) ≡ script_of l.fn.bytes;
+  rest : lines_from l.extent l.lines.items (parts_of l.rest) ≡ script_of l.extent l.fn.bytes;
   place : Knows l.place l.lines.items;
   head : l.heading ≡ head_of l.lines.items;
 }
