@@ -9,7 +9,6 @@ use Rattle.pfs_script.specs.Next.{next}
 use Rattle.pfs_script.specs.Scripts.{parts_of, Begins, IsText, IsScript, IsFirstFault, IsSetting, AreAlike, IsBad, Fault, lines_from, script_of, open_reason, IsExact}
 use Rattle.pfs_classes.specs.declared.setting.Setting.{Setting}
 use Rattle.pfs_script.specs.declared.blocks.Phase.{Phase}
-use Rattle.pfs_script.specs.Headings.{Head, head_of}
 use Rattle.pfs_script.proofs.Splits.{some_parts}
 use Rattle.pfs_script.proofs.Steps.{says_line, says_fault, says_all, says_undone, says_open}
 
@@ -147,9 +146,9 @@ same_lines a b e = cc
 not_both : (a : List Form) (f : Fault) → ◌≡◌ {A = Result (List Form) Fault} (Ok a) (Err f) → ⊥
 not_both a f e = cc
 
--- two settings that are one head's
-alike : (head : Head) (a b : Setting) → IsSetting head a → IsSetting head b → AreAlike a b
-alike head a b s t = record {
+-- two settings of the same lines
+alike : (lines : List Form) (a b : Setting) → IsSetting lines a → IsSetting lines b → AreAlike a b
+alike lines a b s t = record {
   names = s.names ∙ sym t.names;
   classes = s.classes ∙ sym t.classes;
   tables = s.tables ∙ sym t.tables;
@@ -166,7 +165,7 @@ one_script : (extent : Extent) (text : List ℕ) (a b : Setting) (p q : List Pha
 unfolding IsScript
 one_script extent text a b p q s t =
     let e = same_lines s.0 t.0 (sym (text_is_found extent text s.0 s.1) ∙ text_is_found extent text t.0 t.1) in
-    (alike (head_of s.0) a b s.2 (subst (λ z. IsSetting (head_of z) b) (sym e) t.2), s.3 ∙ (rw e refl ∙ sym t.3))
+    (alike s.0 a b s.2 (subst (λ z. IsSetting z b) (sym e) t.2), s.3 ∙ (rw e refl ∙ sym t.3))
 
 pub exactly : IsExact
 exactly = record {

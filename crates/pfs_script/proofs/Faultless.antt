@@ -1,10 +1,10 @@
 -- What holds of a line that has no fault where it stands.
-use Rattle.std.proofs.Common.{◌≡◌, Bool, false, true, cond, List, Option, Some, None, refl}
+use Rattle.std.proofs.Common.{◌≡◌, Bool, false, true, ◌||◌, cond, List, Option, Some, None, refl}
 use Rattle.pfs_script.specs.declared.forms.Form.{Form}
 use Rattle.pfs_script.specs.declared.reasons.Extent.{Extent}
 use Rattle.pfs_script.specs.declared.reasons.Reason.{Reason}
-use Rattle.pfs_script.specs.declared.reasons.Reason.TheVariants.{OutOfPlace, BadNumber, BadSession, UnknownName, BadLimit, BadNesting, TooLong, TooMuch, NotBuilt}
-use Rattle.pfs_script.specs.Next.{is_let_in, is_out_of_place, is_bad_number, is_bad_session, is_unknown, is_bad_limit, is_bad_nesting, is_too_long, is_too_much, least_reason, fault_of}
+use Rattle.pfs_script.specs.declared.reasons.Reason.TheVariants.{OutOfPlace, BadNumber, BadSession, UnknownName, BadLimit, BadNesting, BadStatement, TooLong, TooMuch, NotBuilt}
+use Rattle.pfs_script.specs.Next.{is_let_in, is_out_of_place, is_bad_number, is_bad_session, is_unknown, is_bad_limit, is_bad_nesting, is_bad_statement, is_too_long, is_too_much, is_table_too_many, least_reason, fault_of}
 
 -- each test for a fault fails
 pub record Passes (extent : Extent) (before : List Form) (line : Form) : Type 0 where
@@ -16,7 +16,17 @@ pub record Passes (extent : Extent) (before : List Form) (line : Form) : Type 0 
   pub limit : is_bad_limit before line ≡ false
   pub nesting : is_bad_nesting before line ≡ false
   pub long : is_too_long before line ≡ false
+  pub statement : is_bad_statement line ≡ false
   pub much : is_too_much before line ≡ false
+  pub tables : is_table_too_many before line ≡ false
+
+first_false : (a b : Bool) → (a || b) ≡ false → a ≡ false
+first_false true b h = cc
+first_false false b h = refl
+
+second_false : (a b : Bool) → (a || b) ≡ false → b ≡ false
+second_false true b h = cc
+second_false false b h = h
 
 unless : (test : Bool) (reason : Reason) (rest : Option Reason) → cond test (Some reason) rest ≡ None → (test ≡ false) × (rest ≡ None)
 unless true reason rest h = cc
@@ -36,6 +46,7 @@ passes extent before line h =
     let e = unless (is_unknown before line) UnknownName _ d.1 in
     let f = unless (is_bad_limit before line) BadLimit _ e.1 in
     let g = unless (is_bad_nesting before line) BadNesting _ f.1 in
-    let i = unless (is_too_long before line) TooLong _ g.1 in
-    let j = unless (is_too_much before line) TooMuch _ i.1 in
-    record { let_in = a.0; place = b.0; number = c.0; session = d.0; known = e.0; limit = f.0; nesting = g.0; long = i.0; much = j.0 }
+    let s = unless (is_bad_statement line) BadStatement _ g.1 in
+    let i = unless (is_too_long before line) TooLong _ s.1 in
+    let j = unless (is_too_much before line || is_table_too_many before line) TooMuch _ i.1 in
+    record { let_in = a.0; place = b.0; number = c.0; session = d.0; known = e.0; limit = f.0; nesting = g.0; statement = s.0; long = i.0; much = first_false (is_too_much before line) (is_table_too_many before line) j.0; tables = second_false (is_too_much before line) (is_table_too_many before line) j.0 }

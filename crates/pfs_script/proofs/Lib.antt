@@ -2,9 +2,12 @@ pub mod BaseLemmas
 pub mod Behind
 pub mod BlockLemmas
 pub mod CountLemmas
+pub mod Clean
 pub mod Coursing
+pub mod EventExamples
 pub mod Exactness
 pub mod Faultless
+pub mod Finding
 pub mod FormExamples
 pub mod FormLemmas
 pub mod Fronting

@@ -12,7 +12,7 @@ use Rattle.pfs_script.specs.declared.forms.Form.{Form}
 use Rattle.pfs_script.specs.declared.forms.Form.TheVariants as form
 use Rattle.pfs_script.specs.Headings.{Naming, Head, named_limit, set_limit, limits_behind, limits_of, named_consumer, set_consumer, consumers_behind, consumers_of, naming_behind, naming_under, naming_of, naming_in, with_class, with_flags_like, head_with, head_under, head_of, limited, is_before_limits, StandsIn}
 
-limits_push : (before : List Form) (line : Form) → limits_of (before ++ line ∷ []) ≡ limits_behind (limits_of before) line
+pub limits_push : (before : List Form) (line : Form) → limits_of (before ++ line ∷ []) ≡ limits_behind (limits_of before) line
 unfolding limits_of
 limits_push before line = fold_push limits_behind default_limits before line
 

@@ -12,9 +12,10 @@ use Rattle.pfs_script.specs.Brackets.{closing_from, brackets_from}
 use Rattle.pfs_script.specs.Counts.{behind_last, ahead_of_last, counted}
 use Rattle.pfs_script.specs.declared.reasons.Extent.TheVariants.{Whole, Built}
 use Rattle.pfs_script.specs.declared.blocks.Connect.{Connect}
+use Rattle.pfs_script.specs.Finds.{tables_of}
 use Rattle.pfs_script.specs.Sessions.{session_now, lines_in}
 use Rattle.pfs_script.specs.Next.{one_each, weight_of, sql_weight, command_of, begins_with, kinds_open, is_too_much, least_reason, fault_of}
-use Rattle.pfs_script.specs.Blocks.{block_lines, blocks_of}
+use Rattle.pfs_script.specs.Blocks.{Sense, block_lines, blocks_of}
 
 abbrev connect : ℕ → Form
 connect session = form.Connect (Some session) (codes "u") (codes "h")
@@ -35,7 +36,7 @@ unfolding fault_of least_reason
 second_block = refl
 
 other_block : fault_of Whole (form.Phase ∷ connect 7 ∷ []) (connect 8) ≡ None
-unfolding fault_of least_reason lines_in session_now kinds_open brackets_from counted
+unfolding fault_of least_reason lines_in session_now kinds_open brackets_from counted tables_of
 other_block = refl
 
 -- no names at the first block; names at a later one; and a later one as it should be
@@ -48,7 +49,7 @@ unfolding fault_of least_reason
 names_again = refl
 
 later_block : fault_of Whole (form.Phase ∷ connect 7 ∷ form.Phase ∷ []) (form.Resume (Some 7)) ≡ None
-unfolding fault_of least_reason behind_last lines_in session_now kinds_open brackets_from counted
+unfolding fault_of least_reason behind_last lines_in session_now kinds_open brackets_from counted tables_of
 later_block = refl
 
 -- and none behind a `quit`
@@ -63,7 +64,7 @@ other_end = refl
 
 -- an end in a later phase, of a wait that its session opened in an earlier one
 later_end : fault_of Whole (form.Phase ∷ connect 7 ∷ form.Wait (codes "wait/io/file/sql/binlog") ∷ form.Phase ∷ connect 8 ∷ form.Resume (Some 7) ∷ []) form.End ≡ None
-unfolding fault_of least_reason session_now lines_in kinds_open brackets_from closing_from counted
+unfolding fault_of least_reason session_now lines_in kinds_open brackets_from closing_from counted tables_of
 later_end = refl
 
 -- a `quit` with a wait open
@@ -102,8 +103,8 @@ not_done : counted one_each (form.Repeat (Some 3) ∷ form.End ∷ form.Silent �
 unfolding counted
 not_done = refl
 
-abbrev lost_file : List ℕ → Option ClassRef
-lost_file name = Some (refs.Lost File)
+abbrev lost_file : Sense
+lost_file = record { class = λ name. Some (refs.Lost File); tables = []; digests = [] }
 
 abbrev names : Connect
 names = record { user = codes "u"; host = codes "h" }
@@ -121,7 +122,7 @@ abbrev repeated_lines : Form → List Form
 repeated_lines again = form.Phase ∷ connect 7 ∷ wait ∷ form.Repeat (Some 2) ∷ form.End ∷ again ∷ []
 
 same_kinds_open : fault_of Whole (repeated_lines wait) form.Done ≡ None
-unfolding fault_of least_reason behind_last ahead_of_last session_now lines_in kinds_open brackets_from closing_from counted
+unfolding fault_of least_reason behind_last ahead_of_last session_now lines_in kinds_open brackets_from closing_from counted tables_of
 same_kinds_open = refl
 
 other_kinds_open : fault_of Whole (repeated_lines (form.Statement (codes "statement/sql/select") [])) form.Done ≡ Some BadNesting

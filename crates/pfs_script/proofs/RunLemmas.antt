@@ -17,9 +17,10 @@ use Rattle.pfs_script.specs.declared.blocks.Block.{Block}
 use Rattle.pfs_script.specs.declared.blocks.Phase.{Phase}
 use Rattle.pfs_script.specs.Headings.{head_of, resolved, is_known, is_builtin, is_class_named}
 use Rattle.pfs_script.specs.declared.reasons.Extent.TheVariants.{Built}
+use Rattle.pfs_script.specs.Finds.{digest_place}
 use Rattle.pfs_script.specs.Sessions.{is_phase, is_session, is_block_of, ends_block, phase_of}
 use Rattle.pfs_script.specs.Next.{is_blockless, is_event_class, is_bad_nesting, mark_of_form, session_kinds, kinds_open, same_kinds, one_each}
-use Rattle.pfs_script.specs.Blocks.{with_front, statement_numbers, block_line, block_lines, block_behind, blocks_of, phases_of}
+use Rattle.pfs_script.specs.Blocks.{Sense, sense_of, with_front, statement_numbers, block_line, block_lines, block_behind, blocks_of, phases_of}
 use Rattle.pfs_script.specs.Runnable as run
 use Rattle.pfs_script.specs.Scripts.{Begins, IsScript}
 use Rattle.pfs_event.specs.declared.kind.EventKind.{EventKind}
@@ -103,28 +104,28 @@ phase_again : (before : List Form) (line : Form) → Passes Built before line �
 phase_again before form.Phase p h = absurd (let q = p.let_in in cc)
 phase_again before _ p h = refl
 
-later : (refer : List ℕ → Option ClassRef) (before lines : List Form) → Stand before lines → list_any is_phase before ≡ true → phases_of refer lines ≡ []
+later : (sense : Sense) (before lines : List Form) → Stand before lines → list_any is_phase before ≡ true → phases_of sense lines ≡ []
 unfolding phases_of
-later refer before [] s h = refl
-later refer before (line ∷ lines) s h =
-    rw (phase_again before line s.0 h) (later refer (before ++ line ∷ []) lines s.1 (rw (any_more is_phase before line, h) refl))
+later sense before [] s h = refl
+later sense before (line ∷ lines) s h =
+    rw (phase_again before line s.0 h) (later sense (before ++ line ∷ []) lines s.1 (rw (any_more is_phase before line, h) refl))
 
-module _ (refer : List ℕ → Option ClassRef) where
-  one_phase : (before lines : List Form) → Stand before lines → length (phases_of refer lines) ≤ 1
+module _ (sense : Sense) where
+  one_phase : (before lines : List Form) → Stand before lines → length (phases_of sense lines) ≤ 1
   unfolding phases_of
   one_phase before [] s = omega arith
   one_phase before (line ∷ lines) s =
       elim (bool_cases (is_phase line)) [
-        | inl p ↦ rw (p, later refer (before ++ line ∷ []) lines s.1 (rw (any_more is_phase before line, p) (or_true (list_any is_phase before)))) (omega arith)
+        | inl p ↦ rw (p, later sense (before ++ line ∷ []) lines s.1 (rw (any_more is_phase before line, p) (or_true (list_any is_phase before)))) (omega arith)
         | inr p ↦ rw p (one_phase (before ++ line ∷ []) lines s.1)
       ]
 
 -- few blocks
 
-none_block : (refer : List ℕ → Option ClassRef) (lines : List Form) (line : Form) → is_session line ≡ false → block_behind refer lines line ≡ None
-none_block refer lines (form.Connect session user host) h = cc
-none_block refer lines (form.Resume session) h = cc
-none_block refer lines _ h = refl
+none_block : (sense : Sense) (lines : List Form) (line : Form) → is_session line ≡ false → block_behind sense lines line ≡ None
+none_block sense lines (form.Connect session user host) h = cc
+none_block sense lines (form.Resume session) h = cc
+none_block sense lines _ h = refl
 
 few_here : (before : List Form) (line : Form) → Passes Built before line → is_session line ≡ true → count_by is_session (phase_of before) < 32
 few_here before (form.Connect session user host) p h = let q = p.let_in in grind (arith, nat_tests, q)
@@ -135,8 +136,8 @@ front_length : {A : Type 0} (o : Option A) (more : List A) → length (with_fron
 front_length None more = omega arith
 front_length (Some one) more = omega arith
 
-module _ (refer : List ℕ → Option ClassRef) where
-  few_blocks : (before lines : List Form) → Stand before lines → count_by is_session (phase_of before) ≤ 32 → count_by is_session (phase_of before) + length (blocks_of refer lines) ≤ 32
+module _ (sense : Sense) where
+  few_blocks : (before lines : List Form) → Stand before lines → count_by is_session (phase_of before) ≤ 32 → count_by is_session (phase_of before) + length (blocks_of sense lines) ≤ 32
   unfolding blocks_of
   few_blocks before [] s h = omega arith
   few_blocks before (line ∷ lines) s h =
@@ -149,11 +150,11 @@ module _ (refer : List ℕ → Option ClassRef) where
                   let room = few_here before line s.0 c in
                   let more : count_by is_session (phase_of (before ++ line ∷ [])) ≡ count_by is_session (phase_of before) + 1 = rw (same, count_more is_session (phase_of before) line, c) refl in
                   let rest = few_blocks (before ++ line ∷ []) lines s.1 (omega (arith, more)) in
-                  rw p (omega (arith, more, rest, front_length (block_behind refer lines line) (blocks_of refer lines)))
+                  rw p (omega (arith, more, rest, front_length (block_behind sense lines line) (blocks_of sense lines)))
               | inr c ↦
                   let more : count_by is_session (phase_of (before ++ line ∷ [])) ≡ count_by is_session (phase_of before) = rw (same, count_more is_session (phase_of before) line, c) (omega arith) in
                   let rest = few_blocks (before ++ line ∷ []) lines s.1 (omega (arith, more)) in
-                  rw (p, none_block refer lines line c) (omega (arith, more, rest))
+                  rw (p, none_block sense lines line c) (omega (arith, more, rest))
             ]
       ]
 
@@ -223,22 +224,22 @@ apart_more before number user host sessions p a =
 apart_none : (before : List Form) → Apart before []
 apart_none before = record { distinct = tt; free = λ number h. absurd (contains_none number h) }
 
-apart_front : (refer : List ℕ → Option ClassRef) (before : List Form) (line : Form) (lines : List Form) (blocks : List Block) → Passes Built before line → is_phase line ≡ false → Apart (before ++ line ∷ []) (sessions_of blocks)
-    → Apart before (sessions_of (with_front (block_behind refer lines line) blocks))
-apart_front refer before (form.Connect (Some number) user host) lines blocks p h a = apart_more before number user host (sessions_of blocks) p a
-apart_front refer before (form.Connect None user host) lines blocks p h a = apart_less before (form.Connect None user host) (sessions_of blocks) h a
-apart_front refer before (form.Resume session) lines blocks p h a = absurd (let q = p.let_in in cc)
-apart_front refer before form.Phase lines blocks p h a = cc
-apart_front refer before line lines blocks p h a = apart_less before line (sessions_of blocks) h a
+apart_front : (sense : Sense) (before : List Form) (line : Form) (lines : List Form) (blocks : List Block) → Passes Built before line → is_phase line ≡ false → Apart (before ++ line ∷ []) (sessions_of blocks)
+    → Apart before (sessions_of (with_front (block_behind sense lines line) blocks))
+apart_front sense before (form.Connect (Some number) user host) lines blocks p h a = apart_more before number user host (sessions_of blocks) p a
+apart_front sense before (form.Connect None user host) lines blocks p h a = apart_less before (form.Connect None user host) (sessions_of blocks) h a
+apart_front sense before (form.Resume session) lines blocks p h a = absurd (let q = p.let_in in cc)
+apart_front sense before form.Phase lines blocks p h a = cc
+apart_front sense before line lines blocks p h a = apart_less before line (sessions_of blocks) h a
 
-module _ (refer : List ℕ → Option ClassRef) where
-  apart : (before lines : List Form) → Stand before lines → Apart before (sessions_of (blocks_of refer lines))
+module _ (sense : Sense) where
+  apart : (before lines : List Form) → Stand before lines → Apart before (sessions_of (blocks_of sense lines))
   unfolding blocks_of
   apart before [] s = apart_none before
   apart before (line ∷ lines) s =
       elim (bool_cases (is_phase line)) [
         | inl p ↦ rw p (apart_none before)
-        | inr p ↦ rw p (apart_front refer before line lines (blocks_of refer lines) s.0 p (apart (before ++ line ∷ []) lines s.1))
+        | inr p ↦ rw p (apart_front sense before line lines (blocks_of sense lines) s.0 p (apart (before ++ line ∷ []) lines s.1))
       ]
 
 -- known classes
@@ -258,7 +259,8 @@ event_other before class h = not_true (bytes_eq class (codes "transaction")) (bo
 -- the line neither begins a repeat nor ends one
 abbrev IsPlain : BlockLine → Type 0
 IsPlain (said.Wait class) = Unit {0}
-IsPlain (said.Statement class) = Unit {0}
+IsPlain (said.TableWait class table) = Unit {0}
+IsPlain (said.Statement class digest) = Unit {0}
 IsPlain (said.Transaction access) = Unit {0}
 IsPlain (said.Stage class) = Unit {0}
 IsPlain said.StageEnd = Unit {0}
@@ -273,9 +275,11 @@ IsPlain said.Done = ⊥
 plain_nested : (kinds : List EventKind) (start : Option (List EventKind)) (line : BlockLine) (more : List BlockLine) → IsPlain line → may_stand kinds (mark_of line) ≡ true → IsNested (kinds_behind (mark_of line) kinds) start more → IsNested kinds start (line ∷ more)
 unfolding IsNested
 plain_nested kinds None (said.Wait class) more plain may rest = (may, rest)
+plain_nested kinds None (said.TableWait class table) more plain may rest = (may, rest)
 plain_nested kinds (Some first) (said.Wait class) more plain may rest = (may, rest)
-plain_nested kinds None (said.Statement class) more plain may rest = (may, rest)
-plain_nested kinds (Some first) (said.Statement class) more plain may rest = (may, rest)
+plain_nested kinds (Some first) (said.TableWait class table) more plain may rest = (may, rest)
+plain_nested kinds None (said.Statement class digest) more plain may rest = (may, rest)
+plain_nested kinds (Some first) (said.Statement class digest) more plain may rest = (may, rest)
 plain_nested kinds None (said.Transaction access) more plain may rest = (may, rest)
 plain_nested kinds (Some first) (said.Transaction access) more plain may rest = (may, rest)
 plain_nested kinds None (said.Stage class) more plain may rest = (may, rest)
@@ -372,11 +376,11 @@ module _ (all : List Form) (few : counted one_each all ≤ 200000) where
       rw r.1 (nests r.0)
 
   nest_front : (before : List Form) (line : Form) (more : List BlockLine) → Passes Built before line → ends_block line ≡ false → ((name : List ℕ) → is_known before name ≡ true → is_known all name ≡ true)
-      → Nests (before ++ line ∷ []) more → Nests before (with_front (block_line (resolved (head_of all)) line) more)
+      → Nests (before ++ line ∷ []) more → Nests before (with_front (block_line (sense_of all) line) more)
   nest_front before (form.Wait class) more p n known rest =
       class_nests before (form.Wait class) class said.Wait more known p.known (λ ref. nests_more before (form.Wait class) (said.Wait ref) more refl refl refl tt refl p.nesting rest)
   nest_front before (form.Statement class text) more p n known rest =
-      class_nests before (form.Statement class text) class said.Statement more known p.known (λ ref. nests_more before (form.Statement class text) (said.Statement ref) more refl refl refl tt refl p.nesting rest)
+      class_nests before (form.Statement class text) class (λ ref. said.Statement ref (digest_place (sense_of all).digests text)) more known p.known (λ ref. nests_more before (form.Statement class text) (said.Statement ref (digest_place (sense_of all).digests text)) more refl refl refl tt refl p.nesting rest)
   nest_front before (form.Stage class) more p n known rest =
       class_nests before (form.Stage class) class said.Stage more known p.known (λ ref. nests_more before (form.Stage class) (said.Stage ref) more refl refl refl tt refl p.nesting rest)
   nest_front before (form.Transaction access) more p n known rest = nests_more before (form.Transaction access) (said.Transaction access) more refl refl refl tt refl p.nesting rest
@@ -397,13 +401,13 @@ module _ (all : List Form) (few : counted one_each all ≤ 200000) where
   nest_front before (form.Connect session user host) more p n known rest = cc
   nest_front before line more p n known rest = nests_same before line more refl refl refl refl rest
 
-  nest : (before lines : List Form) → Stand before lines → all ≡ before ++ lines → Nests before (block_lines (resolved (head_of all)) lines)
+  nest : (before lines : List Form) → Stand before lines → all ≡ before ++ lines → Nests before (block_lines (sense_of all) lines)
   unfolding block_lines
   nest before [] s e = nothing_nested (kinds_open before) (start_of before)
   nest before (line ∷ lines) s e =
       elim (bool_cases (ends_block line)) [
         | inl p ↦ rw p (nothing_nested (kinds_open before) (start_of before))
-        | inr p ↦ rw p (nest_front before line (block_lines (resolved (head_of all)) lines) s.0 p (λ name h. rw e (known_longer before (line ∷ lines) name h)) (nest (before ++ line ∷ []) lines s.1 (e ∙ sym (append_assoc before (line ∷ []) lines))))
+        | inr p ↦ rw p (nest_front before line (block_lines (sense_of all) lines) s.0 p (λ name h. rw e (known_longer before (line ∷ lines) name h)) (nest (before ++ line ∷ []) lines s.1 (e ∙ sym (append_assoc before (line ∷ []) lines))))
       ]
 
   abbrev AreKnown : List BlockLine → Type 0
@@ -418,9 +422,10 @@ module _ (all : List Form) (few : counted one_each all ≤ 200000) where
   reference_known before class starts more (Some (refs.Class id)) p e k h = known_more (starts (refs.Class id)) more (k (refs.Class id) (resolved_within all class id (event_other before class p) e)) h
   reference_known before class starts more (Some (refs.Lost kind)) p e k h = known_more (starts (refs.Lost kind)) more (k (refs.Lost kind) tt) h
 
-  known_front : (before : List Form) (line : Form) (more : List BlockLine) → Passes Built before line → AreKnown more → AreKnown (with_front (block_line (resolved (head_of all)) line) more)
+  known_front : (before : List Form) (line : Form) (more : List BlockLine) → Passes Built before line → AreKnown more → AreKnown (with_front (block_line (sense_of all) line) more)
   known_front before (form.Wait class) more p h = reference_known before class said.Wait more (resolved (head_of all) class) p.known refl (λ one k. k) h
-  known_front before (form.Statement class text) more p h = reference_known before class said.Statement more (resolved (head_of all) class) p.known refl (λ one k. k) h
+  known_front before (form.TableWait class schema name) more p h = absurd (let q = p.let_in in cc)
+  known_front before (form.Statement class text) more p h = reference_known before class (λ ref. said.Statement ref (digest_place (sense_of all).digests text)) more (resolved (head_of all) class) p.known refl (λ one k. k) h
   known_front before (form.Stage class) more p h = reference_known before class said.Stage more (resolved (head_of all) class) p.known refl (λ one k. k) h
   known_front before (form.Transaction access) more p h = known_more (said.Transaction access) more tt h
   known_front before form.StageEnd more p h = known_more said.StageEnd more tt h
@@ -435,65 +440,65 @@ module _ (all : List Form) (few : counted one_each all ≤ 200000) where
   known_front before form.Done more p h = known_more said.Done more tt h
   known_front before line more p h = h
 
-  knowns : (before lines : List Form) → Stand before lines → AreKnown (block_lines (resolved (head_of all)) lines)
+  knowns : (before lines : List Form) → Stand before lines → AreKnown (block_lines (sense_of all) lines)
   unfolding block_lines
   knowns before [] s = all_none (run.IsKnown (length (head_of all).classes.classes))
   knowns before (line ∷ lines) s =
       elim (bool_cases (ends_block line)) [
         | inl p ↦ rw p (all_none (run.IsKnown (length (head_of all).classes.classes)))
-        | inr p ↦ rw p (known_front before line (block_lines (resolved (head_of all)) lines) s.0 (knowns (before ++ line ∷ []) lines s.1))
+        | inr p ↦ rw p (known_front before line (block_lines (sense_of all) lines) s.0 (knowns (before ++ line ∷ []) lines s.1))
       ]
 
   block_front : (before : List Form) (line : Form) (lines : List Form) (more : List Block) → Passes Built before line → Stand (before ++ line ∷ []) lines → all ≡ (before ++ line ∷ []) ++ lines → All (run.IsBlock (length (head_of all).classes.classes)) more
-      → All (run.IsBlock (length (head_of all).classes.classes)) (with_front (block_behind (resolved (head_of all)) lines line) more)
+      → All (run.IsBlock (length (head_of all).classes.classes)) (with_front (block_behind (sense_of all) lines line) more)
   block_front before (form.Connect (Some number) user host) lines more p s e h =
       let bounds = low_session before number user host p in
-      All-cons (run.IsBlock (length (head_of all).classes.classes)) (record { session = number; connect = Some (record { user = user; host = host }); lines = block_lines (resolved (head_of all)) lines }) more (record {
+      All-cons (run.IsBlock (length (head_of all).classes.classes)) (record { session = number; connect = Some (record { user = user; host = host }); lines = block_lines (sense_of all) lines }) more (record {
         low = bounds.0;
         high = bounds.1;
         nested = (let first = before ++ form.Connect (Some number) user host ∷ [] in rw (open_new before number user host bounds.0 (new_session before number user host p), start_connect before number user host p) at (nest first lines s e));
         known = knowns (before ++ form.Connect (Some number) user host ∷ []) lines s;
-        short = written_short (resolved (head_of all)) all (before ++ form.Connect (Some number) user host ∷ []) lines e few;
+        short = written_short (sense_of all) all (before ++ form.Connect (Some number) user host ∷ []) lines e few;
       }) h
   block_front before (form.Resume session) lines more p s e h = absurd (let q = p.let_in in cc)
   block_front before (form.Connect None user host) lines more p s e h = h
   block_front before line lines more p s e h = h
 
-  blocks_run : (before lines : List Form) → Stand before lines → all ≡ before ++ lines → All (run.IsBlock (length (head_of all).classes.classes)) (blocks_of (resolved (head_of all)) lines)
+  blocks_run : (before lines : List Form) → Stand before lines → all ≡ before ++ lines → All (run.IsBlock (length (head_of all).classes.classes)) (blocks_of (sense_of all) lines)
   unfolding blocks_of
   blocks_run before [] s e = all_none (run.IsBlock (length (head_of all).classes.classes))
   blocks_run before (line ∷ lines) s e =
       let further = e ∙ sym (append_assoc before (line ∷ []) lines) in
       elim (bool_cases (is_phase line)) [
         | inl p ↦ rw p (all_none (run.IsBlock (length (head_of all).classes.classes)))
-        | inr p ↦ rw p (block_front before line lines (blocks_of (resolved (head_of all)) lines) s.0 s.1 further (blocks_run (before ++ line ∷ []) lines s.1 further))
+        | inr p ↦ rw p (block_front before line lines (blocks_of (sense_of all) lines) s.0 s.1 further (blocks_run (before ++ line ∷ []) lines s.1 further))
       ]
 
-  phase_runs : (before : List Form) (line : Form) (lines : List Form) → is_phase line ≡ true → Stand (before ++ line ∷ []) lines → all ≡ (before ++ line ∷ []) ++ lines → run.IsPhase (length (head_of all).classes.classes) (record { blocks = blocks_of (resolved (head_of all)) lines })
+  phase_runs : (before : List Form) (line : Form) (lines : List Form) → is_phase line ≡ true → Stand (before ++ line ∷ []) lines → all ≡ (before ++ line ∷ []) ++ lines → run.IsPhase (length (head_of all).classes.classes) (record { blocks = blocks_of (sense_of all) lines })
   phase_runs before line lines p s e =
       let none : count_by is_session (phase_of (before ++ line ∷ [])) ≡ 0 = rw (phase_new before line p) refl in
       record {
-        few = omega (arith, few_blocks (resolved (head_of all)) (before ++ line ∷ []) lines s (omega (arith, none)), none);
-        sessions = (apart (resolved (head_of all)) (before ++ line ∷ []) lines s).distinct;
+        few = omega (arith, few_blocks (sense_of all) (before ++ line ∷ []) lines s (omega (arith, none)), none);
+        sessions = (apart (sense_of all) (before ++ line ∷ []) lines s).distinct;
         blocks = blocks_run (before ++ line ∷ []) lines s e;
       }
 
-  phases_run : (before lines : List Form) → Stand before lines → all ≡ before ++ lines → All (run.IsPhase (length (head_of all).classes.classes)) (phases_of (resolved (head_of all)) lines)
+  phases_run : (before lines : List Form) → Stand before lines → all ≡ before ++ lines → All (run.IsPhase (length (head_of all).classes.classes)) (phases_of (sense_of all) lines)
   unfolding phases_of
   phases_run before [] s e = all_none (run.IsPhase (length (head_of all).classes.classes))
   phases_run before (line ∷ lines) s e =
       let further = e ∙ sym (append_assoc before (line ∷ []) lines) in
       let rest = phases_run (before ++ line ∷ []) lines s.1 further in
       elim (bool_cases (is_phase line)) [
-        | inl p ↦ rw p (All-cons (run.IsPhase (length (head_of all).classes.classes)) (record { blocks = blocks_of (resolved (head_of all)) lines }) (phases_of (resolved (head_of all)) lines) (phase_runs before line lines p s.1 further) rest)
+        | inl p ↦ rw p (All-cons (run.IsPhase (length (head_of all).classes.classes)) (record { blocks = blocks_of (sense_of all) lines }) (phases_of (sense_of all) lines) (phase_runs before line lines p s.1 further) rest)
         | inr p ↦ rw p rest
       ]
 
 -- the phases of lines that begin a script can be run
-pub runnable : (raws : List (List ℕ)) (lines : List Form) → Begins Built [] raws lines → run.IsRunnable (length (head_of lines).classes.classes) (phases_of (resolved (head_of lines)) lines)
+pub runnable : (raws : List (List ℕ)) (lines : List Form) → Begins Built [] raws lines → run.IsRunnable (length (head_of lines).classes.classes) (phases_of (sense_of lines) lines)
 runnable raws lines b =
     let s = stand_of [] raws lines b in
-    record { one = one_phase (resolved (head_of lines)) [] lines s; each = phases_run lines (few_lines [] lines s (omega (arith, counted_none one_each))) [] lines s refl }
+    record { one = one_phase (sense_of lines) [] lines s; each = phases_run lines (few_lines [] lines s (omega (arith, counted_none one_each))) [] lines s refl }
 
 -- a script that is built can be run
 pub script_runs : (text : List ℕ) (setting : Setting) (phases : List Phase) → IsScript Built text setting phases → run.IsRunnable (length setting.classes.classes) phases

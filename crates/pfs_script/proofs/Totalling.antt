@@ -4,31 +4,32 @@ use Rattle.std.specs.Prelude.{count_by, min, if◌then◌else◌, codes}
 use Rattle.std.proofs.lemmas.Bool.Decides.{nat_tests}
 use Rattle.pfs_script.specs.declared.forms.Form.{Form}
 use Rattle.pfs_script.specs.declared.forms.Form.TheVariants as form
+use Rattle.pfs_script.specs.declared.totals.Tally.{Tally}
 use Rattle.pfs_script.specs.declared.totals.Totals.{Totals}
 use Rattle.pfs_script.specs.Counts.{counted, is_done, is_repeat, is_in_repeat, once_more, more_times, pending}
-use Rattle.pfs_script.specs.Next.{is_class, is_select, begins_with, has_over, is_blockless, is_out_of_place, is_too_long, is_too_much, one_each, weight_of}
+use Rattle.pfs_script.specs.Next.{is_class, is_select, one_select, begins_with, has_over, is_blockless, is_out_of_place, is_too_long, is_too_much, one_each, weight_of}
 use Rattle.pfs_script.specs.Sessions.{is_phase}
-use Rattle.pfs_script.specs.Places.{KnowsTotals, more_with, body_with}
+use Rattle.pfs_script.specs.Places.{KnowsTally, KnowsTotals, more_with, body_with}
 use Rattle.pfs_script.proofs.Behind.{counted_none, counted_with, count_more, more_none, more_more, more_done, pending_none, pending_more, pending_done, in_repeat-begun, in_repeat-same}
 
-pub none_knows : (totals : Totals) → totals.lines ≡ 0 → totals.phases ≡ 0 → totals.classes ≡ 0 → totals.selects ≡ 0 → totals.weight ≡ 0 → totals.more ≡ 0 → totals.body_lines ≡ 0 → totals.body_weight ≡ 0 → KnowsTotals totals []
-none_knows totals l p c q w m b v = record {
-  lines = omega (arith, counted_none one_each);
+none_tally : (tally : Tally) (measure : Form → ℕ) (more : ℕ) → tally.total ≡ 0 → tally.body ≡ 0 → more ≡ 0 → KnowsTally tally measure more []
+none_tally tally measure more t b m = record { total = t ∙ sym (counted_none measure); body = rw (b, m) (pending_none measure); low = omega arith }
+
+pub none_knows : (totals : Totals) → totals.lines.total ≡ 0 → totals.lines.body ≡ 0 → totals.selects.total ≡ 0 → totals.selects.body ≡ 0 → totals.weight.total ≡ 0 → totals.weight.body ≡ 0
+    → totals.phases ≡ 0 → totals.classes ≡ 0 → totals.more ≡ 0 → KnowsTotals totals []
+none_knows totals l lb q qb w wb p c m = record {
+  lines = none_tally totals.lines one_each totals.more l lb m;
+  selects = none_tally totals.selects one_select totals.more q qb m;
+  weight = none_tally totals.weight weight_of totals.more w wb m;
   phases = omega arith;
-  selects = omega arith;
-  few_phases = omega arith;
-  few_selects = omega arith;
   classes = omega arith;
-  weight = omega (arith, counted_none weight_of);
   few_lines = omega arith;
-  few_classes = omega arith;
+  few_selects = omega arith;
   low_weight = omega arith;
+  few_phases = omega arith;
+  few_classes = omega arith;
   more = m ∙ sym more_none;
-  body_lines = rw (m, b) (pending_none one_each);
-  body_weight = rw (m, v) (pending_none weight_of);
   alone = λ h. m;
-  few_body_lines = omega arith;
-  low_body_weight = omega arith;
 }
 
 capped : (most number added : ℕ) → most < 2 ^ 64 - 1 → nat_lt most (min (number + min added (2 ^ 64 - 1)) (2 ^ 64 - 1)) ≡ nat_lt most (number + added)
@@ -40,16 +41,15 @@ exact most number added after high is few = grind (arith, nat_tests, high, is, f
 few_so : (most number : ℕ) → nat_lt most number ≡ false → number ≤ most
 few_so most number h = grind (arith, nat_tests, h)
 
-lines_with : (totals : Totals) (before : List Form) (line : Form) → KnowsTotals totals before → counted one_each (before ++ line ∷ []) ≡ totals.lines + (1 + (if is_done line then totals.more * totals.body_lines else 0))
-lines_with totals before line k = counted_with one_each before line (totals.more * totals.body_lines) k.body_lines ∙ ap (λ n. n + (1 + (if is_done line then totals.more * totals.body_lines else 0))) (sym k.lines)
+tally_with : (tally : Tally) (measure : Form → ℕ) (more : ℕ) (before : List Form) (line : Form) → KnowsTally tally measure more before
+    → counted measure (before ++ line ∷ []) ≡ tally.total + (measure line + (if is_done line then more * tally.body else 0))
+tally_with tally measure more before line k =
+    counted_with measure before line (more * tally.body) k.body ∙ ap (λ n. n + (measure line + (if is_done line then more * tally.body else 0))) (sym k.total)
 
-weight_with : (totals : Totals) (before : List Form) (line : Form) → KnowsTotals totals before → counted weight_of (before ++ line ∷ []) ≡ totals.weight + (weight_of line + (if is_done line then totals.more * totals.body_weight else 0))
-weight_with totals before line k = counted_with weight_of before line (totals.more * totals.body_weight) k.body_weight ∙ ap (λ n. n + (weight_of line + (if is_done line then totals.more * totals.body_weight else 0))) (sym k.weight)
-
-pub too_long : (totals : Totals) (before : List Form) (line : Form) (added : ℕ) → KnowsTotals totals before → added ≡ min (1 + (if is_done line then totals.more * totals.body_lines else 0)) (2 ^ 64 - 1)
-    → nat_lt 200000 (min (totals.lines + added) (2 ^ 64 - 1)) ≡ is_too_long before line
-too_long totals before line added k is =
-    rw (is, lines_with totals before line k) (capped 200000 totals.lines (1 + (if is_done line then totals.more * totals.body_lines else 0)) (omega arith))
+pub tally_over : (tally : Tally) (measure : Form → ℕ) (more most own added : ℕ) (before : List Form) (line : Form) → KnowsTally tally measure more before → own ≡ measure line → most < 2 ^ 63
+    → added ≡ min (own + (if is_done line then more * tally.body else 0)) (2 ^ 64 - 1) → nat_lt most (min (tally.total + added) (2 ^ 64 - 1)) ≡ nat_lt most (counted measure (before ++ line ∷ []))
+tally_over tally measure more most own added before line k o high is =
+    rw (is, o, tally_with tally measure more before line k) (capped most tally.total (measure line + (if is_done line then more * tally.body else 0)) (omega (arith, high)))
 
 over : (a b c : ℕ) → b ≤ c → nat_lt (c - b) a ≡ nat_lt c (a + b)
 over a b c h = grind (arith, nat_tests, h)
@@ -57,11 +57,6 @@ over a b c h = grind (arith, nat_tests, h)
 -- one more of a kind is one too many
 pub over_one : (test : Form → Bool) (most number one : ℕ) (before : List Form) (line : Form) → number ≡ count_by test before → one ≡ (if test line then 1 else 0) → one ≤ most → nat_lt (most - one) number ≡ has_over most test before line
 over_one test most number one before line k c few = rw (count_more test before line) (over number one most few ∙ ap (nat_lt most) (omega (arith, k, c)))
-
-pub too_heavy : (totals : Totals) (before : List Form) (line : Form) (own added : ℕ) → KnowsTotals totals before → own ≡ weight_of line → added ≡ min (own + (if is_done line then totals.more * totals.body_weight else 0)) (2 ^ 64 - 1)
-    → nat_lt 5000000 (min (totals.weight + added) (2 ^ 64 - 1)) ≡ nat_lt 5000000 (counted weight_of (before ++ line ∷ []))
-too_heavy totals before line own added k w is =
-    rw (is, w, weight_with totals before line k) (capped 5000000 totals.weight (weight_of line + (if is_done line then totals.more * totals.body_weight else 0)) (omega arith))
 
 both_false : (a b : Bool) → (a || b) ≡ false → (b ≡ false)
 both_false true b h = cc
@@ -71,57 +66,10 @@ first_false : (a b : Bool) → (a || b) ≡ false → (a ≡ false)
 first_false true b h = cc
 first_false false b h = refl
 
--- the phases, classes and SELECTs behind one more line
-pub record Counted (totals after : Totals) (line : Form) : Type 0 where
-  pub phases : after.phases ≡ totals.phases + (if is_phase line then 1 else 0)
-  pub classes : after.classes ≡ totals.classes + (if is_class line then 1 else 0)
-  pub selects : after.selects ≡ totals.selects + (if is_select line then 1 else 0)
-
 few_now : (test : Form → Bool) (most number after : ℕ) (before : List Form) (line : Form) → number ≡ count_by test before → after ≡ number + (if test line then 1 else 0) → has_over most test before line ≡ false → after ≤ most
 few_now test most number after before line k c h =
     let few = few_so most (count_by test (before ++ line ∷ [])) h in
     omega (arith, few, count_more test before line, k, c)
-
--- the lines, what is counted and the weight behind one more line, with what is kept of a repeat
-totals_made : (totals after : Totals) (before : List Form) (line : Form) (lines weight : ℕ) → KnowsTotals totals before → is_too_long before line ≡ false → is_too_much before line ≡ false
-    → lines ≡ min (1 + (if is_done line then totals.more * totals.body_lines else 0)) (2 ^ 64 - 1) → weight ≡ min (weight_of line + (if is_done line then totals.more * totals.body_weight else 0)) (2 ^ 64 - 1)
-    → after.lines ≡ min (totals.lines + lines) (2 ^ 64 - 1) → Counted totals after line → after.weight ≡ min (totals.weight + weight) (2 ^ 64 - 1)
-    → after.more ≡ more_times (before ++ line ∷ []) → pending one_each (before ++ line ∷ []) ≡ after.more * after.body_lines → pending weight_of (before ++ line ∷ []) ≡ after.more * after.body_weight
-    → (is_in_repeat (before ++ line ∷ []) ≡ false → after.more ≡ 0) → after.body_lines ≤ totals.lines + 1 → after.body_weight ≤ totals.weight + weight_of line
-    → KnowsTotals after (before ++ line ∷ [])
-totals_made totals after before line lines weight k long much fl fw l c w more body_lines body_weight alone few low =
-    let over_phases = has_over 64 is_phase before line in
-    let over_classes = has_over 256 is_class before line in
-    let over_selects = has_over 256 is_select before line in
-    let over_weight = nat_lt 5000000 (counted weight_of (before ++ line ∷ [])) in
-    let phases = first_false over_phases (over_classes || (over_selects || over_weight)) much in
-    let rest = both_false over_phases (over_classes || (over_selects || over_weight)) much in
-    let classes = first_false over_classes (over_selects || over_weight) rest in
-    let last = both_false over_classes (over_selects || over_weight) rest in
-    let selects = first_false over_selects over_weight last in
-    let heavy = both_false over_selects over_weight last in
-    let n = lines_with totals before line k in
-    let m = weight_with totals before line k in
-    let e = exact 200000 totals.lines (1 + (if is_done line then totals.more * totals.body_lines else 0)) after.lines (omega arith) (rw fl at l) (rw n at long) in
-    let f = exact 5000000 totals.weight (weight_of line + (if is_done line then totals.more * totals.body_weight else 0)) after.weight (omega arith) (rw fw at w) (rw m at heavy) in
-    record {
-      lines = e ∙ sym n;
-      phases = omega (arith, count_more is_phase before line, k.phases, c.phases);
-      classes = omega (arith, count_more is_class before line, k.classes, c.classes);
-      selects = omega (arith, count_more is_select before line, k.selects, c.selects);
-      weight = f ∙ sym m;
-      few_lines = rw (e ∙ sym n) (few_so 200000 _ long);
-      few_phases = few_now is_phase 64 totals.phases after.phases before line k.phases c.phases phases;
-      few_classes = few_now is_class 256 totals.classes after.classes before line k.classes c.classes classes;
-      few_selects = few_now is_select 256 totals.selects after.selects before line k.selects c.selects selects;
-      low_weight = rw (f ∙ sym m) (few_so 5000000 _ heavy);
-      more = more;
-      body_lines = body_lines;
-      body_weight = body_weight;
-      alone = alone;
-      few_body_lines = omega (arith, e);
-      low_body_weight = omega (arith, f);
-    }
 
 small : (number after : ℕ) → number < 2 ^ 64 - 1 → after ≡ min number (2 ^ 64 - 1) → after ≡ number
 small number after low is = omega (arith, is)
@@ -166,59 +114,112 @@ low_weight_of form.End = omega arith
 low_weight_of (form.EndStatement numbers) = omega arith
 low_weight_of _ = omega arith
 
+low_one : (b : Bool) → cond {A = ℕ} b 1 0 ≤ 20000
+low_one true = omega arith
+low_one false = omega arith
+
+low_select_of : (line : Form) → one_select line ≤ 20000
+low_select_of line = low_one (is_select line)
+
+-- what a tally is behind one more line, by what its step says
+pub record Stepped (tally after : Tally) (line : Form) (own more : ℕ) : Type 0 where
+  pub total : after.total ≡ min (tally.total + min (own + (if is_done line then more * tally.body else 0)) (2 ^ 64 - 1)) (2 ^ 64 - 1)
+  pub body : after.body ≡ min (body_with line own tally.body) (2 ^ 64 - 1)
+
+module _ (tally after : Tally) (measure : Form → ℕ) (more most : ℕ) (before : List Form) where
+  tally_total : (line : Form) (own : ℕ) → KnowsTally tally measure more before → own ≡ measure line → most < 10000000 → nat_lt most (counted measure (before ++ line ∷ [])) ≡ false → Stepped tally after line own more
+      → after.total ≡ tally.total + (measure line + (if is_done line then more * tally.body else 0))
+  tally_total line own k o high few s =
+      exact most tally.total (measure line + (if is_done line then more * tally.body else 0)) after.total (omega (arith, high)) (rw o at s.total) (rw (tally_with tally measure more before line k) at few)
+
+  tally_other : (line : Form) (own : ℕ) → KnowsTally tally measure more before → own ≡ measure line → measure line ≤ 20000 → most < 10000000 → tally.total ≤ most → nat_lt most (counted measure (before ++ line ∷ [])) ≡ false
+      → Stepped tally after line own more → more ≡ more_times before → is_repeat line ≡ false → is_done line ≡ false → KnowsTally after measure (more_with line more) (before ++ line ∷ [])
+  tally_other line own k o low high under few s m r d =
+      let e = tally_total line own k o high few s in
+      let body : after.body ≡ tally.body + measure line = small (tally.body + measure line) after.body (omega (arith, k.low, low, high, under)) (rw o at (s.body ∙ ap (λ n. min n (2 ^ 64 - 1)) (body_other line own tally.body r d))) in
+      record {
+        total = e ∙ sym (tally_with tally measure more before line k);
+        body = rw (more_other line more r d, pending_more measure before line d, k.body, sym m, body) (bodies more tally.body (measure line));
+        low = omega (arith, e, body, k.low);
+      }
+
+  tally_done : (own : ℕ) → KnowsTally tally measure more before → own ≡ measure form.Done → most < 10000000 → nat_lt most (counted measure (before ++ form.Done ∷ [])) ≡ false → Stepped tally after form.Done own more
+      → KnowsTally after measure 0 (before ++ form.Done ∷ [])
+  tally_done own k o high few s =
+      let body : after.body ≡ 0 = omega (arith, s.body) in
+      record {
+        total = tally_total form.Done own k o high few s ∙ sym (tally_with tally measure more before form.Done k);
+        body = rw (pending_done measure before) (omega arith);
+        low = omega (arith, body);
+      }
+
+  tally_repeat : (times : Option ℕ) (own : ℕ) → KnowsTally tally measure more before → own ≡ measure (form.Repeat times) → most < 10000000 → nat_lt most (counted measure (before ++ form.Repeat times ∷ [])) ≡ false
+      → Stepped tally after (form.Repeat times) own more → more ≡ more_times before → more ≡ 0 → KnowsTally after measure (once_more (form.Repeat times)) (before ++ form.Repeat times ∷ [])
+  tally_repeat times own k o high few s m none =
+      let line = form.Repeat times in
+      let body : after.body ≡ 0 = omega (arith, s.body) in
+      record {
+        total = tally_total line own k o high few s ∙ sym (tally_with tally measure more before line k);
+        body = rw (pending_more measure before line refl, k.body, sym m, body) (nothing more tally.body (measure line) none ∙ omega arith);
+        low = omega (arith, body);
+      }
+
+  pub tally_more : (line : Form) (own : ℕ) → KnowsTally tally measure more before → own ≡ measure line → measure line ≤ 20000 → most < 10000000 → tally.total ≤ most → nat_lt most (counted measure (before ++ line ∷ [])) ≡ false
+      → Stepped tally after line own more → more ≡ more_times before → (is_in_repeat before ≡ false → more ≡ 0) → is_out_of_place before line ≡ false → KnowsTally after measure (more_with line more) (before ++ line ∷ [])
+  tally_more (form.Repeat times) own k o low high under few s m alone out = tally_repeat times own k o high few s m (alone (both_false (is_blockless before) (is_in_repeat before) out))
+  tally_more form.Done own k o low high under few s m alone out = tally_done own k o high few s
+  tally_more line own k o low high under few s m alone out = tally_other line own k o low high under few s m refl refl
+
+more_is : (more : ℕ) (before : List Form) (line : Form) → more ≡ more_times before → (is_in_repeat before ≡ false → more ≡ 0) → is_out_of_place before line ≡ false → more_with line more ≡ more_times (before ++ line ∷ [])
+more_is more before (form.Repeat times) m alone out =
+    let none : more ≡ 0 = alone (both_false (is_blockless before) (is_in_repeat before) out) in
+    sym (more_more before (form.Repeat times) refl ∙ omega (arith, m, none))
+more_is more before form.Done m alone out = sym (more_done before)
+more_is more before line m alone out = m ∙ sym (more_more before line refl ∙ omega (arith, once_other line refl))
+
+alone_is : (more : ℕ) (before : List Form) (line : Form) → (is_in_repeat before ≡ false → more ≡ 0) → is_in_repeat (before ++ line ∷ []) ≡ false → more_with line more ≡ 0
+alone_is more before (form.Repeat times) alone h = absurd (let q = in_repeat-begun before (form.Repeat times) refl in cc)
+alone_is more before form.Done alone h = refl
+alone_is more before line alone h = alone (sym (in_repeat-same before line refl refl) ∙ h)
+
 -- what the reader keeps behind one more line, by what its steps say
-pub record Stepped (totals after : Totals) (line : Form) (one own : ℕ) : Type 0 where
-  pub added_lines : one ≡ min (1 + (if is_done line then totals.more * totals.body_lines else 0)) (2 ^ 64 - 1)
-  pub added_weight : own ≡ min (weight_of line + (if is_done line then totals.more * totals.body_weight else 0)) (2 ^ 64 - 1)
-  pub lines : after.lines ≡ min (totals.lines + one) (2 ^ 64 - 1)
-  pub counted_are : Counted totals after line
-  pub weight : after.weight ≡ min (totals.weight + own) (2 ^ 64 - 1)
+pub record Passed (totals after : Totals) (line : Form) (selects weight : ℕ) : Type 0 where
+  pub lines : Stepped totals.lines after.lines line 1 totals.more
+  pub selects_are : selects ≡ one_select line
+  pub selected : Stepped totals.selects after.selects line selects totals.more
+  pub weight_is : weight ≡ weight_of line
+  pub weighed : Stepped totals.weight after.weight line weight totals.more
+  pub phases : after.phases ≡ totals.phases + (if is_phase line then 1 else 0)
+  pub classes : after.classes ≡ totals.classes + (if is_class line then 1 else 0)
   pub more : after.more ≡ more_with line totals.more
-  pub body_lines : after.body_lines ≡ min (body_with line 1 totals.body_lines) (2 ^ 64 - 1)
-  pub body_weight : after.body_weight ≡ min (body_with line (weight_of line) totals.body_weight) (2 ^ 64 - 1)
 
-other_made : (totals after : Totals) (before : List Form) (line : Form) (lines weight : ℕ) → KnowsTotals totals before → is_too_long before line ≡ false → is_too_much before line ≡ false → Stepped totals after line lines weight
-    → is_repeat line ≡ false → is_done line ≡ false → KnowsTotals after (before ++ line ∷ [])
-other_made totals after before line lines weight k long much s r d =
-    let more : after.more ≡ totals.more = s.more ∙ more_other line totals.more r d in
-    let body : after.body_lines ≡ totals.body_lines + 1 = small (totals.body_lines + 1) after.body_lines (omega (arith, k.few_body_lines, k.few_lines)) (s.body_lines ∙ ap (λ n. min n (2 ^ 64 - 1)) (body_other line 1 totals.body_lines r d)) in
-    let heavy : after.body_weight ≡ totals.body_weight + weight_of line = small (totals.body_weight + weight_of line) after.body_weight (omega (arith, k.low_body_weight, k.low_weight, low_weight_of line)) (s.body_weight ∙ ap (λ n. min n (2 ^ 64 - 1)) (body_other line (weight_of line) totals.body_weight r d)) in
-    totals_made totals after before line lines weight k long much s.added_lines s.added_weight s.lines s.counted_are s.weight
-    (more ∙ (k.more ∙ sym (more_more before line d ∙ omega (arith, once_other line r))))
-    (rw (pending_more one_each before line d, k.body_lines, sym k.more, more, body) (bodies totals.more totals.body_lines 1))
-    (rw (pending_more weight_of before line d, k.body_weight, sym k.more, more, heavy) (bodies totals.more totals.body_weight (weight_of line)))
-    (λ h. more ∙ k.alone (sym (in_repeat-same before line r d) ∙ h))
-    (omega (arith, body, k.few_body_lines))
-    (omega (arith, heavy, k.low_body_weight))
-
-done_made : (totals after : Totals) (before : List Form) (lines weight : ℕ) → KnowsTotals totals before → is_too_long before form.Done ≡ false → is_too_much before form.Done ≡ false → Stepped totals after form.Done lines weight
-    → KnowsTotals after (before ++ form.Done ∷ [])
-done_made totals after before lines weight k long much s =
-    totals_made totals after before form.Done lines weight k long much s.added_lines s.added_weight s.lines s.counted_are s.weight
-    (s.more ∙ sym (more_done before))
-    (rw (pending_done one_each before, s.more) (omega arith))
-    (rw (pending_done weight_of before, s.more) (omega arith))
-    (λ h. s.more)
-    (omega (arith, s.body_lines))
-    (omega (arith, s.body_weight))
-
-repeat_made : (totals after : Totals) (before : List Form) (times : Option ℕ) (lines weight : ℕ) → KnowsTotals totals before → is_in_repeat before ≡ false → is_too_long before (form.Repeat times) ≡ false
-    → is_too_much before (form.Repeat times) ≡ false → Stepped totals after (form.Repeat times) lines weight → KnowsTotals after (before ++ form.Repeat times ∷ [])
-repeat_made totals after before times lines weight k out long much s =
-    let line = form.Repeat times in
-    let none : totals.more ≡ 0 = k.alone out in
-    let body : after.body_lines ≡ 0 = omega (arith, s.body_lines) in
-    let heavy : after.body_weight ≡ 0 = omega (arith, s.body_weight) in
-    totals_made totals after before line lines weight k long much s.added_lines s.added_weight s.lines s.counted_are s.weight
-    (s.more ∙ sym (more_more before line refl ∙ omega (arith, k.more, none)))
-    (rw (pending_more one_each before line refl, k.body_lines, sym k.more, body) (nothing totals.more totals.body_lines 1 none ∙ omega arith))
-    (rw (pending_more weight_of before line refl, k.body_weight, sym k.more, heavy) (nothing totals.more totals.body_weight 1 none ∙ omega arith))
-    (λ h. absurd (let q = in_repeat-begun before line refl in cc))
-    (omega (arith, body))
-    (omega (arith, heavy))
-
-pub totals_more : (totals after : Totals) (before : List Form) (line : Form) (lines weight : ℕ) → KnowsTotals totals before → is_out_of_place before line ≡ false → is_too_long before line ≡ false → is_too_much before line ≡ false
-    → Stepped totals after line lines weight → KnowsTotals after (before ++ line ∷ [])
-totals_more totals after before (form.Repeat times) lines weight k out long much s = repeat_made totals after before times lines weight k (both_false (is_blockless before) (is_in_repeat before) out) long much s
-totals_more totals after before form.Done lines weight k out long much s = done_made totals after before lines weight k long much s
-totals_more totals after before line lines weight k out long much s = other_made totals after before line lines weight k long much s refl refl
+pub totals_more : (totals after : Totals) (before : List Form) (line : Form) (selects weight : ℕ) → KnowsTotals totals before → is_out_of_place before line ≡ false → is_too_long before line ≡ false → is_too_much before line ≡ false
+    → Passed totals after line selects weight → KnowsTotals after (before ++ line ∷ [])
+totals_more totals after before line selects weight k out long much p =
+    let over_phases = has_over 64 is_phase before line in
+    let over_classes = has_over 256 is_class before line in
+    let over_selects = nat_lt 256 (counted one_select (before ++ line ∷ [])) in
+    let over_weight = nat_lt 5000000 (counted weight_of (before ++ line ∷ [])) in
+    let phases = first_false over_phases (over_classes || (over_selects || over_weight)) much in
+    let rest = both_false over_phases (over_classes || (over_selects || over_weight)) much in
+    let classes = first_false over_classes (over_selects || over_weight) rest in
+    let last = both_false over_classes (over_selects || over_weight) rest in
+    let selected = first_false over_selects over_weight last in
+    let heavy = both_false over_selects over_weight last in
+    let lines = tally_more totals.lines after.lines one_each totals.more 200000 before line 1 k.lines refl (omega arith) (omega arith) k.few_lines long p.lines k.more k.alone out in
+    let chosen = tally_more totals.selects after.selects one_select totals.more 256 before line selects k.selects p.selects_are (low_select_of line) (omega arith) k.few_selects selected p.selected k.more k.alone out in
+    let weighed = tally_more totals.weight after.weight weight_of totals.more 5000000 before line weight k.weight p.weight_is (low_weight_of line) (omega arith) k.low_weight heavy p.weighed k.more k.alone out in
+    record {
+      lines = rw p.more lines;
+      selects = rw p.more chosen;
+      weight = rw p.more weighed;
+      phases = omega (arith, count_more is_phase before line, k.phases, p.phases);
+      classes = omega (arith, count_more is_class before line, k.classes, p.classes);
+      few_lines = rw lines.total (few_so 200000 _ long);
+      few_selects = rw chosen.total (few_so 256 _ selected);
+      low_weight = rw weighed.total (few_so 5000000 _ heavy);
+      few_phases = few_now is_phase 64 totals.phases after.phases before line k.phases p.phases phases;
+      few_classes = few_now is_class 256 totals.classes after.classes before line k.classes p.classes classes;
+      more = p.more ∙ more_is totals.more before line k.more k.alone out;
+      alone = λ h. p.more ∙ alone_is totals.more before line k.alone h;
+    }

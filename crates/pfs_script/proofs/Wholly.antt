@@ -9,9 +9,8 @@ use Rattle.pfs_script.specs.declared.reasons.Extent.TheVariants.{Whole, Built}
 use Rattle.pfs_script.specs.declared.reasons.Reason.{Reason}
 use Rattle.pfs_script.specs.declared.reasons.Reason.TheVariants.{NotBuilt}
 use Rattle.pfs_script.specs.Forms as forms
-use Rattle.pfs_script.specs.Headings.{head_of, resolved}
-use Rattle.pfs_script.specs.Blocks.{phases_of}
-use Rattle.pfs_script.specs.Built.{is_read, is_built}
+use Rattle.pfs_script.specs.Blocks.{sense_of, phases_of}
+use Rattle.pfs_script.specs.Built.{is_built}
 use Rattle.pfs_script.specs.Next.{least_reason, fault_of, unless_fault, placed, next}
 use Rattle.pfs_script.specs.Scripts.{Begins, IsText, IsSetting, IsScript}
 use Rattle.pfs_script.proofs.Taking.{next_none}
@@ -32,18 +31,13 @@ next_of : (extent : Extent) (before : List Form) (bytes : List ℕ) (line : Form
 unfolding next
 next_of extent before bytes line f h = rw (f, h) refl
 
-read_built : (before : List Form) (line : Form) → is_built before line ≡ true → is_read line ≡ true
-read_built before (form.TableWait class schema name) h = cc
-read_built before (form.Statement class text) h = h
-read_built before _ h = refl
-
-fault_by : (built read : Bool) (rest : Option Reason) → (built ≡ true → read ≡ true) → cond built rest (Some NotBuilt) ≡ None → cond read rest (Some NotBuilt) ≡ None
-fault_by true read rest r h = rw (r refl) h
-fault_by false read rest r h = cc
+fault_by : (built : Bool) (rest : Option Reason) → cond built rest (Some NotBuilt) ≡ None → rest ≡ None
+fault_by true rest h = h
+fault_by false rest h = cc
 
 fault_whole : (before : List Form) (line : Form) → fault_of Built before line ≡ None → fault_of Whole before line ≡ None
 unfolding fault_of
-fault_whole before line h = fault_by (is_built before line) (is_read line) (least_reason before line) (read_built before line) h
+fault_whole before line h = fault_by (is_built before line) (least_reason before line) h
 
 next_whole : (before : List Form) (bytes : List ℕ) (line : Form) → next Built before bytes ≡ Ok line → next Whole before bytes ≡ Ok line
 next_whole before bytes line e = next_of Whole before bytes line (next_form Built before bytes line e) (fault_whole before line (next_none Built before bytes line e))
@@ -55,8 +49,8 @@ begins_whole before (raw ∷ raws) [] b = absurd b
 begins_whole before (raw ∷ raws) (line ∷ lines) b = (next_whole before raw line b.0, begins_whole (before ++ line ∷ []) raws lines b.1)
 
 -- the parts of a script
-pub script_made : (extent : Extent) (text : List ℕ) (lines : List Form) (setting : Setting) (phases : List Phase) → IsText extent text lines → IsSetting (head_of lines) setting
-    → phases ≡ phases_of (resolved (head_of lines)) lines → IsScript extent text setting phases
+pub script_made : (extent : Extent) (text : List ℕ) (lines : List Form) (setting : Setting) (phases : List Phase) → IsText extent text lines → IsSetting lines setting
+    → phases ≡ phases_of (sense_of lines) lines → IsScript extent text setting phases
 unfolding IsScript
 script_made extent text lines setting phases t s p = (lines, t, s, p)
 

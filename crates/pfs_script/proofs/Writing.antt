@@ -1,6 +1,6 @@
 -- How long the lines of a block are with each repeat written out.
 use Rattle.std.proofs.Common.{ℕ, zero, suc, ◌≡◌, ◌≤◌, ◌+◌, ◌-◌, ◌*◌, Bool, true, false, List, [], ◌∷◌, ◌++◌, Option, Some, None, refl, ap, length, length-append, ◌⊎◌, inl, inr, arith}
-use Rattle.std.specs.Prelude.{option_map, unwrap_or}
+use Rattle.std.specs.Prelude.{option_map, option_and_then, unwrap_or}
 use Rattle.std.specs.List.{sum_by}
 use Rattle.std.proofs.lemmas.List.Sums.{sum_by-cons}
 use Rattle.pfs_classes.specs.declared.classes.ClassRef.{ClassRef}
@@ -11,12 +11,14 @@ use Rattle.pfs_script.specs.declared.blocks.BlockLine.TheVariants as said
 use Rattle.pfs_script.specs.Marks.{Repeated, copies, written_from, written_out}
 use Rattle.pfs_script.specs.Counts.{is_done, until_done, again, counted}
 use Rattle.pfs_script.specs.Next.{one_each}
+use Rattle.pfs_script.specs.Finds.{table_number, digest_place}
 use Rattle.pfs_script.specs.Sessions.{ends_block}
-use Rattle.pfs_script.specs.Blocks.{with_front, block_line, block_lines}
+use Rattle.pfs_script.specs.Blocks.{Sense, with_front, block_line, block_lines}
 
 abbrev IsNoRepeat : BlockLine → Type 0
 IsNoRepeat (said.Wait class) = Unit {0}
-IsNoRepeat (said.Statement class) = Unit {0}
+IsNoRepeat (said.TableWait class table) = Unit {0}
+IsNoRepeat (said.Statement class digest) = Unit {0}
 IsNoRepeat (said.Transaction access) = Unit {0}
 IsNoRepeat (said.Stage class) = Unit {0}
 IsNoRepeat said.StageEnd = Unit {0}
@@ -30,7 +32,8 @@ IsNoRepeat (said.Repeat times) = ⊥
 
 abbrev IsNoDone : BlockLine → Type 0
 IsNoDone (said.Wait class) = Unit {0}
-IsNoDone (said.Statement class) = Unit {0}
+IsNoDone (said.TableWait class table) = Unit {0}
+IsNoDone (said.Statement class digest) = Unit {0}
 IsNoDone (said.Transaction access) = Unit {0}
 IsNoDone (said.Stage class) = Unit {0}
 IsNoDone said.StageEnd = Unit {0}
@@ -45,7 +48,8 @@ IsNoDone said.Done = ⊥
 plain_none : (line : BlockLine) (rest : List BlockLine) → IsNoRepeat line → written_from None (line ∷ rest) ≡ line ∷ written_from None rest
 unfolding written_from
 plain_none (said.Wait class) rest plain = refl
-plain_none (said.Statement class) rest plain = refl
+plain_none (said.TableWait class table) rest plain = refl
+plain_none (said.Statement class digest) rest plain = refl
 plain_none (said.Transaction access) rest plain = refl
 plain_none (said.Stage class) rest plain = refl
 plain_none said.StageEnd rest plain = refl
@@ -60,7 +64,8 @@ plain_none (said.Repeat times) rest plain = absurd plain
 plain_some : (loop : Repeated) (line : BlockLine) (rest : List BlockLine) → IsNoDone line → written_from (Some loop) (line ∷ rest) ≡ written_from (Some (record { times = loop.times; body = loop.body ++ line ∷ [] })) rest
 unfolding written_from
 plain_some loop (said.Wait class) rest plain = refl
-plain_some loop (said.Statement class) rest plain = refl
+plain_some loop (said.TableWait class table) rest plain = refl
+plain_some loop (said.Statement class digest) rest plain = refl
 plain_some loop (said.Transaction access) rest plain = refl
 plain_some loop (said.Stage class) rest plain = refl
 plain_some loop said.StageEnd rest plain = refl
@@ -137,6 +142,16 @@ some_map : (starts : ClassRef → BlockLine) (ref : Option ClassRef) → ((one :
 some_map starts None h = tt
 some_map starts (Some one) h = h one
 
+none_both : (starts : ClassRef → ℕ → BlockLine) (number : Option ℕ) (ref : Option ClassRef) → ((one : ClassRef) (number : ℕ) → IsNoRepeat (starts one number)) → NoRepeat (option_and_then (λ one. option_map (starts one) number) ref)
+none_both starts number None h = tt
+none_both starts None (Some one) h = tt
+none_both starts (Some number) (Some one) h = h one number
+
+some_both : (starts : ClassRef → ℕ → BlockLine) (number : Option ℕ) (ref : Option ClassRef) → ((one : ClassRef) (number : ℕ) → IsNoDone (starts one number)) → NoDone (option_and_then (λ one. option_map (starts one) number) ref)
+some_both starts number None h = tt
+some_both starts None (Some one) h = tt
+some_both starts (Some number) (Some one) h = h one number
+
 bool_cases : (b : Bool) → (b ≡ true) ⊎ (b ≡ false)
 bool_cases true = inl refl
 bool_cases false = inr refl
@@ -164,41 +179,43 @@ again_rounds times lines (Some more) e = rw e (rw (sum_ones more) (ap (λ n. (ti
 until_other : (line : Form) (lines : List Form) → is_done line ≡ false → until_done (line ∷ lines) ≡ option_map (λ more. line ∷ more) (until_done lines)
 until_other line lines d = rw d refl
 
-module _ (refer : List ℕ → Option ClassRef) where
-  first_said : (line : Form) (lines : List Form) → ends_block line ≡ false → block_lines refer (line ∷ lines) ≡ with_front (block_line refer line) (block_lines refer lines)
+module _ (sense : Sense) where
+  first_said : (line : Form) (lines : List Form) → ends_block line ≡ false → block_lines sense (line ∷ lines) ≡ with_front (block_line sense line) (block_lines sense lines)
   unfolding block_lines
   first_said line lines n = rw n refl
 
-  stop_said : (line : Form) (lines : List Form) → ends_block line ≡ true → block_lines refer (line ∷ lines) ≡ []
+  stop_said : (line : Form) (lines : List Form) → ends_block line ≡ true → block_lines sense (line ∷ lines) ≡ []
   unfolding block_lines
   stop_said line lines n = rw n refl
 
-  last_said : block_lines refer [] ≡ []
+  last_said : block_lines sense [] ≡ []
   unfolding block_lines
   last_said = refl
 
   -- the lines, written out behind the lines so far of a repeat that isn't done
   abbrev written : Option Repeated → List Form → ℕ
-  written loop lines = length (written_from loop (block_lines refer lines))
+  written loop lines = length (written_from loop (block_lines sense lines))
 
   abbrev most_of : Option Repeated → List Form → ℕ
   most_of None lines = counted one_each lines
   most_of (Some loop) lines = length loop.body + rounds loop.times (length loop.body) (until_done lines) + counted one_each lines
 
-  no_repeat : (line : Form) → ((times : ℕ) → line ≡ form.Repeat (Some times) → ⊥) → NoRepeat (block_line refer line)
-  no_repeat (form.Wait class) h = none_map said.Wait (refer class) (λ one. tt)
-  no_repeat (form.Statement class text) h = none_map said.Statement (refer class) (λ one. tt)
-  no_repeat (form.Stage class) h = none_map said.Stage (refer class) (λ one. tt)
+  no_repeat : (line : Form) → ((times : ℕ) → line ≡ form.Repeat (Some times) → ⊥) → NoRepeat (block_line sense line)
+  no_repeat (form.Wait class) h = none_map said.Wait (sense.class class) (λ one. tt)
+  no_repeat (form.TableWait class schema name) h = none_both said.TableWait (table_number sense.tables schema name) (sense.class class) (λ one number. tt)
+  no_repeat (form.Statement class text) h = none_map (λ ref. said.Statement ref (digest_place sense.digests text)) (sense.class class) (λ one. tt)
+  no_repeat (form.Stage class) h = none_map said.Stage (sense.class class) (λ one. tt)
   no_repeat (form.Spend (Some time)) h = tt
   no_repeat (form.Spend None) h = tt
   no_repeat (form.Repeat (Some times)) h = absurd (h times refl)
   no_repeat (form.Repeat None) h = tt
   no_repeat _ h = tt
 
-  no_done : (line : Form) → is_done line ≡ false → NoDone (block_line refer line)
-  no_done (form.Wait class) h = some_map said.Wait (refer class) (λ one. tt)
-  no_done (form.Statement class text) h = some_map said.Statement (refer class) (λ one. tt)
-  no_done (form.Stage class) h = some_map said.Stage (refer class) (λ one. tt)
+  no_done : (line : Form) → is_done line ≡ false → NoDone (block_line sense line)
+  no_done (form.Wait class) h = some_map said.Wait (sense.class class) (λ one. tt)
+  no_done (form.TableWait class schema name) h = some_both said.TableWait (table_number sense.tables schema name) (sense.class class) (λ one number. tt)
+  no_done (form.Statement class text) h = some_map (λ ref. said.Statement ref (digest_place sense.digests text)) (sense.class class) (λ one. tt)
+  no_done (form.Stage class) h = some_map said.Stage (sense.class class) (λ one. tt)
   no_done (form.Spend (Some time)) h = tt
   no_done (form.Spend None) h = tt
   no_done (form.Repeat (Some times)) h = tt
@@ -207,35 +224,35 @@ module _ (refer : List ℕ → Option ClassRef) where
   no_done _ h = tt
 
   -- a step outside of a repeat
-  none_step : (line : Form) (lines : List Form) → ends_block line ≡ false → NoRepeat (block_line refer line) → written None lines ≤ counted one_each lines → written None (line ∷ lines) ≤ counted one_each (line ∷ lines)
+  none_step : (line : Form) (lines : List Form) → ends_block line ≡ false → NoRepeat (block_line sense line) → written None lines ≤ counted one_each lines → written None (line ∷ lines) ≤ counted one_each (line ∷ lines)
   none_step line lines n plain h =
-      let step = front_none (block_line refer line) (block_lines refer lines) (counted one_each lines) plain h in
+      let step = front_none (block_line sense line) (block_lines sense lines) (counted one_each lines) plain h in
       rw (first_said line lines n, counted_first line lines) (omega (arith, step))
 
   repeat_step : (times : ℕ) (lines : List Form) → written (Some (record { times = times; body = [] })) lines ≤ most_of (Some (record { times = times; body = [] })) lines
       → written None (form.Repeat (Some times) ∷ lines) ≤ counted one_each (form.Repeat (Some times) ∷ lines)
   repeat_step times lines h =
-      let rest : length (written_from (Some (record { times = times; body = [] })) (block_lines refer lines)) ≤ 0 + rounds times 0 (until_done lines) + counted one_each lines = h in
-      rw (first_said (form.Repeat (Some times)) lines refl, begins times (block_lines refer lines), counted_first (form.Repeat (Some times)) lines, again_rounds times lines (until_done lines) refl) (omega (arith, rest))
+      let rest : length (written_from (Some (record { times = times; body = [] })) (block_lines sense lines)) ≤ 0 + rounds times 0 (until_done lines) + counted one_each lines = h in
+      rw (first_said (form.Repeat (Some times)) lines refl, begins times (block_lines sense lines), counted_first (form.Repeat (Some times)) lines, again_rounds times lines (until_done lines) refl) (omega (arith, rest))
 
   -- a step inside of one
   done_step : (loop : Repeated) (lines : List Form) → written None lines ≤ counted one_each lines → written (Some loop) (form.Done ∷ lines) ≤ most_of (Some loop) (form.Done ∷ lines)
   done_step loop lines h =
       let copies_short = copied loop.times loop.body in
-      let joined = length-append (copies loop.times loop.body) (written_from None (block_lines refer lines)) in
+      let joined = length-append (copies loop.times loop.body) (written_from None (block_lines sense lines)) in
       let rounds_are : (loop.times - 1) * (length loop.body + 0) ≡ (loop.times - 1) * length loop.body = ap (λ n. (loop.times - 1) * n) (omega arith) in
-      rw (first_said form.Done lines refl, ends loop (block_lines refer lines), counted_first form.Done lines) (omega (arith, copies_short, joined, rounds_are, h))
+      rw (first_said form.Done lines refl, ends loop (block_lines sense lines), counted_first form.Done lines) (omega (arith, copies_short, joined, rounds_are, h))
 
   some_step : (loop : Repeated) (line : Form) (lines : List Form) → ends_block line ≡ false → is_done line ≡ false
       → ((body : List BlockLine) → written (Some (record { times = loop.times; body = body })) lines ≤ most_of (Some (record { times = loop.times; body = body })) lines)
       → written (Some loop) (line ∷ lines) ≤ most_of (Some loop) (line ∷ lines)
   some_step loop line lines n d h =
       let most = length loop.body + rounds loop.times (length loop.body) (option_map (λ more. line ∷ more) (until_done lines)) + (1 + counted one_each lines) in
-      let each : (body : List BlockLine) → length body ≤ length loop.body + 1 → length (written_from (Some (record { times = loop.times; body = body })) (block_lines refer lines)) ≤ most = λ body short. (
+      let each : (body : List BlockLine) → length body ≤ length loop.body + 1 → length (written_from (Some (record { times = loop.times; body = body })) (block_lines sense lines)) ≤ most = λ body short. (
       let more = rounds_more loop.times (length loop.body) (length body) line (until_done lines) short in
-      let rest : length (written_from (Some (record { times = loop.times; body = body })) (block_lines refer lines)) ≤ length body + rounds loop.times (length body) (until_done lines) + counted one_each lines = h body in
+      let rest : length (written_from (Some (record { times = loop.times; body = body })) (block_lines sense lines)) ≤ length body + rounds loop.times (length body) (until_done lines) + counted one_each lines = h body in
       omega (arith, more, rest, short)) in
-      let step = front_some (block_line refer line) loop (block_lines refer lines) most (no_done line d) each in
+      let step = front_some (block_line sense line) loop (block_lines sense lines) most (no_done line d) each in
       rw (first_said line lines n, until_other line lines d, counted_first line lines) (omega (arith, step))
 
   stop_step : (loop : Option Repeated) (line : Form) (lines : List Form) → ends_block line ≡ true → written loop (line ∷ lines) ≤ most_of loop (line ∷ lines)
@@ -263,7 +280,7 @@ module _ (refer : List ℕ → Option ClassRef) where
   behind_short (line ∷ before) lines = rw (counted_first line (before ++ lines)) (omega (arith, behind_short before lines))
 
   -- what the lines of a block come to is no more than what all lines do
-  pub written_short : (all before lines : List Form) → all ≡ before ++ lines → counted one_each all ≤ 200000 → length (written_out (block_lines refer lines)) ≤ 200000
+  pub written_short : (all before lines : List Form) → all ≡ before ++ lines → counted one_each all ≤ 200000 → length (written_out (block_lines sense lines)) ≤ 200000
   written_short all before lines e few =
       let total : counted one_each all ≡ counted one_each (before ++ lines) = ap (counted one_each) e in
       omega (arith, short None lines, behind_short before lines, total, few)

@@ -40,9 +40,3 @@ is_built before (form.EndStatement numbers) = true
 is_built before (form.Repeat times) = true
 is_built before form.Done = true
 is_built before _ = false
-
--- the line is read at all
-abbrev pub is_read : Form → Bool
-is_read (form.TableWait class schema name) = false
-is_read (form.Statement class text) = length text == 0
-is_read _ = true

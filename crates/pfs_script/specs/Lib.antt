@@ -8,10 +8,13 @@ pub mod Nested
 pub mod Counts
 pub mod Sessions
 pub mod Built
+pub mod Finds
 pub mod Next
 pub mod Places
 pub mod Blocks
+pub mod Sensing
 pub mod Runnable
 pub mod RunnableProps
 pub mod Scripts
 pub mod Readings
+pub mod Events

@@ -14,7 +14,8 @@ pub data Mark : Type 0 where
 
 abbrev pub mark_of : BlockLine → Mark
 mark_of (lines.Wait class) = Opens kinds.Wait
-mark_of (lines.Statement class) = Opens kinds.Statement
+mark_of (lines.TableWait class table) = Opens kinds.Wait
+mark_of (lines.Statement class digest) = Opens kinds.Statement
 mark_of (lines.Transaction access) = Opens kinds.Transaction
 mark_of (lines.Stage class) = Opens kinds.Stage
 mark_of lines.StageEnd = EndsStage
@@ -30,7 +31,8 @@ mark_of lines.Done = Passes
 abbrev pub repeats_of : BlockLine → Option ℕ
 repeats_of (lines.Repeat times) = Some times
 repeats_of (lines.Wait class) = None
-repeats_of (lines.Statement class) = None
+repeats_of (lines.TableWait class table) = None
+repeats_of (lines.Statement class digest) = None
 repeats_of (lines.Transaction access) = None
 repeats_of (lines.Stage class) = None
 repeats_of lines.StageEnd = None
@@ -44,7 +46,8 @@ repeats_of lines.Done = None
 abbrev pub is_done : BlockLine → Bool
 is_done lines.Done = true
 is_done (lines.Wait class) = false
-is_done (lines.Statement class) = false
+is_done (lines.TableWait class table) = false
+is_done (lines.Statement class digest) = false
 is_done (lines.Transaction access) = false
 is_done (lines.Stage class) = false
 is_done lines.StageEnd = false

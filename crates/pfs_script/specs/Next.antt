@@ -10,12 +10,13 @@ use Rattle.pfs_event.specs.declared.kind.EventKind.TheVariants as kinds
 use Rattle.pfs_script.specs.declared.forms.Form.{Form}
 use Rattle.pfs_script.specs.declared.forms.Form.TheVariants as form
 use Rattle.pfs_script.specs.declared.reasons.Reason.{Reason}
-use Rattle.pfs_script.specs.declared.reasons.Reason.TheVariants.{OutOfPlace, BadNumber, BadSession, UnknownName, BadLimit, BadNesting, TooLong, TooMuch, NotBuilt}
+use Rattle.pfs_script.specs.declared.reasons.Reason.TheVariants.{OutOfPlace, BadNumber, BadSession, UnknownName, BadLimit, BadNesting, BadStatement, TooLong, TooMuch, NotBuilt}
 use Rattle.pfs_script.specs.Headings.{named_limit, named_consumer, is_before_limits, is_known}
 use Rattle.pfs_script.specs.Marks.{Mark, Opens, Ends, EndsStage, Passes}
 use Rattle.pfs_script.specs.Brackets.{open_in, kinds_of, innermost, may_stand, is_in_statement}
 use Rattle.pfs_script.specs.Sessions.{is_phase, phase_of, is_block_of, session_now, lines_of, has_quit}
-use Rattle.pfs_script.specs.Built.{is_read, is_built}
+use Rattle.pfs_script.specs.Finds.{is_refused, tables_of}
+use Rattle.pfs_script.specs.Built.{is_built}
 use Rattle.pfs_script.specs.declared.reasons.Extent.{Extent}
 use Rattle.pfs_script.specs.declared.reasons.Extent.TheVariants.{Whole, Built}
 use Rattle.pfs_script.specs.Counts.{ahead_of_last, is_repeat, is_in_repeat, counted}
@@ -187,6 +188,10 @@ abbrev pub is_select : Form → Bool
 is_select (form.Sql text) = begins_with (codes "select") text
 is_select _ = false
 
+-- 1 for a SELECT
+abbrev pub one_select : Form → ℕ
+one_select line = if is_select line then 1 else 0
+
 -- what an SQL command weighs
 abbrev pub sql_weight : List ℕ → ℕ
 sql_weight text = if begins_with (codes "select") text then 10000 else (if begins_with (codes "truncate") text then 20000 else 300)
@@ -211,11 +216,21 @@ weight_of _ = 1
 abbrev pub has_over : ℕ → (Form → Bool) → List Form → Form → Bool
 has_over most test before line = nat_lt most (count_by test (before ++ line ∷ []))
 
--- with this line there are more than 64 phases, 256 classes of the script's own or 256 SELECTs, or the lines weigh more than 5,000,000
+-- with this line there are more than 64 phases, 256 classes of the script's own, 64 tables or 256 SELECTs, or the lines weigh more than
+-- 5,000,000; a repeat counts in full at its `done`
 abbrev pub is_too_much : List Form → Form → Bool
 is_too_much before line =
-    has_over 64 is_phase before line || (has_over 256 is_class before line || (has_over 256 is_select before line
+    has_over 64 is_phase before line || (has_over 256 is_class before line || (nat_lt 256 (counted one_select (before ++ line ∷ []))
     || nat_lt 5000000 (counted weight_of (before ++ line ∷ []))))
+
+-- with this line there are more than 64 tables
+abbrev pub is_table_too_many : List Form → Form → Bool
+is_table_too_many before line = nat_lt 64 (length (tables_of (before ++ line ∷ [])))
+
+-- the lexer refuses the text of the statement
+abbrev pub is_bad_statement : Form → Bool
+is_bad_statement (form.Statement class text) = is_refused text
+is_bad_statement _ = false
 
 -- the least reason for which a line may not stand there
 unfoldable pub least_reason : List Form → Form → Option Reason
@@ -226,13 +241,14 @@ least_reason before line =
     else (if is_unknown before line then Some UnknownName
     else (if is_bad_limit before line then Some BadLimit
     else (if is_bad_nesting before line then Some BadNesting
+    else (if is_bad_statement line then Some BadStatement
     else (if is_too_long before line then Some TooLong
-    else (if is_too_much before line then Some TooMuch
-    else None)))))))
+    else (if is_too_much before line || is_table_too_many before line then Some TooMuch
+    else None))))))))
 
 -- whether a line is let in at all: into a script any is, and into one for the engine what the engine runs
 abbrev pub is_let_in : Extent → List Form → Form → Bool
-is_let_in Whole before line = is_read line
+is_let_in Whole before line = true
 is_let_in Built before line = is_built before line
 
 -- why the line may not stand behind those before it; one that isn't let in is tested for nothing else

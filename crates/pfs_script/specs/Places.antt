@@ -16,7 +16,11 @@ use Rattle.pfs_script.specs.declared.totals.Totals.{Totals}
 use Rattle.pfs_script.specs.Headings.{is_before_limits}
 use Rattle.pfs_script.specs.Counts.{ahead_of_last, is_repeat, is_in_repeat, counted, once_more, more_times, pending}
 use Rattle.pfs_script.specs.Sessions.{is_phase, is_session, is_block_of, phase_of, session_now, has_quit}
-use Rattle.pfs_script.specs.Next.{is_class, is_select, session_kinds, kinds_open, gives, one_each, weight_of}
+use Rattle.pfs_script.specs.declared.totals.Tally.{Tally}
+use Rattle.pfs_script.specs.declared.finds.Finds.{Finds}
+use Rattle.pfs_script.specs.Headings.{limits_of}
+use Rattle.pfs_script.specs.Finds.{tables_of, digests_of}
+use Rattle.pfs_script.specs.Next.{is_class, one_select, session_kinds, kinds_open, gives, one_each, weight_of}
 
 -- the flags are true of the lines, and a limit's flag says whether it was given
 pub record KnowsFront (front : Front) (before : List Form) : Type 0 where
@@ -92,24 +96,32 @@ body_with (form.Repeat times) measure body = 0
 body_with form.Done measure body = 0
 body_with _ measure body = body + measure
 
--- the lines, the phases, classes and SELECTs among them and their weight, within what a script may have; and what a `done` would add
+-- what the lines come to by this measure, and what a `done` would add to it
+pub record KnowsTally (tally : Tally) (measure : Form → ℕ) (more : ℕ) (before : List Form) : Type 0 where
+  pub total : tally.total ≡ counted measure before
+  pub body : pending measure before ≡ more * tally.body
+  pub low : tally.body ≤ tally.total
+
+-- the lines, the SELECTs among them and their weight, the phases and classes, each within what a script may have
 pub record KnowsTotals (totals : Totals) (before : List Form) : Type 0 where
-  pub lines : totals.lines ≡ counted one_each before
+  pub lines : KnowsTally totals.lines one_each totals.more before
+  pub selects : KnowsTally totals.selects one_select totals.more before
+  pub weight : KnowsTally totals.weight weight_of totals.more before
   pub phases : totals.phases ≡ count_by is_phase before
   pub classes : totals.classes ≡ count_by is_class before
-  pub selects : totals.selects ≡ count_by is_select before
-  pub weight : totals.weight ≡ counted weight_of before
-  pub few_lines : totals.lines ≤ 200000
+  pub few_lines : totals.lines.total ≤ 200000
+  pub few_selects : totals.selects.total ≤ 256
+  pub low_weight : totals.weight.total ≤ 5000000
   pub few_phases : totals.phases ≤ 64
   pub few_classes : totals.classes ≤ 256
-  pub few_selects : totals.selects ≤ 256
-  pub low_weight : totals.weight ≤ 5000000
   pub more : totals.more ≡ more_times before
-  pub body_lines : pending one_each before ≡ totals.more * totals.body_lines
-  pub body_weight : pending weight_of before ≡ totals.more * totals.body_weight
   pub alone : is_in_repeat before ≡ false → totals.more ≡ 0
-  pub few_body_lines : totals.body_lines ≤ totals.lines
-  pub low_body_weight : totals.body_weight ≤ totals.weight
+
+-- the tables and digest texts are those of the lines, under the limit that these give, and there are 64 tables at most
+pub record KnowsFinds (finds : Finds) (before : List Form) : Type 0 where
+  pub tables : finds.tables ≡ tables_of before
+  pub few_tables : length finds.tables ≤ 64
+  pub digests : finds.digests ≡ digests_of (limits_of before).digests before
 
 -- the place is that behind these lines
 pub record Knows (place : Place) (before : List Form) : Type 0 where

@@ -18,7 +18,8 @@ IsKnownClass classes (Lost kind) = Unit {0}
 -- what the line starts is of such a class
 abbrev pub IsKnown : ℕ → BlockLine → Type 0
 IsKnown classes (said.Wait class) = IsKnownClass classes class
-IsKnown classes (said.Statement class) = IsKnownClass classes class
+IsKnown classes (said.TableWait class table) = IsKnownClass classes class
+IsKnown classes (said.Statement class digest) = IsKnownClass classes class
 IsKnown classes (said.Stage class) = IsKnownClass classes class
 IsKnown classes (said.Transaction access) = Unit {0}
 IsKnown classes said.StageEnd = Unit {0}

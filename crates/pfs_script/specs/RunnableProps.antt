@@ -20,9 +20,11 @@ nested_prop : (kinds : List EventKind) (start : Option (List EventKind)) (lines 
 unfolding IsNested
 nested_prop kinds start [] = hlevel props
 nested_prop kinds None (said.Wait class ∷ lines) = hlevel (props, nested_prop (kinds_behind (mark_of (said.Wait class)) kinds) None lines)
+nested_prop kinds None (said.TableWait class table ∷ lines) = hlevel (props, nested_prop (kinds_behind (mark_of (said.TableWait class table)) kinds) None lines)
 nested_prop kinds (Some first) (said.Wait class ∷ lines) = hlevel (props, nested_prop (kinds_behind (mark_of (said.Wait class)) kinds) (Some first) lines)
-nested_prop kinds None (said.Statement class ∷ lines) = hlevel (props, nested_prop (kinds_behind (mark_of (said.Statement class)) kinds) None lines)
-nested_prop kinds (Some first) (said.Statement class ∷ lines) = hlevel (props, nested_prop (kinds_behind (mark_of (said.Statement class)) kinds) (Some first) lines)
+nested_prop kinds (Some first) (said.TableWait class table ∷ lines) = hlevel (props, nested_prop (kinds_behind (mark_of (said.TableWait class table)) kinds) (Some first) lines)
+nested_prop kinds None (said.Statement class digest ∷ lines) = hlevel (props, nested_prop (kinds_behind (mark_of (said.Statement class digest)) kinds) None lines)
+nested_prop kinds (Some first) (said.Statement class digest ∷ lines) = hlevel (props, nested_prop (kinds_behind (mark_of (said.Statement class digest)) kinds) (Some first) lines)
 nested_prop kinds None (said.Transaction access ∷ lines) = hlevel (props, nested_prop (kinds_behind (mark_of (said.Transaction access)) kinds) None lines)
 nested_prop kinds (Some first) (said.Transaction access ∷ lines) = hlevel (props, nested_prop (kinds_behind (mark_of (said.Transaction access)) kinds) (Some first) lines)
 nested_prop kinds None (said.Stage class ∷ lines) = hlevel (props, nested_prop (kinds_behind (mark_of (said.Stage class)) kinds) None lines)
@@ -50,7 +52,8 @@ class_prop classes (Lost kind) = hlevel props
 
 known_prop : (classes : ℕ) (line : BlockLine) → IsProp (IsKnown classes line)
 known_prop classes (said.Wait class) = class_prop classes class
-known_prop classes (said.Statement class) = class_prop classes class
+known_prop classes (said.TableWait class table) = class_prop classes class
+known_prop classes (said.Statement class digest) = class_prop classes class
 known_prop classes (said.Transaction access) = hlevel props
 known_prop classes (said.Stage class) = class_prop classes class
 known_prop classes said.StageEnd = hlevel props

@@ -8,10 +8,11 @@ use Rattle.pfs_script.specs.declared.reasons.Extent.{Extent}
 use Rattle.pfs_script.specs.declared.reasons.Reason.{Reason}
 use Rattle.pfs_script.specs.declared.reasons.Reason.TheVariants.{BadByte, OpenLine, OutOfPlace}
 use Rattle.pfs_script.specs.Words.{is_script_byte}
-use Rattle.pfs_script.specs.Headings.{Head, head_of, resolved}
+use Rattle.pfs_script.specs.Headings.{head_of, limits_of}
+use Rattle.pfs_script.specs.Finds.{tables_of, digests_of}
 use Rattle.pfs_script.specs.Counts.{is_in_repeat}
 use Rattle.pfs_script.specs.Next.{next}
-use Rattle.pfs_script.specs.Blocks.{phases_of}
+use Rattle.pfs_script.specs.Blocks.{sense_of, phases_of}
 
 -- the lines, each without its line feed, and what stands behind the last line feed
 abbrev pub parts_of : List ℕ → List (List ℕ)
@@ -38,19 +39,19 @@ IsBad extent before [] [] reason = (is_in_repeat before ≡ true) × (reason ≡
 IsBad extent before (byte ∷ bytes) [] reason = reason ≡ open_reason (byte ∷ bytes)
 IsBad extent before bad (part ∷ parts) reason = next extent before bad ≡ Err reason
 
--- the setting has what the lines before the first phase fix, and neither tables nor digest texts
-pub record IsSetting (head : Head) (setting : Setting) : Type 0 where
-  pub names : setting.names ≡ head.names
-  pub classes : setting.classes ≡ head.classes
-  pub tables : setting.tables ≡ []
-  pub digests : setting.digests ≡ []
-  pub limits : setting.limits ≡ head.limits
-  pub consumers : setting.consumers ≡ head.consumers
+-- the setting has what the lines before the first phase fix, and the tables and digest texts of all lines
+pub record IsSetting (lines : List Form) (setting : Setting) : Type 0 where
+  pub names : setting.names ≡ (head_of lines).names
+  pub classes : setting.classes ≡ (head_of lines).classes
+  pub tables : setting.tables ≡ tables_of lines
+  pub digests : setting.digests ≡ digests_of (limits_of lines).digests lines
+  pub limits : setting.limits ≡ (head_of lines).limits
+  pub consumers : setting.consumers ≡ (head_of lines).consumers
 
 -- the text is a script with this setting and these phases: they are what its lines fix and say
 unfoldable pub IsScript : Extent → List ℕ → Setting → List Phase → Type 0
 IsScript extent text setting phases =
-    (lines : List Form) × IsText extent text lines × IsSetting (head_of lines) setting × (phases ≡ phases_of (resolved (head_of lines)) lines)
+    (lines : List Form) × IsText extent text lines × IsSetting lines setting × (phases ≡ phases_of (sense_of lines) lines)
 
 -- the first faulty line, counted from 1, with its least reason: the lines before it begin a script, and with it they don't; where a
 -- repeat isn't done at the end, that is the line behind the last

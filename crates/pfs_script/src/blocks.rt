@@ -35,8 +35,17 @@ pub struct StatementNumbers {
 pub enum BlockLine {
     /// Starts a wait of a class, or of a lost one.
     Wait(ClassRef),
-    /// Starts a statement of a class, or of a lost one.
-    Statement(ClassRef),
+    /// Starts a wait on a table, by the table's number in the setting.
+    TableWait {
+        class: ClassRef,
+        table: u64,
+    },
+    /// Starts a statement of a class, or of a lost one, with the place of its digest text in the setting;
+    /// None where the text has no place.
+    Statement {
+        class: ClassRef,
+        digest: Option<u64>,
+    },
     /// Starts a transaction.
     Transaction(Access),
     /// Ends the open stage, if any, and starts one of a class, or of a lost one.

@@ -1,9 +1,10 @@
 //! The phases and blocks that a script's lines make.
 
-ghost use Rattle.std.specs.Prelude.{◌≡◌, IfOk, OnOk, ℕ, List, ◌++◌, ◌∷◌, []};
-ghost use Rattle.pfs_script.specs.declared.forms.Form.TheVariants as form;
+ghost use Rattle.std.specs.Prelude.{◌≡◌, IfOk, OnOk, List, ◌++◌, ◌∷◌, [], option_map, option_and_then};
+ghost use Rattle.pfs_script.specs.declared.blocks.BlockLine.TheVariants as said;
+ghost use Rattle.pfs_script.specs.declared.finds.Finds.{Finds};
+ghost use Rattle.pfs_script.specs.Sensing.{sense, IsPlain};
 ghost use Rattle.pfs_script.specs.declared.forms.Form.{Form};
-ghost use Rattle.pfs_script.specs.Headings.{resolved};
 ghost use Rattle.pfs_script.specs.Sessions.{is_phase, ends_block};
 ghost use Rattle.pfs_script.specs.Blocks.{with_front, statement_numbers, block_line, block_lines, block_behind, blocks_of, with_phase, phases_of};
 ghost use Rattle.pfs_script.specs.declared.blocks.BlockLine.{BlockLine};
@@ -13,19 +14,32 @@ ghost use Rattle.pfs_script.specs.declared.blocks.Phase.{Phase};
 use crate::blocks::{
     Block, BlockLine, BlockLineList, BlockList, Connect, Phase, PhaseList, StatementNumbers,
 };
+use crate::finds::{Finds, digest_place, table_number};
 use crate::forms::{Form, Numbers};
 use crate::heading::Heading;
-use pfs_classes::NoMemory;
+use pfs_classes::{ClassRef, NoMemory};
 use pfs_text::Text;
 use std::alloc::Global;
 
 /// The phases of the lines, in order.
-pub fn phases(alloc: Global, heading: &Heading, lines: &[Form]) -> Result<PhaseList, NoMemory>
-    ensures { IfOk result (λ phases. phases ≡ phases_of (resolved heading.now) lines.now) }
+pub fn phases(
+    alloc: Global,
+    heading: &Heading,
+    finds: &Finds,
+    lines: &[Form],
+) -> Result<PhaseList, NoMemory>
+    ensures { IfOk result (λ phases. phases ≡ phases_of (sense heading.now finds.now) lines.now) }
 {
     let mut phases = Vec::new(alloc);
     for at in 0..lines.len() {
-        add_phase(alloc, heading, &mut phases, &lines[at], &lines[at + 1..])?;
+        add_phase(
+            alloc,
+            heading,
+            finds,
+            &mut phases,
+            &lines[at],
+            &lines[at + 1..],
+        )?;
     }
     Ok(PhaseList::new(phases))
 }
@@ -34,22 +48,28 @@ pub fn phases(alloc: Global, heading: &Heading, lines: &[Form]) -> Result<PhaseL
 fn add_phase(
     alloc: Global,
     heading: &Heading,
+    finds: &Finds,
     phases: &mut Vec<Phase>,
     line: &Form,
     behind: &[Form],
 ) -> Result<(), NoMemory>
-    ensures { OnOk result ((more : List Phase) → phases.new.items ++ more ≡ phases.old.items ++ with_phase (is_phase line.now) (blocks_of (resolved heading.now) behind.now) more) }
+    ensures { OnOk result ((more : List Phase) → phases.new.items ++ more ≡ phases.old.items ++ with_phase (is_phase line.now) (blocks_of (sense heading.now finds.now) behind.now) more) }
 {
     if is_phase(line) {
-        let blocks = blocks(alloc, heading, behind)?;
+        let blocks = blocks(alloc, heading, finds, behind)?;
         phases.push(Phase { blocks })?;
     }
     Ok(())
 }
 
 // The blocks of the lines up to the next phase, in order.
-fn blocks(alloc: Global, heading: &Heading, lines: &[Form]) -> Result<BlockList, NoMemory>
-    ensures { IfOk result (λ blocks. blocks ≡ blocks_of (resolved heading.now) lines.now) }
+fn blocks(
+    alloc: Global,
+    heading: &Heading,
+    finds: &Finds,
+    lines: &[Form],
+) -> Result<BlockList, NoMemory>
+    ensures { IfOk result (λ blocks. blocks ≡ blocks_of (sense heading.now finds.now) lines.now) }
 {
     let mut blocks = Vec::new(alloc);
     for at in 0..lines.len() {
@@ -57,7 +77,7 @@ fn blocks(alloc: Global, heading: &Heading, lines: &[Form]) -> Result<BlockList,
         if is_phase(line) {
             break;
         }
-        add_block(alloc, heading, &mut blocks, line, &lines[at + 1..])?;
+        add_block(alloc, heading, finds, &mut blocks, line, &lines[at + 1..])?;
     }
     Ok(BlockList::new(blocks))
 }
@@ -66,11 +86,12 @@ fn blocks(alloc: Global, heading: &Heading, lines: &[Form]) -> Result<BlockList,
 fn add_block(
     alloc: Global,
     heading: &Heading,
+    finds: &Finds,
     blocks: &mut Vec<Block>,
     line: &Form,
     behind: &[Form],
 ) -> Result<(), NoMemory>
-    ensures { OnOk result ((more : List Block) → blocks.new.items ++ more ≡ blocks.old.items ++ with_front (block_behind (resolved heading.now) behind.now line.now) more) }
+    ensures { OnOk result ((more : List Block) → blocks.new.items ++ more ≡ blocks.old.items ++ with_front (block_behind (sense heading.now finds.now) behind.now line.now) more) }
 {
     match line {
         Form::Connect {
@@ -79,13 +100,13 @@ fn add_block(
             host,
         } => {
             let connect = connect(alloc, user.bytes(), host.bytes())?;
-            let lines = block_lines(alloc, heading, behind)?;
+            let lines = block_lines(alloc, heading, finds, behind)?;
             push_block(blocks, *session, Some(connect), lines)
         }
         Form::Resume {
             session: Some(session),
         } => {
-            let lines = block_lines(alloc, heading, behind)?;
+            let lines = block_lines(alloc, heading, finds, behind)?;
             push_block(blocks, *session, None, lines)
         }
         _ => Ok(()),
@@ -118,15 +139,20 @@ fn push_block(
 }
 
 // What the lines up to the next block or phase say to their session, in order.
-fn block_lines(alloc: Global, heading: &Heading, lines: &[Form]) -> Result<BlockLineList, NoMemory>
-    ensures { IfOk result (λ said. said ≡ block_lines (resolved heading.now) lines.now) }
+fn block_lines(
+    alloc: Global,
+    heading: &Heading,
+    finds: &Finds,
+    lines: &[Form],
+) -> Result<BlockLineList, NoMemory>
+    ensures { IfOk result (λ said. said ≡ block_lines (sense heading.now finds.now) lines.now) }
 {
     let mut said = Vec::new(alloc);
     for line in lines {
         if ends_block(line) {
             break;
         }
-        add_line(alloc, heading, &mut said, line)?;
+        add_line(alloc, heading, finds, &mut said, line)?;
     }
     Ok(BlockLineList::new(said))
 }
@@ -135,12 +161,13 @@ fn block_lines(alloc: Global, heading: &Heading, lines: &[Form]) -> Result<Block
 fn add_line(
     alloc: Global,
     heading: &Heading,
+    finds: &Finds,
     said: &mut Vec<BlockLine>,
     line: &Form,
 ) -> Result<(), NoMemory>
-    ensures { OnOk result ((more : List BlockLine) → said.new.items ++ more ≡ said.old.items ++ with_front (block_line (resolved heading.now) line.now) more) }
+    ensures { OnOk result ((more : List BlockLine) → said.new.items ++ more ≡ said.old.items ++ with_front (block_line (sense heading.now finds.now) line.now) more) }
 {
-    if let Some(line) = block_line(alloc, heading, line)? {
+    if let Some(line) = block_line(alloc, heading, finds, line)? {
         said.push(line)?;
     }
     Ok(())
@@ -150,24 +177,52 @@ fn add_line(
 fn block_line(
     alloc: Global,
     heading: &Heading,
+    finds: &Finds,
     line: &Form,
 ) -> Result<Option<BlockLine>, NoMemory>
-    ensures { IfOk result (λ said. said ≡ block_line (resolved heading.now) line.now) }
+    ensures { IfOk result (λ said. said ≡ block_line (sense heading.now finds.now) line.now) }
 {
     let said = match line {
         Form::Sql { text } => Some(BlockLine::Sql(Text::from_slice(alloc, text.bytes())?)),
+        Form::Statement { class, text } => {
+            let place = digest_place(alloc, finds.digests.as_slice(), text.as_str())?;
+            statement(heading.find(class.bytes()), place)
+        }
+        Form::TableWait {
+            class,
+            schema,
+            name,
+        } => {
+            let table = table_number(finds.tables.as_slice(), schema.bytes(), name.bytes());
+            table_wait(heading.find(class.bytes()), table)
+        }
         _ => plain_line(heading, line),
     };
     Ok(said)
 }
 
-// The same for a line other than a command.
+fn statement(class: Option<ClassRef>, place: Option<usize>) -> Option<BlockLine>
+    ensures { result ≡ option_map (λ ref. said.Statement ref place) class }
+{
+    let class = class?;
+    let digest = place.map(|place| place as u64);
+    Some(BlockLine::Statement { class, digest })
+}
+
+fn table_wait(class: Option<ClassRef>, table: Option<usize>) -> Option<BlockLine>
+    ensures { result ≡ option_and_then (λ ref. option_map (said.TableWait ref) table) class }
+{
+    let class = class?;
+    let table = table? as u64;
+    Some(BlockLine::TableWait { class, table })
+}
+
+// The same for a line of another form.
 fn plain_line(heading: &Heading, line: &Form) -> Option<BlockLine>
-    ensures { ((text : List ℕ) → line.now ≡ form.Sql text → ⊥) → result ≡ block_line (resolved heading.now) line.now }
+    ensures { (finds : Finds) → IsPlain line.now → result ≡ block_line (sense heading.now finds) line.now }
 {
     match line {
         Form::Wait { class } => heading.find(class.bytes()).map(BlockLine::Wait),
-        Form::Statement { class, .. } => heading.find(class.bytes()).map(BlockLine::Statement),
         Form::Transaction { access } => Some(BlockLine::Transaction(*access)),
         Form::Stage { class } => heading.find(class.bytes()).map(BlockLine::Stage),
         Form::StageEnd => Some(BlockLine::StageEnd),

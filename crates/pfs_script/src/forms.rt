@@ -1,6 +1,8 @@
 //! The forms that a line can have, and what a line of each form says.
 
-ghost use Rattle.std.specs.Prelude.{◌≡◌, IfOk};
+ghost use Rattle.std.specs.Prelude.{◌≡◌, IfOk, true};
+ghost use Rattle.std.specs.List.{list_all};
+ghost use Rattle.pfs_script.specs.Words.{is_script_byte};
 ghost use Rattle.pfs_script.specs.Forms.{is_silent, words_form, form, bare_form, long_form, block_form, HasItsKind};
 
 use crate::block_lines::{parse_end, parse_repeat, parse_session, parse_spend, parse_sql};
@@ -8,7 +10,7 @@ use crate::blocks::Access;
 use crate::heading_lines::{parse_class, parse_consumer, parse_instrument, parse_limit};
 use crate::reasons::Reason;
 use crate::starts::{parse_stage, parse_start};
-use crate::texts::Text;
+use crate::texts::{StatementText, Text};
 use crate::words::{is_clean, is_text, split_word};
 use pfs_classes::Kind;
 use pfs_classes::laws::computed_kind;
@@ -82,7 +84,7 @@ pub enum Form<'a> {
     /// `start CLASS TEXT`, of kind statement; the text is empty where the line ends behind the class.
     Statement {
         class: Text<'a>,
-        text: Text<'a>,
+        text: StatementText<'a>,
     },
     /// `start transaction rw` or `start transaction ro`.
     Transaction {
@@ -147,6 +149,7 @@ fn is_silent(bytes: &[u8]) -> bool
 
 #[tactic(auto, unfolding(crate::specs::Forms::words_form))]
 fn parse_words(bytes: &[u8]) -> Option<Form<'_>>
+    requires { list_all is_script_byte bytes.now ≡ true }
     ensures { result ≡ words_form bytes.now }
 {
     let (word, rest) = split_word(bytes);
@@ -177,6 +180,7 @@ fn parse_bare<'a>(word: &[u8]) -> Option<Form<'a>>
 /// A line of a word and what stands behind it.
 #[tactic(auto, unfolding(crate::specs::Forms::long_form))]
 fn parse_long<'a>(word: &[u8], rest: &'a [u8]) -> Option<Form<'a>>
+    requires { list_all is_script_byte rest.now ≡ true }
     ensures { result ≡ long_form word.now rest.now }
 {
     if is_text(word, b"limit") {

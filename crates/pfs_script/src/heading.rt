@@ -1,6 +1,6 @@
 //! What the lines before the first phase make: names, classes, limits and opening flags.
 
-ghost use Rattle.std.specs.Prelude.{◌≡◌, ◌<◌, ◌++◌, ◌∷◌, [], length, false, List, ℕ, Contains, None, Some, slice_get, MatchOption, IfOk, OnOk, OnErr, is_some};
+ghost use Rattle.std.specs.Prelude.{◌≡◌, ◌<◌, ◌≤◌, ◌++◌, ◌∷◌, [], length, false, List, ℕ, Contains, None, Some, slice_get, MatchOption, IfOk, OnOk, OnErr, is_some};
 ghost use Rattle.std.specs.Str.{IsUtf8};
 ghost use Rattle.pfs_rows.specs.Limits.{AreInRange};
 ghost use Rattle.pfs_classes.specs.Kinds.{Fits, is_fixed};
@@ -105,17 +105,24 @@ impl Heading {
         self.classes.find(id)
     }
 
-    /// The setting that these lines fix, without tables and digest texts.
-    pub fn into_setting(self, alloc: Global) -> Setting
+    /// How many digest texts are kept at most.
+    pub fn most_digests(&self) -> u64
+        ensures { result ≡ self.now.limits.digests }
+    {
+        self.limits.digests
+    }
+
+    /// The setting that these lines fix, with these tables and digest texts.
+    pub fn into_setting(self, tables: TableList, digests: DigestList) -> Setting
+        requires few_tables { length tables ≤ 64 }
+        requires few_digests { length digests ≤ self.limits.digests }
         ensures names { result.names ≡ self.names }
         ensures classes { result.classes ≡ self.classes }
-        ensures tables { result.tables ≡ [] }
-        ensures digests { result.digests ≡ [] }
+        ensures tables { result.tables ≡ tables }
+        ensures digests { result.digests ≡ digests }
         ensures limits { result.limits ≡ self.limits }
         ensures consumers { result.consumers ≡ self.consumers }
     {
-        let tables = TableList::new(Vec::new(alloc));
-        let digests = DigestList::new(Vec::new(alloc));
         Setting::new(
             self.names,
             self.classes,

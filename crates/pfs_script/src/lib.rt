@@ -7,6 +7,7 @@ pub mod blocks;
 mod building;
 mod commands;
 mod courses;
+mod finds;
 #[cfg(test)]
 mod form_tests;
 mod forms;
@@ -31,8 +32,7 @@ mod totals;
 mod words;
 
 pub use blocks::{
-    Access, Block, BlockLine, BlockLineList, BlockList, Connect, Phase, PhaseList,
-    StatementNumbers,
+    Access, Block, BlockLine, BlockLineList, BlockList, Connect, Phase, PhaseList, StatementNumbers,
 };
 pub use reading::ScriptFault;
 pub use reasons::{Extent, Reason};

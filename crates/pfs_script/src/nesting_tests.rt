@@ -164,7 +164,10 @@ fn a_block_keeps_its_lines(rt: HostRuntime) {
     let kept = [
         BlockLine::Transaction(Access::ReadOnly),
         BlockLine::Repeat(7),
-        BlockLine::Statement(ClassRef::Class(ClassId(12))),
+        BlockLine::Statement {
+            class: ClassRef::Class(ClassId(12)),
+            digest: Some(0),
+        },
         BlockLine::Stage(ClassRef::Lost(pfs_classes::Kind::Stage)),
         BlockLine::Spend(3),
         BlockLine::StageEnd,

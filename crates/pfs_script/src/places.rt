@@ -3,12 +3,13 @@
 ghost use Rattle.std.specs.Prelude.{◌≡◌, ◌≤◌, List, ◌∷◌, ◌++◌, [], None};
 ghost use Rattle.pfs_script.specs.declared.forms.Form.{Form};
 ghost use Rattle.pfs_script.specs.Headings.{head_of};
-ghost use Rattle.pfs_script.specs.Built.{is_built, is_built_limit, is_read};
+ghost use Rattle.pfs_script.specs.Built.{is_built, is_built_limit};
 ghost use Rattle.pfs_script.specs.declared.reasons.Extent.{Extent};
-ghost use Rattle.pfs_script.specs.Next.{has_bad_number, is_no_count, is_out_of_place, is_bad_number, is_unknown, is_event_class, is_let_in, fault_of, least_reason};
-ghost use Rattle.pfs_script.specs.Places.{Knows};
+ghost use Rattle.pfs_script.specs.Next.{has_bad_number, is_no_count, is_out_of_place, is_bad_number, is_unknown, is_event_class, is_bad_statement, is_table_too_many, is_let_in, fault_of, least_reason};
+ghost use Rattle.pfs_script.specs.Places.{Knows, KnowsFinds};
 
 use crate::courses::{Course, no_course};
+use crate::finds::{Finds, is_refused};
 use crate::forms::{Form, Number, Numbers};
 use crate::fronts::{Front, no_front};
 use crate::heading::{Heading, find_consumer, find_limit};
@@ -39,19 +40,25 @@ impl Place {
     /// Why the line may not stand behind the lines so far: the least reason, or none. One that isn't let
     /// in is tested for nothing else.
     #[tactic(auto, unfolding(crate::specs::Next::fault_of))]
-    pub fn fault(&self, extent: Extent, heading: &Heading, line: &Form) -> Option<Reason>
-        ensures { (before : List Form) → Knows self.now before → heading.now ≡ head_of before → result ≡ fault_of extent before line.now }
+    pub fn fault(
+        &self,
+        extent: Extent,
+        heading: &Heading,
+        finds: &Finds,
+        line: &Form,
+    ) -> Option<Reason>
+        ensures { (before : List Form) → Knows self.now before → heading.now ≡ head_of before → KnowsFinds finds.now before → result ≡ fault_of extent before line.now }
     {
         if self.is_let_in(extent, line) {
-            self.least_reason(heading, line)
+            self.least_reason(heading, finds, line)
         } else {
             Some(Reason::NotBuilt)
         }
     }
 
     #[tactic(auto, unfolding(crate::specs::Next::least_reason))]
-    fn least_reason(&self, heading: &Heading, line: &Form) -> Option<Reason>
-        ensures { (before : List Form) → Knows self.now before → heading.now ≡ head_of before → result ≡ least_reason before line.now }
+    fn least_reason(&self, heading: &Heading, finds: &Finds, line: &Form) -> Option<Reason>
+        ensures { (before : List Form) → Knows self.now before → heading.now ≡ head_of before → KnowsFinds finds.now before → result ≡ least_reason before line.now }
     {
         if self.is_out_of_place(line) {
             Some(Reason::OutOfPlace)
@@ -65,9 +72,11 @@ impl Place {
             Some(Reason::BadLimit)
         } else if self.course.is_bad_nesting(line) {
             Some(Reason::BadNesting)
+        } else if is_bad_statement(line) {
+            Some(Reason::BadStatement)
         } else if self.totals.is_too_long(line) {
             Some(Reason::TooLong)
-        } else if self.totals.is_too_much(line) {
+        } else if self.totals.is_too_much(line) || is_table_too_many(finds, line) {
             Some(Reason::TooMuch)
         } else {
             None
@@ -78,7 +87,6 @@ impl Place {
     pub fn pass(&mut self, line: &Form)
         requires phases { self.old.totals.phases ≤ 64 }
         requires classes { self.old.totals.classes ≤ 256 }
-        requires selects { self.old.totals.selects ≤ 256 }
         ensures { (extent : Extent) (before : List Form) → Knows self.old before → fault_of extent before line.now ≡ None → Knows self.new (before ++ line.now ∷ []) }
     {
         self.front.pass(line);
@@ -90,7 +98,7 @@ impl Place {
         ensures { (before : List Form) → Knows self.now before → result ≡ is_let_in extent before line.now }
     {
         match extent {
-            Extent::Whole => is_read(line),
+            Extent::Whole => true,
             Extent::Built => self.is_built(line),
         }
     }
@@ -101,7 +109,7 @@ impl Place {
     {
         match line {
             Form::Limit { name, .. } => is_built_limit(find_limit(name.bytes())),
-            Form::Statement { text, .. } => text.bytes().is_empty(),
+            Form::Statement { text, .. } => text.as_str().is_empty(),
             Form::Phase => !self.front.has_phase,
             Form::Connect { .. } => self.course.has_room(),
             Form::Silent
@@ -152,15 +160,21 @@ impl Place {
     }
 }
 
-// Whether the line is read at all.
-fn is_read(line: &Form) -> bool
-    ensures { result ≡ is_read line.now }
+// Whether the lexer refuses the statement's text.
+fn is_bad_statement(line: &Form) -> bool
+    ensures { result ≡ is_bad_statement line.now }
 {
     match line {
-        Form::TableWait { .. } => false,
-        Form::Statement { text, .. } => text.bytes().is_empty(),
-        _ => true,
+        Form::Statement { text, .. } => is_refused(text.as_str()),
+        _ => false,
     }
+}
+
+// Whether the line names one table too many.
+fn is_table_too_many(finds: &Finds, line: &Form) -> bool
+    ensures { (before : List Form) → KnowsFinds finds.now before → result ≡ is_table_too_many before line.now }
+{
+    finds.is_table_too_many(line)
 }
 
 // Whether the limit is built: one of a kind of classes, or how many statements are recorded inside one

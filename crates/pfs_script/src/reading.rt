@@ -6,13 +6,14 @@ ghost use Rattle.pfs_script.specs.declared.forms.Form.{Form};
 ghost use Rattle.pfs_script.specs.Forms.{HasItsKind};
 ghost use Rattle.pfs_script.specs.Headings.{head_of};
 ghost use Rattle.pfs_script.specs.Next.{next};
-ghost use Rattle.pfs_script.specs.Places.{Knows};
+ghost use Rattle.pfs_script.specs.Places.{Knows, KnowsFinds};
 ghost use Rattle.pfs_script.specs.Scripts.{parts_of, open_reason};
 ghost use Rattle.pfs_script.specs.declared.reasons.Extent.TheVariants.{Whole, Built};
 ghost use Rattle.pfs_script.specs.Readings.{Reads, Gives};
 ghost use Rattle.pfs_script.specs.Runnable.{IsRunnable};
 
 use crate::building::phases;
+use crate::finds::Finds;
 use crate::forms::{Form, parse_line};
 use crate::heading::Heading;
 use crate::places::{Place, start};
@@ -35,6 +36,7 @@ pub enum ScriptFault {
 pub struct Reading<'a> {
     pub lines: Vec<Form<'a>>,
     pub heading: Heading,
+    pub finds: Finds,
 }
 
 impl Script {
@@ -63,11 +65,17 @@ fn read_script(alloc: Global, extent: Extent, bytes: &[u8]) -> Result<Script, Sc
         Ok(reading) => reading,
         Err(fault) => return Err(fault),
     };
-    let phases = match phases(alloc, &reading.heading, reading.lines.as_slice()) {
+    let phases = match phases(
+        alloc,
+        &reading.heading,
+        &reading.finds,
+        reading.lines.as_slice(),
+    ) {
         Ok(phases) => phases,
         Err(_) => return Err(ScriptFault::NoMemory),
     };
-    let setting = reading.heading.into_setting(alloc);
+    let Finds { tables, digests } = reading.finds;
+    let setting = reading.heading.into_setting(tables, digests);
     Ok(Script { setting, phases })
 }
 
@@ -77,16 +85,17 @@ fn read_line<'a>(
     place: &Place,
     extent: Extent,
     heading: &Heading,
+    finds: &Finds,
     bytes: &'a [u8],
 ) -> Result<Form<'a>, Reason>
-    ensures says { (before : List Form) → Knows place.now before → heading.now ≡ head_of before → result ≡ next extent before bytes.now }
+    ensures says { (before : List Form) → Knows place.now before → heading.now ≡ head_of before → KnowsFinds finds.now before → result ≡ next extent before bytes.now }
     ensures kind { IfOk result HasItsKind }
 {
     let line = match parse_line(bytes) {
         Ok(line) => line,
         Err(reason) => return Err(reason),
     };
-    match place.fault(extent, heading, &line) {
+    match place.fault(extent, heading, finds, &line) {
         Some(reason) => Err(reason),
         None => Ok(line),
     }
@@ -143,12 +152,17 @@ fn read_lines(alloc: Global, extent: Extent, bytes: &[u8]) -> Result<Reading, Sc
         Ok(heading) => heading,
         Err(_) => return Err(ScriptFault::NoMemory),
     };
+    let mut finds = Finds::none(alloc);
     let mut rest = bytes;
     while let Some((line, after)) = split_line(rest) {
-        let line = match read_line(&place, extent, &heading, line) {
+        let line = match read_line(&place, extent, &heading, &finds, line) {
             Ok(line) => line,
             Err(reason) => return Err(bad(lines.len(), reason)),
         };
+        match finds.note(alloc, heading.most_digests(), &line) {
+            Ok(()) => {}
+            Err(_) => return Err(ScriptFault::NoMemory),
+        }
         match heading.pass(alloc, &line) {
             Ok(()) => {}
             Err(_) => return Err(ScriptFault::NoMemory),
@@ -166,5 +180,9 @@ fn read_lines(alloc: Global, extent: Extent, bytes: &[u8]) -> Result<Reading, Sc
     if place.course.is_in_repeat() {
         return Err(bad(lines.len(), Reason::OutOfPlace));
     }
-    Ok(Reading { lines, heading })
+    Ok(Reading {
+        lines,
+        heading,
+        finds,
+    })
 }

@@ -23,9 +23,11 @@ pub enum Reason {
     BadLimit = 8,
     /// A rule of opening and ending is broken, or six numbers stand on an `end` that ends no statement.
     BadNesting = 9,
+    /// The lexer refuses the statement's text.
+    BadStatement = 10,
     /// With this line there are more lines than a script may have; a repeat counts in full at its `done`.
     TooLong = 11,
-    /// With this line a script has more phases, classes or SELECTs, or more weight, than it may have; a
+    /// With this line a script has more phases, classes, tables or SELECTs, or more weight, than it may have; a
     /// repeat weighs in full at its `done`.
     TooMuch = 12,
     /// The engine doesn't run the line yet.

@@ -1,17 +1,20 @@
 //! The lines that start an event: waits, statements, transactions and stages.
 
-ghost use Rattle.std.specs.Prelude.{◌≡◌};
+ghost use Rattle.std.specs.Prelude.{◌≡◌, true};
+ghost use Rattle.std.specs.List.{list_all};
+ghost use Rattle.pfs_script.specs.Words.{is_script_byte};
 ghost use Rattle.pfs_script.specs.Forms.{start_form, start_class, start_class_with, start_of_kind, start_of_kind_with, transaction_form, table_wait_form, stage_form};
 
 use crate::blocks::Access;
 use crate::forms::Form;
-use crate::texts::Text;
+use crate::texts::{StatementText, Text};
 use crate::words::{is_table_name, is_text, split_table, split_word};
 use pfs_classes::Kind;
 
 /// `start CLASS`, from CLASS on, with what stands behind it.
 #[tactic(auto, unfolding(crate::specs::Forms::start_form))]
 pub fn parse_start(words: &[u8]) -> Option<Form<'_>>
+    requires { list_all is_script_byte words.now ≡ true }
     ensures { result ≡ start_form words.now }
 {
     let (class, more) = split_word(words);
@@ -39,7 +42,7 @@ fn start_of_kind(class: &[u8], kind: Kind) -> Option<Form<'_>>
         }),
         Kind::Statement => Some(Form::Statement {
             class: Text::new(class),
-            text: Text::new(b""),
+            text: StatementText::new(b""),
         }),
         Kind::TableIo | Kind::TableLock | Kind::Stage | Kind::Transaction => None,
     }
@@ -48,6 +51,7 @@ fn start_of_kind(class: &[u8], kind: Kind) -> Option<Form<'_>>
 /// `start CLASS` with more behind it.
 #[tactic(auto, unfolding(crate::specs::Forms::start_class_with))]
 fn parse_start_class_with<'a>(class: &'a [u8], more: &'a [u8]) -> Option<Form<'a>>
+    requires { list_all is_script_byte more.now ≡ true }
     ensures { result ≡ start_class_with class.now more.now }
 {
     if is_text(class, b"transaction") {
@@ -58,13 +62,14 @@ fn parse_start_class_with<'a>(class: &'a [u8], more: &'a [u8]) -> Option<Form<'a
 }
 
 fn start_of_kind_with<'a>(class: &'a [u8], more: &'a [u8], kind: Kind) -> Option<Form<'a>>
+    requires { list_all is_script_byte more.now ≡ true }
     ensures { result ≡ start_of_kind_with class.now more.now kind }
 {
     match kind {
         Kind::TableIo | Kind::TableLock => parse_table_wait(class, more),
         Kind::Statement => Some(Form::Statement {
             class: Text::new(class),
-            text: Text::new(more),
+            text: StatementText::new(more),
         }),
         Kind::Mutex
         | Kind::Rwlock

@@ -240,12 +240,12 @@ fn the_heaviest_repeats(rt: HostRuntime) {
             12,
         ),
         (
-            b"phase\nsession 1 u h\nrepeat 498\nsql select\ndone\n",
+            b"phase\nsession 1 u h\nrepeat 256\nsql select\ndone\n",
             0,
             0,
         ),
         (
-            b"phase\nsession 1 u h\nrepeat 499\nsql select\ndone\n",
+            b"phase\nsession 1 u h\nrepeat 257\nsql select\ndone\n",
             5,
             12,
         ),
@@ -270,6 +270,125 @@ fn forms_that_are_not_built(rt: HostRuntime) {
     for (bytes, line, reason) in &cases {
         assert_eq!(rt; built_fault(rt.alloc(), bytes), Some((*line, *reason)));
     }
+}
+
+#[test]
+fn tables_and_texts(rt: HostRuntime) {
+    let cases: [(&[u8], u64, u64); 12] = [
+        (
+            b"phase\nsession 1 u h\nstart wait/io/table/sql/handler a.b\nend\n",
+            0,
+            0,
+        ),
+        (
+            b"phase\nsession 1 u h\nstart wait/io/table/sql/other a.b\n",
+            3,
+            7,
+        ),
+        (
+            b"phase\nsession 1 u h\nstart wait/io/table/sql/handler a\n",
+            3,
+            3,
+        ),
+        (
+            b"phase\nsession 1 u h\nstart wait/io/table/sql/handler\n",
+            3,
+            3,
+        ),
+        (
+            b"phase\nsession 1 u h\nstart wait/io/file/sql/binlog a.b\n",
+            3,
+            3,
+        ),
+        (b"class wait/lock/table/x YES YES\n", 1, 7),
+        (
+            b"phase\nsession 1 u h\nstart statement/sql/select SELECT 'abc\n",
+            3,
+            10,
+        ),
+        (
+            b"phase\nsession 1 u h\nstart statement/sql/select SELECT /* a\n",
+            3,
+            10,
+        ),
+        (
+            b"phase\nsession 1 u h\nstart statement/sql/select SELECT \\\n",
+            3,
+            10,
+        ),
+        (
+            b"phase\nsession 1 u h\nstart wait/io/file/sql/binlog\nstart statement/sql/select 'abc\n",
+            4,
+            9,
+        ),
+        (
+            b"phase\nsession 1 u h\nstart statement/no/such 'abc\n",
+            3,
+            7,
+        ),
+        (
+            b"phase\nsession 1 u h\nstart statement/sql/select  two  spaces\nend\n",
+            0,
+            0,
+        ),
+    ];
+    expect_all(&rt, rt.alloc(), cases.as_slice());
+}
+
+/// A block with waits on so many tables.
+fn tables(alloc: Global, count: u64) -> Result<Vec<u8>, Fail> {
+    let mut bytes = many(alloc, b"phase\nsession 1 u h\n", b"", 0)?;
+    for n in 0..count {
+        let line = format!(in alloc; "start wait/lock/table/sql/handler s.t{n}\nend\n")?;
+        bytes.extend_from_slice(line.as_bytes())?;
+    }
+    Ok(bytes)
+}
+
+#[test]
+fn the_most_tables(rt: HostRuntime) -> Result<(), Fail> {
+    let mut lines = tables(rt.alloc(), 64)?;
+    lines.extend_from_slice(b"start wait/io/table/sql/handler s.t7\n")?;
+    assert_eq!(rt; fault(rt.alloc(), lines.as_slice()), Some((0, 0)));
+    let lines = tables(rt.alloc(), 65)?;
+    assert_eq!(rt; fault(rt.alloc(), lines.as_slice()), Some((131, 12)));
+    Ok(())
+}
+
+#[test]
+fn a_setting_has_tables_and_digest_texts(rt: HostRuntime) {
+    let script = Script::read(
+        rt.alloc(),
+        b"limit digests 2\nphase\nsession 1 u h\nstart wait/io/table/sql/handler z.b\nend\nstart statement/sql/select SELECT  1\nend\nstart wait/lock/table/sql/handler a.b\nend\nphase\nsession 1\nstart statement/sql/select\nend\nstart statement/sql/delete DELETE FROM t\nend\nstart statement/sql/select select 2;\nend\nstart wait/lock/table/sql/handler z.b\nend\nsql  SELECT 1\nquit\n",
+    );
+    let Ok(script) = script else {
+        panic!(rt; "it is a script");
+    };
+    let tables = script.setting.tables.as_slice();
+    assert_eq!(rt; tables.len(), 2);
+    assert_eq!(rt; tables[0].schema.as_bytes(), b"z".as_slice());
+    assert_eq!(rt; tables[1].schema.as_bytes(), b"a".as_slice());
+    let digests = script.setting.digests.as_slice();
+    assert_eq!(rt; digests.len(), 2);
+    assert_eq!(rt; digests[0].text.as_bytes(), b"SELECT ?".as_slice());
+    assert_eq!(rt; digests[1].text.as_bytes(), b"".as_slice());
+    assert_eq!(rt; digests[1].hash[0], 0xe3);
+    assert_eq!(rt; digests[1].hash[31], 0x55);
+    let phases = script.phases.as_slice();
+    assert_eq!(rt; phases.len(), 2);
+    let blocks = phases[1].blocks.as_slice();
+    assert_eq!(rt; blocks.len(), 1);
+    assert_eq!(rt; blocks[0].connect, None);
+    let lines = blocks[0].lines.as_slice();
+    assert_eq!(rt; lines.len(), 10);
+    let select = ClassRef::Class(ClassId(17));
+    assert_eq!(rt; lines[0], BlockLine::Statement { class: select, digest: Some(1) });
+    let delete = ClassRef::Class(ClassId(20));
+    assert_eq!(rt; lines[2], BlockLine::Statement { class: delete, digest: None });
+    assert_eq!(rt; lines[4], BlockLine::Statement { class: select, digest: Some(0) });
+    let lock = ClassRef::Class(ClassId(11));
+    assert_eq!(rt; lines[6], BlockLine::TableWait { class: lock, table: 0 });
+    assert_eq!(rt; lines[9], BlockLine::Quit);
 }
 
 /// Such a line so many times, behind these lines.

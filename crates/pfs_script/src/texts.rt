@@ -1,11 +1,14 @@
 //! A word of a line, or the rest of a line, as a text.
 
-ghost use Rattle.std.specs.Prelude.{◌≡◌, ◌==◌};
+ghost use Rattle.std.specs.Prelude.{◌≡◌, ◌==◌, true};
+ghost use Rattle.std.specs.List.{list_all};
+ghost use Rattle.pfs_script.specs.Words.{is_script_byte};
 ghost use Rattle.std.specs.Cmp.{partial_equiv_from_equiv};
 ghost use Rattle.std.specs.Cmp.Lexicographic.{pointwise, nat_list_eq_equiv};
 
 use std::fmt::{self, Debug, Formatter};
 use std::marker::Model;
+use std::str::from_utf8;
 
 /// Bytes of a line. A clause sees the bytes alone, not where they stand.
 #[derive(Drop)]
@@ -59,5 +62,60 @@ impl<'a> Debug for Text<'a> {
             Ok(text) => Debug::fmt(&text, f),
             Err(_) => Debug::fmt(&self.bytes, f),
         }
+    }
+}
+
+/// A statement's text. A clause sees its bytes alone.
+#[derive(Drop)]
+pub struct StatementText<'a> {
+    text: &'a str,
+}
+
+impl<'a> Model for StatementText<'a> {
+    ghost use Rattle.std.specs.Prelude.{List, ℕ};
+
+    ghost Value = { List ℕ };
+
+    ghost view = { λ text. text.text.now };
+}
+
+impl<'a> StatementText<'a> {
+    /// The text of these bytes, which a script may have, so that they are ASCII.
+    pub fn new(bytes: &'a [u8]) -> StatementText<'a>
+        requires { list_all is_script_byte bytes.now ≡ true }
+        ensures { result ≡ bytes.now }
+    {
+        match from_utf8(bytes) {
+            Ok(text) => StatementText { text },
+            Err(_) => unreachable!(),
+        }
+    }
+
+    /// The text.
+    pub fn as_str(&self) -> &'a str
+        ensures { result.now ≡ self.now }
+    {
+        self.text
+    }
+}
+
+/// Texts are equal where their bytes are.
+impl<'a> PartialEq for StatementText<'a> {
+    ghost eq = { λ a b. pointwise ◌==◌ a b };
+
+    ghost laws = { partial_equiv_from_equiv nat_list_eq_equiv };
+
+    fn eq(&self, other: &StatementText<'a>) -> bool {
+        self.text.as_bytes() == other.text.as_bytes()
+    }
+}
+
+impl<'a> Eq for StatementText<'a> {
+    ghost laws = { nat_list_eq_equiv };
+}
+
+impl<'a> Debug for StatementText<'a> {
+    fn fmt<W: fmt::Write>(&self, f: &mut Formatter<W>) -> fmt::Result {
+        Debug::fmt(&self.text, f)
     }
 }

@@ -1,11 +1,11 @@
 //! How many lines there are so far, and what they weigh.
 
-ghost use Rattle.std.specs.Prelude.{◌≡◌, ◌≤◌, ◌+◌, ◌-◌, ◌*◌, ◌^◌, min, nat_lt, List, ◌∷◌, ◌++◌, [], false, if◌then◌else◌};
+ghost use Rattle.std.specs.Prelude.{◌≡◌, ◌≤◌, ◌<◌, ◌+◌, ◌-◌, ◌*◌, ◌^◌, ℕ, min, nat_lt, List, ◌∷◌, ◌++◌, [], false, if◌then◌else◌};
 ghost use Rattle.pfs_script.specs.declared.forms.Form.{Form};
 ghost use Rattle.pfs_script.specs.Counts.{is_done, counted};
-ghost use Rattle.pfs_script.specs.Next.{is_class, is_select, has_over, is_out_of_place, is_too_long, is_too_much, weight_of};
+ghost use Rattle.pfs_script.specs.Next.{is_class, is_select, has_over, is_out_of_place, is_too_long, is_too_much, one_select, weight_of};
 ghost use Rattle.pfs_script.specs.Sessions.{is_phase};
-ghost use Rattle.pfs_script.specs.Places.{KnowsTotals, more_with, body_with};
+ghost use Rattle.pfs_script.specs.Places.{KnowsTally, KnowsTotals, more_with, body_with};
 
 use crate::commands::{is_select, sql_weight};
 use crate::forms::Form;
@@ -25,20 +25,59 @@ const MOST_SELECTS: u64 = 256;
 /// The most that the lines of a script may weigh.
 const MOST_WEIGHT: u64 = 5_000_000;
 
-/// The lines so far, how many of them begin a phase, register a class or are a SELECT, and what they weigh. The lines of a repeat count
-/// once until it is done, and so often as it says from its `done` on. Numbers past 2^64 - 1 stay there.
+/// What lines come to by some measure. Those of a repeat count once until it is done, and so often as it
+/// says from its `done` on. Numbers past 2^64 - 1 stay there.
+#[derive(Clone, Copy)]
+pub struct Tally {
+    pub total: u64,
+    /// What the lines of the repeat that isn't done come to so far.
+    pub body: u64,
+}
+
+/// Nothing.
+fn no_tally() -> Tally
+    ensures total { result.total ≡ 0 }
+    ensures body { result.body ≡ 0 }
+{
+    Tally { total: 0, body: 0 }
+}
+
+impl Tally {
+    /// Whether with a line of that measure they come to more than so much. The next line runs `more`
+    /// times more than once.
+    fn is_over(&self, line: &Form, own: u64, more: u64, most: u64) -> bool
+        requires { most < 2 ^ 63 }
+        ensures { (measure : Form → ℕ) (before : List Form) → KnowsTally self.now measure more before → own ≡ measure line.now → result ≡ nat_lt most (counted measure (before ++ line.now ∷ [])) }
+    {
+        let added = added(line, own, more, self.body);
+        self.total.saturating_add(added) > most
+    }
+
+    /// What they come to with a line of that measure.
+    fn pass(&mut self, line: &Form, own: u64, more: u64)
+        ensures total { self.new.total ≡ min (self.old.total + min (own + (if is_done line.now then more * self.old.body else 0)) (2 ^ 64 - 1)) (2 ^ 64 - 1) }
+        ensures body { self.new.body ≡ min (body_with line.now own self.old.body) (2 ^ 64 - 1) }
+    {
+        let added = added(line, own, more, self.body);
+        self.total = self.total.saturating_add(added);
+        self.body = match line {
+            Form::Repeat { .. } | Form::Done => 0,
+            _ => self.body.saturating_add(own),
+        };
+    }
+}
+
+/// The lines so far, the SELECTs among them, what they weigh, and how many of them begin a phase or
+/// register a class.
 #[derive(Clone, Copy)]
 pub struct Totals {
-    pub lines: u64,
+    pub lines: Tally,
+    pub selects: Tally,
+    pub weight: Tally,
     pub phases: u64,
     pub classes: u64,
-    pub selects: u64,
-    pub weight: u64,
     /// How often more than once the lines of the repeat run that isn't done; 0 outside of one.
     pub more: u64,
-    /// Its lines so far, and what they weigh.
-    pub body_lines: u64,
-    pub body_weight: u64,
 }
 
 /// The totals before the first line.
@@ -46,14 +85,12 @@ pub fn no_lines() -> Totals
     ensures { KnowsTotals result [] }
 {
     Totals {
-        lines: 0,
+        lines: no_tally(),
+        selects: no_tally(),
+        weight: no_tally(),
         phases: 0,
         classes: 0,
-        selects: 0,
-        weight: 0,
         more: 0,
-        body_lines: 0,
-        body_weight: 0,
     }
 }
 
@@ -62,8 +99,7 @@ impl Totals {
     pub fn is_too_long(&self, line: &Form) -> bool
         ensures { (before : List Form) → KnowsTotals self.now before → result ≡ is_too_long before line.now }
     {
-        let added = added(line, 1, self.more, self.body_lines);
-        self.lines.saturating_add(added) > MOST_LINES
+        self.lines.is_over(line, 1, self.more, MOST_LINES)
     }
 
     /// Whether with the line there are too many phases, classes or SELECTs, or too much weight.
@@ -89,63 +125,44 @@ impl Totals {
     }
 
     fn has_over_selects(&self, line: &Form) -> bool
-        ensures { (before : List Form) → KnowsTotals self.now before → result ≡ has_over 256 is_select before line.now }
+        ensures { (before : List Form) → KnowsTotals self.now before → result ≡ nat_lt 256 (counted one_select (before ++ line.now ∷ [])) }
     {
-        self.selects > MOST_SELECTS - selects(line)
+        self.selects
+            .is_over(line, selects(line), self.more, MOST_SELECTS)
     }
 
     fn is_too_heavy(&self, line: &Form) -> bool
         ensures { (before : List Form) → KnowsTotals self.now before → result ≡ nat_lt 5000000 (counted weight_of (before ++ line.now ∷ [])) }
     {
-        let added = added(line, weight(line), self.more, self.body_weight);
-        self.weight.saturating_add(added) > MOST_WEIGHT
+        self.weight
+            .is_over(line, weight(line), self.more, MOST_WEIGHT)
     }
 
     /// The totals with one more line.
     pub fn pass(&mut self, line: &Form)
         requires phases { self.old.phases ≤ 64 }
         requires classes { self.old.classes ≤ 256 }
-        requires selects { self.old.selects ≤ 256 }
         ensures { (before : List Form) → KnowsTotals self.old before → is_out_of_place before line.now ≡ false → is_too_long before line.now ≡ false
             → is_too_much before line.now ≡ false → KnowsTotals self.new (before ++ line.now ∷ []) }
     {
-        let lines = added(line, 1, self.more, self.body_lines);
-        let weight = added(line, weight(line), self.more, self.body_weight);
-        self.lines = self.lines.saturating_add(lines);
-        self.weight = self.weight.saturating_add(weight);
+        let more = self.more;
+        self.lines.pass(line, 1, more);
+        self.selects.pass(line, selects(line), more);
+        self.weight.pass(line, weight(line), more);
         self.phases += phases(line);
         self.classes += classes(line);
-        self.selects += selects(line);
-        self.pass_repeat(line);
+        self.more = more_behind(line, more);
     }
+}
 
-    // What is kept of a repeat, with one more line.
-    fn pass_repeat(&mut self, line: &Form)
-        ensures lines { self.new.lines ≡ self.old.lines }
-        ensures phases { self.new.phases ≡ self.old.phases }
-        ensures classes { self.new.classes ≡ self.old.classes }
-        ensures selects { self.new.selects ≡ self.old.selects }
-        ensures weight { self.new.weight ≡ self.old.weight }
-        ensures more { self.new.more ≡ more_with line.now self.old.more }
-        ensures body_lines { self.new.body_lines ≡ min (body_with line.now 1 self.old.body_lines) (2 ^ 64 - 1) }
-        ensures body_weight { self.new.body_weight ≡ min (body_with line.now (weight_of line.now) self.old.body_weight) (2 ^ 64 - 1) }
-    {
-        match line {
-            Form::Repeat { times } => {
-                self.more = times.unwrap_or(0).saturating_sub(1);
-                self.body_lines = 0;
-                self.body_weight = 0;
-            }
-            Form::Done => {
-                self.more = 0;
-                self.body_lines = 0;
-                self.body_weight = 0;
-            }
-            _ => {
-                self.body_lines = self.body_lines.saturating_add(1);
-                self.body_weight = self.body_weight.saturating_add(weight(line));
-            }
-        }
+/// How often more than once the line behind this one runs.
+fn more_behind(line: &Form, more: u64) -> u64
+    ensures { result ≡ more_with line.now more }
+{
+    match line {
+        Form::Repeat { times } => times.unwrap_or(0).saturating_sub(1),
+        Form::Done => 0,
+        _ => more,
     }
 }
 
@@ -184,17 +201,11 @@ fn classes(line: &Form) -> u64
 
 /// How many SELECTs a line is.
 fn selects(line: &Form) -> u64
-    ensures value { result ≡ (if is_select line.now then 1 else 0) }
+    ensures value { result ≡ one_select line.now }
     ensures low { result ≤ 1 }
 {
     match line {
-        Form::Sql { text } => {
-            if is_select(text.bytes()) {
-                1
-            } else {
-                0
-            }
-        }
+        Form::Sql { text } => { if is_select(text.bytes()) { 1 } else { 0 } }
         _ => 0,
     }
 }

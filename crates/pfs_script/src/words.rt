@@ -1,6 +1,6 @@
 //! The words of a line, and the names, numbers and switches among them.
 
-ghost use Rattle.std.specs.Prelude.{◌≡◌, ◌==◌, length, position, option_map, codes};
+ghost use Rattle.std.specs.Prelude.{◌≡◌, ◌==◌, length, position, option_map, codes, true, IfSome};
 ghost use Rattle.std.specs.List.{list_all};
 ghost use Rattle.std.specs.Str.{bytes_eq};
 ghost use Rattle.pfs_script.specs.Words.{is_script_byte, is_name_byte, is_table_byte, is_name, is_table_name, is_space, is_dot, is_word, word_of, rest_of, schema_of, table_of, switch_of, switches_of};
@@ -93,6 +93,7 @@ fn first_dot(bytes: &[u8]) -> Option<usize>
 pub fn split_word(bytes: &[u8]) -> (&[u8], Option<&[u8]>)
     ensures word { result.0.now ≡ word_of bytes.now }
     ensures rest { option_map (λ rest. rest.now) result.1 ≡ rest_of bytes.now }
+    ensures clean { list_all is_script_byte bytes.now ≡ true → IfSome result.1 (λ rest. list_all is_script_byte rest.now ≡ true) }
 {
     match first_space(bytes) {
         Some(at) => (&bytes[..at], Some(&bytes[at + 1..])),

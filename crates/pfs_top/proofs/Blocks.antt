@@ -36,7 +36,8 @@ known_class classes (refs.Lost kind) h = tt
 
 known_line : (classes : Registry) (line : BlockLine) → script.IsKnown (length classes.classes) line → IsKnownSubject classes (subject_of line)
 known_line classes (lines.Wait class) h = known_class classes class h
-known_line classes (lines.Statement class) h = known_class classes class h
+known_line classes (lines.TableWait class table) h = known_class classes class h
+known_line classes (lines.Statement class digest) h = known_class classes class h
 known_line classes (lines.Transaction access) h = inr refl
 known_line classes (lines.Stage class) h = known_class classes class h
 known_line classes lines.StageEnd h = tt

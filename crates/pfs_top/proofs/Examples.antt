@@ -28,14 +28,14 @@ setup = record {
 
 -- the lines stand with the last one first: a statement, a stage in it, and an end, which ends both, the stage first; the last number
 -- drawn is that of the stage
-pub stage_first : journal_of setup 0 [] (lines.End ∷ lines.Stage (refs.Class 1) ∷ lines.Statement (refs.Class 0) ∷ [])
+pub stage_first : journal_of setup 0 [] (lines.End ∷ lines.Stage (refs.Class 1) ∷ lines.Statement (refs.Class 0) (Some 0) ∷ [])
     ≡ Start (Some 1) Attributed (Some 0) (Some 0) (Some 0) None ∷ Start (Some 2) Attributed (Some 0) (Some 0) (Some 0) None
     ∷ End (Some 2) (Some 2) (Some 0) (Some 0) ∷ Add 130 1 ∷ End (Some 1) (Some 2) (Some 0) (Some 0) ∷ Add 129 1 ∷ []
 unfolding journal_of begun_of ended_in brackets_from closing_from
 stage_first = refl
 
 -- a statement inside as many as may be open is lost: it draws no number, and its end has none
-pub one_too_many : journal_of setup 0 [] (lines.End ∷ lines.Statement (refs.Class 0) ∷ lines.Statement (refs.Class 0) ∷ [])
+pub one_too_many : journal_of setup 0 [] (lines.End ∷ lines.Statement (refs.Class 0) (Some 0) ∷ lines.Statement (refs.Class 0) (Some 0) ∷ [])
     ≡ Start (Some 1) Attributed (Some 0) (Some 0) (Some 0) None ∷ Start None LostNested (Some 0) (Some 0) (Some 0) None ∷ End None None None None ∷ []
 unfolding journal_of begun_of ended_in brackets_from closing_from
 one_too_many = refl

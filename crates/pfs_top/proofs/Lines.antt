@@ -155,7 +155,8 @@ played_line opens closes setup slot others earlier line next opened player globa
 
 subject_mark : (line : BlockLine) (subject : Subject) → subject_of line ≡ Some subject → (mark_of line ≡ Opens subject.kind) × (time_of line ≡ 0)
 subject_mark (lines.Wait class) subject is = let k : subject.kind ≡ kinds.Wait = cc in (ap Opens (sym k), refl)
-subject_mark (lines.Statement class) subject is = let k : subject.kind ≡ kinds.Statement = cc in (ap Opens (sym k), refl)
+subject_mark (lines.TableWait class table) subject is = let k : subject.kind ≡ kinds.Wait = cc in (ap Opens (sym k), refl)
+subject_mark (lines.Statement class digest) subject is = let k : subject.kind ≡ kinds.Statement = cc in (ap Opens (sym k), refl)
 subject_mark (lines.Transaction access) subject is = let k : subject.kind ≡ kinds.Transaction = cc in (ap Opens (sym k), refl)
 subject_mark (lines.Stage class) subject is = let k : subject.kind ≡ kinds.Stage = cc in (ap Opens (sym k), refl)
 subject_mark lines.StageEnd subject is = absurd (cc)
@@ -169,7 +170,8 @@ subject_mark lines.Done subject is = absurd (cc)
 
 no_subject : (line : BlockLine) (place : ℕ) → subject_of line ≡ None → opened_by place (mark_of line) ≡ []
 no_subject (lines.Wait class) place is = absurd (cc)
-no_subject (lines.Statement class) place is = absurd (cc)
+no_subject (lines.TableWait class table) place is = absurd (cc)
+no_subject (lines.Statement class digest) place is = absurd (cc)
 no_subject (lines.Transaction access) place is = absurd (cc)
 no_subject (lines.Stage class) place is = absurd (cc)
 no_subject lines.StageEnd place is = refl

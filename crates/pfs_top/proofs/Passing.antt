@@ -19,7 +19,8 @@ use Rattle.pfs_top.proofs.Running.{here, room_less}
 begins : (line : BlockLine) (times : ℕ) → repeats_of line ≡ Some times → line ≡ lines.Repeat times
 begins (lines.Repeat n) times is = let same : n ≡ times = cc in ap lines.Repeat same
 begins (lines.Wait class) times is = absurd (cc)
-begins (lines.Statement class) times is = absurd (cc)
+begins (lines.TableWait class table) times is = absurd (cc)
+begins (lines.Statement class digest) times is = absurd (cc)
 begins (lines.Transaction access) times is = absurd (cc)
 begins (lines.Stage class) times is = absurd (cc)
 begins lines.StageEnd times is = absurd (cc)
@@ -43,7 +44,8 @@ pub written_plain : (line : BlockLine) (rest : List BlockLine) → repeats_of li
 unfolding written_from
 written_plain (lines.Repeat n) rest is = absurd (cc)
 written_plain (lines.Wait class) rest is = refl
-written_plain (lines.Statement class) rest is = refl
+written_plain (lines.TableWait class table) rest is = refl
+written_plain (lines.Statement class digest) rest is = refl
 written_plain (lines.Transaction access) rest is = refl
 written_plain (lines.Stage class) rest is = refl
 written_plain lines.StageEnd rest is = refl
@@ -58,7 +60,8 @@ nested_plain : (kinds : List EventKind) (line : BlockLine) (rest : List BlockLin
 unfolding IsNested
 nested_plain kinds (lines.Repeat n) rest is nested = absurd (cc)
 nested_plain kinds (lines.Wait class) rest is nested = nested
-nested_plain kinds (lines.Statement class) rest is nested = nested
+nested_plain kinds (lines.TableWait class table) rest is nested = nested
+nested_plain kinds (lines.Statement class digest) rest is nested = nested
 nested_plain kinds (lines.Transaction access) rest is nested = nested
 nested_plain kinds (lines.Stage class) rest is nested = nested
 nested_plain kinds lines.StageEnd rest is nested = nested
@@ -73,7 +76,8 @@ nested_plain kinds lines.Done rest is nested = nested
 ends : (line : BlockLine) → is_done line ≡ true → line ≡ lines.Done
 ends lines.Done is = refl
 ends (lines.Wait class) is = absurd (cc)
-ends (lines.Statement class) is = absurd (cc)
+ends (lines.TableWait class table) is = absurd (cc)
+ends (lines.Statement class digest) is = absurd (cc)
 ends (lines.Transaction access) is = absurd (cc)
 ends (lines.Stage class) is = absurd (cc)
 ends lines.StageEnd is = absurd (cc)
@@ -97,7 +101,8 @@ pub written_inside : (repeated : Repeated) (line : BlockLine) (rest : List Block
 unfolding written_from
 written_inside repeated lines.Done rest is = absurd (cc)
 written_inside repeated (lines.Wait class) rest is = refl
-written_inside repeated (lines.Statement class) rest is = refl
+written_inside repeated (lines.TableWait class table) rest is = refl
+written_inside repeated (lines.Statement class digest) rest is = refl
 written_inside repeated (lines.Transaction access) rest is = refl
 written_inside repeated (lines.Stage class) rest is = refl
 written_inside repeated lines.StageEnd rest is = refl
@@ -112,7 +117,8 @@ nested_inside : (kinds start : List EventKind) (line : BlockLine) (rest : List B
 unfolding IsNested
 nested_inside kinds start lines.Done rest is nested = absurd (cc)
 nested_inside kinds start (lines.Wait class) rest is nested = nested
-nested_inside kinds start (lines.Statement class) rest is nested = nested
+nested_inside kinds start (lines.TableWait class table) rest is nested = nested
+nested_inside kinds start (lines.Statement class digest) rest is nested = nested
 nested_inside kinds start (lines.Transaction access) rest is nested = nested
 nested_inside kinds start (lines.Stage class) rest is nested = nested
 nested_inside kinds start lines.StageEnd rest is nested = nested

@@ -38,9 +38,10 @@ marks_of earlier = reverse (map mark_of earlier)
 abbrev pub time_of : BlockLine → ℕ
 time_of (lines.Spend time) = time
 time_of (lines.Wait class) = 0
+time_of (lines.TableWait class table) = 0
 time_of (lines.Sql text) = 0
 time_of lines.Quit = 0
-time_of (lines.Statement class) = 0
+time_of (lines.Statement class digest) = 0
 time_of (lines.Transaction access) = 0
 time_of (lines.Stage class) = 0
 time_of lines.StageEnd = 0
@@ -56,7 +57,8 @@ is_read_only ReadOnly = true
 -- the event that a line opens; a transaction is of the class 62
 abbrev pub subject_of : BlockLine → Option Subject
 subject_of (lines.Wait class) = Some (record { kind = kinds.Wait; class = class; read_only = false })
-subject_of (lines.Statement class) = Some (record { kind = kinds.Statement; class = class; read_only = false })
+subject_of (lines.TableWait class table) = Some (record { kind = kinds.Wait; class = class; read_only = false })
+subject_of (lines.Statement class digest) = Some (record { kind = kinds.Statement; class = class; read_only = false })
 subject_of (lines.Transaction access) = Some (record { kind = kinds.Transaction; class = refs.Class 62; read_only = is_read_only access })
 subject_of (lines.Stage class) = Some (record { kind = kinds.Stage; class = class; read_only = false })
 subject_of lines.StageEnd = None

@@ -9,7 +9,7 @@ use Rattle.pfs_classes.specs.declared.setting.Setting.{Setting}
 use Rattle.pfs_script.specs.declared.blocks.Phase.{Phase}
 use Rattle.pfs_script.specs.declared.reasons.Extent.TheVariants.{Built}
 use Rattle.pfs_script.specs.declared.reasons.Reason.{Reason}
-use Rattle.pfs_script.specs.declared.reasons.Reason.TheVariants.{BadByte, OpenLine, BadForm, OutOfPlace, BadNumber, BadSession, UnknownName, BadLimit, BadNesting, TooLong, TooMuch, NotBuilt}
+use Rattle.pfs_script.specs.declared.reasons.Reason.TheVariants.{BadByte, OpenLine, BadForm, OutOfPlace, BadNumber, BadSession, UnknownName, BadLimit, BadNesting, BadStatement, TooLong, TooMuch, NotBuilt}
 use Rattle.pfs_script.specs.Scripts.{IsScript, IsFirstFault}
 use Rattle.pfs_journal.specs.declared.report.ReportParts.{ReportParts}
 use Rattle.pfs_journal.specs.Reports.{IsReport}
@@ -36,6 +36,7 @@ reason_number BadSession = 6
 reason_number UnknownName = 7
 reason_number BadLimit = 8
 reason_number BadNesting = 9
+reason_number BadStatement = 10
 reason_number TooLong = 11
 reason_number TooMuch = 12
 reason_number NotBuilt = 13

@@ -21,7 +21,8 @@ no_numbers = record { lock = 0; errors = 0; warnings = 0; affected = 0; sent = 0
 abbrev pub numbers_on : BlockLine → StatementNumbers
 numbers_on (lines.EndStatement numbers) = numbers
 numbers_on (lines.Wait class) = no_numbers
-numbers_on (lines.Statement class) = no_numbers
+numbers_on (lines.TableWait class table) = no_numbers
+numbers_on (lines.Statement class digest) = no_numbers
 numbers_on (lines.Transaction access) = no_numbers
 numbers_on (lines.Stage class) = no_numbers
 numbers_on lines.StageEnd = no_numbers

@@ -46,7 +46,8 @@ pub fn subject_of(line: &BlockLine) -> Option<Subject>
 {
     match *line {
         BlockLine::Wait(class) => Some(plain(EventKind::Wait, class)),
-        BlockLine::Statement(class) => Some(plain(EventKind::Statement, class)),
+        BlockLine::TableWait { class, .. } => Some(plain(EventKind::Wait, class)),
+        BlockLine::Statement { class, .. } => Some(plain(EventKind::Statement, class)),
         BlockLine::Transaction(access) => Some(Subject {
             kind: EventKind::Transaction,
             class: ClassRef::Class(ClassId(READ_WRITE_CELL)),

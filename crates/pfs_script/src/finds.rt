@@ -1,0 +1,157 @@
+//! The tables and digest texts that lines bring in, in the order of their first appearance.
+
+ghost use Rattle.std.specs.Prelude.{◌≡◌, ◌++◌, ◌∷◌, [], false, nat_lt, length, is_some, position, OnOk, IfOk, Ok};
+ghost use Rattle.std.specs.List.{list_any};
+ghost use Rattle.sha2.specs.Sha256.{sha256};
+ghost use Rattle.pfs_script.specs.Finds.{is_refused, is_table, table_number, with_table, has_text, place_of, digest_place, add_digest, with_digest};
+ghost use Rattle.pfs_script.specs.declared.forms.Form.{Form};
+ghost use Rattle.pfs_script.specs.declared.forms.Form.TheVariants as form;
+
+use crate::forms::Form;
+use pfs_classes::{DigestList, DigestText, NoMemory, TableList, TableName};
+use pfs_digest::{DigestFault, digest, digest_text};
+use pfs_lexer::Lexer;
+use pfs_text::Text;
+use std::alloc::{AllocError, Global};
+
+/// The most tables of a script.
+const MOST_TABLES: usize = 64;
+
+/// The tables and digest texts of the lines so far.
+#[derive(Drop)]
+pub struct Finds {
+    pub tables: TableList,
+    pub digests: DigestList,
+}
+
+/// Whether the lexer refuses a statement's text.
+pub fn is_refused(text: &str) -> bool
+    ensures { result ≡ is_refused text.now }
+{
+    let mut lexer = Lexer::new(text);
+    'tokens: while let Some(item) = lexer.next() {
+        match item {
+            Ok(_) => {}
+            Err(_) => return true,
+        }
+    }
+    false
+}
+
+fn is_table(schema: &[u8], name: &[u8], table: &TableName) -> bool
+    ensures { result ≡ is_table schema.now name.now table.now }
+{
+    table.schema.as_bytes() == schema && table.name.as_bytes() == name
+}
+
+/// The number of a table among these.
+pub fn table_number(tables: &[TableName], schema: &[u8], name: &[u8]) -> Option<usize>
+    ensures { result ≡ table_number tables.now schema.now name.now }
+{
+    tables
+        .iter()
+        .position(|table| is_table(schema, name, table))
+}
+
+fn has_text(shown: &[u8], digest: &DigestText) -> bool
+    ensures { result ≡ has_text shown.now digest.now }
+{
+    digest.text.as_bytes() == shown
+}
+
+fn text_place(digests: &[DigestText], shown: &[u8]) -> Option<usize>
+    ensures { result ≡ position (has_text shown.now) digests.now }
+{
+    digests.iter().position(|digest| has_text(shown, digest))
+}
+
+/// The place of a statement's digest text among these.
+pub fn digest_place(
+    alloc: Global,
+    digests: &[DigestText],
+    text: &str,
+) -> Result<Option<usize>, NoMemory>
+    ensures { IfOk result (λ place. place ≡ digest_place digests.now text.now) }
+{
+    match digest_text(alloc, text) {
+        Ok(shown) => Ok(text_place(digests, shown.as_bytes())),
+        Err(DigestFault::Lex(_)) => Ok(None),
+        Err(DigestFault::NoMemory) => Err(AllocError),
+    }
+}
+
+impl Finds {
+    /// No tables and no digest texts. It takes no memory.
+    pub fn none(alloc: Global) -> Finds
+        ensures tables { result.tables ≡ [] }
+        ensures digests { result.digests ≡ [] }
+    {
+        Finds {
+            tables: TableList::new(Vec::new(alloc)),
+            digests: DigestList::new(Vec::new(alloc)),
+        }
+    }
+
+    /// Whether the line names one table too many.
+    pub fn is_table_too_many(&self, line: &Form) -> bool
+        ensures { nat_lt 64 (length self.now.tables) ≡ false → result ≡ nat_lt 64 (length (with_table self.now.tables line.now)) }
+    {
+        match line {
+            Form::TableWait { schema, name, .. } => {
+                let tables = self.tables.as_slice();
+                tables.len() >= MOST_TABLES
+                    && table_number(tables, schema.bytes(), name.bytes()).is_none()
+            }
+            _ => false,
+        }
+    }
+
+    /// Takes one more line, where so many digest texts are kept at most.
+    pub fn note(&mut self, alloc: Global, most: u64, line: &Form) -> Result<(), NoMemory>
+        ensures tables { OnOk result (self.new.tables ≡ with_table self.old.tables line.now) }
+        ensures digests { OnOk result (self.new.digests ≡ with_digest most self.old.digests line.now) }
+    {
+        match line {
+            Form::TableWait { schema, name, .. } => {
+                self.add_table(alloc, schema.bytes(), name.bytes())
+            }
+            Form::Statement { text, .. } => self.add_statement(alloc, most, text.as_str()),
+            _ => Ok(()),
+        }
+    }
+
+    fn add_table(&mut self, alloc: Global, schema: &[u8], name: &[u8]) -> Result<(), NoMemory>
+        ensures tables { OnOk result (self.new.tables ≡ with_table self.old.tables (form.TableWait [] schema.now name.now)) }
+        ensures digests { self.new.digests ≡ self.old.digests }
+    {
+        if table_number(self.tables.as_slice(), schema, name).is_some() {
+            return Ok(());
+        }
+        let schema = Text::from_slice(alloc, schema)?;
+        let name = Text::from_slice(alloc, name)?;
+        self.tables.push(TableName { schema, name })
+    }
+
+    fn add_statement(&mut self, alloc: Global, most: u64, text: &str) -> Result<(), NoMemory>
+        ensures tables { self.new.tables ≡ self.old.tables }
+        ensures digests { OnOk result (self.new.digests ≡ with_digest most self.old.digests (form.Statement [] text.now)) }
+    {
+        match digest_text(alloc, text) {
+            Ok(shown) => self.add_digest(most, shown),
+            Err(DigestFault::Lex(_)) => Ok(()),
+            Err(DigestFault::NoMemory) => Err(AllocError),
+        }
+    }
+
+    fn add_digest(&mut self, most: u64, shown: Text) -> Result<(), NoMemory>
+        ensures tables { self.new.tables ≡ self.old.tables }
+        ensures digests { OnOk result (self.new.digests ≡ add_digest most self.old.digests (Ok shown)) }
+    {
+        let digests = self.digests.as_slice();
+        if text_place(digests, shown.as_bytes()).is_some() || digests.len() as u64 >= most {
+            return Ok(());
+        }
+        let hash = digest(shown.as_bytes());
+        self.digests.push(DigestText { text: shown, hash })
+    }
+}
