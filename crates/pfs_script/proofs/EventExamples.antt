@@ -31,9 +31,12 @@ one_after_another = refl
 -- it lasts over both, and is no event of session 2
 across : events_for 1 two_phases
     ≡ record {
-      opened = 1; closed = Some 5;
+      opened = 1;
+      closed = Some 5;
       subject = record { kind = kinds.Statement; class = refs.Class 17; table = None; digest = Some 0; access = None };
-      clock = 3; lasted = Some 25; numbers = no_numbers;
+      clock = 3;
+      lasted = Some 25;
+      numbers = no_numbers;
     } ∷ []
 unfolding written_from copies events_of brackets_from closing_from
 across = refl
@@ -48,9 +51,12 @@ six = record { lock = 1; errors = 2; warnings = 3; affected = 4; sent = 5; exami
 
 with_numbers : events_of (lines.Statement (refs.Class 17) None ∷ lines.Stage (refs.Class 12) ∷ lines.Spend 7 ∷ lines.EndStatement six ∷ [])
     ≡ record {
-      opened = 0; closed = Some 3;
+      opened = 0;
+      closed = Some 3;
       subject = record { kind = kinds.Statement; class = refs.Class 17; table = None; digest = None; access = None };
-      clock = 0; lasted = Some 7; numbers = six;
+      clock = 0;
+      lasted = Some 7;
+      numbers = six;
     } ∷ record { opened = 1; closed = Some 3; subject = plain_subject kinds.Stage (refs.Class 12); clock = 0; lasted = Some 7; numbers = no_numbers } ∷ []
 unfolding events_of brackets_from closing_from
 with_numbers = refl

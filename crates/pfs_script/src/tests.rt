@@ -382,12 +382,36 @@ fn a_setting_has_tables_and_digest_texts(rt: HostRuntime) {
     let lines = blocks[0].lines.as_slice();
     assert_eq!(rt; lines.len(), 10);
     let select = ClassRef::Class(ClassId(17));
-    assert_eq!(rt; lines[0], BlockLine::Statement { class: select, digest: Some(1) });
+    assert_eq!(rt;
+        lines[0],
+        BlockLine::Statement {
+            class: select,
+            digest: Some(1)
+        }
+    );
     let delete = ClassRef::Class(ClassId(20));
-    assert_eq!(rt; lines[2], BlockLine::Statement { class: delete, digest: None });
-    assert_eq!(rt; lines[4], BlockLine::Statement { class: select, digest: Some(0) });
+    assert_eq!(rt;
+        lines[2],
+        BlockLine::Statement {
+            class: delete,
+            digest: None
+        }
+    );
+    assert_eq!(rt;
+        lines[4],
+        BlockLine::Statement {
+            class: select,
+            digest: Some(0)
+        }
+    );
     let lock = ClassRef::Class(ClassId(11));
-    assert_eq!(rt; lines[6], BlockLine::TableWait { class: lock, table: 0 });
+    assert_eq!(rt;
+        lines[6],
+        BlockLine::TableWait {
+            class: lock,
+            table: 0
+        }
+    );
     assert_eq!(rt; lines[9], BlockLine::Quit);
 }
 
