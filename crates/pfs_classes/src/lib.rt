@@ -10,7 +10,9 @@ mod setting;
 mod tests;
 
 pub use builtin::{BUILTINS, Builtin, TRANSACTION_NAME};
-pub use classes::{Class, ClassFault, ClassId, ClassRef, Classes, LostClass, Registered, TRANSACTION};
+pub use classes::{
+    Class, ClassFault, ClassId, ClassRef, Classes, LostClass, Registered, TRANSACTION,
+};
 pub use kind::Kind;
 pub use setting::{DigestList, DigestText, Setting, TableList, TableName};
 
