@@ -381,34 +381,31 @@ fn a_setting_has_tables_and_digest_texts(rt: HostRuntime) {
     assert_eq!(rt; blocks[0].connect, None);
     let lines = blocks[0].lines.as_slice();
     assert_eq!(rt; lines.len(), 10);
-    let select = ClassRef::Class(ClassId(17));
     assert_eq!(rt;
         lines[0],
         BlockLine::Statement {
-            class: select,
+            class: ClassRef::Class(ClassId(17)),
             digest: Some(1)
         }
     );
-    let delete = ClassRef::Class(ClassId(20));
     assert_eq!(rt;
         lines[2],
         BlockLine::Statement {
-            class: delete,
+            class: ClassRef::Class(ClassId(20)),
             digest: None
         }
     );
     assert_eq!(rt;
         lines[4],
         BlockLine::Statement {
-            class: select,
+            class: ClassRef::Class(ClassId(17)),
             digest: Some(0)
         }
     );
-    let lock = ClassRef::Class(ClassId(11));
     assert_eq!(rt;
         lines[6],
         BlockLine::TableWait {
-            class: lock,
+            class: ClassRef::Class(ClassId(11)),
             table: 0
         }
     );
