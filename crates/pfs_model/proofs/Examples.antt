@@ -21,14 +21,15 @@ use Rattle.pfs_model.specs.Chains.{times, is_that, change_at, row_change, word_c
 use Rattle.pfs_model.specs.Actions.{NeverFall}
 use Rattle.pfs_model.specs.Setups.{loads_of, flags_at, IsJudged}
 use Rattle.pfs_model.specs.Numbers.{IsNumbered}
-use Rattle.pfs_model.specs.Floors.{floor_of, KeepsAbove, Changes}
+use Rattle.pfs_model.specs.Floors.{floor_of, KeepsAbove, Changes, IsThere}
 use Rattle.pfs_model.specs.Causes.{AreBusy}
 use Rattle.pfs_model.specs.Contents.{Given, IsContent}
 use Rattle.pfs_model.specs.Plain.{IsPlain, AreNext, AreLast, Agrees, AgreesWith}
 use Rattle.pfs_stat.specs.Stat.{zero_of}
-use Rattle.pfs_model.specs.Summaries.{action_of, Taking, first_taking, KeyThread, KeyAccount, KeyGlobal, Names, counted_in}
-use Rattle.pfs_model.specs.Asked.{Asked, Frees, Tags, asked_of, Took, Gave, Freed, Tagged, Flagged}
-use Rattle.pfs_model.specs.Rings.{shown_at, AreInTurn}
+use Rattle.pfs_model.specs.Summaries.{action_of, Taking, first_taking, KeyThread, KeyAccount, KeyGlobal, Names, is_of_class, counted_in}
+use Rattle.pfs_model.specs.Asked.{Asked, Frees, Tags, asked_of, Took, Gave, Freed, Tagged, Flagged, Rooms, Answer, Replied, Failed, IsAnswered}
+use Rattle.pfs_model.specs.Rings.{shown_at, AreInTurn, IsAtOwn}
+use Rattle.pfs_model.specs.Puts.{AreBrought}
 
 -- a wait of the binary log's file, of class 6
 abbrev binlog : Subject
@@ -219,19 +220,19 @@ truncates action = cond (action == 2) (Some (tables.Summary Waits ByThread)) Non
 abbrev names : ℕ → Names
 names session = record { user = 5; host = 6 }
 
-by_thread_none : length (counted_in (places truncated) names truncates 2 Waits 6 (KeyThread 1)) ≡ 0
+by_thread_none : length (counted_in (places truncated) names truncates 2 Waits (is_of_class 6) (KeyThread 1)) ≡ 0
 unfolding places_behind
 by_thread_none = refl
 
-by_thread_before : length (counted_in (places truncated) names truncates 1 Waits 6 (KeyThread 1)) ≡ 1
+by_thread_before : length (counted_in (places truncated) names truncates 1 Waits (is_of_class 6) (KeyThread 1)) ≡ 1
 unfolding places_behind
 by_thread_before = refl
 
-by_account_one : length (counted_in (places truncated) names truncates 2 Waits 6 (KeyAccount 5 6)) ≡ 1
+by_account_one : length (counted_in (places truncated) names truncates 2 Waits (is_of_class 6) (KeyAccount 5 6)) ≡ 1
 unfolding places_behind
 by_account_one = refl
 
-globally_one : length (counted_in (places truncated) names truncates 2 Waits 6 KeyGlobal) ≡ 1
+globally_one : length (counted_in (places truncated) names truncates 2 Waits (is_of_class 6) KeyGlobal) ≡ 1
 unfolding places_behind
 globally_one = refl
 
@@ -255,3 +256,64 @@ shown = refl
 
 removed : shown_at (record { phase = 1; session = 1; line = lines.End; context = fresh; entry = says.Ring 8450 1 } ∷ record { phase = 1; session = 1; line = lines.Quit; context = record fresh { action = 2 }; entry = says.Free 8450 1 } ∷ []) 8450 ≡ None
 removed = refl
+
+-- a statement that ends is brought to its cell and, where digests are on, to its digest's row, and to nothing else: the consumers' flags
+-- 28672 have `global_instrumentation`, `thread_instrumentation` and `statements_digest` alone, and 12288 the first two
+abbrev select : Subject
+select = record { kind = kinds.Statement; class = Some 23; cell = 23; table = None; digest = Some 0 }
+
+abbrev a_statement : List (List Entry) → List Placed
+a_statement parts = places (record { phase = 1; session = 1; lines = lines.Connect ∷ lines.Start select ∷ lines.End ∷ lines.Close ∷ []; parts = parts } ∷ [])
+
+abbrev ended_with : List Entry → List (List Entry)
+ended_with entries =
+    (says.Connect 1 (Some 0) (Some 0) (Some 0) (Some 0) ∷ says.Set 1 1 1 ∷ [])
+    ∷ (says.Start (Some 1) Attributed (Some 0) (Some 1) (Some 0) None ∷ [])
+    ∷ (says.End (Some 1) (Some 1) (Some 0) (Some 1) ∷ entries)
+    ∷ []
+    ∷ []
+
+abbrev flags_of_words : ℕ → ℕ → ℕ → ℕ
+flags_of_words consumers word version = cond (word == 0) consumers 1
+
+digested : AreBrought (flags_of_words 28672) (a_statement (ended_with (says.Add 152 1 ∷ says.Add 8386 1 ∷ [])))
+unfolding places_behind
+digested = (tt, (tt, (tt, ((refl, (refl, tt)), (tt, (tt, tt))))))
+
+not_digested : AreBrought (flags_of_words 28672) (a_statement (ended_with (says.Add 152 1 ∷ []))) → ⊥
+unfolding places_behind
+not_digested is = absurd is.1.1.1.0.1
+
+counted_twice : AreBrought (flags_of_words 12288) (a_statement (ended_with (says.Add 152 1 ∷ says.Add 152 2 ∷ []))) → ⊥
+unfolding places_behind
+counted_twice is = absurd is.1.1.1.0.1
+
+-- a ticket belongs to one place: ticket 1 to the second place of its kind
+own_place : IsAtOwn 0 (record { row = 10243; ticket = Some 1 })
+own_place ticket is = let same : 1 ≡ ticket = cc in omega (arith, same)
+
+other_place : IsAtOwn 0 (record { row = 10244; ticket = Some 1 }) → ⊥
+other_place is = let same : 10244 ≡ 10243 = is 1 refl in absurd (omega (arith, same))
+
+-- an answer is that of its action, and an error without an action that of the text that was refused
+abbrev answers : ℕ → Answer
+answers action = cond (action == 2) (Replied 1) (Failed 1062)
+
+abbrev no_rooms : ℕ → Rooms
+no_rooms action = record { thread = None; account = None; user = None; host = None }
+
+replied : IsAnswered no_rooms answers (λ place. 1064) (record { phase = 1; session = 1; line = lines.Change; context = record fresh { action = 2 }; entry = says.Reply 1 }) (says.Reply 1)
+replied = refl
+
+refused_text : IsAnswered no_rooms answers (λ place. 1064) (record { phase = 1; session = 1; line = lines.Refused; context = fresh; entry = says.Error 1064 }) (says.Error 1064)
+refused_text = refl
+
+answered_for_another : IsAnswered no_rooms answers (λ place. 1064) (record { phase = 1; session = 1; line = lines.Change; context = record fresh { action = 3 }; entry = says.Reply 1 }) (says.Reply 1) → ⊥
+answered_for_another is = cc
+
+-- rows and words that aren't there
+no_such_row : IsThere (says.Seen 14242 0) → ⊥
+no_such_row is = absurd (omega (arith, is))
+
+no_such_word : IsThere (says.Saw 160 0) → ⊥
+no_such_word is = absurd (omega (arith, is))

@@ -4,11 +4,11 @@ use Rattle.std.proofs.Math.Nat.{max-le}
 use Rattle.pfs_event.specs.declared.entry.Entry.{Entry}
 use Rattle.pfs_event.specs.declared.entry.Entry.TheVariants as says
 use Rattle.pfs_model.specs.declared.changes.Change.{Change}
-use Rattle.pfs_model.specs.Places.{Placed, chosen, places}
-use Rattle.pfs_model.specs.Chains.{Each, times, each_of, row_change, word_change, action_change, release_of, change_at, is_of, is_that, opens_free, is_free_after, IsChained}
+use Rattle.pfs_model.specs.Places.{Placed, chosen, before_phase, up_to_phase, places}
+use Rattle.pfs_model.specs.Chains.{Each, times, each_of, row_change, word_change, action_change, release_of, change_at, is_of, is_that, opens_free, is_free_after, IsChained, AreChained}
 use Rattle.pfs_model.specs.Setups.{loads_of}
 use Rattle.pfs_model.specs.Actions.{deed_at, set_at}
-use Rattle.pfs_model.specs.Floors.{Changes, Sees, Frees, namings_of, rows_known, before_phase, up_to_phase, by_actions, greatest, loads_in, floor_of, word_floor_of, AllBelow, KeepsAbove, NamingsKeep, LoadsKeep, AreFlooredBehind}
+use Rattle.pfs_model.specs.Floors.{Changes, Sees, Frees, namings_of, rows_known, by_actions, greatest, loads_in, floor_of, word_floor_of, AllBelow, KeepsAbove, NamingsKeep, LoadsKeep, AreFlooredBehind}
 use Rattle.pfs_model.specs.Plain.{last_of, AreNext, AreLast, Agrees, AgreesWith, AgreeBehind, is_free, IsHeldBack, NoneHeldBack, PlainKeeps}
 use Rattle.pfs_model.proofs.Growing.{IsGrown, grown_count, grown_chained, onto, times_append}
 use Rattle.pfs_model.proofs.Walking.{top, Walk, IsState, past, walk_blocks, Rising, rising_blocks, eq_of}
@@ -293,21 +293,50 @@ chained f ps g change =
     let same : (test : Change → Bool) → times test (each_of f (past [] ps)) ≡ times test (each_of f ps) = λ test. times_past test f [] ps ∙ omega arith in
     sym (same (is_that change)) ∙ grown_chained (each_of f (past [] ps)) g change ∙ ap (λ n. cond {A = ℕ} (nat_lt 0 change.version && nat_le change.version n) 1 0) (same (is_of change.row))
 
+-- the entries up to a phase are a front, since the phases never fall
+none_left : (phase low : ℕ) (ps : List Placed) → phase < low → Rising low ps → up_to_phase phase ps ≡ []
+none_left phase low [] l r = refl
+none_left phase low (p ∷ ps) l r =
+    let x : low ≤ p.phase = r.0 in
+    let later : phase < p.phase = omega (arith, l, x) in
+    at (nat_le p.phase phase) refl later (none_left phase p.phase ps later r.1) where
+      over : (x y : ℕ) → y < x → nat_le x y ≡ true → ⊥
+      over x y l q = grind arith
+
+      at : (b : Bool) → nat_le p.phase phase ≡ b → phase < p.phase → up_to_phase phase ps ≡ [] → cond b (p ∷ []) [] ++ up_to_phase phase ps ≡ []
+      at true q later e = absurd (over p.phase phase later q)
+      at false q later e = e
+
+front_agrees : (phase low : ℕ) (earlier ps : List Placed) → Rising low ps → AgreeBehind earlier ps → AgreeBehind earlier (up_to_phase phase ps)
+front_agrees phase low earlier [] r a = tt
+front_agrees phase low earlier (p ∷ ps) r a = at (nat_le p.phase phase) refl (front_agrees phase p.phase (p ∷ earlier) ps r.1 a.1) where
+  over : (x y : ℕ) → nat_le x y ≡ false → y < x
+  over x y q = grind arith
+
+  at : (b : Bool) → nat_le p.phase phase ≡ b → AgreeBehind (p ∷ earlier) (up_to_phase phase ps) → AgreeBehind earlier (cond b (p ∷ []) [] ++ up_to_phase phase ps)
+  at true q go = (a.0, go)
+  at false q go = subst (AgreeBehind earlier) (sym (none_left phase p.phase ps (over p.phase phase q) r.1)) tt
+
+by_phase : (f : Entry → List Change) → ((earlier : List Placed) → Agreed earlier → IsGrown (each_of f earlier)) → (ps : List Placed) → Rising 0 ps → AgreeBehind [] ps → AreChained f ps
+by_phase f grown ps r a phase =
+    let front : List Placed = up_to_phase phase ps in
+    chained f front (grown (past [] front) (agreed_past [] front tt (front_agrees phase 0 [] ps r a)))
+
 pub plain_keeps : PlainKeeps
 plain_keeps blocks s a =
     let w : Walk [] (places blocks) = walk_blocks [] blocks 0 [] s (λ session. (omega arith, omega arith)) a in
-    let g : Agreed (past [] (places blocks)) = agreed_past [] (places blocks) tt a in
+    let r : Rising 0 (places blocks) = rising_blocks [] blocks 0 s in
     record {
       joint = record {
-        rows = chained row_change (places blocks) (grown_rows (past [] (places blocks)) g);
-        words = chained word_change (places blocks) (grown_words (past [] (places blocks)) g);
+        rows = by_phase row_change grown_rows (places blocks) r a;
+        words = by_phase word_change grown_words (places blocks) r a;
         ordered = record {
-          numbers = chained action_change (places blocks) (grown_actions (past [] (places blocks)) g);
+          numbers = by_phase action_change grown_actions (places blocks) r a;
           rising = λ session. rising_numbers session [] (places blocks) a;
           deeds = never_fall row_change deed_at [] (places blocks) (deed_walk [] (places blocks) a w);
           sets = never_fall word_change set_at [] (places blocks) (set_walk [] (places blocks) a w);
         };
-        floored = floored 0 [] (places blocks) tt a w (rising_blocks [] blocks 0 s) tt;
+        floored = floored 0 [] (places blocks) tt a w r tt;
       };
       none = none_held [] (places blocks) a;
     }

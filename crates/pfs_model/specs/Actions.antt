@@ -4,7 +4,7 @@ use Rattle.pfs_event.specs.declared.entry.Entry.{Entry}
 use Rattle.pfs_event.specs.declared.entry.Entry.TheVariants as says
 use Rattle.pfs_model.specs.declared.changes.Change.{Change}
 use Rattle.pfs_model.specs.Places.{Placed}
-use Rattle.pfs_model.specs.Chains.{Each, each_of, action_change, IsChained}
+use Rattle.pfs_model.specs.Chains.{Each, action_change, AreChained}
 
 -- the entry is a part of an action that comes behind its number: a take, a give, a tag, a release or a set
 abbrev pub is_acted : Entry → Bool
@@ -90,9 +90,9 @@ abbrev pub AreRising : List Change → Type 0
 AreRising [] = Unit {0}
 AreRising (number ∷ numbers) = AllAbove number.version numbers × AreRising numbers
 
--- The numbers are 1 to n, each once, and rise along each session; along a row and along a switch word they never fall.
+-- The numbers up to a phase's end are 1 to n, each once, and rise along each session; along a row and along a switch word they never fall.
 pub record IsOrdered (all : List Placed) : Type 0 where
-  pub numbers : IsChained (each_of action_change all)
+  pub numbers : AreChained action_change all
   pub rising : (session : ℕ) → AreRising (numbers_by session all)
   pub deeds : NeverFall (deeds_of all)
   pub sets : NeverFall (sets_of all)

@@ -1,5 +1,5 @@
 -- What an action asks for, and what its entries say it did.
-use Rattle.std.specs.Prelude.{ℕ, ◌≡◌, ◌<◌, ◌==◌, Bool, cond, List, [], ◌∷◌, ◌++◌}
+use Rattle.std.specs.Prelude.{ℕ, ◌≡◌, ◌<◌, ◌==◌, Bool, cond, List, [], ◌∷◌, ◌++◌, Option}
 use Rattle.pfs_event.specs.declared.entry.Entry.{Entry}
 use Rattle.pfs_event.specs.declared.entry.Entry.TheVariants as says
 use Rattle.pfs_model.specs.Places.{Placed, chosen}
@@ -20,7 +20,8 @@ pub record Flagging : Type 0 where
   pub word : ℕ
   pub flags : ℕ
 
--- The moves stand level after level, and within a level ascending by row; the signs ascend by row, the sets by word.
+-- The moves stand level after level, and within a level ascending by row (for accounts, users and hosts so for one kind after another, for
+-- a quit ascending by row over all kinds); the signs ascend by row, the sets by word. An action that isn't there asks for nothing.
 pub record Asked : Type 0 where
   pub moves : List Move
   pub signs : List Sign
@@ -63,10 +64,40 @@ flagged_by (one ∷ others) = Flagged one.word one.flags ∷ flagged_by others
 abbrev pub asked_of : (ℕ → Bool) → Asked → List Did
 asked_of counted asked = moved_by counted asked.moves ++ (signed_by asked.signs ++ flagged_by asked.sets)
 
+-- where a connect finds room: a slot, and rows for its account, its user and its host, each where there was one
+pub record Rooms : Type 0 where
+  pub thread : Option ℕ
+  pub account : Option ℕ
+  pub user : Option ℕ
+  pub host : Option ℕ
+
+-- what a change by SQL is answered: how many rows it changed, or the number of an error
+pub data Answer : Type 0 where
+  Replied : ℕ → Answer
+  Failed : ℕ → Answer
+
+-- an error behind an action is its answer; without one it is that of a text that was refused beforehand
+abbrev pub answer_at : (ℕ → Answer) → (Placed → ℕ) → Placed → Answer
+answer_at answers refusal place = cond (place.context.action == 0) (Failed (refusal place)) (answers place.context.action)
+
+-- A connect has the rooms, and an answer is the one, that its action gives: by its number, or for a refused text by its line.
+abbrev pub IsAnswered : (ℕ → Rooms) → (ℕ → Answer) → (Placed → ℕ) → Placed → Entry → Type 0
+IsAnswered rooms answers refusal place (says.Connect action thread account user host) =
+    rooms action ≡ record { thread = thread; account = account; user = user; host = host }
+IsAnswered rooms answers refusal place (says.Reply number) = answer_at answers refusal place ≡ Replied number
+IsAnswered rooms answers refusal place (says.Error number) = answer_at answers refusal place ≡ Failed number
+IsAnswered rooms answers refusal place entry = Unit {0}
+
+abbrev pub AreAnswered : (ℕ → Rooms) → (ℕ → Answer) → (Placed → ℕ) → List Placed → Type 0
+AreAnswered rooms answers refusal [] = Unit {0}
+AreAnswered rooms answers refusal (place ∷ places) =
+    IsAnswered rooms answers refusal place place.entry × AreAnswered rooms answers refusal places
+
 -- the entries of an action
 abbrev pub of_action : ℕ → List Placed → List Placed
 of_action number places = chosen (λ place. place.context.action == number) places
 
--- Each action does just what it asks for, in this order. `counted action row` says whether the action's take of the row found an event.
+-- Each action does just what it asks for, in this order. `counted action row` says whether the action's take of the row found an event:
+-- the contents tell.
 abbrev pub DoAsAsked : (ℕ → Asked) → (ℕ → ℕ → Bool) → List Placed → Type 0
 DoAsAsked asked counted all = (number : ℕ) → 0 < number → each_of did (of_action number all) ≡ asked_of (counted number) (asked number)

@@ -43,6 +43,11 @@ abbrev pub cell_row : Option ℕ → ℕ → ℕ
 cell_row (Some slot) cell = 129 + 64 * slot + cell
 cell_row None cell = 8321 + cell
 
+-- the row of a digest: 8385 for the texts without a place, then one for each place
+abbrev pub digest_row : Option ℕ → ℕ
+digest_row None = 8385
+digest_row (Some digest) = 8386 + digest
+
 abbrev pub is_summary : Option ℕ → ℕ → Entry → Bool
 is_summary slot cell (says.Add r _) = r == cell_row slot cell
 is_summary slot cell (says.Held r _ _) = r == cell_row slot cell

@@ -3,7 +3,7 @@ use Rattle.std.specs.Prelude.{ℕ, ◌≡◌, ◌+◌, ◌==◌, nat_lt, nat_le,
 use Rattle.pfs_event.specs.declared.entry.Entry.{Entry}
 use Rattle.pfs_event.specs.declared.entry.Entry.TheVariants as says
 use Rattle.pfs_model.specs.declared.changes.Change.{Change}
-use Rattle.pfs_model.specs.Places.{Placed}
+use Rattle.pfs_model.specs.Places.{Placed, up_to_phase}
 
 -- a fact of each of a list
 abbrev pub Each : {A : Type 0} → (A → Type 0) → List A → Type 0
@@ -60,6 +60,10 @@ abbrev pub IsChained : List Change → Type 0
 IsChained changes =
     (change : Change)
     → times (is_that change) changes ≡ cond (nat_lt 0 change.version && nat_le change.version (times (is_of change.row) changes)) 1 0
+
+-- at each phase's end, of all entries up to there
+abbrev pub AreChained : (Entry → List Change) → List Placed → Type 0
+AreChained given all = (phase : ℕ) → IsChained (each_of given (up_to_phase phase all))
 
 -- the row is FREE before its first change: an info row, or a place of a ring or of the long history
 abbrev pub opens_free : ℕ → Bool

@@ -1,13 +1,14 @@
 -- What stands in a row at a version: each change makes its content of the one before.
-use Rattle.std.specs.Prelude.{ℕ, ◌≡◌, ◌+◌, ◌-◌, ◌&&◌, nat_lt, nat_le, Bool, cond, List, [], ◌∷◌, map, fold, replicate, Some}
+use Rattle.std.specs.Prelude.{ℕ, ◌≡◌, ◌+◌, ◌-◌, ◌==◌, ◌&&◌, not, nat_lt, nat_le, Bool, cond, List, [], ◌∷◌, map, fold, replicate, Option, Some}
 use Rattle.pfs_stat.specs.declared.Stat.{Stat}
 use Rattle.pfs_stat.specs.declared.Measure.{Measure}
-use Rattle.pfs_stat.specs.Stat.{zero_of, merge_of, words_of, stat_of_words}
+use Rattle.pfs_stat.specs.Stat.{zero_of, stat_of, merge_of, words_of, stat_of_words}
 use Rattle.pfs_event.specs.declared.entry.Entry.{Entry}
 use Rattle.pfs_event.specs.declared.entry.Entry.TheVariants as says
 use Rattle.pfs_model.specs.declared.lines.Opened.{Opened}
 use Rattle.pfs_model.specs.Contexts.{Context, brought}
 use Rattle.pfs_model.specs.Places.{Placed}
+use Rattle.pfs_model.specs.Setups.{is_timed}
 
 -- What the script says of an event: the session's clock at its start, its duration in picoseconds, and a statement's six numbers.
 pub record Facts : Type 0 where
@@ -32,6 +33,11 @@ measure_of timed facts = record {
   sent = facts.sent;
   examined = facts.examined;
 }
+
+-- what an event of a session adds when it ends: timed by the flags that its start saw, with the script's facts of the session's events, by
+-- their position among its starts. `slots` has the printed slot of each session
+abbrev pub amount_by : (ℕ → ℕ → ℕ) → (ℕ → Option ℕ) → (ℕ → ℕ → Facts) → ℕ → Opened → Stat
+amount_by flags slots facts session event = stat_of (measure_of (is_timed flags (slots session) event) (facts session event.index))
 
 -- What contents go by beside the printed entries: what an event of a session adds, the words of an event that is put at a place,
 -- and the words of an info row behind an action.
@@ -72,6 +78,16 @@ IsContent given content place entry = Unit {0}
 abbrev pub AllContents : Given → (ℕ → ℕ → List ℕ) → List Placed → Type 0
 AllContents given content [] = Unit {0}
 AllContents given content (place ∷ places) = IsContent given content place place.entry × AllContents given content places
+
+-- a take found an event where the content before it has counted one
+abbrev pub IsFoundAsCounted : (ℕ → ℕ → List ℕ) → (ℕ → ℕ → Bool) → ℕ → Entry → Type 0
+IsFoundAsCounted content counted action (says.Take row version) = counted action row ≡ not ((stat_of_words (content row (version - 1))).count == 0)
+IsFoundAsCounted content counted action entry = Unit {0}
+
+abbrev pub AreFoundAsCounted : (ℕ → ℕ → List ℕ) → (ℕ → ℕ → Bool) → List Placed → Type 0
+AreFoundAsCounted content counted [] = Unit {0}
+AreFoundAsCounted content counted (place ∷ places) =
+    IsFoundAsCounted content counted place.context.action place.entry × AreFoundAsCounted content counted places
 
 -- what a row holds at first: a cell and a digest row count nothing, any other row is all zeros
 abbrev pub opening_words : ℕ → List ℕ

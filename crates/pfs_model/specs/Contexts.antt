@@ -111,6 +111,7 @@ noted subject context (says.Connect action thread account user host) = record co
 noted subject context (says.Start event verdict consumers thread class table) = record context {
   opened = with_opened subject (λ s. record { subject = s; verdict = verdict; index = context.begun; number = event; consumers = consumers; thread = thread; class = class; table = table }) context.opened;
   begun = context.begun + 1;
+  ended = None;
   drawn = context.drawn + cond (is_let_through verdict) 1 0;
 }
 noted subject context (says.End event last consumers thread) = record context { opened = drop 1 context.opened; ended = first_of context.opened }

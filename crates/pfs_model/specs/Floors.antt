@@ -3,7 +3,7 @@ use Rattle.std.specs.Prelude.{ℕ, ◌≡◌, ◌/◌, ◌<◌, ◌≤◌, ◌==
 use Rattle.pfs_event.specs.declared.entry.Entry.{Entry}
 use Rattle.pfs_event.specs.declared.entry.Entry.TheVariants as says
 use Rattle.pfs_model.specs.declared.changes.Change.{Change}
-use Rattle.pfs_model.specs.Places.{Placed, chosen}
+use Rattle.pfs_model.specs.Places.{Placed, chosen, by_session, before_phase, up_to_phase}
 use Rattle.pfs_model.specs.Chains.{Each, times, change_at, row_change, word_change, release_of, each_of, is_of, is_free_after}
 use Rattle.pfs_model.specs.Setups.{loads_of}
 
@@ -39,17 +39,6 @@ rows_known (says.Busy row first second) = change_at row (first / 4) ∷ change_a
 rows_known (says.Seen row version) = change_at row version ∷ []
 rows_known (says.Free row version) = change_at row version ∷ []
 rows_known entry = row_change entry
-
--- the entries of a session
-abbrev pub by_session : ℕ → List Placed → List Placed
-by_session session places = chosen (λ place. place.session == session) places
-
--- the entries of the phases before this one, and of those up to it
-abbrev pub before_phase : ℕ → List Placed → List Placed
-before_phase phase places = chosen (λ place. nat_lt place.phase phase) places
-
-abbrev pub up_to_phase : ℕ → List Placed → List Placed
-up_to_phase phase places = chosen (λ place. nat_le place.phase phase) places
 
 -- the entries of actions numbered from 1 up to this one
 abbrev pub by_actions : ℕ → List Placed → List Placed
@@ -119,3 +108,14 @@ AreFlooredBehind all earlier (place ∷ places) =
 
 abbrev pub AreFloored : List Placed → Type 0
 AreFloored all = AreFlooredBehind all [] all
+
+-- there are 14,242 rows and 160 switch words; a reading, a release and a load name one of them
+abbrev pub IsThere : Entry → Type 0
+IsThere (says.Seen row version) = row < 14242
+IsThere (says.Free row version) = row < 14242
+IsThere (says.Saw word version) = word < 160
+IsThere entry = Unit {0}
+
+abbrev pub AreThere : List Placed → Type 0
+AreThere [] = Unit {0}
+AreThere (place ∷ places) = IsThere place.entry × AreThere places

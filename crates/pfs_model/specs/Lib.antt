@@ -11,6 +11,7 @@ pub mod Journals
 pub mod Numbers
 pub mod Places
 pub mod Plain
+pub mod Puts
 pub mod Rings
 pub mod Setups
 pub mod Shapes

@@ -1,5 +1,5 @@
 -- The entries of all journals in the order of the report, each with where it stands and what its session's entries before it tell.
-use Rattle.std.specs.Prelude.{ℕ, ◌≤◌, ◌==◌, cond, Bool, List, [], ◌∷◌, ◌++◌}
+use Rattle.std.specs.Prelude.{ℕ, ◌≤◌, ◌==◌, nat_lt, nat_le, cond, Bool, List, [], ◌∷◌, ◌++◌}
 use Rattle.pfs_event.specs.declared.entry.Entry.{Entry}
 use Rattle.pfs_model.specs.declared.lines.Line.{Line}
 use Rattle.pfs_model.specs.Contexts.{Context, fresh, subject_of, noted, turned, after}
@@ -56,6 +56,20 @@ places_behind earlier (block ∷ blocks) =
 abbrev pub chosen : (Placed → Bool) → List Placed → List Placed
 chosen test [] = []
 chosen test (place ∷ places) = cond (test place) (place ∷ []) [] ++ chosen test places
+
+-- the entries of a session
+abbrev pub by_session : ℕ → List Placed → List Placed
+by_session session places = chosen (λ place. place.session == session) places
+
+-- the entries of the phases before this one, of those up to it, and of this one
+abbrev pub before_phase : ℕ → List Placed → List Placed
+before_phase phase places = chosen (λ place. nat_lt place.phase phase) places
+
+abbrev pub up_to_phase : ℕ → List Placed → List Placed
+up_to_phase phase places = chosen (λ place. nat_le place.phase phase) places
+
+abbrev pub in_phase : ℕ → List Placed → List Placed
+in_phase phase places = chosen (λ place. place.phase == phase) places
 
 -- all entries, in the order of the report
 abbrev pub places : List Block → List Placed

@@ -4,7 +4,7 @@ use Rattle.pfs_event.specs.declared.entry.Entry.{Entry}
 use Rattle.pfs_event.specs.declared.entry.Entry.TheVariants as says
 use Rattle.pfs_model.specs.declared.changes.Change.{Change}
 use Rattle.pfs_model.specs.Places.{Block, Placed, places, IsShaped}
-use Rattle.pfs_model.specs.Chains.{row_change, word_change, action_change, each_of, opens_free, IsChained}
+use Rattle.pfs_model.specs.Chains.{row_change, word_change, action_change, each_of, opens_free, AreChained}
 use Rattle.pfs_model.specs.Actions.{IsOrdered}
 use Rattle.pfs_model.specs.Causes.{kind_of_row}
 use Rattle.pfs_model.specs.Floors.{AreFloored}
@@ -89,10 +89,10 @@ abbrev pub NoneHeldBack : List Placed → Type 0
 NoneHeldBack [] = Unit {0}
 NoneHeldBack (place ∷ places) = (IsHeldBack place.entry → ⊥) × NoneHeldBack places
 
--- what all journals have in common, whoever ran when
+-- what all journals have in common, whoever ran when: chains, the order of the actions, and floors
 pub record AreJoint (all : List Placed) : Type 0 where
-  pub rows : IsChained (each_of row_change all)
-  pub words : IsChained (each_of word_change all)
+  pub rows : AreChained row_change all
+  pub words : AreChained word_change all
   pub ordered : IsOrdered all
   pub floored : AreFloored all
 
@@ -100,7 +100,7 @@ pub record AreAlone (all : List Placed) : Type 0 where
   pub joint : AreJoint all
   pub none : NoneHeldBack all
 
--- Journals of the right shape in which each line agrees with those before it have all that journals of threads owe one another:
--- chains, the order of the actions, the versions of words along them, floors; and nothing is held back in them.
+-- Journals of the right shape in which each line agrees with those before it have chains, the order of the actions, the versions of
+-- words along them, and floors; and nothing is held back in them. Of tickets, places and what is vacant this says nothing.
 abbrev pub PlainKeeps : Type 0
 PlainKeeps = (blocks : List Block) → IsShaped blocks → IsPlain (places blocks) → AreAlone (places blocks)

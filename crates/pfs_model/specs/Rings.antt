@@ -5,16 +5,22 @@ use Rattle.pfs_event.specs.declared.entry.Entry.TheVariants as says
 use Rattle.pfs_model.specs.declared.changes.Change.{Change}
 use Rattle.pfs_model.specs.declared.lines.Line.{Line}
 use Rattle.pfs_model.specs.declared.lines.Line.TheVariants as lines
-use Rattle.pfs_model.specs.Places.{Placed, chosen}
+use Rattle.pfs_model.specs.Places.{Placed, by_session, before_phase, up_to_phase, in_phase}
 use Rattle.pfs_event.specs.declared.kind.EventKind.{EventKind}
 use Rattle.pfs_event.specs.declared.kind.EventKind.TheVariants as kinds
 use Rattle.pfs_model.specs.declared.lines.Opened.{Opened}
 use Rattle.pfs_model.specs.Setups.{is_wait, is_statement, open_through}
 use Rattle.pfs_model.specs.Shapes.{is_stage}
-use Rattle.pfs_model.specs.Chains.{times, change_at, row_change, release_of, each_of, is_of, is_free_after}
+use Rattle.pfs_model.specs.Chains.{Each, times, change_at, row_change, release_of, each_of, is_of, is_free_after}
 use Rattle.pfs_model.specs.Actions.{IsAmong}
 use Rattle.pfs_model.specs.Causes.{long_row, kind_of_row}
-use Rattle.pfs_model.specs.Floors.{by_session, before_phase, up_to_phase}
+
+-- the numbers of the kinds among the rings
+abbrev pub ring_number : EventKind → ℕ
+ring_number kinds.Wait = 0
+ring_number kinds.Stage = 1
+ring_number kinds.Statement = 2
+ring_number kinds.Transaction = 3
 
 -- the kinds: 0 waits, 1 stages, 2 statements, 3 transactions; the history of a kind has ten places of its thread's ring
 abbrev pub history_row : ℕ → ℕ → ℕ → ℕ
@@ -66,10 +72,6 @@ abbrev pub long_puts : ℕ → List Placed → List LongPut
 long_puts kind [] = []
 long_puts kind (place ∷ places) = filter (λ put. kind_of_row put.row == kind) (long_put place.line place.entry) ++ long_puts kind places
 
--- the entries of one phase
-abbrev pub in_phase : ℕ → List Placed → List Placed
-in_phase phase places = chosen (λ place. place.phase == phase) places
-
 abbrev pub ticket_shown : Option ℕ → List ℕ
 ticket_shown None = []
 ticket_shown (Some ticket) = ticket ∷ []
@@ -89,10 +91,15 @@ AreRisingTickets [] = Unit {0}
 AreRisingTickets (ticket ∷ []) = Unit {0}
 AreRisingTickets (ticket ∷ (next ∷ tickets)) = (ticket < next) × AreRisingTickets (next ∷ tickets)
 
+-- a ticket that is shown stands at its own place
+abbrev pub IsAtOwn : ℕ → LongPut → Type 0
+IsAtOwn kind put = (ticket : ℕ) → put.ticket ≡ Some ticket → put.row ≡ long_row kind ticket
+
 -- The tickets of a kind in a phase, where so many puts stood in the phases before: each place has as many put lines as tickets, the
--- tickets that are shown are different and among those drawn in the phase, and they rise along a session.
+-- tickets that are shown stand at their places, are different and among those drawn in the phase, and rise along a session.
 pub record AreTickets (all : List Placed) (phase kind : ℕ) : Type 0 where
   pub placed : (row : ℕ) → times (λ put. put.row == row) (long_puts kind (in_phase phase all)) ≡ tickets_of_row kind row (length (long_puts kind (before_phase phase all))) (length (long_puts kind (in_phase phase all)))
+  pub own : Each (IsAtOwn kind) (long_puts kind (in_phase phase all))
   pub once : (ticket : ℕ) → times (λ other. other == ticket) (tickets_shown (long_puts kind (in_phase phase all))) ≤ 1
   pub drawn : (ticket : ℕ) → IsAmong ticket (tickets_shown (long_puts kind (in_phase phase all))) → (length (long_puts kind (before_phase phase all)) ≤ ticket) × (ticket < length (long_puts kind (up_to_phase phase all)))
   pub rising : (session : ℕ) → AreRisingTickets (tickets_shown (long_puts kind (by_session session (in_phase phase all))))

@@ -1,5 +1,5 @@
 -- What a line asks of a session's journal and allows there: a shape is a list of items, and goes by what the entries so far tell.
-use Rattle.std.specs.Prelude.{ℕ, Bool, true, false, if◌then◌else◌, List, [], ◌∷◌, ◌++◌, map, Option, None, is_some, is_none}
+use Rattle.std.specs.Prelude.{ℕ, Bool, true, false, ◌&&◌, if◌then◌else◌, List, [], ◌∷◌, ◌++◌, map, Option, None, is_some, is_none}
 use Rattle.pfs_event.specs.declared.kind.EventKind.{EventKind}
 use Rattle.pfs_event.specs.declared.kind.EventKind.TheVariants as kinds
 use Rattle.pfs_event.specs.declared.verdict.Verdict.{Verdict}
@@ -45,8 +45,9 @@ abbrev pub counting : Option ℕ → Opened → Bool → List Item
 counting slot event true = one (asks.Summary (counted_slot slot event.verdict) event.subject.cell) ∷ (digest_of event.subject.kind ++ puts)
 counting slot event false = []
 
+-- which words an end loads goes by the printed slot and the printed verdict
 abbrev pub ending : Option ℕ → Opened → List Item
-ending slot event = one (asks.End (is_let_through event.verdict)) ∷ counting slot event (is_let_through event.verdict)
+ending slot event = one (asks.End (is_some slot && is_let_through event.verdict)) ∷ counting slot event (is_let_through event.verdict)
 
 abbrev pub is_stage : EventKind → Bool
 is_stage kinds.Stage = true

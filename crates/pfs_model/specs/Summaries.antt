@@ -14,6 +14,7 @@ use Rattle.pfs_model.specs.declared.lines.Opened.{Opened}
 use Rattle.pfs_model.specs.Contexts.{Context, brought}
 use Rattle.pfs_model.specs.Places.{Placed}
 use Rattle.pfs_model.specs.Setups.{is_attributed}
+use Rattle.pfs_model.specs.Asks.{digest_row}
 
 -- an event as it was added to a row: with its session's places, and the version of the addition
 pub record Addition : Type 0 where
@@ -108,8 +109,12 @@ is_class class None = false
 is_class class (Some other) = other == class
 
 -- the event is one of the class's, added to a cell
-abbrev pub is_counted : ℕ → Addition → Bool
-is_counted class one = is_class class one.event.subject.class && not (is_digest_row one.row)
+abbrev pub is_of_class : ℕ → Addition → Bool
+is_of_class class one = is_class class one.event.subject.class && not (is_digest_row one.row)
+
+-- and one of those that a cell has: READ WRITE and READ ONLY transactions have one each
+abbrev pub is_of_cell : ℕ → Addition → Bool
+is_of_cell cell one = (one.event.subject.cell == cell) && not (is_digest_row one.row)
 
 abbrev pub is_same_kind : TableKind → TableKind → Bool
 is_same_kind Waits Waits = true
@@ -118,7 +123,7 @@ is_same_kind Statements Statements = true
 is_same_kind Transactions Transactions = true
 is_same_kind _ _ = false
 
--- TRUNCATE of a summary at this level empties what stands below the key too
+-- TRUNCATE of a summary at this level empties cells at the key's level, or below it
 abbrev pub covers_level : Key → SummaryTable → Bool
 covers_level (KeyThread session) level = true
 covers_level (KeyAccount user host) ByAccount = true
@@ -153,19 +158,20 @@ abbrev pub stays_counted : (ℕ → Bool) → ℕ → Option ℕ → Bool
 stays_counted covering n None = true
 stays_counted covering n (Some first) = not (some_action covering first n)
 
--- the events of a class that count in a summary row after n actions; `truncates` says which table an action truncates, if any
-abbrev pub counted_in : List Placed → (ℕ → Names) → (ℕ → Option Table) → ℕ → TableKind → ℕ → Key → List Addition
-counted_in all names truncates n kind class key =
-    filter (λ one. is_counted class one && leads_to names key one && stays_counted (λ action. covers key kind (truncates action)) n (removal_of all one)) (additions_of all)
+-- the events of a class, or of a cell, that count in a summary row after n actions; `truncates` says which table an action truncates, if
+-- any
+abbrev pub counted_in : List Placed → (ℕ → Names) → (ℕ → Option Table) → ℕ → TableKind → (Addition → Bool) → Key → List Addition
+counted_in all names truncates n kind test key =
+    filter (λ one. test one && leads_to names key one && stays_counted (λ action. covers key kind (truncates action)) n (removal_of all one)) (additions_of all)
 
--- and in a digest's row, by its row's number
+-- and in a digest's row, by its row's number: those whose digest has that row
 abbrev pub is_digest_summary : Option Table → Bool
 is_digest_summary (Some tables.DigestSummary) = true
 is_digest_summary _ = false
 
 abbrev pub counted_in_digest : List Placed → (ℕ → Option Table) → ℕ → ℕ → List Addition
 counted_in_digest all truncates n row =
-    filter (λ one. (one.row == row) && stays_counted (λ action. is_digest_summary (truncates action)) n (removal_of all one)) (additions_of all)
+    filter (λ one. (one.row == row) && (digest_row one.event.subject.digest == row) && stays_counted (λ action. is_digest_summary (truncates action)) n (removal_of all one)) (additions_of all)
 
 -- the numbers of a summary row: what the events that count there add, merged
 abbrev pub summary_of : (ℕ → Opened → Stat) → List Addition → Stat

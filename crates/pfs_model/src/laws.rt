@@ -15,8 +15,9 @@ pub fn misfits()
     ensures { Misfits }
 {}
 
-/// Journals of the right shape in which each line agrees with the lines before it keep all that the
-/// journals of threads owe one another: chains, the order of the actions, and floors; and nothing is held back in them.
+/// Journals of the right shape in which each line agrees with the lines before it have chains, the
+/// order of the actions, and floors; and nothing is held back in them. Of tickets, of places and of
+/// what is vacant it says nothing.
 pub fn plain()
     ensures { PlainKeeps }
 {}
