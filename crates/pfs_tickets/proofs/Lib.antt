@@ -1,0 +1,7 @@
+pub mod ListFacts
+pub mod TicketFacts
+pub mod Numbers
+pub mod Keeps
+pub mod Seats
+pub mod Between
+pub mod Examples

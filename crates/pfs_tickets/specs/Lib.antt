@@ -1,0 +1,6 @@
+pub mod History
+pub mod Knowledge
+pub mod Rule
+pub mod Plays
+pub mod Whole
+pub mod Known

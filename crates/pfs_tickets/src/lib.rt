@@ -1,0 +1,11 @@
+//! The tickets of the long places: four words that any number of seats draw from, each ticket once.
+#![tactic(auto)]
+
+mod rules;
+#[cfg(test)]
+mod tests;
+mod tickets;
+mod view;
+
+pub use tickets::{NoMemory, TicketSeat, Tickets};
+pub use view::{Drawn, View};
