@@ -173,5 +173,5 @@ module _ (S : Type 0) where
         keeps,
         tt,
         subst (λ z. Rule record { words = set s.words q z; homes = s.homes; views = set s.views id (drew v q n) }) (sym next) (drawn s r id v at q inside some_left),
-        (refl, above s r id v at q inside some_left, free),
+        (refl, above s r id v at q inside some_left, (λ whole. count_whole s r id v at whole q inside), free),
       )

@@ -5,3 +5,4 @@ pub mod Keeps
 pub mod Seats
 pub mod Between
 pub mod Examples
+pub mod LawFacts

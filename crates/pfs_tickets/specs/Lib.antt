@@ -4,3 +4,4 @@ pub mod Rule
 pub mod Plays
 pub mod Whole
 pub mod Known
+pub mod Laws

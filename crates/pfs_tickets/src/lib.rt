@@ -1,6 +1,7 @@
 //! The tickets of the long places: four words that any number of seats draw from, each ticket once.
 #![tactic(auto)]
 
+pub mod laws;
 mod rules;
 #[cfg(test)]
 mod tests;

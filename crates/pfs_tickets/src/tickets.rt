@@ -59,13 +59,14 @@ impl Tickets {
         ))
     }
 
-    /// Draws the next ticket of a kind: one fetch-and-add. It takes one draw of the seat's, and waits for nobody.
+    /// Draws the next ticket of a kind: one fetch-and-add. It is above each of its kind that the seat has, and where no other seat is out it is their number. It takes one draw of the seat's, and waits for nobody.
     pub fn draw(&self, seat: &mut TicketSeat, kind: u64) -> u64
         requires tickets { seat.old.tickets ≡ self.now }
         requires kind { kind < 4 }
         requires left { 0 < seat.old.view.draws }
         ensures seat { seat.new ≡ known seat.old.tickets (drew seat.old.view kind result) }
         ensures above { Each (λ (x : Drawn). x.kind ≡ kind → x.ticket < result) seat.old.view.tickets }
+        ensures next { IsWhole seat.old.view → result ≡ count_of kind seat.old.view.tickets }
         ensures room { result + seat.old.view.draws ≤ all_draws }
     {
         let badge = mem::replace(&mut seat.badge, Badge::blank());
