@@ -1,12 +1,12 @@
 -- The steps on a word: a draw, the telling of a number, and the count of a kind.
-use Rattle.std.proofs.Common.{◌≡◌, ℕ, eqb, subst, ◌+◌, ◌%◌, ◌^◌, ◌<◌, ◌≤◌, ◌≢◌, true, List, [], ◌∷◌, length, get_or, set, sym, refl, ap, ◌∙◌, ⊎_elim, arith, length-set, get_or-set_other, get_or-set_same}
+use Rattle.std.proofs.Common.{◌≡◌, ℕ, eqb, subst, ◌+◌, ◌%◌, ◌^◌, ◌<◌, ◌≤◌, ◌≢◌, List, get_or, set, sym, refl, ap, ◌∙◌, ⊎_elim, arith, length-set, get_or-set_other, get_or-set_same}
 use mathlib.Core.Logic.{dite}
 use mathlib.Core.Option.{some, none}
 use native.Mathlib.Decide.{ℕ_discrete}
 use lib.ListN.{get_elem?}
 use lib.Seq.{set-get_or}
 use prog.Atomic.{either}
-use Rattle.atomic_table.specs.Table.{State, Me, step, keeps, stepped, Allows}
+use Rattle.atomic_table.specs.Table.{State, Me, step, keeps, Allows}
 use Rattle.atomic_table.proofs.Lists.{at_set, exchanged}
 use Rattle.pfs_tickets.specs.declared.view.Drawn.{Drawn}
 use Rattle.pfs_tickets.specs.declared.view.View.{View}
@@ -16,7 +16,7 @@ use Rattle.pfs_tickets.specs.Plays.{draws, tells, counts}
 use Rattle.pfs_tickets.specs.Rule.{Fits, IsKind, Ruled}
 use Rattle.pfs_tickets.specs.Whole.{IsComplete}
 use Rattle.pfs_tickets.proofs.ListFacts.{each_map, total_set, total_same, total_room, total_alone}
-use Rattle.pfs_tickets.proofs.Numbers.{Near, numbers_set}
+use Rattle.pfs_tickets.proofs.Numbers.{numbers_set}
 use Rattle.pfs_tickets.proofs.TicketFacts.{count_here, count_other, count_low, times_here, times_else, times_other, times_low, four_kinds}
 
 abbrev pub Counted : ℕ → View → ℕ

@@ -1,7 +1,5 @@
 -- The laws.
-use Rattle.std.proofs.Common.{◌≡◌, ℕ, ◌+◌, ◌<◌, ◌≤◌, List, ◌++◌, ap, ◌∙◌, sym, arith, length-append}
-use mathlib.Core.Logic.{dite}
-use native.Mathlib.Decide.{dec_lt}
+use Rattle.std.proofs.Common.{ap, ◌∙◌, arith, length-append}
 use Rattle.pfs_tickets.specs.History.{count_of, times}
 use Rattle.pfs_tickets.specs.Laws.{SumLaw, PhaseLaw}
 use Rattle.pfs_tickets.proofs.TicketFacts.{count_append, times_append}

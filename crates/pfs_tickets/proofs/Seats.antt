@@ -1,5 +1,5 @@
 -- The opening, and views that are cut in two and put together.
-use Rattle.std.proofs.Common.{◌≡◌, ℕ, subst, zero, suc, ◌+◌, ◌<◌, ◌≤◌, ◌≢◌, true, List, [], ◌∷◌, ◌++◌, length, get_or, set, sym, refl, ap, ◌∙◌, ⊎_elim, arith, length-append}
+use Rattle.std.proofs.Common.{◌≡◌, ℕ, subst, zero, suc, ◌+◌, ◌<◌, ◌≤◌, ◌≢◌, true, List, [], ◌∷◌, ◌++◌, length, get_or, set, sym, refl, ◌∙◌, ⊎_elim, arith, length-append}
 use mathlib.Core.Option.{some}
 use lib.ListN.{get_elem?}
 use Rattle.atomic_table.specs.Table.{State, Splits, Joins, opening}
@@ -8,7 +8,7 @@ use Rattle.pfs_tickets.specs.declared.view.Drawn.{Drawn}
 use Rattle.pfs_tickets.specs.declared.view.View.{View}
 use Rattle.pfs_tickets.specs.History.{Each, total, count_of, times}
 use Rattle.pfs_tickets.specs.Knowledge.{stake, root, split_left, split_right, joined, spent}
-use Rattle.pfs_tickets.specs.Rule.{Fits, IsKind, Ruled}
+use Rattle.pfs_tickets.specs.Rule.{Fits, Ruled}
 use Rattle.pfs_tickets.proofs.Keeps.{Counted, Timed, fits_set, kind_same}
 use Rattle.pfs_tickets.proofs.ListFacts.{at_end, each_append, total_set, total_append}
 use Rattle.pfs_tickets.proofs.Numbers.{numbers_first, numbers_cut, numbers_glued, not_root, none_yet, only_is}

@@ -1,5 +1,5 @@
 -- What follows from a list of tickets alone.
-use Rattle.std.proofs.Common.{◌≡◌, ℕ, eqb, subst, eq-eqb, ne_eqb, ◌+◌, ◌<◌, ◌≤◌, ◌≢◌, cond, List, [], ◌∷◌, ◌++◌, length, sym, refl, ap, ◌∙◌, arith}
+use Rattle.std.proofs.Common.{◌≡◌, ℕ, eqb, eq-eqb, ne_eqb, ◌+◌, ◌<◌, ◌≤◌, ◌≢◌, cond, List, [], ◌∷◌, ◌++◌, length, refl, ◌∙◌, arith}
 use mathlib.Core.Logic.{dite}
 use native.Mathlib.Decide.{ℕ_discrete}
 use Rattle.pfs_tickets.specs.declared.view.Drawn.{Drawn}
@@ -52,12 +52,12 @@ pub four_kinds : (xs : List Drawn) → Each (λ (x : Drawn). x.kind < 4) xs → 
 four_kinds [] e = refl
 four_kinds (x ∷ xs) e = let h = e.0 in let b = four_kinds xs e.1 in
     dite (ℕ_discrete x.kind 0)
-      (λ z. let p = count_here x xs 0 z in let q = count_other x xs 1 (λ i. omega arith) in let r = count_other x xs 2 (λ i. omega arith) in let s = count_other x xs 3 (λ i. omega arith) in omega arith)
-      (λ n0. dite (ℕ_discrete x.kind 1)
-        (λ z. let p = count_other x xs 0 n0 in let q = count_here x xs 1 z in let r = count_other x xs 2 (λ i. omega arith) in let s = count_other x xs 3 (λ i. omega arith) in omega arith)
-        (λ n1. dite (ℕ_discrete x.kind 2)
-          (λ z. let p = count_other x xs 0 n0 in let q = count_other x xs 1 n1 in let r = count_here x xs 2 z in let s = count_other x xs 3 (λ i. omega arith) in omega arith)
-          (λ n2. let p = count_other x xs 0 n0 in let q = count_other x xs 1 n1 in let r = count_other x xs 2 n2 in let s = count_here x xs 3 (omega arith) in omega arith)))
+    (λ z. let p = count_here x xs 0 z in let q = count_other x xs 1 (λ i. omega arith) in let r = count_other x xs 2 (λ i. omega arith) in let s = count_other x xs 3 (λ i. omega arith) in omega arith)
+    (λ n0. dite (ℕ_discrete x.kind 1)
+    (λ z. let p = count_other x xs 0 n0 in let q = count_here x xs 1 z in let r = count_other x xs 2 (λ i. omega arith) in let s = count_other x xs 3 (λ i. omega arith) in omega arith)
+    (λ n1. dite (ℕ_discrete x.kind 2)
+    (λ z. let p = count_other x xs 0 n0 in let q = count_other x xs 1 n1 in let r = count_here x xs 2 z in let s = count_other x xs 3 (λ i. omega arith) in omega arith)
+    (λ n2. let p = count_other x xs 0 n0 in let q = count_other x xs 1 n1 in let r = count_other x xs 2 n2 in let s = count_here x xs 3 (omega arith) in omega arith)))
 
 module _ (m : ℕ) where
   pub rising_append : (xs ys : List Drawn) → IsRising xs → IsRising ys → Each (λ (x : Drawn). x.by ≡ m) xs → Each (λ (y : Drawn). y.by ≢ m) ys → IsRising (xs ++ ys)

@@ -1,5 +1,5 @@
 -- What the view of a seat says, and how each step changes it.
-use Rattle.std.specs.Prelude.{◌≡◌, ℕ, ◌+◌, ◌-◌, true, false, List, [], ◌∷◌, ◌++◌, length}
+use Rattle.std.specs.Prelude.{◌≡◌, ℕ, ◌+◌, ◌-◌, true, false, [], ◌∷◌, ◌++◌, length}
 use Rattle.pfs_tickets.specs.declared.view.Drawn.{Drawn}
 use Rattle.pfs_tickets.specs.declared.view.View.{View}
 

@@ -124,10 +124,7 @@ impl Tickets {
     {
         let badge = mem::replace(&mut seat.badge, Badge::blank());
         let mut sitting = badge.into_seat::<()>();
-        let word = self
-            .table
-            .shared
-            .load::<Count>(&mut sitting, kind as usize);
+        let word = self.table.shared.load::<Count>(&mut sitting, kind as usize);
         seat.badge = sitting.into_badge();
         word
     }
