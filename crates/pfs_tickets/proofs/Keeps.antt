@@ -45,7 +45,7 @@ module _ (S : Type 0) where
   abbrev St : Type 0
   St = State S View
 
-  abbrev M : Type 0
+  abbrev pub M : Type 0
   M = Me S View
 
   abbrev Rule : St → Type 0
@@ -166,8 +166,8 @@ module _ (S : Type 0) where
       numbers = numbers_set s.views id v w at record { live_is = refl; number_is = refl; seats_are = refl; makers_are = λ P own m. (own, m) } r.numbers;
     }
 
-  pub draw_keeps : (slots id : ℕ) (me : M) (q : ℕ) → q < 4 → 0 < me.0.draws → Allows Rule slots id me q (λ n. (n + 1) % 2 ^ 64) (draws (step slots q 1 0 none) me)
-  draw_keeps slots id me q inside some_left s r _ at _ = let v : View = me.0 in let n : ℕ = get_or s.words q 0 in let free = room s r id v at q inside in
+  one_keeps : (slots id : ℕ) (me : M) (q : ℕ) → q < 4 → 0 < me.0.draws → Allows Rule slots id me q (λ n. (n + 1) % 2 ^ 64) (draws (step slots q 1 0 none) me)
+  one_keeps slots id me q inside some_left s r _ at _ = let v : View = me.0 in let n : ℕ = get_or s.words q 0 in let free = room s r id v at q inside in
       let next : (n + 1) % 2 ^ 64 ≡ n + 1 = omega arith in (
         drew v q n,
         keeps,
@@ -175,3 +175,6 @@ module _ (S : Type 0) where
         subst (λ z. Rule record { words = set s.words q z; homes = s.homes; views = set s.views id (drew v q n) }) (sym next) (drawn s r id v at q inside some_left),
         (refl, above s r id v at q inside some_left, (λ whole. count_whole s r id v at whole q inside), free),
       )
+
+  pub draw_keeps : (slots id : ℕ) (me : M) (q x : ℕ) → q < 4 → x ≡ 1 → 0 < me.0.draws → Allows Rule slots id me q (λ n. (n + x) % 2 ^ 64) (draws (step slots q x 0 none) me)
+  draw_keeps slots id me q x inside one some_left = subst (λ z. Allows Rule slots id me q (λ n. (n + z) % 2 ^ 64) (draws (step slots q z 0 none) me)) (sym one) (one_keeps slots id me q inside some_left)

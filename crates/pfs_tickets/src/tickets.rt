@@ -31,7 +31,8 @@ impl Model for Tickets {
     ghost invariant = { λ b. IsSized b.table.shared.table_id };
 }
 
-/// What one actor knows of the tickets, and its right to draw. It has no bytes. Contracts see which tickets it is of, and the view.
+/// What one actor knows of the tickets, and its right to draw. It has no bytes. Contracts see which tickets it is of, and
+/// the view.
 #[derive(Drop)]
 pub struct TicketSeat {
     badge: Badge<View>,
@@ -46,7 +47,8 @@ impl Model for TicketSeat {
 }
 
 impl Tickets {
-    /// No ticket is drawn yet, and the root seat has all draws, 2^47.
+    /// Four words at 0, where no ticket is drawn yet, and the root seat with all draws, 2^47. It is refused only where there
+    /// is no memory.
     pub fn open(alloc: Global) -> Result<(Tickets, TicketSeat), NoMemory>
         ensures seat { IfOk result (λ b. b.1 ≡ known b.0 root) }
     {
@@ -59,7 +61,8 @@ impl Tickets {
         ))
     }
 
-    /// Draws the next ticket of a kind: one fetch-and-add. It is above each of its kind that the seat has, and where no other seat is out it is their number. It takes one draw of the seat's, and waits for nobody.
+    /// Draws the next ticket of a kind, 0 to 3: one fetch-and-add. It is above each of its kind that the seat has, and where
+    /// no other seat is out it is their number. It takes one of the seat's draws, and waits for nobody. The rule is our own.
     pub fn draw(&self, seat: &mut TicketSeat, kind: u64) -> u64
         requires tickets { seat.old.tickets ≡ self.now }
         requires kind { kind < 4 }
@@ -113,7 +116,8 @@ impl Tickets {
         seat.badge = sitting.into_badge();
     }
 
-    /// How many tickets of a kind were drawn, told to a seat that has the whole sum of draws left and tickets drawn, and with it all that holds of them. One load. The seat stays as it is, and the tickets stay in use.
+    /// How many tickets of a kind, 0 to 3, were drawn. It tells a seat that has the whole sum of draws left and tickets drawn
+    /// all that holds of them. One load; the seat stays as it is, and the tickets stay in use. It waits for nobody.
     pub fn tell(&self, seat: &mut TicketSeat, kind: u64) -> u64
         requires tickets { seat.old.tickets ≡ self.now }
         requires kind { kind < 4 }

@@ -11,5 +11,5 @@ fetch_add-ticket-requires c = let s = c.into_seat-sitting.ensures in let b = c.r
     let draws_are = ap (λ (v : View). v.draws) v_is in (
       s.0 ∙ ((λ i. (b i).table_id) ∙ (ap (λ (k : Known). k.tickets) c.seat.view_is ∙ (c.requires.tickets ∙ sym c.self.view_is))),
       omega arith,
-      draw_keeps _ _ _ c.into_seat-sitting.result.me c.args.kind low (omega arith),
+      draw_keeps _ _ _ c.into_seat-sitting.result.me _ _ (omega arith) (omega arith) (omega arith),
     )
