@@ -1,10 +1,13 @@
 -- Worked examples.
 use Rattle.std.proofs.Common.{◌≡◌, ℕ, ◌<◌, [], ◌∷◌, refl, arith}
+use mathlib.Core.Logic.{dite}
+use native.Mathlib.Decide.{ℕ_discrete}
 use Rattle.pfs_tickets.specs.declared.view.Drawn.{Drawn}
 use Rattle.pfs_tickets.specs.declared.view.View.{View}
 use Rattle.pfs_tickets.specs.History.{count_of, times, IsRising}
 use Rattle.pfs_tickets.specs.Knowledge.{IsWhole, root, drew, joined, left_with, given}
 use Rattle.pfs_tickets.specs.Whole.{IsComplete}
+use Rattle.pfs_tickets.proofs.TicketFacts.{count_here, count_other, times_here, times_else, times_other}
 
 abbrev drawn : ℕ → ℕ → ℕ → Drawn
 drawn by k t = record { by = by; kind = k; ticket = t }
@@ -19,6 +22,27 @@ example_rising = ((λ a b. absurd (omega arith), (λ a b. absurd (omega arith), 
 
 pub example_falling : ¬ (IsRising (drawn 0 1 3 ∷ drawn 0 1 4 ∷ []))
 example_falling r = let n : 4 < 3 = r.0.0 refl refl in absurd (omega arith)
+
+-- nothing was drawn
+pub example_none : IsComplete root
+example_none = record { kinds = tt; once = λ k t low h. absurd (omega arith); never = λ k t low h. refl; rising = tt; sum = refl }
+
+-- the first ticket of kind 2 was drawn
+abbrev one : View
+one = drew root 2 0
+
+pub example_one : IsComplete one
+example_one = record {
+  kinds = (omega arith, tt);
+  once = λ k t low h. dite (ℕ_discrete 2 k)
+      (λ e. let c = count_here (drawn 0 2 0) [] k e in let a = times_here (drawn 0 2 0) [] k t e (omega arith) in omega arith)
+      (λ n. let c = count_other (drawn 0 2 0) [] k n in absurd (omega arith));
+  never = λ k t low h. dite (ℕ_discrete 2 k)
+      (λ e. let c = count_here (drawn 0 2 0) [] k e in let a = times_else (drawn 0 2 0) [] k t e (λ z. omega arith) in omega arith)
+      (λ n. let a = times_other (drawn 0 2 0) [] k t n in omega arith);
+  rising = (tt, tt);
+  sum = refl;
+}
 
 abbrev twice : View
 twice = record root { tickets = drawn 1 0 0 ∷ drawn 0 0 0 ∷ [] }

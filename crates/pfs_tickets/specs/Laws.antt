@@ -12,7 +12,8 @@ SumLaw = ((v : View) (k t : ℕ) → 0 < v.draws → stake (drew v k t) ≡ stak
     × ((v : View) (n : ℕ) → n ≤ v.draws → stake (left_with v n) + stake (given v n) ≡ stake v)
     × ((v w : View) → stake (joined v w) ≡ stake v + stake w)
 
--- Between two tellings the tickets `new` were drawn: of each kind those from the earlier number to one below the later, each once, and no other
+-- Between two tellings the tickets `new` were drawn: of each kind those from the earlier number to one below the later,
+-- each once, and no other
 abbrev pub PhaseLaw : Type 0
 PhaseLaw = (v w : View) (new : List Drawn) → IsComplete v → IsComplete w → w.tickets ≡ new ++ v.tickets → (k : ℕ) → k < 4
     → (count_of k new + count_of k v.tickets ≡ count_of k w.tickets)

@@ -19,7 +19,7 @@ pub record Fits (words : List ℕ) (v : View) : Type 0 where
   pub rising : IsRising v.tickets
   pub own : v.number ≢ 0 → Makers (λ n. n ≡ v.number) v
 
--- the root has number 0, each other seat a number of its own, and the root has no ticket of a seat that is still out
+-- The root has number 0, each other seat a number of its own, and the root has no ticket of a seat that is still out
 pub record Numbers (views : List View) : Type 0 where
   pub root : View
   pub at_root : get_elem? views 0 ≡ some root
@@ -31,7 +31,7 @@ pub record Numbers (views : List View) : Type 0 where
   pub makers : Makers (λ n. n ≤ root.seats) root
 
 module _ (words : List ℕ) (views : List View) where
-  -- A kind's word is how many tickets of it all seats have. Each below it is one seat's, once, and none is at or above it
+  -- A kind's word is how many tickets of it all seats have. Each below it is one seat's, once, and none is from it on
   pub record IsKind (k : ℕ) : Type 0 where
     pub counts : total (λ (v : View). count_of k v.tickets) views ≡ slice_index words k
     pub once : (t : ℕ) → t < slice_index words k → total (λ (v : View). times k t v.tickets) views ≡ 1

@@ -1,4 +1,4 @@
-use Rattle.std.proofs.Common.{◌∙◌, ◌≡◌, sym, ap, arith}
+use Rattle.std.proofs.Common.{◌∙◌, sym, ap, arith}
 use Rattle.pfs_tickets.specs.declared.view.View.{View}
 use Rattle.pfs_tickets.specs.Known.{Known}
 use Rattle.pfs_tickets.proofs.Between.{view_of_seat, ready_view}
