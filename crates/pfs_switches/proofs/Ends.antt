@@ -17,6 +17,7 @@ use Rattle.pfs_switches.proofs.ViewFacts.{length_zeros, zeros_at}
 
 first_fits : (start : List ℕ) → Fits start [] (whole start)
 first_fits start = record {
+  start_is = refl;
   wide = length_zeros (length start);
   seen = λ r. let z = zeros_at (length start) r in omega arith;
   first = λ r. omega arith;

@@ -31,6 +31,7 @@ module _ (start : List ℕ) where
   -- a set leaves what a seat knows
   pub fits_later : (log : List Setting) (p : Setting) → p.version ≡ version log p.word + 1 → (v : View) → Fits start log v → Fits start (p ∷ log) v
   fits_later log p numbered v f = record {
+    start_is = f.start_is;
     wide = f.wide;
     seen = λ r. let a = f.seen r in let b = version_more p log r in omega arith;
     first = f.first;
@@ -84,6 +85,7 @@ module _ (S : Type 0) (start : List ℕ) where
   looked log v q k flags inside version_is flags_is f = let wide = f.wide in let within : q < length v.seen = omega arith in let had = f.seen q in
       let up : (r : ℕ) → get_or v.seen r 0 ≤ get_or (set v.seen q k) r 0 = seen_set (λ r n. get_or v.seen r 0 ≤ n) v.seen q k within (omega arith) (λ r _. omega arith) in
       let now : get_or (set v.seen q k) q 0 ≡ k = get_or-set_same v.seen q k 0 within in record {
+        start_is = f.start_is;
         wide = length-set v.seen q k ∙ f.wide;
         seen = seen_set (λ r n. n ≤ version log r) v.seen q k within (omega arith) (λ r _. f.seen r);
         first = λ r. let a = f.first r in let b = up r in omega arith;
@@ -127,6 +129,7 @@ module _ (S : Type 0) (start : List ℕ) where
       let later : (u : View) → Fits start r.log u → Fits start log' u = λ u g. fits_later start r.log p numbered u g in let l = later v f in
       let up : (j : ℕ) → get_or v.seen j 0 ≤ get_or (set v.seen q k) j 0 = seen_set (λ j n. get_or v.seen j 0 ≤ n) v.seen q k within (omega arith) (λ j _. omega arith) in
       let mine : Fits start log' w = record {
+        start_is = f.start_is;
         wide = length-set v.seen q k ∙ f.wide;
         seen = seen_set (λ j n. n ≤ version log' j) v.seen q k within (omega arith) (λ j _. l.seen j);
         first = λ j. let a = f.first j in let b = up j in omega arith;

@@ -51,8 +51,9 @@ order_met v w o = record {
 
 module _ (start : List ℕ) (log : List Setting) where
   -- a view that has only versions
-  bare : (w : View) → length w.seen ≡ length start → ((r : ℕ) → get_or w.seen r 0 ≤ version log r) → w.loads ≡ [] → w.meets ≡ [] → ((r : ℕ) → get_or w.first r 0 ≤ get_or w.seen r 0) → IsOrdered w → Fits start log w
-  bare w wide seen no_loads no_meets first order = record {
+  bare : (w : View) → w.start ≡ start → length w.seen ≡ length start → ((r : ℕ) → get_or w.seen r 0 ≤ version log r) → w.loads ≡ [] → w.meets ≡ [] → ((r : ℕ) → get_or w.first r 0 ≤ get_or w.seen r 0) → IsOrdered w → Fits start log w
+  bare w start_is wide seen no_loads no_meets first order = record {
+    start_is = start_is;
     wide = wide;
     seen = seen;
     first = first;
@@ -63,6 +64,7 @@ module _ (start : List ℕ) (log : List Setting) where
 
   fits_joined : (v w : View) → IsOrdered (joined v w) → Fits start log v → Fits start log w → Fits start log (joined v w)
   fits_joined v w order f g = let a = f.wide in let b = g.wide in let left = merged_left v.seen w.seen in let right : (r : ℕ) → get_or w.seen r 0 ≤ get_or (merged v.seen w.seen) r 0 = λ r. merged_right v.seen w.seen r (omega arith) in record {
+    start_is = f.start_is;
     wide = length_merged v.seen w.seen ∙ f.wide;
     seen = λ r. merged_below v.seen w.seen r (version log r) (f.seen r) (g.seen r);
     first = λ r. let x = f.first r in let y = left r in omega arith;
@@ -73,6 +75,7 @@ module _ (start : List ℕ) (log : List Setting) where
 
   fits_met : (v w : View) → Fits start log v → Fits start log w → Fits start log (met v w)
   fits_met v w f g = let a = f.wide in let b = g.wide in let left = merged_left v.seen w.seen in record {
+    start_is = f.start_is;
     wide = length_merged v.seen w.seen ∙ f.wide;
     seen = λ r. merged_below v.seen w.seen r (version log r) (f.seen r) (g.seen r);
     first = λ r. let x = f.first r in let y = left r in omega arith;
@@ -83,6 +86,7 @@ module _ (start : List ℕ) (log : List Setting) where
 
   fits_handed : (v w : View) → Fits start log v → Fits start log w → IsWriter start log w → Fits start log (handed v w)
   fits_handed v w f g own = let a = f.wide in let up : (r : ℕ) → get_or v.seen r 0 ≤ get_or w.seen r 0 = λ r. dite (dec_lt r (length start)) (λ low. let x = f.seen r in let y = own.seen r low in omega arith) (λ high. let z = beyond v.seen r (omega arith) in omega arith) in record {
+    start_is = f.start_is;
     wide = g.wide;
     seen = g.seen;
     first = up;
@@ -115,17 +119,17 @@ module _ (S : Type 0) (start : List ℕ) where
 
   pub cuts : (id : ℕ) (v : View) → v.live ≡ true → v.writes ≡ false → v.seated ≡ true → v.number ≡ 0 → Splits Rule id v (split_left v) (split_right v)
   cuts id v live reads sits first s r at = let f = r.seats id v at live in one_more s r id v (split_left v) (split_right v) at refl (λ (x : IsWriter start r.log v). absurd (true_not_false v.writes x.writing reads))
-      record { wide = f.wide; seen = f.seen; first = f.first; loads = f.loads; meets = f.meets; order = let o = f.order in record { places = o.places; meets = o.meets; rising = o.rising; above = o.above; own = o.own } } refl
-      (bare start r.log (split_right v) f.wide f.seen refl refl (λ r. omega arith) record { places = tt; meets = tt; rising = tt; above = tt; own = λ _. (tt, tt) }) (numbers_cut s.views r.numbers id v at sits first)
+      record { start_is = f.start_is; wide = f.wide; seen = f.seen; first = f.first; loads = f.loads; meets = f.meets; order = let o = f.order in record { places = o.places; meets = o.meets; rising = o.rising; above = o.above; own = o.own } } refl
+      (bare start r.log (split_right v) f.start_is f.wide f.seen refl refl (λ r. omega arith) record { places = tt; meets = tt; rising = tt; above = tt; own = λ _. (tt, tt) }) (numbers_cut s.views r.numbers id v at sits first)
 
   pub sends : (id : ℕ) (v : View) → v.live ≡ true → Splits Rule id v (unchanged v) (messenger v)
-  sends id v live s r at = let f = r.seats id v at live in one_more s r id v v (messenger v) at refl (λ x. x) f refl (bare start r.log (messenger v) f.wide f.seen refl refl (λ r. omega arith) record { places = tt; meets = tt; rising = tt; above = tt; own = λ _. (tt, tt) })
+  sends id v live s r at = let f = r.seats id v at live in one_more s r id v v (messenger v) at refl (λ x. x) f refl (bare start r.log (messenger v) f.start_is f.wide f.seen refl refl (λ r. omega arith) record { places = tt; meets = tt; rising = tt; above = tt; own = λ _. (tt, tt) })
       (numbers_more (set s.views id v) (messenger v) refl (numbers_set s.views id v v at record { seated_is = refl; number_is = refl; seats_are = refl; makers_are = λ P _ m. m } r.numbers))
 
   -- the opening: a reader and the writer
   pub parts_with : (id : ℕ) (v : View) → v.live ≡ true → v.writes ≡ true → Splits Rule id v (reader v) (writer v)
   parts_with id v live writes s r at = let f = r.seats id v at live in let own = writer_here S start s r id v at writes in let L : View = reader v in let R : View = writer v in let views : List View = set s.views id L in
-      let left : Fits start r.log L = record { wide = f.wide; seen = f.seen; first = f.first; loads = f.loads; meets = f.meets; order = let o = f.order in record { places = o.places; meets = o.meets; rising = o.rising; above = o.above; own = o.own } } in let pen_is = r.only id v at writes in record {
+      let left : Fits start r.log L = record { start_is = f.start_is; wide = f.wide; seen = f.seen; first = f.first; loads = f.loads; meets = f.meets; order = let o = f.order in record { places = o.places; meets = o.meets; rising = o.rising; above = o.above; own = o.own } } in let pen_is = r.only id v at writes in record {
         log = r.log;
         pen = length views;
         wide = r.wide;
@@ -134,7 +138,7 @@ module _ (S : Type 0) (start : List ℕ) where
         only = λ j u there w. ⊎_elim
             (λ e. ⊎_elim (λ (h : (j ≡ id) × (L ≡ u)). absurd (true_not_false u.writes w (ap (λ (x : View). x.writes) (sym h.1)))) (λ (h : (j ≢ id) × (get_elem? s.views j ≡ some u)). absurd (h.0 (r.only j u h.1 w ∙ sym pen_is))) (at_set s.views id j L u e))
             (λ (e : (j ≡ length views) × (R ≡ u)). e.0) (at_end views R u j there);
-        seats = λ j u there live. ⊎_elim (λ e. seats_set S start s r r.log id L left (λ _ g. g) j u e live) (λ (e : (j ≡ length views) × (R ≡ u)). subst (Fits start r.log) e.1 (bare start r.log R f.wide f.seen refl refl (λ r. omega arith) record { places = tt; meets = tt; rising = tt; above = tt; own = λ _. (tt, tt) })) (at_end views R u j there);
+        seats = λ j u there live. ⊎_elim (λ e. seats_set S start s r r.log id L left (λ _ g. g) j u e live) (λ (e : (j ≡ length views) × (R ≡ u)). subst (Fits start r.log) e.1 (bare start r.log R f.start_is f.wide f.seen refl refl (λ r. omega arith) record { places = tt; meets = tt; rising = tt; above = tt; own = λ _. (tt, tt) })) (at_end views R u j there);
         words = r.words;
         numbers = numbers_more views R refl (numbers_set s.views id v L at record { seated_is = refl; number_is = refl; seats_are = refl; makers_are = λ P _ m. m } r.numbers);
       }

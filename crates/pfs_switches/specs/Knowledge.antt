@@ -28,7 +28,7 @@ merged (c ∷ cs) (d ∷ ds) = max c d ∷ merged cs ds
 
 -- of a seat that was taken in
 abbrev pub spent : View
-spent = record { live = false; seated = false; writes = false; number = 0; seats = 0; made = 0; first = []; seen = []; loads = []; meets = []; sets = [] }
+spent = record { live = false; seated = false; writes = false; start = []; number = 0; seats = 0; made = 0; first = []; seen = []; loads = []; meets = []; sets = [] }
 
 -- of a new table: the root and the writer in one
 abbrev pub whole : List ℕ → View
@@ -36,6 +36,7 @@ whole start = record {
   live = true;
   seated = true;
   writes = true;
+  start = start;
   number = 0;
   seats = 0;
   made = 0;
@@ -50,14 +51,14 @@ abbrev pub reader : View → View
 reader v = record v { writes = false; sets = [] }
 
 abbrev pub writer : View → View
-writer v = record spent { live = true; writes = true; seen = v.seen; sets = v.sets }
+writer v = record spent { live = true; writes = true; start = v.start; seen = v.seen; sets = v.sets }
 
 -- what the root keeps that makes a seat, and what the new seat has
 abbrev pub split_left : View → View
 split_left v = record v { seats = v.seats + 1 }
 
 abbrev pub split_right : View → View
-split_right v = record spent { live = true; seated = true; number = v.seats + 1; first = v.seen; seen = v.seen }
+split_right v = record spent { live = true; seated = true; start = v.start; number = v.seats + 1; first = v.seen; seen = v.seen }
 
 abbrev pub joined : View → View → View
 joined v w = record v { seen = merged v.seen w.seen; loads = w.loads ++ v.loads; meets = w.meets ++ v.meets }
@@ -67,7 +68,7 @@ unchanged v = v
 
 -- the versions that the writer knows
 abbrev pub messenger : View → View
-messenger v = record spent { live = true; seen = v.seen }
+messenger v = record spent { live = true; start = v.start; seen = v.seen }
 
 -- the versions that a messenger brings are seen
 abbrev pub meet_of : View → View → Met

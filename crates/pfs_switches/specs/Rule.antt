@@ -24,6 +24,7 @@ module _ (start : List ℕ) (log : List Setting) where
 
   -- what a seat or the writer knows is so
   pub record Fits (v : View) : Type 0 where
+    pub start_is : v.start ≡ start
     pub wide : length v.seen ≡ length start
     pub seen : (r : ℕ) → slice_index v.seen r ≤ version log r
     pub first : (r : ℕ) → slice_index v.first r ≤ slice_index v.seen r

@@ -43,6 +43,8 @@ pub struct View {
     pub seated: bool,
     /// The writer's.
     pub writes: bool,
+    /// The words as they were opened, each with its flags at version 0.
+    pub start: [u64; 0],
     pub number: u64,
     /// How many seats it has made.
     pub seats: u64,
