@@ -13,10 +13,11 @@ use Rattle.pfs_switches.specs.declared.view.Setting.{Setting}
 use Rattle.pfs_switches.specs.declared.view.View.{View}
 use Rattle.pfs_switches.specs.History.{Each, version, flags_at, setting}
 use Rattle.pfs_switches.specs.Knowledge.{last_version, loaded, was_set}
-use Rattle.pfs_switches.specs.Plays.{looks, weighs, sets}
+use Rattle.pfs_switches.specs.Plays.{looks, weighs, sets, tells, checks}
 use Rattle.pfs_switches.specs.Rule.{IsLoad, IsMeet, Fits, IsWriter, IsWord, Ruled}
 use Rattle.pfs_switches.proofs.HistoryFacts.{each_map, version_here, version_other, version_more, flags_here, flags_other, flags_later}
 use Rattle.pfs_switches.proofs.Numbers.{Near, numbers_set}
+use Rattle.pfs_switches.proofs.Tells.{told}
 use Rattle.pfs_switches.proofs.ViewFacts.{at_below, seen_set}
 
 module _ (start : List ℕ) where
@@ -26,7 +27,7 @@ module _ (start : List ℕ) where
       (λ x g. let b = g.below in let u = up x.word in record { below = omega arith; flags_are = g.flags_are; least_is = g.least_is; first_is = g.first_is }) xs e
 
   pub more_met : (log : List Setting) (seen seen' : List ℕ) → ((r : ℕ) → get_or seen r 0 ≤ get_or seen' r 0) → (ms : List Met) → Each (IsMeet start log (λ r. get_or seen r 0)) ms → Each (IsMeet start log (λ r. get_or seen' r 0)) ms
-  more_met log seen seen' up ms e = each_map (IsMeet start log (λ r. get_or seen r 0)) (IsMeet start log (λ r. get_or seen' r 0)) (λ m g r. let b = g r in let u = up r in omega arith) ms e
+  more_met log seen seen' up ms e = each_map (IsMeet start log (λ r. get_or seen r 0)) (IsMeet start log (λ r. get_or seen' r 0)) (λ m g. record { below = λ r. let b = g.below r in let u = up r in omega arith; least_is = g.least_is; start_is = g.start_is }) ms e
 
   -- a set leaves what a seat knows
   pub fits_later : (log : List Setting) (p : Setting) → p.version ≡ version log p.word + 1 → (v : View) → Fits start log v → Fits start (p ∷ log) v
@@ -37,7 +38,7 @@ module _ (start : List ℕ) where
     first = f.first;
     loads = each_map (IsLoad start log (λ r. get_or v.seen r 0)) (IsLoad start (p ∷ log) (λ r. get_or v.seen r 0))
         (λ x g. let b = g.below in let c = f.seen x.word in record { below = g.below; flags_are = g.flags_are ∙ sym (flags_later p log start x.word x.version numbered (omega arith)); least_is = g.least_is; first_is = g.first_is }) v.loads f.loads;
-    meets = f.meets;
+    meets = each_map (IsMeet start log (λ r. get_or v.seen r 0)) (IsMeet start (p ∷ log) (λ r. get_or v.seen r 0)) (λ m g. record { below = g.below; least_is = g.least_is; start_is = g.start_is }) v.meets f.meets;
     order = f.order;
   }
 
@@ -95,7 +96,7 @@ module _ (S : Type 0) (start : List ℕ) where
           places = ((λ _. omega arith), each_map (λ (x : Loaded). x.by ≡ v.number → x.place < v.made) (λ (x : Loaded). x.by ≡ v.number → x.place < v.made + 1) (λ x g e. let b = g e in omega arith) v.loads o.places);
           meets = each_map (λ (m : Met). m.by ≡ v.number → m.place ≤ v.made) (λ (m : Met). m.by ≡ v.number → m.place ≤ v.made + 1) (λ m g e. let b = g e in omega arith) v.meets o.meets;
           rising = (each_map (IsLoad start log (λ r. get_or v.seen r 0)) (λ (y : Loaded). y.by ≡ v.number → y.word ≡ q → y.version ≤ k) (λ y g _ e. let b = g.below in let z = ap (λ i. get_or v.seen i 0) e in omega arith) v.loads f.loads, o.rising);
-          above = (each_map (IsMeet start log (λ r. get_or v.seen r 0)) (λ (m : Met). m.by ≡ v.number → m.place ≤ v.made → get_or m.versions q 0 ≤ k) (λ m g _ _. let b = g q in omega arith) v.meets f.meets, o.above);
+          above = (each_map (IsMeet start log (λ r. get_or v.seen r 0)) (λ (m : Met). m.by ≡ v.number → m.place ≤ v.made → get_or m.versions q 0 ≤ k) (λ m g _ _. let b = g.below q in omega arith) v.meets f.meets, o.above);
           own = λ n. let a = o.own n in ((refl, a.0), a.1);
         };
       }
@@ -119,6 +120,28 @@ module _ (S : Type 0) (start : List ℕ) where
         tt,
         unmoved s r q id me.1 v v at refl record { seated_is = refl; number_is = refl; seats_are = refl; makers_are = λ P _ m. m } (λ x. x) (r.seats id v at live),
         (refl, omega arith, omega arith),
+      )
+
+  pub tell_keeps : (slots id : ℕ) (me : M) (q : ℕ) → me.0.live ≡ true → me.0.writes ≡ true → Allows Rule slots id me q (λ n. n) (tells (step slots q 0 0 none) me)
+  tell_keeps slots id me q live writes s r _ at _ = let v : View = me.0 in let f = r.seats id v at live in (
+    v,
+    keeps,
+    tt,
+    unmoved s r q id me.1 v v at refl record { seated_is = refl; number_is = refl; seats_are = refl; makers_are = λ P _ m. m } (λ x. x) f,
+    (refl, told start r.log v v r.chain f (writer_here s r id v at writes)),
+  )
+
+  pub check_keeps : (slots id : ℕ) (me : M) (q : ℕ) → q < length start → me.0.live ≡ true → me.0.writes ≡ true → Allows Rule slots id me q (λ n. n) (checks (step slots q 0 0 none) me)
+  check_keeps slots id me q inside live writes s r _ at _ = let v : View = me.0 in let n : ℕ = get_or s.words q 0 in let k : ℕ = n / 65536 in let w : View = loaded v q k (n % 65536) in let f = r.seats id v at live in
+      let own = writer_here s r id v at writes in let had = own.seen q inside in let g = r.words q inside in let a = g.word_is in let b = g.flags_fit in let wide = f.wide in let within : q < length v.seen = omega arith in
+      let version_is : k ≡ version r.log q = omega arith in let flags_is : n % 65536 ≡ flags_at start r.log q (version r.log q) = omega arith in let flags_now : n % 65536 ≡ flags_at start r.log q k = flags_is ∙ ap (flags_at start r.log q) (sym version_is) in
+      let mine : Fits start r.log w = looked r.log v q k (n % 65536) inside version_is flags_now f in
+      let writing : IsWriter start r.log w = record { writing = writes; here = live; sets = own.sets; seen = seen_set (λ j m. j < length start → m ≡ version r.log j) v.seen q k within (λ _. version_is) (λ j _ low. own.seen j low) } in (
+        w,
+        keeps,
+        tt,
+        unmoved s r q id me.1 v w at refl record { seated_is = refl; number_is = refl; seats_are = refl; makers_are = λ P here m. ((here, m.0), m.1) } (λ _. writing) mine,
+        (refl, version_is ∙ sym had, flags_now ∙ (λ i. flags_at (sym f.start_is i) (sym own.sets i) q k), told start r.log w v r.chain mine own),
       )
 
   pub set_keeps : (slots id : ℕ) (me : M) (q x : ℕ) → q < length start → me.0.live ≡ true → me.0.writes ≡ true → x / 65536 ≡ get_or me.0.seen q 0 + 1 → x / 65536 ≤ last_version → Allows Rule slots id me q (λ _. x) (λ _. sets (step slots q x 0 none) me x)

@@ -1,6 +1,7 @@
 pub mod HistoryFacts
 pub mod ViewFacts
 pub mod Numbers
+pub mod Tells
 pub mod Keeps
 pub mod Seats
 pub mod Ends

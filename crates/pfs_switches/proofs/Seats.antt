@@ -11,12 +11,12 @@ use Rattle.pfs_switches.specs.declared.view.Met.{Met}
 use Rattle.pfs_switches.specs.declared.view.Setting.{Setting}
 use Rattle.pfs_switches.specs.declared.view.View.{View}
 use Rattle.pfs_switches.specs.History.{Each, version}
-use Rattle.pfs_switches.specs.Knowledge.{reader, writer, split_left, split_right, messenger, unchanged, merged, joined, meet_of, met, handed, spent}
+use Rattle.pfs_switches.specs.Knowledge.{reader, writer, split_left, split_right, merged, joined, meet_of, gathered, handed, spent}
 use Rattle.pfs_switches.specs.Order.{Makers, IsRising, IsAbove, IsOrdered, Numbers}
 use Rattle.pfs_switches.specs.Rule.{IsLoad, IsMeet, Fits, IsWriter, Ruled}
 use Rattle.pfs_switches.proofs.HistoryFacts.{each_map, each_both, each_append, true_not_false}
 use Rattle.pfs_switches.proofs.Keeps.{more_seen, more_met, writer_here, writer_set, only_set, seats_set}
-use Rattle.pfs_switches.proofs.Numbers.{at_end, numbers_set, numbers_more, numbers_less, numbers_cut, numbers_glued, not_root, none_yet}
+use Rattle.pfs_switches.proofs.Numbers.{Near, at_end, numbers_set, numbers_more, numbers_less, numbers_cut, numbers_glued, not_root, none_yet}
 use Rattle.pfs_switches.proofs.ViewFacts.{at_below, length_merged, merged_left, merged_right, merged_below, beyond}
 
 module _ (m : ℕ) where
@@ -40,8 +40,8 @@ order_joined v w first o p apart none = let own = p.own apart in record {
   own = λ n. absurd (n first);
 }
 
-order_met : (v w : View) → IsOrdered v → IsOrdered (met v w)
-order_met v w o = record {
+order_gathered : (v w : View) → IsOrdered v → IsOrdered (gathered v w)
+order_gathered v w o = record {
   places = o.places;
   meets = ((λ _. omega arith), o.meets);
   rising = o.rising;
@@ -73,19 +73,23 @@ module _ (start : List ℕ) (log : List Setting) where
     order = order;
   }
 
-  fits_met : (v w : View) → Fits start log v → Fits start log w → Fits start log (met v w)
-  fits_met v w f g = let a = f.wide in let b = g.wide in let left = merged_left v.seen w.seen in record {
+  -- no seat has seen more than the writer
+  up_to : (v w : View) → Fits start log v → IsWriter start log w → (r : ℕ) → get_or v.seen r 0 ≤ get_or w.seen r 0
+  up_to v w f own r = let a = f.wide in dite (dec_lt r (length start)) (λ low. let x = f.seen r in let y = own.seen r low in omega arith) (λ high. let z = beyond v.seen r (omega arith) in omega arith)
+
+  fits_gathered : (v w : View) → Fits start log v → Fits start log w → IsWriter start log w → Fits start log (gathered v w)
+  fits_gathered v w f g own = let up = up_to v w f own in record {
     start_is = f.start_is;
-    wide = length_merged v.seen w.seen ∙ f.wide;
-    seen = λ r. merged_below v.seen w.seen r (version log r) (f.seen r) (g.seen r);
-    first = λ r. let x = f.first r in let y = left r in omega arith;
-    loads = more_seen start log v.seen (merged v.seen w.seen) left v.loads f.loads;
-    meets = ((λ r. merged_right v.seen w.seen r (omega arith)), more_met start log v.seen (merged v.seen w.seen) left v.meets f.meets);
-    order = order_met v w f.order;
+    wide = g.wide;
+    seen = g.seen;
+    first = λ r. let x = f.first r in let y = up r in omega arith;
+    loads = more_seen start log v.seen w.seen up v.loads f.loads;
+    meets = (record { below = λ r. omega arith; least_is = up; start_is = g.start_is }, more_met start log v.seen w.seen up v.meets f.meets);
+    order = order_gathered v w f.order;
   }
 
   fits_handed : (v w : View) → Fits start log v → Fits start log w → IsWriter start log w → Fits start log (handed v w)
-  fits_handed v w f g own = let a = f.wide in let up : (r : ℕ) → get_or v.seen r 0 ≤ get_or w.seen r 0 = λ r. dite (dec_lt r (length start)) (λ low. let x = f.seen r in let y = own.seen r low in omega arith) (λ high. let z = beyond v.seen r (omega arith) in omega arith) in record {
+  fits_handed v w f g own = let up = up_to v w f own in record {
     start_is = f.start_is;
     wide = g.wide;
     seen = g.seen;
@@ -122,11 +126,7 @@ module _ (S : Type 0) (start : List ℕ) where
       record { start_is = f.start_is; wide = f.wide; seen = f.seen; first = f.first; loads = f.loads; meets = f.meets; order = let o = f.order in record { places = o.places; meets = o.meets; rising = o.rising; above = o.above; own = o.own } } refl
       (bare start r.log (split_right v) f.start_is f.wide f.seen refl refl (λ r. omega arith) record { places = tt; meets = tt; rising = tt; above = tt; own = λ _. (tt, tt) }) (numbers_cut s.views r.numbers id v at sits first)
 
-  pub sends : (id : ℕ) (v : View) → v.live ≡ true → Splits Rule id v (unchanged v) (messenger v)
-  sends id v live s r at = let f = r.seats id v at live in one_more s r id v v (messenger v) at refl (λ x. x) f refl (bare start r.log (messenger v) f.start_is f.wide f.seen refl refl (λ r. omega arith) record { places = tt; meets = tt; rising = tt; above = tt; own = λ _. (tt, tt) })
-      (numbers_more (set s.views id v) (messenger v) refl (numbers_set s.views id v v at record { seated_is = refl; number_is = refl; seats_are = refl; makers_are = λ P _ m. m } r.numbers))
-
-  -- the opening: a reader and the writer
+  -- a reader and the writer
   pub parts_with : (id : ℕ) (v : View) → v.live ≡ true → v.writes ≡ true → Splits Rule id v (reader v) (writer v)
   parts_with id v live writes s r at = let f = r.seats id v at live in let own = writer_here S start s r id v at writes in let L : View = reader v in let R : View = writer v in let views : List View = set s.views id L in
       let left : Fits start r.log L = record { start_is = f.start_is; wide = f.wide; seen = f.seen; first = f.first; loads = f.loads; meets = f.meets; order = let o = f.order in record { places = o.places; meets = o.meets; rising = o.rising; above = o.above; own = o.own } } in let pen_is = r.only id v at writes in record {
@@ -164,24 +164,31 @@ module _ (S : Type 0) (start : List ℕ) where
       let not_first = not_root s.views r.numbers id v at sits first other w w_at apart w_sits in let none = none_yet s.views r.numbers id v at sits first other w w_at apart w_sits in one_less s r id v other w (joined v w) at apart there w_reads refl (λ (x : IsWriter start r.log v). absurd (true_not_false v.writes x.writing reads))
       (fits_joined start r.log v w (order_joined v w first f.order g.order not_first none) f g) (numbers_glued s.views r.numbers id v at sits first other w w_at apart w_sits (g.order.own not_first))
 
-  pub meets : (id : ℕ) (v : View) (other : ℕ) (w : View) → v.live ≡ true → v.writes ≡ false → w.live ≡ true → w.writes ≡ false → w.seated ≡ false → Joins Rule id v other w (met v w) spent
-  meets id v other w live reads w_live w_reads w_stands s r at apart there = one_less s r id v other w (met v w) at apart there w_reads refl (λ (x : IsWriter start r.log v). absurd (true_not_false v.writes x.writing reads))
-      (fits_met start r.log v w (r.seats id v at live) (r.seats other w (sym (set_else s.views id other (met v w) apart) ∙ there) w_live))
-      (numbers_less (set s.views id (met v w)) other w there w_stands (numbers_set s.views id v (met v w) at record { seated_is = refl; number_is = refl; seats_are = refl; makers_are = λ P here m. (m.0, (here, m.1)) } r.numbers))
+  -- the writer's view goes to a seat
+  pen_moves : (s : St) (r : Rule s) (id : ℕ) (v : View) (other : ℕ) (w B : View) → get_elem? s.views id ≡ some v → ¬ (other ≡ id) → get_elem? s.views other ≡ some w → get_elem? (set s.views id B) other ≡ some w → w.writes ≡ true → w.seated ≡ false → Near v B → IsWriter start r.log B → Fits start r.log B
+      → Rule record { words = s.words; homes = s.homes; views = set (set s.views id B) other spent }
+  pen_moves s r id v other w B at apart w_at there writes w_stands near own both = let pen_is = r.only other w w_at writes in record {
+    log = r.log;
+    pen = id;
+    wide = r.wide;
+    chain = r.chain;
+    writer = (B, set_else (set s.views id B) other id spent (λ e. apart (sym e)) ∙ set_here s.views id B (at_below s.views id v at), own);
+    only = λ j u e w. ⊎_elim (λ (h : (j ≡ other) × (spent ≡ u)). absurd (true_not_false u.writes w (ap (λ (y : View). y.writes) (sym h.1))))
+        (λ (h : (j ≢ other) × (get_elem? (set s.views id B) j ≡ some u)). ⊎_elim (λ (g : (j ≡ id) × (B ≡ u)). g.0) (λ (g : (j ≢ id) × (get_elem? s.views j ≡ some u)). absurd (h.0 (r.only j u g.1 w ∙ sym pen_is))) (at_set s.views id j B u h.1))
+        (at_set (set s.views id B) other j spent u e);
+    seats = λ j u e live. ⊎_elim (λ (h : (j ≡ other) × (spent ≡ u)). absurd (true_not_false u.live live (ap (λ (y : View). y.live) (sym h.1)))) (λ (h : (j ≢ other) × (get_elem? (set s.views id B) j ≡ some u)). seats_set S start s r r.log id B both (λ _ g. g) j u h.1 live) (at_set (set s.views id B) other j spent u e);
+    words = r.words;
+    numbers = numbers_less (set s.views id B) other w there w_stands (numbers_set s.views id v B at near r.numbers);
+  }
+
+  -- a meeting: a seat and the writer in one
+  pub gathers : (id : ℕ) (v : View) (other : ℕ) (w : View) → v.live ≡ true → w.live ≡ true → w.writes ≡ true → w.seated ≡ false → Joins Rule id v other w (gathered v w) spent
+  gathers id v other w live w_live writes w_stands s r at apart there = let w_at = sym (set_else s.views id other (gathered v w) apart) ∙ there in let own = writer_here S start s r other w w_at writes in
+      pen_moves s r id v other w (gathered v w) at apart w_at there writes w_stands record { seated_is = refl; number_is = refl; seats_are = refl; makers_are = λ P here m. (m.0, (here, m.1)) }
+      record { writing = refl; here = live; sets = own.sets; seen = own.seen } (fits_gathered start r.log v w (r.seats id v at live) (r.seats other w w_at w_live) own)
 
   -- the end: a seat has the writer's sets
   pub hands : (id : ℕ) (v : View) (other : ℕ) (w : View) → v.live ≡ true → w.live ≡ true → w.writes ≡ true → w.seated ≡ false → Joins Rule id v other w (handed v w) spent
-  hands id v other w live w_live writes w_stands s r at apart there = let B : View = handed v w in let w_at = sym (set_else s.views id other B apart) ∙ there in let own = writer_here S start s r other w w_at writes in let pen_is = r.only other w w_at writes in
-      let both = fits_handed start r.log v w (r.seats id v at live) (r.seats other w w_at w_live) own in record {
-        log = r.log;
-        pen = id;
-        wide = r.wide;
-        chain = r.chain;
-        writer = (B, set_else (set s.views id B) other id spent (λ e. apart (sym e)) ∙ set_here s.views id B (at_below s.views id v at), record { writing = refl; here = live; sets = own.sets; seen = own.seen });
-        only = λ j u e w. ⊎_elim (λ (h : (j ≡ other) × (spent ≡ u)). absurd (true_not_false u.writes w (ap (λ (y : View). y.writes) (sym h.1))))
-            (λ (h : (j ≢ other) × (get_elem? (set s.views id B) j ≡ some u)). ⊎_elim (λ (g : (j ≡ id) × (B ≡ u)). g.0) (λ (g : (j ≢ id) × (get_elem? s.views j ≡ some u)). absurd (h.0 (r.only j u g.1 w ∙ sym pen_is))) (at_set s.views id j B u h.1))
-            (at_set (set s.views id B) other j spent u e);
-        seats = λ j u e live. ⊎_elim (λ (h : (j ≡ other) × (spent ≡ u)). absurd (true_not_false u.live live (ap (λ (y : View). y.live) (sym h.1)))) (λ (h : (j ≢ other) × (get_elem? (set s.views id B) j ≡ some u)). seats_set S start s r r.log id B both (λ _ g. g) j u h.1 live) (at_set (set s.views id B) other j spent u e);
-        words = r.words;
-        numbers = numbers_less (set s.views id B) other w there w_stands (numbers_set s.views id v B at record { seated_is = refl; number_is = refl; seats_are = refl; makers_are = λ P _ m. m } r.numbers);
-      }
+  hands id v other w live w_live writes w_stands s r at apart there = let w_at = sym (set_else s.views id other (handed v w) apart) ∙ there in let own = writer_here S start s r other w w_at writes in
+      pen_moves s r id v other w (handed v w) at apart w_at there writes w_stands record { seated_is = refl; number_is = refl; seats_are = refl; makers_are = λ P _ m. m }
+      record { writing = refl; here = live; sets = own.sets; seen = own.seen } (fits_handed start r.log v w (r.seats id v at live) (r.seats other w w_at w_live) own)

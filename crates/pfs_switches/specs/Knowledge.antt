@@ -63,20 +63,17 @@ split_right v = record spent { live = true; seated = true; start = v.start; numb
 abbrev pub joined : View → View → View
 joined v w = record v { seen = merged v.seen w.seen; loads = w.loads ++ v.loads; meets = w.meets ++ v.meets }
 
-abbrev pub unchanged : View → View
-unchanged v = v
-
--- the versions that the writer knows
-abbrev pub messenger : View → View
-messenger v = record spent { live = true; start = v.start; seen = v.seen }
-
--- the versions that a messenger brings are seen
 abbrev pub meet_of : View → View → Met
-meet_of v w = record { by = v.number; place = v.made; versions = w.seen }
+meet_of v w = record { by = v.number; place = v.made; versions = w.seen; least = v.seen; start = w.start }
 
+-- the seat v met the writer w, and has seen exactly the versions that the writer knows
 abbrev pub met : View → View → View
-met v w = record v { seen = merged v.seen w.seen; meets = meet_of v w ∷ v.meets }
+met v w = record v { seen = w.seen; meets = meet_of v w ∷ v.meets }
 
--- The writer and a seat in one. What the seat had seen stands in `first`
+-- the two in one, while they meet
+abbrev pub gathered : View → View → View
+gathered v w = record v { writes = true; seen = w.seen; meets = meet_of v w ∷ v.meets; sets = w.sets }
+
+-- The writer and a seat in one, at the end. What the seat had seen stands in `first`
 abbrev pub handed : View → View → View
 handed v w = record v { writes = true; first = v.seen; seen = w.seen; sets = w.sets }

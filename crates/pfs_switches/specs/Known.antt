@@ -2,7 +2,7 @@
 use Rattle.std.specs.Prelude.{◌≡◌, ℕ, ◌+◌, ◌^◌, ◌<◌, ◌≤◌, true, false, List, [], ◌∷◌, length}
 use Rattle.atomic_table.specs.Seated.{TableId}
 use Rattle.pfs_switches.specs.declared.view.View.{View}
-use Rattle.pfs_switches.specs.Knowledge.{spent}
+use Rattle.pfs_switches.specs.Knowledge.{writer, spent}
 
 -- which setup words, and their opening words
 pub record Place : Type 0 where
@@ -38,6 +38,7 @@ pub record IsReady (z : TableId) (views : List View) : Type 0 where
   pub live : (first_view views).live ≡ true
   pub sits : (first_view views).seated ≡ true
   pub reads : (first_view views).writes ≡ false
+  pub bare : (first_view views).sets ≡ []
   pub wide : length (first_view views).seen ≡ z.words
 
 pub record IsWriting (z : TableId) (views : List View) : Type 0 where
@@ -45,6 +46,7 @@ pub record IsWriting (z : TableId) (views : List View) : Type 0 where
   pub live : (first_view views).live ≡ true
   pub stands : (first_view views).seated ≡ false
   pub writes : (first_view views).writes ≡ true
+  pub own : first_view views ≡ writer (first_view views)
   pub wide : length (first_view views).seen ≡ z.words
 
 -- the word is one of those that were opened; the last is nobody's

@@ -19,8 +19,11 @@ module _ (start : List ℕ) (log : List Setting) where
     pub least_is : x.least ≤ x.version
     pub first_is : x.first ≤ x.least
 
-  abbrev pub IsMeet : (ℕ → ℕ) → Met → Type 0
-  IsMeet seen m = (r : ℕ) → slice_index m.versions r ≤ seen r
+  -- A meet brings versions that the words had, none below what the seat had seen, and both know the same opening words
+  pub record IsMeet (seen : ℕ → ℕ) (m : Met) : Type 0 where
+    pub below : (r : ℕ) → slice_index m.versions r ≤ seen r
+    pub least_is : (r : ℕ) → slice_index m.least r ≤ slice_index m.versions r
+    pub start_is : m.start ≡ start
 
   -- what a seat or the writer knows is so
   pub record Fits (v : View) : Type 0 where

@@ -1,6 +1,7 @@
 //! The setup words: flags with a version each, which one writer sets and any number of seats load.
 #![tactic(auto)]
 
+mod both;
 mod rules;
 mod switches;
 #[cfg(test)]

@@ -1,6 +1,6 @@
 //! The rule of the table, and what each step tells.
-ghost use Rattle.pfs_switches.specs.Knowledge.{whole, split_left, split_right, reader, writer, messenger, unchanged, joined, met, handed, spent};
-ghost use Rattle.pfs_switches.specs.Plays.{looks, weighs, sets};
+ghost use Rattle.pfs_switches.specs.Knowledge.{whole, split_left, split_right, reader, writer, joined, gathered, handed, spent};
+ghost use Rattle.pfs_switches.specs.Plays.{looks, weighs, sets, tells, checks};
 ghost use Rattle.pfs_switches.specs.Rule.{Ruled};
 
 use crate::view::View;
@@ -32,7 +32,19 @@ impl<S> Play<S, View> for Put {
     ghost then = { sets };
 }
 
-// The opening: a reader and the writer.
+pub(crate) struct Tell;
+
+impl<S> Play<S, View> for Tell {
+    ghost then = { tells };
+}
+
+pub(crate) struct Check;
+
+impl<S> Play<S, View> for Check {
+    ghost then = { checks };
+}
+
+// A reader and the writer, at the opening and at the end of a meeting.
 pub(crate) struct Part;
 
 impl Split<View> for Part {
@@ -50,15 +62,6 @@ impl Split<View> for Cut {
     ghost right = { split_right };
 }
 
-// The versions that the writer knows.
-pub(crate) struct Send;
-
-impl Split<View> for Send {
-    ghost left = { unchanged };
-
-    ghost right = { messenger };
-}
-
 pub(crate) struct Glue;
 
 impl Join<View> for Glue {
@@ -67,10 +70,11 @@ impl Join<View> for Glue {
     ghost spent = { spent };
 }
 
-pub(crate) struct Receive;
+// A meeting: a seat and the writer in one.
+pub(crate) struct Gather;
 
-impl Join<View> for Receive {
-    ghost both = { met };
+impl Join<View> for Gather {
+    ghost both = { gathered };
 
     ghost spent = { spent };
 }

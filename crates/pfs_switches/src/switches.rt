@@ -1,12 +1,13 @@
 //! The setup words, their seats and their writer, and the calls.
 ghost use Rattle.std.specs.Prelude.{◌≡◌, ℕ, ◌+◌, ◌<◌, ◌≤◌, [], List, length, slice_index, IfOk, MatchResult, vec_capacity};
 ghost use Rattle.pfs_switches.specs.declared.view.View.{View};
-ghost use Rattle.pfs_switches.specs.Closing.{IsClosed};
+ghost use Rattle.pfs_switches.specs.Closing.{IsTold, IsClosed};
 ghost use Rattle.pfs_switches.specs.Knowledge.{last_version, reader, writer, whole, loaded, was_set, split_left, split_right, joined, met};
 ghost use Rattle.pfs_switches.specs.Known.{Place, Known, place, known, first_view, IsSized, IsReady, IsWriting, HasWord};
 ghost use Rattle.pfs_switches.specs.Opening.{opening_words};
 
-use crate::rules::{Cut, Glue, Hand, Look, Part, Put, Receive, Rules, Send, Weigh};
+use crate::both::meet_by;
+use crate::rules::{Cut, Glue, Hand, Look, Part, Put, Rules, Weigh};
 use crate::view::View;
 use crate::words::{SPAN, hand_back, open_words};
 use atomic_table::{Badge, Table};
@@ -169,22 +170,20 @@ impl Switches {
         Ok(version + 1)
     }
 
-    /// The seat meets the writer, and has then seen each word's present version. It waits for nobody.
+    /// The seat meets the writer, and has then seen exactly each word's present version. It tells what holds of all that the two know, as `close` does at the end. It waits for nobody.
     pub fn meet(&self, seat: &mut SwitchSeat, writer: &mut Writer)
         requires switches { (seat.old.switches ≡ self.now.id) × (writer.old.switches ≡ self.now.id) }
         ensures seat { seat.new ≡ known seat.old.switches (met seat.old.view writer.old.view) }
         ensures seen { (r : ℕ) → HasWord self.now r → (slice_index seat.old.view.seen r ≤ slice_index seat.new.view.seen r) × (slice_index writer.old.view.seen r ≤ slice_index seat.new.view.seen r) }
+        ensures exact { seat.new.view.seen ≡ writer.new.view.seen }
         ensures writer { writer.new ≡ writer.old }
+        ensures told { IsTold seat.new.view.start seat.new.view writer.new.view }
     {
         let pen = mem::replace(&mut writer.badge, Badge::blank());
-        let mut writing = pen.into_seat::<()>();
-        let shared = &self.table.shared;
-        let news = shared.split_seat::<Send>(&mut writing);
-        writer.badge = writing.into_badge();
         let badge = mem::replace(&mut seat.badge, Badge::blank());
-        let mut sitting = badge.into_seat::<()>();
-        shared.join_seat::<Receive>(&mut sitting, news);
-        seat.badge = sitting.into_badge();
+        let (sitting, writing) = meet_by(&self.table.shared, badge, pen);
+        writer.badge = writing;
+        seat.badge = sitting;
     }
 
     /// A new seat that has seen what the root saw. Its number is how many the root has then made.

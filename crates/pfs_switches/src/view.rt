@@ -33,6 +33,10 @@ pub struct Met {
     pub place: u64,
     /// The version of each word then.
     pub versions: [u64; 0],
+    /// The version of each word that the seat had seen before.
+    pub least: [u64; 0],
+    /// The opening words, as the writer knows them.
+    pub start: [u64; 0],
 }
 
 /// What a seat or the writer knows.
