@@ -2,6 +2,7 @@ pub mod HistoryFacts
 pub mod ViewFacts
 pub mod Numbers
 pub mod Tells
+pub mod Examples
 pub mod Keeps
 pub mod Seats
 pub mod Ends

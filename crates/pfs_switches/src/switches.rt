@@ -6,7 +6,7 @@ ghost use Rattle.pfs_switches.specs.Knowledge.{last_version, reader, writer, who
 ghost use Rattle.pfs_switches.specs.Known.{Place, Known, place, known, first_view, IsSized, IsReady, IsWriting, HasWord};
 ghost use Rattle.pfs_switches.specs.Opening.{opening_words};
 
-use crate::both::meet_by;
+use crate::both::{load_by, meet_by};
 use crate::rules::{Cut, Glue, Hand, Look, Part, Put, Rules, Weigh};
 use crate::view::View;
 use crate::words::{SPAN, hand_back, open_words};
@@ -184,6 +184,31 @@ impl Switches {
         let (sitting, writing) = meet_by(&self.table.shared, badge, pen);
         writer.badge = writing;
         seat.badge = sitting;
+    }
+
+    /// Sets the flags of a word, and then loads it: the seat meets the writer after the set, and the load gives that version and these flags, which it answers. Refused as `Spent` exactly at the last version, and then nothing changes. It waits for nobody.
+    pub fn set_and_load(
+        &self,
+        seat: &mut SwitchSeat,
+        writer: &mut Writer,
+        word: u64,
+        flags: u16,
+    ) -> Result<(u64, u16), Spent>
+        requires switches { (seat.old.switches ≡ self.now.id) × (writer.old.switches ≡ self.now.id) }
+        requires word { HasWord self.now word }
+        ensures switches { (seat.new.switches ≡ seat.old.switches) × (writer.new.switches ≡ writer.old.switches) }
+        ensures set { MatchResult result (λ l. (l.0 ≡ slice_index writer.old.view.seen word + 1) × (l.0 ≤ last_version) × (l.1 ≡ flags) × (writer.new.view ≡ was_set writer.old.view word l.0 flags)) (λ _. (slice_index writer.old.view.seen word ≡ last_version) × (writer.new.view ≡ writer.old.view)) }
+        ensures seen { (r : ℕ) → HasWord self.now r → slice_index seat.old.view.seen r ≤ slice_index seat.new.view.seen r }
+        ensures load { MatchResult result (λ l. seat.new.view ≡ loaded (met seat.old.view writer.new.view) word l.0 l.1) (λ _. seat.new.view ≡ seat.old.view) }
+        ensures told { IfOk result (λ l. IsTold seat.new.view.start seat.new.view writer.new.view) }
+    {
+        self.set(writer, word, flags)?;
+        let pen = mem::replace(&mut writer.badge, Badge::blank());
+        let badge = mem::replace(&mut seat.badge, Badge::blank());
+        let (found, sitting, writing) = load_by(&self.table.shared, badge, pen, word as usize);
+        writer.badge = writing;
+        seat.badge = sitting;
+        Ok((found / SPAN, (found % SPAN) as u16))
     }
 
     /// A new seat that has seen what the root saw. Its number is how many the root has then made.

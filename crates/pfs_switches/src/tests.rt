@@ -25,6 +25,16 @@ fn a_set_is_loaded(rt: HostRuntime) -> Result<(), NoMemory> {
 }
 
 #[test]
+fn a_set_is_loaded_at_once(rt: HostRuntime) -> Result<(), NoMemory> {
+    let (switches, mut seat, mut writer) = opened(rt.alloc())?;
+    assert!(rt; switches.set(&mut writer, 39, 1) == Ok(1));
+    assert!(rt; switches.set_and_load(&mut seat, &mut writer, 39, 3) == Ok((2, 3)));
+    assert!(rt; switches.load(&mut seat, 39) == (2, 3));
+    assert!(rt; switches.load(&mut seat, 0) == (0, 28888));
+    Ok(())
+}
+
+#[test]
 fn a_seat_is_taken_in(rt: HostRuntime) -> Result<(), NoMemory> {
     let (switches, mut root, mut writer) = opened(rt.alloc())?;
     let mut seat = switches.split(&mut root);

@@ -1,7 +1,7 @@
 use Rattle.std.proofs.Common.{◌≡◌, ◌∙◌, [], ◌∷◌, ap, subst}
 use Rattle.pfs_switches.specs.declared.view.View.{View}
 use Rattle.pfs_switches.specs.Closing.{IsTold}
-use Rattle.pfs_switches.specs.Knowledge.{reader, writer, met, gathered}
+use Rattle.pfs_switches.specs.Knowledge.{reader, writer, gathered}
 use Rattle.pfs_switches.specs.Known.{first_view}
 use Rattle.pfs_switches.proofs.Between.{ready_view, writing_view, reader_met, writer_met}
 use Rattle.pfs_switches.proofs.Keeps.{tell_keeps}
