@@ -5,13 +5,13 @@ use mathlib.Core.Option.{some, some-injective, some-ne-none}
 use lib.ListN.{get_elem?}
 use Rattle.atomic_table.specs.Table.{opening, Final, Seen}
 use Rattle.pfs_switches.specs.declared.view.View.{View}
-use Rattle.pfs_switches.specs.Closing.{IsClosed}
-use Rattle.pfs_switches.specs.History.{Each, version, flags_at, IsChain}
+use Rattle.pfs_switches.specs.Closing.{IsTold, IsClosed}
+use Rattle.pfs_switches.specs.History.{version, flags_at}
 use Rattle.pfs_switches.specs.Knowledge.{whole, handed}
 use Rattle.pfs_switches.specs.Opening.{IsOpening, parts}
-use Rattle.pfs_switches.specs.Rule.{IsLoad, IsMeet, Fits, Ruled}
-use Rattle.pfs_switches.proofs.HistoryFacts.{each_map}
+use Rattle.pfs_switches.specs.Rule.{Fits, Ruled}
 use Rattle.pfs_switches.proofs.Keeps.{writer_here}
+use Rattle.pfs_switches.proofs.Tells.{told}
 use Rattle.pfs_switches.proofs.Numbers.{numbers_first}
 use Rattle.pfs_switches.proofs.ViewFacts.{length_zeros, zeros_at}
 
@@ -58,18 +58,9 @@ parts_of n k f e h = let a : n / 65536 ≡ k = omega arith in let b : n % 65536 
 
 pub closes : (S : Type 0) (start : List ℕ) (id : ℕ) (v w : View) (ws : List ℕ) (xs : List S) (count : ℕ) (rows : List (ℕ × ℕ)) → Final (Seen (Ruled {S = S} start) id (handed v w)) ws xs → v.live ≡ true → count + 1 ≡ length start → rows ≡ map parts (take count ws) → IsClosed start v w rows
 closes S start id v w ws xs count rows final live count_is rows_are = let s = final.0 in let r = final.1.0 in let at = final.1.1 in let f = r.seats id (handed v w) at live in let own = writer_here S start s r id (handed v w) at refl in
-    let log_is : r.log ≡ w.sets = sym own.sets in let wide : length ws ≡ length start = ap (length {A = ℕ}) (sym final.2) ∙ r.wide in record {
-      told = record {
-        chain = subst IsChain log_is r.chain;
-        counts = λ q low. own.seen q low ∙ ap (λ z. version z q) log_is;
-        loads = subst (λ z. Each (IsLoad start z (version z)) v.loads) log_is (each_map (IsLoad start r.log (λ q. get_or w.seen q 0)) (IsLoad start r.log (version r.log))
-            (λ x g. let b = g.below in let c = f.seen x.word in record { below = omega arith; flags_are = g.flags_are; least_is = g.least_is; first_is = g.first_is }) v.loads f.loads);
-        rising = f.order.rising;
-        above = f.order.above;
-        meets = subst (λ z. Each (IsMeet start z (version z)) v.meets) log_is (each_map (IsMeet start r.log (λ q. get_or w.seen q 0)) (IsMeet start r.log (version r.log))
-            (λ m g. record { below = λ q. let b = g.below q in let c = f.seen q in omega arith; least_is = g.least_is; start_is = g.start_is }) v.meets f.meets);
-        seen = λ q. let a = f.first q in let b = f.seen q in let e = ap (λ z. version z q) log_is in omega arith;
-      };
+    let log_is : r.log ≡ w.sets = sym own.sets in let wide : length ws ≡ length start = ap (length {A = ℕ}) (sym final.2) ∙ r.wide in
+    let t : IsTold start (handed v w) (handed v w) = subst (λ z. IsTold z (handed v w) (handed v w)) f.start_is (told start r.log (handed v w) (handed v w) r.chain f own) in record {
+      told = record { chain = t.chain; counts = t.counts; loads = t.loads; rising = t.rising; above = t.above; meets = t.meets; seen = λ q. let a = f.first q in let b = t.seen q in omega arith };
       rows_are = λ q low. let g = r.words q (omega arith) in
           ap (λ z. slice_index_or z q (0, 0)) rows_are ∙ (row_at ws count q (omega arith) (omega arith) ∙ (ap (λ z. parts (get_or z q 0)) (sym final.2) ∙ (parts_of (get_or s.words q 0) (version r.log q) (flags_at start r.log q (version r.log q)) g.word_is g.flags_fit
           ∙ ap (λ z. (version z q, flags_at start z q (version z q))) log_is)));
