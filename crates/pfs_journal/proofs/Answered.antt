@@ -6,7 +6,7 @@ use Rattle.std.proofs.lemmas.Bool.Decides.{Decides-eqb}
 use Rattle.std.specs.Prelude.{IsTrue}
 use Rattle.std.proofs.lemmas.List.{drop_more, drop_all, get_or-map}
 use Rattle.pfs_event.specs.declared.entry.Entry.{Entry}
-use Rattle.pfs_journal.specs.declared.values.RowValue.{RowValue}
+use Rattle.pfs_values.specs.declared.RowValue.{RowValue}
 use Rattle.pfs_journal.specs.Reports.{rows_asked, sizes_of, AreAnswered}
 
 module _ (entry : Entry) (rest : List Entry) (n : ℕ) (answers : List (List (List RowValue))) (place : ℕ) (asks : rows_asked entry ≡ Some n) where

@@ -6,7 +6,7 @@ use Rattle.std.proofs.lemmas.Bool.{false≢true}
 use Rattle.std.proofs.lemmas.List.Elements.{All-head}
 use Rattle.pfs_event.specs.declared.entry.Entry.TheVariants as entry
 use Rattle.pfs_event.specs.declared.verdict.Verdict.TheVariants.{Attributed}
-use Rattle.pfs_journal.specs.declared.values.RowValue.TheVariants as value
+use Rattle.pfs_values.specs.declared.RowValue.TheVariants as value
 use Rattle.pfs_journal.specs.Reports.{is_text_byte, IsText, AreAnswered}
 use Rattle.pfs_journal.specs.Spelling.{field_text, numbers_text, entry_text, value_text, row_text, is_answered, answered_text, journal_text, session_line, block_text, results_text, final_line, final_text, body_text, phase_line, phase_text, phases_text, first_line, spelling}
 

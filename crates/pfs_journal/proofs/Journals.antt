@@ -7,7 +7,7 @@ use Rattle.pfs_outside.specs.Streams.{Puts}
 use Rattle.pfs_outside.specs.declared.writing.WriteStop.{WriteStop}
 use Rattle.pfs_outside.proofs.Writes.{added_more, puts_then, puts_stop}
 use Rattle.pfs_event.specs.declared.entry.Entry.{Entry}
-use Rattle.pfs_journal.specs.declared.values.RowValue.{RowValue}
+use Rattle.pfs_values.specs.declared.RowValue.{RowValue}
 use Rattle.pfs_journal.specs.Spelling.{is_answered, answered_text, journal_text}
 
 abbrev pub Answers : Type 0

@@ -8,7 +8,7 @@ use Rattle.pfs_event.specs.declared.entry.Entry.{Entry}
 use Rattle.pfs_event.specs.declared.entry.Entry.TheVariants as entry
 use Rattle.pfs_journal.specs.declared.line.Line.{Line}
 use Rattle.pfs_journal.specs.declared.line.Line.TheVariants as says
-use Rattle.pfs_journal.specs.declared.values.RowValue.{RowValue}
+use Rattle.pfs_values.specs.declared.RowValue.{RowValue}
 use Rattle.pfs_journal.specs.Lines.{line_text, IsLine}
 use Rattle.pfs_journal.specs.Readings.{IsJournalRead, JournalGrows}
 use Rattle.pfs_journal.specs.Reports.{IsRow, AreAnswered, rows_asked, sizes_of}

@@ -13,8 +13,8 @@ use Rattle.pfs_event.specs.declared.entry.Entry.TheVariants as entry
 use Rattle.pfs_event.specs.declared.verdict.Verdict.{Verdict}
 use Rattle.pfs_event.specs.declared.verdict.Verdict.TheVariants.{LostThread, LostClass, OffGlobal, OffClass, OffTable, OffThread, LostNested, LostLocker, Aside, Attributed}
 use Rattle.pfs_event.specs.Verdicts.{verdict_name}
-use Rattle.pfs_journal.specs.declared.values.RowValue.{RowValue}
-use Rattle.pfs_journal.specs.declared.values.RowValue.TheVariants as value
+use Rattle.pfs_values.specs.declared.RowValue.{RowValue}
+use Rattle.pfs_values.specs.declared.RowValue.TheVariants as value
 use Rattle.pfs_journal.specs.declared.values.TableReport.{TableReport}
 use Rattle.pfs_journal.specs.declared.values.LostReport.{LostReport}
 use Rattle.pfs_journal.specs.declared.blocks.BlockReport.{BlockReport}

@@ -5,7 +5,7 @@ use Rattle.std.specs.List.{All, flat_map}
 use Rattle.pfs_event.specs.declared.entry.Entry.{Entry}
 use Rattle.pfs_journal.specs.declared.line.Line.{Line}
 use Rattle.pfs_journal.specs.declared.line.Line.TheVariants as says
-use Rattle.pfs_journal.specs.declared.values.RowValue.{RowValue}
+use Rattle.pfs_values.specs.declared.RowValue.{RowValue}
 use Rattle.pfs_journal.specs.declared.values.TableReport.{TableReport}
 use Rattle.pfs_journal.specs.declared.values.LostReport.{LostReport}
 use Rattle.pfs_journal.specs.declared.blocks.BlockReport.{BlockReport}

@@ -7,7 +7,7 @@ use Rattle.pfs_journal.specs.declared.report.PhaseParts.{PhaseParts}
 use Rattle.std.specs.Prelude.{Option, option_to_list}
 use Rattle.std.specs.List.{All, flat_map}
 use Rattle.pfs_event.specs.declared.entry.Entry.{Entry}
-use Rattle.pfs_journal.specs.declared.values.RowValue.{RowValue}
+use Rattle.pfs_values.specs.declared.RowValue.{RowValue}
 use Rattle.pfs_journal.specs.Lines.{line_text, IsLine}
 use Rattle.pfs_journal.specs.Reports.{IsRow, IsPhase, AreAnswered, rows_asked, sizes_of}
 use Rattle.pfs_journal.specs.Spelling.{row_text, journal_text, final_text}

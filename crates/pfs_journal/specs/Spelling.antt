@@ -5,8 +5,8 @@ use Rattle.pfs_text.specs.Quotes.{quoted}
 use Rattle.pfs_event.specs.declared.entry.Entry.{Entry}
 use Rattle.pfs_event.specs.declared.entry.Entry.TheVariants as entry
 use Rattle.pfs_event.specs.Verdicts.{verdict_name}
-use Rattle.pfs_journal.specs.declared.values.RowValue.{RowValue}
-use Rattle.pfs_journal.specs.declared.values.RowValue.TheVariants as value
+use Rattle.pfs_values.specs.declared.RowValue.{RowValue}
+use Rattle.pfs_values.specs.declared.RowValue.TheVariants as value
 use Rattle.pfs_journal.specs.declared.values.TableReport.{TableReport}
 use Rattle.pfs_journal.specs.declared.values.LostReport.{LostReport}
 use Rattle.pfs_journal.specs.declared.blocks.BlockReport.{BlockReport}

@@ -2,7 +2,7 @@
 
 ghost use Rattle.std.specs.Prelude.{◌≡◌};
 
-use crate::values::RowList;
+use pfs_values::Rowset;
 use pfs_event::Entry;
 use std::marker::Model;
 
@@ -47,12 +47,12 @@ impl EntryList {
 /// The answers of SELECTs, in order.
 #[derive(Drop)]
 pub struct AnswerList {
-    items: Vec<RowList>,
+    items: Vec<Rowset>,
 }
 
 impl Model for AnswerList {
     ghost use Rattle.std.specs.Prelude.{List};
-    ghost use Rattle.pfs_journal.specs.declared.values.RowValue.{RowValue};
+    ghost use Rattle.pfs_values.specs.declared.RowValue.{RowValue};
 
     ghost Value = { List (List (List RowValue)) };
 
@@ -61,21 +61,21 @@ impl Model for AnswerList {
 
 impl AnswerList {
     /// The list of these answers. It takes no memory.
-    pub fn new(items: Vec<RowList>) -> AnswerList
+    pub fn new(items: Vec<Rowset>) -> AnswerList
         ensures { result ≡ items.items }
     {
         AnswerList { items }
     }
 
     /// The answers, in order.
-    pub fn as_slice(&self) -> &[RowList]
+    pub fn as_slice(&self) -> &[Rowset]
         ensures { result.now ≡ self.now }
     {
         self.items.as_slice()
     }
 
     /// The answers, given back without taking memory.
-    pub fn into_vec(self) -> Vec<RowList>
+    pub fn into_vec(self) -> Vec<Rowset>
         ensures { result.items ≡ self }
     {
         self.items

@@ -7,7 +7,8 @@ ghost use Rattle.pfs_journal.specs.Reports.{is_text_byte, is_name_byte, IsText, 
 
 use crate::blocks::BlockReport;
 use crate::report::PhaseParts;
-use crate::values::{LostReport, Row, RowList, RowValue, TableReport};
+use crate::values::{LostReport, TableReport};
+use pfs_values::{Row, RowValue, Rowset};
 use pfs_event::Entry;
 
 /// Whether a text may have the byte.
@@ -56,7 +57,7 @@ pub fn is_row(row: &Row) -> bool
     row.as_slice().iter().all(|value| is_value(value))
 }
 
-fn are_rows(rows: &RowList) -> bool
+fn are_rows(rows: &Rowset) -> bool
     ensures { IsTrue result ↔ All IsRow rows.now }
 {
     rows.as_slice().iter().all(|row| is_row(row))
@@ -74,7 +75,7 @@ fn is_lost(lost: &LostReport) -> bool
     is_name(lost.name.as_bytes())
 }
 
-fn are_answers(answers: &[RowList]) -> bool
+fn are_answers(answers: &[Rowset]) -> bool
     ensures { IsTrue result ↔ All (All IsRow) answers.now }
 {
     answers.iter().all(|rows| are_rows(rows))
@@ -91,14 +92,14 @@ pub fn rows_asked(entry: &Entry) -> Option<u64>
 }
 
 /// Whether the answer in this place is there and has so many rows.
-fn has_rows(answers: &[RowList], place: usize, number: u64) -> bool
+fn has_rows(answers: &[Rowset], place: usize, number: u64) -> bool
     ensures { IsTrue result ↔ ((place < length answers.now) × (slice_index (sizes_of answers.now) place ≡ number)) }
 {
     place < answers.len() && answers[place].as_slice().len() as u64 == number
 }
 
 /// The place of the next answer behind an entry, or None where the one that is due isn't there.
-fn place_behind(entry: &Entry, answers: &[RowList], place: usize) -> Option<usize>
+fn place_behind(entry: &Entry, answers: &[Rowset], place: usize) -> Option<usize>
     requires { place ≤ length answers.now }
     ensures { (rest : List Entry) → MatchOption result (¬ AreAnswered (entry.now ∷ rest) (drop place answers.now)) (λ next. (next ≤ length answers.now) × (AreAnswered (entry.now ∷ rest) (drop place answers.now) ↔ AreAnswered rest (drop next answers.now))) }
 {
@@ -115,7 +116,7 @@ fn place_behind(entry: &Entry, answers: &[RowList], place: usize) -> Option<usiz
 }
 
 /// Whether each answer has so many rows as its entry says.
-fn are_answered(entries: &[Entry], answers: &[RowList]) -> bool
+fn are_answered(entries: &[Entry], answers: &[Rowset]) -> bool
     ensures { IsTrue result ↔ AreAnswered entries.now answers.now }
 {
     let mut place = 0usize;

@@ -3,7 +3,8 @@
 
 use crate::NoMemory;
 use crate::line::Line;
-use crate::values::{LostReport, Row, RowValue};
+use crate::values::LostReport;
+use pfs_values::{Row, RowValue};
 use pfs_event::{Entry, Verdict};
 use pfs_text::{Text, read_u64, unquote};
 use std::alloc::Global;

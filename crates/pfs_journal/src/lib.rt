@@ -21,5 +21,5 @@ pub use phases::read;
 pub use reading::ReadStop;
 pub use report::{PhaseList, PhaseParts, PhaseReport, Report, ReportParts};
 pub use std::alloc::AllocError as NoMemory;
-pub use values::{LostList, LostReport, Row, RowList, RowValue, TableList, TableReport};
+pub use values::{LostList, LostReport, TableList, TableReport};
 pub use writing::write;

@@ -6,7 +6,8 @@ ghost use Rattle.pfs_journal.specs.Lines.{line_text, IsLine};
 use crate::NoMemory;
 use crate::checks::{is_name, is_row};
 use crate::lines::{begin, entry_line, lost_line, numbers_line, row_line, table_line};
-use crate::values::{LostReport, Row};
+use crate::values::LostReport;
+use pfs_values::Row;
 use pfs_event::Entry;
 use pfs_text::Text;
 

@@ -7,7 +7,8 @@ ghost use Rattle.pfs_text.specs.Quotes.{quoted};
 ghost use Rattle.pfs_journal.specs.Spelling.{field_text, optional_text, numbers_text, entry_text, value_text, row_text, table_line, lost_text};
 
 use crate::NoMemory;
-use crate::values::{LostReport, Row, RowValue};
+use crate::values::LostReport;
+use pfs_values::{Row, RowValue};
 use pfs_event::{Entry, Verdict};
 use pfs_text::{put_u64, quote};
 

@@ -13,7 +13,8 @@ use crate::blocks::{AnswerList, EntryList};
 use crate::checks::rows_asked;
 use crate::line::Line;
 use crate::reading::{Lines, ReadStop, next, push};
-use crate::values::{LostList, LostReport, Row, RowList, TableList, TableReport};
+use crate::values::{LostList, LostReport, TableList, TableReport};
+use pfs_values::{Row, Rowset};
 use pfs_event::Entry;
 use pfs_text::Text;
 use std::alloc::Global;
@@ -32,7 +33,7 @@ fn take_row(
 }
 
 /// Rows, as many as there are.
-fn read_rows(alloc: Global, lines: &mut Lines<'_>, first: Line) -> Result<(RowList, Line), ReadStop>
+fn read_rows(alloc: Global, lines: &mut Lines<'_>, first: Line) -> Result<(Rowset, Line), ReadStop>
     requires { IsLine first }
     ensures { IfOk result (λ x. IsRead (flat_map row_text x.0) (All IsRow x.0) first lines.old.rest.now x.1 lines.new.rest.now) }
 {
@@ -41,7 +42,7 @@ fn read_rows(alloc: Global, lines: &mut Lines<'_>, first: Line) -> Result<(RowLi
     'rows: loop {
         match line {
             Line::Row(row) => line = take_row(alloc, lines, &mut rows, row)?,
-            other => return Ok((RowList::new(rows), other)),
+            other => return Ok((Rowset::new(rows), other)),
         }
     }
 }
@@ -135,7 +136,7 @@ fn read_answer(
     lines: &mut Lines<'_>,
     number: u64,
     first: Line,
-) -> Result<(RowList, Line), ReadStop>
+) -> Result<(Rowset, Line), ReadStop>
     requires { IsLine first }
     ensures read { IfOk result (λ x. IsRead (flat_map row_text x.0) (All IsRow x.0) first lines.old.rest.now x.1 lines.new.rest.now) }
     ensures size { IfOk result (λ x. length x.0 ≡ number) }
@@ -148,13 +149,13 @@ fn read_answer(
             _ => return Err(lines.last_is_wrong()),
         }
     }
-    Ok((RowList::new(rows), line))
+    Ok((Rowset::new(rows), line))
 }
 
 fn take_answer(
     alloc: Global,
     lines: &mut Lines<'_>,
-    answers: &mut Vec<RowList>,
+    answers: &mut Vec<Rowset>,
     number: u64,
     first: Line,
 ) -> Result<Line, ReadStop>
@@ -170,7 +171,7 @@ fn take_answer(
 fn take_answer_if(
     alloc: Global,
     lines: &mut Lines<'_>,
-    answers: &mut Vec<RowList>,
+    answers: &mut Vec<Rowset>,
     asked: Option<u64>,
     first: Line,
 ) -> Result<Line, ReadStop>
@@ -187,7 +188,7 @@ fn take_entry(
     alloc: Global,
     lines: &mut Lines<'_>,
     entries: &mut Vec<Entry>,
-    answers: &mut Vec<RowList>,
+    answers: &mut Vec<Rowset>,
     entry: Entry,
 ) -> Result<Line, ReadStop>
     ensures { IfOk result (λ line. JournalGrows entry entries.old.items entries.new.items answers.old.items answers.new.items lines.old.rest.now line lines.new.rest.now) }

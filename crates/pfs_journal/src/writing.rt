@@ -9,7 +9,8 @@ use crate::NoMemory;
 use crate::blocks::BlockReport;
 use crate::lines::{entry_line, lost_line, numbers_line, row_line, table_line};
 use crate::report::{PhaseParts, PhaseReport, Report};
-use crate::values::{LostReport, Row, RowList, TableReport};
+use crate::values::{LostReport, TableReport};
+use pfs_values::{Row, Rowset};
 use pfs_event::Entry;
 use pfs_outside::{Sink, WriteStop, write_all};
 use std::alloc::Global;
@@ -83,7 +84,7 @@ fn place_behind(entry: &Entry, place: usize) -> usize
 }
 
 /// The answer in this place, or no rows where there is none.
-fn answer_at(answers: &[RowList], place: usize) -> &[Row]
+fn answer_at(answers: &[Rowset], place: usize) -> &[Row]
     ensures { result.now ≡ slice_index_or (drop place answers.now) 0 [] }
 {
     if place < answers.len() {
@@ -98,7 +99,7 @@ fn put_answer<K: Sink>(
     line: &mut Vec<u8>,
     sink: &mut K,
     entry: &Entry,
-    answers: &[RowList],
+    answers: &[Rowset],
     place: usize,
 ) -> Result<(), WriteStop>
     ensures { Puts (K.written sink.old) (K.written sink.new) (K.faults sink.old) (K.faults sink.new) (if is_answered entry.now then flat_map row_text (slice_index_or (drop place answers.now) 0 []) else []) result }
@@ -116,7 +117,7 @@ fn put_entry<K: Sink>(
     line: &mut Vec<u8>,
     sink: &mut K,
     entry: &Entry,
-    answers: &[RowList],
+    answers: &[Rowset],
     place: usize,
 ) -> Result<(), WriteStop>
     ensures { Puts (K.written sink.old) (K.written sink.new) (K.faults sink.old) (K.faults sink.new) (answered_text entry.now (drop place answers.now)) result }
@@ -130,7 +131,7 @@ fn put_journal<K: Sink>(
     line: &mut Vec<u8>,
     sink: &mut K,
     entries: &[Entry],
-    answers: &[RowList],
+    answers: &[Rowset],
 ) -> Result<(), WriteStop>
     ensures { Puts (K.written sink.old) (K.written sink.new) (K.faults sink.old) (K.faults sink.new) (journal_text entries.now answers.now) result }
 {

@@ -12,7 +12,7 @@ use Rattle.pfs_rows.specs.declared.table.TableKind.TheVariants.{Waits, Stages, S
 use Rattle.pfs_top.specs.declared.summary_rows.Numbers.{Numbers}
 use Rattle.pfs_top.specs.declared.summary_rows.Numbers.TheVariants as numbers
 use Rattle.pfs_top.specs.declared.summary_rows.Owner.{Owner}
-use Rattle.pfs_journal.specs.declared.values.RowValue.{RowValue}
+use Rattle.pfs_values.specs.declared.RowValue.{RowValue}
 use Rattle.pfs_top.specs.RowValues.{row_values}
 use Rattle.pfs_top.specs.Ended.{Ended}
 use Rattle.pfs_top.specs.Phases.{stat_at, AreStats}

@@ -8,7 +8,7 @@ use Rattle.pfs_journal.specs.declared.blocks.BlockReport.{BlockReport}
 use Rattle.pfs_journal.specs.declared.report.PhaseParts.{PhaseParts}
 use Rattle.pfs_journal.specs.declared.report.ReportParts.{ReportParts}
 use Rattle.pfs_journal.specs.declared.values.LostReport.{LostReport}
-use Rattle.pfs_journal.specs.declared.values.RowValue.{RowValue}
+use Rattle.pfs_values.specs.declared.RowValue.{RowValue}
 use Rattle.pfs_journal.specs.declared.values.TableReport.{TableReport}
 use Rattle.pfs_rows.specs.declared.table.SummaryTable.TheVariants.{ByThread, Global}
 use Rattle.pfs_rows.specs.declared.table.Table.{Table}

@@ -14,7 +14,7 @@ use Rattle.pfs_rows.specs.Tables.{kind_number}
 use Rattle.pfs_top.specs.declared.summary_rows.Numbers.{Numbers}
 use Rattle.pfs_top.specs.declared.summary_rows.Numbers.TheVariants as numbers
 use Rattle.pfs_top.specs.declared.summary_rows.Owner.{Owner}
-use Rattle.pfs_journal.specs.declared.values.RowValue.{RowValue}
+use Rattle.pfs_values.specs.declared.RowValue.{RowValue}
 use Rattle.pfs_top.specs.Begun.{class_of}
 use Rattle.pfs_top.specs.RowValues.{row_values}
 

@@ -15,10 +15,7 @@ use crate::player::{Cell, Player};
 use crate::rounds::{empty_cells, play};
 use crate::summaries::{StatList, stats_of, tables};
 use pfs_classes::{Kind, Setting};
-use pfs_journal::{
-    AnswerList, BlockList, BlockReport, EntryList, LostList, LostReport, PhaseList, PhaseParts,
-    PhaseReport, Report, ReportParts,
-};
+use pfs_journal::{AnswerList, BlockList, BlockReport, EntryList, LostList, LostReport, PhaseList, PhaseParts, PhaseReport, Report, ReportParts, };
 use pfs_script::{Block, Phase};
 use pfs_text::Text;
 use std::alloc::{AllocError, Global};

@@ -19,7 +19,8 @@ use crate::NoMemory;
 use crate::player::{Cell, READ_ONLY_CELL, READ_WRITE_CELL};
 use crate::summary_rows::{Numbers, Owner, summary_row};
 use pfs_classes::{Class, ClassId, Kind, Setting, laws};
-use pfs_journal::{Row, RowList, TableList, TableReport};
+use pfs_journal::{TableList, TableReport};
+use pfs_values::{Row, Rowset};
 use pfs_rows::{SummaryTable, Table, TableKind};
 use pfs_script::Block;
 use pfs_stat::{Stat, zero};
@@ -279,7 +280,7 @@ fn thread_rows(
     blocks: &[Block],
     threads: &[StatList],
     kind: TableKind,
-) -> Result<RowList, NoMemory>
+) -> Result<Rowset, NoMemory>
     requires { AreThreads setting.now blocks.now (length blocks.now) threads.now }
     ensures { IfOk result (λ rows. rows ≡ thread_rows setting.now blocks.now kind) }
 {
@@ -290,7 +291,7 @@ fn thread_rows(
             Err(fault) => return Err(fault),
         }
     }
-    Ok(RowList::new(rows))
+    Ok(Rowset::new(rows))
 }
 
 /// What all threads counted in a cell.
@@ -350,13 +351,13 @@ fn global_rows(
     setting: &Setting,
     counted: &[Stat],
     kind: TableKind,
-) -> Result<RowList, NoMemory>
+) -> Result<Rowset, NoMemory>
     requires { length counted.now ≡ 64 }
     ensures { (blocks : List Block) → AreStats setting.now.classes is_let_through (all_events setting.now blocks) counted.now → IfOk result (λ rows. rows ≡ global_rows setting.now blocks kind) }
 {
     let mut rows = Vec::new(alloc);
     match put_rows(alloc, setting, kind, Owner::All, counted, &mut rows) {
-        Ok(()) => Ok(RowList::new(rows)),
+        Ok(()) => Ok(Rowset::new(rows)),
         Err(fault) => Err(fault),
     }
 }
@@ -365,7 +366,7 @@ fn global_rows(
 fn put_table(
     alloc: Global,
     table: Table,
-    rows: RowList,
+    rows: Rowset,
     tables: &mut Vec<TableReport>,
 ) -> Result<(), NoMemory>
     ensures { OnOk result (tables.new.items ≡ tables.old.items ++ table_if table rows) }

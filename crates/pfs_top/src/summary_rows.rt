@@ -1,13 +1,13 @@
 //! The rows of summaries, as values of a report.
 
 ghost use Rattle.std.specs.Prelude.{◌≡◌, ◌++◌, ◌∷◌, [], map, IfOk, OnOk};
-ghost use Rattle.pfs_journal.specs.declared.values.RowValue.TheVariants as value;
+ghost use Rattle.pfs_values.specs.declared.RowValue.TheVariants as value;
 ghost use Rattle.pfs_stat.specs.Stat.{merge_of};
 ghost use Rattle.pfs_top.specs.Summaries.{count_of};
 ghost use Rattle.pfs_top.specs.RowValues.{timed_number, times_of, sums_of, counted_of, owner_of, row_values};
 
 use crate::NoMemory;
-use pfs_journal::{Row, RowValue};
+use pfs_values::{Row, RowValue};
 use pfs_stat::Stat;
 use pfs_text::Text;
 use std::alloc::Global;

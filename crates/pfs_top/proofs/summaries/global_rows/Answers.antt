@@ -1,6 +1,6 @@
 use Rattle.std.proofs.Common.{◌++◌, List, ap, ◌∙◌}
 use Rattle.pfs_event.specs.Verdicts.{is_let_through}
-use Rattle.pfs_journal.specs.declared.values.RowValue.{RowValue}
+use Rattle.pfs_values.specs.declared.RowValue.{RowValue}
 use Rattle.pfs_top.specs.Runs.{all_events, global_rows}
 use Rattle.pfs_top.proofs.summaries.global_rows.Goals as goal
 

@@ -1,5 +1,5 @@
 use Rattle.std.proofs.Common.{◌++◌, List, refl, ap, ◌∙◌, arith}
-use Rattle.pfs_journal.specs.declared.values.RowValue.{RowValue}
+use Rattle.pfs_values.specs.declared.RowValue.{RowValue}
 use Rattle.pfs_top.specs.Phases.{stat_at}
 use Rattle.pfs_top.specs.Summaries.{row_of}
 use Rattle.pfs_top.proofs.Ranges.{rows_more}
