@@ -41,7 +41,8 @@ is_fixed _ = false
 
 -- a byte of a part: a letter, a digit, `_`, `:`, `.` or `-`
 abbrev pub is_part_byte : ℕ → Bool
-is_part_byte b = (nat_le 97 b && nat_le b 122) || (nat_le 65 b && nat_le b 90) || (nat_le 48 b && nat_le b 57) || (b == 95) || (b == 58) || (b == 46) || (b == 45)
+is_part_byte b = (nat_le 97 b && nat_le b 122) || (nat_le 65 b && nat_le b 90) || (nat_le 48 b && nat_le b 57)
+    || (b == 95) || (b == 58) || (b == 46) || (b == 45)
 
 -- a part has at least one byte
 abbrev pub is_part : List ℕ → Bool
@@ -53,11 +54,13 @@ are_parts text = list_all is_part (slice_split (λ b. b == 47) text)
 
 -- a name has a kind: the kind's name, `/` and parts, 128 bytes at most; or it is `transaction` alone
 abbrev pub Fits : List ℕ → Kind → Type 0
-Fits name kind = ((name ≡ codes "transaction") × (kind ≡ Transaction)) ⊎ ((parts : List ℕ) × (name ≡ kind_name kind ++ 47 ∷ parts) × IsTrue (are_parts parts) × (length name ≤ 128))
+Fits name kind = ((name ≡ codes "transaction") × (kind ≡ Transaction))
+    ⊎ ((parts : List ℕ) × (name ≡ kind_name kind ++ 47 ∷ parts) × IsTrue (are_parts parts) × (length name ≤ 128))
 
 -- a name is the kind's name, `/` and parts
 abbrev pub is_of_kind : List ℕ → Kind → Bool
-is_of_kind name kind = starts_with nat_eq name (kind_name kind ++ 47 ∷ []) && are_parts (drop (length (kind_name kind) + 1) name)
+is_of_kind name kind =
+    starts_with nat_eq name (kind_name kind ++ 47 ∷ []) && are_parts (drop (length (kind_name kind) + 1) name)
 
 abbrev pub all_kinds : List Kind
 all_kinds = Mutex ∷ Rwlock ∷ Cond ∷ File ∷ Socket ∷ TableIo ∷ TableLock ∷ Stage ∷ Statement ∷ Transaction ∷ []

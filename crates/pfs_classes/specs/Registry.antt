@@ -31,7 +31,8 @@ class_at r id = if id == 62 then Some r.transaction else slice_get r.classes id
 
 -- the name was registered or lost
 abbrev pub is_given : Registry → ℕ → Bool
-is_given r name = (r.transaction.name == name) || (list_any (λ class. class.name == name) r.classes || list_any (λ lost. lost.name == name) r.lost)
+is_given r name = (r.transaction.name == name)
+    || (list_any (λ class. class.name == name) r.classes || list_any (λ lost. lost.name == name) r.lost)
 
 -- what became of a name: it is a class's, or no room was left for it in its kind
 abbrev pub RefersTo : Registry → ℕ → ClassRef → Type 0
@@ -72,7 +73,10 @@ abbrev pub with_flags : Registry → ℕ → Bool → Bool → Registry
 with_flags r id enabled timed =
     if id == 62
     then record r { transaction = record r.transaction { enabled = enabled; timed = timed } }
-    else record r { classes = slice_set r.classes id (record (slice_index_or r.classes id r.transaction) { enabled = enabled; timed = timed }) }
+    else record r {
+      classes = slice_set r.classes id
+          (record (slice_index_or r.classes id r.transaction) { enabled = enabled; timed = timed });
+    }
 
 -- a look-up that agrees with the register, whose kinds are within their limits
 pub record Keeps (r : Registry) (found : BTreeMap ℕ ClassRef) : Type 0 where

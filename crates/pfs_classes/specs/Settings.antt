@@ -11,9 +11,11 @@ use Rattle.pfs_classes.specs.Builtins.{HasBuiltins, builtin_of}
 -- the register comes from the built-in list under its limits, by registering new names and setting flags
 pub data ComesFrom (texts : List (List ℕ)) : Registry → Type 0 where
   builtin : (limits : Limits) → AreInRange limits → HasBuiltins texts → ComesFrom texts (builtin_of texts limits)
-  register : (r : Registry) (class : Class) → ComesFrom texts r → class.name < length texts → Fits (text_of texts class.name) class.kind
+  register : (r : Registry) (class : Class) → ComesFrom texts r → class.name < length texts
+      → Fits (text_of texts class.name) class.kind
       → is_fixed class.kind ≡ false → is_given r class.name ≡ false → ComesFrom texts (registered r class)
-  set : (r : Registry) (id : ℕ) (enabled timed : Bool) → ComesFrom texts r → IsId r id → ComesFrom texts (with_flags r id enabled timed)
+  set : (r : Registry) (id : ℕ) (enabled timed : Bool) → ComesFrom texts r → IsId r id
+      → ComesFrom texts (with_flags r id enabled timed)
 
 -- each class and each lost one has the id of one of these names
 pub record HasNames (texts : List (List ℕ)) (r : Registry) : Type 0 where

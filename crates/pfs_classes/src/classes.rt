@@ -104,9 +104,19 @@ impl Model for Classes {
 
     ghost Value = { Registry };
 
-    ghost view = { λ a. record { limits = a.limits; classes = a.classes.items; transaction = a.transaction; lost = a.lost.items } };
+    ghost view = { λ a. record {
+      limits = a.limits;
+      classes = a.classes.items;
+      transaction = a.transaction;
+      lost = a.lost.items;
+    } };
 
-    ghost invariant = { λ a. Keeps (record { limits = a.limits; classes = a.classes.items; transaction = a.transaction; lost = a.lost.items }) a.found };
+    ghost invariant = { λ a. Keeps (record {
+      limits = a.limits;
+      classes = a.classes.items;
+      transaction = a.transaction;
+      lost = a.lost.items;
+    }) a.found };
 }
 
 impl Classes {
@@ -182,8 +192,15 @@ impl Classes {
         requires of_names { name < length names.now }
         requires of_kind { (kind : Kind) → Fits (text_of names.now name) kind → is_fixed kind ≡ false }
         ensures bad_name { (result ≡ Err ClassFault.BadName) ↔ ((kind : Kind) → ¬ Fits (text_of names.now name) kind) }
-        ensures duplicate { (result ≡ Err ClassFault.Duplicate) ↔ (((kind : Kind) × Fits (text_of names.now name) kind) × (is_given self.old name ≡ true)) }
-        ensures ok { IfOk result (λ told. (kind : Kind) × Fits (text_of names.now name) kind × (is_given self.old name ≡ false) × Registers self.old self.new (record { name = name; kind = kind; enabled = enabled; timed = timed }) told) }
+        ensures duplicate { (result ≡ Err ClassFault.Duplicate)
+            ↔ (((kind : Kind) × Fits (text_of names.now name) kind) × (is_given self.old name ≡ true)) }
+        ensures ok { IfOk result (λ told. (kind : Kind) × Fits (text_of names.now name) kind
+            × (is_given self.old name ≡ false) × Registers self.old self.new (record {
+              name = name;
+              kind = kind;
+              enabled = enabled;
+              timed = timed;
+            }) told) }
         ensures come { ComesFrom names.now self.old → ComesFrom names.now self.new }
         ensures err { OnErr result (self.new ≡ self.old) }
     {
@@ -218,7 +235,12 @@ impl Classes {
         transaction: Class,
     ) -> Result<Classes, NoMemory>
         requires { AreInRange limits }
-        ensures { IfOk result (λ classes. classes ≡ record { limits = limits; classes = []; transaction = transaction; lost = [] }) }
+        ensures { IfOk result (λ classes. classes ≡ record {
+          limits = limits;
+          classes = [];
+          transaction = transaction;
+          lost = [];
+        }) }
     {
         let mut found = BTreeMap::new(alloc);
         let name = transaction.name;
@@ -270,7 +292,12 @@ impl Classes {
 
     fn add_lost(&mut self, name: NameId, kind: Kind) -> Result<u64, NoMemory>
         ensures count { IfOk result (λ count. count ≡ lost_of self.old kind + 1) }
-        ensures ok { OnOk result (self.new ≡ record self.old { lost = self.old.lost ++ record { name = name; kind = kind } ∷ [] }) }
+        ensures ok { OnOk result (self.new ≡ record self.old {
+          lost = self.old.lost ++ record {
+            name = name;
+            kind = kind;
+          } ∷ [];
+        }) }
         ensures err { OnErr result (self.new ≡ self.old) }
     {
         let count = lost_count(self.lost.as_slice(), kind) + 1;
@@ -284,7 +311,8 @@ impl Classes {
 // The kind of the name with this id, or none where the name is no class's.
 fn kind_of(names: &Names, name: NameId) -> Option<Kind>
     requires { name < length names.now }
-    ensures { MatchOption result ((kind : Kind) → ¬ Fits (text_of names.now name) kind) (λ kind. Fits (text_of names.now name) kind) }
+    ensures { MatchOption result ((kind : Kind)
+        → ¬ Fits (text_of names.now name) kind) (λ kind. Fits (text_of names.now name) kind) }
 {
     Kind::of_name(names.get(name).as_bytes())
 }

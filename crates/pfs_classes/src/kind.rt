@@ -118,7 +118,8 @@ fn find_kind(name: &[u8]) -> Option<Kind>
 
 // Whether the name is the kind's, `/` and parts.
 fn is_below(name: &[u8], kind: Kind) -> bool
-    ensures { IsTrue result ↔ ((parts : List ℕ) × (name.now ≡ kind_name kind ++ 47 ∷ parts) × IsTrue (are_parts parts)) }
+    ensures { IsTrue result
+        ↔ ((parts : List ℕ) × (name.now ≡ kind_name kind ++ 47 ∷ parts) × IsTrue (are_parts parts)) }
 {
     match name.strip_prefix(kind.name().as_bytes()) {
         Some(rest) => are_after_slash(rest),

@@ -35,12 +35,14 @@ pub fn builtin_kinds()
 
 /// A register that comes from the built-in list over some names does so over more names.
 pub fn more_names()
-    ensures { (old new : List (List ℕ)) (text : List ℕ) (r : Registry) → Interns old new text → ComesFrom old r → ComesFrom new r }
+    ensures { (old new : List (List ℕ)) (text : List ℕ) (r : Registry) → Interns old new text → ComesFrom old r
+        → ComesFrom new r }
 {}
 
 /// The names of a register that comes from the built-in list over some names are of these names,
 /// so that the name of the class of each id may be asked for.
 pub fn known_names()
     ensures come { (texts : List (List ℕ)) (r : Registry) → ComesFrom texts r → HasNames texts r }
-    ensures class { (texts : List (List ℕ)) (r : Registry) (id : ℕ) (class : Class) → HasNames texts r → class_at r id ≡ Some class → class.name < length texts }
+    ensures class { (texts : List (List ℕ)) (r : Registry) (id : ℕ) (class : Class) → HasNames texts r
+        → class_at r id ≡ Some class → class.name < length texts }
 {}

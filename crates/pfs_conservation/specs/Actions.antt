@@ -9,7 +9,8 @@ moved_by (Some owner) action row = record { action = action; from = row; to = ow
 
 abbrev pub moves_of : (ℕ → ℕ → Option Owner) → (ℕ → ℕ → Bool) → ℕ → List ℕ → List Move
 moves_of holder takes action [] = []
-moves_of holder takes action (row ∷ rows) = cond (takes action row) (moved_by (holder action row) action row) [] ++ moves_of holder takes action rows
+moves_of holder takes action (row ∷ rows) =
+    cond (takes action row) (moved_by (holder action row) action row) [] ++ moves_of holder takes action rows
 
 -- the moves of the actions 1 to n
 abbrev pub moves_to : (ℕ → ℕ → Option Owner) → (ℕ → ℕ → Bool) → List ℕ → ℕ → List Move
@@ -25,7 +26,10 @@ Ranked level [] = Unit {0}
 Ranked level (row ∷ rows) = RowsAfter level row rows × Ranked level rows
 
 -- actions 1 to `last` take rows of the list, and what a row holds goes up
-pub record Acts (holder : ℕ → ℕ → Option Owner) (takes : ℕ → ℕ → Bool) (level : ℕ → ℕ) (rows : List ℕ) (last : ℕ) : Type 0 where
-  pub within : (action row : ℕ) → takes action row ≡ true → (1 ≤ action) × (action ≤ last) × (count_by (λ r. r == row) rows ≡ 1)
+pub record Acts (holder : ℕ → ℕ → Option Owner) (takes : ℕ → ℕ → Bool) (level : ℕ
+    → ℕ) (rows : List ℕ) (last : ℕ) : Type 0 where
+  pub within : (action row : ℕ) → takes action row ≡ true → (1 ≤ action) × (action ≤ last)
+      × (count_by (λ r. r == row) rows ≡ 1)
   pub ranked : Ranked level rows
-  pub climbs : (action row : ℕ) (owner : Owner) → takes action row ≡ true → holder action row ≡ Some owner → (next : ℕ) → goes_to next owner.nexts ≡ true → suc (level row) ≤ level next
+  pub climbs : (action row : ℕ) (owner : Owner) → takes action row ≡ true → holder action row ≡ Some owner
+      → (next : ℕ) → goes_to next owner.nexts ≡ true → suc (level row) ≤ level next

@@ -51,11 +51,25 @@ named_place name xs = found_or (found_where (λ x. x == name) xs) (lowest_free x
 abbrev pub is_account : ℕ → ℕ → Entry → Bool
 is_account user host entry = (entry.user_name == user) && (entry.host_name == host)
 
--- the session that a connect makes: an account that is there gives its user and host; else the account takes the lowest free
--- place, or is lost, and user and host are found, made or lost
+-- the session that a connect makes: an account that is there gives its user and host; else the account takes the
+-- lowest free place, or is lost, and user and host are found, made or lost
 abbrev pub session_by : State → ℕ → ℕ → ℕ → Option (Found Entry) → Session
-session_by s number user host (Some account) = record { number = number; user_name = user; host_name = host; account = Some account.place; user = account.entry.user; host = account.entry.host }
-session_by s number user host None = record { number = number; user_name = user; host_name = host; account = lowest_free s.accounts; user = named_place user s.users; host = named_place host s.hosts }
+session_by s number user host (Some account) = record {
+  number = number;
+  user_name = user;
+  host_name = host;
+  account = Some account.place;
+  user = account.entry.user;
+  host = account.entry.host;
+}
+session_by s number user host None = record {
+  number = number;
+  user_name = user;
+  host_name = host;
+  account = lowest_free s.accounts;
+  user = named_place user s.users;
+  host = named_place host s.hosts;
+}
 
 abbrev pub session_of : State → ℕ → ℕ → ℕ → Session
 session_of s number user host = session_by s number user host (found_where (is_account user host) s.accounts)
@@ -91,7 +105,8 @@ numbered (action ∷ actions) (suc (suc n)) = numbered actions (suc n)
 -- the places after so many actions; what an action does to them is the same for every kind
 abbrev pub state_after : State → (ℕ → Action) → ℕ → State
 state_after opening action zero = opening
-state_after opening action (suc n) = stepped (state_after opening action n) (line_of 0 (state_after opening action n) (action (suc n)))
+state_after opening action (suc n) =
+    stepped (state_after opening action n) (line_of 0 (state_after opening action n) (action (suc n)))
 
 -- and before an action
 abbrev pub state_before : State → (ℕ → Action) → ℕ → State
@@ -167,12 +182,14 @@ truncated a Hosts = record a {
 
 abbrev pub connect_at : Admin → ℕ → ℕ → ℕ → Option ℕ → Admin
 connect_at a number user host None = record a { lost_threads = suc a.lost_threads }
-connect_at a number user host (Some slot) = connected a slot (session_of a.places number user host) (found_where (is_account user host) a.places.accounts)
+connect_at a number user host (Some slot) =
+    connected a slot (session_of a.places number user host) (found_where (is_account user host) a.places.accounts)
 
 -- one action; a quit is of the lowest slot of its session, and nothing where it has none
 abbrev pub advanced : Admin → Action → Admin
 advanced a (Connect number user host) = connect_at a number user host (lowest_free a.places.threads)
-advanced a (Quit number) = record a { places = stepped a.places (quit_line (found_where (λ x. x.number == number) a.places.threads)) }
+advanced a (Quit number) =
+    record a { places = stepped a.places (quit_line (found_where (λ x. x.number == number) a.places.threads)) }
 advanced a (Truncate table) = truncated a table
 advanced a Other = a
 

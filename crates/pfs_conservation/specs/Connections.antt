@@ -11,4 +11,6 @@ counted_by which place s line count = count
 
 abbrev pub counted_after : (Session → Option ℕ) → ℕ → State → (ℕ → Action) → ℕ → ℕ
 counted_after which place opening action zero = 0
-counted_after which place opening action (suc n) = counted_by which place (state_after opening action n) (line_of 0 (state_after opening action n) (action (suc n))) (counted_after which place opening action n)
+counted_after which place opening action (suc n) =
+    counted_by which place (state_after opening action n) (line_of 0 (state_after opening action n) (action (suc n)))
+    (counted_after which place opening action n)

@@ -20,7 +20,8 @@ AddsOnce all (c ∷ cs) = AddsOnce all cs
 -- the first action from this number on that moves what stands in the row
 abbrev pub first_moving : ℕ → ℕ → List Move → Option ℕ
 first_moving least row [] = None
-first_moving least row (move ∷ moves) = cond ((move.from == row) && nat_le least move.action) (Some move.action) (first_moving least row moves)
+first_moving least row (move ∷ moves) =
+    cond ((move.from == row) && nat_le least move.action) (Some move.action) (first_moving least row moves)
 
 -- an event counts where no covering action takes its row after it was added, or comes later than the first that does
 abbrev pub counts_after : Option ℕ → List ℕ → Bool
@@ -35,12 +36,15 @@ AtMost (Some least) action = least ≤ action
 -- rows that an event passes one after the other, from its home on
 abbrev pub Follows : (ℕ → Option ℕ) → ℕ → ℕ → List ℕ → Type 0
 Follows before home from [] = Unit {0}
-Follows before home from (row ∷ rows) = (before row ≡ Some from) × ((row == home) ≡ false) × Follows before home row rows
+Follows before home from (row ∷ rows) = (before row ≡ Some from) × ((row == home) ≡ false)
+    × Follows before home row rows
 
 -- from an event's removal on, no row of the path is moved before the row below it
 abbrev pub Nested : List Move → ℕ → ℕ → List ℕ → Type 0
 Nested moves least row [] = Unit {0}
-Nested moves least row (next ∷ rows) = ((action : ℕ) → first_moving least next moves ≡ Some action → AtMost (first_moving least row moves) action) × Nested moves least next rows
+Nested moves least row (next ∷ rows) =
+    ((action : ℕ) → first_moving least next moves ≡ Some action → AtMost (first_moving least row moves) action)
+    × Nested moves least next rows
 
 abbrev pub NestedFrom : List Move → ℕ → List ℕ → Type 0
 NestedFrom moves least [] = Unit {0}
@@ -59,14 +63,18 @@ abbrev pub waits : Option ℕ → Bool
 waits None = true
 waits (Some action) = false
 
--- A summary row as one event has it: `path` are the rows above its home that are shown with it, and `leads` says whether it leads there.
--- Where the event stands, the summary row shows it once if it leads there and that row is on the path, and else not;
--- and if it leads there, from its removal on an action covers the table exactly where one moves the last row of the path.
-pub record Shows (chains : ℕ → List Change) (moves : List Move) (event home : ℕ) (steps : List Step) (shown covers path : List ℕ) (leads : Bool) : Type 0 where
+-- A summary row as one event has it: `path` are the rows above its home that are shown with it, and `leads` says
+-- whether it leads there. Where the event stands, the summary row shows it once if it leads there and that row is on
+-- the path, and else not; and if it leads there, from its removal on an action covers the table exactly where one
+-- moves the last row of the path.
+pub record Shows (chains : ℕ → List Change) (moves : List Move) (event home : ℕ) (steps : List Step)
+    (shown covers path : List ℕ) (leads : Bool) : Type 0 where
   pub follows : Follows (before_by steps) home home path
   pub nested : (least : ℕ) → removal event (chains home) ≡ Some least → NestedFrom moves least path
-  pub covered : leads ≡ true → (least : ℕ) → removal event (chains home) ≡ Some least → counts_after (Some least) covers ≡ waits (last_moving least path moves)
-  pub once : (row : ℕ) → came home (before_by steps) (leave_by chains event home steps) row ≡ 1 → leave_by chains event home steps row ≡ None
+  pub covered : leads ≡ true → (least : ℕ) → removal event (chains home) ≡ Some least
+      → counts_after (Some least) covers ≡ waits (last_moving least path moves)
+  pub once : (row : ℕ) → came home (before_by steps) (leave_by chains event home steps) row ≡ 1
+      → leave_by chains event home steps row ≡ None
       → count_by (λ r. r == row) shown ≡ cond leads (count_by (λ r. r == row) (home ∷ path)) 0
 
 -- All journals up to a phase's end, as far as the cells of one class and the rows above them are concerned.
@@ -95,8 +103,10 @@ pub record AreKept {A : Type 0} (sums : Sums A) (size : A → ℕ) (j : Journals
   pub placed : (event : ℕ) → IsEvent j event → IsPlaced j.chains j.level j.moves event (j.home event) (j.steps event)
 
 -- a summary row shows these rows, is covered by these actions, and has these events lead to it
-pub record IsSummary {A : Type 0} (j : Journals A) (shown covers : List ℕ) (path : ℕ → List ℕ) (leads : ℕ → Bool) : Type 0 where
-  pub shows : (event : ℕ) → IsEvent j event → Shows j.chains j.moves event (j.home event) (j.steps event) shown covers (path event) (leads event)
+pub record IsSummary {A : Type 0} (j : Journals A) (shown covers : List ℕ) (path : ℕ → List ℕ) (leads : ℕ
+    → Bool) : Type 0 where
+  pub shows : (event : ℕ) → IsEvent j event
+      → Shows j.chains j.moves event (j.home event) (j.steps event) shown covers (path event) (leads event)
 
 -- an event counts in a summary row
 abbrev pub counts_in : {A : Type 0} → Journals A → List ℕ → (ℕ → Bool) → ℕ → Bool
@@ -117,5 +127,7 @@ takes_of (change ∷ changes) = takes_of changes
 -- what the global row shows and what the takes of its cell found, put together, are all events, put together
 abbrev pub IsDiscarded : {A : Type 0} → Sums A → Journals A → List ℕ → ℕ → Type 0
 IsDiscarded sums j shown global =
-    fold (λ sum action. sums.merge sum (j.found action global)) (fold (λ sum row. sums.merge sum (content sums j.found (j.chains row))) sums.nothing shown) (takes_of (j.chains global))
+    fold (λ sum action. sums.merge sum (j.found action global))
+    (fold (λ sum row. sums.merge sum (content sums j.found (j.chains row))) sums.nothing shown)
+    (takes_of (j.chains global))
     ≡ fold (with_event sums) sums.nothing j.events

@@ -13,7 +13,8 @@ held action row = Some global_owner
 abbrev pub clears : (ℕ → Bool) → List ℕ → ℕ → ℕ → Bool
 clears cleared rows action row = cleared action && nat_lt 0 (count_by (λ r. r == row) rows)
 
-abbrev pub digests_of : {A : Type 0} → (ℕ → Bool) → List ℕ → ℕ → List ℕ → (ℕ → List Change) → (ℕ → ℕ → A) → (ℕ → ℕ) → Journals A
+abbrev pub digests_of : {A : Type 0} → (ℕ → Bool) → List ℕ → ℕ → List ℕ → (ℕ → List Change) → (ℕ → ℕ → A) → (ℕ → ℕ)
+    → Journals A
 digests_of cleared rows last events chains found home = record {
   events = events;
   chains = chains;

@@ -1,4 +1,5 @@
--- From a session's entries to tagged lines: with the number of its last action, and the events that it holds for each row.
+-- From a session's entries to tagged lines: with the number of its last action, and the events that it holds for each
+-- row.
 use Rattle.std.specs.Prelude.{ℕ, ◌+◌, ◌==◌, ◌&&◌, cond, Bool, false, List, [], ◌∷◌, ◌++◌, Option, Some, None}
 use Rattle.pfs_conservation.specs.Lines.{Adds, Takes, Gives, Tagged}
 
@@ -49,9 +50,27 @@ written w entry = w
 
 -- the line of an entry: an addition is of its own event and of all that was held for the row
 abbrev pub line_at : Writer → Entry → List Tagged
-line_at w (Add row version) = record { session = w.session; action = 0; row = row; version = version; kind = Adds (own_event w.event ++ held_for row w.held) } ∷ []
-line_at w (Take row version) = record { session = w.session; action = w.action; row = row; version = version; kind = Takes } ∷ []
-line_at w (Give row version from) = record { session = w.session; action = w.action; row = row; version = version; kind = Gives from } ∷ []
+line_at w (Add row version) = record {
+  session = w.session;
+  action = 0;
+  row = row;
+  version = version;
+  kind = Adds (own_event w.event ++ held_for row w.held);
+} ∷ []
+line_at w (Take row version) = record {
+  session = w.session;
+  action = w.action;
+  row = row;
+  version = version;
+  kind = Takes;
+} ∷ []
+line_at w (Give row version from) = record {
+  session = w.session;
+  action = w.action;
+  row = row;
+  version = version;
+  kind = Gives from;
+} ∷ []
 line_at w entry = []
 
 abbrev pub lines_of : Writer → List Entry → List Tagged
@@ -79,4 +98,5 @@ offers event row now entry = 0
 
 abbrev pub times_offered : ℕ → ℕ → Writer → List Entry → ℕ
 times_offered event row w [] = 0
-times_offered event row w (entry ∷ entries) = offers event row w.event entry + times_offered event row (written w entry) entries
+times_offered event row w (entry ∷ entries) =
+    offers event row w.event entry + times_offered event row (written w entry) entries

@@ -29,7 +29,12 @@ pub record Entry : Type 0 where
   pub host : Option ℕ
 
 abbrev pub entry_of : Session → Entry
-entry_of session = record { user_name = session.user_name; host_name = session.host_name; user = session.user; host = session.host }
+entry_of session = record {
+  user_name = session.user_name;
+  host_name = session.host_name;
+  user = session.user;
+  host = session.host;
+}
 
 -- what stands at each thread slot, account, user and host place; users and hosts by their names
 pub record State : Type 0 where
@@ -166,19 +171,59 @@ thread_ups rows session = first session.account
 
 -- who holds a row
 abbrev pub thread_owner : CellRows → Session → Owner
-thread_owner rows x = record { number = x.number; user_name = x.user_name; host_name = x.host_name; has_account = is_some x.account; has_user = is_some x.user; has_host = is_some x.host; nexts = thread_ups rows x }
+thread_owner rows x = record {
+  number = x.number;
+  user_name = x.user_name;
+  host_name = x.host_name;
+  has_account = is_some x.account;
+  has_user = is_some x.user;
+  has_host = is_some x.host;
+  nexts = thread_ups rows x;
+}
 
 abbrev pub account_owner : CellRows → Entry → Owner
-account_owner rows x = record { number = 0; user_name = x.user_name; host_name = x.host_name; has_account = true; has_user = is_some x.user; has_host = is_some x.host; nexts = ups rows x.user x.host }
+account_owner rows x = record {
+  number = 0;
+  user_name = x.user_name;
+  host_name = x.host_name;
+  has_account = true;
+  has_user = is_some x.user;
+  has_host = is_some x.host;
+  nexts = ups rows x.user x.host;
+}
 
 abbrev pub user_owner : ℕ → Owner
-user_owner name = record { number = 0; user_name = name; host_name = 0; has_account = false; has_user = true; has_host = false; nexts = [] }
+user_owner name = record {
+  number = 0;
+  user_name = name;
+  host_name = 0;
+  has_account = false;
+  has_user = true;
+  has_host = false;
+  nexts = [];
+}
 
 abbrev pub host_owner : CellRows → ℕ → Owner
-host_owner rows name = record { number = 0; user_name = 0; host_name = name; has_account = false; has_user = false; has_host = true; nexts = rows.global ∷ [] }
+host_owner rows name = record {
+  number = 0;
+  user_name = 0;
+  host_name = name;
+  has_account = false;
+  has_user = false;
+  has_host = true;
+  nexts = rows.global ∷ [];
+}
 
 abbrev pub global_owner : Owner
-global_owner = record { number = 0; user_name = 0; host_name = 0; has_account = false; has_user = false; has_host = false; nexts = [] }
+global_owner = record {
+  number = 0;
+  user_name = 0;
+  host_name = 0;
+  has_account = false;
+  has_user = false;
+  has_host = false;
+  nexts = [];
+}
 
 abbrev pub owner_of : {X : Type 0} → (X → Owner) → Option X → Option Owner
 owner_of make None = None

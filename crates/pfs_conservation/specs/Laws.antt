@@ -34,15 +34,22 @@ Discarded =
     → ((event : ℕ) → IsEvent journals event → last_of (journals.home event) (path event) ≡ global)
     → IsDiscarded (stats measures) journals shown global
 
--- For the printed lines of one kind that keep their rules: what the rows of a key show after the last action is the merge of the events that
--- lead to the key and that no covering action took since they were added.
+-- For the printed lines of one kind that keep their rules: what the rows of a key show after the last action is the
+-- merge of the events that lead to the key and that no covering action took since they were added.
 abbrev pub Reported : Type 0
 Reported =
     (measures : ℕ → Measure) → ((event : ℕ) → Fits (stat_of (measures event)))
     → (n : Numbering) → IsNumbering n → (rows : List ℕ) → IsListing n rows → (limits : Limits) → AreLimits limits
     → (actions : List Action) (kind : ℕ) (events : List ℕ) (lines : List Tagged) (whose : ℕ → Whose)
-    → AreActed (λ action row. nat_lt 0 (found_by (stats measures) (chain_of lines) 4 action row).count) (λ action. moves_of (holder_of n (opened_by limits) (numbered actions)) (takes_by n (opened_by limits) (numbered actions) kind) action rows) (length actions) lines
+    → AreActed (λ action row. nat_lt 0 (found_by (stats measures) (chain_of lines) 4 action row).count)
+    (λ action. moves_of (holder_of n (opened_by limits) (numbered actions))
+    (takes_by n (opened_by limits) (numbered actions) kind) action rows) (length actions) lines
     → AreAdded n (opened_by limits) actions events lines whose
-    → (key : Key) (cells : List ℕ) → AreLow n cells → ((cell : ℕ) → count_by (λ c. c == cell) cells ≤ 1) → ((event : ℕ) → 1 ≤ count_by (λ e. event == e) events → HasSlot key (whose event))
-    → fold (λ sum row. merge_of sum (content (stats measures) (found_by (stats measures) (chain_of lines) 4) (chain_of lines row))) zero_of (shown_in n key cells (state_after (opened_by limits) (numbered actions) (length actions)))
-    ≡ fold (with_event (stats measures)) zero_of (filter (λ event. leads_at key cells (whose event) && counts_after (removal event (chain_of lines (home_at n (whose event)))) (covers_to kind key (opened_by limits) (numbered actions) (length actions))) events)
+    → (key : Key) (cells : List ℕ) → AreLow n cells → ((cell : ℕ) → count_by (λ c. c == cell) cells ≤ 1)
+    → ((event : ℕ) → 1 ≤ count_by (λ e. event == e) events → HasSlot key (whose event))
+    → fold (λ sum row. merge_of sum
+    (content (stats measures) (found_by (stats measures) (chain_of lines) 4) (chain_of lines row))) zero_of
+    (shown_in n key cells (state_after (opened_by limits) (numbered actions) (length actions)))
+    ≡ fold (with_event (stats measures)) zero_of (filter (λ event. leads_at key cells (whose event)
+    && counts_after (removal event (chain_of lines (home_at n (whose event))))
+    (covers_to kind key (opened_by limits) (numbered actions) (length actions))) events)

@@ -36,7 +36,8 @@ is_at line row version = (line.row == row) && (line.version == version)
 -- the changes of a row at a version
 abbrev pub standing : List Tagged → ℕ → ℕ → List Change
 standing [] row version = []
-standing (line ∷ lines) row version = cond (is_at line row version) (change_of line ∷ []) [] ++ standing lines row version
+standing (line ∷ lines) row version =
+    cond (is_at line row version) (change_of line ∷ []) [] ++ standing lines row version
 
 -- how many changes a row has
 abbrev pub changes_of : List Tagged → ℕ → ℕ
@@ -54,7 +55,8 @@ chain_of lines row = chain_from lines row 1 (changes_of lines row)
 -- a row's change at a version
 abbrev pub Stands : List Tagged → ℕ → ℕ → Change → Type 0
 Stands [] row version change = ⊥
-Stands (line ∷ lines) row version change = ((is_at line row version ≡ true) × (change_of line ≡ change)) ⊎ Stands lines row version change
+Stands (line ∷ lines) row version change = ((is_at line row version ≡ true) × (change_of line ≡ change))
+    ⊎ Stands lines row version change
 
 -- a change is among these
 abbrev pub IsAmong : Change → List Change → Type 0
@@ -105,15 +107,21 @@ pub record AreChained (kept : ℕ → ℕ → Bool) (moves : List Move) (lines :
   pub low : (row version : ℕ) (change : Change) → Stands lines row version change → row < 16384
   pub within : Within lines lines
   pub once : (row version : ℕ) → length (standing lines row version) ≤ 1
-  pub never_fall : (row low high : ℕ) (first next : Change) → low < high → Stands lines row low first → Stands lines row high next → IsMove first → IsMove next → action_of first ≤ action_of next
-  pub in_order : (row low high : ℕ) (first next : Change) → low < high → Stands lines row low first → Stands lines row high next → IsMove first → IsMove next → action_of first ≡ action_of next → source_of row first < source_of row next
-  pub asked : (row version : ℕ) (change : Change) → Stands lines row version change → IsMove change → IsAmong change (touches kept row moves)
-  pub printed : (row : ℕ) (change : Change) → IsAmong change (touches kept row moves) → (version : ℕ) × Stands lines row version change
+  pub never_fall : (row low high : ℕ) (first next : Change) → low < high → Stands lines row low first
+      → Stands lines row high next → IsMove first → IsMove next → action_of first ≤ action_of next
+  pub in_order : (row low high : ℕ) (first next : Change) → low < high → Stands lines row low first
+      → Stands lines row high next → IsMove first → IsMove next → action_of first ≡ action_of next
+      → source_of row first < source_of row next
+  pub asked : (row version : ℕ) (change : Change) → Stands lines row version change → IsMove change
+      → IsAmong change (touches kept row moves)
+  pub printed : (row : ℕ) (change : Change) → IsAmong change (touches kept row moves)
+      → (version : ℕ) × Stands lines row version change
 
--- the rules of an event's addition: at its home and once; by a session that stood at its slot after its connect; above each change of
--- the row that an action up to the connect made; and below the take of its session's quit
+-- the rules of an event's addition: at its home and once; by a session that stood at its slot after its connect;
+-- above each change of the row that an action up to the connect made; and below the take of its session's quit
 abbrev pub Adding : List Tagged → ℕ → ℕ → ℕ → Type 0
-Adding lines event row version = (events : List ℕ) × Stands lines row version (Added events) × (1 ≤ count_by (λ x. x == event) events)
+Adding lines event row version = (events : List ℕ) × Stands lines row version (Added events)
+    × (1 ≤ count_by (λ x. x == event) events)
 
 abbrev pub QuitAbove : Option ℕ → List Tagged → ℕ → ℕ → Type 0
 QuitAbove None lines row version = Unit {0}
@@ -121,14 +129,20 @@ QuitAbove (Some quit) lines row version = (above : ℕ) × (version < above) × 
 
 abbrev pub IsAdded : State → List Action → List Tagged → Numbering → ℕ → Whose → Type 0
 IsAdded opening actions lines n event (OfSession cell slot x connect quit) =
-    (n.is_cell cell ≡ true) × (entry_at (state_after opening (numbered actions) connect).threads slot ≡ Some x) × (connect ≤ length actions)
+    (n.is_cell cell ≡ true) × (entry_at (state_after opening (numbered actions) connect).threads slot ≡ Some x)
+    × (connect ≤ length actions)
     × ((k : ℕ) → suc connect ≤ k → IsBy quit (suc k) → numbered actions k ≡ Quit x.number → ⊥)
-    × ((version : ℕ) → Adding lines event (home_at n (OfSession cell slot x connect quit)) version → (at : ℕ) (change : Change) → Stands lines (home_at n (OfSession cell slot x connect quit)) at change → IsMove change → action_of change ≤ connect → at < version)
-    × ((version : ℕ) → Adding lines event (home_at n (OfSession cell slot x connect quit)) version → QuitAbove quit lines (home_at n (OfSession cell slot x connect quit)) version)
+    × ((version : ℕ) → Adding lines event (home_at n (OfSession cell slot x connect quit)) version
+    → (at : ℕ) (change : Change) → Stands lines (home_at n (OfSession cell slot x connect quit)) at change
+    → IsMove change → action_of change ≤ connect → at < version)
+    × ((version : ℕ) → Adding lines event (home_at n (OfSession cell slot x connect quit)) version
+    → QuitAbove quit lines (home_at n (OfSession cell slot x connect quit)) version)
 IsAdded opening actions lines n event (Aside cell) = n.is_cell cell ≡ true
 
-pub record AreAdded (n : Numbering) (opening : State) (actions : List Action) (events : List ℕ) (lines : List Tagged) (whose : ℕ → Whose) : Type 0 where
+pub record AreAdded (n : Numbering) (opening : State) (actions : List Action) (events : List ℕ) (lines : List Tagged)
+    (whose : ℕ → Whose) : Type 0 where
   pub few : length events < 2 ^ 64
   pub once : AllOnce events lines
-  pub counted : (event : ℕ) → 1 ≤ count_by (λ e. event == e) events → (row : ℕ) → times_added event lines row ≡ cond (row == home_at n (whose event)) 1 0
+  pub counted : (event : ℕ) → 1 ≤ count_by (λ e. event == e) events → (row : ℕ)
+      → times_added event lines row ≡ cond (row == home_at n (whose event)) 1 0
   pub added : (event : ℕ) → 1 ≤ count_by (λ e. event == e) events → IsAdded opening actions lines n event (whose event)

@@ -13,7 +13,9 @@ goes_to row rows = nat_lt 0 (count_by (λ r. r == row) rows)
 
 -- what a move changes in a row; nothing is given where the take found nothing
 abbrev pub touch : (ℕ → ℕ → Bool) → ℕ → Move → List Change
-touch kept row move = cond (move.from == row) (Taken move.action ∷ []) (cond (goes_to row move.to && kept move.action move.from) (Given move.action move.from ∷ []) [])
+touch kept row move =
+    cond (move.from == row) (Taken move.action ∷ [])
+    (cond (goes_to row move.to && kept move.action move.from) (Given move.action move.from ∷ []) [])
 
 abbrev pub touches : (ℕ → ℕ → Bool) → ℕ → List Move → List Change
 touches kept row [] = []
@@ -31,7 +33,9 @@ pub record AreMoved (chains : ℕ → List Change) (kept : ℕ → ℕ → Bool)
 
 -- a later move is of a later action, or of the same action from another row of no lower level
 abbrev pub IsLater : (ℕ → ℕ) → Move → Move → Type 0
-IsLater level first next = (first.action < next.action) ⊎ ((first.action ≡ next.action) × (level first.from ≤ level next.from) × (first.from ≡ next.from → ⊥))
+IsLater level first next =
+    (first.action < next.action)
+    ⊎ ((first.action ≡ next.action) × (level first.from ≤ level next.from) × (first.from ≡ next.from → ⊥))
 
 abbrev pub AllLater : (ℕ → ℕ) → Move → List Move → Type 0
 AllLater level first [] = Unit {0}
@@ -48,4 +52,5 @@ InOrder level (move ∷ moves) = Climbs level move × AllLater level move moves 
 -- how often an action gives a row to another
 abbrev pub sends : List Move → ℕ → ℕ → ℕ → ℕ
 sends [] action from row = 0
-sends (move ∷ moves) action from row = cond (((move.action == action) && (move.from == from)) && goes_to row move.to) 1 0 + sends moves action from row
+sends (move ∷ moves) action from row =
+    cond (((move.action == action) && (move.from == from)) && goes_to row move.to) 1 0 + sends moves action from row

@@ -36,7 +36,8 @@ Between n Global row = n.globals ≤ row
 Between n Elsewhere row = ⊥
 
 pub record IsNumbering (n : Numbering) : Type 0 where
-  pub seats : (cell : ℕ) (place : Place) → n.is_cell cell ≡ true → IsIn place → n.seat (n.row cell place) ≡ record { cell = cell; place = place }
+  pub seats : (cell : ℕ) (place : Place) → n.is_cell cell ≡ true → IsIn place
+      → n.seat (n.row cell place) ≡ record { cell = cell; place = place }
   pub rows : (row : ℕ) → IsIn (n.seat row).place → n.row (n.seat row).cell (n.seat row).place ≡ row
   pub between : (cell : ℕ) (place : Place) → n.is_cell cell ≡ true → IsIn place → Between n place (n.row cell place)
   pub users : n.accounts ≤ n.users
@@ -44,7 +45,13 @@ pub record IsNumbering (n : Numbering) : Type 0 where
   pub globals : n.hosts ≤ n.globals
 
 abbrev pub rows_of : Numbering → ℕ → CellRows
-rows_of n cell = record { thread = λ t. n.row cell (Thread t); account = λ a. n.row cell (Account a); user = λ u. n.row cell (User u); host = λ h. n.row cell (Host h); global = n.row cell Global }
+rows_of n cell = record {
+  thread = λ t. n.row cell (Thread t);
+  account = λ a. n.row cell (Account a);
+  user = λ u. n.row cell (User u);
+  host = λ h. n.row cell (Host h);
+  global = n.row cell Global;
+}
 
 abbrev pub place_level : Place → ℕ
 place_level (Thread t) = 0
@@ -62,7 +69,8 @@ abbrev pub holder_of : Numbering → State → (ℕ → Action) → ℕ → ℕ 
 holder_of n opening action number row = holder_at n (state_before opening action number) (n.seat row)
 
 abbrev pub takes_by : Numbering → State → (ℕ → Action) → ℕ → ℕ → ℕ → Bool
-takes_by n opening action kind number row = line_takes (line_of kind (state_before opening action number) (action number)) (n.seat row).place
+takes_by n opening action kind number row =
+    line_takes (line_of kind (state_before opening action number) (action number)) (n.seat row).place
 
 -- a session's own rows
 abbrev pub own_place : CellRows → Session → Place → Owner
@@ -82,7 +90,13 @@ map_row f (Some x) = Some (f x)
 
 -- the rows of a session in one cell
 abbrev pub way_of : CellRows → ℕ → Session → Rows
-way_of rows slot x = record { home = rows.thread slot; account = map_row rows.account x.account; user = map_row rows.user x.user; host = map_row rows.host x.host; global = rows.global }
+way_of rows slot x = record {
+  home = rows.thread slot;
+  account = map_row rows.account x.account;
+  user = map_row rows.user x.user;
+  host = map_row rows.host x.host;
+  global = rows.global;
+}
 
 -- at most 32 places of each
 pub record IsSmall (s : State) : Type 0 where
@@ -103,7 +117,12 @@ pub record Limits : Type 0 where
   pub hosts : ℕ
 
 abbrev pub opened_by : Limits → State
-opened_by limits = record { threads = all_free limits.threads; accounts = all_free limits.accounts; users = all_free limits.users; hosts = all_free limits.hosts }
+opened_by limits = record {
+  threads = all_free limits.threads;
+  accounts = all_free limits.accounts;
+  users = all_free limits.users;
+  hosts = all_free limits.hosts;
+}
 
 pub record AreLimits (limits : Limits) : Type 0 where
   pub threads : limits.threads ≤ 32

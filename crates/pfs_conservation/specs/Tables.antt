@@ -57,7 +57,8 @@ listed_from test row n (x ∷ xs) = cond (passes test x) (row n ∷ []) [] ++ li
 abbrev pub shown_cell : Key → CellRows → State → List ℕ
 shown_cell key rows s =
     listed_from (λ x. matches key (thread_owner rows x)) rows.thread 0 s.threads
-    ++ (cond (shown_by key).accounts (listed_from (λ x. matches key (account_owner rows x)) rows.account 0 s.accounts) []
+    ++ (cond (shown_by key).accounts (listed_from (λ x. matches key (account_owner rows x)) rows.account 0 s.accounts)
+    []
     ++ (cond (shown_by key).users (listed_from (λ x. matches key (user_owner x)) rows.user 0 s.users) []
     ++ (cond (shown_by key).hosts (listed_from (λ x. matches key (host_owner rows x)) rows.host 0 s.hosts) []
     ++ cond (shown_by key).global (rows.global ∷ []) [])))
@@ -72,7 +73,8 @@ is_of cells cell = nat_lt 0 (count_by (λ c. c == cell) cells)
 
 -- a row belongs to a key by who holds it
 abbrev pub belongs_to : Numbering → Key → List ℕ → ℕ → Owner → Bool
-belongs_to n key cells row owner = is_of cells (n.seat row).cell && (shows_at key (n.seat row).place && matches key owner)
+belongs_to n key cells row owner =
+    is_of cells (n.seat row).cell && (shows_at key (n.seat row).place && matches key owner)
 
 -- whose an event is: of a session at a slot, that an action connected and another may have disconnected; or aside
 pub data Whose : Type 0 where
@@ -121,10 +123,15 @@ opt_row None = []
 opt_row (Some row) = row ∷ []
 
 abbrev pub path_in : Shown → Option ℕ → Option ℕ → Option ℕ → ℕ → List ℕ
-path_in shown account user host global = cond shown.accounts (opt_row account) [] ++ (cond shown.users (opt_row user) [] ++ (cond shown.hosts (opt_row host) [] ++ cond shown.global (global ∷ []) []))
+path_in shown account user host global =
+    cond shown.accounts (opt_row account) []
+    ++ (cond shown.users (opt_row user) []
+    ++ (cond shown.hosts (opt_row host) [] ++ cond shown.global (global ∷ []) []))
 
 abbrev pub path_at : Numbering → Key → Whose → List ℕ
-path_at n key (OfSession cell slot x connect quit) = path_in (shown_by key) (map_row (rows_of n cell).account x.account) (map_row (rows_of n cell).user x.user) (map_row (rows_of n cell).host x.host) (n.row cell Global)
+path_at n key (OfSession cell slot x connect quit) =
+    path_in (shown_by key) (map_row (rows_of n cell).account x.account) (map_row (rows_of n cell).user x.user)
+    (map_row (rows_of n cell).host x.host) (n.row cell Global)
 path_at n key (Aside cell) = []
 
 -- the table of covering actions: a summary's own TRUNCATE, and those that empty it besides
@@ -159,7 +166,8 @@ those_to test zero = []
 those_to test (suc n) = cond (test (suc n)) (suc n ∷ []) [] ++ those_to test n
 
 abbrev pub covers_to : ℕ → Key → State → (ℕ → Action) → ℕ → List ℕ
-covers_to kind key opening action last = those_to (λ t. covers_at kind key (state_before opening action t) (action t)) last
+covers_to kind key opening action last =
+    those_to (λ t. covers_at kind key (state_before opening action t) (action t)) last
 
 -- the cells of a class
 abbrev pub AreLow : Numbering → List ℕ → Type 0

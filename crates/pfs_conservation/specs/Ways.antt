@@ -22,11 +22,13 @@ abbrev pub step_to : ℕ → Option ℕ → List Step
 step_to from None = []
 step_to from (Some row) = record { from = from; to = row } ∷ []
 
--- the steps, the last first: to the account; from there, or from the thread, to user and host; from the host, or from there, to the global row
+-- the steps, the last first: to the account; from there, or from the thread, to user and host; from the host, or from
+-- there, to the global row
 abbrev pub steps_of : Rows → List Step
 steps_of rows =
     record { from = unwrap_or rows.host (unwrap_or rows.account rows.home); to = rows.global }
-    ∷ (step_to (unwrap_or rows.account rows.home) rows.host ++ (step_to (unwrap_or rows.account rows.home) rows.user ++ step_to rows.home rows.account))
+    ∷ (step_to (unwrap_or rows.account rows.home) rows.host
+    ++ (step_to (unwrap_or rows.account rows.home) rows.user ++ step_to rows.home rows.account))
 
 -- the row that an event comes from to this one
 abbrev pub before_by : List Step → ℕ → Option ℕ
@@ -36,7 +38,9 @@ before_by (step ∷ steps) row = cond (step.to == row) (Some step.from) (before_
 -- the action at which it leaves a row
 abbrev pub leave_by : (ℕ → List Change) → ℕ → ℕ → List Step → ℕ → Option ℕ
 leave_by chains event home [] row = cond (row == home) (removal event (chains home)) None
-leave_by chains event home (step ∷ steps) row = cond (step.to == row) (first_from_one (leave_by chains event home steps step.from) (chains step.to)) (leave_by chains event home steps row)
+leave_by chains event home (step ∷ steps) row =
+    cond (step.to == row) (first_from_one (leave_by chains event home steps step.from) (chains step.to))
+    (leave_by chains event home steps row)
 
 -- no step leads back
 abbrev pub Apart : ℕ → List Step → Type 0
@@ -45,15 +49,19 @@ Apart row (step ∷ steps) = ((row == step.from) ≡ false) × ((step.to == row)
 
 abbrev pub Leads : ℕ → List Step → Type 0
 Leads home [] = Unit {0}
-Leads home (step ∷ steps) = ((step.to == home) ≡ false) × ((step.to == step.from) ≡ false) × Apart step.to steps × Leads home steps
+Leads home (step ∷ steps) = ((step.to == home) ≡ false) × ((step.to == step.from) ≡ false) × Apart step.to steps
+    × Leads home steps
 
 abbrev pub StepsClimb : (ℕ → ℕ) → List Step → Type 0
 StepsClimb level [] = Unit {0}
 StepsClimb level (step ∷ steps) = (suc (level step.from) ≤ level step.to) × StepsClimb level steps
 
--- An event's session has these rows: it is counted once, at home, and each action at which it leaves a row gives to the next rows on its way.
-pub record IsPlaced (chains : ℕ → List Change) (level : ℕ → ℕ) (moves : List Move) (event home : ℕ) (steps : List Step) : Type 0 where
+-- An event's session has these rows: it is counted once, at home, and each action at which it leaves a row gives to
+-- the next rows on its way.
+pub record IsPlaced (chains : ℕ → List Change) (level : ℕ
+    → ℕ) (moves : List Move) (event home : ℕ) (steps : List Step) : Type 0 where
   pub counted : (row : ℕ) → times_counted event (chains row) ≡ cond (row == home) 1 0
   pub leads : Leads home steps
   pub climb : StepsClimb level steps
-  pub placed : (from action row : ℕ) → leave_by chains event home steps from ≡ Some action → sends moves action from row ≡ cond (is_from from (before_by steps row)) 1 0
+  pub placed : (from action row : ℕ) → leave_by chains event home steps from ≡ Some action
+      → sends moves action from row ≡ cond (is_from from (before_by steps row)) 1 0

@@ -16,8 +16,9 @@ pub fn discarded()
     pfs_stat::laws::merge();
 }
 
-/// Of the printed changes of one kind's rows, by any number of sessions, that keep the rules of chains, actions, moves and floors: what
-/// the rows of a key show after the last action is the merge of the events that lead to the key and that no covering action took since they were added.
+/// Of the printed changes of one kind's rows, by any number of sessions, that keep the rules of chains, actions,
+/// moves and floors: what the rows of a key show after the last action is the merge of the events that lead to the
+/// key and that no covering action took since they were added.
 pub fn reported()
     ensures { Reported }
 {

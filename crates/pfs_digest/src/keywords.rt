@@ -93,8 +93,8 @@ fn keywords() -> &'static [&'static str]
     KEYWORDS
 }
 
-// The one of the keywords, which ascend, that the word is. Those before `low` are less than the word, and those from `high`
-// on greater.
+// The one of the keywords, which ascend, that the word is. Those before `low` are less than the word, and those from
+// `high` on greater.
 fn find_word(keywords: &[&'static str], word: &[u8]) -> Option<&'static str>
     requires { IsTrue (spec.ascend (map (λ keyword. keyword.now) keywords.now)) }
     ensures { option_map (λ keyword. keyword.now) result

@@ -50,7 +50,8 @@ fn print_piece(out: &mut Vec<u8>, text: &[u8], piece: Piece) -> Result<(), NoMem
 
 // Appends a token that is no value: a word, or what stands as it is written.
 fn print_token(out: &mut Vec<u8>, text: &[u8], token: Token) -> Result<(), NoMemory>
-    ensures { OnOk result (out.new.items ≡ out.old.items ++ spec.token_text token.kind (slices.slice_of text.now token)) }
+    ensures { OnOk result (out.new.items ≡ out.old.items
+        ++ spec.token_text token.kind (slices.slice_of text.now token)) }
 {
     let bytes = slice_of(text, token);
     match token.kind {

@@ -26,7 +26,8 @@ MayStart nest kind = IsTrue (may_start kind (kind_of (innermost_of nest.events))
 
 -- what a start answers and leaves
 abbrev pub StartGives : OpenEvents → Open → Result (Unit {0}) Refused → OpenEvents → Type 0
-StartGives old what (Ok _) new = MayStart old what.kind × (length old.events < old.depth) × (new ≡ record old { events = what ∷ old.events })
+StartGives old what (Ok _) new = MayStart old what.kind × (length old.events < old.depth)
+    × (new ≡ record old { events = what ∷ old.events })
 StartGives old what (Err WrongOrder) new = (¬ MayStart old what.kind) × (new ≡ old)
 StartGives old what (Err TooDeep) new = MayStart old what.kind × (length old.events ≡ old.depth) × (new ≡ old)
 StartGives old what (Err NothingOpen) new = ⊥

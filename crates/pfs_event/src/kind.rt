@@ -14,8 +14,8 @@ pub enum EventKind {
 }
 
 impl EventKind {
-    /// The number by which an event tells that it lies in one of this kind: 1 transaction, 2 statement, 3 stage, 4 wait.
-    /// The numbers are our own.
+    /// The number by which an event tells that it lies in one of this kind: 1 transaction, 2 statement, 3 stage, 4
+    /// wait. The numbers are our own.
     pub fn nesting_number(self) -> u64
         ensures number { result ≡ nesting_number self }
         ensures fits { result ≤ 4 }

@@ -32,7 +32,11 @@ pub fn verdict_names_differ()
 /// open that `open_after` says, and the event that an end then gives is the one whose opening has
 /// this end as its partner, the closing that brings the depth back. No other opening has.
 pub fn brackets()
-    ensures took { (old new : OpenEvents) → (steps : List Step) → Took old steps new → open_after steps old.events ≡ Some new.events }
-    ensures pairs { (steps : List Step) → (what : Open) → (others : List Open) → (open_after steps [] ≡ Some (what ∷ others)) ↔ ClosesNext steps what others }
-    ensures one { (before inside other between : List Step) → (what that : Open) → before ++ Starts what ∷ inside ≡ other ++ Starts that ∷ between → IsInside inside → IsInside between → before ≡ other }
+    ensures took { (old new : OpenEvents) → (steps : List Step) → Took old steps new
+        → open_after steps old.events ≡ Some new.events }
+    ensures pairs { (steps : List Step) → (what : Open) → (others : List Open)
+        → (open_after steps [] ≡ Some (what ∷ others)) ↔ ClosesNext steps what others }
+    ensures one { (before inside other between : List Step) → (what that : Open)
+        → before ++ Starts what ∷ inside ≡ other ++ Starts that ∷ between → IsInside inside → IsInside between
+        → before ≡ other }
 {}

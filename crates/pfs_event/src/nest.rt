@@ -59,6 +59,7 @@ impl Nest {
         ensures depth { result ≡ self.now.depth }
         ensures fits { length self.now.events ≤ self.now.depth }
     {
+        // Reads the list, so that a clause may speak of its length.
         let _ = &self.events;
         self.depth as u64
     }

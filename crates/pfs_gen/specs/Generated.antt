@@ -27,7 +27,9 @@ unit_text a b c d = statement_line a ++ spend_line b ++ wait_line c ++ spend_lin
 
 -- the unit in a place of the whole script, which has four draws
 unfoldable pub unit_at : ℕ → ℕ → List ℕ
-unit_at number unit = unit_text (draw number (4 * unit) % 4) (draw number (4 * unit + 1) % 1000) (draw number (4 * unit + 2) % 3) (draw number (4 * unit + 3) % 1000)
+unit_at number unit =
+    unit_text (draw number (4 * unit) % 4) (draw number (4 * unit + 1) % 1000) (draw number (4 * unit + 2) % 3)
+    (draw number (4 * unit + 3) % 1000)
 
 -- so many units, the first in this place
 unfoldable pub units_text : ℕ → ℕ → ℕ → List ℕ
@@ -42,7 +44,9 @@ session_text number session = session_line session ++ units_text number (500 * (
 
 -- a session that connects
 unfoldable pub connect_line : ℕ → List ℕ
-connect_line session = codes "session " ++ decimal session ++ codes " u" ++ decimal (session % 4) ++ codes " h" ++ decimal (session % 2) ++ codes "\n"
+connect_line session =
+    codes "session " ++ decimal session ++ codes " u" ++ decimal (session % 4) ++ codes " h" ++ decimal (session % 2)
+    ++ codes "\n"
 
 -- eight sessions connect, and go on in the next phase
 unfoldable pub script_text : ℕ → List ℕ

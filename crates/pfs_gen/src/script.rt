@@ -57,8 +57,10 @@ fn put_connects(out: &mut Vec<u8>, count: u64) -> Result<(), NoMemory>
 /// Appends a session with its units, and gives the state behind them.
 fn put_session(out: &mut Vec<u8>, below: u64, state: u64) -> Result<u64, NoMemory>
     requires { below ≤ 64 }
-    ensures text { (number : ℕ) → state ≡ state_after number (4 * (500 * below)) → OnOk result (out.new.items ≡ out.old.items ++ session_text number (below + 1)) }
-    ensures next { (number : ℕ) → state ≡ state_after number (4 * (500 * below)) → IfOk result (λ next. next ≡ state_after number (4 * (500 * (below + 1)))) }
+    ensures text { (number : ℕ) → state ≡ state_after number (4 * (500 * below))
+        → OnOk result (out.new.items ≡ out.old.items ++ session_text number (below + 1)) }
+    ensures next { (number : ℕ) → state ≡ state_after number (4 * (500 * below))
+        → IfOk result (λ next. next ≡ state_after number (4 * (500 * (below + 1)))) }
 {
     put_session_line(out, below + 1)?;
     put_units(out, UNITS, state)

@@ -71,8 +71,10 @@ fn put_unit_of(
 
 /// Appends the unit whose numbers are drawn next, and gives the state behind them.
 pub fn put_unit(out: &mut Vec<u8>, state: u64) -> Result<u64, NoMemory>
-    ensures text { (number unit : ℕ) → state ≡ state_after number (4 * unit) → OnOk result (out.new.items ≡ out.old.items ++ unit_at number unit) }
-    ensures next { (number unit : ℕ) → state ≡ state_after number (4 * unit) → IfOk result (λ next. next ≡ state_after number (4 * (unit + 1))) }
+    ensures text { (number unit : ℕ) → state ≡ state_after number (4 * unit)
+        → OnOk result (out.new.items ≡ out.old.items ++ unit_at number unit) }
+    ensures next { (number unit : ℕ) → state ≡ state_after number (4 * unit)
+        → IfOk result (λ next. next ≡ state_after number (4 * (unit + 1))) }
 {
     let first = step(state);
     let second = step(first);
@@ -90,8 +92,10 @@ pub fn put_unit(out: &mut Vec<u8>, state: u64) -> Result<u64, NoMemory>
 
 /// Appends so many units, the first of this number, and gives the state behind them.
 pub fn put_units(out: &mut Vec<u8>, count: u64, state: u64) -> Result<u64, NoMemory>
-    ensures text { (number unit : ℕ) → state ≡ state_after number (4 * unit) → OnOk result (out.new.items ≡ out.old.items ++ units_text number unit count) }
-    ensures next { (number unit : ℕ) → state ≡ state_after number (4 * unit) → IfOk result (λ next. next ≡ state_after number (4 * (unit + count))) }
+    ensures text { (number unit : ℕ) → state ≡ state_after number (4 * unit)
+        → OnOk result (out.new.items ≡ out.old.items ++ units_text number unit count) }
+    ensures next { (number unit : ℕ) → state ≡ state_after number (4 * unit)
+        → IfOk result (λ next. next ≡ state_after number (4 * (unit + count))) }
 {
     let mut next = state;
     for place in 0..count {

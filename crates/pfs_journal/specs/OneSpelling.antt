@@ -6,4 +6,5 @@ use Rattle.pfs_journal.specs.Spelling.{spelling}
 
 -- no spelling of a report is a proper front of another
 abbrev pub NoSpellingIsAFront : Type 0
-NoSpellingIsAFront = (a b : ReportParts) (more : List ℕ) → IsReport a → IsReport b → spelling b ≡ spelling a ++ more → more ≡ []
+NoSpellingIsAFront = (a b : ReportParts) (more : List ℕ) → IsReport a → IsReport b → spelling b ≡ spelling a ++ more
+    → more ≡ []

@@ -19,14 +19,16 @@ pub record IsTaken (says : Line) (before after : List ℕ) : Type 0 where
   pub shorter : length after < length before
 
 -- a part of a report that began with this line, in front of what was left, was read up to the line behind it
-pub record IsRead (text : List ℕ) (Good : Type 0) (first : Line) (before : List ℕ) (line : Line) (after : List ℕ) : Type 0 where
+pub record IsRead (text : List ℕ) (Good : Type 0) (first : Line) (before : List ℕ) (line : Line)
+    (after : List ℕ) : Type 0 where
   pub good : Good
   pub same : line_text first ++ before ≡ text ++ (line_text line ++ after)
   pub next_good : IsLine line
   pub shorter : length after ≤ length before
 
 -- one part more was read, which began with the first line
-pub record Grows {Part : Type 0} (part_text : Part → List ℕ) (IsGood : Part → Type 0) (old new : List Part) (first : Line) (before : List ℕ) (line : Line) (after : List ℕ) : Type 0 where
+pub record Grows {Part : Type 0} (part_text : Part → List ℕ) (IsGood : Part
+    → Type 0) (old new : List Part) (first : Line) (before : List ℕ) (line : Line) (after : List ℕ) : Type 0 where
   pub part : Part
   pub pushed : new ≡ old ++ part ∷ []
   pub good : IsGood part
@@ -35,7 +37,8 @@ pub record Grows {Part : Type 0} (part_text : Part → List ℕ) (IsGood : Part 
   pub shorter : length after < length before
 
 -- an answer of so many rows was read behind an entry
-pub record AnswerGrows (number : ℕ) (old new : List (List (List RowValue))) (first : Line) (before : List ℕ) (line : Line) (after : List ℕ) : Type 0 where
+pub record AnswerGrows (number : ℕ) (old new : List (List (List RowValue))) (first : Line) (before : List ℕ)
+    (line : Line) (after : List ℕ) : Type 0 where
   pub answer : List (List RowValue)
   pub pushed : new ≡ old ++ answer ∷ []
   pub size : length answer ≡ number
@@ -45,7 +48,8 @@ pub record AnswerGrows (number : ℕ) (old new : List (List (List RowValue))) (f
   pub shorter : length after ≤ length before
 
 -- the same where one is due; else nothing was read
-pub record AnswersGrow (asked : Option ℕ) (old new : List (List (List RowValue))) (first : Line) (before : List ℕ) (line : Line) (after : List ℕ) : Type 0 where
+pub record AnswersGrow (asked : Option ℕ) (old new : List (List (List RowValue))) (first : Line) (before : List ℕ)
+    (line : Line) (after : List ℕ) : Type 0 where
   pub more : List (List (List RowValue))
   pub pushed : new ≡ old ++ more
   pub sizes : sizes_of more ≡ option_to_list asked
@@ -55,7 +59,8 @@ pub record AnswersGrow (asked : Option ℕ) (old new : List (List (List RowValue
   pub shorter : length after ≤ length before
 
 -- an entry was read, with its answer where one is due
-pub record JournalGrows (entry : Entry) (old_entries new_entries : List Entry) (old new : List (List (List RowValue))) (before : List ℕ) (line : Line) (after : List ℕ) : Type 0 where
+pub record JournalGrows (entry : Entry) (old_entries new_entries : List Entry) (old new : List (List (List RowValue)))
+    (before : List ℕ) (line : Line) (after : List ℕ) : Type 0 where
   pub entry_pushed : new_entries ≡ old_entries ++ entry ∷ []
   pub more : List (List (List RowValue))
   pub pushed : new ≡ old ++ more
@@ -66,7 +71,8 @@ pub record JournalGrows (entry : Entry) (old_entries new_entries : List Entry) (
   pub shorter : length after < length before
 
 -- a journal was read
-pub record IsJournalRead (entries : List Entry) (answers : List (List (List RowValue))) (first : Line) (before : List ℕ) (line : Line) (after : List ℕ) : Type 0 where
+pub record IsJournalRead (entries : List Entry) (answers : List (List (List RowValue))) (first : Line)
+    (before : List ℕ) (line : Line) (after : List ℕ) : Type 0 where
   pub answered : AreAnswered entries answers
   pub rows : All (All IsRow) answers
   pub same : line_text first ++ before ≡ journal_text entries answers ++ (line_text line ++ after)
@@ -74,7 +80,8 @@ pub record IsJournalRead (entries : List Entry) (answers : List (List (List RowV
   pub shorter : length after ≤ length before
 
 -- the tables and counters of a phase with these blocks were read
-pub record PhaseEnds (number : ℕ) (blocks : List BlockReport) (phase : PhaseParts) (before : List ℕ) (line : Line) (after : List ℕ) : Type 0 where
+pub record PhaseEnds (number : ℕ) (blocks : List BlockReport) (phase : PhaseParts) (before : List ℕ) (line : Line)
+    (after : List ℕ) : Type 0 where
   pub number_is : phase.number ≡ number
   pub blocks_are : phase.blocks ≡ blocks
   pub good : IsPhase phase

@@ -17,7 +17,8 @@ is_text_byte b = (b == 9) || (nat_le 32 b && nat_le b 126)
 
 -- a byte of a name: a letter, a digit or `_`
 abbrev pub is_name_byte : ℕ → Bool
-is_name_byte b = (nat_le 97 b && nat_le b 122) || (nat_le 65 b && nat_le b 90) || (nat_le 48 b && nat_le b 57) || (b == 95)
+is_name_byte b = (nat_le 97 b && nat_le b 122) || (nat_le 65 b && nat_le b 90) || (nat_le 48 b && nat_le b 57)
+    || (b == 95)
 
 abbrev pub IsText : List ℕ → Type 0
 IsText text = All (λ b. is_text_byte b ≡ true) text

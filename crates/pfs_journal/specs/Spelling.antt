@@ -28,9 +28,11 @@ numbers_text word numbers = word ++ flat_map optional_text numbers ++ codes "\n"
 
 -- a journal entry's line
 abbrev pub entry_text : Entry → List ℕ
-entry_text (entry.Connect action thread account user host) = numbers_text (codes "connect") (Some action ∷ thread ∷ account ∷ user ∷ host ∷ [])
+entry_text (entry.Connect action thread account user host) =
+    numbers_text (codes "connect") (Some action ∷ thread ∷ account ∷ user ∷ host ∷ [])
 entry_text (entry.Start event verdict consumers thread class table) =
-    numbers_text (codes "start" ++ optional_text event ++ codes " " ++ verdict_name verdict) (consumers ∷ thread ∷ class ∷ table ∷ [])
+    numbers_text (codes "start" ++ optional_text event ++ codes " " ++ verdict_name verdict) (consumers ∷ thread
+    ∷ class ∷ table ∷ [])
 entry_text (entry.End event last consumers thread) = numbers_text (codes "end") (event ∷ last ∷ consumers ∷ thread ∷ [])
 entry_text (entry.Add row version) = numbers_text (codes "add") (Some row ∷ Some version ∷ [])
 entry_text (entry.Held row first second) = numbers_text (codes "held") (Some row ∷ Some first ∷ Some second ∷ [])
@@ -70,12 +72,14 @@ is_answered _ = false
 
 -- an entry's line and, where it has one, its answer
 unfoldable pub answered_text : Entry → List (List (List RowValue)) → List ℕ
-answered_text entry answers = entry_text entry ++ (if is_answered entry then flat_map row_text (slice_index_or answers 0 []) else [])
+answered_text entry answers =
+    entry_text entry ++ (if is_answered entry then flat_map row_text (slice_index_or answers 0 []) else [])
 
 -- a journal, where these answers are left
 unfoldable pub journal_text : List Entry → List (List (List RowValue)) → List ℕ
 journal_text [] answers = []
-journal_text (entry ∷ entries) answers = answered_text entry answers ++ journal_text entries (if is_answered entry then drop 1 answers else answers)
+journal_text (entry ∷ entries) answers =
+    answered_text entry answers ++ journal_text entries (if is_answered entry then drop 1 answers else answers)
 
 -- a session's line
 unfoldable pub session_line : ℕ → List ℕ

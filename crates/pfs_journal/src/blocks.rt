@@ -2,8 +2,8 @@
 
 ghost use Rattle.std.specs.Prelude.{◌≡◌};
 
-use pfs_values::Rowset;
 use pfs_event::Entry;
+use pfs_values::Rowset;
 use std::marker::Model;
 
 /// The entries of a journal, in order.

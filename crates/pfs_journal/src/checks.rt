@@ -8,8 +8,8 @@ ghost use Rattle.pfs_journal.specs.Reports.{is_text_byte, is_name_byte, IsText, 
 use crate::blocks::BlockReport;
 use crate::report::PhaseParts;
 use crate::values::{LostReport, TableReport};
-use pfs_values::{Row, RowValue, Rowset};
 use pfs_event::Entry;
+use pfs_values::{Row, RowValue, Rowset};
 
 /// Whether a text may have the byte.
 fn is_text_byte(byte: u8) -> bool
@@ -101,7 +101,10 @@ fn has_rows(answers: &[Rowset], place: usize, number: u64) -> bool
 /// The place of the next answer behind an entry, or None where the one that is due isn't there.
 fn place_behind(entry: &Entry, answers: &[Rowset], place: usize) -> Option<usize>
     requires { place ≤ length answers.now }
-    ensures { (rest : List Entry) → MatchOption result (¬ AreAnswered (entry.now ∷ rest) (drop place answers.now)) (λ next. (next ≤ length answers.now) × (AreAnswered (entry.now ∷ rest) (drop place answers.now) ↔ AreAnswered rest (drop next answers.now))) }
+    ensures { (rest : List Entry)
+        → MatchOption result (¬ AreAnswered (entry.now ∷ rest) (drop place answers.now))
+        (λ next. (next ≤ length answers.now)
+        × (AreAnswered (entry.now ∷ rest) (drop place answers.now) ↔ AreAnswered rest (drop next answers.now))) }
 {
     match rows_asked(entry) {
         Some(number) => {

@@ -4,9 +4,9 @@
 use crate::NoMemory;
 use crate::line::Line;
 use crate::values::LostReport;
-use pfs_values::{Row, RowValue};
 use pfs_event::{Entry, Verdict};
 use pfs_text::{Text, read_u64, unquote};
+use pfs_values::{Row, RowValue};
 use std::alloc::Global;
 
 /// The bytes up to the first space, and those from it on.

@@ -7,9 +7,9 @@ use crate::NoMemory;
 use crate::checks::{is_name, is_row};
 use crate::lines::{begin, entry_line, lost_line, numbers_line, row_line, table_line};
 use crate::values::LostReport;
-use pfs_values::Row;
 use pfs_event::Entry;
 use pfs_text::Text;
+use pfs_values::Row;
 
 /// What a line says.
 #[derive(Drop)]

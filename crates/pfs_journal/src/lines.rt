@@ -8,9 +8,9 @@ ghost use Rattle.pfs_journal.specs.Spelling.{field_text, optional_text, numbers_
 
 use crate::NoMemory;
 use crate::values::LostReport;
-use pfs_values::{Row, RowValue};
 use pfs_event::{Entry, Verdict};
 use pfs_text::{put_u64, quote};
+use pfs_values::{Row, RowValue};
 
 /// Appends a text.
 fn put_text(line: &mut Vec<u8>, text: &[u8]) -> Result<(), NoMemory>
@@ -98,7 +98,9 @@ fn start_line(
     verdict: Verdict,
     versions: &[Option<u64>],
 ) -> Result<(), NoMemory>
-    ensures { OnOk result (line.new.items ≡ numbers_text (codes "start" ++ optional_text event ++ codes " " ++ verdict_name verdict) versions.now) }
+    ensures { OnOk result
+        (line.new.items ≡ numbers_text (codes "start" ++ optional_text event ++ codes " " ++ verdict_name verdict)
+        versions.now) }
 {
     begin_start(line, event, verdict)?;
     end_numbers(line, versions)

@@ -14,9 +14,9 @@ use crate::checks::rows_asked;
 use crate::line::Line;
 use crate::reading::{Lines, ReadStop, next, push};
 use crate::values::{LostList, LostReport, TableList, TableReport};
-use pfs_values::{Row, Rowset};
 use pfs_event::Entry;
 use pfs_text::Text;
+use pfs_values::{Row, Rowset};
 use std::alloc::Global;
 
 fn take_row(
@@ -26,7 +26,9 @@ fn take_row(
     row: Row,
 ) -> Result<Line, ReadStop>
     requires { IsRow row }
-    ensures { IfOk result (λ line. Grows row_text IsRow rows.old.items rows.new.items (says.Row row) lines.old.rest.now line lines.new.rest.now) }
+    ensures { IfOk result
+        (λ line. Grows row_text IsRow rows.old.items rows.new.items (says.Row row) lines.old.rest.now line
+        lines.new.rest.now) }
 {
     push(rows, row)?;
     next(alloc, lines)
@@ -35,7 +37,8 @@ fn take_row(
 /// Rows, as many as there are.
 fn read_rows(alloc: Global, lines: &mut Lines<'_>, first: Line) -> Result<(Rowset, Line), ReadStop>
     requires { IsLine first }
-    ensures { IfOk result (λ x. IsRead (flat_map row_text x.0) (All IsRow x.0) first lines.old.rest.now x.1 lines.new.rest.now) }
+    ensures { IfOk result
+        (λ x. IsRead (flat_map row_text x.0) (All IsRow x.0) first lines.old.rest.now x.1 lines.new.rest.now) }
 {
     let mut rows = Vec::new(alloc);
     let mut line = first;
@@ -54,7 +57,8 @@ fn read_table(
     name: Text,
 ) -> Result<(TableReport, Line), ReadStop>
     requires { IsName name }
-    ensures read { IfOk result (λ x. IsRead (table_text x.0) (IsTable x.0) (says.Table name) lines.old.rest.now x.1 lines.new.rest.now) }
+    ensures read { IfOk result (λ x. IsRead (table_text x.0) (IsTable x.0) (says.Table name) lines.old.rest.now x.1
+        lines.new.rest.now) }
     ensures shorter { IfOk result (λ _. length lines.new.rest.now < length lines.old.rest.now) }
 {
     let first = next(alloc, lines)?;
@@ -72,7 +76,8 @@ fn take_table(
     name: Text,
 ) -> Result<Line, ReadStop>
     requires { IsName name }
-    ensures { IfOk result (λ line. Grows table_text IsTable tables.old.items tables.new.items (says.Table name) lines.old.rest.now line lines.new.rest.now) }
+    ensures { IfOk result (λ line. Grows table_text IsTable tables.old.items tables.new.items (says.Table name)
+        lines.old.rest.now line lines.new.rest.now) }
 {
     let (table, line) = read_table(alloc, lines, name)?;
     push(tables, table)?;
@@ -86,7 +91,8 @@ pub fn read_tables(
     first: Line,
 ) -> Result<(TableList, Line), ReadStop>
     requires { IsLine first }
-    ensures { IfOk result (λ x. IsRead (flat_map table_text x.0) (All IsTable x.0) first lines.old.rest.now x.1 lines.new.rest.now) }
+    ensures { IfOk result (λ x. IsRead (flat_map table_text x.0) (All IsTable x.0) first lines.old.rest.now x.1
+        lines.new.rest.now) }
 {
     let mut tables = Vec::new(alloc);
     let mut line = first;
@@ -105,7 +111,8 @@ fn take_lost(
     lost: LostReport,
 ) -> Result<Line, ReadStop>
     requires { IsLost lost }
-    ensures { IfOk result (λ line. Grows lost_text IsLost counters.old.items counters.new.items (says.Lost lost) lines.old.rest.now line lines.new.rest.now) }
+    ensures { IfOk result (λ line. Grows lost_text IsLost counters.old.items counters.new.items (says.Lost lost)
+        lines.old.rest.now line lines.new.rest.now) }
 {
     push(counters, lost)?;
     next(alloc, lines)
@@ -118,7 +125,8 @@ pub fn read_lost(
     first: Line,
 ) -> Result<(LostList, Line), ReadStop>
     requires { IsLine first }
-    ensures { IfOk result (λ x. IsRead (flat_map lost_text x.0) (All IsLost x.0) first lines.old.rest.now x.1 lines.new.rest.now) }
+    ensures { IfOk result (λ x. IsRead (flat_map lost_text x.0) (All IsLost x.0) first lines.old.rest.now x.1
+        lines.new.rest.now) }
 {
     let mut counters = Vec::new(alloc);
     let mut line = first;
@@ -138,7 +146,8 @@ fn read_answer(
     first: Line,
 ) -> Result<(Rowset, Line), ReadStop>
     requires { IsLine first }
-    ensures read { IfOk result (λ x. IsRead (flat_map row_text x.0) (All IsRow x.0) first lines.old.rest.now x.1 lines.new.rest.now) }
+    ensures read { IfOk result
+        (λ x. IsRead (flat_map row_text x.0) (All IsRow x.0) first lines.old.rest.now x.1 lines.new.rest.now) }
     ensures size { IfOk result (λ x. length x.0 ≡ number) }
 {
     let mut rows = Vec::new(alloc);
@@ -160,7 +169,8 @@ fn take_answer(
     first: Line,
 ) -> Result<Line, ReadStop>
     requires { IsLine first }
-    ensures { IfOk result (λ line. AnswerGrows number answers.old.items answers.new.items first lines.old.rest.now line lines.new.rest.now) }
+    ensures { IfOk result (λ line. AnswerGrows number answers.old.items answers.new.items first lines.old.rest.now
+        line lines.new.rest.now) }
 {
     let (rows, line) = read_answer(alloc, lines, number, first)?;
     push(answers, rows)?;
@@ -176,7 +186,8 @@ fn take_answer_if(
     first: Line,
 ) -> Result<Line, ReadStop>
     requires { IsLine first }
-    ensures { IfOk result (λ line. AnswersGrow asked answers.old.items answers.new.items first lines.old.rest.now line lines.new.rest.now) }
+    ensures { IfOk result (λ line. AnswersGrow asked answers.old.items answers.new.items first lines.old.rest.now line
+        lines.new.rest.now) }
 {
     match asked {
         Some(number) => take_answer(alloc, lines, answers, number, first),
@@ -191,7 +202,9 @@ fn take_entry(
     answers: &mut Vec<Rowset>,
     entry: Entry,
 ) -> Result<Line, ReadStop>
-    ensures { IfOk result (λ line. JournalGrows entry entries.old.items entries.new.items answers.old.items answers.new.items lines.old.rest.now line lines.new.rest.now) }
+    ensures { IfOk result
+        (λ line. JournalGrows entry entries.old.items entries.new.items answers.old.items answers.new.items
+        lines.old.rest.now line lines.new.rest.now) }
 {
     push(entries, entry)?;
     let first = next(alloc, lines)?;

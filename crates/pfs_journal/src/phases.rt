@@ -22,7 +22,8 @@ fn read_block(
     lines: &mut Lines<'_>,
     session: u64,
 ) -> Result<(BlockReport, Line), ReadStop>
-    ensures read { IfOk result (λ x. IsRead (block_text x.0) (IsBlock x.0) (says.Session session) lines.old.rest.now x.1 lines.new.rest.now) }
+    ensures read { IfOk result (λ x. IsRead (block_text x.0) (IsBlock x.0) (says.Session session) lines.old.rest.now
+        x.1 lines.new.rest.now) }
     ensures shorter { IfOk result (λ _. length lines.new.rest.now < length lines.old.rest.now) }
 {
     let first = next(alloc, lines)?;
@@ -41,7 +42,8 @@ fn take_block(
     blocks: &mut Vec<BlockReport>,
     session: u64,
 ) -> Result<Line, ReadStop>
-    ensures { IfOk result (λ line. Grows block_text IsBlock blocks.old.items blocks.new.items (says.Session session) lines.old.rest.now line lines.new.rest.now) }
+    ensures { IfOk result (λ line. Grows block_text IsBlock blocks.old.items blocks.new.items (says.Session session)
+        lines.old.rest.now line lines.new.rest.now) }
 {
     let (block, line) = read_block(alloc, lines, session)?;
     push(blocks, block)?;
@@ -55,7 +57,8 @@ fn read_blocks(
     first: Line,
 ) -> Result<(BlockList, Line), ReadStop>
     requires { IsLine first }
-    ensures { IfOk result (λ x. IsRead (flat_map block_text x.0) (All IsBlock x.0) first lines.old.rest.now x.1 lines.new.rest.now) }
+    ensures { IfOk result (λ x. IsRead (flat_map block_text x.0) (All IsBlock x.0) first lines.old.rest.now x.1
+        lines.new.rest.now) }
 {
     let mut blocks = Vec::new(alloc);
     let mut line = first;
@@ -72,7 +75,8 @@ fn read_results(
     alloc: Global,
     lines: &mut Lines<'_>,
 ) -> Result<(TableList, LostList, Line), ReadStop>
-    ensures read { IfOk result (λ x. IsRead (final_text x.0 x.1) (All IsTable x.0 × All IsLost x.1) says.Final lines.old.rest.now x.2 lines.new.rest.now) }
+    ensures read { IfOk result (λ x. IsRead (final_text x.0 x.1) (All IsTable x.0
+        × All IsLost x.1) says.Final lines.old.rest.now x.2 lines.new.rest.now) }
     ensures shorter { IfOk result (λ _. length lines.new.rest.now < length lines.old.rest.now) }
 {
     let first = next(alloc, lines)?;
@@ -107,7 +111,8 @@ fn read_phase(
     lines: &mut Lines<'_>,
     number: u64,
 ) -> Result<(PhaseReport, Line), ReadStop>
-    ensures read { IfOk result (λ x. IsRead (phase_text x.0) (IsPhase x.0) (says.Phase number) lines.old.rest.now x.1 lines.new.rest.now) }
+    ensures read { IfOk result (λ x. IsRead (phase_text x.0) (IsPhase x.0) (says.Phase number) lines.old.rest.now x.1
+        lines.new.rest.now) }
     ensures shorter { IfOk result (λ _. length lines.new.rest.now < length lines.old.rest.now) }
 {
     let first = next(alloc, lines)?;
@@ -124,7 +129,8 @@ fn take_phase(
     phases: &mut Vec<PhaseReport>,
     number: u64,
 ) -> Result<Line, ReadStop>
-    ensures { IfOk result (λ line. Grows phase_text IsPhase phases.old.items phases.new.items (says.Phase number) lines.old.rest.now line lines.new.rest.now) }
+    ensures { IfOk result (λ line. Grows phase_text IsPhase phases.old.items phases.new.items (says.Phase number)
+        lines.old.rest.now line lines.new.rest.now) }
 {
     let (phase, line) = read_phase(alloc, lines, number)?;
     push(phases, phase)?;
@@ -138,7 +144,8 @@ fn read_phases(
     first: Line,
 ) -> Result<(PhaseList, Line), ReadStop>
     requires { IsLine first }
-    ensures { IfOk result (λ x. IsRead (flat_map phase_text x.0) (All IsPhase x.0) first lines.old.rest.now x.1 lines.new.rest.now) }
+    ensures { IfOk result (λ x. IsRead (flat_map phase_text x.0) (All IsPhase x.0) first lines.old.rest.now x.1
+        lines.new.rest.now) }
 {
     let mut phases = Vec::new(alloc);
     let mut line = first;

@@ -10,9 +10,9 @@ use crate::blocks::BlockReport;
 use crate::lines::{entry_line, lost_line, numbers_line, row_line, table_line};
 use crate::report::{PhaseParts, PhaseReport, Report};
 use crate::values::{LostReport, TableReport};
-use pfs_values::{Row, Rowset};
 use pfs_event::Entry;
 use pfs_outside::{Sink, WriteStop, write_all};
+use pfs_values::{Row, Rowset};
 use std::alloc::Global;
 
 /// A part of a report that is spelled in lines.
@@ -21,7 +21,8 @@ trait Spelled {
 
     /// Offers the lines to a sink, one by one, each built in the buffer.
     fn put<K: Sink>(&self, line: &mut Vec<u8>, sink: &mut K) -> Result<(), WriteStop>
-        ensures { Puts (K.written sink.old) (K.written sink.new) (K.faults sink.old) (K.faults sink.new) (text self.now) result };
+        ensures { Puts (K.written sink.old) (K.written sink.new) (K.faults sink.old) (K.faults sink.new)
+            (text self.now) result };
 }
 
 /// Offers the parts of a list, in order.
@@ -30,7 +31,8 @@ fn put_each<T: Spelled, K: Sink>(
     sink: &mut K,
     parts: &[T],
 ) -> Result<(), WriteStop>
-    ensures { Puts (K.written sink.old) (K.written sink.new) (K.faults sink.old) (K.faults sink.new) (flat_map T.text parts.now) result }
+    ensures { Puts (K.written sink.old) (K.written sink.new) (K.faults sink.old) (K.faults sink.new)
+        (flat_map T.text parts.now) result }
 {
     for part in parts {
         match part.put(line, sink) {
@@ -53,7 +55,8 @@ fn offer<K: Sink>(sink: &mut K, line: &[u8], built: Result<(), NoMemory>) -> Res
 }
 
 fn put_entry_line<K: Sink>(line: &mut Vec<u8>, sink: &mut K, entry: &Entry) -> Result<(), WriteStop>
-    ensures { Puts (K.written sink.old) (K.written sink.new) (K.faults sink.old) (K.faults sink.new) (entry_text entry.now) result }
+    ensures { Puts (K.written sink.old) (K.written sink.new) (K.faults sink.old) (K.faults sink.new)
+        (entry_text entry.now) result }
 {
     let built = entry_line(line, entry);
     offer(sink, line, built)
@@ -102,7 +105,9 @@ fn put_answer<K: Sink>(
     answers: &[Rowset],
     place: usize,
 ) -> Result<(), WriteStop>
-    ensures { Puts (K.written sink.old) (K.written sink.new) (K.faults sink.old) (K.faults sink.new) (if is_answered entry.now then flat_map row_text (slice_index_or (drop place answers.now) 0 []) else []) result }
+    ensures { Puts (K.written sink.old) (K.written sink.new) (K.faults sink.old) (K.faults sink.new)
+        (if is_answered entry.now then flat_map row_text (slice_index_or (drop place answers.now) 0 [])
+        else []) result }
 {
     if is_answered(entry) {
         put_each(line, sink, answer_at(answers, place))
@@ -120,7 +125,8 @@ fn put_entry<K: Sink>(
     answers: &[Rowset],
     place: usize,
 ) -> Result<(), WriteStop>
-    ensures { Puts (K.written sink.old) (K.written sink.new) (K.faults sink.old) (K.faults sink.new) (answered_text entry.now (drop place answers.now)) result }
+    ensures { Puts (K.written sink.old) (K.written sink.new) (K.faults sink.old) (K.faults sink.new)
+        (answered_text entry.now (drop place answers.now)) result }
 {
     put_entry_line(line, sink, entry)?;
     put_answer(line, sink, entry, answers, place)
@@ -133,7 +139,8 @@ fn put_journal<K: Sink>(
     entries: &[Entry],
     answers: &[Rowset],
 ) -> Result<(), WriteStop>
-    ensures { Puts (K.written sink.old) (K.written sink.new) (K.faults sink.old) (K.faults sink.new) (journal_text entries.now answers.now) result }
+    ensures { Puts (K.written sink.old) (K.written sink.new) (K.faults sink.old) (K.faults sink.new)
+        (journal_text entries.now answers.now) result }
 {
     let mut place = 0usize;
     for entry in entries {
@@ -148,7 +155,8 @@ fn put_journal<K: Sink>(
 
 #[tactic(auto, unfolding(crate::specs::Spelling::session_line))]
 fn put_session_line<K: Sink>(line: &mut Vec<u8>, sink: &mut K, number: u64) -> Result<(), WriteStop>
-    ensures { Puts (K.written sink.old) (K.written sink.new) (K.faults sink.old) (K.faults sink.new) (session_line number) result }
+    ensures { Puts (K.written sink.old) (K.written sink.new) (K.faults sink.old) (K.faults sink.new)
+        (session_line number) result }
 {
     let built = numbers_line(line, b"session", &[Some(number)]);
     offer(sink, line, built)
@@ -165,7 +173,8 @@ impl Spelled for BlockReport {
 }
 
 fn put_table_line<K: Sink>(line: &mut Vec<u8>, sink: &mut K, name: &[u8]) -> Result<(), WriteStop>
-    ensures { Puts (K.written sink.old) (K.written sink.new) (K.faults sink.old) (K.faults sink.new) (table_line name.now) result }
+    ensures { Puts (K.written sink.old) (K.written sink.new) (K.faults sink.old) (K.faults sink.new)
+        (table_line name.now) result }
 {
     let built = table_line(line, name);
     offer(sink, line, built)
@@ -198,7 +207,8 @@ fn put_results<K: Sink>(
     tables: &[TableReport],
     lost: &[LostReport],
 ) -> Result<(), WriteStop>
-    ensures { Puts (K.written sink.old) (K.written sink.new) (K.faults sink.old) (K.faults sink.new) (results_text tables.now lost.now) result }
+    ensures { Puts (K.written sink.old) (K.written sink.new) (K.faults sink.old) (K.faults sink.new)
+        (results_text tables.now lost.now) result }
 {
     put_each(line, sink, tables)?;
     put_each(line, sink, lost)
@@ -206,7 +216,8 @@ fn put_results<K: Sink>(
 
 #[tactic(auto, unfolding(crate::specs::Spelling::final_line))]
 fn put_final_line<K: Sink>(sink: &mut K) -> Result<(), WriteStop>
-    ensures { Puts (K.written sink.old) (K.written sink.new) (K.faults sink.old) (K.faults sink.new) (final_line) result }
+    ensures { Puts (K.written sink.old) (K.written sink.new) (K.faults sink.old) (K.faults sink.new) (final_line)
+        result }
 {
     write_all(sink, b"final\n")
 }
@@ -218,7 +229,8 @@ fn put_final<K: Sink>(
     tables: &[TableReport],
     lost: &[LostReport],
 ) -> Result<(), WriteStop>
-    ensures { Puts (K.written sink.old) (K.written sink.new) (K.faults sink.old) (K.faults sink.new) (final_text tables.now lost.now) result }
+    ensures { Puts (K.written sink.old) (K.written sink.new) (K.faults sink.old) (K.faults sink.new)
+        (final_text tables.now lost.now) result }
 {
     put_final_line(sink)?;
     put_results(line, sink, tables, lost)
@@ -226,7 +238,8 @@ fn put_final<K: Sink>(
 
 #[tactic(auto, using(pfs_outside::proofs::Writes::puts_then, pfs_outside::proofs::Writes::puts_stop), unfolding(crate::specs::Spelling::body_text))]
 fn put_body<K: Sink>(line: &mut Vec<u8>, sink: &mut K, phase: &PhaseParts) -> Result<(), WriteStop>
-    ensures { Puts (K.written sink.old) (K.written sink.new) (K.faults sink.old) (K.faults sink.new) (body_text phase.now) result }
+    ensures { Puts (K.written sink.old) (K.written sink.new) (K.faults sink.old) (K.faults sink.new)
+        (body_text phase.now) result }
 {
     put_each(line, sink, phase.blocks.as_slice())?;
     put_final(line, sink, phase.tables.as_slice(), phase.lost.as_slice())
@@ -234,7 +247,8 @@ fn put_body<K: Sink>(line: &mut Vec<u8>, sink: &mut K, phase: &PhaseParts) -> Re
 
 #[tactic(auto, unfolding(crate::specs::Spelling::phase_line))]
 fn put_phase_line<K: Sink>(line: &mut Vec<u8>, sink: &mut K, number: u64) -> Result<(), WriteStop>
-    ensures { Puts (K.written sink.old) (K.written sink.new) (K.faults sink.old) (K.faults sink.new) (phase_line number) result }
+    ensures { Puts (K.written sink.old) (K.written sink.new) (K.faults sink.old) (K.faults sink.new)
+        (phase_line number) result }
 {
     let built = numbers_line(line, b"phase", &[Some(number)]);
     offer(sink, line, built)
@@ -242,7 +256,8 @@ fn put_phase_line<K: Sink>(line: &mut Vec<u8>, sink: &mut K, number: u64) -> Res
 
 #[tactic(auto, using(pfs_outside::proofs::Writes::puts_then, pfs_outside::proofs::Writes::puts_stop), unfolding(crate::specs::Spelling::phase_text))]
 fn put_phase<K: Sink>(line: &mut Vec<u8>, sink: &mut K, phase: &PhaseParts) -> Result<(), WriteStop>
-    ensures { Puts (K.written sink.old) (K.written sink.new) (K.faults sink.old) (K.faults sink.new) (phase_text phase.now) result }
+    ensures { Puts (K.written sink.old) (K.written sink.new) (K.faults sink.old) (K.faults sink.new)
+        (phase_text phase.now) result }
 {
     put_phase_line(line, sink, phase.number)?;
     put_body(line, sink, phase)
@@ -262,7 +277,8 @@ fn put_phases<K: Sink>(
     sink: &mut K,
     phases: &[PhaseReport],
 ) -> Result<(), WriteStop>
-    ensures { Puts (K.written sink.old) (K.written sink.new) (K.faults sink.old) (K.faults sink.new) (phases_text phases.now) result }
+    ensures { Puts (K.written sink.old) (K.written sink.new) (K.faults sink.old) (K.faults sink.new)
+        (phases_text phases.now) result }
 {
     put_each(line, sink, phases)?;
     write_all(sink, b"end\n")
@@ -270,7 +286,8 @@ fn put_phases<K: Sink>(
 
 #[tactic(auto, unfolding(crate::specs::Spelling::first_line))]
 fn put_first_line<K: Sink>(line: &mut Vec<u8>, sink: &mut K, format: u64) -> Result<(), WriteStop>
-    ensures { Puts (K.written sink.old) (K.written sink.new) (K.faults sink.old) (K.faults sink.new) (first_line format) result }
+    ensures { Puts (K.written sink.old) (K.written sink.new) (K.faults sink.old) (K.faults sink.new)
+        (first_line format) result }
 {
     let built = numbers_line(line, b"pfs-report", &[Some(format)]);
     offer(sink, line, built)
@@ -280,7 +297,8 @@ fn put_first_line<K: Sink>(line: &mut Vec<u8>, sink: &mut K, format: u64) -> Res
 /// was taken in part is offered again. On a refusal a front of the report was written.
 #[tactic(auto, using(pfs_outside::proofs::Writes::puts_then, pfs_outside::proofs::Writes::puts_stop), unfolding(crate::specs::Spelling::spelling))]
 pub fn write<K: Sink>(alloc: Global, report: &Report, sink: &mut K) -> Result<(), WriteStop>
-    ensures { Puts (K.written sink.old) (K.written sink.new) (K.faults sink.old) (K.faults sink.new) (spelling report.now) result }
+    ensures { Puts (K.written sink.old) (K.written sink.new) (K.faults sink.old) (K.faults sink.new)
+        (spelling report.now) result }
 {
     let parts = report.parts();
     let mut line = Vec::new(alloc);

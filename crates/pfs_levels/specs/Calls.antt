@@ -25,15 +25,16 @@ pub data Call : Type 0 where
   Enters : Label → List Label → Call  -- with this label, after the actions with those
   Leaves : Call
 
--- where an actor began on one of the shared tables: which table, which seat, how much it may use in all, and how many changes stood before
+-- where an actor began on one of the shared tables: which table, which seat, how much it may use in all, and how many
+-- changes stood before
 pub record Start : Type 0 where
   pub table : TableId
   pub number : ℕ
   pub stake : ℕ
   pub base : ℕ
 
--- all that never changes for an actor: the opening flags of the words, its seats of the board, the words and the tickets, and the
--- versions of the words that it began with
+-- all that never changes for an actor: the opening flags of the words, its seats of the board, the words and the
+-- tickets, and the versions of the words that it began with
 pub record Opening : Type 0 where
   pub flags : List ℕ
   pub board : Start
@@ -45,10 +46,11 @@ pub record Opening : Type 0 where
 abbrev pub Goes : (Opening → List Call → Type 0) → (Opening → List Call → Type 0) → List Call → Type 0
 Goes before after its = (start : Opening) → (calls : List Call) → before start calls → after start (its ++ calls)
 
--- whatever calls led to the one, those lead to the other with the beginning of an action of this number. The labels of the actions
--- before it come from those calls, so each list of calls has its own
+-- whatever calls led to the one, those lead to the other with the beginning of an action of this number. The labels
+-- of the actions before it come from those calls, so each list of calls has its own
 abbrev pub Begins : (Opening → List Call → Type 0) → (Opening → List Call → Type 0) → Label → ℕ → Type 0
-Begins before after label number = (start : Opening) → (calls : List Call) → before start calls → (labels : List Label) × ((number ≡ length labels + 1) × after start (Enters label labels ∷ calls))
+Begins before after label number = (start : Opening) → (calls : List Call) → before start calls
+    → (labels : List Label) × ((number ≡ length labels + 1) × after start (Enters label labels ∷ calls))
 
 -- how many rows, words and kinds of ticket there are
 abbrev pub rows_count : ℕ
@@ -67,7 +69,8 @@ IsCell row = (129 ≤ row) × (row < 8450)
 
 -- the long place of a ticket, which its content has in word 15 as one more
 abbrev pub IsLongPlace : ℕ → List ℕ → Type 0
-IsLongPlace row content = (10242 ≤ row) × (row < 14242) × (0 < slice_index content 15) × ((row - 10242) % 1000 ≡ (slice_index content 15 - 1) % 1000)
+IsLongPlace row content = (10242 ≤ row) × (row < 14242) × (0 < slice_index content 15)
+    × ((row - 10242) % 1000 ≡ (slice_index content 15 - 1) % 1000)
 
 -- a ring place, or the long place of the content's ticket
 abbrev pub IsRing : ℕ → List ℕ → Type 0
@@ -138,7 +141,8 @@ label_in (Puts row content version ∷ calls) = label_in calls
 label_in (Frees row version ∷ calls) = label_in calls
 label_in (Sets at flags version ∷ calls) = label_in calls
 
--- the version at which the row was taken, where it was neither put nor freed since; row 0 inside an action, by the number of those before it
+-- the version at which the row was taken, where it was neither put nor freed since; row 0 inside an action, by the
+-- number of those before it
 abbrev pub hand_in : List Call → ℕ → Option ℕ
 hand_in [] row = None
 hand_in (Takes at version found ∷ calls) row = if at == row then Some version else hand_in calls row

@@ -20,8 +20,8 @@ cells_of p Stage = p.stages
 cells_of p Statement = p.statements
 cells_of p Transaction = p.transactions
 
--- where a cell goes that has no account: to its user and its host; with a user alone, to the user and the global cell; with a host alone, to the
--- host; with neither, to the global cell
+-- where a cell goes that has no account: to its user and its host; with a user alone, to the user and the global
+-- cell; with a host alone, to the host; with neither, to the global cell
 abbrev pub beyond : Option ℕ → Option ℕ → ℕ → List ℕ
 beyond (Some user) (Some host) cell = row_number (UserCell user cell) ∷ row_number (HostCell host cell) ∷ []
 beyond (Some user) None cell = row_number (UserCell user cell) ∷ row_number (GlobalCell cell) ∷ []
@@ -33,7 +33,8 @@ abbrev pub upper : Option ℕ → Option ℕ → Option ℕ → ℕ → List ℕ
 upper (Some account) user host cell = row_number (AccountCell account cell) ∷ []
 upper None user host cell = beyond user host cell
 
--- a cell of a thread, an account, a user or a host, and where it goes. A user's is dropped, a host's goes to the global cell
+-- a cell of a thread, an account, a user or a host, and where it goes. A user's is dropped, a host's goes to the
+-- global cell
 abbrev pub ask_of : Source → ℕ → Ask
 ask_of (of.Thread up) cell = ask (row_number (ThreadCell up.place cell)) (upper up.account up.user up.host cell)
 ask_of (of.Account up) cell = ask (row_number (AccountCell up.place cell)) (beyond up.user up.host cell)
@@ -97,4 +98,5 @@ from_of a = a.from
 
 -- the rows that a flush takes ascend, and none comes twice
 abbrev pub FlushesAscend : Type 0
-FlushesAscend = (p : Places) (kind : EventKind) (level : Level) → ArePlaces p kind level → Ascends 1 14242 (map from_of (flushed p kind level))
+FlushesAscend = (p : Places) (kind : EventKind) (level : Level) → ArePlaces p kind level
+    → Ascends 1 14242 (map from_of (flushed p kind level))

@@ -1,5 +1,5 @@
--- What the calls of all actors have in common, however the store is kept: one order of all changes, in which each publication has the
--- next version of its row, one of all sets, and one of all tickets.
+-- What the calls of all actors have in common, however the store is kept: one order of all changes, in which each
+-- publication has the next version of its row, one of all sets, and one of all tickets.
 use Rattle.std.specs.Prelude.{ℕ, ◌≡◌, ◌+◌, ◌*◌, ◌==◌, ◌≤◌, ◌<◌, ◌&&◌, ◌||◌, ◌⊎◌, Bool, true, false, not, if◌then◌else◌, List, [], ◌∷◌, ◌++◌, slice_index}
 use Rattle.std.specs.List.{slice_index_or}
 use Rattle.pfs_rows.specs.declared.table.Seen.TheVariants.{Whole, Free}
@@ -129,12 +129,14 @@ abbrev pub AreDrawn : List Draw → Type 0
 AreDrawn [] = Unit {0}
 AreDrawn (d ∷ ds) = (d.ticket ≡ drawn ds d.kind) × AreDrawn ds
 
--- how often a row was found free or released at a version: by a release there, or since it opened so. Row 0, cells and digest rows open allocated
+-- how often a row was found free or released at a version: by a release there, or since it opened so. Row 0, cells
+-- and digest rows open allocated
 abbrev pub opens_free : ℕ → Bool
 opens_free row = not ((row == 0) || is_cell row)
 
 abbrev pub frees_at : List At → ℕ → ℕ → ℕ
-frees_at log row k = total (λ x. one_if ((x.row == row) && not x.puts && (x.version == k))) log + one_if ((k == 0) && opens_free row)
+frees_at log row k = total (λ x. one_if ((x.row == row) && not x.puts && (x.version == k))) log
+    + one_if ((k == 0) && opens_free row)
 
 -- an event is written to a long place only where that was free, or held no greater ticket
 abbrev pub IsNewer : ℕ → List ℕ → List ℕ → ℕ → Type 0
@@ -142,11 +144,14 @@ IsNewer row found put freed = 10242 ≤ row → (0 < freed) ⊎ (slice_index fou
 
 -- what a call found and left, by the contents of the rows and the flags of the words at their versions
 abbrev pub Agrees : List ℕ → (ℕ → ℕ → List ℕ) → List At → List Setting → Call → Type 0
-Agrees flags content log sets (Adds row amount (Counted r k)) = (n : ℕ) × ((k ≡ n + 1) × (content r k ≡ merged (content r n) amount))
+Agrees flags content log sets (Adds row amount (Counted r k)) =
+    (n : ℕ) × ((k ≡ n + 1) × (content r k ≡ merged (content r n) amount))
 Agrees flags content log sets (Adds row amount (Held r first second)) = Unit {0}
-Agrees flags content log sets (Rings row put (Done k)) = (n : ℕ) × ((k ≡ n + 1) × (content row k ≡ put) × IsNewer row (content row n) put (frees_at log row n))
+Agrees flags content log sets (Rings row put (Done k)) =
+    (n : ℕ) × ((k ≡ n + 1) × (content row k ≡ put) × IsNewer row (content row n) put (frees_at log row n))
 Agrees flags content log sets (Rings row put (Busy first second)) = Unit {0}
-Agrees flags content log sets (Rings row put (Late ticket)) = (k : ℕ) × ((k ≤ count log row) × (slice_index (content row k) 15 ≡ ticket + 1))
+Agrees flags content log sets (Rings row put (Late ticket)) =
+    (k : ℕ) × ((k ≤ count log row) × (slice_index (content row k) 15 ≡ ticket + 1))
 Agrees flags content log sets (Reads row (Whole k found)) = (found ≡ content row k) × (k ≤ count log row)
 Agrees flags content log sets (Reads row (Free w)) = (k : ℕ) × ((w ≡ 4 * k) × (0 < frees_at log row k))
 Agrees flags content log sets (Reads row (sees.Busy first second)) = Unit {0}
@@ -161,7 +166,8 @@ Agrees flags content log sets Leaves = Unit {0}
 
 abbrev pub AllAgree : List ℕ → (ℕ → ℕ → List ℕ) → List At → List Setting → List Call → Type 0
 AllAgree flags content log sets [] = Unit {0}
-AllAgree flags content log sets (call ∷ calls) = Agrees flags content log sets call × AllAgree flags content log sets calls
+AllAgree flags content log sets (call ∷ calls) =
+    Agrees flags content log sets call × AllAgree flags content log sets calls
 
 -- the calls of all actors, one actor after another
 unfoldable pub all_calls : List (List Call) → List Call
@@ -169,7 +175,8 @@ all_calls [] = []
 all_calls (calls ∷ actors) = calls ++ all_calls actors
 
 -- one order of all publications and releases, one of all sets and one of all tickets; the contents by row and version
-pub record Joint (flags : List ℕ) (actors : List (List Call)) (content : ℕ → ℕ → List ℕ) (log : List At) (sets : List Setting) (draws : List Draw) : Type 0 where
+pub record Joint (flags : List ℕ) (actors : List (List Call)) (content : ℕ → ℕ
+    → List ℕ) (log : List At) (sets : List Setting) (draws : List Draw) : Type 0 where
   pub chain : IsCounted log
   pub words : AreWordsCounted sets
   pub tickets : AreDrawn draws

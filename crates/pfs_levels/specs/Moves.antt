@@ -32,7 +32,8 @@ pub record Gift : Type 0 where
   pub version : ℕ
   pub there : List ℕ
 
--- a row that was taken: its version and what it held, the version at which it was left as zero, and what others got of it, in order
+-- a row that was taken: its version and what it held, the version at which it was left as zero, and what others got
+-- of it, in order
 pub record Move : Type 0 where
   pub from : ℕ
   pub before : ℕ
@@ -63,7 +64,8 @@ pub record IsMove (a : Ask) (m : Move) : Type 0 where
 -- the calls of a row that got an amount, and of a row that was left as zero; newest first
 abbrev pub gift_calls : Stat → List Gift → List Call
 gift_calls amount [] = []
-gift_calls amount (g ∷ gs) = gift_calls amount gs ++ (Puts g.to (merged g.there amount) g.version ∷ Takes g.to g.before g.there ∷ [])
+gift_calls amount (g ∷ gs) =
+    gift_calls amount gs ++ (Puts g.to (merged g.there amount) g.version ∷ Takes g.to g.before g.there ∷ [])
 
 abbrev pub empty_calls : ℕ → ℕ → ℕ → List ℕ → List Call
 empty_calls from before version found = Puts from zero_words version ∷ Takes from before found ∷ []
@@ -82,7 +84,8 @@ move_entries m = says.Take m.from m.version ∷ gift_entries m.from m.gifts
 -- moves stand newest first; what is asked for stands in order
 abbrev pub AreMoves : List Ask → List Move → Type 0
 AreMoves asks [] = asks ≡ []
-AreMoves asks (m ∷ ms) = (before : List Ask) × ((last : Ask) × ((asks ≡ before ++ last ∷ []) × (IsMove last m × AreMoves before ms)))
+AreMoves asks (m ∷ ms) =
+    (before : List Ask) × ((last : Ask) × ((asks ≡ before ++ last ∷ []) × (IsMove last m × AreMoves before ms)))
 
 abbrev pub moves_calls : List Move → List Call
 moves_calls [] = []
@@ -93,7 +96,8 @@ moves_entries [] = []
 moves_entries (m ∷ ms) = moves_entries ms ++ move_entries m
 
 -- these calls were made and these entries added, and nothing else
-pub record Did (calls : List Call) (entries : List Entry) (old new : Journal) (was now : Opening → List Call → Type 0) : Type 0 where
+pub record Did (calls : List Call) (entries : List Entry) (old new : Journal) (was now : Opening → List Call
+    → Type 0) : Type 0 where
   pub entries_are : new.entries ≡ old.entries ++ entries
   pub goes : Goes was now calls
 
@@ -104,7 +108,8 @@ pub record Moved (asks : List Ask) (old new : Journal) (was now : Opening → Li
   pub did : Did (moves_calls moves) (moves_entries moves) old new was now
 
 -- a row was taken and left as zero
-pub record Emptied (from : ℕ) (amount : Stat) (old new : Journal) (was now : Opening → List Call → Type 0) : Type 0 where
+pub record Emptied (from : ℕ) (amount : Stat) (old new : Journal) (was now : Opening → List Call
+    → Type 0) : Type 0 where
   pub before : ℕ
   pub version : ℕ
   pub found : List ℕ
@@ -113,7 +118,8 @@ pub record Emptied (from : ℕ) (amount : Stat) (old new : Journal) (was now : O
   pub did : Did (empty_calls from before version found) (says.Take from version ∷ []) old new was now
 
 -- an amount was given to these rows, as what was found in that one
-pub record Given (from : ℕ) (to : List ℕ) (amount : Stat) (old new : Journal) (was now : Opening → List Call → Type 0) : Type 0 where
+pub record Given (from : ℕ) (to : List ℕ) (amount : Stat) (old new : Journal) (was now : Opening → List Call
+    → Type 0) : Type 0 where
   pub gifts : List Gift
   pub are_gifts : AreGifts gifts
   pub to_is : receivers gifts ≡ to
@@ -142,7 +148,9 @@ cost [] = 0
 cost (a ∷ asks) = 1 + length a.to + cost asks
 
 -- what a call over a store leaves as it was, and what it may have used up
-pub record Stays (count : ℕ) (hand_old hand_new : ℕ → Option ℕ) (left_old left_new draws_old draws_new : ℕ) (words_old words_new : Option (List Word)) (name_old name_new : ℕ) (old new : Journal) : Type 0 where
+pub record Stays (count : ℕ) (hand_old hand_new : ℕ
+    → Option ℕ) (left_old left_new draws_old draws_new : ℕ) (words_old words_new : Option (List Word))
+    (name_old name_new : ℕ) (old new : Journal) : Type 0 where
   pub hand : (r : ℕ) → hand_new r ≡ hand_old r
   pub left : left_old ≤ left_new + count
   pub draws : draws_new ≡ draws_old

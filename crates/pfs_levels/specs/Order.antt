@@ -1,4 +1,5 @@
--- What the calls of all actors have in common in their order: the numbers of actions, floors, and the causes of what was held back.
+-- What the calls of all actors have in common in their order: the numbers of actions, floors, and the causes of what
+-- was held back.
 use Rattle.std.specs.Prelude.{ℕ, ◌≡◌, ◌≢◌, ◌⊎◌, ◌+◌, ◌-◌, ◌/◌, ◌%◌, ◌==◌, ◌<◌, ◌≤◌, nat_lt, nat_le, Bool, true, false, not, ◌&&◌, if◌then◌else◌, List, [], ◌∷◌, ◌++◌, length, slice_index}
 use Rattle.std.specs.List.{slice_index_or}
 use Rattle.pfs_board.specs.declared.view.Label.{Label}
@@ -10,8 +11,8 @@ use Rattle.pfs_levels.specs.declared.answers.RingPut.TheVariants.{Done, Busy, La
 use Rattle.pfs_levels.specs.Calls.{Call, Adds, Rings, Reads, Loads, Draws, Takes, Puts, Frees, Sets, Enters, Leaves, action_in, after_in, label_in}
 use Rattle.pfs_levels.specs.Joint.{total, one_if}
 
--- a change of a row, or a set of a word: the version that it made, or at which it released; its action or 0; and the newest action that
--- its actor knew as ended. An action publishes row 0 as it ends, so its number is that version
+-- a change of a row, or a set of a word: the version that it made, or at which it released; its action or 0; and the
+-- newest action that its actor knew as ended. An action publishes row 0 as it ends, so its number is that version
 pub record Mark : Type 0 where
   pub row : ℕ
   pub version : ℕ
@@ -20,7 +21,13 @@ pub record Mark : Type 0 where
   pub after : ℕ
 
 abbrev pub mark : ℕ → ℕ → Bool → ℕ → ℕ → Mark
-mark row version puts action after = record { row = row; version = version; puts = puts; action = action; after = after }
+mark row version puts action after = record {
+  row = row;
+  version = version;
+  puts = puts;
+  action = action;
+  after = after;
+}
 
 -- the marks of a call, in an action and after one
 abbrev pub marks_by : ℕ → ℕ → Call → List Mark
@@ -74,7 +81,8 @@ unfoldable pub marked : List Mark → ℕ → ℕ
 marked [] row = 0
 marked (x ∷ xs) row = if (x.row == row) && x.puts then marked xs row + 1 else marked xs row
 
--- newest first: a publication makes the next version, a release leaves it. Of row 0 this says that the actions' numbers are 1, 2 and so on
+-- newest first: a publication makes the next version, a release leaves it. Of row 0 this says that the actions'
+-- numbers are 1, 2 and so on
 abbrev pub AreMarked : List Mark → Type 0
 AreMarked [] = Unit {0}
 AreMarked (x ∷ xs) = (x.version ≡ (if x.puts then marked xs x.row + 1 else marked xs x.row)) × AreMarked xs
@@ -103,8 +111,9 @@ reaching log row version after = total (λ p. one_if (is_past row after p && nat
 abbrev pub freed : List Mark → ℕ → ℕ → ℕ → ℕ
 freed log row version after = total (λ p. one_if (is_past row after p && not p.puts && nat_le version p.version)) log
 
--- by the changes and sets of the actions that a call's actor knew as ended: a change is above them; a take, a read and a release are not below
--- them, a read is above each release; a set is above those of its word, and a load is not below them
+-- by the changes and sets of the actions that a call's actor knew as ended: a change is above them; a take, a read
+-- and a release are not below them, a read is above each release; a set is above those of its word, and a load is not
+-- below them
 abbrev pub IsFloored : List Mark → List Mark → ℕ → Call → Type 0
 IsFloored log words after (Adds row amount (Counted r k)) = reaching log r k after ≡ 0
 IsFloored log words after (Adds row amount (Held r first second)) = Unit {0}
@@ -127,8 +136,8 @@ abbrev pub AreFloored : List Mark → List Mark → List Call → Type 0
 AreFloored log words [] = Unit {0}
 AreFloored log words (call ∷ calls) = IsFloored log words (after_in calls) call × AreFloored log words calls
 
--- the greatest version of a row that the actor's calls named, the second word of what was held back among them; of a word; and one more than
--- the greatest ticket of a kind. In calls that rise the newest is the greatest
+-- the greatest version of a row that the actor's calls named, the second word of what was held back among them; of a
+-- word; and one more than the greatest ticket of a kind. In calls that rise the newest is the greatest
 abbrev pub top_in : List Call → ℕ → ℕ
 top_in [] row = 0
 top_in (Adds at amount (Counted r version) ∷ calls) row = if r == row then version else top_in calls row
@@ -209,17 +218,20 @@ published log row version = total (λ p. one_if ((p.row == row) && p.puts && (p.
 abbrev pub released : List Mark → ℕ → ℕ → ℕ
 released log row version = total (λ p. one_if ((p.row == row) && not p.puts && (p.version == version))) log
 
--- a row that was dirty at the version was in another actor's hand, who published it next, or it was released there by whomever
+-- a row that was dirty at the version was in another actor's hand, who published it next, or it was released there by
+-- whomever
 abbrev pub IsOthers : List Mark → List Mark → ℕ → ℕ → Type 0
-IsOthers log own row version = ((published own row (version + 1) ≡ 0) × (0 < published log row (version + 1))) ⊎ (0 < released log row version)
+IsOthers log own row version = ((published own row (version + 1) ≡ 0) × (0 < published log row (version + 1)))
+    ⊎ (0 < released log row version)
 
--- why a row was another's. Both are lock words. The first is dirty and the second the same; or they differ, and the second is at no lower
--- version, and not allocated at the same one. The second is at a version that the row had, the first not below what actions that ended
--- gave. The actor itself made no change above the first up to the second. Who had a dirty one in hand was another, and a second that is
--- free was released
+-- why a row was another's. Both are lock words. The first is dirty and the second the same; or they differ, and the
+-- second is at no lower version, and not allocated at the same one. The second is at a version that the row had, the
+-- first not below what actions that ended gave. The actor itself made no change above the first up to the second. Who
+-- had a dirty one in hand was another, and a second that is free was released
 pub record IsCaused (log own : List Mark) (row first second after : ℕ) : Type 0 where
   pub states : (first % 4 < 3) × (second % 4 < 3)
-  pub order : ((first % 4 ≡ 1) × (second ≡ first)) ⊎ ((second ≢ first) × (first / 4 ≤ second / 4) × (first / 4 ≡ second / 4 → second % 4 ≢ 2))
+  pub order : ((first % 4 ≡ 1) × (second ≡ first))
+      ⊎ ((second ≢ first) × (first / 4 ≤ second / 4) × (first / 4 ≡ second / 4 → second % 4 ≢ 2))
   pub known : second / 4 ≤ marked log row
   pub floor : above log row (first / 4) after ≡ 0
   pub between : total (λ p. one_if (is_between row (first / 4) (second / 4) p)) own ≡ 0
@@ -227,18 +239,20 @@ pub record IsCaused (log own : List Mark) (row first second after : ℕ) : Type 
   pub second_dirty : second % 4 ≡ 1 → IsOthers log own row (second / 4)
   pub second_free : second % 4 ≡ 0 → 0 < released log row (second / 4)
 
--- why an event came late: at a version that the row had, no lower than what the actor named before and than what actions that ended gave, it
--- held that ticket
-pub record IsOverdue (content : ℕ → ℕ → List ℕ) (log : List Mark) (before : List Call) (row ticket after : ℕ) : Type 0 where
-  pub version : ℕ
-  pub known : version ≤ marked log row
-  pub holds : slice_index (content row version) 15 ≡ ticket + 1
-  pub own : top_in before row ≤ version
-  pub floor : above log row version after ≡ 0
+-- why an event came late: at a version that the row had, no lower than what the actor named before and than what
+-- actions that ended gave, it held that ticket
+pub record IsOverdue (content : ℕ → ℕ → List ℕ) (log : List Mark) (before : List Call) (row ticket after : ℕ) : Type 0
+  where
+    pub version : ℕ
+    pub known : version ≤ marked log row
+    pub holds : slice_index (content row version) 15 ≡ ticket + 1
+    pub own : top_in before row ≤ version
+    pub floor : above log row version after ≡ 0
 
 -- what was held back has its cause: by the contents, all changes, and those of the actor itself
 abbrev pub HasCause : (ℕ → ℕ → List ℕ) → List Mark → List Mark → List Call → Call → Type 0
-HasCause content log own calls (Adds row amount (Held r first second)) = IsCaused log own r first second (after_in calls)
+HasCause content log own calls (Adds row amount (Held r first second)) =
+    IsCaused log own r first second (after_in calls)
 HasCause content log own calls (Adds row amount (Counted r version)) = Unit {0}
 HasCause content log own calls (Rings row put (Busy first second)) = IsCaused log own row first second (after_in calls)
 HasCause content log own calls (Rings row put (Late ticket)) = IsOverdue content log calls row ticket (after_in calls)
@@ -282,7 +296,8 @@ AllCalls P [] = Unit {0}
 AllCalls P (calls ∷ actors) = P calls × AllCalls P actors
 
 -- one order of all changes with their actions, one of all sets, and the labels of the actions by number
-pub record Order (actors : List (List Call)) (content : ℕ → ℕ → List ℕ) (log words : List Mark) (labels : List Label) : Type 0 where
+pub record Order (actors : List (List Call)) (content : ℕ → ℕ
+    → List ℕ) (log words : List Mark) (labels : List Label) : Type 0 where
   pub chain : AreMarked log
   pub word_chain : AreMarked words
   pub ordered : AreOrdered log

@@ -50,7 +50,12 @@ ops_of [] = []
 ops_of (call ∷ calls) = ops_by call ++ ops_of calls
 
 abbrev pub slot : ℕ → Bool → Bool → List ℕ → Slot
-slot version taken allocated content = record { version = version; taken = taken; allocated = allocated; content = content }
+slot version taken allocated content = record {
+  version = version;
+  taken = taken;
+  allocated = allocated;
+  content = content;
+}
 
 -- a row after something was done to it
 abbrev pub slot_by : Effect → Slot → Slot
@@ -105,23 +110,37 @@ labels_after (Enters label labels ∷ calls) = labels_after calls
 abbrev pub IsFresh : ℕ → Slot → List ℕ → Type 0
 IsFresh row s content = 10242 ≤ row → (s.allocated ≡ false) ⊎ (slice_index s.content 15 ≤ slice_index content 15)
 
--- the answer of a call is what stands there behind the calls before it: s is the slot of its row. A plain store holds nothing back
+-- the answer of a call is what stands there behind the calls before it: s is the slot of its row. A plain store holds
+-- nothing back
 abbrev pub Answers : List ℕ → List Call → Call → Type 0
-Answers flags calls (Adds row amount (Counted r version)) = IsCell row × (r ≡ row) × ((slot_after (ops_of calls) row).taken ≡ false) × (version ≡ (slot_after (ops_of calls) row).version + 1)
+Answers flags calls (Adds row amount (Counted r version)) =
+    IsCell row × (r ≡ row) × ((slot_after (ops_of calls) row).taken ≡ false)
+    × (version ≡ (slot_after (ops_of calls) row).version + 1)
 Answers flags calls (Adds row amount (Held r first second)) = ⊥
-Answers flags calls (Rings row content (Done version)) = IsRing row content × ((slot_after (ops_of calls) row).taken ≡ false) × (version ≡ (slot_after (ops_of calls) row).version + 1) × IsFresh row (slot_after (ops_of calls) row) content
+Answers flags calls (Rings row content (Done version)) =
+    IsRing row content × ((slot_after (ops_of calls) row).taken ≡ false)
+    × (version ≡ (slot_after (ops_of calls) row).version + 1) × IsFresh row (slot_after (ops_of calls) row) content
 Answers flags calls (Rings row content (Busy first second)) = ⊥
-Answers flags calls (Rings row content (Late ticket)) = IsRing row content × ((slot_after (ops_of calls) row).allocated ≡ true) × (10242 ≤ row) × (slice_index (slot_after (ops_of calls) row).content 15 ≡ ticket + 1) × (slice_index content 15 ≤ ticket)
-Answers flags calls (Reads row (Whole version content)) = IsRow row × ((slot_after (ops_of calls) row).allocated ≡ true) × (version ≡ (slot_after (ops_of calls) row).version) × (content ≡ (slot_after (ops_of calls) row).content)
-Answers flags calls (Reads row (Free w)) = IsRow row × ((slot_after (ops_of calls) row).allocated ≡ false) × (w ≡ 4 * (slot_after (ops_of calls) row).version)
+Answers flags calls (Rings row content (Late ticket)) =
+    IsRing row content × ((slot_after (ops_of calls) row).allocated ≡ true) × (10242 ≤ row)
+    × (slice_index (slot_after (ops_of calls) row).content 15 ≡ ticket + 1) × (slice_index content 15 ≤ ticket)
+Answers flags calls (Reads row (Whole version content)) =
+    IsRow row × ((slot_after (ops_of calls) row).allocated ≡ true)
+    × (version ≡ (slot_after (ops_of calls) row).version) × (content ≡ (slot_after (ops_of calls) row).content)
+Answers flags calls (Reads row (Free w)) = IsRow row × ((slot_after (ops_of calls) row).allocated ≡ false)
+    × (w ≡ 4 * (slot_after (ops_of calls) row).version)
 Answers flags calls (Reads row (sees.Busy first second)) = ⊥
 Answers flags calls (Loads at version found) = (at < 160) × (word version found ≡ word_after flags (sets_of calls) at)
 Answers flags calls (Draws kind ticket) = (kind < 4) × (ticket ≡ drawn (draws_of calls) kind)
-Answers flags calls (Takes row version found) = IsRow row × ((slot_after (ops_of calls) row).taken ≡ false) × (version ≡ (slot_after (ops_of calls) row).version) × (found ≡ (slot_after (ops_of calls) row).content)
-Answers flags calls (Puts row content version) = IsRow row × ((slot_after (ops_of calls) row).taken ≡ true) × (version ≡ (slot_after (ops_of calls) row).version + 1)
-Answers flags calls (Frees row version) = IsRow row × ((slot_after (ops_of calls) row).taken ≡ true) × (version ≡ (slot_after (ops_of calls) row).version)
+Answers flags calls (Takes row version found) = IsRow row × ((slot_after (ops_of calls) row).taken ≡ false)
+    × (version ≡ (slot_after (ops_of calls) row).version) × (found ≡ (slot_after (ops_of calls) row).content)
+Answers flags calls (Puts row content version) = IsRow row × ((slot_after (ops_of calls) row).taken ≡ true)
+    × (version ≡ (slot_after (ops_of calls) row).version + 1)
+Answers flags calls (Frees row version) = IsRow row × ((slot_after (ops_of calls) row).taken ≡ true)
+    × (version ≡ (slot_after (ops_of calls) row).version)
 Answers flags calls (Sets at to version) = (at < 160) × (version ≡ (word_after flags (sets_of calls) at).version + 1)
-Answers flags calls (Enters label labels) = ((slot_after (ops_of calls) 0).taken ≡ false) × (labels ≡ labels_after calls)
+Answers flags calls (Enters label labels) =
+    ((slot_after (ops_of calls) 0).taken ≡ false) × (labels ≡ labels_after calls)
 Answers flags calls Leaves = (slot_after (ops_of calls) 0).taken ≡ true
 
 abbrev pub AllAnswer : List ℕ → List Call → Type 0
@@ -129,7 +148,8 @@ AllAnswer flags [] = Unit {0}
 AllAnswer flags (call ∷ calls) = Answers flags calls call × AllAnswer flags calls
 
 -- the store stands where these calls lead
-pub record IsAt (slots : List Slot) (words : List Word) (tickets : List ℕ) (flags : List ℕ) (calls : List Call) : Type 0 where
+pub record IsAt (slots : List Slot) (words : List Word) (tickets : List ℕ) (flags : List ℕ) (calls : List Call) : Type
+    0 where
   pub slots_are : (row : ℕ) → row < 14242 → slot_at slots row ≡ slot_after (ops_of calls) row
   pub words_are : (at : ℕ) → at < 160 → word_at words at ≡ word_after flags (sets_of calls) at
   pub tickets_are : (kind : ℕ) → kind < 4 → slice_index_or tickets kind 0 ≡ drawn (draws_of calls) kind
@@ -140,7 +160,8 @@ pub record HasRoom (left draws : ℕ) (slots : List Slot) (words : List Word) (t
   pub slots_wide : length slots ≡ 14242
   pub words_wide : length words ≡ 160
   pub tickets_wide : length tickets ≡ 4
-  pub slots_few : (row : ℕ) → row < 14242 → (slot_at slots row).version + (if (slot_at slots row).taken then 1 else 0) + left ≤ 2 ^ 47
+  pub slots_few : (row : ℕ) → row < 14242 → (slot_at slots row).version + (if (slot_at slots row).taken then 1
+      else 0) + left ≤ 2 ^ 47
   pub tickets_few : (kind : ℕ) → kind < 4 → slice_index_or tickets kind 0 + draws ≤ 2 ^ 47
 
 abbrev pub is_put : Effect → Bool
@@ -165,7 +186,9 @@ content_by Releases here = here
 -- the content of a row after so many publications
 unfoldable pub content_at : List Op → ℕ → ℕ → List ℕ
 content_at [] row k = opening_content row
-content_at (o ∷ os) row k = if (o.row == row) && (is_put o.effect && nat_lt (puts_in os row) k) then content_by o.effect (content_at os row k) else content_at os row k
+content_at (o ∷ os) row k =
+    if (o.row == row) && (is_put o.effect && nat_lt (puts_in os row) k) then content_by o.effect (content_at os row k)
+    else content_at os row k
 
 -- a call of a plain store names the next version, number or ticket, or the last one, by the calls before it
 abbrev pub IsNext : List Call → Call → Type 0

@@ -8,15 +8,17 @@ use Rattle.pfs_levels.specs.Calls.{Call, Adds, Rings, Reads, Loads, Draws, Takes
 use Rattle.pfs_levels.specs.Joint.{At, changes_of, count, Setting, sets_of, word_version, frees_at, all_calls}
 use Rattle.pfs_levels.specs.Order.{AllCalls}
 
--- a call names a version that its row or word had by then, and a change one above it; a row that stood free is read at one above that. An
--- event that came late did so at such a version
+-- a call names a version that its row or word had by then, and a change one above it; a row that stood free is read
+-- at one above that. An event that came late did so at such a version
 abbrev pub IsSince : (ℕ → ℕ → List ℕ) → List At → List Setting → Call → Type 0
 IsSince content log sets (Adds row amount (Counted r k)) = count log r < k
 IsSince content log sets (Adds row amount (Held r first second)) = count log r ≤ first / 4
 IsSince content log sets (Rings row put (Done k)) = count log row < k
 IsSince content log sets (Rings row put (Busy first second)) = count log row ≤ first / 4
-IsSince content log sets (Rings row put (Late ticket)) = (k : ℕ) × ((count log row ≤ k) × (slice_index (content row k) 15 ≡ ticket + 1))
-IsSince content log sets (Reads row (Whole k found)) = (count log row ≤ k) × (0 < frees_at log row k → k ≡ count log row → ⊥)
+IsSince content log sets (Rings row put (Late ticket)) =
+    (k : ℕ) × ((count log row ≤ k) × (slice_index (content row k) 15 ≡ ticket + 1))
+IsSince content log sets (Reads row (Whole k found)) =
+    (count log row ≤ k) × (0 < frees_at log row k → k ≡ count log row → ⊥)
 IsSince content log sets (Reads row (Free w)) = count log row ≤ w / 4
 IsSince content log sets (Reads row (sees.Busy first second)) = count log row ≤ first / 4
 IsSince content log sets (Loads at k flags) = word_version sets at ≤ k
@@ -34,4 +36,5 @@ AreSince content log sets (call ∷ calls) = IsSince content log sets call × Ar
 
 -- the actors of a phase after those of the phases before it
 abbrev pub AllSince : (ℕ → ℕ → List ℕ) → List (List Call) → List (List Call) → Type 0
-AllSince content before now = AllCalls (AreSince content (changes_of (all_calls before)) (sets_of (all_calls before))) now
+AllSince content before now =
+    AllCalls (AreSince content (changes_of (all_calls before)) (sets_of (all_calls before))) now

@@ -31,7 +31,9 @@ pub fn flush<H: Hold>(rows: &mut H, kind: EventKind, level: Level, places: &Plac
     requires spare { cost (flushed places.now kind level) ≤ H.left rows.old }
     requires room { cost (flushed places.now kind level) ≤ log.old.room }
     ensures moved { Moved (flushed places.now kind level) log.old log.new (H.reached rows.old) (H.reached rows.new) }
-    ensures stays { Stays (cost (flushed places.now kind level)) (H.hand rows.old) (H.hand rows.new) (H.left rows.old) (H.left rows.new) (H.draws rows.old) (H.draws rows.new) (H.words rows.old) (H.words rows.new) (H.name rows.old) (H.name rows.new) log.old log.new }
+    ensures stays { Stays (cost (flushed places.now kind level)) (H.hand rows.old) (H.hand rows.new) (H.left rows.old)
+        (H.left rows.new) (H.draws rows.old) (H.draws rows.new) (H.words rows.old) (H.words rows.new)
+        (H.name rows.old) (H.name rows.new) log.old log.new }
 {
     let cells = places.cells(kind);
     for at in 0..places.count(level) {
@@ -47,7 +49,9 @@ fn flush_cells<H: Hold>(rows: &mut H, source: Source, cells: &[u64], log: &mut L
     requires spare { cost (asks_of cells.now source) ≤ H.left rows.old }
     requires room { cost (asks_of cells.now source) ≤ log.old.room }
     ensures moved { Moved (asks_of cells.now source) log.old log.new (H.reached rows.old) (H.reached rows.new) }
-    ensures stays { Stays (cost (asks_of cells.now source)) (H.hand rows.old) (H.hand rows.new) (H.left rows.old) (H.left rows.new) (H.draws rows.old) (H.draws rows.new) (H.words rows.old) (H.words rows.new) (H.name rows.old) (H.name rows.new) log.old log.new }
+    ensures stays { Stays (cost (asks_of cells.now source)) (H.hand rows.old) (H.hand rows.new) (H.left rows.old)
+        (H.left rows.new) (H.draws rows.old) (H.draws rows.new) (H.words rows.old) (H.words rows.new)
+        (H.name rows.old) (H.name rows.new) log.old log.new }
 {
     for cell in cells {
         let from = row_from(source, *cell);

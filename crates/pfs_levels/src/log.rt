@@ -50,6 +50,7 @@ impl Log {
     pub fn room(&self) -> u64
         ensures { result ≡ self.now.room }
     {
+        // Reads the list, so that the clause may speak of the room behind it.
         let _ = &self.entries;
         self.room
     }

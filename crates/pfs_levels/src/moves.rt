@@ -17,8 +17,11 @@ pub fn move_up<H: Hold>(rows: &mut H, from: u64, to: &Targets, log: &mut Log)
     requires away { AskIsAway (H.hand rows.old) (ask from (targets_of to.now)) }
     requires spare { 1 + length (targets_of to.now) ≤ H.left rows.old }
     requires room { 1 + length (targets_of to.now) ≤ log.old.room }
-    ensures moved { Moved (ask from (targets_of to.now) ∷ []) log.old log.new (H.reached rows.old) (H.reached rows.new) }
-    ensures stays { Stays (1 + length (targets_of to.now)) (H.hand rows.old) (H.hand rows.new) (H.left rows.old) (H.left rows.new) (H.draws rows.old) (H.draws rows.new) (H.words rows.old) (H.words rows.new) (H.name rows.old) (H.name rows.new) log.old log.new }
+    ensures moved { Moved (ask from (targets_of to.now) ∷ []) log.old log.new (H.reached rows.old)
+        (H.reached rows.new) }
+    ensures stays { Stays (1 + length (targets_of to.now)) (H.hand rows.old) (H.hand rows.new) (H.left rows.old)
+        (H.left rows.new) (H.draws rows.old) (H.draws rows.new) (H.words rows.old) (H.words rows.new)
+        (H.name rows.old) (H.name rows.new) log.old log.new }
 {
     let found = empty(rows, from, log);
     if found.count == 0 {
@@ -33,7 +36,8 @@ pub fn clear<H: Hold>(rows: &mut H, row: u64, log: &mut Log)
     requires spare { 1 ≤ H.left rows.old }
     requires room { 1 ≤ log.old.room }
     ensures moved { Moved (ask row [] ∷ []) log.old log.new (H.reached rows.old) (H.reached rows.new) }
-    ensures stays { Stays 1 (H.hand rows.old) (H.hand rows.new) (H.left rows.old) (H.left rows.new) (H.draws rows.old) (H.draws rows.new) (H.words rows.old) (H.words rows.new) (H.name rows.old) (H.name rows.new) log.old log.new }
+    ensures stays { Stays 1 (H.hand rows.old) (H.hand rows.new) (H.left rows.old) (H.left rows.new) (H.draws rows.old)
+        (H.draws rows.new) (H.words rows.old) (H.words rows.new) (H.name rows.old) (H.name rows.new) log.old log.new }
 {
     let _ = empty(rows, row, log);
 }
@@ -45,7 +49,8 @@ pub fn purge<H: Hold>(rows: &mut H, place: Place, log: &mut Log)
     requires spare { 1 ≤ H.left rows.old }
     requires room { 1 ≤ log.old.room }
     ensures purged { Purged (row_number place) log.old log.new (H.reached rows.old) (H.reached rows.new) }
-    ensures stays { Stays 1 (H.hand rows.old) (H.hand rows.new) (H.left rows.old) (H.left rows.new) (H.draws rows.old) (H.draws rows.new) (H.words rows.old) (H.words rows.new) (H.name rows.old) (H.name rows.new) log.old log.new }
+    ensures stays { Stays 1 (H.hand rows.old) (H.hand rows.new) (H.left rows.old) (H.left rows.new) (H.draws rows.old)
+        (H.draws rows.new) (H.words rows.old) (H.words rows.new) (H.name rows.old) (H.name rows.new) log.old log.new }
 {
     let row = row_of(place);
     let (version, _) = rows.take(row);
@@ -59,7 +64,8 @@ fn empty<H: Hold>(rows: &mut H, from: u64, log: &mut Log) -> Stat
     requires spare { 1 ≤ H.left rows.old }
     requires room { 1 ≤ log.old.room }
     ensures emptied { Emptied from result log.old log.new (H.reached rows.old) (H.reached rows.new) }
-    ensures stays { Stays 1 (H.hand rows.old) (H.hand rows.new) (H.left rows.old) (H.left rows.new) (H.draws rows.old) (H.draws rows.new) (H.words rows.old) (H.words rows.new) (H.name rows.old) (H.name rows.new) log.old log.new }
+    ensures stays { Stays 1 (H.hand rows.old) (H.hand rows.new) (H.left rows.old) (H.left rows.new) (H.draws rows.old)
+        (H.draws rows.new) (H.words rows.old) (H.words rows.new) (H.name rows.old) (H.name rows.new) log.old log.new }
 {
     let (_, content) = rows.take(from);
     let version = rows.put(from, &zero().to_words());
@@ -72,8 +78,11 @@ fn give_all<H: Hold>(rows: &mut H, from: u64, to: &Targets, amount: &Stat, log: 
     requires away { AreAway (H.hand rows.old) (targets_of to.now) }
     requires spare { length (targets_of to.now) ≤ H.left rows.old }
     requires room { length (targets_of to.now) ≤ log.old.room }
-    ensures given { Given from (targets_of to.now) amount.now log.old log.new (H.reached rows.old) (H.reached rows.new) }
-    ensures stays { Stays (length (targets_of to.now)) (H.hand rows.old) (H.hand rows.new) (H.left rows.old) (H.left rows.new) (H.draws rows.old) (H.draws rows.new) (H.words rows.old) (H.words rows.new) (H.name rows.old) (H.name rows.new) log.old log.new }
+    ensures given { Given from (targets_of to.now) amount.now log.old log.new (H.reached rows.old)
+        (H.reached rows.new) }
+    ensures stays { Stays (length (targets_of to.now)) (H.hand rows.old) (H.hand rows.new) (H.left rows.old)
+        (H.left rows.new) (H.draws rows.old) (H.draws rows.new) (H.words rows.old) (H.words rows.new)
+        (H.name rows.old) (H.name rows.new) log.old log.new }
 {
     give_to(rows, from, to.first, amount, log);
     give_to(rows, from, to.second, amount, log);
@@ -85,7 +94,9 @@ fn give_to<H: Hold>(rows: &mut H, from: u64, to: Option<u64>, amount: &Stat, log
     requires spare { length (some_list to) ≤ H.left rows.old }
     requires room { length (some_list to) ≤ log.old.room }
     ensures given { Given from (some_list to) amount.now log.old log.new (H.reached rows.old) (H.reached rows.new) }
-    ensures stays { Stays (length (some_list to)) (H.hand rows.old) (H.hand rows.new) (H.left rows.old) (H.left rows.new) (H.draws rows.old) (H.draws rows.new) (H.words rows.old) (H.words rows.new) (H.name rows.old) (H.name rows.new) log.old log.new }
+    ensures stays { Stays (length (some_list to)) (H.hand rows.old) (H.hand rows.new) (H.left rows.old)
+        (H.left rows.new) (H.draws rows.old) (H.draws rows.new) (H.words rows.old) (H.words rows.new)
+        (H.name rows.old) (H.name rows.new) log.old log.new }
 {
     match to {
         Some(row) => give(rows, from, row, amount, log),
@@ -99,7 +110,8 @@ fn give<H: Hold>(rows: &mut H, from: u64, to: u64, amount: &Stat, log: &mut Log)
     requires spare { 1 ≤ H.left rows.old }
     requires room { 1 ≤ log.old.room }
     ensures given { Given from (to ∷ []) amount.now log.old log.new (H.reached rows.old) (H.reached rows.new) }
-    ensures stays { Stays 1 (H.hand rows.old) (H.hand rows.new) (H.left rows.old) (H.left rows.new) (H.draws rows.old) (H.draws rows.new) (H.words rows.old) (H.words rows.new) (H.name rows.old) (H.name rows.new) log.old log.new }
+    ensures stays { Stays 1 (H.hand rows.old) (H.hand rows.new) (H.left rows.old) (H.left rows.new) (H.draws rows.old)
+        (H.draws rows.new) (H.words rows.old) (H.words rows.new) (H.name rows.old) (H.name rows.new) log.old log.new }
 {
     let (_, there) = rows.take(to);
     let sum = Stat::of_words(&there).merge(*amount);

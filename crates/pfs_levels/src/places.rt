@@ -106,7 +106,8 @@ impl NumberList {
     }
 }
 
-/// The live threads, accounts, users and hosts, and for each kind the cells of its registered classes. Each list ascends.
+/// The live threads, accounts, users and hosts, and for each kind the cells of its registered classes. Each list
+/// ascends.
 #[derive(Drop)]
 pub struct Places {
     pub threads: UpList,

@@ -167,6 +167,7 @@ impl Hold for PlainRows {
 
 impl Acts for PlainRows {
     fn enter(&mut self, label: Label) -> u64 {
+        // A plain store keeps no label: the list of its calls has it.
         let _ = label;
         let found = self.slots[0];
         let content = found.content;
@@ -198,7 +199,8 @@ impl PlainRows {
     /// and as many tickets.
     pub fn new(alloc: Global, flags: &[u16]) -> Result<PlainRows, NoMemory>
         requires { length flags.now ≡ 160 }
-        ensures opened { IfOk result (λ rows. (start : Opening) → start.flags ≡ flags.now → ⟦<PlainRows as Rows>⟧.reached rows start []) }
+        ensures opened { IfOk result (λ rows. (start : Opening) → start.flags ≡ flags.now
+            → ⟦<PlainRows as Rows>⟧.reached rows start []) }
         ensures left { IfOk result (λ rows. ⟦<PlainRows as Rows>⟧.left rows ≡ 2 ^ 47) }
         ensures draws { IfOk result (λ rows. ⟦<PlainRows as Rows>⟧.draws rows ≡ 2 ^ 47) }
         ensures hand { IfOk result (λ rows. (r : ℕ) → ⟦<PlainRows as Rows>⟧.hand rows r ≡ None) }

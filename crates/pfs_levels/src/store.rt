@@ -127,7 +127,8 @@ pub trait Hold: Rows {
     fn free(&mut self, row: u64)
         requires known { IsRow row }
         requires held { IsSome (Self.hand self.old row) }
-        ensures call { (v : ℕ) → Self.hand self.old row ≡ Some v → Goes (Self.reached self.old) (Self.reached self.new) (Frees row v ∷ []) }
+        ensures call { (v : ℕ) → Self.hand self.old row ≡ Some v
+            → Goes (Self.reached self.old) (Self.reached self.new) (Frees row v ∷ []) }
         ensures left { Self.left self.old ≤ Self.left self.new }
         ensures draws { Self.draws self.new ≡ Self.draws self.old }
         ensures hand { (r : ℕ) → Self.hand self.new r ≡ (if r == row then None else Self.hand self.old r) }

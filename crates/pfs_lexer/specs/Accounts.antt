@@ -51,7 +51,8 @@ IsLineComment piece after = (line : List ℕ)
 
 -- `/*` up to the next `*/`
 abbrev pub IsComment : List ℕ → List ℕ → Type 0
-IsComment piece after = (body : List ℕ) × (piece ≡ codes "/*" ++ (body ++ codes "*/")) × HasNoClose body (codes "*/" ++ after)
+IsComment piece after = (body : List ℕ) × (piece ≡ codes "/*" ++ (body ++ codes "*/"))
+    × HasNoClose body (codes "*/" ++ after)
 
 -- the pieces are white space and comments, where these bytes stand behind them
 abbrev pub AreBlanks : List (List ℕ) → List ℕ → Type 0

@@ -80,4 +80,5 @@ IsToken Operator bytes = IsOperator bytes
 -- the byte begins no white space, no comment and no token: each longer operator begins with one of a single byte
 abbrev pub begins_nothing : ℕ → Bool
 begins_nothing b =
-    not (is_blank b || (b == 35 || (b == 39 || (b == 34 || (b == 96 || (is_word_byte b || list_any (λ operator. operator == b) singles))))))
+    not (is_blank b || (b == 35
+    || (b == 39 || (b == 34 || (b == 96 || (is_word_byte b || list_any (λ operator. operator == b) singles))))))

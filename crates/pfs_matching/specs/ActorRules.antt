@@ -19,13 +19,17 @@ opening_actors = record { host = codes "%"; user = codes "%"; role = codes "%"; 
 
 -- a flag that the change names becomes the new one
 abbrev pub changed_actor : FlagChange → ActorRow → ActorRow
-changed_actor change row = record row { enabled = unwrap_or change.first row.enabled; history = unwrap_or change.second row.history }
+changed_actor change row = record row {
+  enabled = unwrap_or change.first row.enabled;
+  history = unwrap_or change.second row.history;
+}
 
 -- the row has this HOST and this USER
 abbrev pub actor_has : List ℕ × List ℕ → ActorRow → Bool
 actor_has way row = bytes_eq row.host way.0 && bytes_eq row.user way.1
 
--- the HOST and USER that a row may have: those of the session; any host and its user; its host and any user; any of both
+-- the HOST and USER that a row may have: those of the session; any host and its user; its host and any user; any of
+-- both
 abbrev pub actor_ways : List ℕ → List ℕ → List (List ℕ × List ℕ)
 actor_ways user host = (host, user) ∷ (codes "%", user) ∷ (host, codes "%") ∷ (codes "%", codes "%") ∷ []
 
@@ -43,4 +47,5 @@ HasLesserRole row other = slice_cmp nat_cmp row.role other.role ≢ Greater
 
 -- what is decided is what the row says that fits best, of the least ROLE among those of one HOST and USER
 abbrev pub ActorsDecideBest : Type 0
-ActorsDecideBest = (rows : List ActorRow) (user host : List ℕ) → AreOrdered actor_key rows → Decides actor_has HasLesserRole actor_says (actor_ways user host) rows (actor_flags rows user host)
+ActorsDecideBest = (rows : List ActorRow) (user host : List ℕ) → AreOrdered actor_key rows
+    → Decides actor_has HasLesserRole actor_says (actor_ways user host) rows (actor_flags rows user host)

@@ -37,7 +37,8 @@ module _ {R : Type 0} where
   -- of the rows, the first of which stands at place n, those whose places aren't named
   abbrev pub unnamed_from : ℕ → List ℕ → List R → List R
   unnamed_from n places [] = []
-  unnamed_from n places (row ∷ rows) = if is_named places n then unnamed_from (n + 1) places rows else row ∷ unnamed_from (n + 1) places rows
+  unnamed_from n places (row ∷ rows) = if is_named places n then unnamed_from (n + 1) places rows
+      else row ∷ unnamed_from (n + 1) places rows
 
   -- the rows without those at the named places
   abbrev pub without_named : List ℕ → List R → List R
@@ -46,7 +47,8 @@ module _ {R : Type 0} where
   -- of the rows, the first of which stands at place n, those at named places are changed
   abbrev pub changed_from : (R → R) → ℕ → List ℕ → List R → List R
   changed_from change n places [] = []
-  changed_from change n places (row ∷ rows) = (if is_named places n then change row else row) ∷ changed_from change (n + 1) places rows
+  changed_from change n places (row ∷ rows) =
+      (if is_named places n then change row else row) ∷ changed_from change (n + 1) places rows
 
   -- the rows, of which those at the named places are changed
   abbrev pub with_named_changed : (R → R) → List ℕ → List R → List R

@@ -39,7 +39,10 @@ opening_objects = flat_map opening_of_kind (Event ∷ Function ∷ Procedure ∷
 
 -- a flag that the change names becomes the new one
 abbrev pub changed_object : FlagChange → ObjectRow → ObjectRow
-changed_object change row = record row { enabled = unwrap_or change.first row.enabled; timed = unwrap_or change.second row.timed }
+changed_object change row = record row {
+  enabled = unwrap_or change.first row.enabled;
+  timed = unwrap_or change.second row.timed;
+}
 
 abbrev pub is_table : ObjectKind → Bool
 is_table Event = false
@@ -62,7 +65,8 @@ object_says row = (row.enabled, row.timed)
 
 -- those of the row for the first of the ways that any row has, or off
 abbrev pub table_flags : List ObjectRow → List ℕ → List ℕ → Bool × Bool
-table_flags rows schema name = flags_or_off (option_map object_says (first_match table_has (table_ways schema name) rows))
+table_flags rows schema name =
+    flags_or_off (option_map object_says (first_match table_has (table_ways schema name) rows))
 
 -- no other row has the same way
 abbrev pub IsAlone : ObjectRow → ObjectRow → Type 0
@@ -70,7 +74,8 @@ IsAlone row other = other ≡ row
 
 -- what is decided of a table is what the one row says that fits best
 abbrev pub ObjectsDecideBest : Type 0
-ObjectsDecideBest = (rows : List ObjectRow) (schema name : List ℕ) → AreOrdered object_key rows → Decides table_has IsAlone object_says (table_ways schema name) rows (table_flags rows schema name)
+ObjectsDecideBest = (rows : List ObjectRow) (schema name : List ℕ) → AreOrdered object_key rows
+    → Decides table_has IsAlone object_says (table_ways schema name) rows (table_flags rows schema name)
 
 -- different kinds have different names
 abbrev pub KindNamesDiffer : Type 0

@@ -1,4 +1,5 @@
--- Which row of a table decides. A row may be meant in several ways, the earlier the better. A way is two texts, as a HOST and a USER.
+-- Which row of a table decides. A row may be meant in several ways, the earlier the better. A way is two texts, as a
+-- HOST and a USER.
 use Rattle.std.specs.Prelude.{◌≡◌, ℕ, suc, ◌<◌, ◌⊎◌, Bool, false, if◌then◌else◌, List, [], ◌∷◌, Option, None, Some, Contains}
 use Rattle.std.specs.List.{find}
 use Rattle.std.specs.Option.{option_map, option_or}
@@ -24,7 +25,8 @@ module _ {R : Type 0} (has : List ℕ × List ℕ → R → Bool) where
     pub there : Contains rows row
     pub number : ℕ
     pub fits : fit ways row ≡ Some number
-    pub best : (other : R) (m : ℕ) → Contains rows other → fit ways other ≡ Some m → (number < m) ⊎ ((number ≡ m) × Leads row other)
+    pub best : (other : R) (m : ℕ) → Contains rows other → fit ways other ≡ Some m
+        → (number < m) ⊎ ((number ≡ m) × Leads row other)
 
   -- what is decided is what the row says that fits best, or NO and NO where none fits
   abbrev pub Decides : (R → R → Type 0) → (R → Bool × Bool) → List (List ℕ × List ℕ) → List R → Bool × Bool → Type 0

@@ -63,7 +63,8 @@ impl Model for Actors {
 }
 
 impl Actors {
-    /// The opening row: every actor, with YES and YES. The room for 100 rows is taken here, and no other call takes memory.
+    /// The opening row: every actor, with YES and YES. The room for 100 rows is taken here, and no other call takes
+    /// memory.
     pub fn open(alloc: Global) -> Result<Actors, NoMemory>
         ensures { IfOk result (λ actors. actors ≡ opening_actors) }
     {
@@ -97,13 +98,14 @@ impl Actors {
         &self.rows.rows()[place]
     }
 
-    /// Adds a row at its place in key order. It comes with its own texts, so this takes no memory. Duplicate comes exactly where a
-    /// row with this HOST, USER and ROLE is there, and is tested before Full, which comes exactly at 100 rows. The limit is our
-    /// own. A refusal changes nothing.
+    /// Adds a row at its place in key order. It comes with its own texts, so this takes no memory. Duplicate comes
+    /// exactly where a row with this HOST, USER and ROLE is there, and is tested before Full, which comes exactly at
+    /// 100 rows. The limit is our own. A refusal changes nothing.
     pub fn insert(&mut self, row: ActorRow) -> Result<(), MatchFault>
         ensures ok { OnOk result (self.new ≡ with_row actor_key row self.old) }
         ensures duplicate { (result ≡ Err MatchFault.Duplicate) ↔ Contains (map actor_key self.old) (actor_key row) }
-        ensures full { (result ≡ Err MatchFault.Full) ↔ ((¬ Contains (map actor_key self.old) (actor_key row)) × (length self.old ≡ 100)) }
+        ensures full { (result ≡ Err MatchFault.Full)
+            ↔ ((¬ Contains (map actor_key self.old) (actor_key row)) × (length self.old ≡ 100)) }
         ensures err { OnErr result (self.new ≡ self.old) }
     {
         self.rows.insert(row)
@@ -134,9 +136,10 @@ impl Actors {
         self.rows.truncate();
     }
 
-    /// ENABLED and HISTORY for a new session: those of the row with its host and user; else with HOST `%` and its user; else
-    /// with its host and USER `%`; else with `%` for both; else NO and NO. This is MySQL's order. That of rows with equal HOST
-    /// and USER the one with the least ROLE by bytes counts is our own rule. `%` is no pattern here: it stands alone.
+    /// ENABLED and HISTORY for a new session: those of the row with its host and user; else with HOST `%` and its
+    /// user; else with its host and USER `%`; else with `%` for both; else NO and NO. This is MySQL's order. That of
+    /// rows with equal HOST and USER the one with the least ROLE by bytes counts is our own rule. `%` is no pattern
+    /// here: it stands alone.
     pub fn decide(&self, user: &[u8], host: &[u8]) -> (bool, bool)
         ensures { result ≡ actor_flags self.now user.now host.now }
     {

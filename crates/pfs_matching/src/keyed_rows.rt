@@ -67,11 +67,13 @@ impl<R: KeyedRow + Drop> KeyedRows<R> {
         self.rows.as_slice()
     }
 
-    /// Adds a row at its place in key order. It takes no memory. Duplicate is tested before Full, and a refusal changes nothing.
+    /// Adds a row at its place in key order. It takes no memory. Duplicate is tested before Full, and a refusal
+    /// changes nothing.
     pub(crate) fn insert(&mut self, row: R) -> Result<(), MatchFault>
         ensures ok { OnOk result (self.new ≡ with_row R.key row self.old) }
         ensures duplicate { (result ≡ Err MatchFault.Duplicate) ↔ Contains (map R.key self.old) (R.key row) }
-        ensures full { (result ≡ Err MatchFault.Full) ↔ ((¬ Contains (map R.key self.old) (R.key row)) × (length self.old ≡ 100)) }
+        ensures full { (result ≡ Err MatchFault.Full)
+            ↔ ((¬ Contains (map R.key self.old) (R.key row)) × (length self.old ≡ 100)) }
         ensures err { OnErr result (self.new ≡ self.old) }
     {
         if has_key(&self.rows, &row) {

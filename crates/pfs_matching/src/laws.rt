@@ -6,14 +6,14 @@ ghost use Rattle.pfs_matching.specs.ObjectRules.{KindNamesDiffer, ObjectsDecideB
 
 use crate::ObjectKind;
 
-/// A session's flags are those of the row that fits it best: of the earliest way that any row has, and among such rows of the
-/// least ROLE by bytes. Where no row fits, they are NO and NO.
+/// A session's flags are those of the row that fits it best: of the earliest way that any row has, and among such
+/// rows of the least ROLE by bytes. Where no row fits, they are NO and NO.
 pub fn actors_decide_best()
     ensures { ActorsDecideBest }
 {}
 
-/// A table's flags are those of the row that fits it best: the only one that has the earliest way that any row has. Where no
-/// row fits, they are NO and NO.
+/// A table's flags are those of the row that fits it best: the only one that has the earliest way that any row has.
+/// Where no row fits, they are NO and NO.
 pub fn objects_decide_best()
     ensures { ObjectsDecideBest }
 {}

@@ -50,7 +50,8 @@ impl ObjectKind {
 
     /// The kind of that name, compared byte by byte; none where no kind has it.
     pub fn find(name: &[u8]) -> Option<ObjectKind>
-        ensures { MatchOption result ((kind : ObjectKind) → kind_name kind ≢ name.now) (λ kind. kind_name kind ≡ name.now) }
+        ensures { MatchOption result ((kind : ObjectKind)
+            → kind_name kind ≢ name.now) (λ kind. kind_name kind ≡ name.now) }
     {
         for kind in ObjectKind::ALL {
             if kind.name().as_bytes() == name {
@@ -61,8 +62,8 @@ impl ObjectKind {
     }
 }
 
-/// A row of `setup_objects`: OBJECT_TYPE, OBJECT_SCHEMA, OBJECT_NAME, ENABLED and TIMED. The text `%` stands for any schema or
-/// name.
+/// A row of `setup_objects`: OBJECT_TYPE, OBJECT_SCHEMA, OBJECT_NAME, ENABLED and TIMED. The text `%` stands for any
+/// schema or name.
 #[derive(Debug, Drop)]
 pub struct ObjectRow {
     pub kind: ObjectKind,
@@ -99,7 +100,8 @@ impl KeyedRow for ObjectRow {
     }
 }
 
-/// The rows of `setup_objects` in the order of OBJECT_TYPE, OBJECT_SCHEMA and OBJECT_NAME by their bytes, with room for 100.
+/// The rows of `setup_objects` in the order of OBJECT_TYPE, OBJECT_SCHEMA and OBJECT_NAME by their bytes, with room
+/// for 100.
 #[derive(Drop)]
 pub struct Objects {
     rows: KeyedRows<ObjectRow>,
@@ -115,8 +117,9 @@ impl Model for Objects {
 }
 
 impl Objects {
-    /// The twenty opening rows: for each kind every object with YES and YES, but those of the schemas `information_schema`,
-    /// `mysql` and `performance_schema` with NO and NO. The room for 100 rows is taken here, and no other call takes memory.
+    /// The twenty opening rows: for each kind every object with YES and YES, but those of the schemas
+    /// `information_schema`, `mysql` and `performance_schema` with NO and NO. The room for 100 rows is taken here,
+    /// and no other call takes memory.
     pub fn open(alloc: Global) -> Result<Objects, NoMemory>
         ensures { IfOk result (λ objects. objects ≡ opening_objects) }
     {
@@ -142,13 +145,14 @@ impl Objects {
         &self.rows.rows()[place]
     }
 
-    /// Adds a row at its place in key order. It comes with its own texts, so this takes no memory. Duplicate comes exactly where a
-    /// row with this type, schema and name is there, and is tested before Full, which comes exactly at 100 rows. The limit is
-    /// our own. A refusal changes nothing.
+    /// Adds a row at its place in key order. It comes with its own texts, so this takes no memory. Duplicate comes
+    /// exactly where a row with this type, schema and name is there, and is tested before Full, which comes exactly
+    /// at 100 rows. The limit is our own. A refusal changes nothing.
     pub fn insert(&mut self, row: ObjectRow) -> Result<(), MatchFault>
         ensures ok { OnOk result (self.new ≡ with_row object_key row self.old) }
         ensures duplicate { (result ≡ Err MatchFault.Duplicate) ↔ Contains (map object_key self.old) (object_key row) }
-        ensures full { (result ≡ Err MatchFault.Full) ↔ ((¬ Contains (map object_key self.old) (object_key row)) × (length self.old ≡ 100)) }
+        ensures full { (result ≡ Err MatchFault.Full)
+            ↔ ((¬ Contains (map object_key self.old) (object_key row)) × (length self.old ≡ 100)) }
         ensures err { OnErr result (self.new ≡ self.old) }
     {
         self.rows.insert(row)
@@ -179,9 +183,9 @@ impl Objects {
         self.rows.truncate();
     }
 
-    /// ENABLED and TIMED of a table, from the rows of type TABLE: those of the row with its schema and name; else with its
-    /// schema and OBJECT_NAME `%`; else with `%` for both. This is MySQL's order. That a table without a row is off, NO and
-    /// NO, is our own rule. `%` is no pattern here: it stands alone.
+    /// ENABLED and TIMED of a table, from the rows of type TABLE: those of the row with its schema and name; else
+    /// with its schema and OBJECT_NAME `%`; else with `%` for both. This is MySQL's order. That a table without a row
+    /// is off, NO and NO, is our own rule. `%` is no pattern here: it stands alone.
     pub fn decide_object(&self, schema: &[u8], name: &[u8]) -> (bool, bool)
         ensures { result ≡ table_flags self.now schema.now name.now }
     {

@@ -48,7 +48,12 @@ pub record Setting : Type 0 where
   pub flags : ℕ
 
 abbrev pub setting_at : ℕ → Entry → List Setting
-setting_at action (says.Set word version flags) = record { action = action; word = word; version = version; flags = flags } ∷ []
+setting_at action (says.Set word version flags) = record {
+  action = action;
+  word = word;
+  version = version;
+  flags = flags;
+} ∷ []
 setting_at action _ = []
 
 abbrev pub settings_of : List Placed → List Setting
@@ -63,10 +68,13 @@ set_at action _ = []
 abbrev pub sets_of : List Placed → List Deed
 sets_of places = deeds_by set_at places
 
--- of the first deed and another of its row, the first stands before: at a lower version, or it is the change at a version and the other its release
+-- of the first deed and another of its row, the first stands before: at a lower version, or it is the change at a
+-- version and the other its release
 abbrev pub StandsBefore : Deed → Deed → Type 0
 StandsBefore first next =
-    (first.row ≡ next.row) × ((first.version < next.version) ⊎ ((first.version ≡ next.version) × (first.releases ≡ false) × (next.releases ≡ true)))
+    (first.row ≡ next.row)
+    × ((first.version < next.version)
+    ⊎ ((first.version ≡ next.version) × (first.releases ≡ false) × (next.releases ≡ true)))
 
 -- one of a list
 abbrev pub IsAmong : {A : Type 0} → A → List A → Type 0
@@ -75,12 +83,14 @@ IsAmong x (y ∷ ys) = (y ≡ x) ⊎ IsAmong x ys
 
 -- along a row, or a word, in the order of its versions, the numbers of the actions never fall
 abbrev pub NeverFall : List Deed → Type 0
-NeverFall deeds = (first next : Deed) → IsAmong first deeds → IsAmong next deeds → StandsBefore first next → first.action ≤ next.action
+NeverFall deeds = (first next : Deed) → IsAmong first deeds → IsAmong next deeds → StandsBefore first next
+    → first.action ≤ next.action
 
 -- the numbers of a session's own actions
 abbrev pub numbers_by : ℕ → List Placed → List Change
 numbers_by session [] = []
-numbers_by session (place ∷ places) = cond (place.session == session) (action_change place.entry) [] ++ numbers_by session places
+numbers_by session (place ∷ places) =
+    cond (place.session == session) (action_change place.entry) [] ++ numbers_by session places
 
 -- each number is below those behind it
 abbrev pub AllAbove : ℕ → List Change → Type 0
@@ -90,7 +100,8 @@ abbrev pub AreRising : List Change → Type 0
 AreRising [] = Unit {0}
 AreRising (number ∷ numbers) = AllAbove number.version numbers × AreRising numbers
 
--- The numbers up to a phase's end are 1 to n, each once, and rise along each session; along a row and along a switch word they never fall.
+-- The numbers up to a phase's end are 1 to n, each once, and rise along each session; along a row and along a switch
+-- word they never fall.
 pub record IsOrdered (all : List Placed) : Type 0 where
   pub numbers : AreChained action_change all
   pub rising : (session : ℕ) → AreRising (numbers_by session all)

@@ -20,8 +20,9 @@ pub record Flagging : Type 0 where
   pub word : ℕ
   pub flags : ℕ
 
--- The moves stand level after level, and within a level ascending by row (for accounts, users and hosts so for one kind after another, for
--- a quit ascending by row over all kinds); the signs ascend by row, the sets by word. An action that isn't there asks for nothing.
+-- The moves stand level after level, and within a level ascending by row (for accounts, users and hosts so for one
+-- kind after another, for a quit ascending by row over all kinds); the signs ascend by row, the sets by word. An
+-- action that isn't there asks for nothing.
 pub record Asked : Type 0 where
   pub moves : List Move
   pub signs : List Sign
@@ -50,7 +51,8 @@ given_to from (row ∷ rows) = Gave row from ∷ given_to from rows
 -- a give is made where what the take found has counted something
 abbrev pub moved_by : (ℕ → Bool) → List Move → List Did
 moved_by counted [] = []
-moved_by counted (move ∷ moves) = Took move.from ∷ (cond (counted move.from) (given_to move.from move.to) [] ++ moved_by counted moves)
+moved_by counted (move ∷ moves) =
+    Took move.from ∷ (cond (counted move.from) (given_to move.from move.to) [] ++ moved_by counted moves)
 
 abbrev pub signed_by : List Sign → List Did
 signed_by [] = []
@@ -78,9 +80,11 @@ pub data Answer : Type 0 where
 
 -- an error behind an action is its answer; without one it is that of a text that was refused beforehand
 abbrev pub answer_at : (ℕ → Answer) → (Placed → ℕ) → Placed → Answer
-answer_at answers refusal place = cond (place.context.action == 0) (Failed (refusal place)) (answers place.context.action)
+answer_at answers refusal place =
+    cond (place.context.action == 0) (Failed (refusal place)) (answers place.context.action)
 
--- A connect has the rooms, and an answer is the one, that its action gives: by its number, or for a refused text by its line.
+-- A connect has the rooms, and an answer is the one, that its action gives: by its number, or for a refused text by
+-- its line.
 abbrev pub IsAnswered : (ℕ → Rooms) → (ℕ → Answer) → (Placed → ℕ) → Placed → Entry → Type 0
 IsAnswered rooms answers refusal place (says.Connect action thread account user host) =
     rooms action ≡ record { thread = thread; account = account; user = user; host = host }
@@ -97,7 +101,8 @@ AreAnswered rooms answers refusal (place ∷ places) =
 abbrev pub of_action : ℕ → List Placed → List Placed
 of_action number places = chosen (λ place. place.context.action == number) places
 
--- Each action does just what it asks for, in this order. `counted action row` says whether the action's take of the row found an event:
--- the contents tell.
+-- Each action does just what it asks for, in this order. `counted action row` says whether the action's take of the
+-- row found an event: the contents tell.
 abbrev pub DoAsAsked : (ℕ → Asked) → (ℕ → ℕ → Bool) → List Placed → Type 0
-DoAsAsked asked counted all = (number : ℕ) → 0 < number → each_of did (of_action number all) ≡ asked_of (counted number) (asked number)
+DoAsAsked asked counted all = (number : ℕ) → 0 < number
+    → each_of did (of_action number all) ≡ asked_of (counted number) (asked number)

@@ -1,4 +1,5 @@
--- What a `held`, a `busy`, a `late` or a `vacant` line shows: that another had the row in hand, or put the greater ticket, or that the row stood FREE.
+-- What a `held`, a `busy`, a `late` or a `vacant` line shows: that another had the row in hand, or put the greater
+-- ticket, or that the row stood FREE.
 use Rattle.std.specs.Prelude.{ℕ, ◌≡◌, ◌≢◌, ◌⊎◌, ◌+◌, ◌*◌, ◌-◌, ◌/◌, ◌%◌, ◌<◌, ◌≤◌, ◌==◌, true, not, List, [], ◌∷◌}
 use Rattle.pfs_event.specs.declared.entry.Entry.{Entry}
 use Rattle.pfs_event.specs.declared.entry.Entry.TheVariants as says
@@ -19,7 +20,8 @@ pub record IsWord (all earlier : List Placed) (place : Placed) (row word : ℕ) 
   pub floor : floor_of all earlier place row ≤ word / 4
   pub had : word / 4 ≤ times (is_of row) (each_of row_change (up_to_phase place.phase all))
 
--- the two words are one DIRTY word, or differ: the second isn't below the first, and isn't ALLOCATED at the same version
+-- the two words are one DIRTY word, or differ: the second isn't below the first, and isn't ALLOCATED at the same
+-- version
 abbrev pub AreBusy : ℕ → ℕ → Type 0
 AreBusy first second =
     ((first % 4 ≡ 1) × (second ≡ first))
@@ -31,11 +33,13 @@ IsReleased all place row version = IsAmong (change_at row version) (each_of rele
 
 -- another session made this change of the row
 abbrev pub IsOthers : List Placed → Placed → ℕ → ℕ → Type 0
-IsOthers all place row version = IsAmong (change_at row version) (each_of row_change (by_others place.session (up_to_phase place.phase all)))
+IsOthers all place row version =
+    IsAmong (change_at row version) (each_of row_change (by_others place.session (up_to_phase place.phase all)))
 
 -- a DIRTY word was put back by another's change, or by a release
 abbrev pub IsHeldByOther : List Placed → Placed → ℕ → ℕ → Type 0
-IsHeldByOther all place row word = word % 4 ≡ 1 → IsOthers all place row (word / 4 + 1) ⊎ IsReleased all place row (word / 4)
+IsHeldByOther all place row word = word % 4 ≡ 1 → IsOthers all place row (word / 4 + 1)
+    ⊎ IsReleased all place row (word / 4)
 
 -- the cause of a `held` or a `busy` line of this row with these words
 pub record IsCaused (all earlier : List Placed) (place : Placed) (row first second : ℕ) : Type 0 where
@@ -61,19 +65,22 @@ PutsTicket row greater floor _ = ⊥
 
 abbrev pub SomePuts : ℕ → ℕ → ℕ → List Placed → Type 0
 SomePuts row greater floor [] = ⊥
-SomePuts row greater floor (place ∷ places) = PutsTicket row greater floor place.entry ⊎ SomePuts row greater floor places
+SomePuts row greater floor (place ∷ places) =
+    PutsTicket row greater floor place.entry ⊎ SomePuts row greater floor places
 
 -- the cause of a `late` line
 pub record IsLate (all earlier : List Placed) (place : Placed) (row ticket greater : ℕ) : Type 0 where
   pub above : ticket < greater
   pub own : row ≡ long_row (kind_of_row row) ticket
   pub same : row ≡ long_row (kind_of_row row) greater
-  pub put : SomePuts row greater (floor_of all earlier place row) (by_others place.session (up_to_phase place.phase all))
+  pub put : SomePuts row greater (floor_of all earlier place row)
+      (by_others place.session (up_to_phase place.phase all))
 
 -- a release of the row at or above this version
 abbrev pub SomeReleased : ℕ → ℕ → List Change → Type 0
 SomeReleased row floor [] = ⊥
-SomeReleased row floor (release ∷ releases) = ((release.row ≡ row) × (floor ≤ release.version)) ⊎ SomeReleased row floor releases
+SomeReleased row floor (release ∷ releases) = ((release.row ≡ row) × (floor ≤ release.version))
+    ⊎ SomeReleased row floor releases
 
 -- a `vacant` line: at a version at or above the floor the row stood FREE
 abbrev pub WasFree : List Placed → List Placed → Placed → ℕ → Type 0
@@ -91,7 +98,8 @@ ShowsCause all earlier place entry = Unit {0}
 
 abbrev pub AreCausedBehind : List Placed → List Placed → List Placed → Type 0
 AreCausedBehind all earlier [] = Unit {0}
-AreCausedBehind all earlier (place ∷ places) = ShowsCause all earlier place place.entry × AreCausedBehind all (place ∷ earlier) places
+AreCausedBehind all earlier (place ∷ places) =
+    ShowsCause all earlier place place.entry × AreCausedBehind all (place ∷ earlier) places
 
 abbrev pub AreCaused : List Placed → Type 0
 AreCaused all = AreCausedBehind all [] all

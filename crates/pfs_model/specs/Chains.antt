@@ -33,7 +33,8 @@ abbrev pub word_change : Entry → List Change
 word_change (says.Set word version flags) = change_at word version ∷ []
 word_change _ = []
 
--- the number of the action that an entry begins; the numbers are versions of row 0, which each action holds from its beginning to its end
+-- the number of the action that an entry begins; the numbers are versions of row 0, which each action holds from its
+-- beginning to its end
 abbrev pub action_change : Entry → List Change
 action_change (says.Connect action thread account user host) = change_at 0 action ∷ []
 action_change (says.Act action) = change_at 0 action ∷ []
@@ -59,7 +60,8 @@ is_that wanted change = (change.row == wanted.row) && (change.version == wanted.
 abbrev pub IsChained : List Change → Type 0
 IsChained changes =
     (change : Change)
-    → times (is_that change) changes ≡ cond (nat_lt 0 change.version && nat_le change.version (times (is_of change.row) changes)) 1 0
+    → times (is_that change) changes
+    ≡ cond (nat_lt 0 change.version && nat_le change.version (times (is_of change.row) changes)) 1 0
 
 -- at each phase's end, of all entries up to there
 abbrev pub AreChained : (Entry → List Change) → List Placed → Type 0
@@ -72,5 +74,6 @@ opens_free row = (nat_lt 0 row && nat_lt row 129) || nat_le 8450 row
 -- a release of the row at its last version stands, or it has no change and opened FREE
 abbrev pub is_free_after : List Placed → ℕ → Bool
 is_free_after places row =
-    nat_lt 0 (times (is_that (change_at row (times (is_of row) (each_of row_change places)))) (each_of release_of places))
+    nat_lt 0 (times (is_that (change_at row (times (is_of row) (each_of row_change places))))
+    (each_of release_of places))
     || ((times (is_of row) (each_of row_change places) == 0) && opens_free row)

@@ -10,7 +10,8 @@ use Rattle.pfs_model.specs.Contexts.{Context, brought}
 use Rattle.pfs_model.specs.Places.{Placed}
 use Rattle.pfs_model.specs.Setups.{is_timed}
 
--- What the script says of an event: the session's clock at its start, its duration in picoseconds, and a statement's six numbers.
+-- What the script says of an event: the session's clock at its start, its duration in picoseconds, and a statement's
+-- six numbers.
 pub record Facts : Type 0 where
   pub start : ℕ
   pub duration : ℕ
@@ -34,13 +35,14 @@ measure_of timed facts = record {
   examined = facts.examined;
 }
 
--- what an event of a session adds when it ends: timed by the flags that its start saw, with the script's facts of the session's events, by
--- their position among its starts. `slots` has the printed slot of each session
+-- what an event of a session adds when it ends: timed by the flags that its start saw, with the script's facts of the
+-- session's events, by their position among its starts. `slots` has the printed slot of each session
 abbrev pub amount_by : (ℕ → ℕ → ℕ) → (ℕ → Option ℕ) → (ℕ → ℕ → Facts) → ℕ → Opened → Stat
-amount_by flags slots facts session event = stat_of (measure_of (is_timed flags (slots session) event) (facts session event.index))
+amount_by flags slots facts session event =
+    stat_of (measure_of (is_timed flags (slots session) event) (facts session event.index))
 
--- What contents go by beside the printed entries: what an event of a session adds, the words of an event that is put at a place,
--- and the words of an info row behind an action.
+-- What contents go by beside the printed entries: what an event of a session adds, the words of an event that is put
+-- at a place, and the words of an info row behind an action.
 pub record Given : Type 0 where
   pub amount : ℕ → Opened → Stat
   pub event_words : Placed → List ℕ
@@ -63,25 +65,34 @@ content_after given content place context here entry = here
 
 -- a content that is made of the one before
 abbrev pub IsNext : (ℕ → ℕ → List ℕ) → (List ℕ → List ℕ) → ℕ → ℕ → Type 0
-IsNext content make row version = (before : ℕ) × (version ≡ before + 1) × (content row version ≡ make (content row before))
+IsNext content make row version =
+    (before : ℕ) × (version ≡ before + 1) × (content row version ≡ make (content row before))
 
 abbrev pub IsContent : Given → (ℕ → ℕ → List ℕ) → Placed → Entry → Type 0
-IsContent given content place (says.Add row version) = IsNext content (λ here. content_after given content place place.context here place.entry) row version
-IsContent given content place (says.Take row version) = IsNext content (λ here. content_after given content place place.context here place.entry) row version
+IsContent given content place (says.Add row version) =
+    IsNext content (λ here. content_after given content place place.context here place.entry) row version
+IsContent given content place (says.Take row version) =
+    IsNext content (λ here. content_after given content place place.context here place.entry) row version
 IsContent given content place (says.Give row version from) =
-    (place.context.source ≡ Some from) × IsNext content (λ here. content_after given content place place.context here place.entry) row version
-IsContent given content place (says.Tag row version) = IsNext content (λ here. content_after given content place place.context here place.entry) row version
-IsContent given content place (says.Ring row version) = IsNext content (λ here. content_after given content place place.context here place.entry) row version
-IsContent given content place (says.Long row version ticket) = IsNext content (λ here. content_after given content place place.context here place.entry) row version
+    (place.context.source ≡ Some from)
+    × IsNext content (λ here. content_after given content place place.context here place.entry) row version
+IsContent given content place (says.Tag row version) =
+    IsNext content (λ here. content_after given content place place.context here place.entry) row version
+IsContent given content place (says.Ring row version) =
+    IsNext content (λ here. content_after given content place place.context here place.entry) row version
+IsContent given content place (says.Long row version ticket) =
+    IsNext content (λ here. content_after given content place place.context here place.entry) row version
 IsContent given content place entry = Unit {0}
 
 abbrev pub AllContents : Given → (ℕ → ℕ → List ℕ) → List Placed → Type 0
 AllContents given content [] = Unit {0}
-AllContents given content (place ∷ places) = IsContent given content place place.entry × AllContents given content places
+AllContents given content (place ∷ places) =
+    IsContent given content place place.entry × AllContents given content places
 
 -- a take found an event where the content before it has counted one
 abbrev pub IsFoundAsCounted : (ℕ → ℕ → List ℕ) → (ℕ → ℕ → Bool) → ℕ → Entry → Type 0
-IsFoundAsCounted content counted action (says.Take row version) = counted action row ≡ not ((stat_of_words (content row (version - 1))).count == 0)
+IsFoundAsCounted content counted action (says.Take row version) =
+    counted action row ≡ not ((stat_of_words (content row (version - 1))).count == 0)
 IsFoundAsCounted content counted action entry = Unit {0}
 
 abbrev pub AreFoundAsCounted : (ℕ → ℕ → List ℕ) → (ℕ → ℕ → Bool) → List Placed → Type 0

@@ -17,10 +17,10 @@ pub record Waiting : Type 0 where
   pub row : ℕ
   pub event : Opened
 
--- What the entries tell: the printed places of the session; its open events, the innermost first; the rows for which something
--- is held, ascending, and what is held for them, the last first; how many events it has started, and how many event numbers it has
--- drawn; its last action that has ended; and of the line at hand: the event that ended last, its action (0 is none), and the
--- last take of that action, its row and its version.
+-- What the entries tell: the printed places of the session; its open events, the innermost first; the rows for which
+-- something is held, ascending, and what is held for them, the last first; how many events it has started, and how
+-- many event numbers it has drawn; its last action that has ended; and of the line at hand: the event that ended
+-- last, its action (0 is none), and the last take of that action, its row and its version.
 pub record Context : Type 0 where
   pub slot : Option ℕ
   pub account : Option ℕ
@@ -107,16 +107,40 @@ with_opened (Some subject) event others = event subject ∷ others
 
 -- behind an entry of a line that starts this
 abbrev pub noted : Option Subject → Context → Entry → Context
-noted subject context (says.Connect action thread account user host) = record context { slot = thread; account = account; user = user; host = host; action = action }
+noted subject context (says.Connect action thread account user host) = record context {
+  slot = thread;
+  account = account;
+  user = user;
+  host = host;
+  action = action;
+}
 noted subject context (says.Start event verdict consumers thread class table) = record context {
-  opened = with_opened subject (λ s. record { subject = s; verdict = verdict; index = context.begun; number = event; consumers = consumers; thread = thread; class = class; table = table }) context.opened;
+  opened = with_opened subject (λ s. record {
+    subject = s;
+    verdict = verdict;
+    index = context.begun;
+    number = event;
+    consumers = consumers;
+    thread = thread;
+    class = class;
+    table = table;
+  }) context.opened;
   begun = context.begun + 1;
   ended = None;
   drawn = context.drawn + cond (is_let_through verdict) 1 0;
 }
-noted subject context (says.End event last consumers thread) = record context { opened = drop 1 context.opened; ended = first_of context.opened }
-noted subject context (says.Held row first second) = record context { held = with_row row context.held; waiting = own_wait row context.ended ++ context.waiting }
-noted subject context (says.Add row version) = record context { held = without_row row context.held; waiting = held_else row context.waiting }
+noted subject context (says.End event last consumers thread) = record context {
+  opened = drop 1 context.opened;
+  ended = first_of context.opened;
+}
+noted subject context (says.Held row first second) = record context {
+  held = with_row row context.held;
+  waiting = own_wait row context.ended ++ context.waiting;
+}
+noted subject context (says.Add row version) = record context {
+  held = without_row row context.held;
+  waiting = held_else row context.waiting;
+}
 noted subject context says.Settle = record context { ended = None }
 noted subject context (says.Act action) = record context { action = action }
 noted subject context (says.Take row version) = record context { source = Some row; source_version = version }
@@ -124,7 +148,13 @@ noted subject context _ = context
 
 -- a new line: what the line before did has ended
 abbrev pub turned : Context → Context
-turned context = record context { done = cond (context.action == 0) context.done context.action; ended = None; action = 0; source = None; source_version = 0 }
+turned context = record context {
+  done = cond (context.action == 0) context.done context.action;
+  ended = None;
+  action = 0;
+  source = None;
+  source_version = 0;
+}
 
 abbrev pub after_entries : Option Subject → Context → List Entry → Context
 after_entries subject context [] = context

@@ -20,7 +20,8 @@ step Maybe ask [] = Ok []
 step Maybe ask (entry ∷ entries) = if fits ask entry then Ok entries else Ok (entry ∷ entries)
 step Many ask entries = Ok (behind ask entries)
 
-abbrev pub then_cut : Result (List Entry) (List Entry) → (List Entry → Result (List Entry) (List Entry)) → Result (List Entry) (List Entry)
+abbrev pub then_cut : Result (List Entry) (List Entry) → (List Entry → Result (List Entry) (List Entry))
+    → Result (List Entry) (List Entry)
 then_cut (Ok rest) go_on = go_on rest
 then_cut (Err rest) go_on = Err rest
 

@@ -32,7 +32,8 @@ namings_of (says.Seen row version) = naming Sees row version
 namings_of (says.Free row version) = naming Frees row version
 namings_of _ = []
 
--- the versions of rows that an entry shows its session to have seen: those that it names, and those of the words on a `held` or `busy` line
+-- the versions of rows that an entry shows its session to have seen: those that it names, and those of the words on a
+-- `held` or `busy` line
 abbrev pub rows_known : Entry → List Change
 rows_known (says.Held row first second) = change_at row (first / 4) ∷ change_at row (second / 4) ∷ []
 rows_known (says.Busy row first second) = change_at row (first / 4) ∷ change_at row (second / 4) ∷ []
@@ -53,8 +54,9 @@ abbrev pub loads_in : List Placed → List Change
 loads_in [] = []
 loads_in (place ∷ places) = (loads_of place ++ word_change place.entry) ++ loads_in places
 
--- The floor of a row at a line: the greatest of its version at the phase's start, the versions that its session's earlier lines
--- show, and those that actions gave it up to the session's last one that has ended. `earlier` are the entries before the line.
+-- The floor of a row at a line: the greatest of its version at the phase's start, the versions that its session's
+-- earlier lines show, and those that actions gave it up to the session's last one that has ended. `earlier` are the
+-- entries before the line.
 abbrev pub floor_of : List Placed → List Placed → Placed → ℕ → ℕ
 floor_of all earlier place row =
     max (max (times (is_of row) (each_of row_change (before_phase place.phase all)))
@@ -71,15 +73,19 @@ word_floor_of all earlier place word =
 abbrev pub AllBelow : ℕ → ℕ → List Change → Type 0
 AllBelow row version changes = Each (λ change. change.row ≡ row → change.version < version) changes
 
--- no release by an action up to the session's last one that has ended is at the version or above, nor did the row stand FREE there as the phase began
+-- no release by an action up to the session's last one that has ended is at the version or above, nor did the row
+-- stand FREE there as the phase began
 pub record IsAboveReleases (all : List Placed) (place : Placed) (row version : ℕ) : Type 0 where
   pub released : AllBelow row version (each_of release_of (by_actions place.context.done all))
-  pub stood : is_free_after (before_phase place.phase all) row ≡ true → times (is_of row) (each_of row_change (before_phase place.phase all)) < version
+  pub stood : is_free_after (before_phase place.phase all) row ≡ true
+      → times (is_of row) (each_of row_change (before_phase place.phase all)) < version
 
 -- what the way of naming asks
 abbrev pub KeepsAbove : List Placed → List Placed → Placed → How → ℕ → ℕ → Type 0
-KeepsAbove all earlier place Changes row version = (floor_of all earlier place row < version) × IsAboveReleases all place row version
-KeepsAbove all earlier place Sees row version = (floor_of all earlier place row ≤ version) × IsAboveReleases all place row version
+KeepsAbove all earlier place Changes row version =
+    (floor_of all earlier place row < version) × IsAboveReleases all place row version
+KeepsAbove all earlier place Sees row version =
+    (floor_of all earlier place row ≤ version) × IsAboveReleases all place row version
 KeepsAbove all earlier place Frees row version = floor_of all earlier place row ≤ version
 
 -- each row at a version that it keeps above, and that the row had by the phase's end

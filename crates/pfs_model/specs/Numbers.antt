@@ -23,7 +23,8 @@ end_event_id context (event ∷ events) = cond (is_let_through event.verdict) (S
 
 abbrev pub IsNumbered : Context → Entry → Type 0
 IsNumbered context (says.Start event verdict consumers thread class table) = event ≡ event_id context verdict
-IsNumbered context (says.End event last consumers thread) = (event ≡ ending_id context.opened) × (last ≡ end_event_id context context.opened)
+IsNumbered context (says.End event last consumers thread) =
+    (event ≡ ending_id context.opened) × (last ≡ end_event_id context context.opened)
 IsNumbered context _ = Unit {0}
 
 abbrev pub AreNumbered : List Placed → Type 0

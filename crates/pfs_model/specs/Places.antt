@@ -1,4 +1,5 @@
--- The entries of all journals in the order of the report, each with where it stands and what its session's entries before it tell.
+-- The entries of all journals in the order of the report, each with where it stands and what its session's entries
+-- before it tell.
 use Rattle.std.specs.Prelude.{ℕ, ◌≤◌, ◌==◌, nat_lt, nat_le, cond, Bool, List, [], ◌∷◌, ◌++◌}
 use Rattle.pfs_event.specs.declared.entry.Entry.{Entry}
 use Rattle.pfs_model.specs.declared.lines.Line.{Line}
@@ -12,7 +13,8 @@ pub record Block : Type 0 where
   pub lines : List Line
   pub parts : List (List Entry)
 
--- an entry, the phase and the session in whose journal it stands, its line, and what the session's entries before it tell
+-- an entry, the phase and the session in whose journal it stands, its line, and what the session's entries before it
+-- tell
 pub record Placed : Type 0 where
   pub phase : ℕ
   pub session : ℕ
@@ -32,7 +34,8 @@ abbrev pub placed_lines : ℕ → ℕ → Context → List Line → List (List E
 placed_lines phase session context [] parts = []
 placed_lines phase session context (line ∷ lines) [] = []
 placed_lines phase session context (line ∷ lines) (part ∷ parts) =
-    placed_part phase session line (turned context) part ++ placed_lines phase session (after context line part) lines parts
+    placed_part phase session line (turned context) part
+    ++ placed_lines phase session (after context line part) lines parts
 
 abbrev pub after_lines : Context → List Line → List (List Entry) → Context
 after_lines context [] parts = context
@@ -75,7 +78,8 @@ in_phase phase places = chosen (λ place. place.phase == phase) places
 abbrev pub places : List Block → List Placed
 places blocks = places_behind [] blocks
 
--- each block's entries are what its lines ask for and allow, behind the session's earlier blocks; and the phases never fall
+-- each block's entries are what its lines ask for and allow, behind the session's earlier blocks; and the phases
+-- never fall
 abbrev pub AreShapedBehind : List Block → ℕ → List Block → Type 0
 AreShapedBehind earlier phase [] = Unit {0}
 AreShapedBehind earlier phase (block ∷ blocks) =

@@ -24,7 +24,8 @@ abbrev pub drawn_of : ℕ → List ℕ → ℕ
 drawn_of kind [] = 0
 drawn_of kind (other ∷ others) = cond (other == kind) 1 0 + drawn_of kind others
 
--- the row was released after its last change, or it opened FREE and has no change: by the last line that changes or releases it
+-- the row was released after its last change, or it opened FREE and has no change: by the last line that changes or
+-- releases it
 abbrev pub stands_free : Entry → ℕ → Bool → Bool
 stands_free (says.Free at version) row before = cond (at == row) true before
 stands_free (says.Add at version) row before = cond (at == row) false before
@@ -53,7 +54,8 @@ AreLast before (change ∷ changes) = (change.version ≡ last_of change.row bef
 abbrev pub Agrees : List Placed → Entry → Type 0
 Agrees earlier (says.Long row version ticket) = ticket ≡ drawn_of (kind_of_row row) (each_of tickets_at earlier)
 Agrees earlier (says.Free row version) = version ≡ last_of row (each_of row_change earlier)
-Agrees earlier (says.Seen row version) = (version ≡ last_of row (each_of row_change earlier)) × (is_free earlier row ≡ false)
+Agrees earlier (says.Seen row version) = (version ≡ last_of row (each_of row_change earlier))
+    × (is_free earlier row ≡ false)
 Agrees earlier (says.Vacant row) = is_free earlier row ≡ true
 Agrees earlier (says.Held row first second) = ⊥
 Agrees earlier (says.Busy row first second) = ⊥
@@ -100,7 +102,8 @@ pub record AreAlone (all : List Placed) : Type 0 where
   pub joint : AreJoint all
   pub none : NoneHeldBack all
 
--- Journals of the right shape in which each line agrees with those before it have chains, the order of the actions, the versions of
--- words along them, and floors; and nothing is held back in them. Of tickets, places and what is vacant this says nothing.
+-- Journals of the right shape in which each line agrees with those before it have chains, the order of the actions,
+-- the versions of words along them, and floors; and nothing is held back in them. Of tickets, places and what is
+-- vacant this says nothing.
 abbrev pub PlainKeeps : Type 0
 PlainKeeps = (blocks : List Block) → IsShaped blocks → IsPlain (places blocks) → AreAlone (places blocks)

@@ -1,4 +1,5 @@
--- Where an event that starts or ends is brought: its summary row, its digest's row, and the places of rings that its flags ask for.
+-- Where an event that starts or ends is brought: its summary row, its digest's row, and the places of rings that its
+-- flags ask for.
 use Rattle.std.specs.Prelude.{ℕ, ◌≡◌, ◌+◌, ◌==◌, nat_lt, nat_le, Bool, true, false, ◌&&◌, cond, List, [], ◌∷◌, ◌++◌, length, Option, Some, None}
 use Rattle.pfs_event.specs.declared.entry.Entry.{Entry}
 use Rattle.pfs_event.specs.declared.entry.Entry.TheVariants as says
@@ -38,11 +39,13 @@ in_slot (Some slot) dues = dues slot
 -- the current place of an event, where it is offered to it; `others` are the events around it
 abbrev pub current_due : (ℕ → ℕ → ℕ) → Option ℕ → Opened → List Opened → List Due
 current_due flags slot event others =
-    in_slot slot (λ own. due_if (is_offered_current flags slot event) (Puts (place_of_start own event.subject.kind others)))
+    in_slot slot (λ own. due_if (is_offered_current flags slot event)
+    (Puts (place_of_start own event.subject.kind others)))
 
 -- the place of the session's next history put of the kind: by how many of them were written before
 abbrev pub history_place : List Placed → ℕ → ℕ → ℕ → ℕ
-history_place earlier session slot kind = history_row slot kind (length (history_puts slot kind (by_session session earlier)))
+history_place earlier session slot kind =
+    history_row slot kind (length (history_puts slot kind (by_session session earlier)))
 
 -- the histories of an event that ends, by the versions that its end loaded
 abbrev pub history_dues : (ℕ → ℕ → ℕ) → List Placed → Placed → Opened → Option ℕ → Option ℕ → List Due
@@ -50,7 +53,8 @@ history_dues flags earlier place event consumers thread =
     in_slot place.context.slot (λ own.
     due_if (is_offered_at_end history_consumer flags place.context.slot event consumers thread)
     (Puts (history_place earlier place.session own (ring_number event.subject.kind)))
-    ++ due_if (is_offered_at_end long_consumer flags place.context.slot event consumers thread) (PutsLong (ring_number event.subject.kind)))
+    ++ due_if (is_offered_at_end long_consumer flags place.context.slot event consumers thread)
+    (PutsLong (ring_number event.subject.kind)))
 
 -- behind the end of an event: nothing where it isn't let through
 abbrev pub dues_at_end : (ℕ → ℕ → ℕ) → List Placed → Placed → List Opened → Option ℕ → Option ℕ → List Due
@@ -67,7 +71,8 @@ abbrev pub dues_at_start : (ℕ → ℕ → ℕ) → Option ℕ → List Opened 
 dues_at_start flags slot [] = []
 dues_at_start flags slot (event ∷ others) = current_due flags slot event others
 
--- the entries behind a start or an end that belong to it: those up to the next entry with which a line or another event begins
+-- the entries behind a start or an end that belong to it: those up to the next entry with which a line or another
+-- event begins
 abbrev pub behind_it : List Placed → List Entry
 behind_it [] = []
 behind_it (place ∷ places) = cond (is_head place.entry) [] (place.entry ∷ behind_it places)
@@ -82,7 +87,8 @@ ArePaid (due ∷ dues) (entry ∷ entries) = (is_paid due entry ≡ true) × Are
 -- what stands behind a start or an end, with the entries before it
 abbrev pub IsBrought : (ℕ → ℕ → ℕ) → List Placed → Placed → Entry → List Entry → Type 0
 IsBrought flags earlier place (says.Start event verdict consumers thread class table) behind =
-    ArePaid (dues_at_start flags place.context.slot (noted (subject_of place.line) place.context place.entry).opened) behind
+    ArePaid (dues_at_start flags place.context.slot (noted (subject_of place.line) place.context place.entry).opened)
+    behind
 IsBrought flags earlier place (says.End event last consumers thread) behind =
     ArePaid (dues_at_end flags earlier place place.context.opened consumers thread) behind
 IsBrought flags earlier place entry behind = Unit {0}
@@ -92,7 +98,7 @@ AreBroughtBehind flags earlier [] = Unit {0}
 AreBroughtBehind flags earlier (place ∷ places) =
     IsBrought flags earlier place place.entry (behind_it places) × AreBroughtBehind flags (place ∷ earlier) places
 
--- Each event is brought just where its flags ask for, in this order: its row, its digest's row, its current place, its history, the
--- long history.
+-- Each event is brought just where its flags ask for, in this order: its row, its digest's row, its current place,
+-- its history, the long history.
 abbrev pub AreBrought : (ℕ → ℕ → ℕ) → List Placed → Type 0
 AreBrought flags all = AreBroughtBehind flags [] all

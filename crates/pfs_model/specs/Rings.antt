@@ -27,21 +27,25 @@ abbrev pub history_row : ℕ → ℕ → ℕ → ℕ
 history_row slot kind put = 8450 + 56 * slot + 16 + 10 * kind + put % 10
 
 abbrev pub is_history_row : ℕ → ℕ → ℕ → Bool
-is_history_row slot kind row = nat_le (8450 + 56 * slot + 16 + 10 * kind) row && nat_lt row (8450 + 56 * slot + 26 + 10 * kind)
+is_history_row slot kind row =
+    nat_le (8450 + 56 * slot + 16 + 10 * kind) row && nat_lt row (8450 + 56 * slot + 26 + 10 * kind)
 
 abbrev pub history_put : ℕ → ℕ → Option ℕ → Entry → List Change
-history_put slot kind (Some own) (says.Ring row version) = cond ((own == slot) && is_history_row slot kind row) (change_at row version ∷ []) []
+history_put slot kind (Some own) (says.Ring row version) =
+    cond ((own == slot) && is_history_row slot kind row) (change_at row version ∷ []) []
 history_put slot kind own entry = []
 
 -- the successful history puts of a kind by the session in this slot, from the first on
 abbrev pub history_puts : ℕ → ℕ → List Placed → List Change
 history_puts slot kind [] = []
-history_puts slot kind (place ∷ places) = history_put slot kind place.context.slot place.entry ++ history_puts slot kind places
+history_puts slot kind (place ∷ places) =
+    history_put slot kind place.context.slot place.entry ++ history_puts slot kind places
 
 -- put i goes to place i modulo 10
 abbrev pub AreInTurn : ℕ → ℕ → ℕ → List Change → Type 0
 AreInTurn slot kind put [] = Unit {0}
-AreInTurn slot kind put (change ∷ changes) = (change.row ≡ history_row slot kind put) × AreInTurn slot kind (put + 1) changes
+AreInTurn slot kind put (change ∷ changes) =
+    (change.row ≡ history_row slot kind put) × AreInTurn slot kind (put + 1) changes
 
 -- no release of the row stands at this version or above
 abbrev pub is_kept : List Change → Change → Bool
@@ -65,12 +69,14 @@ is_reading_line _ = false
 abbrev pub long_put : Line → Entry → List LongPut
 long_put line (says.Long row version ticket) = record { row = row; ticket = Some ticket } ∷ []
 long_put line (says.Late row ticket greater) = record { row = row; ticket = Some ticket } ∷ []
-long_put line (says.Busy row first second) = cond (not (is_reading_line line) && nat_le 10242 row) (record { row = row; ticket = None } ∷ []) []
+long_put line (says.Busy row first second) =
+    cond (not (is_reading_line line) && nat_le 10242 row) (record { row = row; ticket = None } ∷ []) []
 long_put line entry = []
 
 abbrev pub long_puts : ℕ → List Placed → List LongPut
 long_puts kind [] = []
-long_puts kind (place ∷ places) = filter (λ put. kind_of_row put.row == kind) (long_put place.line place.entry) ++ long_puts kind places
+long_puts kind (place ∷ places) =
+    filter (λ put. kind_of_row put.row == kind) (long_put place.line place.entry) ++ long_puts kind places
 
 abbrev pub ticket_shown : Option ℕ → List ℕ
 ticket_shown None = []
@@ -83,7 +89,8 @@ tickets_shown (put ∷ puts) = ticket_shown put.ticket ++ tickets_shown puts
 -- how many of the tickets from this one on, so many, belong to a row
 abbrev pub tickets_of_row : ℕ → ℕ → ℕ → ℕ → ℕ
 tickets_of_row kind row from zero = 0
-tickets_of_row kind row from (suc more) = cond (long_row kind (from + more) == row) 1 0 + tickets_of_row kind row from more
+tickets_of_row kind row from (suc more) =
+    cond (long_row kind (from + more) == row) 1 0 + tickets_of_row kind row from more
 
 -- tickets that rise
 abbrev pub AreRisingTickets : List ℕ → Type 0
@@ -95,14 +102,21 @@ AreRisingTickets (ticket ∷ (next ∷ tickets)) = (ticket < next) × AreRisingT
 abbrev pub IsAtOwn : ℕ → LongPut → Type 0
 IsAtOwn kind put = (ticket : ℕ) → put.ticket ≡ Some ticket → put.row ≡ long_row kind ticket
 
--- The tickets of a kind in a phase, where so many puts stood in the phases before: each place has as many put lines as tickets, the
--- tickets that are shown stand at their places, are different and among those drawn in the phase, and rise along a session.
+-- The tickets of a kind in a phase, where so many puts stood in the phases before: each place has as many put lines
+-- as tickets, the tickets that are shown stand at their places, are different and among those drawn in the phase, and
+-- rise along a session.
 pub record AreTickets (all : List Placed) (phase kind : ℕ) : Type 0 where
-  pub placed : (row : ℕ) → times (λ put. put.row == row) (long_puts kind (in_phase phase all)) ≡ tickets_of_row kind row (length (long_puts kind (before_phase phase all))) (length (long_puts kind (in_phase phase all)))
+  pub placed : (row : ℕ)
+      → times (λ put. put.row == row) (long_puts kind (in_phase phase all))
+      ≡ tickets_of_row kind row (length (long_puts kind (before_phase phase all)))
+      (length (long_puts kind (in_phase phase all)))
   pub own : Each (IsAtOwn kind) (long_puts kind (in_phase phase all))
   pub once : (ticket : ℕ) → times (λ other. other == ticket) (tickets_shown (long_puts kind (in_phase phase all))) ≤ 1
-  pub drawn : (ticket : ℕ) → IsAmong ticket (tickets_shown (long_puts kind (in_phase phase all))) → (length (long_puts kind (before_phase phase all)) ≤ ticket) × (ticket < length (long_puts kind (up_to_phase phase all)))
-  pub rising : (session : ℕ) → AreRisingTickets (tickets_shown (long_puts kind (by_session session (in_phase phase all))))
+  pub drawn : (ticket : ℕ) → IsAmong ticket (tickets_shown (long_puts kind (in_phase phase all)))
+      → (length (long_puts kind (before_phase phase all)) ≤ ticket)
+      × (ticket < length (long_puts kind (up_to_phase phase all)))
+  pub rising : (session : ℕ)
+      → AreRisingTickets (tickets_shown (long_puts kind (by_session session (in_phase phase all))))
 
 -- a ticket at a row and a version
 pub record Ticketed : Type 0 where
@@ -115,16 +129,20 @@ ticketed_at (says.Long row version ticket) = record { row = row; version = versi
 ticketed_at entry = []
 
 abbrev pub is_released_between : List Change → ℕ → ℕ → ℕ → Bool
-is_released_between releases row low high = not (times (λ release. (release.row == row) && nat_le low release.version && nat_lt release.version high) releases == 0)
+is_released_between releases row low high =
+    not (times (λ release. (release.row == row) && nat_le low release.version && nat_lt release.version high) releases
+    == 0)
 
 -- Along a place of the long history the tickets rise with the versions, between two releases.
 abbrev pub LongRises : List Placed → Type 0
 LongRises all =
     (first next : Ticketed) → IsAmong first (each_of ticketed_at all) → IsAmong next (each_of ticketed_at all)
-    → first.row ≡ next.row → first.version < next.version → is_released_between (each_of release_of all) first.row first.version next.version ≡ false
+    → first.row ≡ next.row → first.version < next.version
+    → is_released_between (each_of release_of all) first.row first.version next.version ≡ false
     → first.ticket < next.ticket
 
--- the current places of a thread's ring: four for waits by depth, one for stages, ten for statements by depth, one for transactions
+-- the current places of a thread's ring: four for waits by depth, one for stages, ten for statements by depth, one
+-- for transactions
 abbrev pub current_row : ℕ → EventKind → ℕ → ℕ
 current_row slot kinds.Wait depth = 8450 + 56 * slot + depth
 current_row slot kinds.Stage depth = 8450 + 56 * slot + 4

@@ -52,7 +52,8 @@ table_of (Some subject) = subject.table
 abbrev pub loads_at : Option Subject → Context → Entry → List Change
 loads_at subject context (says.Start event verdict consumers thread class table) =
     word_named (λ number. number) (Some 0) consumers
-    ++ (word_named thread_word context.slot thread ++ (word_named class_word (class_of subject) class ++ word_named table_word (table_of subject) table))
+    ++ (word_named thread_word context.slot thread
+    ++ (word_named class_word (class_of subject) class ++ word_named table_word (table_of subject) table))
 loads_at subject context (says.End event last consumers thread) =
     word_named (λ number. number) (Some 0) consumers ++ word_named thread_word context.slot thread
 loads_at subject context (says.Saw word version) = change_at word version ∷ []
@@ -114,7 +115,8 @@ is_statement kinds.Transaction = false
 abbrev pub open_through : (EventKind → Bool) → List Opened → ℕ
 open_through test opened = times (λ event. is_let_through event.verdict && test event.subject.kind) opened
 
--- The verdict: the first case that holds, of a session with this slot and these open events, under at most `stack` nested statements.
+-- The verdict: the first case that holds, of a session with this slot and these open events, under at most `stack`
+-- nested statements.
 abbrev pub verdict_on : ℕ → Subject → SeenSetup → List Opened → Verdict
 verdict_on stack subject seen opened =
     if not (is_on seen.consumers consumers.GlobalInstrumentation) then OffGlobal else
@@ -128,29 +130,42 @@ verdict_on stack subject seen opened =
 
 abbrev pub verdict_of : ℕ → Option ℕ → Subject → SeenSetup → List Opened → Verdict
 verdict_of stack None subject seen opened = LostThread
-verdict_of stack (Some slot) subject seen opened = if is_none subject.class then LostClass else verdict_on stack subject seen opened
+verdict_of stack (Some slot) subject seen opened = if is_none subject.class then LostClass
+    else verdict_on stack subject seen opened
 
 -- the start names the verdict of the flags that it saw
 abbrev pub IsJudged : ℕ → (ℕ → ℕ → ℕ) → Option Subject → Context → Entry → Type 0
 IsJudged stack flags (Some subject) context (says.Start event verdict consumers thread class table) =
     verdict ≡ verdict_of stack context.slot subject
-    (seen_by flags context.slot (record { subject = subject; verdict = verdict; index = context.begun; number = event; consumers = consumers; thread = thread; class = class; table = table }))
+    (seen_by flags context.slot (record {
+      subject = subject;
+      verdict = verdict;
+      index = context.begun;
+      number = event;
+      consumers = consumers;
+      thread = thread;
+      class = class;
+      table = table;
+    }))
     context.opened
 IsJudged stack flags subject context entry = Unit {0}
 
 abbrev pub AreJudged : ℕ → (ℕ → ℕ → ℕ) → List Placed → Type 0
 AreJudged stack flags [] = Unit {0}
-AreJudged stack flags (place ∷ places) = IsJudged stack flags (subject_of place.line) place.context place.entry × AreJudged stack flags places
+AreJudged stack flags (place ∷ places) = IsJudged stack flags (subject_of place.line) place.context place.entry
+    × AreJudged stack flags places
 
 -- a let-through event is timed where its class is, and its table if it is of one
 abbrev pub is_timed : (ℕ → ℕ → ℕ) → Option ℕ → Opened → Bool
 is_timed flags slot event =
-    has_time (seen_by flags slot event).class && (is_none event.subject.table || has_time (seen_by flags slot event).table)
+    has_time (seen_by flags slot event).class
+    && (is_none event.subject.table || has_time (seen_by flags slot event).table)
 
 -- a let-through statement is digested where `statements_digest` acts at its start
 abbrev pub is_digested : (ℕ → ℕ → ℕ) → Option ℕ → Opened → Bool
 is_digested flags slot event =
-    is_statement event.subject.kind && is_let_through event.verdict && acts_of (seen_by flags slot event).consumers consumers.StatementsDigest
+    is_statement event.subject.kind && is_let_through event.verdict
+    && acts_of (seen_by flags slot event).consumers consumers.StatementsDigest
 
 abbrev pub current_consumer : EventKind → Consumer
 current_consumer kinds.Wait = consumers.WaitsCurrent
@@ -179,8 +194,8 @@ abbrev pub is_offered_current : (ℕ → ℕ → ℕ) → Option ℕ → Opened 
 is_offered_current flags slot event =
     is_attributed event.verdict && acts_of (seen_by flags slot event).consumers (current_consumer event.subject.kind)
 
--- and at its end to a history where that consumer acts then and the thread's HISTORY is YES then; `consumers` and `thread` are the
--- versions that its end loaded
+-- and at its end to a history where that consumer acts then and the thread's HISTORY is YES then; `consumers` and
+-- `thread` are the versions that its end loaded
 abbrev pub is_offered_at_end : (EventKind → Consumer) → (ℕ → ℕ → ℕ) → Option ℕ → Opened → Option ℕ → Option ℕ → Bool
 is_offered_at_end ring flags slot event consumers thread =
     is_offered_current flags slot event

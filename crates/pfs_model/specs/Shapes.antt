@@ -1,4 +1,5 @@
--- What a line asks of a session's journal and allows there: a shape is a list of items, and goes by what the entries so far tell.
+-- What a line asks of a session's journal and allows there: a shape is a list of items, and goes by what the entries
+-- so far tell.
 use Rattle.std.specs.Prelude.{ℕ, Bool, true, false, ◌&&◌, if◌then◌else◌, List, [], ◌∷◌, ◌++◌, map, Option, None, is_some, is_none}
 use Rattle.pfs_event.specs.declared.kind.EventKind.{EventKind}
 use Rattle.pfs_event.specs.declared.kind.EventKind.TheVariants as kinds
@@ -30,7 +31,8 @@ counted_slot slot Attributed = slot
 counted_slot slot _ = None
 
 abbrev pub starting : Option ℕ → Subject → List Item
-starting slot subject = one (asks.Start (is_some slot) (is_none subject.class) (is_some subject.table)) ∷ maybe asks.Put ∷ []
+starting slot subject =
+    one (asks.Start (is_some slot) (is_none subject.class) (is_some subject.table)) ∷ maybe asks.Put ∷ []
 
 abbrev pub puts : List Item
 puts = maybe asks.Put ∷ maybe asks.Put ∷ maybe asks.LongPut ∷ []
@@ -42,12 +44,14 @@ digest_of kinds.Stage = []
 digest_of kinds.Transaction = []
 
 abbrev pub counting : Option ℕ → Opened → Bool → List Item
-counting slot event true = one (asks.Summary (counted_slot slot event.verdict) event.subject.cell) ∷ (digest_of event.subject.kind ++ puts)
+counting slot event true =
+    one (asks.Summary (counted_slot slot event.verdict) event.subject.cell) ∷ (digest_of event.subject.kind ++ puts)
 counting slot event false = []
 
 -- which words an end loads goes by the printed slot and the printed verdict
 abbrev pub ending : Option ℕ → Opened → List Item
-ending slot event = one (asks.End (is_some slot && is_let_through event.verdict)) ∷ counting slot event (is_let_through event.verdict)
+ending slot event = one (asks.End (is_some slot && is_let_through event.verdict))
+    ∷ counting slot event (is_let_through event.verdict)
 
 abbrev pub is_stage : EventKind → Bool
 is_stage kinds.Stage = true
@@ -68,7 +72,8 @@ ending_stage slot (event ∷ events) = if is_stage event.subject.kind then endin
 -- and the event around it too, where it is a stage
 abbrev pub ending_both : Option ℕ → List Opened → List Item
 ending_both slot [] = []
-ending_both slot (event ∷ events) = ending slot event ++ (if is_stage event.subject.kind then ending_first slot events else [])
+ending_both slot (event ∷ events) = ending slot event ++ (if is_stage event.subject.kind then ending_first slot events
+    else [])
 
 abbrev pub added : ℕ → Item
 added row = one (asks.Added row)

@@ -72,17 +72,20 @@ lower_of taking (Some other) = cond (nat_lt other.version taking.version) other 
 abbrev pub first_taking : ℕ → ℕ → List Taking → Option Taking
 first_taking row version [] = None
 first_taking row version (taking ∷ takings) =
-    cond ((taking.row == row) && nat_lt version taking.version) (Some (lower_of taking (first_taking row version takings))) (first_taking row version takings)
+    cond ((taking.row == row) && nat_lt version taking.version)
+    (Some (lower_of taking (first_taking row version takings))) (first_taking row version takings)
 
 abbrev pub action_of : Option Taking → Option ℕ
 action_of None = None
 action_of (Some taking) = Some taking.action
 
--- the action that takes an event out of the row that it was added to: the first one that takes the row at a version above the addition's
+-- the action that takes an event out of the row that it was added to: the first one that takes the row at a version
+-- above the addition's
 abbrev pub removal_of : List Placed → Addition → Option ℕ
 removal_of all one = action_of (first_taking one.row one.version (takings_of all))
 
--- a row of a summary: of a session, of an account's or a user's or a host's names (as ids), of all, or of a digest's place
+-- a row of a summary: of a session, of an account's or a user's or a host's names (as ids), of all, or of a digest's
+-- place
 pub data Key : Type 0 where
   KeyThread : ℕ → Key
   KeyAccount : ℕ → ℕ → Key
@@ -95,13 +98,17 @@ pub record Names : Type 0 where
   pub user : ℕ
   pub host : ℕ
 
--- the event leads to the key at its level: all but the global one want an attributed event, and those of names a place that the session has
+-- the event leads to the key at its level: all but the global one want an attributed event, and those of names a
+-- place that the session has
 abbrev pub leads_to : (ℕ → Names) → Key → Addition → Bool
 leads_to names (KeyThread session) one = is_attributed one.event.verdict && (one.session == session)
 leads_to names (KeyAccount user host) one =
-    is_attributed one.event.verdict && is_some one.account && ((names one.session).user == user) && ((names one.session).host == host)
-leads_to names (KeyUser user) one = is_attributed one.event.verdict && is_some one.user && ((names one.session).user == user)
-leads_to names (KeyHost host) one = is_attributed one.event.verdict && is_some one.host && ((names one.session).host == host)
+    is_attributed one.event.verdict && is_some one.account && ((names one.session).user == user)
+    && ((names one.session).host == host)
+leads_to names (KeyUser user) one =
+    is_attributed one.event.verdict && is_some one.user && ((names one.session).user == user)
+leads_to names (KeyHost host) one =
+    is_attributed one.event.verdict && is_some one.host && ((names one.session).host == host)
 leads_to names KeyGlobal one = true
 
 abbrev pub is_class : ℕ → Option ℕ → Bool
@@ -137,7 +144,8 @@ covers_level (KeyHost host) Global = true
 covers_level KeyGlobal Global = true
 covers_level _ _ = false
 
--- TRUNCATE of these tables covers an event at the key of a kind's summary. By thread every take of the event's cell does, a quit's too.
+-- TRUNCATE of these tables covers an event at the key of a kind's summary. By thread every take of the event's cell
+-- does, a quit's too.
 abbrev pub covers : Key → TableKind → Option Table → Bool
 covers (KeyThread session) kind table = true
 covers key kind (Some (tables.Summary other level)) = is_same_kind kind other && covers_level key level
@@ -158,11 +166,13 @@ abbrev pub stays_counted : (ℕ → Bool) → ℕ → Option ℕ → Bool
 stays_counted covering n None = true
 stays_counted covering n (Some first) = not (some_action covering first n)
 
--- the events of a class, or of a cell, that count in a summary row after n actions; `truncates` says which table an action truncates, if
--- any
-abbrev pub counted_in : List Placed → (ℕ → Names) → (ℕ → Option Table) → ℕ → TableKind → (Addition → Bool) → Key → List Addition
+-- the events of a class, or of a cell, that count in a summary row after n actions; `truncates` says which table an
+-- action truncates, if any
+abbrev pub counted_in : List Placed → (ℕ → Names) → (ℕ → Option Table) → ℕ → TableKind → (Addition → Bool) → Key
+    → List Addition
 counted_in all names truncates n kind test key =
-    filter (λ one. test one && leads_to names key one && stays_counted (λ action. covers key kind (truncates action)) n (removal_of all one)) (additions_of all)
+    filter (λ one. test one && leads_to names key one
+    && stays_counted (λ action. covers key kind (truncates action)) n (removal_of all one)) (additions_of all)
 
 -- and in a digest's row, by its row's number: those whose digest has that row
 abbrev pub is_digest_summary : Option Table → Bool
@@ -171,7 +181,8 @@ is_digest_summary _ = false
 
 abbrev pub counted_in_digest : List Placed → (ℕ → Option Table) → ℕ → ℕ → List Addition
 counted_in_digest all truncates n row =
-    filter (λ one. (one.row == row) && (digest_row one.event.subject.digest == row) && stays_counted (λ action. is_digest_summary (truncates action)) n (removal_of all one)) (additions_of all)
+    filter (λ one. (one.row == row) && (digest_row one.event.subject.digest == row)
+    && stays_counted (λ action. is_digest_summary (truncates action)) n (removal_of all one)) (additions_of all)
 
 -- the numbers of a summary row: what the events that count there add, merged
 abbrev pub summary_of : (ℕ → Opened → Stat) → List Addition → Stat

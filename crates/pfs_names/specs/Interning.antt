@@ -25,11 +25,13 @@ Interns old new text = (Contains old text × (new ≡ old)) ⊎ (¬ Contains old
 -- the look-up by text gives each text its place and finds nothing else, and the texts keep within the limits
 module _ {Y Z : Type 0} where
   pub record Agrees (texts : List (String Y)) (ids : BTreeMap (String Z) ℕ) : Type 0 where
-    pub places : (text : List ℕ) (id : ℕ) → (get_by_text ids text ≡ Some id) ↔ (slice_get (map string_bytes texts) id ≡ Some text)
+    pub places : (text : List ℕ) (id : ℕ) → (get_by_text ids text ≡ Some id)
+        ↔ (slice_get (map string_bytes texts) id ≡ Some text)
     pub short : (text : List ℕ) → Contains (map string_bytes texts) text → length text ≤ 1024
     pub few : length texts ≤ 65536
 
 -- the two ways to say what interning does agree, and so do the two ways to say what an id is
 pub record InterningAgrees : Type 0 where
   pub interns : (old new : List (List ℕ)) (text : List ℕ) → Interns old new text ↔ (new ≡ interned old text)
-  pub ids : (texts : List (List ℕ)) (id : ℕ) (text : List ℕ) → AreNames texts → (slice_get texts id ≡ Some text) ↔ (Contains texts text × (id ≡ id_of texts text))
+  pub ids : (texts : List (List ℕ)) (id : ℕ) (text : List ℕ) → AreNames texts → (slice_get texts id ≡ Some text)
+      ↔ (Contains texts text × (id ≡ id_of texts text))

@@ -108,7 +108,8 @@ impl Names {
         ensures ok { OnOk result (Interns self.old self.new text.now) }
         ensures known { Contains self.old text.now → IsOk result }
         ensures too_long { (result ≡ Err NameFault.TooLong) ↔ (1024 < length text.now) }
-        ensures too_many { (result ≡ Err NameFault.TooMany) ↔ ((length text.now ≤ 1024) × (¬ Contains self.old text.now) × (length self.old ≡ 65536)) }
+        ensures too_many { (result ≡ Err NameFault.TooMany)
+            ↔ ((length text.now ≤ 1024) × (¬ Contains self.old text.now) × (length self.old ≡ 65536)) }
         ensures err { OnErr result (self.new ≡ self.old) }
         // Ids that were given before keep their texts.
         ensures kept { (id : ℕ) → id < length self.old → slice_get self.new id ≡ slice_get self.old id }

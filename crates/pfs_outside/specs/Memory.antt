@@ -9,7 +9,8 @@ use Rattle.pfs_outside.specs.declared.sink.Wrote.TheVariants as wrote
 abbrev pub call_after : ℕ → ℕ
 call_after calls = min (calls + 1) 18446744073709551615
 
--- a source in memory: what is still to come, the numbers of the reads that are to fail, how many reads there were, and how many failed
+-- a source in memory: what is still to come, the numbers of the reads that are to fail, how many reads there were,
+-- and how many failed
 pub record Reading : Type 0 where
   pub left : List ℕ
   pub fails : List ℕ
@@ -41,8 +42,8 @@ faults_after_read faults (Bytes n) = faults
 faults_after_read faults End = faults
 faults_after_read faults Failed = call_after faults
 
--- a sink in memory: what was written, how many bytes there is room for in all, the numbers of the writes that are to fail,
--- how many writes there were, and how many failed
+-- a sink in memory: what was written, how many bytes there is room for in all, the numbers of the writes that are to
+-- fail, how many writes there were, and how many failed
 pub record Writing : Type 0 where
   pub text : List ℕ
   pub room : ℕ

@@ -9,7 +9,9 @@ use Rattle.pfs_outside.specs.declared.writing.WriteStop.TheVariants.{Failed, NoM
 
 -- a source was read: to its end, or past the most bytes that may be, or to its failure
 abbrev pub Reads : Option (List ℕ) → Option (List ℕ) → ℕ → ℕ → ℕ → Result (Vec ℕ Global) ReadStop → Type 0
-Reads before after old now most (Ok bytes) = IfSome before (λ text. bytes.items ≡ text) × IfSome after (λ rest. rest ≡ []) × (length bytes.items ≤ most) × (old ≤ now)
+Reads before after old now most (Ok bytes) =
+    IfSome before (λ text. bytes.items ≡ text) × IfSome after (λ rest. rest ≡ []) × (length bytes.items ≤ most)
+    × (old ≤ now)
 Reads before after old now most (Err stop.TooLong) = IfSome before (λ text. most < length text) × (old ≤ now)
 Reads before after old now most (Err stop.Failed) = Rose old now × (old ≤ now)
 Reads before after old now most (Err stop.NoMemory) = old ≤ now

@@ -1,5 +1,6 @@
-//! The standard streams as a source and a sink. They tell nothing of content: the trusted edge. Over a reader or a writer
-//! that tells what it has, as a slice or a `Vec`, the clauses of each call say what comes from it and what reaches it.
+//! The standard streams as a source and a sink. They tell nothing of content: the trusted edge. Over a reader or a
+//! writer that tells what it has, as a slice or a `Vec`, the clauses of each call say what comes from it and what
+//! reaches it.
 
 ghost use Rattle.std.specs.Prelude.{ℕ, List, Option, None, Ok, Err, ◌≡◌, ◌≢◌, ◌<◌, ◌≤◌, [], length, IfOk, OnOk};
 ghost use Rattle.std.specs.Io.KnownBytes.{Keeps};
@@ -92,8 +93,8 @@ fn read_again<R: Read>(reader: &mut R, buffer: &mut [u8]) -> Got
     Got::Failed
 }
 
-/// A writer of the system, as standard output, behind a buffer: it is called once for some 64 KiB. What is held back at the
-/// end goes out by `flush` alone.
+/// A writer of the system, as standard output, behind a buffer: it is called once for some 64 KiB. What is held back
+/// at the end goes out by `flush` alone.
 #[derive(Drop)]
 pub struct StdSink<W: Write + Drop> {
     writer: BufWriter<W>,
@@ -110,8 +111,8 @@ impl<W: Write + Drop> Model for StdSink<W> {
 }
 
 impl<W: Write + Drop> StdSink<W> {
-    /// A sink over this writer that holds nothing and has not failed yet. The memory of its buffer is taken here, and no
-    /// other call takes any.
+    /// A sink over this writer that holds nothing and has not failed yet. The memory of its buffer is taken here, and
+    /// no other call takes any.
     pub fn new(alloc: Global, writer: W) -> Result<StdSink<W>, NoMemory>
         ensures { IfOk result (λ sink. sink ≡ record { writer = writer; held = []; faults = 0 }) }
     {

@@ -91,7 +91,21 @@ with_limit l StatementClasses n = record l { statement_classes = n }
 
 -- the limits where a script gives none
 abbrev pub default_limits : Limits
-default_limits = record { thread_instances = 32; accounts = 32; users = 32; hosts = 32; digests = 64; statement_stack = 10; mutex_classes = 12; rwlock_classes = 8; cond_classes = 8; file_classes = 8; socket_classes = 4; stage_classes = 10; statement_classes = 10 }
+default_limits = record {
+  thread_instances = 32;
+  accounts = 32;
+  users = 32;
+  hosts = 32;
+  digests = 64;
+  statement_stack = 10;
+  mutex_classes = 12;
+  rwlock_classes = 8;
+  cond_classes = 8;
+  file_classes = 8;
+  socket_classes = 4;
+  stage_classes = 10;
+  statement_classes = 10;
+}
 
 -- a value is in the limit's range
 abbrev pub IsWithin : Limits → Limit → Type 0

@@ -45,5 +45,6 @@ table_name Accounts = codes "accounts"
 table_name Users = codes "users"
 table_name Hosts = codes "hosts"
 table_name (Events kind table) = codes "events_" ++ (kind_word kind ++ (codes "_" ++ event_word table))
-table_name (Summary kind table) = codes "events_" ++ (kind_word kind ++ (codes "_summary_" ++ (summary_word table ++ codes "_by_event_name")))
+table_name (Summary kind table) =
+    codes "events_" ++ (kind_word kind ++ (codes "_summary_" ++ (summary_word table ++ codes "_by_event_name")))
 table_name DigestSummary = codes "events_statements_summary_by_digest"

@@ -34,15 +34,20 @@ pub record Sense : Type 0 where
 
 -- under all lines
 abbrev pub sense_of : List Form → Sense
-sense_of lines = record { class = resolved (head_of lines); tables = tables_of lines; digests = digests_of (limits_of lines).digests lines }
+sense_of lines = record {
+  class = resolved (head_of lines);
+  tables = tables_of lines;
+  digests = digests_of (limits_of lines).digests lines;
+}
 
--- what a line says to the session of its block, or that it says nothing; each class that a script starts stands for something, and so
--- does each table
+-- what a line says to the session of its block, or that it says nothing; each class that a script starts stands for
+-- something, and so does each table
 abbrev pub block_line : Sense → Form → Option BlockLine
 block_line sense (form.Wait class) = option_map said.Wait (sense.class class)
 block_line sense (form.TableWait class schema name) =
     option_and_then (λ ref. option_map (said.TableWait ref) (table_number sense.tables schema name)) (sense.class class)
-block_line sense (form.Statement class text) = option_map (λ ref. said.Statement ref (digest_place sense.digests text)) (sense.class class)
+block_line sense (form.Statement class text) =
+    option_map (λ ref. said.Statement ref (digest_place sense.digests text)) (sense.class class)
 block_line sense (form.Transaction access) = Some (said.Transaction access)
 block_line sense (form.Stage class) = option_map said.Stage (sense.class class)
 block_line sense form.StageEnd = Some said.StageEnd
@@ -63,13 +68,22 @@ with_front (Some one) more = one ∷ more
 -- what the lines say to their session, up to the next block or phase
 unfoldable pub block_lines : Sense → List Form → List BlockLine
 block_lines sense [] = []
-block_lines sense (line ∷ lines) = if ends_block line then [] else with_front (block_line sense line) (block_lines sense lines)
+block_lines sense (line ∷ lines) = if ends_block line then []
+    else with_front (block_line sense line) (block_lines sense lines)
 
 -- the block that a line begins, with these lines behind it: at its first one a session gives its names
 abbrev pub block_with : List BlockLine → Form → Option Block
 block_with lines (form.Connect session user host) =
-    option_map (λ number. record { session = number; connect = Some (record { user = user; host = host }); lines = lines }) session
-block_with lines (form.Resume session) = option_map (λ number. record { session = number; connect = None; lines = lines }) session
+    option_map (λ number. record {
+      session = number;
+      connect = Some (record { user = user; host = host });
+      lines = lines;
+    }) session
+block_with lines (form.Resume session) = option_map (λ number. record {
+  session = number;
+  connect = None;
+  lines = lines;
+}) session
 block_with lines _ = None
 
 abbrev pub block_behind : Sense → List Form → Form → Option Block

@@ -1,12 +1,13 @@
--- Events as brackets over a finished list of marks: where each one closes, which are open behind the list, and which marks may follow.
--- There is no stack here; an event goes by the place of its line, from 0.
+-- Events as brackets over a finished list of marks: where each one closes, which are open behind the list, and which
+-- marks may follow. There is no stack here; an event goes by the place of its line, from 0.
 use Rattle.std.specs.Prelude.{ℕ, zero, suc, ◌≡◌, ◌+◌, ◌==◌, Bool, true, false, not, if◌then◌else◌, List, [], ◌∷◌, ◌++◌, map, filter, reverse, drop, Option, Some, None, is_some}
 use Rattle.pfs_event.specs.declared.kind.EventKind.{EventKind}
 use Rattle.pfs_event.specs.declared.kind.EventKind.TheVariants.{Wait, Stage, Statement, Transaction}
 use Rattle.pfs_event.specs.Order.{may_start}
 use Rattle.pfs_script.specs.Marks.{Mark, Opens, Ends, EndsStage, Passes}
 
--- how many events other than stages are open between an event and a mark: a stage doesn't count, for what ends its statement ends it too
+-- how many events other than stages are open between an event and a mark: a stage doesn't count, for what ends its
+-- statement ends it too
 abbrev pub deeper : EventKind → ℕ → ℕ
 deeper Stage depth = depth
 deeper Wait depth = suc depth
@@ -40,7 +41,8 @@ closes Wait zero (Opens other) = false
 closes Statement zero (Opens other) = false
 closes Transaction zero (Opens other) = false
 
--- the place of the mark that closes an event of this kind, with the first of these marks at this place and so many events in between
+-- the place of the mark that closes an event of this kind, with the first of these marks at this place and so many
+-- events in between
 unfoldable pub closing_from : ℕ → EventKind → ℕ → List Mark → Option ℕ
 closing_from place kind depth [] = None
 closing_from place kind depth (mark ∷ marks) =
@@ -55,7 +57,11 @@ pub record Bracket : Type 0 where
 -- the events that these marks open, in their order, with the first mark at this place
 unfoldable pub brackets_from : ℕ → List Mark → List Bracket
 brackets_from place [] = []
-brackets_from place (Opens kind ∷ marks) = record { opened = place; kind = kind; closed = closing_from (place + 1) kind 0 marks } ∷ brackets_from (place + 1) marks
+brackets_from place (Opens kind ∷ marks) = record {
+  opened = place;
+  kind = kind;
+  closed = closing_from (place + 1) kind 0 marks;
+} ∷ brackets_from (place + 1) marks
 brackets_from place (Ends ∷ marks) = brackets_from (place + 1) marks
 brackets_from place (EndsStage ∷ marks) = brackets_from (place + 1) marks
 brackets_from place (Passes ∷ marks) = brackets_from (place + 1) marks
@@ -73,7 +79,8 @@ opening_of bracket = record { place = bracket.opened; kind = bracket.kind }
 
 -- the events whose closing passes the test, the last to open first
 abbrev pub openings_where : (Option ℕ → Bool) → ℕ → List Mark → List Opening
-openings_where test place marks = reverse (map opening_of (filter (λ (bracket : Bracket). test bracket.closed) (brackets_from place marks)))
+openings_where test place marks =
+    reverse (map opening_of (filter (λ (bracket : Bracket). test bracket.closed) (brackets_from place marks)))
 
 abbrev pub is_unclosed : Option ℕ → Bool
 is_unclosed closed = not (is_some closed)
@@ -138,8 +145,8 @@ kind_opened Passes = []
 abbrev pub kinds_behind : Mark → List EventKind → List EventKind
 kinds_behind mark kinds = kind_opened mark ++ drop (ended_by mark kinds) kinds
 
--- where events of these kinds are open, the mark may follow: an event starts where its kind may inside the innermost that the mark
--- leaves open, an end needs something open, and the end of a stage a stage
+-- where events of these kinds are open, the mark may follow: an event starts where its kind may inside the innermost
+-- that the mark leaves open, an end needs something open, and the end of a stage a stage
 abbrev pub may_stand : List EventKind → Mark → Bool
 may_stand kinds (Opens kind) = may_start kind (innermost (drop (ended_by (Opens kind) kinds) kinds))
 may_stand kinds Ends = is_some (innermost kinds)

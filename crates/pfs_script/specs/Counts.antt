@@ -34,7 +34,8 @@ until_done (line ∷ lines) = if is_done line then Some [] else option_map (λ m
 
 -- what the lines behind a `repeat` come to besides the one time that they stand there, once its `done` is there
 abbrev pub again : (Form → ℕ) → Form → List Form → ℕ
-again measure (form.Repeat (Some times)) lines = unwrap_or (option_map (λ body. (times - 1) * sum_by measure body) (until_done lines)) 0
+again measure (form.Repeat (Some times)) lines =
+    unwrap_or (option_map (λ body. (times - 1) * sum_by measure body) (until_done lines)) 0
 again measure _ lines = 0
 
 -- what the lines come to, each by this measure, those of a `repeat` that is done as often as it says
@@ -55,4 +56,5 @@ more_times (line ∷ lines) = (if list_any is_done lines then 0 else once_more l
 -- what a `done` behind the lines adds to their count besides its own measure
 unfoldable pub pending : (Form → ℕ) → List Form → ℕ
 pending measure [] = 0
-pending measure (line ∷ lines) = (if list_any is_done lines then 0 else once_more line * sum_by measure lines) + pending measure lines
+pending measure (line ∷ lines) =
+    (if list_any is_done lines then 0 else once_more line * sum_by measure lines) + pending measure lines

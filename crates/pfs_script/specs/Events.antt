@@ -16,7 +16,8 @@ use Rattle.pfs_script.specs.Brackets.{Bracket, brackets_of}
 
 -- a session's blocks, phase after phase
 abbrev pub blocks_for : ℕ → List Phase → List Block
-blocks_for number phases = filter (λ (block : Block). block.session == number) (flat_map (λ (phase : Phase). phase.blocks) phases)
+blocks_for number phases =
+    filter (λ (block : Block). block.session == number) (flat_map (λ (phase : Phase). phase.blocks) phases)
 
 -- its lines: those of its blocks one after another, each repeat written out
 abbrev pub lines_for : ℕ → List Phase → List BlockLine
@@ -27,7 +28,8 @@ abbrev pub time_of : BlockLine → ℕ
 time_of (lines.Spend time) = time
 time_of _ = 0
 
--- what an event is of: its kind, its class or lost class, the number of its table, the place of its digest text, and how it uses the data
+-- what an event is of: its kind, its class or lost class, the number of its table, the place of its digest text, and
+-- how it uses the data
 pub record Subject : Type 0 where
   pub kind : EventKind
   pub class : ClassRef
@@ -42,9 +44,27 @@ plain_subject kind class = record { kind = kind; class = class; table = None; di
 -- the event that a line opens; a transaction is of the class 62
 abbrev pub subject_of : BlockLine → Option Subject
 subject_of (lines.Wait class) = Some (plain_subject kinds.Wait class)
-subject_of (lines.TableWait class table) = Some (record { kind = kinds.Wait; class = class; table = Some table; digest = None; access = None })
-subject_of (lines.Statement class digest) = Some (record { kind = kinds.Statement; class = class; table = None; digest = digest; access = None })
-subject_of (lines.Transaction access) = Some (record { kind = kinds.Transaction; class = refs.Class 62; table = None; digest = None; access = Some access })
+subject_of (lines.TableWait class table) = Some (record {
+  kind = kinds.Wait;
+  class = class;
+  table = Some table;
+  digest = None;
+  access = None;
+})
+subject_of (lines.Statement class digest) = Some (record {
+  kind = kinds.Statement;
+  class = class;
+  table = None;
+  digest = digest;
+  access = None;
+})
+subject_of (lines.Transaction access) = Some (record {
+  kind = kinds.Transaction;
+  class = refs.Class 62;
+  table = None;
+  digest = None;
+  access = Some access;
+})
 subject_of (lines.Stage class) = Some (plain_subject kinds.Stage class)
 subject_of _ = None
 
@@ -63,8 +83,8 @@ numbers_for kinds.Wait numbers = no_numbers
 numbers_for kinds.Stage numbers = no_numbers
 numbers_for kinds.Transaction numbers = no_numbers
 
--- an event: the places of its opening and its closing line, what it is of, the picoseconds that passed before it and, where it is closed,
--- in it, and a statement's numbers
+-- an event: the places of its opening and its closing line, what it is of, the picoseconds that passed before it and,
+-- where it is closed, in it, and a statement's numbers
 pub record Event : Type 0 where
   pub opened : ℕ
   pub closed : Option ℕ
@@ -101,7 +121,9 @@ as_list (Some event) = event ∷ []
 
 -- the events of lines, in the order of their openings
 unfoldable pub events_of : List BlockLine → List Event
-events_of all = flat_map (λ (bracket : Bracket). as_list (option_map (event_of all bracket) (subject_of (line_at all bracket.opened)))) (brackets_of (map mark_of all))
+events_of all = flat_map
+    (λ (bracket : Bracket). as_list (option_map (event_of all bracket) (subject_of (line_at all bracket.opened))))
+    (brackets_of (map mark_of all))
 
 -- the events of a session
 abbrev pub events_for : ℕ → List Phase → List Event

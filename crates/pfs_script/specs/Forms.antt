@@ -50,7 +50,8 @@ consumer_form words = option_and_then (consumer_of (word_of words)) (option_and_
 
 -- `instrument PATTERN YES|NO YES|NO`
 abbrev pub instrument_of : List ℕ → Switches → Option Form
-instrument_of pattern switches = if is_word pattern then Some (Instrument pattern switches.enabled switches.timed) else None
+instrument_of pattern switches = if is_word pattern then Some (Instrument pattern switches.enabled switches.timed)
+    else None
 
 unfoldable pub instrument_form : List ℕ → Option Form
 instrument_form words = option_and_then (instrument_of (word_of words)) (option_and_then switches_of (rest_of words))
@@ -91,7 +92,8 @@ transaction_form access =
 
 -- `start CLASS SCHEMA.NAME`
 abbrev pub table_wait_of : List ℕ → List ℕ → List ℕ → Option Form
-table_wait_of class schema name = if is_table_name schema && is_table_name name then Some (TableWait class schema name) else None
+table_wait_of class schema name =
+    if is_table_name schema && is_table_name name then Some (TableWait class schema name) else None
 
 unfoldable pub table_wait_form : List ℕ → List ℕ → Option Form
 table_wait_form class place = option_and_then (table_wait_of class (schema_of place)) (table_of place)
@@ -105,7 +107,8 @@ start_of_kind_with class more _ = None
 
 unfoldable pub start_class_with : List ℕ → List ℕ → Option Form
 start_class_with class more =
-    if bytes_eq class (codes "transaction") then transaction_form more else option_and_then (start_of_kind_with class more) (kind_of class)
+    if bytes_eq class (codes "transaction") then transaction_form more
+    else option_and_then (start_of_kind_with class more) (kind_of class)
 
 abbrev pub start_of : List ℕ → Option (List ℕ) → Option Form
 start_of class None = start_class class

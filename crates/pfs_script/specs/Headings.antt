@@ -25,7 +25,9 @@ use Rattle.pfs_script.specs.declared.forms.Form.TheVariants as form
 
 -- all limits
 abbrev pub limits : List Limit
-limits = limit.ThreadInstances ∷ limit.Accounts ∷ limit.Users ∷ limit.Hosts ∷ limit.Digests ∷ limit.StatementStack ∷ limit.MutexClasses ∷ limit.RwlockClasses ∷ limit.CondClasses ∷ limit.FileClasses ∷ limit.SocketClasses ∷ limit.StageClasses ∷ limit.StatementClasses ∷ []
+limits = limit.ThreadInstances ∷ limit.Accounts ∷ limit.Users ∷ limit.Hosts ∷ limit.Digests ∷ limit.StatementStack
+    ∷ limit.MutexClasses ∷ limit.RwlockClasses ∷ limit.CondClasses ∷ limit.FileClasses ∷ limit.SocketClasses
+    ∷ limit.StageClasses ∷ limit.StatementClasses ∷ []
 
 -- the limit of a name, or none
 unfoldable pub named_limit : List ℕ → Option Limit
@@ -33,7 +35,9 @@ named_limit name = find (λ one. bytes_eq (limit_name one) name) limits
 
 -- all consumers
 abbrev pub consumers : List Consumer
-consumers = StagesCurrent ∷ StagesHistory ∷ StagesHistoryLong ∷ StatementsCurrent ∷ StatementsHistory ∷ StatementsHistoryLong ∷ TransactionsCurrent ∷ TransactionsHistory ∷ TransactionsHistoryLong ∷ WaitsCurrent ∷ WaitsHistory ∷ WaitsHistoryLong ∷ GlobalInstrumentation ∷ ThreadInstrumentation ∷ StatementsDigest ∷ []
+consumers = StagesCurrent ∷ StagesHistory ∷ StagesHistoryLong ∷ StatementsCurrent ∷ StatementsHistory
+    ∷ StatementsHistoryLong ∷ TransactionsCurrent ∷ TransactionsHistory ∷ TransactionsHistoryLong ∷ WaitsCurrent
+    ∷ WaitsHistory ∷ WaitsHistoryLong ∷ GlobalInstrumentation ∷ ThreadInstrumentation ∷ StatementsDigest ∷ []
 
 -- the consumer of a name, or none
 unfoldable pub named_consumer : List ℕ → Option Consumer
@@ -80,7 +84,15 @@ naming_under limits = record { names = with_builtins []; classes = builtin_of (w
 unfoldable pub with_class : Naming → List ℕ → Kind → Bool → Bool → Naming
 with_class naming name kind enabled timed =
     let names = interned naming.names name in
-    record { names = names; classes = registered naming.classes (record { name = id_of names name; kind = kind; enabled = enabled; timed = timed }) }
+    record {
+      names = names;
+      classes = registered naming.classes (record {
+        name = id_of names name;
+        kind = kind;
+        enabled = enabled;
+        timed = timed;
+      });
+    }
 
 -- the class with these flags where its name is like the pattern
 abbrev pub set_if_like : List (List ℕ) → List ℕ → Bool → Bool → Class → Class
@@ -95,7 +107,8 @@ flags_set_like r names pattern enabled timed = record r {
 }
 
 abbrev pub with_flags_like : Naming → List ℕ → Bool → Bool → Naming
-with_flags_like naming pattern enabled timed = record naming { classes = flags_set_like naming.classes naming.names pattern enabled timed }
+with_flags_like naming pattern enabled timed =
+    record naming { classes = flags_set_like naming.classes naming.names pattern enabled timed }
 
 -- names and classes behind one more line: an `instrument` line sets the classes that are there by then
 abbrev pub naming_behind : Naming → Form → Naming
@@ -116,7 +129,12 @@ pub record Head : Type 0 where
 
 -- with these names and classes
 abbrev pub head_with : Naming → Limits → ℕ → Head
-head_with naming limits consumers = record { names = naming.names; classes = naming.classes; limits = limits; consumers = consumers }
+head_with naming limits consumers = record {
+  names = naming.names;
+  classes = naming.classes;
+  limits = limits;
+  consumers = consumers;
+}
 
 -- the built-in names and classes under these limits, and these flags
 abbrev pub head_under : Limits → ℕ → Head
@@ -182,14 +200,17 @@ IsAllowed _ _ = Unit {0}
 -- the line is none that these lines leave no place for: a limit is in its range, and a class is a script's, and new
 abbrev pub MayCome : Head → Form → Type 0
 MayCome head (form.Limit name value) = IsAllowed (named_limit name) value
-MayCome head (form.Class name kind enabled timed) = Fits name kind × (is_fixed kind ≡ false) × (resolved head name ≡ None)
+MayCome head (form.Class name kind enabled timed) =
+    Fits name kind × (is_fixed kind ≡ false) × (resolved head name ≡ None)
 MayCome head _ = Unit {0}
 
 -- how many classes and lost classes have the id of this name
 abbrev pub count_named : Registry → ℕ → ℕ
-count_named r id = (if r.transaction.name == id then 1 else 0) + count_by (λ class. class.name == id) r.classes + count_by (λ lost. lost.name == id) r.lost
+count_named r id = (if r.transaction.name == id then 1 else 0) + count_by (λ class. class.name == id) r.classes
+    + count_by (λ lost. lost.name == id) r.lost
 
--- the classes come from the built-in ones under these names and limits, and a name is of one class or lost class at most
+-- the classes come from the built-in ones under these names and limits, and a name is of one class or lost class at
+-- most
 pub record IsSound (head : Head) : Type 0 where
   pub in_range : AreInRange head.limits
   pub same_limits : head.classes.limits ≡ head.limits

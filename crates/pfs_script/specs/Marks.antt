@@ -5,7 +5,8 @@ use Rattle.pfs_event.specs.declared.kind.EventKind.TheVariants as kinds
 use Rattle.pfs_script.specs.declared.blocks.BlockLine.{BlockLine}
 use Rattle.pfs_script.specs.declared.blocks.BlockLine.TheVariants as lines
 
--- it opens an event of a kind; it ends the innermost, with its statement where that is a stage; it ends the open stage; or nothing
+-- it opens an event of a kind; it ends the innermost, with its statement where that is a stage; it ends the open
+-- stage; or nothing
 pub data Mark : Type 0 where
   Opens : EventKind → Mark
   Ends : Mark
@@ -68,14 +69,18 @@ pub record Repeated : Type 0 where
   pub times : ℕ
   pub body : List BlockLine
 
--- the lines from here on, written out, behind the lines so far of a repeat that isn't done; where it is never done they stand once
+-- the lines from here on, written out, behind the lines so far of a repeat that isn't done; where it is never done
+-- they stand once
 unfoldable pub written_from : Option Repeated → List BlockLine → List BlockLine
 written_from None [] = []
 written_from (Some loop) [] = loop.body
 written_from None (lines.Repeat times ∷ rest) = written_from (Some (record { times = times; body = [] })) rest
 written_from (Some loop) (lines.Done ∷ rest) = copies loop.times loop.body ++ written_from None rest
 written_from None (line ∷ rest) = line ∷ written_from None rest
-written_from (Some loop) (line ∷ rest) = written_from (Some (record { times = loop.times; body = loop.body ++ line ∷ [] })) rest
+written_from (Some loop) (line ∷ rest) = written_from (Some (record {
+  times = loop.times;
+  body = loop.body ++ line ∷ [];
+})) rest
 
 -- the lines with each repeat written out
 abbrev pub written_out : List BlockLine → List BlockLine

@@ -65,8 +65,9 @@ same_kinds (kind ∷ kinds) (other ∷ others) = same_kind kind other && same_ki
 abbrev pub is_blockless : List Form → Bool
 is_blockless before = (session_now before == 0) || has_quit (session_now before) before
 
--- limits stand before all other lines but silent ones, what sets up before the first phase, sessions in a phase, and the lines of a
--- block behind its session and before its `quit`; a repeat holds no other repeat, no session, no phase and no `quit`
+-- limits stand before all other lines but silent ones, what sets up before the first phase, sessions in a phase, and
+-- the lines of a block behind its session and before its `quit`; a repeat holds no other repeat, no session, no phase
+-- and no `quit`
 abbrev pub is_out_of_place : List Form → Form → Bool
 is_out_of_place before (form.Limit name value) = not (list_all is_before_limits before)
 is_out_of_place before (form.Class name kind enabled timed) = list_any is_phase before
@@ -93,7 +94,8 @@ is_out_of_place before _ = false
 -- one of the six numbers is over 2^64 - 1
 abbrev pub has_bad_number : Numbers → Bool
 has_bad_number numbers =
-    is_none numbers.lock || is_none numbers.errors || is_none numbers.warnings || is_none numbers.affected || is_none numbers.sent || is_none numbers.examined
+    is_none numbers.lock || is_none numbers.errors || is_none numbers.warnings || is_none numbers.affected
+    || is_none numbers.sent || is_none numbers.examined
 
 -- it is over 2^64 - 1, or 0
 abbrev pub is_no_count : Option ℕ → Bool
@@ -114,19 +116,22 @@ is_bad_number _ = false
 abbrev pub is_outside : ℕ → Bool
 is_outside number = not (nat_le 1 number && nat_le number 64)
 
--- a session gives its names at its first block and nowhere else, has one block at most in a phase, and none when it has quit
+-- a session gives its names at its first block and nowhere else, has one block at most in a phase, and none when it
+-- has quit
 abbrev pub is_bad_session : List Form → Form → Bool
 is_bad_session before (form.Connect (Some number) user host) = is_outside number || list_any (is_block_of number) before
 is_bad_session before (form.Resume (Some number)) =
-    is_outside number || (not (list_any (is_block_of number) before) || (list_any (is_block_of number) (phase_of before) || has_quit number before))
+    is_outside number || (not (list_any (is_block_of number) before)
+    || (list_any (is_block_of number) (phase_of before) || has_quit number before))
 is_bad_session before _ = false
 
--- the name is that of a class which a wait, a statement or a stage can have; the forms see to it that it is of their kind
+-- the name is that of a class which a wait, a statement or a stage can have; the forms see to it that it is of their
+-- kind
 abbrev pub is_event_class : List Form → List ℕ → Bool
 is_event_class before class = is_known before class && not (bytes_eq class (codes "transaction"))
 
--- a limit's and a consumer's name is in its table; a new class has a name of its own and a kind that a script may add to; an event's
--- class is known, though it may be lost
+-- a limit's and a consumer's name is in its table; a new class has a name of its own and a kind that a script may add
+-- to; an event's class is known, though it may be lost
 abbrev pub is_unknown : List Form → Form → Bool
 is_unknown before (form.Limit name value) = is_none (named_limit name)
 is_unknown before (form.Class name kind enabled timed) = is_fixed kind || is_known before name
@@ -153,11 +158,13 @@ gives one _ = false
 
 -- a limit's value is in its range, and it is given once
 abbrev pub is_bad_limit : List Form → Form → Bool
-is_bad_limit before (form.Limit name (Some value)) = not (is_within (named_limit name) value) || list_any (gives (named_limit name)) before
+is_bad_limit before (form.Limit name (Some value)) =
+    not (is_within (named_limit name) value) || list_any (gives (named_limit name)) before
 is_bad_limit before _ = false
 
--- an event starts where its kind may, an end has something to end, and one with numbers a statement; at a `quit` nothing is open; a
--- repeat leaves events of the kinds open that were open where it began. All are judged over all lines of the session
+-- an event starts where its kind may, an end has something to end, and one with numbers a statement; at a `quit`
+-- nothing is open; a repeat leaves events of the kinds open that were open where it began. All are judged over all
+-- lines of the session
 abbrev pub is_bad_nesting : List Form → Form → Bool
 is_bad_nesting before (form.EndStatement numbers) = not (is_in_statement (kinds_open before))
 is_bad_nesting before form.Quit = is_some (innermost (kinds_open before))
@@ -182,7 +189,8 @@ command_of text = unwrap_or (option_map (λ at. drop at text) (position is_solid
 -- the command begins with these letters, in any case
 unfoldable pub begins_with : List ℕ → List ℕ → Bool
 begins_with letters text =
-    nat_le (length letters) (length (command_of text)) && str_eq_ignore_ascii_case (take (length letters) (command_of text)) letters
+    nat_le (length letters) (length (command_of text))
+    && str_eq_ignore_ascii_case (take (length letters) (command_of text)) letters
 
 abbrev pub is_select : Form → Bool
 is_select (form.Sql text) = begins_with (codes "select") text
@@ -194,7 +202,8 @@ one_select line = if is_select line then 1 else 0
 
 -- what an SQL command weighs
 abbrev pub sql_weight : List ℕ → ℕ
-sql_weight text = if begins_with (codes "select") text then 10000 else (if begins_with (codes "truncate") text then 20000 else 300)
+sql_weight text = if begins_with (codes "select") text then 10000
+    else (if begins_with (codes "truncate") text then 20000 else 300)
 
 -- what a line weighs
 abbrev pub weight_of : Form → ℕ
@@ -216,11 +225,12 @@ weight_of _ = 1
 abbrev pub has_over : ℕ → (Form → Bool) → List Form → Form → Bool
 has_over most test before line = nat_lt most (count_by test (before ++ line ∷ []))
 
--- with this line there are more than 64 phases, 256 classes of the script's own, 64 tables or 256 SELECTs, or the lines weigh more than
--- 5,000,000; a repeat counts in full at its `done`
+-- with this line there are more than 64 phases, 256 classes of the script's own, 64 tables or 256 SELECTs, or the
+-- lines weigh more than 5,000,000; a repeat counts in full at its `done`
 abbrev pub is_too_much : List Form → Form → Bool
 is_too_much before line =
-    has_over 64 is_phase before line || (has_over 256 is_class before line || (nat_lt 256 (counted one_select (before ++ line ∷ []))
+    has_over 64 is_phase before line
+    || (has_over 256 is_class before line || (nat_lt 256 (counted one_select (before ++ line ∷ []))
     || nat_lt 5000000 (counted weight_of (before ++ line ∷ []))))
 
 -- with this line there are more than 64 tables

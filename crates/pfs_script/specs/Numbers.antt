@@ -27,7 +27,8 @@ first rest number = record { number = number; rest = rest }
 
 -- a first word that is a numeral, and what stands behind it
 unfoldable pub first_of : List ℕ → Option First
-first_of words = option_and_then (λ number. option_map (λ rest. first rest number) (rest_of words)) (number_of (word_of words))
+first_of words = option_and_then (λ number. option_map (λ rest. first rest number) (rest_of words))
+    (number_of (word_of words))
 
 -- six numerals
 unfoldable pub numbers_of : List ℕ → Option Numbers

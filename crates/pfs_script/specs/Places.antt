@@ -41,19 +41,30 @@ with_kind false kind more = more
 -- from the innermost on, waits, a stage, statements and a transaction
 abbrev pub kinds_from : ℕ → Bool → ℕ → Bool → List EventKind
 kinds_from waits has_stage statements has_transaction =
-    with_kinds waits Wait (with_kind has_stage Stage (with_kinds statements Statement (with_kind has_transaction Transaction [])))
+    with_kinds waits Wait
+    (with_kind has_stage Stage (with_kinds statements Statement (with_kind has_transaction Transaction [])))
 
 abbrev pub kinds_in : OpenKinds → List EventKind
 kinds_in events = kinds_from events.waits events.has_stage events.statements events.has_transaction
 
 -- nothing of a session
 abbrev pub no_session : SessionState
-no_session = record { has_begun = false; has_quit = false; events = record { waits = 0; has_stage = false; statements = 0; has_transaction = false } }
+no_session = record {
+  has_begun = false;
+  has_quit = false;
+  events = record {
+    waits = 0;
+    has_stage = false;
+    statements = 0;
+    has_transaction = false;
+  };
+}
 
 abbrev pub state_at : List SessionState → ℕ → SessionState
 state_at sessions number = get_or sessions number no_session
 
--- the flags tell whether the session has a block at all and whether it quit, and the events are those open behind all its lines
+-- the flags tell whether the session has a block at all and whether it quit, and the events are those open behind all
+-- its lines
 pub record KnowsSession (state : SessionState) (number : ℕ) (before : List Form) : Type 0 where
   pub begun : state.has_begun ≡ list_any (is_block_of number) before
   pub quits : state.has_quit ≡ has_quit number before
@@ -62,12 +73,13 @@ pub record KnowsSession (state : SessionState) (number : ℕ) (before : List For
   pub few_waits : state.events.waits ≤ length before
   pub few_statements : state.events.statements ≤ length before
 
--- each session is known; a flag says whether it has a block in the phase; the blocks of the phase are counted; the session of the block
--- is known; and so are the events that were open where a repeat began that isn't done
+-- each session is known; a flag says whether it has a block in the phase; the blocks of the phase are counted; the
+-- session of the block is known; and so are the events that were open where a repeat began that isn't done
 pub record KnowsCourse (course : Course) (before : List Form) : Type 0 where
   pub sessions : (number : ℕ) → number < 65 → KnowsSession (state_at course.sessions number) number before
   pub numbers : length course.sessions ≡ 65
-  pub here : (number : ℕ) → number < 65 → get_or course.here number false ≡ list_any (is_block_of number) (phase_of before)
+  pub here : (number : ℕ) → number < 65
+      → get_or course.here number false ≡ list_any (is_block_of number) (phase_of before)
   pub here_numbers : length course.here ≡ 65
   pub present : course.present ≡ session_now before
   pub low : course.present < 65
@@ -78,7 +90,8 @@ pub record KnowsCourse (course : Course) (before : List Form) : Type 0 where
 
 -- a block of this session has begun
 pub record HasBegun (old new : Course) (number : ℕ) : Type 0 where
-  pub sessions : new.sessions ≡ slice_set old.sessions number (record (state_at old.sessions number) { has_begun = true })
+  pub sessions : new.sessions
+      ≡ slice_set old.sessions number (record (state_at old.sessions number) { has_begun = true })
   pub here : new.here ≡ slice_set old.here number true
   pub present : new.present ≡ number
   pub blocks : old.blocks < 2 ^ 63 → new.blocks ≡ old.blocks + 1

@@ -11,7 +11,9 @@ use Rattle.pfs_script.specs.Scripts.{script_of, IsScript, IsFirstFault}
 
 -- the answer is what the text's lines say and fix, or their first fault
 abbrev pub Reads : Extent → List ℕ → Result Reading ScriptFault → Type 0
-Reads extent text (Ok reading) = (script_of extent text ≡ Ok reading.lines.items) × (reading.heading ≡ head_of reading.lines.items) × KnowsFinds reading.finds reading.lines.items
+Reads extent text (Ok reading) =
+    (script_of extent text ≡ Ok reading.lines.items) × (reading.heading ≡ head_of reading.lines.items)
+    × KnowsFinds reading.finds reading.lines.items
 Reads extent text (Err (Bad number reason)) = script_of extent text ≡ Err (record { number = number; reason = reason })
 Reads extent text (Err NoMemory) = Unit {0}
 

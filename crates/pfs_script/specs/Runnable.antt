@@ -36,8 +36,8 @@ abbrev pub AreDistinct : List ℕ → Type 0
 AreDistinct [] = Unit {0}
 AreDistinct (number ∷ numbers) = (¬ Contains numbers number) × AreDistinct numbers
 
--- a block's session has a number from 1 to 64, its events nest, its classes are of so many, and it has at most 200,000 lines with each
--- repeat written out
+-- a block's session has a number from 1 to 64, its events nest, its classes are of so many, and it has at most
+-- 200,000 lines with each repeat written out
 pub record IsBlock (classes : ℕ) (block : Block) : Type 0 where
   pub low : 1 ≤ block.session
   pub high : block.session ≤ 64

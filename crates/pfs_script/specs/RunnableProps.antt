@@ -16,34 +16,59 @@ distinct_prop : (numbers : List ℕ) → IsProp (AreDistinct numbers)
 distinct_prop [] = hlevel props
 distinct_prop (number ∷ numbers) = hlevel (props, distinct_prop numbers)
 
-nested_prop : (kinds : List EventKind) (start : Option (List EventKind)) (lines : List BlockLine) → IsProp (IsNested kinds start lines)
+nested_prop : (kinds : List EventKind) (start : Option (List EventKind)) (lines : List BlockLine)
+    → IsProp (IsNested kinds start lines)
 unfolding IsNested
 nested_prop kinds start [] = hlevel props
-nested_prop kinds None (said.Wait class ∷ lines) = hlevel (props, nested_prop (kinds_behind (mark_of (said.Wait class)) kinds) None lines)
-nested_prop kinds None (said.TableWait class table ∷ lines) = hlevel (props, nested_prop (kinds_behind (mark_of (said.TableWait class table)) kinds) None lines)
-nested_prop kinds (Some first) (said.Wait class ∷ lines) = hlevel (props, nested_prop (kinds_behind (mark_of (said.Wait class)) kinds) (Some first) lines)
-nested_prop kinds (Some first) (said.TableWait class table ∷ lines) = hlevel (props, nested_prop (kinds_behind (mark_of (said.TableWait class table)) kinds) (Some first) lines)
-nested_prop kinds None (said.Statement class digest ∷ lines) = hlevel (props, nested_prop (kinds_behind (mark_of (said.Statement class digest)) kinds) None lines)
-nested_prop kinds (Some first) (said.Statement class digest ∷ lines) = hlevel (props, nested_prop (kinds_behind (mark_of (said.Statement class digest)) kinds) (Some first) lines)
-nested_prop kinds None (said.Transaction access ∷ lines) = hlevel (props, nested_prop (kinds_behind (mark_of (said.Transaction access)) kinds) None lines)
-nested_prop kinds (Some first) (said.Transaction access ∷ lines) = hlevel (props, nested_prop (kinds_behind (mark_of (said.Transaction access)) kinds) (Some first) lines)
-nested_prop kinds None (said.Stage class ∷ lines) = hlevel (props, nested_prop (kinds_behind (mark_of (said.Stage class)) kinds) None lines)
-nested_prop kinds (Some first) (said.Stage class ∷ lines) = hlevel (props, nested_prop (kinds_behind (mark_of (said.Stage class)) kinds) (Some first) lines)
-nested_prop kinds None (said.StageEnd ∷ lines) = hlevel (props, nested_prop (kinds_behind (mark_of said.StageEnd) kinds) None lines)
-nested_prop kinds (Some first) (said.StageEnd ∷ lines) = hlevel (props, nested_prop (kinds_behind (mark_of said.StageEnd) kinds) (Some first) lines)
-nested_prop kinds None (said.Spend time ∷ lines) = hlevel (props, nested_prop (kinds_behind (mark_of (said.Spend time)) kinds) None lines)
-nested_prop kinds (Some first) (said.Spend time ∷ lines) = hlevel (props, nested_prop (kinds_behind (mark_of (said.Spend time)) kinds) (Some first) lines)
-nested_prop kinds None ((said.Sql text) ∷ lines) = hlevel (props, nested_prop (kinds_behind (mark_of (said.Sql text)) kinds) None lines)
-nested_prop kinds (Some first) ((said.Sql text) ∷ lines) = hlevel (props, nested_prop (kinds_behind (mark_of (said.Sql text)) kinds) (Some first) lines)
-nested_prop kinds None (said.Quit ∷ lines) = hlevel (props, nested_prop (kinds_behind (mark_of said.Quit) kinds) None lines)
-nested_prop kinds (Some first) (said.Quit ∷ lines) = hlevel (props, nested_prop (kinds_behind (mark_of said.Quit) kinds) (Some first) lines)
-nested_prop kinds None (said.End ∷ lines) = hlevel (props, nested_prop (kinds_behind (mark_of said.End) kinds) None lines)
-nested_prop kinds (Some first) (said.End ∷ lines) = hlevel (props, nested_prop (kinds_behind (mark_of said.End) kinds) (Some first) lines)
-nested_prop kinds None (said.EndStatement numbers ∷ lines) = hlevel (props, nested_prop (kinds_behind (mark_of (said.EndStatement numbers)) kinds) None lines)
-nested_prop kinds (Some first) (said.EndStatement numbers ∷ lines) = hlevel (props, nested_prop (kinds_behind (mark_of (said.EndStatement numbers)) kinds) (Some first) lines)
+nested_prop kinds None (said.Wait class ∷ lines) =
+    hlevel (props, nested_prop (kinds_behind (mark_of (said.Wait class)) kinds) None lines)
+nested_prop kinds None (said.TableWait class table ∷ lines) =
+    hlevel (props, nested_prop (kinds_behind (mark_of (said.TableWait class table)) kinds) None lines)
+nested_prop kinds (Some first) (said.Wait class ∷ lines) =
+    hlevel (props, nested_prop (kinds_behind (mark_of (said.Wait class)) kinds) (Some first) lines)
+nested_prop kinds (Some first) (said.TableWait class table ∷ lines) =
+    hlevel (props, nested_prop (kinds_behind (mark_of (said.TableWait class table)) kinds) (Some first) lines)
+nested_prop kinds None (said.Statement class digest ∷ lines) =
+    hlevel (props, nested_prop (kinds_behind (mark_of (said.Statement class digest)) kinds) None lines)
+nested_prop kinds (Some first) (said.Statement class digest ∷ lines) =
+    hlevel (props, nested_prop (kinds_behind (mark_of (said.Statement class digest)) kinds) (Some first) lines)
+nested_prop kinds None (said.Transaction access ∷ lines) =
+    hlevel (props, nested_prop (kinds_behind (mark_of (said.Transaction access)) kinds) None lines)
+nested_prop kinds (Some first) (said.Transaction access ∷ lines) =
+    hlevel (props, nested_prop (kinds_behind (mark_of (said.Transaction access)) kinds) (Some first) lines)
+nested_prop kinds None (said.Stage class ∷ lines) =
+    hlevel (props, nested_prop (kinds_behind (mark_of (said.Stage class)) kinds) None lines)
+nested_prop kinds (Some first) (said.Stage class ∷ lines) =
+    hlevel (props, nested_prop (kinds_behind (mark_of (said.Stage class)) kinds) (Some first) lines)
+nested_prop kinds None (said.StageEnd ∷ lines) =
+    hlevel (props, nested_prop (kinds_behind (mark_of said.StageEnd) kinds) None lines)
+nested_prop kinds (Some first) (said.StageEnd ∷ lines) =
+    hlevel (props, nested_prop (kinds_behind (mark_of said.StageEnd) kinds) (Some first) lines)
+nested_prop kinds None (said.Spend time ∷ lines) =
+    hlevel (props, nested_prop (kinds_behind (mark_of (said.Spend time)) kinds) None lines)
+nested_prop kinds (Some first) (said.Spend time ∷ lines) =
+    hlevel (props, nested_prop (kinds_behind (mark_of (said.Spend time)) kinds) (Some first) lines)
+nested_prop kinds None ((said.Sql text) ∷ lines) =
+    hlevel (props, nested_prop (kinds_behind (mark_of (said.Sql text)) kinds) None lines)
+nested_prop kinds (Some first) ((said.Sql text) ∷ lines) =
+    hlevel (props, nested_prop (kinds_behind (mark_of (said.Sql text)) kinds) (Some first) lines)
+nested_prop kinds None (said.Quit ∷ lines) =
+    hlevel (props, nested_prop (kinds_behind (mark_of said.Quit) kinds) None lines)
+nested_prop kinds (Some first) (said.Quit ∷ lines) =
+    hlevel (props, nested_prop (kinds_behind (mark_of said.Quit) kinds) (Some first) lines)
+nested_prop kinds None (said.End ∷ lines) =
+    hlevel (props, nested_prop (kinds_behind (mark_of said.End) kinds) None lines)
+nested_prop kinds (Some first) (said.End ∷ lines) =
+    hlevel (props, nested_prop (kinds_behind (mark_of said.End) kinds) (Some first) lines)
+nested_prop kinds None (said.EndStatement numbers ∷ lines) =
+    hlevel (props, nested_prop (kinds_behind (mark_of (said.EndStatement numbers)) kinds) None lines)
+nested_prop kinds (Some first) (said.EndStatement numbers ∷ lines) =
+    hlevel (props, nested_prop (kinds_behind (mark_of (said.EndStatement numbers)) kinds) (Some first) lines)
 nested_prop kinds None (said.Repeat times ∷ lines) = nested_prop kinds (Some kinds) lines
-nested_prop kinds (Some first) (said.Repeat times ∷ lines) = hlevel (props, nested_prop (kinds_behind (mark_of (said.Repeat times)) kinds) (Some first) lines)
-nested_prop kinds None (said.Done ∷ lines) = hlevel (props, nested_prop (kinds_behind (mark_of said.Done) kinds) None lines)
+nested_prop kinds (Some first) (said.Repeat times ∷ lines) =
+    hlevel (props, nested_prop (kinds_behind (mark_of (said.Repeat times)) kinds) (Some first) lines)
+nested_prop kinds None (said.Done ∷ lines) =
+    hlevel (props, nested_prop (kinds_behind (mark_of said.Done) kinds) None lines)
 nested_prop kinds (Some first) (said.Done ∷ lines) = hlevel (props, nested_prop kinds None lines)
 
 class_prop : (classes : ℕ) (class : ClassRef) → IsProp (IsKnownClass classes class)

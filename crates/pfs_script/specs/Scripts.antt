@@ -21,19 +21,22 @@ parts_of text = slice_split (λ byte. byte == 10) text
 -- behind the lines before it, each of these says the line beside it
 abbrev pub Begins : Extent → List Form → List (List ℕ) → List Form → Type 0
 Begins extent before [] [] = Unit {0}
-Begins extent before (raw ∷ raws) (line ∷ lines) = (next extent before raw ≡ Ok line) × Begins extent (before ++ line ∷ []) raws lines
+Begins extent before (raw ∷ raws) (line ∷ lines) =
+    (next extent before raw ≡ Ok line) × Begins extent (before ++ line ∷ []) raws lines
 Begins extent before [] (line ∷ lines) = ⊥
 Begins extent before (raw ∷ raws) [] = ⊥
 
 -- the text says these lines: each is ended, each may stand where it does, and each repeat is done
 abbrev pub IsText : Extent → List ℕ → List Form → Type 0
-IsText extent text lines = (raws : List (List ℕ)) × (parts_of text ≡ raws ++ [] ∷ []) × Begins extent [] raws lines × (is_in_repeat lines ≡ false)
+IsText extent text lines = (raws : List (List ℕ)) × (parts_of text ≡ raws ++ [] ∷ []) × Begins extent [] raws lines
+    × (is_in_repeat lines ≡ false)
 
 -- why a line that isn't ended is faulty
 abbrev pub open_reason : List ℕ → Reason
 open_reason bytes = if list_all is_script_byte bytes then OpenLine else BadByte
 
--- the part is faulty behind these lines: as a line, as what has no line feed, or as the end of a text in which a repeat isn't done
+-- the part is faulty behind these lines: as a line, as what has no line feed, or as the end of a text in which a
+-- repeat isn't done
 abbrev pub IsBad : Extent → List Form → List ℕ → List (List ℕ) → Reason → Type 0
 IsBad extent before [] [] reason = (is_in_repeat before ≡ true) × (reason ≡ OutOfPlace)
 IsBad extent before (byte ∷ bytes) [] reason = reason ≡ open_reason (byte ∷ bytes)
@@ -51,14 +54,16 @@ pub record IsSetting (lines : List Form) (setting : Setting) : Type 0 where
 -- the text is a script with this setting and these phases: they are what its lines fix and say
 unfoldable pub IsScript : Extent → List ℕ → Setting → List Phase → Type 0
 IsScript extent text setting phases =
-    (lines : List Form) × IsText extent text lines × IsSetting lines setting × (phases ≡ phases_of (sense_of lines) lines)
+    (lines : List Form) × IsText extent text lines × IsSetting lines setting
+    × (phases ≡ phases_of (sense_of lines) lines)
 
--- the first faulty line, counted from 1, with its least reason: the lines before it begin a script, and with it they don't; where a
--- repeat isn't done at the end, that is the line behind the last
+-- the first faulty line, counted from 1, with its least reason: the lines before it begin a script, and with it they
+-- don't; where a repeat isn't done at the end, that is the line behind the last
 unfoldable pub IsFirstFault : Extent → List ℕ → ℕ → Reason → Type 0
 IsFirstFault extent text number reason =
     (raws : List (List ℕ)) × (lines : List Form) × (bad : List ℕ) × (more : List (List ℕ))
-    × (number ≡ length raws + 1) × (parts_of text ≡ raws ++ bad ∷ more) × Begins extent [] raws lines × IsBad extent lines bad more reason
+    × (number ≡ length raws + 1) × (parts_of text ≡ raws ++ bad ∷ more) × Begins extent [] raws lines
+    × IsBad extent lines bad more reason
 
 -- a faulty line and its reason
 pub record Fault : Type 0 where
@@ -72,14 +77,19 @@ on_line (Err reason) number rest = Err (record { number = number; reason = reaso
 
 -- behind the last line feed nothing may stand, and each repeat is done there
 abbrev pub last_of : List Form → List ℕ → Result (List Form) Fault
-last_of before [] = if is_in_repeat before then Err (record { number = length before + 1; reason = OutOfPlace }) else Ok before
+last_of before [] = if is_in_repeat before then Err (record {
+  number = length before + 1;
+  reason = OutOfPlace;
+}) else Ok before
 last_of before (byte ∷ bytes) = Err (record { number = length before + 1; reason = open_reason (byte ∷ bytes) })
 
 -- what the parts of a text say behind these lines, in one pass
 unfoldable pub lines_from : Extent → List Form → List (List ℕ) → Result (List Form) Fault
 lines_from extent before [] = Ok before
 lines_from extent before (bytes ∷ []) = last_of before bytes
-lines_from extent before (bytes ∷ (more ∷ parts)) = on_line (next extent before bytes) (length before + 1) (λ line. lines_from extent (before ++ line ∷ []) (more ∷ parts))
+lines_from extent before (bytes ∷ (more ∷ parts)) =
+    on_line (next extent before bytes) (length before + 1)
+    (λ line. lines_from extent (before ++ line ∷ []) (more ∷ parts))
 
 -- what the text says
 abbrev pub script_of : Extent → List ℕ → Result (List Form) Fault
@@ -96,6 +106,9 @@ pub record AreAlike (a b : Setting) : Type 0 where
 
 -- a text that is a script has no fault; it has one first fault at most, and is at most one script
 pub record IsExact : Type 0 where
-  pub excludes : (extent : Extent) (text : List ℕ) (setting : Setting) (phases : List Phase) (number : ℕ) (reason : Reason) → IsScript extent text setting phases → ¬ IsFirstFault extent text number reason
-  pub one_fault : (extent : Extent) (text : List ℕ) (m n : ℕ) (r s : Reason) → IsFirstFault extent text m r → IsFirstFault extent text n s → (m ≡ n) × (r ≡ s)
-  pub one_script : (extent : Extent) (text : List ℕ) (a b : Setting) (p q : List Phase) → IsScript extent text a p → IsScript extent text b q → AreAlike a b × (p ≡ q)
+  pub excludes : (extent : Extent) (text : List ℕ) (setting : Setting) (phases : List Phase) (number : ℕ)
+      (reason : Reason) → IsScript extent text setting phases → ¬ IsFirstFault extent text number reason
+  pub one_fault : (extent : Extent) (text : List ℕ) (m n : ℕ) (r s : Reason) → IsFirstFault extent text m r
+      → IsFirstFault extent text n s → (m ≡ n) × (r ≡ s)
+  pub one_script : (extent : Extent) (text : List ℕ) (a b : Setting) (p q : List Phase) → IsScript extent text a p
+      → IsScript extent text b q → AreAlike a b × (p ≡ q)

@@ -56,7 +56,8 @@ own_line number session line = if session == number && not (ends_block line) the
 -- a session's among these lines, the first of which stand in a block of that session
 unfoldable pub lines_in : ℕ → ℕ → List Form → List Form
 lines_in number session [] = []
-lines_in number session (line ∷ lines) = own_line number session line ++ lines_in number (session_behind session line) lines
+lines_in number session (line ∷ lines) =
+    own_line number session line ++ lines_in number (session_behind session line) lines
 
 -- the lines of a session's blocks, block after block
 abbrev pub lines_of : ℕ → List Form → List Form

@@ -62,7 +62,8 @@ is_table_name bytes = nat_lt 0 (length bytes) && nat_le (length bytes) 64 && lis
 
 -- `YES` or `NO`
 unfoldable pub switch_of : List ℕ → Option Bool
-switch_of word = if bytes_eq word (codes "YES") then Some true else (if bytes_eq word (codes "NO") then Some false else None)
+switch_of word = if bytes_eq word (codes "YES") then Some true
+    else (if bytes_eq word (codes "NO") then Some false else None)
 
 abbrev pub switches : Bool → Bool → Switches
 switches enabled timed = record { enabled = enabled; timed = timed }
@@ -70,4 +71,5 @@ switches enabled timed = record { enabled = enabled; timed = timed }
 -- two of them: whether enabled, whether timed
 unfoldable pub switches_of : List ℕ → Option Switches
 switches_of words =
-    option_and_then (λ enabled. option_map (switches enabled) (option_and_then switch_of (rest_of words))) (switch_of (word_of words))
+    option_and_then (λ enabled. option_map (switches enabled) (option_and_then switch_of (rest_of words)))
+    (switch_of (word_of words))

@@ -53,7 +53,9 @@ fn add_phase(
     line: &Form,
     behind: &[Form],
 ) -> Result<(), NoMemory>
-    ensures { OnOk result ((more : List Phase) → phases.new.items ++ more ≡ phases.old.items ++ with_phase (is_phase line.now) (blocks_of (sense heading.now finds.now) behind.now) more) }
+    ensures { OnOk result ((more : List Phase)
+        → phases.new.items ++ more ≡ phases.old.items
+        ++ with_phase (is_phase line.now) (blocks_of (sense heading.now finds.now) behind.now) more) }
 {
     if is_phase(line) {
         let blocks = blocks(alloc, heading, finds, behind)?;
@@ -91,7 +93,9 @@ fn add_block(
     line: &Form,
     behind: &[Form],
 ) -> Result<(), NoMemory>
-    ensures { OnOk result ((more : List Block) → blocks.new.items ++ more ≡ blocks.old.items ++ with_front (block_behind (sense heading.now finds.now) behind.now line.now) more) }
+    ensures { OnOk result ((more : List Block)
+        → blocks.new.items ++ more ≡ blocks.old.items
+        ++ with_front (block_behind (sense heading.now finds.now) behind.now line.now) more) }
 {
     match line {
         Form::Connect {
@@ -128,7 +132,11 @@ fn push_block(
     connect: Option<Connect>,
     lines: BlockLineList,
 ) -> Result<(), NoMemory>
-    ensures { OnOk result (blocks.new.items ≡ blocks.old.items ++ record { session = session; connect = connect; lines = lines } ∷ []) }
+    ensures { OnOk result (blocks.new.items ≡ blocks.old.items ++ record {
+      session = session;
+      connect = connect;
+      lines = lines;
+    } ∷ []) }
 {
     blocks.push(Block {
         session,
@@ -165,7 +173,9 @@ fn add_line(
     said: &mut Vec<BlockLine>,
     line: &Form,
 ) -> Result<(), NoMemory>
-    ensures { OnOk result ((more : List BlockLine) → said.new.items ++ more ≡ said.old.items ++ with_front (block_line (sense heading.now finds.now) line.now) more) }
+    ensures { OnOk result ((more : List BlockLine)
+        → said.new.items ++ more ≡ said.old.items
+        ++ with_front (block_line (sense heading.now finds.now) line.now) more) }
 {
     if let Some(line) = block_line(alloc, heading, finds, line)? {
         said.push(line)?;

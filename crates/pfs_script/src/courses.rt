@@ -87,7 +87,8 @@ impl Course {
 
     /// Whether a phase may have one more block that the engine runs.
     pub fn has_room(&self) -> bool
-        ensures { (before : List Form) → KnowsCourse self.now before → result ≡ nat_lt (count_by is_session (phase_of before)) 32 }
+        ensures { (before : List Form) → KnowsCourse self.now before
+            → result ≡ nat_lt (count_by is_session (phase_of before)) 32 }
     {
         self.blocks < MOST_BLOCKS
     }
@@ -111,7 +112,8 @@ impl Course {
 
     // Whether it can't be the session's first block.
     fn is_bad_first(&self, number: u64) -> bool
-        ensures { (before : List Form) → KnowsCourse self.now before → result ≡ (not (nat_le 1 number && nat_le number 64) || list_any (is_block_of number) before) }
+        ensures { (before : List Form) → KnowsCourse self.now before
+            → result ≡ (not (nat_le 1 number && nat_le number 64) || list_any (is_block_of number) before) }
     {
         number < 1 || number > 64 || self.sessions[number as usize].has_begun
     }
@@ -119,7 +121,9 @@ impl Course {
     // Whether it can't be a later block of the session.
     fn is_bad_later(&self, number: u64) -> bool
         ensures { (before : List Form) → KnowsCourse self.now before
-            → result ≡ (not (nat_le 1 number && nat_le number 64) || (not (list_any (is_block_of number) before) || (list_any (is_block_of number) (phase_of before) || has_quit number before))) }
+            → result ≡ (not (nat_le 1 number && nat_le number 64)
+            || (not (list_any (is_block_of number) before)
+            || (list_any (is_block_of number) (phase_of before) || has_quit number before))) }
     {
         if number < 1 || number > 64 {
             return true;
@@ -130,7 +134,8 @@ impl Course {
 
     /// Whether the line breaks a rule of opening and ending.
     pub fn is_bad_nesting(&self, line: &Form) -> bool
-        ensures { (before : List Form) → KnowsCourse self.now before → is_out_of_place before line.now ≡ false → result ≡ is_bad_nesting before line.now }
+        ensures { (before : List Form) → KnowsCourse self.now before → is_out_of_place before line.now ≡ false
+            → result ≡ is_bad_nesting before line.now }
     {
         let events = self.events();
         match line {
@@ -161,7 +166,9 @@ impl Course {
 
     /// The course with one more line.
     pub fn pass(&mut self, line: &Form)
-        ensures { (before : List Form) → length before < 2 ^ 63 → KnowsCourse self.old before → is_bad_number line.now ≡ false → is_bad_session before line.now ≡ false → is_bad_nesting before line.now ≡ false
+        ensures { (before : List Form) → length before < 2 ^ 63 → KnowsCourse self.old before
+            → is_bad_number line.now ≡ false → is_bad_session before line.now ≡ false
+            → is_bad_nesting before line.now ≡ false
             → KnowsCourse self.new (before ++ line.now ∷ []) }
     {
         match line {
@@ -192,7 +199,9 @@ impl Course {
     }
 
     fn begin_block(&mut self, number: u64)
-        ensures sessions { number < 65 → self.new.sessions ≡ slice_set self.old.sessions number (record (state_at self.old.sessions number) { has_begun = true }) }
+        ensures sessions { number < 65
+            → self.new.sessions ≡ slice_set self.old.sessions number
+            (record (state_at self.old.sessions number) { has_begun = true }) }
         ensures here { number < 65 → self.new.here ≡ slice_set self.old.here number true }
         ensures present { number < 65 → self.new.present ≡ number }
         ensures blocks { number < 65 → self.old.blocks < 2 ^ 63 → self.new.blocks ≡ self.old.blocks + 1 }
@@ -210,7 +219,8 @@ impl Course {
 
     // Puts what is known of the session of the block.
     fn put(&mut self, state: SessionState)
-        ensures sessions { self.old.present < 65 → self.new.sessions ≡ slice_set self.old.sessions self.old.present state }
+        ensures sessions { self.old.present < 65
+            → self.new.sessions ≡ slice_set self.old.sessions self.old.present state }
         ensures here { self.new.here ≡ self.old.here }
         ensures present { self.new.present ≡ self.old.present }
         ensures blocks { self.new.blocks ≡ self.old.blocks }

@@ -94,7 +94,8 @@ impl Finds {
 
     /// Whether the line names one table too many.
     pub fn is_table_too_many(&self, line: &Form) -> bool
-        ensures { nat_lt 64 (length self.now.tables) ≡ false → result ≡ nat_lt 64 (length (with_table self.now.tables line.now)) }
+        ensures { nat_lt 64 (length self.now.tables) ≡ false
+            → result ≡ nat_lt 64 (length (with_table self.now.tables line.now)) }
     {
         match line {
             Form::TableWait { schema, name, .. } => {
@@ -121,7 +122,8 @@ impl Finds {
     }
 
     fn add_table(&mut self, alloc: Global, schema: &[u8], name: &[u8]) -> Result<(), NoMemory>
-        ensures tables { OnOk result (self.new.tables ≡ with_table self.old.tables (form.TableWait [] schema.now name.now)) }
+        ensures tables { OnOk result (self.new.tables
+            ≡ with_table self.old.tables (form.TableWait [] schema.now name.now)) }
         ensures digests { self.new.digests ≡ self.old.digests }
     {
         if table_number(self.tables.as_slice(), schema, name).is_some() {
@@ -134,7 +136,8 @@ impl Finds {
 
     fn add_statement(&mut self, alloc: Global, most: u64, text: &str) -> Result<(), NoMemory>
         ensures tables { self.new.tables ≡ self.old.tables }
-        ensures digests { OnOk result (self.new.digests ≡ with_digest most self.old.digests (form.Statement [] text.now)) }
+        ensures digests { OnOk result (self.new.digests
+            ≡ with_digest most self.old.digests (form.Statement [] text.now)) }
     {
         match digest_text(alloc, text) {
             Ok(shown) => self.add_digest(most, shown),

@@ -49,7 +49,8 @@ impl Front {
     }
 
     fn is_bad_value(&self, limit: Option<Limit>, value: u64) -> bool
-        ensures { (before : List Form) → KnowsFront self.now before → result ≡ (not (is_within limit value) || list_any (gives limit) before) }
+        ensures { (before : List Form) → KnowsFront self.now before
+            → result ≡ (not (is_within limit value) || list_any (gives limit) before) }
     {
         match limit {
             Some(limit) => !is_allowed(limit, value) || self.given[place(limit)],
@@ -75,7 +76,9 @@ impl Front {
     fn give(&mut self, limit: Option<Limit>)
         ensures alone { self.new.limits_alone ≡ self.old.limits_alone }
         ensures phase { self.new.has_phase ≡ self.old.has_phase }
-        ensures given { (one : Limit) → get_or self.new.given (order_of one) false ≡ (get_or self.old.given (order_of one) false || same_limit (Some one) limit) }
+        ensures given { (one : Limit)
+            → get_or self.new.given (order_of one) false ≡ (get_or self.old.given (order_of one) false
+            || same_limit (Some one) limit) }
         ensures limits { length self.new.given ≡ length self.old.given }
     {
         if let Some(limit) = limit {

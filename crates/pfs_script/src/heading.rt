@@ -37,7 +37,12 @@ impl Model for Heading {
 
     ghost view = { λ h. record { names = h.names; classes = h.classes; limits = h.limits; consumers = h.consumers.0 } };
 
-    ghost invariant = { λ h. IsSound (record { names = h.names; classes = h.classes; limits = h.limits; consumers = h.consumers.0 }) };
+    ghost invariant = { λ h. IsSound (record {
+      names = h.names;
+      classes = h.classes;
+      limits = h.limits;
+      consumers = h.consumers.0;
+    }) };
 }
 
 impl Heading {
@@ -55,7 +60,8 @@ impl Heading {
     /// there by then and whose name is like its pattern. Lines of other forms fix nothing here.
     pub fn pass(&mut self, alloc: Global, line: &Form) -> Result<(), NoMemory>
         requires { MayCome self.old line.now }
-        ensures { OnOk result ((before : List Form) → StandsIn before line.now → self.old ≡ head_of before → self.new ≡ head_of (before ++ line.now ∷ [])) }
+        ensures { OnOk result ((before : List Form) → StandsIn before line.now → self.old ≡ head_of before
+            → self.new ≡ head_of (before ++ line.now ∷ [])) }
     {
         match line {
             Form::Limit { name, value } => self.pass_limit(alloc, name.bytes(), *value),
@@ -174,7 +180,8 @@ impl Heading {
         requires fits { Fits name.now kind }
         requires ordinary { is_fixed kind ≡ false }
         requires fresh { resolved self.old name.now ≡ None }
-        ensures { OnOk result (self.new ≡ head_with (with_class (naming_in self.old) name.now kind enabled timed) self.old.limits self.old.consumers) }
+        ensures { OnOk result (self.new ≡ head_with (with_class (naming_in self.old) name.now kind enabled timed)
+            self.old.limits self.old.consumers) }
     {
         more_names();
         let Ok(text) = from_utf8(name) else {
@@ -188,7 +195,8 @@ impl Heading {
 
     // Sets the flag of the named consumer.
     fn switch(&mut self, name: &[u8], on: bool)
-        ensures { self.new ≡ record self.old { consumers = set_consumer (named_consumer name.now) on self.old.consumers } }
+        ensures { self.new ≡ record self.old
+            { consumers = set_consumer (named_consumer name.now) on self.old.consumers } }
     {
         if let Some(consumer) = find_consumer(name) {
             self.consumers.set(consumer, on);
@@ -197,7 +205,8 @@ impl Heading {
 
     // Sets the classes whose names are like the pattern.
     fn instrument(&mut self, pattern: &[u8], enabled: bool, timed: bool)
-        ensures { self.new ≡ head_with (with_flags_like (naming_in self.old) pattern.now enabled timed) self.old.limits self.old.consumers }
+        ensures { self.new ≡ head_with (with_flags_like (naming_in self.old) pattern.now enabled timed)
+            self.old.limits self.old.consumers }
     {
         set_like(&mut self.classes, &self.names, pattern, enabled, timed);
     }
@@ -227,7 +236,12 @@ fn add_class(
     requires fits { Fits (text_of names.now name) kind }
     requires ordinary { is_fixed kind ≡ false }
     requires fresh { is_given classes.old name ≡ false }
-    ensures ok { OnOk result (classes.new ≡ registered classes.old (record { name = name; kind = kind; enabled = enabled; timed = timed })) }
+    ensures ok { OnOk result (classes.new ≡ registered classes.old (record {
+      name = name;
+      kind = kind;
+      enabled = enabled;
+      timed = timed;
+    })) }
     ensures err { OnErr result (classes.new ≡ classes.old) }
     ensures come { ComesFrom names.now classes.old → ComesFrom names.now classes.new }
 {

@@ -18,7 +18,8 @@ pub fn exact()
 /// Behind any lines a name stands for a class or a lost class exactly where it is known, and a name
 /// but `transaction` for a class below their number.
 pub fn known_names()
-    ensures known { (lines : List Form) (name : List ℕ) → is_some (resolved (head_of lines) name) ≡ is_known lines name }
+    ensures known { (lines : List Form) (name : List ℕ)
+        → is_some (resolved (head_of lines) name) ≡ is_known lines name }
     ensures within { (lines : List Form) (name : List ℕ) (id : ℕ) → bytes_eq name (codes "transaction") ≡ false
         → resolved (head_of lines) name ≡ Some (refs.Class id) → id < length (head_of lines).classes.classes }
 {}
@@ -27,13 +28,21 @@ pub fn known_names()
 /// it, but for as many of the innermost as it ends, and the one that it opens. What it ends is what
 /// closes at its place, whatever stands behind it.
 pub fn nested()
-    ensures opens { (marks : List Mark) → (mark : Mark) → open_in (marks ++ mark ∷ []) ≡ opened_by (length marks) mark ++ drop (ended_by mark (kinds_of (open_in marks))) (open_in marks) }
-    ensures closes { (marks : List Mark) → (mark : Mark) → (more : List Mark) → closed_at (marks ++ mark ∷ more) (length marks) ≡ take (ended_by mark (kinds_of (open_in marks))) (open_in marks) }
+    ensures opens { (marks : List Mark) → (mark : Mark)
+        → open_in (marks ++ mark ∷ []) ≡ opened_by (length marks) mark
+        ++ drop (ended_by mark (kinds_of (open_in marks))) (open_in marks) }
+    ensures closes { (marks : List Mark) → (mark : Mark) → (more : List Mark)
+        → closed_at (marks ++ mark ∷ more) (length marks)
+        ≡ take (ended_by mark (kinds_of (open_in marks))) (open_in marks) }
 {}
 
 /// Marks that may stand, and behind which events of the same kinds are open as before them, may stand
 /// so many times as one likes, and still leave those kinds.
 pub fn repeats()
-    ensures follow { (before body : List Mark) → Follows before body → kinds_of (open_in (before ++ body)) ≡ kinds_of (open_in before) → (times : ℕ) → Follows before (copies times body) }
-    ensures leave { (before body : List Mark) → Follows before body → kinds_of (open_in (before ++ body)) ≡ kinds_of (open_in before) → (times : ℕ) → kinds_of (open_in (before ++ copies times body)) ≡ kinds_of (open_in before) }
+    ensures follow { (before body : List Mark) → Follows before body
+        → kinds_of (open_in (before ++ body)) ≡ kinds_of (open_in before) → (times : ℕ)
+        → Follows before (copies times body) }
+    ensures leave { (before body : List Mark) → Follows before body
+        → kinds_of (open_in (before ++ body)) ≡ kinds_of (open_in before) → (times : ℕ)
+        → kinds_of (open_in (before ++ copies times body)) ≡ kinds_of (open_in before) }
 {}

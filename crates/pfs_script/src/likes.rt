@@ -44,7 +44,8 @@ fn set_if_like(
     requires given { IsId classes.old id }
     requires come { ComesFrom names.now classes.old }
     ensures value { (class : Class) → class_at classes.old id ≡ Some class
-        → classes.new ≡ (if is_like pattern.now (text_of names.now class.name) then with_flags classes.old id enabled timed else classes.old) }
+        → classes.new ≡ (if is_like pattern.now (text_of names.now class.name) then with_flags classes.old id enabled
+        timed else classes.old) }
     ensures come { ComesFrom names.now classes.new }
 {
     known_names();

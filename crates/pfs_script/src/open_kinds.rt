@@ -46,7 +46,8 @@ impl OpenKinds {
 
     /// Whether nothing is open.
     pub fn is_empty(&self) -> bool
-        ensures value { result ≡ (self.now.waits == 0 && not self.now.has_stage && self.now.statements == 0 && not self.now.has_transaction) }
+        ensures value { result ≡ (self.now.waits == 0 && not self.now.has_stage && self.now.statements == 0
+            && not self.now.has_transaction) }
         ensures none { result ≡ not (is_some (innermost (kinds_in self.now))) }
     {
         self.waits == 0 && !self.has_stage && self.statements == 0 && !self.has_transaction
@@ -75,9 +76,12 @@ impl OpenKinds {
 
     /// The events that are open behind the line. Numbers past 2^64 - 1 stay there.
     pub fn pass(&mut self, line: &Form)
-        ensures kinds { self.old.waits < 2 ^ 63 → self.old.statements < 2 ^ 63 → may_stand (kinds_in self.old) (mark_of_form line.now) ≡ true → (self.old.has_stage ≡ true → 1 ≤ self.old.statements)
+        ensures kinds { self.old.waits < 2 ^ 63 → self.old.statements < 2 ^ 63
+            → may_stand (kinds_in self.old) (mark_of_form line.now) ≡ true
+            → (self.old.has_stage ≡ true → 1 ≤ self.old.statements)
             → kinds_in self.new ≡ kinds_behind (mark_of_form line.now) (kinds_in self.old) }
-        ensures inside { may_stand (kinds_in self.old) (mark_of_form line.now) ≡ true → (self.old.has_stage ≡ true → 1 ≤ self.old.statements)
+        ensures inside { may_stand (kinds_in self.old) (mark_of_form line.now) ≡ true
+            → (self.old.has_stage ≡ true → 1 ≤ self.old.statements)
             → self.new.has_stage ≡ true → 1 ≤ self.new.statements }
         ensures waits { self.new.waits ≤ self.old.waits + 1 }
         ensures statements { self.new.statements ≤ self.old.statements + 1 }
@@ -95,8 +99,10 @@ impl OpenKinds {
 
     // The events that are open behind an end.
     fn end(&mut self)
-        ensures kinds { (self.old.has_stage ≡ true → 1 ≤ self.old.statements) → kinds_in self.new ≡ kinds_behind Ends (kinds_in self.old) }
-        ensures inside { (self.old.has_stage ≡ true → 1 ≤ self.old.statements) → self.new.has_stage ≡ true → 1 ≤ self.new.statements }
+        ensures kinds { (self.old.has_stage ≡ true → 1 ≤ self.old.statements)
+            → kinds_in self.new ≡ kinds_behind Ends (kinds_in self.old) }
+        ensures inside { (self.old.has_stage ≡ true → 1 ≤ self.old.statements) → self.new.has_stage ≡ true
+            → 1 ≤ self.new.statements }
         ensures waits { self.new.waits ≤ self.old.waits }
         ensures statements { self.new.statements ≤ self.old.statements }
     {
@@ -138,9 +144,12 @@ impl SessionState {
     pub fn pass(&mut self, line: &Form)
         ensures begun { self.new.has_begun ≡ self.old.has_begun }
         ensures quits { self.new.has_quit ≡ (self.old.has_quit || is_quit line.now) }
-        ensures kinds { self.old.events.waits < 2 ^ 63 → self.old.events.statements < 2 ^ 63 → may_stand (kinds_in self.old.events) (mark_of_form line.now) ≡ true → (self.old.events.has_stage ≡ true → 1 ≤ self.old.events.statements)
+        ensures kinds { self.old.events.waits < 2 ^ 63 → self.old.events.statements < 2 ^ 63
+            → may_stand (kinds_in self.old.events) (mark_of_form line.now) ≡ true
+            → (self.old.events.has_stage ≡ true → 1 ≤ self.old.events.statements)
             → kinds_in self.new.events ≡ kinds_behind (mark_of_form line.now) (kinds_in self.old.events) }
-        ensures inside { may_stand (kinds_in self.old.events) (mark_of_form line.now) ≡ true → (self.old.events.has_stage ≡ true → 1 ≤ self.old.events.statements)
+        ensures inside { may_stand (kinds_in self.old.events) (mark_of_form line.now) ≡ true
+            → (self.old.events.has_stage ≡ true → 1 ≤ self.old.events.statements)
             → self.new.events.has_stage ≡ true → 1 ≤ self.new.events.statements }
         ensures waits { self.new.events.waits ≤ self.old.events.waits + 1 }
         ensures statements { self.new.events.statements ≤ self.old.events.statements + 1 }

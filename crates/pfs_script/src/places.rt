@@ -47,7 +47,8 @@ impl Place {
         finds: &Finds,
         line: &Form,
     ) -> Option<Reason>
-        ensures { (before : List Form) → Knows self.now before → heading.now ≡ head_of before → KnowsFinds finds.now before → result ≡ fault_of extent before line.now }
+        ensures { (before : List Form) → Knows self.now before → heading.now ≡ head_of before
+            → KnowsFinds finds.now before → result ≡ fault_of extent before line.now }
     {
         if self.is_let_in(extent, line) {
             self.least_reason(heading, finds, line)
@@ -58,7 +59,8 @@ impl Place {
 
     #[tactic(auto, unfolding(crate::specs::Next::least_reason))]
     fn least_reason(&self, heading: &Heading, finds: &Finds, line: &Form) -> Option<Reason>
-        ensures { (before : List Form) → Knows self.now before → heading.now ≡ head_of before → KnowsFinds finds.now before → result ≡ least_reason before line.now }
+        ensures { (before : List Form) → Knows self.now before → heading.now ≡ head_of before
+            → KnowsFinds finds.now before → result ≡ least_reason before line.now }
     {
         if self.is_out_of_place(line) {
             Some(Reason::OutOfPlace)
@@ -87,7 +89,8 @@ impl Place {
     pub fn pass(&mut self, line: &Form)
         requires phases { self.old.totals.phases ≤ 64 }
         requires classes { self.old.totals.classes ≤ 256 }
-        ensures { (extent : Extent) (before : List Form) → Knows self.old before → fault_of extent before line.now ≡ None → Knows self.new (before ++ line.now ∷ []) }
+        ensures { (extent : Extent) (before : List Form) → Knows self.old before
+            → fault_of extent before line.now ≡ None → Knows self.new (before ++ line.now ∷ []) }
     {
         self.front.pass(line);
         self.course.pass(line);

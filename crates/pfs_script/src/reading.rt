@@ -88,7 +88,8 @@ fn read_line<'a>(
     finds: &Finds,
     bytes: &'a [u8],
 ) -> Result<Form<'a>, Reason>
-    ensures says { (before : List Form) → Knows place.now before → heading.now ≡ head_of before → KnowsFinds finds.now before → result ≡ next extent before bytes.now }
+    ensures says { (before : List Form) → Knows place.now before → heading.now ≡ head_of before
+        → KnowsFinds finds.now before → result ≡ next extent before bytes.now }
     ensures kind { IfOk result HasItsKind }
 {
     let line = match parse_line(bytes) {

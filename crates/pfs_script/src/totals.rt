@@ -47,7 +47,8 @@ impl Tally {
     /// times more than once.
     fn is_over(&self, line: &Form, own: u64, more: u64, most: u64) -> bool
         requires { most < 2 ^ 63 }
-        ensures { (measure : Form → ℕ) (before : List Form) → KnowsTally self.now measure more before → own ≡ measure line.now → result ≡ nat_lt most (counted measure (before ++ line.now ∷ [])) }
+        ensures { (measure : Form → ℕ) (before : List Form) → KnowsTally self.now measure more before
+            → own ≡ measure line.now → result ≡ nat_lt most (counted measure (before ++ line.now ∷ [])) }
     {
         let added = added(line, own, more, self.body);
         self.total.saturating_add(added) > most
@@ -55,7 +56,9 @@ impl Tally {
 
     /// What they come to with a line of that measure.
     fn pass(&mut self, line: &Form, own: u64, more: u64)
-        ensures total { self.new.total ≡ min (self.old.total + min (own + (if is_done line.now then more * self.old.body else 0)) (2 ^ 64 - 1)) (2 ^ 64 - 1) }
+        ensures total { self.new.total
+            ≡ min (self.old.total + min (own + (if is_done line.now then more * self.old.body else 0)) (2 ^ 64 - 1))
+            (2 ^ 64 - 1) }
         ensures body { self.new.body ≡ min (body_with line.now own self.old.body) (2 ^ 64 - 1) }
     {
         let added = added(line, own, more, self.body);
@@ -125,14 +128,16 @@ impl Totals {
     }
 
     fn has_over_selects(&self, line: &Form) -> bool
-        ensures { (before : List Form) → KnowsTotals self.now before → result ≡ nat_lt 256 (counted one_select (before ++ line.now ∷ [])) }
+        ensures { (before : List Form) → KnowsTotals self.now before
+            → result ≡ nat_lt 256 (counted one_select (before ++ line.now ∷ [])) }
     {
         self.selects
             .is_over(line, selects(line), self.more, MOST_SELECTS)
     }
 
     fn is_too_heavy(&self, line: &Form) -> bool
-        ensures { (before : List Form) → KnowsTotals self.now before → result ≡ nat_lt 5000000 (counted weight_of (before ++ line.now ∷ [])) }
+        ensures { (before : List Form) → KnowsTotals self.now before
+            → result ≡ nat_lt 5000000 (counted weight_of (before ++ line.now ∷ [])) }
     {
         self.weight
             .is_over(line, weight(line), self.more, MOST_WEIGHT)
@@ -142,7 +147,8 @@ impl Totals {
     pub fn pass(&mut self, line: &Form)
         requires phases { self.old.phases ≤ 64 }
         requires classes { self.old.classes ≤ 256 }
-        ensures { (before : List Form) → KnowsTotals self.old before → is_out_of_place before line.now ≡ false → is_too_long before line.now ≡ false
+        ensures { (before : List Form) → KnowsTotals self.old before → is_out_of_place before line.now ≡ false
+            → is_too_long before line.now ≡ false
             → is_too_much before line.now ≡ false → KnowsTotals self.new (before ++ line.now ∷ []) }
     {
         let more = self.more;

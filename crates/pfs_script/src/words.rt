@@ -93,7 +93,8 @@ fn first_dot(bytes: &[u8]) -> Option<usize>
 pub fn split_word(bytes: &[u8]) -> (&[u8], Option<&[u8]>)
     ensures word { result.0.now ≡ word_of bytes.now }
     ensures rest { option_map (λ rest. rest.now) result.1 ≡ rest_of bytes.now }
-    ensures clean { list_all is_script_byte bytes.now ≡ true → IfSome result.1 (λ rest. list_all is_script_byte rest.now ≡ true) }
+    ensures clean { list_all is_script_byte bytes.now ≡ true
+        → IfSome result.1 (λ rest. list_all is_script_byte rest.now ≡ true) }
 {
     match first_space(bytes) {
         Some(at) => (&bytes[..at], Some(&bytes[at + 1..])),

@@ -18,7 +18,18 @@ pub record Fits (s : Stat) : Type 0 where
 
 -- a row that has counted nothing
 abbrev pub zero_of : Stat
-zero_of = record { count = 0; sum = 0; min = 2 ^ 64 - 1; max = 0; lock = 0; errors = 0; warnings = 0; affected = 0; sent = 0; examined = 0 }
+zero_of = record {
+  count = 0;
+  sum = 0;
+  min = 2 ^ 64 - 1;
+  max = 0;
+  lock = 0;
+  errors = 0;
+  warnings = 0;
+  affected = 0;
+  sent = 0;
+  examined = 0;
+}
 
 -- a row that has counted this event alone
 abbrev pub stat_of : Measure → Stat
@@ -60,8 +71,8 @@ pub record IsInRange (m : Measure) : Type 0 where
   pub sent : m.sent < 2 ^ 64
   pub examined : m.examined < 2 ^ 64
 
--- what merging rows does not depend on: their order and grouping, and rows that counted nothing; the rows that events give and those
--- that rows give fit
+-- what merging rows does not depend on: their order and grouping, and rows that counted nothing; the rows that events
+-- give and those that rows give fit
 pub record MergeIsMonoid : Type 0 where
   pub unit : (a : Stat) → Fits a → merge_of zero_of a ≡ a
   pub commutes : (a b : Stat) → merge_of a b ≡ merge_of b a
@@ -76,7 +87,8 @@ merge_all stats = fold merge_of zero_of stats
 
 -- a slot's words: the ten numbers, then 0
 abbrev pub words_of : Stat → List ℕ
-words_of s = s.count ∷ s.sum ∷ s.min ∷ s.max ∷ s.lock ∷ s.errors ∷ s.warnings ∷ s.affected ∷ s.sent ∷ s.examined ∷ 0 ∷ 0 ∷ 0 ∷ 0 ∷ 0 ∷ 0 ∷ []
+words_of s = s.count ∷ s.sum ∷ s.min ∷ s.max ∷ s.lock ∷ s.errors ∷ s.warnings ∷ s.affected ∷ s.sent ∷ s.examined ∷ 0
+    ∷ 0 ∷ 0 ∷ 0 ∷ 0 ∷ 0 ∷ []
 
 -- the numbers that stand in a slot's first ten words
 abbrev pub stat_of_words : List ℕ → Stat

@@ -5,8 +5,9 @@ use Rattle.pfs_switches.specs.History.{Each, version, flags_at, IsChain}
 use Rattle.pfs_switches.specs.Order.{IsRising, IsAbove}
 use Rattle.pfs_switches.specs.Rule.{IsLoad, IsMeet}
 
--- The writer's sets number each word's versions, and it has seen the present ones.
--- Each load of the seat's has the flags of its version, and is not below an older load or an earlier meet under its number. No load or meet has a version that the word never had, and no meet one below what its seat had seen.
+-- The writer's sets number each word's versions, and it has seen the present ones. Each load of the seat's has the
+-- flags of its version, and is not below an older load or an earlier meet under its number. No load or meet has a
+-- version that the word never had, and no meet one below what its seat had seen.
 pub record IsTold (start : List ℕ) (v w : View) : Type 0 where
   pub chain : IsChain w.sets
   pub counts : (r : ℕ) → r < length start → slice_index w.seen r ≡ version w.sets r
@@ -19,4 +20,5 @@ pub record IsTold (start : List ℕ) (v w : View) : Type 0 where
 -- At the end each word is left at its last version, with the flags that were set then.
 pub record IsClosed (start : List ℕ) (v w : View) (rows : List (ℕ × ℕ)) : Type 0 where
   pub told : IsTold start v w
-  pub rows_are : (r : ℕ) → r + 1 < length start → slice_index_or rows r (0, 0) ≡ (version w.sets r, flags_at start w.sets r (version w.sets r))
+  pub rows_are : (r : ℕ) → r + 1 < length start
+      → slice_index_or rows r (0, 0) ≡ (version w.sets r, flags_at start w.sets r (version w.sets r))

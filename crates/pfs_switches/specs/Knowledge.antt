@@ -10,7 +10,15 @@ abbrev pub last_version : ℕ
 last_version = 281474976710655
 
 abbrev pub load_of : View → ℕ → ℕ → ℕ → Loaded
-load_of v r k flags = record { by = v.number; place = v.made; word = r; version = k; flags = flags; first = slice_index v.first r; least = slice_index v.seen r }
+load_of v r k flags = record {
+  by = v.number;
+  place = v.made;
+  word = r;
+  version = k;
+  flags = flags;
+  first = slice_index v.first r;
+  least = slice_index v.seen r;
+}
 
 -- the word r was loaded, at the version k
 abbrev pub loaded : View → ℕ → ℕ → ℕ → View
@@ -28,7 +36,20 @@ merged (c ∷ cs) (d ∷ ds) = max c d ∷ merged cs ds
 
 -- of a seat that was taken in
 abbrev pub spent : View
-spent = record { live = false; seated = false; writes = false; start = []; number = 0; seats = 0; made = 0; first = []; seen = []; loads = []; meets = []; sets = [] }
+spent = record {
+  live = false;
+  seated = false;
+  writes = false;
+  start = [];
+  number = 0;
+  seats = 0;
+  made = 0;
+  first = [];
+  seen = [];
+  loads = [];
+  meets = [];
+  sets = [];
+}
 
 -- of a new table: the root and the writer in one
 abbrev pub whole : List ℕ → View
@@ -58,7 +79,14 @@ abbrev pub split_left : View → View
 split_left v = record v { seats = v.seats + 1 }
 
 abbrev pub split_right : View → View
-split_right v = record spent { live = true; seated = true; start = v.start; number = v.seats + 1; first = v.seen; seen = v.seen }
+split_right v = record spent {
+  live = true;
+  seated = true;
+  start = v.start;
+  number = v.seats + 1;
+  first = v.seen;
+  seen = v.seen;
+}
 
 abbrev pub joined : View → View → View
 joined v w = record v { seen = merged v.seen w.seen; loads = w.loads ++ v.loads; meets = w.meets ++ v.meets }

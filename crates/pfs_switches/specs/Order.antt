@@ -28,13 +28,16 @@ pub record IsOrdered (v : View) : Type 0 where
   pub above : Each (IsAbove v.meets) v.loads
   pub own : v.number ≢ 0 → Makers (λ n. n ≡ v.number) v
 
--- the root has number 0, each other seat a number of its own, and the root has no load or meet of a seat that is still out
+-- the root has number 0, each other seat a number of its own, and the root has no load or meet of a seat that is
+-- still out
 pub record Numbers (views : List View) : Type 0 where
   pub root : View
   pub at_root : get_elem? views 0 ≡ some root
   pub sits : root.seated ≡ true
   pub first : root.number ≡ 0
-  pub apart : (i j : ℕ) (u w : View) → get_elem? views i ≡ some u → get_elem? views j ≡ some w → u.seated ≡ true → w.seated ≡ true → u.number ≡ w.number → i ≡ j
+  pub apart : (i j : ℕ) (u w : View) → get_elem? views i ≡ some u → get_elem? views j ≡ some w → u.seated ≡ true
+      → w.seated ≡ true → u.number ≡ w.number → i ≡ j
   pub counted : (j : ℕ) (u : View) → get_elem? views j ≡ some u → u.seated ≡ true → u.number ≤ root.seats
-  pub strangers : (j : ℕ) (u : View) → get_elem? views j ≡ some u → u.seated ≡ true → u.number ≢ 0 → Makers (λ n. n ≢ u.number) root
+  pub strangers : (j : ℕ) (u : View) → get_elem? views j ≡ some u → u.seated ≡ true → u.number ≢ 0
+      → Makers (λ n. n ≢ u.number) root
   pub makers : Makers (λ n. n ≤ root.seats) root

@@ -9,7 +9,8 @@ use Rattle.pfs_switches.specs.Knowledge.{last_version, loaded, was_set}
 module _ {S : Type 0} where
   -- a seat loads a word, at no version below what it saw
   abbrev pub looks : Step S → Me S View → ℕ → Me S View → Type 0
-  looks st m n m' = (m' ≡ (loaded m.0 st.word (n / 65536) (n % 65536), m.1)) × (slice_index m.0.seen st.word ≤ n / 65536)
+  looks st m n m' = (m' ≡ (loaded m.0 st.word (n / 65536) (n % 65536), m.1))
+      × (slice_index m.0.seen st.word ≤ n / 65536)
 
   -- the writer loads a word, whose version it knows
   abbrev pub weighs : Step S → Me S View → ℕ → Me S View → Type 0
@@ -24,4 +25,6 @@ module _ {S : Type 0} where
 
   -- they load a word, whose version and flags they know
   abbrev pub checks : Step S → Me S View → ℕ → Me S View → Type 0
-  checks st m n m' = (m' ≡ (loaded m.0 st.word (n / 65536) (n % 65536), m.1)) × (n / 65536 ≡ slice_index m.0.seen st.word) × (n % 65536 ≡ flags_at m.0.start m.0.sets st.word (n / 65536)) × IsTold m.0.start (loaded m.0 st.word (n / 65536) (n % 65536)) m.0
+  checks st m n m' = (m' ≡ (loaded m.0 st.word (n / 65536) (n % 65536), m.1))
+      × (n / 65536 ≡ slice_index m.0.seen st.word) × (n % 65536 ≡ flags_at m.0.start m.0.sets st.word (n / 65536))
+      × IsTold m.0.start (loaded m.0 st.word (n / 65536) (n % 65536)) m.0

@@ -12,7 +12,8 @@ use Rattle.pfs_switches.specs.Knowledge.{last_version}
 use Rattle.pfs_switches.specs.Order.{IsOrdered, Numbers}
 
 module _ (start : List ℕ) (log : List Setting) where
-  -- A finished load gives the flags of its version. That is no lower than what its seat had seen, nor than what the root had seen when the seat was split off
+  -- A finished load gives the flags of its version. That is no lower than what its seat had seen, nor than what the
+  -- root had seen when the seat was split off
   pub record IsLoad (seen : ℕ → ℕ) (x : Loaded) : Type 0 where
     pub below : x.version ≤ seen x.word
     pub flags_are : x.flags ≡ flags_at start log x.word x.version

@@ -14,7 +14,8 @@ pub(crate) type Top = Shared<(), View, Vec<u64>, Rules>;
 pub(crate) type Both = Seat<(), View>;
 
 fn gather(top: &Top, badge: Badge<View>, pen: Badge<View>) -> Both
-    requires tables { (badge.table_id ≡ top.now.table_id) × (pen.table_id ≡ top.now.table_id) × (0 < top.now.table_id.words) }
+    requires tables { (badge.table_id ≡ top.now.table_id) × (pen.table_id ≡ top.now.table_id)
+        × (0 < top.now.table_id.words) }
     requires seat { IsReady badge.table_id badge.views }
     requires writer { IsWriting pen.table_id pen.views }
     ensures table { result.table_id ≡ top.now.table_id }
@@ -38,13 +39,15 @@ fn part(top: &Top, mut both: Both) -> (Badge<View>, Badge<View>)
 
 /// The two meet, and learn what holds of all that they know.
 pub(crate) fn meet_by(top: &Top, badge: Badge<View>, pen: Badge<View>) -> (Badge<View>, Badge<View>)
-    requires tables { (badge.table_id ≡ top.now.table_id) × (pen.table_id ≡ top.now.table_id) × (0 < top.now.table_id.words) }
+    requires tables { (badge.table_id ≡ top.now.table_id) × (pen.table_id ≡ top.now.table_id)
+        × (0 < top.now.table_id.words) }
     requires seat { IsReady badge.table_id badge.views }
     requires writer { IsWriting pen.table_id pen.views }
     ensures tables { (result.0.table_id ≡ top.now.table_id) × (result.1.table_id ≡ top.now.table_id) }
     ensures seat { result.0.views ≡ met (first_view badge.views) (first_view pen.views) ∷ [] }
     ensures writer { result.1.views ≡ first_view pen.views ∷ [] }
-    ensures told { IsTold (first_view badge.views).start (met (first_view badge.views) (first_view pen.views)) (first_view pen.views) }
+    ensures told { IsTold (first_view badge.views).start (met (first_view badge.views) (first_view pen.views))
+        (first_view pen.views) }
 {
     let mut both = gather(top, badge, pen);
     top.load::<Tell>(&mut both, 0);
@@ -63,10 +66,15 @@ pub(crate) fn load_by(
     requires writer { IsWriting pen.table_id pen.views }
     requires word { (word < top.now.table_id.words) × (top.now.table_id.words ≡ length top.now.key.items) }
     ensures tables { (result.1.table_id ≡ top.now.table_id) × (result.2.table_id ≡ top.now.table_id) }
-    ensures found { (result.0 / 65536 ≡ slice_index (first_view pen.views).seen word) × (result.0 % 65536 ≡ flags_at (first_view badge.views).start (first_view pen.views).sets word (result.0 / 65536)) }
-    ensures seat { result.1.views ≡ loaded (met (first_view badge.views) (first_view pen.views)) word (result.0 / 65536) (result.0 % 65536) ∷ [] }
+    ensures found { (result.0 / 65536 ≡ slice_index (first_view pen.views).seen word)
+        × (result.0 % 65536 ≡ flags_at (first_view badge.views).start (first_view pen.views).sets word
+        (result.0 / 65536)) }
+    ensures seat { result.1.views ≡ loaded (met (first_view badge.views) (first_view pen.views)) word
+        (result.0 / 65536) (result.0 % 65536) ∷ [] }
     ensures writer { result.2.views ≡ first_view pen.views ∷ [] }
-    ensures told { IsTold (first_view badge.views).start (loaded (met (first_view badge.views) (first_view pen.views)) word (result.0 / 65536) (result.0 % 65536)) (first_view pen.views) }
+    ensures told { IsTold (first_view badge.views).start
+        (loaded (met (first_view badge.views) (first_view pen.views)) word (result.0 / 65536) (result.0 % 65536))
+        (first_view pen.views) }
 {
     let mut both = gather(top, badge, pen);
     let found = top.load::<Check>(&mut both, word);

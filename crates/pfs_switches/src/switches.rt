@@ -37,7 +37,8 @@ impl Model for Switches {
 
     ghost view = { λ b. place b.table.shared.table_id b.table.shared.key.items };
 
-    ghost invariant = { λ b. IsSized b.table.shared.table_id b.table.shared.key.items b.rows.items (vec_capacity b.rows) };
+    ghost invariant = { λ b. IsSized b.table.shared.table_id b.table.shared.key.items b.rows.items
+        (vec_capacity b.rows) };
 }
 
 /// What one actor knows of the setup words. It has no bytes. Contracts see which words it is of, and the view.
@@ -54,7 +55,8 @@ impl Model for SwitchSeat {
     ghost invariant = { λ s. IsReady s.badge.table_id s.badge.views };
 }
 
-/// The one that sets the words, and what it knows: all sets. It has no bytes. Contracts see which words it is of, and the view.
+/// The one that sets the words, and what it knows: all sets. It has no bytes. Contracts see which words it is of, and
+/// the view.
 #[derive(Drop)]
 pub struct Writer {
     badge: Badge<View>,
@@ -111,7 +113,8 @@ impl Switches {
         ))
     }
 
-    /// Ends the words: a seat and the writer are handed in, and the version and the flags of each word come back, in room that `open` made.
+    /// Ends the words: a seat and the writer are handed in, and the version and the flags of each word come back, in
+    /// room that `open` made.
     pub fn close(self, seat: SwitchSeat, writer: Writer) -> FlagRows
         requires switches { (seat.switches ≡ self.id) × (writer.switches ≡ self.id) }
         ensures count { length result + 1 ≡ length self.start }
@@ -147,12 +150,15 @@ impl Switches {
         (found / SPAN, (found % SPAN) as u16)
     }
 
-    /// Sets the flags of a word, at the version one higher, which it answers. Refused as `Spent` exactly at the last version, and then nothing changes.
+    /// Sets the flags of a word, at the version one higher, which it answers. Refused as `Spent` exactly at the last
+    /// version, and then nothing changes.
     pub fn set(&self, writer: &mut Writer, word: u64, flags: u16) -> Result<u64, Spent>
         requires switches { writer.old.switches ≡ self.now.id }
         requires word { HasWord self.now word }
         ensures switches { writer.new.switches ≡ writer.old.switches }
-        ensures set { MatchResult result (λ k. (k ≡ slice_index writer.old.view.seen word + 1) × (k ≤ last_version) × (writer.new.view ≡ was_set writer.old.view word k flags)) (λ _. (slice_index writer.old.view.seen word ≡ last_version) × (writer.new.view ≡ writer.old.view)) }
+        ensures set { MatchResult result (λ k. (k ≡ slice_index writer.old.view.seen word + 1) × (k ≤ last_version)
+            × (writer.new.view ≡ was_set writer.old.view word k flags))
+            (λ _. (slice_index writer.old.view.seen word ≡ last_version) × (writer.new.view ≡ writer.old.view)) }
     {
         let badge = mem::replace(&mut writer.badge, Badge::blank());
         let mut sitting = badge.into_seat::<()>();
@@ -170,11 +176,14 @@ impl Switches {
         Ok(version + 1)
     }
 
-    /// The seat meets the writer, and has then seen exactly each word's present version. It tells what holds of all that the two know, as `close` does at the end. It waits for nobody.
+    /// The seat meets the writer, and has then seen exactly each word's present version. It tells what holds of all
+    /// that the two know, as `close` does at the end. It waits for nobody.
     pub fn meet(&self, seat: &mut SwitchSeat, writer: &mut Writer)
         requires switches { (seat.old.switches ≡ self.now.id) × (writer.old.switches ≡ self.now.id) }
         ensures seat { seat.new ≡ known seat.old.switches (met seat.old.view writer.old.view) }
-        ensures seen { (r : ℕ) → HasWord self.now r → (slice_index seat.old.view.seen r ≤ slice_index seat.new.view.seen r) × (slice_index writer.old.view.seen r ≤ slice_index seat.new.view.seen r) }
+        ensures seen { (r : ℕ) → HasWord self.now r
+            → (slice_index seat.old.view.seen r ≤ slice_index seat.new.view.seen r)
+            × (slice_index writer.old.view.seen r ≤ slice_index seat.new.view.seen r) }
         ensures exact { seat.new.view.seen ≡ writer.new.view.seen }
         ensures writer { writer.new ≡ writer.old }
         ensures told { IsTold seat.new.view.start seat.new.view writer.new.view }
@@ -186,7 +195,9 @@ impl Switches {
         seat.badge = sitting;
     }
 
-    /// Sets the flags of a word, and then loads it: the seat meets the writer after the set, and the load gives that version and these flags, which it answers. Refused as `Spent` exactly at the last version, and then nothing changes. It waits for nobody.
+    /// Sets the flags of a word, and then loads it: the seat meets the writer after the set, and the load gives that
+    /// version and these flags, which it answers. Refused as `Spent` exactly at the last version, and then nothing
+    /// changes. It waits for nobody.
     pub fn set_and_load(
         &self,
         seat: &mut SwitchSeat,
@@ -197,9 +208,13 @@ impl Switches {
         requires switches { (seat.old.switches ≡ self.now.id) × (writer.old.switches ≡ self.now.id) }
         requires word { HasWord self.now word }
         ensures switches { (seat.new.switches ≡ seat.old.switches) × (writer.new.switches ≡ writer.old.switches) }
-        ensures set { MatchResult result (λ l. (l.0 ≡ slice_index writer.old.view.seen word + 1) × (l.0 ≤ last_version) × (l.1 ≡ flags) × (writer.new.view ≡ was_set writer.old.view word l.0 flags)) (λ _. (slice_index writer.old.view.seen word ≡ last_version) × (writer.new.view ≡ writer.old.view)) }
-        ensures seen { (r : ℕ) → HasWord self.now r → slice_index seat.old.view.seen r ≤ slice_index seat.new.view.seen r }
-        ensures load { MatchResult result (λ l. seat.new.view ≡ loaded (met seat.old.view writer.new.view) word l.0 l.1) (λ _. seat.new.view ≡ seat.old.view) }
+        ensures set { MatchResult result (λ l. (l.0 ≡ slice_index writer.old.view.seen word + 1)
+            × (l.0 ≤ last_version) × (l.1 ≡ flags) × (writer.new.view ≡ was_set writer.old.view word l.0 flags))
+            (λ _. (slice_index writer.old.view.seen word ≡ last_version) × (writer.new.view ≡ writer.old.view)) }
+        ensures seen { (r : ℕ) → HasWord self.now r
+            → slice_index seat.old.view.seen r ≤ slice_index seat.new.view.seen r }
+        ensures load { MatchResult result (λ l. seat.new.view
+            ≡ loaded (met seat.old.view writer.new.view) word l.0 l.1) (λ _. seat.new.view ≡ seat.old.view) }
         ensures told { IfOk result (λ l. IsTold seat.new.view.start seat.new.view writer.new.view) }
     {
         self.set(writer, word, flags)?;
@@ -232,7 +247,9 @@ impl Switches {
         requires switches { (seat.old.switches ≡ self.now.id) × (other.switches ≡ self.now.id) }
         requires root { seat.old.view.number ≡ 0 }
         ensures seat { seat.new ≡ known seat.old.switches (joined seat.old.view other.view) }
-        ensures seen { (r : ℕ) → HasWord self.now r → (slice_index seat.old.view.seen r ≤ slice_index seat.new.view.seen r) × (slice_index other.view.seen r ≤ slice_index seat.new.view.seen r) }
+        ensures seen { (r : ℕ) → HasWord self.now r
+            → (slice_index seat.old.view.seen r ≤ slice_index seat.new.view.seen r)
+            × (slice_index other.view.seen r ≤ slice_index seat.new.view.seen r) }
     {
         let SwitchSeat { badge: other } = other;
         let badge = mem::replace(&mut seat.badge, Badge::blank());

@@ -7,7 +7,8 @@ use std::thread::join;
 
 // Words with the flags of the consumers at first, and none on all others.
 fn opened(alloc: Global) -> Result<(Switches, SwitchSeat, Writer), NoMemory>
-    ensures { IfOk result (λ b. (b.1.switches ≡ b.0.id) × (b.2.switches ≡ b.0.id) × HasWord b.0 39 × (b.1.view.number ≡ 0)) }
+    ensures { IfOk result (λ b. (b.1.switches ≡ b.0.id) × (b.2.switches ≡ b.0.id) × HasWord b.0 39
+        × (b.1.view.number ≡ 0)) }
 {
     let mut flags = [0u16; 160];
     flags[0] = 28888;
@@ -51,7 +52,8 @@ fn a_seat_is_taken_in(rt: HostRuntime) -> Result<(), NoMemory> {
 
 const ROUNDS: u64 = 3000;
 
-// What a thread saw of word 39: its last version, whether a version fell, and whether flags were not those of their version.
+// What a thread saw of word 39: its last version, whether a version fell, and whether flags were not those of their
+// version.
 #[derive(Drop)]
 struct Loads {
     seat: SwitchSeat,

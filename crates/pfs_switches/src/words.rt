@@ -24,7 +24,8 @@ pub(crate) fn open_words(alloc: Global, flags: &[u16]) -> Result<Vec<u64>, Alloc
 
 /// The version and the flags of each word but the last.
 pub(crate) fn hand_back<S>(closed: &Closed<S, Global>, rows: &mut Vec<(u64, u16)>, count: usize)
-    requires words { (count ≤ slots_len closed.now.words) × IsFull closed.now.words × (slots_len closed.now.words ≡ length (slots_items closed.now.words)) }
+    requires words { (count ≤ slots_len closed.now.words) × IsFull closed.now.words
+        × (slots_len closed.now.words ≡ length (slots_items closed.now.words)) }
     requires room { (rows.old.items ≡ []) × (count ≤ vec_capacity rows.old) }
     ensures rows { rows.new.items ≡ map parts (take count (slots_items closed.now.words)) }
 {

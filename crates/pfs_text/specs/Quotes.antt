@@ -17,7 +17,8 @@ BeginsPlain (b ∷ bytes) = b ≢ 39
 
 -- the first n bytes are a quoted text, and no further `'` follows them
 abbrev pub IsQuotedFront : List ℕ → ℕ → Type 0
-IsQuotedFront bytes n = (text : List ℕ) × (rest : List ℕ) × (bytes ≡ quoted text ++ rest) × (n ≡ length (quoted text)) × BeginsPlain rest
+IsQuotedFront bytes n = (text : List ℕ) × (rest : List ℕ) × (bytes ≡ quoted text ++ rest) × (n ≡ length (quoted text))
+    × BeginsPlain rest
 
 -- what was there stands at the front
 abbrev pub Extends : List ℕ → List ℕ → Type 0
@@ -27,4 +28,5 @@ Extends old new = (added : List ℕ) × (new ≡ old ++ added)
 pub record QuotesAreExact : Type 0 where
   pub found : (text rest : List ℕ) → BeginsPlain rest → IsQuotedFront (quoted text ++ rest) (length (quoted text))
   pub one_length : (bytes : List ℕ) (m n : ℕ) → IsQuotedFront bytes m → IsQuotedFront bytes n → m ≡ n
-  pub one_text : (a b rest more : List ℕ) → BeginsPlain rest → BeginsPlain more → quoted a ++ rest ≡ quoted b ++ more → (a ≡ b) × (rest ≡ more)
+  pub one_text : (a b rest more : List ℕ) → BeginsPlain rest → BeginsPlain more → quoted a ++ rest ≡ quoted b ++ more
+      → (a ≡ b) × (rest ≡ more)

@@ -29,7 +29,8 @@ module _ (pattern text : List ℕ) where
   abbrev pub FitsAt : ℕ → ℕ → Type 0
   FitsAt place at = StandFor (parts_of (drop place pattern)) (drop at text)
 
-  -- the places are inside, and from wherever the parts after the last `%` fit, those from `place` on fit `passed` bytes later
+  -- the places are inside, and from wherever the parts after the last `%` fit, those from `place` on fit `passed`
+  -- bytes later
   pub record Stands (scan : Scan) : Type 0 where
     pub ordered : scan.begin ≤ scan.place
     pub in_pattern : scan.place ≤ length pattern
@@ -38,7 +39,8 @@ module _ (pattern text : List ℕ) where
 
   -- the text fits from here on, or, after a `%`, from a later start
   abbrev pub MayFit : Scan → Type 0
-  MayFit scan = FitsAt scan.place (scan.start + scan.passed) ⊎ (IsTrue scan.moves × ((k : ℕ) × (scan.start < k) × FitsAt scan.begin k))
+  MayFit scan = FitsAt scan.place (scan.start + scan.passed)
+      ⊎ (IsTrue scan.moves × ((k : ℕ) × (scan.start < k) × FitsAt scan.begin k))
 
   abbrev pub steps_left : Scan → ℕ
   steps_left scan = (length text - scan.start) * (length pattern + 1) + (length pattern - scan.place)

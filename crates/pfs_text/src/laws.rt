@@ -10,7 +10,8 @@ pub fn numbers()
     ensures { DecimalsReadBack }
 {}
 
-/// A quoted text with no `'` behind it is found at its whole length and at no other, and two texts are never quoted alike.
+/// A quoted text with no `'` behind it is found at its whole length and at no other, and two texts are never quoted
+/// alike.
 pub fn quotes()
     ensures { QuotesAreExact }
 {}

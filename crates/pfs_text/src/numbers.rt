@@ -15,8 +15,8 @@ pub fn put_u64(out: &mut Vec<u8>, n: u64) -> Result<(), NoMemory>
     out.extend_from_slice(buffer.format(n).as_bytes())
 }
 
-/// The number that the text writes in decimal digits, leading zeros allowed. It is None exactly where the text is empty,
-/// has a byte that is no digit, or writes a number over 2^64 - 1.
+/// The number that the text writes in decimal digits, leading zeros allowed. It is None exactly where the text is
+/// empty, has a byte that is no digit, or writes a number over 2^64 - 1.
 pub fn read_u64(text: &[u8]) -> Option<u64>
     ensures { SomeIff result (IsNumeral 10 text.now × (digits_value 10 text.now < 2 ^ 64)) (digits_value 10 text.now) }
 {

@@ -33,9 +33,9 @@ enum Step {
 }
 
 /// Whether the text is like the pattern: `%` stands for any bytes, `_` for one byte, `\` makes the next byte of the
-/// pattern stand for itself, and a last `\` and every other byte stand for themselves. Bytes are compared, so letter case
-/// counts. A mismatch goes back to the last `%` alone, and from there to the next place at which the bytes stand that follow
-/// the `%`, so the time is at most the product of both lengths and mostly near their sum.
+/// pattern stand for itself, and a last `\` and every other byte stand for themselves. Bytes are compared, so letter
+/// case counts. A mismatch goes back to the last `%` alone, and from there to the next place at which the bytes stand
+/// that follow the `%`, so the time is at most the product of both lengths and mostly near their sum.
 pub fn like(pattern: &[u8], text: &[u8]) -> bool
     ensures like { IsTrue result ↔ IsLike pattern.now text.now }
     ensures test { result ≡ is_like pattern.now text.now }
@@ -144,7 +144,8 @@ fn part_at(pattern: &[u8], place: usize) -> Option<(Part, usize)>
     requires { place ≤ length pattern.now }
     ensures none { MatchOption result (length pattern.now ≡ place) (λ found. place < found.1) }
     ensures inside { MatchOption result (drop place pattern.now ≡ []) (λ found. found.1 ≤ length pattern.now) }
-    ensures part { MatchOption result (parts_of (drop place pattern.now) ≡ []) (λ found. parts_of (drop place pattern.now) ≡ found.0 ∷ parts_of (drop found.1 pattern.now)) }
+    ensures part { MatchOption result (parts_of (drop place pattern.now) ≡ [])
+        (λ found. parts_of (drop place pattern.now) ≡ found.0 ∷ parts_of (drop found.1 pattern.now)) }
 {
     if place == pattern.len() {
         return None;

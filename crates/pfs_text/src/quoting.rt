@@ -52,8 +52,8 @@ fn put_byte(out: &mut Vec<u8>, byte: u8) -> Result<(), NoMemory>
     Ok(())
 }
 
-/// The length of the quoted text at the front. A doubled `'` goes on with the text, so no further `'` follows the closing
-/// one. It is None exactly where no quoted text begins there or it is not closed.
+/// The length of the quoted text at the front. A doubled `'` goes on with the text, so no further `'` follows the
+/// closing one. It is None exactly where no quoted text begins there or it is not closed.
 pub fn unquote(bytes: &[u8]) -> Option<usize>
     ensures { MatchOption result ((n : ℕ) → ¬ IsQuotedFront bytes.now n) (λ n. IsQuotedFront bytes.now n) }
 {

@@ -15,7 +15,8 @@ SumLaw = ((v : View) (k t : ℕ) → 0 < v.draws → stake (drew v k t) ≡ stak
 -- Between two tellings the tickets `new` were drawn: of each kind those from the earlier number to one below the later,
 -- each once, and no other
 abbrev pub PhaseLaw : Type 0
-PhaseLaw = (v w : View) (new : List Drawn) → IsComplete v → IsComplete w → w.tickets ≡ new ++ v.tickets → (k : ℕ) → k < 4
+PhaseLaw = (v w : View) (new : List Drawn) → IsComplete v → IsComplete w → w.tickets ≡ new ++ v.tickets → (k : ℕ)
+    → k < 4
     → (count_of k new + count_of k v.tickets ≡ count_of k w.tickets)
     × ((t : ℕ) → count_of k v.tickets ≤ t → t < count_of k w.tickets → times k t new ≡ 1)
     × ((t : ℕ) → t < count_of k v.tickets → times k t new ≡ 0)

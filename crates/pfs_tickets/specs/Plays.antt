@@ -10,7 +10,9 @@ use Rattle.pfs_tickets.specs.Whole.{IsComplete}
 module _ {S : Type 0} where
   -- the word found is the ticket, above each of its kind that the seat had
   abbrev pub draws : Step S → Me S View → ℕ → Me S View → Type 0
-  draws st m n m' = (m' ≡ (drew m.0 st.word n, m.1)) × Each (λ (x : Drawn). x.kind ≡ st.word → x.ticket < n) m.0.tickets × (IsWhole m.0 → n ≡ count_of st.word m.0.tickets) × (n + m.0.draws ≤ all_draws)
+  draws st m n m' = (m' ≡ (drew m.0 st.word n, m.1))
+      × Each (λ (x : Drawn). x.kind ≡ st.word → x.ticket < n) m.0.tickets
+      × (IsWhole m.0 → n ≡ count_of st.word m.0.tickets) × (n + m.0.draws ≤ all_draws)
 
   abbrev pub tells : Step S → Me S View → ℕ → Me S View → Type 0
   tells st m n m' = m' ≡ (told m.0 st.first, m.1)

@@ -25,9 +25,11 @@ pub record Numbers (views : List View) : Type 0 where
   pub at_root : get_elem? views 0 ≡ some root
   pub lives : root.live ≡ true
   pub first : root.number ≡ 0
-  pub apart : (i j : ℕ) (u w : View) → get_elem? views i ≡ some u → get_elem? views j ≡ some w → u.live ≡ true → w.live ≡ true → u.number ≡ w.number → i ≡ j
+  pub apart : (i j : ℕ) (u w : View) → get_elem? views i ≡ some u → get_elem? views j ≡ some w → u.live ≡ true
+      → w.live ≡ true → u.number ≡ w.number → i ≡ j
   pub counted : (j : ℕ) (u : View) → get_elem? views j ≡ some u → u.live ≡ true → u.number ≤ root.seats
-  pub strangers : (j : ℕ) (u : View) → get_elem? views j ≡ some u → u.live ≡ true → u.number ≢ 0 → Makers (λ n. n ≢ u.number) root
+  pub strangers : (j : ℕ) (u : View) → get_elem? views j ≡ some u → u.live ≡ true → u.number ≢ 0
+      → Makers (λ n. n ≢ u.number) root
   pub makers : Makers (λ n. n ≤ root.seats) root
 
 module _ (words : List ℕ) (views : List View) where

@@ -12,4 +12,5 @@ pub record IsComplete (v : View) : Type 0 where
   pub once : (k t : ℕ) → k < 4 → t < count_of k v.tickets → times k t v.tickets ≡ 1
   pub never : (k t : ℕ) → k < 4 → count_of k v.tickets ≤ t → times k t v.tickets ≡ 0
   pub rising : IsRising v.tickets
-  pub sum : v.draws + (count_of 0 v.tickets + count_of 1 v.tickets + count_of 2 v.tickets + count_of 3 v.tickets) ≡ all_draws
+  pub sum : v.draws + (count_of 0 v.tickets + count_of 1 v.tickets + count_of 2 v.tickets + count_of 3 v.tickets)
+      ≡ all_draws

@@ -2,14 +2,14 @@
 
 ghost use Rattle.pfs_tickets.specs.Laws.{SumLaw, PhaseLaw};
 
-/// A draw keeps the sum of a seat's draws left and its tickets, a split divides it, and a join adds it up. So the root has
-/// the whole sum again once each seat was taken in.
+/// A draw keeps the sum of a seat's draws left and its tickets, a split divides it, and a join adds it up. So the
+/// root has the whole sum again once each seat was taken in.
 pub fn sums()
     ensures { SumLaw }
 {}
 
-/// The tickets that a seat gained between two tellings are of each kind those from the earlier number to one below the later,
-/// each once.
+/// The tickets that a seat gained between two tellings are of each kind those from the earlier number to one below
+/// the later, each once.
 pub fn phases()
     ensures { PhaseLaw }
 {}

@@ -31,8 +31,8 @@ impl Model for Tickets {
     ghost invariant = { λ b. IsSized b.table.shared.table_id };
 }
 
-/// What one actor knows of the tickets, and its right to draw. It has no bytes. Contracts see which tickets it is of, and
-/// the view.
+/// What one actor knows of the tickets, and its right to draw. It has no bytes. Contracts see which tickets it is of,
+/// and the view.
 #[derive(Drop)]
 pub struct TicketSeat {
     badge: Badge<View>,
@@ -47,8 +47,8 @@ impl Model for TicketSeat {
 }
 
 impl Tickets {
-    /// Four words at 0, where no ticket is drawn yet, and the root seat with all draws, 2^47. It is refused only where there
-    /// is no memory.
+    /// Four words at 0, where no ticket is drawn yet, and the root seat with all draws, 2^47. It is refused only
+    /// where there is no memory.
     pub fn open(alloc: Global) -> Result<(Tickets, TicketSeat), NoMemory>
         ensures seat { IfOk result (λ b. b.1 ≡ known b.0 root) }
     {
@@ -61,8 +61,9 @@ impl Tickets {
         ))
     }
 
-    /// Draws the next ticket of a kind, 0 to 3: one fetch-and-add. It is above each of its kind that the seat has, and where
-    /// no other seat is out it is their number. It takes one of the seat's draws, and waits for nobody. The rule is our own.
+    /// Draws the next ticket of a kind, 0 to 3: one fetch-and-add. It is above each of its kind that the seat has,
+    /// and where no other seat is out it is their number. It takes one of the seat's draws, and waits for nobody. The
+    /// rule is our own.
     pub fn draw(&self, seat: &mut TicketSeat, kind: u64) -> u64
         requires tickets { seat.old.tickets ≡ self.now }
         requires kind { kind < 4 }
@@ -116,8 +117,9 @@ impl Tickets {
         seat.badge = sitting.into_badge();
     }
 
-    /// How many tickets of a kind, 0 to 3, were drawn. It tells a seat that has the whole sum of draws left and tickets drawn
-    /// all that holds of them. One load; the seat stays as it is, and the tickets stay in use. It waits for nobody.
+    /// How many tickets of a kind, 0 to 3, were drawn. It tells a seat that has the whole sum of draws left and
+    /// tickets drawn all that holds of them. One load; the seat stays as it is, and the tickets stay in use. It waits
+    /// for nobody.
     pub fn tell(&self, seat: &mut TicketSeat, kind: u64) -> u64
         requires tickets { seat.old.tickets ≡ self.now }
         requires kind { kind < 4 }

@@ -1,4 +1,5 @@
--- What is decided of each event at its opening, over the lines of a block. Earlier lines stand in lists with the last line first.
+-- What is decided of each event at its opening, over the lines of a block. Earlier lines stand in lists with the last
+-- line first.
 use Rattle.std.specs.Prelude.{ℕ, ◌+◌, Bool, true, false, ◌&&◌, not, nat_le, if◌then◌else◌, List, [], ◌∷◌, ◌++◌, map, reverse, drop, count_by, Option, Some, None, option_map, unwrap_or}
 use Rattle.std.specs.List.{sum_by, slice_index_or}
 use Rattle.pfs_consumers.specs.declared.Consumer.TheVariants.{GlobalInstrumentation, ThreadInstrumentation}
@@ -28,7 +29,11 @@ pub record Setup : Type 0 where
   pub stack : ℕ
 
 abbrev pub setup_of : Setting → Setup
-setup_of setting = record { consumers = setting.consumers; classes = setting.classes; stack = setting.limits.statement_stack }
+setup_of setting = record {
+  consumers = setting.consumers;
+  classes = setting.classes;
+  stack = setting.limits.statement_stack;
+}
 
 -- the marks of lines, in their order
 abbrev pub marks_of : List BlockLine → List Mark
@@ -59,7 +64,11 @@ abbrev pub subject_of : BlockLine → Option Subject
 subject_of (lines.Wait class) = Some (record { kind = kinds.Wait; class = class; read_only = false })
 subject_of (lines.TableWait class table) = Some (record { kind = kinds.Wait; class = class; read_only = false })
 subject_of (lines.Statement class digest) = Some (record { kind = kinds.Statement; class = class; read_only = false })
-subject_of (lines.Transaction access) = Some (record { kind = kinds.Transaction; class = refs.Class 62; read_only = is_read_only access })
+subject_of (lines.Transaction access) = Some (record {
+  kind = kinds.Transaction;
+  class = refs.Class 62;
+  read_only = is_read_only access;
+})
 subject_of (lines.Stage class) = Some (record { kind = kinds.Stage; class = class; read_only = false })
 subject_of lines.StageEnd = None
 subject_of (lines.Spend time) = None
@@ -109,8 +118,8 @@ pub record Around : Type 0 where
   pub kind : EventKind
   pub number : ℕ
 
--- an event as its opening finds it: its EVENT_ID, where it is let through; the innermost event around it that is let through; and the
--- picoseconds that passed before it
+-- an event as its opening finds it: its EVENT_ID, where it is let through; the innermost event around it that is let
+-- through; and the picoseconds that passed before it
 pub record Begun : Type 0 where
   pub subject : Subject
   pub verdict : Verdict
@@ -145,16 +154,24 @@ around_of (event ∷ outer) = as_around event
 abbrev pub count_kind : (EventKind → Bool) → List Begun → ℕ
 count_kind test events = count_by (λ (event : Begun). test event.subject.kind) events
 
--- an event opens behind these lines, whose events are those, inside the outer ones, which are let through. Its number is its position
--- among those let through
+-- an event opens behind these lines, whose events are those, inside the outer ones, which are let through. Its number
+-- is its position among those let through
 abbrev pub begin : Setup → List BlockLine → List (Option Begun) → List Begun → Subject → Begun
 begin setup earlier begun outer subject =
     let verdict = verdict_of setup subject (count_kind is_statement outer) (count_kind is_wait outer) in
-    record { subject = subject; verdict = verdict; number = if_through verdict (count_by passes begun + 1); around = around_of outer; clock = sum_by time_of earlier }
+    record {
+      subject = subject;
+      verdict = verdict;
+      number = if_through verdict (count_by passes begun + 1);
+      around = around_of outer;
+      clock = sum_by time_of earlier;
+    }
 
 -- the event that a line opens, behind those; the events around it are those open behind the line, but for itself
 abbrev pub begun_by : Setup → List BlockLine → List (Option Begun) → BlockLine → Option Begun
-begun_by setup earlier begun line = option_map (begin setup earlier begun (through begun (drop 1 (open_in (marks_of (line ∷ earlier)))))) (subject_of line)
+begun_by setup earlier begun line =
+    option_map (begin setup earlier begun (through begun (drop 1 (open_in (marks_of (line ∷ earlier))))))
+    (subject_of line)
 
 -- the events of lines, by the places of the lines
 unfoldable pub begun_of : Setup → List BlockLine → List (Option Begun)

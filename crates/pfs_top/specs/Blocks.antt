@@ -17,4 +17,5 @@ block_at blocks place = slice_index_or blocks place no_block
 
 -- its journal, in the thread slot of its place and behind the events of the blocks before it
 abbrev pub journal_at : Setting → List Block → ℕ → List Entry
-journal_at setting blocks place = journal_of (setup_of setting) place (all_events setting (take place blocks)) (played (block_at blocks place))
+journal_at setting blocks place =
+    journal_of (setup_of setting) place (all_events setting (take place blocks)) (played (block_at blocks place))

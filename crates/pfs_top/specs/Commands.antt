@@ -54,11 +54,13 @@ unfoldable pub usage_text : List ℕ
 usage_text = codes "usage: run\n"
 
 unfoldable pub fault_text : ℕ → Reason → List ℕ
-fault_text line reason = codes "bad script: line " ++ decimal line ++ codes " reason " ++ decimal (reason_number reason) ++ codes "\n"
+fault_text line reason =
+    codes "bad script: line " ++ decimal line ++ codes " reason " ++ decimal (reason_number reason) ++ codes "\n"
 
 -- which statuses have which text: of phases that were run
 abbrev pub HasRun : Setting → List Phase → Status → List ℕ → Type 0
-HasRun setting phases Done due = (report : ReportParts) × IsReport report × IsRun setting phases report × (due ≡ spelling report)
+HasRun setting phases Done due = (report : ReportParts) × IsReport report × IsRun setting phases report
+    × (due ≡ spelling report)
 HasRun setting phases _ due = ⊥
 
 -- of a fault
@@ -68,16 +70,19 @@ HasFault line reason _ due = ⊥
 
 -- of bytes that were read
 abbrev pub HasRead : List ℕ → Status → List ℕ → Type 0
-HasRead bytes Done due = (setting : Setting) × (phases : List Phase) × IsScript Built bytes setting phases × HasRun setting phases Done due
+HasRead bytes Done due = (setting : Setting) × (phases : List Phase) × IsScript Built bytes setting phases
+    × HasRun setting phases Done due
 HasRead bytes (BadScript line reason) due = IsFirstFault Built bytes line reason × (due ≡ fault_text line reason)
 HasRead bytes _ due = ⊥
 
 -- of a source with these bytes left, where it tells them
 abbrev pub HasInput : Option (List ℕ) → Status → List ℕ → Type 0
-HasInput input Done due = (bytes : List ℕ) × IfSome input (λ text. bytes ≡ text) × (length bytes ≤ most_bytes) × HasRead bytes Done due
+HasInput input Done due = (bytes : List ℕ) × IfSome input (λ text. bytes ≡ text) × (length bytes ≤ most_bytes)
+    × HasRead bytes Done due
 HasInput input (BadScript line reason) due =
     ((line ≡ 0) × (reason ≡ TooLong) × (due ≡ fault_text line reason) × IfSome input (λ text. most_bytes < length text))
-    ⊎ ((bytes : List ℕ) × IfSome input (λ text. bytes ≡ text) × (length bytes ≤ most_bytes) × HasRead bytes (BadScript line reason) due)
+    ⊎ ((bytes : List ℕ) × IfSome input (λ text. bytes ≡ text) × (length bytes ≤ most_bytes)
+    × HasRead bytes (BadScript line reason) due)
 HasInput input _ due = ⊥
 
 -- of words that are no command
@@ -103,7 +108,8 @@ Tells HasText before after WriteRose NoMemory = (after ≡ before) ⊎ ToldPart 
 Tells HasText before after WriteRose status = (due : List ℕ) × HasText status due × Added before after due
 
 -- how a call ends: a read failed and nothing was written, or a status was told
-abbrev pub Ends : Type 0 → (Status → List ℕ → Type 0) → Option (List ℕ) → Option (List ℕ) → Type 0 → Type 0 → Status → Type 0
+abbrev pub Ends : Type 0 → (Status → List ℕ → Type 0) → Option (List ℕ) → Option (List ℕ) → Type 0 → Type 0 → Status
+    → Type 0
 Ends Ran HasText before after ReadRose WriteRose ReadFault = Ran × ReadRose × (after ≡ before)
 Ends Ran HasText before after ReadRose WriteRose status = Tells HasText before after WriteRose status
 
@@ -116,7 +122,8 @@ status_after (Err stop.NoMemory) status = NoMemory
 -- a valid script, read and written without a failure, is done unless memory runs out
 abbrev pub Completes : List (String Global) → Option (List ℕ) → Type 0 → Type 0 → Status → Type 0
 Completes words input ReadRose WriteRose status =
-    (text : List ℕ) (setting : Setting) (phases : List Phase) → IsCommand words → input ≡ Some text → length text ≤ most_bytes → IsScript Built text setting phases
+    (text : List ℕ) (setting : Setting) (phases : List Phase) → IsCommand words → input ≡ Some text
+    → length text ≤ most_bytes → IsScript Built text setting phases
     → ¬ ReadRose → ¬ WriteRose → (status ≡ Done) ⊎ (status ≡ NoMemory)
 
 -- at the end the source has nothing left

@@ -9,9 +9,11 @@ use Rattle.pfs_top.specs.Sums.{is_lost_statement, is_lost_wait}
 
 -- the counters in their order
 abbrev pub counters : List Counter
-counters = NestedStatements ∷ Lockers ∷ MutexClasses ∷ RwlockClasses ∷ CondClasses ∷ FileClasses ∷ SocketClasses ∷ StageClasses ∷ StatementClasses ∷ []
+counters = NestedStatements ∷ Lockers ∷ MutexClasses ∷ RwlockClasses ∷ CondClasses ∷ FileClasses ∷ SocketClasses
+    ∷ StageClasses ∷ StatementClasses ∷ []
 
--- how much was lost: of the events that began, those with such a verdict; of the classes, those of the kind that found no room
+-- how much was lost: of the events that began, those with such a verdict; of the classes, those of the kind that
+-- found no room
 abbrev pub lost_by : Registry → List (Option Begun) → Counter → ℕ
 lost_by classes begun NestedStatements = count_by is_lost_statement begun
 lost_by classes begun Lockers = count_by is_lost_wait begun

@@ -1,4 +1,5 @@
--- The events that ended in the lines of a block, in the order of their ends. Earlier lines stand in lists with the last line first.
+-- The events that ended in the lines of a block, in the order of their ends. Earlier lines stand in lists with the
+-- last line first.
 use Rattle.std.specs.Prelude.{ℕ, ◌-◌, ◌%◌, ◌^◌, if◌then◌else◌, List, [], ◌∷◌, ◌++◌, length, take, Option, Some, None}
 use Rattle.std.specs.List.{sum_by, flat_map}
 use Rattle.pfs_script.specs.declared.blocks.BlockLine.{BlockLine}
@@ -44,12 +45,17 @@ lasted_since earlier place = sum_by time_of (take (length earlier - place) earli
 -- an event ends behind these lines
 abbrev pub end_with : List BlockLine → StatementNumbers → ℕ → Option Begun → List Ended
 end_with earlier numbers place None = []
-end_with earlier numbers place (Some begun) = record { begun = begun; lasted = lasted_since earlier place; numbers = numbers_for begun.subject.kind numbers } ∷ []
+end_with earlier numbers place (Some begun) = record {
+  begun = begun;
+  lasted = lasted_since earlier place;
+  numbers = numbers_for begun.subject.kind numbers;
+} ∷ []
 
 -- the events that end at a line behind these: those that close at its place
 abbrev pub ended_by : Setup → List BlockLine → BlockLine → List Ended
 ended_by setup earlier line =
-    flat_map (λ (opening : Opening). end_with earlier (numbers_on line) opening.place (begun_at (begun_of setup earlier) opening.place)) (closed_at (marks_of (line ∷ earlier)) (length earlier))
+    flat_map (λ (opening : Opening). end_with earlier (numbers_on line) opening.place
+    (begun_at (begun_of setup earlier) opening.place)) (closed_at (marks_of (line ∷ earlier)) (length earlier))
 
 unfoldable pub ended_in : Setup → List BlockLine → List Ended
 ended_in setup [] = []

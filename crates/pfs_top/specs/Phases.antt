@@ -20,14 +20,17 @@ abbrev pub stat_at : List Stat → ℕ → Stat
 stat_at stats cell = slice_index_or stats cell zero_of
 
 -- what was counted by cell of the events with such a verdict
-pub record AreStats (classes : Registry) (test : Verdict → Bool) (events : List Ended) (counted : List Stat) : Type 0 where
+pub record AreStats (classes : Registry) (test : Verdict
+    → Bool) (events : List Ended) (counted : List Stat) : Type 0 where
   pub size : length counted ≡ 64
   pub stats : (cell : ℕ) → cell < 64 → stat_at counted cell ≡ summary_of classes test cell events
 
 -- what was counted of the first blocks' attributed events, by block
 pub record AreThreads (setting : Setting) (blocks : List Block) (places : ℕ) (threads : List (List Stat)) : Type 0 where
   pub size : length threads ≡ places
-  pub stats : (place : ℕ) → place < places → AreStats setting.classes is_attributed (events_of setting (block_at blocks place)) (slice_index_or threads place [])
+  pub stats : (place : ℕ) → place < places
+      → AreStats setting.classes is_attributed (events_of setting (block_at blocks place))
+      (slice_index_or threads place [])
 
 -- the cells of the events aside, of these blocks
 abbrev pub AreAsides : Setting → List Block → List Cell → Type 0
@@ -43,7 +46,8 @@ pub record AreLost (setting : Setting) (blocks : List Block) (statements waits :
   pub waits_are : waits ≡ count_by is_lost_wait (all_begun setting blocks)
 
 -- the block in a place was played
-pub record IsBlockPlayed (setting : Setting) (blocks : List Block) (place : ℕ) (entries : List Entry) (counted : List Stat) (statements waits : ℕ) (asides : List Cell) : Type 0 where
+pub record IsBlockPlayed (setting : Setting) (blocks : List Block) (place : ℕ) (entries : List Entry)
+    (counted : List Stat) (statements waits : ℕ) (asides : List Cell) : Type 0 where
   pub journal : entries ≡ journal_at setting blocks place
   pub counts : AreStats setting.classes is_attributed (events_of setting (block_at blocks place)) counted
   pub asides_are : AreAsides setting (take (place + 1) blocks) asides
@@ -54,9 +58,13 @@ pub record IsBlockPlayed (setting : Setting) (blocks : List Block) (place : ℕ)
   pub few_waits : waits ≤ 200000
 
 -- so many blocks were played
-pub record ArePlayed (setting : Setting) (blocks : List Block) (places : ℕ) (sessions : List BlockReport) (threads : List (List Stat)) (statements waits : ℕ) (asides : List Cell) : Type 0 where
-  pub numbers : map (λ (block : BlockReport). block.session) sessions ≡ map (λ (block : Block). block.session) (take places blocks)
-  pub journals : map (λ (block : BlockReport). block.entries) sessions ++ journals_of setting places (all_events setting (take places blocks)) (drop places blocks) ≡ journals_of setting 0 [] blocks
+pub record ArePlayed (setting : Setting) (blocks : List Block) (places : ℕ) (sessions : List BlockReport)
+    (threads : List (List Stat)) (statements waits : ℕ) (asides : List Cell) : Type 0 where
+  pub numbers : map (λ (block : BlockReport). block.session) sessions
+      ≡ map (λ (block : Block). block.session) (take places blocks)
+  pub journals : map (λ (block : BlockReport). block.entries) sessions
+      ++ journals_of setting places (all_events setting (take places blocks)) (drop places blocks)
+      ≡ journals_of setting 0 [] blocks
   pub threads_are : AreThreads setting blocks places threads
   pub asides_are : AreAsides setting (take places blocks) asides
   pub room : HasRoomFrom places asides

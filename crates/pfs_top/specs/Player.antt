@@ -50,7 +50,10 @@ cell_at cells id = slice_index_or cells id empty_cell
 
 -- the cells with an event's numbers added to one
 abbrev pub added_to : List Cell → ℕ → Stat → List Cell
-added_to cells id stat = slice_set cells id (record { version = (cell_at cells id).version + 1; stat = merge_of (cell_at cells id).stat stat })
+added_to cells id stat = slice_set cells id (record {
+  version = (cell_at cells id).version + 1;
+  stat = merge_of (cell_at cells id).stat stat;
+})
 
 -- there are 64 cells, and each has counted fewer events than this
 pub record AreRoomy (limit : ℕ) (cells : List Cell) : Type 0 where
@@ -58,7 +61,8 @@ pub record AreRoomy (limit : ℕ) (cells : List Cell) : Type 0 where
   pub few : (id : ℕ) → id < 64 → (cell_at cells id).version < limit
 
 -- the cells have counted the events with such a verdict
-pub record AreCells (classes : Registry) (test : Verdict → Bool) (events : List Ended) (cells : List Cell) : Type 0 where
+pub record AreCells (classes : Registry) (test : Verdict
+    → Bool) (events : List Ended) (cells : List Cell) : Type 0 where
   pub size : length cells ≡ 64
   pub versions : (id : ℕ) → id < 64 → (cell_at cells id).version ≡ count_by (counts_in test id) events
   pub stats : (id : ℕ) → id < 64 → (cell_at cells id).stat ≡ summary_of classes test id events
@@ -97,7 +101,8 @@ pub record IsOpened (classes : Registry) (begun : Begun) (what : Open) : Type 0 
   pub read_only : what.event.read_only ≡ begun.subject.read_only
 
 -- an open event, with those around it
-pub record IsInside (classes : Registry) (begun : List (Option Begun)) (opening : Opening) (outer : List Opening) (what : Open) : Type 0 where
+pub record IsInside (classes : Registry) (begun : List (Option Begun)) (opening : Opening) (outer : List Opening)
+    (what : Open) : Type 0 where
   pub event : Begun
   pub found : begun_at begun opening.place ≡ Some event
   pub before : opening.place < length begun
@@ -107,13 +112,15 @@ pub record IsInside (classes : Registry) (begun : List (Option Begun)) (opening 
 
 abbrev pub AreOpened : Registry → List (Option Begun) → List Opening → List Open → Type 0
 AreOpened classes begun [] [] = Unit {0}
-AreOpened classes begun (opening ∷ openings) (what ∷ events) = IsInside classes begun opening openings what × AreOpened classes begun openings events
+AreOpened classes begun (opening ∷ openings) (what ∷ events) =
+    IsInside classes begun opening openings what × AreOpened classes begun openings events
 AreOpened classes begun [] (what ∷ events) = ⊥
 AreOpened classes begun (opening ∷ openings) [] = ⊥
 
--- the player has come so far: these events began, of which those are open and those ended, so many picoseconds passed, and this was
--- journaled, behind the events of the sessions before
-pub record Holds (classes : Registry) (others : List Ended) (begun : List (Option Begun)) (opens : List Opening) (ended : List Ended) (total : ℕ) (journal : List Entry) (player : Player) (global : List Cell) : Type 0 where
+-- the player has come so far: these events began, of which those are open and those ended, so many picoseconds
+-- passed, and this was journaled, behind the events of the sessions before
+pub record Holds (classes : Registry) (others : List Ended) (begun : List (Option Begun)) (opens : List Opening)
+    (ended : List Ended) (total : ℕ) (journal : List Entry) (player : Player) (global : List Cell) : Type 0 where
   pub opened : AreOpened classes begun opens player.nest.events
   pub drawn : player.drawn ≡ count_by passes begun
   pub statements : player.statements ≡ count_kind is_statement (through begun opens)
@@ -128,7 +135,8 @@ pub record Holds (classes : Registry) (others : List Ended) (begun : List (Optio
 -- these lines were played, the last of them first
 abbrev pub IsPlayed : Setup → ℕ → List Ended → List BlockLine → Player → List Cell → Type 0
 IsPlayed setup slot others earlier player asides =
-    Holds setup.classes others (begun_of setup earlier) (open_in (marks_of earlier)) (ended_in setup earlier) (sum_by time_of earlier) (journal_of setup slot others earlier) player asides
+    Holds setup.classes others (begun_of setup earlier) (open_in (marks_of earlier)) (ended_in setup earlier)
+    (sum_by time_of earlier) (journal_of setup slot others earlier) player asides
 
 -- 1 for an event that is let through and of such a kind
 abbrev pub one_of : (EventKind → Bool) → EventKind → Verdict → ℕ
@@ -158,18 +166,23 @@ stat_of_open what clock numbers = stat_of (record {
 })
 
 abbrev pub cells_after : (Verdict → Bool) → List Cell → Open → ℕ → StatementNumbers → List Cell
-cells_after test cells what clock numbers = if test what.verdict then added_to cells (cell_of_open what) (stat_of_open what clock numbers) else cells
+cells_after test cells what clock numbers =
+    if test what.verdict then added_to cells (cell_of_open what) (stat_of_open what clock numbers) else cells
 
 abbrev pub add_entries : ℕ → List Cell → List Cell → Verdict → ℕ → List Entry
-add_entries slot cells asides Attributed cell = Add (row_number (ThreadCell slot cell)) ((cell_at cells cell).version + 1) ∷ []
+add_entries slot cells asides Attributed cell =
+    Add (row_number (ThreadCell slot cell)) ((cell_at cells cell).version + 1) ∷ []
 add_entries slot cells asides Aside cell = Add (row_number (GlobalCell cell)) ((cell_at asides cell).version + 1) ∷ []
 add_entries slot cells asides _ cell = []
 
 abbrev pub end_entry : Open → ℕ → Entry
-end_entry what drawn = End (if_through what.verdict what.event.number) (if_through what.verdict drawn) (if_through what.verdict 0) (if_through what.verdict 0)
+end_entry what drawn =
+    End (if_through what.verdict what.event.number) (if_through what.verdict drawn) (if_through what.verdict 0)
+    (if_through what.verdict 0)
 
 abbrev pub start_entry : Verdict → ℕ → Entry
-start_entry verdict number = Start (if_through verdict number) verdict (loaded verdict) (loaded verdict) (loaded verdict) None
+start_entry verdict number =
+    Start (if_through verdict number) verdict (loaded verdict) (loaded verdict) (loaded verdict) None
 
 -- there is room to count one event more
 pub record IsRoomy (player : Player) : Type 0 where
@@ -194,18 +207,21 @@ abbrev pub kinds_after : List EventKind → List BlockLine → List EventKind
 kinds_after kinds [] = kinds
 kinds_after kinds (line ∷ lines) = kinds_after (kinds_behind (mark_of line) kinds) lines
 
--- where events of these kinds are open, each of the lines may stand where it does, is of a known class, and finds room to open an event
+-- where events of these kinds are open, each of the lines may stand where it does, is of a known class, and finds
+-- room to open an event
 abbrev pub CanRun : Registry → ℕ → List EventKind → List BlockLine → Type 0
 CanRun classes depth kinds [] = Unit {0}
 CanRun classes depth kinds (line ∷ lines) =
-    IsKnownSubject classes (subject_of line) × (may_stand kinds (mark_of line) ≡ true) × (length kinds < depth) × CanRun classes depth (kinds_behind (mark_of line) kinds) lines
+    IsKnownSubject classes (subject_of line) × (may_stand kinds (mark_of line) ≡ true) × (length kinds < depth)
+    × CanRun classes depth (kinds_behind (mark_of line) kinds) lines
 
 abbrev pub one_if : Bool → ℕ
 one_if true = 1
 one_if false = 0
 
 -- the open event of a subject that starts
-pub record IsNew (classes : Registry) (subject : Subject) (verdict : Verdict) (outer : Outer) (number : ℕ) (clock : ℕ) (what : Open) : Type 0 where
+pub record IsNew (classes : Registry) (subject : Subject) (verdict : Verdict) (outer : Outer) (number : ℕ) (clock : ℕ)
+    (what : Open) : Type 0 where
   pub kind : what.kind ≡ subject.kind
   pub verdict_is : what.verdict ≡ verdict
   pub number_is : what.event.number ≡ number
@@ -228,7 +244,8 @@ pub record IsCounted (old new : Player) (kind : EventKind) (verdict : Verdict) :
 -- an event of a subject has started
 pub record IsStarted (setup : Setup) (old new : Player) (subject : Subject) : Type 0 where
   pub what : Open
-  pub is_new : IsNew setup.classes subject (verdict_of setup subject old.statements old.waits) (outer_of old.nest.events) (old.drawn + 1) old.clock what
+  pub is_new : IsNew setup.classes subject (verdict_of setup subject old.statements old.waits)
+      (outer_of old.nest.events) (old.drawn + 1) old.clock what
   pub nest : new.nest ≡ record old.nest { events = what ∷ old.nest.events }
   pub counted : IsCounted old new subject.kind (verdict_of setup subject old.statements old.waits)
 
@@ -258,7 +275,11 @@ end_entries slot player global (what ∷ events) =
 -- an event that began ends when so many picoseconds have passed
 abbrev pub end_begun : StatementNumbers → ℕ → Option Begun → List Ended
 end_begun numbers total None = []
-end_begun numbers total (Some event) = record { begun = event; lasted = (total - event.clock) % 2 ^ 64; numbers = numbers_for event.subject.kind numbers } ∷ []
+end_begun numbers total (Some event) = record {
+  begun = event;
+  lasted = (total - event.clock) % 2 ^ 64;
+  numbers = numbers_for event.subject.kind numbers;
+} ∷ []
 
 abbrev pub end_at : List (Option Begun) → StatementNumbers → ℕ → Opening → List Ended
 end_at begun numbers total opening = end_begun numbers total (begun_at begun opening.place)
@@ -270,17 +291,20 @@ IsBefore total (Some event) = event.clock ≤ total
 -- the clock of each event is no more than what has passed
 abbrev pub AreBefore : ℕ → List (Option Begun) → List Opening → Type 0
 AreBefore total begun [] = Unit {0}
-AreBefore total begun (opening ∷ openings) = IsBefore total (begun_at begun opening.place) × AreBefore total begun openings
+AreBefore total begun (opening ∷ openings) =
+    IsBefore total (begun_at begun opening.place) × AreBefore total begun openings
 
 -- events that began end when so many picoseconds have passed
 abbrev pub ends_at : List (Option Begun) → StatementNumbers → ℕ → List Opening → List Ended
 ends_at begun numbers total openings = flat_map (end_at begun numbers total) openings
 
 -- so many of the open events have ended, from the innermost on
-abbrev pub HoldsEnded : Registry → ℕ → List Ended → List (Option Begun) → List Opening → List Ended → ℕ → List Entry → StatementNumbers → ℕ → Player → List Cell → Type 0
+abbrev pub HoldsEnded : Registry → ℕ → List Ended → List (Option Begun) → List Opening → List Ended → ℕ → List Entry
+    → StatementNumbers → ℕ → Player → List Cell → Type 0
 HoldsEnded classes slot others begun opens ended total journal numbers count player global =
     Holds classes others begun (drop count opens) (ended ++ ends_at begun numbers total (take count opens)) total
-    (journal ++ ends_of slot others ended (count_by passes begun) (ends_at begun numbers total (take count opens))) player global
+    (journal ++ ends_of slot others ended (count_by passes begun) (ends_at begun numbers total (take count opens)))
+    player global
 
 -- the player's counters are as they were, but for those of open events
 pub record IsSteady (old new : Player) (count : ℕ) : Type 0 where
@@ -293,7 +317,10 @@ pub record IsSteady (old new : Player) (count : ℕ) : Type 0 where
 
 -- a repeat that isn't done at this place of a block's lines, by where its lines begin, with the lines so far
 abbrev pub repeated_of : Option Repeat → List BlockLine → ℕ → Option Repeated
-repeated_of from lines at = option_map (λ (repeat : Repeat). record { times = repeat.times; body = take (at - repeat.start) (drop repeat.start lines) }) from
+repeated_of from lines at = option_map (λ (repeat : Repeat). record {
+  times = repeat.times;
+  body = take (at - repeat.start) (drop repeat.start lines);
+}) from
 
 abbrev pub body_of : Option Repeated → List BlockLine
 body_of None = []
@@ -307,9 +334,12 @@ abbrev pub AreKnown : Registry → List BlockLine → Type 0
 AreKnown classes [] = Unit {0}
 AreKnown classes (line ∷ lines) = IsKnownSubject classes (subject_of line) × AreKnown classes lines
 
--- the player can go on with the lines of a block that are left, behind so many and those so far of a repeat that isn't done
-pub record IsReady (classes : Registry) (repeated : Option Repeated) (at : ℕ) (rest : List BlockLine) (player : Player) (global : List Cell) : Type 0 where
-  pub nested : IsNested (kinds_after (kinds_open player.nest.events) (body_of repeated)) (option_map (λ (r : Repeated). kinds_open player.nest.events) repeated) rest
+-- the player can go on with the lines of a block that are left, behind so many and those so far of a repeat that
+-- isn't done
+pub record IsReady (classes : Registry) (repeated : Option Repeated) (at : ℕ) (rest : List BlockLine)
+    (player : Player) (global : List Cell) : Type 0 where
+  pub nested : IsNested (kinds_after (kinds_open player.nest.events) (body_of repeated))
+      (option_map (λ (r : Repeated). kinds_open player.nest.events) repeated) rest
   pub can : CanRun classes player.nest.depth (kinds_open player.nest.events) (body_of repeated)
   pub short : length (kinds_after (kinds_open player.nest.events) (body_of repeated)) ≤ at
   pub depth : at + length rest < player.nest.depth

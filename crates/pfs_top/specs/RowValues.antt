@@ -22,7 +22,8 @@ numbers_row numbers = map (λ number. value.Number number) numbers
 
 -- a count and times: count, sum, least, average and greatest
 unfoldable pub times_of : Stat → List RowValue
-times_of stat = numbers_row (stat.count ∷ stat.sum ∷ timed_number stat stat.min ∷ average stat ∷ timed_number stat stat.max ∷ [])
+times_of stat = numbers_row (stat.count ∷ stat.sum ∷ timed_number stat stat.min ∷ average stat
+    ∷ timed_number stat stat.max ∷ [])
 
 -- a statement's sums: lock time, errors, warnings, and rows affected, sent and examined
 unfoldable pub sums_of : Stat → List RowValue
@@ -32,7 +33,8 @@ sums_of stat = numbers_row (stat.lock ∷ stat.errors ∷ stat.warnings ∷ stat
 unfoldable pub counted_of : Numbers → List RowValue
 counted_of (Times stat) = times_of stat
 counted_of (Statements stat) = times_of stat ++ sums_of stat
-counted_of (Transactions read_write read_only) = times_of (merge_of read_write read_only) ++ times_of read_write ++ times_of read_only
+counted_of (Transactions read_write read_only) =
+    times_of (merge_of read_write read_only) ++ times_of read_write ++ times_of read_only
 
 -- whose row it is: a thread by its session number
 unfoldable pub owner_of : Owner → List RowValue

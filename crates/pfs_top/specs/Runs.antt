@@ -1,5 +1,5 @@
--- When a report is a run of a script: its journals are what the blocks' lines ask for, each summary row is the merge over the ended
--- events that lead to its key, and each counter is that of the events and classes that were lost.
+-- When a report is a run of a script: its journals are what the blocks' lines ask for, each summary row is the merge
+-- over the ended events that lead to its key, and each counter is that of the events and classes that were lost.
 use Rattle.std.specs.Prelude.{ℕ, ◌≡◌, ◌+◌, ◌==◌, if◌then◌else◌, List, [], ◌∷◌, ◌++◌, length, map, reverse, Option}
 use Rattle.std.specs.List.{AllZip, flat_map, range_with_len}
 use Rattle.pfs_classes.specs.declared.setting.Setting.{Setting}
@@ -52,11 +52,14 @@ all_begun setting blocks = flat_map (begun_in setting) blocks
 unfoldable pub journals_of : Setting → ℕ → List Ended → List Block → List (List Entry)
 journals_of setting slot others [] = []
 journals_of setting slot others (block ∷ blocks) =
-    journal_of (setup_of setting) slot others (played block) ∷ journals_of setting (slot + 1) (others ++ events_of setting block) blocks
+    journal_of (setup_of setting) slot others (played block)
+    ∷ journals_of setting (slot + 1) (others ++ events_of setting block) blocks
 
 -- a session's rows: over its attributed events
 abbrev pub block_rows : Setting → TableKind → Block → List (List RowValue)
-block_rows setting kind block = rows_of setting kind (Thread block.session) (λ cell. summary_of setting.classes is_attributed cell (events_of setting block))
+block_rows setting kind block =
+    rows_of setting kind (Thread block.session)
+    (λ cell. summary_of setting.classes is_attributed cell (events_of setting block))
 
 -- the rows of the blocks of a session number
 abbrev pub rows_if : Setting → TableKind → ℕ → Block → List (List RowValue)
@@ -71,7 +74,8 @@ thread_rows setting blocks kind = flat_map (session_rows setting blocks kind) (r
 
 -- the global rows: over all events that are let through
 abbrev pub global_rows : Setting → List Block → TableKind → List (List RowValue)
-global_rows setting blocks kind = rows_of setting kind All (λ cell. summary_of setting.classes is_let_through cell (all_events setting blocks))
+global_rows setting blocks kind =
+    rows_of setting kind All (λ cell. summary_of setting.classes is_let_through cell (all_events setting blocks))
 
 -- a table stands where it has rows
 abbrev pub table_if : Table → List (List RowValue) → List TableReport
@@ -79,7 +83,9 @@ table_if table rows = if length rows == 0 then [] else record { name = table_nam
 
 -- a kind's tables
 abbrev pub tables_of : Setting → List Block → TableKind → List TableReport
-tables_of setting blocks kind = table_if (Summary kind ByThread) (thread_rows setting blocks kind) ++ table_if (Summary kind Global) (global_rows setting blocks kind)
+tables_of setting blocks kind =
+    table_if (Summary kind ByThread) (thread_rows setting blocks kind)
+    ++ table_if (Summary kind Global) (global_rows setting blocks kind)
 
 -- the kinds in their order
 abbrev pub table_kinds : List TableKind
@@ -93,12 +99,14 @@ lost_row setting blocks counter =
 
 -- a phase of the run. No journal has an answer's `rows` yet, so a phase that a report can have has no answers
 pub record IsPhaseRun (setting : Setting) (phase : Phase) (report : PhaseParts) : Type 0 where
-  pub sessions : map (λ (block : BlockReport). block.session) report.blocks ≡ map (λ (block : Block). block.session) phase.blocks
+  pub sessions : map (λ (block : BlockReport). block.session) report.blocks
+      ≡ map (λ (block : Block). block.session) phase.blocks
   pub journals : map (λ (block : BlockReport). block.entries) report.blocks ≡ journals_of setting 0 [] phase.blocks
   pub tables : report.tables ≡ flat_map (tables_of setting phase.blocks) table_kinds
   pub lost : report.lost ≡ flat_map (lost_row setting phase.blocks) counters
 
--- the report is a run of the script: its format is the one of a report in part, its phases are numbered from 1, and each is a run of the script's
+-- the report is a run of the script: its format is the one of a report in part, its phases are numbered from 1, and
+-- each is a run of the script's
 pub record IsRun (setting : Setting) (phases : List Phase) (report : ReportParts) : Type 0 where
   pub format : report.format ≡ 0
   pub numbers : map (λ (phase : PhaseParts). phase.number) report.phases ≡ range_with_len 1 (length phases)

@@ -35,7 +35,8 @@ abbrev pub is_of : TableKind → Option Class → Bool
 is_of kind None = false
 is_of kind (Some class) = kind_number (table_kind class.kind) == kind_number kind
 
--- the numbers of a class's row, where this was counted by cell. READ WRITE transactions have the cell 62, READ ONLY ones the cell 63
+-- the numbers of a class's row, where this was counted by cell. READ WRITE transactions have the cell 62, READ ONLY
+-- ones the cell 63
 abbrev pub numbers_of : TableKind → (ℕ → Stat) → ℕ → Numbers
 numbers_of Waits counted id = numbers.Times (counted id)
 numbers_of Stages counted id = numbers.Times (counted id)

@@ -96,7 +96,8 @@ fn fault_line(alloc: Global, line: u64, reason: Reason) -> Result<Vec<u8>, NoMem
 
 /// Names a faulty line and its reason.
 fn complain<K: Sink>(alloc: Global, sink: &mut K, line: u64, reason: Reason) -> Status
-    ensures { Tells (HasFault line reason) (K.written sink.old) (K.written sink.new) (Rose (K.faults sink.old) (K.faults sink.new)) result }
+    ensures { Tells (HasFault line reason) (K.written sink.old) (K.written sink.new)
+        (Rose (K.faults sink.old) (K.faults sink.new)) result }
 {
     match fault_line(alloc, line, reason) {
         Ok(text) => status_after(write_all(sink, &text), Status::BadScript { line, reason }),
@@ -107,7 +108,8 @@ fn complain<K: Sink>(alloc: Global, sink: &mut K, line: u64, reason: Reason) -> 
 /// Runs a script and writes the report.
 fn report<K: Sink>(alloc: Global, sink: &mut K, script: &Script) -> Status
     requires { IsRunnable (length script.now.setting.classes.classes) script.now.phases }
-    ensures { Tells (HasRun script.now.setting script.now.phases) (K.written sink.old) (K.written sink.new) (Rose (K.faults sink.old) (K.faults sink.new)) result }
+    ensures { Tells (HasRun script.now.setting script.now.phases) (K.written sink.old) (K.written sink.new)
+        (Rose (K.faults sink.old) (K.faults sink.new)) result }
 {
     match run_phases(alloc, &script.setting, script.phases.as_slice()) {
         Ok(report) => status_after(write(alloc, &report, sink), Status::Done),
@@ -117,7 +119,8 @@ fn report<K: Sink>(alloc: Global, sink: &mut K, script: &Script) -> Status
 
 /// Runs the script that these bytes are, or names its fault.
 fn run_bytes<K: Sink>(alloc: Global, sink: &mut K, bytes: &[u8]) -> Status
-    ensures { Tells (HasRead bytes.now) (K.written sink.old) (K.written sink.new) (Rose (K.faults sink.old) (K.faults sink.new)) result }
+    ensures { Tells (HasRead bytes.now) (K.written sink.old) (K.written sink.new)
+        (Rose (K.faults sink.old) (K.faults sink.new)) result }
 {
     match Script::read_built(alloc, bytes) {
         Ok(script) => report(alloc, sink, &script),
@@ -128,7 +131,8 @@ fn run_bytes<K: Sink>(alloc: Global, sink: &mut K, bytes: &[u8]) -> Status
 
 /// Reads a script and runs it.
 fn run<S: Source, K: Sink>(alloc: Global, source: &mut S, sink: &mut K) -> Status
-    ensures ends { Ends (Unit {0}) (HasInput (S.left source.old)) (K.written sink.old) (K.written sink.new) (Rose (S.faults source.old) (S.faults source.new)) (Rose (K.faults sink.old) (K.faults sink.new)) result }
+    ensures ends { Ends (Unit {0}) (HasInput (S.left source.old)) (K.written sink.old) (K.written sink.new)
+        (Rose (S.faults source.old) (S.faults source.new)) (Rose (K.faults sink.old) (K.faults sink.new)) result }
     ensures reads { LeavesNothing (S.left source.new) result }
 {
     match read_all(alloc, source, MOST_BYTES) {
@@ -141,7 +145,8 @@ fn run<S: Source, K: Sink>(alloc: Global, source: &mut S, sink: &mut K) -> Statu
 
 /// Writes the usage line.
 fn usage<K: Sink>(sink: &mut K) -> Status
-    ensures { Tells HasUsage (K.written sink.old) (K.written sink.new) (Rose (K.faults sink.old) (K.faults sink.new)) result }
+    ensures { Tells HasUsage (K.written sink.old) (K.written sink.new) (Rose (K.faults sink.old) (K.faults sink.new))
+        result }
 {
     status_after(put_usage(sink), Status::Usage)
 }
@@ -161,9 +166,12 @@ pub fn pfs<S: Source, K: Sink>(
     source: &mut S,
     sink: &mut K,
 ) -> Status
-    ensures ends { Ends (IsCommand words.now) (Has words.now (S.left source.old)) (K.written sink.old) (K.written sink.new) (Rose (S.faults source.old) (S.faults source.new)) (Rose (K.faults sink.old) (K.faults sink.new)) result }
+    ensures ends { Ends (IsCommand words.now) (Has words.now (S.left source.old)) (K.written sink.old)
+        (K.written sink.new) (Rose (S.faults source.old) (S.faults source.new))
+        (Rose (K.faults sink.old) (K.faults sink.new)) result }
     ensures reads { LeavesNothing (S.left source.new) result }
-    ensures completes { Completes words.now (S.left source.old) (Rose (S.faults source.old) (S.faults source.new)) (Rose (K.faults sink.old) (K.faults sink.new)) result }
+    ensures completes { Completes words.now (S.left source.old) (Rose (S.faults source.old) (S.faults source.new))
+        (Rose (K.faults sink.old) (K.faults sink.new)) result }
 {
     laws::exact();
     if is_command(words) {

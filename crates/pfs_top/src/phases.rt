@@ -15,7 +15,10 @@ use crate::player::{Cell, Player};
 use crate::rounds::{empty_cells, play};
 use crate::summaries::{StatList, stats_of, tables};
 use pfs_classes::{Kind, Setting};
-use pfs_journal::{AnswerList, BlockList, BlockReport, EntryList, LostList, LostReport, PhaseList, PhaseParts, PhaseReport, Report, ReportParts, };
+use pfs_journal::{
+    AnswerList, BlockList, BlockReport, EntryList, LostList, LostReport, PhaseList, PhaseParts,
+    PhaseReport, Report, ReportParts,
+};
 use pfs_script::{Block, Phase};
 use pfs_text::Text;
 use std::alloc::{AllocError, Global};
@@ -62,7 +65,9 @@ fn play_block(
     requires blocks { All (IsBlock (length setting.now.classes.classes)) blocks.now }
     requires asides { AreAsides setting.now (take place blocks.now) asides.old }
     requires room { HasRoomFrom place asides.old }
-    ensures { IfOk result (λ block. IsBlockPlayed setting.now blocks.now place block.entries block.counted block.lost.statements block.lost.waits asides.new) }
+    ensures { IfOk result
+        (λ block. IsBlockPlayed setting.now blocks.now place block.entries block.counted block.lost.statements
+        block.lost.waits asides.new) }
 {
     let block = &blocks[place];
     let lines = block.lines.as_slice();
@@ -88,7 +93,8 @@ fn play_block(
 fn play_blocks(alloc: Global, setting: &Setting, blocks: &[Block]) -> Result<Played, NoMemory>
     requires few { length blocks.now ≤ 32 }
     requires blocks { All (IsBlock (length setting.now.classes.classes)) blocks.now }
-    ensures { IfOk result (λ played. ArePlayed setting.now blocks.now (length blocks.now) played.sessions.items played.threads.items played.lost.statements played.lost.waits played.asides.items) }
+    ensures { IfOk result (λ played. ArePlayed setting.now blocks.now (length blocks.now) played.sessions.items
+        played.threads.items played.lost.statements played.lost.waits played.asides.items) }
 {
     let mut sessions = Vec::new(alloc);
     let mut threads = Vec::new(alloc);
@@ -122,7 +128,8 @@ fn play_blocks(alloc: Global, setting: &Setting, blocks: &[Block]) -> Result<Pla
 
 /// How much a counter counts.
 fn lost_by(setting: &Setting, lost: &LostEvents, counter: Counter) -> u64
-    ensures { (blocks : List Block) → AreLost setting.now blocks lost.now.statements lost.now.waits → result ≡ lost_by setting.now.classes (all_begun setting.now blocks) counter }
+    ensures { (blocks : List Block) → AreLost setting.now blocks lost.now.statements lost.now.waits
+        → result ≡ lost_by setting.now.classes (all_begun setting.now blocks) counter }
 {
     match counter {
         Counter::NestedStatements => lost.statements,
@@ -155,7 +162,8 @@ fn put_lost_row(
     counter: Counter,
     rows: &mut Vec<LostReport>,
 ) -> Result<(), NoMemory>
-    ensures { (blocks : List Block) → AreLost setting.now blocks lost.now.statements lost.now.waits → OnOk result (rows.new.items ≡ rows.old.items ++ lost_row setting.now blocks counter) }
+    ensures { (blocks : List Block) → AreLost setting.now blocks lost.now.statements lost.now.waits
+        → OnOk result (rows.new.items ≡ rows.old.items ++ lost_row setting.now blocks counter) }
 {
     let number = lost_by(setting, lost, counter);
     if number == 0 {
@@ -167,7 +175,8 @@ fn put_lost_row(
 
 /// The counters that aren't 0.
 fn lost_rows(alloc: Global, setting: &Setting, lost: &LostEvents) -> Result<LostList, NoMemory>
-    ensures { (blocks : List Block) → AreLost setting.now blocks lost.now.statements lost.now.waits → IfOk result (λ rows. rows ≡ flat_map (lost_row setting.now blocks) counters) }
+    ensures { (blocks : List Block) → AreLost setting.now blocks lost.now.statements lost.now.waits
+        → IfOk result (λ rows. rows ≡ flat_map (lost_row setting.now blocks) counters) }
 {
     let mut rows = Vec::new(alloc);
     for counter in &Counter::ALL {

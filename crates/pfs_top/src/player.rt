@@ -298,9 +298,12 @@ fn add_event(
     requires slots { slot < 32 }
     requires cells { AreRoomy (2 ^ 63) cells.old }
     requires asides { AreRoomy (2 ^ 63) asides.old }
-    ensures cells { cells.new ≡ (if is_attributed what.now.verdict then added_to cells.old (cell_of_open what.now) stat else cells.old) }
-    ensures asides { asides.new ≡ (if is_aside what.now.verdict then added_to asides.old (cell_of_open what.now) stat else asides.old) }
-    ensures entry { option_to_list result ≡ add_entries slot cells.old asides.old what.now.verdict (cell_of_open what.now) }
+    ensures cells { cells.new
+        ≡ (if is_attributed what.now.verdict then added_to cells.old (cell_of_open what.now) stat else cells.old) }
+    ensures asides { asides.new ≡ (if is_aside what.now.verdict then added_to asides.old (cell_of_open what.now) stat
+        else asides.old) }
+    ensures entry { option_to_list result
+        ≡ add_entries slot cells.old asides.old what.now.verdict (cell_of_open what.now) }
 {
     let cell = cell_of(what);
     match what.verdict {
@@ -361,7 +364,9 @@ fn finish(
     ensures nest { player.new.nest ≡ player.old.nest }
     ensures finished { IsFinished player.old player.new what.now numbers.now }
     ensures asides { asides.new ≡ cells_after is_aside asides.old what.now player.old.clock numbers.now }
-    ensures entries { OnOk result (player.new.entries.items ≡ player.old.entries.items ++ end_entry what.now player.old.drawn ∷ add_entries slot player.old.cells.items asides.old what.now.verdict (cell_of_open what.now)) }
+    ensures entries { OnOk result (player.new.entries.items ≡ player.old.entries.items
+        ++ end_entry what.now player.old.drawn ∷ add_entries slot player.old.cells.items asides.old what.now.verdict
+        (cell_of_open what.now)) }
 {
     let stat = stat_of(what, player.clock, numbers);
     let added = add_event(slot, &mut player.cells, asides, what, stat);
@@ -382,6 +387,7 @@ fn class_number(classes: &Classes, class: ClassRef) -> u64
     ensures number { result ≡ class_number class }
     ensures fits { result ≤ 62 }
 {
+    // Its clause bounds the ids.
     let _ = classes.count();
     match class {
         ClassRef::Class(id) => id.0,
@@ -477,7 +483,9 @@ fn start(
     requires stands { may_start subject.now.kind (kind_of (innermost_of player.old.nest.events)) ≡ true }
     requires room { length player.old.nest.events < player.old.nest.depth }
     ensures started { IsStarted (setup_of setting.now) player.old player.new subject.now }
-    ensures entries { OnOk result (player.new.entries.items ≡ player.old.entries.items ++ start_entry (verdict_of (setup_of setting.now) subject.now player.old.statements player.old.waits) (player.old.drawn + 1) ∷ []) }
+    ensures entries { OnOk result (player.new.entries.items ≡ player.old.entries.items
+        ++ start_entry (verdict_of (setup_of setting.now) subject.now player.old.statements player.old.waits)
+        (player.old.drawn + 1) ∷ []) }
 {
     let verdict = judge(setting, subject, player.statements, player.waits);
     let outer = outer_of(&player.nest);
@@ -512,7 +520,8 @@ fn end_innermost(
     requires cells { AreRoomy (2 ^ 63) player.old.cells.items }
     requires asides { AreRoomy (2 ^ 63) asides.old }
     ensures ended { IsEnded player.old player.new asides.old asides.new numbers.now }
-    ensures entries { OnOk result (player.new.entries.items ≡ player.old.entries.items ++ end_entries slot player.old asides.old player.old.nest.events) }
+    ensures entries { OnOk result (player.new.entries.items ≡ player.old.entries.items
+        ++ end_entries slot player.old asides.old player.old.nest.events) }
 {
     match player.nest.end() {
         Ok(what) => finish(slot, player, asides, &what, numbers),
@@ -602,8 +611,13 @@ fn end_some(
     requires cells { AreRoomy (2 ^ 62) player.old.cells.items }
     requires asides { AreRoomy (2 ^ 62) asides.old }
     ensures steady { OnOk result (IsSteady player.old player.new count) }
-    ensures room { (limit : ℕ) → AreRoomy limit player.old.cells.items → AreRoomy limit asides.old → OnOk result (AreRoomy (limit + count) player.new.cells.items × AreRoomy (limit + count) asides.new) }
-    ensures held { (classes : Registry) (others : List Ended) (begun : List (Option Begun)) (opens : List Opening) (ended : List Ended) (total : ℕ) (journal : List Entry) → Holds classes others begun opens ended total journal player.old asides.old → AreBefore total begun opens → OnOk result (HoldsEnded classes slot others begun opens ended total journal numbers.now count player.new asides.new) }
+    ensures room { (limit : ℕ) → AreRoomy limit player.old.cells.items → AreRoomy limit asides.old
+        → OnOk result (AreRoomy (limit + count) player.new.cells.items × AreRoomy (limit + count) asides.new) }
+    ensures held { (classes : Registry) (others : List Ended) (begun : List (Option Begun)) (opens : List Opening)
+        (ended : List Ended) (total : ℕ) (journal : List Entry)
+        → Holds classes others begun opens ended total journal player.old asides.old → AreBefore total begun opens
+        → OnOk result (HoldsEnded classes slot others begun opens ended total journal numbers.now count player.new
+        asides.new) }
 {
     for _ in 0..count {
         end_innermost(slot, player, asides, numbers)?;
@@ -625,9 +639,13 @@ pub fn step(
     requires stands { may_stand (kinds_open player.old.nest.events) (mark_of line.now) ≡ true }
     requires room { length player.old.nest.events < player.old.nest.depth }
     requires roomy { HasRoom 1 player.old asides.old }
-    ensures played { (others : List Ended) (earlier : List BlockLine) → IsPlayed (setup_of setting.now) slot others earlier player.old asides.old → OnOk result (IsPlayed (setup_of setting.now) slot others (line.now ∷ earlier) player.new asides.new) }
-    ensures kinds { OnOk result (kinds_open player.new.nest.events ≡ kinds_behind (mark_of line.now) (kinds_open player.old.nest.events)) }
-    ensures room { (more : ℕ) → HasRoom (more + 1) player.old asides.old → OnOk result (HasRoom more player.new asides.new) }
+    ensures played { (others : List Ended) (earlier : List BlockLine)
+        → IsPlayed (setup_of setting.now) slot others earlier player.old asides.old
+        → OnOk result (IsPlayed (setup_of setting.now) slot others (line.now ∷ earlier) player.new asides.new) }
+    ensures kinds { OnOk result (kinds_open player.new.nest.events
+        ≡ kinds_behind (mark_of line.now) (kinds_open player.old.nest.events)) }
+    ensures room { (more : ℕ) → HasRoom (more + 1) player.old asides.old
+        → OnOk result (HasRoom more player.new asides.new) }
     ensures depth { OnOk result (player.new.nest.depth ≡ player.old.nest.depth) }
 {
     nested();

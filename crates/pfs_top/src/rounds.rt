@@ -52,9 +52,14 @@ pub fn run(
     requires slots { slot < 32 }
     requires can { CanRun setting.now.classes player.old.nest.depth (kinds_open player.old.nest.events) lines.now }
     requires roomy { HasRoom (length lines.now) player.old asides.old }
-    ensures played { (others : List Ended) (before : List BlockLine) → IsPlayed (setup_of setting.now) slot others (reverse before) player.old asides.old → OnOk result (IsPlayed (setup_of setting.now) slot others (reverse (before ++ lines.now)) player.new asides.new) }
-    ensures kinds { OnOk result (kinds_open player.new.nest.events ≡ kinds_after (kinds_open player.old.nest.events) lines.now) }
-    ensures room { (more : ℕ) → HasRoom (more + length lines.now) player.old asides.old → OnOk result (HasRoom more player.new asides.new) }
+    ensures played { (others : List Ended) (before : List BlockLine)
+        → IsPlayed (setup_of setting.now) slot others (reverse before) player.old asides.old
+        → OnOk result (IsPlayed (setup_of setting.now) slot others (reverse (before ++ lines.now)) player.new
+        asides.new) }
+    ensures kinds { OnOk result (kinds_open player.new.nest.events
+        ≡ kinds_after (kinds_open player.old.nest.events) lines.now) }
+    ensures room { (more : ℕ) → HasRoom (more + length lines.now) player.old asides.old
+        → OnOk result (HasRoom more player.new asides.new) }
     ensures depth { OnOk result (player.new.nest.depth ≡ player.old.nest.depth) }
 {
     for line in lines {
@@ -77,9 +82,13 @@ pub fn run_times(
     requires can { CanRun setting.now.classes player.old.nest.depth (kinds_open player.old.nest.events) body.now }
     requires same { kinds_after (kinds_open player.old.nest.events) body.now ≡ kinds_open player.old.nest.events }
     requires roomy { HasRoom (times * length body.now) player.old asides.old }
-    ensures played { (others : List Ended) (before : List BlockLine) → IsPlayed (setup_of setting.now) slot others (reverse before) player.old asides.old → OnOk result (IsPlayed (setup_of setting.now) slot others (reverse (before ++ copies times body.now)) player.new asides.new) }
+    ensures played { (others : List Ended) (before : List BlockLine)
+        → IsPlayed (setup_of setting.now) slot others (reverse before) player.old asides.old
+        → OnOk result (IsPlayed (setup_of setting.now) slot others (reverse (before ++ copies times body.now))
+        player.new asides.new) }
     ensures kinds { OnOk result (kinds_open player.new.nest.events ≡ kinds_open player.old.nest.events) }
-    ensures room { (more : ℕ) → HasRoom (more + times * length body.now) player.old asides.old → OnOk result (HasRoom more player.new asides.new) }
+    ensures room { (more : ℕ) → HasRoom (more + times * length body.now) player.old asides.old
+        → OnOk result (HasRoom more player.new asides.new) }
     ensures depth { OnOk result (player.new.nest.depth ≡ player.old.nest.depth) }
 {
     // Empty rounds change nothing, and there may be up to 2^64 - 1 of them.
@@ -107,11 +116,23 @@ pub fn pass(
     requires slots { slot < 32 }
     requires there { at < length lines.now }
     requires starts { StartsBy from at }
-    requires ready { IsReady setting.now.classes (repeated_of from lines.now at) at (drop at lines.now) player.old asides.old }
+    requires ready { IsReady setting.now.classes (repeated_of from lines.now at) at (drop at lines.now) player.old
+        asides.old }
     ensures starts { IfOk result (λ next. StartsBy next (at + 1)) }
-    ensures ready { IfOk result (λ next. IsReady setting.now.classes (repeated_of next lines.now (at + 1)) (at + 1) (drop (at + 1) lines.now) player.new asides.new) }
-    ensures played { (others : List Ended) (front : List BlockLine) → IsFront front (repeated_of from lines.now at) (drop at lines.now) lines.now → IsPlayed (setup_of setting.now) slot others (reverse front) player.old asides.old → IfOk result (λ next. (more : List BlockLine) × (IsFront more (repeated_of next lines.now (at + 1)) (drop (at + 1) lines.now) lines.now × IsPlayed (setup_of setting.now) slot others (reverse more) player.new asides.new)) }
-    ensures room { (more : ℕ) → HasRoom (more + length (written_from (repeated_of from lines.now at) (drop at lines.now))) player.old asides.old → IfOk result (λ next. HasRoom (more + length (written_from (repeated_of next lines.now (at + 1)) (drop (at + 1) lines.now))) player.new asides.new) }
+    ensures ready { IfOk result (λ next. IsReady setting.now.classes (repeated_of next lines.now (at + 1)) (at + 1)
+        (drop (at + 1) lines.now) player.new asides.new) }
+    ensures played { (others : List Ended) (front : List BlockLine)
+        → IsFront front (repeated_of from lines.now at) (drop at lines.now) lines.now
+        → IsPlayed (setup_of setting.now) slot others (reverse front) player.old asides.old
+        → IfOk result (λ next. (more : List BlockLine)
+        × (IsFront more (repeated_of next lines.now (at + 1)) (drop (at + 1) lines.now) lines.now
+        × IsPlayed (setup_of setting.now) slot others (reverse more) player.new asides.new)) }
+    ensures room { (more : ℕ)
+        → HasRoom (more + length (written_from (repeated_of from lines.now at) (drop at lines.now))) player.old
+        asides.old → IfOk result
+        (λ next. HasRoom (more
+        + length (written_from (repeated_of next lines.now (at + 1)) (drop (at + 1) lines.now))) player.new
+        asides.new) }
 {
     let line = &lines[at];
     match from {
@@ -179,9 +200,15 @@ fn pass_all(
     requires slots { slot < 32 }
     requires ready { IsReady setting.now.classes None 0 lines.now player.old asides.old }
     ensures starts { IfOk result (λ last. StartsBy last (length lines.now)) }
-    ensures ready { IfOk result (λ last. IsReady setting.now.classes (repeated_of last lines.now (length lines.now)) (length lines.now) [] player.new asides.new) }
-    ensures played { (others : List Ended) → IsPlayed (setup_of setting.now) slot others [] player.old asides.old → IfOk result (λ last. (front : List BlockLine) × (IsFront front (repeated_of last lines.now (length lines.now)) [] lines.now × IsPlayed (setup_of setting.now) slot others (reverse front) player.new asides.new)) }
-    ensures room { (more : ℕ) → HasRoom (more + length (written_out lines.now)) player.old asides.old → IfOk result (λ last. HasRoom (more + length (written_from (repeated_of last lines.now (length lines.now)) [])) player.new asides.new) }
+    ensures ready { IfOk result (λ last. IsReady setting.now.classes (repeated_of last lines.now (length lines.now))
+        (length lines.now) [] player.new asides.new) }
+    ensures played { (others : List Ended) → IsPlayed (setup_of setting.now) slot others [] player.old asides.old
+        → IfOk result (λ last. (front : List BlockLine)
+        × (IsFront front (repeated_of last lines.now (length lines.now)) [] lines.now
+        × IsPlayed (setup_of setting.now) slot others (reverse front) player.new asides.new)) }
+    ensures room { (more : ℕ) → HasRoom (more + length (written_out lines.now)) player.old asides.old
+        → IfOk result (λ last. HasRoom
+        (more + length (written_from (repeated_of last lines.now (length lines.now)) [])) player.new asides.new) }
 {
     let mut last = None;
     for at in 0..lines.len() {
@@ -202,9 +229,16 @@ fn run_open(
 ) -> Result<(), NoMemory>
     requires slots { slot < 32 }
     requires starts { StartsBy last (length lines.now) }
-    requires ready { IsReady setting.now.classes (repeated_of last lines.now (length lines.now)) (length lines.now) [] player.old asides.old }
-    ensures played { (others : List Ended) (front : List BlockLine) → IsFront front (repeated_of last lines.now (length lines.now)) [] lines.now → IsPlayed (setup_of setting.now) slot others (reverse front) player.old asides.old → OnOk result (IsPlayed (setup_of setting.now) slot others (reverse (written_out lines.now)) player.new asides.new) }
-    ensures room { (more : ℕ) → HasRoom (more + length (written_from (repeated_of last lines.now (length lines.now)) [])) player.old asides.old → OnOk result (HasRoom more player.new asides.new) }
+    requires ready { IsReady setting.now.classes (repeated_of last lines.now (length lines.now)) (length lines.now) []
+        player.old asides.old }
+    ensures played { (others : List Ended) (front : List BlockLine)
+        → IsFront front (repeated_of last lines.now (length lines.now)) [] lines.now
+        → IsPlayed (setup_of setting.now) slot others (reverse front) player.old asides.old
+        → OnOk result (IsPlayed (setup_of setting.now) slot others (reverse (written_out lines.now)) player.new
+        asides.new) }
+    ensures room { (more : ℕ)
+        → HasRoom (more + length (written_from (repeated_of last lines.now (length lines.now)) [])) player.old
+        asides.old → OnOk result (HasRoom more player.new asides.new) }
 {
     match last {
         Some(open) => {
@@ -229,8 +263,11 @@ pub fn play(
     requires known { AreKnown setting.now.classes lines.now }
     requires nested { IsNested [] None lines.now }
     requires room { AreRoomy (2 ^ 62 - 2 * length (written_out lines.now)) asides.old }
-    ensures played { (others : List Ended) → AreCells setting.now.classes is_aside others asides.old → IfOk result (λ player. IsPlayed (setup_of setting.now) slot others (reverse (written_out lines.now)) player asides.new) }
-    ensures room { (more : ℕ) → AreRoomy (2 ^ 62 - 2 * (more + length (written_out lines.now))) asides.old → IfOk result (λ player. AreRoomy (2 ^ 62 - 2 * more) asides.new) }
+    ensures played { (others : List Ended) → AreCells setting.now.classes is_aside others asides.old
+        → IfOk result (λ player. IsPlayed (setup_of setting.now) slot others (reverse (written_out lines.now)) player
+        asides.new) }
+    ensures room { (more : ℕ) → AreRoomy (2 ^ 62 - 2 * (more + length (written_out lines.now))) asides.old
+        → IfOk result (λ player. AreRoomy (2 ^ 62 - 2 * more) asides.new) }
 {
     let mut player = opening(alloc, lines.len() as u64 + 1)?;
     let last = pass_all(setting, slot, session, &mut player, asides, lines)?;

@@ -20,11 +20,11 @@ use crate::player::{Cell, READ_ONLY_CELL, READ_WRITE_CELL};
 use crate::summary_rows::{Numbers, Owner, summary_row};
 use pfs_classes::{Class, ClassId, Kind, Setting, laws};
 use pfs_journal::{TableList, TableReport};
-use pfs_values::{Row, Rowset};
 use pfs_rows::{SummaryTable, Table, TableKind};
 use pfs_script::Block;
 use pfs_stat::{Stat, zero};
 use pfs_text::Text;
+use pfs_values::{Row, Rowset};
 use std::alloc::Global;
 use std::marker::Model;
 
@@ -165,7 +165,8 @@ fn put_listed(
     rows: &mut Vec<Row>,
 ) -> Result<(), NoMemory>
     requires { IsId setting.now.classes id }
-    ensures { OnOk result (rows.new.items ≡ rows.old.items ++ listed numbers (row_values owner (class_name setting.now id) numbers)) }
+    ensures { OnOk result (rows.new.items ≡ rows.old.items
+        ++ listed numbers (row_values owner (class_name setting.now id) numbers)) }
 {
     if numbers.count() == 0 {
         return Ok(());
@@ -208,7 +209,9 @@ fn put_rows(
     rows: &mut Vec<Row>,
 ) -> Result<(), NoMemory>
     requires { length counted.now ≡ 64 }
-    ensures { (events : List Ended) (test : Verdict → Bool) → AreStats setting.now.classes test events counted.now → OnOk result (rows.new.items ≡ rows.old.items ++ rows_of setting.now kind owner (λ cell. summary_of setting.now.classes test cell events)) }
+    ensures { (events : List Ended) (test : Verdict → Bool) → AreStats setting.now.classes test events counted.now
+        → OnOk result (rows.new.items ≡ rows.old.items
+        ++ rows_of setting.now kind owner (λ cell. summary_of setting.now.classes test cell events)) }
 {
     for id in 0..63 {
         match put_row(alloc, setting, kind, owner, counted, id, rows) {
@@ -335,7 +338,8 @@ fn global_stats(
 ) -> Result<StatList, NoMemory>
     requires threads { AreThreads setting.now blocks.now (length blocks.now) threads.now }
     requires asides { AreAsides setting.now blocks.now asides.now }
-    ensures { IfOk result (λ counted. AreStats setting.now.classes is_let_through (all_events setting.now blocks.now) counted) }
+    ensures { IfOk result (λ counted. AreStats setting.now.classes is_let_through (all_events setting.now blocks.now)
+        counted) }
 {
     let mut counted = Vec::new(alloc);
     for cell in 0..64 {
@@ -353,7 +357,9 @@ fn global_rows(
     kind: TableKind,
 ) -> Result<Rowset, NoMemory>
     requires { length counted.now ≡ 64 }
-    ensures { (blocks : List Block) → AreStats setting.now.classes is_let_through (all_events setting.now blocks) counted.now → IfOk result (λ rows. rows ≡ global_rows setting.now blocks kind) }
+    ensures { (blocks : List Block)
+        → AreStats setting.now.classes is_let_through (all_events setting.now blocks) counted.now
+        → IfOk result (λ rows. rows ≡ global_rows setting.now blocks kind) }
 {
     let mut rows = Vec::new(alloc);
     match put_rows(alloc, setting, kind, Owner::All, counted, &mut rows) {

@@ -7,9 +7,9 @@ ghost use Rattle.pfs_top.specs.Summaries.{count_of};
 ghost use Rattle.pfs_top.specs.RowValues.{timed_number, times_of, sums_of, counted_of, owner_of, row_values};
 
 use crate::NoMemory;
-use pfs_values::{Row, RowValue};
 use pfs_stat::Stat;
 use pfs_text::Text;
+use pfs_values::{Row, RowValue};
 use std::alloc::Global;
 
 /// Whose events a summary row counts.
@@ -108,7 +108,8 @@ fn put_transactions(
     read_write: &Stat,
     read_only: &Stat,
 ) -> Result<(), NoMemory>
-    ensures { OnOk result (values.new.items ≡ values.old.items ++ (times_of (merge_of read_write.now read_only.now) ++ times_of read_write.now ++ times_of read_only.now)) }
+    ensures { OnOk result (values.new.items ≡ values.old.items
+        ++ (times_of (merge_of read_write.now read_only.now) ++ times_of read_write.now ++ times_of read_only.now)) }
 {
     put_times(values, &read_write.merge(*read_only))?;
     put_times(values, read_write)?;

@@ -1,4 +1,5 @@
--- A lock word is four times its row's version, and then the number of its state: 0 is free, 1 is dirty, 2 is allocated. No lock word has 3.
+-- A lock word is four times its row's version, and then the number of its state: 0 is free, 1 is dirty, 2 is
+-- allocated. No lock word has 3.
 use Rattle.std.specs.Prelude.{◌≡◌, ℕ, ◌+◌, ◌*◌, ◌/◌, ◌%◌, refl}
 use Rattle.pfs_word.specs.declared.State.{State}
 use Rattle.pfs_word.specs.declared.State.TheVariants.{Free, Dirty, Allocated}

@@ -23,7 +23,8 @@ pub enum State {
     Allocated,
 }
 
-/// A version of 62 bits above a state of two. A word whose two low bits are 3 is none, and this type has no such value. Contracts see it as the number.
+/// A version of 62 bits above a state of two. A word whose two low bits are 3 is none, and this type has no such
+/// value. Contracts see it as the number.
 #[derive(Clone, Copy, Debug, PartialEq, Eq)]
 pub struct LockWord(u64);
 
@@ -88,7 +89,8 @@ impl LockWord {
     /// The word after a publication, one version higher. `None` comes exactly at the last version.
     pub fn to_allocated(self) -> Option<LockWord>
         requires { IsIn self State.Dirty }
-        ensures some { MatchOption result (version_of self ≡ LAST_VERSION) (λ w. (version_of self < LAST_VERSION) × (w ≡ word_of (version_of self + 1) State.Allocated)) }
+        ensures some { MatchOption result (version_of self ≡ LAST_VERSION) (λ w. (version_of self < LAST_VERSION)
+            × (w ≡ word_of (version_of self + 1) State.Allocated)) }
     {
         let version = self.0 / 4;
         if version == LAST_VERSION {

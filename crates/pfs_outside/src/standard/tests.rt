@@ -4,8 +4,8 @@ use crate::{ReadStop, read_all, write_all};
 use std::io;
 use std::test::Fail;
 
-// A device whose calls before `good` are interrupted and whose calls from `bad` on fail, counted from 0. A read gives one
-// `A`, and what is written goes to `text`.
+// A device whose calls before `good` are interrupted and whose calls from `bad` on fail, counted from 0. A read gives
+// one `A`, and what is written goes to `text`.
 #[derive(Drop)]
 struct Device {
     calls: u64,
