@@ -15,5 +15,7 @@ pub mod Calls
 pub mod WordFacts
 pub mod Between
 pub mod HandFacts
+pub mod OwnFacts
 pub mod VersionFacts
 pub mod OpeningFacts
+pub mod Examples

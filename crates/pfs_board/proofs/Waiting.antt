@@ -14,6 +14,7 @@ use Rattle.pfs_board.proofs.Calls.{at_next}
 use Rattle.pfs_board.proofs.Between.{settled_calm}
 use Rattle.pfs_board.proofs.HistoryFacts.{if_false}
 use Rattle.pfs_board.proofs.Looks.{some_same}
+use Rattle.pfs_board.proofs.OwnFacts.{own_begun}
 use Rattle.pfs_board.proofs.ViewFacts.{held_set, held_stale, length_stale, one, corners_set, corners_stale, settled_holds}
 
 pub waited_at : (z z' y : TableId) (start : List ℕ) (v w : View) → IsAt z y start v 0 → z' ≡ z → HasWaited v w → IsAt z' y start w 0
@@ -45,6 +46,7 @@ ready_begun z v w label h r b = let n : ℕ = 4 * length w.labels + 1 in let c :
       };
       tops = λ q. subst (λ (xs : List Corner). (k : ℕ) → (get_or xs q newcomer).fresh ≡ true → (get_or xs q newcomer).last ≡ Some k → (get_or xs q newcomer).seen ≤ k / 4) (sym rows)
           (corners_set (λ _ (d : Corner). (k : ℕ) → d.fresh ≡ true → d.last ≡ Some k → d.seen ≤ k / 4) (stale v.rows) 0 c inside (λ k f e. let is : n ≡ k = some_same n k e in let s : n / 4 ≡ k / 4 = ap (λ z. z / 4) is in omega (arith, s)) (λ p _. corners_stale (λ (d : Corner). (k : ℕ) → d.fresh ≡ true → d.last ≡ Some k → d.seen ≤ k / 4) v.rows p (λ k f. cc)) q);
+      own = own_begun v w label h b r.own;
     }
 
 pub hands_begun : (v w : View) (label : Label) → 0 < length v.rows → is_holding (corner v 0).stage ≡ false → HasBegun v label w → (is_holding (corner w 0).stage ≡ true) × (held w.rows ≡ held v.rows + 1) × (stake w ≡ stake v)

@@ -14,10 +14,15 @@ pub record HasWaited (v w : View) : Type 0 where
 
 -- A seat has taken row 0 after the actions of k labels, and with it the value
 abbrev pub HasTaken : {K : Type 0} → (K → List Label → Type 0) → Me (Option K) View → ℕ → Me (Option K) View → Type 0
-HasTaken {K} means m k m' = (labels : List Label) × (found : List ℕ) × (x : K) × (length labels ≡ k) × (length found ≡ 16) × means x labels
-    × (m' ≡ (halfway (record (begun_with m.0 (label_told m.0) labels found) { looks = m'.0.looks }) true, (0, Some x) ∷ m.1))
+HasTaken {K} means m k m' = (labels : List Label) × (found : List ℕ) × (x : K) × (length labels ≡ k)
+    × (length found ≡ 16) × means x labels
+    × (m' ≡ (
+      halfway (record (begun_with m.0 (label_told m.0) labels found) { looks = m'.0.looks }) true,
+      (0, Some x) ∷ m.1,
+    ))
 
--- A seat that knew v has begun an action with this label. To wait it told the label's two numbers, each by an exchange, and tried at least once, by a load and an exchange
+-- A seat that knew v has begun an action with this label. To wait it told the label's two numbers, each by an
+-- exchange, and tried at least once, by a load and an exchange
 pub record HasBegun (v : View) (label : Label) (w : View) : Type 0 where
   pub looks : v.looks + 4 ≤ w.looks
   pub later : (corner v 0).seen ≤ length w.labels

@@ -6,7 +6,8 @@ use Rattle.pfs_board.specs.History.{total, Each, lock_at, version, stands, is_fr
 use Rattle.pfs_board.specs.Knowledge.{corner, is_holding}
 use Rattle.pfs_board.specs.Rule.{Moment, lock, now, Fits}
 
--- a lock word counts the row's publications. A row that is not dirty holds what was published last, and a dirty one is in this seat's hand
+-- a lock word counts the row's publications. A row that is not dirty holds what was published last, and a dirty one
+-- is in this seat's hand
 pub record IsFinalRow (start : List ℕ) (t : Moment) (v : View) (r : ℕ) : Type 0 where
   pub counts : lock t r / 4 ≡ version t.log r
   pub state : lock t r % 4 < 3
@@ -15,8 +16,9 @@ pub record IsFinalRow (start : List ℕ) (t : Moment) (v : View) (r : ℕ) : Typ
   pub allocated : lock t r % 4 ≡ 2 → is_free start t.log r ≡ false
   pub held_by : lock t r % 4 ≡ 1 → is_holding (corner v r).stage ≡ true
 
--- The words at the end, and one history of all changes in which each of the seat's stands once. No change is below what the actions did that had ended
--- before it, nor below what the root had when its seat was split off. Each was made outside an action, or in one that row 0 has a label of
+-- The words at the end, and one history of all changes in which each of the seat's stands once. No change is below
+-- what the actions did that had ended before it, nor below what the root had when its seat was split off. Each was
+-- made outside an action, or in one that row 0 has a label of
 pub record History (start words : List ℕ) (v : View) : Type 0 where
   pub t : Moment
   pub words_are : t.words ≡ words

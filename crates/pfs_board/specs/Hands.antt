@@ -12,7 +12,8 @@ IsAside v r w = ((corner w r).stage ≡ Idle) × (held w.rows ≡ held v.rows) �
 
 -- a take that worked has one row more in hand, at the version found and with the content found
 abbrev pub IsHandTaken : View → ℕ → Taken → View → Type 0
-IsHandTaken v r (Mine word content) w = ((corner w r).stage ≡ Holding (word / 4) content []) × (held w.rows ≡ held v.rows + 1) × (stake w ≡ stake v)
+IsHandTaken v r (Mine word content) w = ((corner w r).stage ≡ Holding (word / 4) content [])
+    × (held w.rows ≡ held v.rows + 1) × (stake w ≡ stake v)
 IsHandTaken v r (Busy first second) w = IsAside v r w
 
 -- the row left the hand

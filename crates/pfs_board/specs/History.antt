@@ -39,12 +39,15 @@ version (p ∷ ps) r = if p.row == r then version ps r + step_of p else version 
 -- the word i of the content that was published last, or that the row opened with
 abbrev pub stands : List ℕ → List Change → ℕ → ℕ → ℕ
 stands start [] r i = slice_index start (word_at r i)
-stands start (p ∷ ps) r i = if p.row == r then (if p.puts then slice_index p.put i else stands start ps r i) else stands start ps r i
+stands start (p ∷ ps) r i = if p.row == r then (if p.puts then slice_index p.put i else stands start ps r i)
+    else stands start ps r i
 
 -- the word i of the content at the version k
 abbrev pub stood : List ℕ → List Change → ℕ → ℕ → ℕ → ℕ
 stood start [] r k i = slice_index start (word_at r i)
-stood start (p ∷ ps) r k i = if p.row == r then (if p.puts then (if p.version == k then slice_index p.put i else stood start ps r k i) else stood start ps r k i) else stood start ps r k i
+stood start (p ∷ ps) r k i =
+    if p.row == r then (if p.puts then (if p.version == k then slice_index p.put i else stood start ps r k i)
+    else stood start ps r k i) else stood start ps r k i
 
 -- the row was released last, or opened free and has no change yet
 abbrev pub is_free : List ℕ → List Change → ℕ → Bool
@@ -53,14 +56,17 @@ is_free start (p ∷ ps) r = if p.row == r then not p.puts else is_free start ps
 
 -- a release at the version k, or an opening that was free and had version 0
 abbrev pub IsFreedAt : List ℕ → List Change → ℕ → ℕ → Type 0
-IsFreedAt start log r k = Some_of (λ (p : Change). (p.row ≡ r) × (p.puts ≡ false) × (p.version ≡ k)) log ⊎ ((k ≡ 0) × (slice_index start (lock_at r) ≡ 0))
+IsFreedAt start log r k = Some_of (λ (p : Change). (p.row ≡ r) × (p.puts ≡ false) × (p.version ≡ k)) log
+    ⊎ ((k ≡ 0) × (slice_index start (lock_at r) ≡ 0))
 
 -- the labels of the publications of row 0, in their order
 abbrev pub labels_of : List Change → List Label
 labels_of [] = []
-labels_of (p ∷ ps) = if p.row == 0 then (if p.puts then labels_of ps ++ p.label ∷ [] else labels_of ps) else labels_of ps
+labels_of (p ∷ ps) = if p.row == 0 then (if p.puts then labels_of ps ++ p.label ∷ [] else labels_of ps)
+    else labels_of ps
 
--- An entry has the next version of its row and found what stood there. Inside an action it has that action's number. Row 0 is published by each action, once
+-- An entry has the next version of its row and found what stood there. Inside an action it has that action's number.
+-- Row 0 is published by each action, once
 pub record Follows (start : List ℕ) (ps : List Change) (p : Change) : Type 0 where
   pub numbered : p.version ≡ version ps p.row + step_of p
   pub found_wide : length p.found ≡ 16
@@ -89,22 +95,24 @@ abbrev pub oldest : ℕ → List Change → List Change
 oldest n [] = []
 oldest n (p ∷ ps) = if nat_lt (length ps) n then p ∷ ps else oldest n ps
 
--- what a whole look at the row shows at least, once the entry stands: a release shows itself to no look at its own version
+-- what a whole look at the row shows at least, once the entry stands: a release shows itself to no look at its own
+-- version
 abbrev pub level : Change → ℕ
 level p = if p.puts then p.version else p.version + 1
 
 abbrev pub version_of : Change → ℕ
 version_of p = p.version
 
--- No entry of the row by an action up to `after` is above k, nor one of those that the root had first. `had` are the root's changes
+-- No entry of the row by an action up to `after` is above k, nor one of those that the root had first. `had` are the
+-- root's changes
 pub record Floor (f : Change → ℕ) (log had : List Change) (row k after base : ℕ) : Type 0 where
   pub ended : after ≤ version log 0
   pub split_at : base ≤ length had
   pub actions : Each (λ (p : Change). p.row ≡ row → 0 < p.action → p.action ≤ after → f p ≤ k) log
   pub first : Each (λ (p : Change). p.row ≡ row → f p ≤ k) (oldest base had)
 
--- Two publications of row 1, by the seats 0 and 2, and the same where the second does not raise the version. The sixteen zeros stand
--- for the opening words
+-- Two publications of row 1, by the seats 0 and 2, and the same where the second does not raise the version. The
+-- sixteen zeros stand for the opening words
 abbrev pub zeros : List ℕ
 zeros = replicate 16 0
 
@@ -112,7 +120,18 @@ abbrev pub sevens : List ℕ
 sevens = replicate 16 7
 
 abbrev pub entry_of : ℕ → ℕ → List ℕ → List ℕ → Change
-entry_of by version found put = record { by = by; row = 1; version = version; puts = true; action = 0; after = 0; base = 0; label = record { session = 0; line = 0 }; found = found; put = put }
+entry_of by version found put = record {
+  by = by;
+  row = 1;
+  version = version;
+  puts = true;
+  action = 0;
+  after = 0;
+  base = 0;
+  label = record { session = 0; line = 0 };
+  found = found;
+  put = put;
+}
 
 one_not_two : (let one : ℕ = 1 in one ≡ 2) → ⊥
 one_not_two e = cc
@@ -120,7 +139,8 @@ one_not_two e = cc
 pub example_version : version (entry_of 2 2 sevens zeros ∷ entry_of 0 1 zeros sevens ∷ []) 1 ≡ 2
 example_version = refl
 
-pub example_stood : (stood zeros (entry_of 2 2 sevens zeros ∷ entry_of 0 1 zeros sevens ∷ []) 1 1 15 ≡ 7) × (stands zeros (entry_of 2 2 sevens zeros ∷ entry_of 0 1 zeros sevens ∷ []) 1 15 ≡ 0)
+pub example_stood : (stood zeros (entry_of 2 2 sevens zeros ∷ entry_of 0 1 zeros sevens ∷ []) 1 1 15 ≡ 7)
+    × (stands zeros (entry_of 2 2 sevens zeros ∷ entry_of 0 1 zeros sevens ∷ []) 1 15 ≡ 0)
 example_stood = (refl, refl)
 
 pub example_not_raised : ¬ (IsChain zeros (entry_of 2 1 sevens zeros ∷ entry_of 0 1 zeros sevens ∷ []))

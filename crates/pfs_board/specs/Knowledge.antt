@@ -54,13 +54,40 @@ abbrev pub begun : ℕ → Stage
 begun n = if n % 4 == 2 then Reading (n / 4) [] else Idle
 
 abbrev pub sight_of : View → ℕ → ℕ → ℕ → Sight
-sight_of v r first second = record { by = v.number; row = r; first = first; second = second; action = v.action; after = v.after; base = v.base }
+sight_of v r first second = record {
+  by = v.number;
+  row = r;
+  first = first;
+  second = second;
+  action = v.action;
+  after = v.after;
+  base = v.base;
+}
 
 abbrev pub read_of : View → ℕ → ℕ → List ℕ → Finished
-read_of v r k xs = record { by = v.number; row = r; version = k; action = v.action; after = v.after; base = v.base; content = xs }
+read_of v r k xs = record {
+  by = v.number;
+  row = r;
+  version = k;
+  action = v.action;
+  after = v.after;
+  base = v.base;
+  content = xs;
+}
 
 abbrev pub change_of : View → ℕ → ℕ → Bool → Label → List ℕ → List ℕ → Change
-change_of v r k puts label found put = record { by = v.number; row = r; version = k; puts = puts; action = v.action; after = v.after; base = v.base; label = label; found = found; put = put }
+change_of v r k puts label found put = record {
+  by = v.number;
+  row = r;
+  version = k;
+  puts = puts;
+  action = v.action;
+  after = v.after;
+  base = v.base;
+  label = label;
+  found = found;
+  put = put;
+}
 
 abbrev pub version_read : Stage → ℕ
 version_read (Reading k xs) = k
@@ -96,22 +123,38 @@ restaged c stage = record c { stage = stage }
 
 -- the first look of a take, which has nothing to tell of a row that is free
 abbrev pub tried : View → ℕ → ℕ → View
-tried v r n = record (turned v r (sighted Idle n)) { looks = v.looks + 1; sights = if n % 4 == 1 then sight_of v r n n ∷ v.sights else v.sights }
+tried v r n = record (turned v r (sighted Idle n)) {
+  looks = v.looks + 1;
+  sights = if n % 4 == 1 then sight_of v r n n ∷ v.sights else v.sights;
+}
 
 -- the first look of a read
 abbrev pub looked : View → ℕ → ℕ → View
-looked v r n = record (turned v r (sighted (begun n) n)) { looks = v.looks + 1; sights = if n % 4 == 2 then v.sights else sight_of v r n n ∷ v.sights }
+looked v r n = record (turned v r (sighted (begun n) n)) {
+  looks = v.looks + 1;
+  sights = if n % 4 == 2 then v.sights else sight_of v r n n ∷ v.sights;
+}
 
 -- the last look of a read, whose first look found the row allocated at the version k, and then the words xs
 abbrev pub finished_at : View → ℕ → ℕ → ℕ → List ℕ → View
-finished_at v r n k xs = if n == 4 * k + 2 then record (turned v r (sighted Idle n)) { looks = v.looks + 1; reads = read_of v r k xs ∷ v.reads } else record (turned v r (sighted Idle n)) { looks = v.looks + 1; sights = sight_of v r (4 * k + 2) n ∷ v.sights }
+finished_at v r n k xs = if n == 4 * k + 2 then record (turned v r (sighted Idle n)) {
+  looks = v.looks + 1;
+  reads = read_of v r k xs ∷ v.reads;
+} else record (turned v r (sighted Idle n)) {
+  looks = v.looks + 1;
+  sights = sight_of v r (4 * k + 2) n ∷ v.sights;
+}
 
 abbrev pub finished : View → ℕ → ℕ → View
 finished v r n = finished_at v r n (version_read (corner v r).stage) (words_read (corner v r).stage)
 
 -- a take from `old` that found it, and the content
 abbrev pub took : View → ℕ → ℕ → List ℕ → View
-took v r old found = record (turned v r (sighted (Holding (old / 4) found []) (4 * (old / 4) + 1))) { looks = v.looks + 1; replaced = old }
+took v r old found = record (turned v r (sighted (Holding (old / 4) found []) (4 * (old / 4) + 1))) {
+  looks = v.looks
+      + 1;
+  replaced = old;
+}
 
 -- a take from `old` that found n
 abbrev pub missed : View → ℕ → ℕ → ℕ → View
@@ -127,14 +170,19 @@ told v a = record v { looks = v.looks + 1; said = a ∷ v.said }
 
 -- a publication of a row but row 0
 abbrev pub published_at : View → ℕ → ℕ → List ℕ → List ℕ → View
-published_at v r k found put = record (turned v r (sighted Idle (4 * (k + 1) + 2))) { allowance = v.allowance - 1; made = change_of v r (k + 1) true no_label found put ∷ v.made }
+published_at v r k found put = record (turned v r (sighted Idle (4 * (k + 1) + 2))) {
+  allowance = v.allowance - 1;
+  made = change_of v r (k + 1) true no_label found put ∷ v.made;
+}
 
 abbrev pub published : View → ℕ → View
-published v r = published_at v r (version_held (corner v r).stage) (found_in (corner v r).stage) (stored_in (corner v r).stage)
+published v r = published_at v r (version_held (corner v r).stage) (found_in (corner v r).stage)
+    (stored_in (corner v r).stage)
 
 -- a release of a row but row 0
 abbrev pub freed_at : View → ℕ → ℕ → List ℕ → View
-freed_at v r k found = record (turned v r (sighted Idle (4 * k))) { made = change_of v r k false no_label found found ∷ v.made }
+freed_at v r k found =
+    record (turned v r (sighted Idle (4 * k))) { made = change_of v r k false no_label found found ∷ v.made }
 
 abbrev pub freed : View → ℕ → View
 freed v r = freed_at v r (version_held (corner v r).stage) (found_in (corner v r).stage)
@@ -156,7 +204,8 @@ settled _ = Idle
 abbrev pub stale : List Corner → List Corner
 stale cs = map (λ (c : Corner). record c { stage = settled c.stage; fresh = false }) cs
 
--- An action begins, with this label, after the actions of these labels: row 0 was taken with this content, and the value stood for the labels
+-- An action begins, with this label, after the actions of these labels: row 0 was taken with this content, and the
+-- value stood for the labels
 abbrev pub begun_with : View → Label → List Label → List ℕ → View
 begun_with v label labels found = record v {
   said = [];
@@ -208,7 +257,12 @@ merged (c ∷ cs) (d ∷ ds) = record c { stage = settled c.stage; fresh = false
 
 -- of a seat that cuts off as many publications as it said last
 abbrev pub split_left : View → View
-split_left v = record v { seats = v.seats + 1; allowance = v.allowance - slice_index v.said 0; said = []; rows = stale v.rows }
+split_left v = record v {
+  seats = v.seats + 1;
+  allowance = v.allowance - slice_index v.said 0;
+  said = [];
+  rows = stale v.rows;
+}
 
 abbrev pub split_right : View → View
 split_right v = record {

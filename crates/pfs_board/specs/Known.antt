@@ -3,6 +3,8 @@ use Rattle.std.specs.Prelude.{◌≡◌, ℕ, ◌+◌, ◌*◌, ◌/◌, ◌%◌
 use Rattle.atomic_table.specs.Seated.{TableId}
 use Rattle.pfs_board.specs.declared.view.View.{View}
 use Rattle.pfs_board.specs.declared.answers.FinalRow.{FinalRow}
+use Rattle.pfs_board.specs.declared.view.Change.{Change}
+use Rattle.pfs_board.specs.History.{Each}
 use Rattle.pfs_board.specs.Knowledge.{corner, is_holding, split_left, split_right, spent}
 use Rattle.pfs_board.specs.Sitting.{IsCalm}
 
@@ -36,12 +38,20 @@ pub record IsSized (z : TableId) (start : List ℕ) (spare : List FinalRow) (roo
   pub empty : spare ≡ []
   pub roomy : length start / 17 ≤ room
 
--- A seat that is in no action doesn't hold row 0. In one it does, the value is out with it, and it has the labels of the actions before
+-- A seat that is in no action doesn't hold row 0. In one it does, the value is out with it, and it has the labels of
+-- the actions before
 pub record IsPoised (v : View) : Type 0 where
   pub outside : v.action ≡ 0 → is_holding (corner v 0).stage ≡ false
-  pub inside : 0 < v.action → (is_holding (corner v 0).stage ≡ true) × (v.lent ≡ true) × (length v.labels + 1 ≡ v.action) × (v.after + 1 ≡ v.action)
+  pub inside : 0 < v.action → (is_holding (corner v 0).stage ≡ true) × (v.lent ≡ true)
+      × (length v.labels + 1 ≡ v.action) × (v.after + 1 ≡ v.action)
 
--- between calls a seat is not spent and half way through nothing, and what it saw last are lock words. It has labels while the value is out with it
+-- A seat has seen what it made itself, and what those made that it took in: no entry of its list is above what it saw
+-- of the row
+abbrev pub HasSeenItsOwn : View → Type 0
+HasSeenItsOwn v = Each (λ (p : Change). p.version ≤ (corner v p.row).seen) v.made
+
+-- between calls a seat is not spent and half way through nothing, and what it saw last are lock words. It has labels
+-- while the value is out with it
 pub record IsReady (z : TableId) (views : List View) : Type 0 where
   pub one : views ≡ first_view views ∷ []
   pub live : (first_view views).live ≡ true
@@ -52,7 +62,9 @@ pub record IsReady (z : TableId) (views : List View) : Type 0 where
   pub calm : (r : ℕ) → IsCalm (corner (first_view views) r).stage
   pub words : (r n : ℕ) → (corner (first_view views) r).last ≡ Some n → n % 4 < 3
   pub poised : IsPoised (first_view views)
-  pub tops : (r n : ℕ) → (corner (first_view views) r).fresh ≡ true → (corner (first_view views) r).last ≡ Some n → (corner (first_view views) r).seen ≤ n / 4
+  pub tops : (r n : ℕ) → (corner (first_view views) r).fresh ≡ true → (corner (first_view views) r).last ≡ Some n
+      → (corner (first_view views) r).seen ≤ n / 4
+  pub own : HasSeenItsOwn (first_view views)
 
 -- the row is one of the board's
 abbrev pub HasRow : Place → ℕ → Type 0

@@ -35,7 +35,8 @@ AreWide (o ∷ os) = (length o.content ≡ 16) × AreWide os
 pub record AreOpened (rows : List Opening) : Type 0 where
   pub first : slice_index (opening_words rows) (lock_at 0) ≡ 2
   pub locks : (r : ℕ) → 0 < r → r < length rows → slice_index (opening_words rows) (lock_at r) ≡ lock_of (row_of rows r)
-  pub contents : (r i : ℕ) → r < length rows → i < 16 → slice_index (opening_words rows) (word_at r i) ≡ slice_index (row_of rows r).content i
+  pub contents : (r i : ℕ) → r < length rows → i < 16
+      → slice_index (opening_words rows) (word_at r i) ≡ slice_index (row_of rows r).content i
 
 abbrev pub OpeningLaw : Type 0
 OpeningLaw = (rows : List Opening) → 0 < length rows → AreWide rows → AreOpened rows

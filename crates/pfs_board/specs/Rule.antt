@@ -37,10 +37,14 @@ module _ (start : List ℕ) (t : Moment) where
   -- The holder: what it stored stands there, and above it what its take found.
   abbrev pub Knows : ℕ → ℕ → Stage → Type 0
   Knows seat r Idle = Unit {0}
-  Knows seat r (Reading k xs) = (k ≤ version t.log r) × (length xs ≤ 16) × (lock t r ≡ 4 * k + 2 → (i : ℕ) → i < length xs → slice_index xs i ≡ now t r i)
-  Knows seat r (Holding k found put) = (lock t r ≡ 4 * k + 1) × (seat ≡ t.holder r) × (length found ≡ 16) × (length put ≤ 16)
+  Knows seat r (Reading k xs) =
+      (k ≤ version t.log r) × (length xs ≤ 16)
+      × (lock t r ≡ 4 * k + 2 → (i : ℕ) → i < length xs → slice_index xs i ≡ now t r i)
+  Knows seat r (Holding k found put) = (lock t r ≡ 4 * k + 1) × (seat ≡ t.holder r) × (length found ≡ 16)
+      × (length put ≤ 16)
       × ((i : ℕ) → i < 16 → slice_index found i ≡ stands start t.log r i)
-      × ((i : ℕ) → i < length put → now t r i ≡ slice_index put i) × ((i : ℕ) → length put ≤ i → i < 16 → now t r i ≡ stands start t.log r i)
+      × ((i : ℕ) → i < length put → now t r i ≡ slice_index put i)
+      × ((i : ℕ) → length put ≤ i → i < 16 → now t r i ≡ stands start t.log r i)
 
   -- a finished read has what stood at its version, and none is at version 0 of a row that opened free
   pub record IsRead (f : Finished) : Type 0 where
@@ -58,7 +62,8 @@ module _ (start : List ℕ) (t : Moment) where
 
   -- a dirty row was in another's hand, who has it still or has published or released it
   abbrev pub IsOthers : ℕ → ℕ → ℕ → Type 0
-  IsOthers by row n = ((lock t row ≡ n) × (t.holder row ≢ by)) ⊎ Some_of (λ (p : Change). (p.row ≡ row) × (p.by ≢ by) × (p.version ≡ n / 4 + step_of p)) t.log
+  IsOthers by row n = ((lock t row ≡ n) × (t.holder row ≢ by))
+      ⊎ Some_of (λ (p : Change). (p.row ≡ row) × (p.by ≢ by) × (p.version ≡ n / 4 + step_of p)) t.log
 
   pub record IsSeen (by row n after base : ℕ) : Type 0 where
     pub known : IsKnown row n after base
@@ -68,7 +73,9 @@ module _ (start : List ℕ) (t : Moment) where
   pub record IsSight (x : Sight) : Type 0 where
     pub one : IsSeen x.by x.row x.first x.after x.base
     pub two : IsSeen x.by x.row x.second x.after x.base
-    pub between : x.first ≢ x.second → x.first % 4 ≢ 1 → Each (λ (p : Change). p.row ≡ x.row → p.by ≡ x.by → p.puts ≡ true → (p.version ≤ x.first / 4) ⊎ (x.second / 4 < p.version)) t.log
+    pub between : x.first ≢ x.second → x.first % 4 ≢ 1
+        → Each (λ (p : Change). p.row ≡ x.row → p.by ≡ x.by → p.puts ≡ true → (p.version ≤ x.first / 4)
+        ⊎ (x.second / 4 < p.version)) t.log
 
   -- the labels that an action found are the first ones, one fewer than its number
   pub record IsEntered (e : Entered) : Type 0 where
@@ -81,12 +88,16 @@ module _ (start : List ℕ) (t : Moment) where
   IsLast seat r None = Each (λ (p : Change). p.row ≡ r → p.by ≢ seat) t.log
   IsLast seat r (Some n) = Each (λ (p : Change). p.row ≡ r → p.by ≡ seat → p.version ≤ n / 4) t.log
 
-  -- It is in no action, or in the one that holds row 0 and is the next. Where the value is out with it, it stood for the labels. Outside an action it goes out to a seat that is alone
+  -- It is in no action, or in the one that holds row 0 and is the next. Where the value is out with it, it stood for
+  -- the labels. Outside an action it goes out to a seat that is alone
   abbrev pub IsInside : View → Type 0
-  IsInside v = ((v.action ≡ 0) × (is_holding (corner v 0).stage ≡ false) × (v.lent ≡ true → IsWhole v × (v.labels ≡ labels_of t.log)))
-      ⊎ ((v.action ≡ version t.log 0 + 1) × (is_holding (corner v 0).stage ≡ true) × (v.lent ≡ true) × (v.labels ≡ labels_of t.log) × (v.after ≡ version t.log 0))
+  IsInside v = ((v.action ≡ 0) × (is_holding (corner v 0).stage ≡ false)
+      × (v.lent ≡ true → IsWhole v × (v.labels ≡ labels_of t.log)))
+      ⊎ ((v.action ≡ version t.log 0 + 1) × (is_holding (corner v 0).stage ≡ true) × (v.lent ≡ true)
+      × (v.labels ≡ labels_of t.log) × (v.after ≡ version t.log 0))
 
-  -- What a seat knows of a row is so. The word that it saw or left last, if that is fresh, stands there still where it is the only seat
+  -- What a seat knows of a row is so. The word that it saw or left last, if that is fresh, stands there still where
+  -- it is the only seat
   pub record FitsRow (seat r after base : ℕ) (whole : Type 0) (c : Corner) : Type 0 where
     pub knows : Knows seat r c.stage
     pub seen : c.seen ≤ version t.log r
@@ -110,14 +121,16 @@ module _ (start : List ℕ) (t : Moment) where
     pub sights : Each IsSight v.sights
     pub entered : Each IsEntered v.entered
 
-  -- a lock word counts the row's publications, a row that is not dirty holds what was published last, and a dirty one is in one seat's hand
+  -- a lock word counts the row's publications, a row that is not dirty holds what was published last, and a dirty one
+  -- is in one seat's hand
   pub record IsRow (views : List View) (r : ℕ) : Type 0 where
     pub counts : lock t r / 4 ≡ version t.log r
     pub state : lock t r % 4 < 3
     pub clean : lock t r % 4 ≢ 1 → (i : ℕ) → i < 16 → now t r i ≡ stands start t.log r i
     pub free : lock t r % 4 ≡ 0 → is_free start t.log r ≡ true
     pub allocated : lock t r % 4 ≡ 2 → is_free start t.log r ≡ false
-    pub dirty : lock t r % 4 ≡ 1 → (v : View) × (get_elem? views (t.holder r) ≡ some v) × (v.live ≡ true) × (is_holding (corner v r).stage ≡ true)
+    pub dirty : lock t r % 4 ≡ 1 → (v : View) × (get_elem? views (t.holder r) ≡ some v) × (v.live ≡ true)
+        × (is_holding (corner v r).stage ≡ true)
 
   -- the root's changes, and that it has made all other seats
   pub record IsRoot (count : ℕ) (v : View) : Type 0 where
@@ -127,24 +140,29 @@ module _ (start : List ℕ) (t : Moment) where
 
   -- the value is at home, and stands for the labels, but while an action has it or the root lent it
   abbrev pub IsHome : {K : Type 0} → (K → List Label → Type 0) → List (maybe.Option (Option K)) → Bool → Type 0
-  IsHome {K} means homes lent = lent ≡ false → lock t 0 % 4 ≢ 1 → (x : K) × (get_elem? homes 0 ≡ some (some (Some x))) × means x (labels_of t.log)
+  IsHome {K} means homes lent = lent ≡ false → lock t 0 % 4 ≢ 1 → (x : K) × (get_elem? homes 0 ≡ some (some (Some x)))
+      × means x (labels_of t.log)
 
   -- an entry of the action that holds row 0 was made by its holder
   abbrev pub IsCurrent : List Change → Type 0
   IsCurrent ps = Each (λ (p : Change). p.action ≡ version t.log 0 + 1 → (lock t 0 % 4 ≡ 1) × (p.by ≡ t.holder 0)) ps
 
 module _ {K : Type 0} (means : K → List Label → Type 0) (start : List ℕ) where
-  -- The parts of the rule that are not of one seat or one row. While a seat's caller has the value, its slot is at home and empty
+  -- The parts of the rule that are not of one seat or one row. While a seat's caller has the value, its slot is at
+  -- home and empty
   pub record Joint (t : Moment) (homes : List (maybe.Option (Option K))) (views : List View) : Type 0 where
     pub wide : length t.words ≡ length start
     pub chain : IsChain start t.log
     pub counted : (h : Change → ℕ) → total (λ (v : View). total h v.made) views ≡ total h t.log
     pub allowed : total (λ (v : View). v.allowance) views + total step_of t.log ≡ all_changes
     pub makers : Each (λ (p : Change). p.by < length views) t.log
-    pub floors : Each (λ (p : Change). (p.base ≤ length t.had) × Each (λ (e : Change). e.row ≡ p.row → level e ≤ level p) (oldest p.base t.had)) t.log
+    pub floors : Each (λ (p : Change). (p.base ≤ length t.had)
+        × Each (λ (e : Change). e.row ≡ p.row → level e ≤ level p) (oldest p.base t.had)) t.log
     pub current : IsCurrent start t t.log
-    pub root_is : (v : View) × (get_elem? views 0 ≡ some v) × IsRoot start t (length views) v × IsHome start t means homes v.lent
-    pub empty : (j : ℕ) (v : View) → get_elem? views j ≡ some v → v.lent ≡ true → v.moving ≡ false → get_elem? homes 0 ≡ some (some None)
+    pub root_is : (v : View) × (get_elem? views 0 ≡ some v) × IsRoot start t (length views) v
+        × IsHome start t means homes v.lent
+    pub empty : (j : ℕ) (v : View) → get_elem? views j ≡ some v → v.lent ≡ true → v.moving ≡ false
+        → get_elem? homes 0 ≡ some (some None)
     pub spent_is : (j : ℕ) (v : View) → get_elem? views j ≡ some v → v.live ≡ false → v ≡ spent
 
   pub record Ruled (s : State (Option K) View) : Type 0 where
@@ -152,5 +170,6 @@ module _ {K : Type 0} (means : K → List Label → Type 0) (start : List ℕ) w
     pub had : List Change
     pub holder : ℕ → ℕ
     pub joint : Joint (moment s log had holder) s.homes s.views
-    pub seats : (j : ℕ) (v : View) → get_elem? s.views j ≡ some v → v.live ≡ true → Fits start (moment s log had holder) j v
+    pub seats : (j : ℕ) (v : View) → get_elem? s.views j ≡ some v → v.live ≡ true
+        → Fits start (moment s log had holder) j v
     pub rows : (r : ℕ) → lock_at r < length start → IsRow start (moment s log had holder) s.views r

@@ -12,9 +12,12 @@ use std::thread::join;
 // An action that counts itself.
 fn count_one<R: Wait>(rt: &R, board: &Board<Tally>, seat: &mut BoardSeat, line: u64) -> (u64, u64)
     requires board { seat.old.board ≡ board.now.id }
-    requires seat { (seat.old.view.action ≡ 0) × (seat.old.view.lent ≡ false) × (held seat.old.view.rows ≡ 0) × (0 < seat.old.view.allowance) }
+    requires seat { (seat.old.view.action ≡ 0) × (seat.old.view.lent ≡ false) × (held seat.old.view.rows ≡ 0)
+        × (0 < seat.old.view.allowance) }
     ensures board { seat.new.board ≡ seat.old.board }
-    ensures seat { (seat.new.view.action ≡ 0) × (seat.new.view.lent ≡ false) × (held seat.new.view.rows ≡ 0) × (seat.new.view.number ≡ seat.old.view.number) × (seat.old.view.allowance ≤ seat.new.view.allowance + 1) × (stake seat.new.view ≡ stake seat.old.view) }
+    ensures seat { (seat.new.view.action ≡ 0) × (seat.new.view.lent ≡ false) × (held seat.new.view.rows ≡ 0)
+        × (seat.new.view.number ≡ seat.old.view.number) × (seat.old.view.allowance ≤ seat.new.view.allowance + 1)
+        × (stake seat.new.view ≡ stake seat.old.view) }
 {
     let (number, mut tally) = board.enter(rt, seat, Label { session: 0, line });
     let before = tally.count;
@@ -74,9 +77,12 @@ fn register_one<R: Wait>(
     label: Label,
 ) -> Result<(), NoMemory>
     requires board { seat.old.board ≡ board.now.id }
-    requires seat { (seat.old.view.action ≡ 0) × (seat.old.view.lent ≡ false) × (held seat.old.view.rows ≡ 0) × (0 < seat.old.view.allowance) }
+    requires seat { (seat.old.view.action ≡ 0) × (seat.old.view.lent ≡ false) × (held seat.old.view.rows ≡ 0)
+        × (0 < seat.old.view.allowance) }
     ensures board { seat.new.board ≡ seat.old.board }
-    ensures seat { OnOk result ((seat.new.view.action ≡ 0) × (seat.new.view.lent ≡ false) × (held seat.new.view.rows ≡ 0) × (seat.old.view.allowance ≤ seat.new.view.allowance + 1) × (stake seat.new.view ≡ stake seat.old.view)) }
+    ensures seat { OnOk result ((seat.new.view.action ≡ 0) × (seat.new.view.lent ≡ false)
+        × (held seat.new.view.rows ≡ 0) × (seat.old.view.allowance ≤ seat.new.view.allowance + 1)
+        × (stake seat.new.view ≡ stake seat.old.view)) }
 {
     let (_, mut register) = board.enter(rt, seat, label);
     register.labels.push(label)?;
@@ -93,7 +99,8 @@ fn register_lines<R: Wait>(
     session: u64,
 ) -> Result<BoardSeat, NoMemory>
     requires board { seat.board ≡ board.now.id }
-    requires seat { (seat.view.action ≡ 0) × (seat.view.lent ≡ false) × (held seat.view.rows ≡ 0) × (1000 ≤ seat.view.allowance) }
+    requires seat { (seat.view.action ≡ 0) × (seat.view.lent ≡ false) × (held seat.view.rows ≡ 0)
+        × (1000 ≤ seat.view.allowance) }
     ensures board { IfOk result (λ s. s.board ≡ board.now.id) }
     ensures seat { IfOk result (λ s. (held s.view.rows ≡ 0) × (stake s.view ≡ stake seat.view)) }
 {
@@ -139,12 +146,16 @@ fn two_threads_act_a_thousand_times_each(rt: HostRuntime) -> Result<(), NoMemory
     let (one, two) = join(
         &rt,
         || -> Result<BoardSeat, NoMemory>
-            requires { (one.board ≡ board.id) × (one.view.action ≡ 0) × (one.view.lent ≡ false) × (held one.view.rows ≡ 0) × (1000 ≤ one.view.allowance) }
-            ensures { IfOk result (λ s. (s.board ≡ board.id) × (held s.view.rows ≡ 0) × (stake s.view ≡ stake one.view)) }
+            requires { (one.board ≡ board.id) × (one.view.action ≡ 0) × (one.view.lent ≡ false)
+                × (held one.view.rows ≡ 0) × (1000 ≤ one.view.allowance) }
+            ensures { IfOk result (λ s. (s.board ≡ board.id) × (held s.view.rows ≡ 0)
+                × (stake s.view ≡ stake one.view)) }
         { register_lines(&rt, &board, one, 1) },
         || -> Result<BoardSeat, NoMemory>
-            requires { (two.board ≡ board.id) × (two.view.action ≡ 0) × (two.view.lent ≡ false) × (held two.view.rows ≡ 0) × (1000 ≤ two.view.allowance) }
-            ensures { IfOk result (λ s. (s.board ≡ board.id) × (held s.view.rows ≡ 0) × (stake s.view ≡ stake two.view)) }
+            requires { (two.board ≡ board.id) × (two.view.action ≡ 0) × (two.view.lent ≡ false)
+                × (held two.view.rows ≡ 0) × (1000 ≤ two.view.allowance) }
+            ensures { IfOk result (λ s. (s.board ≡ board.id) × (held s.view.rows ≡ 0)
+                × (stake s.view ≡ stake two.view)) }
         { register_lines(&rt, &board, two, 2) },
     );
     board.join(&mut root, one?);

@@ -1,4 +1,5 @@
-//! The calls of an action, which has row 0 and the kept value, and those that lend the value, by the steps of the table.
+//! The calls of an action, which has row 0 and the kept value, and those that lend the value, by the steps of the
+//! table.
 ghost use Rattle.std.specs.Prelude.{◌≡◌, ℕ, ◌+◌, ◌*◌, ◌<◌, ◌≤◌, ◌++◌, ◌∷◌, true, false, [], length, Some, IfSome, IfNone, List};
 ghost use Rattle.pfs_board.specs.declared.view.Label.{Label};
 ghost use Rattle.pfs_board.specs.Acting.{HasWaited, HasTaken, HasBegun};
@@ -27,9 +28,12 @@ fn tell_label<V: Kept>(top: &Top<V>, seat: &mut Sitting<V>, label: Label)
 // One try to take row 0. It answers how many labels there are.
 fn try_enter<V: Kept>(top: &Top<V>, seat: &mut Sitting<V>) -> Option<u64>
     requires at { IsAt seat.old.table_id top.now.table_id top.now.key.items seat.old.me.0 0 }
-    requires outside { (seat.old.me.0.action ≡ 0) × (seat.old.me.0.lent ≡ false) × (held seat.old.me.0.rows < seat.old.me.0.allowance) }
+    requires outside { (seat.old.me.0.action ≡ 0) × (seat.old.me.0.lent ≡ false)
+        × (held seat.old.me.0.rows < seat.old.me.0.allowance) }
     ensures table { seat.new.table_id ≡ seat.old.table_id }
-    ensures taken { IfSome result (λ k. HasTaken V.stands_for seat.old.me k seat.new.me × (seat.old.me.0.looks + 2 ≤ seat.new.me.0.looks) × ((corner seat.old.me.0 0).seen ≤ k) × (k < all_changes) × (is_holding (corner seat.old.me.0 0).stage ≡ false)) }
+    ensures taken { IfSome result (λ k. HasTaken V.stands_for seat.old.me k seat.new.me
+        × (seat.old.me.0.looks + 2 ≤ seat.new.me.0.looks) × ((corner seat.old.me.0 0).seen ≤ k) × (k < all_changes)
+        × (is_holding (corner seat.old.me.0 0).stage ≡ false)) }
     ensures waited { IfNone result (HasWaited seat.old.me.0 seat.new.me.0 × (seat.new.me.1 ≡ seat.old.me.1)) }
 {
     let word = top.load::<Retry>(seat, 0);
@@ -48,9 +52,12 @@ fn try_enter<V: Kept>(top: &Top<V>, seat: &mut Sitting<V>) -> Option<u64>
 // Tries until row 0 is taken.
 fn take_first<R: Wait, V: Kept>(rt: &R, top: &Top<V>, seat: &mut Sitting<V>) -> u64
     requires at { IsAt seat.old.table_id top.now.table_id top.now.key.items seat.old.me.0 0 }
-    requires outside { (seat.old.me.0.action ≡ 0) × (seat.old.me.0.lent ≡ false) × (held seat.old.me.0.rows < seat.old.me.0.allowance) }
+    requires outside { (seat.old.me.0.action ≡ 0) × (seat.old.me.0.lent ≡ false)
+        × (held seat.old.me.0.rows < seat.old.me.0.allowance) }
     ensures table { seat.new.table_id ≡ seat.old.table_id }
-    ensures taken { HasTaken V.stands_for seat.old.me result seat.new.me × (seat.old.me.0.looks + 2 ≤ seat.new.me.0.looks) × ((corner seat.old.me.0 0).seen ≤ result) × (result < all_changes) × (is_holding (corner seat.old.me.0 0).stage ≡ false) }
+    ensures taken { HasTaken V.stands_for seat.old.me result seat.new.me
+        × (seat.old.me.0.looks + 2 ≤ seat.new.me.0.looks) × ((corner seat.old.me.0 0).seen ≤ result)
+        × (result < all_changes) × (is_holding (corner seat.old.me.0 0).stage ≡ false) }
 {
     for _ in rt.forever() {
         if let Some(labels) = try_enter(top, seat) {
@@ -70,7 +77,8 @@ pub(crate) fn enter_by<R: Wait, V: Kept>(
     requires at { IsAt seat.old.table_id top.now.table_id top.now.key.items seat.old.me.0 0 }
     requires slots { top.now.table_id.slots ≡ 1 }
     requires calm { (seat.old.me.1 ≡ []) × (seat.old.me.0.said ≡ []) × (seat.old.me.0.moving ≡ false) }
-    requires outside { (seat.old.me.0.action ≡ 0) × (seat.old.me.0.lent ≡ false) × (held seat.old.me.0.rows < seat.old.me.0.allowance) }
+    requires outside { (seat.old.me.0.action ≡ 0) × (seat.old.me.0.lent ≡ false)
+        × (held seat.old.me.0.rows < seat.old.me.0.allowance) }
     ensures seat { (seat.new.table_id ≡ seat.old.table_id) × (seat.new.me.1 ≡ []) }
     ensures number { (result.0 ≡ length seat.new.me.0.labels + 1) × (result.0 ≤ all_changes) }
     ensures value { V.stands_for result.1 seat.new.me.0.labels }
@@ -94,6 +102,7 @@ pub(crate) fn leave_by<V: Kept>(top: &Top<V>, seat: &mut Sitting<V>, value: V)
     requires value { V.stands_for value (seat.old.me.0.labels ++ seat.old.me.0.label ∷ []) }
     ensures seat { (seat.new.table_id ≡ seat.old.table_id) × (seat.new.me.1 ≡ []) }
     ensures view { seat.new.me.0 ≡ ended (weighed seat.old.me.0) }
+    ensures later { (corner seat.old.me.0 0).seen < seat.old.me.0.action }
     ensures held { (is_holding (corner seat.old.me.0 0).stage ≡ true) × (0 < seat.old.me.0.allowance) }
 {
     top.load::<Fetch>(seat, 0);
@@ -115,7 +124,8 @@ pub(crate) fn lend_by<V: Kept>(top: &Top<V>, seat: &mut Sitting<V>) -> V
     requires outside { (seat.old.me.0.action ≡ 0) × (seat.old.me.0.lent ≡ false) }
     ensures seat { (seat.new.table_id ≡ seat.old.table_id) × (seat.new.me.1 ≡ []) }
     ensures value { V.stands_for result seat.new.me.0.labels }
-    ensures history { (words : List ℕ) × (h : History seat.old.me.0.start words seat.old.me.0) × (seat.new.me.0.labels ≡ labels_of h.t.log) }
+    ensures history { (words : List ℕ) × (h : History seat.old.me.0.start words seat.old.me.0)
+        × (seat.new.me.0.labels ≡ labels_of h.t.log) }
     ensures view { seat.new.me.0 ≡ lent_with seat.old.me.0 seat.new.me.0.labels }
 {
     top.load::<Lend<V>>(seat, 0);

@@ -26,7 +26,8 @@ pub enum Seen {
     Whole { version: u64, content: Content },
     /// The first load found the row free.
     Free { word: u64 },
-    /// `first` was dirty, and then `second` is the same, or it was allocated and the last load found `second` in its place.
+    /// `first` was dirty, and then `second` is the same, or it was allocated and the last load found `second` in its
+    /// place.
     Busy { first: u64, second: u64 },
 }
 

@@ -30,7 +30,8 @@ fn fresh_rows(alloc: Global) -> Result<Vec<Opening>, NoMemory>
 
 fn fresh(alloc: Global) -> Result<(Board<Tally>, BoardSeat), NoMemory>
     ensures board { IfOk result (λ b. (b.1.board ≡ b.0.id) × HasRow b.0 14241) }
-    ensures root { IfOk result (λ b. IsWhole b.1.view × (b.1.view.number ≡ 0) × (b.1.view.lent ≡ false) × (held b.1.view.rows ≡ 0) × (1000000 < b.1.view.allowance)) }
+    ensures root { IfOk result (λ b. IsWhole b.1.view × (b.1.view.number ≡ 0) × (b.1.view.lent ≡ false)
+        × (held b.1.view.rows ≡ 0) × (1000000 < b.1.view.allowance)) }
 {
     let rows = fresh_rows(alloc)?;
     Board::open(alloc, rows.as_slice(), Tally { count: 0 })
@@ -40,7 +41,9 @@ fn put_alone(board: &Board<Tally>, root: &mut BoardSeat, row: u64, content: &Con
     requires board { (root.old.board ≡ board.now.id) × HasRow board.now row × (0 < row) }
     requires root { IsWhole root.old.view × (held root.old.view.rows ≡ 0) × (0 < root.old.view.allowance) }
     ensures board { root.new.board ≡ root.old.board }
-    ensures root { IsWhole root.new.view × (held root.new.view.rows ≡ 0) × (root.new.view.number ≡ root.old.view.number) × (root.new.view.lent ≡ root.old.view.lent) × (root.old.view.allowance ≤ root.new.view.allowance + 1) }
+    ensures root { IsWhole root.new.view × (held root.new.view.rows ≡ 0)
+        × (root.new.view.number ≡ root.old.view.number) × (root.new.view.lent ≡ root.old.view.lent)
+        × (root.old.view.allowance ≤ root.new.view.allowance + 1) }
 {
     take_alone(board, root, row);
     board.put(root, row, content)

@@ -36,8 +36,10 @@ fn recall<V: Kept>(top: &Top<V>, seat: &mut Sitting<V>, row: usize) -> Content
 // A take from a word that the seat knows to have stood there last.
 pub(crate) fn seize<V: Kept>(top: &Top<V>, seat: &mut Sitting<V>, row: usize, word: u64) -> Taken
     requires at { IsAt seat.old.table_id top.now.table_id top.now.key.items seat.old.me.0 row }
-    requires row { (0 < row) × (is_holding (corner seat.old.me.0 row).stage ≡ false) × (held seat.old.me.0.rows < seat.old.me.0.allowance) }
-    requires word { (word % 4 < 3) × (word % 4 ≢ 1) × ((corner seat.old.me.0 row).fresh ≡ true) × ((corner seat.old.me.0 row).last ≡ Some word) × ((corner seat.old.me.0 row).seen ≤ word / 4) }
+    requires row { (0 < row) × (is_holding (corner seat.old.me.0 row).stage ≡ false)
+        × (held seat.old.me.0.rows < seat.old.me.0.allowance) }
+    requires word { (word % 4 < 3) × (word % 4 ≢ 1) × ((corner seat.old.me.0 row).fresh ≡ true)
+        × ((corner seat.old.me.0 row).last ≡ Some word) × ((corner seat.old.me.0 row).seen ≤ word / 4) }
     ensures seat { (seat.new.table_id ≡ seat.old.table_id) × (seat.new.me.1 ≡ seat.old.me.1) }
     ensures answer { IsTaken seat.old.me.0 row result seat.new.me.0 }
     ensures from { IsFrom result word }
@@ -58,7 +60,8 @@ pub(crate) fn seize<V: Kept>(top: &Top<V>, seat: &mut Sitting<V>, row: usize, wo
 
 pub(crate) fn take_by<V: Kept>(top: &Top<V>, seat: &mut Sitting<V>, row: usize) -> Taken
     requires at { IsAt seat.old.table_id top.now.table_id top.now.key.items seat.old.me.0 row }
-    requires row { (0 < row) × (is_holding (corner seat.old.me.0 row).stage ≡ false) × (held seat.old.me.0.rows < seat.old.me.0.allowance) }
+    requires row { (0 < row) × (is_holding (corner seat.old.me.0 row).stage ≡ false)
+        × (held seat.old.me.0.rows < seat.old.me.0.allowance) }
     ensures seat { (seat.new.table_id ≡ seat.old.table_id) × (seat.new.me.1 ≡ seat.old.me.1) }
     ensures answer { IsTaken seat.old.me.0 row result seat.new.me.0 }
     ensures looks { seat.new.me.0.looks ≡ seat.old.me.0.looks + take_looks result }
@@ -77,7 +80,8 @@ pub(crate) fn take_by<V: Kept>(top: &Top<V>, seat: &mut Sitting<V>, row: usize) 
 // The rest of a read whose first load found the row allocated.
 fn read_rest<V: Kept>(top: &Top<V>, seat: &mut Sitting<V>, row: usize, first: u64) -> Seen
     requires at { IsAt seat.old.table_id top.now.table_id top.now.key.items seat.old.me.0 row }
-    requires word { (first % 4 ≡ 2) × ((corner seat.old.me.0 row).seen ≤ first / 4) × ((corner seat.old.me.0 row).fresh ≡ true) × ((corner seat.old.me.0 row).last ≡ Some first) }
+    requires word { (first % 4 ≡ 2) × ((corner seat.old.me.0 row).seen ≤ first / 4)
+        × ((corner seat.old.me.0 row).fresh ≡ true) × ((corner seat.old.me.0 row).last ≡ Some first) }
     requires begun { (corner seat.old.me.0 row).stage ≡ Reading (first / 4) [] }
     ensures seat { (seat.new.table_id ≡ seat.old.table_id) × (seat.new.me.1 ≡ seat.old.me.1) }
     ensures answer { IsSeenAs seat.old.me.0 row result seat.new.me.0 }
@@ -128,7 +132,9 @@ pub(crate) fn put_by<V: Kept>(
     ensures version { result ≡ version_held (corner seat.old.me.0 row).stage + 1 }
     ensures later { (corner seat.old.me.0 row).seen < result }
     ensures allowance { 0 < seat.old.me.0.allowance }
-    ensures view { seat.new.me.0 ≡ published_at (weighed seat.old.me.0) row (version_held (corner seat.old.me.0 row).stage) (found_in (corner seat.old.me.0 row).stage) content.now }
+    ensures view { seat.new.me.0
+        ≡ published_at (weighed seat.old.me.0) row (version_held (corner seat.old.me.0 row).stage)
+        (found_in (corner seat.old.me.0 row).stage) content.now }
 {
     let word = top.load::<Weigh>(seat, 17 * row);
     for i in 0..16 {
@@ -146,7 +152,9 @@ pub(crate) fn free_by<V: Kept>(top: &Top<V>, seat: &mut Sitting<V>, row: usize)
     requires row { (0 < row) × IsHeld seat.old.me.0 row }
     ensures seat { (seat.new.table_id ≡ seat.old.table_id) × (seat.new.me.1 ≡ seat.old.me.1) }
     ensures later { (corner seat.old.me.0 row).seen ≤ version_held (corner seat.old.me.0 row).stage }
-    ensures view { seat.new.me.0 ≡ freed_at (weighed seat.old.me.0) row (version_held (corner seat.old.me.0 row).stage) (found_in (corner seat.old.me.0 row).stage) }
+    ensures view { seat.new.me.0
+        ≡ freed_at (weighed seat.old.me.0) row (version_held (corner seat.old.me.0 row).stage)
+        (found_in (corner seat.old.me.0 row).stage) }
 {
     let word = top.load::<Weigh>(seat, 17 * row);
     let free = LockWord::new(word).to_free().word();

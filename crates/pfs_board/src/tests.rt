@@ -22,7 +22,8 @@ pub(crate) const FIRST: Content = [7, 0, 0, 0, 0, 0, 0, 0, 0, 0, 0, 0, 0, 0, 0, 
 // A board of two rows with zeros, of which row 1 is allocated or free.
 pub(crate) fn opened(alloc: Global, allocated: bool) -> Result<(Board<Tally>, BoardSeat), NoMemory>
     ensures board { IfOk result (λ b. (b.1.board ≡ b.0.id) × HasRow b.0 1) }
-    ensures root { IfOk result (λ b. IsWhole b.1.view × (b.1.view.number ≡ 0) × (b.1.view.action ≡ 0) × (b.1.view.lent ≡ false) × (held b.1.view.rows ≡ 0) × (1000000 < b.1.view.allowance)) }
+    ensures root { IfOk result (λ b. IsWhole b.1.view × (b.1.view.number ≡ 0) × (b.1.view.action ≡ 0)
+        × (b.1.view.lent ≡ false) × (held b.1.view.rows ≡ 0) × (1000000 < b.1.view.allowance)) }
 {
     let rows = [
         Opening {
@@ -44,7 +45,9 @@ pub(crate) fn take_alone(board: &Board<Tally>, root: &mut BoardSeat, row: u64) -
     requires root { IsWhole root.old.view × (held root.old.view.rows ≡ 0) × (0 < root.old.view.allowance) }
     ensures board { root.new.board ≡ root.old.board }
     ensures row { is_holding (corner root.new.view row).stage ≡ true }
-    ensures root { IsWhole root.new.view × (held root.new.view.rows ≡ 1) × (root.new.view.number ≡ root.old.view.number) × (root.new.view.lent ≡ root.old.view.lent) × (root.new.view.allowance ≡ root.old.view.allowance) }
+    ensures root { IsWhole root.new.view × (held root.new.view.rows ≡ 1)
+        × (root.new.view.number ≡ root.old.view.number) × (root.new.view.lent ≡ root.old.view.lent)
+        × (root.new.view.allowance ≡ root.old.view.allowance) }
 {
     match board.take(root, row) {
         Taken::Mine { word, content } => (word, content),
@@ -61,7 +64,8 @@ fn put_once(board: &Board<Tally>, seat: &mut BoardSeat, content: &Content) -> Op
     requires board { (seat.old.board ≡ board.now.id) × HasRow board.now 1 }
     requires seat { (held seat.old.view.rows ≡ 0) × (0 < seat.old.view.allowance) }
     ensures board { seat.new.board ≡ seat.old.board }
-    ensures seat { (held seat.new.view.rows ≡ 0) × (seat.new.view.number ≡ seat.old.view.number) × (seat.new.view.lent ≡ seat.old.view.lent) × (seat.old.view.allowance ≤ seat.new.view.allowance + 1) }
+    ensures seat { (held seat.new.view.rows ≡ 0) × (seat.new.view.number ≡ seat.old.view.number)
+        × (seat.new.view.lent ≡ seat.old.view.lent) × (seat.old.view.allowance ≤ seat.new.view.allowance + 1) }
     ensures stake { stake seat.new.view ≡ stake seat.old.view }
 {
     match board.take(seat, 1) {
@@ -81,7 +85,8 @@ pub(crate) fn read_once(board: &Board<Tally>, seat: &mut BoardSeat, row: u64) ->
     requires board { (seat.old.board ≡ board.now.id) × HasRow board.now row }
     requires seat { held seat.old.view.rows ≡ 0 }
     ensures board { seat.new.board ≡ seat.old.board }
-    ensures seat { (held seat.new.view.rows ≡ 0) × (seat.new.view.number ≡ seat.old.view.number) × (seat.new.view.lent ≡ seat.old.view.lent) × (seat.new.view.allowance ≡ seat.old.view.allowance) }
+    ensures seat { (held seat.new.view.rows ≡ 0) × (seat.new.view.number ≡ seat.old.view.number)
+        × (seat.new.view.lent ≡ seat.old.view.lent) × (seat.new.view.allowance ≡ seat.old.view.allowance) }
     ensures stake { stake seat.new.view ≡ stake seat.old.view }
 {
     board.read(seat, row)
@@ -213,12 +218,16 @@ fn two_threads_share_a_row(rt: HostRuntime) -> Result<(), NoMemory> {
     let (one, two) = join(
         &rt,
         || -> Work
-            requires { (one.board ≡ board.id) × HasRow board 1 × (held one.view.rows ≡ 0) × (3000 ≤ one.view.allowance) }
-            ensures { (result.seat.board ≡ board.id) × (held result.seat.view.rows ≡ 0) × (stake result.seat.view ≡ stake one.view) × (result.puts ≤ 3000) }
+            requires { (one.board ≡ board.id) × HasRow board 1 × (held one.view.rows ≡ 0)
+                × (3000 ≤ one.view.allowance) }
+            ensures { (result.seat.board ≡ board.id) × (held result.seat.view.rows ≡ 0)
+                × (stake result.seat.view ≡ stake one.view) × (result.puts ≤ 3000) }
         { put_and_read(&board, one, 0) },
         || -> Work
-            requires { (two.board ≡ board.id) × HasRow board 1 × (held two.view.rows ≡ 0) × (3000 ≤ two.view.allowance) }
-            ensures { (result.seat.board ≡ board.id) × (held result.seat.view.rows ≡ 0) × (stake result.seat.view ≡ stake two.view) × (result.puts ≤ 3000) }
+            requires { (two.board ≡ board.id) × HasRow board 1 × (held two.view.rows ≡ 0)
+                × (3000 ≤ two.view.allowance) }
+            ensures { (result.seat.board ≡ board.id) × (held result.seat.view.rows ≡ 0)
+                × (stake result.seat.view ≡ stake two.view) × (result.puts ≤ 3000) }
         { put_and_read(&board, two, ROUNDS) },
     );
     assert!(rt; !one.torn && !two.torn);

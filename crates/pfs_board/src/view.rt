@@ -2,7 +2,8 @@
 //! A clause reads `[u64; 0]` as a list of any length, and a `LinkedList` as a list.
 use std::collections::LinkedList;
 
-/// Which administration line an action is: the session, and the number of the line among the session's administration lines, from 1.
+/// Which administration line an action is: the session, and the number of the line among the session's administration
+/// lines, from 1.
 #[derive(Clone, Copy, Debug, PartialEq, Eq)]
 pub struct Label {
     pub session: u64,
@@ -20,7 +21,8 @@ pub struct Change {
     pub puts: bool,
     /// The number of the action that it was made in, or 0.
     pub action: u64,
-    /// Each action up to this had ended: outside an action the newest under this number, or 0, and inside one the number before it.
+    /// Each action up to this had ended: outside an action the newest under this number, or 0, and inside one the
+    /// number before it.
     pub after: u64,
     /// How many changes the root had when the seat was split from it.
     pub base: u64,
@@ -106,8 +108,8 @@ pub struct View {
     pub label: Label,
     /// The labels that the value stood for as it went out.
     pub labels: LinkedList<Label>,
-    /// How often it, and the seats that it took in, looked at a lock word: by a load or an exchange that told it what stood there.
-    /// A load that tells nothing, as the one inside a split or a join, is no look.
+    /// How often it, and the seats that it took in, looked at a lock word: by a load or an exchange that told it what
+    /// stood there. A load that tells nothing, as the one inside a split or a join, is no look.
     pub looks: u64,
     /// The lock word that its last take of a row but row 0 replaced.
     pub replaced: u64,

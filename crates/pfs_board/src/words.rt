@@ -34,7 +34,8 @@ pub(crate) fn open_words(alloc: Global, rows: &[Opening]) -> Result<Vec<u64>, Al
 
 // The row at a place of the closed table.
 fn final_row<S>(closed: &Closed<S, Global>, row: usize) -> FinalRow
-    requires { (17 * row + 17 ≤ slots_len closed.now.words) × IsFull closed.now.words × (slots_len closed.now.words ≡ length (slots_items closed.now.words)) }
+    requires { (17 * row + 17 ≤ slots_len closed.now.words) × IsFull closed.now.words
+        × (slots_len closed.now.words ≡ length (slots_items closed.now.words)) }
     ensures { slice_range (slots_items closed.now.words) (17 * row) (17 * row + 17) ≡ result.word ∷ result.content }
 {
     let mut content = [0u64; 16];
@@ -49,7 +50,8 @@ fn final_row<S>(closed: &Closed<S, Global>, row: usize) -> FinalRow
 
 /// The rows of the closed table.
 pub(crate) fn hand_back<S>(closed: &Closed<S, Global>, rows: &mut Vec<FinalRow>, count: usize)
-    requires words { (17 * count ≡ slots_len closed.now.words) × IsFull closed.now.words × (slots_len closed.now.words ≡ length (slots_items closed.now.words)) }
+    requires words { (17 * count ≡ slots_len closed.now.words) × IsFull closed.now.words
+        × (slots_len closed.now.words ≡ length (slots_items closed.now.words)) }
     requires room { (rows.old.items ≡ []) × (count ≤ vec_capacity rows.old) }
     ensures words { final_words rows.new.items ≡ slots_items closed.now.words }
     ensures count { length rows.new.items ≡ count }
