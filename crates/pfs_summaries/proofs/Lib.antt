@@ -1,0 +1,5 @@
+pub mod ContentSteps
+pub mod DigestRows
+pub mod Ranges
+pub mod Sames
+pub mod TallySteps

@@ -1,0 +1,6 @@
+use Rattle.std.proofs.Common.{◌≡◌, take}
+use Rattle.pfs_summaries.specs.Contents.{contents_of}
+use Rattle.pfs_summaries.proofs.contents.contents_of.Given as goal
+
+abbrev pub invariant-loop-reading : goal.invariant-loop-reading
+invariant-loop-reading l = l.contents.items ≡ contents_of l.first l.count (take l.reading-index l.readings)

@@ -1,0 +1,6 @@
+use Rattle.std.proofs.Common.{◌≡◌, replicate}
+use Rattle.pfs_summaries.specs.Steps.{none_of}
+use Rattle.pfs_summaries.proofs.tallies.no_tallies.Given as goal
+
+abbrev pub invariant-loop-number : goal.invariant-loop-number
+invariant-loop-number l = l.tallies.items ≡ replicate l._number none_of
