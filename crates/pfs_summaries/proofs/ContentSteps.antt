@@ -24,13 +24,13 @@ content_push readings reading row =
 written : (row first i : ℕ) (v : Option (List ℕ)) (old : List (Option (List ℕ))) → first ≤ row → i < length old → get_or (set old (row - first) v) i None ≡ cond (eqb row (first + i)) v (get_or old i None)
 written row first i v old low h =
     elim (cases_eq row (first + i)) [
-        inl e ↦
-            (let at : row - first ≡ i = omega arith in
-            let same : get_or (set old i v) i None ≡ v = get_or-set_same old i v None h in
-            ap (λ k. get_or (set old k v) i None) at ∙ (same ∙ sym (cond-true (eqb row (first + i)) v (get_or old i None) (eq-eqb row (first + i) e))))
-        | inr n ↦
-            (let other : i ≡ row - first → ⊥ = λ e. n (omega arith) in
-            get_or-set_other old (row - first) i v None other ∙ sym (cond-false (eqb row (first + i)) v (get_or old i None) (ne_eqb row (first + i) n)))
+      | inl e ↦
+          (let at : row - first ≡ i = omega arith in
+          let same : get_or (set old i v) i None ≡ v = get_or-set_same old i v None h in
+          ap (λ k. get_or (set old k v) i None) at ∙ (same ∙ sym (cond-true (eqb row (first + i)) v (get_or old i None) (eq-eqb row (first + i) e))))
+      | inr n ↦
+          (let other : i ≡ row - first → ⊥ = λ e. n (omega arith) in
+          get_or-set_other old (row - first) i v None other ∙ sym (cond-false (eqb row (first + i)) v (get_or old i None) (ne_eqb row (first + i) n)))
     ]
 
 -- a list that has a row's content at each place
@@ -51,23 +51,23 @@ contents_push first count readings (Slot row seen) =
     let old = contents_of first count readings in
     let long : length old ≡ count = length-map-range_with_len (content_at readings) first count in
     elim (cases_lt row first) [
-        inl low ↦
-            (let off : leb first row ≡ false = lt-leb first row low in
-            cond-false (leb first row) (set old (row - first) (whole_of seen)) old off
-            ∙ made (content_at (readings ++ Slot row seen ∷ [])) first count old long
-                (λ i h.
-                    let n : row ≡ first + i → ⊥ = λ e. omega arith in
-                    at_row readings first count i h
-                    ∙ sym (content_push readings (Slot row seen) (first + i) ∙ cond-false (eqb row (first + i)) (whole_of seen) (content_at readings (first + i)) (ne_eqb row (first + i) n))))
-        | inr low ↦
-            (let on : leb first row ≡ true = le-leb first row low in
-            cond-true (leb first row) (set old (row - first) (whole_of seen)) old on
-            ∙ made (content_at (readings ++ Slot row seen ∷ [])) first count (set old (row - first) (whole_of seen)) (length-set old (row - first) (whole_of seen) ∙ long)
-                (λ i h.
-                    let below : i < length old = omega arith in
-                    written row first i (whole_of seen) old low below
-                    ∙ (ap (λ (o : Option (List ℕ)). cond (eqb row (first + i)) (whole_of seen) o) (at_row readings first count i h)
-                    ∙ sym (content_push readings (Slot row seen) (first + i)))))
+      | inl low ↦
+          (let off : leb first row ≡ false = lt-leb first row low in
+          cond-false (leb first row) (set old (row - first) (whole_of seen)) old off
+          ∙ made (content_at (readings ++ Slot row seen ∷ [])) first count old long
+          (λ i h.
+          let n : row ≡ first + i → ⊥ = λ e. omega arith in
+          at_row readings first count i h
+          ∙ sym (content_push readings (Slot row seen) (first + i) ∙ cond-false (eqb row (first + i)) (whole_of seen) (content_at readings (first + i)) (ne_eqb row (first + i) n))))
+      | inr low ↦
+          (let on : leb first row ≡ true = le-leb first row low in
+          cond-true (leb first row) (set old (row - first) (whole_of seen)) old on
+          ∙ made (content_at (readings ++ Slot row seen ∷ [])) first count (set old (row - first) (whole_of seen)) (length-set old (row - first) (whole_of seen) ∙ long)
+          (λ i h.
+          let below : i < length old = omega arith in
+          written row first i (whole_of seen) old low below
+          ∙ (ap (λ (o : Option (List ℕ)). cond (eqb row (first + i)) (whole_of seen) o) (at_row readings first count i h)
+          ∙ sym (content_push readings (Slot row seen) (first + i)))))
     ]
 
 -- a slice that was written is all that the list has

@@ -1,5 +1,6 @@
 pub mod ContentSteps
 pub mod DigestRows
+pub mod Examples
 pub mod Ranges
 pub mod Sames
 pub mod TallySteps

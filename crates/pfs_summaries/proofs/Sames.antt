@@ -47,8 +47,8 @@ unfolding class_rows row_values
 class_same setting kind which place a b head id h same =
     let text : List ℕ = class_text setting.names (class_at setting.classes id) in
     let rows : Numbers → Bool → List (RowKey × List RowValue) = λ (n : Numbers) (s : Bool).
-        if is_of kind (class_at setting.classes id) && not s && (head.stands || not (count_of n == 0))
-        then (key_at head place id, heading_of which head ++ value.Text text ∷ [] ++ values_of n) ∷ [] else [] in
+    if is_of kind (class_at setting.classes id) && not s && (head.stands || not (count_of n == 0))
+    then (key_at head place id, heading_of which head ++ value.Text text ∷ [] ++ values_of n) ∷ [] else [] in
     ap (λ (n : Numbers). rows n (is_skipped kind a id)) (numbers_same kind a b id h same)
     ∙ ap (λ (s : Bool). rows (numbers_of kind b id) s) (skipped_same kind a b id h same)
 
@@ -72,7 +72,7 @@ listed_same setting kind which infos a b same =
     let few : places_of which ≤ 32 = few_places which in
     ap (λ (rows : List (RowKey × List RowValue)). fold put_row [] rows)
     (made_same (place_rows setting kind which infos a) (place_rows setting kind which infos b) 0 (places_of which)
-        (λ place low high. head_same setting kind which place (a place) (b place) (head_of which setting.names infos place) (λ cell lc. same place cell (omega arith) lc)))
+    (λ place low high. head_same setting kind which place (a place) (b place) (head_of which setting.names infos place) (λ cell lc. same place cell (omega arith) lc)))
 
 abbrev values_in : List (RowKey × List RowValue) → List (List RowValue)
 values_in rows = map (λ (row : RowKey × List RowValue). row.1) rows

@@ -96,21 +96,21 @@ placed : ((p : Place) → IsPlace p → place_at (row_number p) ≡ Some p) → 
     → (row : ℕ) (place : Place) → place_at row ≡ Some place → cell_of place < 64
 placed back found none row place e =
     elim (cases_lt row 14242) [
-        inl h ↦
-            (let it = found row h in
-            let there : place_at row ≡ Some it.0 = ap place_at (sym it.2) ∙ back it.0 it.1 in
-            let same : it.0 ≡ place = cc (there, e) in
-            let bound : cell_of it.0 < 64 = below_cells it.0 it.1 in
-            let P : Place → Type 0 = λ (p : Place). cell_of p < 64 in subst P same bound)
-        | inr h ↦ absurd (cc (none row h, e))
+      | inl h ↦
+          (let it = found row h in
+          let there : place_at row ≡ Some it.0 = ap place_at (sym it.2) ∙ back it.0 it.1 in
+          let same : it.0 ≡ place = cc (there, e) in
+          let bound : cell_of it.0 < 64 = below_cells it.0 it.1 in
+          let P : Place → Type 0 = λ (p : Place). cell_of p < 64 in subst P same bound)
+      | inr h ↦ absurd (cc (none row h, e))
     ]
 
 -- two cells with different numbers differ
 apart : (j c key cell : ℕ) → (64 * j + c ≡ 64 * key + cell → ⊥) → (eqb j key && eqb c cell) ≡ false
 apart j c key cell n =
     elim (cases_eq j key) [
-        inl same ↦ and_right (eqb j key) (eqb c cell) (ne_eqb c cell (λ e. n (omega arith)))
-        | inr other ↦ and_left (eqb j key) (eqb c cell) (ne_eqb j key other)
+      | inl same ↦ and_right (eqb j key) (eqb c cell) (ne_eqb c cell (λ e. n (omega arith)))
+      | inr other ↦ and_left (eqb j key) (eqb c cell) (ne_eqb j key other)
     ]
 
 -- a cell written, at another cell or at itself
@@ -121,17 +121,17 @@ written_at seen tallies j c key cell long low lj lk lc =
     let yes = added seen (tally_in tallies key cell) in
     let no = tally_in tallies key cell in
     elim (cases_eq (64 * j + c) (64 * key + cell)) [
-        inl e ↦
-            (let same_key : j ≡ key = omega arith in
-            let same_cell : c ≡ cell = omega arith in
-            let within : 64 * key + cell < length tallies = omega arith in
-            ap (λ n. get_or (set tallies n (added seen (get_or tallies n none_of))) (64 * key + cell) none_of) e
-            ∙ (get_or-set_same tallies (64 * key + cell) yes none_of within
-            ∙ sym (cond-true (eqb j key && eqb c cell) yes no (and_from (eqb j key) (eqb c cell) (eq-eqb j key same_key) (eq-eqb c cell same_cell)))))
-        | inr n ↦
-            (let other : 64 * key + cell ≡ 64 * j + c → ⊥ = λ e. n (sym e) in
-            get_or-set_other tallies (64 * j + c) (64 * key + cell) v none_of other
-            ∙ sym (cond-false (eqb j key && eqb c cell) yes no (apart j c key cell n)))
+      | inl e ↦
+          (let same_key : j ≡ key = omega arith in
+          let same_cell : c ≡ cell = omega arith in
+          let within : 64 * key + cell < length tallies = omega arith in
+          ap (λ n. get_or (set tallies n (added seen (get_or tallies n none_of))) (64 * key + cell) none_of) e
+          ∙ (get_or-set_same tallies (64 * key + cell) yes none_of within
+          ∙ sym (cond-true (eqb j key && eqb c cell) yes no (and_from (eqb j key) (eqb c cell) (eq-eqb j key same_key) (eq-eqb c cell same_cell)))))
+      | inr n ↦
+          (let other : 64 * key + cell ≡ 64 * j + c → ⊥ = λ e. n (sym e) in
+          get_or-set_other tallies (64 * j + c) (64 * key + cell) v none_of other
+          ∙ sym (cond-false (eqb j key && eqb c cell) yes no (apart j c key cell n)))
     ]
 
 -- the tallies after one more cell, number by number
@@ -141,15 +141,15 @@ keyed seen tallies None c key cell long low lk lc = refl
 keyed seen tallies (Some j) c key cell long low lk lc =
     let v = added seen (get_or tallies (64 * j + c) none_of) in
     elim (cases_lt j 32) [
-        inl h ↦
-            (let on : ltb j 32 ≡ true = lt-ltb j 32 h in
-            ap (λ (ts : List Tally). tally_in ts key cell) (cond-true (ltb j 32) (set tallies (64 * j + c) v) tallies on)
-            ∙ written_at seen tallies j c key cell long low h lk lc)
-        | inr h ↦
-            (let off : ltb j 32 ≡ false = le-ltb j 32 h in
-            let n : j ≡ key → ⊥ = λ e. omega arith in
-            ap (λ (ts : List Tally). tally_in ts key cell) (cond-false (ltb j 32) (set tallies (64 * j + c) v) tallies off)
-            ∙ sym (cond-false (eqb j key && eqb c cell) (added seen (tally_in tallies key cell)) (tally_in tallies key cell) (and_left (eqb j key) (eqb c cell) (ne_eqb j key n))))
+      | inl h ↦
+          (let on : ltb j 32 ≡ true = lt-ltb j 32 h in
+          ap (λ (ts : List Tally). tally_in ts key cell) (cond-true (ltb j 32) (set tallies (64 * j + c) v) tallies on)
+          ∙ written_at seen tallies j c key cell long low h lk lc)
+      | inr h ↦
+          (let off : ltb j 32 ≡ false = le-ltb j 32 h in
+          let n : j ≡ key → ⊥ = λ e. omega arith in
+          ap (λ (ts : List Tally). tally_in ts key cell) (cond-false (ltb j 32) (set tallies (64 * j + c) v) tallies off)
+          ∙ sym (cond-false (eqb j key && eqb c cell) (added seen (tally_in tallies key cell)) (tally_in tallies key cell) (and_left (eqb j key) (eqb c cell) (ne_eqb j key n))))
     ]
 
 at_the : (which : SummaryTable) (infos : List (Option (List ℕ))) (seen : Seen) (tallies : List Tally) (o : Option Place) (key cell : ℕ) → length tallies ≡ 2048 → ((place : Place) → o ≡ Some place → cell_of place < 64)
@@ -168,8 +168,8 @@ keyed_count seen tallies None c = refl
 keyed_count seen tallies (Some j) c =
     let v = added seen (get_or tallies (64 * j + c) none_of) in
     elim (cases_lt j 32) [
-        inl h ↦ ap length (cond-true (ltb j 32) (set tallies (64 * j + c) v) tallies (lt-ltb j 32 h)) ∙ length-set tallies (64 * j + c) v
-        | inr h ↦ ap length (cond-false (ltb j 32) (set tallies (64 * j + c) v) tallies (le-ltb j 32 h))
+      | inl h ↦ ap length (cond-true (ltb j 32) (set tallies (64 * j + c) v) tallies (lt-ltb j 32 h)) ∙ length-set tallies (64 * j + c) v
+      | inr h ↦ ap length (cond-false (ltb j 32) (set tallies (64 * j + c) v) tallies (le-ltb j 32 h))
     ]
 
 placed_count : (which : SummaryTable) (infos : List (Option (List ℕ))) (seen : Seen) (tallies : List Tally) (o : Option Place) → length (at_place which infos seen tallies o) ≡ length tallies
@@ -189,13 +189,13 @@ tallies_more which infos readings i d before slice written n back found none h a
     let reading = get_or readings i d in
     let now : take n (written ++ drop (length written) before) ≡ with_cell which infos reading before = written_back written before n e (l ∙ ap length s) ∙ (w ∙ ap (with_cell which infos reading) s) in
     record {
-        count = ap length now ∙ (cell_count which infos reading before ∙ are.count);
-        each = λ key cell lk lc.
-            ap (λ (ts : List Tally). tally_in ts key cell) now
-            ∙ (cell_more which infos reading before key cell are.count (placed back found none) lk lc
-            ∙ (ap (λ (t : Tally). cond (reads_cell which infos key cell reading) (added_by reading t) t) (are.each key cell lk lc)
-            ∙ (sym (tally_push which infos (take i readings) reading key cell)
-            ∙ ap (λ (rs : List Reading). tally_of which infos rs key cell) (sym (take_more readings i d h)))));
+      count = ap length now ∙ (cell_count which infos reading before ∙ are.count);
+      each = λ key cell lk lc.
+          ap (λ (ts : List Tally). tally_in ts key cell) now
+          ∙ (cell_more which infos reading before key cell are.count (placed back found none) lk lc
+          ∙ (ap (λ (t : Tally). cond (reads_cell which infos key cell reading) (added_by reading t) t) (are.each key cell lk lc)
+          ∙ (sym (tally_push which infos (take i readings) reading key cell)
+          ∙ ap (λ (rs : List Reading). tally_of which infos rs key cell) (sym (take_more readings i d h)))));
     }
 
 -- before the first reading

@@ -23,6 +23,7 @@ use std::alloc::Global;
 
 // The row of the texts without a place, and how many rows there are with those of the places.
 const FIRST_ROW: u64 = 8_385;
+
 const ROWS: usize = 65;
 
 // No digest and no text.
@@ -58,11 +59,7 @@ fn digest_heading(alloc: Global, digest: &DigestText) -> Result<Vec<RowValue>, N
 }
 
 // Puts a row, where something was counted.
-fn put_counted(
-    heading: Vec<RowValue>,
-    words: &Content,
-    rows: &mut Vec<Row>,
-) -> Result<(), NoMemory>
+fn put_counted(heading: Vec<RowValue>, words: &Content, rows: &mut Vec<Row>) -> Result<(), NoMemory>
     ensures { OnOk result (rows.new.items ≡ rows.old.items ++ counted_row heading.items (Some words.now)) }
 {
     let stat = Stat::of_words(words);

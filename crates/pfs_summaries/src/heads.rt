@@ -88,11 +88,7 @@ fn account_head(
     }))
 }
 
-fn user_head(
-    alloc: Global,
-    names: &Names,
-    info: Option<NameInfo>,
-) -> Result<Option<Head>, NoMemory>
+fn user_head(alloc: Global, names: &Names, info: Option<NameInfo>) -> Result<Option<Head>, NoMemory>
     ensures { IfOk result (λ head. head ≡ user_head names.now info) }
 {
     let Some(info) = info else {
@@ -110,11 +106,7 @@ fn user_head(
     }))
 }
 
-fn host_head(
-    alloc: Global,
-    names: &Names,
-    info: Option<NameInfo>,
-) -> Result<Option<Head>, NoMemory>
+fn host_head(alloc: Global, names: &Names, info: Option<NameInfo>) -> Result<Option<Head>, NoMemory>
     ensures { IfOk result (λ head. head ≡ host_head names.now info) }
 {
     let Some(info) = info else {

@@ -25,7 +25,9 @@ use std::collections::BTreeMap;
 
 // Class ids are below this one.
 const IDS: u64 = 63;
+
 const READ_WRITE: u64 = 62;
+
 const READ_ONLY: u64 = 63;
 
 // The kind of the tables that have the rows of a class of this kind.
@@ -166,11 +168,7 @@ fn row_values(
 }
 
 // Puts one row to its place.
-fn insert_row(
-    rows: &mut BTreeMap<RowKey, Row>,
-    key: RowKey,
-    row: Row,
-) -> Result<(), NoMemory>
+fn insert_row(rows: &mut BTreeMap<RowKey, Row>, key: RowKey, row: Row) -> Result<(), NoMemory>
     ensures { OnOk result (rows.new.entries ≡ insert_entry row_cmp rows.old.entries key row) }
 {
     rows.insert(key, row)?;
@@ -263,7 +261,9 @@ fn put_places(
 {
     let mut rows = BTreeMap::new(alloc);
     for place in 0..places_of(which) {
-        match put_place(alloc, setting, kind, which, infos, tallies, place, &mut rows) {
+        match put_place(
+            alloc, setting, kind, which, infos, tallies, place, &mut rows,
+        ) {
             Ok(()) => {}
             Err(fault) => return Err(fault),
         }

@@ -16,7 +16,9 @@ use std::alloc::Global;
 
 /// How many places a level has, and how many cells a place.
 pub const PLACES: u64 = 32;
+
 const CELLS: u64 = 64;
+
 const TALLIES: usize = 2_048;
 
 /// Of the cells with one number that belong to a key: the merge of those that were found whole, and
@@ -282,7 +284,5 @@ fn is_hidden_by(which: SummaryTable, reading: &Reading) -> bool
 pub fn is_hidden(which: SummaryTable, readings: &[Reading]) -> bool
     ensures { result ≡ list_any (is_hidden_by which) readings.now }
 {
-    readings
-        .iter()
-        .any(|reading| is_hidden_by(which, reading))
+    readings.iter().any(|reading| is_hidden_by(which, reading))
 }
