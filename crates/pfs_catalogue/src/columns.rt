@@ -1,6 +1,6 @@
 //! The columns of each table.
-ghost use Rattle.std.specs.Prelude.{◌≡◌, ◌+◌, ◌<◌, ◌++◌, ℕ, List, MatchOption, length, map, position, slice_get};
-ghost use Rattle.std.specs.Option.{option_map};
+ghost use Rattle.std.specs.Prelude.{◌≡◌, ◌+◌, ◌<◌, ◌++◌, ℕ, List, MatchOption, false, length, map, position, slice_get};
+ghost use Rattle.std.specs.Option.{option_map, option_map_or};
 ghost use Rattle.pfs_catalogue.specs.Columns.{IsColumn, column_place, columns_of, event_columns_of, has_name, kind_at, shown, summary_columns as spec_summary_columns, summary_numbers as spec_summary_numbers};
 
 use crate::tables::is_named;
@@ -244,15 +244,20 @@ pub fn find_column(table: Table, name: &[u8]) -> Option<u64>
     ensures value { result ≡ column_place table name.now }
     ensures named { MatchOption result ((place : ℕ) → ¬ IsColumn table name.now place) (IsColumn table name.now) }
 {
-    place_in(parts_of(table), name).map(|place| place as u64)
+    for place in 0..column_count(table) {
+        if is_at(table, place, name) {
+            return Some(place);
+        }
+    }
+    None
 }
 
-fn place_in(parts: Parts, name: &[u8]) -> Option<usize>
-    ensures { result ≡ position (λ column. has_name name.now (shown column)) (parts.front.now ++ parts.back.now) }
+// Whether a column stands at the place and has this name.
+fn is_at(table: Table, place: u64, name: &[u8]) -> bool
+    ensures { result ≡ option_map_or (has_name name.now) (slice_get (columns_of table) place) false }
 {
-    parts
-        .front
-        .iter()
-        .chain(parts.back)
-        .position(|column| is_named(column.name, name))
+    match column_at(table, place) {
+        Some(column) => is_named(column.name, name),
+        None => false,
+    }
 }

@@ -66,7 +66,12 @@ pub fn find_table(name: &[u8]) -> Option<Table>
 fn named(tables: &[Table], bare: &[u8]) -> Option<Table>
     ensures { result ≡ find (λ table. is_same_name (table_name table) bare.now) tables.now }
 {
-    tables.iter().find(|table| has_name(**table, bare)).copied()
+    for table in tables {
+        if has_name(*table, bare) {
+            return Some(*table);
+        }
+    }
+    None
 }
 
 fn has_name(table: Table, bare: &[u8]) -> bool
