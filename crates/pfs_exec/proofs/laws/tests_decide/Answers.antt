@@ -1,0 +1,5 @@
+use Rattle.pfs_exec.proofs.Deciding.{decides}
+use Rattle.pfs_exec.proofs.laws.tests_decide.Goals as goal
+
+pub returns : goal.returns
+returns c = decides c.patterns.ensures
