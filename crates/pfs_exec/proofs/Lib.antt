@@ -1,3 +1,4 @@
 pub mod Deciding
 pub mod Examples
+pub mod OneOrder
 pub mod Orders

@@ -1,9 +1,11 @@
 //! What follows from the definitions for all values.
-ghost use Rattle.std.specs.Prelude.{◌↔◌, IsTrue};
+ghost use Rattle.std.specs.Prelude.{◌≡◌, ◌↔◌, List, IsTrue};
 ghost use Rattle.pfs_text.specs.Meeting.{Meets};
 ghost use Rattle.pfs_text.specs.declared.conditions.Shown.{Shown};
 ghost use Rattle.pfs_text.specs.declared.conditions.TestKind.{TestKind};
-ghost use Rattle.pfs_exec.specs.Selecting.{meets_value, value_of};
+ghost use Rattle.pfs_values.specs.declared.RowValue.{RowValue};
+ghost use Rattle.pfs_exec.specs.declared.query.Select.{Select};
+ghost use Rattle.pfs_exec.specs.Selecting.{IsAnswer, meets_value, value_of};
 
 /// The test of a value is true exactly where the value meets the condition.
 pub fn tests_decide()
@@ -11,3 +13,8 @@ pub fn tests_decide()
 {
     pfs_text::laws::patterns();
 }
+
+/// A query has one answer over the same rows.
+pub fn one_answer()
+    ensures { (query : Select) (rows a b : List (List RowValue)) → IsAnswer query rows a → IsAnswer query rows b → a ≡ b }
+{}

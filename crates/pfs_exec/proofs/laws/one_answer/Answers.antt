@@ -1,0 +1,5 @@
+use Rattle.pfs_exec.proofs.OneOrder.{one_answer}
+use Rattle.pfs_exec.proofs.laws.one_answer.Goals as goal
+
+pub returns : goal.returns
+returns c = one_answer
