@@ -1,0 +1,5 @@
+pub mod Errors
+pub mod Tokens
+pub mod Words
+pub mod Grammar
+pub mod Readings
