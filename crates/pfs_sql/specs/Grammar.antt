@@ -7,6 +7,9 @@ use Rattle.pfs_text.specs.declared.conditions.Comparison.TheVariants.{Equal}
 use Rattle.pfs_text.specs.declared.conditions.Literal.{Literal}
 use Rattle.pfs_text.specs.declared.conditions.TestKind.{TestKind}
 use Rattle.pfs_text.specs.declared.conditions.TestKind.TheVariants as kinds
+use Rattle.pfs_sql.specs.declared.faults.SqlError.TheVariants.{Parse}
+use Rattle.pfs_sql.specs.declared.faults.SqlFault.{SqlFault}
+use Rattle.pfs_sql.specs.declared.faults.SqlFault.TheVariants as faults
 use Rattle.pfs_sql.specs.declared.token.Token.{Token}
 use Rattle.pfs_sql.specs.declared.command.Command.{Command}
 use Rattle.pfs_sql.specs.declared.command.Command.TheVariants.{Select, Update, Insert, Delete, Truncate}
@@ -172,6 +175,11 @@ is_proper (Update u) = are_apart (map (λ a. a.column) u.sets)
 is_proper (Insert i) = are_columns i.columns && counts_agree i.columns i.values
 is_proper (Delete d) = true
 is_proper (Truncate t) = true
+
+-- a refusal says that the text is no command, which is then so; memory may run out at any time
+abbrev pub Refuses : SqlFault → Type 0 → Type 0
+Refuses faults.NoMemory none = Unit {0}
+Refuses (faults.Error error) none = (error ≡ Parse) × none
 
 -- the tokens are a spelling of the command
 abbrev pub Spells : List Token → Command → Type 0

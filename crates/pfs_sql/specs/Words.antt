@@ -1,6 +1,6 @@
 -- What one token says where a keyword, a name, a number or a text is due.
-use Rattle.std.specs.Prelude.{ℕ, ◌<◌, ◌^◌, ◌||◌, ◌&&◌, Bool, true, false, nat_lt, List, [], ◌∷◌, length, take, drop, codes, Option, None, Some, if◌then◌else◌}
-use Rattle.std.specs.Char.{is_ascii_digit}
+use Rattle.std.specs.Prelude.{ℕ, ◌<◌, ◌^◌, ◌||◌, ◌&&◌, Bool, true, false, nat_lt, nat_le, List, [], ◌∷◌, length, take, drop, codes, Option, None, Some, if◌then◌else◌}
+use Rattle.std.specs.Char.{is_digit}
 use Rattle.std.specs.List.{list_all}
 use Rattle.std.specs.Option.{option_map}
 use Rattle.std.specs.Str.{str_eq_ignore_ascii_case}
@@ -47,7 +47,7 @@ name_of word = if is_name word then Some word else None
 
 -- the schema's name and the dot behind it, in any case
 abbrev pub has_schema : List ℕ → Bool
-has_schema word = str_eq_ignore_ascii_case (take 19 word) (codes "performance_schema.")
+has_schema word = nat_le 19 (length word) && str_eq_ignore_ascii_case (take 19 word) (codes "performance_schema.")
 
 -- the table that a word names: the word itself, or what stands behind the schema
 abbrev pub table_of : List ℕ → Option (List ℕ)
@@ -56,7 +56,7 @@ table_of word = if has_schema word then name_of (drop 19 word) else name_of word
 -- the number that a word writes: decimal digits, up to 2^64 - 1, leading zeros allowed
 abbrev pub number_of : List ℕ → Option ℕ
 number_of word =
-    if (nat_lt 0 (length word) && list_all is_ascii_digit word) && nat_lt (digits_value 10 word) (2 ^ 64)
+    if (nat_lt 0 (length word) && list_all (λ c. is_digit c 10) word) && nat_lt (digits_value 10 word) (2 ^ 64)
     then Some (digits_value 10 word) else None
 
 abbrev pub name_in : Token → Option (List ℕ)

@@ -1,10 +1,17 @@
 //! The commands of SQL that the tables take, read from their text.
 #![tactic(auto)]
 
+mod clauses;
 mod command;
+mod commands;
 mod faults;
+mod kinds;
+pub mod laws;
+mod lexer;
 mod lists;
+mod names;
 mod token;
+mod words;
 
 pub use command::{
     Assignment, Command, DeleteCommand, InsertCommand, NamedOrder, NamedTest, SelectCommand,

@@ -1,0 +1,11 @@
+use Rattle.std.proofs.Common.{length}
+use Rattle.pfs_sql.specs.Words.{is_comma}
+use Rattle.pfs_sql.specs.Readings.{order_item_at, many}
+use Rattle.pfs_sql.proofs.Items.{Reads}
+use Rattle.pfs_sql.proofs.clauses.order_items_at.Given as goal
+
+abbrev pub invariant-items : goal.invariant-items
+invariant-items l = Reads is_comma order_item_at (many is_comma order_item_at (length l.tokens) l.tokens) l.items.items l.rest
+
+abbrev pub decreases-items : goal.decreases-items
+decreases-items l = length l.rest

@@ -1,0 +1,22 @@
+use Rattle.std.proofs.Common.{length, sym, ◌∙◌, ap}
+use Rattle.std.proofs.lemmas.Result.{err_from_is_err_and}
+use Rattle.std.specs.Prelude.{codes}
+use Rattle.pfs_sql.specs.Words.{is_key}
+use Rattle.pfs_sql.specs.Readings.{test_at, many}
+use Rattle.pfs_sql.proofs.Items.{reads_more, reads_fail, reads_all}
+use Rattle.pfs_sql.proofs.kinds.tests_at.Goals as goal
+
+pub returns-in_err-test : goal.returns-in_err-test
+returns-in_err-test c =
+    let p = err_from_is_err_and c.from_residual.result c.from_residual.ensures.1 in
+    rw (p.1, p.2) (reads_fail (is_key (codes "and")) test_at c.in_err-test.field-0.0 (many (is_key (codes "and")) test_at (length c.args.tokens.now) c.args.tokens.now) c.items.tests.items c.items.rest.now c.items.invariant c.in_err-test.ensures.read)
+
+pub items-preserved : goal.items-preserved
+items-preserved c =
+    rw c.in_ok-push.ensures.items (reads_more (is_key (codes "and")) test_at (many (is_key (codes "and")) test_at (length c.args.tokens.now) c.args.tokens.now) c.items.tests.items c.items.rest.now c.in_ok-test.test c.in_ok-test.behind.now c.in-Some.more.now
+        c.items.invariant c.in_ok-test.ensures.read c.in_ok-test.ensures.shorter (sym c.in-Some.ensures.read))
+
+pub returns-in-None : goal.returns-in-None
+returns-in-None c =
+    rw (c.new.ensures, c.in_ok-push.ensures.items) (reads_all (is_key (codes "and")) test_at (many (is_key (codes "and")) test_at (length c.args.tokens.now) c.args.tokens.now) c.items.tests.items c.items.rest.now c.in_ok-test.test c.in_ok-test.behind.now
+        c.items.invariant c.in_ok-test.ensures.read c.in_ok-test.ensures.shorter (sym c.in-None.ensures.read))
