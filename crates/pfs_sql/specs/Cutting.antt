@@ -33,6 +33,11 @@ inside_of (b ∷ c ∷ bytes) =
 abbrev pub quoted_of : List ℕ → Option (Token × List ℕ)
 quoted_of bytes = inside_of bytes >>= λ x. Some (Quoted x.0, x.1)
 
+-- the text, where its closing `'` stands at the front
+abbrev pub closed_of : List ℕ → List ℕ → Option (Token × List ℕ)
+closed_of text [] = None
+closed_of text (b ∷ bytes) = if b == 39 then Some (Quoted text, bytes) else None
+
 abbrev pub less_of : List ℕ → Option (Comparison × List ℕ)
 less_of [] = Some (Less, [])
 less_of (b ∷ bytes) = if b == 62 then Some (Unequal, bytes) else if b == 61 then Some (AtMost, bytes) else Some (Less, b ∷ bytes)

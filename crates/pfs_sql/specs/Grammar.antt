@@ -13,6 +13,7 @@ use Rattle.pfs_sql.specs.declared.faults.SqlFault.TheVariants as faults
 use Rattle.pfs_sql.specs.declared.token.Token.{Token}
 use Rattle.pfs_sql.specs.declared.command.Command.{Command}
 use Rattle.pfs_sql.specs.declared.command.Command.TheVariants.{Select, Update, Insert, Delete, Truncate}
+use Rattle.pfs_sql.specs.declared.command.InsertCommand.{InsertCommand}
 use Rattle.pfs_sql.specs.declared.command.NamedTest.{NamedTest}
 use Rattle.pfs_sql.specs.declared.command.NamedOrder.{NamedOrder}
 use Rattle.pfs_sql.specs.declared.command.Assignment.{Assignment}
@@ -168,11 +169,14 @@ abbrev pub are_columns : Option (List (List ℕ)) → Bool
 are_columns None = true
 are_columns (Some list) = are_apart list
 
+abbrev pub has_values : InsertCommand → Bool
+has_values i = are_columns i.columns && counts_agree i.columns i.values
+
 -- SET and INSERT name no column twice, and INSERT has a value for each column
 abbrev pub is_proper : Command → Bool
 is_proper (Select s) = true
 is_proper (Update u) = are_apart (map (λ a. a.column) u.sets)
-is_proper (Insert i) = are_columns i.columns && counts_agree i.columns i.values
+is_proper (Insert i) = has_values i
 is_proper (Delete d) = true
 is_proper (Truncate t) = true
 

@@ -69,6 +69,17 @@ fn inner_at(bytes: &[u8]) -> Option<(u8, &[u8])>
     }
 }
 
+// The text, if its closing `'` stands here, and what stands behind that.
+fn closed_at(text: Vec<u8>, bytes: &[u8]) -> Result<(Token, &[u8]), SqlFault>
+    ensures read { reading.Gives (λ x. (x.0, x.1.now)) result (cutting.closed_of text.items bytes.now) }
+    ensures within { IfOk result (λ x. length x.1.now ≤ length bytes.now) }
+{
+    match bytes {
+        [b'\'', rest @ ..] => Ok((Token::Quoted(Text::new(text)), rest)),
+        _ => Err(REFUSED),
+    }
+}
+
 // The text up to the closing `'`.
 fn quoted_at(alloc: Global, bytes: &[u8]) -> Result<(Token, &[u8]), SqlFault>
     ensures read { reading.Gives (λ x. (x.0, x.1.now)) result (cutting.quoted_of bytes.now) }
@@ -76,13 +87,14 @@ fn quoted_at(alloc: Global, bytes: &[u8]) -> Result<(Token, &[u8]), SqlFault>
 {
     let mut text = Vec::new(alloc);
     let mut rest = bytes;
-    'bytes: while let Some((byte, more)) = inner_at(rest) {
-        text.push(byte)?;
-        rest = more;
-    }
-    match rest {
-        [b'\'', more @ ..] => Ok((Token::Quoted(Text::new(text)), more)),
-        _ => Err(REFUSED),
+    'bytes: loop {
+        match inner_at(rest) {
+            Some((byte, more)) => {
+                text.push(byte)?;
+                rest = more;
+            }
+            None => return closed_at(text, rest),
+        }
     }
 }
 

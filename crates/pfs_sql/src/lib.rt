@@ -4,12 +4,14 @@
 mod clauses;
 mod command;
 mod commands;
+mod distinct;
 mod faults;
 mod kinds;
 pub mod laws;
 mod lexer;
 mod lists;
 mod names;
+mod parsing;
 mod token;
 mod words;
 
@@ -19,7 +21,7 @@ pub use command::{
 };
 pub use faults::{SqlError, SqlFault};
 pub use lists::{AssignmentList, NamedOrderList, NamedTestList, TextList};
-pub use token::Token;
+pub use parsing::parse;
 
 /// Memory ran out.
 pub type NoMemory = std::alloc::AllocError;
