@@ -6,3 +6,4 @@ pub mod Whole
 pub mod Quoting
 pub mod Lexing
 pub mod Fresh
+pub mod Said

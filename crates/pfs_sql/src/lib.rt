@@ -25,3 +25,6 @@ pub use parsing::parse;
 
 /// Memory ran out.
 pub type NoMemory = std::alloc::AllocError;
+
+#[cfg(test)]
+mod tests;
