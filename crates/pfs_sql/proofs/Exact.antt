@@ -86,8 +86,9 @@ one_exact {X} f part to back = record { takes = one_takes; again = one_again }
     one_takes : (tokens : List Token) (x : X) (rest : List Token) (tail : List Piece) → one f tokens ≡ Some (x, rest) → Fits tail rest → Fits (One (part x) ∷ tail) tokens
     one_takes [] x rest tail e h = absurd cc
     one_takes (token ∷ tokens) x rest tail e h =
-      let m = mapped_some (f token) tokens x rest e in
-      (back x token m.0, subst (λ ts. Fits tail ts) (sym m.1) h)
+        let m = mapped_some (f token) tokens x rest e in
+        (back x token m.0, subst (λ ts. Fits tail ts) (sym m.1) h)
+
     one_again : (tokens : List Token) (x : X) (tail : List Piece) → Always tail → Fits (One (part x) ∷ tail) tokens → (rest : List Token) × (one f tokens ≡ Some (x, rest)) × Fits tail rest
     one_again [] x tail a h = absurd h
     one_again (token ∷ tokens) x tail a h = (tokens, rw (to x token h.0) refl, h.1)
@@ -113,49 +114,49 @@ module _ {X : Type 0} (separator : Token → Bool) (read : Reader X) (spell : X 
 
   -- what is read after one item
   takes_by : (tokens : List Token) (x : X) (behind : List Token) (next : Option (List Token)) (reading : Reader (List X)) → after separator behind ≡ next → (xs : List X) (rest : List Token) (tail : List Piece)
-    → read tokens ≡ Some (x, behind) → choose next (λ more. with_front (x ∷ []) (reading more)) (Some (x ∷ [], behind)) ≡ Some (xs, rest) → Fits tail rest
-    → ((more : List Token) (ys : List X) → reading more ≡ Some (ys, rest) → Fits (separated separator spell ys tail) more) → Fits (separated separator spell xs tail) tokens
+      → read tokens ≡ Some (x, behind) → choose next (λ more. with_front (x ∷ []) (reading more)) (Some (x ∷ [], behind)) ≡ Some (xs, rest) → Fits tail rest
+      → ((more : List Token) (ys : List X) → reading more ≡ Some (ys, rest) → Fits (separated separator spell ys tail) more) → Fits (separated separator spell xs tail) tokens
   takes_by tokens x behind None reading n xs rest tail here e h others =
-    let parts = pair_parts (x ∷ []) xs behind rest e in
-    let xs-is : x ∷ [] ≡ xs = parts.0 in
-    let rest-is : behind ≡ rest = parts.1 in
-    subst (λ zs. Fits (separated separator spell zs tail) tokens) xs-is (exact.takes tokens x behind tail here (subst (λ ts. Fits tail ts) (sym rest-is) h))
+      let parts = pair_parts (x ∷ []) xs behind rest e in
+      let xs-is : x ∷ [] ≡ xs = parts.0 in
+      let rest-is : behind ≡ rest = parts.1 in
+      subst (λ zs. Fits (separated separator spell zs tail) tokens) xs-is (exact.takes tokens x behind tail here (subst (λ ts. Fits tail ts) (sym rest-is) h))
   takes_by tokens x behind (Some more) reading n xs rest tail here e h others =
-    let w = with_front_some x (reading more) xs rest e in
-    let fits = exact.takes tokens x behind (each_behind separator spell w.0 tail) here (behind_one w.0 tail behind more n (others more w.0 w.1)) in
-    subst (λ zs. Fits (separated separator spell zs tail) tokens) (sym w.2) fits
+      let w = with_front_some x (reading more) xs rest e in
+      let fits = exact.takes tokens x behind (each_behind separator spell w.0 tail) here (behind_one w.0 tail behind more n (others more w.0 w.1)) in
+      subst (λ zs. Fits (separated separator spell zs tail) tokens) (sym w.2) fits
 
   pub takes_for : (most : ℕ) (tokens : List Token) (xs : List X) (rest : List Token) (tail : List Piece) → many separator read most tokens ≡ Some (xs, rest) → Fits tail rest → Fits (separated separator spell xs tail) tokens
   unfolding many
   takes_for zero tokens xs rest tail e h = absurd cc
   takes_for (suc most) tokens xs rest tail e h =
-    let b = bind_some (read tokens) (λ x. choose (after separator x.1) (λ more. with_front (x.0 ∷ []) (many separator read most more)) (Some (x.0 ∷ [], x.1))) (xs, rest) e in
-    takes_by tokens b.0.0 b.0.1 (after separator b.0.1) (many separator read most) refl xs rest tail b.1 b.2 h (λ more ys f. takes_for most more ys rest tail f h)
+      let b = bind_some (read tokens) (λ x. choose (after separator x.1) (λ more. with_front (x.0 ∷ []) (many separator read most more)) (Some (x.0 ∷ [], x.1))) (xs, rest) e in
+      takes_by tokens b.0.0 b.0.1 (after separator b.0.1) (many separator read most) refl xs rest tail b.1 b.2 h (λ more ys f. takes_for most more ys rest tail f h)
 
   module _ (shortens : Shortens read) (goes_on : (tail : List Piece) → Closes (One (Passes separator) ∷ tail)) where
     pub again_for : (most : ℕ) (tokens : List Token) (xs : List X) (tail : List Piece) → length tokens ≤ most → Closes tail → Avoids separator tail → Fits (separated separator spell xs tail) tokens
-      → (rest : List Token) × (many separator read most tokens ≡ Some (xs, rest)) × Fits tail rest
+        → (rest : List Token) × (many separator read most tokens ≡ Some (xs, rest)) × Fits tail rest
     unfolding many
     again_for most [] [] tail le closes avoids h = absurd h
     again_for most (token ∷ tokens) [] tail le closes avoids h = absurd h.0
     again_for zero tokens (x ∷ []) tail le closes avoids h =
-      let a = exact.again tokens x tail closes h in
-      let less = shortens tokens x a.0 a.1 in
-      absurd (omega arith)
+        let a = exact.again tokens x tail closes h in
+        let less = shortens tokens x a.0 a.1 in
+        absurd (omega arith)
     again_for zero tokens (x ∷ y ∷ zs) tail le closes avoids h =
-      let a = exact.again tokens x (each_behind separator spell (y ∷ zs) tail) (goes_on _) h in
-      let less = shortens tokens x a.0 a.1 in
-      absurd (omega arith)
+        let a = exact.again tokens x (each_behind separator spell (y ∷ zs) tail) (goes_on _) h in
+        let less = shortens tokens x a.0 a.1 in
+        absurd (omega arith)
     again_for (suc most) tokens (x ∷ []) tail le closes avoids h =
-      let a = exact.again tokens x tail closes h in
-      (a.0, rw (a.1, avoids a.0 a.2) refl, a.2)
+        let a = exact.again tokens x tail closes h in
+        (a.0, rw (a.1, avoids a.0 a.2) refl, a.2)
     again_for (suc most) tokens (x ∷ y ∷ zs) tail le closes avoids h =
-      let a = exact.again tokens x (each_behind separator spell (y ∷ zs) tail) (goes_on _) h in
-      let less = shortens tokens x a.0 a.1 in
-      let k = key_again separator a.0 (spell y (each_behind separator spell zs tail)) a.2 in
-      let less2 = after_shorter separator a.0 k.0 k.1 in
-      let r = again_for most k.0 (y ∷ zs) tail (omega arith) closes avoids k.2 in
-      (r.0, rw (a.1, k.1, r.1) refl, r.2)
+        let a = exact.again tokens x (each_behind separator spell (y ∷ zs) tail) (goes_on _) h in
+        let less = shortens tokens x a.0 a.1 in
+        let k = key_again separator a.0 (spell y (each_behind separator spell zs tail)) a.2 in
+        let less2 = after_shorter separator a.0 k.0 k.1 in
+        let r = again_for most k.0 (y ∷ zs) tail (omega arith) closes avoids k.2 in
+        (r.0, rw (a.1, k.1, r.1) refl, r.2)
 
 -- a list of items
 pub items_exact : {X : Type 0} (separator : Token → Bool) (read : Reader X) (spell : X → List Piece → List Piece) (Closes : List Piece → Type 0) → Exact read spell Closes → Shortens read → ((tail : List Piece) → Closes (One (Passes separator) ∷ tail))
@@ -178,19 +179,21 @@ clause_exact {X} begins read spell Closes exact some = record { takes = clause_t
     filled : (xs : List X) (tokens more : List Token) (tail : List Piece) → after begins tokens ≡ Some more → Fits (spell xs tail) more → Fits (clause begins spell xs tail) tokens
     filled [] tokens more tail n h = absurd (some tail more h)
     filled (x ∷ xs) tokens more tail n h = key_takes begins tokens more (spell (x ∷ xs) tail) n h
+
     clause_takes : (tokens : List Token) (xs : List X) (rest : List Token) (tail : List Piece) → clause_at begins read tokens ≡ Some (xs, rest) → Fits tail rest → Fits (clause begins spell xs tail) tokens
     clause_takes tokens xs rest tail e h = choose_some (after begins tokens) read (Some ([], tokens)) (xs, rest) e
-      (λ more n f. filled xs tokens more tail n (exact.takes more xs rest tail f h))
-      (λ n f. let parts = pair_parts ([]) xs (tokens) rest f in
+        (λ more n f. filled xs tokens more tail n (exact.takes more xs rest tail f h))
+        (λ n f. let parts = pair_parts ([]) xs (tokens) rest f in
         let xs-is : [] ≡ xs = parts.0 in
         let rest-is : tokens ≡ rest = parts.1 in
         subst (λ (zs : List X). Fits (clause begins spell zs tail) tokens) xs-is (subst (λ ts. Fits tail ts) (sym rest-is) h))
+
     clause_again : (tokens : List Token) (xs : List X) (tail : List Piece) → Closes tail × Avoids begins tail → Fits (clause begins spell xs tail) tokens → (rest : List Token) × (clause_at begins read tokens ≡ Some (xs, rest)) × Fits tail rest
     clause_again tokens [] tail c h = (tokens, rw (c.1 tokens h) refl, h)
     clause_again tokens (x ∷ xs) tail c h =
-      let k = key_again begins tokens (spell (x ∷ xs) tail) h in
-      let r = exact.again k.0 (x ∷ xs) tail c.0 k.2 in
-      (r.0, rw (k.1, r.1) refl, r.2)
+        let k = key_again begins tokens (spell (x ∷ xs) tail) h in
+        let r = exact.again k.0 (x ∷ xs) tail c.0 k.2 in
+        (r.0, rw (k.1, r.1) refl, r.2)
 
 -- one item that may be left out
 pub optional_exact : {X : Type 0} (begins : Token → Bool) (read : Reader X) (spell : X → List Piece → List Piece) (Closes : List Piece → Type 0) → Exact read spell Closes
@@ -199,34 +202,35 @@ optional_exact {X} begins read spell Closes exact = record { takes = optional_ta
   where
     optional_takes : (tokens : List Token) (o : Option X) (rest : List Token) (tail : List Piece) → optionally begins read tokens ≡ Some (o, rest) → Fits tail rest → Fits (optional begins spell o tail) tokens
     optional_takes tokens o rest tail e h = choose_some (after begins tokens) (λ more. read more >>= λ x. Some (Some x.0, x.1)) (Some (None, tokens)) (o, rest) e
-      (λ more n f.
+        (λ more n f.
         let b = bind_some (read more) (λ x. Some (Some x.0, x.1)) (o, rest) f in
         let parts = pair_parts (Some b.0.0) o (b.0.1) rest b.2 in
         let o-is : Some b.0.0 ≡ o = parts.0 in
         let rest-is : b.0.1 ≡ rest = parts.1 in
         subst (λ (p : Option X). Fits (optional begins spell p tail) tokens) o-is (key_takes begins tokens more (spell b.0.0 tail) n (exact.takes more b.0.0 b.0.1 tail b.1 (subst (λ ts. Fits tail ts) (sym rest-is) h))))
-      (λ n f. let parts = pair_parts (None) o (tokens) rest f in
+        (λ n f. let parts = pair_parts (None) o (tokens) rest f in
         let o-is : None ≡ o = parts.0 in
         let rest-is : tokens ≡ rest = parts.1 in
         subst (λ (p : Option X). Fits (optional begins spell p tail) tokens) o-is (subst (λ ts. Fits tail ts) (sym rest-is) h))
+
     optional_again : (tokens : List Token) (o : Option X) (tail : List Piece) → Closes tail × Avoids begins tail → Fits (optional begins spell o tail) tokens → (rest : List Token) × (optionally begins read tokens ≡ Some (o, rest)) × Fits tail rest
     optional_again tokens None tail c h = (tokens, rw (c.1 tokens h) refl, h)
     optional_again tokens (Some x) tail c h =
-      let k = key_again begins tokens (spell x tail) h in
-      let r = exact.again k.0 x tail c.0 k.2 in
-      (r.0, rw (k.1, r.1) refl, r.2)
+        let k = key_again begins tokens (spell x tail) h in
+        let r = exact.again k.0 x tail c.0 k.2 in
+        (r.0, rw (k.1, r.1) refl, r.2)
 
 -- behind a token of its own
 pub behind_exact : {X : Type 0} (begins : Token → Bool) (read : Reader X) (spell : X → List Piece → List Piece) (Closes : List Piece → Type 0) → Exact read spell Closes
     → Exact (behind begins read) (λ x tail. One (Passes begins) ∷ spell x tail) Closes
 behind_exact begins read spell Closes exact = record {
   takes = λ tokens x rest tail e h.
-    let b = bind_some (after begins tokens) read (x, rest) e in
-    key_takes begins tokens b.0 (spell x tail) b.1 (exact.takes b.0 x rest tail b.2 h);
+      let b = bind_some (after begins tokens) read (x, rest) e in
+      key_takes begins tokens b.0 (spell x tail) b.1 (exact.takes b.0 x rest tail b.2 h);
   again = λ tokens x tail c h.
-    let k = key_again begins tokens (spell x tail) h in
-    let r = exact.again k.0 x tail c k.2 in
-    (r.0, rw (k.1, r.1) refl, r.2);
+      let k = key_again begins tokens (spell x tail) h in
+      let r = exact.again k.0 x tail c k.2 in
+      (r.0, rw (k.1, r.1) refl, r.2);
 }
 
 -- in front of a token of its own
@@ -234,14 +238,14 @@ pub before_exact : {X : Type 0} (read : Reader X) (closing : Token → Bool) (sp
     → Exact (before read closing) (λ x tail. spell x (One (Passes closing) ∷ tail)) Always
 before_exact {X} read closing spell Closes exact closes = record {
   takes = λ tokens x rest tail e h.
-    let b = bind_some (read tokens) (λ y. after closing y.1 >>= λ more. Some (y.0, more)) (x, rest) e in
-    let d = bind_some (after closing b.0.1) (λ more. Some (b.0.0, more)) (x, rest) b.2 in
-    let parts = pair_parts (b.0.0) x (d.0) rest d.2 in
-    let x-is : b.0.0 ≡ x = parts.0 in
-    let rest-is : d.0 ≡ rest = parts.1 in
-    subst (λ (y : X). Fits (spell y (One (Passes closing) ∷ tail)) tokens) x-is (exact.takes tokens b.0.0 b.0.1 (One (Passes closing) ∷ tail) b.1 (key_takes closing b.0.1 d.0 tail d.1 (subst (λ ts. Fits tail ts) (sym rest-is) h)));
+      let b = bind_some (read tokens) (λ y. after closing y.1 >>= λ more. Some (y.0, more)) (x, rest) e in
+      let d = bind_some (after closing b.0.1) (λ more. Some (b.0.0, more)) (x, rest) b.2 in
+      let parts = pair_parts (b.0.0) x (d.0) rest d.2 in
+      let x-is : b.0.0 ≡ x = parts.0 in
+      let rest-is : d.0 ≡ rest = parts.1 in
+      subst (λ (y : X). Fits (spell y (One (Passes closing) ∷ tail)) tokens) x-is (exact.takes tokens b.0.0 b.0.1 (One (Passes closing) ∷ tail) b.1 (key_takes closing b.0.1 d.0 tail d.1 (subst (λ ts. Fits tail ts) (sym rest-is) h)));
   again = λ tokens x tail c h.
-    let r = exact.again tokens x (One (Passes closing) ∷ tail) (closes tail) h in
-    let k = key_again closing r.0 tail r.2 in
-    (k.0, rw (r.1, k.1) refl, k.2);
+      let r = exact.again tokens x (One (Passes closing) ∷ tail) (closes tail) h in
+      let k = key_again closing r.0 tail r.2 in
+      (k.0, rw (r.1, k.1) refl, k.2);
 }

@@ -103,7 +103,7 @@ less_takes b (d ∷ bytes) c rest t e =
       | inr x ↦ elim (chosen (eqb d 61) (Some (AtMost, bytes)) (Some (Less, d ∷ bytes)) (Some (c, rest)) x.1) [
         | inl y ↦ signed AtMost c bytes rest (b ∷ d ∷ bytes) y.1 (two_marks (Compares AtMost) 60 61 b d bytes refl (never_goes_on (Compares AtMost) (λ k. refl) bytes) t y.0)
         | inr y ↦ signed Less c (d ∷ bytes) rest (b ∷ d ∷ bytes) y.1 (one_mark (Compares Less) 60 b (d ∷ bytes) refl (rw (y.0, x.0) refl) t)
-        ]
+      ]
     ]
 
 greater_takes : (b : ℕ) (bytes : List ℕ) (c : Comparison) (rest : List ℕ) → eqb b 62 ≡ true → greater_of bytes ≡ Some (c, rest) → Begins (Compares c) (b ∷ bytes) rest
@@ -134,9 +134,9 @@ sign_takes (b ∷ bytes) c rest e =
           | inr z ↦ elim (chosen (eqb b 62) (greater_of bytes) None (Some (c, rest)) z.1) [
             | inl u ↦ greater_takes b bytes c rest u.0 u.1
             | inr u ↦ let none = u.1 in absurd cc
-            ]
           ]
         ]
+      ]
     ]
 
 mark_takes : (b : ℕ) (bytes : List ℕ) (t : Token) (rest : List ℕ) → mark_of (b ∷ bytes) ≡ Some (t, rest) → Begins t (b ∷ bytes) rest
@@ -152,12 +152,12 @@ mark_takes b bytes t rest e =
             | inr u ↦ elim (chosen (eqb b 59) (Some (Semicolon, bytes)) _ (Some (t, rest)) u.1) [
               | inl v ↦ moved Semicolon t bytes rest (b ∷ bytes) v.1 (one_mark Semicolon 59 b bytes refl (never_goes_on Semicolon (λ k. refl) bytes) v.0)
               | inr v ↦
-                let s = bound (sign_of (b ∷ bytes)) (λ x. Some (Compares x.0, x.1)) (t, rest) v.1 in
-                moved (Compares s.0.0) t s.0.1 rest (b ∷ bytes) s.2 (sign_takes (b ∷ bytes) s.0.0 s.0.1 s.1)
-              ]
+                  let s = bound (sign_of (b ∷ bytes)) (λ x. Some (Compares x.0, x.1)) (t, rest) v.1 in
+                  moved (Compares s.0.0) t s.0.1 rest (b ∷ bytes) s.2 (sign_takes (b ∷ bytes) s.0.0 s.0.1 s.1)
             ]
           ]
         ]
+      ]
     ]
 
 quoted_ends : (text : List ℕ) (rest : List ℕ) → EndsAt (Quoted text) rest → EndsAt (Quoted []) rest
@@ -170,13 +170,13 @@ token_takes [] t rest e = absurd cc
 token_takes (b ∷ bytes) t rest e =
     elim (chosen (eqb b 39) (quoted_of bytes) _ (Some (t, rest)) e) [
       | inl x ↦
-        let q = bound (inside_of bytes) (λ y. Some (Quoted y.0, y.1)) (t, rest) x.1 in
-        let i = inside_takes bytes q.0.0 q.0.1 q.1 in
-        moved (Quoted q.0.0) t q.0.1 rest (b ∷ bytes) q.2 (quoted q.0.0, refl, ap (λ (k : ℕ). k ∷ bytes) (eqb-true b 39 x.0) ∙ ap (λ (l : List ℕ). 39 ∷ l) i.0, i.1)
+          let q = bound (inside_of bytes) (λ y. Some (Quoted y.0, y.1)) (t, rest) x.1 in
+          let i = inside_takes bytes q.0.0 q.0.1 q.1 in
+          moved (Quoted q.0.0) t q.0.1 rest (b ∷ bytes) q.2 (quoted q.0.0, refl, ap (λ (k : ℕ). k ∷ bytes) (eqb-true b 39 x.0) ∙ ap (λ (l : List ℕ). 39 ∷ l) i.0, i.1)
       | inr x ↦ elim (chosen (is_word_byte b) (word_of (b ∷ bytes)) (mark_of (b ∷ bytes)) (Some (t, rest)) x.1) [
         | inl y ↦ moved _ t _ rest (b ∷ bytes) y.1 (word_begins b bytes y.0)
         | inr y ↦ mark_takes b bytes t rest y.1
-        ]
+      ]
     ]
 
 -- ---- what stands there is read
@@ -191,8 +191,8 @@ word_again (b ∷ word) rest some all ends =
     let both = and_parts (is_word_byte b) (list_all is_word_byte word) all in
     let n : prefix_len is_word_byte ((b ∷ word) ++ rest) ≡ length (b ∷ word) = run_is is_word_byte (b ∷ word) rest all (word_stops (b ∷ word) rest ends) in
     let read : word_of ((b ∷ word) ++ rest) ≡ Some (Word (b ∷ word), rest) =
-      ap (λ (k : ℕ). Some (Word (take k ((b ∷ word) ++ rest)), drop k ((b ∷ word) ++ rest))) n
-      ∙ rw (take_at (b ∷ word) rest (length (b ∷ word)) refl, drop_at (b ∷ word) rest (length (b ∷ word)) refl) refl in
+    ap (λ (k : ℕ). Some (Word (take k ((b ∷ word) ++ rest)), drop k ((b ∷ word) ++ rest))) n
+    ∙ rw (take_at (b ∷ word) rest (length (b ∷ word)) refl, drop_at (b ∷ word) rest (length (b ∷ word)) refl) refl in
     let q : eqb b 39 ≡ false = no_quote b both.0 in
     let w : is_word_byte b ≡ true = both.0 in
     ap (λ (t : Bool). cond t (quoted_of (word ++ rest)) (cond (is_word_byte b) (word_of ((b ∷ word) ++ rest)) (mark_of ((b ∷ word) ++ rest)))) q
@@ -251,7 +251,7 @@ no_blank b bytes t rest e =
       | inl x ↦ elim (or_cases (eqb b 32) (eqb b 9) x) [
         | inl y ↦ let f : token_of (32 ∷ bytes) ≡ Some (t, rest) = subst (λ (k : ℕ). token_of (k ∷ bytes) ≡ Some (t, rest)) (eqb-true b 32 y) e in absurd cc
         | inr y ↦ let f : token_of (9 ∷ bytes) ≡ Some (t, rest) = subst (λ (k : ℕ). token_of (k ∷ bytes) ≡ Some (t, rest)) (eqb-true b 9 y) e in absurd cc
-        ]
+      ]
     ]
 
 token_stops : (bytes : List ℕ) (t : Token) (rest : List ℕ) → token_of bytes ≡ Some (t, rest) → Stops is_blank bytes
@@ -331,9 +331,9 @@ cut_more text tokens rest t behind c e =
       rest_is = refl;
       found = λ ts h. subst (λ (x : List Token). AreTokens text x) (sym (append_assoc tokens (t ∷ []) ts)) (c.found (t ∷ ts) (skip_found c.left t behind ts here h));
       only = λ ts h.
-        let o = c.only ts h in
-        let m = only_more c.left t behind o.0 here o.2 in
-        (m.0, o.1 ∙ ap (λ (x : List Token). tokens ++ x) m.1 ∙ sym (append_assoc tokens (t ∷ []) m.0), m.2);
+          let o = c.only ts h in
+          let m = only_more c.left t behind o.0 here o.2 in
+          (m.0, o.1 ∙ ap (λ (x : List Token). tokens ++ x) m.1 ∙ sym (append_assoc tokens (t ∷ []) m.0), m.2);
     }
 
 nothing_cut : (left : List ℕ) (ts : List Token) → 0 < length (skip left) → token_of (skip left) ≡ None → AreTokens left ts → ⊥

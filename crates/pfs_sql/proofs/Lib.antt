@@ -7,3 +7,4 @@ pub mod Quoting
 pub mod Lexing
 pub mod Fresh
 pub mod Said
+pub mod Examples

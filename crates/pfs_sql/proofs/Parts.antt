@@ -91,23 +91,24 @@ columns_exact = record { takes = columns_take; again = columns_again }
   where
     columns_take : (ts : List Token) (x : Option (List (List ℕ))) (rest : List Token) (tail : List Piece) → columns_at ts ≡ Some (x, rest) → Fits tail rest → Fits (columns x tail) ts
     columns_take ts x rest tail e h = choose_some (after is_star ts) (λ more. Some (None, more)) (names_at ts >>= λ y. Some (Some y.0, y.1)) (x, rest) e
-      (λ more n f. let parts = pair_parts (None) x (more) rest f in
+        (λ more n f. let parts = pair_parts (None) x (more) rest f in
         let x-is : None ≡ x = parts.0 in
         let rest-is : more ≡ rest = parts.1 in
         subst (λ (p : Option (List (List ℕ))). Fits (columns p tail) ts) x-is (key_takes is_star ts more tail n (subst (λ ts. Fits tail ts) (sym rest-is) h)))
-      (λ n f.
+        (λ n f.
         let b = bind_some (names_at ts) (λ y. Some (Some y.0, y.1)) (x, rest) f in
         let parts = pair_parts (Some b.0.0) x (b.0.1) rest b.2 in
         let x-is : Some b.0.0 ≡ x = parts.0 in
         let rest-is : b.0.1 ≡ rest = parts.1 in
         subst (λ (p : Option (List (List ℕ))). Fits (columns p tail) ts) x-is (names_exact.takes ts b.0.0 b.0.1 tail b.1 (subst (λ ts. Fits tail ts) (sym rest-is) h)))
+
     columns_again : (ts : List Token) (x : Option (List (List ℕ))) (tail : List Piece) → Avoids is_comma tail → Fits (columns x tail) ts → (rest : List Token) × (columns_at ts ≡ Some (x, rest)) × Fits tail rest
     columns_again ts None tail c h =
-      let k = key_again is_star ts tail h in
-      (k.0, rw k.1 refl, k.2)
+        let k = key_again is_star ts tail h in
+        (k.0, rw k.1 refl, k.2)
     columns_again ts (Some list) tail c h =
-      let r = names_exact.again ts list tail (tt, c) h in
-      (r.0, rw (star_name ts list tail h, r.1) refl, r.2)
+        let r = names_exact.again ts list tail (tt, c) h in
+        (r.0, rw (star_name ts list tail h, r.1) refl, r.2)
 
 -- ---- conditions
 
@@ -123,34 +124,34 @@ kind_takes ts x rest tail e h =
     let K : TestKind → Type 0 = λ k. Fits (kind k tail) ts in
     choose_some (one comparison_in ts) (λ y. compared_at y.0 y.1) (word_kind_at ts) (x, rest) e
     (λ y n f.
-      let b = bind_some (one literal_in y.1) (λ z. Some (kinds.Compare y.0 z.0, z.1)) (x, rest) f in
-      let parts = pair_parts (kinds.Compare y.0 b.0.0) x (b.0.1) rest b.2 in
-      let x-is : kinds.Compare y.0 b.0.0 ≡ x = parts.0 in
-      let rest-is : b.0.1 ≡ rest = parts.1 in
-      subst K x-is (comparison_exact.takes ts y.0 y.1 (One (Value b.0.0) ∷ tail) n (literal_exact.takes y.1 b.0.0 b.0.1 tail b.1 (subst (λ ts. Fits tail ts) (sym rest-is) h))))
+    let b = bind_some (one literal_in y.1) (λ z. Some (kinds.Compare y.0 z.0, z.1)) (x, rest) f in
+    let parts = pair_parts (kinds.Compare y.0 b.0.0) x (b.0.1) rest b.2 in
+    let x-is : kinds.Compare y.0 b.0.0 ≡ x = parts.0 in
+    let rest-is : b.0.1 ≡ rest = parts.1 in
+    subst K x-is (comparison_exact.takes ts y.0 y.1 (One (Value b.0.0) ∷ tail) n (literal_exact.takes y.1 b.0.0 b.0.1 tail b.1 (subst (λ ts. Fits tail ts) (sym rest-is) h))))
     (λ n f. choose_some (after_key (codes "like") ts) like_at (behind (is_key (codes "is")) null_at ts) (x, rest) f
-      (λ more m g.
-        let b = bind_some (text_at more) (λ z. Some (kinds.Like z.0, z.1)) (x, rest) g in
-        let parts = pair_parts (kinds.Like b.0.0) x (b.0.1) rest b.2 in
-        let x-is : kinds.Like b.0.0 ≡ x = parts.0 in
-        let rest-is : b.0.1 ≡ rest = parts.1 in
-        subst K x-is (key_takes (is_key (codes "like")) ts more (One (Quotes b.0.0) ∷ tail) m (text_exact.takes more b.0.0 b.0.1 tail b.1 (subst (λ ts. Fits tail ts) (sym rest-is) h))))
-      (λ m g.
-        let b = bind_some (after_key (codes "is") ts) null_at (x, rest) g in
-        choose_some (after_key (codes "not") b.0) (λ more. after_key (codes "null") more >>= λ last. Some (kinds.IsNotNull, last)) (after_key (codes "null") b.0 >>= λ last. Some (kinds.IsNull, last)) (x, rest) b.2
-        (λ more l k.
-          let d = bind_some (after_key (codes "null") more) (λ last. Some (kinds.IsNotNull, last)) (x, rest) k in
-          let parts = pair_parts (kinds.IsNotNull) x (d.0) rest d.2 in
-          let x-is : kinds.IsNotNull ≡ x = parts.0 in
-          let rest-is : d.0 ≡ rest = parts.1 in
-          subst K x-is (key_takes (is_key (codes "is")) ts b.0 (key (codes "not") ∷ key (codes "null") ∷ tail) b.1
-            (key_takes (is_key (codes "not")) b.0 more (key (codes "null") ∷ tail) l (key_takes (is_key (codes "null")) more d.0 tail d.1 (subst (λ ts. Fits tail ts) (sym rest-is) h)))))
-        (λ l k.
-          let d = bind_some (after_key (codes "null") b.0) (λ last. Some (kinds.IsNull, last)) (x, rest) k in
-          let parts = pair_parts (kinds.IsNull) x (d.0) rest d.2 in
-          let x-is : kinds.IsNull ≡ x = parts.0 in
-          let rest-is : d.0 ≡ rest = parts.1 in
-          subst K x-is (key_takes (is_key (codes "is")) ts b.0 (key (codes "null") ∷ tail) b.1 (key_takes (is_key (codes "null")) b.0 d.0 tail d.1 (subst (λ ts. Fits tail ts) (sym rest-is) h))))))
+    (λ more m g.
+    let b = bind_some (text_at more) (λ z. Some (kinds.Like z.0, z.1)) (x, rest) g in
+    let parts = pair_parts (kinds.Like b.0.0) x (b.0.1) rest b.2 in
+    let x-is : kinds.Like b.0.0 ≡ x = parts.0 in
+    let rest-is : b.0.1 ≡ rest = parts.1 in
+    subst K x-is (key_takes (is_key (codes "like")) ts more (One (Quotes b.0.0) ∷ tail) m (text_exact.takes more b.0.0 b.0.1 tail b.1 (subst (λ ts. Fits tail ts) (sym rest-is) h))))
+    (λ m g.
+    let b = bind_some (after_key (codes "is") ts) null_at (x, rest) g in
+    choose_some (after_key (codes "not") b.0) (λ more. after_key (codes "null") more >>= λ last. Some (kinds.IsNotNull, last)) (after_key (codes "null") b.0 >>= λ last. Some (kinds.IsNull, last)) (x, rest) b.2
+    (λ more l k.
+    let d = bind_some (after_key (codes "null") more) (λ last. Some (kinds.IsNotNull, last)) (x, rest) k in
+    let parts = pair_parts (kinds.IsNotNull) x (d.0) rest d.2 in
+    let x-is : kinds.IsNotNull ≡ x = parts.0 in
+    let rest-is : d.0 ≡ rest = parts.1 in
+    subst K x-is (key_takes (is_key (codes "is")) ts b.0 (key (codes "not") ∷ key (codes "null") ∷ tail) b.1
+    (key_takes (is_key (codes "not")) b.0 more (key (codes "null") ∷ tail) l (key_takes (is_key (codes "null")) more d.0 tail d.1 (subst (λ ts. Fits tail ts) (sym rest-is) h)))))
+    (λ l k.
+    let d = bind_some (after_key (codes "null") b.0) (λ last. Some (kinds.IsNull, last)) (x, rest) k in
+    let parts = pair_parts (kinds.IsNull) x (d.0) rest d.2 in
+    let x-is : kinds.IsNull ≡ x = parts.0 in
+    let rest-is : d.0 ≡ rest = parts.1 in
+    subst K x-is (key_takes (is_key (codes "is")) ts b.0 (key (codes "null") ∷ tail) b.1 (key_takes (is_key (codes "null")) b.0 d.0 tail d.1 (subst (λ ts. Fits tail ts) (sym rest-is) h))))))
 
 pub kind_again : (ts : List Token) (x : TestKind) (tail : List Piece) → Always tail → Fits (kind x tail) ts → (rest : List Token) × (kind_at ts ≡ Some (x, rest)) × Fits tail rest
 unfolding kind_at word_kind_at compared_at like_at null_at
@@ -183,34 +184,33 @@ unfolding kind_at word_kind_at compared_at like_at null_at
 kind_shortens ts x rest e =
     choose_some (one comparison_in ts) (λ y. compared_at y.0 y.1) (word_kind_at ts) (x, rest) e
     (λ y n f.
-      let b = bind_some (one literal_in y.1) (λ z. Some (kinds.Compare y.0 z.0, z.1)) (x, rest) f in
-      let rest-is : b.0.1 ≡ rest = rest_part _ x (b.0.1) rest b.2 in
-      let p = one_shortens comparison_in ts y.0 y.1 n in
-      let q = one_shortens literal_in y.1 b.0.0 b.0.1 b.1 in
-      rw (← rest-is) (omega arith))
+    let b = bind_some (one literal_in y.1) (λ z. Some (kinds.Compare y.0 z.0, z.1)) (x, rest) f in
+    let rest-is : b.0.1 ≡ rest = rest_part _ x (b.0.1) rest b.2 in
+    let p = one_shortens comparison_in ts y.0 y.1 n in
+    let q = one_shortens literal_in y.1 b.0.0 b.0.1 b.1 in
+    rw (← rest-is) (omega arith))
     (λ n f. choose_some (after_key (codes "like") ts) like_at (behind (is_key (codes "is")) null_at ts) (x, rest) f
-      (λ more m g.
-        let b = bind_some (text_at more) (λ z. Some (kinds.Like z.0, z.1)) (x, rest) g in
-        let rest-is : b.0.1 ≡ rest = rest_part _ x (b.0.1) rest b.2 in
-        let p = after_shorter (is_key (codes "like")) ts more m in
-        let q = one_shortens text_in more b.0.0 b.0.1 b.1 in
-        rw (← rest-is) (omega arith))
-      (λ m g.
-        let b = bind_some (after_key (codes "is") ts) null_at (x, rest) g in
-        let p = after_shorter (is_key (codes "is")) ts b.0 b.1 in
-        choose_some (after_key (codes "not") b.0) (λ more. after_key (codes "null") more >>= λ last. Some (kinds.IsNotNull, last)) (after_key (codes "null") b.0 >>= λ last. Some (kinds.IsNull, last)) (x, rest) b.2
-        (λ more l k.
-          let d = bind_some (after_key (codes "null") more) (λ last. Some (kinds.IsNotNull, last)) (x, rest) k in
-          let rest-is : d.0 ≡ rest = rest_part _ x (d.0) rest d.2 in
-          let q = after_shorter (is_key (codes "not")) b.0 more l in
-          let r = after_shorter (is_key (codes "null")) more d.0 d.1 in
-          rw (← rest-is) (omega arith))
-        (λ l k.
-          let d = bind_some (after_key (codes "null") b.0) (λ last. Some (kinds.IsNull, last)) (x, rest) k in
-          let rest-is : d.0 ≡ rest = rest_part _ x (d.0) rest d.2 in
-          let q = after_shorter (is_key (codes "null")) b.0 d.0 d.1 in
-          rw (← rest-is) (omega arith))))
-
+    (λ more m g.
+    let b = bind_some (text_at more) (λ z. Some (kinds.Like z.0, z.1)) (x, rest) g in
+    let rest-is : b.0.1 ≡ rest = rest_part _ x (b.0.1) rest b.2 in
+    let p = after_shorter (is_key (codes "like")) ts more m in
+    let q = one_shortens text_in more b.0.0 b.0.1 b.1 in
+    rw (← rest-is) (omega arith))
+    (λ m g.
+    let b = bind_some (after_key (codes "is") ts) null_at (x, rest) g in
+    let p = after_shorter (is_key (codes "is")) ts b.0 b.1 in
+    choose_some (after_key (codes "not") b.0) (λ more. after_key (codes "null") more >>= λ last. Some (kinds.IsNotNull, last)) (after_key (codes "null") b.0 >>= λ last. Some (kinds.IsNull, last)) (x, rest) b.2
+    (λ more l k.
+    let d = bind_some (after_key (codes "null") more) (λ last. Some (kinds.IsNotNull, last)) (x, rest) k in
+    let rest-is : d.0 ≡ rest = rest_part _ x (d.0) rest d.2 in
+    let q = after_shorter (is_key (codes "not")) b.0 more l in
+    let r = after_shorter (is_key (codes "null")) more d.0 d.1 in
+    rw (← rest-is) (omega arith))
+    (λ l k.
+    let d = bind_some (after_key (codes "null") b.0) (λ last. Some (kinds.IsNull, last)) (x, rest) k in
+    let rest-is : d.0 ≡ rest = rest_part _ x (d.0) rest d.2 in
+    let q = after_shorter (is_key (codes "null")) b.0 d.0 d.1 in
+    rw (← rest-is) (omega arith))))
 
 pub test_exact : Exact test_at test Always
 unfolding test_at
@@ -218,17 +218,18 @@ test_exact = record { takes = test_takes; again = test_again }
   where
     test_takes : (ts : List Token) (x : NamedTest) (rest : List Token) (tail : List Piece) → test_at ts ≡ Some (x, rest) → Fits tail rest → Fits (test x tail) ts
     test_takes ts x rest tail e h =
-      let b = bind_some (name_at ts) (λ n. kind_at n.1 >>= λ k. Some (record { column = n.0; kind = k.0 }, k.1)) (x, rest) e in
-      let d = bind_some (kind_at b.0.1) (λ k. Some (record { column = b.0.0; kind = k.0 }, k.1)) (x, rest) b.2 in
-      let parts = pair_parts (record { column = b.0.0; kind = d.0.0 }) x (d.0.1) rest d.2 in
-      let x-is : record { column = b.0.0; kind = d.0.0 } ≡ x = parts.0 in
-      let rest-is : d.0.1 ≡ rest = parts.1 in
-      subst (λ (t : NamedTest). Fits (test t tail) ts) x-is (name_exact.takes ts b.0.0 b.0.1 (kind d.0.0 tail) b.1 (kind_takes b.0.1 d.0.0 d.0.1 tail d.1 (subst (λ ts. Fits tail ts) (sym rest-is) h)))
+        let b = bind_some (name_at ts) (λ n. kind_at n.1 >>= λ k. Some (record { column = n.0; kind = k.0 }, k.1)) (x, rest) e in
+        let d = bind_some (kind_at b.0.1) (λ k. Some (record { column = b.0.0; kind = k.0 }, k.1)) (x, rest) b.2 in
+        let parts = pair_parts (record { column = b.0.0; kind = d.0.0 }) x (d.0.1) rest d.2 in
+        let x-is : record { column = b.0.0; kind = d.0.0 } ≡ x = parts.0 in
+        let rest-is : d.0.1 ≡ rest = parts.1 in
+        subst (λ (t : NamedTest). Fits (test t tail) ts) x-is (name_exact.takes ts b.0.0 b.0.1 (kind d.0.0 tail) b.1 (kind_takes b.0.1 d.0.0 d.0.1 tail d.1 (subst (λ ts. Fits tail ts) (sym rest-is) h)))
+
     test_again : (ts : List Token) (x : NamedTest) (tail : List Piece) → Always tail → Fits (test x tail) ts → (rest : List Token) × (test_at ts ≡ Some (x, rest)) × Fits tail rest
     test_again ts x tail c h =
-      let a = name_exact.again ts x.column (kind x.kind tail) tt h in
-      let b = kind_again a.0 x.kind tail tt a.2 in
-      (b.0, rw (a.1, b.1) refl, b.2)
+        let a = name_exact.again ts x.column (kind x.kind tail) tt h in
+        let b = kind_again a.0 x.kind tail tt a.2 in
+        (b.0, rw (a.1, b.1) refl, b.2)
 
 pub test_shortens : Shortens test_at
 unfolding test_at
@@ -276,8 +277,9 @@ direction_takes ts tail h = by_asc (after_key (codes "asc") ts) refl h
     by_desc : (o : Option (List Token)) → after_key (codes "desc") ts ≡ o → Fits tail (choose {B = Bool × List Token} o (λ rest. (true, rest)) (false, ts)).1 → Fits (direction (choose {B = Bool × List Token} o (λ rest. (true, rest)) (false, ts)).0 ∷ tail) ts
     by_desc (Some rest) e h = key_takes (is_key (codes "desc")) ts rest tail e h
     by_desc None e h = may_none (is_key (codes "asc")) ts tail h
+
     by_asc : (o : Option (List Token)) → after_key (codes "asc") ts ≡ o → Fits tail (choose {B = Bool × List Token} o (λ rest. (false, rest)) (choose {B = Bool × List Token} (after_key (codes "desc") ts) (λ rest. (true, rest)) (false, ts))).1
-      → Fits (direction (choose {B = Bool × List Token} o (λ rest. (false, rest)) (choose {B = Bool × List Token} (after_key (codes "desc") ts) (λ rest. (true, rest)) (false, ts))).0 ∷ tail) ts
+        → Fits (direction (choose {B = Bool × List Token} o (λ rest. (false, rest)) (choose {B = Bool × List Token} (after_key (codes "desc") ts) (λ rest. (true, rest)) (false, ts))).0 ∷ tail) ts
     by_asc (Some rest) e h = may_takes (is_key (codes "asc")) ts rest tail e h
     by_asc None e h = by_desc (after_key (codes "desc") ts) refl h
 
@@ -299,16 +301,17 @@ order_item_exact = record { takes = item_takes; again = item_again }
   where
     item_takes : (ts : List Token) (x : NamedOrder) (rest : List Token) (tail : List Piece) → order_item_at ts ≡ Some (x, rest) → Fits tail rest → Fits (order_item x tail) ts
     item_takes ts x rest tail e h =
-      let b = bind_some (name_at ts) (λ n. Some (record { column = n.0; descending = (direction_at n.1).0 }, (direction_at n.1).1)) (x, rest) e in
-      let parts = pair_parts (record { column = b.0.0; descending = (direction_at b.0.1).0 }) x ((direction_at b.0.1).1) rest b.2 in
-      let x-is : record { column = b.0.0; descending = (direction_at b.0.1).0 } ≡ x = parts.0 in
-      let rest-is : (direction_at b.0.1).1 ≡ rest = parts.1 in
-      subst (λ (o : NamedOrder). Fits (order_item o tail) ts) x-is (name_exact.takes ts b.0.0 b.0.1 (direction (direction_at b.0.1).0 ∷ tail) b.1 (direction_takes b.0.1 tail (subst (λ ts. Fits tail ts) (sym rest-is) h)))
+        let b = bind_some (name_at ts) (λ n. Some (record { column = n.0; descending = (direction_at n.1).0 }, (direction_at n.1).1)) (x, rest) e in
+        let parts = pair_parts (record { column = b.0.0; descending = (direction_at b.0.1).0 }) x ((direction_at b.0.1).1) rest b.2 in
+        let x-is : record { column = b.0.0; descending = (direction_at b.0.1).0 } ≡ x = parts.0 in
+        let rest-is : (direction_at b.0.1).1 ≡ rest = parts.1 in
+        subst (λ (o : NamedOrder). Fits (order_item o tail) ts) x-is (name_exact.takes ts b.0.0 b.0.1 (direction (direction_at b.0.1).0 ∷ tail) b.1 (direction_takes b.0.1 tail (subst (λ ts. Fits tail ts) (sym rest-is) h)))
+
     item_again : (ts : List Token) (x : NamedOrder) (tail : List Piece) → Directs tail → Fits (order_item x tail) ts → (rest : List Token) × (order_item_at ts ≡ Some (x, rest)) × Fits tail rest
     item_again ts x tail c h =
-      let a = name_exact.again ts x.column (direction x.descending ∷ tail) tt h in
-      let b = direction_again a.0 x.descending tail c a.2 in
-      (b.0, rw (a.1, b.1) refl, b.2)
+        let a = name_exact.again ts x.column (direction x.descending ∷ tail) tt h in
+        let b = direction_again a.0 x.descending tail c a.2 in
+        (b.0, rw (a.1, b.1) refl, b.2)
 
 direction_shortens : (ts : List Token) → length (direction_at ts).1 ≤ length ts
 unfolding direction_at
@@ -317,6 +320,7 @@ direction_shortens ts = by_asc (after_key (codes "asc") ts) refl
     by_desc : (o : Option (List Token)) → after_key (codes "desc") ts ≡ o → length (choose {B = Bool × List Token} o (λ rest. (true, rest)) (false, ts)).1 ≤ length ts
     by_desc (Some rest) e = omega (arith, after_shorter (is_key (codes "desc")) ts rest e)
     by_desc None e = omega arith
+
     by_asc : (o : Option (List Token)) → after_key (codes "asc") ts ≡ o → length (choose {B = Bool × List Token} o (λ rest. (false, rest)) (choose {B = Bool × List Token} (after_key (codes "desc") ts) (λ rest. (true, rest)) (false, ts))).1 ≤ length ts
     by_asc (Some rest) e = omega (arith, after_shorter (is_key (codes "asc")) ts rest e)
     by_asc None e = by_desc (after_key (codes "desc") ts) refl
@@ -340,8 +344,8 @@ none_ordered tail (token ∷ ts) h = none_separated is_comma order_item tail ts 
 pub order_exact : Exact order_at order OrderCloses
 order_exact = clause_exact (is_key (codes "order")) (behind (is_key (codes "by")) order_items_at) order_items (λ tail. Directs tail × Avoids is_comma tail)
     (behind_exact (is_key (codes "by")) order_items_at (separated is_comma order_item) (λ tail. Directs tail × Avoids is_comma tail)
-      (items_exact is_comma order_item_at order_item Directs order_item_exact order_item_shortens
-        (λ tail. (avoids_one is_comma (is_key (codes "asc")) tail (comma_key (codes "asc")), avoids_one is_comma (is_key (codes "desc")) tail (comma_key (codes "desc"))))))
+    (items_exact is_comma order_item_at order_item Directs order_item_exact order_item_shortens
+    (λ tail. (avoids_one is_comma (is_key (codes "asc")) tail (comma_key (codes "asc")), avoids_one is_comma (is_key (codes "desc")) tail (comma_key (codes "desc"))))))
     none_ordered
 
 pub limit_exact : Exact limit_at limit (λ tail. Always tail × Avoids (is_key (codes "limit")) tail)
@@ -366,20 +370,21 @@ assignment_exact = record { takes = set_takes; again = set_again }
   where
     set_takes : (ts : List Token) (x : Assignment) (rest : List Token) (tail : List Piece) → assignment_at ts ≡ Some (x, rest) → Fits tail rest → Fits (assignment x tail) ts
     set_takes ts x rest tail e h =
-      let b = bind_some (name_at ts) (λ n. after is_equal n.1 >>= λ more. text_at more >>= λ y. Some (record { column = n.0; value = y.0 }, y.1)) (x, rest) e in
-      let d = bind_some (after is_equal b.0.1) (λ more. text_at more >>= λ y. Some (record { column = b.0.0; value = y.0 }, y.1)) (x, rest) b.2 in
-      let f = bind_some (text_at d.0) (λ y. Some (record { column = b.0.0; value = y.0 }, y.1)) (x, rest) d.2 in
-      let parts = pair_parts (record { column = b.0.0; value = f.0.0 }) x (f.0.1) rest f.2 in
-      let x-is : record { column = b.0.0; value = f.0.0 } ≡ x = parts.0 in
-      let rest-is : f.0.1 ≡ rest = parts.1 in
-      subst (λ (a : Assignment). Fits (assignment a tail) ts) x-is (name_exact.takes ts b.0.0 b.0.1 (One (Compares Equal) ∷ One (Quotes f.0.0) ∷ tail) b.1
+        let b = bind_some (name_at ts) (λ n. after is_equal n.1 >>= λ more. text_at more >>= λ y. Some (record { column = n.0; value = y.0 }, y.1)) (x, rest) e in
+        let d = bind_some (after is_equal b.0.1) (λ more. text_at more >>= λ y. Some (record { column = b.0.0; value = y.0 }, y.1)) (x, rest) b.2 in
+        let f = bind_some (text_at d.0) (λ y. Some (record { column = b.0.0; value = y.0 }, y.1)) (x, rest) d.2 in
+        let parts = pair_parts (record { column = b.0.0; value = f.0.0 }) x (f.0.1) rest f.2 in
+        let x-is : record { column = b.0.0; value = f.0.0 } ≡ x = parts.0 in
+        let rest-is : f.0.1 ≡ rest = parts.1 in
+        subst (λ (a : Assignment). Fits (assignment a tail) ts) x-is (name_exact.takes ts b.0.0 b.0.1 (One (Compares Equal) ∷ One (Quotes f.0.0) ∷ tail) b.1
         (equal_takes b.0.1 d.0 (One (Quotes f.0.0) ∷ tail) d.1 (text_exact.takes d.0 f.0.0 f.0.1 tail f.1 (subst (λ ts. Fits tail ts) (sym rest-is) h))))
+
     set_again : (ts : List Token) (x : Assignment) (tail : List Piece) → Always tail → Fits (assignment x tail) ts → (rest : List Token) × (assignment_at ts ≡ Some (x, rest)) × Fits tail rest
     set_again ts x tail c h =
-      let a = name_exact.again ts x.column (One (Compares Equal) ∷ One (Quotes x.value) ∷ tail) tt h in
-      let k = equal_again a.0 (One (Quotes x.value) ∷ tail) a.2 in
-      let b = text_exact.again k.0 x.value tail tt k.2 in
-      (b.0, rw (a.1, k.1, b.1) refl, b.2)
+        let a = name_exact.again ts x.column (One (Compares Equal) ∷ One (Quotes x.value) ∷ tail) tt h in
+        let k = equal_again a.0 (One (Quotes x.value) ∷ tail) a.2 in
+        let b = text_exact.again k.0 x.value tail tt k.2 in
+        (b.0, rw (a.1, k.1, b.1) refl, b.2)
 
 pub assignment_shortens : Shortens assignment_at
 unfolding assignment_at
@@ -405,4 +410,4 @@ listed_exact = optional_exact is_open (before names_at is_close) listed Always
 pub values_exact : Exact values_at (λ list tail. key (codes "values") ∷ One (Passes is_open) ∷ separated is_comma text list (One (Passes is_close) ∷ tail)) Always
 values_exact = behind_exact (is_key (codes "values")) (behind is_open (before texts_at is_close)) (λ list tail. One (Passes is_open) ∷ separated is_comma text list (One (Passes is_close) ∷ tail)) Always
     (behind_exact is_open (before texts_at is_close) (λ list tail. separated is_comma text list (One (Passes is_close) ∷ tail)) Always
-      (before_exact texts_at is_close (separated is_comma text) (λ tail. Always tail × Avoids is_comma tail) texts_exact (λ tail. (tt, avoids_one is_close is_comma tail close_comma))))
+    (before_exact texts_at is_close (separated is_comma text) (λ tail. Always tail × Avoids is_comma tail) texts_exact (λ tail. (tt, avoids_one is_close is_comma tail close_comma))))

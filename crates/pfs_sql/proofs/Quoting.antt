@@ -61,8 +61,8 @@ inside_takes [] text rest e = absurd cc
 inside_takes (b ∷ []) text rest e =
     elim (cases_Bool (eqb b 39)) [
       | inl t ↦
-        let p = some_pair_parts [] text [] rest (rw t at e) in
-        subst (λ (x : List ℕ). (b ∷ [] ≡ body x ++ rest) × EndsAt (Quoted x) rest) p.0
+          let p = some_pair_parts [] text [] rest (rw t at e) in
+          subst (λ (x : List ℕ). (b ∷ [] ≡ body x ++ rest) × EndsAt (Quoted x) rest) p.0
           (subst (λ (r : List ℕ). (b ∷ [] ≡ body [] ++ r) × EndsAt (Quoted []) r) p.1 (ap (λ (k : ℕ). k ∷ []) (eqb-true b 39 t), tt))
       | inr t ↦ let f = rw t at e in absurd cc
     ]
@@ -70,21 +70,21 @@ inside_takes (b ∷ c ∷ bytes) text rest e =
     elim (cases_Bool (eqb b 39)) [
       | inl t ↦ elim (cases_Bool (eqb c 39)) [
         | inl u ↦
-          let w = text_front 39 (inside_of bytes) text rest (sym (inside_double b c bytes t u) ∙ e) in
-          let ih = inside_takes bytes w.0 rest w.1 in
-          let here : b ∷ c ∷ bytes ≡ body (39 ∷ w.0) ++ rest =
+            let w = text_front 39 (inside_of bytes) text rest (sym (inside_double b c bytes t u) ∙ e) in
+            let ih = inside_takes bytes w.0 rest w.1 in
+            let here : b ∷ c ∷ bytes ≡ body (39 ∷ w.0) ++ rest =
             ap (λ (k : ℕ). k ∷ c ∷ bytes) (eqb-true b 39 t) ∙ ap (λ (k : ℕ). 39 ∷ k ∷ bytes) (eqb-true c 39 u) ∙ ap (λ (l : List ℕ). 39 ∷ 39 ∷ l) ih.0 in
-          subst (λ (x : List ℕ). (b ∷ c ∷ bytes ≡ body x ++ rest) × EndsAt (Quoted x) rest) (sym w.2) (here, ih.1)
+            subst (λ (x : List ℕ). (b ∷ c ∷ bytes ≡ body x ++ rest) × EndsAt (Quoted x) rest) (sym w.2) (here, ih.1)
         | inr u ↦
-          let p = some_pair_parts [] text (c ∷ bytes) rest (sym (inside_close b c bytes t u) ∙ e) in
-          subst (λ (x : List ℕ). (b ∷ c ∷ bytes ≡ body x ++ rest) × EndsAt (Quoted x) rest) p.0
+            let p = some_pair_parts [] text (c ∷ bytes) rest (sym (inside_close b c bytes t u) ∙ e) in
+            subst (λ (x : List ℕ). (b ∷ c ∷ bytes ≡ body x ++ rest) × EndsAt (Quoted x) rest) p.0
             (subst (λ (r : List ℕ). (b ∷ c ∷ bytes ≡ body [] ++ r) × EndsAt (Quoted []) r) p.1 (ap (λ (k : ℕ). k ∷ c ∷ bytes) (eqb-true b 39 t), u))
-        ]
+      ]
       | inr t ↦
-        let w = text_front b (inside_of (c ∷ bytes)) text rest (sym (inside_plain b (c ∷ bytes) t) ∙ e) in
-        let ih = inside_takes (c ∷ bytes) w.0 rest w.1 in
-        let here : b ∷ c ∷ bytes ≡ body (b ∷ w.0) ++ rest = rw (body_plain b w.0 t) (ap (λ (l : List ℕ). b ∷ l) ih.0) in
-        subst (λ (x : List ℕ). (b ∷ c ∷ bytes ≡ body x ++ rest) × EndsAt (Quoted x) rest) (sym w.2) (here, ih.1)
+          let w = text_front b (inside_of (c ∷ bytes)) text rest (sym (inside_plain b (c ∷ bytes) t) ∙ e) in
+          let ih = inside_takes (c ∷ bytes) w.0 rest w.1 in
+          let here : b ∷ c ∷ bytes ≡ body (b ∷ w.0) ++ rest = rw (body_plain b w.0 t) (ap (λ (l : List ℕ). b ∷ l) ih.0) in
+          subst (λ (x : List ℕ). (b ∷ c ∷ bytes ≡ body x ++ rest) × EndsAt (Quoted x) rest) (sym w.2) (here, ih.1)
     ]
 
 closes : (rest : List ℕ) → EndsAt (Quoted []) rest → inside_of (39 ∷ rest) ≡ Some ([], rest)
@@ -97,9 +97,9 @@ inside_again [] rest h = closes rest h
 inside_again (b ∷ text) rest h =
     elim (cases_Bool (eqb b 39)) [
       | inl t ↦
-        let b-is = eqb-true b 39 t in
-        let one : inside_of (body (39 ∷ text) ++ rest) ≡ Some (39 ∷ text, rest) = inside_double 39 39 (body text ++ rest) refl refl ∙ rw (inside_again text rest h) refl in
-        subst (λ (k : ℕ). inside_of (body (k ∷ text) ++ rest) ≡ Some (k ∷ text, rest)) (sym b-is) one
+          let b-is = eqb-true b 39 t in
+          let one : inside_of (body (39 ∷ text) ++ rest) ≡ Some (39 ∷ text, rest) = inside_double 39 39 (body text ++ rest) refl refl ∙ rw (inside_again text rest h) refl in
+          subst (λ (k : ℕ). inside_of (body (k ∷ text) ++ rest) ≡ Some (k ∷ text, rest)) (sym b-is) one
       | inr t ↦ rw (body_plain b text t) (inside_plain b (body text ++ rest) t ∙ rw (inside_again text rest h) refl)
     ]
 
@@ -127,4 +127,3 @@ quoted_all text rest bytes so_far e =
     let one : inside_of rest ≡ closing rest = inside_steps rest ∙ rw e refl in
     let same : inside_of bytes ≡ with_text text (closing rest) = sym so_far ∙ ap (with_text text) one in
     ap (λ (r : Option (List ℕ × List ℕ)). r >>= λ x. Some (Quoted x.0, x.1)) same ∙ closed text rest
-

@@ -19,10 +19,13 @@ not_cut (faults.Error error) text h = (h.0, λ c s. h.1 s.0 s.1)
 
 pub not_spelled : (fault : SqlFault) (text : List ℕ) (tokens : List Token) → AreTokens text tokens → Fails fault (command_of tokens) → Refuses fault ((c : Command) → ¬ Says text c)
 not_spelled faults.NoMemory text tokens are h = tt
-not_spelled (faults.Error error) text tokens are h = (h.0, λ c s.
-    let spelled : Spells tokens c = subst (λ (ts : List Token). Spells ts c) (one_cut text s.0 tokens s.1 are) s.2 in
-    let both = sym h.1 ∙ spells_again tokens c spelled in
-    absurd cc)
+not_spelled (faults.Error error) text tokens are h = (
+  h.0,
+  λ c s.
+      let spelled : Spells tokens c = subst (λ (ts : List Token). Spells ts c) (one_cut text s.0 tokens s.1 are) s.2 in
+      let both = sym h.1 ∙ spells_again tokens c spelled in
+      absurd cc,
+)
 
 -- no text is two commands
 pub one_said : (text : List ℕ) (a b : Command) → Says text a → Says text b → a ≡ b

@@ -32,19 +32,27 @@ end_closes_conditions = ((tt, end_avoids (codes "and")), end_avoids (codes "wher
 
 order_closes_conditions : (s : SelectCommand) → ConditionsClose (order s.order (limit s.limit ending))
 order_closes_conditions s =
-    let tail : List Piece = limit s.limit ending in
-    ((tt, avoids_clause (is_key (codes "order")) (is_key (codes "and")) order_items s.order tail (keys_apart (codes "order") (codes "and") refl)
-      (avoids_optional (is_key (codes "limit")) (is_key (codes "and")) number s.limit ending (keys_apart (codes "limit") (codes "and") refl) (end_avoids (codes "and")))),
-    avoids_clause (is_key (codes "order")) (is_key (codes "where")) order_items s.order tail (keys_apart (codes "order") (codes "where") refl)
-      (avoids_optional (is_key (codes "limit")) (is_key (codes "where")) number s.limit ending (keys_apart (codes "limit") (codes "where") refl) (end_avoids (codes "where"))))
+    let tail : List Piece = limit s.limit ending in (
+      (
+        tt,
+        avoids_clause (is_key (codes "order")) (is_key (codes "and")) order_items s.order tail (keys_apart (codes "order") (codes "and") refl)
+            (avoids_optional (is_key (codes "limit")) (is_key (codes "and")) number s.limit ending (keys_apart (codes "limit") (codes "and") refl) (end_avoids (codes "and"))),
+      ),
+      avoids_clause (is_key (codes "order")) (is_key (codes "where")) order_items s.order tail (keys_apart (codes "order") (codes "where") refl)
+          (avoids_optional (is_key (codes "limit")) (is_key (codes "where")) number s.limit ending (keys_apart (codes "limit") (codes "where") refl) (end_avoids (codes "where"))),
+    )
 
 limit_avoids : (o : Option ℕ) (v : List ℕ) → bytes_eq (map to_ascii_lowercase (codes "limit")) (map to_ascii_lowercase v) ≡ false → Avoids (is_key v) (limit o ending)
 limit_avoids o v differ = avoids_optional (is_key (codes "limit")) (is_key v) number o ending (keys_apart (codes "limit") v differ) (end_avoids v)
 
 limit_closes_order : (o : Option ℕ) → OrderCloses (limit o ending)
-limit_closes_order o = (((limit_avoids o (codes "asc") refl, limit_avoids o (codes "desc") refl),
-    avoids_optional (is_key (codes "limit")) is_comma number o ending (key_comma (codes "limit")) (avoids_end is_semicolon is_comma semicolon_comma)),
-    limit_avoids o (codes "order") refl)
+limit_closes_order o = (
+  (
+    (limit_avoids o (codes "asc") refl, limit_avoids o (codes "desc") refl),
+    avoids_optional (is_key (codes "limit")) is_comma number o ending (key_comma (codes "limit")) (avoids_end is_semicolon is_comma semicolon_comma),
+  ),
+  limit_avoids o (codes "order") refl,
+)
 
 conditions_avoid_comma : (tests : List NamedTest) → Avoids is_comma (conditions tests ending)
 conditions_avoid_comma tests = avoids_clause (is_key (codes "where")) is_comma (separated (is_key (codes "and")) test) tests ending (key_comma (codes "where")) (avoids_end is_semicolon is_comma semicolon_comma)
@@ -74,7 +82,7 @@ select_takes ts more rest c first e h =
     let f2 = key_takes (is_key (codes "from")) x1.0.1 x2.0 (One (Table s.table) ∷ conditions s.tests (order s.order (limit s.limit ending))) x2.1 f3 in
     let f1 = columns_exact.takes more x1.0.0 x1.0.1 (key (codes "from") ∷ One (Table s.table) ∷ conditions s.tests (order s.order (limit s.limit ending))) x1.1 f2 in
     subst (λ (d : Command). Fits (spelling d) ts) c-is
-      (key_takes (is_key (codes "select")) ts more (columns s.columns (key (codes "from") ∷ One (Table s.table) ∷ conditions s.tests (order s.order (limit s.limit ending)))) first f1)
+    (key_takes (is_key (codes "select")) ts more (columns s.columns (key (codes "from") ∷ One (Table s.table) ∷ conditions s.tests (order s.order (limit s.limit ending)))) first f1)
 
 select_again : (ts : List Token) (s : SelectCommand) → Fits (columns s.columns (key (codes "from") ∷ One (Table s.table) ∷ conditions s.tests (order s.order (limit s.limit ending)))) ts
     → (rest : List Token) × (select_at ts ≡ Some (Select s, rest)) × Fits ending rest
@@ -109,7 +117,7 @@ update_takes ts more rest c first e h =
     let f2 = key_takes (is_key (codes "set")) x1.0.1 x2.0 (separated is_comma assignment u.sets t3) x2.1 f3 in
     let f1 = table_exact.takes more x1.0.0 x1.0.1 (key (codes "set") ∷ separated is_comma assignment u.sets t3) x1.1 f2 in
     subst (λ (d : Command). Fits (spelling d) ts) c-is
-      (key_takes (is_key (codes "update")) ts more (One (Table u.table) ∷ key (codes "set") ∷ separated is_comma assignment u.sets t3) first f1)
+    (key_takes (is_key (codes "update")) ts more (One (Table u.table) ∷ key (codes "set") ∷ separated is_comma assignment u.sets t3) first f1)
 
 update_again : (ts : List Token) (u : UpdateCommand) → Fits (One (Table u.table) ∷ key (codes "set") ∷ separated is_comma assignment u.sets (conditions u.tests ending)) ts
     → (rest : List Token) × (update_at ts ≡ Some (Update u, rest)) × Fits ending rest
@@ -143,7 +151,7 @@ insert_takes ts more rest c first e h =
     let f2 = table_exact.takes x1.0 x2.0.0 x2.0.1 (optional is_open listed i.columns (values i.values)) x2.1 f3 in
     let f1 = key_takes (is_key (codes "into")) more x1.0 (One (Table i.table) ∷ optional is_open listed i.columns (values i.values)) x1.1 f2 in
     subst (λ (d : Command). Fits (spelling d) ts) c-is
-      (key_takes (is_key (codes "insert")) ts more (key (codes "into") ∷ One (Table i.table) ∷ optional is_open listed i.columns (values i.values)) first f1)
+    (key_takes (is_key (codes "insert")) ts more (key (codes "into") ∷ One (Table i.table) ∷ optional is_open listed i.columns (values i.values)) first f1)
 
 insert_again : (ts : List Token) (i : InsertCommand) → Fits (key (codes "into") ∷ One (Table i.table) ∷ optional is_open listed i.columns (values i.values)) ts
     → (rest : List Token) × (insert_at ts ≡ Some (Insert i, rest)) × Fits ending rest
@@ -172,7 +180,7 @@ delete_takes ts more rest c first e h =
     let f2 = table_exact.takes x1.0 x2.0.0 x2.0.1 (conditions d.tests ending) x2.1 f3 in
     let f1 = key_takes (is_key (codes "from")) more x1.0 (One (Table d.table) ∷ conditions d.tests ending) x1.1 f2 in
     subst (λ (d : Command). Fits (spelling d) ts) c-is
-      (key_takes (is_key (codes "delete")) ts more (key (codes "from") ∷ One (Table d.table) ∷ conditions d.tests ending) first f1)
+    (key_takes (is_key (codes "delete")) ts more (key (codes "from") ∷ One (Table d.table) ∷ conditions d.tests ending) first f1)
 
 delete_again : (ts : List Token) (d : DeleteCommand) → Fits (key (codes "from") ∷ One (Table d.table) ∷ conditions d.tests ending) ts
     → (rest : List Token) × (delete_at ts ≡ Some (Delete d, rest)) × Fits ending rest
@@ -195,6 +203,7 @@ past_takes ts tail h = by_key (after_key (codes "table") ts) refl h
     by_end : (rest : List Token) (b : Bool) → after_key (codes "table") ts ≡ Some rest → Fits tail (cond b ts rest) → Fits (table tail) ts
     by_end rest true e h = may_none (is_key (codes "table")) ts tail h
     by_end rest false e h = may_takes (is_key (codes "table")) ts rest tail e h
+
     by_key : (o : Option (List Token)) → after_key (codes "table") ts ≡ o → Fits tail (choose o (λ rest. cond (ends rest) ts rest) ts) → Fits (table tail) ts
     by_key (Some rest) e h = by_end rest (ends rest) e h
     by_key None e h = may_none (is_key (codes "table")) ts tail h

@@ -1,6 +1,6 @@
 //! A command with its names as they are written.
 use crate::lists::{AssignmentList, NamedOrderList, NamedTestList, TextList};
-use pfs_text::{Text, TestKind};
+use pfs_text::{TestKind, Text};
 
 /// One condition of a `WHERE`: the column as it is written, and what it asks of the value there.
 #[derive(Debug, Drop)]

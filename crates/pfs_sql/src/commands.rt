@@ -11,9 +11,7 @@ use crate::kinds::conditions_at;
 use crate::lists::TextList;
 use crate::names::{columns_at, names_at, table_at, texts_at};
 use crate::token::Token;
-use crate::words::{
-    REFUSED, after_key, after_open, ends, expect_close, expect_key, expect_open,
-};
+use crate::words::{REFUSED, after_key, after_open, ends, expect_close, expect_key, expect_open};
 use std::alloc::Global;
 
 // Behind SELECT.
@@ -108,13 +106,7 @@ fn past_table(tokens: &[Token]) -> &[Token]
     ensures { result.now ≡ reading.past_table tokens.now }
 {
     match after_key(tokens, b"table") {
-        Some(rest) => {
-            if ends(rest) {
-                tokens
-            } else {
-                rest
-            }
-        }
+        Some(rest) => { if ends(rest) { tokens } else { rest } }
         None => tokens,
     }
 }
@@ -173,5 +165,9 @@ pub(crate) fn whole(alloc: Global, tokens: &[Token]) -> Result<Command, SqlFault
     ensures { reading.Gives (λ command. command) result (reading.whole tokens.now) }
 {
     let (command, rest) = command_at(alloc, tokens)?;
-    if ends(rest) { Ok(command) } else { Err(REFUSED) }
+    if ends(rest) {
+        Ok(command)
+    } else {
+        Err(REFUSED)
+    }
 }

@@ -41,10 +41,7 @@ fn like_at(tokens: &[Token]) -> Result<(TestKind, &[Token]), SqlFault>
 
 // What stands behind a comparison.
 #[tactic(auto, unfolding(crate::specs::Readings::compared_at))]
-fn compared_at(
-    comparison: Comparison,
-    tokens: &[Token],
-) -> Result<(TestKind, &[Token]), SqlFault>
+fn compared_at(comparison: Comparison, tokens: &[Token]) -> Result<(TestKind, &[Token]), SqlFault>
     ensures read { reading.Gives (λ x. (x.0, x.1.now)) result (reading.compared_at comparison tokens.now) }
     ensures shorter { IfOk result (λ x. length x.1.now < length tokens.now) }
 {

@@ -1,6 +1,6 @@
 //! Texts from MySQL's grammar with what each says, worked out by hand, and texts that say nothing.
 use crate::*;
-use pfs_text::{Comparison, Literal, Text, TestKind, put_u64, quote};
+use pfs_text::{Comparison, Literal, TestKind, Text, put_u64, quote};
 use std::test::Fail;
 
 fn put_names(out: &mut Vec<u8>, names: &[Text]) -> Result<(), NoMemory> {
@@ -63,7 +63,11 @@ fn put_tests(out: &mut Vec<u8>, tests: &[NamedTest]) -> Result<(), NoMemory> {
 
 fn put_order(out: &mut Vec<u8>, order: &[NamedOrder]) -> Result<(), NoMemory> {
     for item in order {
-        out.extend_from_slice(if item.descending { b" down " } else { b" upon " })?;
+        out.extend_from_slice(if item.descending {
+            b" down "
+        } else {
+            b" upon "
+        })?;
         out.extend_from_slice(item.column.as_bytes())?;
     }
     Ok(())
@@ -133,29 +137,77 @@ fn texts_say(rt: HostRuntime) -> Result<(), Fail> {
         ("SELECT * FROM performance_schema.users", "select users all"),
         ("SELECT * FROM Performance_Schema.Users", "select Users all"),
         ("SELECT from FROM from", "select from 'from'"),
-        ("SELECT select, where FROM order WHERE where = 1", "select order 'select' 'where' if where=1"),
+        (
+            "SELECT select, where FROM order WHERE where = 1",
+            "select order 'select' 'where' if where=1",
+        ),
         ("SELECT 1 FROM 2", "select 2 '1'"),
-        ("SELECT * FROM t WHERE a=0018446744073709551615", "select t all if a=18446744073709551615"),
-        ("SELECT * FROM t WHERE a <> 'x' AND b != 'it''s'", "select t all if a!'x' if b!'it''s'"),
-        ("SELECT * FROM t WHERE a<1 and b<=2 And c>3 aND d>=4", "select t all if a<1 if b<=2 if c>3 if d>=4"),
-        ("SELECT * FROM t WHERE a LIKE 'wait/%'", "select t all if a~'wait/%'"),
-        ("SELECT * FROM t WHERE a IS NULL AND b is not null", "select t all if a none if b some"),
-        ("SELECT * FROM t WHERE is IS NULL AND and LIKE ''", "select t all if is none if and~''"),
+        (
+            "SELECT * FROM t WHERE a=0018446744073709551615",
+            "select t all if a=18446744073709551615",
+        ),
+        (
+            "SELECT * FROM t WHERE a <> 'x' AND b != 'it''s'",
+            "select t all if a!'x' if b!'it''s'",
+        ),
+        (
+            "SELECT * FROM t WHERE a<1 and b<=2 And c>3 aND d>=4",
+            "select t all if a<1 if b<=2 if c>3 if d>=4",
+        ),
+        (
+            "SELECT * FROM t WHERE a LIKE 'wait/%'",
+            "select t all if a~'wait/%'",
+        ),
+        (
+            "SELECT * FROM t WHERE a IS NULL AND b is not null",
+            "select t all if a none if b some",
+        ),
+        (
+            "SELECT * FROM t WHERE is IS NULL AND and LIKE ''",
+            "select t all if is none if and~''",
+        ),
         ("SELECT * FROM t WHERE a=''''", "select t all if a=''''"),
-        ("SELECT * FROM t WHERE a='1'AND b=2", "select t all if a='1' if b=2"),
+        (
+            "SELECT * FROM t WHERE a='1'AND b=2",
+            "select t all if a='1' if b=2",
+        ),
         ("SELECT * FROM t ORDER BY a", "select t all upon a"),
-        ("SELECT * FROM t ORDER BY a ASC, b DESC, c", "select t all upon a down b upon c"),
-        ("SELECT * FROM t ORDER BY desc DESC", "select t all down desc"),
+        (
+            "SELECT * FROM t ORDER BY a ASC, b DESC, c",
+            "select t all upon a down b upon c",
+        ),
+        (
+            "SELECT * FROM t ORDER BY desc DESC",
+            "select t all down desc",
+        ),
         ("SELECT * FROM t ORDER BY asc", "select t all upon asc"),
-        ("SELECT * FROM t ORDER BY by LIMIT 007", "select t all upon by most 7"),
+        (
+            "SELECT * FROM t ORDER BY by LIMIT 007",
+            "select t all upon by most 7",
+        ),
         ("SELECT * FROM t LIMIT 0", "select t all most 0"),
-        ("SELECT a FROM t WHERE b = 1 ORDER BY c DESC LIMIT 5;", "select t 'a' if b=1 down c most 5"),
-        ("UPDATE setup_consumers SET ENABLED = 'NO'", "update setup_consumers ENABLED='NO'"),
-        ("update t set a='x',b='y' where c = 'z'", "update t a='x' b='y' if c='z'"),
+        (
+            "SELECT a FROM t WHERE b = 1 ORDER BY c DESC LIMIT 5;",
+            "select t 'a' if b=1 down c most 5",
+        ),
+        (
+            "UPDATE setup_consumers SET ENABLED = 'NO'",
+            "update setup_consumers ENABLED='NO'",
+        ),
+        (
+            "update t set a='x',b='y' where c = 'z'",
+            "update t a='x' b='y' if c='z'",
+        ),
         ("UPDATE set SET set='set'", "update set set='set'"),
-        ("INSERT INTO t VALUES ('a','b','c','d','e')", "insert t all: 'a' 'b' 'c' 'd' 'e'"),
+        (
+            "INSERT INTO t VALUES ('a','b','c','d','e')",
+            "insert t all: 'a' 'b' 'c' 'd' 'e'",
+        ),
         ("INSERT INTO t (HOST) VALUES('h');", "insert t 'HOST': 'h'"),
-        ("insert into values (values, into) values ('1', '2')", "insert values 'values' 'into': '1' '2'"),
+        (
+            "insert into values (values, into) values ('1', '2')",
+            "insert values 'values' 'into': '1' '2'",
+        ),
         ("DELETE FROM t", "delete t"),
         ("DELETE FROM t WHERE a = '' ;", "delete t if a=''"),
         ("TRUNCATE t", "truncate t"),

@@ -13,9 +13,9 @@ returns-in_err-assignment c =
 pub items-preserved : goal.items-preserved
 items-preserved c =
     rw c.in_ok-push.ensures.items (reads_more is_comma assignment_at (many is_comma assignment_at (length c.args.tokens.now) c.args.tokens.now) c.items.assignments.items c.items.rest.now c.in_ok-assignment.assignment c.in_ok-assignment.behind.now c.in-Some.more.now
-        c.items.invariant c.in_ok-assignment.ensures.read c.in_ok-assignment.ensures.shorter (sym c.in-Some.ensures.read))
+    c.items.invariant c.in_ok-assignment.ensures.read c.in_ok-assignment.ensures.shorter (sym c.in-Some.ensures.read))
 
 pub returns-in-None : goal.returns-in-None
 returns-in-None c =
     rw (c.new.ensures, c.in_ok-push.ensures.items) (reads_all is_comma assignment_at (many is_comma assignment_at (length c.args.tokens.now) c.args.tokens.now) c.items.assignments.items c.items.rest.now c.in_ok-assignment.assignment c.in_ok-assignment.behind.now
-        c.items.invariant c.in_ok-assignment.ensures.read c.in_ok-assignment.ensures.shorter (sym c.in-None.ensures.read))
+    c.items.invariant c.in_ok-assignment.ensures.read c.in_ok-assignment.ensures.shorter (sym c.in-None.ensures.read))

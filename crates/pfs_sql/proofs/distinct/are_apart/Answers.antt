@@ -17,6 +17,6 @@ names-preserved c =
     let low-is : c.in_ok-low.low ≡ lower c.name-item.result = c.in_ok-low.ensures ∙ ap lower c.as_bytes.ensures in
     let new : not (contains (slice_cmp nat_cmp) c.names.seen c.in_ok-low.low) ≡ true = sym c.in_ok-added.ensures.added ∙ c.if-not-added.false in
     fresh_more c.args.names.now c.args.names.now c.names.name-index c.name-item.result (contains (slice_cmp nat_cmp) c.names.seen) (contains (slice_cmp nat_cmp) c.insert.new.self)
-      c.names-test.true c.name-item.is c.names.invariant
-      (subst (λ (x : List ℕ). not (contains (slice_cmp nat_cmp) c.names.seen x) ≡ true) low-is new)
-      (λ q. c.in_ok-added.ensures.updates.0 q ∙ ap (λ (x : List ℕ). cond (is_eq (slice_cmp nat_cmp x q)) true (contains (slice_cmp nat_cmp) c.names.seen q)) low-is)
+    c.names-test.true c.name-item.is c.names.invariant
+    (subst (λ (x : List ℕ). not (contains (slice_cmp nat_cmp) c.names.seen x) ≡ true) low-is new)
+    (λ q. c.in_ok-added.ensures.updates.0 q ∙ ap (λ (x : List ℕ). cond (is_eq (slice_cmp nat_cmp x q)) true (contains (slice_cmp nat_cmp) c.names.seen q)) low-is)

@@ -14,9 +14,9 @@ returns-in_err-test c =
 pub items-preserved : goal.items-preserved
 items-preserved c =
     rw c.in_ok-push.ensures.items (reads_more (is_key (codes "and")) test_at (many (is_key (codes "and")) test_at (length c.args.tokens.now) c.args.tokens.now) c.items.tests.items c.items.rest.now c.in_ok-test.test c.in_ok-test.behind.now c.in-Some.more.now
-        c.items.invariant c.in_ok-test.ensures.read c.in_ok-test.ensures.shorter (sym c.in-Some.ensures.read))
+    c.items.invariant c.in_ok-test.ensures.read c.in_ok-test.ensures.shorter (sym c.in-Some.ensures.read))
 
 pub returns-in-None : goal.returns-in-None
 returns-in-None c =
     rw (c.new.ensures, c.in_ok-push.ensures.items) (reads_all (is_key (codes "and")) test_at (many (is_key (codes "and")) test_at (length c.args.tokens.now) c.args.tokens.now) c.items.tests.items c.items.rest.now c.in_ok-test.test c.in_ok-test.behind.now
-        c.items.invariant c.in_ok-test.ensures.read c.in_ok-test.ensures.shorter (sym c.in-None.ensures.read))
+    c.items.invariant c.in_ok-test.ensures.read c.in_ok-test.ensures.shorter (sym c.in-None.ensures.read))

@@ -12,7 +12,7 @@ returns-in_err-token c =
 pub tokens-preserved : goal.tokens-preserved
 tokens-preserved c =
     rw (c.in_ok-push.ensures.items, c.skip_blanks-rest-in-tokens.ensures.skipped)
-      (cut_more c.args.text.now c.tokens.tokens.items c.tokens.rest.now c.in_ok-token.token c.in_ok-token.after.now c.tokens.invariant c.in_ok-token.ensures.read)
+    (cut_more c.args.text.now c.tokens.tokens.items c.tokens.rest.now c.in_ok-token.token c.in_ok-token.after.now c.tokens.invariant c.in_ok-token.ensures.read)
 
 pub returns : goal.returns
 returns c = cut_all c.args.text.now c.tokens.tokens.items c.tokens.rest.now c.tokens.invariant (eqb-true _ 0 (sym (c.tokens-test.ensures)))

@@ -13,9 +13,9 @@ returns-in_err-name c =
 pub items-preserved : goal.items-preserved
 items-preserved c =
     rw c.in_ok-push.ensures.items (reads_more is_comma name_at (many is_comma name_at (length c.args.tokens.now) c.args.tokens.now) c.items.names.items c.items.rest.now c.in_ok-name.name c.in_ok-name.behind.now c.in-Some.more.now
-        c.items.invariant c.in_ok-name.ensures.read c.in_ok-name.ensures.shorter (sym c.in-Some.ensures.read))
+    c.items.invariant c.in_ok-name.ensures.read c.in_ok-name.ensures.shorter (sym c.in-Some.ensures.read))
 
 pub returns-in-None : goal.returns-in-None
 returns-in-None c =
     rw (c.new.ensures, c.in_ok-push.ensures.items) (reads_all is_comma name_at (many is_comma name_at (length c.args.tokens.now) c.args.tokens.now) c.items.names.items c.items.rest.now c.in_ok-name.name c.in_ok-name.behind.now
-        c.items.invariant c.in_ok-name.ensures.read c.in_ok-name.ensures.shorter (sym c.in-None.ensures.read))
+    c.items.invariant c.in_ok-name.ensures.read c.in_ok-name.ensures.shorter (sym c.in-None.ensures.read))
