@@ -1,4 +1,5 @@
 pub mod Deciding
 pub mod Examples
+pub mod ObjectNames
 pub mod OneOrder
 pub mod Orders

@@ -1,13 +1,17 @@
 //! Queries over rows: which rows, in which order, and what of them.
 #![tactic(auto)]
 
+mod building;
+mod checking;
 pub mod laws;
+mod planning;
 mod query;
 mod selecting;
 mod sorting;
 mod values;
 
-pub use query::{NumberList, Order, OrderList, Select};
+pub use planning::plan;
+pub use query::{NumberList, Order, OrderList, Plan, Select};
 pub use selecting::select;
 
 /// Memory ran out.

@@ -1,7 +1,7 @@
 //! A query whose names are resolved.
 ghost use Rattle.std.specs.Prelude.{◌≡◌};
 
-use pfs_changes::TestList;
+use pfs_changes::{Change, TestList};
 use pfs_rows::Table;
 use std::marker::Model;
 
@@ -81,4 +81,11 @@ pub struct Select {
     pub tests: TestList,
     pub order: OrderList,
     pub limit: Option<u64>,
+}
+
+/// What a command is planned as: a query over the rows of a table, or a change.
+#[derive(Debug, Drop)]
+pub enum Plan {
+    Select(Select),
+    Change(Change),
 }

@@ -2,6 +2,9 @@
 use crate::*;
 use pfs_changes::TestList;
 use pfs_rows::Table;
+use pfs_sql::{
+    Command, NamedOrderList, NamedTest, NamedTestList, SelectCommand, SqlError, SqlFault, TextList,
+};
 use pfs_text::{Comparison, Literal, Test, TestKind, Text};
 use pfs_values::{Row, RowValue, Rowset};
 use std::alloc::Global;
@@ -97,5 +100,50 @@ fn worked_rows(rt: HostRuntime) -> Result<(), Fail> {
     assert_eq!(rt; letters(alloc, &query, &rows)?.as_slice(), b"a".as_slice());
     let query = query_of(alloc, ascending, 9, Some(7))?;
     assert_eq!(rt; letters(alloc, &query, &rows)?.as_slice(), b"ad".as_slice());
+    Ok(())
+}
+
+// A SELECT of one column with one LIKE, and what it is refused with.
+fn refusal(
+    alloc: Global,
+    table: &str,
+    column: &str,
+    liked: &str,
+) -> Result<Option<SqlError>, NoMemory> {
+    let test = NamedTest {
+        column: Text::from_slice(alloc, liked.as_bytes())?,
+        kind: TestKind::Like(Text::from_slice(alloc, b"%")?),
+    };
+    let select = SelectCommand {
+        columns: Some(TextList::new(vec![in alloc; Text::from_slice(alloc, column.as_bytes())?]?)),
+        table: Text::from_slice(alloc, table.as_bytes())?,
+        tests: NamedTestList::new(vec![in alloc; test]?),
+        order: NamedOrderList::new(vec![in alloc]?),
+        limit: None,
+    };
+    match plan(alloc, Command::Select(select)) {
+        Ok(_) => Ok(None),
+        Err(SqlFault::Error(error)) => Ok(Some(error)),
+        Err(SqlFault::NoMemory) => Ok(Some(SqlError::TableFull)),
+    }
+}
+
+// Where two reasons hold, the first of their order is told.
+#[test]
+fn first_reason(rt: HostRuntime) -> Result<(), Fail> {
+    let alloc = rt.alloc();
+    assert_eq!(rt; refusal(alloc, "Users", "user", "USER")?, None);
+    assert_eq!(rt;
+        refusal(alloc, "nothing", "nobody", "x")?,
+        Some(SqlError::NoSuchTable)
+    );
+    assert_eq!(rt;
+        refusal(alloc, "threads", "nobody", "THREAD_ID")?,
+        Some(SqlError::UnknownColumn)
+    );
+    assert_eq!(rt;
+        refusal(alloc, "threads", "HISTORY", "THREAD_ID")?,
+        Some(SqlError::Parse)
+    );
     Ok(())
 }

@@ -1,0 +1,8 @@
+use Rattle.std.proofs.Common.{◌≡◌, drop}
+use Rattle.std.specs.List.{list_any}
+use Rattle.pfs_exec.specs.Planning as spec
+use Rattle.pfs_exec.proofs.checking.sets_unknown.Given as goal
+
+-- what was passed is in order, so what is left decides
+abbrev pub invariant-loop-set : goal.invariant-loop-set
+invariant-loop-set l = list_any (λ set. spec.is_unknown l.table set.column) l.sets ≡ list_any (λ set. spec.is_unknown l.table set.column) (drop l.set-index l.sets)
