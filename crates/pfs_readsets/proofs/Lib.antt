@@ -1,0 +1,3 @@
+pub mod Agreeing
+pub mod Passing
+pub mod Stepping

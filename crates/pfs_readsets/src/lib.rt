@@ -1,0 +1,10 @@
+//! Which rows of the board and which switch words a SELECT on a table reads, one after another.
+#![tactic(auto)]
+
+pub mod laws;
+mod places;
+mod read_set;
+mod target;
+
+pub use read_set::ReadSet;
+pub use target::Target;
