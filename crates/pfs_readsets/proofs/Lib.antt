@@ -1,3 +1,4 @@
 pub mod Agreeing
+pub mod Members
 pub mod Passing
 pub mod Stepping
