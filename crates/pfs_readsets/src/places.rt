@@ -137,7 +137,10 @@ fn is_history(kind: TableKind, place: u64) -> bool
     first <= place && place < first + 10
 }
 
-pub(crate) fn has_ring(table: Table, place: u64) -> bool
+/// Whether the table has the ring place, of the 56 that a thread has: 0 to 3 are its current waits by
+/// depth, 4 its current stage, 5 to 14 its current statements by depth, 15 its current transaction, and
+/// then come ten of each kind's history.
+pub fn has_ring(table: Table, place: u64) -> bool
     ensures { result ≡ spec.has_ring table place }
 {
     match table {
@@ -147,7 +150,8 @@ pub(crate) fn has_ring(table: Table, place: u64) -> bool
     }
 }
 
-pub(crate) fn has_long(table: Table, number: u64) -> bool
+/// Whether the table has the long history of the kind with this number.
+pub fn has_long(table: Table, number: u64) -> bool
     ensures { result ≡ spec.has_long table number }
 {
     match table {
