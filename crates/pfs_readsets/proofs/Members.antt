@@ -31,7 +31,7 @@ ascends test from (suc count) = on test from count (ascends test (from + 1) coun
         → AllPairs (λ a b. a < b) (passing test from (suc count))
     on test from count behind false is = subst (AllPairs (λ a b. a < b)) (sym (passing_no test from count is)) behind
     on test from count behind true is = subst (AllPairs (λ a b. a < b)) (sym (passing_yes test from count is))
-      (AllPairs-cons (λ a b. a < b) from (passing test (from + 1) count) (all_within (λ k. from < k) test (from + 1) count (λ k low high. omega arith)) behind)
+        (AllPairs-cons (λ a b. a < b) from (passing test (from + 1) count) (all_within (λ k. from < k) test (from + 1) count (λ k low high. omega arith)) behind)
 
 pub in_order : (scope : Scope) (table : Table) (readings : List Reading) → (rows words : List ℕ)
     × (read_set scope table readings ≡ map Row rows ++ map Word words)
@@ -39,6 +39,12 @@ pub in_order : (scope : Scope) (table : Table) (readings : List Reading) → (ro
     × All (λ row. row < 14242) rows × All (λ word. word < 160) words
 in_order scope table readings =
     let p = row_test scope table readings in
-    let w = word_test scope table readings in
-    (passing p 0 14242, passing w 0 160, refl, ascends p 0 14242, ascends w 0 160,
-      all_within (λ row. row < 14242) p 0 14242 (λ k low high. omega arith), all_within (λ word. word < 160) w 0 160 (λ k low high. omega arith))
+    let w = word_test scope table readings in (
+      passing p 0 14242,
+      passing w 0 160,
+      refl,
+      ascends p 0 14242,
+      ascends w 0 160,
+      all_within (λ row. row < 14242) p 0 14242 (λ k low high. omega arith),
+      all_within (λ word. word < 160) w 0 160 (λ k low high. omega arith),
+    )

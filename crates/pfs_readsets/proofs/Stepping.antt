@@ -49,7 +49,7 @@ own_row places set scope table readings r row below =
     ap (λ t. reads_row t (λ cell. slice_index_or set.cells cell false) set.digests (λ i. slice_index_or set.whole i false) row) r.table
     ∙ (ap (λ n. reads_row table (λ cell. slice_index_or set.cells cell false) n (λ i. slice_index_or set.whole i false) row) r.digests
     ∙ rows_same places table (λ cell. slice_index_or set.cells cell false) (has_cell scope table) scope.digests (λ i. slice_index_or set.whole i false) (is_whole readings) row below
-        (record { cells = r.cells; whole = λ info few low. r.whole info few }))
+    (record { cells = r.cells; whole = λ info few low. r.whole info few }))
 
 own_word : (set : ReadSet) (scope : Scope) (table : Table) (readings : List Reading) → Reached set scope table readings
     → (word : ℕ) → own_words set word ≡ word_test scope table readings word
@@ -62,9 +62,9 @@ own_is : RowsArePlaces → (set : ReadSet) (scope : Scope) (table : Table) (read
     → left_of set ≡ left_by scope table readings set
 own_is places set scope table readings r =
     let rows = passing_same (own_rows set) (row_test scope table readings) set.row (14242 - set.row)
-        (λ k low high. own_row places set scope table readings r k (omega (arith, r.row))) in
+    (λ k low high. own_row places set scope table readings r k (omega (arith, r.row))) in
     let words = passing_same (own_words set) (word_test scope table readings) set.word (160 - set.word)
-        (λ k low high. own_word set scope table readings r k) in
+    (λ k low high. own_word set scope table readings r k) in
     ap (λ l. map Row l ++ map Word (passing (own_words set) set.word (160 - set.word))) rows
     ∙ ap (λ l. map Row (passing (row_test scope table readings) set.row (14242 - set.row)) ++ map Word l) words
 
@@ -204,11 +204,11 @@ made_row set scope table before row r first test same words reading is =
     let p = row_test scope table before in
     let none : set.word ≡ zero = nothing (cases_lt 0 set.word) in
     let upto : passing test 0 (row + 1) ≡ passing p 0 set.row ++ row ∷ [] =
-        sym (passing_same p test 0 (row + 1) (λ k low high. same k (omega (arith, first.high, r.row)) (omega arith)))
-        ∙ (parted p set.row (row + 1) (omega (arith, first.low)) ∙ ap (λ l. passing p 0 set.row ++ l) (ap (λ n. passing p set.row (n - set.row)) (add-one row) ∙ first.alone)) in
+    sym (passing_same p test 0 (row + 1) (λ k low high. same k (omega (arith, first.high, r.row)) (omega arith)))
+    ∙ (parted p set.row (row + 1) (omega (arith, first.low)) ∙ ap (λ l. passing p 0 set.row ++ l) (ap (λ n. passing p set.row (n - set.row)) (add-one row) ∙ first.alone)) in
     let empty : map Word (passing words 0 set.word) ≡ [] = ap (λ n. map Word (passing words 0 n)) none ∙ ap (map Word) (passing_none words 0) in
     let before_empty : map Word (passing (word_test scope table before) 0 set.word) ≡ [] =
-        ap (λ n. map Word (passing (word_test scope table before) 0 n)) none ∙ ap (map Word) (passing_none (word_test scope table before) 0) in
+    ap (λ n. map Word (passing (word_test scope table before) 0 n)) none ∙ ap (map Word) (passing_none (word_test scope table before) 0) in
     map-append target_of before (reading ∷ [])
     ∙ (ap (λ t. map target_of before ++ t ∷ []) is
     ∙ (ap (λ l. l ++ Row row ∷ []) (r.made ∙ (ap (λ l. map Row (passing p 0 set.row) ++ l) before_empty ∙ append-nil (map Row (passing p 0 set.row))))
@@ -225,20 +225,22 @@ pub noted_row : RowsArePlaces → (set : ReadSet) (scope : Scope) (table : Table
 noted_row places set scope table before row seen r next =
     let head = head_row _ _ row next.0 (left_first set scope table before (Row row) r next) in
     let first = comes_first (row_test scope table before) set.row (14242 - set.row) row head.0 head.1 in
-    let below : row < 14242 = omega (arith, first.high, first.low, r.row) in
-    (below, record {
-      table = r.table;
-      cells = r.cells;
-      classes = r.classes;
-      digests = r.digests;
-      whole = flag_after set.whole before row seen r.flags r.whole;
-      flags = flags_long set.whole row seen r.flags;
-      row = omega arith;
-      word = r.word;
-      order = λ some. absurd (omega (arith, r.order some, first.low));
-      made = made_row set scope table before row r first (row_test scope table (before ++ readings.Slot row seen ∷ [])) (rows_after places scope table before row seen)
-          (word_test scope table (before ++ readings.Slot row seen ∷ [])) (readings.Slot row seen) refl;
-    })
+    let below : row < 14242 = omega (arith, first.high, first.low, r.row) in (
+      below,
+      record {
+        table = r.table;
+        cells = r.cells;
+        classes = r.classes;
+        digests = r.digests;
+        whole = flag_after set.whole before row seen r.flags r.whole;
+        flags = flags_long set.whole row seen r.flags;
+        row = omega arith;
+        word = r.word;
+        order = λ some. absurd (omega (arith, r.order some, first.low));
+        made = made_row set scope table before row r first (row_test scope table (before ++ readings.Slot row seen ∷ [])) (rows_after places scope table before row seen)
+            (word_test scope table (before ++ readings.Slot row seen ∷ [])) (readings.Slot row seen) refl;
+      },
+    )
 
 -- the reading of a word shows no row Whole
 whole_word : (before : List Reading) (word version flags info : ℕ) → is_whole (before ++ readings.Word word version flags ∷ []) info ≡ is_whole before info
@@ -248,7 +250,7 @@ rows_word : RowsArePlaces → (scope : Scope) (table : Table) (before : List Rea
     → row_test scope table before k ≡ row_test scope table (before ++ readings.Word word version flags ∷ []) k
 rows_word places scope table before word version flags k below =
     rows_same places table (has_cell scope table) (has_cell scope table) scope.digests (is_whole before) (is_whole (before ++ readings.Word word version flags ∷ [])) k below
-      (record { cells = λ cell few. refl; whole = λ info few low. sym (whole_word before word version flags info) })
+    (record { cells = λ cell few. refl; whole = λ info few low. sym (whole_word before word version flags info) })
 
 words_word : (scope : Scope) (table : Table) (before : List Reading) (word version flags k : ℕ)
     → word_test scope table before k ≡ word_test scope table (before ++ readings.Word word version flags ∷ []) k
@@ -258,18 +260,18 @@ words_word scope table before word version flags k =
 made_word : RowsArePlaces → (set : ReadSet) (scope : Scope) (table : Table) (before : List Reading) (word version flags : ℕ) → Reached set scope table before
     → passing (row_test scope table before) set.row (14242 - set.row) ≡ [] → ComesFirst (word_test scope table before) set.word (160 - set.word) word
     → map target_of (before ++ readings.Word word version flags ∷ [])
-      ≡ map Row (passing (row_test scope table (before ++ readings.Word word version flags ∷ [])) 0 14242)
-        ++ map Word (passing (word_test scope table (before ++ readings.Word word version flags ∷ [])) 0 (word + 1))
+    ≡ map Row (passing (row_test scope table (before ++ readings.Word word version flags ∷ [])) 0 14242)
+    ++ map Word (passing (word_test scope table (before ++ readings.Word word version flags ∷ [])) 0 (word + 1))
 made_word places set scope table before word version flags r none first =
     let after = before ++ readings.Word word version flags ∷ [] in
     let p = row_test scope table before in
     let w = word_test scope table before in
     let rows : passing (row_test scope table after) 0 14242 ≡ passing p 0 set.row =
-        sym (passing_same p (row_test scope table after) 0 14242 (λ k low high. rows_word places scope table before word version flags k (omega arith)))
-        ∙ (parted p set.row 14242 r.row ∙ (ap (λ l. passing p 0 set.row ++ l) none ∙ append-nil (passing p 0 set.row))) in
+    sym (passing_same p (row_test scope table after) 0 14242 (λ k low high. rows_word places scope table before word version flags k (omega arith)))
+    ∙ (parted p set.row 14242 r.row ∙ (ap (λ l. passing p 0 set.row ++ l) none ∙ append-nil (passing p 0 set.row))) in
     let words : passing (word_test scope table after) 0 (word + 1) ≡ passing w 0 set.word ++ word ∷ [] =
-        sym (passing_same w (word_test scope table after) 0 (word + 1) (λ k low high. words_word scope table before word version flags k))
-        ∙ (parted w set.word (word + 1) (omega (arith, first.low)) ∙ ap (λ l. passing w 0 set.word ++ l) (ap (λ n. passing w set.word (n - set.word)) (add-one word) ∙ first.alone)) in
+    sym (passing_same w (word_test scope table after) 0 (word + 1) (λ k low high. words_word scope table before word version flags k))
+    ∙ (parted w set.word (word + 1) (omega (arith, first.low)) ∙ ap (λ l. passing w 0 set.word ++ l) (ap (λ n. passing w set.word (n - set.word)) (add-one word) ∙ first.alone)) in
     map-append target_of before (readings.Word word version flags ∷ [])
     ∙ (ap (λ l. l ++ Word word ∷ []) r.made
     ∙ (append_assoc (map Row (passing p 0 set.row)) (map Word (passing w 0 set.word)) (Word word ∷ [])
@@ -283,16 +285,18 @@ pub noted_word : RowsArePlaces → (set : ReadSet) (scope : Scope) (table : Tabl
 noted_word places set scope table before word version flags r next =
     let head = head_word _ _ word next.0 (left_first set scope table before (Word word) r next) in
     let first = comes_first (word_test scope table before) set.word (160 - set.word) word head.1.0 head.1.1 in
-    let below : word < 160 = omega (arith, first.high, first.low, r.word) in
-    (below, record {
-      table = r.table;
-      cells = r.cells;
-      classes = r.classes;
-      digests = r.digests;
-      whole = λ info few. r.whole info few ∙ sym (whole_word before word version flags info);
-      flags = r.flags;
-      row = omega arith;
-      word = omega arith;
-      order = λ some. refl;
-      made = made_word places set scope table before word version flags r head.0 first;
-    })
+    let below : word < 160 = omega (arith, first.high, first.low, r.word) in (
+      below,
+      record {
+        table = r.table;
+        cells = r.cells;
+        classes = r.classes;
+        digests = r.digests;
+        whole = λ info few. r.whole info few ∙ sym (whole_word before word version flags info);
+        flags = r.flags;
+        row = omega arith;
+        word = omega arith;
+        order = λ some. refl;
+        made = made_word places set scope table before word version flags r head.0 first;
+      },
+    )

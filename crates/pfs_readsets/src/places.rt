@@ -93,7 +93,10 @@ pub(crate) fn has_accounts(table: Table) -> bool
 pub(crate) fn has_users(table: Table) -> bool
     ensures { result ≡ spec.has_users table }
 {
-    matches!(table, Table::Users | Table::Summary(_, SummaryTable::ByUser))
+    matches!(
+        table,
+        Table::Users | Table::Summary(_, SummaryTable::ByUser)
+    )
 }
 
 pub(crate) fn has_hosts(table: Table) -> bool

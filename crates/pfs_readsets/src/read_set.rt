@@ -8,7 +8,7 @@ use crate::places::{
     is_digest, is_global,
 };
 use pfs_classes::Setting;
-use pfs_rows::{laws, Place, Reading, Seen, Table, place_of};
+use pfs_rows::{Place, Reading, Seen, Table, laws, place_of};
 
 // Rows 1 to 128 are infos.
 const INFO_ROWS: usize = 129;
@@ -99,7 +99,8 @@ impl ReadSet {
             Place::UserInfo(_) => has_users(table),
             Place::HostInfo(_) => has_hosts(table),
             Place::ThreadCell { thread, cell } => has_threads(table) && self.opens(1, thread, cell),
-            Place::AccountCell { account, cell } => has_accounts(table) && self.opens(33, account, cell),
+            Place::AccountCell { account, cell } => has_accounts(table)
+                && self.opens(33, account, cell),
             Place::UserCell { user, cell } => has_users(table) && self.opens(65, user, cell),
             Place::HostCell { host, cell } => has_hosts(table) && self.opens(97, host, cell),
             Place::GlobalCell(cell) => is_global(table) && flag_at(&self.cells, cell),

@@ -46,8 +46,16 @@ some_event e =
     let class = class_back e.class e.link e.class_fits in
     let link = link_back e.class e.link e.class_fits in
     let nesting = nesting_back e.timed e.read_only e.nesting in
-    rw (class, link, nesting, timed_back e.timed e.read_only e.nesting, read_only_back e.timed e.read_only e.nesting,
-      le_test e.class 62 e.class_fits, le_test e.link 64 e.link_fits, le_test e.nesting 4 e.nesting_fits) refl
+    rw (
+      class,
+      link,
+      nesting,
+      timed_back e.timed e.read_only e.nesting,
+      read_only_back e.timed e.read_only e.nesting,
+      le_test e.class 62 e.class_fits,
+      le_test e.link 64 e.link_fits,
+      le_test e.nesting 4 e.nesting_fits,
+    ) refl
 
 and_left : (a b : Bool) → (a && b) ≡ true → a ≡ true
 and_left true b is = refl

@@ -1,3 +1,4 @@
 pub mod EventWords
+pub mod Examples
 pub mod Finding
 pub mod Putting

@@ -36,9 +36,24 @@ pub record Fields : Type 0 where
 
 abbrev pub fields_of : Event → Fields
 fields_of e = record {
-  session = e.session; number = e.number; last = e.last; class = e.class; link = e.link; nesting = e.nesting; parent = e.parent;
-  start = e.start; duration = e.duration; lock = e.lock; errors = e.errors; warnings = e.warnings; affected = e.affected;
-  sent = e.sent; examined = e.examined; ticket = e.ticket; timed = e.timed; read_only = e.read_only;
+  session = e.session;
+  number = e.number;
+  last = e.last;
+  class = e.class;
+  link = e.link;
+  nesting = e.nesting;
+  parent = e.parent;
+  start = e.start;
+  duration = e.duration;
+  lock = e.lock;
+  errors = e.errors;
+  warnings = e.warnings;
+  affected = e.affected;
+  sent = e.sent;
+  examined = e.examined;
+  ticket = e.ticket;
+  timed = e.timed;
+  read_only = e.read_only;
 }
 
 -- words are an event's where the class is at most 62, the link at most 64, the nesting at most 4, and word 5 is 0

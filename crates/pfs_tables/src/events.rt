@@ -108,7 +108,10 @@ fn event_head(alloc: Global, event: &Event, name: &str) -> Result<Vec<RowValue>,
         where_true(ended, event.last),
         name,
         where_true(event.timed, event.start),
-        where_true(event.timed && ended, event.start.wrapping_add(event.duration)),
+        where_true(
+            event.timed && ended,
+            event.start.wrapping_add(event.duration)
+        ),
         where_true(event.timed && ended, event.duration),
         where_true(event.nesting != 0, event.parent),
         nesting,
@@ -198,7 +201,12 @@ fn access_mode(alloc: Global, read_only: bool) -> Result<Row, NoMemory>
 
 // What the tables of a kind show beside. None where the setting lacks what it would show.
 #[tactic(auto, unfolding(crate::specs::Events::event_tail))]
-fn event_tail(alloc: Global, setting: &Setting, kind: TableKind, event: &Event) -> Result<Option<Row>, NoMemory>
+fn event_tail(
+    alloc: Global,
+    setting: &Setting,
+    kind: TableKind,
+    event: &Event,
+) -> Result<Option<Row>, NoMemory>
     ensures { IfOk result (λ row. row ≡ spec.event_tail setting.now kind (fields_of event.now)) }
 {
     match kind {
@@ -213,7 +221,12 @@ fn event_tail(alloc: Global, setting: &Setting, kind: TableKind, event: &Event) 
 }
 
 // The row of an event. None where the setting lacks what it would show.
-fn event_values(alloc: Global, setting: &Setting, kind: TableKind, event: &Event) -> Result<Option<Row>, NoMemory>
+fn event_values(
+    alloc: Global,
+    setting: &Setting,
+    kind: TableKind,
+    event: &Event,
+) -> Result<Option<Row>, NoMemory>
     ensures { IfOk result (λ row. row ≡ spec.event_values setting.now kind (fields_of event.now)) }
 {
     match class_name(setting, event.class) {

@@ -110,7 +110,12 @@ fn put_option(rows: &mut Rows, row: Option<Keyed>) -> Result<(), NoMemory>
     }
 }
 
-fn put_each(alloc: Global, rows: &mut Rows, flags: u16, consumers: &[Consumer]) -> Result<(), NoMemory>
+fn put_each(
+    alloc: Global,
+    rows: &mut Rows,
+    flags: u16,
+    consumers: &[Consumer],
+) -> Result<(), NoMemory>
     ensures { OnOk result (rows.new.entries ≡ put_rows rows.old.entries (map (spec.consumer_row flags) consumers.now)) }
 {
     for consumer in consumers {
@@ -182,7 +187,12 @@ fn in_order(alloc: Global, rows: Rows) -> Result<Vec<Row>, NoMemory>
 /// one place or one switch word: the setup tables of classes and consumers, threads, accounts,
 /// users, hosts and the event tables. Of others it shows nothing.
 #[tactic(auto, unfolding(crate::specs::Plain::plain_rows_of))]
-pub fn plain_rows(alloc: Global, setting: &Setting, table: Table, readings: &[Reading]) -> Result<Rowset, NoMemory>
+pub fn plain_rows(
+    alloc: Global,
+    setting: &Setting,
+    table: Table,
+    readings: &[Reading],
+) -> Result<Rowset, NoMemory>
     ensures { IfOk result (λ rows. rows ≡ spec.plain_rows_of setting.now table readings.now) }
 {
     let mut rows: BTreeMap<RowKey, Row> = BTreeMap::new(alloc);

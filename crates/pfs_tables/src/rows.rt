@@ -65,14 +65,26 @@ pub(crate) fn flags_at(readings: &[Reading], word: u64) -> u16
     0
 }
 
-fn thread_values(alloc: Global, info: &ThreadInfo, flags: u16, user: &str, host: &str) -> Result<Row, NoMemory>
+fn thread_values(
+    alloc: Global,
+    info: &ThreadInfo,
+    flags: u16,
+    user: &str,
+    host: &str,
+) -> Result<Row, NoMemory>
     ensures { IfOk result (λ row. row ≡ spec.thread_values info.now flags user.now host.now) }
 {
     let user = text_value(alloc, user.as_bytes())?;
     let host = text_value(alloc, host.as_bytes())?;
     let instrumented = bit_value(alloc, flags, 0)?;
     let history = bit_value(alloc, flags, 1)?;
-    let values = vec![in alloc; RowValue::Number(info.session), user, host, instrumented, history]?;
+    let values = vec![in alloc;
+        RowValue::Number(info.session),
+        user,
+        host,
+        instrumented,
+        history,
+    ]?;
     Ok(Row::new(values))
 }
 
@@ -99,16 +111,32 @@ pub(crate) fn thread_row(
     }
 }
 
-fn account_values(alloc: Global, info: &AccountInfo, user: &str, host: &str) -> Result<Row, NoMemory>
+fn account_values(
+    alloc: Global,
+    info: &AccountInfo,
+    user: &str,
+    host: &str,
+) -> Result<Row, NoMemory>
     ensures { IfOk result (λ row. row ≡ spec.account_values info.now user.now host.now) }
 {
     let user = text_value(alloc, user.as_bytes())?;
     let host = text_value(alloc, host.as_bytes())?;
-    let values = vec![in alloc; user, host, RowValue::Number(info.current), RowValue::Number(info.total)]?;
+    let values = vec![in alloc;
+        user,
+        host,
+        RowValue::Number(info.current),
+        RowValue::Number(info.total),
+    ]?;
     Ok(Row::new(values))
 }
 
-fn named_account(alloc: Global, place: u64, info: &AccountInfo, user: &str, host: &str) -> Result<Keyed, NoMemory>
+fn named_account(
+    alloc: Global,
+    place: u64,
+    info: &AccountInfo,
+    user: &str,
+    host: &str,
+) -> Result<Keyed, NoMemory>
     ensures { IfOk result (λ row. row ≡ (spec_name_key user.now host.now place, spec.account_values info.now user.now host.now)) }
 {
     let row = account_values(alloc, info, user, host)?;
@@ -143,7 +171,11 @@ fn named_row(alloc: Global, place: u64, info: &NameInfo, name: &str) -> Result<K
     ensures { IfOk result (λ row. row ≡ (spec_name_key name.now [] place, spec.name_values info.now name.now)) }
 {
     let shown = text_value(alloc, name.as_bytes())?;
-    let values = vec![in alloc; shown, RowValue::Number(info.current), RowValue::Number(info.total)]?;
+    let values = vec![in alloc;
+        shown,
+        RowValue::Number(info.current),
+        RowValue::Number(info.total),
+    ]?;
     let name = Text::from_slice(alloc, name.as_bytes())?;
     let key = name_key(name, Text::new(Vec::new(alloc)), place);
     Ok((key, Row::new(values)))
@@ -182,7 +214,12 @@ fn class_values(alloc: Global, flags: u16, name: &str) -> Result<Row, NoMemory>
 /// The row of the class whose flags this word has, with its place in the order. None where the word
 /// is no class's.
 #[tactic(auto, unfolding(crate::specs::Plain::class_row))]
-pub(crate) fn class_row(alloc: Global, setting: &Setting, word: u64, flags: u16) -> Result<Option<Keyed>, NoMemory>
+pub(crate) fn class_row(
+    alloc: Global,
+    setting: &Setting,
+    word: u64,
+    flags: u16,
+) -> Result<Option<Keyed>, NoMemory>
     ensures { IfOk result (λ row. row ≡ spec.class_row setting.now word flags) }
 {
     if word < 33 {
@@ -204,5 +241,8 @@ pub(crate) fn consumer_row(alloc: Global, flags: u16, consumer: Consumer) -> Res
     let name = text_value(alloc, consumer.name().as_bytes())?;
     let flag = flag_value(alloc, Flags(flags).get(consumer))?;
     let values = vec![in alloc; name, flag]?;
-    Ok((number_key(alloc, u64::from(consumer.bit()), 0, 0), Row::new(values)))
+    Ok((
+        number_key(alloc, u64::from(consumer.bit()), 0, 0),
+        Row::new(values),
+    ))
 }

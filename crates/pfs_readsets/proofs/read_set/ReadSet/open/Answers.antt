@@ -17,5 +17,5 @@ returns c = record {
   word = omega arith;
   order = λ some. absurd (omega arith);
   made = sym (ap (λ l. map Row l ++ map Word (passing (word_test (scope_of c.args.setting.now) c.args.table []) 0 0)) (passing_none (row_test (scope_of c.args.setting.now) c.args.table []) 0)
-    ∙ ap (map Word) (passing_none (word_test (scope_of c.args.setting.now) c.args.table []) 0));
+      ∙ ap (map Word) (passing_none (word_test (scope_of c.args.setting.now) c.args.table []) 0));
 }
