@@ -1,6 +1,6 @@
 -- When two ways to say which infos were Whole, and which cells a table has, read the same.
-use Rattle.std.proofs.Common.{◌≡◌, ℕ, ◌+◌, ◌*◌, ◌<◌, Bool, true, false, Option, Some, None, List, [], ◌∷◌, ◌++◌, refl, sym, ◌∙◌, ap, arith}
-use Rattle.std.specs.Prelude.{◌&&◌, ◌||◌, nat_lt}
+use Rattle.std.proofs.Common.{◌≡◌, ℕ, ◌+◌, ◌<◌, Bool, Some, refl, sym, ◌∙◌, ap, arith}
+use Rattle.std.specs.Prelude.{◌&&◌}
 use Rattle.pfs_rows.specs.declared.place.Place.{Place}
 use Rattle.pfs_rows.specs.declared.place.Place.TheVariants.{Admin, ThreadInfo, AccountInfo, UserInfo, HostInfo, ThreadCell, AccountCell, UserCell, HostCell, GlobalCell, DigestNull, Digest, Ring, Long}
 use Rattle.pfs_rows.specs.declared.table.Table.{Table}

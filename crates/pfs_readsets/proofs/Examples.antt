@@ -1,11 +1,11 @@
 -- Worked examples.
-use Rattle.std.proofs.Common.{◌≡◌, Bool, true, false, List, [], ◌∷◌, refl}
+use Rattle.std.proofs.Common.{◌≡◌, true, false, List, [], ◌∷◌, refl}
 use Rattle.pfs_rows.specs.declared.table.Table.TheVariants as tables
-use Rattle.pfs_rows.specs.declared.table.TableKind.TheVariants.{Waits, Stages, Statements}
+use Rattle.pfs_rows.specs.declared.table.TableKind.TheVariants.{Waits, Stages}
 use Rattle.pfs_rows.specs.declared.table.EventTable.TheVariants.{History, HistoryLong}
 use Rattle.pfs_rows.specs.declared.table.SummaryTable.TheVariants.{ByThread, ByAccount, Global}
 use Rattle.pfs_rows.specs.declared.table.Reading.{Reading}
-use Rattle.pfs_rows.specs.declared.table.Reading.TheVariants.{Slot, Word}
+use Rattle.pfs_rows.specs.declared.table.Reading.TheVariants.{Slot}
 use Rattle.pfs_rows.specs.declared.table.Seen.TheVariants.{Whole, Free}
 use Rattle.pfs_classes.specs.declared.classes.Class.{Class}
 use Rattle.pfs_classes.specs.declared.kind.Kind.{Kind}

@@ -1,7 +1,6 @@
 -- A read set goes on by one reading, and tells what comes next.
-use Rattle.std.proofs.Common.{◌≡◌, ℕ, zero, suc, ◌+◌, ◌-◌, ◌<◌, ◌≤◌, Bool, true, false, eqb, List, [], ◌∷◌, ◌++◌, length, map, Option, Some, None, MatchOption, ◌⊎◌, inl, inr, refl, sym, ◌∙◌, ap, arith, zero-add, add-one, append_assoc, get_or, set, length-set, get_or-set_same, get_or-set_other}
+use Rattle.std.proofs.Common.{◌≡◌, ℕ, zero, ◌+◌, ◌-◌, ◌<◌, ◌≤◌, Bool, true, false, List, [], ◌∷◌, ◌++◌, length, map, Some, None, ◌⊎◌, inl, inr, refl, sym, ◌∙◌, ap, arith, zero-add, add-one, append_assoc, set, length-set, get_or-set_same, get_or-set_other}
 use Rattle.std.specs.Prelude.{◌&&◌, ◌||◌, ◌==◌, nat_lt, nat_le, slice_index_or, slice_set, if◌then◌else◌}
-use Rattle.std.specs.List.{list_any}
 use Rattle.std.proofs.lemmas.List.{append_cancel_left, append-nil, map-append}
 use Rattle.std.proofs.lemmas.List.Folds.{list_any-append}
 use Rattle.std.proofs.lemmas.Bool.Decides.{nat_tests}
@@ -19,7 +18,7 @@ use Rattle.pfs_readsets.specs.Places.{Scope, has_cell, reads_word}
 use Rattle.pfs_readsets.specs.ReadSets.{target_of, found_whole, shows_whole, is_whole, reads_row, passing, row_test, word_test, read_set, IsReadSet, IsNext}
 use Rattle.pfs_readsets.specs.Steps.{Reached, own_rows, own_words, FirstPassing, behind_row, behind_word}
 use Rattle.pfs_readsets.proofs.Passing.{passing_none, passing_split, passing_same, none_to, ComesFirst, comes_first}
-use Rattle.pfs_readsets.proofs.Agreeing.{Agree, RowsArePlaces, rows_same}
+use Rattle.pfs_readsets.proofs.Agreeing.{RowsArePlaces, rows_same}
 
 -- words read the same where the infos agree
 gated : (a b x y : Bool) → (b ≡ true → x ≡ y) → ((a && b) && x) ≡ ((a && b) && y)

@@ -1,4 +1,4 @@
-use Rattle.std.proofs.Common.{◌≡◌, ◌<◌, ◌≢◌, ◌∙◌, ap, sym, refl, arith, length-set, get_or-set_same, get_or-set_other, below_more, false}
+use Rattle.std.proofs.Common.{◌∙◌, arith, length-set, get_or-set_same, get_or-set_other, below_more, false}
 use Rattle.pfs_readsets.proofs.places.cells_of.Goals as goal
 
 pub loop-cell-preserved : goal.loop-cell-preserved

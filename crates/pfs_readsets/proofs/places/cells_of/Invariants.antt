@@ -1,4 +1,4 @@
-use Rattle.std.proofs.Common.{◌≡◌, ◌<◌, ℕ, Bool, false, length, slice_index_or}
+use Rattle.std.proofs.Common.{◌≡◌, ◌<◌, ℕ, false, length, slice_index_or}
 use Rattle.pfs_readsets.specs.Places.{scope_of, has_cell}
 use Rattle.pfs_readsets.proofs.places.cells_of.Given as goal
 

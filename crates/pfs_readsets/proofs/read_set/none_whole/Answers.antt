@@ -1,5 +1,4 @@
-use Rattle.std.proofs.Common.{◌≡◌, ℕ, zero, suc, false, Bool, refl, replicate, slice_index_or}
-use Rattle.std.proofs.lemmas.List.{get_or-replicate}
+use Rattle.std.proofs.Common.{◌≡◌, ℕ, zero, suc, false, refl, replicate, slice_index_or}
 use Rattle.pfs_readsets.proofs.read_set.none_whole.Goals as goal
 
 all_false : (n row : ℕ) → slice_index_or (replicate n false) row false ≡ false

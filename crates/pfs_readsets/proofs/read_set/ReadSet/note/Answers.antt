@@ -1,6 +1,3 @@
-use Rattle.std.proofs.Common.{sym, ap, subst}
-use Rattle.pfs_rows.specs.declared.table.Reading.{Reading}
-use Rattle.pfs_rows.specs.declared.table.Reading.TheVariants as readings
 use Rattle.pfs_readsets.proofs.Agreeing.{rows_are_places}
 use Rattle.pfs_readsets.proofs.Stepping.{noted_row, noted_word}
 use Rattle.pfs_readsets.proofs.read_set.ReadSet.note.Goals as goal

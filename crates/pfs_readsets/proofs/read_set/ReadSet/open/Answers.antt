@@ -1,4 +1,4 @@
-use Rattle.std.proofs.Common.{◌≡◌, ◌++◌, List, [], length, map, refl, ap, sym, ◌∙◌, arith}
+use Rattle.std.proofs.Common.{◌++◌, [], length, map, refl, ap, sym, ◌∙◌, arith}
 use Rattle.pfs_readsets.specs.Places.{scope_of}
 use Rattle.pfs_readsets.specs.ReadSets.{passing, row_test, word_test}
 use Rattle.pfs_readsets.specs.declared.target.Target.TheVariants.{Row, Word}

@@ -1,4 +1,3 @@
-use Rattle.std.proofs.Common.{sym, ap, subst}
 use Rattle.pfs_readsets.proofs.Agreeing.{rows_are_places}
 use Rattle.pfs_readsets.proofs.Stepping.{told_row, told_word, told_none}
 use Rattle.pfs_readsets.proofs.read_set.ReadSet.target.Goals as goal
