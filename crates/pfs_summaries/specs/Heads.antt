@@ -9,12 +9,13 @@ use Rattle.pfs_rows.specs.declared.table.SummaryTable.{SummaryTable}
 use Rattle.pfs_rows.specs.declared.table.SummaryTable.TheVariants.{ByThread, ByAccount, ByUser, ByHost, Global}
 use Rattle.pfs_infos.specs.declared.AccountInfo.{AccountInfo}
 use Rattle.pfs_infos.specs.declared.NameInfo.{NameInfo}
+use Rattle.pfs_infos.specs.declared.ThreadInfo.{ThreadInfo}
 use Rattle.pfs_classes.specs.Registry.{text_of}
 use Rattle.pfs_values.specs.declared.RowValue.{RowValue}
 use Rattle.pfs_values.specs.declared.RowValue.TheVariants as value
 use Rattle.pfs_summaries.specs.declared.heads.Head.{Head}
 use Rattle.pfs_summaries.specs.declared.heads.RowKey.{RowKey}
-use Rattle.pfs_summaries.specs.Contents.{info_at, account_at, user_at, host_at}
+use Rattle.pfs_summaries.specs.Contents.{thread_at, account_at, user_at, host_at}
 
 -- an account's rows: where its names are the setting's
 abbrev pub account_head : List (List ℕ) → Option AccountInfo → Option Head
@@ -42,7 +43,8 @@ host_head names (Some info) =
 -- what the rows of a place begin with, or none where it has no rows. A thread's and the global rows stand whatever was counted, the others
 -- without a count only where a connection is there
 abbrev pub head_of : SummaryTable → List (List ℕ) → List (Option (List ℕ)) → ℕ → Option Head
-head_of ByThread names infos place = option_map (λ _. record { thread_id = place + 1; user = []; host = []; stands = true }) (info_at infos (1 + place))
+head_of ByThread names infos place =
+    option_map (λ (info : ThreadInfo). record { thread_id = info.session; user = []; host = []; stands = true }) (thread_at infos place)
 head_of ByAccount names infos place = account_head names (account_at infos place)
 head_of ByUser names infos place = user_head names (user_at infos place)
 head_of ByHost names infos place = host_head names (host_at infos place)

@@ -3,16 +3,17 @@
 ghost use Rattle.std.specs.Prelude.{◌≡◌, ◌<◌, ◌+◌, ◌++◌, ◌∷◌, [], ℕ, true, length, IfOk, OnOk};
 ghost use Rattle.std.specs.Option.{option_map};
 ghost use Rattle.pfs_values.specs.declared.RowValue.TheVariants as value;
-ghost use Rattle.pfs_infos.specs.Infos.{name_of};
+ghost use Rattle.pfs_infos.specs.Infos.{name_of, thread_of};
+ghost use Rattle.pfs_infos.specs.declared.ThreadInfo.{ThreadInfo};
 ghost use Rattle.pfs_classes.specs.Registry.{text_of};
-ghost use Rattle.pfs_summaries.specs.Contents.{info_at};
+ghost use Rattle.pfs_summaries.specs.Contents.{info_at, thread_at};
 ghost use Rattle.pfs_summaries.specs.Heads.{account_head, user_head, host_head, head_of, places_of, heading_of};
 ghost use Rattle.pfs_summaries.specs.Summaries.{key_at};
 
 use crate::NoMemory;
 use crate::contents::info_at;
 use crate::tallies::{PLACES, account_at};
-use pfs_infos::{AccountInfo, Content, NameInfo};
+use pfs_infos::{AccountInfo, Content, NameInfo, ThreadInfo};
 use pfs_names::{NameId, Names};
 use pfs_rows::SummaryTable;
 use pfs_text::Text;
@@ -146,10 +147,13 @@ fn standing(alloc: Global, thread_id: u64) -> Head
 
 fn thread_head(alloc: Global, infos: &[Option<Content>], thread: u64) -> Option<Head>
     requires { thread < 32 }
-    ensures { result ≡ option_map (λ _. record { thread_id = thread + 1; user = []; host = []; stands = true }) (info_at infos.now (1 + thread)) }
+    ensures { result ≡ option_map (λ (info : ThreadInfo). record { thread_id = info.session; user = []; host = []; stands = true }) (thread_at infos.now thread) }
 {
     match info_at(infos, 1 + thread as usize) {
-        Some(_) => Some(standing(alloc, thread + 1)),
+        Some(words) => Some(standing(
+            alloc,
+            ThreadInfo::of_content(&words).session,
+        )),
         None => None,
     }
 }
