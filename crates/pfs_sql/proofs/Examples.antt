@@ -13,9 +13,23 @@ use Rattle.pfs_sql.proofs.Lexing.{first_token}
 
 -- `a <1` is three tokens
 three_tokens : AreTokens (codes "a <1") (Word (codes "a") ∷ Compares Less ∷ Word (codes "1") ∷ [])
-three_tokens = ([], codes "a <1", codes " <1", refl, refl, (codes "a", (refl, lit< tt, refl), refl, refl),
-    (codes " ", codes "<1", codes "1", refl, refl, (codes "<", refl, refl, refl),
-    ([], codes "1", [], refl, refl, (codes "1", (refl, lit< tt, refl), refl, tt), refl)))
+three_tokens = (
+  [],
+  codes "a <1",
+  codes " <1",
+  refl,
+  refl,
+  (codes "a", (refl, lit< tt, refl), refl, refl),
+  (
+    codes " ",
+    codes "<1",
+    codes "1",
+    refl,
+    refl,
+    (codes "<", refl, refl, refl),
+    ([], codes "1", [], refl, refl, (codes "1", (refl, lit< tt, refl), refl, tt), refl),
+  ),
+)
 
 -- an open quote is no tokens
 open_quote : (tokens : List Token) → ¬ AreTokens (codes "'a") tokens
