@@ -5,6 +5,8 @@ mod events;
 mod orders;
 mod plain;
 mod rows;
+#[cfg(test)]
+mod tests;
 
 pub use orders::RowKey;
 pub use plain::plain_rows;

@@ -1,0 +1,282 @@
+//! Rows of each table by contents as sessions write them.
+
+ghost use Rattle.std.specs.Prelude.{◌≡◌, ◌≤◌};
+
+use crate::{NoMemory, plain_rows};
+use pfs_classes::{Classes, DigestList, DigestText, Setting, TableList, TableName};
+use pfs_event::{Event, EventKind};
+use pfs_names::Names;
+use pfs_rows::{EventTable, Limits, Reading, Seen, Table, TableKind};
+use pfs_text::{Text, put_u64};
+use pfs_values::{Row, RowValue};
+use std::alloc::Global;
+use std::test::Fail;
+
+// Names 0 to 3, the built-in classes, one table and one digest text.
+fn setting(alloc: Global) -> Result<Setting, Fail> {
+    let mut names = Names::new(alloc);
+    for name in ["u", "h", "b", "a"] {
+        names.intern(name)?;
+    }
+    if names.count() > 65_500 {
+        return Err(Fail::from("too many names"));
+    }
+    let limits = Limits::opening();
+    let classes = Classes::builtin(alloc, &mut names, &limits)?;
+    let mut tables = TableList::new(Vec::new(alloc));
+    let schema = Text::from_slice(alloc, b"shop")?;
+    let name = Text::from_slice(alloc, b"orders")?;
+    tables.push(TableName { schema, name })?;
+    let mut digests = DigestList::new(Vec::new(alloc));
+    let text = Text::from_slice(alloc, b"SELECT ?")?;
+    let hash = [171; 32];
+    digests.push(DigestText { text, hash })?;
+    Ok(Setting::new(names, classes, tables, digests, limits, 28_888))
+}
+
+fn whole(row: u64, content: [u64; 16]) -> Reading {
+    let version = 1;
+    let seen = Seen::Whole { version, content };
+    Reading::Slot { row, seen }
+}
+
+// A timed event of the first session that lies in nothing, and has not ended.
+fn event(number: u64, class: u64, start: u64) -> Event
+    requires { class ≤ 62 }
+    ensures { result.number ≡ number }
+{
+    Event {
+        session: 1,
+        number,
+        last: 0,
+        class,
+        link: 0,
+        nesting: 0,
+        parent: 0,
+        start,
+        duration: 0,
+        lock: 0,
+        errors: 0,
+        warnings: 0,
+        affected: 0,
+        sent: 0,
+        examined: 0,
+        ticket: 0,
+        timed: true,
+        read_only: false,
+    }
+}
+
+// It ended when so many events were drawn, and took so long.
+fn ended(event: Event, last: u64, duration: u64) -> Event {
+    let mut event = event;
+    event.last = last;
+    event.duration = duration;
+    event
+}
+
+// It lies in the event of this number.
+fn inside(event: Event, kind: EventKind, parent: u64) -> Event {
+    let mut event = event;
+    event.nesting = kind.nesting_number();
+    event.parent = parent;
+    event
+}
+
+fn put_value(out: &mut Vec<u8>, value: &RowValue) -> Result<(), NoMemory> {
+    match value {
+        RowValue::Null => out.extend_from_slice(b"NULL")?,
+        RowValue::Number(number) => put_u64(out, *number)?,
+        RowValue::Text(text) => out.extend_from_slice(text.as_bytes())?,
+    }
+    Ok(())
+}
+
+// The values of a row, each followed by a blank.
+fn put_values(out: &mut Vec<u8>, row: &Row) -> Result<(), NoMemory> {
+    for value in row.as_slice() {
+        put_value(out, value)?;
+        out.extend_from_slice(b" ")?;
+    }
+    Ok(())
+}
+
+// The rows that a table shows, one a line.
+fn shown(
+    alloc: Global,
+    setting: &Setting,
+    table: Table,
+    readings: &[Reading],
+) -> Result<Vec<u8>, NoMemory> {
+    let rows = plain_rows(alloc, setting, table, readings)?;
+    let mut out = Vec::new(alloc);
+    for row in rows.as_slice() {
+        put_values(&mut out, row)?;
+        out.extend_from_slice(b"\n")?;
+    }
+    Ok(out)
+}
+
+// A statement of 105 with two stages, in the first of which lies a wait of 20.
+#[test]
+fn histories(rt: HostRuntime) -> Result<(), Fail> {
+    let alloc = rt.alloc();
+    let setting = setting(alloc)?;
+    let wait = inside(ended(event(3, 6, 15), 3, 20), EventKind::Stage, 2);
+    let init = inside(ended(event(2, 12, 5), 3, 60), EventKind::Statement, 1);
+    let executing = inside(ended(event(4, 15, 65), 4, 40), EventKind::Statement, 1);
+    let mut statement = ended(event(1, 17, 0), 4, 105);
+    statement.link = 1;
+    let waits = [whole(8_466, wait.to_words())];
+    let rows = shown(alloc, &setting, history(TableKind::Waits), &waits)?;
+    assert_eq!(rt;
+        rows.as_slice(),
+        b"1 3 3 wait/io/file/sql/binlog 15 35 20 2 STAGE NULL NULL \n".as_slice()
+    );
+    let stages = [
+        whole(8_476, executing.to_words()),
+        whole(8_477, init.to_words()),
+    ];
+    let rows = shown(alloc, &setting, history(TableKind::Stages), &stages)?;
+    assert_eq!(rt; rows.as_slice(), TWO_STAGES);
+    let statements = [
+        whole(8_486, statement.to_words()),
+        whole(8_466, wait.to_words()),
+    ];
+    let rows = shown(alloc, &setting, history(TableKind::Statements), &statements)?;
+    assert_eq!(rt; rows.as_slice(), ONE_STATEMENT);
+    Ok(())
+}
+
+const TWO_STAGES: &[u8] =
+    b"1 2 3 stage/sql/init 5 65 60 1 STATEMENT \n1 4 4 stage/sql/executing 65 105 40 1 STATEMENT \n";
+
+const ONE_STATEMENT: &[u8] =
+    b"1 1 4 statement/sql/select 0 105 105 NULL NULL 0 0 0 0 0 0 abababababababababababababababababababababababababababababababab \n";
+
+fn history(kind: TableKind) -> Table {
+    Table::Events(kind, EventTable::History)
+}
+
+// Untimed and open, on a table, by ticket; and what gives no row.
+#[test]
+fn long_history(rt: HostRuntime) -> Result<(), Fail> {
+    let alloc = rt.alloc();
+    let setting = setting(alloc)?;
+    let mut late = event(7, 10, 50);
+    late.link = 1;
+    late.ticket = 1_001;
+    late.timed = false;
+    let mut early = event(6, 10, 40);
+    early.ticket = 3;
+    let mut unknown = event(5, 40, 30);
+    unknown.ticket = 4;
+    let mut far = event(4, 10, 20);
+    far.link = 2;
+    let readings = [
+        whole(10_242, late.to_words()),
+        Reading::Slot {
+            row: 10_243,
+            seen: Seen::Free { word: 0 },
+        },
+        whole(10_244, early.to_words()),
+        whole(10_245, unknown.to_words()),
+        whole(10_246, far.to_words()),
+        whole(10_247, [9; 16]),
+        Reading::Slot {
+            row: 10_248,
+            seen: Seen::Busy {
+                first: 2,
+                second: 2,
+            },
+        },
+    ];
+    let rows = shown(
+        alloc,
+        &setting,
+        Table::Events(TableKind::Waits, EventTable::HistoryLong),
+        &readings,
+    )?;
+    assert_eq!(rt; rows.as_slice(), BY_TICKET);
+    Ok(())
+}
+
+const BY_TICKET: &[u8] =
+    b"1 6 NULL wait/io/table/sql/handler 40 NULL NULL NULL NULL NULL NULL \n1 7 NULL wait/io/table/sql/handler NULL NULL NULL NULL NULL shop orders \n";
+
+// The info of a user with the name of this id, and connections now and in all.
+fn user(name: u64, current: u64, total: u64) -> [u64; 16] {
+    let mut words = [0; 16];
+    words[0] = name;
+    words[1] = current;
+    words[2] = total;
+    words
+}
+
+// The names "b" and "a" by their bytes; an id that the setting doesn't have gives no row.
+#[test]
+fn users(rt: HostRuntime) -> Result<(), Fail> {
+    let alloc = rt.alloc();
+    let setting = setting(alloc)?;
+    let readings = [
+        whole(65, user(2, 1, 1)),
+        whole(66, user(3, 0, 5)),
+        whole(67, user(99, 1, 1)),
+    ];
+    let rows = shown(alloc, &setting, Table::Users, &readings)?;
+    assert_eq!(rt; rows.as_slice(), b"a 0 5 \nb 1 1 \n".as_slice());
+    let rows = shown(alloc, &setting, Table::Hosts, &readings)?;
+    assert_eq!(rt; rows.as_slice(), b"".as_slice());
+    Ok(())
+}
+
+// A thread with its word, an account, and the words of a class and of the consumers.
+#[test]
+fn words(rt: HostRuntime) -> Result<(), Fail> {
+    let alloc = rt.alloc();
+    let setting = setting(alloc)?;
+    let mut info = [0; 16];
+    info[0] = 1;
+    info[5] = 1;
+    let readings = [
+        whole(1, info),
+        Reading::Word {
+            word: 1,
+            version: 1,
+            flags: 1,
+        },
+    ];
+    let rows = shown(alloc, &setting, Table::Threads, &readings)?;
+    assert_eq!(rt; rows.as_slice(), b"1 u h YES NO \n".as_slice());
+    let account = [whole(33, [0, 1, 1, 1, 2, 3, 0, 0, 0, 0, 0, 0, 0, 0, 0, 0])];
+    let rows = shown(alloc, &setting, Table::Accounts, &account)?;
+    assert_eq!(rt; rows.as_slice(), b"u h 2 3 \n".as_slice());
+    let classes = [
+        Reading::Word {
+            word: 95,
+            version: 0,
+            flags: 3,
+        },
+        Reading::Word {
+            word: 39,
+            version: 1,
+            flags: 1,
+        },
+    ];
+    let rows = shown(alloc, &setting, Table::SetupInstruments, &classes)?;
+    assert_eq!(rt;
+        rows.as_slice(),
+        b"wait/io/file/sql/binlog YES NO \ntransaction YES YES \n".as_slice()
+    );
+    let consumers = [Reading::Word {
+        word: 0,
+        version: 0,
+        flags: 28_888,
+    }];
+    let rows = shown(alloc, &setting, Table::SetupConsumers, &consumers)?;
+    assert!(rt;
+        rows.as_slice()
+            .starts_with(b"events_stages_current NO \nevents_stages_history NO \n")
+    );
+    Ok(())
+}
