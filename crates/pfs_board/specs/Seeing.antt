@@ -1,5 +1,5 @@
 -- What a read answers.
-use Rattle.std.specs.Prelude.{◌≡◌, ◌≢◌, ◌⊎◌, ℕ, ◌+◌, ◌*◌, ◌/◌, ◌%◌, ◌<◌, ◌≤◌, ◌==◌, ◌∷◌, if◌then◌else◌, List, length, refl}
+use Rattle.std.specs.Prelude.{◌≡◌, ◌≢◌, ◌⊎◌, ℕ, ◌+◌, ◌*◌, ◌/◌, ◌%◌, ◌^◌, ◌<◌, ◌≤◌, ◌==◌, ◌∷◌, if◌then◌else◌, List, length, refl}
 use Rattle.pfs_board.specs.declared.answers.Seen.{Seen}
 use Rattle.pfs_board.specs.declared.answers.Seen.TheVariants.{Whole, Free, Busy}
 use Rattle.pfs_board.specs.declared.view.Stage.TheVariants.{Idle}
@@ -32,6 +32,12 @@ abbrev pub read_looks : Seen → ℕ
 read_looks (Whole version content) = 2
 read_looks (Free word) = 1
 read_looks (Busy first second) = if first == second then 1 else 2
+
+-- the lock word that a whole read found is one of 64 bits
+abbrev pub IsNarrow : Seen → Type 0
+IsNarrow (Whole version content) = 4 * version + 2 < 2 ^ 64
+IsNarrow (Free word) = Unit {0}
+IsNarrow (Busy first second) = Unit {0}
 
 -- A read that the root makes while no other seat is out is never busy
 pub example_never_busy : (start : List ℕ) (first second : ℕ) (w : View)

@@ -10,7 +10,7 @@ ghost use Rattle.pfs_board.specs.History.{labels_of};
 ghost use Rattle.pfs_board.specs.Knowledge.{corner, is_holding, held, version_held, found_in, published_at, freed_at, joined, root, stake, weighed, ended, lent_with, restored, IsWhole};
 ghost use Rattle.pfs_board.specs.Known.{Place, Known, IsPoised, HasSeenItsOwn, place, known, first_view, IsSized, IsReady, HasRow, split_off, given, final_words};
 ghost use Rattle.pfs_board.specs.Opening.{opening_words};
-ghost use Rattle.pfs_board.specs.Seeing.{IsSeenAs, read_looks};
+ghost use Rattle.pfs_board.specs.Seeing.{IsSeenAs, IsNarrow, read_looks};
 ghost use Rattle.pfs_board.specs.Taking.{IsTaken, IsFrom, take_looks};
 
 use crate::actions::{enter_by, leave_by, lend_by, restore_by};
@@ -148,13 +148,14 @@ impl<V: Kept> Board<V> {
         (FinalRows { rows }, kept)
     }
 
-    /// A read of the whole row, in at most eighteen loads. It waits for nobody.
+    /// A read of the whole row, in at most eighteen loads. It waits for nobody. The lock word of a version that it shows has 64 bits.
     pub fn read(&self, seat: &mut BoardSeat, row: u64) -> Seen
         requires board { seat.old.board ≡ self.now.id }
         requires row { HasRow self.now row × (is_holding (corner seat.old.view row).stage ≡ false) }
         ensures board { seat.new.board ≡ seat.old.board }
         ensures answer { IsSeenAs seat.old.view row result seat.new.view }
         ensures looks { seat.new.view.looks ≡ seat.old.view.looks + read_looks result }
+        ensures narrow { IsNarrow result }
         ensures hands { IsAside seat.old.view row seat.new.view }
     {
         let badge = mem::replace(&mut seat.badge, Badge::blank());

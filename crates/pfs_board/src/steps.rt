@@ -2,7 +2,7 @@
 ghost use Rattle.std.specs.Prelude.{◌≡◌, ◌≢◌, ℕ, ◌+◌, ◌*◌, ◌/◌, ◌%◌, ◌<◌, ◌≤◌, Some, true, false, [], length};
 ghost use Rattle.pfs_board.specs.declared.view.Stage.TheVariants.{Reading, Holding};
 ghost use Rattle.pfs_board.specs.Knowledge.{corner, is_holding, held, version_held, found_in, published_at, freed_at, weighed};
-ghost use Rattle.pfs_board.specs.Seeing.{IsSeenAs, read_looks};
+ghost use Rattle.pfs_board.specs.Seeing.{IsSeenAs, IsNarrow, read_looks};
 ghost use Rattle.pfs_board.specs.Sitting.{IsAt, IsHeld};
 ghost use Rattle.pfs_board.specs.Taking.{IsTaken, IsFrom, take_looks};
 
@@ -86,6 +86,7 @@ fn read_rest<V: Kept>(top: &Top<V>, seat: &mut Sitting<V>, row: usize, first: u6
     ensures seat { (seat.new.table_id ≡ seat.old.table_id) × (seat.new.me.1 ≡ seat.old.me.1) }
     ensures answer { IsSeenAs seat.old.me.0 row result seat.new.me.0 }
     ensures looks { (seat.new.me.0.looks ≡ seat.old.me.0.looks + 1) × (read_looks result ≡ 2) }
+    ensures narrow { IsNarrow result }
 {
     let mut content = [0u64; 16];
     for i in 0..16 {
@@ -108,6 +109,7 @@ pub(crate) fn read_by<V: Kept>(top: &Top<V>, seat: &mut Sitting<V>, row: usize) 
     ensures seat { (seat.new.table_id ≡ seat.old.table_id) × (seat.new.me.1 ≡ seat.old.me.1) }
     ensures answer { IsSeenAs seat.old.me.0 row result seat.new.me.0 }
     ensures looks { seat.new.me.0.looks ≡ seat.old.me.0.looks + read_looks result }
+    ensures narrow { IsNarrow result }
 {
     let first = top.load::<Look>(seat, 17 * row);
     match LockWord::new(first).state() {

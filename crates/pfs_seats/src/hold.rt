@@ -1,0 +1,128 @@
+//! What an actor does inside an action, and as it pauses.
+
+ghost use Rattle.std.specs.Prelude.{◌≡◌, ◌≤◌, ℕ, List, Option, Some, None, IfSome, length, option_map};
+ghost use Rattle.std.proofs.Props.{props};
+ghost use Rattle.pfs_levels.specs.Calls.{Call, Opening};
+ghost use Rattle.pfs_seats.specs.Pen.{words_of};
+
+use crate::rows::BoardRows;
+use pfs_board::{Content, Kept};
+use pfs_levels::{Added, Hold, RingPut, Rows};
+use pfs_rows::Seen;
+use pfs_stat::Stat;
+use pfs_switches::Writer;
+use std::sync::Wait;
+
+/// The store of an actor that may also wait for rows and hold them, and set words where it was lent their writer.
+#[derive(Drop)]
+pub struct BoardHold<'a, 'b, R: Wait, V: Kept> {
+    rt: &'a R,
+    rows: &'a mut BoardRows<'b, V>,
+    writer: Option<Writer>,
+    ghost same: { IfSome writer (λ w. w.switches ≡ rows.now.switches.now.id) } by { Prim.hlevel props },
+    ghost wide: { IfSome writer (λ w. 160 ≤ length w.view.seen) } by { Prim.hlevel props },
+}
+
+impl<'a, 'b, R: Wait, V: Kept> BoardHold<'a, 'b, R, V> {
+    /// A hold over an actor's store. It may set words where it is lent their writer, whom the actor's seat meets here.
+    pub fn new(
+        rt: &'a R,
+        rows: &'a mut BoardRows<'b, V>,
+        writer: Option<Writer>,
+    ) -> BoardHold<'a, 'b, R, V>
+        requires wide { IfSome writer (λ w. 160 ≤ length w.view.seen) }
+        requires same { IfSome writer (λ w. (start : Opening) × (calls : List Call)
+            × (⟦<BoardRows<'b, V> as Rows>⟧.reached rows.old start calls) × (w.switches ≡ start.switches.table)) }
+        ensures call { (start : Opening) → (calls : List Call) → ⟦<BoardRows<'b, V> as Rows>⟧.reached rows.old start calls → ⟦<BoardHold<'a, 'b, R, V> as Rows>⟧.reached result start calls }
+        ensures left { ⟦<BoardHold<'a, 'b, R, V> as Rows>⟧.left result ≡ ⟦<BoardRows<'b, V> as Rows>⟧.left rows.old }
+        ensures draws { ⟦<BoardHold<'a, 'b, R, V> as Rows>⟧.draws result ≡ ⟦<BoardRows<'b, V> as Rows>⟧.draws rows.old }
+        ensures hand { (r : ℕ) → ⟦<BoardHold<'a, 'b, R, V> as Rows>⟧.hand result r ≡ ⟦<BoardRows<'b, V> as Rows>⟧.hand rows.old r }
+        ensures words { ⟦<BoardHold<'a, 'b, R, V> as Rows>⟧.words result ≡ option_map (λ w. words_of w.view) writer }
+        ensures name { ⟦<BoardHold<'a, 'b, R, V> as Rows>⟧.name result ≡ rows.entry.ghost_name }
+    {
+        match writer {
+            Some(pen) => {
+                let pen = rows.met(pen);
+                BoardHold {
+                    rt,
+                    rows,
+                    writer: Some(pen),
+                }
+            }
+            None => BoardHold {
+                rt,
+                rows,
+                writer: None,
+            },
+        }
+    }
+
+    /// Gives the writer back, where it was lent one.
+    pub fn into_writer(self) -> Option<Writer>
+        ensures words { option_map (λ w. words_of w.view) result ≡ ⟦<BoardHold<'a, 'b, R, V> as Rows>⟧.words self.entry }
+        ensures same { (start : Opening) → (calls : List Call) → ⟦<BoardHold<'a, 'b, R, V> as Rows>⟧.reached self.entry start calls → IfSome result (λ w. w.switches ≡ start.switches.table) }
+        ensures wide { IfSome result (λ w. 160 ≤ length w.view.seen) }
+    {
+        let BoardHold {
+            rt: _,
+            rows: _,
+            writer,
+        } = self;
+        writer
+    }
+}
+
+impl<'a, 'b, R: Wait, V: Kept> Rows for BoardHold<'a, 'b, R, V> {
+    ghost reached = { λ s. ⟦<BoardRows<'b, V> as Rows>⟧.reached s.rows.now };
+
+    ghost left = { λ s. ⟦<BoardRows<'b, V> as Rows>⟧.left s.rows.now };
+
+    ghost draws = { λ s. ⟦<BoardRows<'b, V> as Rows>⟧.draws s.rows.now };
+
+    ghost hand = { λ s. ⟦<BoardRows<'b, V> as Rows>⟧.hand s.rows.now };
+
+    ghost words = { λ s. option_map (λ w. words_of w.view) s.writer };
+
+    ghost name = { λ s. s.rows.ghost_name };
+
+    fn add_try(&mut self, row: u64, amount: &Stat) -> Added {
+        self.rows.add_try(row, amount)
+    }
+
+    fn ring_try(&mut self, row: u64, content: &Content) -> RingPut {
+        self.rows.ring_try(row, content)
+    }
+
+    fn read(&mut self, row: u64) -> Seen {
+        self.rows.read(row)
+    }
+
+    fn load(&mut self, word: u64) -> (u64, u16) {
+        self.rows.load(word)
+    }
+
+    fn ticket(&mut self, kind: u64) -> u64 {
+        self.rows.ticket(kind)
+    }
+}
+
+impl<'a, 'b, R: Wait, V: Kept> Hold for BoardHold<'a, 'b, R, V> {
+    fn take(&mut self, row: u64) -> (u64, Content) {
+        self.rows.take_row(self.rt, row)
+    }
+
+    fn put(&mut self, row: u64, content: &Content) -> u64 {
+        self.rows.put_row(row, content)
+    }
+
+    fn free(&mut self, row: u64) {
+        self.rows.free_row(row);
+    }
+
+    fn set(&mut self, word: u64, flags: u16) -> u64 {
+        match &mut self.writer {
+            Some(writer) => self.rows.set_word(writer, word, flags),
+            None => unreachable!(),
+        }
+    }
+}

@@ -1,0 +1,9 @@
+//! An actor's seats on the shared board, the setup words and the tickets, as a store.
+#![tactic(auto)]
+
+mod hold;
+mod holding;
+mod rows;
+
+pub use hold::BoardHold;
+pub use rows::{BoardRows, Seats};
