@@ -106,21 +106,28 @@ abbrev pub summary_numbers : TableKind → List Named
 summary_numbers Waits = time_numbers
 summary_numbers Stages = time_numbers
 summary_numbers Statements = time_numbers ++ statement_sums
-summary_numbers Transactions = time_numbers ++ (access_numbers (codes "_READ_WRITE") ++ access_numbers (codes "_READ_ONLY"))
+summary_numbers Transactions =
+    time_numbers ++ (access_numbers (codes "_READ_WRITE") ++ access_numbers (codes "_READ_ONLY"))
 
 -- the columns of a table
 abbrev pub columns_of : Table → List Named
-columns_of SetupActors = text (codes "HOST") ∷ text (codes "USER") ∷ text (codes "ROLE") ∷ text (codes "ENABLED") ∷ text (codes "HISTORY") ∷ []
-columns_of SetupObjects = text (codes "OBJECT_TYPE") ∷ text (codes "OBJECT_SCHEMA") ∷ text (codes "OBJECT_NAME") ∷ text (codes "ENABLED") ∷ text (codes "TIMED") ∷ []
+columns_of SetupActors =
+    text (codes "HOST") ∷ text (codes "USER") ∷ text (codes "ROLE") ∷ text (codes "ENABLED") ∷ text (codes "HISTORY")
+    ∷ []
+columns_of SetupObjects =
+    text (codes "OBJECT_TYPE") ∷ text (codes "OBJECT_SCHEMA") ∷ text (codes "OBJECT_NAME") ∷ text (codes "ENABLED")
+    ∷ text (codes "TIMED") ∷ []
 columns_of SetupInstruments = text (codes "NAME") ∷ text (codes "ENABLED") ∷ text (codes "TIMED") ∷ []
 columns_of SetupConsumers = text (codes "NAME") ∷ text (codes "ENABLED") ∷ []
-columns_of Threads = number (codes "THREAD_ID") ∷ text (codes "PROCESSLIST_USER") ∷ text (codes "PROCESSLIST_HOST") ∷ text (codes "INSTRUMENTED") ∷ text (codes "HISTORY") ∷ []
+columns_of Threads = number (codes "THREAD_ID") ∷ text (codes "PROCESSLIST_USER") ∷ text (codes "PROCESSLIST_HOST")
+    ∷ text (codes "INSTRUMENTED") ∷ text (codes "HISTORY") ∷ []
 columns_of Accounts = text (codes "USER") ∷ text (codes "HOST") ∷ connection_columns
 columns_of Users = text (codes "USER") ∷ connection_columns
 columns_of Hosts = text (codes "HOST") ∷ connection_columns
 columns_of (Events kind table) = event_columns ++ event_columns_of kind
 columns_of (Summary kind table) = summary_columns table ++ summary_numbers kind
-columns_of DigestSummary = text (codes "SCHEMA_NAME") ∷ text (codes "DIGEST") ∷ text (codes "DIGEST_TEXT") ∷ (time_numbers ++ statement_sums)
+columns_of DigestSummary =
+    text (codes "SCHEMA_NAME") ∷ text (codes "DIGEST") ∷ text (codes "DIGEST_TEXT") ∷ (time_numbers ++ statement_sums)
 
 abbrev pub has_name : List ℕ → Named → Bool
 has_name name column = is_same_name column.name name
@@ -135,12 +142,15 @@ kind_at table place = option_map (λ column. column.kind) (slice_get (columns_of
 
 -- the column at this place has this name, in any letter case
 abbrev pub IsColumn : Table → List ℕ → ℕ → Type 0
-IsColumn table name place = (column : Named) × (slice_get (columns_of table) place ≡ Some column) × SameName column.name name
+IsColumn table name place = (column : Named) × (slice_get (columns_of table) place ≡ Some column)
+    × SameName column.name name
 
 -- the names of a table's columns differ, also in other letter cases
 abbrev pub NamesDiffer : Type 0
-NamesDiffer = (table : Table) (a b : Named) (i j : ℕ) → slice_get (columns_of table) i ≡ Some a → slice_get (columns_of table) j ≡ Some b → SameName a.name b.name → i ≡ j
+NamesDiffer = (table : Table) (a b : Named) (i j : ℕ) → slice_get (columns_of table) i ≡ Some a
+    → slice_get (columns_of table) j ≡ Some b → SameName a.name b.name → i ≡ j
 
 -- each column is found at its place by its name
 abbrev pub AreFound : Type 0
-AreFound = (table : Table) (name : List ℕ) (place : ℕ) → IsColumn table name place → column_place table name ≡ Some place
+AreFound = (table : Table) (name : List ℕ) (place : ℕ) → IsColumn table name place
+    → column_place table name ≡ Some place

@@ -22,8 +22,9 @@ pub enum Flag {
     Second,
 }
 
-/// Whether the command is allowed on the table. Every table may be read. That INSERT and DELETE are for `setup_actors` and
-/// `setup_objects` alone, and TRUNCATE for all but `setup_instruments`, `setup_consumers` and `threads`, is MySQL's rule.
+/// Whether the command is allowed on the table. Every table may be read. That INSERT and DELETE are for
+/// `setup_actors` and `setup_objects` alone, and TRUNCATE for all but `setup_instruments`, `setup_consumers` and
+/// `threads`, is MySQL's rule.
 pub fn allows(table: Table, command: CommandKind) -> bool
     ensures { result ≡ is_allowed table command }
 {
@@ -47,8 +48,8 @@ pub fn allows(table: Table, command: CommandKind) -> bool
     }
 }
 
-/// The place of the column that shows this flag, from 0; none where the table's rows don't have it. These are the columns that
-/// an UPDATE may change.
+/// The place of the column that shows this flag, from 0; none where the table's rows don't have it. These are the
+/// columns that an UPDATE may change.
 pub fn flag_place(table: Table, flag: Flag) -> Option<u64>
     ensures { result ≡ place_of_flag table flag }
 {
@@ -63,7 +64,8 @@ pub fn flag_place(table: Table, flag: Flag) -> Option<u64>
 
 /// The flag that the column at this place shows, from 0; none where an UPDATE may not change it.
 pub fn flag_at(table: Table, place: u64) -> Option<Flag>
-    ensures { MatchOption result ((flag : SpecFlag) → place_of_flag table flag ≢ Some place) (λ flag. place_of_flag table flag ≡ Some place) }
+    ensures { MatchOption result ((flag : SpecFlag)
+        → place_of_flag table flag ≢ Some place) (λ flag. place_of_flag table flag ≡ Some place) }
 {
     if flag_place(table, Flag::First) == Some(place) {
         return Some(Flag::First);

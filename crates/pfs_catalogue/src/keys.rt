@@ -17,8 +17,8 @@ pub enum KeyNumber {
     DigestRow,
 }
 
-/// What the rows of a table are ordered by, ascending: their first columns, and then a number. Texts order by their bytes, and
-/// NULL goes first.
+/// What the rows of a table are ordered by, ascending: their first columns, and then a number. Texts order by their
+/// bytes, and NULL goes first.
 #[derive(Clone, Copy, Debug, PartialEq, Eq)]
 pub struct TableKey {
     /// How many columns, from the first on.

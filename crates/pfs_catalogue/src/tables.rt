@@ -54,10 +54,11 @@ pub const TABLES: [Table; 41] = [
     Table::DigestSummary,
 ];
 
-/// The table of that name, in any letter case, with or without `performance_schema.` before it, in any case too. None where no
-/// table has it. That another schema is no table's is our own rule.
+/// The table of that name, in any letter case, with or without `performance_schema.` before it, in any case too. None
+/// where no table has it. That another schema is no table's is our own rule.
 pub fn find_table(name: &[u8]) -> Option<Table>
-    ensures { MatchOption result ((table : SpecTable) → ¬ IsTableName table name.now) (λ table. IsTableName table name.now) }
+    ensures { MatchOption result ((table : SpecTable)
+        → ¬ IsTableName table name.now) (λ table. IsTableName table name.now) }
 {
     named(&TABLES, without_schema(name))
 }

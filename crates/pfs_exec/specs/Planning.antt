@@ -74,8 +74,11 @@ tests_unknown table tests = list_any (λ test. is_unknown table test.column) tes
 
 -- the command names a column that the table hasn't
 abbrev pub has_unknown_column : Table → Command → Bool
-has_unknown_column table (Select c) = list_any (is_unknown table) (unwrap_or c.columns []) || (tests_unknown table c.tests || list_any (λ order. is_unknown table order.column) c.order)
-has_unknown_column table (Update c) = list_any (λ set. is_unknown table set.column) c.sets || tests_unknown table c.tests
+has_unknown_column table (Select c) =
+    list_any (is_unknown table) (unwrap_or c.columns [])
+    || (tests_unknown table c.tests || list_any (λ order. is_unknown table order.column) c.order)
+has_unknown_column table (Update c) =
+    list_any (λ set. is_unknown table set.column) c.sets || tests_unknown table c.tests
 has_unknown_column table (Insert c) = list_any (is_unknown table) (unwrap_or c.columns [])
 has_unknown_column table (Delete c) = tests_unknown table c.tests
 has_unknown_column table (Truncate c) = false
@@ -88,7 +91,8 @@ is_mistyped (Some NumberColumn) (Like pattern) = true
 is_mistyped kind test = false
 
 abbrev pub tests_mistyped : Table → List NamedTest → Bool
-tests_mistyped table tests = list_any (λ test. is_mistyped (option_and_then (kind_at table) (column_place table test.column)) test.kind) tests
+tests_mistyped table tests =
+    list_any (λ test. is_mistyped (option_and_then (kind_at table) (column_place table test.column)) test.kind) tests
 
 abbrev pub has_wrong_type : Table → Command → Bool
 has_wrong_type table (Select c) = tests_mistyped table c.tests
@@ -99,7 +103,8 @@ has_wrong_type table (Truncate c) = false
 
 -- what a flag's text says
 abbrev pub flag_value : List ℕ → Option Bool
-flag_value text = if bytes_eq text (codes "YES") then Some true else if bytes_eq text (codes "NO") then Some false else None
+flag_value text = if bytes_eq text (codes "YES") then Some true else if bytes_eq text (codes "NO") then Some false
+    else None
 
 abbrev pub same_place : Option ℕ → Option ℕ → Bool
 same_place (Some a) (Some b) = a == b
@@ -111,16 +116,19 @@ is_flag table flag name = same_place (flag_place table flag) (column_place table
 
 -- a column that may not be changed, or a text that is no flag
 abbrev pub is_wrong_set : Table → Assignment → Bool
-is_wrong_set table set = not (is_flag table First set.column || is_flag table Second set.column) || is_none (flag_value set.value)
+is_wrong_set table set = not (is_flag table First set.column || is_flag table Second set.column)
+    || is_none (flag_value set.value)
 
 -- a column of this name stands at the place
 abbrev pub stands_at : Table → ℕ → List ℕ → Bool
 stands_at table place name = same_place (Some place) (column_place table name)
 
--- the value that an INSERT gives to the column at a place: in the place of that column's name, or in its own where no columns are named
+-- the value that an INSERT gives to the column at a place: in the place of that column's name, or in its own where no
+-- columns are named
 abbrev pub value_given : Table → Option (List (List ℕ)) → List (List ℕ) → ℕ → Option (List ℕ)
 value_given table None values place = slice_get values place
-value_given table (Some names) values place = slice_get values (prefix_len (λ name. not (stands_at table place name)) names)
+value_given table (Some names) values place =
+    slice_get values (prefix_len (λ name. not (stands_at table place name)) names)
 
 -- the same, or what a missing one is
 abbrev pub value_or : Table → InsertCommand → ℕ → List ℕ → List ℕ
@@ -128,14 +136,18 @@ value_or table c place missing = unwrap_or (value_given table c.columns c.values
 
 -- the kind of objects of that name
 abbrev pub kind_named : List ℕ → Option ObjectKind
-kind_named text = find (λ kind. bytes_eq (kind_name kind) text) (Event ∷ Function ∷ Procedure ∷ ObjectTable ∷ Trigger ∷ [])
+kind_named text = find (λ kind. bytes_eq (kind_name kind) text) (Event ∷ Function ∷ Procedure ∷ ObjectTable ∷ Trigger
+    ∷ [])
 
 -- a text that is no flag, or an OBJECT_TYPE that is no kind of objects
 abbrev pub is_wrong_actor : InsertCommand → Bool
-is_wrong_actor c = is_none (flag_value (value_or SetupActors c 3 (codes "YES"))) || is_none (flag_value (value_or SetupActors c 4 (codes "YES")))
+is_wrong_actor c = is_none (flag_value (value_or SetupActors c 3 (codes "YES")))
+    || is_none (flag_value (value_or SetupActors c 4 (codes "YES")))
 
 abbrev pub is_wrong_object : InsertCommand → Bool
-is_wrong_object c = is_none (kind_named (value_or SetupObjects c 0 (codes "TABLE"))) || (is_none (flag_value (value_or SetupObjects c 3 (codes "YES"))) || is_none (flag_value (value_or SetupObjects c 4 (codes "YES"))))
+is_wrong_object c = is_none (kind_named (value_or SetupObjects c 0 (codes "TABLE")))
+    || (is_none (flag_value (value_or SetupObjects c 3 (codes "YES")))
+    || is_none (flag_value (value_or SetupObjects c 4 (codes "YES"))))
 
 abbrev pub is_wrong_insert : Table → InsertCommand → Bool
 is_wrong_insert SetupObjects c = is_wrong_object c
@@ -176,7 +188,8 @@ places_of table (Some names) = map (place_of table) names
 -- what a SET makes of one of a row's flags
 abbrev pub flag_set : Table → Flag → List Assignment → Option Bool
 flag_set table flag [] = None
-flag_set table flag (set ∷ sets) = if is_flag table flag set.column then flag_value set.value else flag_set table flag sets
+flag_set table flag (set ∷ sets) = if is_flag table flag set.column then flag_value set.value
+    else flag_set table flag sets
 
 abbrev pub actor_of : InsertCommand → ActorRow
 actor_of c = record {
@@ -201,11 +214,24 @@ insert_of SetupObjects c = record { table = SetupObjects; row = Object (object_o
 insert_of table c = record { table = SetupActors; row = Actor (actor_of c) }
 
 abbrev pub update_of : Table → UpdateCommand → UpdateChange
-update_of table c = record { table = table; change = record { first = flag_set table First c.sets; second = flag_set table Second c.sets }; tests = map (test_of table) c.tests }
+update_of table c = record {
+  table = table;
+  change = record {
+    first = flag_set table First c.sets;
+    second = flag_set table Second c.sets;
+  };
+  tests = map (test_of table) c.tests;
+}
 
 -- the plan of a command that isn't refused
 abbrev pub plan_of : Table → Command → Plan
-plan_of table (Select c) = PlanSelect (record { table = table; columns = places_of table c.columns; tests = map (test_of table) c.tests; order = map (order_of table) c.order; limit = c.limit })
+plan_of table (Select c) = PlanSelect (record {
+  table = table;
+  columns = places_of table c.columns;
+  tests = map (test_of table) c.tests;
+  order = map (order_of table) c.order;
+  limit = c.limit;
+})
 plan_of table (Update c) = PlanChange (ChangeUpdate (update_of table c))
 plan_of table (Insert c) = PlanChange (ChangeInsert (insert_of table c))
 plan_of table (Delete c) = PlanChange (ChangeDelete (record { table = table; tests = map (test_of table) c.tests }))

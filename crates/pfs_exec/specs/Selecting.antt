@@ -1,4 +1,5 @@
--- The answer of a SELECT: those of the rows that meet the conditions, in order, up to the limit, and of these the named columns.
+-- The answer of a SELECT: those of the rows that meet the conditions, in order, up to the limit, and of these the
+-- named columns.
 use Rattle.std.specs.Prelude.{◌≡◌, ℕ, Bool, true, false, not, ◌&&◌, if◌then◌else◌, List, [], ◌∷◌, Option, Some, None, map, filter, take, unwrap_or, slice_get, IsPermutation, IsSorted}
 use Rattle.std.specs.List.{list_all}
 use Rattle.std.specs.List.Sorted.{IsStable}
@@ -39,7 +40,8 @@ agrees AtMost order = not (is_gt order)
 agrees Greater order = is_gt order
 agrees AtLeast order = not (is_lt order)
 
--- the value meets what a condition asks: a comparison and a LIKE are false of NULL and of another type than the literal's
+-- the value meets what a condition asks: a comparison and a LIKE are false of NULL and of another type than the
+-- literal's
 abbrev pub meets_value : TestKind → RowValue → Bool
 meets_value IsNull Null = true
 meets_value IsNull (Number value) = false
@@ -48,7 +50,8 @@ meets_value IsNotNull Null = false
 meets_value IsNotNull (Number value) = true
 meets_value IsNotNull (Text value) = true
 meets_value (Compare comparison (NumberLiteral literal)) (Number value) = agrees comparison (nat_cmp value literal)
-meets_value (Compare comparison (TextLiteral literal)) (Text value) = agrees comparison (slice_cmp nat_cmp value literal)
+meets_value (Compare comparison (TextLiteral literal)) (Text value) =
+    agrees comparison (slice_cmp nat_cmp value literal)
 meets_value (Compare comparison literal) value = false
 meets_value (Like pattern) (Text value) = is_like pattern value
 meets_value (Like pattern) value = false
@@ -72,14 +75,16 @@ value_cmp (Text a) (Text b) = slice_cmp nat_cmp a b
 -- DESC turns the order of its column
 abbrev pub column_cmp : Order → List RowValue → List RowValue → Ordering
 column_cmp order a b =
-    if order.descending then value_cmp (value_at b order.column) (value_at a order.column) else value_cmp (value_at a order.column) (value_at b order.column)
+    if order.descending then value_cmp (value_at b order.column) (value_at a order.column)
+    else value_cmp (value_at a order.column) (value_at b order.column)
 
 -- a later column decides between rows that are equal in those before it
 abbrev pub row_cmp : List Order → List RowValue → List RowValue → Ordering
 row_cmp [] a b = Same
 row_cmp (order ∷ orders) a b = ordering_then (column_cmp order a b) (row_cmp orders a b)
 
--- the rows in a stable order: the same rows, ascending by the columns, and rows that are equal there stay in their order
+-- the rows in a stable order: the same rows, ascending by the columns, and rows that are equal there stay in their
+-- order
 pub record IsInOrder (orders : List Order) (rows sorted : List (List RowValue)) : Type 0 where
   pub permutation : IsPermutation rows sorted
   pub ascending : IsSorted (row_cmp orders) sorted

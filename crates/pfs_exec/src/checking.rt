@@ -279,7 +279,8 @@ fn value_given<'a>(table: Table, insert: &'a InsertCommand, place: u64) -> Optio
 
 // The value in the place of the name of the column at the place.
 fn value_among<'a>(table: Table, names: &[Text], values: &'a [Text], place: u64) -> Option<&'a Text>
-    ensures { option_copied result ≡ slice_get values.now (prefix_len (λ name. not (spec.stands_at table place name)) names.now) }
+    ensures { option_copied result
+        ≡ slice_get values.now (prefix_len (λ name. not (spec.stands_at table place name)) names.now) }
 {
     let before = names_before(table, names, place);
     values.get(before)

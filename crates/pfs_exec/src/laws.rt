@@ -16,5 +16,6 @@ pub fn tests_decide()
 
 /// A query has one answer over the same rows.
 pub fn one_answer()
-    ensures { (query : Select) (rows a b : List (List RowValue)) → IsAnswer query rows a → IsAnswer query rows b → a ≡ b }
+    ensures { (query : Select) (rows a b : List (List RowValue)) → IsAnswer query rows a → IsAnswer query rows b
+        → a ≡ b }
 {}

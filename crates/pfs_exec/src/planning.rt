@@ -13,10 +13,11 @@ use pfs_sql::{Command, SelectCommand, SqlError, SqlFault};
 use std::alloc::Global;
 
 /// The plan of a command, with its names resolved. Refused with the first of these that holds: no table has the name
-/// (`NoSuchTable`); the table doesn't allow the command (`CommandDenied`); a named column isn't the table's (`UnknownColumn`);
-/// a number is compared with a text column or a text with a number column, or LIKE names a number column (`Parse`); SET names a
-/// column that may not be changed, a flag isn't YES or NO, or an OBJECT_TYPE isn't one of the five (`WrongUsage`). A missing
-/// column of an INSERT is `%`, `TABLE` or `YES`. The cases are our own, the numbers MySQL's.
+/// (`NoSuchTable`); the table doesn't allow the command (`CommandDenied`); a named column isn't the table's
+/// (`UnknownColumn`); a number is compared with a text column or a text with a number column, or LIKE names a number
+/// column (`Parse`); SET names a column that may not be changed, a flag isn't YES or NO, or an OBJECT_TYPE isn't one
+/// of the five (`WrongUsage`). A missing column of an INSERT is `%`, `TABLE` or `YES`. The cases are our own, the
+/// numbers MySQL's.
 pub fn plan(alloc: Global, command: Command) -> Result<Plan, SqlFault>
     ensures { IsPlanned command result }
 {

@@ -33,7 +33,8 @@ fn compare_rows(orders: &[Order], a: &[RowValue], b: &[RowValue]) -> Ordering
 
 /// Sorts the rows by the columns, the first one first. Rows that are equal there keep their order.
 pub(crate) fn sort_rows(rows: &mut Vec<&Row>, orders: &[Order]) -> Result<(), NoMemory>
-    ensures { OnOk result (IsInOrder orders.now (map (λ row. row.now) rows.old.items) (map (λ row. row.now) rows.new.items)) }
+    ensures { OnOk result
+        (IsInOrder orders.now (map (λ row. row.now) rows.old.items) (map (λ row. row.now) rows.new.items)) }
 {
     rows.sort_by(|a, b| compare_rows(orders, a.as_slice(), b.as_slice()))?;
     Ok(())

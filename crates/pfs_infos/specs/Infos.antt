@@ -22,7 +22,8 @@ three_words a b c = a ∷ b ∷ c ∷ 0 ∷ 0 ∷ 0 ∷ 0 ∷ 0 ∷ 0 ∷ 0 ∷ 
 
 -- a thread's info row: session, account, user, host, and the names
 abbrev pub thread_words : ThreadInfo → List ℕ
-thread_words info = six_words info.session (link_of info.account) (link_of info.user) (link_of info.host) info.user_name info.host_name
+thread_words info = six_words info.session (link_of info.account) (link_of info.user) (link_of info.host)
+    info.user_name info.host_name
 
 abbrev pub thread_of : List ℕ → ThreadInfo
 thread_of words = record {
@@ -36,7 +37,8 @@ thread_of words = record {
 
 -- an account's: the names, user and host, and the connections now and in all
 abbrev pub account_words : AccountInfo → List ℕ
-account_words info = six_words info.user_name info.host_name (link_of info.user) (link_of info.host) info.current info.total
+account_words info = six_words info.user_name info.host_name (link_of info.user) (link_of info.host) info.current
+    info.total
 
 abbrev pub account_of : List ℕ → AccountInfo
 account_of words = record {

@@ -92,7 +92,8 @@ impl ThreadInfo {
 
     /// Whether both names are of these.
     pub fn is_known(&self, names: &Names) -> bool
-        ensures { result ≡ (nat_lt self.now.user_name (length names.now) && nat_lt self.now.host_name (length names.now)) }
+        ensures { result ≡ (nat_lt self.now.user_name (length names.now)
+            && nat_lt self.now.host_name (length names.now)) }
     {
         is_name(names, self.user_name) && is_name(names, self.host_name)
     }
@@ -143,7 +144,8 @@ impl AccountInfo {
 
     /// Whether both names are of these.
     pub fn is_known(&self, names: &Names) -> bool
-        ensures { result ≡ (nat_lt self.now.user_name (length names.now) && nat_lt self.now.host_name (length names.now)) }
+        ensures { result ≡ (nat_lt self.now.user_name (length names.now)
+            && nat_lt self.now.host_name (length names.now)) }
     {
         is_name(names, self.user_name) && is_name(names, self.host_name)
     }

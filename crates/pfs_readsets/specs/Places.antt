@@ -14,7 +14,8 @@ use Rattle.pfs_classes.specs.declared.kind.Kind.TheVariants as kinds
 use Rattle.pfs_classes.specs.declared.classes.Class.{Class}
 use Rattle.pfs_classes.specs.declared.setting.Setting.{Setting}
 
--- what a read set takes of a setting: the registered classes beside `transaction`, by id, and how many digest texts have a place
+-- what a read set takes of a setting: the registered classes beside `transaction`, by id, and how many digest texts
+-- have a place
 pub record Scope : Type 0 where
   pub classes : List Class
   pub digests : ℕ
@@ -104,8 +105,8 @@ abbrev pub has_long : Table → ℕ → Bool
 has_long (Events kind HistoryLong) number = kind_number kind == number
 has_long _ number = false
 
--- whether a SELECT on the table reads the place, where the table has these cells, so many digest texts have a place, and
--- these rows of infos were Whole
+-- whether a SELECT on the table reads the place, where the table has these cells, so many digest texts have a place,
+-- and these rows of infos were Whole
 abbrev pub reads : Table → (ℕ → Bool) → ℕ → (ℕ → Bool) → Place → Bool
 reads table cells digests whole Admin = false
 reads table cells digests whole (ThreadInfo thread) = has_threads table
@@ -122,8 +123,8 @@ reads table cells digests whole (Digest digest) = is_digest table && nat_lt dige
 reads table cells digests whole (Ring thread place) = has_ring table place && whole (1 + thread)
 reads table cells digests whole (Long number place) = has_long table number
 
--- whether it loads the switch word, where so many classes are registered beside `transaction` and these rows were Whole:
--- word 0 has the consumers, word 1 + t the flags of thread t, word 33 + c those of class c
+-- whether it loads the switch word, where so many classes are registered beside `transaction` and these rows were
+-- Whole: word 0 has the consumers, word 1 + t the flags of thread t, word 33 + c those of class c
 abbrev pub reads_word : Table → ℕ → (ℕ → Bool) → ℕ → Bool
 reads_word SetupInstruments classes whole word = (nat_le 33 word && nat_lt word (33 + classes)) || (word == 95)
 reads_word SetupConsumers classes whole word = word == 0

@@ -40,7 +40,8 @@ reads_row table cells digests whole row = on_place (reads table cells digests wh
 -- of so many numbers from one on those that pass, ascending
 unfoldable pub passing : (ℕ → Bool) → ℕ → ℕ → List ℕ
 passing test from zero = []
-passing test from (suc count) = if test from then from ∷ passing test (from + 1) count else passing test (from + 1) count
+passing test from (suc count) = if test from then from ∷ passing test (from + 1) count
+    else passing test (from + 1) count
 
 -- the rows, and the words, that a SELECT on the table reads, where these rows were Whole
 abbrev pub row_test : Scope → Table → List Reading → ℕ → Bool
@@ -51,7 +52,9 @@ word_test scope table readings = reads_word table (length scope.classes) (is_who
 
 -- the read set given the readings so far: the rows of the board and then the switch words, each ascending
 abbrev pub read_set : Scope → Table → List Reading → List Target
-read_set scope table readings = map Row (passing (row_test scope table readings) 0 14242) ++ map Word (passing (word_test scope table readings) 0 160)
+read_set scope table readings =
+    map Row (passing (row_test scope table readings) 0 14242)
+    ++ map Word (passing (word_test scope table readings) 0 160)
 
 -- the readings are of exactly these targets, in their order
 abbrev pub IsReadSet : Scope → Table → List Reading → Type 0
@@ -59,4 +62,5 @@ IsReadSet scope table readings = map target_of readings ≡ read_set scope table
 
 -- the readings so far are of the first targets, and this is the next
 abbrev pub IsNext : Scope → Table → List Reading → Target → Type 0
-IsNext scope table readings target = (rest : List Target) × (read_set scope table readings ≡ map target_of readings ++ target ∷ rest)
+IsNext scope table readings target =
+    (rest : List Target) × (read_set scope table readings ≡ map target_of readings ++ target ∷ rest)

@@ -19,11 +19,13 @@ pub record Reached (set : ReadSet) (scope : Scope) (shown : Table) (readings : L
   pub row : set.row ≤ 14242
   pub word : set.word ≤ 160
   pub order : 0 < set.word → set.row ≡ 14242
-  pub made : map target_of readings ≡ map Row (passing (row_test scope shown readings) 0 set.row) ++ map Word (passing (word_test scope shown readings) 0 set.word)
+  pub made : map target_of readings ≡ map Row (passing (row_test scope shown readings) 0 set.row)
+      ++ map Word (passing (word_test scope shown readings) 0 set.word)
 
 -- the tests of the rows and words that it still has to tell, by what it has noted
 abbrev pub own_rows : ReadSet → ℕ → Bool
-own_rows set = reads_row set.table (λ cell. slice_index_or set.cells cell false) set.digests (λ row. slice_index_or set.whole row false)
+own_rows set = reads_row set.table (λ cell. slice_index_or set.cells cell false) set.digests
+    (λ row. slice_index_or set.whole row false)
 
 abbrev pub own_words : ReadSet → ℕ → Bool
 own_words set = reads_word set.table set.classes (λ row. slice_index_or set.whole row false)
@@ -35,7 +37,10 @@ FirstPassing test from count (Some number) = (rest : List ℕ) × (passing test 
 
 -- it goes on behind this row, which was found as seen
 abbrev pub behind_row : ReadSet → ℕ → Seen → ReadSet
-behind_row set row seen = record set { whole = if found_whole seen then slice_set set.whole row true else set.whole; row = row + 1 }
+behind_row set row seen = record set {
+  whole = if found_whole seen then slice_set set.whole row true else set.whole;
+  row = row + 1;
+}
 
 -- it goes on behind this word
 abbrev pub behind_word : ReadSet → ℕ → ReadSet

@@ -19,7 +19,9 @@ pub fn in_order()
 /// infos that were Whole, reads it; and a word likewise.
 pub fn members()
     ensures rows { (scope : Scope) (table : Table) (readings : List Reading) (row : ℕ)
-        → Contains (read_set scope table readings) (Row row) ↔ ((row < 14242) × (row_test scope table readings row ≡ true)) }
+        → Contains (read_set scope table readings) (Row row)
+        ↔ ((row < 14242) × (row_test scope table readings row ≡ true)) }
     ensures words { (scope : Scope) (table : Table) (readings : List Reading) (word : ℕ)
-        → Contains (read_set scope table readings) (Word word) ↔ ((word < 160) × (word_test scope table readings word ≡ true)) }
+        → Contains (read_set scope table readings) (Word word)
+        ↔ ((word < 160) × (word_test scope table readings word ≡ true)) }
 {}

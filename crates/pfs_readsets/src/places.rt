@@ -59,7 +59,8 @@ fn has_cell(setting: &Setting, table: Table, cell: u64) -> bool
 
 /// The cells that a table has, as a flag for each cell.
 pub(crate) fn cells_of(setting: &Setting, table: Table) -> [bool; CELLS]
-    ensures { (cell : ℕ) → cell < 64 → slice_index_or result cell false ≡ spec.has_cell (scope_of setting.now) table cell }
+    ensures { (cell : ℕ) → cell < 64
+        → slice_index_or result cell false ≡ spec.has_cell (scope_of setting.now) table cell }
 {
     let mut cells = [false; CELLS];
     for cell in 0..CELLS {

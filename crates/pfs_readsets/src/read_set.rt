@@ -77,7 +77,8 @@ impl ReadSet {
     /// Notes the reading of the next target.
     pub fn note(&mut self, reading: &Reading)
         ensures { (scope : Scope) (table : Table) (readings : List Reading) → Reached self.old scope table readings
-            → IsNext scope table readings (target_of reading.now) → Reached self.new scope table (readings ++ reading.now ∷ []) }
+            → IsNext scope table readings (target_of reading.now)
+            → Reached self.new scope table (readings ++ reading.now ∷ []) }
     {
         laws::rows();
         match reading {
@@ -115,7 +116,8 @@ impl ReadSet {
     // table has the cell.
     fn opens(&self, infos: u64, place: u64, cell: u64) -> bool
         requires { infos < 129 }
-        ensures { result ≡ (slice_index_or self.now.whole (infos + place) false && slice_index_or self.now.cells cell false) }
+        ensures { result ≡ (slice_index_or self.now.whole (infos + place) false
+            && slice_index_or self.now.cells cell false) }
     {
         self.was_whole(infos, place) && flag_at(&self.cells, cell)
     }

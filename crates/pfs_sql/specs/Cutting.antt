@@ -40,7 +40,8 @@ closed_of text (b ∷ bytes) = if b == 39 then Some (Quoted text, bytes) else No
 
 abbrev pub less_of : List ℕ → Option (Comparison × List ℕ)
 less_of [] = Some (Less, [])
-less_of (b ∷ bytes) = if b == 62 then Some (Unequal, bytes) else if b == 61 then Some (AtMost, bytes) else Some (Less, b ∷ bytes)
+less_of (b ∷ bytes) = if b == 62 then Some (Unequal, bytes) else if b == 61 then Some (AtMost, bytes)
+    else Some (Less, b ∷ bytes)
 
 abbrev pub greater_of : List ℕ → Option (Comparison × List ℕ)
 greater_of [] = Some (Greater, [])

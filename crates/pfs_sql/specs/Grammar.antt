@@ -61,7 +61,8 @@ abbrev pub key : List ℕ → Piece
 key word = One (Passes (is_key word))
 
 -- items with a separator before each
-abbrev pub each_behind : {X : Type 0} → (Token → Bool) → (X → List Piece → List Piece) → List X → List Piece → List Piece
+abbrev pub each_behind : {X : Type 0} → (Token → Bool) → (X → List Piece → List Piece) → List X → List Piece
+    → List Piece
 each_behind separator item [] tail = tail
 each_behind separator item (x ∷ xs) tail = One (Passes separator) ∷ item x (each_behind separator item xs tail)
 
@@ -71,7 +72,8 @@ separated separator item [] tail = One Never ∷ tail
 separated separator item (x ∷ xs) tail = item x (each_behind separator item xs tail)
 
 -- a clause that begins with a keyword, or nothing where it has no items
-abbrev pub clause : {X : Type 0} → (Token → Bool) → (List X → List Piece → List Piece) → List X → List Piece → List Piece
+abbrev pub clause : {X : Type 0} → (Token → Bool) → (List X → List Piece → List Piece) → List X → List Piece
+    → List Piece
 clause begins items [] tail = tail
 clause begins items (x ∷ xs) tail = One (Passes begins) ∷ items (x ∷ xs) tail
 

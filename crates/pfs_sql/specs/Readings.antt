@@ -68,7 +68,8 @@ abbrev pub before : {X : Type 0} → Reader X → (Token → Bool) → Reader X
 before read test tokens = read tokens >>= λ x. after test x.1 >>= λ rest. Some (x.0, rest)
 
 abbrev pub optionally : {X : Type 0} → (Token → Bool) → Reader X → Reader (Option X)
-optionally test read tokens = choose (after test tokens) (λ rest. read rest >>= λ x. Some (Some x.0, x.1)) (Some (None, tokens))
+optionally test read tokens =
+    choose (after test tokens) (λ rest. read rest >>= λ x. Some (Some x.0, x.1)) (Some (None, tokens))
 
 abbrev pub clause_at : {X : Type 0} → (Token → Bool) → Reader (List X) → Reader (List X)
 clause_at test read tokens = choose (after test tokens) read (Some ([], tokens))
@@ -102,7 +103,8 @@ abbrev pub texts_at : Reader (List (List ℕ))
 texts_at = items_at is_comma text_at
 
 unfoldable pub columns_at : Reader (Option (List (List ℕ)))
-columns_at tokens = choose (after is_star tokens) (λ rest. Some (None, rest)) (names_at tokens >>= λ x. Some (Some x.0, x.1))
+columns_at tokens = choose (after is_star tokens) (λ rest. Some (None, rest))
+    (names_at tokens >>= λ x. Some (Some x.0, x.1))
 
 -- behind IS
 unfoldable pub null_at : Reader TestKind
@@ -169,16 +171,19 @@ values_at = behind (is_key (codes "values")) (behind is_open (before texts_at is
 
 -- behind the command's first word
 unfoldable pub select_at : Reader Command
-select_at tokens = columns_at tokens >>= λ c. after_key (codes "from") c.1 >>= λ behind_from. table_at behind_from >>= λ t.
+select_at tokens = columns_at tokens >>= λ c. after_key (codes "from") c.1 >>= λ behind_from. table_at behind_from >>=
+    λ t.
     conditions_at t.1 >>= λ w. order_at w.1 >>= λ o. limit_at o.1 >>= λ l.
     Some (Select (record { columns = c.0; table = t.0; tests = w.0; order = o.0; limit = l.0 }), l.1)
 
 unfoldable pub update_at : Reader Command
-update_at tokens = table_at tokens >>= λ t. after_key (codes "set") t.1 >>= λ behind_set. assignments_at behind_set >>= λ s.
+update_at tokens = table_at tokens >>= λ t. after_key (codes "set") t.1 >>= λ behind_set. assignments_at behind_set
+    >>= λ s.
     conditions_at s.1 >>= λ w. Some (Update (record { table = t.0; sets = s.0; tests = w.0 }), w.1)
 
 unfoldable pub insert_at : Reader Command
-insert_at tokens = after_key (codes "into") tokens >>= λ behind_into. table_at behind_into >>= λ t. listed_at t.1 >>= λ c. values_at c.1 >>= λ v.
+insert_at tokens = after_key (codes "into") tokens >>= λ behind_into. table_at behind_into >>= λ t. listed_at t.1 >>=
+    λ c. values_at c.1 >>= λ v.
     Some (Insert (record { table = t.0; columns = c.0; values = v.0 }), v.1)
 
 unfoldable pub delete_at : Reader Command
@@ -199,10 +204,12 @@ unfoldable pub truncate_at : Reader Command
 truncate_at tokens = table_at (past_table tokens) >>= λ t. Some (Truncate (record { table = t.0 }), t.1)
 
 unfoldable pub removal_at : Reader Command
-removal_at tokens = choose (after_key (codes "delete") tokens) delete_at (after_key (codes "truncate") tokens >>= truncate_at)
+removal_at tokens = choose (after_key (codes "delete") tokens) delete_at
+    (after_key (codes "truncate") tokens >>= truncate_at)
 
 unfoldable pub change_at : Reader Command
-change_at tokens = choose (after_key (codes "update") tokens) update_at (choose (after_key (codes "insert") tokens) insert_at (removal_at tokens))
+change_at tokens = choose (after_key (codes "update") tokens) update_at
+    (choose (after_key (codes "insert") tokens) insert_at (removal_at tokens))
 
 unfoldable pub command_at : Reader Command
 command_at tokens = choose (after_key (codes "select") tokens) select_at (change_at tokens)

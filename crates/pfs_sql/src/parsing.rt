@@ -27,9 +27,9 @@ fn command_of(alloc: Global, tokens: &[Token]) -> Result<Command, SqlFault>
 }
 
 /// The command that the text says, with names as they are written; a table is named without the schema. `Error` of
-/// `SqlError::Parse` (1064) comes exactly where the text says none: outside the grammar, where SET or INSERT's list names a
-/// column twice in any case, and where INSERT's values are not as many as its columns, or as five where it names none. The
-/// number is MySQL's; the grammar is a part of MySQL's. There is no other error but `NoMemory`.
+/// `SqlError::Parse` (1064) comes exactly where the text says none: outside the grammar, where SET or INSERT's list
+/// names a column twice in any case, and where INSERT's values are not as many as its columns, or as five where it
+/// names none. The number is MySQL's; the grammar is a part of MySQL's. There is no other error but `NoMemory`.
 pub fn parse(alloc: Global, text: &[u8]) -> Result<Command, SqlFault>
     ensures said { IfOk result (λ command. Says text.now command) }
     ensures refused { IfErr result (λ fault. Refuses fault ((command : Command) → ¬ Says text.now command)) }

@@ -32,9 +32,10 @@ user_of_account infos place = option_and_then (λ (info : account.AccountInfo). 
 abbrev pub host_of_account : List (Option (List ℕ)) → ℕ → Option ℕ
 host_of_account infos place = option_and_then (λ (info : account.AccountInfo). info.host) (account_at infos place)
 
--- whose rows a cell belongs to: a thread, account, user or host by its place. By thread the thread's own; by account the account's and
--- those of the threads that show it; by user and by host its own, those of the accounts and those of the threads that show it; globally, where
--- all rows are 0's, the global ones and those of all hosts, accounts and threads, and of no user
+-- whose rows a cell belongs to: a thread, account, user or host by its place. By thread the thread's own; by account
+-- the account's and those of the threads that show it; by user and by host its own, those of the accounts and those
+-- of the threads that show it; globally, where all rows are 0's, the global ones and those of all hosts, accounts and
+-- threads, and of no user
 abbrev pub key_of : SummaryTable → List (Option (List ℕ)) → Place → Option ℕ
 key_of ByThread infos (ThreadCell thread cell) = Some thread
 key_of ByAccount infos (AccountCell account cell) = Some account
@@ -79,15 +80,16 @@ abbrev pub counted_in : SummaryTable → List (Option (List ℕ)) → ℕ → �
 counted_in which infos key cell reading =
     if reads_cell which infos key cell reading then option_map stat_of_words (content_in reading) else None
 
--- of the cells of this number that belong to the key: the merge of those that were found whole, and whether one was busy
+-- of the cells of this number that belong to the key: the merge of those that were found whole, and whether one was
+-- busy
 abbrev pub tally_of : SummaryTable → List (Option (List ℕ)) → List Reading → ℕ → ℕ → Tally
 tally_of which infos readings key cell = record {
   stat = merge_all (filter_map (counted_in which infos key cell) readings);
   busy = list_any (λ reading. reads_cell which infos key cell reading && found_busy reading) readings;
 }
 
--- an info that, found busy, leaves a table without rows: but for the table by thread those of threads and accounts, and for the global one
--- those of hosts
+-- an info that, found busy, leaves a table without rows: but for the table by thread those of threads and accounts,
+-- and for the global one those of hosts
 abbrev pub hides_rows : SummaryTable → Option Place → Bool
 hides_rows which None = false
 hides_rows ByThread (Some place) = false

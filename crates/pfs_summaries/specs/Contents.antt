@@ -43,8 +43,8 @@ content_at readings row = option_and_then content_in (find (reads_row row) (reve
 abbrev pub contents_of : ℕ → ℕ → List Reading → List (Option (List ℕ))
 contents_of first count readings = map (content_at readings) (range_with_len first count)
 
--- the contents of the rows 0 to 128, among them every info row: 1 to 32 are the threads', 33 to 64 the accounts', 65 to 96 the users', 97 to
--- 128 the hosts'
+-- the contents of the rows 0 to 128, among them every info row: 1 to 32 are the threads', 33 to 64 the accounts', 65
+-- to 96 the users', 97 to 128 the hosts'
 abbrev pub infos_of : List Reading → List (Option (List ℕ))
 infos_of readings = contents_of 0 129 readings
 

@@ -23,7 +23,8 @@ null_heading = value.Null ∷ value.Null ∷ value.Null ∷ []
 -- a row stands where its content was found and something was counted
 abbrev pub counted_row : List RowValue → Option (List ℕ) → List (List RowValue)
 counted_row heading None = []
-counted_row heading (Some words) = if (stat_of_words words).count == 0 then [] else (heading ++ values_of (numbers.Statements (stat_of_words words))) ∷ []
+counted_row heading (Some words) = if (stat_of_words words).count == 0 then []
+    else (heading ++ values_of (numbers.Statements (stat_of_words words))) ∷ []
 
 -- the row of a digest place, where the setting has it
 abbrev pub place_row : Option DigestText → Option (List ℕ) → List (List RowValue)
@@ -33,7 +34,9 @@ place_row (Some digest) content = counted_row (digest_heading digest) content
 unfoldable pub digest_row : List DigestText → List (Option (List ℕ)) → ℕ → List (List RowValue)
 digest_row digests contents place = place_row (slice_get digests place) (info_at contents (1 + place))
 
--- what the summary by digest shows: the row of the texts without a place, whose number is 8385, and then the places from 0 to 63 on
+-- what the summary by digest shows: the row of the texts without a place, whose number is 8385, and then the places
+-- from 0 to 63 on
 unfoldable pub digests_of : Setting → List Reading → List (List RowValue)
 digests_of setting readings =
-    counted_row null_heading (info_at (contents_of 8385 65 readings) 0) ++ flat_map (digest_row setting.digests (contents_of 8385 65 readings)) (range_with_len 0 64)
+    counted_row null_heading (info_at (contents_of 8385 65 readings) 0)
+    ++ flat_map (digest_row setting.digests (contents_of 8385 65 readings)) (range_with_len 0 64)

@@ -22,7 +22,12 @@ abbrev pub account_head : List (List ℕ) → Option AccountInfo → Option Head
 account_head names None = None
 account_head names (Some info) =
     if nat_lt info.user_name (length names) && nat_lt info.host_name (length names)
-    then Some (record { thread_id = 0; user = text_of names info.user_name; host = text_of names info.host_name; stands = not (info.current == 0) })
+    then Some (record {
+      thread_id = 0;
+      user = text_of names info.user_name;
+      host = text_of names info.host_name;
+      stands = not (info.current == 0);
+    })
     else None
 
 -- a user's and a host's
@@ -40,11 +45,16 @@ host_head names (Some info) =
     then Some (record { thread_id = 0; user = []; host = text_of names info.name; stands = not (info.current == 0) })
     else None
 
--- what the rows of a place begin with, or none where it has no rows. A thread's and the global rows stand whatever was counted, the others
--- without a count only where a connection is there
+-- what the rows of a place begin with, or none where it has no rows. A thread's and the global rows stand whatever
+-- was counted, the others without a count only where a connection is there
 abbrev pub head_of : SummaryTable → List (List ℕ) → List (Option (List ℕ)) → ℕ → Option Head
 head_of ByThread names infos place =
-    option_map (λ (info : ThreadInfo). record { thread_id = info.session; user = []; host = []; stands = true }) (thread_at infos place)
+    option_map (λ (info : ThreadInfo). record {
+      thread_id = info.session;
+      user = [];
+      host = [];
+      stands = true;
+    }) (thread_at infos place)
 head_of ByAccount names infos place = account_head names (account_at infos place)
 head_of ByUser names infos place = user_head names (user_at infos place)
 head_of ByHost names infos place = host_head names (host_at infos place)

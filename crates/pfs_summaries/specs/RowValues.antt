@@ -20,7 +20,8 @@ numbers_row numbers = map (λ number. value.Number number) numbers
 
 -- a count and times: count, sum, least, average and greatest
 unfoldable pub times_of : Stat → List RowValue
-times_of stat = numbers_row (stat.count ∷ stat.sum ∷ timed_number stat stat.min ∷ average stat ∷ timed_number stat stat.max ∷ [])
+times_of stat = numbers_row (stat.count ∷ stat.sum ∷ timed_number stat stat.min ∷ average stat
+    ∷ timed_number stat stat.max ∷ [])
 
 -- a statement's sums: lock time, errors, warnings, and rows affected, sent and examined
 unfoldable pub sums_of : Stat → List RowValue
@@ -30,7 +31,8 @@ sums_of stat = numbers_row (stat.lock ∷ stat.errors ∷ stat.warnings ∷ stat
 unfoldable pub values_of : Numbers → List RowValue
 values_of (Times stat) = times_of stat
 values_of (Statements stat) = times_of stat ++ sums_of stat
-values_of (Transactions read_write read_only) = times_of (merge_of read_write read_only) ++ times_of read_write ++ times_of read_only
+values_of (Transactions read_write read_only) =
+    times_of (merge_of read_write read_only) ++ times_of read_write ++ times_of read_only
 
 -- how many events a row counts
 abbrev pub count_of : Numbers → ℕ

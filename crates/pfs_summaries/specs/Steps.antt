@@ -14,7 +14,8 @@ use Rattle.pfs_summaries.specs.Contents.{whole_of}
 
 -- contents with what one more reading found. One past the last row isn't kept
 abbrev pub with_reading : ℕ → Reading → List (Option (List ℕ)) → List (Option (List ℕ))
-with_reading first (Slot row seen) contents = if nat_le first row then slice_set contents (row - first) (whole_of seen) else contents
+with_reading first (Slot row seen) contents =
+    if nat_le first row then slice_set contents (row - first) (whole_of seen) else contents
 with_reading first (Word word version flags) contents = contents
 
 abbrev pub none_of : Tally
@@ -30,7 +31,8 @@ added (Free word) tally = tally
 abbrev pub at_key : Seen → List Tally → ℕ → Option ℕ → List Tally
 at_key seen tallies cell None = tallies
 at_key seen tallies cell (Some key) =
-    if nat_lt key 32 then slice_set tallies (64 * key + cell) (added seen (slice_index_or tallies (64 * key + cell) none_of)) else tallies
+    if nat_lt key 32 then slice_set tallies (64 * key + cell)
+    (added seen (slice_index_or tallies (64 * key + cell) none_of)) else tallies
 
 abbrev pub at_place : SummaryTable → List (Option (List ℕ)) → Seen → List Tally → Option Place → List Tally
 at_place which infos seen tallies None = tallies
@@ -45,6 +47,7 @@ abbrev pub tally_in : List Tally → ℕ → ℕ → Tally
 tally_in tallies key cell = slice_index_or tallies (64 * key + cell) none_of
 
 -- these are the tallies of the readings
-pub record AreTallies (which : SummaryTable) (infos : List (Option (List ℕ))) (readings : List Reading) (tallies : List Tally) : Type 0 where
+pub record AreTallies (which : SummaryTable) (infos : List (Option (List ℕ))) (readings : List Reading)
+    (tallies : List Tally) : Type 0 where
   pub count : length tallies ≡ 2048
   pub each : (key cell : ℕ) → key < 32 → cell < 64 → tally_in tallies key cell ≡ tally_of which infos readings key cell

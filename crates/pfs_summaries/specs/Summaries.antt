@@ -60,32 +60,47 @@ is_skipped Stages tally id = (tally id).busy
 is_skipped Statements tally id = (tally id).busy
 is_skipped Transactions tally id = (tally 62).busy || (tally 63).busy
 
--- the row stands: the class is of the kind, no cell of the row was busy, and something was counted where the head doesn't stand by itself
+-- the row stands: the class is of the kind, no cell of the row was busy, and something was counted where the head
+-- doesn't stand by itself
 abbrev pub is_listed : Setting → TableKind → Head → (ℕ → Tally) → ℕ → Bool
 is_listed setting kind head tally id =
-    is_of kind (class_at setting.classes id) && not (is_skipped kind tally id) && (head.stands || not (count_of (numbers_of kind tally id) == 0))
+    is_of kind (class_at setting.classes id) && not (is_skipped kind tally id)
+    && (head.stands || not (count_of (numbers_of kind tally id) == 0))
 
 -- its place in the order
 abbrev pub key_at : Head → ℕ → ℕ → RowKey
-key_at head place id = record { thread_id = head.thread_id; user = head.user; host = head.host; class = id; place = place }
+key_at head place id = record {
+  thread_id = head.thread_id;
+  user = head.user;
+  host = head.host;
+  class = id;
+  place = place;
+}
 
 -- its values: the head's, the class's name, and the numbers
 unfoldable pub row_values : Setting → TableKind → SummaryTable → Head → (ℕ → Tally) → ℕ → List RowValue
 row_values setting kind which head tally id =
-    heading_of which head ++ value.Text (class_text setting.names (class_at setting.classes id)) ∷ [] ++ values_of (numbers_of kind tally id)
+    heading_of which head ++ value.Text (class_text setting.names (class_at setting.classes id)) ∷ []
+    ++ values_of (numbers_of kind tally id)
 
 -- the row of a class, with its place in the order, where it stands
-unfoldable pub class_rows : Setting → TableKind → SummaryTable → ℕ → (ℕ → Tally) → Head → ℕ → List (RowKey × List RowValue)
+unfoldable pub class_rows : Setting → TableKind → SummaryTable → ℕ → (ℕ → Tally) → Head → ℕ
+    → List (RowKey × List RowValue)
 class_rows setting kind which place tally head id =
-    if is_listed setting kind head tally id then (key_at head place id, row_values setting kind which head tally id) ∷ [] else []
+    if is_listed setting kind head tally id then (key_at head place id, row_values setting kind which head tally id)
+    ∷ [] else []
 
 -- the rows of a place: of all classes, whose ids go from 0 to 62
-abbrev pub head_rows : Setting → TableKind → SummaryTable → ℕ → (ℕ → Tally) → Option Head → List (RowKey × List RowValue)
+abbrev pub head_rows : Setting → TableKind → SummaryTable → ℕ → (ℕ → Tally) → Option Head
+    → List (RowKey × List RowValue)
 head_rows setting kind which place tally None = []
-head_rows setting kind which place tally (Some head) = flat_map (class_rows setting kind which place tally head) (range_with_len 0 63)
+head_rows setting kind which place tally (Some head) =
+    flat_map (class_rows setting kind which place tally head) (range_with_len 0 63)
 
-abbrev pub place_rows : Setting → TableKind → SummaryTable → List (Option (List ℕ)) → (ℕ → ℕ → Tally) → ℕ → List (RowKey × List RowValue)
-place_rows setting kind which infos tally place = head_rows setting kind which place (tally place) (head_of which setting.names infos place)
+abbrev pub place_rows : Setting → TableKind → SummaryTable → List (Option (List ℕ)) → (ℕ → ℕ → Tally) → ℕ
+    → List (RowKey × List RowValue)
+place_rows setting kind which infos tally place =
+    head_rows setting kind which place (tally place) (head_of which setting.names infos place)
 
 -- rows put to their places in the order, where no two have the same
 abbrev pub put_row : List (RowKey × List RowValue) → RowKey × List RowValue → List (RowKey × List RowValue)
@@ -95,12 +110,15 @@ abbrev pub put_rows : List (RowKey × List RowValue) → List (RowKey × List Ro
 put_rows rows more = fold put_row rows more
 
 -- the rows of a summary, in order
-unfoldable pub listed_rows : Setting → TableKind → SummaryTable → List (Option (List ℕ)) → (ℕ → ℕ → Tally) → List (RowKey × List RowValue)
-listed_rows setting kind which infos tally = put_rows [] (flat_map (place_rows setting kind which infos tally) (range_with_len 0 (places_of which)))
+unfoldable pub listed_rows : Setting → TableKind → SummaryTable → List (Option (List ℕ)) → (ℕ → ℕ → Tally)
+    → List (RowKey × List RowValue)
+listed_rows setting kind which infos tally =
+    put_rows [] (flat_map (place_rows setting kind which infos tally) (range_with_len 0 (places_of which)))
 
 -- what a summary shows by the readings: nothing where a busy info hides all of it
 unfoldable pub summary_of : Setting → TableKind → SummaryTable → List Reading → List (List RowValue)
 summary_of setting kind which readings =
     if list_any (is_hidden_by which) readings
     then []
-    else map (λ (row : RowKey × List RowValue). row.1) (listed_rows setting kind which (infos_of readings) (tally_of which (infos_of readings) readings))
+    else map (λ (row : RowKey × List RowValue). row.1)
+    (listed_rows setting kind which (infos_of readings) (tally_of which (infos_of readings) readings))

@@ -132,7 +132,8 @@ fn put_places(
     contents: &[Option<Content>],
     rows: &mut Vec<Row>,
 ) -> Result<(), NoMemory>
-    ensures { OnOk result (rows.new.items ≡ rows.old.items ++ flat_map (digest_row digests.now contents.now) (range_with_len 0 64)) }
+    ensures { OnOk result (rows.new.items ≡ rows.old.items
+        ++ flat_map (digest_row digests.now contents.now) (range_with_len 0 64)) }
 {
     for place in 0..64 {
         match put_place(alloc, digests, contents, place, rows) {

@@ -147,13 +147,15 @@ fn standing(alloc: Global, thread_id: u64) -> Head
 
 fn thread_head(alloc: Global, infos: &[Option<Content>], thread: u64) -> Option<Head>
     requires { thread < 32 }
-    ensures { result ≡ option_map (λ (info : ThreadInfo). record { thread_id = info.session; user = []; host = []; stands = true }) (thread_at infos.now thread) }
+    ensures { result ≡ option_map (λ (info : ThreadInfo). record {
+      thread_id = info.session;
+      user = [];
+      host = [];
+      stands = true;
+    }) (thread_at infos.now thread) }
 {
     match info_at(infos, 1 + thread as usize) {
-        Some(words) => Some(standing(
-            alloc,
-            ThreadInfo::of_content(&words).session,
-        )),
+        Some(words) => Some(standing(alloc, ThreadInfo::of_content(&words).session)),
         None => None,
     }
 }

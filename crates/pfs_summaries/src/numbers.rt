@@ -107,7 +107,8 @@ fn put_transactions(
     read_write: &Stat,
     read_only: &Stat,
 ) -> Result<(), NoMemory>
-    ensures { OnOk result (values.new.items ≡ values.old.items ++ (times_of (merge_of read_write.now read_only.now) ++ times_of read_write.now ++ times_of read_only.now)) }
+    ensures { OnOk result (values.new.items ≡ values.old.items
+        ++ (times_of (merge_of read_write.now read_only.now) ++ times_of read_write.now ++ times_of read_only.now)) }
 {
     put_times(values, &read_write.merge(*read_only))?;
     put_times(values, read_write)?;

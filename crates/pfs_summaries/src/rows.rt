@@ -157,7 +157,8 @@ fn row_values(
     requires length { length tallies.now ≡ 2048 }
     requires key { key < 32 }
     requires class { id < 63 }
-    ensures { IfOk result (λ values. values.items ≡ row_values setting.now kind which head.now (tally_in tallies.now key) id) }
+    ensures { IfOk result (λ values. values.items
+        ≡ row_values setting.now kind which head.now (tally_in tallies.now key) id) }
 {
     let mut values = Vec::new(alloc);
     head.put(which, &mut values)?;
@@ -191,7 +192,9 @@ fn put_class(
     requires length { length tallies.now ≡ 2048 }
     requires key { place < 32 }
     requires class { id < 63 }
-    ensures { OnOk result (rows.new.entries ≡ put_rows rows.old.entries (class_rows setting.now kind which place (tally_in tallies.now place) head.now id)) }
+    ensures { OnOk result (rows.new.entries
+        ≡ put_rows rows.old.entries
+        (class_rows setting.now kind which place (tally_in tallies.now place) head.now id)) }
 {
     if !is_listed(setting, kind, head, tallies, place, id) {
         return Ok(());
@@ -214,7 +217,10 @@ fn put_classes(
 ) -> Result<(), NoMemory>
     requires length { length tallies.now ≡ 2048 }
     requires key { place < 32 }
-    ensures { OnOk result (rows.new.entries ≡ put_rows rows.old.entries (flat_map (class_rows setting.now kind which place (tally_in tallies.now place) head.now) (range_with_len 0 63))) }
+    ensures { OnOk result (rows.new.entries
+        ≡ put_rows rows.old.entries
+        (flat_map (class_rows setting.now kind which place (tally_in tallies.now place) head.now)
+        (range_with_len 0 63))) }
 {
     for id in 0..IDS {
         match put_class(alloc, setting, kind, which, place, tallies, head, id, rows) {
@@ -238,7 +244,8 @@ fn put_place(
 ) -> Result<(), NoMemory>
     requires length { length tallies.now ≡ 2048 }
     requires key { place < 32 }
-    ensures { OnOk result (rows.new.entries ≡ put_rows rows.old.entries (place_rows setting.now kind which infos.now (tally_in tallies.now) place)) }
+    ensures { OnOk result (rows.new.entries
+        ≡ put_rows rows.old.entries (place_rows setting.now kind which infos.now (tally_in tallies.now) place)) }
 {
     match head_of(alloc, which, &setting.names, infos, place)? {
         Some(head) => put_classes(alloc, setting, kind, which, place, tallies, &head, rows),
@@ -281,7 +288,9 @@ pub fn listed_rows(
     tallies: &[Tally],
 ) -> Result<Vec<Row>, NoMemory>
     requires { length tallies.now ≡ 2048 }
-    ensures { IfOk result (λ rows. rows.items ≡ map (λ (row : RowKey × List RowValue). row.1) (listed_rows setting.now kind which infos.now (tally_in tallies.now))) }
+    ensures { IfOk result (λ rows. rows.items
+        ≡ map (λ (row : RowKey × List RowValue). row.1)
+        (listed_rows setting.now kind which infos.now (tally_in tallies.now))) }
 {
     let rows = put_places(alloc, setting, kind, which, infos, tallies)?;
     rows.into_values().collect(alloc)

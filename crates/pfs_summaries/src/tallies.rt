@@ -198,7 +198,9 @@ fn add_cell(tallies: &mut [Tally], key: u64, cell: u64, seen: &Seen)
     requires length { length tallies.old ≡ 2048 }
     requires key { key < 32 }
     requires cell { cell < 64 }
-    ensures { tallies.new ≡ slice_set tallies.old (64 * key + cell) (added seen.now (slice_index_or tallies.old (64 * key + cell) none_of)) }
+    ensures { tallies.new
+        ≡ slice_set tallies.old (64 * key + cell)
+        (added seen.now (slice_index_or tallies.old (64 * key + cell) none_of)) }
 {
     let at = (CELLS * key + cell) as usize;
     tallies[at] = tallies[at].add(seen);

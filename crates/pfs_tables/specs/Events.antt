@@ -59,7 +59,8 @@ fields_of e = record {
 -- words are an event's where the class is at most 62, the link at most 64, the nesting at most 4, and word 5 is 0
 unfoldable pub are_event : List ℕ → Bool
 are_event words =
-    nat_le (slice_index words 3 % 64) 62 && (nat_le (slice_index words 3 / 64) 64 && (nat_le (slice_index words 4 / 4) 4 && (slice_index words 5 == 0)))
+    nat_le (slice_index words 3 % 64) 62
+    && (nat_le (slice_index words 3 / 64) 64 && (nat_le (slice_index words 4 / 4) 4 && (slice_index words 5 == 0)))
 
 unfoldable pub fields_in : List ℕ → Fields
 fields_in words = record {
@@ -89,7 +90,8 @@ event_in words = if are_event words then Some (fields_in words) else None
 
 -- the name of the class with this id, where the setting has both
 abbrev pub class_name : Setting → ℕ → Option (List ℕ)
-class_name setting id = option_and_then (λ (class : Class). slice_get setting.names class.name) (class_at setting.classes id)
+class_name setting id =
+    option_and_then (λ (class : Class). slice_get setting.names class.name) (class_at setting.classes id)
 
 -- a value that only shows where the test is true
 abbrev pub where_true : Bool → ℕ → RowValue
@@ -108,8 +110,8 @@ nesting_name nesting =
     if nesting == 4 then Text (codes "WAIT") else
     Null
 
--- what every event table shows: whose event it is and its numbers, its class, its times where they count and where it has ended, and what it
--- lies in
+-- what every event table shows: whose event it is and its numbers, its class, its times where they count and where it
+-- has ended, and what it lies in
 unfoldable pub event_head : Fields → List ℕ → List RowValue
 event_head event name =
     Number event.session
@@ -128,29 +130,35 @@ abbrev pub table_values : TableName → List RowValue
 table_values table = Text table.schema ∷ Text table.name ∷ []
 
 unfoldable pub object_of : Setting → ℕ → Option (List RowValue)
-object_of setting link = if link == 0 then Some (Null ∷ Null ∷ []) else option_map table_values (slice_get setting.tables (link - 1))
+object_of setting link = if link == 0 then Some (Null ∷ Null ∷ [])
+    else option_map table_values (slice_get setting.tables (link - 1))
 
 -- the digest of a statement in lower-case hexadecimal digits, or nothing where it has none
 abbrev pub digest_values : DigestText → List RowValue
 digest_values digest = Text (encode_lower digest.hash) ∷ []
 
 unfoldable pub digest_of : Setting → ℕ → Option (List RowValue)
-digest_of setting link = if link == 0 then Some (Null ∷ []) else option_map digest_values (slice_get setting.digests (link - 1))
+digest_of setting link = if link == 0 then Some (Null ∷ [])
+    else option_map digest_values (slice_get setting.digests (link - 1))
 
 abbrev pub statement_values : Fields → List RowValue
 statement_values event =
-    Number event.lock ∷ Number event.errors ∷ Number event.warnings ∷ Number event.affected ∷ Number event.sent ∷ Number event.examined ∷ []
+    Number event.lock ∷ Number event.errors ∷ Number event.warnings ∷ Number event.affected ∷ Number event.sent
+    ∷ Number event.examined ∷ []
 
 -- what the tables of a kind show beside
 unfoldable pub event_tail : Setting → TableKind → Fields → Option (List RowValue)
 event_tail setting Waits event = object_of setting event.link
 event_tail setting Stages event = Some []
-event_tail setting Statements event = option_map (λ digest. statement_values event ++ digest) (digest_of setting event.link)
-event_tail setting Transactions event = Some (Text (if event.read_only then codes "READ ONLY" else codes "READ WRITE") ∷ [])
+event_tail setting Statements event =
+    option_map (λ digest. statement_values event ++ digest) (digest_of setting event.link)
+event_tail setting Transactions event =
+    Some (Text (if event.read_only then codes "READ ONLY" else codes "READ WRITE") ∷ [])
 
 -- the row of an event, where the setting has all that it shows
 abbrev pub named_values : Setting → TableKind → Fields → List ℕ → Option (List RowValue)
-named_values setting kind event name = option_map (λ tail. event_head event name ++ tail) (event_tail setting kind event)
+named_values setting kind event name =
+    option_map (λ tail. event_head event name ++ tail) (event_tail setting kind event)
 
 abbrev pub event_values : Setting → TableKind → Fields → Option (List RowValue)
 event_values setting kind event = option_and_then (named_values setting kind event) (class_name setting event.class)

@@ -1,3 +1,4 @@
 pub mod Events
 pub mod Orders
 pub mod Plain
+pub mod Shown

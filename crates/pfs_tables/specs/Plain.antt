@@ -46,7 +46,8 @@ event_key History event place = number_key event.session event.number place
 event_key HistoryLong event place = number_key event.ticket 0 place
 
 abbrev pub keyed_event : Setting → TableKind → EventTable → ℕ → Fields → Option Keyed
-keyed_event setting kind table place event = option_map (λ values. (event_key table event place, values)) (event_values setting kind event)
+keyed_event setting kind table place event =
+    option_map (λ values. (event_key table event place, values)) (event_values setting kind event)
 
 unfoldable pub event_row : Setting → TableKind → EventTable → ℕ → List ℕ → Option Keyed
 event_row setting kind table place words = option_and_then (keyed_event setting kind table place) (event_in words)
@@ -65,29 +66,39 @@ flags_at readings word = option_map_or flags_in (find (loads word) readings) 0
 
 -- a thread's row: bit 0 of its word is INSTRUMENTED, bit 1 HISTORY
 abbrev pub thread_values : Thread → ℕ → List ℕ → List ℕ → List RowValue
-thread_values info flags user host = Number info.session ∷ Text user ∷ Text host ∷ bit_value flags 0 ∷ bit_value flags 1 ∷ []
+thread_values info flags user host =
+    Number info.session ∷ Text user ∷ Text host ∷ bit_value flags 0 ∷ bit_value flags 1 ∷ []
 
 -- with two names that the setting has, or none
 abbrev pub with_names : {X : Type 0} → Setting → ℕ → ℕ → (List ℕ → List ℕ → X) → Option X
-with_names setting user host then_of = option_and_then (λ name. option_map (then_of name) (slice_get setting.names host)) (slice_get setting.names user)
+with_names setting user host then_of =
+    option_and_then (λ name. option_map (then_of name) (slice_get setting.names host)) (slice_get setting.names user)
 
 unfoldable pub thread_row : Setting → ℕ → ℕ → Thread → Option Keyed
 thread_row setting place flags info =
-    with_names setting info.user_name info.host_name (λ user host. (number_key info.session 0 place, thread_values info flags user host))
+    with_names setting info.user_name info.host_name (λ user host. (
+      number_key info.session 0 place,
+      thread_values info flags user host,
+    ))
 
 -- an account's row
 abbrev pub account_values : Account → List ℕ → List ℕ → List RowValue
 account_values info user host = Text user ∷ Text host ∷ Number info.current ∷ Number info.total ∷ []
 
 unfoldable pub account_row : Setting → ℕ → Account → Option Keyed
-account_row setting place info = with_names setting info.user_name info.host_name (λ user host. (name_key user host place, account_values info user host))
+account_row setting place info =
+    with_names setting info.user_name info.host_name (λ user host. (
+      name_key user host place,
+      account_values info user host,
+    ))
 
 -- a user's or a host's row
 abbrev pub name_values : Name → List ℕ → List RowValue
 name_values info name = Text name ∷ Number info.current ∷ Number info.total ∷ []
 
 unfoldable pub name_row : Setting → ℕ → Name → Option Keyed
-name_row setting place info = option_map (λ name. (name_key name [] place, name_values info name)) (slice_get setting.names info.name)
+name_row setting place info =
+    option_map (λ name. (name_key name [] place, name_values info name)) (slice_get setting.names info.name)
 
 -- the places that may give a row of a table
 abbrev pub is_thread_info : Place → Bool
@@ -121,7 +132,8 @@ may_show _ place = false
 
 -- the row that such a place gives, where it was found Whole with these words
 unfoldable pub words_row : Setting → Table → List Reading → ℕ → List ℕ → Option Keyed
-words_row setting tables.Threads readings row words = thread_row setting row (flags_at readings row) (infos.thread_of words)
+words_row setting tables.Threads readings row words =
+    thread_row setting row (flags_at readings row) (infos.thread_of words)
 words_row setting tables.Accounts readings row words = account_row setting row (infos.account_of words)
 words_row setting tables.Users readings row words = name_row setting row (infos.name_of words)
 words_row setting tables.Hosts readings row words = name_row setting row (infos.name_of words)
@@ -145,17 +157,20 @@ class_values flags name = Text name ∷ bit_value flags 0 ∷ bit_value flags 1 
 
 unfoldable pub class_row : Setting → ℕ → ℕ → Option Keyed
 class_row setting word flags =
-    if nat_le 33 word then option_map (λ name. (number_key (word - 33) 0 word, class_values flags name)) (class_name setting (word - 33)) else None
+    if nat_le 33 word then option_map (λ name. (number_key (word - 33) 0 word, class_values flags name))
+    (class_name setting (word - 33)) else None
 
 -- the rows of the consumers: word 0 has their flags
 abbrev pub consumers : List Consumer
 consumers =
     StagesCurrent ∷ StagesHistory ∷ StagesHistoryLong ∷ StatementsCurrent ∷ StatementsHistory ∷ StatementsHistoryLong
-    ∷ TransactionsCurrent ∷ TransactionsHistory ∷ TransactionsHistoryLong ∷ WaitsCurrent ∷ WaitsHistory ∷ WaitsHistoryLong
+    ∷ TransactionsCurrent ∷ TransactionsHistory ∷ TransactionsHistoryLong ∷ WaitsCurrent ∷ WaitsHistory
+    ∷ WaitsHistoryLong
     ∷ GlobalInstrumentation ∷ ThreadInstrumentation ∷ StatementsDigest ∷ []
 
 abbrev pub consumer_row : ℕ → Consumer → Keyed
-consumer_row flags consumer = (number_key (bit_of consumer) 0 0, Text (name_of consumer) ∷ flag_value (is_on flags consumer) ∷ [])
+consumer_row flags consumer =
+    (number_key (bit_of consumer) 0 0, Text (name_of consumer) ∷ flag_value (is_on flags consumer) ∷ [])
 
 unfoldable pub consumer_rows : ℕ → ℕ → List Keyed
 consumer_rows word flags = if word == 0 then map (consumer_row flags) consumers else []
@@ -172,4 +187,5 @@ rows_of setting table readings (Word word version flags) = word_rows setting tab
 
 -- what the table shows by the readings, in the order of its key
 unfoldable pub plain_rows_of : Setting → Table → List Reading → List (List RowValue)
-plain_rows_of setting table readings = map (λ (row : Keyed). row.1) (put_rows [] (flat_map (rows_of setting table readings) readings))
+plain_rows_of setting table readings =
+    map (λ (row : Keyed). row.1) (put_rows [] (flat_map (rows_of setting table readings) readings))

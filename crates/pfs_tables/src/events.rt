@@ -175,7 +175,8 @@ fn statement_values(alloc: Global, event: &Event) -> Result<Vec<RowValue>, NoMem
 
 // What the statement tables show of a statement beside.
 fn statement_tail(alloc: Global, setting: &Setting, event: &Event) -> Result<Option<Row>, NoMemory>
-    ensures { IfOk result (λ row. row ≡ option_map (λ digest. spec.statement_values (fields_of event.now) ++ digest) (spec.digest_of setting.now event.now.link)) }
+    ensures { IfOk result (λ row. row ≡ option_map (λ digest. spec.statement_values (fields_of event.now) ++ digest)
+        (spec.digest_of setting.now event.now.link)) }
 {
     match digest_of(alloc, setting, event.link)? {
         Some(digest) => {

@@ -1,13 +1,15 @@
-//! The rows of the tables that show one place of the board, or one switch word, a row.
+//! The rows that tables show by readings of the board and of switch words.
 #![tactic(auto)]
 
 mod events;
+mod listing;
 mod orders;
 mod plain;
 mod rows;
 #[cfg(test)]
 mod tests;
 
+pub use listing::listed;
 pub use orders::RowKey;
 pub use plain::plain_rows;
 

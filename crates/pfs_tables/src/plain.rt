@@ -164,7 +164,8 @@ fn put_reading(
     rows: &mut Rows,
     reading: &Reading,
 ) -> Result<(), NoMemory>
-    ensures { OnOk result (rows.new.entries ≡ put_rows rows.old.entries (spec.rows_of setting.now table readings.now reading.now)) }
+    ensures { OnOk result (rows.new.entries
+        ≡ put_rows rows.old.entries (spec.rows_of setting.now table readings.now reading.now)) }
 {
     match reading {
         Reading::Slot { row, seen } => {

@@ -137,7 +137,10 @@ fn named_account(
     user: &str,
     host: &str,
 ) -> Result<Keyed, NoMemory>
-    ensures { IfOk result (λ row. row ≡ (spec_name_key user.now host.now place, spec.account_values info.now user.now host.now)) }
+    ensures { IfOk result (λ row. row ≡ (
+      spec_name_key user.now host.now place,
+      spec.account_values info.now user.now host.now,
+    )) }
 {
     let row = account_values(alloc, info, user, host)?;
     let user = Text::from_slice(alloc, user.as_bytes())?;

@@ -1,0 +1,37 @@
+//! The rows of any table.
+
+ghost use Rattle.std.specs.Prelude.{◌≡◌, IfOk};
+ghost use Rattle.pfs_tables.specs.Shown.{listed_rows};
+
+use crate::NoMemory;
+use crate::plain::plain_rows;
+use pfs_classes::Setting;
+use pfs_rows::{Reading, Table};
+use pfs_summaries::{digest_rows, summary_rows};
+use pfs_values::Rowset;
+use std::alloc::Global;
+
+/// What a table shows by these readings, in the order of its key. It asks nothing of the readings. Of `setup_actors`
+/// and `setup_objects`, which are shown as they stand at their action, no reading tells, and nothing is shown here.
+pub fn listed(
+    alloc: Global,
+    setting: &Setting,
+    table: Table,
+    readings: &[Reading],
+) -> Result<Rowset, NoMemory>
+    ensures { IfOk result (λ rows. rows ≡ listed_rows setting.now table readings.now) }
+{
+    match table {
+        Table::Summary(kind, which) => summary_rows(alloc, setting, kind, which, readings),
+        Table::DigestSummary => digest_rows(alloc, setting, readings),
+        Table::SetupActors
+        | Table::SetupObjects
+        | Table::SetupInstruments
+        | Table::SetupConsumers
+        | Table::Threads
+        | Table::Accounts
+        | Table::Users
+        | Table::Hosts
+        | Table::Events(_, _) => plain_rows(alloc, setting, table, readings),
+    }
+}
