@@ -33,6 +33,9 @@ fn setting(alloc: Global) -> Result<Setting, Fail> {
     for name in ["a", "b", "h1", "h2", "u", "h"] {
         names.intern(name)?;
     }
+    if names.count() > 65_500 {
+        return Err(Fail::from("too many names"));
+    }
     let limits = Limits::opening();
     let classes = Classes::builtin(alloc, &mut names, &limits)?;
     let text = Text::from_slice(alloc, b"SELECT ?")?;
