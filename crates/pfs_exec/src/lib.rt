@@ -1,4 +1,4 @@
-//! Queries over rows: which rows, in which order, and what of them.
+//! The plan of a command, and the answer of a query over rows: which of them, in which order, and what of each.
 #![tactic(auto)]
 
 mod building;

@@ -17,7 +17,7 @@ use std::alloc::Global;
 /// (`UnknownColumn`); a number is compared with a text column or a text with a number column, or LIKE names a number
 /// column (`Parse`); SET names a column that may not be changed, a flag isn't YES or NO, or an OBJECT_TYPE isn't one
 /// of the five (`WrongUsage`). A missing column of an INSERT is `%`, `TABLE` or `YES`. The cases are our own, the
-/// numbers MySQL's.
+/// numbers MySQL's. There is no other error but `NoMemory`.
 pub fn plan(alloc: Global, command: Command) -> Result<Plan, SqlFault>
     ensures { IsPlanned command result }
 {

@@ -73,7 +73,8 @@ impl OrderList {
     }
 }
 
-/// A SELECT: the table, the places of the columns that are shown, the conditions, the order, and how many rows at most.
+/// A SELECT: the table, the places of the columns that are shown, the conditions, the order, and how many rows
+/// at most.
 #[derive(Debug, Drop)]
 pub struct Select {
     pub table: Table,

@@ -13,7 +13,7 @@ use std::alloc::Global;
 /// The answer of the query over a table's rows: those that meet all conditions, in a stable order by the named
 /// columns, the first of them up to the limit, and of these the named columns. NULL goes first, and last under
 /// `DESC`; numbers order by value, texts by their bytes. A place that a row doesn't have counts as NULL. That letter
-/// case counts in texts is our own rule.
+/// case counts in texts is our own rule. It is refused only where memory runs out.
 pub fn select(alloc: Global, query: &Select, rows: &Rowset) -> Result<Rowset, NoMemory>
     ensures { IfOk result (IsAnswer query.now rows.now) }
 {

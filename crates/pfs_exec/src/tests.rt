@@ -1,10 +1,9 @@
-//! Worked rows: ties keep their order, NULL goes first and last under DESC, the limit comes behind the filter.
+//! Worked rows: ties keep their order, NULL goes first and last under DESC, the limit comes behind the filter. Texts
+//! with MySQL's number of their refusal.
 use crate::*;
 use pfs_changes::TestList;
 use pfs_rows::Table;
-use pfs_sql::{
-    Command, NamedOrderList, NamedTest, NamedTestList, SelectCommand, SqlError, SqlFault, TextList,
-};
+use pfs_sql::{SqlFault, parse};
 use pfs_text::{Comparison, Literal, Test, TestKind, Text};
 use pfs_values::{Row, RowValue, Rowset};
 use std::alloc::Global;
@@ -103,47 +102,105 @@ fn worked_rows(rt: HostRuntime) -> Result<(), Fail> {
     Ok(())
 }
 
-// A SELECT of one column with one LIKE, and what it is refused with.
-fn refusal(
-    alloc: Global,
-    table: &str,
-    column: &str,
-    liked: &str,
-) -> Result<Option<SqlError>, NoMemory> {
-    let test = NamedTest {
-        column: Text::from_slice(alloc, liked.as_bytes())?,
-        kind: TestKind::Like(Text::from_slice(alloc, b"%")?),
+// No rows have no answer but the empty one.
+#[test]
+fn no_rows(rt: HostRuntime) -> Result<(), Fail> {
+    let alloc = rt.alloc();
+    let order = Order {
+        column: 0,
+        descending: false,
     };
-    let select = SelectCommand {
-        columns: Some(TextList::new(vec![in alloc; Text::from_slice(alloc, column.as_bytes())?]?)),
-        table: Text::from_slice(alloc, table.as_bytes())?,
-        tests: NamedTestList::new(vec![in alloc; test]?),
-        order: NamedOrderList::new(vec![in alloc]?),
-        limit: None,
-    };
-    match plan(alloc, Command::Select(select)) {
-        Ok(_) => Ok(None),
-        Err(SqlFault::Error(error)) => Ok(Some(error)),
-        Err(SqlFault::NoMemory) => Ok(Some(SqlError::TableFull)),
+    let query = query_of(alloc, order, u64::MAX, None)?;
+    let rows = rows_of(alloc, &[])?;
+    let answer = select(alloc, &query, &rows)?;
+    assert!(rt; answer.as_slice().is_empty());
+    Ok(())
+}
+
+fn number_of(fault: SqlFault) -> u16 {
+    match fault {
+        SqlFault::Error(error) => error.number(),
+        SqlFault::NoMemory => 1,
+    }
+}
+
+// MySQL's number of what a text is refused with; 0 where it has a plan, and 1 where memory runs out.
+fn refused_with(alloc: Global, text: &str) -> u16 {
+    match parse(alloc, text.as_bytes()) {
+        Ok(command) => match plan(alloc, command) {
+            Ok(_) => 0,
+            Err(fault) => number_of(fault),
+        },
+        Err(fault) => number_of(fault),
     }
 }
 
 // Where two reasons hold, the first of their order is told.
 #[test]
-fn first_reason(rt: HostRuntime) -> Result<(), Fail> {
-    let alloc = rt.alloc();
-    assert_eq!(rt; refusal(alloc, "Users", "user", "USER")?, None);
-    assert_eq!(rt;
-        refusal(alloc, "nothing", "nobody", "x")?,
-        Some(SqlError::NoSuchTable)
-    );
-    assert_eq!(rt;
-        refusal(alloc, "threads", "nobody", "THREAD_ID")?,
-        Some(SqlError::UnknownColumn)
-    );
-    assert_eq!(rt;
-        refusal(alloc, "threads", "HISTORY", "THREAD_ID")?,
-        Some(SqlError::Parse)
-    );
-    Ok(())
+fn texts_refused(rt: HostRuntime) {
+    let rows = [
+        (
+            "SELECT user, USER FROM performance_schema.Accounts ORDER BY host DESC LIMIT 3",
+            0u16,
+        ),
+        (
+            "SELECT * FROM threads WHERE thread_id >= 2 AND HISTORY LIKE 'Y%'",
+            0,
+        ),
+        (
+            "UPDATE threads SET HISTORY='NO', instrumented='YES' WHERE THREAD_ID=1",
+            0,
+        ),
+        (
+            "UPDATE setup_consumers SET ENABLED='NO' WHERE NAME LIKE '%'",
+            0,
+        ),
+        (
+            "INSERT INTO setup_actors VALUES ('h','u','r','NO','YES')",
+            0,
+        ),
+        ("INSERT INTO setup_objects (OBJECT_NAME) VALUES ('t')", 0),
+        ("DELETE FROM setup_objects WHERE OBJECT_TYPE='EVENT'", 0),
+        ("TRUNCATE TABLE events_waits_history_long", 0),
+        ("SELECT * FROM threads;;", 1064),
+        ("INSERT INTO nothing VALUES ('a')", 1064),
+        ("INSERT INTO users (USER, user) VALUES ('a','b')", 1064),
+        ("UPDATE nothing SET a='x', A='y'", 1064),
+        ("SELECT * FROM nothing", 1146),
+        ("SELECT nope FROM nothing WHERE nope='x'", 1146),
+        ("DELETE FROM nothing WHERE nope=1", 1146),
+        ("TRUNCATE threads", 1142),
+        ("TRUNCATE setup_consumers", 1142),
+        ("UPDATE users SET USER='x'", 1142),
+        ("DELETE FROM threads WHERE nope=1", 1142),
+        ("DELETE FROM threads WHERE THREAD_ID LIKE 'x'", 1142),
+        ("INSERT INTO users (nope) VALUES ('x')", 1142),
+        ("SELECT nope FROM threads", 1054),
+        ("SELECT * FROM threads ORDER BY nope", 1054),
+        ("SELECT nope FROM threads WHERE THREAD_ID='1'", 1054),
+        ("UPDATE setup_consumers SET TIMED='maybe'", 1054),
+        ("UPDATE threads SET THREAD_ID='x' WHERE nope=1", 1054),
+        (
+            "INSERT INTO setup_actors (nope, ENABLED) VALUES ('x','maybe')",
+            1054,
+        ),
+        ("SELECT * FROM threads WHERE THREAD_ID='1'", 1064),
+        ("SELECT * FROM threads WHERE HISTORY=1", 1064),
+        ("SELECT * FROM threads WHERE THREAD_ID LIKE '1%'", 1064),
+        (
+            "UPDATE threads SET THREAD_ID='maybe' WHERE THREAD_ID='1'",
+            1064,
+        ),
+        ("UPDATE threads SET THREAD_ID='maybe'", 1683),
+        ("UPDATE threads SET THREAD_ID='YES'", 1683),
+        ("UPDATE threads SET HISTORY='yes'", 1683),
+        ("INSERT INTO setup_actors (HISTORY) VALUES ('')", 1683),
+        (
+            "INSERT INTO setup_objects (OBJECT_TYPE) VALUES ('table')",
+            1683,
+        ),
+    ];
+    for (text, want) in rows {
+        assert_eq!(rt; refused_with(rt.alloc(), text), want, "{text}");
+    }
 }
