@@ -61,7 +61,7 @@ entered start calls v w label wide b stk r =
       stake_is = stk ∙ r.stake_is;
       tied = tied_as start more v.made w.made (ap (λ (z : View). z.made) is) r.tied;
       shown = shown_as start more v.reads w.reads v.sights w.sights (x ∷ v.entered) w.entered (ap (λ (z : View). z.reads) is) (ap (λ (z : View). z.sights) is) (ap (λ (z : View). z.entered) is)
-          (inl refl, shown_more start v.reads v.reads v.sights v.sights v.entered (x ∷ v.entered) (all_within v.reads) (all_within v.sights) (one_more x v.entered) calls r.shown);
+          (inl (r.number_is, refl, refl), shown_more start v.reads v.reads v.sights v.sights v.entered (x ∷ v.entered) (all_within v.reads) (all_within v.sights) (one_more x v.entered) calls r.shown);
       taken = λ q some h.
           let Q : Corner → Type 0 = λ z. is_holding z.stage ≡ true in
           let s = settled_held (corner v q).stage (subst Q (there q some) h) in

@@ -1,5 +1,5 @@
 -- What each kind of call adds to what a seat of the board has kept.
-use Rattle.std.proofs.Common.{ℕ, ◌≡◌, ◌≢◌, ◌+◌, ◌*◌, ◌/◌, ◌<◌, ◌≤◌, Bool, true, false, length, List, [], ◌∷◌, Some, None, IsSome, refl, ap, sym, ◌∙◌, subst, arith}
+use Rattle.std.proofs.Common.{⊎_elim, inl, inr, ℕ, ◌⊎◌, ◌≡◌, ◌≢◌, ◌+◌, ◌*◌, ◌/◌, ◌%◌, ◌<◌, ◌≤◌, Bool, true, false, length, List, [], ◌∷◌, Some, None, IsSome, refl, ap, sym, ◌∙◌, subst, arith}
 use Rattle.pfs_board.specs.declared.view.Change.{Change}
 use Rattle.pfs_board.specs.declared.view.Entered.{Entered}
 use Rattle.pfs_board.specs.declared.view.Finished.{Finished}
@@ -15,7 +15,7 @@ use Rattle.pfs_levels.specs.declared.answers.Added.TheVariants.{Counted}
 use Rattle.pfs_levels.specs.declared.answers.RingPut.TheVariants.{Done}
 use Rattle.pfs_stat.specs.declared.Stat.{Stat}
 use Rattle.pfs_seats.specs.Reached.{OnBoard, in_hand, labels_in}
-use Rattle.pfs_seats.specs.Ties.{IsTied, IsSighted, IsFinished, WasOlder, AreShown, last_found}
+use Rattle.pfs_seats.specs.Ties.{AreAnothers, IsTied, IsSighted, IsFinished, WasOlder, AreShown, last_found}
 use Rattle.pfs_seats.proofs.Shown.{all_within, one_more, shown_more}
 use Rattle.pfs_seats.proofs.Turned.{reach, here_if, away_if}
 
@@ -142,3 +142,13 @@ apart start calls v call r tied shown founds hands tops act aft lab labs = recor
   labels = λ h. r.labels (omega (arith, h, act)) ∙ sym labs;
   seen = λ row. omega (arith, r.seen row, tops row);
 }
+
+-- the two words that a busy read shows
+pub another_seen : (first second : ℕ) → ((first % 4 ≡ 1) × (second ≡ first)) ⊎ ((first % 4 ≡ 2) × (second ≢ first)) → first / 4 ≤ second / 4 → second % 4 < 3 → AreAnothers first second
+another_seen first second d up low = (
+  ⊎_elim (λ x. inl x) (λ (x : (first % 4 ≡ 2) × (second ≢ first)). inr ((λ z. omega (arith, z, x.0)), x.1)) d,
+  ⊎_elim (λ (x : (first % 4 ≡ 1) × (second ≡ first)). omega (arith, x.0)) (λ (x : (first % 4 ≡ 2) × (second ≢ first)). omega (arith, x.0)) d,
+  low,
+  up,
+  λ z. ⊎_elim (λ (x : (first % 4 ≡ 1) × (second ≡ first)). absurd (omega (arith, x.0, z))) (λ (x : (first % 4 ≡ 2) × (second ≢ first)). absurd (omega (arith, x.0, z))) d,
+)

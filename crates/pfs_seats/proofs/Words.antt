@@ -1,5 +1,5 @@
 -- What a load and a draw add to what the seats of the words and of the tickets have kept.
-use Rattle.std.proofs.Common.{ℕ, ◌≡◌, ◌+◌, ◌<◌, ◌≤◌, ◌==◌, cond, length, get_or, slice_set, List, [], ◌∷◌, refl, sym, ◌∙◌, subst, arith, inl, inr}
+use Rattle.std.proofs.Common.{ap, slice_index, ℕ, ◌≡◌, ◌+◌, ◌<◌, ◌≤◌, ◌==◌, cond, length, get_or, slice_set, List, [], ◌∷◌, refl, sym, ◌∙◌, subst, arith, inl, inr}
 use Rattle.std.proofs.lemmas.Bool.{cases_eq}
 use Rattle.std.proofs.lemmas.List.{get_or-set_other, get_or-set_same}
 use Rattle.atomic_table.specs.Seated.{TableId}
@@ -21,7 +21,7 @@ loaded_on start calls w w' word version flags low is r = subst (OnWords start (L
   r.0,
   r.1,
   r.2,
-  (record { by_is = r.0; word_is = refl; version_is = refl; flags_is = refl }, r.3),
+  (record { by_is = r.0; first_is = ap (λ ws. slice_index ws word) r.2; word_is = refl; version_is = refl; flags_is = refl }, r.3),
   λ q. elim (cases_eq q word) [
     | inl i ↦ let P : ℕ → Type 0 = λ z. cond (word == z) version (top_word calls z) ≤ get_or (slice_set w.seen word version) z 0 in
         subst P (sym i) (omega (arith, here_if word version (top_word calls word), get_or-set_same w.seen word version 0 low))

@@ -59,7 +59,7 @@ pub record OnBoard (start : Start) (calls : List Call) (v : View) : Type 0 where
 abbrev pub OnWords : Opening → List Call → WordView → Type 0
 OnWords start calls w = (w.number ≡ start.switches.number) × (w.start ≡ opening_words start.flags)
     × (w.first ≡ start.words)
-    × AreLoaded start.switches calls w.loads × ((word : ℕ) → top_word calls word ≤ slice_index w.seen word)
+    × AreLoaded start calls w.loads × ((word : ℕ) → top_word calls word ≤ slice_index w.seen word)
 
 -- and of a seat of the tickets
 abbrev pub OnTickets : Start → List Call → TicketView → Type 0

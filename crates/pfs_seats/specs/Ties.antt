@@ -1,11 +1,11 @@
 -- The calls of an actor, and what its seats have kept of them, all newest first.
-use Rattle.std.specs.Prelude.{ℕ, ◌≡◌, ◌+◌, ◌*◌, ◌<◌, ◌≤◌, ◌==◌, ◌⊎◌, Bool, true, false, if◌then◌else◌, List, [], ◌∷◌, Some, None, slice_index}
+use Rattle.std.specs.Prelude.{ℕ, ◌≡◌, ◌+◌, ◌*◌, ◌/◌, ◌%◌, ◌≢◌, length, ◌<◌, ◌≤◌, ◌==◌, ◌⊎◌, Bool, true, false, if◌then◌else◌, List, [], ◌∷◌, Some, None, slice_index}
 use Rattle.pfs_board.specs.declared.view.Change.{Change}
 use Rattle.pfs_board.specs.declared.view.Entered.{Entered}
 use Rattle.pfs_board.specs.declared.view.Finished.{Finished}
 use Rattle.pfs_board.specs.declared.view.Sight.{Sight}
 use Rattle.pfs_board.specs.History.{Some_of}
-use Rattle.pfs_levels.specs.Calls.{Call, Adds, Rings, Reads, Loads, Draws, Takes, Puts, Frees, Sets, Enters, Leaves, Start, action_in, after_in, label_in, hand_in}
+use Rattle.pfs_levels.specs.Calls.{Call, Adds, Rings, Reads, Loads, Draws, Takes, Puts, Frees, Sets, Enters, Leaves, Start, Opening, action_in, after_in, label_in, hand_in}
 use Rattle.pfs_levels.specs.Contents.{merged}
 use Rattle.pfs_levels.specs.Order.{top_in}
 use Rattle.pfs_levels.specs.declared.answers.Added.TheVariants.{Counted, Held}
@@ -69,7 +69,7 @@ IsTied start (Frees row version ∷ calls) [] = ⊥
 IsTied start (Frees row version ∷ calls) (change ∷ made) = (0 < row)
     × IsMade start (action_in calls) (after_in calls) row version false change
     × (change.found ≡ last_found calls row) × (hand_in calls row ≡ Some version) × IsTied start calls made
-IsTied start (Sets at flags version ∷ calls) made = IsTied start calls made
+IsTied start (Sets at flags version ∷ calls) made = (0 < action_in calls) × IsTied start calls made
 IsTied start (Enters label labels ∷ calls) made = IsTied start calls made
 IsTied start (Leaves ∷ calls) [] = ⊥
 IsTied start (Leaves ∷ calls) (change ∷ made) = (0 < action_in calls)
@@ -77,13 +77,14 @@ IsTied start (Leaves ∷ calls) (change ∷ made) = (0 < action_in calls)
     × (change.label ≡ label_in calls) × IsTied start calls made
 
 -- the seat's loads of words are those of the calls, in their order; behind each set stands a load of what it set
-pub record IsLoad (start : Start) (word version flags : ℕ) (load : Loaded) : Type 0 where
-  pub by_is : load.by ≡ start.number
+pub record IsLoad (start : Opening) (word version flags : ℕ) (load : Loaded) : Type 0 where
+  pub by_is : load.by ≡ start.switches.number
+  pub first_is : load.first ≡ slice_index start.words word
   pub word_is : load.word ≡ word
   pub version_is : load.version ≡ version
   pub flags_is : load.flags ≡ flags
 
-abbrev pub AreLoaded : Start → List Call → List Loaded → Type 0
+abbrev pub AreLoaded : Opening → List Call → List Loaded → Type 0
 AreLoaded start [] loads = loads ≡ []
 AreLoaded start (Loads at version flags ∷ calls) [] = ⊥
 AreLoaded start (Loads at version flags ∷ calls) (load ∷ loads) = IsLoad start at version flags load
@@ -145,28 +146,37 @@ WasOlder start reads sights row version content action after =
     ⊎ Some_of (λ (f : Finished). IsFinished start row version action after f
     × (slice_index f.content 15 ≤ slice_index content 15)) reads
 
+-- The two words show that the row was another's: a dirty one twice; or two that differ, of which the first was not
+-- dirty. Both are lock words, the second at no lower version, and a row that was free isn't allocated again at its
+-- version
+abbrev pub AreAnothers : ℕ → ℕ → Type 0
+AreAnothers first second = (((first % 4 ≡ 1) × (second ≡ first)) ⊎ ((first % 4 ≢ 1) × (second ≢ first)))
+    × (first % 4 < 3) × (second % 4 < 3) × (first / 4 ≤ second / 4)
+    × (first % 4 ≡ 0 → second % 4 ≡ 2 → first / 4 < second / 4)
+
 -- what the seat has kept of a call that changed nothing, or of what let it change: a read, the words that it saw, or
 -- the labels that an action found
 abbrev pub IsShown : Start → List Finished → List Sight → List Entered → List Call → Call → Type 0
-IsShown start reads sights entered calls (Adds row amount (Held r first second)) =
-    Some_of (IsSighted start r first second (action_in calls) (after_in calls)) sights
+IsShown start reads sights entered calls (Adds row amount (Held r first second)) = AreAnothers first second
+    × Some_of (IsSighted start r first second (action_in calls) (after_in calls)) sights
 IsShown start reads sights entered calls (Adds row amount (Counted r version)) = Unit {0}
 IsShown start reads sights entered calls (Rings row content (Done version)) = 10242 ≤ row
     → (n : ℕ) × (version ≡ n + 1) × WasOlder start reads sights row n content (action_in calls) (after_in calls)
-IsShown start reads sights entered calls (Rings row content (Busy first second)) =
-    Some_of (IsSighted start row first second (action_in calls) (after_in calls)) sights
+IsShown start reads sights entered calls (Rings row content (Busy first second)) = AreAnothers first second
+    × Some_of (IsSighted start row first second (action_in calls) (after_in calls)) sights
 IsShown start reads sights entered calls (Rings row content (Late ticket)) =
-    (version : ℕ) × (top_in calls row ≤ version)
+    (10242 ≤ row) × (version : ℕ) × (top_in calls row ≤ version)
     × Some_of (λ (f : Finished). IsFinished start row version (action_in calls) (after_in calls) f
     × (slice_index f.content 15 ≡ ticket + 1)) reads
-IsShown start reads sights entered calls (Reads row (Whole version found)) =
-    Some_of (λ (f : Finished). IsFinished start row version (action_in calls) (after_in calls) f
+IsShown start reads sights entered calls (Reads row (Whole version found)) = (0 < row)
+    × Some_of (λ (f : Finished). IsFinished start row version (action_in calls) (after_in calls) f
     × (f.content ≡ found)) reads
-IsShown start reads sights entered calls (Reads row (Free word)) =
-    Some_of (IsSighted start row word word (action_in calls) (after_in calls)) sights
-IsShown start reads sights entered calls (Reads row (sees.Busy first second)) =
-    Some_of (IsSighted start row first second (action_in calls) (after_in calls)) sights
-IsShown start reads sights entered calls (Enters label labels) = Some_of (λ (e : Entered). e.labels ≡ labels) entered
+IsShown start reads sights entered calls (Reads row (Free word)) = (0 < row) × (word % 4 ≡ 0)
+    × Some_of (IsSighted start row word word (action_in calls) (after_in calls)) sights
+IsShown start reads sights entered calls (Reads row (sees.Busy first second)) = (0 < row) × AreAnothers first second
+    × Some_of (IsSighted start row first second (action_in calls) (after_in calls)) sights
+IsShown start reads sights entered calls (Enters label labels) =
+    Some_of (λ (e : Entered). (e.by ≡ start.number) × (e.action ≡ length labels + 1) × (e.labels ≡ labels)) entered
 IsShown start reads sights entered calls (Loads at version flags) = Unit {0}
 IsShown start reads sights entered calls (Draws kind ticket) = Unit {0}
 IsShown start reads sights entered calls (Takes row version found) = Unit {0}

@@ -1,9 +1,11 @@
 //! What an actor does inside an action, and as it pauses.
 
-ghost use Rattle.std.specs.Prelude.{◌≡◌, ◌≤◌, ℕ, List, Option, Some, None, IfSome, length, option_map};
+ghost use Rattle.std.specs.Prelude.{◌≡◌, ◌≤◌, ℕ, List, Option, Some, None, IfSome, IsSome, length, option_map};
 ghost use Rattle.std.proofs.Props.{props};
 ghost use Rattle.pfs_levels.specs.Calls.{Call, Opening};
+ghost use Rattle.pfs_board.specs.Knowledge.{corner};
 ghost use Rattle.pfs_seats.specs.Pen.{words_of};
+ghost use Rattle.pfs_seats.specs.Reached.{in_hand};
 
 use crate::rows::BoardRows;
 use pfs_board::{Content, Kept};
@@ -21,16 +23,19 @@ pub struct BoardHold<'a, 'b, R: Wait, V: Kept> {
     writer: Option<Writer>,
     ghost same: { IfSome writer (λ w. w.switches ≡ rows.now.switches.now.id) } by { Prim.hlevel props },
     ghost wide: { IfSome writer (λ w. 160 ≤ length w.view.seen) } by { Prim.hlevel props },
+    ghost inside: { IfSome writer (λ _. IsSome (in_hand (corner rows.now.seat.view 0).stage)) } by { Prim.hlevel props },
 }
 
 impl<'a, 'b, R: Wait, V: Kept> BoardHold<'a, 'b, R, V> {
-    /// A hold over an actor's store. It may set words where it is lent their writer, whom the actor's seat meets here.
+    /// A hold over an actor's store. It may set words where it is lent their writer, which only an action is, and
+    /// whom the actor's seat meets here.
     pub fn new(
         rt: &'a R,
         rows: &'a mut BoardRows<'b, V>,
         writer: Option<Writer>,
     ) -> BoardHold<'a, 'b, R, V>
         requires wide { IfSome writer (λ w. 160 ≤ length w.view.seen) }
+        requires inside { IfSome writer (λ _. IsSome (⟦<BoardRows<'b, V> as Rows>⟧.hand rows.old 0)) }
         requires same { IfSome writer (λ w. (start : Opening) × (calls : List Call)
             × (⟦<BoardRows<'b, V> as Rows>⟧.reached rows.old start calls) × (w.switches ≡ start.switches.table)) }
         ensures call { (start : Opening) → (calls : List Call) → ⟦<BoardRows<'b, V> as Rows>⟧.reached rows.old start calls → ⟦<BoardHold<'a, 'b, R, V> as Rows>⟧.reached result start calls }
@@ -62,6 +67,7 @@ impl<'a, 'b, R: Wait, V: Kept> BoardHold<'a, 'b, R, V> {
         ensures words { option_map (λ w. words_of w.view) result ≡ ⟦<BoardHold<'a, 'b, R, V> as Rows>⟧.words self.entry }
         ensures same { (start : Opening) → (calls : List Call) → ⟦<BoardHold<'a, 'b, R, V> as Rows>⟧.reached self.entry start calls → IfSome result (λ w. w.switches ≡ start.switches.table) }
         ensures wide { IfSome result (λ w. 160 ≤ length w.view.seen) }
+        ensures rows { self.exit.1.0.now ≡ self.entry.rows.now }
     {
         let BoardHold {
             rt: _,

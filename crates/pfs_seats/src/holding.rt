@@ -85,6 +85,7 @@ impl<'a, V: Kept> BoardRows<'a, V> {
     /// Sets a word by the writer, whom the seat meets before and behind the set.
     pub(crate) fn set_word(&mut self, writer: &mut Writer, word: u64, flags: u16) -> u64
         requires known { word < 160 }
+        requires inside { IsSome (⟦<BoardRows<'a, V> as Rows>⟧.hand self.old 0) }
         requires same { writer.old.switches ≡ self.old.switches.now.id }
         requires wide { 160 ≤ length writer.old.view.seen }
         requires early { slice_index writer.old.view.seen word + 1 < 2 ^ 48 }
@@ -97,6 +98,7 @@ impl<'a, V: Kept> BoardRows<'a, V> {
         ensures hand { (r : ℕ) → ⟦<BoardRows<'a, V> as Rows>⟧.hand self.new r ≡ ⟦<BoardRows<'a, V> as Rows>⟧.hand self.old r }
         ensures table { self.new.switches.now.id ≡ self.old.switches.now.id }
     {
+        self.seat.tell();
         self.switches.meet(&mut self.words, writer);
         match self
             .switches

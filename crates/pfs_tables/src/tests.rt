@@ -2,11 +2,11 @@
 
 ghost use Rattle.std.specs.Prelude.{◌≡◌, ◌≤◌};
 
-use crate::{NoMemory, plain_rows};
+use crate::{NoMemory, listed};
 use pfs_classes::{Classes, DigestList, DigestText, Setting, TableList, TableName};
 use pfs_event::{Event, EventKind};
 use pfs_names::Names;
-use pfs_rows::{EventTable, Limits, Reading, Seen, Table, TableKind};
+use pfs_rows::{EventTable, Limits, Reading, Seen, SummaryTable, Table, TableKind};
 use pfs_text::{Text, put_u64};
 use pfs_values::{Row, RowValue};
 use std::alloc::Global;
@@ -108,7 +108,7 @@ fn shown(
     table: Table,
     readings: &[Reading],
 ) -> Result<Vec<u8>, NoMemory> {
-    let rows = plain_rows(alloc, setting, table, readings)?;
+    let rows = listed(alloc, setting, table, readings)?;
     let mut out = Vec::new(alloc);
     for row in rows.as_slice() {
         put_values(&mut out, row)?;
@@ -230,9 +230,9 @@ fn users(rt: HostRuntime) -> Result<(), Fail> {
     Ok(())
 }
 
-// A thread with its word, an account, and the words of a class and of the consumers.
+// A thread with its word, and an account.
 #[test]
-fn words(rt: HostRuntime) -> Result<(), Fail> {
+fn infos(rt: HostRuntime) -> Result<(), Fail> {
     let alloc = rt.alloc();
     let setting = setting(alloc)?;
     let mut info = [0; 16];
@@ -251,6 +251,14 @@ fn words(rt: HostRuntime) -> Result<(), Fail> {
     let account = [whole(33, [0, 1, 1, 1, 2, 3, 0, 0, 0, 0, 0, 0, 0, 0, 0, 0])];
     let rows = shown(alloc, &setting, Table::Accounts, &account)?;
     assert_eq!(rt; rows.as_slice(), b"u h 2 3 \n".as_slice());
+    Ok(())
+}
+
+// The words of two classes and of the consumers.
+#[test]
+fn words(rt: HostRuntime) -> Result<(), Fail> {
+    let alloc = rt.alloc();
+    let setting = setting(alloc)?;
     let classes = [
         Reading::Word {
             word: 95,
@@ -278,5 +286,30 @@ fn words(rt: HostRuntime) -> Result<(), Fail> {
         rows.as_slice()
             .starts_with(b"events_stages_current NO \nevents_stages_history NO \n")
     );
+    Ok(())
+}
+
+// Tables whose rows are made elsewhere: the digest table, a summary, and one of which no reading tells.
+#[test]
+fn other_tables(rt: HostRuntime) -> Result<(), Fail> {
+    let alloc = rt.alloc();
+    let setting = setting(alloc)?;
+    let mut two = [0; 16];
+    two[0] = 2;
+    two[2] = 18_446_744_073_709_551_615;
+    let readings = [whole(8_383, two), whole(8_385, two)];
+    let rows = shown(alloc, &setting, Table::DigestSummary, &readings)?;
+    assert_eq!(rt;
+        rows.as_slice(),
+        b"NULL NULL NULL 2 0 0 0 0 0 0 0 0 0 0 \n".as_slice()
+    );
+    let summary = Table::Summary(TableKind::Transactions, SummaryTable::Global);
+    let rows = shown(alloc, &setting, summary, &readings)?;
+    assert_eq!(rt;
+        rows.as_slice(),
+        b"transaction 2 0 0 0 0 2 0 0 0 0 0 0 0 0 0 \n".as_slice()
+    );
+    let rows = shown(alloc, &setting, Table::SetupActors, &readings)?;
+    assert_eq!(rt; rows.as_slice(), b"".as_slice());
     Ok(())
 }
