@@ -148,8 +148,7 @@ impl<V: Kept> Board<V> {
         (FinalRows { rows }, kept)
     }
 
-    /// A read of the whole row, in at most eighteen loads. It waits for nobody. The lock word of a version that it
-    /// shows has 64 bits.
+    /// A read of the whole row, in at most eighteen loads. It waits for nobody. The lock word of a version that it shows has 64 bits.
     pub fn read(&self, seat: &mut BoardSeat, row: u64) -> Seen
         requires board { seat.old.board ≡ self.now.id }
         requires row { HasRow self.now row × (is_holding (corner seat.old.view row).stage ≡ false) }

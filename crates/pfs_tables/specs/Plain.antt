@@ -39,7 +39,7 @@ flag_value false = Text (codes "NO")
 abbrev pub bit_value : ℕ → ℕ → RowValue
 bit_value flags bit = flag_value (bit_at flags bit == 1)
 
--- the place in the order of an event's row: by thread and event, in the long history by ticket
+-- the row of an event in a place: by thread and event, in the long history by ticket
 abbrev pub event_key : EventTable → Fields → ℕ → RowKey
 event_key Current event place = number_key event.session event.number place
 event_key History event place = number_key event.session event.number place

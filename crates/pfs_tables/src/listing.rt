@@ -11,9 +11,8 @@ use pfs_summaries::{digest_rows, summary_rows};
 use pfs_values::Rowset;
 use std::alloc::Global;
 
-/// What a table shows by these readings, in the order of its key. It asks nothing of the readings. Of
-/// `setup_actors` and `setup_objects`, which are shown as they stand at their action, no reading
-/// tells, and nothing is shown here.
+/// What a table shows by these readings, in the order of its key. It asks nothing of the readings. Of `setup_actors`
+/// and `setup_objects`, which are shown as they stand at their action, no reading tells, and nothing is shown here.
 pub fn listed(
     alloc: Global,
     setting: &Setting,
