@@ -1,0 +1,7 @@
+use Rattle.std.proofs.Common.{rules, ◌<◌, length, IfSome, ◌≡◌, sym, subst}
+use Rattle.pfs_containers.proofs.Keeping.{free_inside}
+use Rattle.pfs_containers.proofs.state.Places.free_slot.Goals as goal
+
+pub returns-clause-inside : goal.returns-clause-inside
+returns-clause-inside c =
+    subst (λ z. IfSome z (λ slot. slot < length c.args.self.now.threads)) (search rules) (free_inside c.args.self.now.threads)

@@ -1,0 +1,229 @@
+//! The containers and their calls.
+
+ghost use Rattle.std.specs.Prelude.{◌≡◌, ◌<◌, ◌≤◌, ◌^◌, ◌==◌, IfOk, Some, length};
+ghost use Rattle.pfs_containers.specs.Administration.{found_where, lowest_free, session_of, lost_by, missing, added_from};
+ghost use Rattle.pfs_containers.specs.Kept.{opening, with_connect, with_quit, seat_of, seated, as_found, lost_in, with_lost, HasPlaces, AreUpTo};
+
+use crate::NoMemory;
+use crate::places::add_one;
+use crate::state::Places;
+use pfs_names::NameId;
+use pfs_rows::Layout;
+use std::alloc::Global;
+use std::marker::Model;
+
+/// A connected session: its number, the ids of its names, and the places that it has, each from 0 on. A user or a
+/// host that found no place when the session's account was made is lost for the session too.
+#[derive(Clone, Copy, Debug, PartialEq, Eq)]
+pub struct Connection {
+    pub number: u64,
+    pub user_name: NameId,
+    pub host_name: NameId,
+    pub account: Option<u64>,
+    pub user: Option<u64>,
+    pub host: Option<u64>,
+}
+
+/// An account: the ids of its names, and the places of its user and its host. A place that was lost stays lost.
+#[derive(Clone, Copy, Debug, PartialEq, Eq)]
+pub struct Account {
+    pub user_name: NameId,
+    pub host_name: NameId,
+    pub user: Option<u64>,
+    pub host: Option<u64>,
+}
+
+/// A session in its thread slot, from 0 on.
+#[derive(Clone, Copy, Debug, PartialEq, Eq)]
+pub struct Seated {
+    pub slot: u64,
+    pub connection: Connection,
+}
+
+/// How many connects found no thread slot, no place for their account, for their user and for their host.
+#[derive(Clone, Copy, Debug, PartialEq, Eq)]
+pub struct Lost {
+    pub threads: u64,
+    pub accounts: u64,
+    pub users: u64,
+    pub hosts: u64,
+}
+
+/// How many connections each account, user and host has had.
+#[derive(Drop)]
+struct Totals {
+    accounts: Vec<u64>,
+    users: Vec<u64>,
+    hosts: Vec<u64>,
+}
+
+/// What stands at each thread slot, account, user and host, how many connections each place has had, and what was
+/// lost. All its room is taken by `open`.
+#[derive(Drop)]
+pub struct Containers {
+    places: Places,
+    totals: Totals,
+    lost: Lost,
+    connects: u64,
+}
+
+impl Model for Containers {
+    ghost use Rattle.pfs_containers.specs.Kept.{Kept, AreCounted};
+
+    ghost Value = { Kept };
+
+    ghost view = { λ s. record {
+        now = record {
+            places = s.places;
+            lost_threads = s.lost.threads;
+            lost_accounts = s.lost.accounts;
+            lost_users = s.lost.users;
+            lost_hosts = s.lost.hosts;
+            account_totals = s.totals.accounts.items;
+            user_totals = s.totals.users.items;
+            host_totals = s.totals.hosts.items;
+        };
+        connects = s.connects;
+    } };
+
+    ghost invariant = { λ s. AreCounted (record {
+        now = record {
+            places = s.places;
+            lost_threads = s.lost.threads;
+            lost_accounts = s.lost.accounts;
+            lost_users = s.lost.users;
+            lost_hosts = s.lost.hosts;
+            account_totals = s.totals.accounts.items;
+            user_totals = s.totals.users.items;
+            host_totals = s.totals.hosts.items;
+        };
+        connects = s.connects;
+    }) };
+}
+
+impl Containers {
+    /// Every place free, nothing counted and nothing lost. All room is taken here.
+    pub fn open(alloc: Global, limits: &Layout) -> Result<Containers, NoMemory>
+        ensures { IfOk result (λ containers. containers ≡ opening limits.now) }
+    {
+        let limits = limits.limits();
+        Ok(Containers {
+            places: Places::open(alloc, &limits)?,
+            totals: Totals {
+                accounts: vec![in alloc; 0; limits.accounts as usize]?,
+                users: vec![in alloc; 0; limits.users as usize]?,
+                hosts: vec![in alloc; 0; limits.hosts as usize]?,
+            },
+            lost: Lost {
+                threads: 0,
+                accounts: 0,
+                users: 0,
+                hosts: 0,
+            },
+            connects: 0,
+        })
+    }
+
+    /// Connects a session: it takes the lowest free thread slot, or is lost. An account that is there gives its user
+    /// and its host; else the account takes the lowest free place or is lost, and user and host are found by their
+    /// names, or take the lowest free place, or are lost. These rules are MySQL's; that a place taken is the lowest
+    /// is our own. Each place counts one connection more. None where no slot is free.
+    pub fn connect(&mut self, number: u64, user: NameId, host: NameId) -> Option<Seated>
+        requires few { self.old.connects < 2 ^ 47 }
+        ensures step { self.new ≡ with_connect self.old number user host }
+        ensures seat { result ≡ seat_of self.old.now number user host }
+    {
+        match self.places.free_slot() {
+            Some(slot) => {
+                let connection = self.seat(slot, number, user, host);
+                Some(Seated { slot, connection })
+            }
+            None => {
+                self.connects += 1;
+                self.lost.threads += 1;
+                None
+            }
+        }
+    }
+
+    // Connects a session in this slot, which is the lowest free one.
+    fn seat(&mut self, slot: u64, number: u64, user: NameId, host: NameId) -> Connection
+        requires few { self.old.connects < 2 ^ 47 }
+        requires free { lowest_free self.old.now.places.threads ≡ Some slot }
+        requires inside { slot < length self.old.now.places.threads }
+        ensures step { self.new ≡ with_connect self.old number user host }
+        ensures session { result ≡ session_of self.old.now.places number user host }
+    {
+        let account = self.places.account(user, host);
+        let connection = self.places.connection(number, user, host, &account);
+        self.lost = self.lost.with(&account, &connection);
+        self.places.seat(slot, &connection);
+        self.totals.add(&connection);
+        self.connects += 1;
+        connection
+    }
+
+    /// Ends the connection in the lowest slot that a session has, and gives it back with that slot; its places stay.
+    /// None, and nothing changes, where the session has no slot.
+    pub fn quit(&mut self, number: u64) -> Option<Seated>
+        ensures step { self.new ≡ with_quit self.old number }
+        ensures seat { result ≡ seated (found_where (λ x. x.number == number) self.old.now.places.threads) }
+    {
+        self.places.quit(number)
+    }
+
+    /// What was lost so far.
+    pub fn lost(&self) -> Lost
+        ensures { result ≡ lost_in self.now.now }
+    {
+        self.lost
+    }
+}
+
+impl Totals {
+    // Counts a connection at each place that it has.
+    fn add(&mut self, connection: &Connection)
+        requires places { HasPlaces (length self.old.accounts.items) (length self.old.users.items)
+            (length self.old.hosts.items) connection.now }
+        requires accounts { AreUpTo (2 ^ 47) self.old.accounts.items }
+        requires users { AreUpTo (2 ^ 47) self.old.users.items }
+        requires hosts { AreUpTo (2 ^ 47) self.old.hosts.items }
+        ensures accounts { self.new.accounts.items ≡ added_from 0 connection.now.account self.old.accounts.items }
+        ensures users { self.new.users.items ≡ added_from 0 connection.now.user self.old.users.items }
+        ensures hosts { self.new.hosts.items ≡ added_from 0 connection.now.host self.old.hosts.items }
+    {
+        add_one(self.accounts.as_mut_slice(), connection.account);
+        add_one(self.users.as_mut_slice(), connection.user);
+        add_one(self.hosts.as_mut_slice(), connection.host);
+    }
+}
+
+impl Lost {
+    // Counts what a session lacks that found no account.
+    fn with(&self, account: &Option<(u64, Account)>, connection: &Connection) -> Lost
+        requires accounts { self.now.accounts < 2 ^ 48 }
+        requires users { self.now.users < 2 ^ 48 }
+        requires hosts { self.now.hosts < 2 ^ 48 }
+        ensures { result ≡ with_lost self.now (as_found account.now) connection.now }
+    {
+        match account {
+            Some(_) => *self,
+            None => Lost {
+                threads: self.threads,
+                accounts: self.accounts + missing(connection.account),
+                users: self.users + missing(connection.user),
+                hosts: self.hosts + missing(connection.host),
+            },
+        }
+    }
+}
+
+// 1 where there is no place.
+fn missing(place: Option<u64>) -> u64
+    ensures { result ≡ missing place }
+{
+    match place {
+        Some(_) => 0,
+        None => 1,
+    }
+}

@@ -1,0 +1,11 @@
+//! Who is connected where: thread slots, accounts, users and hosts, and what found no room.
+#![tactic(auto)]
+
+mod containers;
+mod places;
+mod state;
+
+pub use containers::{Account, Connection, Containers, Lost, Seated};
+
+/// Memory ran out.
+pub type NoMemory = std::alloc::AllocError;

@@ -1,0 +1,140 @@
+//! Lists of places, each free or taken by an entry.
+
+ghost use Rattle.std.specs.Prelude.{◌≡◌, ◌<◌, ◌≤◌, ◌+◌, ◌^◌, ◌==◌, ℕ, Bool, Option, Some, None, length, IfSome, is_none};
+ghost use Rattle.std.specs.List.{position};
+ghost use Rattle.pfs_containers.specs.Connections.{fill, emptied_at, entry_at};
+ghost use Rattle.pfs_containers.specs.Administration.{lowest_free, added_from, is_account, named_place, found_where};
+ghost use Rattle.pfs_containers.specs.Kept.{AreUpTo, is_met, as_found};
+
+use crate::containers::{Account, Connection};
+use pfs_names::NameId;
+
+/// The lowest place that is free.
+#[tactic(auto, using(crate::proofs::Finding::free_is))]
+pub(crate) fn lowest_free<T>(places: &[Option<T>]) -> Option<u64>
+    ensures { result ≡ lowest_free places.now }
+{
+    place_number(first_free(places))
+}
+
+fn first_free<T>(places: &[Option<T>]) -> Option<usize>
+    ensures { result ≡ position (λ entry. is_none entry) places.now }
+{
+    places.iter().position(|entry| entry.is_none())
+}
+
+fn place_number(place: Option<usize>) -> Option<u64>
+    ensures { result ≡ place }
+{
+    match place {
+        Some(place) => Some(place as u64),
+        None => None,
+    }
+}
+
+/// Takes a place that is free for an entry. What stands at a place that is taken stays.
+#[tactic(auto, using(crate::proofs::Filling::filled_free, crate::proofs::Filling::filled_taken, crate::proofs::Filling::filled_none))]
+pub(crate) fn fill<T: Copy>(places: &mut [Option<T>], place: Option<u64>, entry: T)
+    requires inside { IfSome place (λ n. n < length places.old) }
+    ensures { places.new ≡ fill place entry places.old }
+{
+    if let Some(place) = place {
+        let at = place as usize;
+        if places[at].is_none() {
+            places[at] = Some(entry);
+        }
+    }
+}
+
+/// Counts one more at a place.
+#[tactic(auto, using(crate::proofs::Filling::added_none, crate::proofs::Filling::added_one, crate::proofs::Filling::up_to_at))]
+pub(crate) fn add_one(totals: &mut [u64], place: Option<u64>)
+    requires inside { IfSome place (λ n. n < length totals.old) }
+    requires small { AreUpTo (2 ^ 47) totals.old }
+    ensures { totals.new ≡ added_from 0 place totals.old }
+{
+    if let Some(place) = place {
+        totals[place as usize] += 1;
+    }
+}
+
+/// The account of these names, with its place.
+#[tactic(auto, using(crate::proofs::Finding::found_at, crate::proofs::Finding::none_at, crate::proofs::Finding::not_found))]
+pub(crate) fn find_account(accounts: &[Option<Account>], user: NameId, host: NameId) -> Option<(u64, Account)>
+    ensures entry { as_found result ≡ found_where (is_account user host) accounts.now }
+    ensures inside { IfSome result (λ pair. pair.0 < length accounts.now) }
+{
+    match account_place(accounts, user, host) {
+        Some(place) => match accounts[place] {
+            Some(account) => Some((place as u64, account)),
+            None => None,
+        },
+        None => None,
+    }
+}
+
+fn account_place(accounts: &[Option<Account>], user: NameId, host: NameId) -> Option<usize>
+    ensures place { result ≡ position (λ entry. is_met (is_account user host) entry) accounts.now }
+    ensures inside { IfSome result (λ place. place < length accounts.now) }
+{
+    accounts
+        .iter()
+        .position(|entry| is_of_names(entry, user, host))
+}
+
+fn is_of_names(entry: &Option<Account>, user: NameId, host: NameId) -> bool
+    ensures { result ≡ is_met (is_account user host) entry.now }
+{
+    match entry {
+        Some(account) => account.user_name == user && account.host_name == host,
+        None => false,
+    }
+}
+
+/// Where a name stands, or else the lowest free place.
+#[tactic(auto, using(crate::proofs::Finding::named_here, crate::proofs::Finding::named_free))]
+pub(crate) fn name_place(names: &[Option<NameId>], name: NameId) -> Option<u64>
+    ensures { result ≡ named_place name names.now }
+{
+    match first_named(names, name) {
+        Some(place) => Some(place as u64),
+        None => lowest_free(names),
+    }
+}
+
+fn first_named(names: &[Option<NameId>], name: NameId) -> Option<usize>
+    ensures { result ≡ position (λ entry. is_met (λ n. n == name) entry) names.now }
+{
+    names.iter().position(|entry| *entry == Some(name))
+}
+
+/// The lowest slot that a session has, and the session as it stands there.
+#[tactic(auto, using(crate::proofs::Finding::found_at, crate::proofs::Finding::none_at, crate::proofs::Finding::not_found))]
+pub(crate) fn find_session(threads: &[Option<Connection>], number: u64) -> Option<(u64, Connection)>
+    ensures entry { as_found result ≡ found_where (λ x. x.number == number) threads.now }
+    ensures inside { IfSome result (λ pair. pair.0 < length threads.now) }
+{
+    match session_place(threads, number) {
+        Some(place) => match threads[place] {
+            Some(connection) => Some((place as u64, connection)),
+            None => None,
+        },
+        None => None,
+    }
+}
+
+fn session_place(threads: &[Option<Connection>], number: u64) -> Option<usize>
+    ensures place { result ≡ position (λ entry. is_met (λ x. x.number == number) entry) threads.now }
+    ensures inside { IfSome result (λ place. place < length threads.now) }
+{
+    threads.iter().position(|entry| has_number(entry, number))
+}
+
+fn has_number(entry: &Option<Connection>, number: u64) -> bool
+    ensures { result ≡ is_met (λ x. x.number == number) entry.now }
+{
+    match entry {
+        Some(connection) => connection.number == number,
+        None => false,
+    }
+}

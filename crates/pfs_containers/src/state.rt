@@ -1,0 +1,147 @@
+//! What stands at each thread slot, account, user and host.
+
+ghost use Rattle.std.specs.Prelude.{◌≡◌, ◌<◌, ◌≤◌, ◌==◌, IfOk, IfSome, length};
+ghost use Rattle.pfs_containers.specs.Connections.{State, Connects, Quits, stepped, entry_of};
+ghost use Rattle.pfs_containers.specs.Administration.{session_of, quit_line, found_where, lowest_free, is_account};
+ghost use Rattle.pfs_containers.specs.Kept.{opening_places, as_found, seated, IsSeated};
+
+use crate::NoMemory;
+use crate::containers::{Account, Connection, Seated};
+use crate::places::{fill, find_account, find_session, lowest_free, name_place};
+use pfs_names::NameId;
+use pfs_rows::Limits;
+use std::alloc::Global;
+use std::marker::Model;
+
+/// The places of each kind, from 0 on, each free or taken.
+#[derive(Drop)]
+pub struct Places {
+    threads: Vec<Option<Connection>>,
+    accounts: Vec<Option<Account>>,
+    users: Vec<Option<NameId>>,
+    hosts: Vec<Option<NameId>>,
+}
+
+impl Model for Places {
+    ghost use Rattle.pfs_containers.specs.Connections.{State};
+    ghost use Rattle.pfs_containers.specs.Kept.{AreWell};
+
+    ghost Value = { State };
+
+    ghost view = { λ s. record {
+        threads = s.threads.items;
+        accounts = s.accounts.items;
+        users = s.users.items;
+        hosts = s.hosts.items;
+    } };
+
+    ghost invariant = { λ s. AreWell (record {
+        threads = s.threads.items;
+        accounts = s.accounts.items;
+        users = s.users.items;
+        hosts = s.hosts.items;
+    }) };
+}
+
+impl Places {
+    /// Every place free.
+    pub(crate) fn open(alloc: Global, limits: &Limits) -> Result<Places, NoMemory>
+        requires threads { limits.now.thread_instances ≤ 32 }
+        requires accounts { limits.now.accounts ≤ 32 }
+        requires users { limits.now.users ≤ 32 }
+        requires hosts { limits.now.hosts ≤ 32 }
+        ensures { IfOk result (λ places. places ≡ opening_places limits.now) }
+    {
+        Ok(Places {
+            threads: vec![in alloc; None; limits.thread_instances as usize]?,
+            accounts: vec![in alloc; None; limits.accounts as usize]?,
+            users: vec![in alloc; None; limits.users as usize]?,
+            hosts: vec![in alloc; None; limits.hosts as usize]?,
+        })
+    }
+
+    /// The lowest free thread slot.
+    pub(crate) fn free_slot(&self) -> Option<u64>
+        ensures slot { result ≡ lowest_free self.now.threads }
+        ensures inside { IfSome result (λ slot. slot < length self.now.threads) }
+    {
+        lowest_free(self.threads.as_slice())
+    }
+
+    /// The account of these names, with its place.
+    pub(crate) fn account(&self, user: NameId, host: NameId) -> Option<(u64, Account)>
+        ensures { as_found result ≡ found_where (is_account user host) self.now.accounts }
+    {
+        find_account(self.accounts.as_slice(), user, host)
+    }
+
+    /// A session as it is to stand in its slot, with its account, where that is there.
+    pub(crate) fn connection(
+        &self,
+        number: u64,
+        user: NameId,
+        host: NameId,
+        account: &Option<(u64, Account)>,
+    ) -> Connection
+        requires found { as_found account.now ≡ found_where (is_account user host) self.now.accounts }
+        ensures session { result ≡ session_of self.now number user host }
+        ensures places { IsSeated self.now result }
+    {
+        let (place, user_place, host_place) = match account {
+            Some((place, entry)) => (Some(*place), entry.user, entry.host),
+            None => (
+                lowest_free(self.accounts.as_slice()),
+                name_place(self.users.as_slice(), user),
+                name_place(self.hosts.as_slice(), host),
+            ),
+        };
+        Connection {
+            number,
+            user_name: user,
+            host_name: host,
+            account: place,
+            user: user_place,
+            host: host_place,
+        }
+    }
+
+    /// Puts a session into a free slot, and itself into its places where those are free.
+    pub(crate) fn seat(&mut self, slot: u64, connection: &Connection)
+        requires slot { slot < length self.old.threads }
+        requires places { IsSeated self.old connection.now }
+        ensures { self.new ≡ stepped self.old (Connects slot connection.now) }
+    {
+        fill(self.threads.as_mut_slice(), Some(slot), *connection);
+        fill(self.accounts.as_mut_slice(), connection.account, connection.entry());
+        fill(self.users.as_mut_slice(), connection.user, connection.user_name);
+        fill(self.hosts.as_mut_slice(), connection.host, connection.host_name);
+    }
+
+    /// Frees the lowest slot of a session.
+    pub(crate) fn quit(&mut self, number: u64) -> Option<Seated>
+        ensures step { self.new ≡ stepped self.old (quit_line (found_where (λ x. x.number == number) self.old.threads)) }
+        ensures seat { result ≡ seated (found_where (λ x. x.number == number) self.old.threads) }
+    {
+        match find_session(self.threads.as_slice(), number) {
+            Some((slot, connection)) => {
+                self.threads[slot as usize] = None;
+                Some(Seated { slot, connection })
+            }
+            None => None,
+        }
+    }
+}
+
+impl Connection {
+    // The account of a session that has one.
+    fn entry(&self) -> Account
+        ensures { result ≡ entry_of self.now }
+    {
+        Account {
+            user_name: self.user_name,
+            host_name: self.host_name,
+            user: self.user,
+            host: self.host,
+        }
+    }
+}
