@@ -1,5 +1,5 @@
 -- Filling a place, emptying it and counting there, as writes of one place.
-use Rattle.std.proofs.Common.{ℕ, zero, suc, ◌≡◌, ◌<◌, ◌≤◌, ◌+◌, ◌==◌, ◌^◌, Bool, true, false, cond, List, [], ◌∷◌, ◌++◌, length, replicate, take, drop, Option, Some, None, is_none, is_some, slice_index_or, slice_set, refl, sym, ap, ◌∙◌, arith}
+use Rattle.std.proofs.Common.{ℕ, zero, suc, ◌≡◌, ◌<◌, ◌≤◌, ◌+◌, ◌==◌, Bool, true, false, cond, List, [], ◌∷◌, ◌++◌, length, replicate, take, drop, Option, Some, None, is_none, slice_index_or, slice_set, refl, sym, ap, ◌∙◌, arith}
 use Rattle.pfs_containers.specs.Connections.{fill, fill_at, emptied_at, is_from}
 use Rattle.pfs_containers.specs.Administration.{added_from}
 use Rattle.pfs_containers.specs.Kept.{AreUpTo}

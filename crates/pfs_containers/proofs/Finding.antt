@@ -1,6 +1,6 @@
 -- The lowest place that is free, or that passes a test, by its position.
-use Rattle.std.proofs.Common.{ℕ, zero, suc, ◌≡◌, ◌<◌, ◌+◌, ◌==◌, Bool, true, false, cond, List, [], ◌∷◌, length, Option, Some, None, is_none, slice_index_or, refl, sym, ap, ◌∙◌, arith}
-use Rattle.std.specs.List.{position, position_or_len}
+use Rattle.std.proofs.Common.{ℕ, zero, suc, ◌≡◌, ◌<◌, ◌==◌, Bool, true, false, cond, List, [], ◌∷◌, length, Option, Some, None, is_none, slice_index_or, refl, sym, ap, ◌∙◌, arith}
+use Rattle.std.specs.List.{position}
 use Rattle.pfs_containers.specs.Administration.{Found, found_where, one_up, next_place, lowest_free, found_or, named_place}
 use Rattle.pfs_containers.specs.Kept.{is_met, as_found}
 

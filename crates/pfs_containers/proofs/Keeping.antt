@@ -1,13 +1,11 @@
 -- What always holds of the places and of the counters, behind each call.
 use Rattle.std.proofs.Common.{ℕ, zero, suc, ◌≡◌, ◌<◌, ◌≤◌, ◌+◌, ◌==◌, Bool, true, false, cond, List, [], ◌∷◌, length, replicate, slice_set, Option, Some, None, IfSome, refl, sym, ap, subst, ◌∙◌, arith}
-use Rattle.pfs_names.specs.declared.interned.NameId.{NameId}
 use Rattle.pfs_rows.specs.declared.limits.Limits.{Limits}
 use Rattle.pfs_containers.specs.declared.containers.Account.{Account}
 use Rattle.pfs_containers.specs.declared.containers.Connection.{Connection}
-use Rattle.pfs_containers.specs.declared.containers.Lost.{Lost}
-use Rattle.pfs_containers.specs.Connections.{State, Connects, Quits, Others, entry_of, fill, fill_at, emptied_at, stepped}
-use Rattle.pfs_containers.specs.Administration.{Containers, Found, found_where, one_up, next_place, lowest_free, found_or, named_place, is_account, session_by, session_of, quit_line, lost_by, missing, added_from, connected, connect_at, advanced, Connect}
-use Rattle.pfs_containers.specs.Kept.{Kept, AllEntries, HasPlaces, HasUppers, IsSeated, AreWell, AreCounted, AreUpTo, opening, opening_places, with_connect, as_found}
+use Rattle.pfs_containers.specs.Connections.{State, Connects, Quits, entry_of, fill, fill_at, emptied_at, stepped}
+use Rattle.pfs_containers.specs.Administration.{Found, found_where, one_up, next_place, lowest_free, found_or, named_place, is_account, session_by, session_of, quit_line, lost_by, missing, added_from, connected, connect_at}
+use Rattle.pfs_containers.specs.Kept.{Kept, AllEntries, HasPlaces, HasUppers, IsSeated, AreWell, AreCounted, opening, opening_places, with_connect, as_found}
 use Rattle.pfs_containers.proofs.Filling.{emptied_is, up_to_wider, up_to_added, zeroes_are}
 
 -- places that are found are there
@@ -131,10 +129,10 @@ pub seat_keeps_all : (s : State) (slot : ℕ) (x : Connection) (t : List (Option
     → AreWell s → IsSeated s x → AreWell (record { threads = t; accounts = a; users = u; hosts = h })
 seat_keeps_all s slot x t a u h p q r w well has =
     let same : record { threads = t; accounts = a; users = u; hosts = h } ≡ stepped s (Connects slot x) =
-        ap (λ z. record { threads = z; accounts = a; users = u; hosts = h }) p
-        ∙ (ap (λ z. record { threads = fill_at slot x s.threads; accounts = z; users = u; hosts = h }) q
-        ∙ (ap (λ z. record { threads = fill_at slot x s.threads; accounts = fill x.account (entry_of x) s.accounts; users = z; hosts = h }) r
-        ∙ ap (λ z. record { threads = fill_at slot x s.threads; accounts = fill x.account (entry_of x) s.accounts; users = fill x.user x.user_name s.users; hosts = z }) w)) in
+    ap (λ z. record { threads = z; accounts = a; users = u; hosts = h }) p
+    ∙ (ap (λ z. record { threads = fill_at slot x s.threads; accounts = z; users = u; hosts = h }) q
+    ∙ (ap (λ z. record { threads = fill_at slot x s.threads; accounts = fill x.account (entry_of x) s.accounts; users = z; hosts = h }) r
+    ∙ ap (λ z. record { threads = fill_at slot x s.threads; accounts = fill x.account (entry_of x) s.accounts; users = fill x.user x.user_name s.users; hosts = z }) w)) in
     subst AreWell (sym same) (seat_keeps s slot x well has)
 
 pub quit_keeps : (s : State) (slot : ℕ) → AreWell s → AreWell (stepped s (Quits slot))

@@ -1,5 +1,5 @@
 -- Who is connected where: what stands at each thread slot, account, user and host, and what an action does there.
-use Rattle.std.specs.Prelude.{ℕ, zero, suc, ◌==◌, ◌||◌, cond, Bool, true, false, List, [], ◌∷◌, Option, Some, None, unwrap_or}
+use Rattle.std.specs.Prelude.{ℕ, zero, suc, ◌==◌, ◌||◌, cond, Bool, false, List, [], ◌∷◌, Option, Some, None, unwrap_or}
 use Rattle.pfs_containers.specs.declared.containers.Account.{Account}
 use Rattle.pfs_containers.specs.declared.containers.Connection.{Connection}
 

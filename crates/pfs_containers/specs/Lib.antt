@@ -1,3 +1,5 @@
 pub mod Connections
 pub mod Administration
 pub mod Kept
+pub mod Infos
+pub mod Uppers

@@ -1,12 +1,15 @@
 //! The containers and their calls.
 
 ghost use Rattle.std.specs.Prelude.{◌≡◌, ◌<◌, ◌≤◌, ◌^◌, ◌==◌, IfOk, Some, length};
+ghost use Rattle.std.specs.List.{slice_index_or};
+ghost use Rattle.pfs_containers.specs.Infos.{thread_info_of, account_info_at, user_info_at, host_info_at};
 ghost use Rattle.pfs_containers.specs.Administration.{found_where, lowest_free, session_of, lost_by, missing, added_from};
 ghost use Rattle.pfs_containers.specs.Kept.{opening, with_connect, with_quit, seat_of, seated, as_found, lost_in, with_lost, HasPlaces, AreUpTo};
 
 use crate::NoMemory;
 use crate::places::add_one;
 use crate::state::Places;
+use pfs_infos::{AccountInfo, NameInfo, ThreadInfo};
 use pfs_names::NameId;
 use pfs_rows::Layout;
 use std::alloc::Global;
@@ -73,31 +76,31 @@ impl Model for Containers {
     ghost Value = { Kept };
 
     ghost view = { λ s. record {
-        now = record {
-            places = s.places;
-            lost_threads = s.lost.threads;
-            lost_accounts = s.lost.accounts;
-            lost_users = s.lost.users;
-            lost_hosts = s.lost.hosts;
-            account_totals = s.totals.accounts.items;
-            user_totals = s.totals.users.items;
-            host_totals = s.totals.hosts.items;
-        };
-        connects = s.connects;
+      now = record {
+        places = s.places;
+        lost_threads = s.lost.threads;
+        lost_accounts = s.lost.accounts;
+        lost_users = s.lost.users;
+        lost_hosts = s.lost.hosts;
+        account_totals = s.totals.accounts.items;
+        user_totals = s.totals.users.items;
+        host_totals = s.totals.hosts.items;
+      };
+      connects = s.connects;
     } };
 
     ghost invariant = { λ s. AreCounted (record {
-        now = record {
-            places = s.places;
-            lost_threads = s.lost.threads;
-            lost_accounts = s.lost.accounts;
-            lost_users = s.lost.users;
-            lost_hosts = s.lost.hosts;
-            account_totals = s.totals.accounts.items;
-            user_totals = s.totals.users.items;
-            host_totals = s.totals.hosts.items;
-        };
-        connects = s.connects;
+      now = record {
+        places = s.places;
+        lost_threads = s.lost.threads;
+        lost_accounts = s.lost.accounts;
+        lost_users = s.lost.users;
+        lost_hosts = s.lost.hosts;
+        account_totals = s.totals.accounts.items;
+        user_totals = s.totals.users.items;
+        host_totals = s.totals.hosts.items;
+      };
+      connects = s.connects;
     }) };
 }
 
@@ -172,11 +175,68 @@ impl Containers {
         self.places.quit(number)
     }
 
+    /// What an account's info row says; none where the place is free or isn't there.
+    pub fn account_info(&self, place: u64) -> Option<AccountInfo>
+        ensures { result ≡ account_info_at self.now.now place }
+    {
+        let (account, current) = self.places.account_at(place)?;
+        Some(AccountInfo {
+            user_name: account.user_name,
+            host_name: account.host_name,
+            user: account.user,
+            host: account.host,
+            current,
+            total: number_at(self.totals.accounts.as_slice(), place),
+        })
+    }
+
+    /// What a user's info row says; none where the place is free or isn't there.
+    pub fn user_info(&self, place: u64) -> Option<NameInfo>
+        ensures { result ≡ user_info_at self.now.now place }
+    {
+        let (name, current) = self.places.user_at(place)?;
+        let total = number_at(self.totals.users.as_slice(), place);
+        Some(NameInfo {
+            name,
+            current,
+            total,
+        })
+    }
+
+    /// What a host's info row says; none where the place is free or isn't there.
+    pub fn host_info(&self, place: u64) -> Option<NameInfo>
+        ensures { result ≡ host_info_at self.now.now place }
+    {
+        let (name, current) = self.places.host_at(place)?;
+        let total = number_at(self.totals.hosts.as_slice(), place);
+        Some(NameInfo {
+            name,
+            current,
+            total,
+        })
+    }
+
     /// What was lost so far.
     pub fn lost(&self) -> Lost
         ensures { result ≡ lost_in self.now.now }
     {
         self.lost
+    }
+}
+
+impl Connection {
+    /// What the session's info row says.
+    pub fn info(&self) -> ThreadInfo
+        ensures { result ≡ thread_info_of self.now }
+    {
+        ThreadInfo {
+            session: self.number,
+            account: self.account,
+            user: self.user,
+            host: self.host,
+            user_name: self.user_name,
+            host_name: self.host_name,
+        }
     }
 }
 
@@ -226,4 +286,11 @@ fn missing(place: Option<u64>) -> u64
         Some(_) => 0,
         None => 1,
     }
+}
+
+// The number at a place, or 0.
+fn number_at(totals: &[u64], place: u64) -> u64
+    ensures { result ≡ slice_index_or totals.now place 0 }
+{
+    totals.get(place as usize).copied().unwrap_or(0)
 }

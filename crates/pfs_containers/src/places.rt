@@ -2,9 +2,10 @@
 
 ghost use Rattle.std.specs.Prelude.{◌≡◌, ◌<◌, ◌≤◌, ◌+◌, ◌^◌, ◌==◌, ℕ, Bool, Option, Some, None, length, IfSome, is_none};
 ghost use Rattle.std.specs.List.{position};
-ghost use Rattle.pfs_containers.specs.Connections.{fill, emptied_at, entry_at};
-ghost use Rattle.pfs_containers.specs.Administration.{lowest_free, added_from, is_account, named_place, found_where};
+ghost use Rattle.pfs_containers.specs.Connections.{fill, has_by};
+ghost use Rattle.pfs_containers.specs.Administration.{lowest_free, added_from, is_account, named_place, found_where, current};
 ghost use Rattle.pfs_containers.specs.Kept.{AreUpTo, is_met, as_found};
+ghost use Rattle.pfs_containers.specs.Uppers.{upper_of};
 
 use crate::containers::{Account, Connection};
 use pfs_names::NameId;
@@ -60,7 +61,11 @@ pub(crate) fn add_one(totals: &mut [u64], place: Option<u64>)
 
 /// The account of these names, with its place.
 #[tactic(auto, using(crate::proofs::Finding::found_at, crate::proofs::Finding::none_at, crate::proofs::Finding::not_found))]
-pub(crate) fn find_account(accounts: &[Option<Account>], user: NameId, host: NameId) -> Option<(u64, Account)>
+pub(crate) fn find_account(
+    accounts: &[Option<Account>],
+    user: NameId,
+    host: NameId,
+) -> Option<(u64, Account)>
     ensures entry { as_found result ≡ found_where (is_account user host) accounts.now }
     ensures inside { IfSome result (λ pair. pair.0 < length accounts.now) }
 {
@@ -136,5 +141,44 @@ fn has_number(entry: &Option<Connection>, number: u64) -> bool
     match entry {
         Some(connection) => connection.number == number,
         None => false,
+    }
+}
+
+/// One of the three kinds of place that a session may have.
+#[derive(Clone, Copy, Debug, PartialEq, Eq)]
+pub(crate) enum Upper {
+    Account,
+    User,
+    Host,
+}
+
+/// How many sessions have a place.
+#[tactic(auto, using(crate::proofs::Counting::current_is))]
+pub(crate) fn current(threads: &[Option<Connection>], which: Upper, place: u64) -> u64
+    ensures number { result ≡ current (upper_of which) threads.now place }
+    ensures few { result ≤ length threads.now }
+{
+    threads
+        .iter()
+        .filter(|entry| has_place(entry, which, place))
+        .count() as u64
+}
+
+fn has_place(entry: &Option<Connection>, which: Upper, place: u64) -> bool
+    ensures { result ≡ has_by (upper_of which) place entry.now }
+{
+    match entry {
+        Some(connection) => upper_of(connection, which) == Some(place),
+        None => false,
+    }
+}
+
+fn upper_of(connection: &Connection, which: Upper) -> Option<u64>
+    ensures { result ≡ upper_of which connection.now }
+{
+    match which {
+        Upper::Account => connection.account,
+        Upper::User => connection.user,
+        Upper::Host => connection.host,
     }
 }

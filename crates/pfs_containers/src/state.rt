@@ -1,13 +1,15 @@
 //! What stands at each thread slot, account, user and host.
 
-ghost use Rattle.std.specs.Prelude.{◌≡◌, ◌<◌, ◌≤◌, ◌==◌, IfOk, IfSome, length};
+ghost use Rattle.std.specs.Prelude.{◌≡◌, ◌<◌, ◌≤◌, ◌==◌, IfOk, IfSome, None, length};
+ghost use Rattle.std.specs.List.{slice_index_or};
+ghost use Rattle.std.specs.Option.{option_map};
 ghost use Rattle.pfs_containers.specs.Connections.{State, Connects, Quits, stepped, entry_of};
-ghost use Rattle.pfs_containers.specs.Administration.{session_of, quit_line, found_where, lowest_free, is_account};
+ghost use Rattle.pfs_containers.specs.Administration.{session_of, quit_line, found_where, lowest_free, is_account, current};
 ghost use Rattle.pfs_containers.specs.Kept.{opening_places, as_found, seated, IsSeated};
 
 use crate::NoMemory;
 use crate::containers::{Account, Connection, Seated};
-use crate::places::{fill, find_account, find_session, lowest_free, name_place};
+use crate::places::{Upper, current, fill, find_account, find_session, lowest_free, name_place};
 use pfs_names::NameId;
 use pfs_rows::Limits;
 use std::alloc::Global;
@@ -29,17 +31,17 @@ impl Model for Places {
     ghost Value = { State };
 
     ghost view = { λ s. record {
-        threads = s.threads.items;
-        accounts = s.accounts.items;
-        users = s.users.items;
-        hosts = s.hosts.items;
+      threads = s.threads.items;
+      accounts = s.accounts.items;
+      users = s.users.items;
+      hosts = s.hosts.items;
     } };
 
     ghost invariant = { λ s. AreWell (record {
-        threads = s.threads.items;
-        accounts = s.accounts.items;
-        users = s.users.items;
-        hosts = s.hosts.items;
+      threads = s.threads.items;
+      accounts = s.accounts.items;
+      users = s.users.items;
+      hosts = s.hosts.items;
     }) };
 }
 
@@ -112,9 +114,57 @@ impl Places {
         ensures { self.new ≡ stepped self.old (Connects slot connection.now) }
     {
         fill(self.threads.as_mut_slice(), Some(slot), *connection);
-        fill(self.accounts.as_mut_slice(), connection.account, connection.entry());
-        fill(self.users.as_mut_slice(), connection.user, connection.user_name);
-        fill(self.hosts.as_mut_slice(), connection.host, connection.host_name);
+        fill(
+            self.accounts.as_mut_slice(),
+            connection.account,
+            connection.entry(),
+        );
+        fill(
+            self.users.as_mut_slice(),
+            connection.user,
+            connection.user_name,
+        );
+        fill(
+            self.hosts.as_mut_slice(),
+            connection.host,
+            connection.host_name,
+        );
+    }
+
+    /// The account at a place, and how many sessions have it; none where the place is free or isn't there.
+    pub(crate) fn account_at(&self, place: u64) -> Option<(Account, u64)>
+        ensures { result ≡ option_map (λ x. (x, current (λ y. y.account) self.now.threads place))
+            (slice_index_or self.now.accounts place None) }
+    {
+        let current = current(self.threads.as_slice(), Upper::Account, place);
+        match self.accounts.get(place as usize) {
+            Some(Some(account)) => Some((*account, current)),
+            _ => None,
+        }
+    }
+
+    /// The name of the user at a place, and how many sessions have it.
+    pub(crate) fn user_at(&self, place: u64) -> Option<(NameId, u64)>
+        ensures { result ≡ option_map (λ x. (x, current (λ y. y.user) self.now.threads place))
+            (slice_index_or self.now.users place None) }
+    {
+        let current = current(self.threads.as_slice(), Upper::User, place);
+        match self.users.get(place as usize) {
+            Some(Some(name)) => Some((*name, current)),
+            _ => None,
+        }
+    }
+
+    /// The name of the host at a place, and how many sessions have it.
+    pub(crate) fn host_at(&self, place: u64) -> Option<(NameId, u64)>
+        ensures { result ≡ option_map (λ x. (x, current (λ y. y.host) self.now.threads place))
+            (slice_index_or self.now.hosts place None) }
+    {
+        let current = current(self.threads.as_slice(), Upper::Host, place);
+        match self.hosts.get(place as usize) {
+            Some(Some(name)) => Some((*name, current)),
+            _ => None,
+        }
     }
 
     /// Frees the lowest slot of a session.

@@ -1,4 +1,4 @@
-use Rattle.std.proofs.Common.{rules, ◌≡◌, sym, ◌∙◌}
+use Rattle.std.proofs.Common.{sym, ◌∙◌}
 use Rattle.pfs_containers.proofs.Finding.{found_at}
 use Rattle.pfs_containers.proofs.places.find_account.Goals as goal
 

@@ -1,5 +1,3 @@
-use Rattle.std.proofs.Common.{rules, subst}
-use Rattle.pfs_containers.specs.Kept.{AreCounted}
 use Rattle.pfs_containers.proofs.Keeping.{lost_counts}
 use Rattle.pfs_containers.proofs.containers.Containers.connect.Goals as goal
 

@@ -1,4 +1,4 @@
-use Rattle.std.proofs.Common.{rules, ◌<◌, length, IfSome, ◌≡◌, sym, subst}
+use Rattle.std.proofs.Common.{rules, ◌<◌, length, IfSome, subst}
 use Rattle.pfs_containers.proofs.Keeping.{free_inside}
 use Rattle.pfs_containers.proofs.state.Places.free_slot.Goals as goal
 

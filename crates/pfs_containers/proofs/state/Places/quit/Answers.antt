@@ -1,4 +1,4 @@
-use Rattle.std.proofs.Common.{rules, ◌≡◌, sym, ap, ◌∙◌, ◌==◌}
+use Rattle.std.proofs.Common.{rules, ◌≡◌, ap, ◌∙◌, ◌==◌}
 use Rattle.pfs_containers.specs.Connections.{State, stepped}
 use Rattle.pfs_containers.specs.Administration.{quit_line, found_where}
 use Rattle.pfs_containers.proofs.Keeping.{quit_keeps_set, quit_is}
