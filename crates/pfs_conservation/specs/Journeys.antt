@@ -1,5 +1,6 @@
 -- The rows that an event passes, and the action at which it leaves each.
 use Rattle.std.specs.Prelude.{◌≡◌, ℕ, suc, ◌+◌, ◌==◌, ◌≤◌, cond, Bool, false, List, [], ◌∷◌, count_by, Option, Some, None}
+pub use Rattle.pfs_containers.specs.Connections.{is_from}
 use Rattle.pfs_conservation.specs.Chains.{Change, Added}
 use Rattle.pfs_conservation.specs.Removals.{is_given, removal, first_from}
 
@@ -8,10 +9,6 @@ abbrev pub times_counted : ℕ → List Change → ℕ
 times_counted event [] = 0
 times_counted event (Added events ∷ changes) = count_by (λ x. x == event) events + times_counted event changes
 times_counted event (change ∷ changes) = times_counted event changes
-
-abbrev pub is_from : ℕ → Option ℕ → Bool
-is_from row None = false
-is_from row (Some other) = other == row
 
 -- the first action from that one on, where there is one
 abbrev pub first_from_one : Option ℕ → List Change → Option ℕ
