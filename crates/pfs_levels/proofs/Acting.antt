@@ -5,7 +5,7 @@ use Rattle.pfs_levels.specs.declared.answers.Added.TheVariants.{Counted, Held}
 use Rattle.pfs_levels.specs.declared.answers.RingPut.TheVariants.{Done, Busy, Late}
 use Rattle.pfs_levels.specs.declared.answers.Word.{Word}
 use Rattle.pfs_levels.specs.declared.plain.Slot.{Slot}
-use Rattle.pfs_levels.specs.Calls.{Call, Adds, Rings, Reads, Loads, Draws, Takes, Puts, Frees, Sets, Enters, Leaves, label_in}
+use Rattle.pfs_levels.specs.Calls.{Call, Adds, Rings, Reads, Loads, Draws, Takes, Puts, Frees, Sets, Enters, Leaves, Meets, label_in}
 use Rattle.pfs_levels.specs.Plain.{Merges, Becomes, Holds, Renews, Releases, Op, op, ops_of, slot, slot_by, slot_after, slot_at, in_hand, AllAnswer, IsAt, labels_after}
 use Rattle.pfs_levels.proofs.Steps.{at_row, here, read_is, away, held, ring_high}
 
@@ -26,6 +26,7 @@ labels_count flags (Rings row content (Late t) ∷ calls) a = labels_count flags
 labels_count flags (Reads row seen ∷ calls) a = labels_count flags calls a.1
 labels_count flags (Loads w v found ∷ calls) a = labels_count flags calls a.1
 labels_count flags (Draws kind ticket ∷ calls) a = labels_count flags calls a.1
+labels_count flags (Meets versions ∷ calls) a = labels_count flags calls a.1
 labels_count flags (Takes row v found ∷ calls) a = labels_count flags calls a.1 ∙ sym (ap (λ (s : Slot). s.version) (elsewhere (op row Holds) (ops_of calls) a.0.0.0))
 labels_count flags (Puts row content v ∷ calls) a = labels_count flags calls a.1 ∙ sym (ap (λ (s : Slot). s.version) (elsewhere (op row (Becomes content)) (ops_of calls) a.0.0.0))
 labels_count flags (Frees row v ∷ calls) a = labels_count flags calls a.1 ∙ sym (ap (λ (s : Slot). s.version) (elsewhere (op row Releases) (ops_of calls) a.0.0.0))

@@ -1,13 +1,13 @@
 -- Worked examples, by computation.
-use Rattle.std.proofs.Common.{◌≡◌, inl, inr, true, [], ◌∷◌, replicate, Some, None, refl, arith, lit<, lit≤}
+use Rattle.std.proofs.Common.{ℕ, List, ◌≡◌, ◌≤◌, inl, inr, true, [], ◌∷◌, replicate, Some, None, refl, arith, lit<, lit≤}
 use Rattle.pfs_stat.specs.declared.Stat.{Stat}
 use Rattle.pfs_board.specs.declared.view.Label.{Label}
 use Rattle.pfs_levels.specs.declared.answers.Added.TheVariants.{Counted, Held}
 use Rattle.pfs_levels.specs.declared.flushes.Source.TheVariants as of
-use Rattle.pfs_levels.specs.Calls.{Adds, Takes, Puts, Enters, hand_in, IsLongPlace}
+use Rattle.pfs_levels.specs.Calls.{Adds, Loads, Takes, Puts, Enters, Meets, hand_in, IsLongPlace}
 use Rattle.pfs_levels.specs.Contents.{merged, zero_words, opening_content}
 use Rattle.pfs_levels.specs.Flushes.{asks_of, Ascends}
-use Rattle.pfs_levels.specs.Joint.{total, at_put, at_free, count, IsCounted, frees_at}
+use Rattle.pfs_levels.specs.Joint.{total, at_put, at_free, count, IsCounted, frees_at, word_version, Agrees}
 use Rattle.pfs_levels.specs.Moves.{ask, due, cost}
 use Rattle.pfs_levels.specs.Order.{mark, marked, AreMarked, AreOrdered, IsFloored, IsOthers, IsRising}
 use Rattle.pfs_levels.specs.Plain.{op, Merges, Becomes, Holds, puts_in, content_at}
@@ -76,6 +76,22 @@ above_floor amount = refl
 pub below_floor : (amount : Stat) → ¬ IsFloored (mark 129 3 true 1 0 ∷ []) [] 1 (Adds 129 amount (Counted 129 3))
 unfolding total
 below_floor amount h = omega (arith, h)
+
+-- a load behind a meet can't name a version below the one that was met, and a meet none below an earlier load
+pub below_the_meet : ¬ IsRising (Meets (7 ∷ 2 ∷ []) ∷ []) (Loads 1 1 0)
+below_the_meet h = omega (arith, h)
+
+pub meets_below : ¬ IsRising (Loads 1 3 0 ∷ []) (Meets (7 ∷ 2 ∷ []))
+meets_below h = let low : 3 ≤ 2 = h 1 (lit< tt) in omega (arith, low)
+
+-- nor is a meet in action 3 below what action 2 set, and no meet has a version that the word never had
+pub meets_too_little : ¬ IsFloored [] (mark 1 3 true 2 1 ∷ []) 2 (Meets (7 ∷ 2 ∷ []))
+unfolding total
+meets_too_little h = let e : 1 ≡ 0 = h 1 (lit< tt) in omega (arith, e)
+
+pub meets_too_much : (content : ℕ → ℕ → List ℕ) → ¬ Agrees [] content [] [] (Meets (7 ∷ 2 ∷ []))
+unfolding word_version
+meets_too_much content h = let low : 2 ≤ 0 = h 1 (lit< tt) in omega (arith, low)
 
 -- a held word counts for the floor of what follows
 pub forgets_a_held_word : (amount : Stat) → ¬ IsRising (Adds 129 amount (Held 129 13 13) ∷ []) (Adds 129 amount (Counted 129 3))

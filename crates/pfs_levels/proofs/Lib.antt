@@ -2,6 +2,7 @@ mod Acting
 mod Ascending
 pub mod Examples
 pub mod Flushing
+pub mod Meeting
 pub mod Moving
 mod Opening
 mod PlainFloors

@@ -1,5 +1,5 @@
 -- No call of a plain store is below what actions gave that had ended: each names what stands there, and later actions have greater numbers.
-use Rattle.std.proofs.Common.{ℕ, ◌⊎◌, inl, inr, ◌≡◌, ◌<◌, ◌≤◌, ◌+◌, ◌==◌, nat_lt, nat_le, false, true, Bool, cond, not, ◌&&◌, List, [], ◌∷◌, ◌++◌, refl, ap, sym, ◌∙◌, subst, arith, eq-eqb, ne_eqb, zero-add}
+use Rattle.std.proofs.Common.{ℕ, ◌⊎◌, inl, inr, ◌≡◌, ◌<◌, ◌≤◌, ◌+◌, ◌==◌, nat_lt, nat_le, false, true, Bool, cond, not, ◌&&◌, List, [], ◌∷◌, ◌++◌, slice_index, refl, ap, sym, ◌∙◌, subst, arith, eq-eqb, ne_eqb, zero-add}
 use Rattle.std.proofs.lemmas.Bool.{cases_eq}
 use Rattle.std.proofs.lemmas.Bool.Decides.{nat_tests}
 use Rattle.pfs_rows.specs.declared.table.Seen.TheVariants.{Whole, Free}
@@ -7,7 +7,7 @@ use Rattle.pfs_rows.specs.declared.table.Seen.TheVariants as sees
 use Rattle.pfs_levels.specs.declared.answers.Added.TheVariants.{Counted, Held}
 use Rattle.pfs_levels.specs.declared.answers.RingPut.TheVariants.{Done, Busy, Late}
 use Rattle.pfs_levels.specs.declared.plain.Slot.{Slot}
-use Rattle.pfs_levels.specs.Calls.{Call, Adds, Rings, Reads, Loads, Draws, Takes, Puts, Frees, Sets, Enters, Leaves, after_in}
+use Rattle.pfs_levels.specs.Calls.{Call, Adds, Rings, Reads, Loads, Draws, Takes, Puts, Frees, Sets, Enters, Leaves, Meets, after_in}
 use Rattle.pfs_levels.specs.Joint.{total, one_if}
 use Rattle.pfs_levels.specs.Order.{Mark, marks_by, word_marks_by, marked, AreMarked, is_past, above, reaching, freed, IsFloored, AreFloored, AllCalls}
 use Rattle.pfs_levels.specs.Plain.{Holds, Releases, slot_by}
@@ -115,6 +115,7 @@ floor_more p log words after ended (Reads row (Free w)) low later h = h
 floor_more p log words after ended (Reads row (sees.Busy v w)) low later h = h
 floor_more p log words after ended (Loads at k flags) low later h = h
 floor_more p log words after ended (Draws kind ticket) low later h = h
+floor_more p log words after ended (Meets versions) low later h = h
 floor_more p log words after ended (Takes row k found) low later h = above_more p log row k after (not_past row after ended p low later) h
 floor_more p log words after ended (Puts row content k) low later h = reaching_more p log row k after (not_past row after ended p low later) h
 floor_more p log words after ended (Frees row k) low later h = above_more p log row k after (not_past row after ended p low later) h
@@ -133,6 +134,7 @@ word_floor_more p log words after ended (Reads row (Free w)) low later h = h
 word_floor_more p log words after ended (Reads row (sees.Busy v w)) low later h = h
 word_floor_more p log words after ended (Loads at k flags) low later h = above_more p words at k after (not_past at after ended p low later) h
 word_floor_more p log words after ended (Draws kind ticket) low later h = h
+word_floor_more p log words after ended (Meets versions) low later h = λ at up. above_more p words at (slice_index versions at) after (not_past at after ended p low later) (h at up)
 word_floor_more p log words after ended (Takes row k found) low later h = h
 word_floor_more p log words after ended (Puts row content k) low later h = h
 word_floor_more p log words after ended (Frees row k) low later h = h
@@ -182,6 +184,7 @@ marks_later action after ended (Reads row (Free w)) h = tt
 marks_later action after ended (Reads row (sees.Busy v w)) h = tt
 marks_later action after ended (Loads at k flags) h = tt
 marks_later action after ended (Draws kind ticket) h = tt
+marks_later action after ended (Meets versions) h = tt
 marks_later action after ended (Takes row k found) h = tt
 marks_later action after ended (Puts row content k) h = (h, tt)
 marks_later action after ended (Frees row k) h = (h, tt)
@@ -195,6 +198,7 @@ word_marks_later action after ended (Rings row content answer) h = tt
 word_marks_later action after ended (Reads row seen) h = tt
 word_marks_later action after ended (Loads at version flags) h = tt
 word_marks_later action after ended (Draws kind ticket) h = tt
+word_marks_later action after ended (Meets versions) h = tt
 word_marks_later action after ended (Takes row version found) h = tt
 word_marks_later action after ended (Puts row content version) h = tt
 word_marks_later action after ended (Frees row version) h = tt

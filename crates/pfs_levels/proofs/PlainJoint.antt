@@ -7,7 +7,7 @@ use Rattle.pfs_levels.specs.declared.answers.Added.TheVariants.{Counted, Held}
 use Rattle.pfs_levels.specs.declared.answers.RingPut.TheVariants.{Done, Busy, Late}
 use Rattle.pfs_levels.specs.declared.plain.Slot.{Slot}
 use Rattle.pfs_levels.specs.declared.answers.Word.{Word}
-use Rattle.pfs_levels.specs.Calls.{Call, Adds, Rings, Reads, Loads, Draws, Takes, Puts, Frees, Sets, Enters, Leaves}
+use Rattle.pfs_levels.specs.Calls.{Call, Adds, Rings, Reads, Loads, Draws, Takes, Puts, Frees, Sets, Enters, Leaves, Meets}
 use Rattle.pfs_levels.specs.Contents.{merged}
 use Rattle.pfs_levels.specs.Joint.{total, At, at_put, at_free, changes_by, changes_of, count, IsCounted, Setting, sets_by, sets_of, word_version, flags_at, AreWordsCounted, draws_of, AreDrawn, opens_free, frees_at, IsNewer, Agrees, AllAgree, all_calls, Joint}
 use Rattle.pfs_levels.specs.Plain.{Effect, Merges, Becomes, Renews, Holds, Releases, Op, op, ops_by, ops_of, slot_by, slot_after, AllAnswer, IsFresh, is_put, puts_in, content_by, content_at}
@@ -30,6 +30,7 @@ counts (Rings at content (Late t) ∷ calls) row up = counts calls row up
 counts (Reads at seen ∷ calls) row up = counts calls row up
 counts (Loads at v found ∷ calls) row up = counts calls row up
 counts (Draws kind ticket ∷ calls) row up = counts calls row up
+counts (Meets versions ∷ calls) row up = counts calls row up
 counts (Takes at v found ∷ calls) row up = counts calls row up ∙ sym (no_put (at == row) (puts_in (ops_of calls) row))
 counts (Puts at content v ∷ calls) row up = ap (λ n. cond ((at == row) && true) (n + 1) n) (counts calls row up)
 counts (Frees at v ∷ calls) row up = ap (λ n. cond ((at == row) && false) (n + 1) n) (counts calls row up)
@@ -54,6 +55,7 @@ plain_chain flags (Rings at content (Late t) ∷ calls) a = plain_chain flags ca
 plain_chain flags (Reads at seen ∷ calls) a = plain_chain flags calls a.1
 plain_chain flags (Loads at v found ∷ calls) a = plain_chain flags calls a.1
 plain_chain flags (Draws kind ticket ∷ calls) a = plain_chain flags calls a.1
+plain_chain flags (Meets versions ∷ calls) a = plain_chain flags calls a.1
 plain_chain flags (Takes at v found ∷ calls) a = plain_chain flags calls a.1
 plain_chain flags (Puts at content v ∷ calls) a = (a.0.2 ∙ ap (λ z. z + 1) (slot_version calls at a.0.0.0), plain_chain flags calls a.1)
 plain_chain flags (Frees at v ∷ calls) a = (a.0.2 ∙ slot_version calls at a.0.0.0, plain_chain flags calls a.1)
@@ -70,6 +72,7 @@ plain_words flags (Rings at content answer ∷ calls) a = plain_words flags call
 plain_words flags (Reads at seen ∷ calls) a = plain_words flags calls a.1
 plain_words flags (Loads at v found ∷ calls) a = plain_words flags calls a.1
 plain_words flags (Draws kind ticket ∷ calls) a = plain_words flags calls a.1
+plain_words flags (Meets versions ∷ calls) a = plain_words flags calls a.1
 plain_words flags (Takes at v found ∷ calls) a = plain_words flags calls a.1
 plain_words flags (Puts at content v ∷ calls) a = plain_words flags calls a.1
 plain_words flags (Frees at v ∷ calls) a = plain_words flags calls a.1
@@ -80,6 +83,7 @@ pub plain_tickets : (flags : List ℕ) (calls : List Call) → AllAnswer flags c
 unfolding draws_of
 plain_tickets flags [] a = tt
 plain_tickets flags (Draws kind ticket ∷ calls) a = (a.0.1, plain_tickets flags calls a.1)
+plain_tickets flags (Meets versions ∷ calls) a = plain_tickets flags calls a.1
 plain_tickets flags (Sets at to v ∷ calls) a = plain_tickets flags calls a.1
 plain_tickets flags (Adds at amount answer ∷ calls) a = plain_tickets flags calls a.1
 plain_tickets flags (Rings at content answer ∷ calls) a = plain_tickets flags calls a.1
@@ -145,6 +149,7 @@ frees flags (Rings at content (Late t) ∷ calls) row a up free = frees flags ca
 frees flags (Reads at seen ∷ calls) row a up free = frees flags calls row a.1 up free
 frees flags (Loads at v found ∷ calls) row a up free = frees flags calls row a.1 up free
 frees flags (Draws kind ticket ∷ calls) row a up free = frees flags calls row a.1 up free
+frees flags (Meets versions ∷ calls) row a up free = frees flags calls row a.1 up free
 frees flags (Takes at v found ∷ calls) row a up free = as_freed (changes_of calls) row _ (puts_in (ops_of calls) row) (no_put (at == row) (puts_in (ops_of calls) row)) (frees flags calls row a.1 up (held_free (at == row) (slot_after (ops_of calls) row) free))
 frees flags (Puts at content v ∷ calls) row a up free =
     let os = ops_of calls in
@@ -172,6 +177,7 @@ Bound log sets (Rings row put (Late t)) = 0 < row
 Bound log sets (Reads row seen) = 0 < row
 Bound log sets (Loads at k found) = Unit {0}
 Bound log sets (Draws kind ticket) = Unit {0}
+Bound log sets (Meets versions) = Unit {0}
 Bound log sets (Takes row k found) = 0 < row
 Bound log sets (Puts row put k) = (0 < row) × (k ≤ count log row)
 Bound log sets (Frees row k) = Unit {0}
@@ -211,6 +217,7 @@ agree_more flags c c2 log log2 ss ss2 (Reads row (Free w)) x ((k, (e, q)), up) =
 agree_more flags c c2 log log2 ss ss2 (Reads row (sees.Busy v w)) x f = f
 agree_more flags c c2 log log2 ss ss2 (Loads at k found) x ((q, low), t) = ((q ∙ sym (x.flag at k low), omega (arith, low, x.words at)), tt)
 agree_more flags c c2 log log2 ss ss2 (Draws kind ticket) x f = f
+agree_more flags c c2 log log2 ss ss2 (Meets versions) x f = (λ at low. omega (arith, f.0 at low, x.words at), tt)
 agree_more flags c c2 log log2 ss ss2 (Takes row k found) x ((q, low), up) = ((q ∙ sym (x.same row k up low), omega (arith, low, x.more row)), up)
 agree_more flags c c2 log log2 ss ss2 (Puts row put k) x (q, (up, low)) = (x.same row k up low ∙ q, (up, omega (arith, low, x.more row)))
 agree_more flags c c2 log log2 ss ss2 (Frees row k) x f = f
@@ -295,6 +302,7 @@ newest flags (Loads at v found) calls a =
     let e : v ≡ word_version (sets_of calls) at = ap (λ (y : Word). y.version) a.0.1 ∙ word_versions flags (sets_of calls) at ws in
     ((ap (λ (y : Word). y.flags) a.0.1 ∙ word_flags flags (sets_of calls) at ws ∙ ap (λ z. flags_at flags (sets_of calls) at z) (sym e), omega (arith, e)), tt)
 newest flags (Draws kind ticket) calls a = (tt, tt)
+newest flags (Meets versions) calls a = absurd a.0
 newest flags (Takes row v found) calls a =
     let up = a.0.0.0 in
     let e : v ≡ puts_in (ops_of calls) row = a.0.2 ∙ versions (ops_of calls) row in

@@ -6,7 +6,7 @@ use Rattle.pfs_levels.specs.declared.answers.Added.TheVariants.{Counted, Held}
 use Rattle.pfs_levels.specs.declared.answers.RingPut.TheVariants.{Done, Busy, Late}
 use Rattle.pfs_levels.specs.declared.plain.Slot.{Slot}
 use Rattle.pfs_levels.specs.declared.answers.Word.{Word}
-use Rattle.pfs_levels.specs.Calls.{Call, Adds, Rings, Reads, Loads, Draws, Takes, Puts, Frees, Sets, Enters, Leaves, action_in, after_in, label_in}
+use Rattle.pfs_levels.specs.Calls.{Call, Adds, Rings, Reads, Loads, Draws, Takes, Puts, Frees, Sets, Enters, Leaves, Meets, action_in, after_in, label_in}
 use Rattle.pfs_levels.specs.Joint.{total, sets_of, word_version, all_calls}
 use Rattle.pfs_levels.specs.Order.{Mark, mark, marks_by, marks_of, all_marks, word_marks_by, word_marks_of, all_word_marks, marked, AreMarked, reaching, freed, IsFloored, AreFloored, AllCalls}
 use Rattle.pfs_levels.specs.Plain.{ops_of, slot_after, AllAnswer, puts_in, labels_after}
@@ -38,6 +38,7 @@ unfreed flags (Rings at content (Late t) ∷ calls) rest log words a l row after
 unfreed flags (Reads at seen ∷ calls) rest log words a l row after whole = unfreed flags calls rest log words a.1 l row after whole
 unfreed flags (Loads at v found ∷ calls) rest log words a l row after whole = unfreed flags calls rest log words a.1 l row after whole
 unfreed flags (Draws kind ticket ∷ calls) rest log words a l row after whole = unfreed flags calls rest log words a.1 l row after whole
+unfreed flags (Meets versions ∷ calls) rest log words a l row after whole = unfreed flags calls rest log words a.1 l row after whole
 unfreed flags (Takes at v found ∷ calls) rest log words a l row after whole = unfreed_hold (at == row) _ row after (marks_of calls ++ log) _ (unfreed flags calls rest log words a.1 l row after) whole
 unfreed flags (Puts at content v ∷ calls) rest log words a l row after whole =
     unfreed_put row at _ after _ (marks_of calls ++ log) _ _ refl refl (marks_chain flags calls rest log a.1 l.idle l.rows l.chain) (marks_count calls rest log row (l.rows row)) (unfreed flags calls rest log words a.1 l row after) whole
@@ -83,6 +84,7 @@ newest flags (Loads at v found) calls rest log words a l =
     none_above (word_marks_of calls ++ words) at v (after_in calls) (word_marks_chain flags calls rest words a.1 l.sets l.word_chain)
     (omega (arith, ap (λ (y : Word). y.version) a.0.1, word_versions flags (sets_of (calls ++ rest)) at (plain_words flags (calls ++ rest) a.1), word_marks_count calls rest words at (l.sets at)))
 newest flags (Draws kind ticket) calls rest log words a l = tt
+newest flags (Meets versions) calls rest log words a l = absurd a.0
 newest flags (Takes at v found) calls rest log words a l =
     none_above (marks_of calls ++ log) at v (after_in calls) (marks_chain flags calls rest log a.1 l.idle l.rows l.chain) (omega (arith, a.0.2, at_count calls rest log at l.rows))
 newest flags (Puts at content v) calls rest log words a l =
@@ -116,6 +118,7 @@ labels_grow (Rings at content answer) calls = omega arith
 labels_grow (Reads at seen) calls = omega arith
 labels_grow (Loads at v found) calls = omega arith
 labels_grow (Draws kind ticket) calls = omega arith
+labels_grow (Meets versions) calls = omega arith
 labels_grow (Takes at v found) calls = omega arith
 labels_grow (Puts at content v) calls = omega arith
 labels_grow (Frees at v) calls = omega arith

@@ -8,7 +8,7 @@ use Rattle.pfs_rows.specs.declared.table.Seen.TheVariants.{Whole, Free}
 use Rattle.pfs_rows.specs.declared.table.Seen.TheVariants as sees
 use Rattle.pfs_levels.specs.declared.answers.Added.TheVariants.{Counted, Held}
 use Rattle.pfs_levels.specs.declared.answers.RingPut.TheVariants.{Done, Busy, Late}
-use Rattle.pfs_levels.specs.Calls.{Call, Adds, Rings, Reads, Loads, Draws, Takes, Puts, Frees, Sets, Enters, Leaves, action_in, after_in, label_in}
+use Rattle.pfs_levels.specs.Calls.{Call, Adds, Rings, Reads, Loads, Draws, Takes, Puts, Frees, Sets, Enters, Leaves, Meets, action_in, after_in, label_in}
 use Rattle.pfs_levels.specs.Joint.{all_calls}
 use Rattle.pfs_levels.specs.Order.{Mark, marks_by, marks_of, all_marks, all_word_marks, marked, above, IsOverdue, HasCause, AreCaused, IsNamed, AreNamed, AllCalls, AreFloored, AreRising, Order}
 use Rattle.pfs_levels.specs.Plain.{ops_by, ops_of, slot_after, Answers, AllAnswer, puts_in, content_at, labels_after}
@@ -28,6 +28,7 @@ Overdue content log calls (Adds row amount answer) = Unit {0}
 Overdue content log calls (Reads row seen) = Unit {0}
 Overdue content log calls (Loads at v found) = Unit {0}
 Overdue content log calls (Draws kind ticket) = Unit {0}
+Overdue content log calls (Meets versions) = Unit {0}
 Overdue content log calls (Takes row v found) = Unit {0}
 Overdue content log calls (Puts row put v) = Unit {0}
 Overdue content log calls (Frees row v) = Unit {0}
@@ -66,6 +67,7 @@ one_kept content content2 ps log calls (Adds row amount answer) ended low later 
 one_kept content content2 ps log calls (Reads row seen) ended low later same o = tt
 one_kept content content2 ps log calls (Loads at v found) ended low later same o = tt
 one_kept content content2 ps log calls (Draws kind ticket) ended low later same o = tt
+one_kept content content2 ps log calls (Meets versions) ended low later same o = tt
 one_kept content content2 ps log calls (Takes row v found) ended low later same o = tt
 one_kept content content2 ps log calls (Puts row put v) ended low later same o = tt
 one_kept content content2 ps log calls (Frees row v) ended low later same o = tt
@@ -102,6 +104,7 @@ newest_overdue flags (Adds row amount answer) calls rest log words a l = tt
 newest_overdue flags (Reads row seen) calls rest log words a l = tt
 newest_overdue flags (Loads at v found) calls rest log words a l = tt
 newest_overdue flags (Draws kind ticket) calls rest log words a l = tt
+newest_overdue flags (Meets versions) calls rest log words a l = tt
 newest_overdue flags (Takes row v found) calls rest log words a l = tt
 newest_overdue flags (Puts row put v) calls rest log words a l = tt
 newest_overdue flags (Frees row v) calls rest log words a l = tt
@@ -148,6 +151,7 @@ one_caused flags content log own (Reads row (Free w)) calls rest a o = tt
 one_caused flags content log own (Reads row (sees.Busy v w)) calls rest a o = absurd a
 one_caused flags content log own (Loads at v found) calls rest a o = tt
 one_caused flags content log own (Draws kind ticket) calls rest a o = tt
+one_caused flags content log own (Meets versions) calls rest a o = tt
 one_caused flags content log own (Takes row v found) calls rest a o = tt
 one_caused flags content log own (Puts row put v) calls rest a o = tt
 one_caused flags content log own (Frees row v) calls rest a o = tt
@@ -173,6 +177,7 @@ Named all calls (Rings row put answer) = Unit {0}
 Named all calls (Reads row seen) = Unit {0}
 Named all calls (Loads at v found) = Unit {0}
 Named all calls (Draws kind ticket) = Unit {0}
+Named all calls (Meets versions) = Unit {0}
 Named all calls (Takes row v found) = Unit {0}
 Named all calls (Puts row put v) = Unit {0}
 Named all calls (Frees row v) = Unit {0}
@@ -190,6 +195,7 @@ name_kept all more calls (Rings row put answer) n = tt
 name_kept all more calls (Reads row seen) n = tt
 name_kept all more calls (Loads at v found) n = tt
 name_kept all more calls (Draws kind ticket) n = tt
+name_kept all more calls (Meets versions) n = tt
 name_kept all more calls (Takes row v found) n = tt
 name_kept all more calls (Puts row put v) n = tt
 name_kept all more calls (Frees row v) n = tt
@@ -212,6 +218,7 @@ new_label calls (Rings row put answer) = []
 new_label calls (Reads row seen) = []
 new_label calls (Loads at v found) = []
 new_label calls (Draws kind ticket) = []
+new_label calls (Meets versions) = []
 new_label calls (Takes row v found) = []
 new_label calls (Puts row put v) = []
 new_label calls (Frees row v) = []
@@ -226,6 +233,7 @@ label_added calls (Rings row put answer) = sym (append-nil (labels_after calls))
 label_added calls (Reads row seen) = sym (append-nil (labels_after calls))
 label_added calls (Loads at v found) = sym (append-nil (labels_after calls))
 label_added calls (Draws kind ticket) = sym (append-nil (labels_after calls))
+label_added calls (Meets versions) = sym (append-nil (labels_after calls))
 label_added calls (Takes row v found) = sym (append-nil (labels_after calls))
 label_added calls (Puts row put v) = sym (append-nil (labels_after calls))
 label_added calls (Frees row v) = sym (append-nil (labels_after calls))
@@ -241,6 +249,7 @@ own_label (Rings row put answer ∷ calls) rest up = own_label calls rest up
 own_label (Reads row seen ∷ calls) rest up = own_label calls rest up
 own_label (Loads at v found ∷ calls) rest up = own_label calls rest up
 own_label (Draws kind ticket ∷ calls) rest up = own_label calls rest up
+own_label (Meets versions ∷ calls) rest up = own_label calls rest up
 own_label (Takes row v found ∷ calls) rest up = own_label calls rest up
 own_label (Puts row put v ∷ calls) rest up = own_label calls rest up
 own_label (Frees row v ∷ calls) rest up = own_label calls rest up
@@ -260,6 +269,7 @@ newest_named flags (Rings row put answer) calls rest a idle = tt
 newest_named flags (Reads row seen) calls rest a idle = tt
 newest_named flags (Loads at v found) calls rest a idle = tt
 newest_named flags (Draws kind ticket) calls rest a idle = tt
+newest_named flags (Meets versions) calls rest a idle = tt
 newest_named flags (Takes row v found) calls rest a idle = tt
 newest_named flags (Puts row put v) calls rest a idle = tt
 newest_named flags (Frees row v) calls rest a idle = tt
@@ -289,6 +299,7 @@ one_named all calls (Rings row put answer) n = tt
 one_named all calls (Reads row seen) n = tt
 one_named all calls (Loads at v found) n = tt
 one_named all calls (Draws kind ticket) n = tt
+one_named all calls (Meets versions) n = tt
 one_named all calls (Takes row v found) n = tt
 one_named all calls (Puts row put v) n = tt
 one_named all calls (Frees row v) n = tt

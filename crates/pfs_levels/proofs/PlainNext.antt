@@ -5,7 +5,7 @@ use Rattle.pfs_rows.specs.declared.table.Seen.TheVariants as sees
 use Rattle.pfs_levels.specs.declared.answers.Added.TheVariants.{Counted, Held}
 use Rattle.pfs_levels.specs.declared.answers.RingPut.TheVariants.{Done, Busy, Late}
 use Rattle.pfs_levels.specs.declared.answers.Word.{Word}
-use Rattle.pfs_levels.specs.Calls.{Call, Adds, Rings, Reads, Loads, Draws, Takes, Puts, Frees, Sets, Enters, Leaves}
+use Rattle.pfs_levels.specs.Calls.{Call, Adds, Rings, Reads, Loads, Draws, Takes, Puts, Frees, Sets, Enters, Leaves, Meets}
 use Rattle.pfs_levels.specs.Joint.{sets_of}
 use Rattle.pfs_levels.specs.Plain.{AllAnswer, IsNext, AreNext}
 use Rattle.pfs_levels.proofs.PlainJoint.{slot_version, plain_words}
@@ -23,6 +23,7 @@ next flags (Reads at (Free w)) calls a = a.0.2 ∙ ap (λ z. 4 * z) (slot_versio
 next flags (Reads at (sees.Busy v w)) calls a = a.0
 next flags (Loads at v found) calls a = ap (λ (y : Word). y.version) a.0.1 ∙ word_versions flags (sets_of calls) at (plain_words flags calls a.1)
 next flags (Draws kind ticket) calls a = a.0.1
+next flags (Meets versions) calls a = a.0
 next flags (Takes at v found) calls a = a.0.2 ∙ slot_version calls at a.0.0.0
 next flags (Puts at content v) calls a = a.0.2 ∙ ap (λ z. z + 1) (slot_version calls at a.0.0.0)
 next flags (Frees at v) calls a = a.0.2 ∙ slot_version calls at a.0.0.0

@@ -4,7 +4,7 @@ use Rattle.pfs_board.specs.declared.view.Label.{Label}
 use Rattle.pfs_levels.specs.declared.answers.Added.TheVariants.{Counted, Held}
 use Rattle.pfs_levels.specs.declared.answers.RingPut.TheVariants.{Done, Busy, Late}
 use Rattle.pfs_levels.specs.declared.plain.Slot.{Slot}
-use Rattle.pfs_levels.specs.Calls.{Call, Adds, Rings, Reads, Loads, Draws, Takes, Puts, Frees, Sets, Enters, Leaves, action_in, after_in, label_in}
+use Rattle.pfs_levels.specs.Calls.{Call, Adds, Rings, Reads, Loads, Draws, Takes, Puts, Frees, Sets, Enters, Leaves, Meets, action_in, after_in, label_in}
 use Rattle.pfs_levels.specs.Joint.{sets_of, word_version}
 use Rattle.pfs_levels.specs.Order.{Mark, marks_of, word_marks_of, marked, AreMarked}
 use Rattle.pfs_levels.specs.Plain.{Merges, Becomes, Holds, Releases, Op, op, ops_of, slot_after, AllAnswer, puts_in, labels_after}
@@ -29,6 +29,7 @@ marks_count (Rings at content (Late t) ∷ calls) rest log row h = marks_count c
 marks_count (Reads at seen ∷ calls) rest log row h = marks_count calls rest log row h
 marks_count (Loads at v found ∷ calls) rest log row h = marks_count calls rest log row h
 marks_count (Draws kind ticket ∷ calls) rest log row h = marks_count calls rest log row h
+marks_count (Meets versions ∷ calls) rest log row h = marks_count calls rest log row h
 marks_count (Takes at v found ∷ calls) rest log row h = marks_count calls rest log row h ∙ sym (no_put (at == row) (puts_in (ops_of (calls ++ rest)) row))
 marks_count (Puts at content v ∷ calls) rest log row h = ap (λ n. cond ((at == row) && true) (n + 1) n) (marks_count calls rest log row h)
 marks_count (Frees at v ∷ calls) rest log row h = ap (λ n. cond ((at == row) && false) (n + 1) n) (marks_count calls rest log row h)
@@ -49,6 +50,7 @@ word_marks_count (Rings at content answer ∷ calls) rest log w h = word_marks_c
 word_marks_count (Reads at seen ∷ calls) rest log w h = word_marks_count calls rest log w h
 word_marks_count (Loads at v found ∷ calls) rest log w h = word_marks_count calls rest log w h
 word_marks_count (Draws kind ticket ∷ calls) rest log w h = word_marks_count calls rest log w h
+word_marks_count (Meets versions ∷ calls) rest log w h = word_marks_count calls rest log w h
 word_marks_count (Takes at v found ∷ calls) rest log w h = word_marks_count calls rest log w h
 word_marks_count (Puts at content v ∷ calls) rest log w h = word_marks_count calls rest log w h
 word_marks_count (Frees at v ∷ calls) rest log w h = word_marks_count calls rest log w h
@@ -76,6 +78,7 @@ inside flags (Rings at content (Late t) ∷ calls) rest a idle = inside flags ca
 inside flags (Reads at seen ∷ calls) rest a idle = inside flags calls rest a.1 idle
 inside flags (Loads at v found ∷ calls) rest a idle = inside flags calls rest a.1 idle
 inside flags (Draws kind ticket ∷ calls) rest a idle = inside flags calls rest a.1 idle
+inside flags (Meets versions ∷ calls) rest a idle = inside flags calls rest a.1 idle
 inside flags (Takes at v found ∷ calls) rest a idle = inside_kept (op at Holds) (ops_of (calls ++ rest)) _ _ a.0.0.0 (inside flags calls rest a.1 idle)
 inside flags (Puts at content v ∷ calls) rest a idle = inside_kept (op at (Becomes content)) (ops_of (calls ++ rest)) _ _ a.0.0.0 (inside flags calls rest a.1 idle)
 inside flags (Frees at v ∷ calls) rest a idle = inside_kept (op at Releases) (ops_of (calls ++ rest)) _ _ a.0.0.0 (inside flags calls rest a.1 idle)
@@ -100,6 +103,7 @@ after_low flags (Rings at content answer ∷ calls) rest a idle = after_low flag
 after_low flags (Reads at seen ∷ calls) rest a idle = after_low flags calls rest a.1 idle
 after_low flags (Loads at v found ∷ calls) rest a idle = after_low flags calls rest a.1 idle
 after_low flags (Draws kind ticket ∷ calls) rest a idle = after_low flags calls rest a.1 idle
+after_low flags (Meets versions ∷ calls) rest a idle = after_low flags calls rest a.1 idle
 after_low flags (Takes at v found ∷ calls) rest a idle = after_low flags calls rest a.1 idle
 after_low flags (Puts at content v ∷ calls) rest a idle = after_low flags calls rest a.1 idle
 after_low flags (Frees at v ∷ calls) rest a idle = after_low flags calls rest a.1 idle
@@ -124,6 +128,7 @@ marks_chain flags (Rings at content (Late t) ∷ calls) rest log a idle h m = ma
 marks_chain flags (Reads at seen ∷ calls) rest log a idle h m = marks_chain flags calls rest log a.1 idle h m
 marks_chain flags (Loads at v found ∷ calls) rest log a idle h m = marks_chain flags calls rest log a.1 idle h m
 marks_chain flags (Draws kind ticket ∷ calls) rest log a idle h m = marks_chain flags calls rest log a.1 idle h m
+marks_chain flags (Meets versions ∷ calls) rest log a idle h m = marks_chain flags calls rest log a.1 idle h m
 marks_chain flags (Takes at v found ∷ calls) rest log a idle h m = marks_chain flags calls rest log a.1 idle h m
 marks_chain flags (Puts at content v ∷ calls) rest log a idle h m = (a.0.2 ∙ ap (λ z. z + 1) (at_count calls rest log at h), marks_chain flags calls rest log a.1 idle h m)
 marks_chain flags (Frees at v ∷ calls) rest log a idle h m = (a.0.2 ∙ at_count calls rest log at h, marks_chain flags calls rest log a.1 idle h m)
@@ -142,6 +147,7 @@ word_marks_chain flags (Rings at content answer ∷ calls) rest log a h m = word
 word_marks_chain flags (Reads at seen ∷ calls) rest log a h m = word_marks_chain flags calls rest log a.1 h m
 word_marks_chain flags (Loads at v found ∷ calls) rest log a h m = word_marks_chain flags calls rest log a.1 h m
 word_marks_chain flags (Draws kind ticket ∷ calls) rest log a h m = word_marks_chain flags calls rest log a.1 h m
+word_marks_chain flags (Meets versions ∷ calls) rest log a h m = word_marks_chain flags calls rest log a.1 h m
 word_marks_chain flags (Takes at v found ∷ calls) rest log a h m = word_marks_chain flags calls rest log a.1 h m
 word_marks_chain flags (Puts at content v ∷ calls) rest log a h m = word_marks_chain flags calls rest log a.1 h m
 word_marks_chain flags (Frees at v ∷ calls) rest log a h m = word_marks_chain flags calls rest log a.1 h m

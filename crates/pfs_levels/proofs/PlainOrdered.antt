@@ -3,7 +3,7 @@ use Rattle.std.proofs.Common.{ℕ, ◌⊎◌, inl, inr, ◌≡◌, ◌≤◌, �
 use Rattle.pfs_levels.specs.declared.answers.Added.TheVariants.{Counted, Held}
 use Rattle.pfs_levels.specs.declared.answers.RingPut.TheVariants.{Done, Busy, Late}
 use Rattle.pfs_levels.specs.declared.plain.Slot.{Slot}
-use Rattle.pfs_levels.specs.Calls.{Call, Adds, Rings, Reads, Loads, Draws, Takes, Puts, Frees, Sets, Enters, Leaves, action_in, after_in}
+use Rattle.pfs_levels.specs.Calls.{Call, Adds, Rings, Reads, Loads, Draws, Takes, Puts, Frees, Sets, Enters, Leaves, Meets, action_in, after_in}
 use Rattle.pfs_levels.specs.Joint.{total, one_if, all_calls}
 use Rattle.pfs_levels.specs.Order.{Mark, mark, marks_by, marks_of, all_marks, falls, AreOrdered}
 use Rattle.pfs_levels.specs.Plain.{ops_of, slot_after, AllAnswer, labels_after}
@@ -46,6 +46,7 @@ marks_more action after n (Rings at content (Late t)) log h u o = (u, o)
 marks_more action after n (Reads at seen) log h u o = (u, o)
 marks_more action after n (Loads at v found) log h u o = (u, o)
 marks_more action after n (Draws kind ticket) log h u o = (u, o)
+marks_more action after n (Meets versions) log h u o = (u, o)
 marks_more action after n (Takes at v found) log h u o = (u, o)
 marks_more action after n (Puts at content v) log h u o = one_more (mark at v true action after) log n h u o
 marks_more action after n (Frees at v) log h u o = one_more (mark at v false action after) log n h u o

@@ -7,7 +7,7 @@ use Rattle.pfs_levels.specs.declared.answers.Added.TheVariants.{Counted, Held}
 use Rattle.pfs_levels.specs.declared.answers.RingPut.TheVariants.{Done, Busy, Late}
 use Rattle.pfs_levels.specs.declared.plain.Slot.{Slot}
 use Rattle.pfs_levels.specs.declared.answers.Word.{Word}
-use Rattle.pfs_levels.specs.Calls.{Call, Adds, Rings, Reads, Loads, Draws, Takes, Puts, Frees, Sets, Enters, Leaves, action_in}
+use Rattle.pfs_levels.specs.Calls.{Call, Adds, Rings, Reads, Loads, Draws, Takes, Puts, Frees, Sets, Enters, Leaves, Meets, action_in}
 use Rattle.pfs_levels.specs.Joint.{sets_of, draws_of, drawn}
 use Rattle.pfs_levels.specs.Order.{top_in, top_word, top_ticket, IsRising, AreRising}
 use Rattle.pfs_levels.specs.Plain.{Effect, Merges, Becomes, Renews, Holds, Releases, Op, ops_of, slot_by, slot_after, word, word_after, AllAnswer, labels_after}
@@ -43,6 +43,7 @@ top_low flags (Reads at (Free w) ∷ calls) rest row a idle =
 top_low flags (Reads at (sees.Busy v w) ∷ calls) rest row a idle = absurd a.0
 top_low flags (Loads at v found ∷ calls) rest row a idle = top_low flags calls rest row a.1 idle
 top_low flags (Draws kind ticket ∷ calls) rest row a idle = top_low flags calls rest row a.1 idle
+top_low flags (Meets versions ∷ calls) rest row a idle = top_low flags calls rest row a.1 idle
 top_low flags (Takes at v found ∷ calls) rest row a idle =
     step_top (at == row) v (top_in calls row) Holds (slot_after (ops_of (calls ++ rest)) row) (λ b. omega (arith, here_is (ops_of (calls ++ rest)) at row v b a.0.2)) (top_low flags calls rest row a.1 idle)
 top_low flags (Puts at content v ∷ calls) rest row a idle =
@@ -69,6 +70,7 @@ word_low flags (Adds at amount answer ∷ calls) rest w a = word_low flags calls
 word_low flags (Rings at content answer ∷ calls) rest w a = word_low flags calls rest w a.1
 word_low flags (Reads at seen ∷ calls) rest w a = word_low flags calls rest w a.1
 word_low flags (Draws kind ticket ∷ calls) rest w a = word_low flags calls rest w a.1
+word_low flags (Meets versions ∷ calls) rest w a = absurd a.0
 word_low flags (Takes at v found ∷ calls) rest w a = word_low flags calls rest w a.1
 word_low flags (Puts at content v ∷ calls) rest w a = word_low flags calls rest w a.1
 word_low flags (Frees at v ∷ calls) rest w a = word_low flags calls rest w a.1
@@ -83,6 +85,7 @@ pub ticket_low : (flags : List ℕ) (calls rest : List Call) (kind : ℕ) → Al
 unfolding draws_of drawn
 ticket_low flags [] rest kind a = omega arith
 ticket_low flags (Draws k ticket ∷ calls) rest kind a = step_draw (k == kind) ticket (top_ticket calls kind) (drawn (draws_of (calls ++ rest)) kind) (λ b. a.0.1 ∙ ap (drawn (draws_of (calls ++ rest))) (eqb-true k kind b)) (ticket_low flags calls rest kind a.1)
+ticket_low flags (Meets versions ∷ calls) rest kind a = ticket_low flags calls rest kind a.1
 ticket_low flags (Loads at v found ∷ calls) rest kind a = ticket_low flags calls rest kind a.1
 ticket_low flags (Sets at to v ∷ calls) rest kind a = ticket_low flags calls rest kind a.1
 ticket_low flags (Adds at amount answer ∷ calls) rest kind a = ticket_low flags calls rest kind a.1
@@ -105,6 +108,7 @@ rises flags (Reads at (Free w)) calls rest a idle = omega (arith, a.0.2, top_low
 rises flags (Reads at (sees.Busy v w)) calls rest a idle = absurd a.0
 rises flags (Loads at v found) calls rest a idle = omega (arith, ap (λ (y : Word). y.version) a.0.1, word_low flags calls rest at a.1)
 rises flags (Draws kind ticket) calls rest a idle = omega (arith, a.0.1, ticket_low flags calls rest kind a.1)
+rises flags (Meets versions) calls rest a idle = absurd a.0
 rises flags (Takes at v found) calls rest a idle = omega (arith, a.0.2, top_low flags calls rest at a.1 idle)
 rises flags (Puts at content v) calls rest a idle = omega (arith, a.0.2, top_low flags calls rest at a.1 idle)
 rises flags (Frees at v) calls rest a idle = omega (arith, a.0.2, top_low flags calls rest at a.1 idle)

@@ -7,7 +7,7 @@ use Rattle.pfs_levels.specs.declared.answers.Added.TheVariants.{Counted, Held}
 use Rattle.pfs_levels.specs.declared.answers.RingPut.TheVariants.{Done, Busy, Late}
 use Rattle.pfs_levels.specs.declared.answers.Word.{Word}
 use Rattle.pfs_levels.specs.declared.plain.Slot.{Slot}
-use Rattle.pfs_levels.specs.Calls.{Call, Adds, Rings, Reads, Loads, Draws, Takes, Puts, Frees, Sets, Enters, Leaves}
+use Rattle.pfs_levels.specs.Calls.{Call, Adds, Rings, Reads, Loads, Draws, Takes, Puts, Frees, Sets, Enters, Leaves, Meets}
 use Rattle.pfs_levels.specs.Joint.{total, one_if, At, at_put, at_free, changes_by, changes_of, count, IsCounted, sets_by, sets_of, word_version, opens_free, frees_at, all_calls}
 use Rattle.pfs_levels.specs.Plain.{Effect, Merges, Becomes, Renews, Holds, Releases, Op, is_put, ops_by, ops_of, slot_by, slot_after, AllAnswer, puts_in, content_at}
 use Rattle.pfs_levels.specs.Since.{IsSince, AreSince, AllSince}
@@ -114,6 +114,7 @@ whole_unfreed flags (Rings at content (Late t) ∷ calls) row a up whole = whole
 whole_unfreed flags (Reads at seen ∷ calls) row a up whole = whole_unfreed flags calls row a.1 up whole
 whole_unfreed flags (Loads at v found ∷ calls) row a up whole = whole_unfreed flags calls row a.1 up whole
 whole_unfreed flags (Draws kind ticket ∷ calls) row a up whole = whole_unfreed flags calls row a.1 up whole
+whole_unfreed flags (Meets versions ∷ calls) row a up whole = whole_unfreed flags calls row a.1 up whole
 whole_unfreed flags (Takes at v found ∷ calls) row a up whole = hold_whole (at == row) _ row (changes_of calls) _ (whole_unfreed flags calls row a.1 up) whole
 whole_unfreed flags (Puts at content v ∷ calls) row a up whole = put_whole row at _ v (changes_of calls) _ _ (plain_chain flags calls a.1) (counts calls row up) (whole_unfreed flags calls row a.1 up) whole
 whole_unfreed flags (Frees at v ∷ calls) row a up whole = free_whole row at _ v (changes_of calls) _ (whole_unfreed flags calls row a.1 up) whole
@@ -176,6 +177,7 @@ one_since flags (Reads at (Free w)) all base content a u same = omega (arith, a.
 one_since flags (Reads at (sees.Busy v w)) all base content a u same = absurd a.0
 one_since flags (Loads at v found) all base content a u same = omega (arith, ap (λ (y : Word). y.version) a.0.1, word_versions flags (sets_of all) at (plain_words flags all a.1), u.words at)
 one_since flags (Draws kind ticket) all base content a u same = tt
+one_since flags (Meets versions) all base content a u same = absurd a.0
 one_since flags (Takes at v found) all base content a u same = omega (arith, a.0.2, slot_version all at a.0.0.0, u.rows at)
 one_since flags (Puts at put v) all base content a u same = omega (arith, a.0.2, slot_version all at a.0.0.0, u.rows at)
 one_since flags (Frees at v) all base content a u same = omega (arith, a.0.2, slot_version all at a.0.0.0, u.rows at)

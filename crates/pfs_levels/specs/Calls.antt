@@ -24,6 +24,7 @@ pub data Call : Type 0 where
   Sets : ℕ → ℕ → ℕ → Call  -- of a word, to these flags: the version
   Enters : Label → List Label → Call  -- with this label, after the actions with those
   Leaves : Call
+  Meets : List ℕ → Call  -- with the writer of the words, who knows these versions: it has seen each word there
 
 -- where an actor began on one of the shared tables: which table, which seat, how much it may use in all, and how many
 -- changes stood before
@@ -106,6 +107,7 @@ action_in (Rings row content answer ∷ calls) = action_in calls
 action_in (Reads row seen ∷ calls) = action_in calls
 action_in (Loads at version flags ∷ calls) = action_in calls
 action_in (Draws kind ticket ∷ calls) = action_in calls
+action_in (Meets versions ∷ calls) = action_in calls
 action_in (Takes row version found ∷ calls) = action_in calls
 action_in (Puts row content version ∷ calls) = action_in calls
 action_in (Frees row version ∷ calls) = action_in calls
@@ -121,6 +123,7 @@ after_in (Rings row content answer ∷ calls) = after_in calls
 after_in (Reads row seen ∷ calls) = after_in calls
 after_in (Loads at version flags ∷ calls) = after_in calls
 after_in (Draws kind ticket ∷ calls) = after_in calls
+after_in (Meets versions ∷ calls) = after_in calls
 after_in (Takes row version found ∷ calls) = after_in calls
 after_in (Puts row content version ∷ calls) = after_in calls
 after_in (Frees row version ∷ calls) = after_in calls
@@ -136,6 +139,7 @@ label_in (Rings row content answer ∷ calls) = label_in calls
 label_in (Reads row seen ∷ calls) = label_in calls
 label_in (Loads at version flags ∷ calls) = label_in calls
 label_in (Draws kind ticket ∷ calls) = label_in calls
+label_in (Meets versions ∷ calls) = label_in calls
 label_in (Takes row version found ∷ calls) = label_in calls
 label_in (Puts row content version ∷ calls) = label_in calls
 label_in (Frees row version ∷ calls) = label_in calls
@@ -155,4 +159,5 @@ hand_in (Rings at content answer ∷ calls) row = hand_in calls row
 hand_in (Reads at seen ∷ calls) row = hand_in calls row
 hand_in (Loads at version flags ∷ calls) row = hand_in calls row
 hand_in (Draws kind ticket ∷ calls) row = hand_in calls row
+hand_in (Meets versions ∷ calls) row = hand_in calls row
 hand_in (Sets at flags version ∷ calls) row = hand_in calls row

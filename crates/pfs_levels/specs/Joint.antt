@@ -6,7 +6,7 @@ use Rattle.pfs_rows.specs.declared.table.Seen.TheVariants.{Whole, Free}
 use Rattle.pfs_rows.specs.declared.table.Seen.TheVariants as sees
 use Rattle.pfs_levels.specs.declared.answers.Added.TheVariants.{Counted, Held}
 use Rattle.pfs_levels.specs.declared.answers.RingPut.TheVariants.{Done, Busy, Late}
-use Rattle.pfs_levels.specs.Calls.{Call, Adds, Rings, Reads, Loads, Draws, Takes, Puts, Frees, Sets, Enters, Leaves}
+use Rattle.pfs_levels.specs.Calls.{Call, Adds, Rings, Reads, Loads, Draws, Takes, Puts, Frees, Sets, Enters, Leaves, Meets}
 use Rattle.pfs_levels.specs.Contents.{merged, is_cell, opening_content}
 
 -- the weights of items, added up. A list that is rearranged keeps each such sum, and only such a list does
@@ -39,6 +39,7 @@ changes_by (Rings row content (Late ticket)) = []
 changes_by (Reads row seen) = []
 changes_by (Loads at version flags) = []
 changes_by (Draws kind ticket) = []
+changes_by (Meets versions) = []
 changes_by (Takes row version found) = []
 changes_by (Puts row content version) = at_put row version ∷ []
 changes_by (Frees row version) = at_free row version ∷ []
@@ -73,6 +74,7 @@ sets_by (Rings row content answer) = []
 sets_by (Reads row seen) = []
 sets_by (Loads at version flags) = []
 sets_by (Draws kind ticket) = []
+sets_by (Meets versions) = []
 sets_by (Takes row version found) = []
 sets_by (Puts row content version) = []
 sets_by (Frees row version) = []
@@ -104,6 +106,7 @@ pub record Draw : Type 0 where
 
 abbrev pub draws_by : Call → List Draw
 draws_by (Draws kind ticket) = record { kind = kind; ticket = ticket } ∷ []
+draws_by (Meets versions) = []
 draws_by (Adds row amount answer) = []
 draws_by (Rings row content answer) = []
 draws_by (Reads row seen) = []
@@ -157,6 +160,8 @@ Agrees flags content log sets (Reads row (Free w)) = (k : ℕ) × ((w ≡ 4 * k)
 Agrees flags content log sets (Reads row (sees.Busy first second)) = Unit {0}
 Agrees flags content log sets (Loads at k found) = (found ≡ flags_at flags sets at k) × (k ≤ word_version sets at)
 Agrees flags content log sets (Draws kind ticket) = Unit {0}
+Agrees flags content log sets (Meets versions) =
+    (at : ℕ) → at < 160 → slice_index versions at ≤ word_version sets at
 Agrees flags content log sets (Takes row k found) = (found ≡ content row k) × (k ≤ count log row)
 Agrees flags content log sets (Puts row put k) = content row k ≡ put
 Agrees flags content log sets (Frees row k) = Unit {0}

@@ -8,7 +8,7 @@ use Rattle.pfs_rows.specs.declared.table.Seen.TheVariants.{Whole, Free}
 use Rattle.pfs_rows.specs.declared.table.Seen.TheVariants as sees
 use Rattle.pfs_levels.specs.declared.answers.Added.TheVariants.{Counted, Held}
 use Rattle.pfs_levels.specs.declared.answers.RingPut.TheVariants.{Done, Busy, Late}
-use Rattle.pfs_levels.specs.Calls.{Call, Adds, Rings, Reads, Loads, Draws, Takes, Puts, Frees, Sets, Enters, Leaves, action_in, after_in, label_in}
+use Rattle.pfs_levels.specs.Calls.{Call, Adds, Rings, Reads, Loads, Draws, Takes, Puts, Frees, Sets, Enters, Leaves, Meets, action_in, after_in, label_in}
 use Rattle.pfs_levels.specs.Joint.{total, one_if}
 
 -- a change of a row, or a set of a word: the version that it made, or at which it released; its action or 0; and the
@@ -39,6 +39,7 @@ marks_by action after (Rings row content (Late ticket)) = []
 marks_by action after (Reads row seen) = []
 marks_by action after (Loads at version flags) = []
 marks_by action after (Draws kind ticket) = []
+marks_by action after (Meets versions) = []
 marks_by action after (Takes row version found) = []
 marks_by action after (Puts row content version) = mark row version true action after ∷ []
 marks_by action after (Frees row version) = mark row version false action after ∷ []
@@ -61,6 +62,7 @@ word_marks_by action after (Rings row content answer) = []
 word_marks_by action after (Reads row seen) = []
 word_marks_by action after (Loads at version flags) = []
 word_marks_by action after (Draws kind ticket) = []
+word_marks_by action after (Meets versions) = []
 word_marks_by action after (Takes row version found) = []
 word_marks_by action after (Puts row content version) = []
 word_marks_by action after (Frees row version) = []
@@ -125,6 +127,8 @@ IsFloored log words after (Reads row (Free w)) = Unit {0}
 IsFloored log words after (Reads row (sees.Busy first second)) = Unit {0}
 IsFloored log words after (Loads at k flags) = above words at k after ≡ 0
 IsFloored log words after (Draws kind ticket) = Unit {0}
+IsFloored log words after (Meets versions) =
+    (at : ℕ) → at < 160 → above words at (slice_index versions at) after ≡ 0
 IsFloored log words after (Takes row k found) = above log row k after ≡ 0
 IsFloored log words after (Puts row content k) = reaching log row k after ≡ 0
 IsFloored log words after (Frees row k) = above log row k after ≡ 0
@@ -150,6 +154,7 @@ top_in (Reads at (Free w) ∷ calls) row = if at == row then w / 4 else top_in c
 top_in (Reads at (sees.Busy first second) ∷ calls) row = if at == row then second / 4 else top_in calls row
 top_in (Loads at version flags ∷ calls) row = top_in calls row
 top_in (Draws kind ticket ∷ calls) row = top_in calls row
+top_in (Meets versions ∷ calls) row = top_in calls row
 top_in (Takes at version found ∷ calls) row = if at == row then version else top_in calls row
 top_in (Puts at content version ∷ calls) row = if at == row then version else top_in calls row
 top_in (Frees at version ∷ calls) row = if at == row then version else top_in calls row
@@ -164,6 +169,7 @@ top_word (Rings row content answer ∷ calls) word = top_word calls word
 top_word (Reads row seen ∷ calls) word = top_word calls word
 top_word (Loads at version flags ∷ calls) word = if at == word then version else top_word calls word
 top_word (Draws kind ticket ∷ calls) word = top_word calls word
+top_word (Meets versions ∷ calls) word = slice_index versions word
 top_word (Takes row version found ∷ calls) word = top_word calls word
 top_word (Puts row content version ∷ calls) word = top_word calls word
 top_word (Frees row version ∷ calls) word = top_word calls word
@@ -178,6 +184,7 @@ top_ticket (Rings row content answer ∷ calls) kind = top_ticket calls kind
 top_ticket (Reads row seen ∷ calls) kind = top_ticket calls kind
 top_ticket (Loads at version flags ∷ calls) kind = top_ticket calls kind
 top_ticket (Draws k ticket ∷ calls) kind = if k == kind then ticket + 1 else top_ticket calls kind
+top_ticket (Meets versions ∷ calls) kind = top_ticket calls kind
 top_ticket (Takes row version found ∷ calls) kind = top_ticket calls kind
 top_ticket (Puts row content version ∷ calls) kind = top_ticket calls kind
 top_ticket (Frees row version ∷ calls) kind = top_ticket calls kind
@@ -197,6 +204,7 @@ IsRising calls (Reads row (Free w)) = top_in calls row ≤ w / 4
 IsRising calls (Reads row (sees.Busy first second)) = (top_in calls row ≤ first / 4) × (first / 4 ≤ second / 4)
 IsRising calls (Loads at version flags) = top_word calls at ≤ version
 IsRising calls (Draws kind ticket) = top_ticket calls kind ≤ ticket
+IsRising calls (Meets versions) = (at : ℕ) → at < 160 → top_word calls at ≤ slice_index versions at
 IsRising calls (Takes row version found) = top_in calls row ≤ version
 IsRising calls (Puts row content version) = top_in calls row < version
 IsRising calls (Frees row version) = top_in calls row ≤ version
@@ -207,6 +215,11 @@ IsRising calls Leaves = top_in calls 0 < action_in calls
 abbrev pub AreRising : List Call → Type 0
 AreRising [] = Unit {0}
 AreRising (call ∷ calls) = IsRising calls call × AreRising calls
+
+-- a load behind a meet with the writer names no version of its word below the one that was met
+abbrev pub LoadsAfterMeet : Type 0
+LoadsAfterMeet = (more calls : List Call) (versions : List ℕ) (at version flags : ℕ) → at < 160
+    → AreRising (Loads at version flags ∷ (more ++ Meets versions ∷ calls)) → slice_index versions at ≤ version
 
 abbrev pub is_between : ℕ → ℕ → ℕ → Mark → Bool
 is_between row low high p = (p.row == row) && p.puts && nat_lt low p.version && nat_le p.version high
@@ -262,6 +275,7 @@ HasCause content log own calls (Reads row (Whole version found)) = Unit {0}
 HasCause content log own calls (Reads row (Free w)) = Unit {0}
 HasCause content log own calls (Loads at version flags) = Unit {0}
 HasCause content log own calls (Draws kind ticket) = Unit {0}
+HasCause content log own calls (Meets versions) = Unit {0}
 HasCause content log own calls (Takes row version found) = Unit {0}
 HasCause content log own calls (Puts row put version) = Unit {0}
 HasCause content log own calls (Frees row version) = Unit {0}
@@ -280,6 +294,7 @@ IsNamed all calls (Rings row content answer) = Unit {0}
 IsNamed all calls (Reads row seen) = Unit {0}
 IsNamed all calls (Loads at version flags) = Unit {0}
 IsNamed all calls (Draws kind ticket) = Unit {0}
+IsNamed all calls (Meets versions) = Unit {0}
 IsNamed all calls (Takes row version found) = Unit {0}
 IsNamed all calls (Puts row content version) = Unit {0}
 IsNamed all calls (Frees row version) = Unit {0}

@@ -9,7 +9,7 @@ use Rattle.pfs_levels.specs.declared.answers.Added.TheVariants.{Counted, Held}
 use Rattle.pfs_levels.specs.declared.answers.RingPut.TheVariants.{Done, Busy, Late}
 use Rattle.pfs_levels.specs.declared.answers.Word.{Word}
 use Rattle.pfs_levels.specs.declared.plain.Slot.{Slot}
-use Rattle.pfs_levels.specs.Calls.{Call, Adds, Rings, Reads, Loads, Draws, Takes, Puts, Frees, Sets, Enters, Leaves, IsRow, IsCell, IsRing, label_in}
+use Rattle.pfs_levels.specs.Calls.{Call, Adds, Rings, Reads, Loads, Draws, Takes, Puts, Frees, Sets, Enters, Leaves, Meets, IsRow, IsCell, IsRing, label_in}
 use Rattle.pfs_levels.specs.Contents.{merged, opening_content}
 use Rattle.pfs_levels.specs.Joint.{changes_of, count, Setting, sets_of, word_version, draws_of, drawn, opens_free}
 
@@ -38,6 +38,7 @@ ops_by (Rings row content (Late ticket)) = []
 ops_by (Reads row seen) = []
 ops_by (Loads at version flags) = []
 ops_by (Draws kind ticket) = []
+ops_by (Meets versions) = []
 ops_by (Takes row version found) = op row Holds ∷ []
 ops_by (Puts row content version) = op row (Becomes content) ∷ []
 ops_by (Frees row version) = op row Releases ∷ []
@@ -100,6 +101,7 @@ labels_after (Rings row content answer ∷ calls) = labels_after calls
 labels_after (Reads row seen ∷ calls) = labels_after calls
 labels_after (Loads at version flags ∷ calls) = labels_after calls
 labels_after (Draws kind ticket ∷ calls) = labels_after calls
+labels_after (Meets versions ∷ calls) = labels_after calls
 labels_after (Takes row version found ∷ calls) = labels_after calls
 labels_after (Puts row content version ∷ calls) = labels_after calls
 labels_after (Frees row version ∷ calls) = labels_after calls
@@ -132,6 +134,7 @@ Answers flags calls (Reads row (Free w)) = IsRow row × ((slot_after (ops_of cal
 Answers flags calls (Reads row (sees.Busy first second)) = ⊥
 Answers flags calls (Loads at version found) = (at < 160) × (word version found ≡ word_after flags (sets_of calls) at)
 Answers flags calls (Draws kind ticket) = (kind < 4) × (ticket ≡ drawn (draws_of calls) kind)
+Answers flags calls (Meets versions) = ⊥
 Answers flags calls (Takes row version found) = IsRow row × ((slot_after (ops_of calls) row).taken ≡ false)
     × (version ≡ (slot_after (ops_of calls) row).version) × (found ≡ (slot_after (ops_of calls) row).content)
 Answers flags calls (Puts row content version) = IsRow row × ((slot_after (ops_of calls) row).taken ≡ true)
@@ -202,6 +205,7 @@ IsNext calls (Reads row (Free w)) = w ≡ 4 * count (changes_of calls) row
 IsNext calls (Reads row (sees.Busy first second)) = ⊥
 IsNext calls (Loads at version found) = version ≡ word_version (sets_of calls) at
 IsNext calls (Draws kind ticket) = ticket ≡ drawn (draws_of calls) kind
+IsNext calls (Meets versions) = ⊥
 IsNext calls (Takes row version found) = version ≡ count (changes_of calls) row
 IsNext calls (Puts row content version) = version ≡ count (changes_of calls) row + 1
 IsNext calls (Frees row version) = version ≡ count (changes_of calls) row

@@ -4,7 +4,7 @@ use Rattle.pfs_rows.specs.declared.table.Seen.TheVariants.{Whole, Free}
 use Rattle.pfs_rows.specs.declared.table.Seen.TheVariants as sees
 use Rattle.pfs_levels.specs.declared.answers.Added.TheVariants.{Counted, Held}
 use Rattle.pfs_levels.specs.declared.answers.RingPut.TheVariants.{Done, Busy, Late}
-use Rattle.pfs_levels.specs.Calls.{Call, Adds, Rings, Reads, Loads, Draws, Takes, Puts, Frees, Sets, Enters, Leaves}
+use Rattle.pfs_levels.specs.Calls.{Call, Adds, Rings, Reads, Loads, Draws, Takes, Puts, Frees, Sets, Enters, Leaves, Meets}
 use Rattle.pfs_levels.specs.Joint.{At, changes_of, count, Setting, sets_of, word_version, frees_at, all_calls}
 use Rattle.pfs_levels.specs.Order.{AllCalls}
 
@@ -23,6 +23,8 @@ IsSince content log sets (Reads row (Free w)) = count log row ≤ w / 4
 IsSince content log sets (Reads row (sees.Busy first second)) = count log row ≤ first / 4
 IsSince content log sets (Loads at k flags) = word_version sets at ≤ k
 IsSince content log sets (Draws kind ticket) = Unit {0}
+IsSince content log sets (Meets versions) =
+    (at : ℕ) → at < 160 → word_version sets at ≤ slice_index versions at
 IsSince content log sets (Takes row k found) = count log row ≤ k
 IsSince content log sets (Puts row put k) = count log row < k
 IsSince content log sets (Frees row k) = count log row ≤ k

@@ -1,5 +1,5 @@
 -- An action begins and ends.
-use Rattle.std.proofs.Common.{ℕ, suc, ◌≡◌, ◌+◌, ◌*◌, ◌<◌, ◌≤◌, true, false, cond, get_or, length, slice_set, List, [], ◌∷◌, Some, None, refl, ap, sym, ◌∙◌, subst, arith, inl, inr, zero-add}
+use Rattle.std.proofs.Common.{ℕ, suc, ◌≡◌, ◌+◌, ◌*◌, ◌<◌, ◌≤◌, true, false, cond, get_or, length, slice_set, List, [], ◌∷◌, Some, None, IsSome, refl, ap, sym, ◌∙◌, subst, arith, inl, inr, zero-add}
 use Rattle.std.proofs.lemmas.Bool.{cases_eq}
 use Rattle.std.proofs.lemmas.List.{get_or-set_other, get_or-set_same, length-map}
 use Rattle.std.proofs.Math.ListN as math
@@ -17,7 +17,7 @@ use Rattle.pfs_levels.specs.Order.{top_in}
 use Rattle.pfs_seats.specs.Reached.{OnBoard, IsFresh, in_hand}
 use Rattle.pfs_seats.proofs.Shown.{all_within, one_more, shown_more}
 use Rattle.pfs_seats.proofs.Turned.{reach, away_if}
-use Rattle.pfs_seats.proofs.Made.{no_true, tied_as, shown_as}
+use Rattle.pfs_seats.proofs.Made.{held_is, no_true, tied_as, shown_as}
 
 pub holding_not : (s : Stage) → in_hand s ≡ None → is_holding s ≡ false
 holding_not Idle h = refl
@@ -119,4 +119,11 @@ pub outside_is : (v : View) → IsPoised v → in_hand (corner v 0).stage ≡ No
 outside_is v p none = elim (cases_eq v.action 0) [
   | inl i ↦ i
   | inr n ↦ absurd (no_true (is_holding (corner v 0).stage) (holding_not (corner v 0).stage none) (p.inside (omega (arith, n))).0)
+]
+
+-- a seat that holds row 0 is in one
+pub inside_is : (v : View) → IsPoised v → IsSome (in_hand (corner v 0).stage) → 0 < v.action
+inside_is v p some = elim (cases_eq v.action 0) [
+  | inl i ↦ absurd (no_true (is_holding (corner v 0).stage) (p.outside i) (held_is (corner v 0).stage some))
+  | inr n ↦ omega (arith, n)
 ]

@@ -4,7 +4,7 @@ use Rattle.pfs_board.specs.declared.view.Entered.{Entered}
 use Rattle.pfs_board.specs.declared.view.Finished.{Finished}
 use Rattle.pfs_board.specs.declared.view.Sight.{Sight}
 use Rattle.pfs_board.specs.History.{Some_of}
-use Rattle.pfs_levels.specs.Calls.{Call, Adds, Rings, Reads, Loads, Draws, Takes, Puts, Frees, Sets, Enters, Leaves, Start, action_in, after_in}
+use Rattle.pfs_levels.specs.Calls.{Call, Adds, Rings, Reads, Loads, Draws, Takes, Puts, Frees, Sets, Enters, Leaves, Meets, Start, action_in, after_in}
 use Rattle.pfs_levels.specs.declared.answers.Added.TheVariants.{Counted, Held}
 use Rattle.pfs_levels.specs.declared.answers.RingPut.TheVariants.{Done, Busy, Late}
 use Rattle.pfs_rows.specs.declared.table.Seen.TheVariants.{Whole, Free}
@@ -37,6 +37,7 @@ module _ (start : Start) (reads reads' : List Finished) (sights sights' : List S
   shown_one calls (Enters label labels) s = h _ s
   shown_one calls (Loads at version flags) s = tt
   shown_one calls (Draws kind ticket) s = tt
+  shown_one calls (Meets versions) s = tt
   shown_one calls (Takes row version found) s = tt
   shown_one calls (Puts row content version) s = tt
   shown_one calls (Frees row version) s = tt

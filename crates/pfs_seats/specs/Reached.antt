@@ -9,9 +9,9 @@ use Rattle.pfs_board.specs.Known.{Known as BoardKnown}
 use Rattle.pfs_switches.specs.Known.{Known as WordsKnown}
 use Rattle.pfs_tickets.specs.Known.{Known as TicketsKnown}
 use Rattle.pfs_board.specs.Knowledge.{corner, is_holding, found_in, stake, no_label}
-use Rattle.pfs_levels.specs.Calls.{Call, Enters, Leaves, Adds, Rings, Reads, Loads, Draws, Takes, Puts, Frees, Sets, Start, Opening, action_in, after_in, label_in, hand_in}
+use Rattle.pfs_levels.specs.Calls.{Call, Enters, Leaves, Adds, Rings, Reads, Loads, Draws, Takes, Puts, Frees, Sets, Meets, Start, Opening, action_in, after_in, label_in, hand_in}
 use Rattle.pfs_levels.specs.Order.{top_in, top_word, AreRising}
-use Rattle.pfs_seats.specs.Ties.{IsTied, AreLoaded, AreDrawn, AreShown, last_found}
+use Rattle.pfs_seats.specs.Ties.{IsTied, AreLoaded, AreMet, AreDrawn, AreShown, last_found}
 use Rattle.pfs_switches.specs.declared.view.View.{View as WordView}
 use Rattle.pfs_switches.specs.Opening.{opening_words}
 use Rattle.pfs_tickets.specs.declared.view.View.{View as TicketView}
@@ -32,6 +32,7 @@ labels_in (Rings row content answer ∷ calls) = labels_in calls
 labels_in (Reads row seen ∷ calls) = labels_in calls
 labels_in (Loads at version flags ∷ calls) = labels_in calls
 labels_in (Draws kind ticket ∷ calls) = labels_in calls
+labels_in (Meets versions ∷ calls) = labels_in calls
 labels_in (Takes row version found ∷ calls) = labels_in calls
 labels_in (Puts row content version ∷ calls) = labels_in calls
 labels_in (Frees row version ∷ calls) = labels_in calls
@@ -60,6 +61,7 @@ abbrev pub OnWords : Opening → List Call → WordView → Type 0
 OnWords start calls w = (w.number ≡ start.switches.number) × (w.start ≡ opening_words start.flags)
     × (w.first ≡ start.words)
     × AreLoaded start calls w.loads × ((word : ℕ) → top_word calls word ≤ slice_index w.seen word)
+    × AreMet start.switches calls w.meets
 
 -- and of a seat of the tickets
 abbrev pub OnTickets : Start → List Call → TicketView → Type 0

@@ -5,7 +5,7 @@ use Rattle.pfs_board.specs.declared.view.Entered.{Entered}
 use Rattle.pfs_board.specs.declared.view.Finished.{Finished}
 use Rattle.pfs_board.specs.declared.view.Sight.{Sight}
 use Rattle.pfs_board.specs.History.{Some_of}
-use Rattle.pfs_levels.specs.Calls.{Call, Adds, Rings, Reads, Loads, Draws, Takes, Puts, Frees, Sets, Enters, Leaves, Start, Opening, action_in, after_in, label_in, hand_in}
+use Rattle.pfs_levels.specs.Calls.{Call, Adds, Rings, Reads, Loads, Draws, Takes, Puts, Frees, Sets, Enters, Leaves, Meets, Start, Opening, action_in, after_in, label_in, hand_in}
 use Rattle.pfs_levels.specs.Contents.{merged}
 use Rattle.pfs_levels.specs.Order.{top_in}
 use Rattle.pfs_levels.specs.declared.answers.Added.TheVariants.{Counted, Held}
@@ -13,6 +13,7 @@ use Rattle.pfs_levels.specs.declared.answers.RingPut.TheVariants.{Done, Busy, La
 use Rattle.pfs_rows.specs.declared.table.Seen.TheVariants.{Whole, Free}
 use Rattle.pfs_rows.specs.declared.table.Seen.TheVariants as sees
 use Rattle.pfs_switches.specs.declared.view.Loaded.{Loaded}
+use Rattle.pfs_switches.specs.declared.view.Met.{Met}
 use Rattle.pfs_tickets.specs.declared.view.Drawn.{Drawn}
 
 -- the change was made by the seat that began so, in this action or 0, and after these
@@ -34,6 +35,7 @@ last_found (Rings at content answer ∷ calls) row = last_found calls row
 last_found (Reads at seen ∷ calls) row = last_found calls row
 last_found (Loads at version flags ∷ calls) row = last_found calls row
 last_found (Draws kind ticket ∷ calls) row = last_found calls row
+last_found (Meets versions ∷ calls) row = last_found calls row
 last_found (Puts at content version ∷ calls) row = last_found calls row
 last_found (Frees at version ∷ calls) row = last_found calls row
 last_found (Sets at flags version ∷ calls) row = last_found calls row
@@ -59,6 +61,7 @@ IsTied start (Rings row content (Late ticket) ∷ calls) made = IsTied start cal
 IsTied start (Reads row seen ∷ calls) made = IsTied start calls made
 IsTied start (Loads at version flags ∷ calls) made = IsTied start calls made
 IsTied start (Draws kind ticket ∷ calls) made = IsTied start calls made
+IsTied start (Meets versions ∷ calls) made = IsTied start calls made
 IsTied start (Takes row version found ∷ calls) made = (0 < row) × (hand_in calls row ≡ None) × IsTied start calls made
 IsTied start (Puts row content version ∷ calls) [] = ⊥
 IsTied start (Puts row content version ∷ calls) (change ∷ made) = (0 < row)
@@ -96,11 +99,35 @@ AreLoaded start (Adds row amount answer ∷ calls) loads = AreLoaded start calls
 AreLoaded start (Rings row content answer ∷ calls) loads = AreLoaded start calls loads
 AreLoaded start (Reads row seen ∷ calls) loads = AreLoaded start calls loads
 AreLoaded start (Draws kind ticket ∷ calls) loads = AreLoaded start calls loads
+AreLoaded start (Meets versions ∷ calls) loads = AreLoaded start calls loads
 AreLoaded start (Takes row version found ∷ calls) loads = AreLoaded start calls loads
 AreLoaded start (Puts row content version ∷ calls) loads = AreLoaded start calls loads
 AreLoaded start (Frees row version ∷ calls) loads = AreLoaded start calls loads
 AreLoaded start (Enters label labels ∷ calls) loads = AreLoaded start calls loads
 AreLoaded start (Leaves ∷ calls) loads = AreLoaded start calls loads
+
+-- The seat's meets with the writer are those of the calls, in their order, each with the versions that it brought. A
+-- set met the writer before, when the word was one version lower, and behind it
+abbrev pub AreMet : Start → List Call → List Met → Type 0
+AreMet start [] meets = meets ≡ []
+AreMet start (Meets versions ∷ calls) [] = ⊥
+AreMet start (Meets versions ∷ calls) (m ∷ meets) = (m.by ≡ start.number) × (m.versions ≡ versions)
+    × AreMet start calls meets
+AreMet start (Sets at flags version ∷ calls) [] = ⊥
+AreMet start (Sets at flags version ∷ calls) (m ∷ []) = ⊥
+AreMet start (Sets at flags version ∷ calls) (behind ∷ before ∷ meets) = (behind.by ≡ start.number)
+    × (slice_index behind.versions at ≡ version) × (before.by ≡ start.number)
+    × (slice_index before.versions at + 1 ≡ version) × AreMet start calls meets
+AreMet start (Adds row amount answer ∷ calls) meets = AreMet start calls meets
+AreMet start (Rings row content answer ∷ calls) meets = AreMet start calls meets
+AreMet start (Reads row seen ∷ calls) meets = AreMet start calls meets
+AreMet start (Loads at version flags ∷ calls) meets = AreMet start calls meets
+AreMet start (Draws kind ticket ∷ calls) meets = AreMet start calls meets
+AreMet start (Takes row version found ∷ calls) meets = AreMet start calls meets
+AreMet start (Puts row content version ∷ calls) meets = AreMet start calls meets
+AreMet start (Frees row version ∷ calls) meets = AreMet start calls meets
+AreMet start (Enters label labels ∷ calls) meets = AreMet start calls meets
+AreMet start (Leaves ∷ calls) meets = AreMet start calls meets
 
 -- the seat's tickets are those of the calls, in their order
 abbrev pub AreDrawn : Start → List Call → List Drawn → Type 0
@@ -108,6 +135,7 @@ AreDrawn start [] tickets = tickets ≡ []
 AreDrawn start (Draws kind ticket ∷ calls) [] = ⊥
 AreDrawn start (Draws kind ticket ∷ calls) (drawn ∷ tickets) = (drawn.by ≡ start.number) × (drawn.kind ≡ kind)
     × (drawn.ticket ≡ ticket) × AreDrawn start calls tickets
+AreDrawn start (Meets versions ∷ calls) tickets = AreDrawn start calls tickets
 AreDrawn start (Adds row amount answer ∷ calls) tickets = AreDrawn start calls tickets
 AreDrawn start (Rings row content answer ∷ calls) tickets = AreDrawn start calls tickets
 AreDrawn start (Reads row seen ∷ calls) tickets = AreDrawn start calls tickets
@@ -179,6 +207,7 @@ IsShown start reads sights entered calls (Enters label labels) =
     Some_of (λ (e : Entered). (e.by ≡ start.number) × (e.action ≡ length labels + 1) × (e.labels ≡ labels)) entered
 IsShown start reads sights entered calls (Loads at version flags) = Unit {0}
 IsShown start reads sights entered calls (Draws kind ticket) = Unit {0}
+IsShown start reads sights entered calls (Meets versions) = Unit {0}
 IsShown start reads sights entered calls (Takes row version found) = Unit {0}
 IsShown start reads sights entered calls (Puts row content version) = Unit {0}
 IsShown start reads sights entered calls (Frees row version) = Unit {0}

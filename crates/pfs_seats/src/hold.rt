@@ -2,9 +2,9 @@
 
 ghost use Rattle.std.specs.Prelude.{◌≡◌, ◌≤◌, ℕ, List, Option, Some, None, IfSome, IsSome, length, option_map};
 ghost use Rattle.std.proofs.Props.{props};
-ghost use Rattle.pfs_levels.specs.Calls.{Call, Opening};
+ghost use Rattle.pfs_levels.specs.Calls.{Call, Opening, Goes};
 ghost use Rattle.pfs_board.specs.Knowledge.{corner};
-ghost use Rattle.pfs_seats.specs.Pen.{words_of};
+ghost use Rattle.pfs_seats.specs.Pen.{meeting, words_of};
 ghost use Rattle.pfs_seats.specs.Reached.{in_hand};
 
 use crate::rows::BoardRows;
@@ -27,8 +27,8 @@ pub struct BoardHold<'a, 'b, R: Wait, V: Kept> {
 }
 
 impl<'a, 'b, R: Wait, V: Kept> BoardHold<'a, 'b, R, V> {
-    /// A hold over an actor's store. It may set words where it is lent their writer, which only an action is, and
-    /// whom the actor's seat meets here.
+    /// A hold over an actor's store. It may set words where it is lent their writer, which only an action is. The
+    /// actor meets it here, as one call more, and has then seen each word at the version that the writer knows.
     pub fn new(
         rt: &'a R,
         rows: &'a mut BoardRows<'b, V>,
@@ -38,7 +38,7 @@ impl<'a, 'b, R: Wait, V: Kept> BoardHold<'a, 'b, R, V> {
         requires inside { IfSome writer (λ _. IsSome (⟦<BoardRows<'b, V> as Rows>⟧.hand rows.old 0)) }
         requires same { IfSome writer (λ w. (start : Opening) × (calls : List Call)
             × (⟦<BoardRows<'b, V> as Rows>⟧.reached rows.old start calls) × (w.switches ≡ start.switches.table)) }
-        ensures call { (start : Opening) → (calls : List Call) → ⟦<BoardRows<'b, V> as Rows>⟧.reached rows.old start calls → ⟦<BoardHold<'a, 'b, R, V> as Rows>⟧.reached result start calls }
+        ensures call { Goes (⟦<BoardRows<'b, V> as Rows>⟧.reached rows.old) (⟦<BoardHold<'a, 'b, R, V> as Rows>⟧.reached result) (meeting writer) }
         ensures left { ⟦<BoardHold<'a, 'b, R, V> as Rows>⟧.left result ≡ ⟦<BoardRows<'b, V> as Rows>⟧.left rows.old }
         ensures draws { ⟦<BoardHold<'a, 'b, R, V> as Rows>⟧.draws result ≡ ⟦<BoardRows<'b, V> as Rows>⟧.draws rows.old }
         ensures hand { (r : ℕ) → ⟦<BoardHold<'a, 'b, R, V> as Rows>⟧.hand result r ≡ ⟦<BoardRows<'b, V> as Rows>⟧.hand rows.old r }

@@ -2,7 +2,7 @@
 
 ghost use Rattle.std.specs.Prelude.{◌≡◌, ◌<◌, ◌≤◌, ◌+◌, ◌^◌, ◌==◌, ◌∷◌, [], ℕ, List, Option, Some, None, IsSome, if◌then◌else◌, length, slice_index};
 ghost use Rattle.pfs_board.specs.Knowledge.{corner, held};
-ghost use Rattle.pfs_levels.specs.Calls.{Call, Opening, Goes, Takes, Puts, Frees, Sets, IsRow};
+ghost use Rattle.pfs_levels.specs.Calls.{Call, Opening, Goes, Takes, Puts, Frees, Sets, Meets, IsRow};
 ghost use Rattle.pfs_seats.specs.Reached.{IsReached, in_hand};
 ghost use Rattle.pfs_switches.specs.Knowledge.{was_set};
 
@@ -71,7 +71,7 @@ impl<'a, V: Kept> BoardRows<'a, V> {
         requires same { writer.switches ≡ self.old.switches.now.id }
         requires wide { 160 ≤ length writer.view.seen }
         ensures writer { result ≡ writer }
-        ensures call { (start : Opening) → (calls : List Call) → ⟦<BoardRows<'a, V> as Rows>⟧.reached self.old start calls → ⟦<BoardRows<'a, V> as Rows>⟧.reached self.new start calls }
+        ensures call { Goes (⟦<BoardRows<'a, V> as Rows>⟧.reached self.old) (⟦<BoardRows<'a, V> as Rows>⟧.reached self.new) (Meets writer.view.seen ∷ []) }
         ensures left { ⟦<BoardRows<'a, V> as Rows>⟧.left self.new ≡ ⟦<BoardRows<'a, V> as Rows>⟧.left self.old }
         ensures draws { ⟦<BoardRows<'a, V> as Rows>⟧.draws self.new ≡ ⟦<BoardRows<'a, V> as Rows>⟧.draws self.old }
         ensures hand { (r : ℕ) → ⟦<BoardRows<'a, V> as Rows>⟧.hand self.new r ≡ ⟦<BoardRows<'a, V> as Rows>⟧.hand self.old r }

@@ -61,7 +61,7 @@ impl<'a, V: Kept> BoardRows<'a, V> {
         requires sizes { (17 * 14242 ≤ length board.now.start) × (161 ≤ length switches.now.start)
             × (14242 ≤ length seats.board.view.rows) × (160 ≤ length seats.switches.view.seen) }
         requires fresh { IsFresh seats.board.view × (seats.switches.view.loads ≡ [])
-            × (seats.tickets.view.tickets ≡ []) }
+            × (seats.tickets.view.tickets ≡ []) × (seats.switches.view.meets ≡ []) }
         ensures reached { (flags : List ℕ) → seats.switches.view.start ≡ opening_words flags → ⟦<BoardRows<'a, V> as Rows>⟧.reached result
             (opening_of board.now.id switches.now.id tickets.now flags seats.board.view seats.switches.view
             seats.tickets.view) [] }
