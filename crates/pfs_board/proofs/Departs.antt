@@ -108,8 +108,10 @@ module _ {K : Type 0} (means : K → List Label → Type 0) (start : List ℕ) w
     -- a word that was seen since the action began is at none below what the action did
     known_now : (q m : ℕ) → 0 ≢ q → (corner v q).fresh ≡ true → (corner v q).last ≡ Some m → IsKnown start u q m v.action v.base
     known_now q m n fresh is = let f = r.seats id v at live in let o = later_now.known q m v.after v.base ((f.corners q).known m fresh is) in let last : IsLast start t id q (Some m) = subst (IsLast start t id q) is (f.corners q).last in let e = version_now in let number = within_action.0 in let after = within_action.4 in record {
+      state = o.state;
       below = o.below;
       free = o.free;
+      opened = o.opened;
       floor = record {
         ended = omega arith;
         split_at = o.floor.split_at;

@@ -10,7 +10,7 @@ use Rattle.pfs_board.specs.declared.view.Change.{Change}
 use Rattle.pfs_board.specs.declared.view.Corner.{Corner}
 use Rattle.pfs_board.specs.declared.view.Label.{Label}
 use Rattle.pfs_board.specs.declared.view.View.{View}
-use Rattle.pfs_board.specs.History.{total, Each, lock_at, version, labels_of, oldest, level, Floor}
+use Rattle.pfs_board.specs.History.{total, Each, lock_at, version, labels_of, oldest, shows_to, Floor}
 use Rattle.pfs_board.specs.Knowledge.{newcomer, corner, is_holding, IsWhole, root, spent}
 use Rattle.pfs_board.specs.Rule.{Moment, moment, lock, now, Fits, IsRow, Joint, Ruled}
 use Rattle.pfs_board.specs.Opening.{IsOpening}
@@ -138,11 +138,11 @@ module _ {K : Type 0} (means : K → List Label → Type 0) (start : List ℕ) w
       numbers_end = let l = length_labels r.log in each_both (λ (p : Change). p.action ≤ version r.log 0 + 1) (λ (p : Change). p.action ≡ version r.log 0 + 1 → (lock t 0 % 4 ≡ 1) × (p.by ≡ t.holder 0)) (λ (p : Change). p.action ≤ length (labels_of r.log))
           (λ p below current. dite (ℕ_discrete p.action (version r.log 0 + 1)) (λ e. absurd (not_dirty (current e).0)) (λ n. omega arith)) r.log (actions_below start r.log r.joint.chain) r.joint.current
 
-      floors_end : Each (λ (p : Change). Floor level r.log r.had p.row (level p) p.after p.base) r.log
-      floors_end = each_both (λ (p : Change). p.after ≤ version r.log 0) (λ (p : Change). Each (λ (e : Change). e.row ≡ p.row → 0 < e.action → e.action ≤ p.after → level e ≤ level p) r.log × (p.base ≤ length r.had) × Each (λ (e : Change). e.row ≡ p.row → level e ≤ level p) (oldest p.base r.had))
-          (λ (p : Change). Floor level r.log r.had p.row (level p) p.after p.base) (λ p ends x. record { ended = ends; split_at = x.1; actions = x.0; first = x.2 }) r.log (afters_below start r.log r.joint.chain)
-          (each_both (λ (p : Change). Each (λ (e : Change). e.row ≡ p.row → 0 < e.action → e.action ≤ p.after → level e ≤ level p) r.log) (λ (p : Change). (p.base ≤ length r.had) × Each (λ (e : Change). e.row ≡ p.row → level e ≤ level p) (oldest p.base r.had))
-          (λ (p : Change). Each (λ (e : Change). e.row ≡ p.row → 0 < e.action → e.action ≤ p.after → level e ≤ level p) r.log × (p.base ≤ length r.had) × Each (λ (e : Change). e.row ≡ p.row → level e ≤ level p) (oldest p.base r.had))
+      floors_end : Each (λ (p : Change). Floor (shows_to p) r.log r.had p.row p.version p.after p.base) r.log
+      floors_end = each_both (λ (p : Change). p.after ≤ version r.log 0) (λ (p : Change). Each (λ (e : Change). e.row ≡ p.row → 0 < e.action → e.action ≤ p.after → shows_to p e ≤ p.version) r.log × (p.base ≤ length r.had) × Each (λ (e : Change). e.row ≡ p.row → shows_to p e ≤ p.version) (oldest p.base r.had))
+          (λ (p : Change). Floor (shows_to p) r.log r.had p.row p.version p.after p.base) (λ p ends x. record { ended = ends; split_at = x.1; actions = x.0; first = x.2 }) r.log (afters_below start r.log r.joint.chain)
+          (each_both (λ (p : Change). Each (λ (e : Change). e.row ≡ p.row → 0 < e.action → e.action ≤ p.after → shows_to p e ≤ p.version) r.log) (λ (p : Change). (p.base ≤ length r.had) × Each (λ (e : Change). e.row ≡ p.row → shows_to p e ≤ p.version) (oldest p.base r.had))
+          (λ (p : Change). Each (λ (e : Change). e.row ≡ p.row → 0 < e.action → e.action ≤ p.after → shows_to p e ≤ p.version) r.log × (p.base ≤ length r.had) × Each (λ (e : Change). e.row ≡ p.row → shows_to p e ≤ p.version) (oldest p.base r.had))
           (λ p x y. (x, y.0, y.1)) r.log (above_actions start r.log r.joint.chain) r.joint.floors)
 
       pub ends : (ws : List ℕ) → s.words ≡ ws → History start ws v

@@ -109,8 +109,10 @@ module _ {K : Type 0} (means : K → List Label → Type 0) (start : List ℕ) w
           last = each_map (λ (p : Change). p.row ≡ 0 → version_of p ≤ version r.log 0) (λ (p : Change). p.row ≡ 0 → p.by ≡ id → p.version ≤ (4 * length L + 1) / 4) (λ p b a _. let m = b a in omega arith) r.log (below_all start r.log 0 r.joint.chain);
           tied = λ j xs a. cc;
           known = λ n fresh a. let is : 4 * length L + 1 ≡ n = some_same (4 * length L + 1) n a in let q_is : n / 4 ≡ version r.log 0 = omega arith in record {
+            state = omega arith;
             below = omega arith;
             free = λ z. absurd (omega arith);
+            opened = λ z. absurd (omega arith);
             floor = subst (λ z. Floor version_of r.log r.had 0 z (length L) v.base) (sym q_is) (floor_new version_of r.log r.had 0 (version r.log 0) (length L) v.base (omega arith) f.split_at (sub means start s r) (below_all start r.log 0 r.joint.chain));
           };
           alone = λ _ n fresh a. lock_now ∙ some_same (4 * length L + 1) n a;

@@ -7,7 +7,7 @@ use mathlib.Core.Logic.{dite}
 use native.Mathlib.Decide.{ℕ_discrete}
 use Rattle.pfs_board.specs.declared.view.Change.{Change}
 use Rattle.pfs_board.specs.declared.view.Label.{Label}
-use Rattle.pfs_board.specs.History.{total, Each, Some_of, lock_at, step_of, version, stands, stood, is_free, IsFreedAt, labels_of, Follows, IsChain, Rises, oldest, level, version_of, Floor}
+use Rattle.pfs_board.specs.History.{total, Each, Some_of, lock_at, step_of, version, stands, stood, is_free, IsFreedAt, labels_of, Follows, IsChain, Rises, oldest, level, version_of, shows_to, Floor}
 
 pub if_true : {A : Type 0} (b : Bool) (x y : A) → b ≡ true → cond b x y ≡ x
 if_true b x y e = subst (λ c. cond c x y ≡ x) (sym e) refl
@@ -299,15 +299,26 @@ module _ (start : List ℕ) where
   level_now : (p : Change) (ps : List Change) → Follows start ps p → level p ≡ version ps p.row + 1
   level_now p ps f = let n = f.numbered in ⊎_elim (λ g. let l = level_put p g in let s = step_put p g in omega arith) (λ g. let l = level_release p g in let s = step_release p g in omega arith) (either_way p.puts)
 
+  -- an entry is not below those before it
+  pub shows_next : (p e : Change) (v : ℕ) → e.version ≤ v → p.version ≡ v + step_of p → shows_to p e ≤ p.version
+  shows_next p e v low at = ⊎_elim
+      (λ g. let s = step_put p g in let l = level_next start e in let is : shows_to p e ≡ level e = if_true p.puts (level e) e.version g in omega (arith, s, l, is, at, low))
+      (λ g. let s = step_release p g in let is : shows_to p e ≡ e.version = if_false p.puts (level e) e.version g in omega (arith, s, is, at, low)) (either_way p.puts)
+
+  shows_self : (p : Change) → shows_to p p ≤ p.version
+  shows_self p = ⊎_elim
+      (λ g. let l = level_put p g in let is : shows_to p p ≡ level p = if_true p.puts (level p) p.version g in omega (arith, l, is))
+      (λ g. let is : shows_to p p ≡ p.version = if_false p.puts (level p) p.version g in omega (arith, is)) (either_way p.puts)
+
   -- no entry is below what the actions did that had ended before it
-  pub above_actions : (log : List Change) → IsChain start log → Each (λ (p : Change). Each (λ (e : Change). e.row ≡ p.row → 0 < e.action → e.action ≤ p.after → level e ≤ level p) log) log
+  pub above_actions : (log : List Change) → IsChain start log → Each (λ (p : Change). Each (λ (e : Change). e.row ≡ p.row → 0 < e.action → e.action ≤ p.after → shows_to p e ≤ p.version) log) log
   above_actions [] c = tt
-  above_actions (q ∷ ps) c = let top = level_now q ps c.0 in (
+  above_actions (q ∷ ps) c = (
     (
-      (λ _ _ _. omega arith),
-      each_map (λ (e : Change). e.row ≡ q.row → version_of e ≤ version ps q.row) (λ (e : Change). e.row ≡ q.row → 0 < e.action → e.action ≤ q.after → level e ≤ level q) (λ e b h _ _. let m = b h in let l = level_next start e in omega arith) ps (below_all start ps q.row c.1),
+      (λ _ _ _. shows_self q),
+      each_map (λ (e : Change). e.row ≡ q.row → version_of e ≤ version ps q.row) (λ (e : Change). e.row ≡ q.row → 0 < e.action → e.action ≤ q.after → shows_to q e ≤ q.version) (λ e b h _ _. shows_next q e (version ps q.row) (b h) c.0.numbered) ps (below_all start ps q.row c.1),
     ),
-    each_both (λ (p : Change). p.after ≤ version ps 0) (λ (p : Change). Each (λ (e : Change). e.row ≡ p.row → 0 < e.action → e.action ≤ p.after → level e ≤ level p) ps)
-        (λ (p : Change). Each (λ (e : Change). e.row ≡ p.row → 0 < e.action → e.action ≤ p.after → level e ≤ level p) (q ∷ ps))
+    each_both (λ (p : Change). p.after ≤ version ps 0) (λ (p : Change). Each (λ (e : Change). e.row ≡ p.row → 0 < e.action → e.action ≤ p.after → shows_to p e ≤ p.version) ps)
+        (λ (p : Change). Each (λ (e : Change). e.row ≡ p.row → 0 < e.action → e.action ≤ p.after → shows_to p e ≤ p.version) (q ∷ ps))
         (λ p b rest. ((λ _ some_action low. absurd (⊎_elim (λ z. omega arith) (λ z. omega arith) c.0.inside)), rest)) ps (afters_below ps c.1) (above_actions ps c.1),
   )

@@ -17,11 +17,11 @@ use Rattle.pfs_board.specs.declared.view.Sight.{Sight}
 use Rattle.pfs_board.specs.declared.view.Stage.{Stage}
 use Rattle.pfs_board.specs.declared.view.Stage.TheVariants.{Idle, Reading, Holding}
 use Rattle.pfs_board.specs.declared.view.View.{View}
-use Rattle.pfs_board.specs.History.{all_changes, total, Each, lock_at, word_at, version, stood, IsFreedAt, level, version_of, Floor}
+use Rattle.pfs_board.specs.History.{all_changes, total, Each, lock_at, word_at, version, stood, is_free, IsFreedAt, level, version_of, Floor}
 use Rattle.pfs_board.specs.Knowledge.{newcomer, corner, is_holding, held, IsWhole, turned, sighted, begun, sight_of, read_of, version_read, words_read, version_held, found_in, peeked, restaged, tried, looked, finished_at, finished, weighed, told}
 use Rattle.pfs_board.specs.Rule.{Moment, lock, now, Knows, IsRead, IsKnown, IsSeen, IsSight, IsLast, FitsRow, Fits, Ruled}
 use Rattle.pfs_board.specs.Plays.{IsLook, tries, looks, finishes, gathers, recalls, weighs, tells}
-use Rattle.pfs_board.proofs.HistoryFacts.{if_true, if_false, each_map, version_below_total, stood_now, below_all, level_all, freed_now, never_opened, floor_new}
+use Rattle.pfs_board.proofs.HistoryFacts.{if_true, if_false, each_map, version_below_total, stood_now, below_all, level_all, freed_now, freed_last, never_opened, floor_new}
 use Rattle.pfs_board.proofs.ViewFacts.{total_one, held_set, held_some, corners_set, one}
 use Rattle.pfs_board.proofs.Keeps.{true_not_false, no_change, fits_after, inside_same, at_moment, whole_is_one, unmoved, same_everywhere}
 
@@ -56,7 +56,9 @@ module _ {K : Type 0} (means : K → List Label → Type 0) (start : List ℕ) w
 
     pub known_now : (q after base : ℕ) → lock_at q < length start → after ≤ version r.log 0 → base ≤ length r.had → IsKnown start here q (lock here q) after base
     known_now q after base inside a b = let w = r.rows q inside in let e = w.counts in record {
+      state = w.state;
       below = omega arith;
+      opened = λ z. never_opened start r.log q r.joint.chain (omega arith) (w.allocated (omega arith));
       free = λ z. subst (λ k. IsFreedAt start r.log q k) (sym w.counts) (freed_now start r.log q r.joint.chain (w.free z));
       floor = subst (λ k. Floor version_of r.log r.had q k after base) (sym w.counts) (floor_new version_of r.log r.had q (version r.log q) after base a b sub (below_all start r.log q r.joint.chain));
     }
@@ -110,15 +112,26 @@ module _ {K : Type 0} (means : K → List Label → Type 0) (start : List ℕ) w
         (fits_after start id here here v w q c f record { rows_are = refl; number_same = refl; start_same = refl; after_same = refl; base_same = refl; whole_before = λ z. z } within (no_change start id here) (λ p _. same_everywhere means start here p)
         (λ p k _ l. l) f.some_left fits (sighted_row id q v.after v.base (IsWhole v) st inside f.ended f.split_at knows tied) (inside_same start here here v w record { action_is = refl; after_is = refl; lent_is = refl; labels_is = refl; whole_then = λ z. z } refl refl (same 0) f.inside) each_read each_sight f.entered)
 
-    pub sight_now : (id q : ℕ) (v : View) → get_elem? s.views id ≡ some v → v.live ≡ true → lock_at q < length start → is_holding (corner v q).stage ≡ false → IsSight start here (sight_of v q (lock here q) (lock here q))
-    sight_now id q v at live inside not_held = let f = r.seats id v at live in
+    -- a row that was seen free is allocated again at a higher version alone
+    pub again : (id q old : ℕ) (v : View) → get_elem? s.views id ≡ some v → v.live ≡ true → lock_at q < length start → (corner v q).fresh ≡ true → (corner v q).last ≡ Some old
+        → old % 4 ≡ 0 → lock here q % 4 ≡ 2 → old / 4 < lock here q / 4
+    again id q old v at live inside fresh last free now_there = let k = ((r.seats id v at live).corners q).known old fresh last in let w = r.rows q inside in let counts = w.counts in let below = k.below in
+        dite (ℕ_discrete (old / 4) (version r.log q))
+        (λ same. let is : is_free start r.log q ≡ true = freed_last start r.log q r.joint.chain (subst (IsFreedAt start r.log q) same (k.free free)) in let not : is_free start r.log q ≡ false = w.allocated now_there in let no : true ≡ false = sym is ∙ not in absurd (cc))
+        (λ differ. omega arith)
+
+    pub sight_now : (id q : ℕ) (v : View) → get_elem? s.views id ≡ some v → v.live ≡ true → lock_at q < length start → is_holding (corner v q).stage ≡ false → lock here q % 4 ≢ 2 → IsSight start here (sight_of v q (lock here q) (lock here q))
+    sight_now id q v at live inside not_held unread = let f = r.seats id v at live in
         let seen : IsSeen start here v.number q (lock here q) v.after v.base = subst (λ z. IsSeen start here z q (lock here q) v.after v.base) (sym f.number_is) (seen_now id q v at inside not_held f.ended f.split_at) in
-        record { one = seen; two = seen; between = λ differ _. absurd (differ refl) }
+        record { one = seen; two = seen; shape = ((λ _. unread), (λ _. refl)); order = omega arith; again = λ x y. absurd (omega arith); between = λ differ _. absurd (differ refl) }
 
     -- a word that is not dirty, seen before as the last one, and now another
-    pub sight_then : (id q k : ℕ) (v : View) → get_elem? s.views id ≡ some v → v.live ≡ true → lock_at q < length start → is_holding (corner v q).stage ≡ false → k % 4 ≢ 1 → (corner v q).fresh ≡ true → (corner v q).last ≡ Some k
+    pub sight_then : (id q k : ℕ) (v : View) → get_elem? s.views id ≡ some v → v.live ≡ true → lock_at q < length start → is_holding (corner v q).stage ≡ false → k % 4 ≢ 1 → lock here q ≢ k → (corner v q).fresh ≡ true → (corner v q).last ≡ Some k
         → IsSight start here (sight_of v q k (lock here q))
-    sight_then id q k v at live inside not_held clean fresh last = let f = r.seats id v at live in let c = f.corners q in record {
+    sight_then id q k v at live inside not_held clean differs fresh last = let f = r.seats id v at live in let c = f.corners q in let known = c.known k fresh last in let w = r.rows q inside in let below = known.below in let counts = w.counts in record {
+      order = omega arith;
+      again = again id q k v at live inside fresh last;
+      shape = ((λ z. absurd (differs z)), (λ z. absurd (clean z)));
       one = record { known = c.known k fresh last; dirty = λ z. absurd (clean z) };
       two = subst (λ z. IsSeen start here z q (lock here q) v.after v.base) (sym f.number_is) (seen_now id q v at inside not_held f.ended f.split_at);
       between = λ _ _. each_map (λ (p : Change). p.row ≡ q → p.by ≡ id → p.version ≤ k / 4) (λ (p : Change). p.row ≡ q → p.by ≡ v.number → p.puts ≡ true → (p.version ≤ k / 4) ⊎ (lock here q / 4 < p.version))
@@ -133,7 +146,7 @@ module _ {K : Type 0} (means : K → List Label → Type 0) (start : List ℕ) w
     tt,
     dite (ℕ_discrete (n % 4) 1)
         (λ e. let same = if_true (eqb (n % 4) 1) (sight_of v q n n ∷ v.sights) v.sights (eq-eqb (n % 4) 1 e) in
-        sees s r id q (v.looks + 1) me.1 v Idle v.reads w.sights at live inside not_held refl tt (λ k xs is. cc) (r.seats id v at live).reads (subst (Each (IsSight start t)) (sym same) (sight_now s r id q v at live inside not_held, (r.seats id v at live).sights)))
+        sees s r id q (v.looks + 1) me.1 v Idle v.reads w.sights at live inside not_held refl tt (λ k xs is. cc) (r.seats id v at live).reads (subst (Each (IsSight start t)) (sym same) (sight_now s r id q v at live inside not_held (λ z. omega arith), (r.seats id v at live).sights)))
         (λ e. let same = if_false (eqb (n % 4) 1) (sight_of v q n n ∷ v.sights) v.sights (ne_eqb (n % 4) 1 e) in
         sees s r id q (v.looks + 1) me.1 v Idle v.reads w.sights at live inside not_held refl tt (λ k xs is. cc) (r.seats id v at live).reads (subst (Each (IsSight start t)) (sym same) (r.seats id v at live).sights)),
     λ p e. let is : q ≡ p = omega arith in subst (λ z. (◌≡◌ {A = M} (w, me.1) (tried v z n, me.1)) × IsLook v n z) is (refl, look s r id q v at live inside),
@@ -151,7 +164,7 @@ module _ {K : Type 0} (means : K → List Label → Type 0) (start : List ℕ) w
         (λ k xs is. let g : k ≡ n / 4 = ap version_read (sym is ∙ start_is) in omega arith) f.reads (subst (Each (IsSight start t)) (sym same) f.sights))
         (λ e. let same = if_false (eqb (n % 4) 2) v.sights (sight_of v q n n ∷ v.sights) (ne_eqb (n % 4) 2 e) in let start_is = begun_not n e in
         sees s r id q (v.looks + 1) me.1 v (begun n) v.reads w.sights at live inside not_held (ap is_holding start_is) (subst (Knows start t id q) (sym start_is) tt)
-        (λ k xs is. let g : Reading k xs ≡ Idle = sym is ∙ start_is in cc) f.reads (subst (Each (IsSight start t)) (sym same) (sight_now s r id q v at live inside not_held, f.sights))),
+        (λ k xs is. let g : Reading k xs ≡ Idle = sym is ∙ start_is in cc) f.reads (subst (Each (IsSight start t)) (sym same) (sight_now s r id q v at live inside not_held e, f.sights))),
     λ p e. let is : q ≡ p = omega arith in subst (λ z. (◌≡◌ {A = M} (w, me.1) (looked v z n, me.1)) × IsLook v n z) is (refl, look s r id q v at live inside),
   )
 
@@ -179,7 +192,7 @@ module _ {K : Type 0} (means : K → List Label → Type 0) (start : List ℕ) w
             (λ e. subst (λ (x : View). Rule (stepped s (lock_at q) (get_or s.words (lock_at q) 0) id me.1 x keeps)) (sym (if_true (eqb n (4 * k + 2)) w1 w2 (eq-eqb n (4 * k + 2) e)))
             (sees s r id q (v.looks + 1) me.1 v Idle w1.reads v.sights at live inside not_held refl tt (λ k xs is. cc) (read_now s r id q k xs v at live inside (subst (Knows start t id q) reading (f.corners q).knows) wide e, f.reads) f.sights))
             (λ e. subst (λ (x : View). Rule (stepped s (lock_at q) (get_or s.words (lock_at q) 0) id me.1 x keeps)) (sym (if_false (eqb n (4 * k + 2)) w1 w2 (ne_eqb n (4 * k + 2) e)))
-            (sees s r id q (v.looks + 1) me.1 v Idle v.reads w2.sights at live inside not_held refl tt (λ k xs is. cc) f.reads (sight_then s r id q (4 * k + 2) v at live inside not_held (λ z. omega arith) tied.0 tied.1, f.sights))),
+            (sees s r id q (v.looks + 1) me.1 v Idle v.reads w2.sights at live inside not_held refl tt (λ k xs is. cc) f.reads (sight_then s r id q (4 * k + 2) v at live inside not_held (λ z. omega arith) e tied.0 tied.1, f.sights))),
         λ p e. let is : q ≡ p = omega arith in subst (λ z. (◌≡◌ {A = M} (finished_at v q n k xs, me.1) (finished v z n, me.1)) × IsLook v n z) is (ap (λ (x : View). (x, me.1)) (sym same), look s r id q v at live inside),
       )
 

@@ -15,14 +15,14 @@ use Rattle.pfs_board.specs.declared.view.Label.{Label}
 use Rattle.pfs_board.specs.declared.view.Stage.{Stage}
 use Rattle.pfs_board.specs.declared.view.Stage.TheVariants.{Idle, Reading, Holding}
 use Rattle.pfs_board.specs.declared.view.View.{View}
-use Rattle.pfs_board.specs.History.{lock_at, word_at, version, stands, is_free, IsFreedAt, version_of, Floor}
+use Rattle.pfs_board.specs.History.{lock_at, word_at, version, stands, version_of, Floor}
 use Rattle.pfs_board.specs.Knowledge.{newcomer, corner, is_holding, held, IsWhole, turned, sighted, stored, restaged, took, missed}
 use Rattle.pfs_board.specs.Rule.{Moment, lock, now, Knows, IsRead, IsKnown, IsSeen, IsSight, IsEntered, IsLast, FitsRow, IsRow, IsCurrent, Ruled}
 use Rattle.pfs_board.specs.Plays.{IsLook, takes, stores}
-use Rattle.pfs_board.proofs.HistoryFacts.{if_true, if_false, each_map, below_all, floor_new, freed_last}
+use Rattle.pfs_board.proofs.HistoryFacts.{if_true, if_false, each_map, below_all, floor_new}
 use Rattle.pfs_board.proofs.ViewFacts.{held_set, one, at_below}
 use Rattle.pfs_board.proofs.Keeps.{SameRow, same_knows, same_row, Later, fits_after, inside_same, moved, holders_set}
-use Rattle.pfs_board.proofs.Looks.{hold_set, here, sub, look, sees, sight_then, some_same}
+use Rattle.pfs_board.proofs.Looks.{hold_set, here, sub, look, sees, sight_then, some_same, again}
 
 -- f of 0 to n - 1
 pub listed : (ℕ → ℕ) → ℕ → List ℕ
@@ -67,7 +67,7 @@ module _ (start : List ℕ) where
   knows_set t id q i x hd mine no_read j n (Holding v found put) k = absurd (n (k.1 ∙ mine v k.0))
 
   known_set : (t : Moment) (i x : ℕ) (hd : ℕ → ℕ) (row n after base : ℕ) → IsKnown start t row n after base → IsKnown start (after_set t i x hd) row n after base
-  known_set t i x hd row n after base a = record { below = a.below; free = a.free; floor = a.floor }
+  known_set t i x hd row n after base a = record { state = a.state; below = a.below; free = a.free; opened = a.opened; floor = a.floor }
 
   seen_set : (t : Moment) (q i x : ℕ) (hd : ℕ → ℕ) → ((p : ℕ) → p ≢ q → SameRow start t (after_set t i x hd) p)
       → ((by n : ℕ) → n % 4 ≡ 1 → lock t q ≡ n → t.holder q ≢ by → (lock (after_set t i x hd) q ≡ n) × (hd q ≢ by))
@@ -91,7 +91,7 @@ module _ (start : List ℕ) where
     inside = λ j v n w k a. inside_same start t t' v v record { action_is = refl; after_is = refl; lent_is = refl; labels_is = refl; whole_then = λ z. z } refl refl refl a;
     known = known_set t i x hd;
     read = λ f a. record { below = a.below; wide = a.wide; content_is = a.content_is; opened = a.opened; floor = a.floor };
-    sight = λ y a. record { one = seen_set t q i x hd same others y.by y.row y.first y.after y.base a.one; two = seen_set t q i x hd same others y.by y.row y.second y.after y.base a.two; between = a.between };
+    sight = λ y a. record { one = seen_set t q i x hd same others y.by y.row y.first y.after y.base a.one; two = seen_set t q i x hd same others y.by y.row y.second y.after y.base a.two; shape = a.shape; order = a.order; again = a.again; between = a.between };
     entered = λ e a. record { count = a.count; later = a.later; labels_are = a.labels_are };
     had_more = omega arith;
   }
@@ -139,8 +139,10 @@ module _ {K : Type 0} (means : K → List Label → Type 0) (start : List ℕ) w
         last = each_map (λ (p : Change). p.row ≡ q → version_of p ≤ version r.log q) (λ (p : Change). p.row ≡ q → p.by ≡ id → p.version ≤ x / 4) (λ p b a _. let m = b a in omega arith) r.log (below_all start r.log q r.joint.chain);
         tied = λ j xs a. cc;
         known = λ n fresh a. let n_is : x ≡ n = some_same x n a in let q_is : n / 4 ≡ version r.log q = omega arith in record {
+          state = omega arith;
           below = omega arith;
           free = λ z. absurd (omega arith);
+          opened = λ z. absurd (omega arith);
           floor = subst (λ z. Floor version_of r.log r.had q z v.after v.base) (sym q_is) (floor_new version_of r.log r.had q (version r.log q) v.after v.base f.ended f.split_at (sub means start s r) (below_all start r.log q r.joint.chain));
         };
         alone = λ _ n fresh a. lock_now ∙ some_same x n a;
@@ -162,14 +164,6 @@ module _ {K : Type 0} (means : K → List Label → Type 0) (start : List ℕ) w
       })
       (λ n. same_row start t t' s.views (set s.views id w) p (same p n) (holders_set means start s.views id v w p at live (λ b. ap (λ (z : Corner). is_holding z.stage) (get_or-set_other v.rows q p c newcomer n) ∙ b) (r.holder p)) (r.rows p there)))
 
-  -- a row that was seen free is allocated again at a higher version alone
-  again : (s : St) (r : Rule s) (id q old : ℕ) (v : View) → get_elem? s.views id ≡ some v → v.live ≡ true → lock_at q < length start → (corner v q).fresh ≡ true → (corner v q).last ≡ Some old
-      → old % 4 ≡ 0 → lock (here means start s r) q % 4 ≡ 2 → old / 4 < lock (here means start s r) q / 4
-  again s r id q old v at live inside fresh last free now_there = let t : Moment = here means start s r in let k = ((r.seats id v at live).corners q).known old fresh last in let w = r.rows q inside in let counts = w.counts in let below = k.below in
-      dite (ℕ_discrete (old / 4) (version r.log q))
-      (λ same. let is : is_free start r.log q ≡ true = freed_last start r.log q r.joint.chain (subst (IsFreedAt start r.log q) same (k.free free)) in let not : is_free start r.log q ≡ false = w.allocated now_there in let no : true ≡ false = sym is ∙ not in absurd (cc))
-      (λ differ. omega arith)
-
   pub take_keeps : (slots id : ℕ) (me : M) (q old new : ℕ) → lock_at q < length start → 0 < q → me.0.live ≡ true → is_holding (corner me.0 q).stage ≡ false → held me.0.rows < me.0.allowance
       → (corner me.0 q).fresh ≡ true → (corner me.0 q).last ≡ Some old → old % 4 ≢ 1 → new ≡ 4 * (old / 4) + 1
       → Allows Rule slots id me (lock_at q) (λ n. either (eqb n old) new n) (takes (step slots (lock_at q) old new none) me)
@@ -182,16 +176,16 @@ module _ {K : Type 0} (means : K → List Label → Type 0) (start : List ℕ) w
         subst (λ b. Rule (stepped s (lock_at q) (either b new n) id me.1 w keeps)) (sym (eq-eqb n old hit))
             (subst (λ z. Rule (stepped s (lock_at q) z id me.1 w keeps)) (sym dirty) (taken s r id q old me.1 v at live inside above not_held room hit clean)),
         λ p e. let is : q ≡ p = omega arith in subst (λ z. (n ≡ old → (found : List ℕ) × (length found ≡ 16) × (◌≡◌ {A = M} (w, me.1) (took v z old found, me.1))) × (n ≢ old → ◌≡◌ {A = M} (w, me.1) (missed v z old n, me.1)) × IsLook v n z × (old % 4 ≡ 0 → n % 4 ≡ 2 → old / 4 < n / 4)) is
-            ((λ _. (found, length_listed (now t q) 16, refl)), (λ miss. absurd (miss hit)), seen, again s r id q old v at live inside fresh last),
+            ((λ _. (found, length_listed (now t q) 16, refl)), (λ miss. absurd (miss hit)), seen, again means start s r id q old v at live inside fresh last),
       ))
       (λ miss. let w : View = missed v q old n in (
         w,
         keeps,
         tt,
         subst (λ b. Rule (stepped s (lock_at q) (either b new n) id me.1 w keeps)) (sym (ne_eqb n old miss))
-            (sees means start s r id q (v.looks + 1) me.1 v Idle v.reads w.sights at live inside not_held refl tt (λ k xs is. cc) f.reads (sight_then means start s r id q old v at live inside not_held clean fresh last, f.sights)),
+            (sees means start s r id q (v.looks + 1) me.1 v Idle v.reads w.sights at live inside not_held refl tt (λ k xs is. cc) f.reads (sight_then means start s r id q old v at live inside not_held clean miss fresh last, f.sights)),
         λ p e. let is : q ≡ p = omega arith in subst (λ z. (n ≡ old → (found : List ℕ) × (length found ≡ 16) × (◌≡◌ {A = M} (w, me.1) (took v z old found, me.1))) × (n ≢ old → ◌≡◌ {A = M} (w, me.1) (missed v z old n, me.1)) × IsLook v n z × (old % 4 ≡ 0 → n % 4 ≡ 2 → old / 4 < n / 4)) is
-            ((λ hit. absurd (miss hit)), (λ _. refl), seen, again s r id q old v at live inside fresh last),
+            ((λ hit. absurd (miss hit)), (λ _. refl), seen, again means start s r id q old v at live inside fresh last),
       ))
 
   stored_row : (s : St) (r : Rule s) (id q i k b : ℕ) (found put : List ℕ) (v : View) → get_elem? s.views id ≡ some v → v.live ≡ true → lock_at q < length start → i < 16 → (corner v q).stage ≡ Holding k found put → length put ≡ i
@@ -214,7 +208,7 @@ module _ {K : Type 0} (means : K → List Label → Type 0) (start : List ℕ) w
         seen = o.seen;
         last = last_set start t (word_at q i) b r.holder id q (corner v q).last o.last;
         tied = λ j xs a. cc;
-        known = λ n fresh a. let z = o.known n fresh a in record { below = z.below; free = z.free; floor = z.floor };
+        known = λ n fresh a. let z = o.known n fresh a in record { state = z.state; below = z.below; free = z.free; opened = z.opened; floor = z.floor };
         alone = λ whole n fresh a. lock_same ∙ o.alone whole n fresh a;
       }
 

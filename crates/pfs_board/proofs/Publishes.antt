@@ -16,11 +16,11 @@ use Rattle.pfs_board.specs.declared.view.Sight.{Sight}
 use Rattle.pfs_board.specs.declared.view.Stage.{Stage}
 use Rattle.pfs_board.specs.declared.view.Stage.TheVariants.{Idle, Reading, Holding}
 use Rattle.pfs_board.specs.declared.view.View.{View}
-use Rattle.pfs_board.specs.History.{total, Each, lock_at, word_at, step_of, version, stands, labels_of, Follows, IsChain, oldest, level, version_of, Floor}
+use Rattle.pfs_board.specs.History.{total, Each, lock_at, word_at, step_of, version, stands, labels_of, Follows, IsChain, oldest, level, version_of, shows_to, Floor}
 use Rattle.pfs_board.specs.Knowledge.{newcomer, corner, is_holding, held, IsWhole, turned, sighted, change_of, no_label, version_held, found_in, stored_in, published_at, published, freed_at, freed}
 use Rattle.pfs_board.specs.Rule.{Moment, lock, now, Knows, IsRead, IsKnown, IsOthers, IsSeen, IsSight, IsEntered, IsLast, IsInside, FitsRow, Fits, IsRow, IsHome, IsCurrent, Joint, Ruled}
 use Rattle.pfs_board.specs.Plays.{publishes, frees}
-use Rattle.pfs_board.proofs.HistoryFacts.{if_true, if_false, either_way, each_map, version_here, version_other, version_more, stands_other, stands_put, stands_release, free_other, free_here, stood_before, below_all, labels_other, labels_more, level_put, level_release, level_next, freed_more, oldest_more, of_all, each_oldest, floor_new, floor_log, floor_had}
+use Rattle.pfs_board.proofs.HistoryFacts.{if_true, if_false, either_way, each_map, version_here, version_other, version_more, stands_other, stands_put, stands_release, free_other, free_here, stood_before, below_all, labels_other, labels_more, shows_next, freed_more, oldest_more, of_all, each_oldest, floor_new, floor_log, floor_had}
 use Rattle.pfs_board.proofs.ViewFacts.{total_set, held_set, held_some, one, at_below}
 use Rattle.pfs_board.proofs.Keeps.{SameRow, same_knows, same_row, Later, fits_after, inside_same, root_set, root_home, home_set, lent_set, spent_set, seats_set, holders_set}
 use Rattle.pfs_board.proofs.Looks.{here, sub, some_same}
@@ -94,7 +94,7 @@ module _ (start : List ℕ) (t : Moment) (id q k n : ℕ) (p : Change) (x : Leav
   floor_left f row v after base o = floor_had f t'.log t.had row v after base t'.had (had_long id p t.had) (had_old id p t.had base o.split_at) (floor_log f t.log t.had row v after base p x.follows.inside o)
 
   known_left : (row m after base : ℕ) → IsKnown start t row m after base → IsKnown start t' row m after base
-  known_left row m after base a = let b = a.below in let v = version_more p t.log row in record { below = omega arith; free = λ z. freed_more start p t.log row (m / 4) (a.free z); floor = floor_left version_of row (m / 4) after base a.floor }
+  known_left row m after base a = let b = a.below in let v = version_more p t.log row in record { state = a.state; below = omega arith; free = λ z. freed_more start p t.log row (m / 4) (a.free z); opened = a.opened; floor = floor_left version_of row (m / 4) after base a.floor }
 
   others_left : (by row m : ℕ) → m % 4 ≡ 1 → IsOthers start t by row m → IsOthers start t' by row m
   others_left by row m odd o = ⊎_elim (λ (h : (lock t row ≡ m) × (t.holder row ≢ by)). dite (ℕ_discrete row q)
@@ -109,6 +109,9 @@ module _ (start : List ℕ) (t : Moment) (id q k n : ℕ) (p : Change) (x : Leav
   sight_left y a = let b = a.two.known.below in record {
     one = seen_left y.by y.row y.first y.after y.base a.one;
     two = seen_left y.by y.row y.second y.after y.base a.two;
+    shape = a.shape;
+    order = a.order;
+    again = a.again;
     between = λ differ clean. ((λ e _ puts. let row : q ≡ y.row = sym x.row_is ∙ e in let at_row = ap (version t.log) row in let v = x.version_is in let w = x.at_version in let one_up = if_true {A = ℕ} p.puts 1 0 puts in inr (omega arith)), a.between differ clean);
   }
 
@@ -187,21 +190,18 @@ module _ {K : Type 0} (means : K → List Label → Type 0) (start : List ℕ) w
     had_sub : (h : Change → ℕ) → total h u.had ≤ total h u.log
     had_sub h = let b = sub means start s r h in had_either (λ z. total h z ≤ total h u.log) id p r.had (omega arith) (omega arith)
 
-    level_now : level p ≡ k + 1
-    level_now = let e = x.version_is in ⊎_elim (λ g. let l = level_put p g in let b = if_true {A = ℕ} p.puts 1 0 g in omega arith) (λ g. let l = level_release p g in let b = if_false {A = ℕ} p.puts 1 0 g in omega arith) (either_way p.puts)
-
-    floors_now : (p.base ≤ length u.had) × Each (λ (e : Change). e.row ≡ p.row → level e ≤ level p) (oldest p.base u.had)
-    floors_now = let f = r.seats id v at live in let b = f.split_at in let long = had_long id p r.had in let l = level_now in let at_k = x.at_version in let base = adds.base_is in
-        let below : Each (λ (e : Change). e.row ≡ q → level e ≤ k + 1) r.log = each_map (λ (e : Change). e.row ≡ q → version_of e ≤ version r.log q) (λ (e : Change). e.row ≡ q → level e ≤ k + 1) (λ e g h. let m = g h in let y = level_next start e in omega arith) r.log (below_all start r.log q r.joint.chain) in
+    floors_now : (p.base ≤ length u.had) × Each (λ (e : Change). e.row ≡ p.row → shows_to p e ≤ p.version) (oldest p.base u.had)
+    floors_now = let f = r.seats id v at live in let b = f.split_at in let long = had_long id p r.had in let at_k = x.at_version in let base = adds.base_is in
+        let top : ℕ = version r.log q in let next : p.version ≡ top + step_of p = x.version_is ∙ ap (λ z. z + step_of p) (sym at_k) in
         let small : p.base ≤ length r.had = omega arith in (
           omega arith,
-          subst (Each (λ (e : Change). e.row ≡ p.row → level e ≤ level p)) (sym (had_old id p r.had p.base small))
-              (each_map (λ (e : Change). e.row ≡ q → level e ≤ k + 1) (λ (e : Change). e.row ≡ p.row → level e ≤ level p) (λ e g h. let m = g (h ∙ x.row_is) in omega arith) (oldest p.base r.had)
-              (each_oldest (λ (e : Change). e.row ≡ q → level e ≤ k + 1) p.base r.had (of_all level q (k + 1) r.had r.log (sub means start s r) below))),
+          subst (Each (λ (e : Change). e.row ≡ p.row → shows_to p e ≤ p.version)) (sym (had_old id p r.had p.base small))
+              (each_map (λ (e : Change). e.row ≡ q → version_of e ≤ top) (λ (e : Change). e.row ≡ p.row → shows_to p e ≤ p.version) (λ e g h. shows_next start p e top (g (h ∙ x.row_is)) next) (oldest p.base r.had)
+              (each_oldest (λ (e : Change). e.row ≡ q → version_of e ≤ top) p.base r.had (of_all version_of q top r.had r.log (sub means start s r) (below_all start r.log q r.joint.chain)))),
         )
 
-    floors_then : (e : Change) → (e.base ≤ length t.had) × Each (λ (c : Change). c.row ≡ e.row → level c ≤ level e) (oldest e.base t.had) → (e.base ≤ length u.had) × Each (λ (c : Change). c.row ≡ e.row → level c ≤ level e) (oldest e.base u.had)
-    floors_then e g = let long = had_long id p r.had in let b = g.0 in (omega arith, subst (Each (λ (c : Change). c.row ≡ e.row → level c ≤ level e)) (sym (had_old id p r.had e.base b)) g.1)
+    floors_then : (e : Change) → (e.base ≤ length t.had) × Each (λ (c : Change). c.row ≡ e.row → shows_to e c ≤ e.version) (oldest e.base t.had) → (e.base ≤ length u.had) × Each (λ (c : Change). c.row ≡ e.row → shows_to e c ≤ e.version) (oldest e.base u.had)
+    floors_then e g = let long = had_long id p r.had in let b = g.0 in (omega arith, subst (Each (λ (c : Change). c.row ≡ e.row → shows_to e c ≤ e.version)) (sym (had_old id p r.had e.base b)) g.1)
 
     pub joint_left : (homes : List (maybe.Option (Option K))) → IsCurrent start u u.log → ((y : View) → get_elem? (set s.views id w) 0 ≡ some y → IsHome start u means homes y.lent)
         → ((j : ℕ) (y : View) → get_elem? (set s.views id w) j ≡ some y → y.lent ≡ true → y.moving ≡ false → get_elem? homes 0 ≡ some (some None)) → Joint means start u homes (set s.views id w)
@@ -211,7 +211,7 @@ module _ {K : Type 0} (means : K → List Label → Type 0) (start : List ℕ) w
       counted = λ h. let e = total_set (λ (y : View). total h y.made) s.views id v w at in let c = o.counted h in let m = ap (total h) adds.made_is in omega arith;
       allowed = let e = total_set (λ (y : View). y.allowance) s.views id v w at in let c = o.allowed in omega arith;
       makers = let b = at_below s.views id v at in let y = x.by_is in subst (λ m. Each (λ (e : Change). e.by < m) u.log) (sym (length-set s.views id w)) (omega arith, o.makers);
-      floors = (floors_now, each_map (λ (e : Change). (e.base ≤ length t.had) × Each (λ (c : Change). c.row ≡ e.row → level c ≤ level e) (oldest e.base t.had)) (λ (e : Change). (e.base ≤ length u.had) × Each (λ (c : Change). c.row ≡ e.row → level c ≤ level e) (oldest e.base u.had)) floors_then r.log o.floors);
+      floors = (floors_now, each_map (λ (e : Change). (e.base ≤ length t.had) × Each (λ (c : Change). c.row ≡ e.row → shows_to e c ≤ e.version) (oldest e.base t.had)) (λ (e : Change). (e.base ≤ length u.had) × Each (λ (c : Change). c.row ≡ e.row → shows_to e c ≤ e.version) (oldest e.base u.had)) floors_then r.log o.floors);
       current = current;
       root_is = root_set means start t u homes s.views id v w at
           (λ y at0 ne root. record { here = root.here; seats = root.seats; made = root.made ∙ sym (if_false (eqb id 0) (p ∷ r.had) r.had (ne_eqb id 0 (λ e. ne (sym e)))) })
@@ -229,7 +229,9 @@ module _ {K : Type 0} (means : K → List Label → Type 0) (start : List ℕ) w
       last = each_map (λ (e : Change). e.row ≡ q → version_of e ≤ version u.log q) (λ (e : Change). e.row ≡ q → e.by ≡ id → e.version ≤ n / 4) (λ e g h _. let b = g h in omega arith) u.log (below_all start u.log q chain);
       tied = λ j xs e. cc;
       known = λ m fresh e. let is : n ≡ m = some_same n m e in let v_is : version u.log q ≡ m / 4 = omega arith in record {
+        state = subst (λ z. z % 4 < 3) is state;
         below = omega arith;
+        opened = λ z. let puts = x.puts (omega (arith, is, z)) in let one_up = if_true {A = ℕ} p.puts 1 0 puts in let c = x.counts in absurd (omega (arith, one_up, c, is, z));
         free = λ z. inl (inl (x.row_is, x.frees (omega arith), x.version_is ∙ omega arith));
         floor = subst (λ z. Floor version_of u.log u.had q z after v.base) v_is (floor_new version_of u.log u.had q (version u.log q) after v.base ends (omega arith) had_sub (below_all start u.log q chain));
       };

@@ -13,7 +13,7 @@ use Rattle.pfs_board.specs.declared.view.Label.{Label}
 use Rattle.pfs_board.specs.declared.view.Stage.{Stage}
 use Rattle.pfs_board.specs.declared.view.Stage.TheVariants.{Idle, Reading, Holding}
 use Rattle.pfs_board.specs.declared.view.View.{View}
-use Rattle.pfs_board.specs.History.{total, Each, step_of, version, oldest, level, Floor}
+use Rattle.pfs_board.specs.History.{total, Each, step_of, version, oldest, shows_to, Floor}
 use Rattle.pfs_board.specs.Knowledge.{corner, is_holding, held, IsWhole, settled, split_left, split_right, joined, spent}
 use Rattle.pfs_board.specs.Rule.{Moment, Knows, IsRead, IsKnown, IsSeen, IsSight, IsEntered, IsLast, IsInside, FitsRow, Fits, IsRoot, IsHome, Joint, Ruled}
 use Rattle.pfs_board.proofs.HistoryFacts.{each_map, each_append, total_append, oldest_append, floor_had}
@@ -64,7 +64,7 @@ module _ (start : List ℕ) where
   floor_more f t more row k after base o = let e = length-append more t.had in floor_had f t.log t.had row k after base (more ++ t.had) (omega arith) (oldest_append base more t.had o.split_at) o
 
   known_more : (t : Moment) (more : List Change) (row n after base : ℕ) → IsKnown start t row n after base → IsKnown start (with_had t (more ++ t.had)) row n after base
-  known_more t more row n after base a = record { below = a.below; free = a.free; floor = floor_more _ t more row (n / 4) after base a.floor }
+  known_more t more row n after base a = record { state = a.state; below = a.below; free = a.free; opened = a.opened; floor = floor_more _ t more row (n / 4) after base a.floor }
 
   seen_more : (t : Moment) (more : List Change) (by row n after base : ℕ) → IsSeen start t by row n after base → IsSeen start (with_had t (more ++ t.had)) by row n after base
   seen_more t more by row n after base a = record { known = known_more t more row n after base a.known; dirty = a.dirty }
@@ -87,7 +87,7 @@ module _ (start : List ℕ) where
     inside = λ j v n w k i. i;
     known = known_more t more;
     read = λ f a. record { below = a.below; wide = a.wide; content_is = a.content_is; opened = a.opened; floor = floor_more _ t more f.row f.version f.after f.base a.floor };
-    sight = λ x a. record { one = seen_more t more x.by x.row x.first x.after x.base a.one; two = seen_more t more x.by x.row x.second x.after x.base a.two; between = a.between };
+    sight = λ x a. record { one = seen_more t more x.by x.row x.first x.after x.base a.one; two = seen_more t more x.by x.row x.second x.after x.base a.two; shape = a.shape; order = a.order; again = a.again; between = a.between };
     entered = λ e a. record { count = a.count; later = a.later; labels_are = a.labels_are };
     had_more = let e = length-append more t.had in omega arith;
   }
@@ -272,8 +272,8 @@ module _ {K : Type 0} (means : K → List Label → Type 0) (start : List ℕ) w
             entered = each_append (IsEntered start u) w.entered v.entered (each_map (IsEntered start t) (IsEntered start u) later.entered w.entered g.entered) m.entered;
           }
 
-      join_floor : (p : Change) → (p.base ≤ length t.had) × Each (λ (e : Change). e.row ≡ p.row → level e ≤ level p) (oldest p.base t.had) → (p.base ≤ length u.had) × Each (λ (e : Change). e.row ≡ p.row → level e ≤ level p) (oldest p.base u.had)
-      join_floor p o = let e = length-append w.made r.had in let b = o.0 in (omega arith, subst (Each (λ (e : Change). e.row ≡ p.row → level e ≤ level p)) (sym (oldest_append p.base w.made r.had b)) o.1)
+      join_floor : (p : Change) → (p.base ≤ length t.had) × Each (λ (e : Change). e.row ≡ p.row → shows_to p e ≤ p.version) (oldest p.base t.had) → (p.base ≤ length u.had) × Each (λ (e : Change). e.row ≡ p.row → shows_to p e ≤ p.version) (oldest p.base u.had)
+      join_floor p o = let e = length-append w.made r.had in let b = o.0 in (omega arith, subst (Each (λ (e : Change). e.row ≡ p.row → shows_to p e ≤ p.version)) (sym (oldest_append p.base w.made r.had b)) o.1)
 
       join_joint : Joint means start u s.homes after
       join_joint = let o = r.joint in record {
@@ -282,7 +282,7 @@ module _ {K : Type 0} (means : K → List Label → Type 0) (start : List ℕ) w
         counted = λ h. let e = join_sum (λ (x : View). total h x.made) refl in let c = o.counted h in let a = total_append h w.made v.made in omega arith;
         allowed = let e = join_sum (λ (x : View). x.allowance) refl in let c = o.allowed in omega arith;
         makers = subst (λ n. Each (λ (p : Change). p.by < n) r.log) (sym length_after) o.makers;
-        floors = each_map (λ (p : Change). (p.base ≤ length t.had) × Each (λ (e : Change). e.row ≡ p.row → level e ≤ level p) (oldest p.base t.had)) (λ (p : Change). (p.base ≤ length u.had) × Each (λ (e : Change). e.row ≡ p.row → level e ≤ level p) (oldest p.base u.had)) join_floor r.log o.floors;
+        floors = each_map (λ (p : Change). (p.base ≤ length t.had) × Each (λ (e : Change). e.row ≡ p.row → shows_to p e ≤ p.version) (oldest p.base t.had)) (λ (p : Change). (p.base ≤ length u.had) × Each (λ (e : Change). e.row ≡ p.row → shows_to p e ≤ p.version) (oldest p.base u.had)) join_floor r.log o.floors;
         current = o.current;
         root_is = (
           B,

@@ -2,7 +2,7 @@
 use Rattle.std.specs.Prelude.{◌≡◌, ◌≢◌, ℕ, ◌/◌, ◌%◌, ◌<◌, ◌≤◌, true, false, List, length}
 use Rattle.pfs_board.specs.declared.view.Change.{Change}
 use Rattle.pfs_board.specs.declared.view.View.{View}
-use Rattle.pfs_board.specs.History.{total, Each, lock_at, version, stands, is_free, labels_of, IsChain, Rises, level, Floor}
+use Rattle.pfs_board.specs.History.{total, Each, lock_at, version, stands, is_free, labels_of, IsChain, Rises, shows_to, Floor}
 use Rattle.pfs_board.specs.Knowledge.{corner, is_holding}
 use Rattle.pfs_board.specs.Rule.{Moment, lock, now, Fits}
 
@@ -25,7 +25,7 @@ pub record History (start words : List ℕ) (v : View) : Type 0 where
   pub seat : ℕ
   pub chain : IsChain start t.log
   pub once : (h : Change → ℕ) → total h v.made ≡ total h t.log
-  pub floors : Each (λ (p : Change). Floor level t.log t.had p.row (level p) p.after p.base) t.log
+  pub floors : Each (λ (p : Change). Floor (shows_to p) t.log t.had p.row p.version p.after p.base) t.log
   pub rising : Rises t.log
   pub numbers : Each (λ (p : Change). p.action ≤ length (labels_of t.log)) t.log
   pub had_is : v.made ≡ t.had

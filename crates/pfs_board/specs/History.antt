@@ -103,6 +103,10 @@ level p = if p.puts then p.version else p.version + 1
 abbrev pub version_of : Change → ℕ
 version_of p = p.version
 
+-- what a later entry of the row is not below, once this one stands: a publication is above each release too
+abbrev pub shows_to : Change → Change → ℕ
+shows_to p e = if p.puts then level e else e.version
+
 -- No entry of the row by an action up to `after` is above k, nor one of those that the root had first. `had` are the
 -- root's changes
 pub record Floor (f : Change → ℕ) (log had : List Change) (row k after base : ℕ) : Type 0 where

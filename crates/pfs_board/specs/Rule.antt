@@ -13,7 +13,7 @@ use Rattle.pfs_board.specs.declared.view.Sight.{Sight}
 use Rattle.pfs_board.specs.declared.view.Stage.{Stage}
 use Rattle.pfs_board.specs.declared.view.Stage.TheVariants.{Idle, Reading, Holding}
 use Rattle.pfs_board.specs.declared.view.View.{View}
-use Rattle.pfs_board.specs.History.{all_changes, total, Each, Some_of, lock_at, word_at, step_of, version, stands, stood, is_free, IsFreedAt, labels_of, IsChain, oldest, level, version_of, Floor}
+use Rattle.pfs_board.specs.History.{all_changes, total, Each, Some_of, lock_at, word_at, step_of, version, stands, stood, is_free, IsFreedAt, labels_of, IsChain, oldest, level, version_of, shows_to, Floor}
 use Rattle.pfs_board.specs.Knowledge.{corner, is_holding, held, IsWhole, spent}
 
 -- The words as they are, the history, the part of it that the root has, and which seat holds each row that is dirty
@@ -54,10 +54,13 @@ module _ (start : List ℕ) (t : Moment) where
     pub opened : f.version ≡ 0 → slice_index start (lock_at f.row) ≢ 0
     pub floor : Floor level t.log t.had f.row f.version f.after f.base
 
-  -- what one word shows that was seen: the row had that version, and where it was free, it was released at it
+  -- what one lock word shows that was seen: the row had that version; where it was free, it was released at it; and
+  -- none is allocated at version 0 of a row that opened free
   pub record IsKnown (row n after base : ℕ) : Type 0 where
+    pub state : n % 4 < 3
     pub below : n / 4 ≤ version t.log row
     pub free : n % 4 ≡ 0 → IsFreedAt start t.log row (n / 4)
+    pub opened : n ≡ 2 → slice_index start (lock_at row) ≢ 0
     pub floor : Floor version_of t.log t.had row (n / 4) after base
 
   -- a dirty row was in another's hand, who has it still or has published or released it
@@ -69,10 +72,15 @@ module _ (start : List ℕ) (t : Moment) where
     pub known : IsKnown row n after base
     pub dirty : n % 4 ≡ 1 → IsOthers by row n
 
-  -- between two words that one call saw, the first not dirty, the seat itself published nothing
+  -- Two words that one call saw: a dirty or a free one twice, or two of which the first is not dirty. The second is at
+  -- no lower version, and a free row is not allocated again at its version. Between two of which the first is not dirty
+  -- the seat itself published nothing
   pub record IsSight (x : Sight) : Type 0 where
     pub one : IsSeen x.by x.row x.first x.after x.base
     pub two : IsSeen x.by x.row x.second x.after x.base
+    pub shape : (x.second ≡ x.first → x.first % 4 ≢ 2) × (x.first % 4 ≡ 1 → x.second ≡ x.first)
+    pub order : x.first / 4 ≤ x.second / 4
+    pub again : x.first % 4 ≡ 0 → x.second % 4 ≡ 2 → x.first / 4 < x.second / 4
     pub between : x.first ≢ x.second → x.first % 4 ≢ 1
         → Each (λ (p : Change). p.row ≡ x.row → p.by ≡ x.by → p.puts ≡ true → (p.version ≤ x.first / 4)
         ⊎ (x.second / 4 < p.version)) t.log
@@ -157,7 +165,7 @@ module _ {K : Type 0} (means : K → List Label → Type 0) (start : List ℕ) w
     pub allowed : total (λ (v : View). v.allowance) views + total step_of t.log ≡ all_changes
     pub makers : Each (λ (p : Change). p.by < length views) t.log
     pub floors : Each (λ (p : Change). (p.base ≤ length t.had)
-        × Each (λ (e : Change). e.row ≡ p.row → level e ≤ level p) (oldest p.base t.had)) t.log
+        × Each (λ (e : Change). e.row ≡ p.row → shows_to p e ≤ p.version) (oldest p.base t.had)) t.log
     pub current : IsCurrent start t t.log
     pub root_is : (v : View) × (get_elem? views 0 ≡ some v) × IsRoot start t (length views) v
         × IsHome start t means homes v.lent
