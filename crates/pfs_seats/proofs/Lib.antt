@@ -5,3 +5,5 @@ pub mod Words
 pub mod Acting
 pub mod Waits
 pub mod Pens
+pub mod Gathering
+pub mod Histories

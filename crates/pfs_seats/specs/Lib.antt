@@ -1,3 +1,4 @@
 pub mod Ties
 pub mod Reached
 pub mod Pen
+pub mod Gathered

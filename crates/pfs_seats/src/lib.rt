@@ -3,6 +3,7 @@
 
 mod hold;
 mod holding;
+pub mod laws;
 mod rows;
 
 pub use hold::BoardHold;

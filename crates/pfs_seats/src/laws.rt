@@ -1,0 +1,17 @@
+//! Laws of the definitions.
+
+ghost use Rattle.pfs_seats.specs.Gathered.{ChangedLaw, GatherLaw};
+
+/// The seats that a root takes in leave their actors' calls tied to what the root has: each actor's changes, loads,
+/// meets and tickets are a part of its lists, one actor after another, and what their calls showed is among its
+/// reads, sights and labels.
+pub fn gathered()
+    ensures { GatherLaw }
+{}
+
+/// What a root knows that is alone and has taken in the seats of all actors: their publications and releases have one
+/// order, in which each publication has its row's next version and each call's change stands once; the actions'
+/// numbers are 1, 2 and so on, and never fall along a row; and each actor's calls rise.
+pub fn changed()
+    ensures { ChangedLaw }
+{}
