@@ -1,11 +1,11 @@
 -- What always holds of the places and of the counters, behind each call.
-use Rattle.std.proofs.Common.{ℕ, zero, suc, ◌≡◌, ◌<◌, ◌≤◌, ◌+◌, ◌==◌, Bool, true, false, cond, List, [], ◌∷◌, length, replicate, slice_set, Option, Some, None, IfSome, refl, sym, ap, subst, ◌∙◌, arith}
+use Rattle.std.proofs.Common.{ℕ, zero, suc, ◌≡◌, ◌<◌, ◌≤◌, ◌+◌, ◌==◌, Bool, true, false, cond, List, [], ◌∷◌, length, replicate, slice_set, slice_index_or, Option, Some, None, IfSome, refl, sym, ap, subst, ◌∙◌, arith}
 use Rattle.pfs_rows.specs.declared.limits.Limits.{Limits}
 use Rattle.pfs_containers.specs.declared.containers.Account.{Account}
 use Rattle.pfs_containers.specs.declared.containers.Connection.{Connection}
 use Rattle.pfs_containers.specs.Connections.{State, Connects, Quits, entry_of, fill, fill_at, emptied_at, stepped}
 use Rattle.pfs_containers.specs.Administration.{Found, found_where, one_up, next_place, lowest_free, found_or, named_place, is_account, session_by, session_of, quit_line, lost_by, missing, added_from, connected, connect_at}
-use Rattle.pfs_containers.specs.Kept.{Kept, AllEntries, HasPlaces, HasUppers, IsSeated, AreWell, AreCounted, opening, opening_places, with_connect, as_found}
+use Rattle.pfs_containers.specs.Kept.{Kept, AllEntries, HasPlaces, HasUppers, IsSeated, IsInRange, AreWell, AreCounted, opening, opening_places, with_connect, as_found}
 use Rattle.pfs_containers.proofs.Filling.{emptied_is, up_to_wider, up_to_added, zeroes_are}
 
 -- places that are found are there
@@ -241,3 +241,44 @@ counted_places k x are has =
     subst (λ z. HasPlaces z (length k.now.user_totals) (length k.now.host_totals) x) (sym are.account_numbers)
     (subst (λ z. HasPlaces (length k.now.places.accounts) z (length k.now.host_totals) x) (sym are.user_numbers)
     (subst (λ z. HasPlaces (length k.now.places.accounts) (length k.now.places.users) z x) (sym are.host_numbers) has))
+
+-- places that are there are below 32
+some_wider : (n m : ℕ) (place : Option ℕ) → n ≤ m → IfSome place (λ p. p < n) → IfSome place (λ p. p < m)
+some_wider n m None le h = tt
+some_wider n m (Some p) le h = omega (arith, le, h)
+
+pub seat_in_range : (s : State) (x : Connection) → AreWell s → IsSeated s x → HasPlaces 32 32 32 x
+seat_in_range s x well has = record {
+  account = some_wider _ 32 x.account well.accounts_few has.account;
+  user = some_wider _ 32 x.user well.users_few has.user;
+  host = some_wider _ 32 x.host well.hosts_few has.host;
+}
+
+uppers_in_range : (s : State) (x : Account) → AreWell s → HasUppers (length s.users) (length s.hosts) x → HasUppers 32 32 x
+uppers_in_range s x well has = record {
+  user = some_wider _ 32 x.user well.users_few has.user;
+  host = some_wider _ 32 x.host well.hosts_few has.host;
+}
+
+entry_has : {X : Type 0} (P : X → Type 0) (xs : List (Option X)) (n : ℕ) → AllEntries P xs → IfSome (slice_index_or xs n None) P
+entry_has P [] n all = tt
+entry_has P (None ∷ xs) zero all = tt
+entry_has P (Some x ∷ xs) zero all = all.0
+entry_has P (None ∷ xs) (suc n) all = entry_has P xs n all
+entry_has P (Some x ∷ xs) (suc n) all = entry_has P xs n all.1
+
+pub account_in_range : (s : State) (place : ℕ) (x : Account) → AreWell s → slice_index_or s.accounts place None ≡ Some x → HasUppers 32 32 x
+account_in_range s place x well is =
+    uppers_in_range s x well (subst (λ z. IfSome z (HasUppers (length s.users) (length s.hosts))) is (entry_has _ s.accounts place well.accounts))
+
+-- a session that is found has its slot and its places below 32
+found_there : (s : State) (number : ℕ) (slot : ℕ) (x : Connection) → AreWell s → as_found (Some (slot, x)) ≡ found_where (λ y. y.number == number) s.threads
+    → IsThere (IsSeated s) (length s.threads) (record { place = slot; entry = x })
+found_there s number slot x well is =
+    subst (λ z. IfFound z (IsThere (IsSeated s) (length s.threads))) (sym is) (found_inside (IsSeated s) (λ y. y.number == number) s.threads well.connections)
+
+pub quit_in_range : (s : State) (number slot : ℕ) (x : Connection) → AreWell s → as_found (Some (slot, x)) ≡ found_where (λ y. y.number == number) s.threads
+    → IsInRange (record { slot = slot; connection = x })
+quit_in_range s number slot x well is =
+    let there : IsThere (IsSeated s) (length s.threads) (record { place = slot; entry = x }) = found_there s number slot x well is in
+    record { slot = omega (arith, there.0, well.threads_few); places = seat_in_range s x well there.1 }

@@ -94,6 +94,11 @@ pub record HasUppers (users hosts : ℕ) (x : Account) : Type 0 where
 abbrev pub IsSeated : State → Connection → Type 0
 IsSeated s x = HasPlaces (length s.accounts) (length s.users) (length s.hosts) x
 
+-- the slot and the places of a session are numbers below 32
+pub record IsInRange (seat : Seated) : Type 0 where
+  pub slot : seat.slot < 32
+  pub places : HasPlaces 32 32 32 seat.connection
+
 -- at most 32 places of a kind, and no place that isn't there
 pub record AreWell (s : State) : Type 0 where
   pub threads_few : length s.threads ≤ 32

@@ -1,10 +1,11 @@
 //! The containers and their calls.
 
-ghost use Rattle.std.specs.Prelude.{◌≡◌, ◌<◌, ◌≤◌, ◌^◌, ◌==◌, IfOk, Some, length};
+ghost use Rattle.std.specs.Prelude.{◌≡◌, ◌<◌, ◌≤◌, ◌^◌, ◌==◌, IfOk, IfSome, Some, length};
 ghost use Rattle.std.specs.List.{slice_index_or};
+ghost use Rattle.std.specs.Option.{ForSome};
 ghost use Rattle.pfs_containers.specs.Infos.{thread_info_of, account_info_at, user_info_at, host_info_at};
 ghost use Rattle.pfs_containers.specs.Administration.{found_where, lowest_free, session_of, lost_by, missing, added_from};
-ghost use Rattle.pfs_containers.specs.Kept.{opening, with_connect, with_quit, seat_of, seated, as_found, lost_in, with_lost, HasPlaces, AreUpTo};
+ghost use Rattle.pfs_containers.specs.Kept.{opening, with_connect, with_quit, seat_of, seated, as_found, lost_in, with_lost, HasPlaces, IsInRange, AreUpTo};
 
 use crate::NoMemory;
 use crate::places::add_one;
@@ -135,6 +136,7 @@ impl Containers {
         requires few { self.old.connects < 2 ^ 47 }
         ensures step { self.new ≡ with_connect self.old number user host }
         ensures seat { result ≡ seat_of self.old.now number user host }
+        ensures few { IfSome result IsInRange }
     {
         match self.places.free_slot() {
             Some(slot) => {
@@ -156,6 +158,7 @@ impl Containers {
         requires inside { slot < length self.old.now.places.threads }
         ensures step { self.new ≡ with_connect self.old number user host }
         ensures session { result ≡ session_of self.old.now.places number user host }
+        ensures few { HasPlaces 32 32 32 result }
     {
         let account = self.places.account(user, host);
         let connection = self.places.connection(number, user, host, &account);
@@ -171,13 +174,16 @@ impl Containers {
     pub fn quit(&mut self, number: u64) -> Option<Seated>
         ensures step { self.new ≡ with_quit self.old number }
         ensures seat { result ≡ seated (found_where (λ x. x.number == number) self.old.now.places.threads) }
+        ensures few { IfSome result IsInRange }
     {
         self.places.quit(number)
     }
 
     /// What an account's info row says; none where the place is free or isn't there.
     pub fn account_info(&self, place: u64) -> Option<AccountInfo>
-        ensures { result ≡ account_info_at self.now.now place }
+        ensures info { result ≡ account_info_at self.now.now place }
+        ensures user { IfSome result (λ info. ForSome info.user (λ n. n < 32)) }
+        ensures host { IfSome result (λ info. ForSome info.host (λ n. n < 32)) }
     {
         let (account, current) = self.places.account_at(place)?;
         Some(AccountInfo {

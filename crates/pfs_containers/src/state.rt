@@ -5,7 +5,7 @@ ghost use Rattle.std.specs.List.{slice_index_or};
 ghost use Rattle.std.specs.Option.{option_map};
 ghost use Rattle.pfs_containers.specs.Connections.{State, Connects, Quits, stepped, entry_of};
 ghost use Rattle.pfs_containers.specs.Administration.{session_of, quit_line, found_where, lowest_free, is_account, current};
-ghost use Rattle.pfs_containers.specs.Kept.{opening_places, as_found, seated, IsSeated};
+ghost use Rattle.pfs_containers.specs.Kept.{opening_places, as_found, seated, IsSeated, IsInRange, HasPlaces, HasUppers};
 
 use crate::NoMemory;
 use crate::containers::{Account, Connection, Seated};
@@ -66,6 +66,7 @@ impl Places {
     pub(crate) fn free_slot(&self) -> Option<u64>
         ensures slot { result ≡ lowest_free self.now.threads }
         ensures inside { IfSome result (λ slot. slot < length self.now.threads) }
+        ensures few { length self.now.threads ≤ 32 }
     {
         lowest_free(self.threads.as_slice())
     }
@@ -88,6 +89,7 @@ impl Places {
         requires found { as_found account.now ≡ found_where (is_account user host) self.now.accounts }
         ensures session { result ≡ session_of self.now number user host }
         ensures places { IsSeated self.now result }
+        ensures few { HasPlaces 32 32 32 result }
     {
         let (place, user_place, host_place) = match account {
             Some((place, entry)) => (Some(*place), entry.user, entry.host),
@@ -133,8 +135,9 @@ impl Places {
 
     /// The account at a place, and how many sessions have it; none where the place is free or isn't there.
     pub(crate) fn account_at(&self, place: u64) -> Option<(Account, u64)>
-        ensures { result ≡ option_map (λ x. (x, current (λ y. y.account) self.now.threads place))
+        ensures entry { result ≡ option_map (λ x. (x, current (λ y. y.account) self.now.threads place))
             (slice_index_or self.now.accounts place None) }
+        ensures few { IfSome result (λ pair. HasUppers 32 32 pair.0) }
     {
         let current = current(self.threads.as_slice(), Upper::Account, place);
         match self.accounts.get(place as usize) {
@@ -171,6 +174,7 @@ impl Places {
     pub(crate) fn quit(&mut self, number: u64) -> Option<Seated>
         ensures step { self.new ≡ stepped self.old (quit_line (found_where (λ x. x.number == number) self.old.threads)) }
         ensures seat { result ≡ seated (found_where (λ x. x.number == number) self.old.threads) }
+        ensures few { IfSome result IsInRange }
     {
         match find_session(self.threads.as_slice(), number) {
             Some((slot, connection)) => {

@@ -1,7 +1,7 @@
 use Rattle.std.proofs.Common.{rules, ◌≡◌, ap, ◌∙◌, ◌==◌}
 use Rattle.pfs_containers.specs.Connections.{State, stepped}
 use Rattle.pfs_containers.specs.Administration.{quit_line, found_where}
-use Rattle.pfs_containers.proofs.Keeping.{quit_keeps_set, quit_is}
+use Rattle.pfs_containers.proofs.Keeping.{quit_keeps_set, quit_is, quit_in_range}
 use Rattle.pfs_containers.proofs.state.Places.quit.Goals as goal
 
 pub invariant_of-self : goal.invariant_of-self
@@ -18,3 +18,7 @@ returns-in-Some-clause-step c =
     let same : old ≡ c.args.self.now = search rules in
     quit_is old c.args.number (c.in-Some.slot, c.in-Some.connection) (search rules)
     ∙ ap (λ s. stepped s (quit_line (found_where (λ x. x.number == c.args.number) s.threads))) same
+
+pub returns-in-Some-clause-few : goal.returns-in-Some-clause-few
+returns-in-Some-clause-few c =
+    quit_in_range _ c.args.number c.in-Some.slot c.in-Some.connection c.self.invariant (search rules)

@@ -1,0 +1,57 @@
+-- The administration's state, and its steps.
+use Rattle.std.specs.Prelude.{ℕ, ◌+◌, ◌==◌, Bool, if◌then◌else◌, List, [], ◌∷◌, Option, Some, None}
+use Rattle.std.specs.List.{slice_index_or}
+use Rattle.pfs_containers.specs.Administration.{found_where}
+use Rattle.pfs_containers.specs.declared.containers.Seated.{Seated}
+use Rattle.pfs_containers.specs.Kept.{Kept, with_connect, with_quit, seat_of, seated}
+use Rattle.pfs_matching.specs.declared.actor_rows.ActorRow.{ActorRow}
+use Rattle.pfs_matching.specs.declared.object_rows.ObjectRow.{ObjectRow}
+use Rattle.pfs_matching.specs.ActorRules.{actor_flags}
+use Rattle.pfs_levels.specs.declared.answers.Word.{Word}
+use Rattle.pfs_admin.specs.Works.{flagged}
+
+-- who is connected where; the switch words; the rows of setup_actors and setup_objects. The names by id and the cells
+-- of the registered classes, ascending, never change. And how many actions there were.
+pub record State : Type 0 where
+  pub kept : Kept
+  pub words : List Word
+  pub actors : List ActorRow
+  pub objects : List ObjectRow
+  pub names : List (List ℕ)
+  pub cells : List ℕ
+  pub actions : ℕ
+
+abbrev pub flags_of : Bool × Bool → ℕ
+flags_of pair = (if pair.0 then 1 else 0) + (if pair.1 then 2 else 0)
+
+abbrev pub name_text : State → ℕ → List ℕ
+name_text s id = slice_index_or s.names id []
+
+-- the flags of a new session's thread: what setup_actors decides for its user and host
+abbrev pub thread_flags : State → ℕ → ℕ → ℕ
+thread_flags s user host = flags_of (actor_flags s.actors (name_text s user) (name_text s host))
+
+-- the words with those of a slot's thread, where there is one
+abbrev pub words_by : List Word → ℕ → Option Seated → List Word
+words_by words flags None = words
+words_by words flags (Some seat) = flagged words (1 + seat.slot) flags
+
+abbrev pub seat_at : State → ℕ → ℕ → ℕ → Option Seated
+seat_at s number user host = seat_of s.kept.now number user host
+
+abbrev pub seat_in : State → ℕ → Option Seated
+seat_in s number = seated (found_where (λ x. x.number == number) s.kept.now.places.threads)
+
+abbrev pub connected : State → ℕ → ℕ → ℕ → State
+connected s number user host = record s {
+  kept = with_connect s.kept number user host;
+  words = words_by s.words (thread_flags s user host) (seat_at s number user host);
+  actions = s.actions + 1;
+}
+
+abbrev pub has_quit : State → ℕ → State
+has_quit s number = record s {
+  kept = with_quit s.kept number;
+  words = words_by s.words 0 (seat_in s number);
+  actions = s.actions + 1;
+}
