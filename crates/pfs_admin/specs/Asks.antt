@@ -12,6 +12,7 @@ use Rattle.pfs_levels.specs.declared.places.Up.{Up}
 use Rattle.pfs_levels.specs.declared.flushes.Source.TheVariants as of
 use Rattle.pfs_levels.specs.declared.answers.Word.{Word}
 use Rattle.pfs_levels.specs.Flushes.{asks_of}
+use Rattle.pfs_admin.specs.declared.admin.Placed.{Placed}
 use Rattle.pfs_admin.specs.Works.{Sign, Releases, Tags, Work, no_work, flagging}
 use Rattle.pfs_admin.specs.States.{State, thread_flags, seat_at, seat_in, connected, has_quit}
 
@@ -75,3 +76,13 @@ abbrev pub connect_entry : ℕ → Option Seated → Entry
 connect_entry action None = says.Connect action None None None None
 connect_entry action (Some seat) = says.Connect action (Some seat.slot) seat.connection.account seat.connection.user
     seat.connection.host
+
+-- a session's places, each where it has it
+abbrev pub placed_of : Option Seated → Placed
+placed_of None = record { thread = None; account = None; user = None; host = None }
+placed_of (Some seat) = record {
+  thread = Some seat.slot;
+  account = seat.connection.account;
+  user = seat.connection.user;
+  host = seat.connection.host;
+}

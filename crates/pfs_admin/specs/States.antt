@@ -1,5 +1,5 @@
 -- The administration's state, and its steps.
-use Rattle.std.specs.Prelude.{ℕ, ◌+◌, ◌==◌, Bool, if◌then◌else◌, List, [], ◌∷◌, Option, Some, None}
+use Rattle.std.specs.Prelude.{ℕ, ◌≡◌, ◌+◌, ◌==◌, ◌≤◌, ◌<◌, Bool, if◌then◌else◌, List, [], ◌∷◌, length, All, Option, Some, None}
 use Rattle.std.specs.List.{slice_index_or}
 use Rattle.pfs_containers.specs.Administration.{found_where}
 use Rattle.pfs_containers.specs.declared.containers.Seated.{Seated}
@@ -55,3 +55,16 @@ has_quit s number = record s {
   words = words_by s.words 0 (seat_in s number);
   actions = s.actions + 1;
 }
+
+-- no word was set more often than there were actions
+abbrev pub AreEarly : ℕ → List Word → Type 0
+AreEarly most [] = Unit {0}
+AreEarly most (word ∷ words) = (word.version ≤ most) × AreEarly most words
+
+-- what always holds
+pub record IsState (s : State) : Type 0 where
+  pub words_wide : length s.words ≡ 160
+  pub words_early : AreEarly s.actions s.words
+  pub connects_few : s.kept.connects ≤ s.actions
+  pub cells_small : All (λ cell. cell < 64) s.cells
+  pub cells_few : length s.cells ≤ 64

@@ -41,8 +41,9 @@ pub fn flush<H: Hold>(rows: &mut H, kind: EventKind, level: Level, places: &Plac
     }
 }
 
-// Moves the cells of one thread, account, user or host.
-fn flush_cells<H: Hold>(rows: &mut H, source: Source, cells: &[u64], log: &mut Log)
+/// Moves these cells of one thread, account, user or host, in the order given, by the rules of `flush`. The log gets
+/// each take and its gifts.
+pub fn flush_cells<H: Hold>(rows: &mut H, source: Source, cells: &[u64], log: &mut Log)
     requires source { IsSource source }
     requires cells { All (λ cell. cell < 64) cells.now }
     requires away { CellsAreAway (H.hand rows.old) cells.now source }

@@ -13,7 +13,7 @@ pub mod store;
 mod tests;
 
 pub use answers::{Added, RingPut, Word};
-pub use flushes::flush;
+pub use flushes::{Source, flush, flush_cells};
 pub use log::Log;
 pub use moves::{clear, move_up, purge};
 pub use pfs_board::{Content, Label};

@@ -1,0 +1,190 @@
+//! The administration's calls.
+
+ghost use Rattle.std.specs.Prelude.{◌≡◌, ◌<◌, ◌≤◌, ◌+◌, ◌*◌, ◌^◌, ◌∷◌, [], ℕ, Some, None, length};
+ghost use Rattle.pfs_containers.specs.Kept.{lost_in};
+ghost use Rattle.pfs_admin.specs.Works.{Worked, Leaves};
+ghost use Rattle.pfs_admin.specs.States.{thread_flags, connected, has_quit, seat_at, seat_in, name_text};
+ghost use Rattle.pfs_admin.specs.Asks.{work_of_connect, work_of_quit, connect_entry, placed_of};
+
+use crate::threads::{write_connect, write_quit};
+use pfs_containers::{Containers, Lost, Seated};
+use pfs_event::Entry;
+use pfs_levels::{Hold, Log, Word};
+use pfs_matching::{Actors, Objects};
+use pfs_names::NameId;
+use pfs_text::Text;
+use std::marker::Model;
+
+/// The places that a connect got, each from 0 on.
+#[derive(Clone, Copy, Debug, PartialEq, Eq)]
+pub struct Placed {
+    pub thread: Option<u64>,
+    pub account: Option<u64>,
+    pub user: Option<u64>,
+    pub host: Option<u64>,
+}
+
+/// The administration: who is connected where, the switch words as they stand, the rows of `setup_actors` and
+/// `setup_objects`, and how many actions there were. It is changed inside row 0 alone, and each call is one action.
+#[derive(Drop)]
+pub struct Admin {
+    containers: Containers,
+    words: Vec<Word>,
+    actors: Actors,
+    objects: Objects,
+    names: Vec<Text>,
+    cells: Vec<u64>,
+    actions: u64,
+}
+
+impl Model for Admin {
+    ghost use Rattle.pfs_admin.specs.States.{State, IsState};
+
+    ghost Value = { State };
+
+    ghost view = { λ s. record {
+      kept = s.containers;
+      words = s.words.items;
+      actors = s.actors;
+      objects = s.objects;
+      names = s.names.items;
+      cells = s.cells.items;
+      actions = s.actions;
+    } };
+
+    ghost invariant = { λ s. IsState (record {
+      kept = s.containers;
+      words = s.words.items;
+      actors = s.actors;
+      objects = s.objects;
+      names = s.names.items;
+      cells = s.cells.items;
+      actions = s.actions;
+    }) };
+}
+
+impl Admin {
+    /// Connects a session, an action: it gets the places that the containers give it. The log gets its `connect` with
+    /// the action's number, then a `tag` for the info of each place, and a `set` where `setup_actors` changes the
+    /// flags of its thread. Without a thread slot nothing is changed but the counter.
+    pub fn connect<H: Hold>(
+        &mut self,
+        rows: &mut H,
+        number: u64,
+        user: NameId,
+        host: NameId,
+        log: &mut Log,
+    ) -> Placed
+        requires few { self.old.actions < 2 ^ 47 }
+        requires user { user < length self.old.names }
+        requires host { host < length self.old.names }
+        requires alone { (r : ℕ) → 0 < r → H.hand rows.old r ≡ None }
+        requires lent { H.words rows.old ≡ Some self.old.words }
+        requires spare { 4 ≤ H.left rows.old }
+        requires room { 6 ≤ log.old.room }
+        ensures step { self.new ≡ connected self.old number user host }
+        ensures placed { result ≡ placed_of (seat_at self.old number user host) }
+        ensures worked { Worked (work_of_connect self.old number user host) self.old.words
+            (connect_entry (self.old.actions + 1) (seat_at self.old number user host) ∷ []) log.old log.new
+            (H.reached rows.old) (H.reached rows.new) }
+        ensures lent { H.words rows.new ≡ Some self.new.words }
+        ensures leaves { Leaves 4 6 (H.hand rows.old) (H.hand rows.new) (H.left rows.old) (H.left rows.new)
+            (H.draws rows.old) (H.draws rows.new) (H.name rows.old) (H.name rows.new) log.old log.new }
+    {
+        let flags = self.thread_flags(user, host);
+        let seat = self.containers.connect(number, user, host);
+        self.actions += 1;
+        log.push(connect_entry(self.actions, &seat));
+        write_connect(
+            rows,
+            &self.containers,
+            self.words.as_mut_slice(),
+            &seat,
+            flags,
+            log,
+        );
+        places_of(&seat)
+    }
+
+    /// Ends the connection in the lowest thread slot that a session has, an action: the numbers of its thread move
+    /// up, its info is released, those of its other places are written, and its thread's flags are cleared. The log
+    /// gets each of these. Without a slot nothing is changed.
+    pub fn quit<H: Hold>(&mut self, rows: &mut H, number: u64, log: &mut Log)
+        requires few { self.old.actions < 2 ^ 47 }
+        requires alone { (r : ℕ) → 0 < r → H.hand rows.old r ≡ None }
+        requires lent { H.words rows.old ≡ Some self.old.words }
+        requires spare { 196 ≤ H.left rows.old }
+        requires room { 197 ≤ log.old.room }
+        ensures step { self.new ≡ has_quit self.old number }
+        ensures worked { Worked (work_of_quit self.old number) self.old.words [] log.old log.new (H.reached rows.old)
+            (H.reached rows.new) }
+        ensures lent { H.words rows.new ≡ Some self.new.words }
+        ensures leaves { Leaves 196 197 (H.hand rows.old) (H.hand rows.new) (H.left rows.old) (H.left rows.new)
+            (H.draws rows.old) (H.draws rows.new) (H.name rows.old) (H.name rows.new) log.old log.new }
+    {
+        let seat = self.containers.quit(number);
+        self.actions += 1;
+        write_quit(
+            rows,
+            &self.containers,
+            self.words.as_mut_slice(),
+            self.cells.as_slice(),
+            &seat,
+            log,
+        );
+    }
+
+    /// How many connects found no thread slot, and no place for their account, their user and their host.
+    pub fn lost(&self) -> Lost
+        ensures { result ≡ lost_in self.now.kept.now }
+    {
+        self.containers.lost()
+    }
+
+    // The flags of a new session's thread.
+    fn thread_flags(&self, user: NameId, host: NameId) -> u16
+        requires user { user < length self.now.names }
+        requires host { host < length self.now.names }
+        ensures { result ≡ thread_flags self.now user host }
+    {
+        let user = self.names[user.0 as usize].as_bytes();
+        let host = self.names[host.0 as usize].as_bytes();
+        let (enabled, history) = self.actors.decide(user, host);
+        let instrumented = if enabled { 1 } else { 0 };
+        let kept = if history { 2 } else { 0 };
+        instrumented + kept
+    }
+}
+
+// The entry of a connect.
+fn connect_entry(action: u64, seat: &Option<Seated>) -> Entry
+    ensures { result ≡ connect_entry action seat.now }
+{
+    let places = places_of(seat);
+    Entry::Connect {
+        action,
+        thread: places.thread,
+        account: places.account,
+        user: places.user,
+        host: places.host,
+    }
+}
+
+fn places_of(seat: &Option<Seated>) -> Placed
+    ensures { result ≡ placed_of seat.now }
+{
+    match seat {
+        Some(seat) => Placed {
+            thread: Some(seat.slot),
+            account: seat.connection.account,
+            user: seat.connection.user,
+            host: seat.connection.host,
+        },
+        None => Placed {
+            thread: None,
+            account: None,
+            user: None,
+            host: None,
+        },
+    }
+}
