@@ -1,2 +1,4 @@
 pub mod Costs
 pub mod Signing
+pub mod Listing
+pub mod Opened

@@ -1,3 +1,4 @@
 pub mod Works
 pub mod States
 pub mod Asks
+pub mod Opening

@@ -1,18 +1,23 @@
 //! The administration's calls.
 
-ghost use Rattle.std.specs.Prelude.{◌≡◌, ◌<◌, ◌≤◌, ◌+◌, ◌*◌, ◌^◌, ◌∷◌, [], ℕ, Some, None, length};
+ghost use Rattle.std.specs.Prelude.{◌≡◌, ◌<◌, ◌≤◌, ◌+◌, ◌*◌, ◌^◌, ◌∷◌, [], ℕ, Some, None, IfOk, length};
 ghost use Rattle.pfs_containers.specs.Kept.{lost_in};
 ghost use Rattle.pfs_admin.specs.Works.{Worked, Leaves};
 ghost use Rattle.pfs_admin.specs.States.{thread_flags, connected, has_quit, seat_at, seat_in, name_text};
+ghost use Rattle.pfs_admin.specs.Opening.{opened};
 ghost use Rattle.pfs_admin.specs.Asks.{work_of_connect, work_of_quit, connect_entry, placed_of};
 
+use crate::NoMemory;
+use crate::opening::{both_flags, cells_of, opening_flags, texts_of, words_of};
 use crate::threads::{write_connect, write_quit};
+use pfs_classes::Setting;
 use pfs_containers::{Containers, Lost, Seated};
 use pfs_event::Entry;
 use pfs_levels::{Hold, Log, Word};
 use pfs_matching::{Actors, Objects};
 use pfs_names::NameId;
 use pfs_text::Text;
+use std::alloc::Global;
 use std::marker::Model;
 
 /// The places that a connect got, each from 0 on.
@@ -64,6 +69,23 @@ impl Model for Admin {
 }
 
 impl Admin {
+    /// Nobody connected, the words and the rows of the opening, and no action. All room is taken here.
+    pub fn open(alloc: Global, setting: &Setting) -> Result<Admin, NoMemory>
+        ensures { IfOk result (λ admin. admin ≡ opened setting.now) }
+    {
+        let objects = Objects::open(alloc)?;
+        let flags = opening_flags(alloc, setting, &objects)?;
+        Ok(Admin {
+            containers: Containers::open(alloc, &setting.limits)?,
+            words: words_of(alloc, flags.as_slice())?,
+            actors: Actors::open(alloc)?,
+            objects,
+            names: texts_of(alloc, &setting.names)?,
+            cells: cells_of(alloc, &setting.classes)?,
+            actions: 0,
+        })
+    }
+
     /// Connects a session, an action: it gets the places that the containers give it. The log gets its `connect` with
     /// the action's number, then a `tag` for the info of each place, and a `set` where `setup_actors` changes the
     /// flags of its thread. Without a thread slot nothing is changed but the counter.
@@ -150,9 +172,7 @@ impl Admin {
         let user = self.names[user.0 as usize].as_bytes();
         let host = self.names[host.0 as usize].as_bytes();
         let (enabled, history) = self.actors.decide(user, host);
-        let instrumented = if enabled { 1 } else { 0 };
-        let kept = if history { 2 } else { 0 };
-        instrumented + kept
+        both_flags(enabled, history)
     }
 }
 

@@ -2,9 +2,14 @@
 #![tactic(auto)]
 
 mod admin;
+mod opening;
 mod signs;
 mod tags;
 mod threads;
 
 pub use admin::{Admin, Placed};
+pub use opening::opening_flags;
 pub use pfs_containers::Lost;
+
+/// Memory ran out.
+pub type NoMemory = std::alloc::AllocError;

@@ -3,6 +3,7 @@
 ghost use Rattle.std.specs.Prelude.{◌≡◌, ◌<◌, ◌≤◌, ◌^◌, ◌==◌, IfOk, IfSome, Some, length};
 ghost use Rattle.std.specs.List.{slice_index_or};
 ghost use Rattle.std.specs.Option.{ForSome};
+ghost use Rattle.pfs_rows.specs.Limits.{AreInRange};
 ghost use Rattle.pfs_containers.specs.Infos.{thread_info_of, account_info_at, user_info_at, host_info_at};
 ghost use Rattle.pfs_containers.specs.Administration.{found_where, lowest_free, session_of, lost_by, missing, added_from};
 ghost use Rattle.pfs_containers.specs.Kept.{opening, with_connect, with_quit, seat_of, seated, as_found, lost_in, with_lost, HasPlaces, IsInRange, AreUpTo};
@@ -12,7 +13,7 @@ use crate::places::add_one;
 use crate::state::Places;
 use pfs_infos::{AccountInfo, NameInfo, ThreadInfo};
 use pfs_names::NameId;
-use pfs_rows::Layout;
+use pfs_rows::Limits;
 use std::alloc::Global;
 use std::marker::Model;
 
@@ -107,12 +108,12 @@ impl Model for Containers {
 
 impl Containers {
     /// Every place free, nothing counted and nothing lost. All room is taken here.
-    pub fn open(alloc: Global, limits: &Layout) -> Result<Containers, NoMemory>
+    pub fn open(alloc: Global, limits: &Limits) -> Result<Containers, NoMemory>
+        requires { AreInRange limits.now }
         ensures { IfOk result (λ containers. containers ≡ opening limits.now) }
     {
-        let limits = limits.limits();
         Ok(Containers {
-            places: Places::open(alloc, &limits)?,
+            places: Places::open(alloc, limits)?,
             totals: Totals {
                 accounts: vec![in alloc; 0; limits.accounts as usize]?,
                 users: vec![in alloc; 0; limits.users as usize]?,

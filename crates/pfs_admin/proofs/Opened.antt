@@ -1,0 +1,41 @@
+-- What always holds, at first.
+use Rattle.std.proofs.Common.{ℕ, zero, suc, ◌≡◌, ◌<◌, ◌≤◌, ◌+◌, List, [], ◌∷◌, ◌++◌, length, map, All, refl, ap, ◌∙◌, arith}
+use Rattle.std.specs.List.{range_with_len}
+use Rattle.std.proofs.lemmas.List.FromFn.{length-map-range_with_len}
+use Rattle.pfs_classes.specs.declared.setting.Setting.{Setting}
+use Rattle.pfs_matching.specs.ObjectRules.{opening_objects}
+use Rattle.pfs_levels.specs.Plain.{word}
+use Rattle.pfs_admin.specs.States.{AreEarly, IsState}
+use Rattle.pfs_admin.specs.Opening.{word_flags, opening_flags, opened}
+
+all_cons : {X : Type 0} (P : X → Type 0) (x : X) (xs : List X) → P x → All P xs → All P (x ∷ xs)
+all_cons P x xs p all zero d l = p
+all_cons P x xs p all (suc k) d l = all k d (omega (arith, l))
+
+pub small_cells : (a n : ℕ) → a + n ≤ 62 → All (λ cell. cell < 64) (range_with_len a n ++ 62 ∷ 63 ∷ [])
+small_cells a zero h =
+    all_cons (λ cell. cell < 64) 62 (63 ∷ []) (omega arith)
+    (all_cons (λ cell. cell < 64) 63 [] (omega arith) (λ k d l. absurd (omega (arith, l))))
+small_cells a (suc n) h =
+    all_cons (λ cell. cell < 64) a (range_with_len (a + 1) n ++ 62 ∷ 63 ∷ []) (omega (arith, h)) (small_cells (a + 1) n (omega (arith, h)))
+
+pub few_cells : (a n : ℕ) → length (range_with_len a n ++ 62 ∷ 63 ∷ []) ≡ n + 2
+few_cells a zero = refl
+few_cells a (suc n) = let more : length (range_with_len (a + 1) n ++ 62 ∷ 63 ∷ []) ≡ n + 2 = few_cells (a + 1) n in omega (arith, more)
+
+early_words : (flags : List ℕ) → AreEarly 0 (map (word 0) flags)
+early_words [] = tt
+early_words (f ∷ flags) = (omega arith, early_words flags)
+
+len_words : (flags : List ℕ) → length (map (word 0) flags) ≡ length flags
+len_words [] = refl
+len_words (f ∷ flags) = ap suc (len_words flags)
+
+pub opened_holds : (setting : Setting) → All (λ cell. cell < 64) (opened setting).cells → length (opened setting).cells ≤ 64 → IsState (opened setting)
+opened_holds setting small few = record {
+  words_wide = len_words (opening_flags setting opening_objects) ∙ length-map-range_with_len (word_flags setting opening_objects) 0 160;
+  words_early = early_words (opening_flags setting opening_objects);
+  connects_few = omega arith;
+  cells_small = small;
+  cells_few = few;
+}
