@@ -9,3 +9,6 @@ pub use containers::{Account, Connection, Containers, Lost, Seated};
 
 /// Memory ran out.
 pub type NoMemory = std::alloc::AllocError;
+
+#[cfg(test)]
+mod tests;
