@@ -12,6 +12,7 @@ use pfs_rows::Table;
 pub struct Update {
     /// A table whose rows have flags.
     pub table: Table,
+    /// The new flags; None leaves one as it is.
     pub change: FlagChange,
     pub tests: TestList,
 }
@@ -19,6 +20,7 @@ pub struct Update {
 /// Each row that meets the conditions goes.
 #[derive(Debug, Drop)]
 pub struct Delete {
+    /// `setup_actors` or `setup_objects`.
     pub table: Table,
     pub tests: TestList,
 }

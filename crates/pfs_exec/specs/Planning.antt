@@ -1,6 +1,6 @@
 -- What a command is planned as, and why it may be refused.
-use Rattle.std.specs.Prelude.{◌≡◌, ℕ, ◌==◌, ◌||◌, ◌⊎◌, Bool, true, false, not, if◌then◌else◌, List, [], ◌∷◌, Option, Some, None, Result, Ok, Err, map, unwrap_or, is_none, codes, length, slice_get}
-use Rattle.std.specs.List.{find, list_any, prefix_len, range_with_len}
+use Rattle.std.specs.Prelude.{◌≡◌, ℕ, ◌==◌, ◌||◌, ◌⊎◌, Bool, true, false, not, if◌then◌else◌, List, [], ◌∷◌, Option, Some, None, Result, Ok, Err, map, unwrap_or, is_none, codes, length, position, slice_get}
+use Rattle.std.specs.List.{find, list_any, range_with_len}
 use Rattle.std.specs.Option.{option_and_then}
 use Rattle.std.specs.Str.{bytes_eq}
 use Rattle.pfs_text.specs.declared.conditions.Literal.TheVariants.{Number as NumberLiteral, Text as TextLiteral}
@@ -123,12 +123,12 @@ is_wrong_set table set = not (is_flag table First set.column || is_flag table Se
 abbrev pub stands_at : Table → ℕ → List ℕ → Bool
 stands_at table place name = same_place (Some place) (column_place table name)
 
--- the value that an INSERT gives to the column at a place: in the place of that column's name, or in its own where no
--- columns are named
+-- the value that an INSERT gives to the column at a place: of a list of columns the value in the position of that
+-- column's name, and none where the list hasn't it; without a list the value in the column's own place
 abbrev pub value_given : Table → Option (List (List ℕ)) → List (List ℕ) → ℕ → Option (List ℕ)
 value_given table None values place = slice_get values place
 value_given table (Some names) values place =
-    slice_get values (prefix_len (λ name. not (stands_at table place name)) names)
+    option_and_then (slice_get values) (position (stands_at table place) names)
 
 -- the same, or what a missing one is
 abbrev pub value_or : Table → InsertCommand → ℕ → List ℕ → List ℕ

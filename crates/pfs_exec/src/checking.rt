@@ -1,6 +1,6 @@
 //! Why a command is refused on a table.
-ghost use Rattle.std.specs.Prelude.{◌≡◌, not, slice_get, unwrap_or, []};
-ghost use Rattle.std.specs.List.{list_any, prefix_len};
+ghost use Rattle.std.specs.Prelude.{◌≡◌, position, slice_get, unwrap_or, []};
+ghost use Rattle.std.specs.List.{list_any};
 ghost use Rattle.std.specs.Option.{option_and_then, option_copied};
 ghost use Rattle.pfs_catalogue.specs.Columns.{column_place, kind_at};
 ghost use Rattle.pfs_exec.specs.Planning as spec;
@@ -277,23 +277,22 @@ fn value_given<'a>(table: Table, insert: &'a InsertCommand, place: u64) -> Optio
     }
 }
 
-// The value in the place of the name of the column at the place.
+// The value in the position of the name of the column at the place; none where the list hasn't that column.
 fn value_among<'a>(table: Table, names: &[Text], values: &'a [Text], place: u64) -> Option<&'a Text>
     ensures { option_copied result
-        ≡ slice_get values.now (prefix_len (λ name. not (spec.stands_at table place name)) names.now) }
+        ≡ option_and_then (slice_get values.now) (position (spec.stands_at table place) names.now) }
 {
-    let before = names_before(table, names, place);
-    values.get(before)
+    match position_of(table, names, place) {
+        Some(position) => values.get(position),
+        None => None,
+    }
 }
 
-// How many names stand before that of the column at the place.
-fn names_before(table: Table, names: &[Text], place: u64) -> usize
-    ensures { result ≡ prefix_len (λ name. not (spec.stands_at table place name)) names.now }
+// The position of the name of the column at the place.
+fn position_of(table: Table, names: &[Text], place: u64) -> Option<usize>
+    ensures { result ≡ position (spec.stands_at table place) names.now }
 {
-    names
-        .iter()
-        .take_while(|name| !stands_at(table, place, name))
-        .count()
+    names.iter().position(|name| stands_at(table, place, name))
 }
 
 fn stands_at(table: Table, place: u64, name: &Text) -> bool

@@ -23,7 +23,7 @@ pub struct Assignment {
     pub value: Text,
 }
 
-/// `SELECT * | columns FROM table [WHERE ..] [ORDER BY ..] [LIMIT number]`. No columns stand for `*`.
+/// `SELECT * | columns FROM table [WHERE ..] [ORDER BY ..] [LIMIT number]`. For `*`, `columns` is None.
 #[derive(Debug, Drop)]
 pub struct SelectCommand {
     pub columns: Option<TextList>,
@@ -41,7 +41,7 @@ pub struct UpdateCommand {
     pub tests: NamedTestList,
 }
 
-/// `INSERT INTO table [(columns)] VALUES ('text', ..)`.
+/// `INSERT INTO table [(columns)] VALUES ('text', ..)`. Without a list, `columns` is None.
 #[derive(Debug, Drop)]
 pub struct InsertCommand {
     pub table: Text,

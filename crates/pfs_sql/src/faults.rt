@@ -6,8 +6,8 @@ ghost use Rattle.pfs_sql.specs.Errors.{number_of};
 use std::alloc::{AllocError, AllocFailed};
 use thiserror::Error;
 
-/// What is wrong with a command, by MySQL's names. Parsing answers `Parse` alone; the others are for who carries a
-/// command out.
+/// What is wrong with a command, by MySQL's names. Parsing answers `Parse` alone; the others, and `Parse` for a wrong
+/// type, are for a command's plan and for who carries it out.
 #[derive(Clone, Copy, Debug, PartialEq, Eq, Error)]
 pub enum SqlError {
     /// The text is no command, or a value is not of its column's type.

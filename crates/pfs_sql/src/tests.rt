@@ -123,156 +123,158 @@ fn put_command(out: &mut Vec<u8>, command: &Command) -> Result<(), NoMemory> {
     }
 }
 
-// Each text, and what it says.
+fn put_answer(out: &mut Vec<u8>, answer: Result<Command, SqlFault>) -> Result<(), NoMemory> {
+    match answer {
+        Ok(command) => put_command(out, &command),
+        Err(SqlFault::Error(error)) => put_u64(out, error.number() as u64),
+        Err(SqlFault::NoMemory) => out.extend_from_slice(b"no memory"),
+    }
+}
+
+// Each text, and what it says: 1064 where that is nothing.
+const TEXTS: [(&str, &str); 80] = [
+    ("SELECT * FROM threads", "select threads all"),
+    ("select * from threads;", "select threads all"),
+    ("\tSELECT\t*\tFROM\tthreads ; \t", "select threads all"),
+    ("SELECT*FROM t", "select t all"),
+    ("SELECT a,B_2 , c3 FROM T", "select T 'a' 'B_2' 'c3'"),
+    ("SELECT a, a FROM t", "select t 'a' 'a'"),
+    ("SELECT * FROM performance_schema.users", "select users all"),
+    ("SELECT * FROM Performance_Schema.Users", "select Users all"),
+    ("SELECT from FROM from", "select from 'from'"),
+    (
+        "SELECT select, where FROM order WHERE where = 1",
+        "select order 'select' 'where' if where=1",
+    ),
+    ("SELECT 1 FROM 2", "select 2 '1'"),
+    (
+        "SELECT * FROM t WHERE a=0018446744073709551615",
+        "select t all if a=18446744073709551615",
+    ),
+    (
+        "SELECT * FROM t WHERE a <> 'x' AND b != 'it''s'",
+        "select t all if a!'x' if b!'it''s'",
+    ),
+    (
+        "SELECT * FROM t WHERE a<1 and b<=2 And c>3 aND d>=4",
+        "select t all if a<1 if b<=2 if c>3 if d>=4",
+    ),
+    (
+        "SELECT * FROM t WHERE a LIKE 'wait/%'",
+        "select t all if a~'wait/%'",
+    ),
+    (
+        "SELECT * FROM t WHERE a IS NULL AND b is not null",
+        "select t all if a none if b some",
+    ),
+    (
+        "SELECT * FROM t WHERE is IS NULL AND and LIKE ''",
+        "select t all if is none if and~''",
+    ),
+    ("SELECT * FROM t WHERE a=''''", "select t all if a=''''"),
+    (
+        "SELECT * FROM t WHERE a='1'AND b=2",
+        "select t all if a='1' if b=2",
+    ),
+    ("SELECT * FROM t ORDER BY a", "select t all upon a"),
+    (
+        "SELECT * FROM t ORDER BY a ASC, b DESC, c",
+        "select t all upon a down b upon c",
+    ),
+    (
+        "SELECT * FROM t ORDER BY desc DESC",
+        "select t all down desc",
+    ),
+    ("SELECT * FROM t ORDER BY asc", "select t all upon asc"),
+    (
+        "SELECT * FROM t ORDER BY by LIMIT 007",
+        "select t all upon by most 7",
+    ),
+    ("SELECT * FROM t LIMIT 0", "select t all most 0"),
+    (
+        "SELECT a FROM t WHERE b = 1 ORDER BY c DESC LIMIT 5;",
+        "select t 'a' if b=1 down c most 5",
+    ),
+    (
+        "UPDATE setup_consumers SET ENABLED = 'NO'",
+        "update setup_consumers ENABLED='NO'",
+    ),
+    (
+        "update t set a='x',b='y' where c = 'z'",
+        "update t a='x' b='y' if c='z'",
+    ),
+    ("UPDATE set SET set='set'", "update set set='set'"),
+    (
+        "INSERT INTO t VALUES ('a','b','c','d','e')",
+        "insert t all: 'a' 'b' 'c' 'd' 'e'",
+    ),
+    ("INSERT INTO t (HOST) VALUES('h');", "insert t 'HOST': 'h'"),
+    (
+        "insert into values (values, into) values ('1', '2')",
+        "insert values 'values' 'into': '1' '2'",
+    ),
+    ("DELETE FROM t", "delete t"),
+    ("DELETE FROM t WHERE a = '' ;", "delete t if a=''"),
+    ("TRUNCATE t", "truncate t"),
+    ("TRUNCATE TABLE performance_schema.t;", "truncate t"),
+    ("TRUNCATE table", "truncate table"),
+    ("TRUNCATE TABLE table ;", "truncate table"),
+    (
+        "SELECT 1b FROM 2t WHERE 3c IS NULL",
+        "select 2t '1b' if 3c none",
+    ),
+    ("", "1064"),
+    (" ", "1064"),
+    (";", "1064"),
+    ("SELECT", "1064"),
+    ("SELECT FROM t", "1064"),
+    ("SELECT * FROM t;;", "1064"),
+    ("SELECT * FROM t; ;", "1064"),
+    ("SELECT * FROM t LIMIT 1 ORDER BY a", "1064"),
+    ("SELECT * FROM t LIMIT 18446744073709551616", "1064"),
+    ("SELECT * FROM t WHERE a = 18446744073709551616", "1064"),
+    ("SELECT * FROM t WHERE a = 1b", "1064"),
+    ("SELECT * FROM t WHERE a = b", "1064"),
+    ("SELECT * FROM t WHERE a = -1", "1064"),
+    ("SELECT * FROM t WHERE a = NULL", "1064"),
+    ("SELECT * FROM t WHERE a LIKE 1", "1064"),
+    ("SELECT * FROM t WHERE a = 'x", "1064"),
+    ("SELECT * FROM t WHERE a = 'x''", "1064"),
+    ("SELECT * FROM t WHERE a < > 1", "1064"),
+    ("SELECT * FROM t WHERE a = 1 OR b = 2", "1064"),
+    ("SELECT * FROM t WHERE a = 1, b = 2", "1064"),
+    ("SELECT * FROM mysql.user", "1064"),
+    ("SELECT * FROM performance_schema. t", "1064"),
+    ("SELECT * FROM performance_schema .t", "1064"),
+    ("SELECT * FROM performance_schema.", "1064"),
+    ("SELECT t.a FROM t", "1064"),
+    ("SELECT `a` FROM t", "1064"),
+    ("SELECT * FROM t\n", "1064"),
+    ("SELECT *, a FROM t", "1064"),
+    ("SELECT a, FROM t", "1064"),
+    ("UPDATE t SET a = 1", "1064"),
+    ("UPDATE t SET a = 'x', A = 'y'", "1064"),
+    ("INSERT INTO t VALUES ('a', 'b', 'c', 'd')", "1064"),
+    ("INSERT INTO t VALUES ('a','b','c','d','e','f')", "1064"),
+    ("INSERT INTO t (a, b) VALUES ('1')", "1064"),
+    ("INSERT INTO t (a, A) VALUES ('1', '2')", "1064"),
+    ("INSERT INTO t () VALUES ()", "1064"),
+    ("DELETE t", "1064"),
+    ("TRUNCATE", "1064"),
+    ("TRUNCATE TABLE t u", "1064"),
+    ("DROP TABLE t", "1064"),
+    ("INSERT INTO t VALUES ('a','b','c','d','e') ; ;", "1064"),
+];
+
 #[test]
 fn texts_say(rt: HostRuntime) -> Result<(), Fail> {
     let alloc = rt.alloc();
-    let rows = [
-        ("SELECT * FROM threads", "select threads all"),
-        ("select * from threads;", "select threads all"),
-        ("\tSELECT\t*\tFROM\tthreads ; \t", "select threads all"),
-        ("SELECT*FROM t", "select t all"),
-        ("SELECT a,B_2 , c3 FROM T", "select T 'a' 'B_2' 'c3'"),
-        ("SELECT a, a FROM t", "select t 'a' 'a'"),
-        ("SELECT * FROM performance_schema.users", "select users all"),
-        ("SELECT * FROM Performance_Schema.Users", "select Users all"),
-        ("SELECT from FROM from", "select from 'from'"),
-        (
-            "SELECT select, where FROM order WHERE where = 1",
-            "select order 'select' 'where' if where=1",
-        ),
-        ("SELECT 1 FROM 2", "select 2 '1'"),
-        (
-            "SELECT * FROM t WHERE a=0018446744073709551615",
-            "select t all if a=18446744073709551615",
-        ),
-        (
-            "SELECT * FROM t WHERE a <> 'x' AND b != 'it''s'",
-            "select t all if a!'x' if b!'it''s'",
-        ),
-        (
-            "SELECT * FROM t WHERE a<1 and b<=2 And c>3 aND d>=4",
-            "select t all if a<1 if b<=2 if c>3 if d>=4",
-        ),
-        (
-            "SELECT * FROM t WHERE a LIKE 'wait/%'",
-            "select t all if a~'wait/%'",
-        ),
-        (
-            "SELECT * FROM t WHERE a IS NULL AND b is not null",
-            "select t all if a none if b some",
-        ),
-        (
-            "SELECT * FROM t WHERE is IS NULL AND and LIKE ''",
-            "select t all if is none if and~''",
-        ),
-        ("SELECT * FROM t WHERE a=''''", "select t all if a=''''"),
-        (
-            "SELECT * FROM t WHERE a='1'AND b=2",
-            "select t all if a='1' if b=2",
-        ),
-        ("SELECT * FROM t ORDER BY a", "select t all upon a"),
-        (
-            "SELECT * FROM t ORDER BY a ASC, b DESC, c",
-            "select t all upon a down b upon c",
-        ),
-        (
-            "SELECT * FROM t ORDER BY desc DESC",
-            "select t all down desc",
-        ),
-        ("SELECT * FROM t ORDER BY asc", "select t all upon asc"),
-        (
-            "SELECT * FROM t ORDER BY by LIMIT 007",
-            "select t all upon by most 7",
-        ),
-        ("SELECT * FROM t LIMIT 0", "select t all most 0"),
-        (
-            "SELECT a FROM t WHERE b = 1 ORDER BY c DESC LIMIT 5;",
-            "select t 'a' if b=1 down c most 5",
-        ),
-        (
-            "UPDATE setup_consumers SET ENABLED = 'NO'",
-            "update setup_consumers ENABLED='NO'",
-        ),
-        (
-            "update t set a='x',b='y' where c = 'z'",
-            "update t a='x' b='y' if c='z'",
-        ),
-        ("UPDATE set SET set='set'", "update set set='set'"),
-        (
-            "INSERT INTO t VALUES ('a','b','c','d','e')",
-            "insert t all: 'a' 'b' 'c' 'd' 'e'",
-        ),
-        ("INSERT INTO t (HOST) VALUES('h');", "insert t 'HOST': 'h'"),
-        (
-            "insert into values (values, into) values ('1', '2')",
-            "insert values 'values' 'into': '1' '2'",
-        ),
-        ("DELETE FROM t", "delete t"),
-        ("DELETE FROM t WHERE a = '' ;", "delete t if a=''"),
-        ("TRUNCATE t", "truncate t"),
-        ("TRUNCATE TABLE performance_schema.t;", "truncate t"),
-        ("TRUNCATE table", "truncate table"),
-        ("TRUNCATE TABLE table ;", "truncate table"),
-    ];
-    for (text, want) in rows {
+    for (text, want) in &TEXTS {
         let mut shown = Vec::new(alloc);
-        let command = parse(alloc, text.as_bytes())?;
-        put_command(&mut shown, &command)?;
-        assert_eq!(rt; shown.as_slice(), want.as_bytes());
+        put_answer(&mut shown, parse(alloc, text.as_bytes()))?;
+        assert_eq!(rt; shown.as_slice(), want.as_bytes(), "{text}");
     }
     Ok(())
-}
-
-// Texts that are no command.
-#[test]
-fn texts_say_nothing(rt: HostRuntime) {
-    let rows = [
-        "",
-        " ",
-        ";",
-        "SELECT",
-        "SELECT FROM t",
-        "SELECT * FROM t;;",
-        "SELECT * FROM t; ;",
-        "SELECT * FROM t LIMIT 1 ORDER BY a",
-        "SELECT * FROM t LIMIT 18446744073709551616",
-        "SELECT * FROM t WHERE a = 18446744073709551616",
-        "SELECT * FROM t WHERE a = 1b",
-        "SELECT * FROM t WHERE a = b",
-        "SELECT * FROM t WHERE a = -1",
-        "SELECT * FROM t WHERE a = NULL",
-        "SELECT * FROM t WHERE a LIKE 1",
-        "SELECT * FROM t WHERE a = 'x",
-        "SELECT * FROM t WHERE a = 'x''",
-        "SELECT * FROM t WHERE a < > 1",
-        "SELECT * FROM t WHERE a = 1 OR b = 2",
-        "SELECT * FROM t WHERE a = 1, b = 2",
-        "SELECT * FROM mysql.user",
-        "SELECT * FROM performance_schema. t",
-        "SELECT * FROM performance_schema .t",
-        "SELECT * FROM performance_schema.",
-        "SELECT t.a FROM t",
-        "SELECT `a` FROM t",
-        "SELECT * FROM t\n",
-        "SELECT *, a FROM t",
-        "SELECT a, FROM t",
-        "UPDATE t SET a = 1",
-        "UPDATE t SET a = 'x', A = 'y'",
-        "INSERT INTO t VALUES ('a', 'b', 'c', 'd')",
-        "INSERT INTO t VALUES ('a','b','c','d','e','f')",
-        "INSERT INTO t (a, b) VALUES ('1')",
-        "INSERT INTO t (a, A) VALUES ('1', '2')",
-        "INSERT INTO t () VALUES ()",
-        "DELETE t",
-        "TRUNCATE",
-        "TRUNCATE TABLE t u",
-        "DROP TABLE t",
-    ];
-    for text in rows {
-        let answer = parse(rt.alloc(), text.as_bytes());
-        assert!(rt; matches!(answer, Err(SqlFault::Error(SqlError::Parse))));
-    }
 }
 
 // MySQL's numbers.
