@@ -36,20 +36,20 @@ table_kind kinds.Stage = Stages
 table_kind kinds.Statement = Statements
 table_kind kinds.Transaction = Transactions
 
-abbrev pub is_of : TableKind → Option Class → Bool
-is_of kind None = false
-is_of kind (Some class) = kind_number (table_kind class.kind) == kind_number kind
+abbrev pub is_class_of : TableKind → Option Class → Bool
+is_class_of kind None = false
+is_class_of kind (Some class) = kind_number (table_kind class.kind) == kind_number kind
 
 -- the cell is one of a registered class of the kind; `transaction` has cell 62 for READ WRITE and 63 for READ ONLY
-abbrev pub is_cell : List Class → TableKind → ℕ → Bool
-is_cell classes Waits cell = is_of Waits (slice_get classes cell)
-is_cell classes Stages cell = is_of Stages (slice_get classes cell)
-is_cell classes Statements cell = is_of Statements (slice_get classes cell)
-is_cell classes Transactions cell = nat_le 62 cell && nat_lt cell 64
+abbrev pub is_kind_cell : List Class → TableKind → ℕ → Bool
+is_kind_cell classes Waits cell = is_class_of Waits (slice_get classes cell)
+is_kind_cell classes Stages cell = is_class_of Stages (slice_get classes cell)
+is_kind_cell classes Statements cell = is_class_of Statements (slice_get classes cell)
+is_kind_cell classes Transactions cell = nat_le 62 cell && nat_lt cell 64
 
 -- the cells that a table has of each thread, account, user and host, and of all together
 abbrev pub has_cell : Scope → Table → ℕ → Bool
-has_cell scope (Summary kind which) cell = is_cell scope.classes kind cell
+has_cell scope (Summary kind which) cell = is_kind_cell scope.classes kind cell
 has_cell scope _ cell = false
 
 -- the table reads the infos of threads, and what they open

@@ -4,7 +4,7 @@ ghost use Rattle.std.specs.Prelude.{◌≡◌, ◌<◌, ℕ, false, slice_index_
 ghost use Rattle.pfs_readsets.specs.Places as spec;
 ghost use Rattle.pfs_readsets.specs.Places.{scope_of};
 
-use pfs_classes::{ClassId, Classes, Kind, Setting};
+use pfs_classes::{Class, ClassId, Classes, Kind, Setting};
 use pfs_rows::{EventTable, SummaryTable, Table, TableKind};
 
 // How many cells a thread, account, user or host has.
@@ -28,17 +28,27 @@ pub fn table_kind(kind: Kind) -> TableKind
     }
 }
 
+/// Whether there is a class and it has events of the kind.
+pub fn is_class_of(kind: TableKind, class: Option<Class>) -> bool
+    ensures { result ≡ spec.is_class_of kind class }
+{
+    match class {
+        Some(class) => table_kind(class.kind) == kind,
+        None => false,
+    }
+}
+
 // Whether the class with this id is registered beside `transaction` and has events of the kind.
 fn is_class(classes: &Classes, kind: TableKind, id: u64) -> bool
-    ensures { result ≡ spec.is_of kind (slice_get classes.now.classes id) }
+    ensures { result ≡ spec.is_class_of kind (slice_get classes.now.classes id) }
 {
-    id < classes.count() && table_kind(classes.class(ClassId(id)).kind) == kind
+    id < classes.count() && is_class_of(kind, Some(classes.class(ClassId(id))))
 }
 
 /// Whether the cell is one of a registered class of the kind. `transaction` has cell 62 for READ
 /// WRITE and 63 for READ ONLY.
-pub fn is_cell(classes: &Classes, kind: TableKind, cell: u64) -> bool
-    ensures { result ≡ spec.is_cell classes.now.classes kind cell }
+pub fn is_kind_cell(classes: &Classes, kind: TableKind, cell: u64) -> bool
+    ensures { result ≡ spec.is_kind_cell classes.now.classes kind cell }
 {
     match kind {
         TableKind::Waits | TableKind::Stages | TableKind::Statements => {
@@ -52,7 +62,7 @@ fn has_cell(setting: &Setting, table: Table, cell: u64) -> bool
     ensures { result ≡ spec.has_cell (scope_of setting.now) table cell }
 {
     match table {
-        Table::Summary(kind, _) => is_cell(&setting.classes, kind, cell),
+        Table::Summary(kind, _) => is_kind_cell(&setting.classes, kind, cell),
         _ => false,
     }
 }

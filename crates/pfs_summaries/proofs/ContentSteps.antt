@@ -7,7 +7,7 @@ use Rattle.std.proofs.lemmas.List.FromFn.{length-map-range_with_len, get_or-map-
 use Rattle.std.proofs.lemmas.Bool.{cases_eq, cases_lt, eq-eqb, ne_eqb, le-leb, lt-leb, cond-true, cond-false}
 use Rattle.pfs_rows.specs.declared.table.Reading.{Reading}
 use Rattle.pfs_rows.specs.declared.table.Reading.TheVariants.{Slot, Word}
-use Rattle.pfs_summaries.specs.Contents.{reads_row, content_in, content_at, contents_of, whole_of}
+use Rattle.pfs_summaries.specs.Contents.{is_reading_of, content_in, content_at, contents_of, whole_of}
 use Rattle.pfs_summaries.specs.Steps.{with_reading}
 
 picked : (b : Bool) (reading : Reading) (rest : Option Reading) → option_and_then content_in (cond b (Some reading) rest) ≡ cond b (content_in reading) (option_and_then content_in rest)
@@ -15,10 +15,10 @@ picked true reading rest = refl
 picked false reading rest = refl
 
 -- the last reading of a row counts
-pub content_push : (readings : List Reading) (reading : Reading) (row : ℕ) → content_at (readings ++ reading ∷ []) row ≡ cond (reads_row row reading) (content_in reading) (content_at readings row)
+pub content_push : (readings : List Reading) (reading : Reading) (row : ℕ) → content_at (readings ++ reading ∷ []) row ≡ cond (is_reading_of row reading) (content_in reading) (content_at readings row)
 content_push readings reading row =
-    ap (λ (rs : List Reading). option_and_then content_in (find (reads_row row) rs)) (reverse-append readings (reading ∷ []))
-    ∙ picked (reads_row row reading) reading (find (reads_row row) (reverse readings))
+    ap (λ (rs : List Reading). option_and_then content_in (find (is_reading_of row) rs)) (reverse-append readings (reading ∷ []))
+    ∙ picked (is_reading_of row reading) reading (find (is_reading_of row) (reverse readings))
 
 -- contents with one row's written
 written : (row first i : ℕ) (v : Option (List ℕ)) (old : List (Option (List ℕ))) → first ≤ row → i < length old → get_or (set old (row - first) v) i None ≡ cond (eqb row (first + i)) v (get_or old i None)

@@ -15,6 +15,7 @@ use Rattle.pfs_rows.specs.declared.table.SummaryTable.{SummaryTable}
 use Rattle.pfs_rows.specs.declared.table.SummaryTable.TheVariants.{ByThread, ByAccount, ByUser, ByHost, Global}
 use Rattle.pfs_classes.specs.declared.setting.Setting.{Setting}
 use Rattle.pfs_classes.specs.Registry.{class_at}
+use Rattle.pfs_readsets.specs.Places.{is_class_of}
 use Rattle.pfs_values.specs.declared.RowValue.{RowValue}
 use Rattle.pfs_values.specs.declared.RowValue.TheVariants as value
 use Rattle.pfs_summaries.specs.declared.heads.Head.{Head}
@@ -24,7 +25,7 @@ use Rattle.pfs_summaries.specs.declared.numbers.Numbers.TheVariants as numbers
 use Rattle.pfs_summaries.specs.declared.tallies.Tally.{Tally}
 use Rattle.pfs_summaries.specs.RowValues.{values_of, count_of}
 use Rattle.pfs_summaries.specs.Heads.{head_of, places_of, heading_of}
-use Rattle.pfs_summaries.specs.Summaries.{is_of, class_text, numbers_of, is_skipped, key_at, row_values, class_rows, head_rows, place_rows, put_row, listed_rows, summary_of}
+use Rattle.pfs_summaries.specs.Summaries.{class_text, numbers_of, is_skipped, key_at, row_values, class_rows, head_rows, place_rows, put_row, ordered_rows, summary_rows_of}
 use Rattle.pfs_summaries.proofs.Ranges.{made_same}
 
 numbers_same : (kind : TableKind) (a b : ℕ → Tally) (id : ℕ) → id < 63 → ((cell : ℕ) → cell < 64 → a cell ≡ b cell) → numbers_of kind a id ≡ numbers_of kind b id
@@ -47,7 +48,7 @@ unfolding class_rows row_values
 class_same setting kind which place a b head id h same =
     let text : List ℕ = class_text setting.names (class_at setting.classes id) in
     let rows : Numbers → Bool → List (RowKey × List RowValue) = λ (n : Numbers) (s : Bool).
-    if is_of kind (class_at setting.classes id) && not s && (head.stands || not (count_of n == 0))
+    if is_class_of kind (class_at setting.classes id) && not s && (head.stands || not (count_of n == 0))
     then (key_at head place id, heading_of which head ++ value.Text text ∷ [] ++ values_of n) ∷ [] else [] in
     ap (λ (n : Numbers). rows n (is_skipped kind a id)) (numbers_same kind a b id h same)
     ∙ ap (λ (s : Bool). rows (numbers_of kind b id) s) (skipped_same kind a b id h same)
@@ -66,8 +67,8 @@ few_places ByHost = omega arith
 few_places Global = omega arith
 
 pub listed_same : (setting : Setting) (kind : TableKind) (which : SummaryTable) (infos : List (Option (List ℕ))) (a b : ℕ → ℕ → Tally) → ((key cell : ℕ) → key < 32 → cell < 64 → a key cell ≡ b key cell)
-    → listed_rows setting kind which infos a ≡ listed_rows setting kind which infos b
-unfolding listed_rows
+    → ordered_rows setting kind which infos a ≡ ordered_rows setting kind which infos b
+unfolding ordered_rows
 listed_same setting kind which infos a b same =
     let few : places_of which ≤ 32 = few_places which in
     ap (λ (rows : List (RowKey × List RowValue)). fold put_row [] rows)
@@ -78,17 +79,17 @@ abbrev values_in : List (RowKey × List RowValue) → List (List RowValue)
 values_in rows = map (λ (row : RowKey × List RowValue). row.1) rows
 
 -- a table that is hidden, and one that isn't
-pub hidden : (setting : Setting) (kind : TableKind) (which : SummaryTable) (readings : List Reading) → list_any (is_hidden_by which) readings ≡ true → [] ≡ summary_of setting kind which readings
-unfolding summary_of
+pub hidden : (setting : Setting) (kind : TableKind) (which : SummaryTable) (readings : List Reading) → list_any (is_hidden_by which) readings ≡ true → [] ≡ summary_rows_of setting kind which readings
+unfolding summary_rows_of
 hidden setting kind which readings on =
-    sym (cond-true (list_any (is_hidden_by which) readings) [] (values_in (listed_rows setting kind which (infos_of readings) (tally_of which (infos_of readings) readings))) on)
+    sym (cond-true (list_any (is_hidden_by which) readings) [] (values_in (ordered_rows setting kind which (infos_of readings) (tally_of which (infos_of readings) readings))) on)
 
 pub shown : (setting : Setting) (kind : TableKind) (which : SummaryTable) (readings : List Reading) (infos : List (Option (List ℕ))) (tallies : List Tally) (rows : List (List RowValue))
-    → list_any (is_hidden_by which) readings ≡ false → infos ≡ infos_of readings → AreTallies which infos readings tallies → rows ≡ values_in (listed_rows setting kind which infos (tally_in tallies))
-    → rows ≡ summary_of setting kind which readings
-unfolding summary_of
+    → list_any (is_hidden_by which) readings ≡ false → infos ≡ infos_of readings → AreTallies which infos readings tallies → rows ≡ values_in (ordered_rows setting kind which infos (tally_in tallies))
+    → rows ≡ summary_rows_of setting kind which readings
+unfolding summary_rows_of
 shown setting kind which readings infos tallies rows off e are w =
-    let by : List (Option (List ℕ)) → List (List RowValue) = λ (is : List (Option (List ℕ))). values_in (listed_rows setting kind which is (tally_of which is readings)) in
+    let by : List (Option (List ℕ)) → List (List RowValue) = λ (is : List (Option (List ℕ))). values_in (ordered_rows setting kind which is (tally_of which is readings)) in
     w
     ∙ (ap (λ (z : List (RowKey × List RowValue)). values_in z) (listed_same setting kind which infos (tally_in tallies) (tally_of which infos readings) are.each)
     ∙ (ap by e
@@ -97,7 +98,7 @@ shown setting kind which readings infos tallies rows off e are w =
 -- the same for lists that are lent
 pub shown_at : (setting : Setting) (kind : TableKind) (which : SummaryTable) (readings : List Reading) (infos a b : List (Option (List ℕ))) (tallies t : List Tally) (rows out : List (List RowValue))
     → list_any (is_hidden_by which) readings ≡ false → infos ≡ infos_of readings → a ≡ infos → AreTallies which a readings tallies → b ≡ infos → t ≡ tallies
-    → rows ≡ values_in (listed_rows setting kind which b (tally_in t)) → out ≡ rows → out ≡ summary_of setting kind which readings
+    → rows ≡ values_in (ordered_rows setting kind which b (tally_in t)) → out ≡ rows → out ≡ summary_rows_of setting kind which readings
 shown_at setting kind which readings infos a b tallies t rows out off e ea are eb et w o =
     let P : List (Option (List ℕ)) → Type 0 = λ (is : List (Option (List ℕ))). AreTallies which is readings tallies in
     let Q : List Tally → Type 0 = λ (ts : List Tally). AreTallies which b readings ts in

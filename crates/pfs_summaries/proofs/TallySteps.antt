@@ -19,7 +19,7 @@ use Rattle.pfs_stat.specs.declared.Stat.{Stat}
 use Rattle.pfs_stat.specs.Stat.{zero_of, merge_of, merge_all, stat_of_words}
 use Rattle.pfs_summaries.specs.declared.tallies.Tally.{Tally}
 use Rattle.pfs_summaries.specs.Contents.{found_busy}
-use Rattle.pfs_summaries.specs.Cells.{key_of, cell_of, is_number, is_cell, reads_cell, counted_in, tally_of}
+use Rattle.pfs_summaries.specs.Cells.{key_of, cell_of, is_number, is_key_cell, reads_key_cell, counted_in, tally_of}
 use Rattle.pfs_summaries.proofs.ContentSteps.{written_back}
 use Rattle.pfs_summaries.specs.Steps.{none_of, added, at_key, at_place, with_cell, tally_in, AreTallies}
 
@@ -55,18 +55,18 @@ word_step s false = refl
 
 -- the tally with one reading more
 step : (which : SummaryTable) (infos : List (Option (List ℕ))) (key cell : ℕ) (reading : Reading) (s : Stat) (x : Bool)
-    → make (fold merge_of s (filter_map (counted_in which infos key cell) (reading ∷ []))) (x || list_any (λ one. reads_cell which infos key cell one && found_busy one) (reading ∷ []))
-    ≡ cond (reads_cell which infos key cell reading) (added_by reading (make s x)) (make s x)
-step which infos key cell (Slot row (Whole version words)) s x = whole_step (is_cell which infos key cell (place_at row)) version words s x
-step which infos key cell (Slot row (Free word)) s x = free_step (is_cell which infos key cell (place_at row)) word s x
-step which infos key cell (Slot row (Busy first second)) s x = busy_step (is_cell which infos key cell (place_at row)) first second s x
+    → make (fold merge_of s (filter_map (counted_in which infos key cell) (reading ∷ []))) (x || list_any (λ one. reads_key_cell which infos key cell one && found_busy one) (reading ∷ []))
+    ≡ cond (reads_key_cell which infos key cell reading) (added_by reading (make s x)) (make s x)
+step which infos key cell (Slot row (Whole version words)) s x = whole_step (is_key_cell which infos key cell (place_at row)) version words s x
+step which infos key cell (Slot row (Free word)) s x = free_step (is_key_cell which infos key cell (place_at row)) word s x
+step which infos key cell (Slot row (Busy first second)) s x = busy_step (is_key_cell which infos key cell (place_at row)) first second s x
 step which infos key cell (Word word version flags) s x = word_step s x
 
 pub tally_push : (which : SummaryTable) (infos : List (Option (List ℕ))) (readings : List Reading) (reading : Reading) (key cell : ℕ)
-    → tally_of which infos (readings ++ reading ∷ []) key cell ≡ cond (reads_cell which infos key cell reading) (added_by reading (tally_of which infos readings key cell)) (tally_of which infos readings key cell)
+    → tally_of which infos (readings ++ reading ∷ []) key cell ≡ cond (reads_key_cell which infos key cell reading) (added_by reading (tally_of which infos readings key cell)) (tally_of which infos readings key cell)
 tally_push which infos readings reading key cell =
     let f : Reading → Option Stat = counted_in which infos key cell in
-    let p : Reading → Bool = λ (one : Reading). reads_cell which infos key cell one && found_busy one in
+    let p : Reading → Bool = λ (one : Reading). reads_key_cell which infos key cell one && found_busy one in
     let s : Stat = merge_all (filter_map f readings) in
     let x : Bool = list_any p readings in
     ap (λ (xs : List Stat). make (merge_all xs) (list_any p (readings ++ reading ∷ []))) (filter_map-append f readings (reading ∷ []))
@@ -153,12 +153,12 @@ keyed seen tallies (Some j) c key cell long low lk lc =
     ]
 
 at_the : (which : SummaryTable) (infos : List (Option (List ℕ))) (seen : Seen) (tallies : List Tally) (o : Option Place) (key cell : ℕ) → length tallies ≡ 2048 → ((place : Place) → o ≡ Some place → cell_of place < 64)
-    → key < 32 → cell < 64 → tally_in (at_place which infos seen tallies o) key cell ≡ cond (is_cell which infos key cell o) (added seen (tally_in tallies key cell)) (tally_in tallies key cell)
+    → key < 32 → cell < 64 → tally_in (at_place which infos seen tallies o) key cell ≡ cond (is_key_cell which infos key cell o) (added seen (tally_in tallies key cell)) (tally_in tallies key cell)
 at_the which infos seen tallies None key cell long low lk lc = refl
 at_the which infos seen tallies (Some place) key cell long low lk lc = keyed seen tallies (key_of which infos place) (cell_of place) key cell long (low place refl) lk lc
 
 pub cell_more : (which : SummaryTable) (infos : List (Option (List ℕ))) (reading : Reading) (tallies : List Tally) (key cell : ℕ) → length tallies ≡ 2048 → ((row : ℕ) (place : Place) → place_at row ≡ Some place → cell_of place < 64)
-    → key < 32 → cell < 64 → tally_in (with_cell which infos reading tallies) key cell ≡ cond (reads_cell which infos key cell reading) (added_by reading (tally_in tallies key cell)) (tally_in tallies key cell)
+    → key < 32 → cell < 64 → tally_in (with_cell which infos reading tallies) key cell ≡ cond (reads_key_cell which infos key cell reading) (added_by reading (tally_in tallies key cell)) (tally_in tallies key cell)
 cell_more which infos (Word word version flags) tallies key cell long low lk lc = refl
 cell_more which infos (Slot row seen) tallies key cell long low lk lc = at_the which infos seen tallies (place_at row) key cell long (low row) lk lc
 
@@ -193,7 +193,7 @@ tallies_more which infos readings i d before slice written n back found none h a
       each = λ key cell lk lc.
           ap (λ (ts : List Tally). tally_in ts key cell) now
           ∙ (cell_more which infos reading before key cell are.count (placed back found none) lk lc
-          ∙ (ap (λ (t : Tally). cond (reads_cell which infos key cell reading) (added_by reading t) t) (are.each key cell lk lc)
+          ∙ (ap (λ (t : Tally). cond (reads_key_cell which infos key cell reading) (added_by reading t) t) (are.each key cell lk lc)
           ∙ (sym (tally_push which infos (take i readings) reading key cell)
           ∙ ap (λ (rs : List Reading). tally_of which infos rs key cell) (sym (take_more readings i d h)))));
     }

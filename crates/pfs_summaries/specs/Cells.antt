@@ -66,26 +66,26 @@ is_number number None = false
 is_number number (Some other) = other == number
 
 -- the place is a cell of this number that belongs to the key
-abbrev pub is_cell : SummaryTable → List (Option (List ℕ)) → ℕ → ℕ → Option Place → Bool
-is_cell which infos key cell None = false
-is_cell which infos key cell (Some place) = is_number key (key_of which infos place) && (cell_of place == cell)
+abbrev pub is_key_cell : SummaryTable → List (Option (List ℕ)) → ℕ → ℕ → Option Place → Bool
+is_key_cell which infos key cell None = false
+is_key_cell which infos key cell (Some place) = is_number key (key_of which infos place) && (cell_of place == cell)
 
 -- and so a reading of it
-abbrev pub reads_cell : SummaryTable → List (Option (List ℕ)) → ℕ → ℕ → Reading → Bool
-reads_cell which infos key cell (Slot row seen) = is_cell which infos key cell (place_at row)
-reads_cell which infos key cell (Word word version flags) = false
+abbrev pub reads_key_cell : SummaryTable → List (Option (List ℕ)) → ℕ → ℕ → Reading → Bool
+reads_key_cell which infos key cell (Slot row seen) = is_key_cell which infos key cell (place_at row)
+reads_key_cell which infos key cell (Word word version flags) = false
 
 -- what a reading of a cell of the key counted, where it found it whole
 abbrev pub counted_in : SummaryTable → List (Option (List ℕ)) → ℕ → ℕ → Reading → Option Stat
 counted_in which infos key cell reading =
-    if reads_cell which infos key cell reading then option_map stat_of_words (content_in reading) else None
+    if reads_key_cell which infos key cell reading then option_map stat_of_words (content_in reading) else None
 
 -- of the cells of this number that belong to the key: the merge of those that were found whole, and whether one was
 -- busy
 abbrev pub tally_of : SummaryTable → List (Option (List ℕ)) → List Reading → ℕ → ℕ → Tally
 tally_of which infos readings key cell = record {
   stat = merge_all (filter_map (counted_in which infos key cell) readings);
-  busy = list_any (λ reading. reads_cell which infos key cell reading && found_busy reading) readings;
+  busy = list_any (λ reading. reads_key_cell which infos key cell reading && found_busy reading) readings;
 }
 
 -- an info that, found busy, leaves a table without rows: but for the table by thread those of threads and accounts,

@@ -23,9 +23,9 @@ is_busy (Whole version content) = false
 is_busy (Free word) = false
 
 -- a reading of this row
-abbrev pub reads_row : ℕ → Reading → Bool
-reads_row row (Slot other seen) = other == row
-reads_row row (Word word version flags) = false
+abbrev pub is_reading_of : ℕ → Reading → Bool
+is_reading_of row (Slot other seen) = other == row
+is_reading_of row (Word word version flags) = false
 
 abbrev pub content_in : Reading → Option (List ℕ)
 content_in (Slot row seen) = whole_of seen
@@ -37,7 +37,7 @@ found_busy (Word word version flags) = false
 
 -- the content that the last reading of a row found, where it found it whole
 abbrev pub content_at : List Reading → ℕ → Option (List ℕ)
-content_at readings row = option_and_then content_in (find (reads_row row) (reverse readings))
+content_at readings row = option_and_then content_in (find (is_reading_of row) (reverse readings))
 
 -- the contents of so many rows from the first on
 abbrev pub contents_of : ℕ → ℕ → List Reading → List (Option (List ℕ))

@@ -1,17 +1,15 @@
 -- The rows of a summary.
-use Rattle.std.specs.Prelude.{ℕ, ◌==◌, ◌&&◌, ◌||◌, not, Bool, false, if◌then◌else◌, List, [], ◌∷◌, ◌++◌, map, fold, Option, Some, None}
+use Rattle.std.specs.Prelude.{◌≡◌, ℕ, ◌<◌, ◌==◌, ◌&&◌, ◌||◌, not, Bool, true, if◌then◌else◌, List, [], ◌∷◌, ◌++◌, map, fold, Option, Some, None}
 use Rattle.std.specs.List.{flat_map, range_with_len, list_any}
 use Rattle.std.specs.BTreeMap.{insert_entry}
 use Rattle.pfs_rows.specs.declared.table.Reading.{Reading}
 use Rattle.pfs_rows.specs.declared.table.SummaryTable.{SummaryTable}
 use Rattle.pfs_rows.specs.declared.table.TableKind.{TableKind}
 use Rattle.pfs_rows.specs.declared.table.TableKind.TheVariants.{Waits, Stages, Statements, Transactions}
-use Rattle.pfs_rows.specs.Tables.{kind_number}
 use Rattle.pfs_classes.specs.declared.classes.Class.{Class}
-use Rattle.pfs_classes.specs.declared.kind.Kind.{Kind}
-use Rattle.pfs_classes.specs.declared.kind.Kind.TheVariants as kinds
 use Rattle.pfs_classes.specs.declared.setting.Setting.{Setting}
 use Rattle.pfs_classes.specs.Registry.{class_at, text_of}
+use Rattle.pfs_readsets.specs.Places.{is_class_of}
 use Rattle.pfs_values.specs.declared.RowValue.{RowValue}
 use Rattle.pfs_values.specs.declared.RowValue.TheVariants as value
 use Rattle.pfs_summaries.specs.declared.heads.Head.{Head}
@@ -23,23 +21,6 @@ use Rattle.pfs_summaries.specs.Contents.{infos_of}
 use Rattle.pfs_summaries.specs.Cells.{tally_of, is_hidden_by}
 use Rattle.pfs_summaries.specs.RowValues.{values_of, count_of}
 use Rattle.pfs_summaries.specs.Heads.{head_of, places_of, heading_of, row_cmp}
-
--- the kind of the tables that have the rows of a class
-abbrev pub table_kind : Kind → TableKind
-table_kind kinds.Mutex = Waits
-table_kind kinds.Rwlock = Waits
-table_kind kinds.Cond = Waits
-table_kind kinds.File = Waits
-table_kind kinds.Socket = Waits
-table_kind kinds.TableIo = Waits
-table_kind kinds.TableLock = Waits
-table_kind kinds.Stage = Stages
-table_kind kinds.Statement = Statements
-table_kind kinds.Transaction = Transactions
-
-abbrev pub is_of : TableKind → Option Class → Bool
-is_of kind None = false
-is_of kind (Some class) = kind_number (table_kind class.kind) == kind_number kind
 
 -- the name of a class
 abbrev pub class_text : List (List ℕ) → Option Class → List ℕ
@@ -64,7 +45,7 @@ is_skipped Transactions tally id = (tally 62).busy || (tally 63).busy
 -- doesn't stand by itself
 abbrev pub is_listed : Setting → TableKind → Head → (ℕ → Tally) → ℕ → Bool
 is_listed setting kind head tally id =
-    is_of kind (class_at setting.classes id) && not (is_skipped kind tally id)
+    is_class_of kind (class_at setting.classes id) && not (is_skipped kind tally id)
     && (head.stands || not (count_of (numbers_of kind tally id) == 0))
 
 -- its place in the order
@@ -110,15 +91,28 @@ abbrev pub put_rows : List (RowKey × List RowValue) → List (RowKey × List Ro
 put_rows rows more = fold put_row rows more
 
 -- the rows of a summary, in order
-unfoldable pub listed_rows : Setting → TableKind → SummaryTable → List (Option (List ℕ)) → (ℕ → ℕ → Tally)
+unfoldable pub ordered_rows : Setting → TableKind → SummaryTable → List (Option (List ℕ)) → (ℕ → ℕ → Tally)
     → List (RowKey × List RowValue)
-listed_rows setting kind which infos tally =
+ordered_rows setting kind which infos tally =
     put_rows [] (flat_map (place_rows setting kind which infos tally) (range_with_len 0 (places_of which)))
 
+-- a row that the readings give, with its place in the order: of a place that has rows, and of a class that is listed
+-- there
+pub record IsGiven (setting : Setting) (kind : TableKind) (which : SummaryTable) (infos : List (Option (List ℕ)))
+    (tally : ℕ → ℕ → Tally) (row : RowKey × List RowValue) : Type 0 where
+  pub place : ℕ
+  pub id : ℕ
+  pub head : Head
+  pub in_places : place < places_of which
+  pub in_classes : id < 63
+  pub opened : head_of which setting.names infos place ≡ Some head
+  pub listed : is_listed setting kind head (tally place) id ≡ true
+  pub is : row ≡ (key_at head place id, row_values setting kind which head (tally place) id)
+
 -- what a summary shows by the readings: nothing where a busy info hides all of it
-unfoldable pub summary_of : Setting → TableKind → SummaryTable → List Reading → List (List RowValue)
-summary_of setting kind which readings =
+unfoldable pub summary_rows_of : Setting → TableKind → SummaryTable → List Reading → List (List RowValue)
+summary_rows_of setting kind which readings =
     if list_any (is_hidden_by which) readings
     then []
     else map (λ (row : RowKey × List RowValue). row.1)
-    (listed_rows setting kind which (infos_of readings) (tally_of which (infos_of readings) readings))
+    (ordered_rows setting kind which (infos_of readings) (tally_of which (infos_of readings) readings))

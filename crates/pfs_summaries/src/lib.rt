@@ -4,6 +4,7 @@
 mod contents;
 mod digests;
 mod heads;
+pub mod laws;
 mod numbers;
 mod rows;
 mod summaries;

@@ -9,14 +9,15 @@ ghost use Rattle.std.specs.BTreeMap.{insert_entry};
 ghost use Rattle.pfs_summaries.specs.Heads.{head_of, places_of, row_cmp};
 ghost use Rattle.pfs_summaries.specs.RowValues.{count_of};
 ghost use Rattle.pfs_summaries.specs.Steps.{tally_in, none_of};
-ghost use Rattle.pfs_summaries.specs.Summaries.{table_kind, is_of, class_text, numbers_of, is_skipped, is_listed, row_values, class_rows, head_rows, place_rows, put_rows, listed_rows, key_at};
+ghost use Rattle.pfs_summaries.specs.Summaries.{class_text, numbers_of, is_skipped, is_listed, row_values, class_rows, head_rows, place_rows, put_rows, ordered_rows, key_at};
 
 use crate::NoMemory;
 use crate::heads::{Head, RowKey, head_of, places_of, put_value};
 use crate::numbers::Numbers;
 use crate::tallies::Tally;
-use pfs_classes::{Class, ClassId, Kind, Setting, laws};
+use pfs_classes::{Class, ClassId, Setting, laws};
 use pfs_infos::Content;
+use pfs_readsets::is_class_of;
 use pfs_rows::{SummaryTable, TableKind};
 use pfs_text::Text;
 use pfs_values::{Row, RowValue};
@@ -30,22 +31,12 @@ const READ_WRITE: u64 = 62;
 
 const READ_ONLY: u64 = 63;
 
-// The kind of the tables that have the rows of a class of this kind.
-fn table_kind(kind: Kind) -> TableKind
-    ensures { result ≡ table_kind kind }
-{
-    match kind {
-        Kind::Mutex
-        | Kind::Rwlock
-        | Kind::Cond
-        | Kind::File
-        | Kind::Socket
-        | Kind::TableIo
-        | Kind::TableLock => TableKind::Waits,
-        Kind::Stage => TableKind::Stages,
-        Kind::Statement => TableKind::Statements,
-        Kind::Transaction => TableKind::Transactions,
-    }
+// Whose rows: the table's kind of events, by what it counts them, and the place of the board.
+#[derive(Clone, Copy)]
+struct RowOwner {
+    kind: TableKind,
+    which: SummaryTable,
+    place: u64,
 }
 
 // The class with this id, where there is one.
@@ -56,15 +47,6 @@ fn class_at(setting: &Setting, id: u64) -> Option<Class>
         Some(setting.classes.class(ClassId(id)))
     } else {
         None
-    }
-}
-
-fn is_of(kind: TableKind, class: Option<Class>) -> bool
-    ensures { result ≡ is_of kind class }
-{
-    match class {
-        Some(class) => table_kind(class.kind).number() == kind.number(),
-        None => false,
     }
 }
 
@@ -124,22 +106,15 @@ fn is_skipped(kind: TableKind, tallies: &[Tally], key: u64, id: u64) -> bool
 }
 
 // Whether the row stands.
-fn is_listed(
-    setting: &Setting,
-    kind: TableKind,
-    head: &Head,
-    tallies: &[Tally],
-    key: u64,
-    id: u64,
-) -> bool
+fn is_listed(setting: &Setting, owner: RowOwner, head: &Head, tallies: &[Tally], id: u64) -> bool
     requires length { length tallies.now ≡ 2048 }
-    requires key { key < 32 }
+    requires key { owner.place < 32 }
     requires class { id < 63 }
-    ensures { result ≡ is_listed setting.now kind head.now (tally_in tallies.now key) id }
+    ensures { result ≡ is_listed setting.now owner.kind head.now (tally_in tallies.now owner.place) id }
 {
-    is_of(kind, class_at(setting, id))
-        && !is_skipped(kind, tallies, key, id)
-        && (head.stands || numbers_of(kind, tallies, key, id).count() != 0)
+    is_class_of(owner.kind, class_at(setting, id))
+        && !is_skipped(owner.kind, tallies, owner.place, id)
+        && (head.stands || numbers_of(owner.kind, tallies, owner.place, id).count() != 0)
 }
 
 // The values of a class's row.
@@ -147,24 +122,22 @@ fn is_listed(
 fn row_values(
     alloc: Global,
     setting: &Setting,
-    kind: TableKind,
-    which: SummaryTable,
+    owner: RowOwner,
     head: &Head,
     tallies: &[Tally],
-    key: u64,
     id: u64,
 ) -> Result<Vec<RowValue>, NoMemory>
     requires length { length tallies.now ≡ 2048 }
-    requires key { key < 32 }
+    requires key { owner.place < 32 }
     requires class { id < 63 }
     ensures { IfOk result (λ values. values.items
-        ≡ row_values setting.now kind which head.now (tally_in tallies.now key) id) }
+        ≡ row_values setting.now owner.kind owner.which head.now (tally_in tallies.now owner.place) id) }
 {
     let mut values = Vec::new(alloc);
-    head.put(which, &mut values)?;
+    head.put(owner.which, &mut values)?;
     let name = class_text(alloc, setting, id)?;
     put_value(&mut values, RowValue::Text(name))?;
-    numbers_of(kind, tallies, key, id).put(&mut values)?;
+    numbers_of(owner.kind, tallies, owner.place, id).put(&mut values)?;
     Ok(values)
 }
 
@@ -181,26 +154,24 @@ fn insert_row(rows: &mut BTreeMap<RowKey, Row>, key: RowKey, row: Row) -> Result
 fn put_class(
     alloc: Global,
     setting: &Setting,
-    kind: TableKind,
-    which: SummaryTable,
-    place: u64,
+    owner: RowOwner,
     tallies: &[Tally],
     head: &Head,
     id: u64,
     rows: &mut BTreeMap<RowKey, Row>,
 ) -> Result<(), NoMemory>
     requires length { length tallies.now ≡ 2048 }
-    requires key { place < 32 }
+    requires key { owner.place < 32 }
     requires class { id < 63 }
     ensures { OnOk result (rows.new.entries
         ≡ put_rows rows.old.entries
-        (class_rows setting.now kind which place (tally_in tallies.now place) head.now id)) }
+        (class_rows setting.now owner.kind owner.which owner.place (tally_in tallies.now owner.place) head.now id)) }
 {
-    if !is_listed(setting, kind, head, tallies, place, id) {
+    if !is_listed(setting, owner, head, tallies, id) {
         return Ok(());
     }
-    let values = row_values(alloc, setting, kind, which, head, tallies, place, id)?;
-    let key = head.row_key(place, id)?;
+    let values = row_values(alloc, setting, owner, head, tallies, id)?;
+    let key = head.row_key(owner.place, id)?;
     insert_row(rows, key, Row::new(values))
 }
 
@@ -208,22 +179,21 @@ fn put_class(
 fn put_classes(
     alloc: Global,
     setting: &Setting,
-    kind: TableKind,
-    which: SummaryTable,
-    place: u64,
+    owner: RowOwner,
     tallies: &[Tally],
     head: &Head,
     rows: &mut BTreeMap<RowKey, Row>,
 ) -> Result<(), NoMemory>
     requires length { length tallies.now ≡ 2048 }
-    requires key { place < 32 }
+    requires key { owner.place < 32 }
     ensures { OnOk result (rows.new.entries
         ≡ put_rows rows.old.entries
-        (flat_map (class_rows setting.now kind which place (tally_in tallies.now place) head.now)
+        (flat_map
+        (class_rows setting.now owner.kind owner.which owner.place (tally_in tallies.now owner.place) head.now)
         (range_with_len 0 63))) }
 {
     for id in 0..IDS {
-        match put_class(alloc, setting, kind, which, place, tallies, head, id, rows) {
+        match put_class(alloc, setting, owner, tallies, head, id, rows) {
             Ok(()) => {}
             Err(fault) => return Err(fault),
         }
@@ -235,26 +205,25 @@ fn put_classes(
 fn put_place(
     alloc: Global,
     setting: &Setting,
-    kind: TableKind,
-    which: SummaryTable,
+    owner: RowOwner,
     infos: &[Option<Content>],
     tallies: &[Tally],
-    place: u64,
     rows: &mut BTreeMap<RowKey, Row>,
 ) -> Result<(), NoMemory>
     requires length { length tallies.now ≡ 2048 }
-    requires key { place < 32 }
+    requires key { owner.place < 32 }
     ensures { OnOk result (rows.new.entries
-        ≡ put_rows rows.old.entries (place_rows setting.now kind which infos.now (tally_in tallies.now) place)) }
+        ≡ put_rows rows.old.entries
+        (place_rows setting.now owner.kind owner.which infos.now (tally_in tallies.now) owner.place)) }
 {
-    match head_of(alloc, which, &setting.names, infos, place)? {
-        Some(head) => put_classes(alloc, setting, kind, which, place, tallies, &head, rows),
+    match head_of(alloc, owner.which, &setting.names, infos, owner.place)? {
+        Some(head) => put_classes(alloc, setting, owner, tallies, &head, rows),
         None => Ok(()),
     }
 }
 
 // The rows of all places, in their order.
-#[tactic(auto, unfolding(crate::specs::Summaries::listed_rows))]
+#[tactic(auto, unfolding(crate::specs::Summaries::ordered_rows))]
 fn put_places(
     alloc: Global,
     setting: &Setting,
@@ -264,13 +233,12 @@ fn put_places(
     tallies: &[Tally],
 ) -> Result<BTreeMap<RowKey, Row>, NoMemory>
     requires { length tallies.now ≡ 2048 }
-    ensures { IfOk result (λ rows. rows.entries ≡ listed_rows setting.now kind which infos.now (tally_in tallies.now)) }
+    ensures { IfOk result (λ rows. rows.entries ≡ ordered_rows setting.now kind which infos.now (tally_in tallies.now)) }
 {
     let mut rows = BTreeMap::new(alloc);
     for place in 0..places_of(which) {
-        match put_place(
-            alloc, setting, kind, which, infos, tallies, place, &mut rows,
-        ) {
+        let owner = RowOwner { kind, which, place };
+        match put_place(alloc, setting, owner, infos, tallies, &mut rows) {
             Ok(()) => {}
             Err(fault) => return Err(fault),
         }
@@ -279,7 +247,7 @@ fn put_places(
 }
 
 /// The rows of a summary, in order.
-pub fn listed_rows(
+pub fn ordered_rows(
     alloc: Global,
     setting: &Setting,
     kind: TableKind,
@@ -290,7 +258,7 @@ pub fn listed_rows(
     requires { length tallies.now ≡ 2048 }
     ensures { IfOk result (λ rows. rows.items
         ≡ map (λ (row : RowKey × List RowValue). row.1)
-        (listed_rows setting.now kind which infos.now (tally_in tallies.now))) }
+        (ordered_rows setting.now kind which infos.now (tally_in tallies.now))) }
 {
     let rows = put_places(alloc, setting, kind, which, infos, tallies)?;
     rows.into_values().collect(alloc)

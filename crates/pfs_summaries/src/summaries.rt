@@ -1,11 +1,11 @@
 //! What a summary shows.
 
 ghost use Rattle.std.specs.Prelude.{◌≡◌, IfOk};
-ghost use Rattle.pfs_summaries.specs.Summaries.{summary_of};
+ghost use Rattle.pfs_summaries.specs.Summaries.{summary_rows_of};
 
 use crate::NoMemory;
 use crate::contents::contents_of;
-use crate::rows::listed_rows;
+use crate::rows::ordered_rows;
 use crate::tallies::{is_hidden, tallies_of};
 use pfs_classes::Setting;
 use pfs_rows::{Reading, SummaryTable, TableKind};
@@ -28,13 +28,13 @@ pub fn summary_rows(
     which: SummaryTable,
     readings: &[Reading],
 ) -> Result<Rowset, NoMemory>
-    ensures { IfOk result (λ rows. rows ≡ summary_of setting.now kind which readings.now) }
+    ensures { IfOk result (λ rows. rows ≡ summary_rows_of setting.now kind which readings.now) }
 {
     if is_hidden(which, readings) {
         return Ok(Rowset::new(Vec::new(alloc)));
     }
     let infos = contents_of(alloc, 0, INFO_ROWS, readings)?;
     let tallies = tallies_of(alloc, which, &infos, readings)?;
-    let rows = listed_rows(alloc, setting, kind, which, &infos, &tallies)?;
+    let rows = ordered_rows(alloc, setting, kind, which, &infos, &tallies)?;
     Ok(Rowset::new(rows))
 }

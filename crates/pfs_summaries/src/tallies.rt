@@ -14,11 +14,13 @@ use pfs_rows::{Place, Reading, Seen, SummaryTable, laws, place_of};
 use pfs_stat::{Stat, zero};
 use std::alloc::Global;
 
-/// How many places a level has, and how many cells a place.
+/// How many places a level has.
 pub const PLACES: u64 = 32;
 
+// How many cells a place has.
 const CELLS: u64 = 64;
 
+// A tally for each cell of each place.
 const TALLIES: usize = 2_048;
 
 /// Of the cells with one number that belong to a key: the merge of those that were found whole, and

@@ -1,4 +1,5 @@
 pub mod Events
+pub mod Fits
 pub mod Orders
 pub mod Plain
 pub mod Shown

@@ -39,7 +39,7 @@ flag_value false = Text (codes "NO")
 abbrev pub bit_value : ℕ → ℕ → RowValue
 bit_value flags bit = flag_value (bit_at flags bit == 1)
 
--- the row of an event in a place: by thread and event, in the long history by ticket
+-- the place in the order of an event's row: by thread and event, in the long history by ticket
 abbrev pub event_key : EventTable → Fields → ℕ → RowKey
 event_key Current event place = number_key event.session event.number place
 event_key History event place = number_key event.session event.number place
@@ -185,7 +185,13 @@ abbrev pub rows_of : Setting → Table → List Reading → Reading → List Key
 rows_of setting table readings (Slot row seen) = option_to_list (slot_row setting table readings row seen)
 rows_of setting table readings (Word word version flags) = word_rows setting table word flags
 
--- what the table shows by the readings, in the order of its key
+-- the rows that the readings give, in the order of their readings and in the order of the table's key
+abbrev pub given_rows : Setting → Table → List Reading → List Keyed
+given_rows setting table readings = flat_map (rows_of setting table readings) readings
+
+abbrev pub sorted_rows : Setting → Table → List Reading → List Keyed
+sorted_rows setting table readings = put_rows [] (given_rows setting table readings)
+
+-- what the table shows by the readings
 unfoldable pub plain_rows_of : Setting → Table → List Reading → List (List RowValue)
-plain_rows_of setting table readings =
-    map (λ (row : Keyed). row.1) (put_rows [] (flat_map (rows_of setting table readings) readings))
+plain_rows_of setting table readings = map (λ (row : Keyed). row.1) (sorted_rows setting table readings)

@@ -5,14 +5,14 @@ use Rattle.pfs_rows.specs.declared.table.Table.TheVariants.{SetupActors, SetupOb
 use Rattle.pfs_rows.specs.declared.table.Reading.{Reading}
 use Rattle.pfs_classes.specs.declared.setting.Setting.{Setting}
 use Rattle.pfs_summaries.specs.Digests.{digests_of}
-use Rattle.pfs_summaries.specs.Summaries.{summary_of}
+use Rattle.pfs_summaries.specs.Summaries.{summary_rows_of}
 use Rattle.pfs_tables.specs.Plain.{plain_rows_of}
 use Rattle.pfs_values.specs.declared.RowValue.{RowValue}
 
 -- What the table shows by the readings. The rows of actors and objects are shown as they stand at their action, and
 -- come from no reading
 abbrev pub listed_rows : Setting → Table → List Reading → List (List RowValue)
-listed_rows setting (Summary kind which) readings = summary_of setting kind which readings
+listed_rows setting (Summary kind which) readings = summary_rows_of setting kind which readings
 listed_rows setting DigestSummary readings = digests_of setting readings
 listed_rows setting SetupActors readings = plain_rows_of setting SetupActors readings
 listed_rows setting SetupObjects readings = plain_rows_of setting SetupObjects readings

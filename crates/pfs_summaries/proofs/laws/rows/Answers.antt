@@ -1,0 +1,5 @@
+use Rattle.pfs_summaries.proofs.Given.{ascending, given}
+use Rattle.pfs_summaries.proofs.laws.rows.Goals as goal
+
+pub returns : goal.returns
+returns c = record { ascending = ascending; given = given }
