@@ -1,12 +1,17 @@
 -- The rows of the summary by digest.
-use Rattle.std.proofs.Common.{ℕ, ◌≡◌, ◌+◌, false, List, [], ◌++◌, length, Option, sym, ap, ◌∙◌, append-nil, ltb}
-use Rattle.std.specs.List.{flat_map, range_with_len}
+use Rattle.std.proofs.Common.{ℕ, ◌≡◌, ◌+◌, Bool, true, false, List, [], ◌∷◌, ◌++◌, length, Option, Some, None, sym, ap, ◌∙◌, append-nil, ltb}
+use Rattle.std.specs.Prelude.{◌==◌, if◌then◌else◌}
+use Rattle.std.specs.List.{AllByRecursion, flat_map, range_with_len}
 use Rattle.std.proofs.lemmas.Option.{slice_get_past}
 use Rattle.std.proofs.lemmas.Bool.{ltb-false}
 use Rattle.pfs_rows.specs.declared.table.Reading.{Reading}
 use Rattle.pfs_classes.specs.declared.setting.Setting.{Setting}
 use Rattle.pfs_classes.specs.declared.setting.DigestText.{DigestText}
+use Rattle.pfs_stat.specs.declared.Stat.{Stat}
+use Rattle.pfs_stat.specs.Stat.{stat_of_words}
 use Rattle.pfs_values.specs.declared.RowValue.{RowValue}
+use Rattle.pfs_summaries.specs.declared.numbers.Numbers.TheVariants as numbers
+use Rattle.pfs_summaries.specs.RowValues.{values_of}
 use Rattle.pfs_summaries.specs.Contents.{contents_of, info_at}
 use Rattle.pfs_summaries.specs.Digests.{null_heading, counted_row, place_row, digest_row, digests_of}
 
@@ -22,6 +27,15 @@ null_row contents = counted_row null_heading (info_at contents 0)
 
 abbrev place_rows : List DigestText → List (Option (List ℕ)) → List (List RowValue)
 place_rows digests contents = flat_map (digest_row digests contents) (range_with_len 0 64)
+
+-- what holds of a heading with any statements' numbers holds of the row that is counted, where there is one
+pub counted : (P : List RowValue → Type 0) (heading : List RowValue) → ((stat : Stat) → P (heading ++ values_of (numbers.Statements stat))) → (o : Option (List ℕ)) → AllByRecursion P (counted_row heading o)
+counted P heading so None = tt
+counted P heading so (Some words) = at ((stat_of_words words).count == 0)
+  where
+    at : (b : Bool) → AllByRecursion P (if b then [] else (heading ++ values_of (numbers.Statements (stat_of_words words))) ∷ [])
+    at true = tt
+    at false = (so (stat_of_words words), tt)
 
 -- all rows, one after another
 pub shown : (setting : Setting) (readings : List Reading) (contents a b : List (Option (List ℕ))) (digests : List DigestText) (none one two out : List (List RowValue))

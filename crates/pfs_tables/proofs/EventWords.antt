@@ -1,12 +1,12 @@
 -- An event's words give its fields, and words of no event none.
-use Rattle.std.proofs.Common.{◌≡◌, ◌≢◌, ℕ, ◌+◌, ◌*◌, ◌/◌, ◌%◌, ◌≤◌, Bool, true, false, nat_eq, List, length, Option, Some, None, MatchOption, refl, sym, ◌∙◌, ap, subst, arith, get_or}
+use Rattle.std.proofs.Common.{◌≡◌, ◌≢◌, ℕ, ◌+◌, ◌*◌, ◌/◌, ◌%◌, ◌≤◌, Bool, true, false, List, length, Option, Some, None, MatchOption, refl, sym, ◌∙◌, ap, arith}
 use Rattle.std.specs.Prelude.{◌&&◌, ◌==◌, nat_le, if◌then◌else◌, slice_index}
 use Rattle.std.proofs.lemmas.Bool.Decides.{nat_tests}
 use Rattle.pfs_event.specs.declared.event.Event.{Event}
 use Rattle.pfs_event.specs.Form.{bit_of}
 use Rattle.pfs_event.specs.Words.{words_of}
 use Rattle.pfs_event.proofs.WordLemmas.{rebuilt_is}
-use Rattle.pfs_tables.specs.Events.{Fields, fields_of, are_event, fields_in, event_in}
+use Rattle.pfs_tables.specs.Events.{fields_of, are_event, fields_in, event_in}
 
 bit_low : (b : Bool) (n : ℕ) → ((bit_of b + 2 * n) % 2 == 1) ≡ b
 bit_low true n = let e : (1 + 2 * n) % 2 ≡ 1 = omega arith in ap (λ k. k == 1) e

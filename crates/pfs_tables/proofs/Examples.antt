@@ -1,5 +1,5 @@
 -- Worked examples.
-use Rattle.std.proofs.Common.{◌≡◌, Bool, true, false, List, [], ◌∷◌, Option, Some, None, refl, ℕ}
+use Rattle.std.proofs.Common.{◌≡◌, true, false, List, [], ◌∷◌, Some, None, refl, ℕ}
 use Rattle.std.specs.Prelude.{codes, map}
 use Rattle.pfs_values.specs.declared.RowValue.TheVariants.{Null, Number, Text}
 use Rattle.pfs_tables.specs.Events.{Fields, event_in, event_head, are_event, fields_in}

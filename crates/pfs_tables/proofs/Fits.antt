@@ -1,10 +1,12 @@
 -- Each row that a table shows has a value for each column, of the column's kind.
-use Rattle.std.proofs.Common.{◌≡◌, ℕ, zero, suc, ◌+◌, Bool, true, false, not, ◌&&◌, List, [], ◌∷◌, ◌++◌, length, map, Option, Some, None, refl, sym, ap, subst}
+use Rattle.std.proofs.Common.{IfOk, ◌≡◌, ℕ, suc, ◌+◌, Bool, true, false, not, ◌&&◌, List, [], ◌∷◌, ◌++◌, length, map, Option, Some, None, refl, sym, ap, subst}
 use Rattle.std.specs.Prelude.{◌==◌, ◌-◌, ◌%◌, ◌^◌, if◌then◌else◌, nat_le, All, option_and_then, slice_get, codes}
+use Rattle.std.specs.Prelude.{Result, Ok, Err}
 use Rattle.std.specs.Option.{IfSome, option_map, option_to_list}
-use Rattle.std.specs.List.{AllByRecursion, AllZip, flat_map, list_any, range_with_len}
+use Rattle.std.specs.List.{AllByRecursion, flat_map, list_any, range_with_len}
 use Rattle.std.specs.Map.{values_of}
 use Rattle.std.specs.Int.{bit_at}
+use Rattle.std.proofs.lemmas.Bool.{false≢true}
 use Rattle.std.proofs.lemmas.List.{map-append}
 use Rattle.std.proofs.lemmas.List.Elements.{All-from_recursion, All-same, All-weaker}
 use Rattle.pfs_rows.specs.declared.table.Table.{Table}
@@ -21,8 +23,7 @@ use Rattle.pfs_rows.specs.declared.table.Seen.TheVariants as seens
 use Rattle.pfs_rows.specs.Rows.{place_at}
 use Rattle.pfs_classes.specs.declared.setting.Setting.{Setting}
 use Rattle.pfs_classes.specs.declared.setting.DigestText.{DigestText}
-use Rattle.pfs_classes.specs.declared.setting.TableName.{TableName}
-use Rattle.pfs_catalogue.specs.Columns.{Named, text, columns_of, event_columns, event_columns_of, summary_columns, summary_numbers}
+use Rattle.pfs_catalogue.specs.Columns.{Named, text, columns_of, event_columns, event_columns_of, summary_numbers}
 use Rattle.pfs_catalogue.specs.declared.columns.ColumnKind.TheVariants as columns
 use Rattle.pfs_consumers.specs.declared.Consumer.{Consumer}
 use Rattle.pfs_consumers.specs.Tree.{is_on}
@@ -30,11 +31,9 @@ use Rattle.pfs_infos.specs.declared.ThreadInfo.{ThreadInfo}
 use Rattle.pfs_infos.specs.declared.AccountInfo.{AccountInfo}
 use Rattle.pfs_infos.specs.declared.NameInfo.{NameInfo}
 use Rattle.pfs_infos.specs.Infos as infos
-use Rattle.pfs_stat.specs.Stat.{stat_of_words}
 use Rattle.pfs_values.specs.declared.RowValue.{RowValue}
-use Rattle.pfs_values.specs.declared.RowValue.TheVariants.{Null, Number, Text}
+use Rattle.pfs_values.specs.declared.RowValue.TheVariants.{Null, Text}
 use Rattle.pfs_summaries.specs.declared.heads.Head.{Head}
-use Rattle.pfs_summaries.specs.declared.heads.RowKey.{RowKey as SummaryKey}
 use Rattle.pfs_summaries.specs.declared.numbers.Numbers.TheVariants as numbers
 use Rattle.pfs_summaries.specs.declared.tallies.Tally.{Tally}
 use Rattle.pfs_summaries.specs.Contents.{contents_of, info_at, infos_of}
@@ -43,6 +42,7 @@ use Rattle.pfs_summaries.specs.Heads.{head_of, places_of, row_cmp as summary_cmp
 use Rattle.pfs_summaries.specs.RowValues.{values_of as numbers_shown, times_of, sums_of}
 use Rattle.pfs_summaries.specs.Summaries.{numbers_of, is_listed, key_at, row_values, class_rows, head_rows, place_rows, ordered_rows, summary_rows_of}
 use Rattle.pfs_summaries.specs.Digests.{null_heading, digest_heading, counted_row, place_row, digest_row, digests_of}
+use Rattle.pfs_summaries.proofs.DigestRows.{counted}
 use Rattle.pfs_summaries.proofs.Puts.{both, values_puts}
 use Rattle.pfs_tables.specs.Events.{Fields, where_true, has_ended, nesting_name, event_in, event_head, event_tail, event_values, named_values, class_name, table_values, object_of, digest_values, digest_of, statement_values}
 use Rattle.pfs_tables.specs.Fits.{fits, IsRow, IsRowOf}
@@ -95,17 +95,34 @@ optional P (Some row) h = (h, tt)
 
 -- ---- rows
 
-row_append : (as bs : List Named) (xs ys : List RowValue) → IsRow as xs → IsRow bs ys → IsRow (as ++ bs) (xs ++ ys)
+row_append : (cs bs : List Named) (xs ys : List RowValue) → IsRow cs xs → IsRow bs ys → IsRow (cs ++ bs) (xs ++ ys)
 row_append [] bs [] ys h k = k
 row_append [] bs (x ∷ xs) ys h k = absurd h
-row_append (a ∷ as) bs [] ys h k = absurd h
-row_append (a ∷ as) bs (x ∷ xs) ys h k = (h.0, row_append as bs xs ys h.1 k)
+row_append (a ∷ cs) bs [] ys h k = absurd h
+row_append (a ∷ cs) bs (x ∷ xs) ys h k = (h.0, row_append cs bs xs ys h.1 k)
 
-row_length : (as : List Named) (xs : List RowValue) → IsRow as xs → length xs ≡ length as
+row_length : (cs : List Named) (xs : List RowValue) → IsRow cs xs → length xs ≡ length cs
 row_length [] [] h = refl
 row_length [] (x ∷ xs) h = absurd h
-row_length (a ∷ as) [] h = absurd h
-row_length (a ∷ as) (x ∷ xs) h = ap suc (row_length as xs h.1)
+row_length (a ∷ cs) [] h = absurd h
+row_length (a ∷ cs) (x ∷ xs) h = ap suc (row_length cs xs h.1)
+
+-- a row whose values are known
+abbrev fits_all : List Named → List RowValue → Bool
+fits_all [] [] = true
+fits_all [] (x ∷ xs) = false
+fits_all (c ∷ cs) [] = false
+fits_all (c ∷ cs) (x ∷ xs) = fits x c.kind && fits_all cs xs
+
+both_true : (a b : Bool) → (a && b) ≡ true → (a ≡ true) × (b ≡ true)
+both_true true b h = (refl, h)
+both_true false b h = absurd (false≢true h)
+
+row_by : (cs : List Named) (xs : List RowValue) → fits_all cs xs ≡ true → IsRow cs xs
+row_by [] [] h = tt
+row_by [] (x ∷ xs) h = absurd (false≢true h)
+row_by (c ∷ cs) [] h = absurd (false≢true h)
+row_by (c ∷ cs) (x ∷ xs) h = let b = both_true (fits x c.kind) (fits_all cs xs) h in (b.0, row_by cs xs b.1)
 
 -- ---- events
 
@@ -113,15 +130,25 @@ head_fits : (event : Fields) (name : List ℕ) → IsRow event_columns (event_he
 unfolding event_head
 head_fits event name = (
   refl,
-  refl,
-  shown_fits (has_ended event) event.last,
-  refl,
-  shown_fits event.timed event.start,
-  shown_fits (event.timed && has_ended event) ((event.start + event.duration) % 2 ^ 64),
-  shown_fits (event.timed && has_ended event) event.duration,
-  shown_fits (not (event.nesting == 0)) event.parent,
-  nesting_fits event.nesting,
-  tt,
+  (
+    refl,
+    (
+      shown_fits (has_ended event) event.last,
+      (
+        refl,
+        (
+          shown_fits event.timed event.start,
+          (
+            shown_fits (event.timed && has_ended event) ((event.start + event.duration) % 2 ^ 64),
+            (
+              shown_fits (event.timed && has_ended event) event.duration,
+              (shown_fits (not (event.nesting == 0)) event.parent, (nesting_fits event.nesting, tt)),
+            ),
+          ),
+        ),
+      ),
+    ),
+  ),
 )
 
 object_fits : (setting : Setting) (link : ℕ) → IfSome (object_of setting link) (IsRow (event_columns_of Waits))
@@ -129,8 +156,8 @@ unfolding object_of
 object_fits setting link = at (link == 0)
   where
     at : (b : Bool) → IfSome (if b then Some (Null ∷ Null ∷ []) else option_map table_values (slice_get setting.tables (link - 1))) (IsRow (event_columns_of Waits))
-    at true = (refl, refl, tt)
-    at false = mapped_all (IsRow (event_columns_of Waits)) table_values (slice_get setting.tables (link - 1)) (λ table. (refl, refl, tt))
+    at true = (refl, (refl, tt))
+    at false = mapped_all (IsRow (event_columns_of Waits)) table_values (slice_get setting.tables (link - 1)) (λ table. (refl, (refl, tt)))
 
 abbrev digest_column : List Named
 digest_column = text (codes "DIGEST") ∷ []
@@ -149,7 +176,7 @@ tail_fits setting Waits event = object_fits setting event.link
 tail_fits setting Stages event = tt
 tail_fits setting Statements event =
     mapped (IsRow digest_column) (IsRow (event_columns_of Statements)) (λ digest. statement_values event ++ digest) (digest_of setting event.link) (digest_fits setting event.link)
-    (λ digest h. (refl, refl, refl, refl, refl, refl, h))
+    (λ digest h. (refl, (refl, (refl, (refl, (refl, (refl, h)))))))
 tail_fits setting Transactions event = (refl, tt)
 
 event_fits : (setting : Setting) (kind : TableKind) (which : EventTable) (place : ℕ) (words : List ℕ)
@@ -172,24 +199,24 @@ thread_fits setting place flags info =
     let make : List ℕ → List ℕ → Keyed = λ user host. (number_key info.session 0 place, thread_values info flags user host) in
     chained (λ (row : Keyed). IsRowOf Threads row.1) (λ user. option_map (make user) (slice_get setting.names info.host_name)) (slice_get setting.names info.user_name)
     (λ user. mapped_all (λ (row : Keyed). IsRowOf Threads row.1) (make user) (slice_get setting.names info.host_name)
-    (λ host. (refl, refl, refl, flag_fits (bit_at flags 0 == 1), flag_fits (bit_at flags 1 == 1), tt)))
+    (λ host. (refl, (refl, (refl, (flag_fits (bit_at flags 0 == 1), (flag_fits (bit_at flags 1 == 1), tt)))))))
 
 account_fits : (setting : Setting) (place : ℕ) (info : AccountInfo) → IfSome (account_row setting place info) (λ (row : Keyed). IsRowOf Accounts row.1)
 unfolding account_row
 account_fits setting place info =
     let make : List ℕ → List ℕ → Keyed = λ user host. (name_key user host place, account_values info user host) in
     chained (λ (row : Keyed). IsRowOf Accounts row.1) (λ user. option_map (make user) (slice_get setting.names info.host_name)) (slice_get setting.names info.user_name)
-    (λ user. mapped_all (λ (row : Keyed). IsRowOf Accounts row.1) (make user) (slice_get setting.names info.host_name) (λ host. (refl, refl, refl, refl, tt)))
+    (λ user. mapped_all (λ (row : Keyed). IsRowOf Accounts row.1) (make user) (slice_get setting.names info.host_name) (λ host. (refl, (refl, (refl, (refl, tt))))))
 
 user_fits : (setting : Setting) (place : ℕ) (info : NameInfo) → IfSome (name_row setting place info) (λ (row : Keyed). IsRowOf Users row.1)
 unfolding name_row
 user_fits setting place info =
-    mapped_all (λ (row : Keyed). IsRowOf Users row.1) (λ name. (name_key name [] place, name_values info name)) (slice_get setting.names info.name) (λ name. (refl, refl, refl, tt))
+    mapped_all (λ (row : Keyed). IsRowOf Users row.1) (λ name. (name_key name [] place, name_values info name)) (slice_get setting.names info.name) (λ name. (refl, (refl, (refl, tt))))
 
 host_fits : (setting : Setting) (place : ℕ) (info : NameInfo) → IfSome (name_row setting place info) (λ (row : Keyed). IsRowOf Hosts row.1)
 unfolding name_row
 host_fits setting place info =
-    mapped_all (λ (row : Keyed). IsRowOf Hosts row.1) (λ name. (name_key name [] place, name_values info name)) (slice_get setting.names info.name) (λ name. (refl, refl, refl, tt))
+    mapped_all (λ (row : Keyed). IsRowOf Hosts row.1) (λ name. (name_key name [] place, name_values info name)) (slice_get setting.names info.name) (λ name. (refl, (refl, (refl, tt))))
 
 -- ---- the tables whose rows each show one place or one word
 
@@ -221,11 +248,11 @@ class_fits setting word flags =
     let P : Keyed → Type 0 = λ (one : Keyed). IsRowOf SetupInstruments one.1 in
     let make : List ℕ → Keyed = λ name. (number_key (word - 33) 0 word, class_values flags name) in
     tested P (nat_le 33 word) (option_map make (class_name setting (word - 33)))
-    (mapped_all P make (class_name setting (word - 33)) (λ name. (refl, flag_fits (bit_at flags 0 == 1), flag_fits (bit_at flags 1 == 1), tt)))
+    (mapped_all P make (class_name setting (word - 33)) (λ name. (refl, (flag_fits (bit_at flags 0 == 1), (flag_fits (bit_at flags 1 == 1), tt)))))
 
 each_consumer_fits : (flags : ℕ) (cs : List Consumer) → AllByRecursion (IsRowOf SetupConsumers) (values_of (map (consumer_row flags) cs))
 each_consumer_fits flags [] = tt
-each_consumer_fits flags (c ∷ cs) = ((refl, flag_fits (is_on flags c), tt), each_consumer_fits flags cs)
+each_consumer_fits flags (c ∷ cs) = ((refl, (flag_fits (is_on flags c), tt)), each_consumer_fits flags cs)
 
 consumers_fit : (word flags : ℕ) → AllByRecursion (IsRowOf SetupConsumers) (values_of (consumer_rows word flags))
 unfolding consumer_rows
@@ -265,17 +292,17 @@ plain_fits setting table readings =
 
 numbers_fit : (kind : TableKind) (tally : ℕ → Tally) (id : ℕ) → IsRow (summary_numbers kind) (numbers_shown (numbers_of kind tally id))
 unfolding numbers_shown times_of sums_of
-numbers_fit Waits tally id = (refl, refl, refl, refl, refl, tt)
-numbers_fit Stages tally id = (refl, refl, refl, refl, refl, tt)
-numbers_fit Statements tally id = (refl, refl, refl, refl, refl, refl, refl, refl, refl, refl, refl, tt)
-numbers_fit Transactions tally id = (refl, refl, refl, refl, refl, refl, refl, refl, refl, refl, refl, refl, refl, refl, refl, tt)
+numbers_fit Waits tally id = row_by (summary_numbers Waits) (numbers_shown (numbers_of Waits tally id)) refl
+numbers_fit Stages tally id = row_by (summary_numbers Stages) (numbers_shown (numbers_of Stages tally id)) refl
+numbers_fit Statements tally id = row_by (summary_numbers Statements) (numbers_shown (numbers_of Statements tally id)) refl
+numbers_fit Transactions tally id = row_by (summary_numbers Transactions) (numbers_shown (numbers_of Transactions tally id)) refl
 
 values_fit : (setting : Setting) (kind : TableKind) (which : SummaryTable) (head : Head) (tally : ℕ → Tally) (id : ℕ) → IsRowOf (Summary kind which) (row_values setting kind which head tally id)
 unfolding row_values
-values_fit setting kind ByThread head tally id = (refl, refl, numbers_fit kind tally id)
-values_fit setting kind ByAccount head tally id = (refl, refl, refl, numbers_fit kind tally id)
-values_fit setting kind ByUser head tally id = (refl, refl, numbers_fit kind tally id)
-values_fit setting kind ByHost head tally id = (refl, refl, numbers_fit kind tally id)
+values_fit setting kind ByThread head tally id = (refl, (refl, numbers_fit kind tally id))
+values_fit setting kind ByAccount head tally id = (refl, (refl, (refl, numbers_fit kind tally id)))
+values_fit setting kind ByUser head tally id = (refl, (refl, numbers_fit kind tally id))
+values_fit setting kind ByHost head tally id = (refl, (refl, numbers_fit kind tally id))
 values_fit setting kind Global head tally id = (refl, numbers_fit kind tally id)
 
 class_rows_fit : (setting : Setting) (kind : TableKind) (which : SummaryTable) (place : ℕ) (tally : ℕ → Tally) (head : Head) (id : ℕ)
@@ -312,23 +339,19 @@ summary_fits setting kind which readings = at (list_any (is_hidden_by which) rea
 
 -- ---- digests
 
-counted_fits : (heading : List RowValue) → IsRow (text (codes "SCHEMA_NAME") ∷ text (codes "DIGEST") ∷ text (codes "DIGEST_TEXT") ∷ []) heading → (o : Option (List ℕ))
-    → AllByRecursion (IsRowOf DigestSummary) (counted_row heading o)
+abbrev digest_columns : List Named
+digest_columns = text (codes "SCHEMA_NAME") ∷ text (codes "DIGEST") ∷ text (codes "DIGEST_TEXT") ∷ []
+
+counted_fits : (heading : List RowValue) → IsRow digest_columns heading → (o : Option (List ℕ)) → AllByRecursion (IsRowOf DigestSummary) (counted_row heading o)
 unfolding numbers_shown times_of sums_of
-counted_fits heading h None = tt
-counted_fits heading h (Some words) = at ((stat_of_words words).count == 0)
-  where
-    at : (b : Bool) → AllByRecursion (IsRowOf DigestSummary) (if b then [] else (heading ++ numbers_shown (numbers.Statements (stat_of_words words))) ∷ [])
-    at true = tt
-    at false = (
-      row_append (text (codes "SCHEMA_NAME") ∷ text (codes "DIGEST") ∷ text (codes "DIGEST_TEXT") ∷ []) (summary_numbers Statements) heading (numbers_shown (numbers.Statements (stat_of_words words))) h
-      (refl, refl, refl, refl, refl, refl, refl, refl, refl, refl, refl, tt),
-      tt,
-    )
+counted_fits heading h o =
+    counted (IsRowOf DigestSummary) heading
+    (λ stat. row_append digest_columns (summary_numbers Statements) heading (numbers_shown (numbers.Statements stat)) h
+    (row_by (summary_numbers Statements) (numbers_shown (numbers.Statements stat)) refl)) o
 
 place_fits : (digest : Option DigestText) (o : Option (List ℕ)) → AllByRecursion (IsRowOf DigestSummary) (place_row digest o)
 place_fits None o = tt
-place_fits (Some digest) o = counted_fits (digest_heading digest) (refl, refl, refl, tt) o
+place_fits (Some digest) o = counted_fits (digest_heading digest) (refl, (refl, (refl, tt))) o
 
 place_row_fits : (digests : List DigestText) (contents : List (Option (List ℕ))) (place : ℕ) → AllByRecursion (IsRowOf DigestSummary) (digest_row digests contents place)
 unfolding digest_row
@@ -343,7 +366,7 @@ unfolding digests_of
 digests_fit setting readings =
     let contents = contents_of 8385 65 readings in
     both (IsRowOf DigestSummary) (counted_row null_heading (info_at contents 0)) (flat_map (digest_row setting.digests contents) (range_with_len 0 64))
-    (counted_fits null_heading (refl, refl, refl, tt) (info_at contents 0))
+    (counted_fits null_heading (refl, (refl, (refl, tt))) (info_at contents 0))
     (flat_fits (IsRowOf DigestSummary) (digest_row setting.digests contents) (place_row_fits setting.digests contents) (range_with_len 0 64))
 
 -- ---- all tables
@@ -367,11 +390,35 @@ kinds setting table readings = All-from_recursion (IsRowOf table) (listed_rows s
 pub count : (setting : Setting) (table : Table) (readings : List Reading) → All (λ (row : List RowValue). length row ≡ length (columns_of table)) (listed_rows setting table readings)
 count setting table readings = All-weaker (IsRowOf table) (λ (row : List RowValue). length row ≡ length (columns_of table)) (row_length (columns_of table)) (listed_rows setting table readings) (kinds setting table readings)
 
--- the same of rows that are those
-pub kinds_of_same : (setting : Setting) (table : Table) (readings : List Reading) (rows : List (List RowValue)) → rows ≡ listed_rows setting table readings → All (IsRowOf table) rows
-kinds_of_same setting table readings rows is = All-same (IsRowOf table) rows (listed_rows setting table readings) is (kinds setting table readings)
+-- the same of a result that has such rows
+kinds_after : {E : Type 0} (table other : Table) (right : List (List RowValue)) (r : Result (List (List RowValue)) E) → table ≡ other → AllByRecursion (IsRowOf other) right
+    → IfOk r (λ rows. rows ≡ right) → IfOk r (λ rows. All (IsRowOf table) rows)
+kinds_after table other right (Ok rows) is fit same =
+    All-same (IsRowOf table) rows right same (All-from_recursion (IsRowOf table) right (subst (λ (t : Table). AllByRecursion (IsRowOf t) right) (sym is) fit))
+kinds_after table other right (Err fault) is fit same = tt
 
-pub count_of_same : (setting : Setting) (table : Table) (readings : List Reading) (rows : List (List RowValue)) → rows ≡ listed_rows setting table readings
-    → All (λ (row : List RowValue). length row ≡ length (columns_of table)) rows
-count_of_same setting table readings rows is =
-    All-same (λ (row : List RowValue). length row ≡ length (columns_of table)) rows (listed_rows setting table readings) is (count setting table readings)
+count_after : {E : Type 0} (table : Table) (r : Result (List (List RowValue)) E) → IfOk r (λ rows. All (IsRowOf table) rows)
+    → IfOk r (λ rows. All (λ (row : List RowValue). length row ≡ length (columns_of table)) rows)
+count_after table (Ok rows) all = All-weaker (IsRowOf table) (λ (row : List RowValue). length row ≡ length (columns_of table)) (row_length (columns_of table)) rows all
+count_after table (Err fault) all = tt
+
+module _ {E : Type 0} (setting : Setting) (table : Table) (readings : List Reading) (r : Result (List (List RowValue)) E) where
+  pub plain_kinds : IfOk r (λ rows. rows ≡ plain_rows_of setting table readings) → IfOk r (λ rows. All (IsRowOf table) rows)
+  plain_kinds = kinds_after table table (plain_rows_of setting table readings) r refl (plain_fits setting table readings)
+
+  pub plain_count : IfOk r (λ rows. rows ≡ plain_rows_of setting table readings) → IfOk r (λ rows. All (λ (row : List RowValue). length row ≡ length (columns_of table)) rows)
+  plain_count same = count_after table r (plain_kinds same)
+
+  pub summary_kinds : (kind : TableKind) (which : SummaryTable) → table ≡ Summary kind which → IfOk r (λ rows. rows ≡ summary_rows_of setting kind which readings)
+      → IfOk r (λ rows. All (IsRowOf table) rows)
+  summary_kinds kind which is = kinds_after table (Summary kind which) (summary_rows_of setting kind which readings) r is (summary_fits setting kind which readings)
+
+  pub summary_count : (kind : TableKind) (which : SummaryTable) → table ≡ Summary kind which → IfOk r (λ rows. rows ≡ summary_rows_of setting kind which readings)
+      → IfOk r (λ rows. All (λ (row : List RowValue). length row ≡ length (columns_of table)) rows)
+  summary_count kind which is same = count_after table r (summary_kinds kind which is same)
+
+  pub digest_kinds : table ≡ DigestSummary → IfOk r (λ rows. rows ≡ digests_of setting readings) → IfOk r (λ rows. All (IsRowOf table) rows)
+  digest_kinds is = kinds_after table DigestSummary (digests_of setting readings) r is (digests_fit setting readings)
+
+  pub digest_count : table ≡ DigestSummary → IfOk r (λ rows. rows ≡ digests_of setting readings) → IfOk r (λ rows. All (λ (row : List RowValue). length row ≡ length (columns_of table)) rows)
+  digest_count is same = count_after table r (digest_kinds is same)

@@ -1,12 +1,12 @@
 -- The rows of the tables that each show one place or one word stand in order, and none takes another's place.
-use Rattle.std.proofs.Common.{◌≡◌, ◌≢◌, ℕ, zero, suc, ◌+◌, ◌-◌, ◌<◌, Bool, true, false, ◌&&◌, List, [], ◌∷◌, ◌++◌, length, map, Option, Some, None, refl, sym, ◌∙◌, ap, subst, arith}
-use Rattle.std.specs.Prelude.{◌==◌, if◌then◌else◌, nat_le, AllPairs, IsPermutation, option_and_then, slice_get}
+use Rattle.std.proofs.Common.{◌≡◌, ◌≢◌, ℕ, suc, ◌-◌, Bool, true, false, ◌&&◌, List, [], ◌∷◌, map, Option, Some, None, refl, sym, ◌∙◌, ap, subst, arith}
+use Rattle.std.specs.Prelude.{◌==◌, if◌then◌else◌, nat_le, AllPairs, IsPermutation, slice_get}
 use Rattle.std.specs.Option.{IfSome, option_map, option_to_list}
 use Rattle.std.specs.List.{AllByRecursion, IsDistinct, flat_map}
 use Rattle.std.specs.List.Sorted.{IsStrictlySortedBy}
 use Rattle.std.specs.declared.cmp.Ordering.{Ordering}
 use Rattle.std.specs.declared.cmp.Ordering.TheVariants.{Less, Equal, Greater}
-use Rattle.std.specs.Ordering.{eq_by_cmp, is_eq, is_lt, nat_cmp, ordering_then}
+use Rattle.std.specs.Ordering.{eq_by_cmp, is_lt, nat_cmp, ordering_then}
 use Rattle.std.specs.Cmp.{IsTotalOrder, nat_cmp_total, on_total, then_total}
 use Rattle.std.specs.Cmp.Lexicographic.{slice_cmp}
 use Rattle.std.specs.Map.{keys_of}
@@ -28,7 +28,6 @@ use Rattle.pfs_rows.specs.declared.table.Seen.TheVariants as seens
 use Rattle.pfs_rows.specs.Rows.{place_at}
 use Rattle.pfs_classes.specs.declared.setting.Setting.{Setting}
 use Rattle.pfs_consumers.specs.declared.Consumer.{Consumer}
-use Rattle.pfs_consumers.specs.Tree.{bit_of}
 use Rattle.pfs_infos.specs.declared.ThreadInfo.{ThreadInfo}
 use Rattle.pfs_infos.specs.declared.AccountInfo.{AccountInfo}
 use Rattle.pfs_infos.specs.declared.NameInfo.{NameInfo}
@@ -36,12 +35,11 @@ use Rattle.pfs_infos.specs.Infos as infos
 use Rattle.pfs_readsets.specs.declared.target.Target.{Target}
 use Rattle.pfs_readsets.specs.declared.target.Target.TheVariants as targets
 use Rattle.pfs_readsets.specs.ReadSets.{target_of}
-use Rattle.pfs_values.specs.declared.RowValue.{RowValue}
 use Rattle.pfs_summaries.proofs.Given.{then_second, same_number}
 use Rattle.pfs_summaries.proofs.Puts.{weaker, both, sorted_puts, each_put, apart_both}
 use Rattle.pfs_tables.specs.declared.orders.RowKey.{RowKey}
 use Rattle.pfs_tables.specs.Events.{Fields, event_in, event_values, class_name}
-use Rattle.pfs_tables.specs.Orders.{Keyed, row_cmp, put_rows, number_key, name_key}
+use Rattle.pfs_tables.specs.Orders.{Keyed, row_cmp, number_key, name_key}
 use Rattle.pfs_tables.specs.Plain.{event_key, event_row, keyed_event, thread_values, thread_row, account_values, account_row, name_values, name_row, words_row, slot_row, may_show, on_place, class_values, class_row, consumer_row, consumer_rows, consumers, flags_at, rows_of, given_rows, sorted_rows}
 use Rattle.pfs_tables.proofs.Fits.{mapped_all, chained, tested}
 

@@ -1,5 +1,5 @@
 -- The order of rows.
-use Rattle.std.specs.Prelude.{ℕ, List, [], ◌∷◌, map, fold}
+use Rattle.std.specs.Prelude.{ℕ, List, [], fold}
 use Rattle.std.specs.Ordering.{nat_cmp, ordering_then}
 use Rattle.std.specs.Cmp.Lexicographic.{slice_cmp}
 use Rattle.std.specs.BTreeMap.{insert_entry}

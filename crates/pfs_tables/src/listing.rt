@@ -18,7 +18,6 @@ use std::alloc::Global;
 /// `setup_actors` and `setup_objects`, which are shown as they stand at their action, no reading
 /// tells, and nothing is shown here. Each row has as many values as the table has columns, a number
 /// or NULL in a number's column and a text or NULL in a text's.
-#[tactic(auto, using(crate::proofs::Fits::count_of_same, crate::proofs::Fits::kinds_of_same))]
 pub fn listed(
     alloc: Global,
     setting: &Setting,

@@ -1,4 +1,3 @@
-use Rattle.std.proofs.Common.{ap}
 use Rattle.pfs_tables.specs.Plain.{consumer_rows}
 use Rattle.pfs_tables.proofs.plain.put_consumers.Goals as goal
 
