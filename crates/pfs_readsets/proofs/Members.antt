@@ -1,7 +1,7 @@
 -- What a read set has, and in which order.
-use Rattle.std.proofs.Common.{◌≡◌, ℕ, zero, suc, ◌+◌, ◌<◌, ◌≤◌, Bool, true, false, List, [], ◌∷◌, ◌++◌, map, ◌⊎◌, inl, inr, refl, sym, ◌∙◌, ap, subst, arith}
+use Rattle.std.proofs.Common.{◌≡◌, ◌≢◌, ℕ, zero, suc, ◌+◌, ◌<◌, ◌≤◌, Bool, true, false, List, [], ◌∷◌, ◌++◌, map, ◌⊎◌, inl, inr, refl, sym, ◌∙◌, ap, subst, arith}
 use Rattle.std.specs.Prelude.{◌↔◌, All, AllPairs, Contains}
-use Rattle.std.proofs.lemmas.List.Elements.{All-cons, All-append, All-map, Contains-append_left, Contains-append_right}
+use Rattle.std.proofs.lemmas.List.Elements.{All-cons, All-append, All-map, All-weaker, Contains-append_left, Contains-append_right}
 use Rattle.std.proofs.lemmas.List.{length-map, get_or-map}
 use Rattle.std.proofs.lemmas.Bool.{cases_lt, false≢true}
 use Rattle.std.proofs.lemmas.List.Kept.{AllPairs-cons}
@@ -50,6 +50,42 @@ in_order scope table readings =
       all_within (λ row. row < 14242) p 0 14242 (λ k low high passes. omega arith),
       all_within (λ word. word < 160) w 0 160 (λ k low high passes. omega arith),
     )
+
+-- targets of numbers that ascend, rows before words, differ
+abbrev number : Target → ℕ
+number (Row row) = row
+number (Word word) = word
+
+abbrev is_row : Target → Bool
+is_row (Row row) = true
+is_row (Word word) = false
+
+later : (x : ℕ) (xs : List ℕ) → AllPairs (λ a b. a < b) (x ∷ xs) → All (λ y. x < y) xs
+later x xs up = λ k d low. up 0 (suc k) d (omega arith) (omega arith)
+
+fewer : (x : ℕ) (xs : List ℕ) → AllPairs (λ a b. a < b) (x ∷ xs) → AllPairs (λ a b. a < b) xs
+fewer x xs up = λ i j d low high. up (suc i) (suc j) d (omega arith) (omega arith)
+
+words_differ : (words : List ℕ) → AllPairs (λ a b. a < b) words → AllPairs (λ (a b : Target). a ≢ b) (map Word words)
+words_differ [] up = λ i j d low high. absurd (omega arith)
+words_differ (w ∷ ws) up =
+    AllPairs-cons (λ (a b : Target). a ≢ b) (Word w) (map Word ws)
+    (All-map (λ (t : Target). Word w ≢ t) Word ws (All-weaker (λ y. w < y) (λ y. Word w ≢ Word y) (λ y past e. let s : w ≡ y = ap number e in omega arith) ws (later w ws up)))
+    (words_differ ws (fewer w ws up))
+
+targets_differ : (rows words : List ℕ) → AllPairs (λ a b. a < b) rows → AllPairs (λ a b. a < b) words → AllPairs (λ (a b : Target). a ≢ b) (map Row rows ++ map Word words)
+targets_differ [] words up ups = words_differ words ups
+targets_differ (r ∷ rs) words up ups =
+    AllPairs-cons (λ (a b : Target). a ≢ b) (Row r) (map Row rs ++ map Word words)
+    (All-append (λ (t : Target). Row r ≢ t) (map Row rs) (map Word words)
+    (All-map (λ (t : Target). Row r ≢ t) Row rs (All-weaker (λ y. r < y) (λ y. Row r ≢ Row y) (λ y past e. let s : r ≡ y = ap number e in omega arith) rs (later r rs up)))
+    (All-map (λ (t : Target). Row r ≢ t) Word words (λ k d low e. false≢true (sym (ap is_row e)))))
+    (targets_differ rs words (fewer r rs up) ups)
+
+pub once : (scope : Scope) (table : Table) (readings : List Reading) → AllPairs (λ (a b : Target). a ≢ b) (read_set scope table readings)
+once scope table readings =
+    targets_differ (passing (row_test scope table readings) 0 14242) (passing (word_test scope table readings) 0 160) (ascends (row_test scope table readings) 0 14242)
+    (ascends (word_test scope table readings) 0 160)
 
 -- what holds of each element holds of one
 of_one : {X : Type 0} (P : X → Type 0) (xs : List X) (x : X) → All P xs → Contains xs x → P x

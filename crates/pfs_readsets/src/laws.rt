@@ -1,8 +1,9 @@
 //! Laws of the definitions.
 
-ghost use Rattle.std.specs.Prelude.{◌≡◌, ◌<◌, ◌++◌, ◌↔◌, ℕ, List, true, map, All, AllPairs, Contains};
+ghost use Rattle.std.specs.Prelude.{◌≡◌, ◌≢◌, ◌<◌, ◌++◌, ◌↔◌, ℕ, List, true, map, All, AllPairs, Contains};
 ghost use Rattle.pfs_rows.specs.declared.table.Reading.{Reading};
 ghost use Rattle.pfs_rows.specs.declared.table.Table.{Table};
+ghost use Rattle.pfs_readsets.specs.declared.target.Target.{Target};
 ghost use Rattle.pfs_readsets.specs.declared.target.Target.TheVariants.{Row, Word};
 ghost use Rattle.pfs_readsets.specs.Places.{Scope};
 ghost use Rattle.pfs_readsets.specs.ReadSets.{read_set, row_test, word_test};
@@ -24,4 +25,10 @@ pub fn members()
     ensures words { (scope : Scope) (table : Table) (readings : List Reading) (word : ℕ)
         → Contains (read_set scope table readings) (Word word)
         ↔ ((word < 160) × (word_test scope table readings word ≡ true)) }
+{}
+
+/// No row and no word stands in a read set twice.
+pub fn once()
+    ensures { (scope : Scope) (table : Table) (readings : List Reading)
+        → AllPairs (λ (a b : Target). a ≢ b) (read_set scope table readings) }
 {}

@@ -34,7 +34,9 @@ use Rattle.pfs_infos.specs.declared.NameInfo.{NameInfo}
 use Rattle.pfs_infos.specs.Infos as infos
 use Rattle.pfs_readsets.specs.declared.target.Target.{Target}
 use Rattle.pfs_readsets.specs.declared.target.Target.TheVariants as targets
-use Rattle.pfs_readsets.specs.ReadSets.{target_of}
+use Rattle.pfs_readsets.specs.Places.{scope_of}
+use Rattle.pfs_readsets.specs.ReadSets.{IsReadSet, target_of}
+use Rattle.pfs_readsets.proofs.Members.{once}
 use Rattle.pfs_summaries.proofs.Given.{then_second, same_number}
 use Rattle.pfs_summaries.proofs.Puts.{weaker, both, sorted_puts, each_put, apart_both}
 use Rattle.pfs_tables.specs.declared.orders.RowKey.{RowKey}
@@ -287,3 +289,7 @@ module _ (setting : Setting) (table : Table) (readings : List Reading) where
 
 pub kept : (setting : Setting) (table : Table) (readings : List Reading) → Differ (map target_of readings) → IsPermutation (given_rows setting table readings) (sorted_rows setting table readings)
 kept setting table readings differ = each_put row_cmp_total (given_rows setting table readings) (keys_apart setting table readings readings differ)
+
+pub of_read_set : (setting : Setting) (table : Table) (readings : List Reading) → IsReadSet (scope_of setting) table readings
+    → IsPermutation (given_rows setting table readings) (sorted_rows setting table readings)
+of_read_set setting table readings is = kept setting table readings (subst Differ (sym is) (once (scope_of setting) table readings))

@@ -7,7 +7,8 @@ ghost use Rattle.pfs_rows.specs.declared.table.Reading.{Reading};
 ghost use Rattle.pfs_rows.specs.declared.table.Table.{Table};
 ghost use Rattle.pfs_catalogue.specs.Columns.{columns_of};
 ghost use Rattle.pfs_classes.specs.declared.setting.Setting.{Setting};
-ghost use Rattle.pfs_readsets.specs.ReadSets.{target_of};
+ghost use Rattle.pfs_readsets.specs.Places.{scope_of};
+ghost use Rattle.pfs_readsets.specs.ReadSets.{IsReadSet, target_of};
 ghost use Rattle.pfs_readsets.specs.declared.target.Target.{Target};
 ghost use Rattle.pfs_values.specs.declared.RowValue.{RowValue};
 ghost use Rattle.pfs_tables.specs.Fits.{IsRowOf};
@@ -25,12 +26,15 @@ pub fn rows_fit()
 {}
 
 /// The rows of a table whose rows each show one place or one word stand in ascending order of their
-/// keys, and no two have one key. Where no two readings are of one row or one word, each row that
-/// the readings give is among them once, and no other.
+/// keys, and no two have one key. Where no two readings are of one row or one word, as in a read set,
+/// each row that the readings give is among them once, and no other.
 pub fn rows_stand()
     ensures ascending { (setting : Setting) (table : Table) (readings : List Reading)
         → IsStrictlySortedBy row_cmp (keys_of (sorted_rows setting table readings)) }
     ensures kept { (setting : Setting) (table : Table) (readings : List Reading)
         → AllPairs (λ (a b : Target). a ≢ b) (map target_of readings)
+        → IsPermutation (given_rows setting table readings) (sorted_rows setting table readings) }
+    ensures of_read_set { (setting : Setting) (table : Table) (readings : List Reading)
+        → IsReadSet (scope_of setting) table readings
         → IsPermutation (given_rows setting table readings) (sorted_rows setting table readings) }
 {}
