@@ -233,7 +233,8 @@ fn put_places(
     tallies: &[Tally],
 ) -> Result<BTreeMap<RowKey, Row>, NoMemory>
     requires { length tallies.now ≡ 2048 }
-    ensures { IfOk result (λ rows. rows.entries ≡ ordered_rows setting.now kind which infos.now (tally_in tallies.now)) }
+    ensures { IfOk result (λ rows. rows.entries
+        ≡ ordered_rows setting.now kind which infos.now (tally_in tallies.now)) }
 {
     let mut rows = BTreeMap::new(alloc);
     for place in 0..places_of(which) {
