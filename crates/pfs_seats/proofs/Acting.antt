@@ -32,7 +32,7 @@ pub held_one : (cs : List Corner) → is_holding (get_or cs 0 newcomer).stage �
 held_one [] h f = absurd (no_true false refl h)
 held_one (c ∷ cs) h f = ap (λ b. cond b 1 0 + held cs) h ∙ ap (λ n. 1 + n) (held_none cs (λ r. f (suc r) (omega arith)))
 
-abbrev stale_one : Corner → Corner
+abbrev pub stale_one : Corner → Corner
 stale_one c = record c { stage = settled c.stage; fresh = false }
 
 settled_hand : (s : Stage) → in_hand (settled s) ≡ in_hand s

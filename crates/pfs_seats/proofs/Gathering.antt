@@ -1,10 +1,8 @@
 -- A root takes an actor's seats in.
-use Rattle.std.proofs.Common.{ℕ, ◌≡◌, List, [], ◌∷◌, ◌++◌, refl, inl, inr, ⊎_elim}
-use Rattle.pfs_board.specs.declared.view.Change.{Change}
+use Rattle.std.proofs.Common.{List, [], ◌∷◌, ◌++◌, refl, inl, inr, ⊎_elim}
 use Rattle.pfs_board.specs.declared.view.Entered.{Entered}
 use Rattle.pfs_board.specs.declared.view.Finished.{Finished}
 use Rattle.pfs_board.specs.declared.view.Sight.{Sight}
-use Rattle.pfs_board.specs.History.{Some_of}
 use Rattle.pfs_seats.specs.Gathered.{Worked, AllShown, GatherLaw}
 use Rattle.pfs_seats.proofs.Shown.{Within, shown_more}
 

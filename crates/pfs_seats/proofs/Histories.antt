@@ -1,16 +1,18 @@
 -- The history of a board gives the order of all actors' changes.
-use Rattle.std.proofs.Common.{ℕ, zero, suc, ◌≡◌, ◌+◌, ◌==◌, ◌<◌, ◌≤◌, nat_lt, ◌&&◌, Bool, true, false, cond, List, [], ◌∷◌, ◌++◌, refl, ap, sym, ◌∙◌, subst, inl, inr, arith, eq-eqb, ne_eqb, append_assoc, zero-add, add_assoc, add-zero}
+use Rattle.std.proofs.Common.{ℕ, zero, suc, ◌≡◌, ◌+◌, ◌==◌, ◌<◌, ◌≤◌, nat_lt, ◌&&◌, Bool, true, false, cond, List, [], ◌∷◌, ◌++◌, refl, ap, sym, ◌∙◌, subst, inl, inr, arith, eq-eqb, ne_eqb, append_assoc, zero-add, add_assoc}
 use Rattle.std.proofs.lemmas.Bool.{cases_eq, eqb-true}
 use Rattle.std.proofs.lemmas.Bool.Decides.{nat_tests}
 use Rattle.pfs_board.specs.declared.view.Change.{Change}
 use Rattle.pfs_board.specs.History as board
 use Rattle.pfs_board.specs.History.{Each, IsChain, Rises, version}
+use Rattle.pfs_board.proofs.HistoryFacts.{length_labels}
 use Rattle.pfs_levels.specs.declared.answers.Added.TheVariants.{Counted, Held}
 use Rattle.pfs_levels.specs.declared.answers.RingPut.TheVariants.{Done, Busy, Late}
 use Rattle.pfs_levels.specs.Calls.{Call, Adds, Rings, Reads, Loads, Draws, Takes, Puts, Frees, Sets, Enters, Leaves, Meets, Start}
 use Rattle.pfs_levels.specs.Joint.{total, one_if, At, changes_by, changes_of, count, IsCounted, all_calls}
 use Rattle.pfs_levels.specs.Order.{Mark, mark, marks_of, all_marks, marked, AreMarked, falls, AreOrdered, AreRising, AllCalls}
 use Rattle.pfs_seats.specs.Ties.{IsMade, IsTied}
+use Rattle.pfs_seats.proofs.Labels.{are_named}
 use Rattle.pfs_seats.specs.Gathered.{Worked, calls_of_all, AreParts, AllDone, ats_by, ats_of, marks_in, ChangedLaw}
 
 abbrev at : ℕ → ℕ → Bool → At
@@ -210,8 +212,10 @@ pub changed : ChangedLaw
 changed start words v w t actors g h = record {
   chain = chain start h.t.log h.chain;
   once = λ f. ap (total f) (all_ats actors v.made g.tied) ∙ sym (ats_weigh f v.made) ∙ h.once (λ p. total f (ats_by p)) ∙ ats_weigh f h.t.log;
-  marked = mark_chain start h.t.log h.chain;
+  numbered = mark_chain start h.t.log h.chain;
   marks_once = λ f. ap (total f) (all_marked actors v.made g.tied) ∙ sym (marks_weigh f v.made) ∙ h.once (λ p. f (mark p.row p.version p.puts p.action p.after)) ∙ marks_weigh f h.t.log;
   ordered = order h.t.log h.rising;
   rising = all_rise actors g.done;
+  ended = length_labels h.t.log ∙ sym (mark_counts h.t.log 0);
+  named = are_named start words v h actors g.tied g.shown;
 }

@@ -7,3 +7,5 @@ pub mod Waits
 pub mod Pens
 pub mod Gathering
 pub mod Histories
+pub mod Labels
+pub mod Begun

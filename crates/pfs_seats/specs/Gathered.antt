@@ -1,16 +1,17 @@
 -- The actors whose seats a root has taken in, what it has of them, and what a board's history says of their changes.
-use Rattle.std.specs.Prelude.{ℕ, ◌≡◌, ◌<◌, nat_lt, if◌then◌else◌, List, [], ◌∷◌, ◌++◌, None}
+use Rattle.std.specs.Prelude.{ℕ, ◌≡◌, ◌<◌, nat_lt, if◌then◌else◌, List, [], ◌∷◌, ◌++◌, length, None}
 use Rattle.pfs_board.specs.declared.view.Change.{Change}
 use Rattle.pfs_board.specs.declared.view.Entered.{Entered}
 use Rattle.pfs_board.specs.declared.view.Finished.{Finished}
 use Rattle.pfs_board.specs.declared.view.Sight.{Sight}
 use Rattle.pfs_board.specs.declared.view.View.{View}
 use Rattle.pfs_board.specs.Closing.{History}
+use Rattle.pfs_board.specs.History.{labels_of}
 use Rattle.pfs_board.specs.Known.{Known as BoardKnown}
 use Rattle.pfs_board.specs.Knowledge.{joined}
 use Rattle.pfs_levels.specs.Calls.{Call, Opening, action_in, hand_in}
 use Rattle.pfs_levels.specs.Joint.{total, At, changes_of, IsCounted, all_calls}
-use Rattle.pfs_levels.specs.Order.{Mark, mark, all_marks, AreMarked, AreOrdered, AreRising, AllCalls}
+use Rattle.pfs_levels.specs.Order.{Mark, mark, all_marks, marked, AreMarked, AreOrdered, AreRising, AreNamed, AllCalls}
 use Rattle.pfs_seats.specs.Reached.{HasMade}
 use Rattle.pfs_seats.specs.Ties.{IsTied, AreLoaded, AreMet, AreDrawn, AreShown}
 use Rattle.pfs_switches.specs.declared.view.Loaded.{Loaded}
@@ -60,7 +61,8 @@ pub record AreGathered (actors : List Worked) (v : View) (w : WordView) (t : Tic
   pub shown : AllShown v.reads v.sights v.entered actors
   pub loaded : AreParts (λ (a : Worked) (loads : List Loaded). AreLoaded a.start a.calls loads) actors w.loads
   pub met : AreParts (λ (a : Worked) (meets : List Met). AreMet a.start.switches a.calls meets) actors w.meets
-  pub drawn : AreParts (λ (a : Worked) (tickets : List Drawn). AreDrawn a.start.tickets a.calls tickets) actors t.tickets
+  pub drawn : AreParts (λ (a : Worked) (tickets : List Drawn). AreDrawn a.start.tickets a.calls tickets) actors
+      t.tickets
   pub done : AllDone actors
 
 -- one more actor's seats are taken in
@@ -86,14 +88,16 @@ marks_in (p ∷ ps) = mark p.row p.version p.puts p.action p.after ∷ marks_in 
 
 -- One order of all publications and releases of these actors, in which each publication has the next version of its
 -- row: without row 0, and with it, where it says that the actions' numbers are 1, 2 and so on. Along a row these never
--- fall. Each actor's calls rise
+-- fall. Each actor's calls rise. What an action found are the first labels of all, and its own stands at its number
 pub record AreChanged (actors : List (List Call)) (log : List Change) : Type 0 where
   pub chain : IsCounted (ats_of log)
   pub once : (h : At → ℕ) → total h (changes_of (all_calls actors)) ≡ total h (ats_of log)
-  pub marked : AreMarked (marks_in log)
+  pub numbered : AreMarked (marks_in log)
   pub marks_once : (h : Mark → ℕ) → total h (all_marks actors) ≡ total h (marks_in log)
   pub ordered : AreOrdered (marks_in log)
   pub rising : AllCalls AreRising actors
+  pub ended : length (labels_of log) ≡ marked (marks_in log) 0
+  pub named : AllCalls (AreNamed (labels_of log)) actors
 
 -- a root that is alone, and has taken in the seats of all actors, knows the order of their changes
 abbrev pub ChangedLaw : Type 0
