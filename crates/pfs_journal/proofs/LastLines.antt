@@ -24,7 +24,7 @@ use Rattle.pfs_journal.specs.Reports.{is_text_byte, is_name_byte, IsValue, IsRow
 use Rattle.pfs_journal.specs.Spelling.{field_text, optional_text, numbers_text, entry_text, value_text, row_text, is_answered, answered_text, journal_text, session_line, block_text, table_line, table_text, lost_text, results_text, final_line, final_text, body_text, phase_line, phase_text, phases_text, first_line, spelling}
 
 -- no line feed is in a text
-no_feed : List ℕ → Bool
+unfoldable pub no_feed : List ℕ → Bool
 no_feed [] = true
 no_feed (b ∷ bs) = not (eqb b 10) && no_feed bs
 
@@ -32,14 +32,14 @@ both_true : (a b : Bool) → a ≡ true → b ≡ true → (a && b) ≡ true
 both_true true b p q = q
 both_true false b p q = p
 
-parts_true : (a b : Bool) → (a && b) ≡ true → (a ≡ true) × (b ≡ true)
+pub parts_true : (a b : Bool) → (a && b) ≡ true → (a ≡ true) × (b ≡ true)
 parts_true true b e = (refl, e)
 parts_true false b e = absurd (false≢true e)
 
 not_false : (a : Bool) → a ≡ false → not a ≡ true
 not_false a e = ap not e
 
-not_true : (a : Bool) → not a ≡ true → a ≡ false
+pub not_true : (a : Bool) → not a ≡ true → a ≡ false
 not_true true e = absurd (false≢true e)
 not_true false e = refl
 
@@ -47,12 +47,12 @@ no_feed_more : (b : ℕ) (bs : List ℕ) → eqb b 10 ≡ false → no_feed bs �
 unfolding no_feed
 no_feed_more b bs e h = both_true (not (eqb b 10)) (no_feed bs) (not_false (eqb b 10) e) h
 
-clean_append : (a b : List ℕ) → no_feed a ≡ true → no_feed b ≡ true → no_feed (a ++ b) ≡ true
+pub clean_append : (a b : List ℕ) → no_feed a ≡ true → no_feed b ≡ true → no_feed (a ++ b) ≡ true
 unfolding no_feed
 clean_append [] b p q = q
 clean_append (x ∷ a) b p q = let h = parts_true (not (eqb x 10)) (no_feed a) p in both_true (not (eqb x 10)) (no_feed (a ++ b)) h.0 (clean_append a b h.1 q)
 
-clean_flat : {X : Type 0} (f : X → List ℕ) (P : X → Type 0) → ((x : X) → P x → no_feed (f x) ≡ true) → (xs : List X) → All P xs → no_feed (flat_map f xs) ≡ true
+pub clean_flat : {X : Type 0} (f : X → List ℕ) (P : X → Type 0) → ((x : X) → P x → no_feed (f x) ≡ true) → (xs : List X) → All P xs → no_feed (flat_map f xs) ≡ true
 unfolding no_feed
 clean_flat f P clean [] all = refl
 clean_flat f P clean (x ∷ xs) all = clean_append (f x) (flat_map f xs) (clean x (All-head P x xs all)) (clean_flat f P clean xs (All-tail P x xs all))
@@ -89,17 +89,17 @@ field_clean : (n : ℕ) → no_feed (field_text n) ≡ true
 unfolding field_text no_feed
 field_clean n = clean_append (codes " ") (decimal n) refl (decimal_clean n)
 
-optional_clean : (o : Option ℕ) → no_feed (optional_text o) ≡ true
+pub optional_clean : (o : Option ℕ) → no_feed (optional_text o) ≡ true
 unfolding no_feed
 optional_clean None = refl
 optional_clean (Some n) = field_clean n
 
-numbers_clean : (ns : List (Option ℕ)) → no_feed (flat_map optional_text ns) ≡ true
+pub numbers_clean : (ns : List (Option ℕ)) → no_feed (flat_map optional_text ns) ≡ true
 unfolding no_feed
 numbers_clean [] = refl
 numbers_clean (n ∷ ns) = clean_append (optional_text n) (flat_map optional_text ns) (optional_clean n) (numbers_clean ns)
 
-verdict_clean : (v : Verdict) → no_feed (verdict_name v) ≡ true
+pub verdict_clean : (v : Verdict) → no_feed (verdict_name v) ≡ true
 unfolding no_feed
 verdict_clean LostThread = refl
 verdict_clean LostClass = refl
@@ -130,12 +130,12 @@ doubled_clean b h = by_test (eqb b 39)
     by_test true = no_feed_more b (b ∷ []) plain (no_feed_more b [] plain refl)
     by_test false = no_feed_more b [] plain refl
 
-bytes_clean : (test : ℕ → Bool) → test 10 ≡ false → (bs : List ℕ) → All (λ b. test b ≡ true) bs → no_feed bs ≡ true
+pub bytes_clean : (test : ℕ → Bool) → test 10 ≡ false → (bs : List ℕ) → All (λ b. test b ≡ true) bs → no_feed bs ≡ true
 unfolding no_feed
 bytes_clean test none [] all = refl
 bytes_clean test none (b ∷ bs) all = no_feed_more b bs (tested test b none (All-head (λ b. test b ≡ true) b bs all)) (bytes_clean test none bs (All-tail (λ b. test b ≡ true) b bs all))
 
-value_clean : (v : RowValue) → IsValue v → no_feed (value_text v) ≡ true
+pub value_clean : (v : RowValue) → IsValue v → no_feed (value_text v) ≡ true
 unfolding value_text no_feed
 value_clean value.Null good = refl
 value_clean (value.Number n) good = field_clean n

@@ -1,8 +1,14 @@
 mod Answered
 mod Examples
+mod GuessTold
+mod ItemsRead
 mod Journals
 mod JournalsRead
 mod LastLines
+mod LineEnds
+mod LinesRead
 mod PartsRead
 mod PhasesRead
 mod Streams
+mod ValuesRead
+mod WordsRead

@@ -1,5 +1,5 @@
 -- What was read, one part more at a time.
-use Rattle.std.proofs.Common.{ℕ, ◌≡◌, ◌≢◌, ◌<◌, ◌≤◌, Bool, false, eqb, Result, Ok, Err, IfOk, List, [], ◌∷◌, ◌++◌, length, append_assoc, append-nil, sym, ap, subst, ◌∙◌, refl, arith}
+use Rattle.std.proofs.Common.{ℕ, ◌≡◌, ◌≢◌, ◌<◌, ◌≤◌, Bool, true, false, eqb, Result, Ok, Err, IfOk, List, [], ◌∷◌, ◌++◌, length, append_assoc, append-nil, sym, ap, subst, ◌∙◌, refl, arith}
 use Rattle.std.specs.List.{All, flat_map}
 use Rattle.std.proofs.lemmas.List.Elements.{All-push}
 use Rattle.std.proofs.lemmas.List.Concat.{flat_map-append}
@@ -10,6 +10,7 @@ use Rattle.pfs_journal.specs.declared.values.LostReport.{LostReport}
 use Rattle.pfs_journal.specs.Lines.{line_text, IsLine}
 use Rattle.pfs_journal.specs.Readings.{IsTaken, IsRead, Grows}
 use Rattle.std.proofs.lemmas.Bool.{false≢true}
+use Rattle.std.proofs.lemmas.Bool.Decides.{Decides-eqb}
 use Rattle.pfs_journal.specs.Reports.{IsName, IsRow, IsLost, IsTable}
 use Rattle.pfs_journal.specs.Spelling.{row_text, lost_text, table_line, table_text}
 
@@ -58,9 +59,13 @@ pub take_line : {Part Stop : Type 0} (part_text : Part → List ℕ) (IsGood : P
 take_line part_text IsGood old new part first before after (Ok line) is pushed good t = grows_line part_text IsGood old new part first before line after is pushed good t
 take_line part_text IsGood old new part first before after (Err stop) is pushed good t = tt
 
-not_empty : {Item : Type 0} (items : List Item) → eqb (length items) 0 ≡ false → items ≢ []
+pub not_empty : {Item : Type 0} (items : List Item) → eqb (length items) 0 ≡ false → items ≢ []
 not_empty [] h e = false≢true (sym h)
 not_empty (x ∷ xs) h e = absurd (cc)
+
+pub is_empty : {Item : Type 0} (items : List Item) → eqb (length items) 0 ≡ true → items ≡ []
+is_empty [] h = refl
+is_empty (x ∷ xs) h = let none : length (x ∷ xs) ≡ 0 = (Decides-eqb (length (x ∷ xs)) 0).0 h in absurd (omega (arith, none))
 
 -- a table's line, and its rows
 pub table_read : (name : List ℕ) (rows shown : List (List RowValue)) (b : Bool) (before mid after : List ℕ) (first line : Line) → IsName name → IsTaken first before mid → IsRead (flat_map row_text rows) (All IsRow rows) first mid line after

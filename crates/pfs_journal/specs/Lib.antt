@@ -3,3 +3,4 @@ pub mod OneSpelling
 pub mod Readings
 pub mod Reports
 pub mod Spelling
+pub mod Words

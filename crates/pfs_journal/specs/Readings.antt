@@ -4,13 +4,21 @@ use Rattle.pfs_journal.specs.declared.line.Line.{Line}
 use Rattle.pfs_journal.specs.declared.line.Line.TheVariants.{Final}
 use Rattle.pfs_journal.specs.declared.blocks.BlockReport.{BlockReport}
 use Rattle.pfs_journal.specs.declared.report.PhaseParts.{PhaseParts}
-use Rattle.std.specs.Prelude.{Option, option_to_list}
+use Rattle.std.specs.Prelude.{Option, option_to_list, Result, Ok, Err}
+use Rattle.pfs_journal.specs.declared.reading.ReadStop.{ReadStop}
+use Rattle.pfs_journal.specs.declared.reading.ReadStop.TheVariants.{Bad, NoMemory}
 use Rattle.std.specs.List.{All, flat_map}
 use Rattle.pfs_event.specs.declared.entry.Entry.{Entry}
 use Rattle.pfs_values.specs.declared.RowValue.{RowValue}
 use Rattle.pfs_journal.specs.Lines.{line_text, IsLine}
 use Rattle.pfs_journal.specs.Reports.{IsRow, IsPhase, AreAnswered, rows_asked, sizes_of}
 use Rattle.pfs_journal.specs.Spelling.{row_text, journal_text, final_text}
+
+-- where bytes are told to be no report, this holds of the line's number
+abbrev pub IfBad : {Answer : Type 0} → Result Answer ReadStop → (ℕ → Type 0) → Type 0
+IfBad (Ok answer) Holds = Unit {0}
+IfBad (Err (Bad at)) Holds = Holds at
+IfBad (Err NoMemory) Holds = Unit {0}
 
 -- a line stood at the front of what was left, and a report can have it
 pub record IsTaken (says : Line) (before after : List ℕ) : Type 0 where

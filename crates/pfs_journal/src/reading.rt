@@ -1,20 +1,26 @@
 //! Taking a report's lines one by one.
 
-ghost use Rattle.std.specs.Prelude.{ℕ, List, ◌≡◌, ◌++◌, ◌∷◌, [], ◌+◌, ◌<◌, length, IsTrue, IfOk, OnOk, IfSome, MatchOption, take, drop};
+ghost use Rattle.std.specs.Prelude.{ℕ, List, ◌≡◌, ◌≢◌, ◌≤◌, ◌++◌, ◌∷◌, [], ◌+◌, ◌<◌, ◌↔◌, length, IsTrue, Some, IfOk, OnOk, IfSome, MatchOption, take, drop};
 ghost use Rattle.pfs_journal.specs.Lines.{line_text, IsLine};
-ghost use Rattle.pfs_journal.specs.Readings.{IsTaken};
+ghost use Rattle.pfs_journal.specs.Readings.{IsTaken, IfBad};
+ghost use Rattle.pfs_journal.specs.Words.{FitsLine, is_line_byte};
+ghost use Rattle.std.specs.List.{prefix_len};
+ghost use Rattle.pfs_journal.specs.declared.line.Line.{Line};
 
 use crate::NoMemory;
 use crate::guess::guess;
 use crate::line::{Line, is_line, line_of};
 use std::alloc::Global;
+use thiserror::Error;
 
 /// Why bytes were not read as a report.
-#[derive(Clone, Copy, Debug, PartialEq, Eq)]
+#[derive(Clone, Copy, Debug, PartialEq, Eq, Error)]
 pub enum ReadStop {
     /// The first wrong line, counted from 1.
+    #[error("line {at} of the report is wrong")]
     Bad { at: u64 },
     /// Memory ran out.
+    #[error("out of memory")]
     NoMemory,
 }
 
@@ -39,34 +45,53 @@ pub fn push<T: Drop>(list: &mut Vec<T>, item: T) -> Result<(), ReadStop>
 
 /// Whether the line says this, and a report can have it.
 fn is_spelled(buffer: &mut Vec<u8>, line: &[u8], says: &Line) -> Result<bool, NoMemory>
-    ensures { IfOk result (λ is. IsTrue is → IsLine says.now × (line.now ≡ line_text says.now)) }
+    ensures { IfOk result (λ is. IsTrue is ↔ (IsLine says.now × (line.now ≡ line_text says.now))) }
 {
     line_of(buffer, says)?;
     Ok(is_line(says) && buffer.as_slice() == line)
 }
 
-/// What a line says, with its line feed, where a report can have it.
+/// That the line says this, where it does and a report can have it.
+fn keep_spelled(buffer: &mut Vec<u8>, line: &[u8], says: Line) -> Result<Option<Line>, NoMemory>
+    ensures found { IfOk result (λ found. IfSome found (λ kept. IsLine kept × (line.now ≡ line_text kept))) }
+    ensures kept { IsLine says → line.now ≡ line_text says → IfOk result (λ found. found ≡ Some says) }
+{
+    if is_spelled(buffer, line, &says)? {
+        Ok(Some(says))
+    } else {
+        Ok(None)
+    }
+}
+
+/// What a line says, with its line feed, where a report can have it. No line that a report can have
+/// is refused.
 fn read_line(alloc: Global, buffer: &mut Vec<u8>, line: &[u8]) -> Result<Option<Line>, NoMemory>
     requires { 0 < length line.now }
-    ensures { IfOk result (λ found. IfSome found (λ says. IsLine says × (line.now ≡ line_text says))) }
+    ensures found { IfOk result (λ found. IfSome found (λ says. IsLine says × (line.now ≡ line_text says))) }
+    ensures taken { (says : Line) → IsLine says → FitsLine says → line.now ≡ line_text says
+        → IfOk result (λ found. found ≡ Some says) }
 {
     match guess(alloc, &line[..line.len() - 1])? {
-        Some(says) => {
-            if is_spelled(buffer, line, &says)? {
-                Ok(Some(says))
-            } else {
-                Ok(None)
-            }
-        }
+        Some(says) => keep_spelled(buffer, line, says),
         None => Ok(None),
     }
 }
 
+/// How many bytes stand before the first line feed.
+fn line_length(bytes: &[u8]) -> usize
+    ensures { result ≡ prefix_len is_line_byte bytes.now }
+{
+    bytes.iter().take_while(|byte| **byte != b'\n').count()
+}
+
 /// Where the first line feed is.
 fn line_feed(bytes: &[u8]) -> Option<usize>
-    ensures { IfSome result (λ at. at < length bytes.now) }
+    ensures inside { IfSome result (λ at. at < length bytes.now) }
+    ensures first { MatchOption result (length bytes.now ≤ prefix_len is_line_byte bytes.now)
+        (λ at. at ≡ prefix_len is_line_byte bytes.now) }
 {
-    bytes.iter().position(|byte| *byte == 10)
+    let at = line_length(bytes);
+    if at < bytes.len() { Some(at) } else { None }
 }
 
 impl Lines<'_> {
@@ -83,9 +108,12 @@ impl Lines<'_> {
     }
 }
 
-/// Takes the next line.
+/// Takes the next line. It is told to be wrong only where no line that a report can have stands in
+/// front.
 pub fn next(alloc: Global, lines: &mut Lines<'_>) -> Result<Line, ReadStop>
-    ensures { IfOk result (λ says. IsTaken says lines.old.rest.now lines.new.rest.now) }
+    ensures taken { IfOk result (λ says. IsTaken says lines.old.rest.now lines.new.rest.now) }
+    ensures wrong { IfBad result (λ _. (says : Line) (more : List ℕ) → IsLine says → FitsLine says
+        → lines.old.rest.now ≢ line_text says ++ more) }
 {
     let rest = lines.rest;
     let Some(at) = line_feed(rest) else {

@@ -5,4 +5,4 @@ use Rattle.pfs_journal.proofs.PartsRead.{take_line, lost_line}
 use Rattle.pfs_journal.proofs.parts.take_lost.Goals as goal
 
 pub returns : goal.returns
-returns c = take_line lost_text IsLost c.args.counters.now.items c.push.new.list.items c.args.lost (says.Lost c.args.lost) c.args.lines.now.rest.now c.next.new.lines.rest.now c.next.result (lost_line c.args.lost) c.in_ok-push.ensures c.requires c.next.ensures
+returns c = take_line lost_text IsLost c.args.counters.now.items c.push.new.list.items c.args.lost (says.Lost c.args.lost) c.args.lines.now.rest.now c.next.new.lines.rest.now c.next.result (lost_line c.args.lost) c.in_ok-push.ensures c.requires c.next.ensures.taken
