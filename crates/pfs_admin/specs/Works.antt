@@ -75,11 +75,13 @@ flagged words at flags =
 
 abbrev pub flagging_calls : List Word → List Flagging → List Call
 flagging_calls words [] = []
-flagging_calls words (f ∷ fs) = flagging_calls words fs ++ Sets f.word f.flags ((word_at words f.word).version + 1) ∷ []
+flagging_calls words (f ∷ fs) =
+    flagging_calls words fs ++ Sets f.word f.flags ((word_at words f.word).version + 1) ∷ []
 
 abbrev pub flagging_entries : List Word → List Flagging → List Entry
 flagging_entries words [] = []
-flagging_entries words (f ∷ fs) = says.Set f.word ((word_at words f.word).version + 1) f.flags ∷ flagging_entries words fs
+flagging_entries words (f ∷ fs) =
+    says.Set f.word ((word_at words f.word).version + 1) f.flags ∷ flagging_entries words fs
 
 -- what an action asks for: rows that are moved, then rows that are released or written, then words that are set
 pub record Work : Type 0 where

@@ -30,7 +30,8 @@ pub struct Placed {
 }
 
 /// The administration: who is connected where, the switch words as they stand, the rows of `setup_actors` and
-/// `setup_objects`, and how many actions there were. It is changed inside row 0 alone, and each call is one action.
+/// `setup_objects`, and how many actions there were. Its caller changes it inside row 0 alone; `connect` and `quit` are
+/// one action each.
 #[derive(Drop)]
 pub struct Admin {
     containers: Containers,
@@ -88,7 +89,7 @@ impl Admin {
 
     /// Connects a session, an action: it gets the places that the containers give it. The log gets its `connect` with
     /// the action's number, then a `tag` for the info of each place, and a `set` where `setup_actors` changes the
-    /// flags of its thread. Without a thread slot nothing is changed but the counter.
+    /// flags of its thread. Without a thread slot the `connect` stands alone, and nothing is written.
     pub fn connect<H: Hold>(
         &mut self,
         rows: &mut H,
@@ -130,7 +131,7 @@ impl Admin {
 
     /// Ends the connection in the lowest thread slot that a session has, an action: the numbers of its thread move
     /// up, its info is released, those of its other places are written, and its thread's flags are cleared. The log
-    /// gets each of these. Without a slot nothing is changed.
+    /// gets each of these; the action's `act` entry is the caller's. Without a slot nothing is written.
     pub fn quit<H: Hold>(&mut self, rows: &mut H, number: u64, log: &mut Log)
         requires few { self.old.actions < 2 ^ 47 }
         requires alone { (r : ℕ) → 0 < r → H.hand rows.old r ≡ None }
@@ -156,7 +157,8 @@ impl Admin {
         );
     }
 
-    /// How many connects found no thread slot, and no place for their account, their user and their host.
+    /// How many connects looked for a thread slot, and for a place for their account, their user and their host, and
+    /// found none.
     pub fn lost(&self) -> Lost
         ensures { result ≡ lost_in self.now.kept.now }
     {

@@ -55,7 +55,7 @@ seat_by c number user host (Some slot) =
 abbrev pub seat_of : Containers → ℕ → ℕ → ℕ → Option Seated
 seat_of c number user host = seat_by c number user host (lowest_free c.places.threads)
 
--- the lowest slot that a session has, and the session as it stands there
+-- a session that was found in a slot, and the slot
 abbrev pub seated : Option (Found Connection) → Option Seated
 seated None = None
 seated (Some found) = Some (record { slot = found.place; connection = found.entry })

@@ -45,7 +45,8 @@ pub struct Seated {
     pub connection: Connection,
 }
 
-/// How many connects found no thread slot, no place for their account, for their user and for their host.
+/// How many connects looked for a thread slot, a place for their account, for their user and for their host, and
+/// found none. Who finds an account that is there looks for no user and no host.
 #[derive(Clone, Copy, Debug, PartialEq, Eq)]
 pub struct Lost {
     pub threads: u64,
@@ -54,7 +55,7 @@ pub struct Lost {
     pub hosts: u64,
 }
 
-/// How many connections each account, user and host has had.
+/// TOTAL_CONNECTIONS of each account, user and host.
 #[derive(Drop)]
 struct Totals {
     accounts: Vec<u64>,
@@ -62,8 +63,8 @@ struct Totals {
     hosts: Vec<u64>,
 }
 
-/// What stands at each thread slot, account, user and host, how many connections each place has had, and what was
-/// lost. All its room is taken by `open`.
+/// What stands at each thread slot, account, user and host, TOTAL_CONNECTIONS of each place, and what was lost. All its
+/// room is taken by `open`.
 #[derive(Drop)]
 pub struct Containers {
     places: Places,

@@ -109,7 +109,7 @@ impl Places {
         }
     }
 
-    /// Puts a session into a free slot, and itself into its places where those are free.
+    /// Puts a session into a slot that is free, and its account and its names into their places, where those are free.
     pub(crate) fn seat(&mut self, slot: u64, connection: &Connection)
         requires slot { slot < length self.old.threads }
         requires places { IsSeated self.old connection.now }
@@ -172,7 +172,8 @@ impl Places {
 
     /// Frees the lowest slot of a session.
     pub(crate) fn quit(&mut self, number: u64) -> Option<Seated>
-        ensures step { self.new ≡ stepped self.old (quit_line (found_where (λ x. x.number == number) self.old.threads)) }
+        ensures step { self.new
+            ≡ stepped self.old (quit_line (found_where (λ x. x.number == number) self.old.threads)) }
         ensures seat { result ≡ seated (found_where (λ x. x.number == number) self.old.threads) }
         ensures few { IfSome result IsInRange }
     {
