@@ -162,6 +162,7 @@ pub trait Acts: Hold {
         ensures draws { Self.draws self.new ≡ Self.draws self.old }
         ensures inside { IsSome (Self.hand self.new 0) }
         ensures hand { (r : ℕ) → 0 < r → Self.hand self.new r ≡ Self.hand self.old r }
+        ensures words { Self.words self.new ≡ Self.words self.old }
         ensures name { Self.name self.new ≡ Self.name self.old };
 
     /// Ends the action. No other row may be in hand.
@@ -172,5 +173,6 @@ pub trait Acts: Hold {
         ensures left { Self.left self.new ≡ Self.left self.old }
         ensures draws { Self.draws self.new ≡ Self.draws self.old }
         ensures hand { (r : ℕ) → Self.hand self.new r ≡ None }
+        ensures words { Self.words self.new ≡ Self.words self.old }
         ensures name { Self.name self.new ≡ Self.name self.old };
 }
