@@ -1,6 +1,6 @@
 //! The administration's calls.
 
-ghost use Rattle.std.specs.Prelude.{◌≡◌, ◌<◌, ◌≤◌, ◌+◌, ◌*◌, ◌^◌, ◌∷◌, [], ℕ, Some, None, IfOk, length};
+ghost use Rattle.std.specs.Prelude.{◌≡◌, ◌<◌, ◌≤◌, ◌+◌, ◌*◌, ◌^◌, ◌∷◌, [], ℕ, Some, None, IfOk, IfSome, length};
 ghost use Rattle.pfs_containers.specs.Kept.{lost_in};
 ghost use Rattle.pfs_admin.specs.Works.{Worked, Leaves};
 ghost use Rattle.pfs_admin.specs.States.{thread_flags, connected, has_quit, seat_at, seat_in, name_text};
@@ -107,6 +107,7 @@ impl Admin {
         requires room { 6 ≤ log.old.room }
         ensures step { self.new ≡ connected self.old number user host }
         ensures placed { result ≡ placed_of (seat_at self.old number user host) }
+        ensures slot { IfSome result.thread (λ n. n < 32) }
         ensures worked { Worked (work_of_connect self.old number user host) self.old.words
             (connect_entry (self.old.actions + 1) (seat_at self.old number user host) ∷ []) log.old log.new
             (H.reached rows.old) (H.reached rows.new) }
@@ -155,6 +156,13 @@ impl Admin {
             &seat,
             log,
         );
+    }
+
+    /// How many actions there were.
+    pub fn actions(&self) -> u64
+        ensures { result ≡ self.now.actions }
+    {
+        self.actions
     }
 
     /// How many connects looked for a thread slot, and for a place for their account, their user and their host, and

@@ -1,10 +1,10 @@
 //! A list of journal entries with its room.
 
-ghost use Rattle.std.specs.Prelude.{◌≡◌, ◌<◌, ◌-◌, ◌++◌, ◌∷◌, [], IfOk};
+ghost use Rattle.std.specs.Prelude.{◌≡◌, ◌<◌, ◌+◌, ◌-◌, ◌++◌, ◌∷◌, [], IfOk, OnOk, OnErr};
 
 use crate::NoMemory;
 use pfs_event::Entry;
-use std::alloc::Global;
+use std::alloc::{AllocError, Global};
 use std::marker::Model;
 
 /// Entries in the order in which they were added, and room for more. Contracts see both, the room as a number.
@@ -26,6 +26,16 @@ impl Model for Log {
 }
 
 impl Log {
+    /// An empty log without room. It takes no memory.
+    pub fn new(alloc: Global) -> Log
+        ensures { result ≡ record { entries = []; room = 0 } }
+    {
+        Log {
+            entries: Vec::new(alloc),
+            room: 0,
+        }
+    }
+
     /// An empty log with room for so many entries. The room is taken here, and no other call takes memory.
     pub fn with_room(alloc: Global, entries: u64) -> Result<Log, NoMemory>
         ensures { IfOk result (λ log. log ≡ record { entries = []; room = entries }) }
@@ -35,6 +45,19 @@ impl Log {
             entries: list,
             room: entries,
         })
+    }
+
+    /// Makes room for so many entries more. Out of memory the log is as before.
+    pub fn reserve(&mut self, entries: u64) -> Result<(), NoMemory>
+        ensures ok { OnOk result (self.new ≡ record { entries = self.old.entries; room = self.old.room + entries }) }
+        ensures err { OnErr result (self.new ≡ self.old) }
+    {
+        let Some(room) = self.room.checked_add(entries) else {
+            return Err(AllocError);
+        };
+        self.entries.reserve(room as usize)?;
+        self.room = room;
+        Ok(())
     }
 
     /// Adds an entry at the end.

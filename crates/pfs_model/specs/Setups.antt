@@ -115,18 +115,23 @@ is_statement kinds.Transaction = false
 abbrev pub open_through : (EventKind → Bool) → List Opened → ℕ
 open_through test opened = times (λ event. is_let_through event.verdict && test event.subject.kind) opened
 
--- The verdict: the first case that holds, of a session with this slot and these open events, under at most `stack`
--- nested statements.
-abbrev pub verdict_on : ℕ → Subject → SeenSetup → List Opened → Verdict
-verdict_on stack subject seen opened =
+-- The verdict: the first case that holds, where so many let-through statements and waits of the session are open, and
+-- at most `stack` statements may be nested.
+abbrev pub verdict_by : ℕ → Subject → SeenSetup → ℕ → ℕ → Verdict
+verdict_by stack subject seen statements waits =
     if not (is_on seen.consumers consumers.GlobalInstrumentation) then OffGlobal else
     if not (is_enabled seen.class) then OffClass else
     if is_some subject.table && not (is_enabled seen.table) then OffTable else
     if is_on seen.consumers consumers.ThreadInstrumentation && not (is_enabled seen.thread) then OffThread else
-    if is_statement subject.kind && nat_le stack (open_through is_statement opened) then LostNested else
-    if is_wait subject.kind && nat_le 4 (open_through is_wait opened) then LostLocker else
+    if is_statement subject.kind && nat_le stack statements then LostNested else
+    if is_wait subject.kind && nat_le 4 waits then LostLocker else
     if not (is_on seen.consumers consumers.ThreadInstrumentation) then Aside else
     Attributed
+
+-- of a session with these open events
+abbrev pub verdict_on : ℕ → Subject → SeenSetup → List Opened → Verdict
+verdict_on stack subject seen opened =
+    verdict_by stack subject seen (open_through is_statement opened) (open_through is_wait opened)
 
 abbrev pub verdict_of : ℕ → Option ℕ → Subject → SeenSetup → List Opened → Verdict
 verdict_of stack None subject seen opened = LostThread

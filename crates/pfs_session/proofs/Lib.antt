@@ -1,0 +1,3 @@
+pub mod Owed
+pub mod Playing
+pub mod Turning

@@ -1,0 +1,270 @@
+-- Starts, ends and actions as steps, from what their parts do.
+use Rattle.std.proofs.Common.{ℕ, ◌≡◌, ◌<◌, ◌≤◌, ◌+◌, ◌^◌, ◌&&◌, Bool, true, false, List, [], ◌∷◌, ◌++◌, Option, Some, None, length, refl, ap, sym, ◌∙◌, subst, arith}
+use Rattle.std.specs.Prelude.{IfSome}
+use Rattle.std.proofs.lemmas.List.{append_assoc, append-nil}
+use Rattle.pfs_admin.proofs.Signing.{worked_behind}
+use Rattle.pfs_admin.specs.Asks.{work_of_connect, work_of_quit, connect_entry, placed_of}
+use Rattle.pfs_admin.specs.States.{State as Administration}
+use Rattle.pfs_admin.specs.States.{connected, has_quit, seat_at}
+use Rattle.pfs_admin.specs.Works.{Work, Worked, signs_calls, signs_entries, flagging_calls, flagging_entries}
+use Rattle.pfs_admin.specs.declared.admin.Placed.{Placed}
+use Rattle.pfs_containers.specs.Kept.{lost_in}
+use Rattle.pfs_containers.specs.declared.containers.Lost.{Lost}
+use Rattle.pfs_event.specs.Verdicts.{is_let_through}
+use Rattle.pfs_event.specs.declared.entry.Entry.{Entry}
+use Rattle.pfs_event.specs.declared.entry.Entry.TheVariants as says
+use Rattle.pfs_event.specs.declared.kind.EventKind.{EventKind}
+use Rattle.pfs_event.specs.declared.open.Open.{Open}
+use Rattle.pfs_event.specs.declared.verdict.Verdict.{Verdict}
+use Rattle.pfs_levels.proofs.Moving.{did_then, did_as, goes_two}
+use Rattle.pfs_levels.specs.Calls.{Call, Opening, Goes, Loads}
+use Rattle.pfs_levels.specs.Journal.{Journal}
+use Rattle.pfs_levels.specs.Moves.{Did, moves_calls, moves_entries}
+use Rattle.pfs_levels.specs.declared.answers.Added.{Added}
+use Rattle.pfs_levels.specs.declared.answers.Word.{Word}
+use Rattle.pfs_model.specs.Setups.{is_wait, is_statement, thread_word}
+use Rattle.pfs_model.specs.declared.lines.Subject.{Subject}
+use Rattle.pfs_stat.specs.declared.Stat.{Stat}
+use Rattle.pfs_session.specs.Adding.{Brings}
+use Rattle.pfs_session.specs.Ends.{Ends, EndsIn, EndsThrough, EndsSilently, Finished, amount_of, cell_number, added_entry, without_innermost}
+use Rattle.pfs_session.specs.Settles.{PaysAll, Settles, owed_in, owed_by_state}
+use Rattle.pfs_session.specs.Starts.{Starts, IsLoaded, IsOpened, load_calls, start_entry, started, verdict_seen, verdict_in, is_timed_by}
+use Rattle.pfs_session.specs.States.{State, Book, count_open, one_if, IsKept, AreAround, AreSeated, AreSilent, no_place, nothing_held}
+use Rattle.pfs_session.specs.Turns.{Step, StartsEvent, EndsEvent, SettlesHeld, Connects, Quits, Played, Works, stage_ends, stage_steps}
+use Rattle.pfs_session.specs.declared.events.Numbers.{Numbers}
+use Rattle.pfs_session.specs.declared.setup.Setup.{Setup}
+use Rattle.pfs_session.proofs.Playing.{played_one, played_then}
+
+verdict_counts : (s : State) (subject : Subject) (seen : Option Setup) (statements waits : ℕ) → statements ≡ count_open is_statement s.opened.events
+    → waits ≡ count_open is_wait s.opened.events → verdict_seen s.stack s.place.thread subject seen statements waits ≡ verdict_in s subject seen
+verdict_counts s subject seen statements waits a b =
+    ap (λ z. verdict_seen s.stack s.place.thread subject seen z waits) a
+    ∙ ap (λ z. verdict_seen s.stack s.place.thread subject seen (count_open is_statement s.opened.events) z) b
+
+pub start_played : (old new : Book) (entry : Entry) (subject : Subject) (seen : Option Setup) (verdict : Verdict) (timed : Bool) (what : Open) (statements waits : ℕ)
+    (was now : Opening → List Call → Type 0)
+    → IsLoaded old.state.place.thread subject.class subject.table seen → statements ≡ count_open is_statement old.state.opened.events
+    → waits ≡ count_open is_wait old.state.opened.events → verdict ≡ verdict_seen old.state.stack old.state.place.thread subject seen statements waits
+    → timed ≡ is_timed_by subject seen
+    → IsOpened old.state.number old.state.drawn old.state.clock old.state.opened.events subject verdict timed what
+    → new.state ≡ started old.state what → entry ≡ start_entry verdict (old.state.drawn + 1) seen
+    → new.journal.entries ≡ old.journal.entries ++ entry ∷ [] → Goes was now (load_calls old.state.place.thread subject.class subject.table seen)
+    → Played (StartsEvent subject ∷ []) old new was now
+start_played old new entry subject seen verdict timed what statements waits was now loaded a b v t opened state e entries goes =
+    let s : State = old.state in
+    let same : verdict ≡ verdict_in s subject seen = v ∙ verdict_counts s subject seen statements waits a b in
+    let P : Verdict → Type 0 = λ z. IsOpened s.number s.drawn s.clock s.opened.events subject z timed what in
+    let Q : Bool → Type 0 = λ z. IsOpened s.number s.drawn s.clock s.opened.events subject (verdict_in s subject seen) z what in
+    let turn : Starts s subject (load_calls s.place.thread subject.class subject.table seen) (entry ∷ []) (started s what) = record {
+      seen = seen;
+      what = what;
+      loaded = loaded;
+      calls_are = refl;
+      opened = subst Q t (subst P same opened);
+      entries_are = ap (λ z. z ∷ []) (e ∙ ap (λ z. start_entry z (s.drawn + 1) seen) same);
+      after_is = refl;
+    } in
+    played_one (StartsEvent subject) (load_calls s.place.thread subject.class subject.table seen) (entry ∷ []) (started s what) old new was now turn state
+    (record { entries_are = entries; goes = goes })
+
+-- an event that is out of the nest ends: two loads, its entry, and the addition
+pub finish_done : (old new : Book) (slot cell : ℕ) (consumers thread : Word) (answer : Added) (amount : Stat) (what : Open) (numbers : Numbers) (mid : Journal)
+    (here there : List (Option Stat)) (was a b now : Opening → List Call → Type 0)
+    → old.state.place.thread ≡ Some slot → Goes was a (Loads 0 consumers.version consumers.flags ∷ [])
+    → Goes a b (Loads (1 + slot) thread.version thread.flags ∷ [])
+    → mid.entries ≡ old.journal.entries ++ says.End (Some what.event.number) (Some old.state.drawn) (Some consumers.version) (Some thread.version) ∷ []
+    → cell ≡ cell_number what → amount ≡ amount_of what old.state.clock numbers → here ≡ old.state.held
+    → Brings slot cell amount here there answer mid new.journal b now
+    → new.state ≡ record old.state { held = there } → Finished old new what numbers answer was now
+finish_done old new slot cell consumers thread answer amount what numbers mid here there was a b now seat l0 l1 m c e h br state =
+    let End : Entry = says.End (Some what.event.number) (Some old.state.drawn) (Some consumers.version) (Some thread.version) in
+    let P : ℕ → Type 0 = λ z. Brings slot z amount here there answer mid new.journal b now in
+    let Q : Stat → Type 0 = λ z. Brings slot (cell_number what) z here there answer mid new.journal b now in
+    let R : List (Option Stat) → Type 0 = λ z. Brings slot (cell_number what) (amount_of what old.state.clock numbers) z there answer mid new.journal b now in
+    let br2 = subst R h (subst Q e (subst P c br)) in
+    record {
+      slot = slot;
+      calls = _;
+      entries = End ∷ added_entry answer ∷ [];
+      slot_is = seat;
+      ends = record {
+        consumers = consumers;
+        thread = thread;
+        answer = answer;
+        row_is = br2.row_is;
+        calls_are = refl;
+        entries_are = refl;
+        after_is = state ∙ ap (λ z. record old.state { held = z }) br2.held_is;
+      };
+      did = record {
+        entries_are = br2.did.entries_are ∙ (ap (λ z. z ++ added_entry answer ∷ []) m ∙ append_assoc old.journal.entries (End ∷ []) (added_entry answer ∷ []));
+        goes = λ start calls h0. br2.did.goes start _ (l1 start _ (l0 start calls h0));
+      };
+    }
+
+pub end_through : (old mid new : Book) (what : Open) (numbers : Numbers) (answer : Added) (was now : Opening → List Call → Type 0)
+    → old.state.opened.events ≡ what ∷ mid.state.opened.events → mid.state ≡ without_innermost old.state → mid.journal ≡ old.journal
+    → is_let_through what.verdict ≡ true → Finished mid new what numbers answer was now → Played (EndsEvent numbers ∷ []) old new was now
+end_through old mid new what numbers answer was now inner same journal through f =
+    let P : State → Type 0 = λ m. EndsThrough m f.slot what mid.state.opened.events numbers f.calls f.entries new.state in
+    let e = subst P same f.ends in
+    let own : EndsThrough old.state f.slot what mid.state.opened.events numbers f.calls f.entries new.state = record {
+      consumers = e.consumers;
+      thread = e.thread;
+      answer = e.answer;
+      row_is = e.row_is;
+      calls_are = e.calls_are;
+      entries_are = e.entries_are;
+      after_is = e.after_is;
+    } in
+    let seat : Some f.slot ≡ old.state.place.thread = sym f.slot_is ∙ ap (λ (m : State). m.place.thread) same in
+    let Q : Option ℕ → Type 0 = λ o. EndsIn old.state o true what mid.state.opened.events numbers f.calls f.entries new.state in
+    let R : Bool → Type 0 = λ t. EndsIn old.state old.state.place.thread t what mid.state.opened.events numbers f.calls f.entries new.state in
+    let J : Journal → Type 0 = λ j. Did f.calls f.entries j new.journal was now in
+    played_one (EndsEvent numbers) f.calls f.entries new.state old new was now
+    (record { what = what; others = mid.state.opened.events; innermost = inner; ends = subst R (sym through) (subst Q seat own) })
+    refl (subst J journal f.did)
+
+pub end_silent : (old mid new : Book) (what : Open) (numbers : Numbers) (was : Opening → List Call → Type 0)
+    → old.state.opened.events ≡ what ∷ mid.state.opened.events → mid.state ≡ without_innermost old.state → mid.journal ≡ old.journal
+    → is_let_through what.verdict ≡ false → new.state ≡ mid.state → new.journal.entries ≡ mid.journal.entries ++ says.End None None None None ∷ []
+    → Played (EndsEvent numbers ∷ []) old new was was
+end_silent old mid new what numbers was inner same journal silent state entries =
+    let others : List Open = mid.state.opened.events in
+    let after : new.state ≡ record old.state { opened = record old.state.opened { events = others } } =
+    state ∙ (same ∙ ap (λ z. record old.state { opened = record old.state.opened { events = z } }) (sym (ap (λ (m : State). m.opened.events) same))) in
+    let own : EndsSilently old.state others [] (says.End None None None None ∷ []) new.state = record { calls_are = refl; entries_are = refl; after_is = after } in
+    let R : Bool → Type 0 = λ t. EndsIn old.state old.state.place.thread t what others numbers [] (says.End None None None None ∷ []) new.state in
+    played_one (EndsEvent numbers) [] (says.End None None None None ∷ []) new.state old new was was
+    (record { what = what; others = others; innermost = inner; ends = subst R (sym silent) own })
+    refl (record { entries_are = entries ∙ ap (λ (j : Journal). j.entries ++ says.End None None None None ∷ []) journal; goes = λ start calls h. h })
+
+pub settle_played : (old new : Book) (was now : Opening → List Call → Type 0) → PaysAll (owed_by_state old.state) old.journal new.journal was now
+    → new.state ≡ record old.state { held = nothing_held } → Played (SettlesHeld ∷ []) old new was now
+settle_played old new was now p state =
+    played_one SettlesHeld _ _ (record old.state { held = nothing_held }) old new was now
+    (record { paid = p.paid; owed_are = p.owed_are; calls_are = refl; entries_are = refl; after_is = refl }) state p.did
+
+works_of : (work : Work) (words : List Word) (head : List Entry) (old new : Journal) (was now : Opening → List Call → Type 0) (w : Worked work words head old new was now)
+    → Works work words head (flagging_calls words work.flags ++ (signs_calls w.made ++ moves_calls w.moves))
+    (head ++ (moves_entries w.moves ++ (signs_entries w.made ++ flagging_entries words work.flags)))
+works_of work words head old new was now w = record {
+  moves = w.moves;
+  made = w.made;
+  are_moves = w.are_moves;
+  signs_are = w.signs_are;
+  calls_are = refl;
+  entries_are = refl;
+}
+
+-- a session with these actions behind it, at this place
+abbrev pub placed_at : State → Placed → ℕ → Lost → State
+placed_at s place number lost = record s { place = place; actions = s.actions + 1; last = Some (record { number = number; lost = lost }) }
+
+placed_same : (s : State) (p q : Placed) (m n : ℕ) (k l : Lost) → p ≡ q → m ≡ n → k ≡ l → placed_at s p m k ≡ placed_at s q n l
+placed_same s p q m n k l e f g = ap (λ z. placed_at s z m k) e ∙ (ap (λ z. placed_at s q z k) f ∙ ap (λ z. placed_at s q n z) g)
+
+pub connect_played : (old new : Book) (admin after : Administration) (user host : ℕ) (placed : Placed) (number : ℕ) (lost : Lost) (was now : Opening → List Call → Type 0)
+    → Worked (work_of_connect admin old.state.number user host) admin.words (connect_entry (admin.actions + 1) (seat_at admin old.state.number user host) ∷ [])
+    old.journal new.journal was now
+    → after ≡ connected admin old.state.number user host → placed ≡ placed_of (seat_at admin old.state.number user host) → number ≡ after.actions
+    → lost ≡ lost_in after.kept.now → new.state ≡ placed_at old.state placed number lost → Played (Connects admin user host ∷ []) old new was now
+connect_played old new admin after user host placed number lost was now w step p n l state =
+    let s : State = old.state in
+    let at : Administration = connected admin s.number user host in
+    let mid : State = placed_at s (placed_of (seat_at admin s.number user host)) at.actions (lost_in at.kept.now) in
+    played_one (Connects admin user host) _ _ mid old new was now
+    (works_of _ _ _ _ _ _ _ w, refl)
+    (state ∙ placed_same s _ _ _ _ _ _ p (n ∙ ap (λ (z : Administration). z.actions) step) (l ∙ ap (λ (z : Administration). lost_in z.kept.now) step))
+    w.did
+
+pub quit_played : (old new : Book) (mid : Journal) (admin after : Administration) (number action : ℕ) (lost : Lost) (was now : Opening → List Call → Type 0)
+    → action ≡ admin.actions + 1 → mid.entries ≡ old.journal.entries ++ says.Act action ∷ []
+    → Worked (work_of_quit admin old.state.number) admin.words [] mid new.journal was now
+    → after ≡ has_quit admin old.state.number → number ≡ after.actions → lost ≡ lost_in after.kept.now
+    → new.state ≡ placed_at old.state no_place number lost → Played (Quits admin ∷ []) old new was now
+quit_played old new mid admin after number action lost was now a m w step n l state =
+    let s : State = old.state in
+    let at : Administration = has_quit admin s.number in
+    let end : State = placed_at s no_place at.actions (lost_in at.kept.now) in
+    let all = worked_behind (work_of_quit admin s.number) admin.words (says.Act (admin.actions + 1)) old.journal mid new.journal was now
+    (m ∙ ap (λ z. old.journal.entries ++ says.Act z ∷ []) a) w in
+    played_one (Quits admin) _ _ end old new was now
+    (works_of _ _ _ _ _ _ _ all, refl)
+    (state ∙ placed_same s _ _ _ _ _ _ refl (n ∙ ap (λ (z : Administration). z.actions) step) (l ∙ ap (λ (z : Administration). lost_in z.kept.now) step))
+    all.did
+
+-- the same of a session that is known by another name
+pub connect_from : (at old new : Book) (admin after : Administration) (user host : ℕ) (placed : Placed) (number : ℕ) (lost : Lost) (was now : Opening → List Call → Type 0)
+    → at ≡ old → Worked (work_of_connect admin at.state.number user host) admin.words (connect_entry (admin.actions + 1) (seat_at admin at.state.number user host) ∷ [])
+    at.journal new.journal was now
+    → after ≡ connected admin at.state.number user host → placed ≡ placed_of (seat_at admin at.state.number user host) → number ≡ after.actions
+    → lost ≡ lost_in after.kept.now → new.state ≡ placed_at at.state placed number lost → Played (Connects admin user host ∷ []) old new was now
+connect_from at old new admin after user host placed number lost was now e w step p n l state =
+    subst (λ b. Played (Connects admin user host ∷ []) b new was now) e
+    (connect_played at new admin after user host placed number lost was now w step p n l state)
+
+pub quit_from : (at old new : Book) (mid : Journal) (admin after : Administration) (number action : ℕ) (lost : Lost) (was now : Opening → List Call → Type 0)
+    → at ≡ old → action ≡ admin.actions + 1 → mid.entries ≡ at.journal.entries ++ says.Act action ∷ []
+    → Worked (work_of_quit admin at.state.number) admin.words [] mid new.journal was now
+    → after ≡ has_quit admin at.state.number → number ≡ after.actions → lost ≡ lost_in after.kept.now
+    → new.state ≡ placed_at at.state no_place number lost → Played (Quits admin ∷ []) old new was now
+quit_from at old new mid admin after number action lost was now e a m w step n l state =
+    subst (λ b. Played (Quits admin ∷ []) b new was now) e (quit_played at new mid admin after number action lost was now a m w step n l state)
+
+pub settle_from : (at old new : Book) (held there : List (Option Stat)) (was now : Opening → List Call → Type 0) → at ≡ old → held ≡ at.state.held
+    → PaysAll (owed_in at.state.place.thread held) at.journal new.journal was now → there ≡ nothing_held → new.state ≡ record at.state { held = there }
+    → Played (SettlesHeld ∷ []) old new was now
+settle_from at old new held there was now e h p none state =
+    let P : List (Option Stat) → Type 0 = λ z. PaysAll (owed_in at.state.place.thread z) at.journal new.journal was now in
+    subst (λ b. Played (SettlesHeld ∷ []) b new was now) e
+    (settle_played at new was now (subst P h p) (state ∙ ap (λ z. record at.state { held = z }) none))
+
+pub finish_from : (at old new : Book) (slot cell : ℕ) (consumers thread : Word) (answer : Added) (amount : Stat) (what : Open) (numbers : Numbers) (mid : Journal)
+    (here there last : List (Option Stat)) (was a b now : Opening → List Call → Type 0)
+    → at ≡ old → at.state.place.thread ≡ Some slot → Goes was a (Loads 0 consumers.version consumers.flags ∷ [])
+    → Goes a b (Loads (1 + slot) thread.version thread.flags ∷ [])
+    → mid.entries ≡ at.journal.entries ++ says.End (Some what.event.number) (Some at.state.drawn) (Some consumers.version) (Some thread.version) ∷ []
+    → cell ≡ cell_number what → amount ≡ amount_of what at.state.clock numbers → here ≡ at.state.held
+    → Brings slot cell amount here there answer mid new.journal b now
+    → last ≡ there → new.state ≡ record at.state { held = last } → Finished old new what numbers answer was now
+finish_from at old new slot cell consumers thread answer amount what numbers mid here there last was a b now same seat l0 l1 m c e h br is state =
+    subst (λ z. Finished z new what numbers answer was now) same
+    (finish_done at new slot cell consumers thread answer amount what numbers mid here there was a b now seat l0 l1 m c e h br
+    (state ∙ ap (λ z. record at.state { held = z }) is))
+
+one_small : (b : Bool) → one_if b ≤ 1
+one_small true = omega arith
+one_small false = omega arith
+
+-- how many events are open of a kind
+count_few : (test : EventKind → Bool) (events : List Open) → count_open test events ≤ length events
+count_few test [] = omega arith
+count_few test (what ∷ events) = omega (arith, count_few test events, one_small (is_let_through what.verdict && test what.kind))
+
+-- one more event of a kind that is open is a number of 64 bits
+pub count_fits : (test : EventKind → Bool) (events : List Open) (count one depth : ℕ) (b : Bool) → count ≡ count_open test events → one ≡ one_if b → length events < depth
+    → depth < 2 ^ 64 → count + one < 2 ^ 64
+count_fits test events count one depth b e f low fits = omega (arith, e, f, low, fits, count_few test events, one_small b)
+
+-- a session with nothing open keeps what always holds wherever it is connected
+seated_by : (thread : Option ℕ) (events : List Open) → events ≡ [] → IfSome thread (λ n. n < 32) → AreSeated thread events
+seated_by None events e low = subst AreSilent (sym e) tt
+seated_by (Some slot) events e low = low
+
+pub kept_elsewhere : (s after : State) (statements waits : ℕ) → s.opened.events ≡ [] → IfSome after.place.thread (λ n. n < 32)
+    → after.opened ≡ s.opened → after.held ≡ s.held → IsKept s statements waits → IsKept after statements waits
+kept_elsewhere s after statements waits e low o h k = record {
+  statements_are = k.statements_are ∙ ap (λ z. count_open is_statement z.events) (sym o);
+  waits_are = k.waits_are ∙ ap (λ z. count_open is_wait z.events) (sym o);
+  nested = subst (λ z. AreAround z.events) (sym o) k.nested;
+  seated = seated_by after.place.thread after.opened.events (ap (λ z. z.events) o ∙ e) low;
+  held_wide = ap length h ∙ k.held_wide;
+}
+
+pub stage_from : (old mid new : Book) (what : Option Subject) (subject : Subject) (was at now : Opening → List Call → Type 0) → what ≡ Some subject
+    → Played (stage_ends old.state.opened.events) old mid was at → Played (StartsEvent subject ∷ []) mid new at now
+    → Played (stage_steps old.state.opened.events what) old new was now
+stage_from old mid new what subject was at now e p q =
+    subst (λ z. Played (stage_steps old.state.opened.events z) old new was now) (sym e)
+    (played_then (stage_ends old.state.opened.events) (StartsEvent subject ∷ []) old mid new was at now p q)

@@ -1,0 +1,129 @@
+-- What an event's end loads and adds, and what a session holds back.
+use Rattle.std.specs.Prelude.{ℕ, ◌≡◌, ◌+◌, ◌-◌, ◌%◌, ◌^◌, Bool, true, false, if◌then◌else◌, List, [], ◌∷◌, Option, Some, None, slice_set}
+use Rattle.pfs_event.specs.Verdicts.{is_let_through}
+use Rattle.pfs_event.specs.declared.entry.Entry.{Entry}
+use Rattle.pfs_event.specs.declared.entry.Entry.TheVariants as says
+use Rattle.pfs_event.specs.declared.kind.EventKind.{EventKind}
+use Rattle.pfs_event.specs.declared.kind.EventKind.TheVariants as kinds
+use Rattle.pfs_event.specs.declared.open.Open.{Open}
+use Rattle.pfs_event.specs.declared.verdict.Verdict.{Verdict}
+use Rattle.pfs_event.specs.declared.verdict.Verdict.TheVariants.{Attributed}
+use Rattle.pfs_levels.specs.Calls.{Call, Opening, Adds, Loads, row_in}
+use Rattle.pfs_levels.specs.Moves.{Did}
+use Rattle.pfs_levels.specs.declared.answers.Added.{Added}
+use Rattle.pfs_levels.specs.declared.answers.Added.TheVariants.{Counted, Held}
+use Rattle.pfs_levels.specs.declared.answers.Word.{Word}
+use Rattle.pfs_model.specs.Setups.{thread_word, is_attributed}
+use Rattle.pfs_stat.specs.Stat.{stat_of, merge_of}
+use Rattle.pfs_stat.specs.declared.Stat.{Stat}
+use Rattle.pfs_session.specs.States.{State, Book, held_row, held_at}
+use Rattle.pfs_session.specs.declared.events.Numbers.{Numbers}
+
+abbrev pub no_numbers : Numbers
+no_numbers = record { lock = 0; errors = 0; warnings = 0; affected = 0; sent = 0; examined = 0 }
+
+-- the numbers of a statement, and of another event none
+abbrev pub numbers_for : EventKind → Numbers → Numbers
+numbers_for kinds.Statement numbers = numbers
+numbers_for kinds.Wait numbers = no_numbers
+numbers_for kinds.Stage numbers = no_numbers
+numbers_for kinds.Transaction numbers = no_numbers
+
+-- how long an event took that ends when the clock stands so, modulo 2^64
+abbrev pub lasted : Open → ℕ → ℕ
+lasted what clock = (clock + (2 ^ 64 - what.event.start)) % 2 ^ 64
+
+-- what an open event adds when it ends at this clock
+abbrev pub amount_of : Open → ℕ → Numbers → Stat
+amount_of what clock numbers = stat_of (record {
+  timed = what.event.timed;
+  wait = lasted what clock;
+  lock = (numbers_for what.kind numbers).lock;
+  errors = (numbers_for what.kind numbers).errors;
+  warnings = (numbers_for what.kind numbers).warnings;
+  affected = (numbers_for what.kind numbers).affected;
+  sent = (numbers_for what.kind numbers).sent;
+  examined = (numbers_for what.kind numbers).examined;
+})
+
+-- the cell of a slot in which an open event counts: that of its class, and of a READ ONLY transaction the last one
+abbrev pub cell_in : Open → ℕ
+cell_in what = if what.event.read_only then 63 else what.event.class
+
+-- the number of the cell: an attributed event counts in its thread's, another in the global one
+abbrev pub cell_number : Open → ℕ
+cell_number what = if is_attributed what.verdict then cell_in what else 64 + cell_in what
+
+-- an amount behind what is held for its row
+abbrev pub with_held : Option Stat → Stat → Stat
+with_held None amount = amount
+with_held (Some held) amount = merge_of held amount
+
+-- what is held for the row once this was added, or wasn't
+abbrev pub still_held : Stat → Added → Option Stat
+still_held amount (Counted row version) = None
+still_held amount (Held row first second) = Some amount
+
+abbrev pub added_entry : Added → Entry
+added_entry (Counted row version) = says.Add row version
+added_entry (Held row first second) = says.Held row first second
+
+-- the innermost event, which is let through, ends: the consumers' word and the thread's are loaded, and it is added,
+-- with all that is held for its row, or held with it
+pub record EndsThrough (s : State) (slot : ℕ) (what : Open) (others : List Open) (numbers : Numbers)
+    (calls : List Call) (entries : List Entry) (after : State) : Type 0 where
+  pub consumers : Word
+  pub thread : Word
+  pub answer : Added
+  pub row_is : row_in answer ≡ held_row slot (cell_number what)
+  pub calls_are : calls
+      ≡ Adds (held_row slot (cell_number what))
+      (with_held (held_at s.held (cell_number what)) (amount_of what s.clock numbers)) answer
+      ∷ Loads (thread_word slot) thread.version thread.flags ∷ Loads 0 consumers.version consumers.flags ∷ []
+  pub entries_are : entries
+      ≡ says.End (Some what.event.number) (Some s.drawn) (Some consumers.version) (Some thread.version)
+      ∷ added_entry answer ∷ []
+  pub after_is : after ≡ record s {
+    opened = record s.opened { events = others };
+    held = slice_set s.held (cell_number what) (still_held
+        (with_held (held_at s.held (cell_number what)) (amount_of what s.clock numbers)) answer);
+  }
+
+-- an event that isn't let through ends, and nothing is loaded or added
+pub record EndsSilently (s : State) (others : List Open) (calls : List Call) (entries : List Entry)
+    (after : State) : Type 0 where
+  pub calls_are : calls ≡ []
+  pub entries_are : entries ≡ says.End None None None None ∷ []
+  pub after_is : after ≡ record s { opened = record s.opened { events = others } }
+
+-- a session without a slot has no event that is let through
+abbrev pub EndsIn : State → Option ℕ → Bool → Open → List Open → Numbers → List Call → List Entry → State → Type 0
+EndsIn s slot false what others numbers calls entries after = EndsSilently s others calls entries after
+EndsIn s None true what others numbers calls entries after = ⊥
+EndsIn s (Some slot) true what others numbers calls entries after =
+    EndsThrough s slot what others numbers calls entries after
+
+-- an event that isn't among the open ones any more ended so
+pub record Finished (old new : Book) (what : Open) (numbers : Numbers) (answer : Added) (was now : Opening → List Call
+    → Type 0) : Type 0 where
+  pub slot : ℕ
+  pub calls : List Call
+  pub entries : List Entry
+  pub slot_is : old.state.place.thread ≡ Some slot
+  pub ends : EndsThrough old.state slot what old.state.opened.events numbers calls entries new.state
+  pub did : Did calls entries old.journal new.journal was now
+
+-- the open events without the innermost
+abbrev pub outer_events : List Open → List Open
+outer_events [] = []
+outer_events (what ∷ events) = events
+
+abbrev pub without_innermost : State → State
+without_innermost s = record s { opened = record s.opened { events = outer_events s.opened.events } }
+
+pub record Ends (s : State) (numbers : Numbers) (calls : List Call) (entries : List Entry) (after : State) : Type 0
+  where
+    pub what : Open
+    pub others : List Open
+    pub innermost : s.opened.events ≡ what ∷ others
+    pub ends : EndsIn s s.place.thread (is_let_through what.verdict) what others numbers calls entries after

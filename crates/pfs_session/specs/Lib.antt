@@ -1,0 +1,6 @@
+pub mod States
+pub mod Starts
+pub mod Ends
+pub mod Adding
+pub mod Settles
+pub mod Turns

@@ -1,0 +1,135 @@
+-- What an event's start loads, decides and opens.
+use Rattle.std.specs.Prelude.{ℕ, ◌≡◌, ◌+◌, ◌==◌, Bool, true, false, ◌&&◌, ◌||◌, if◌then◌else◌, List, [], ◌∷◌, ◌++◌, Option, Some, None, is_some, is_none}
+use Rattle.std.specs.Option.{option_map}
+use Rattle.pfs_event.specs.Verdicts.{is_let_through}
+use Rattle.pfs_event.specs.declared.entry.Entry.{Entry}
+use Rattle.pfs_event.specs.declared.entry.Entry.TheVariants as says
+use Rattle.pfs_event.specs.declared.open.Open.{Open}
+use Rattle.pfs_event.specs.declared.verdict.Verdict.{Verdict}
+use Rattle.pfs_event.specs.declared.verdict.Verdict.TheVariants.{LostThread, LostClass}
+use Rattle.pfs_levels.specs.Calls.{Call, Loads}
+use Rattle.pfs_levels.specs.declared.answers.Word.{Word}
+use Rattle.pfs_model.specs.Setups.{SeenSetup, verdict_by, has_time, is_wait, is_statement, thread_word, class_word, table_word}
+use Rattle.pfs_model.specs.declared.lines.Subject.{Subject}
+use Rattle.pfs_session.specs.States.{State, around, count_open, one_if}
+use Rattle.pfs_session.specs.declared.setup.Setup.{Setup}
+
+-- of a table, if there is one
+abbrev pub table_calls : Option ℕ → Option Word → List Call
+table_calls (Some table) (Some word) = Loads (table_word table) word.version word.flags ∷ []
+table_calls (Some table) None = []
+table_calls None word = []
+
+-- the consumers' word, the thread's, the class's and, of an event of a table, the table's: newest first
+abbrev pub setup_calls : ℕ → ℕ → Option ℕ → Setup → List Call
+setup_calls slot class table seen =
+    table_calls table seen.table
+    ++ (Loads (class_word class) seen.class.version seen.class.flags
+    ∷ Loads (thread_word slot) seen.thread.version seen.thread.flags
+    ∷ Loads 0 seen.consumers.version seen.consumers.flags ∷ [])
+
+-- of a session without a slot, and of a lost class, nothing is loaded
+abbrev pub load_calls : Option ℕ → Option ℕ → Option ℕ → Option Setup → List Call
+load_calls (Some slot) (Some class) table (Some seen) = setup_calls slot class table seen
+load_calls (Some slot) (Some class) table None = []
+load_calls (Some slot) None table seen = []
+load_calls None class table seen = []
+
+abbrev pub HasTable : Option ℕ → Option Setup → Type 0
+HasTable table None = Unit {0}
+HasTable table (Some seen) = is_some seen.table ≡ is_some table
+
+-- just where the session has a slot and the class isn't lost, words are loaded, and a table's where there is one
+pub record IsLoaded (slot class table : Option ℕ) (seen : Option Setup) : Type 0 where
+  pub there : is_some seen ≡ (is_some slot && is_some class)
+  pub table_is : HasTable table seen
+
+abbrev pub flags_in : Option Word → ℕ
+flags_in None = 0
+flags_in (Some word) = word.flags
+
+abbrev pub flags_of : Setup → SeenSetup
+flags_of seen = record {
+  consumers = seen.consumers.flags;
+  thread = seen.thread.flags;
+  class = seen.class.flags;
+  table = flags_in seen.table;
+}
+
+-- the verdict of what was loaded, where so many let-through statements and waits of the session are open
+abbrev pub verdict_seen : ℕ → Option ℕ → Subject → Option Setup → ℕ → ℕ → Verdict
+verdict_seen stack None subject seen statements waits = LostThread
+verdict_seen stack (Some slot) subject None statements waits = LostClass
+verdict_seen stack (Some slot) subject (Some seen) statements waits =
+    verdict_by stack subject (flags_of seen) statements waits
+
+abbrev pub verdict_in : State → Subject → Option Setup → Verdict
+verdict_in s subject seen =
+    verdict_seen s.stack s.place.thread subject seen (count_open is_statement s.opened.events)
+    (count_open is_wait s.opened.events)
+
+-- an event is timed where its class is, and its table if it is of one
+abbrev pub is_timed_by : Subject → Option Setup → Bool
+is_timed_by subject None = false
+is_timed_by subject (Some seen) =
+    has_time seen.class.flags && (is_none subject.table || has_time (flags_in seen.table))
+
+-- one more than a table's number, 0 without one
+abbrev pub link_of : Option ℕ → ℕ
+link_of None = 0
+link_of (Some table) = table + 1
+
+-- the id of a class that isn't lost
+abbrev pub IsClass : Option ℕ → ℕ → Type 0
+IsClass None number = number ≡ 0
+IsClass (Some class) number = number ≡ class
+
+-- the open event that a start of a subject makes, with this verdict, in a session of this number that has drawn so many
+-- event numbers, at this clock, where those events are open
+pub record IsOpened (session drawn clock : ℕ) (events : List Open) (subject : Subject) (verdict : Verdict)
+    (timed : Bool) (what : Open) : Type 0 where
+  pub kind : what.kind ≡ subject.kind
+  pub verdict_is : what.verdict ≡ verdict
+  pub session_is : what.event.session ≡ session
+  pub number : what.event.number ≡ drawn + 1
+  pub class : IsClass subject.class what.event.class
+  pub link : what.event.link ≡ link_of subject.table
+  pub lies_in : record { nesting = what.event.nesting; parent = what.event.parent } ≡ around events
+  pub start : what.event.start ≡ clock
+  pub timed_is : what.event.timed ≡ timed
+  pub read_only : what.event.read_only ≡ (subject.cell == 63)
+
+-- the EVENT_ID of an event that is let through
+abbrev pub if_through : Verdict → ℕ → Option ℕ
+if_through verdict number = if is_let_through verdict then Some number else None
+
+abbrev pub version_of : Word → ℕ
+version_of word = word.version
+
+abbrev pub versions_in : Setup → Option ℕ
+versions_in seen = option_map version_of seen.table
+
+-- the entry of a start: its event number, its verdict, and the versions that it loaded
+abbrev pub start_entry : Verdict → ℕ → Option Setup → Entry
+start_entry verdict number None = says.Start (if_through verdict number) verdict None None None None
+start_entry verdict number (Some seen) =
+    says.Start (if_through verdict number) verdict (Some seen.consumers.version) (Some seen.thread.version)
+    (Some seen.class.version) (versions_in seen)
+
+abbrev pub started : State → Open → State
+started s what = record s {
+  drawn = s.drawn + one_if (is_let_through what.verdict);
+  opened = record s.opened { events = what ∷ s.opened.events };
+}
+
+-- a start loads, decides by what it loaded, and opens the event
+pub record Starts (s : State) (subject : Subject) (calls : List Call) (entries : List Entry) (after : State) : Type 0
+  where
+    pub seen : Option Setup
+    pub what : Open
+    pub loaded : IsLoaded s.place.thread subject.class subject.table seen
+    pub calls_are : calls ≡ load_calls s.place.thread subject.class subject.table seen
+    pub opened : IsOpened s.number s.drawn s.clock s.opened.events subject (verdict_in s subject seen)
+        (is_timed_by subject seen) what
+    pub entries_are : entries ≡ start_entry (verdict_in s subject seen) (s.drawn + 1) seen ∷ []
+    pub after_is : after ≡ started s what

@@ -1,0 +1,529 @@
+//! A session: its calls, each of which is one or two steps.
+
+ghost use Rattle.std.specs.Prelude.{◌≡◌, ◌<◌, ◌≤◌, ◌+◌, ◌%◌, ◌^◌, ◌∷◌, ◌&&◌, [], ℕ, length, Some, None, IfOk, IfSome, OnOk, OnErr, IsSome, false};
+ghost use Rattle.pfs_admin.specs.Asks.{placed_of};
+ghost use Rattle.pfs_admin.specs.States.{connected, has_quit, seat_at};
+ghost use Rattle.pfs_admin.specs.Works.{Leaves};
+ghost use Rattle.pfs_event.specs.Nesting.{MayStart};
+ghost use Rattle.pfs_event.specs.Verdicts.{is_let_through};
+ghost use Rattle.pfs_session.specs.Ends.{Finished, without_innermost};
+ghost use Rattle.pfs_session.specs.Settles.{owed_by_state, settle_cost};
+ghost use Rattle.pfs_session.specs.Starts.{started};
+ghost use Rattle.pfs_session.specs.States.{fresh, around, one_if, nothing_held, without_stage};
+ghost use Rattle.pfs_session.specs.Turns.{Played, StartsEvent, EndsEvent, SettlesHeld, Connects, Quits, StageMayStart, stage_steps, stage_ends};
+
+use crate::NoMemory;
+use crate::adding::bring;
+use crate::events::{Numbers, amount_of, cell_number, is_statement, is_wait};
+use crate::opening::opened;
+use crate::paying::{clear, settle_all};
+use crate::setup::{is_timed, judge, load, load_word, start_entry};
+use pfs_admin::{Admin, Lost, Placed};
+use pfs_event::{Entry, EventKind, Nest, Open, Verdict};
+use pfs_levels::{Added, Hold, Label, Log, Rows};
+use pfs_model::Subject;
+use pfs_names::NameId;
+use pfs_stat::Stat;
+use std::alloc::Global;
+use std::marker::Model;
+
+/// The last action that a session made in a phase: its number, and what connects had found no place by its end.
+#[derive(Clone, Copy, Debug, PartialEq, Eq)]
+pub struct LastAction {
+    pub number: u64,
+    pub lost: Lost,
+}
+
+/// What became of a start: the EVENT_ID of an event that is let through, and the verdict.
+#[derive(Clone, Copy, Debug, PartialEq, Eq)]
+pub struct Started {
+    pub event: Option<u64>,
+    pub verdict: Verdict,
+}
+
+/// A session with its journal of the phase. It takes memory as it is opened and by `reserve` alone.
+#[derive(Drop)]
+pub struct Session {
+    alloc: Global,
+    number: u64,
+    stack: u64,
+    place: Placed,
+    clock: u64,
+    drawn: u64,
+    nest: Nest,
+    statements: u64,
+    waits: u64,
+    held: Vec<Option<Stat>>,
+    actions: u64,
+    last: Option<LastAction>,
+    log: Log,
+}
+
+impl Model for Session {
+    ghost use Rattle.pfs_session.specs.States.{Book, IsKept};
+
+    ghost Value = { Book };
+
+    ghost view = { λ s. record {
+      state = record {
+        number = s.number;
+        stack = s.stack;
+        place = s.place;
+        clock = s.clock;
+        drawn = s.drawn;
+        opened = s.nest;
+        held = s.held.items;
+        actions = s.actions;
+        last = s.last;
+      };
+      journal = s.log;
+    } };
+
+    ghost invariant = { λ s. IsKept (record {
+      number = s.number;
+      stack = s.stack;
+      place = s.place;
+      clock = s.clock;
+      drawn = s.drawn;
+      opened = s.nest;
+      held = s.held.items;
+      actions = s.actions;
+      last = s.last;
+    }) s.statements s.waits };
+}
+
+// 1 for an event that is let through and of the kind asked for.
+fn one_if(through: bool, fits: bool) -> u64
+    ensures { result ≡ one_if (through && fits) }
+{
+    if through && fits { 1 } else { 0 }
+}
+
+impl Session {
+    /// The session of this number, connected nowhere, with its clock at 0, nothing open and nothing held, and with
+    /// room for `depth` open events; at most `stack` statements that are let through may be open.
+    pub fn open(alloc: Global, number: u64, stack: u64, depth: u64) -> Result<Session, NoMemory>
+        ensures { IfOk result (λ s. s ≡ record {
+          state = fresh number stack depth;
+          journal = record {
+            entries = [];
+            room = 0;
+          };
+        }) }
+    {
+        let nest = Nest::with_depth(alloc, depth)?;
+        let mut held = vec![in alloc; None; 193]?;
+        clear(held.as_mut_slice());
+        Ok(Session {
+            alloc,
+            number,
+            stack,
+            place: Placed {
+                thread: None,
+                account: None,
+                user: None,
+                host: None,
+            },
+            clock: 0,
+            drawn: 0,
+            nest,
+            statements: 0,
+            waits: 0,
+            held,
+            actions: 0,
+            last: None,
+            log: Log::new(alloc),
+        })
+    }
+
+    /// Makes room for so many journal entries more. Out of memory the session is as before.
+    pub fn reserve(&mut self, entries: u64) -> Result<(), NoMemory>
+        ensures state { self.new.state ≡ self.old.state }
+        ensures ok { OnOk result (self.new.journal ≡ record {
+          entries = self.old.journal.entries;
+          room = self.old.journal.room + entries;
+        }) }
+        ensures err { OnErr result (self.new ≡ self.old) }
+    {
+        self.log.reserve(entries)
+    }
+
+    /// The label of the session's next action.
+    pub fn label(&self) -> Label
+        requires { self.now.state.actions + 1 < 2 ^ 64 }
+        ensures { result ≡ record { session = self.now.state.number; line = self.now.state.actions + 1 } }
+    {
+        Label {
+            session: self.number,
+            line: self.actions + 1,
+        }
+    }
+
+    /// Lets so many picoseconds pass on the session's clock, which goes modulo 2^64.
+    pub fn spend(&mut self, time: u64)
+        ensures state { self.new.state ≡ record self.old.state { clock = (self.old.state.clock + time) % 2 ^ 64 } }
+        ensures journal { self.new.journal ≡ self.old.journal }
+    {
+        self.clock = self.clock.wrapping_add(time);
+    }
+
+    /// Starts an event. Its start loads the consumers' word, the thread's, the class's and, of an event of a table,
+    /// the table's, in this order; nothing of a session without a slot and of a lost class. What it loads decides
+    /// whether and where the event counts. The log gets the start.
+    pub fn start<R: Rows>(&mut self, rows: &mut R, what: &Subject) -> Started
+        requires may { MayStart self.old.state.opened what.now.kind }
+        requires shallow { length self.old.state.opened.events < self.old.state.opened.depth }
+        requires class { IfSome what.now.class (λ n. n < 63) }
+        requires table { IfSome what.now.table (λ n. n < 64) }
+        requires early { self.old.state.drawn + 1 < 2 ^ 64 }
+        requires room { 1 ≤ self.old.journal.room }
+        ensures played { Played (StartsEvent what.now ∷ []) self.old self.new (R.reached rows.old)
+            (R.reached rows.new) }
+        ensures leaves { Leaves 0 1 (R.hand rows.old) (R.hand rows.new) (R.left rows.old) (R.left rows.new)
+            (R.draws rows.old) (R.draws rows.new) (R.name rows.old) (R.name rows.new) self.old.journal
+            self.new.journal }
+        ensures words { R.words rows.new ≡ R.words rows.old }
+    {
+        let seen = load(rows, self.place.thread, what);
+        let verdict = judge(
+            self.stack,
+            self.place.thread,
+            what,
+            &seen,
+            self.statements,
+            self.waits,
+        );
+        let timed = is_timed(what, &seen);
+        let event = opened(
+            self.number,
+            self.drawn,
+            self.clock,
+            &self.nest,
+            what,
+            verdict,
+            timed,
+        );
+        self.log.push(start_entry(verdict, self.drawn + 1, &seen));
+        self.begin(event)
+    }
+
+    // Opens an event.
+    fn begin(&mut self, what: Open) -> Started
+        requires may { MayStart self.old.state.opened what.kind }
+        requires shallow { length self.old.state.opened.events < self.old.state.opened.depth }
+        requires lies_in { record { nesting = what.event.nesting; parent = what.event.parent }
+            ≡ around self.old.state.opened.events }
+        requires seated { self.old.state.place.thread ≡ None → is_let_through what.verdict ≡ false }
+        requires early { self.old.state.drawn + 1 < 2 ^ 64 }
+        ensures state { self.new.state ≡ started self.old.state what }
+        ensures journal { self.new.journal ≡ self.old.journal }
+    {
+        // Its clause bounds how many events are open.
+        let _ = self.nest.depth();
+        let through = what.verdict.is_let_through();
+        match self.nest.start(what) {
+            Ok(()) => {}
+            Err(_) => unreachable!(),
+        }
+        self.statements += one_if(through, is_statement(what.kind));
+        self.waits += one_if(through, is_wait(what.kind));
+        self.drawn += one_if(through, true);
+        Started {
+            event: if through {
+                Some(what.event.number)
+            } else {
+                None
+            },
+            verdict: what.verdict,
+        }
+    }
+
+    /// Ends the innermost open event, with a statement's numbers; of another event they say nothing. Of an event that
+    /// is let through the consumers' word and the thread's are loaded, and it is added to its cell with all that is
+    /// held for it, or held with it where another actor has the cell in hand. The log gets the end and the addition.
+    /// Answers what became of the addition: none of an event that isn't let through.
+    pub fn end<R: Rows>(&mut self, rows: &mut R, numbers: &Numbers) -> Option<Added>
+        requires open { 0 < length self.old.state.opened.events }
+        requires alone { (r : ℕ) → 0 < r → R.hand rows.old r ≡ None }
+        requires spare { 1 ≤ R.left rows.old }
+        requires room { 2 ≤ self.old.journal.room }
+        ensures played { Played (EndsEvent numbers.now ∷ []) self.old self.new (R.reached rows.old)
+            (R.reached rows.new) }
+        ensures leaves { Leaves 1 2 (R.hand rows.old) (R.hand rows.new) (R.left rows.old) (R.left rows.new)
+            (R.draws rows.old) (R.draws rows.new) (R.name rows.old) (R.name rows.new) self.old.journal
+            self.new.journal }
+        ensures words { R.words rows.new ≡ R.words rows.old }
+    {
+        let what = self.close();
+        if what.verdict.is_let_through() {
+            Some(self.finish(rows, &what, numbers))
+        } else {
+            self.log.push(Entry::End {
+                event: None,
+                last: None,
+                consumers: None,
+                thread: None,
+            });
+            None
+        }
+    }
+
+    // Takes the innermost event out of those that are open.
+    fn close(&mut self) -> Open
+        requires open { 0 < length self.old.state.opened.events }
+        ensures opened { self.old.state.opened.events ≡ result ∷ self.new.state.opened.events }
+        ensures state { self.new.state ≡ without_innermost self.old.state }
+        ensures journal { self.new.journal ≡ self.old.journal }
+        ensures seated { self.old.state.place.thread ≡ None → is_let_through result.verdict ≡ false }
+    {
+        let what = match self.nest.end() {
+            Ok(what) => what,
+            Err(_) => unreachable!(),
+        };
+        let through = what.verdict.is_let_through();
+        self.statements -= one_if(through, is_statement(what.kind));
+        self.waits -= one_if(through, is_wait(what.kind));
+        what
+    }
+
+    // Ends an event that is let through and no longer among those that are open.
+    fn finish<R: Rows>(&mut self, rows: &mut R, what: &Open, numbers: &Numbers) -> Added
+        requires there { IsSome self.old.state.place.thread }
+        requires alone { (r : ℕ) → 0 < r → R.hand rows.old r ≡ None }
+        requires spare { 1 ≤ R.left rows.old }
+        requires room { 2 ≤ self.old.journal.room }
+        ensures finished { Finished self.old self.new what.now numbers.now result (R.reached rows.old)
+            (R.reached rows.new) }
+        ensures leaves { Leaves 1 2 (R.hand rows.old) (R.hand rows.new) (R.left rows.old) (R.left rows.new)
+            (R.draws rows.old) (R.draws rows.new) (R.name rows.old) (R.name rows.new) self.old.journal
+            self.new.journal }
+        ensures words { R.words rows.new ≡ R.words rows.old }
+    {
+        let slot = match self.place.thread {
+            Some(slot) => slot,
+            None => unreachable!(),
+        };
+        let consumers = load_word(rows, 0);
+        let thread = load_word(rows, 1 + slot);
+        self.log.push(Entry::End {
+            event: Some(what.event.number),
+            last: Some(self.drawn),
+            consumers: Some(consumers.version),
+            thread: Some(thread.version),
+        });
+        let amount = amount_of(what, self.clock, numbers);
+        bring(
+            rows,
+            slot,
+            cell_number(what),
+            amount,
+            self.held.as_mut_slice(),
+            &mut self.log,
+        )
+    }
+
+    /// Ends the open stage, where the innermost open event is one, and starts another, where one is given. What a
+    /// start asks for holds of the events that are open then.
+    pub fn stage<R: Rows>(
+        &mut self,
+        rows: &mut R,
+        what: &Option<Subject>,
+    ) -> (Option<Added>, Option<Started>)
+        requires may { StageMayStart (record self.old.state.opened {
+          events = without_stage self.old.state.opened.events;
+        }) what.now }
+        requires early { self.old.state.drawn + 1 < 2 ^ 64 }
+        requires alone { (r : ℕ) → 0 < r → R.hand rows.old r ≡ None }
+        requires spare { 1 ≤ R.left rows.old }
+        requires room { 3 ≤ self.old.journal.room }
+        ensures played { Played (stage_steps self.old.state.opened.events what.now) self.old self.new
+            (R.reached rows.old) (R.reached rows.new) }
+        ensures leaves { Leaves 1 3 (R.hand rows.old) (R.hand rows.new) (R.left rows.old) (R.left rows.new)
+            (R.draws rows.old) (R.draws rows.new) (R.name rows.old) (R.name rows.new) self.old.journal
+            self.new.journal }
+        ensures words { R.words rows.new ≡ R.words rows.old }
+    {
+        let ended = self.end_stage(rows);
+        match what {
+            Some(subject) => {
+                let begun = self.start(rows, subject);
+                (ended, Some(begun))
+            }
+            None => (ended, None),
+        }
+    }
+
+    // Ends the open stage, where the innermost open event is one.
+    fn end_stage<R: Rows>(&mut self, rows: &mut R) -> Option<Added>
+        requires alone { (r : ℕ) → 0 < r → R.hand rows.old r ≡ None }
+        requires spare { 1 ≤ R.left rows.old }
+        requires room { 2 ≤ self.old.journal.room }
+        ensures played { Played (stage_ends self.old.state.opened.events) self.old self.new (R.reached rows.old)
+            (R.reached rows.new) }
+        ensures opened { self.new.state.opened ≡ record self.old.state.opened {
+          events = without_stage self.old.state.opened.events;
+        } }
+        ensures drawn { self.new.state.drawn ≡ self.old.state.drawn }
+        ensures leaves { Leaves 1 2 (R.hand rows.old) (R.hand rows.new) (R.left rows.old) (R.left rows.new)
+            (R.draws rows.old) (R.draws rows.new) (R.name rows.old) (R.name rows.new) self.old.journal
+            self.new.journal }
+        ensures words { R.words rows.new ≡ R.words rows.old }
+    {
+        let is_open = match self.nest.innermost() {
+            Some(what) => what.kind == EventKind::Stage,
+            None => false,
+        };
+        if is_open {
+            self.end(rows, &Numbers::NONE)
+        } else {
+            None
+        }
+    }
+
+    /// Connects the session, an action, which is its first: it gets the places that the administration finds for this
+    /// user and this host. The log gets what `Admin::connect` gives it.
+    pub fn connect<H: Hold>(
+        &mut self,
+        rows: &mut H,
+        admin: &mut Admin,
+        user: NameId,
+        host: NameId,
+    ) -> Placed
+        requires closed { self.old.state.opened.events ≡ [] }
+        requires first { self.old.state.actions + 1 < 2 ^ 64 }
+        requires few { admin.old.actions < 2 ^ 47 }
+        requires user { user < length admin.old.names }
+        requires host { host < length admin.old.names }
+        requires alone { (r : ℕ) → 0 < r → H.hand rows.old r ≡ None }
+        requires lent { H.words rows.old ≡ Some admin.old.words }
+        requires spare { 4 ≤ H.left rows.old }
+        requires room { 6 ≤ self.old.journal.room }
+        ensures played { Played (Connects admin.old user host ∷ []) self.old self.new (H.reached rows.old)
+            (H.reached rows.new) }
+        ensures admin { admin.new ≡ connected admin.old self.old.state.number user host }
+        ensures placed { result ≡ placed_of (seat_at admin.old self.old.state.number user host) }
+        ensures leaves { Leaves 4 6 (H.hand rows.old) (H.hand rows.new) (H.left rows.old) (H.left rows.new)
+            (H.draws rows.old) (H.draws rows.new) (H.name rows.old) (H.name rows.new) self.old.journal
+            self.new.journal }
+        ensures lent { H.words rows.new ≡ Some admin.new.words }
+    {
+        let placed = admin.connect(rows, self.number, user, host, &mut self.log);
+        self.place = placed;
+        self.actions += 1;
+        self.last = Some(LastAction {
+            number: admin.actions(),
+            lost: admin.lost(),
+        });
+        placed
+    }
+
+    /// Ends the session's connection, an action: what it holds is settled, and then its numbers move up and its places
+    /// are left. Nothing may be open. The log gets the settling, the action, and what `Admin::quit` gives it.
+    pub fn quit<H: Hold>(&mut self, rows: &mut H, admin: &mut Admin)
+        requires closed { self.old.state.opened.events ≡ [] }
+        requires early { self.old.state.actions + 1 < 2 ^ 64 }
+        requires few { admin.old.actions < 2 ^ 47 }
+        requires alone { (r : ℕ) → 0 < r → H.hand rows.old r ≡ None }
+        requires lent { H.words rows.old ≡ Some admin.old.words }
+        requires spare { length (owed_by_state self.old.state) + 196 ≤ H.left rows.old }
+        requires room { settle_cost (owed_by_state self.old.state) + 198 ≤ self.old.journal.room }
+        ensures played { Played (SettlesHeld ∷ Quits admin.old ∷ []) self.old self.new (H.reached rows.old)
+            (H.reached rows.new) }
+        ensures admin { admin.new ≡ has_quit admin.old self.old.state.number }
+        ensures leaves { Leaves (length (owed_by_state self.old.state) + 196)
+            (settle_cost (owed_by_state self.old.state) + 198) (H.hand rows.old) (H.hand rows.new) (H.left rows.old)
+            (H.left rows.new) (H.draws rows.old) (H.draws rows.new) (H.name rows.old) (H.name rows.new)
+            self.old.journal self.new.journal }
+        ensures lent { H.words rows.new ≡ Some admin.new.words }
+    {
+        self.settle(rows);
+        self.log.push(Entry::Act {
+            action: admin.actions() + 1,
+        });
+        admin.quit(rows, self.number, &mut self.log);
+        self.place = Placed {
+            thread: None,
+            account: None,
+            user: None,
+            host: None,
+        };
+        self.actions += 1;
+        self.last = Some(LastAction {
+            number: admin.actions(),
+            lost: admin.lost(),
+        });
+    }
+
+    /// Adds all that is held, each amount to its row, in the order of the rows, and holds nothing any more.
+    fn settle<H: Hold>(&mut self, rows: &mut H)
+        requires alone { (r : ℕ) → 0 < r → H.hand rows.old r ≡ None }
+        requires spare { length (owed_by_state self.old.state) ≤ H.left rows.old }
+        requires room { settle_cost (owed_by_state self.old.state) ≤ self.old.journal.room }
+        ensures played { Played (SettlesHeld ∷ []) self.old self.new (H.reached rows.old) (H.reached rows.new) }
+        ensures state { self.new.state ≡ record self.old.state { held = nothing_held } }
+        ensures leaves { Leaves (length (owed_by_state self.old.state)) (settle_cost (owed_by_state self.old.state))
+            (H.hand rows.old) (H.hand rows.new) (H.left rows.old) (H.left rows.new) (H.draws rows.old)
+            (H.draws rows.new) (H.name rows.old) (H.name rows.new) self.old.journal self.new.journal }
+        ensures words { H.words rows.new ≡ H.words rows.old }
+    {
+        settle_all(rows, self.place.thread, self.held.as_slice(), &mut self.log);
+        clear(self.held.as_mut_slice());
+    }
+
+    /// Settles all that is held, at the end of the session's block in a phase.
+    pub fn pause<H: Hold>(self, rows: &mut H) -> Paused
+        requires alone { (r : ℕ) → 0 < r → H.hand rows.old r ≡ None }
+        requires spare { length (owed_by_state self.state) ≤ H.left rows.old }
+        requires room { settle_cost (owed_by_state self.state) ≤ self.journal.room }
+        ensures played { Played (SettlesHeld ∷ []) self result (H.reached rows.old) (H.reached rows.new) }
+        ensures leaves { Leaves (length (owed_by_state self.state)) (settle_cost (owed_by_state self.state))
+            (H.hand rows.old) (H.hand rows.new) (H.left rows.old) (H.left rows.new) (H.draws rows.old)
+            (H.draws rows.new) (H.name rows.old) (H.name rows.new) self.journal result.journal }
+        ensures words { H.words rows.new ≡ H.words rows.old }
+    {
+        let mut session = self;
+        session.settle(rows);
+        Paused { session }
+    }
+}
+
+/// A session between two phases, which holds nothing.
+#[derive(Drop)]
+pub struct Paused {
+    session: Session,
+}
+
+impl Model for Paused {
+    ghost use Rattle.pfs_session.specs.States.{Book};
+
+    ghost Value = { Book };
+
+    ghost view = { λ s. s.session };
+}
+
+impl Paused {
+    /// Hands out the journal of the phase, and leaves an empty one without room.
+    pub fn take_log(&mut self) -> Log
+        ensures journal { result ≡ self.old.journal }
+        ensures rest { self.new ≡ record self.old { journal = record { entries = []; room = 0 } } }
+    {
+        let empty = Log::new(self.session.alloc);
+        std::mem::replace(&mut self.session.log, empty)
+    }
+
+    /// The session's last action of the phase, where it had one.
+    pub fn last_action(&self) -> Option<LastAction>
+        ensures { result ≡ self.now.state.last }
+    {
+        self.session.last
+    }
+
+    /// Goes on with the session in another phase, in which it has had no action yet.
+    pub fn resume(self) -> Session
+        ensures { result ≡ record self { state = record self.state { last = None } } }
+    {
+        let mut session = self.session;
+        session.last = None;
+        session
+    }
+}
