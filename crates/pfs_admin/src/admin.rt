@@ -3,7 +3,7 @@
 ghost use Rattle.std.specs.Prelude.{◌≡◌, ◌<◌, ◌≤◌, ◌+◌, ◌*◌, ◌^◌, ◌∷◌, [], ℕ, Some, None, IfOk, length};
 ghost use Rattle.pfs_containers.specs.Kept.{lost_in};
 ghost use Rattle.pfs_admin.specs.Works.{Worked, Leaves};
-ghost use Rattle.pfs_admin.specs.States.{thread_flags, connected, has_quit, seat_at, seat_in, name_text};
+ghost use Rattle.pfs_admin.specs.States.{thread_flags, connected, has_quit, noted, seat_at, seat_in, name_text};
 ghost use Rattle.pfs_admin.specs.Opening.{opened};
 ghost use Rattle.pfs_admin.specs.Asks.{work_of_connect, work_of_quit, connect_entry, placed_of};
 
@@ -163,6 +163,28 @@ impl Admin {
         ensures { result ≡ lost_in self.now.kept.now }
     {
         self.containers.lost()
+    }
+
+    /// An action that changes nothing: the rows of `setup_actors` or `setup_objects` were read.
+    pub fn note(&mut self)
+        requires { self.old.actions < 2 ^ 47 }
+        ensures { self.new ≡ noted self.old }
+    {
+        self.actions += 1;
+    }
+
+    /// The rows of `setup_actors`.
+    pub fn actors(&self) -> &Actors
+        ensures { result.now ≡ self.now.actors }
+    {
+        &self.actors
+    }
+
+    /// The rows of `setup_objects`.
+    pub fn objects(&self) -> &Objects
+        ensures { result.now ≡ self.now.objects }
+    {
+        &self.objects
     }
 
     // The flags of a new session's thread.
