@@ -5,8 +5,7 @@ ghost use Rattle.pfs_admin.specs.Opening.{opened};
 
 use crate::*;
 use pfs_classes::{Classes, DigestList, Setting, TableList};
-use pfs_event::Entry;
-use pfs_levels::{Hold, Log, PlainRows, Rows};
+use pfs_levels::{Log, PlainRows, Rows};
 use pfs_matching::Objects;
 use pfs_names::{NameId, Names};
 use pfs_rows::Limits;
