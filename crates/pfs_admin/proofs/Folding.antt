@@ -4,7 +4,7 @@ use Rattle.pfs_board.specs.declared.view.Label.{Label}
 use Rattle.pfs_classes.specs.declared.setting.Setting.{Setting}
 use Rattle.pfs_admin.specs.declared.changes.Change.{Change}
 use Rattle.pfs_admin.specs.declared.changes.Change.TheVariants.{Connect, Quit, Show}
-use Rattle.pfs_admin.specs.Fold.{stepped, state_from, state_of}
+use Rattle.pfs_admin.specs.Fold.{stepped, state_from, state_of, Follows}
 use Rattle.pfs_admin.specs.Laws.{StepLaw, CountLaw, FixedLaw}
 use Rattle.pfs_admin.specs.Opening.{opened}
 use Rattle.pfs_admin.specs.States.{State, AreEarly, IsState, thread_flags, seat_at, seat_in, noted}
@@ -17,9 +17,18 @@ unfolding state_from
 then_one change s [] label = refl
 then_one change s (l ∷ labels) label = then_one change (stepped s l.session (change l)) labels label
 
+pub follows : (session : ℕ) (what : Change) (s next : State) → next ≡ stepped s session what → Follows session what s next
+follows session what s next step = record {
+  stands = λ setting change labels label same named is.
+      step
+      ∙ (ap (λ (z : State). stepped z session what) is
+      ∙ (ap (λ (n : ℕ). stepped (state_of setting change labels) n what) (sym same)
+      ∙ (ap (λ (c : Change). stepped (state_of setting change labels) label.session c) (sym named)
+      ∙ sym (then_one change (opened setting) labels label))));
+}
+
 pub step_law : StepLaw
-step_law setting change labels label s is =
-    ap (λ (z : State). stepped z label.session (change label)) is ∙ sym (then_one change (opened setting) labels label)
+step_law session what s = follows session what s (stepped s session what) refl
 
 -- what a step keeps: one action more, no word set more than once, the names and the cells as they were
 record IsStep (s next : State) : Type 0 where

@@ -4,3 +4,4 @@ pub mod Listing
 pub mod Opened
 pub mod Folding
 pub mod Rows
+pub mod Examples

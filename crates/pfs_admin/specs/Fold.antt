@@ -1,5 +1,5 @@
 -- What a list of labels makes of the administration: the fold of their actions from the opening.
-use Rattle.std.specs.Prelude.{ℕ, ◌≡◌, List, [], ◌∷◌}
+use Rattle.std.specs.Prelude.{ℕ, ◌≡◌, List, [], ◌∷◌, ◌++◌}
 use Rattle.pfs_board.specs.declared.view.Label.{Label}
 use Rattle.pfs_classes.specs.declared.setting.Setting.{Setting}
 use Rattle.pfs_admin.specs.declared.changes.Change.{Change}
@@ -24,3 +24,10 @@ state_of setting change labels = state_from change (opened setting) labels
 -- an administration stands for these labels
 abbrev pub StandsFor : Setting → (Label → Change) → List Label → State → Type 0
 StandsFor setting change labels s = s ≡ state_of setting change labels
+
+-- whatever a run names, an administration that stood for labels stands for one label more, of this session and with
+-- this change
+pub record Follows (session : ℕ) (what : Change) (old new : State) : Type 0 where
+  pub stands : (setting : Setting) → (change : Label → Change) → (labels : List Label) → (label : Label)
+      → label.session ≡ session → change label ≡ what → StandsFor setting change labels old
+      → StandsFor setting change (labels ++ label ∷ []) new

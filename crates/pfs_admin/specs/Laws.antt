@@ -9,15 +9,13 @@ use Rattle.pfs_levels.specs.declared.answers.Word.{Word}
 use Rattle.pfs_levels.specs.Flushes.{Ascends, from_of}
 use Rattle.pfs_admin.specs.declared.changes.Change.{Change}
 use Rattle.pfs_admin.specs.Asks.{connect_work, quit_work}
-use Rattle.pfs_admin.specs.Fold.{stepped, state_of, StandsFor}
+use Rattle.pfs_admin.specs.Fold.{stepped, StandsFor, Follows}
 use Rattle.pfs_admin.specs.Opening.{cells_of}
 use Rattle.pfs_admin.specs.States.{State, AreEarly}
 use Rattle.pfs_admin.specs.Works.{Sign, Releases, Tags}
 
 abbrev pub StepLaw : Type 0
-StepLaw = (setting : Setting) → (change : Label → Change) → (labels : List Label) → (label : Label) → (s : State)
-    → StandsFor setting change labels s
-    → StandsFor setting change (labels ++ label ∷ []) (stepped s label.session (change label))
+StepLaw = (session : ℕ) → (what : Change) → (s : State) → Follows session what s (stepped s session what)
 
 abbrev pub CountLaw : Type 0
 CountLaw = (setting : Setting) → (change : Label → Change) → (labels : List Label) → (s : State)

@@ -4,3 +4,4 @@ pub mod Asks
 pub mod Opening
 pub mod Fold
 pub mod Laws
+pub mod Examples

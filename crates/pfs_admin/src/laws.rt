@@ -1,9 +1,10 @@
 //! Laws of the definitions.
 
+ghost use Rattle.pfs_admin.specs.Examples.{WorkedFold};
 ghost use Rattle.pfs_admin.specs.Laws.{StepLaw, CountLaw, FixedLaw, ConnectRows, QuitRows};
 
 /// An administration that stands for a list of labels stands for that list and one label more once the step of that
-/// label's change was made.
+/// label's session and change was made.
 pub fn one_label_more()
     ensures { StepLaw }
 {}
@@ -28,4 +29,9 @@ pub fn rows_of_a_connect_ascend()
 /// the former, and none comes twice.
 pub fn rows_of_a_quit_ascend()
     ensures { QuitRows }
+{}
+
+/// Two sessions of one account connect, and the first one ends: what the fold gives, number by number.
+pub fn two_sessions_worked()
+    ensures { WorkedFold }
 {}

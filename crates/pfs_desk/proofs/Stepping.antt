@@ -3,7 +3,7 @@ use Rattle.std.proofs.Common.{ℕ, ◌≡◌, ◌≤◌, ◌<◌, ◌+◌, ◌^�
 use Rattle.pfs_admin.specs.States.{State, AreEarly}
 use Rattle.pfs_admin.specs.Works.{word_at}
 use Rattle.pfs_admin.proofs.Costs.{early_at}
-use Rattle.pfs_admin.proofs.Folding.{step_law, count_law}
+use Rattle.pfs_admin.proofs.Folding.{count_law}
 use Rattle.pfs_levels.specs.declared.answers.Word.{Word}
 use Rattle.pfs_levels.specs.Calls.{known_version}
 use Rattle.pfs_seats.specs.Pen.{words_of}
@@ -13,7 +13,7 @@ use Rattle.pfs_desk.specs.Laws.{StepLaw, NumberLaw, NeverSpentLaw}
 
 pub one_more : StepLaw
 one_more setting change switches labels label admin next pen later is step words same = record {
-  stands = step ∙ step_law setting change labels label admin is.stands;
+  stands = step.stands setting change labels label refl refl is.stands;
   words_are = words;
   same = same;
 }

@@ -2,7 +2,7 @@
 use Rattle.std.specs.Prelude.{ℕ, ◌≡◌, ◌<◌, ◌+◌, ◌^◌, List, [], ◌∷◌, ◌++◌, length, slice_index}
 use Rattle.atomic_table.specs.Seated.{TableId}
 use Rattle.pfs_admin.specs.declared.changes.Change.{Change}
-use Rattle.pfs_admin.specs.Fold.{stepped}
+use Rattle.pfs_admin.specs.Fold.{Follows}
 use Rattle.pfs_admin.specs.States.{State}
 use Rattle.pfs_board.specs.declared.view.Label.{Label}
 use Rattle.pfs_classes.specs.declared.setting.Setting.{Setting}
@@ -14,7 +14,7 @@ use Rattle.pfs_desk.specs.Desks.{IsDesk}
 abbrev pub StepLaw : Type 0
 StepLaw = (setting : Setting) → (change : Label → Change) → (switches : TableId) → (labels : List Label)
     → (label : Label) → (admin next : State) → (pen later : Known) → IsDesk setting change switches labels admin pen
-    → next ≡ stepped admin label.session (change label) → words_of later.view ≡ next.words
+    → Follows label.session (change label) admin next → words_of later.view ≡ next.words
     → later.switches ≡ switches → IsDesk setting change switches (labels ++ label ∷ []) next later
 
 abbrev pub NumberLaw : Type 0

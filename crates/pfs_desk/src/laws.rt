@@ -2,8 +2,8 @@
 
 ghost use Rattle.pfs_desk.specs.Laws.{StepLaw, NumberLaw, NeverSpentLaw};
 
-/// A desk that stands for a list of labels stands for that list and one label more once its administration made the
-/// step of that label's change, and its writer knows the words as the administration has them.
+/// A desk that stands for a list of labels stands for that list and one label more once its administration followed
+/// with that label's change, as each of its calls says, and its writer knows the words as the administration has them.
 pub fn one_label_more()
     ensures { StepLaw }
 {}
