@@ -47,13 +47,6 @@ fresh_words flags count =
     ap (λ n. words_from n 0 (opening_pen flags)) (sym count)
     ∙ fresh_from [] flags 0 (opening_pen flags) refl refl (λ k. zero_at (length (opening_words flags)) k) refl
 
-len_zeroes : (n : ℕ) → length {A = ℕ} (replicate n 0) ≡ n
-len_zeroes zero = refl
-len_zeroes (suc n) = ap suc (len_zeroes n)
-
-pub fresh_wide : (flags : List ℕ) → length flags ≡ 160 → 160 ≤ length (opening_pen flags).seen
-fresh_wide flags count = omega (arith, len_zeroes (length (opening_words flags)), length-append flags (0 ∷ []), count)
-
 pub fresh_desk : (setting : Setting) (change : Label → Change) (switches : TableId) (admin : State) (pen : Known) → admin ≡ opened setting
     → pen.view ≡ opening_pen (opening_flags setting opening_objects) → pen.switches ≡ switches → IsDesk setting change switches [] admin pen
 unfolding state_from
