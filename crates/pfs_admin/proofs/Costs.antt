@@ -29,7 +29,7 @@ early_at most at [] are = omega arith
 early_at most zero (w ∷ ws) are = are.0
 early_at most (suc at) (w ∷ ws) are = early_at most at ws are.1
 
-early_wider : (most : ℕ) (words : List Word) → AreEarly most words → AreEarly (most + 1) words
+pub early_wider : (most : ℕ) (words : List Word) → AreEarly most words → AreEarly (most + 1) words
 early_wider most [] are = tt
 early_wider most (w ∷ ws) are = (omega (arith, are.0), early_wider most ws are.1)
 
@@ -44,7 +44,7 @@ early_if true most at flags words are = early_wider most words are
 early_if false most at flags words are =
     early_set (most + 1) at (set_word (word_at words at) flags) words (omega (arith, early_at most at words are)) (early_wider most words are)
 
-early_by : (most flags : ℕ) (words : List Word) (seat : Option Seated) → AreEarly most words → AreEarly (most + 1) (words_by words flags seat)
+pub early_by : (most flags : ℕ) (words : List Word) (seat : Option Seated) → AreEarly most words → AreEarly (most + 1) (words_by words flags seat)
 early_by most flags words None are = early_wider most words are
 early_by most flags words (Some seat) are =
     early_if ((word_at words (1 + seat.slot)).flags == flags) most (1 + seat.slot) flags words are

@@ -3,6 +3,7 @@ use Rattle.std.proofs.Common.{ℕ, zero, suc, ◌≡◌, ◌<◌, ◌≤◌, ◌
 use Rattle.std.specs.List.{range_with_len}
 use Rattle.std.proofs.lemmas.List.FromFn.{length-map-range_with_len}
 use Rattle.pfs_classes.specs.declared.setting.Setting.{Setting}
+use Rattle.pfs_matching.specs.declared.object_rows.ObjectRow.{ObjectRow}
 use Rattle.pfs_matching.specs.ObjectRules.{opening_objects}
 use Rattle.pfs_levels.specs.Plain.{word}
 use Rattle.pfs_admin.specs.States.{AreEarly, IsState}
@@ -31,9 +32,16 @@ len_words : (flags : List ℕ) → length (map (word 0) flags) ≡ length flags
 len_words [] = refl
 len_words (f ∷ flags) = ap suc (len_words flags)
 
+pub opened_early : (setting : Setting) → AreEarly (opened setting).actions (opened setting).words
+opened_early setting = early_words (opening_flags setting opening_objects)
+
+pub flags_count : (setting : Setting) (objects : List ObjectRow) → length (opening_flags setting objects) ≡ 160
+unfolding opening_flags
+flags_count setting objects = length-map-range_with_len (word_flags setting objects) 0 160
+
 pub opened_holds : (setting : Setting) → All (λ cell. cell < 64) (opened setting).cells → length (opened setting).cells ≤ 64 → IsState (opened setting)
 opened_holds setting small few = record {
-  words_wide = len_words (opening_flags setting opening_objects) ∙ length-map-range_with_len (word_flags setting opening_objects) 0 160;
+  words_wide = len_words (opening_flags setting opening_objects) ∙ flags_count setting opening_objects;
   words_early = early_words (opening_flags setting opening_objects);
   connects_few = omega arith;
   cells_small = small;

@@ -30,7 +30,7 @@ word_flags setting objects at =
     else if nat_lt at 96 then class_flags (class_at setting.classes (at - 33))
     else table_flags objects (slice_get setting.tables (at - 96))
 
-abbrev pub opening_flags : Setting → List ObjectRow → List ℕ
+unfoldable pub opening_flags : Setting → List ObjectRow → List ℕ
 opening_flags setting objects = map (word_flags setting objects) (range_with_len 0 160)
 
 -- the cells of the registered classes, ascending: one for each, and two for `transaction`

@@ -56,6 +56,10 @@ has_quit s number = record s {
   actions = s.actions + 1;
 }
 
+-- an action that changes nothing else
+abbrev pub noted : State → State
+noted s = record s { actions = s.actions + 1 }
+
 -- no word was set more often than there were actions
 abbrev pub AreEarly : ℕ → List Word → Type 0
 AreEarly most [] = Unit {0}

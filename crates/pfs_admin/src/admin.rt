@@ -3,7 +3,9 @@
 ghost use Rattle.std.specs.Prelude.{◌≡◌, ◌<◌, ◌≤◌, ◌+◌, ◌*◌, ◌^◌, ◌∷◌, [], ℕ, Some, None, IfOk, IfSome, length};
 ghost use Rattle.pfs_containers.specs.Kept.{lost_in};
 ghost use Rattle.pfs_admin.specs.Works.{Worked, Leaves};
-ghost use Rattle.pfs_admin.specs.States.{thread_flags, connected, has_quit, seat_at, seat_in, name_text};
+ghost use Rattle.pfs_admin.specs.States.{thread_flags, connected, has_quit, noted, seat_at, seat_in, name_text};
+ghost use Rattle.pfs_admin.specs.declared.changes.Change.TheVariants.{Connect, Quit, Show};
+ghost use Rattle.pfs_admin.specs.Fold.{Follows};
 ghost use Rattle.pfs_admin.specs.Opening.{opened};
 ghost use Rattle.pfs_admin.specs.Asks.{work_of_connect, work_of_quit, connect_entry, placed_of};
 
@@ -106,6 +108,7 @@ impl Admin {
         requires spare { 4 ≤ H.left rows.old }
         requires room { 6 ≤ log.old.room }
         ensures step { self.new ≡ connected self.old number user host }
+        ensures stands { Follows number (Connect user host) self.old self.new }
         ensures placed { result ≡ placed_of (seat_at self.old number user host) }
         ensures slot { IfSome result.thread (λ n. n < 32) }
         ensures worked { Worked (work_of_connect self.old number user host) self.old.words
@@ -140,6 +143,7 @@ impl Admin {
         requires spare { 196 ≤ H.left rows.old }
         requires room { 197 ≤ log.old.room }
         ensures step { self.new ≡ has_quit self.old number }
+        ensures stands { Follows number Quit self.old self.new }
         ensures worked { Worked (work_of_quit self.old number) self.old.words [] log.old log.new (H.reached rows.old)
             (H.reached rows.new) }
         ensures lent { H.words rows.new ≡ Some self.new.words }
@@ -171,6 +175,30 @@ impl Admin {
         ensures { result ≡ lost_in self.now.kept.now }
     {
         self.containers.lost()
+    }
+
+    /// An action that changes nothing: the rows of `setup_actors` or `setup_objects` were read.
+    pub fn note(&mut self)
+        requires { self.old.actions < 2 ^ 47 }
+        ensures step { self.new ≡ noted self.old }
+        ensures stands { (session : ℕ) → Follows session Show self.old self.new }
+    {
+        // It writes nothing: the entry is its caller's.
+        self.actions += 1;
+    }
+
+    /// The rows of `setup_actors`.
+    pub fn actors(&self) -> &Actors
+        ensures { result.now ≡ self.now.actors }
+    {
+        &self.actors
+    }
+
+    /// The rows of `setup_objects`.
+    pub fn objects(&self) -> &Objects
+        ensures { result.now ≡ self.now.objects }
+    {
+        &self.objects
     }
 
     // The flags of a new session's thread.

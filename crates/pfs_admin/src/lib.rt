@@ -2,12 +2,19 @@
 #![tactic(auto)]
 
 mod admin;
+mod changes;
+pub mod laws;
+mod naming;
 mod opening;
 mod signs;
 mod tags;
+#[cfg(test)]
+mod tests;
 mod threads;
 
 pub use admin::{Admin, Placed};
+pub use changes::{Change, Reply};
+pub use naming::Named;
 pub use opening::opening_flags;
 pub use pfs_containers::Lost;
 

@@ -19,12 +19,14 @@ const WORDS: u64 = 160;
 /// The opening flags of the switch words: word 0 has the consumers; words 1 to 32 the threads, all off; words 33 to 95
 /// the classes by id, ENABLED and TIMED; words 96 to 159 the tables by number, as the objects decide. What isn't
 /// there is off.
+#[tactic(auto, using(crate::proofs::Opened::flags_count), unfolding(crate::specs::Opening::opening_flags))]
 pub fn opening_flags(
     alloc: Global,
     setting: &Setting,
     objects: &Objects,
 ) -> Result<Vec<u16>, NoMemory>
-    ensures { IfOk result (λ flags. flags.items ≡ opening_flags setting.now objects.now) }
+    ensures flags { IfOk result (λ flags. flags.items ≡ opening_flags setting.now objects.now) }
+    ensures count { IfOk result (λ flags. length flags.items ≡ 160) }
 {
     let mut flags = Vec::with_capacity(alloc, WORDS as usize)?;
     for at in 0..WORDS {

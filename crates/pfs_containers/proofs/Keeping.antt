@@ -5,8 +5,9 @@ use Rattle.pfs_containers.specs.declared.containers.Account.{Account}
 use Rattle.pfs_containers.specs.declared.containers.Connection.{Connection}
 use Rattle.pfs_containers.specs.Connections.{State, Connects, Quits, entry_of, fill, fill_at, emptied_at, stepped}
 use Rattle.pfs_containers.specs.Administration.{Found, found_where, one_up, next_place, lowest_free, found_or, named_place, is_account, session_by, session_of, quit_line, lost_by, missing, added_from, connected, connect_at}
-use Rattle.pfs_containers.specs.Kept.{Kept, AllEntries, HasPlaces, HasUppers, IsSeated, IsInRange, AreWell, AreCounted, opening, opening_places, with_connect, as_found}
+use Rattle.pfs_containers.specs.Kept.{Kept, AllEntries, HasPlaces, HasUppers, IsSeated, IsInRange, AreWell, AreCounted, opening, opening_places, with_connect, with_quit, as_found}
 use Rattle.pfs_containers.proofs.Filling.{emptied_is, up_to_wider, up_to_added, zeroes_are}
+use Rattle.pfs_containers.proofs.Sharing.{within_seat, within_empty, within_free}
 
 -- places that are found are there
 some_up : (n : ℕ) (place : Option ℕ) → IfSome place (λ p. p < n) → IfSome (next_place place) (λ p. p < suc n)
@@ -63,9 +64,12 @@ session_inside s number user host None h =
     record { account = free_inside s.accounts; user = named_inside user s.users; host = named_inside host s.hosts }
 session_inside s number user host (Some found) h = record { account = h.0; user = h.1.user; host = h.1.host }
 
+pub session_there : (s : State) → AllEntries (HasUppers (length s.users) (length s.hosts)) s.accounts → (number user host : ℕ) → IsSeated s (session_of s number user host)
+session_there s all number user host =
+    session_inside s number user host _ (found_inside (HasUppers (length s.users) (length s.hosts)) (is_account user host) s.accounts all)
+
 pub session_has : (s : State) → AreWell s → (number user host : ℕ) → IsSeated s (session_of s number user host)
-session_has s well number user host =
-    session_inside s number user host _ (found_inside (HasUppers (length s.users) (length s.hosts)) (is_account user host) s.accounts well.accounts)
+session_has s well number user host = session_there s well.accounts number user host
 
 -- filling and emptying keep how many places there are, and what holds of each entry
 pub len_fill_at : {X : Type 0} (n : ℕ) (new : X) (xs : List (Option X)) → length (fill_at n new xs) ≡ length xs
@@ -82,7 +86,7 @@ len_emptied n [] = refl
 len_emptied zero (x ∷ xs) = refl
 len_emptied (suc n) (x ∷ xs) = ap suc (len_emptied n xs)
 
-len_added : (n : ℕ) (place : Option ℕ) (xs : List ℕ) → length (added_from n place xs) ≡ length xs
+pub len_added : (n : ℕ) (place : Option ℕ) (xs : List ℕ) → length (added_from n place xs) ≡ length xs
 len_added n place [] = refl
 len_added n place (x ∷ xs) = ap suc (len_added (suc n) place xs)
 
@@ -93,7 +97,7 @@ filled_all P zero new (Some x ∷ xs) p all = all
 filled_all P (suc n) new (None ∷ xs) p all = filled_all P n new xs p all
 filled_all P (suc n) new (Some x ∷ xs) p all = (all.0, filled_all P n new xs p all.1)
 
-fill_all : {X : Type 0} (P : X → Type 0) (place : Option ℕ) (new : X) (xs : List (Option X)) → P new → AllEntries P xs → AllEntries P (fill place new xs)
+pub fill_all : {X : Type 0} (P : X → Type 0) (place : Option ℕ) (new : X) (xs : List (Option X)) → P new → AllEntries P xs → AllEntries P (fill place new xs)
 fill_all P None new xs p all = all
 fill_all P (Some n) new xs p all = filled_all P n new xs p all
 
@@ -109,7 +113,7 @@ seats_moved : (a u h b v g : ℕ) (xs : List (Option Connection)) → b ≡ a �
 seats_moved a u h b v g xs p q r all =
     subst (λ z. AllEntries (HasPlaces z v g) xs) (sym p) (subst (λ z. AllEntries (HasPlaces a z g) xs) (sym q) (subst (λ z. AllEntries (HasPlaces a u z) xs) (sym r) all))
 
-uppers_moved : (u h v g : ℕ) (xs : List (Option Account)) → v ≡ u → g ≡ h → AllEntries (HasUppers u h) xs → AllEntries (HasUppers v g) xs
+pub uppers_moved : (u h v g : ℕ) (xs : List (Option Account)) → v ≡ u → g ≡ h → AllEntries (HasUppers u h) xs → AllEntries (HasUppers v g) xs
 uppers_moved u h v g xs q r all = subst (λ z. AllEntries (HasUppers z g) xs) (sym q) (subst (λ z. AllEntries (HasUppers u z) xs) (sym r) all)
 
 pub seat_keeps : (s : State) (slot : ℕ) (x : Connection) → AreWell s → IsSeated s x → AreWell (stepped s (Connects slot x))
@@ -145,15 +149,15 @@ quit_keeps s slot well = record {
   accounts = well.accounts;
 }
 
-len_free : (X : Type 0) (n : ℕ) → (let none : Option X = None in length (replicate n none)) ≡ n
+pub len_free : (X : Type 0) (n : ℕ) → (let none : Option X = None in length (replicate n none)) ≡ n
 len_free X zero = refl
 len_free X (suc n) = ap suc (len_free X n)
 
-all_of_free : {X : Type 0} (P : X → Type 0) (n : ℕ) → AllEntries P (replicate n None)
+pub all_of_free : {X : Type 0} (P : X → Type 0) (n : ℕ) → AllEntries P (replicate n None)
 all_of_free P zero = tt
 all_of_free P (suc n) = all_of_free P n
 
-len_zeroes : (n : ℕ) → length {A = ℕ} (replicate n 0) ≡ n
+pub len_zeroes : (n : ℕ) → length {A = ℕ} (replicate n 0) ≡ n
 len_zeroes zero = refl
 len_zeroes (suc n) = ap suc (len_zeroes n)
 
@@ -179,6 +183,9 @@ opens_counted l = record {
   account_totals = zeroes_are 0 l.accounts;
   user_totals = zeroes_are 0 l.users;
   host_totals = zeroes_are 0 l.hosts;
+  accounts_within = within_free (λ x. x.account) l.thread_instances (replicate l.accounts 0);
+  users_within = within_free (λ x. x.user) l.thread_instances (replicate l.users 0);
+  hosts_within = within_free (λ x. x.host) l.thread_instances (replicate l.hosts 0);
 }
 
 missing_one : (place : Option ℕ) → missing place ≤ 1
@@ -189,10 +196,11 @@ lost_one : (account : Option (Found Account)) (place : Option ℕ) → lost_by a
 lost_one None place = missing_one place
 lost_one (Some account) place = omega arith
 
--- one connect more
-pub seat_counts : (k : Kept) (slot : ℕ) (x : Connection) (account : Option (Found Account)) → AreCounted k
+-- one connect more, at the lowest free slot
+pub seat_counts : (k : Kept) (slot : ℕ) (x : Connection) (account : Option (Found Account)) → lowest_free k.now.places.threads ≡ Some slot
+    → HasPlaces (length k.now.account_totals) (length k.now.user_totals) (length k.now.host_totals) x → AreCounted k
     → AreCounted (record { now = connected k.now slot x account; connects = k.connects + 1 })
-seat_counts k slot x account are = record {
+seat_counts k slot x account free has are = record {
   account_numbers = len_added 0 x.account k.now.account_totals ∙ (are.account_numbers ∙ sym (len_fill x.account (entry_of x) k.now.places.accounts));
   user_numbers = len_added 0 x.user k.now.user_totals ∙ (are.user_numbers ∙ sym (len_fill x.user x.user_name k.now.places.users));
   host_numbers = len_added 0 x.host k.now.host_totals ∙ (are.host_numbers ∙ sym (len_fill x.host x.host_name k.now.places.hosts));
@@ -203,6 +211,9 @@ seat_counts k slot x account are = record {
   account_totals = up_to_added k.connects 0 x.account k.now.account_totals are.account_totals;
   user_totals = up_to_added k.connects 0 x.user k.now.user_totals are.user_totals;
   host_totals = up_to_added k.connects 0 x.host k.now.host_totals are.host_totals;
+  accounts_within = within_seat (λ y. y.account) slot x k.now.places.threads k.now.account_totals free has.account are.accounts_within;
+  users_within = within_seat (λ y. y.user) slot x k.now.places.threads k.now.user_totals free has.user are.users_within;
+  hosts_within = within_seat (λ y. y.host) slot x k.now.places.threads k.now.host_totals free has.host are.hosts_within;
 }
 
 pub lost_counts : (k : Kept) → AreCounted k → AreCounted (record { now = record k.now { lost_threads = k.now.lost_threads + 1 }; connects = k.connects + 1 })
@@ -217,7 +228,35 @@ lost_counts k are = record {
   account_totals = up_to_wider _ _ _ (omega arith) are.account_totals;
   user_totals = up_to_wider _ _ _ (omega arith) are.user_totals;
   host_totals = up_to_wider _ _ _ (omega arith) are.host_totals;
+  accounts_within = are.accounts_within;
+  users_within = are.users_within;
+  hosts_within = are.hosts_within;
 }
+
+-- a quit
+abbrev left_with : Kept → Option (Found Connection) → Kept
+left_with k found = record k { now = record k.now { places = stepped k.now.places (quit_line found) } }
+
+quit_found : (k : Kept) (found : Option (Found Connection)) → AreCounted k → AreCounted (left_with k found)
+quit_found k None are = are
+quit_found k (Some found) are = record {
+  account_numbers = are.account_numbers;
+  user_numbers = are.user_numbers;
+  host_numbers = are.host_numbers;
+  lost_threads = are.lost_threads;
+  lost_accounts = are.lost_accounts;
+  lost_users = are.lost_users;
+  lost_hosts = are.lost_hosts;
+  account_totals = are.account_totals;
+  user_totals = are.user_totals;
+  host_totals = are.host_totals;
+  accounts_within = within_empty (λ x. x.account) found.place k.now.places.threads k.now.account_totals are.accounts_within;
+  users_within = within_empty (λ x. x.user) found.place k.now.places.threads k.now.user_totals are.users_within;
+  hosts_within = within_empty (λ x. x.host) found.place k.now.places.threads k.now.host_totals are.hosts_within;
+}
+
+pub quit_counts : (k : Kept) (number : ℕ) → AreCounted k → AreCounted (with_quit k number)
+quit_counts k number are = quit_found k (found_where (λ x. x.number == number) k.now.places.threads) are
 
 -- a connect that takes the lowest free slot, and one that finds none
 pub connect_is : (k : Kept) (number user host slot : ℕ) → lowest_free k.now.places.threads ≡ Some slot

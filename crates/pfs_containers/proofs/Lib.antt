@@ -2,3 +2,5 @@ pub mod Finding
 pub mod Filling
 pub mod Keeping
 pub mod Counting
+pub mod Sharing
+pub mod Totals

@@ -1,12 +1,13 @@
 -- What a caller sees: the containers, and how many connects there were, which bounds every counter.
 use Rattle.std.specs.Prelude.{ℕ, ◌≡◌, ◌≤◌, ◌<◌, ◌+◌, Bool, false, List, [], ◌∷◌, Option, Some, None, IfSome, length, replicate}
+use Rattle.std.specs.List.{slice_index_or}
 use Rattle.pfs_rows.specs.declared.limits.Limits.{Limits}
 use Rattle.pfs_containers.specs.declared.containers.Account.{Account}
 use Rattle.pfs_containers.specs.declared.containers.Connection.{Connection}
 use Rattle.pfs_containers.specs.declared.containers.Lost.{Lost}
 use Rattle.pfs_containers.specs.declared.containers.Seated.{Seated}
 use Rattle.pfs_containers.specs.Connections.{State}
-use Rattle.pfs_containers.specs.Administration.{Containers, Found, lowest_free, session_of, lost_by, advanced, Connect, Quit}
+use Rattle.pfs_containers.specs.Administration.{Containers, Found, lowest_free, session_of, lost_by, advanced, current, Connect, Quit}
 
 pub record Kept : Type 0 where
   pub now : Containers
@@ -108,7 +109,12 @@ pub record AreWell (s : State) : Type 0 where
   pub connections : AllEntries (IsSeated s) s.threads
   pub accounts : AllEntries (HasUppers (length s.users) (length s.hosts)) s.accounts
 
--- what always holds of the counters: a number for each place, and none above the number of connects
+-- no place has more connections now than it has had
+abbrev pub AreWithin : (Connection → Option ℕ) → List (Option Connection) → List ℕ → Type 0
+AreWithin which threads totals = (place : ℕ) → current which threads place ≤ slice_index_or totals place 0
+
+-- what always holds of the counters: a number for each place, none above the number of connects, and none below the
+-- connections that its place has
 pub record AreCounted (k : Kept) : Type 0 where
   pub account_numbers : length k.now.account_totals ≡ length k.now.places.accounts
   pub user_numbers : length k.now.user_totals ≡ length k.now.places.users
@@ -120,6 +126,9 @@ pub record AreCounted (k : Kept) : Type 0 where
   pub account_totals : AreUpTo k.connects k.now.account_totals
   pub user_totals : AreUpTo k.connects k.now.user_totals
   pub host_totals : AreUpTo k.connects k.now.host_totals
+  pub accounts_within : AreWithin (λ x. x.account) k.now.places.threads k.now.account_totals
+  pub users_within : AreWithin (λ x. x.user) k.now.places.threads k.now.user_totals
+  pub hosts_within : AreWithin (λ x. x.host) k.now.places.threads k.now.host_totals
 
 -- what was lost so far, and what is, with a session that found this account or none
 abbrev pub lost_in : Containers → Lost

@@ -3,3 +3,4 @@ pub mod Administration
 pub mod Kept
 pub mod Infos
 pub mod Uppers
+pub mod Laws

@@ -2,6 +2,7 @@
 #![tactic(auto)]
 
 mod containers;
+pub mod laws;
 mod places;
 mod state;
 

@@ -161,6 +161,7 @@ pub trait Acts: Hold {
         ensures left { Self.left self.old ≤ Self.left self.new + 1 }
         ensures draws { Self.draws self.new ≡ Self.draws self.old }
         ensures inside { IsSome (Self.hand self.new 0) }
+        ensures mine { (n : ℕ) → result ≡ n + 1 → Self.hand self.new 0 ≡ Some n }
         ensures hand { (r : ℕ) → 0 < r → Self.hand self.new r ≡ Self.hand self.old r }
         ensures words { Self.words self.new ≡ Self.words self.old }
         ensures name { Self.name self.new ≡ Self.name self.old };

@@ -1,9 +1,11 @@
 use Rattle.std.proofs.Common.{rules, ◌<◌, ◌+◌, ◌^◌, [], subst, ◌∙◌, arith}
+use Rattle.std.proofs.lemmas.Grind.{common_steps}
 use Rattle.pfs_containers.proofs.Filling.{whole_is}
 use Rattle.pfs_admin.specs.Works.{word_at, Worked}
 use Rattle.pfs_admin.specs.States.{words_by}
 use Rattle.pfs_admin.specs.Asks.{work_of_connect}
 use Rattle.pfs_admin.proofs.Costs.{early_at, len_by, state_keeps}
+use Rattle.pfs_admin.proofs.Folding.{follows}
 use Rattle.pfs_admin.proofs.Signing.{worked_behind}
 use Rattle.pfs_admin.proofs.admin.Admin.connect.Goals as goal
 
@@ -26,3 +28,6 @@ returns-clause-worked g c =
     let done : Worked (work_of_connect c.args.self.now c.args.number c.args.user c.args.host) c.args.self.now.words [] c.push.new.self
     c.write_connect.new.log (g.H.Rows.reached c.args.rows.now) (g.H.Rows.reached c.write_connect.new.rows) = search rules in
     worked_behind _ _ _ _ _ _ _ _ (search rules) done
+
+pub returns-clause-stands : goal.returns-clause-stands
+returns-clause-stands g c = follows _ _ _ _ (grind (arith, common_steps))

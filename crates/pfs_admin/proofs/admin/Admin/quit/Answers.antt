@@ -1,8 +1,10 @@
 use Rattle.std.proofs.Common.{rules, ◌<◌, ◌+◌, ◌^◌, subst, ◌∙◌, arith}
+use Rattle.std.proofs.lemmas.Grind.{common_steps}
 use Rattle.pfs_containers.proofs.Filling.{whole_is}
 use Rattle.pfs_admin.specs.Works.{word_at}
 use Rattle.pfs_admin.specs.States.{words_by}
 use Rattle.pfs_admin.proofs.Costs.{early_at, len_by, state_keeps}
+use Rattle.pfs_admin.proofs.Folding.{follows}
 use Rattle.pfs_admin.proofs.admin.Admin.quit.Goals as goal
 
 pub write_quit-requires-clause-early : goal.write_quit-requires-clause-early
@@ -18,3 +20,6 @@ invariant_of-self g c =
     state_keeps _ _ 0 c.quit-seat.result _ c.self.invariant (search rules)
     (whole_is c.self.inside.words.len c.write_quit.new.words words (words_by words 0 c.quit-seat.result) (search rules)
     (len_by 0 words c.quit-seat.result ∙ search rules))
+
+pub returns-clause-stands : goal.returns-clause-stands
+returns-clause-stands g c = follows _ _ _ _ (grind (arith, common_steps))

@@ -1,7 +1,7 @@
 use Rattle.std.proofs.Common.{rules, subst}
 use Rattle.pfs_containers.specs.Kept.{AreCounted, as_found}
 use Rattle.pfs_containers.proofs.Filling.{up_to_wider}
-use Rattle.pfs_containers.proofs.Keeping.{seat_counts}
+use Rattle.pfs_containers.proofs.Keeping.{seat_counts, counted_places}
 use Rattle.pfs_containers.proofs.containers.Containers.seat.Goals as goal
 
 pub add-requires-clause-accounts : goal.add-requires-clause-accounts
@@ -16,5 +16,6 @@ add-requires-clause-hosts c = up_to_wider c.self.inside.connects _ _ (search rul
 pub invariant_of-self : goal.invariant_of-self
 invariant_of-self c =
     subst AreCounted (search rules)
-    (seat_counts c.args.self.now c.args.slot c.connection-connection.result (as_found c.account-account.result)
+    (seat_counts c.args.self.now c.args.slot c.connection-connection.result (as_found c.account-account.result) c.requires.free
+    (search (rules, counted_places))
     (subst AreCounted (search rules) c.self.invariant))

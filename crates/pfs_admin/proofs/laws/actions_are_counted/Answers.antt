@@ -1,0 +1,5 @@
+use Rattle.pfs_admin.proofs.Folding.{count_law}
+use Rattle.pfs_admin.proofs.laws.actions_are_counted.Goals as goal
+
+pub returns : goal.returns
+returns c = count_law

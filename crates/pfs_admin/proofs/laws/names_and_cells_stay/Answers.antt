@@ -1,0 +1,5 @@
+use Rattle.pfs_admin.proofs.Folding.{fixed_law}
+use Rattle.pfs_admin.proofs.laws.names_and_cells_stay.Goals as goal
+
+pub returns : goal.returns
+returns c = fixed_law

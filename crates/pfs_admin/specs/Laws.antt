@@ -1,0 +1,43 @@
+-- Laws of the fold, and of the rows that an action names.
+use Rattle.std.specs.Prelude.{ℕ, ◌≡◌, ◌≤◌, List, [], ◌∷◌, ◌++◌, length, map, Some}
+use Rattle.pfs_board.specs.declared.view.Label.{Label}
+use Rattle.pfs_classes.specs.declared.setting.Setting.{Setting}
+use Rattle.pfs_containers.specs.declared.containers.Seated.{Seated}
+use Rattle.pfs_containers.specs.Administration.{Containers}
+use Rattle.pfs_containers.specs.Kept.{IsInRange}
+use Rattle.pfs_levels.specs.declared.answers.Word.{Word}
+use Rattle.pfs_levels.specs.Flushes.{Ascends, from_of}
+use Rattle.pfs_admin.specs.declared.changes.Change.{Change}
+use Rattle.pfs_admin.specs.Asks.{connect_work, quit_work}
+use Rattle.pfs_admin.specs.Fold.{stepped, StandsFor, Follows}
+use Rattle.pfs_admin.specs.Opening.{cells_of}
+use Rattle.pfs_admin.specs.States.{State, AreEarly}
+use Rattle.pfs_admin.specs.Works.{Sign, Releases, Tags}
+
+abbrev pub StepLaw : Type 0
+StepLaw = (session : ℕ) → (what : Change) → (s : State) → Follows session what s (stepped s session what)
+
+abbrev pub CountLaw : Type 0
+CountLaw = (setting : Setting) → (change : Label → Change) → (labels : List Label) → (s : State)
+    → StandsFor setting change labels s
+    → (s.actions ≡ length labels) × AreEarly (length labels) s.words
+
+abbrev pub FixedLaw : Type 0
+FixedLaw = (setting : Setting) → (change : Label → Change) → (labels : List Label) → (s : State)
+    → StandsFor setting change labels s → (s.names ≡ setting.names) × (s.cells ≡ cells_of setting.classes)
+
+-- the info row that a sign releases or writes
+abbrev pub row_of : Sign → ℕ
+row_of (Releases row) = row
+row_of (Tags row content) = row
+
+-- a connect's thread, account, user and host: rows 1 to 32, 33 to 64, 65 to 96 and 97 to 128
+abbrev pub ConnectRows : Type 0
+ConnectRows = (words : List Word) → (flags : ℕ) → (after : Containers) → (seat : Seated) → IsInRange seat
+    → Ascends 1 129 (map row_of (connect_work words flags after (Some seat)).signs)
+
+-- a quit's cells are rows 129 to 2176
+abbrev pub QuitRows : Type 0
+QuitRows = (words : List Word) → (cells : List ℕ) → (after : Containers) → (seat : Seated) → IsInRange seat
+    → Ascends 0 64 cells → Ascends 129 2177 (map from_of (quit_work words cells after (Some seat)).moves)
+    × Ascends 1 129 (map row_of (quit_work words cells after (Some seat)).signs)

@@ -1,0 +1,37 @@
+//! Laws of the definitions.
+
+ghost use Rattle.pfs_admin.specs.Examples.{WorkedFold};
+ghost use Rattle.pfs_admin.specs.Laws.{StepLaw, CountLaw, FixedLaw, ConnectRows, QuitRows};
+
+/// An administration that stands for a list of labels stands for that list and one label more once the step of that
+/// label's session and change was made.
+pub fn one_label_more()
+    ensures { StepLaw }
+{}
+
+/// An administration that stands for labels has made as many actions as there are labels, and has set no word more
+/// often.
+pub fn actions_are_counted()
+    ensures { CountLaw }
+{}
+
+/// No action changes the names or the cells of the classes.
+pub fn names_and_cells_stay()
+    ensures { FixedLaw }
+{}
+
+/// The info rows that a connect writes ascend, and none comes twice.
+pub fn rows_of_a_connect_ascend()
+    ensures { ConnectRows }
+{}
+
+/// The rows that a quit empties ascend, and so do the info rows that it releases and writes; the latter are all below
+/// the former, and none comes twice.
+pub fn rows_of_a_quit_ascend()
+    ensures { QuitRows }
+{}
+
+/// Two sessions of one account connect, and the first one ends: what the fold gives, number by number.
+pub fn two_sessions_worked()
+    ensures { WorkedFold }
+{}

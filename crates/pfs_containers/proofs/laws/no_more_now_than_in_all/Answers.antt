@@ -1,0 +1,5 @@
+use Rattle.pfs_containers.proofs.Totals.{within_law}
+use Rattle.pfs_containers.proofs.laws.no_more_now_than_in_all.Goals as goal
+
+pub returns : goal.returns
+returns c = within_law

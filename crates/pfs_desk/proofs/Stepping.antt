@@ -1,0 +1,30 @@
+-- One label more, and what a desk's labels count.
+use Rattle.std.proofs.Common.{ℕ, ◌≡◌, ◌≤◌, ◌<◌, ◌+◌, ◌^◌, Some, List, [], ◌∷◌, ◌++◌, length, slice_index, refl, ap, sym, ◌∙◌, arith}
+use Rattle.pfs_admin.specs.States.{State, AreEarly}
+use Rattle.pfs_admin.specs.Works.{word_at}
+use Rattle.pfs_admin.proofs.Costs.{early_at}
+use Rattle.pfs_admin.proofs.Folding.{count_law}
+use Rattle.pfs_levels.specs.declared.answers.Word.{Word}
+use Rattle.pfs_levels.specs.Calls.{known_version}
+use Rattle.pfs_seats.specs.Pen.{words_of}
+use Rattle.pfs_seats.proofs.Pens.{known_word}
+use Rattle.pfs_desk.specs.Desks.{IsDesk}
+use Rattle.pfs_desk.specs.Laws.{StepLaw, NumberLaw, NeverSpentLaw}
+
+pub one_more : StepLaw
+one_more setting change switches labels label admin next pen later is step words same = record {
+  stands = step.stands setting change labels label refl refl is.stands;
+  words_are = words;
+  same = same;
+}
+
+pub next_number : NumberLaw
+next_number setting change switches labels admin pen is = ap (λ n. n + 1) (count_law setting change labels admin is.stands).0
+
+pub not_spent : NeverSpentLaw
+not_spent setting change switches labels admin pen is few at low =
+    let known : known_version (Some admin.words) at ≡ slice_index pen.view.seen at =
+    ap (λ (ws : List Word). known_version (Some ws) at) (sym is.words_are) ∙ known_word at pen.view low in
+    let early : (word_at admin.words at).version ≤ length labels =
+    early_at (length labels) at admin.words (count_law setting change labels admin is.stands).1 in
+    omega (arith, known, early, few)

@@ -1,0 +1,10 @@
+//! The administration and the writer of the switch words, as the one value that a board keeps between actions.
+#![tactic(auto)]
+
+mod desk;
+pub mod laws;
+
+pub use desk::{Desk, Shared};
+
+/// Memory ran out.
+pub type NoMemory = std::alloc::AllocError;
