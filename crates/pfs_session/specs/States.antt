@@ -6,10 +6,10 @@ use Rattle.pfs_event.specs.Kinds.{nesting_number}
 use Rattle.pfs_event.specs.Nesting.{OpenEvents}
 use Rattle.pfs_event.specs.Verdicts.{is_let_through}
 use Rattle.pfs_event.specs.declared.kind.EventKind.{EventKind}
-use Rattle.pfs_event.specs.declared.kind.EventKind.TheVariants.{Wait, Stage, Statement, Transaction}
 use Rattle.pfs_event.specs.declared.open.Open.{Open}
 use Rattle.pfs_levels.specs.Journal.{Journal}
 use Rattle.pfs_model.specs.Setups.{is_wait, is_statement}
+use Rattle.pfs_model.specs.Shapes.{is_stage}
 use Rattle.pfs_stat.specs.declared.Stat.{Stat}
 use Rattle.pfs_session.specs.declared.opening.Outer.{Outer}
 use Rattle.pfs_session.specs.declared.session.LastAction.{LastAction}
@@ -113,12 +113,6 @@ pub record IsKept (s : State) (statements waits : ℕ) : Type 0 where
   pub held_wide : length s.held ≡ 193
 
 -- the open events without the innermost one, where that is a stage
-abbrev pub is_stage : EventKind → Bool
-is_stage Stage = true
-is_stage Wait = false
-is_stage Statement = false
-is_stage Transaction = false
-
 abbrev pub without_stage : List Open → List Open
 without_stage [] = []
 without_stage (what ∷ events) = if is_stage what.kind then events else what ∷ events

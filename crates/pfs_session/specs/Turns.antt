@@ -14,11 +14,12 @@ use Rattle.pfs_levels.specs.Calls.{Call, Opening}
 use Rattle.pfs_levels.specs.Journal.{Journal}
 use Rattle.pfs_levels.specs.Moves.{Move, AreMoves, moves_calls, moves_entries, Did}
 use Rattle.pfs_levels.specs.declared.answers.Word.{Word}
+use Rattle.pfs_model.specs.Shapes.{is_stage}
 use Rattle.pfs_model.specs.declared.lines.Subject.{Subject}
 use Rattle.pfs_session.specs.Ends.{Ends, no_numbers}
 use Rattle.pfs_session.specs.Settles.{Settles}
 use Rattle.pfs_session.specs.Starts.{Starts}
-use Rattle.pfs_session.specs.States.{State, Book, no_place, is_stage}
+use Rattle.pfs_session.specs.States.{State, Book, no_place}
 use Rattle.pfs_session.specs.declared.events.Numbers.{Numbers}
 
 -- one step of a session. An action names the administration as it stands before it
