@@ -1,0 +1,12 @@
+pub mod Cutting
+pub mod Alike
+pub mod Starting
+pub mod Held
+pub mod Pieces
+pub mod Ended
+pub mod Settled
+pub mod Acting
+pub mod Inverting
+pub mod Written
+pub mod Journaling
+pub mod Started

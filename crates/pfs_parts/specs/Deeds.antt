@@ -1,0 +1,91 @@
+-- What the lines of a session make it do, and the parts of its journal that this gives.
+use Rattle.std.specs.Prelude.{ℕ, ◌≡◌, ◌⊎◌, ◌<◌, Bool, true, false, List, [], ◌∷◌, ◌++◌, Option, Some, None, IfSome}
+use Rattle.pfs_admin.specs.Asks.{placed_of}
+use Rattle.pfs_admin.specs.States.{seat_at}
+use Rattle.pfs_admin.specs.States.{State as Administration}
+use Rattle.pfs_event.specs.declared.entry.Entry.{Entry}
+use Rattle.pfs_levels.specs.Calls.{Call}
+use Rattle.pfs_model.specs.declared.lines.Line.{Line}
+use Rattle.pfs_model.specs.declared.lines.Line.TheVariants as lines
+use Rattle.pfs_model.specs.declared.lines.Subject.{Subject}
+use Rattle.pfs_session.specs.States.{State, nothing_held}
+use Rattle.pfs_session.specs.Turns.{Step, StartsEvent, EndsEvent, Spends, SettlesHeld, Connects, Quits, Turn, AreTurns, state_after, steps_of, turns_calls, turns_entries, stage_ends, stage_steps}
+use Rattle.pfs_session.specs.declared.events.Numbers.{Numbers}
+
+-- a line with what its session is told: of an action the administration as it stands before it, of an end a statement's
+-- numbers
+pub data Deed : Type 0 where
+  Connecting : Administration → ℕ → ℕ → Deed
+  Starting : Subject → Deed
+  Staging : Subject → Deed
+  StageEnding : Deed
+  Ending : Numbers → Deed
+  Spending : ℕ → Deed
+  Quitting : Administration → Deed
+  Closing : Deed
+
+-- the line as a journal goes by it
+abbrev pub line_of : Deed → Line
+line_of (Connecting admin user host) = lines.Connect
+line_of (Starting subject) = lines.Start subject
+line_of (Staging subject) = lines.Stage subject
+line_of StageEnding = lines.StageEnd
+line_of (Ending numbers) = lines.End
+line_of (Spending time) = lines.Spend
+line_of (Quitting admin) = lines.Quit
+line_of Closing = lines.Close
+
+-- the steps that a session does at it: a stage that is open ends before another starts, and before its statement ends;
+-- what is held is settled before the session ends and at the end of its block
+abbrev pub steps_for : State → Deed → List Step
+steps_for s (Connecting admin user host) = Connects admin user host ∷ []
+steps_for s (Starting subject) = StartsEvent subject ∷ []
+steps_for s (Staging subject) = stage_steps s.opened.events (Some subject)
+steps_for s StageEnding = stage_steps s.opened.events None
+steps_for s (Ending numbers) = stage_ends s.opened.events ++ EndsEvent numbers ∷ []
+steps_for s (Spending time) = Spends time ∷ []
+steps_for s (Quitting admin) = SettlesHeld ∷ Quits admin ∷ []
+steps_for s Closing = SettlesHeld ∷ []
+
+-- what a line did: its steps with their calls and entries
+pub record Part : Type 0 where
+  pub deed : Deed
+  pub turns : List Turn
+
+abbrev pub part_calls : Part → List Call
+part_calls p = turns_calls p.turns
+
+abbrev pub part_entries : Part → List Entry
+part_entries p = turns_entries p.turns
+
+pub record IsPart (s : State) (p : Part) : Type 0 where
+  pub are_turns : AreTurns s p.turns
+  pub steps_are : steps_of p.turns ≡ steps_for s p.deed
+
+-- the class of an event is one of 63, and its cell that of the class, or the last one
+pub record IsSubject (subject : Subject) : Type 0 where
+  pub cell : (class : ℕ) → subject.class ≡ Some class → (subject.cell ≡ class) ⊎ (subject.cell ≡ 63)
+
+-- what a line asks of its session. A session that connects has nothing open and holds nothing, and gets one of 32
+-- slots; one that ends has nothing open; behind its end there is the end of its block alone
+abbrev pub MayDo : Bool → State → Deed → Type 0
+MayDo over s (Starting subject) = (over ≡ false) × IsSubject subject
+MayDo over s (Staging subject) = (over ≡ false) × IsSubject subject
+MayDo over s (Connecting admin user host) = (over ≡ false) × (s.opened.events ≡ []) × (s.held ≡ nothing_held)
+    × IfSome (placed_of (seat_at admin s.number user host)).thread (λ n. n < 32)
+MayDo over s StageEnding = over ≡ false
+MayDo over s (Ending numbers) = over ≡ false
+MayDo over s (Spending time) = over ≡ false
+MayDo over s (Quitting admin) = (over ≡ false) × (s.opened.events ≡ [])
+MayDo over s Closing = Unit {0}
+
+-- a session is over once it has ended
+abbrev pub is_over : Bool → Deed → Bool
+is_over over (Quitting admin) = true
+is_over over (Connecting admin user host) = over
+is_over over (Starting subject) = over
+is_over over (Staging subject) = over
+is_over over StageEnding = over
+is_over over (Ending numbers) = over
+is_over over (Spending time) = over
+is_over over Closing = over

@@ -1,0 +1,19 @@
+//! Laws of the definitions.
+
+ghost use Rattle.pfs_parts.specs.Shaped.{FreshLaw, JournalLaw, WrittenLaw};
+
+/// What a session writes at a line is what the line asks for, each verdict is that of the flags that were loaded, each
+/// event has its numbers, and the session stands behind it as its journal tells.
+pub fn written()
+    ensures { WrittenLaw }
+{}
+
+/// The same of lines one after another, as the rules of a journal have it.
+pub fn journaled()
+    ensures { JournalLaw }
+{}
+
+/// A session that begins stands as an empty journal tells.
+pub fn fresh()
+    ensures { FreshLaw }
+{}

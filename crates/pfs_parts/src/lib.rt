@@ -1,0 +1,4 @@
+//! What a session does at its lines, as the parts of its journal.
+#![tactic(auto)]
+
+pub mod laws;
