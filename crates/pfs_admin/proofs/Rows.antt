@@ -1,5 +1,5 @@
 -- The rows that an action names ascend.
-use Rattle.std.proofs.Common.{ℕ, ◌≡◌, ◌≤◌, ◌<◌, ◌+◌, ◌*◌, List, [], ◌∷◌, ◌++◌, map, Option, Some, None, IfSome, refl, arith}
+use Rattle.std.proofs.Common.{ℕ, ◌≤◌, ◌<◌, ◌+◌, ◌*◌, List, [], ◌∷◌, ◌++◌, map, Option, Some, None, IfSome, arith}
 use Rattle.std.specs.Option.{option_map}
 use Rattle.pfs_containers.specs.declared.containers.Connection.{Connection}
 use Rattle.pfs_containers.specs.declared.containers.Seated.{Seated}

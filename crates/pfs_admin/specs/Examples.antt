@@ -1,5 +1,5 @@
 -- Two sessions of one account, worked: both connect, the second reads the setup, the first ends.
-use Rattle.std.specs.Prelude.{ℕ, ◌≡◌, ◌==◌, if◌then◌else◌, List, [], ◌∷◌, map, codes, Option, Some, None}
+use Rattle.std.specs.Prelude.{ℕ, ◌≡◌, ◌==◌, if◌then◌else◌, [], ◌∷◌, map, codes, Some, None}
 use Rattle.pfs_board.specs.declared.view.Label.{Label}
 use Rattle.pfs_containers.specs.Kept.{Kept}
 use Rattle.pfs_event.specs.declared.entry.Entry.TheVariants as says
@@ -8,7 +8,7 @@ use Rattle.pfs_levels.specs.Plain.{word}
 use Rattle.pfs_matching.specs.ActorRules.{opening_actors}
 use Rattle.pfs_admin.specs.declared.changes.Change.{Change}
 use Rattle.pfs_admin.specs.declared.changes.Change.TheVariants.{Connect, Quit, Show}
-use Rattle.pfs_admin.specs.Asks.{work_of_connect, work_of_quit, connect_entry}
+use Rattle.pfs_admin.specs.Asks.{work_of_quit, connect_entry}
 use Rattle.pfs_admin.specs.Fold.{state_from}
 use Rattle.pfs_admin.specs.Laws.{row_of}
 use Rattle.pfs_admin.specs.States.{State, seat_at}

@@ -40,4 +40,5 @@ pub record AreAllWithin (a : Containers) : Type 0 where
   pub hosts : AreWithin (λ x. x.host) a.places.threads a.host_totals
 
 abbrev pub WithinLaw : Type 0
-WithinLaw = (limits : Limits) → (action : ℕ → Action) → (n : ℕ) → AreAllWithin (admin_after (opening limits).now action n)
+WithinLaw = (limits : Limits) → (action : ℕ → Action) → (n : ℕ)
+    → AreAllWithin (admin_after (opening limits).now action n)

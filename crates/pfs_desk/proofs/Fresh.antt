@@ -1,5 +1,5 @@
 -- What the writer of new words knows.
-use Rattle.std.proofs.Common.{ℕ, zero, suc, ◌≡◌, ◌≤◌, ◌+◌, List, [], ◌∷◌, ◌++◌, length, map, replicate, slice_index, refl, ap, sym, subst, ◌∙◌, arith}
+use Rattle.std.proofs.Common.{ℕ, zero, suc, ◌≡◌, ◌+◌, List, [], ◌∷◌, ◌++◌, length, map, replicate, slice_index, refl, ap, sym, ◌∙◌}
 use Rattle.std.proofs.lemmas.List.{append_assoc, length-append}
 use Rattle.atomic_table.specs.Seated.{TableId}
 use Rattle.pfs_matching.specs.ObjectRules.{opening_objects}
@@ -10,7 +10,6 @@ use Rattle.pfs_admin.specs.States.{State}
 use Rattle.pfs_admin.proofs.Opened.{flags_count}
 use Rattle.pfs_board.specs.declared.view.Label.{Label}
 use Rattle.pfs_classes.specs.declared.setting.Setting.{Setting}
-use Rattle.pfs_levels.specs.declared.answers.Word.{Word}
 use Rattle.pfs_levels.specs.Plain.{word}
 use Rattle.pfs_seats.specs.Pen.{words_from, words_of}
 use Rattle.pfs_switches.specs.declared.view.Setting.{Setting as WordSetting}

@@ -1,2 +1,3 @@
 pub mod Fresh
 pub mod Stepping
+pub mod Shown

@@ -1,14 +1,11 @@
 -- One label more, and what a desk's labels count.
-use Rattle.std.proofs.Common.{ℕ, ◌≡◌, ◌≤◌, ◌<◌, ◌+◌, ◌^◌, Some, List, [], ◌∷◌, ◌++◌, length, slice_index, refl, ap, sym, ◌∙◌, arith}
-use Rattle.pfs_admin.specs.States.{State, AreEarly}
+use Rattle.std.proofs.Common.{◌≡◌, ◌≤◌, ◌+◌, Some, List, length, slice_index, refl, ap, sym, ◌∙◌, arith}
 use Rattle.pfs_admin.specs.Works.{word_at}
 use Rattle.pfs_admin.proofs.Costs.{early_at}
 use Rattle.pfs_admin.proofs.Folding.{count_law}
 use Rattle.pfs_levels.specs.declared.answers.Word.{Word}
 use Rattle.pfs_levels.specs.Calls.{known_version}
-use Rattle.pfs_seats.specs.Pen.{words_of}
 use Rattle.pfs_seats.proofs.Pens.{known_word}
-use Rattle.pfs_desk.specs.Desks.{IsDesk}
 use Rattle.pfs_desk.specs.Laws.{StepLaw, NumberLaw, NeverSpentLaw}
 
 pub one_more : StepLaw
