@@ -1,3 +1,4 @@
+pub mod AppearanceLemmas
 pub mod BaseLemmas
 pub mod Behind
 pub mod BlockLemmas
@@ -14,6 +15,8 @@ pub mod Fronting
 pub mod HeadLemmas
 pub mod NamedLemmas
 pub mod NameLemmas
+pub mod Listing
+pub mod ListingExamples
 pub mod Nesting
 pub mod NestingExamples
 pub mod NumberLemmas

@@ -12,6 +12,7 @@ pub mod Finds
 pub mod Next
 pub mod Places
 pub mod Blocks
+pub mod Appearances
 pub mod Sensing
 pub mod Runnable
 pub mod RunnableProps

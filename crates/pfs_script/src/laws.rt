@@ -4,10 +4,12 @@ ghost use Rattle.std.specs.Prelude.{◌≡◌, ◌++◌, ◌∷◌, [], List, �
 ghost use Rattle.std.specs.Str.{bytes_eq};
 ghost use Rattle.pfs_classes.specs.declared.classes.ClassRef.TheVariants as refs;
 ghost use Rattle.pfs_script.specs.declared.forms.Form.{Form};
-ghost use Rattle.pfs_script.specs.Headings.{is_known, resolved, head_of};
+ghost use Rattle.pfs_script.specs.Headings.{is_known, resolved, head_of, limits_of};
 ghost use Rattle.pfs_script.specs.Marks.{Mark, copies};
 ghost use Rattle.pfs_script.specs.Brackets.{open_in, closed_at, kinds_of, ended_by, opened_by, Follows};
 ghost use Rattle.pfs_script.specs.Scripts.{IsExact};
+ghost use Rattle.pfs_script.specs.Finds.{tables_of, digests_of};
+ghost use Rattle.pfs_script.specs.Appearances.{AreTables, AreDigests};
 
 /// A text is a script or has a first fault, and not both. It is at most one script, and has at most
 /// one first fault, with one reason.
@@ -45,4 +47,17 @@ pub fn repeats()
     ensures leave { (before body : List Mark) → Follows before body
         → kinds_of (open_in (before ++ body)) ≡ kinds_of (open_in before) → (times : ℕ)
         → kinds_of (open_in (before ++ copies times body)) ≡ kinds_of (open_in before) }
+{}
+
+/// The tables of lines are exactly those that a line names, none twice, in the order of their first
+/// appearance, and a line that names one is given its place.
+pub fn tables()
+    ensures { (lines : List Form) → AreTables lines (tables_of lines) }
+{}
+
+/// The digest texts of lines are those that their statements have, none twice, in the order of their
+/// first appearance, as many as the limit allows, each with its SHA-256. A statement is given the place
+/// of its text, and none exactly where its text isn't among them.
+pub fn digests()
+    ensures { (lines : List Form) → AreDigests lines (digests_of (limits_of lines).digests lines) }
 {}
