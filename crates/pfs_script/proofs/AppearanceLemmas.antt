@@ -25,12 +25,12 @@ push_cases (first ∷ xs) y x (suc k) e = elim (push_cases xs y x k e) [
   | inr new ↦ inr (omega (arith, new.0), new.1)
 ]
 
-push_old : {X : Type 0} (xs : List X) (y x : X) (k : ℕ) → slice_get xs k ≡ Some x → slice_get (xs ++ y ∷ []) k ≡ Some x
+pub push_old : {X : Type 0} (xs : List X) (y x : X) (k : ℕ) → slice_get xs k ≡ Some x → slice_get (xs ++ y ∷ []) k ≡ Some x
 push_old [] y x k e = cc
 push_old (first ∷ xs) y x zero e = e
 push_old (first ∷ xs) y x (suc k) e = push_old xs y x k e
 
-push_new : {X : Type 0} (xs : List X) (y : X) → slice_get (xs ++ y ∷ []) (length xs) ≡ Some y
+pub push_new : {X : Type 0} (xs : List X) (y : X) → slice_get (xs ++ y ∷ []) (length xs) ≡ Some y
 push_new [] y = refl
 push_new (first ∷ xs) y = push_new xs y
 
@@ -108,19 +108,19 @@ module _ {A : Type 0} where
       once = k.listed.once;
       each = λ value has. let before = k.listed.each value has in (before.0, first_push named one value before.0 before.1);
       order = λ a b i j m n at bt fa fb.
-      k.listed.order a b i j m n at bt
-      (held_first named values one a m k.listed (contains_at values i a at) fa)
-      (held_first named values one b n k.listed (contains_at values j b bt) fb);
+          k.listed.order a b i j m n at bt
+          (held_first named values one a m k.listed (contains_at values i a at) fa)
+          (held_first named values one b n k.listed (contains_at values j b bt) fb);
     };
     missing = λ place value at. elim (push_cases named one (Some value) place at) [
       | inl old ↦ elim (k.missing place value old) [
-          | inl has ↦ inl has
-          | inr full ↦ inr (full.0, λ other n has f. full.1 other n has (held_first named values one other n k.listed has f))
-        ]
+        | inl has ↦ inl has
+        | inr full ↦ inr (full.0, λ other n has f. full.1 other n has (held_first named values one other n k.listed has f))
+      ]
       | inr new ↦ elim (known value new.1) [
-          | inl has ↦ inl has
-          | inr full ↦ inr (full, λ other n has f. let within = first_within named other n (held_first named values one other n k.listed has f) in omega (arith, new.0))
-        ]
+        | inl has ↦ inl has
+        | inr full ↦ inr (full, λ other n has f. let within = first_within named other n (held_first named values one other n k.listed has f) in omega (arith, new.0))
+      ]
     ];
   }
 
@@ -144,37 +144,37 @@ module _ {A : Type 0} where
     once_more : (i j : ℕ) (other : A) → slice_get (values ++ value ∷ []) i ≡ Some other → slice_get (values ++ value ∷ []) j ≡ Some other → i ≡ j
     once_more i j other at bt = elim (push_cases values value other i at) [
       | inl old ↦ elim (push_cases values value other j bt) [
-          | inl old_too ↦ k.listed.once i j other old old_too
-          | inr new ↦ absurd (absent (subst (λ one. Contains values one) (sym new.1) (contains_at values i other old)))
-        ]
+        | inl old_too ↦ k.listed.once i j other old old_too
+        | inr new ↦ absurd (absent (subst (λ one. Contains values one) (sym new.1) (contains_at values i other old)))
+      ]
       | inr new ↦ elim (push_cases values value other j bt) [
-          | inl old ↦ absurd (absent (subst (λ one. Contains values one) (sym new.1) (contains_at values j other old)))
-          | inr new_too ↦ new.0 ∙ sym new_too.0
-        ]
+        | inl old ↦ absurd (absent (subst (λ one. Contains values one) (sym new.1) (contains_at values j other old)))
+        | inr new_too ↦ new.0 ∙ sym new_too.0
+      ]
     ]
 
     order_more : (a b : A) (i j m n : ℕ) → slice_get (values ++ value ∷ []) i ≡ Some a → slice_get (values ++ value ∷ []) j ≡ Some b → IsFirstAt more a m → IsFirstAt more b n
         → (i < j → m < n) × (m < n → i < j)
     order_more a b i j m n at bt fa fb = elim (push_cases values value a i at) [
       | inl old ↦ elim (push_cases values value b j bt) [
-          | inl old_too ↦ k.listed.order a b i j m n old old_too (held_first named values (Some value) a m k.listed (contains_at values i a old) fa) (held_first named values (Some value) b n k.listed (contains_at values j b old_too) fb)
-          | inr new ↦
-              let low = held a i m old fa in
-              let high = last b n new.1 fb in
-              let inside = slice_get_within values i a old in
-              (λ lt. omega arith, λ lt. omega (arith, new.0))
-        ]
+        | inl old_too ↦ k.listed.order a b i j m n old old_too (held_first named values (Some value) a m k.listed (contains_at values i a old) fa) (held_first named values (Some value) b n k.listed (contains_at values j b old_too) fb)
+        | inr new ↦
+            let low = held a i m old fa in
+            let high = last b n new.1 fb in
+            let inside = slice_get_within values i a old in
+            (λ lt. omega arith, λ lt. omega (arith, new.0))
+      ]
       | inr new ↦ elim (push_cases values value b j bt) [
-          | inl old ↦
-              let low = held b j n old fb in
-              let high = last a m new.1 fa in
-              let inside = slice_get_within values j b old in
-              (λ lt. absurd (omega (arith, new.0)), λ lt. absurd (omega arith))
-          | inr new_too ↦
-              let high = last a m new.1 fa in
-              let high_too = last b n new_too.1 fb in
-              (λ lt. absurd (omega (arith, new.0, new_too.0)), λ lt. absurd (omega arith))
-        ]
+        | inl old ↦
+            let low = held b j n old fb in
+            let high = last a m new.1 fa in
+            let inside = slice_get_within values j b old in
+            (λ lt. absurd (omega (arith, new.0)), λ lt. absurd (omega arith))
+        | inr new_too ↦
+            let high = last a m new.1 fa in
+            let high_too = last b n new_too.1 fb in
+            (λ lt. absurd (omega (arith, new.0, new_too.0)), λ lt. absurd (omega arith))
+      ]
     ]
 
     pub kept_more : Kept Full more (values ++ value ∷ [])
@@ -189,9 +189,9 @@ module _ {A : Type 0} where
       };
       missing = λ place other at. elim (push_cases named (Some value) (Some other) place at) [
         | inl old ↦ elim (k.missing place other old) [
-            | inl has ↦ inl (Contains-append_left values (value ∷ []) other has)
-            | inr full ↦ absurd (room full.0)
-          ]
+          | inl has ↦ inl (Contains-append_left values (value ∷ []) other has)
+          | inr full ↦ absurd (room full.0)
+        ]
         | inr new ↦ let same : value ≡ other = cc in inl (contains_at (values ++ value ∷ []) (length values) other (push_new values value ∙ ap Some same))
       ];
     }

@@ -11,7 +11,7 @@ use Rattle.pfs_script.specs.declared.blocks.Phase.{Phase}
 use Rattle.pfs_script.specs.Sessions.{is_phase, ends_block}
 use Rattle.pfs_script.specs.Blocks.{Sense, with_front, block_line, block_lines, block_behind, blocks_of, with_phase, phases_of}
 
-here : (lines : List Form) (at : ℕ) (line : Form) → at < length lines → line ≡ get_or lines at line → drop at lines ≡ line ∷ drop (at + 1) lines
+pub here : (lines : List Form) (at : ℕ) (line : Form) → at < length lines → line ≡ get_or lines at line → drop at lines ≡ line ∷ drop (at + 1) lines
 here lines at line within is = drop_more lines at line within ∙ ap (λ z. z ∷ drop (at + 1) lines) (sym is)
 
 phases_first : (sense : Sense) (line : Form) (lines : List Form) → phases_of sense (line ∷ lines) ≡ with_phase (is_phase line) (blocks_of sense lines) (phases_of sense lines)

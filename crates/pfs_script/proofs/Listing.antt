@@ -103,9 +103,9 @@ are_tables lines =
       all = has_all lines;
       number = λ schema name number. (table_hit (tables_of lines) schema name number, table_number_is (tables_of lines) (map table_named lines) schema name number kept.listed);
       given = λ place class schema name ref at r.
-      let named : slice_get (map table_named lines) place ≡ Some (Some (table_of schema name)) = slice_get-map table_named lines place ∙ ap (option_map table_named) at in
-      let there = at_contains (tables_of lines) (table_of schema name) (has_all lines place (table_of schema name) named) in
-      (there.0, wait_line lines class schema name ref there.0 r (table_number_is (tables_of lines) (map table_named lines) schema name there.0 kept.listed there.1), there.1);
+          let named : slice_get (map table_named lines) place ≡ Some (Some (table_of schema name)) = slice_get-map table_named lines place ∙ ap (option_map table_named) at in
+          let there = at_contains (tables_of lines) (table_of schema name) (has_all lines place (table_of schema name) named) in
+          (there.0, wait_line lines class schema name ref there.0 r (table_number_is (tables_of lines) (map table_named lines) schema name there.0 kept.listed there.1), there.1);
     }
 
 -- digest texts

@@ -1,5 +1,8 @@
--- Worked examples of the tables and digest texts of lines.
+-- Worked examples of the names, tables and digest texts of lines.
 use Rattle.std.proofs.Common.{ℕ, ◌≡◌, ◌<◌, List, [], ◌∷◌, Some, Ok, false, true, refl, ap, codes, arith}
+use Rattle.std.specs.List.{fold}
+use Rattle.pfs_names.specs.Interning.{interned}
+use Rattle.pfs_script.specs.SessionNames.{with_session, connect_of}
 use Rattle.std.specs.Prelude.{map, slice_get, zero, suc}
 use Rattle.std.specs.Str.{bytes_eq}
 use Rattle.std.proofs.lemmas.Bool.{false≢true}
@@ -43,3 +46,14 @@ not_by_name in_order = let wrong = (in_order.order (table (codes "a")) (table (c
 -- with room for one, the second text has no place
 one_room : add_digest 1 (add_digest 1 (add_digest 1 [] (Ok (codes "SELECT ?"))) (Ok (codes "COMMIT"))) (Ok (codes "SELECT ?")) ≡ hashed (codes "SELECT ?") ∷ []
 one_room = refl
+
+-- a name is interned once, whoever bears it, and behind those that are there
+abbrev session : List ℕ → List ℕ → Form
+session user host = form.Connect (Some 1) user host
+
+each_once : fold with_session (codes "transaction" ∷ []) (session (codes "root") (codes "db1") ∷ form.Phase ∷ session (codes "db1") (codes "transaction") ∷ []) ≡ codes "transaction" ∷ codes "root" ∷ codes "db1" ∷ []
+unfolding interned
+each_once = refl
+
+by_id : connect_of (codes "transaction" ∷ codes "root" ∷ codes "db1" ∷ []) (codes "db1") (codes "transaction") ≡ record { user = 2; host = 0 }
+by_id = refl

@@ -1,5 +1,6 @@
 -- Values in the order of their first appearance among what the lines of a list name.
-use Rattle.std.specs.Prelude.{ℕ, ◌≡◌, ◌≤◌, ◌<◌, ◌↔◌, ◌⊎◌, List, Option, Some, None, option_map, Result, Ok, Err, length, map, slice_get, Contains}
+use Rattle.std.specs.Prelude.{ℕ, [], ◌∷◌, ◌++◌, ◌≡◌, ◌≤◌, ◌<◌, ◌↔◌, ◌⊎◌, List, Option, Some, None, option_map, Result, Ok, Err, length, map, slice_get, Contains}
+use Rattle.std.specs.List.{flat_map}
 use Rattle.std.specs.Option.{MatchOption}
 use Rattle.sha2.specs.Sha256.{sha256}
 use Rattle.pfs_lexer.specs.declared.tokens.LexFault.{LexFault}
@@ -11,6 +12,7 @@ use Rattle.pfs_script.specs.declared.blocks.BlockLine.TheVariants as said
 use Rattle.pfs_script.specs.declared.forms.Form.{Form}
 use Rattle.pfs_script.specs.declared.forms.Form.TheVariants as form
 use Rattle.pfs_script.specs.Headings.{head_of, limits_of, resolved}
+use Rattle.pfs_script.specs.SessionNames.{connect_of}
 use Rattle.pfs_script.specs.Finds.{table_number}
 use Rattle.pfs_script.specs.Blocks.{sense_of, block_line}
 
@@ -74,3 +76,24 @@ pub record AreDigests (lines : List Form) (digests : List DigestText) : Type 0 w
       × (block_line (sense_of lines) (form.Statement class text) ≡ Some (said.Statement ref digest))
       × MatchOption digest (¬ Contains (texts_of digests) shown)
       (λ place. slice_get (texts_of digests) place ≡ Some shown)
+
+-- the names that a line gives to a session
+abbrev pub names_given : Form → List (Option (List ℕ))
+names_given (form.Connect session user host) = Some user ∷ Some host ∷ []
+names_given _ = []
+
+-- those of the classes, and behind them those of sessions
+abbrev pub names_told : List Form → List (Option (List ℕ))
+names_told lines = map Some (head_of lines).names ++ flat_map names_given lines
+
+-- the names are exactly those of the classes, which keep their ids, and behind them those of users and hosts, in the
+-- order of their first appearance; a session is given the ids of its own user and host
+pub record AreNamed (lines : List Form) (names : List (List ℕ)) : Type 0 where
+  pub listed : AreInOrder (names_told lines) names
+  pub all : (place : ℕ) (text : List ℕ) → slice_get (names_told lines) place ≡ Some (Some text) → Contains names text
+  pub classes : (id : ℕ) (text : List ℕ) → slice_get (head_of lines).names id ≡ Some text
+      → slice_get names id ≡ Some text
+  pub given : (place : ℕ) (session : Option ℕ) (user host : List ℕ)
+      → slice_get lines place ≡ Some (form.Connect session user host)
+      → (slice_get names (connect_of names user host).user ≡ Some user)
+      × (slice_get names (connect_of names user host).host ≡ Some host)

@@ -11,6 +11,7 @@ pub mod Built
 pub mod Finds
 pub mod Next
 pub mod Places
+pub mod SessionNames
 pub mod Blocks
 pub mod Appearances
 pub mod Sensing
@@ -19,3 +20,4 @@ pub mod RunnableProps
 pub mod Scripts
 pub mod Readings
 pub mod Events
+pub mod EventRules

@@ -7,7 +7,12 @@ use Rattle.pfs_script.specs.Headings.{Head, resolved}
 use Rattle.pfs_script.specs.Blocks.{Sense}
 
 abbrev pub sense : Head → Finds → Sense
-sense head finds = record { class = resolved head; tables = finds.tables; digests = finds.digests }
+sense head finds = record {
+  class = resolved head;
+  names = head.names;
+  tables = finds.tables;
+  digests = finds.digests;
+}
 
 -- the line is neither a command, a statement nor a wait on a table
 abbrev pub IsPlain : Form → Type 0

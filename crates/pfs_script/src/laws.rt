@@ -9,7 +9,11 @@ ghost use Rattle.pfs_script.specs.Marks.{Mark, copies};
 ghost use Rattle.pfs_script.specs.Brackets.{open_in, closed_at, kinds_of, ended_by, opened_by, Follows};
 ghost use Rattle.pfs_script.specs.Scripts.{IsExact};
 ghost use Rattle.pfs_script.specs.Finds.{tables_of, digests_of};
-ghost use Rattle.pfs_script.specs.Appearances.{AreTables, AreDigests};
+ghost use Rattle.pfs_script.specs.declared.blocks.Phase.{Phase};
+ghost use Rattle.pfs_script.specs.Events.{lines_for, events_for};
+ghost use Rattle.pfs_script.specs.EventRules.{AreEvents};
+ghost use Rattle.pfs_script.specs.SessionNames.{names_of};
+ghost use Rattle.pfs_script.specs.Appearances.{AreNamed, AreTables, AreDigests};
 
 /// A text is a script or has a first fault, and not both. It is at most one script, and has at most
 /// one first fault, with one reason.
@@ -60,4 +64,18 @@ pub fn tables()
 /// of its text, and none exactly where its text isn't among them.
 pub fn digests()
     ensures { (lines : List Form) → AreDigests lines (digests_of (limits_of lines).digests lines) }
+{}
+
+/// The names of lines are exactly those of their classes, which keep their ids, and behind them those of
+/// users and hosts, none twice, in the order of their first appearance. A session is given the ids of
+/// its own user and host.
+pub fn session_names()
+    ensures { (lines : List Form) → AreNamed lines (names_of lines) }
+{}
+
+/// The events of a session over all phases are the brackets of its lines. Each is of what its opening
+/// line says, closes behind that line, and lasts from the clock there to the clock where it closes. They
+/// come in the order of their openings, and lie before or inside one another.
+pub fn events()
+    ensures { (number : ℕ) (phases : List Phase) → AreEvents (lines_for number phases) (events_for number phases) }
 {}
