@@ -1,7 +1,7 @@
 -- The tables and digest texts with one line more.
-use Rattle.std.proofs.Common.{ℕ, ◌≡◌, ◌≤◌, ◌<◌, ◌+◌, Bool, true, false, ◌||◌, ◌&&◌, cond, nat_lt, List, [], ◌∷◌, ◌++◌, length, Option, Some, None, Result, Ok, Err, refl, sym, ap, ◌∙◌, arith}
-use Rattle.std.specs.Prelude.{fold, is_some, is_none, position, option_to_list, nat_le}
-use Rattle.std.specs.List.{list_all, list_any}
+use Rattle.std.proofs.Common.{ℕ, ◌≡◌, ◌≤◌, ◌<◌, ◌+◌, Bool, true, false, ◌&&◌, cond, nat_lt, List, [], ◌∷◌, ◌++◌, length, Option, Some, None, Result, Ok, Err, refl, sym, ap, ◌∙◌, arith}
+use Rattle.std.specs.Prelude.{fold, is_some, is_none, position, nat_le}
+use Rattle.std.specs.List.{list_all}
 use Rattle.std.proofs.lemmas.Bool.{and_parts}
 use Rattle.std.proofs.lemmas.Bool.Decides.{nat_tests}
 use Rattle.std.proofs.lemmas.List.Sums.{fold_push}
@@ -23,7 +23,6 @@ use Rattle.pfs_script.specs.Scripts.{IsSetting}
 use Rattle.pfs_script.specs.Sensing.{sense}
 use Rattle.pfs_script.specs.Next.{is_table_too_many}
 use Rattle.pfs_script.specs.Places.{KnowsFinds}
-use Rattle.pfs_script.proofs.HeadLemmas.{length_push}
 use Rattle.pfs_script.proofs.PassLemmas.{limits_push}
 
 pub tables_push : (before : List Form) (line : Form) → tables_of (before ++ line ∷ []) ≡ with_table (tables_of before) line

@@ -1,5 +1,5 @@
 -- Worked examples of the names, tables and digest texts of lines.
-use Rattle.std.proofs.Common.{ℕ, ◌≡◌, ◌<◌, List, [], ◌∷◌, Some, Ok, false, true, refl, ap, codes, arith}
+use Rattle.std.proofs.Common.{ℕ, ◌≡◌, ◌<◌, List, [], ◌∷◌, Some, Ok, refl, ap, codes, arith}
 use Rattle.std.specs.List.{fold}
 use Rattle.pfs_names.specs.Interning.{interned}
 use Rattle.pfs_script.specs.SessionNames.{with_session, connect_of}

@@ -1,19 +1,18 @@
 -- Names that are interned behind those of classes.
-use Rattle.std.proofs.Common.{◌≡◌, ℕ, ◌+◌, ◌<◌, ◌≤◌, Bool, true, false, cond, eqb, List, [], ◌∷◌, ◌++◌, length, drop, get_or, Some, None, Contains, inl, inr, refl, sym, ap, ◌∙◌, subst, arith, append_assoc}
-use Rattle.std.specs.Prelude.{nat_lt, slice_get, fold}
-use Rattle.std.specs.List.{list_any}
+use Rattle.std.proofs.Common.{◌≡◌, ℕ, ◌+◌, ◌<◌, ◌≤◌, Bool, true, false, cond, eqb, List, length, drop, get_or, None, inl, inr, refl, sym, ap, ◌∙◌, subst, arith}
+use Rattle.std.specs.Prelude.{nat_lt, fold}
 use Rattle.std.specs.Str.{bytes_eq, IsUtf8}
 use Rattle.std.proofs.lemmas.Bool.{le-ltb, eqb-true}
 use Rattle.std.proofs.lemmas.List.Folds.{position_or_len_push}
 use Rattle.std.proofs.Math.ListN.{drop_of_length-le}
-use Rattle.pfs_names.specs.Interning.{AreNames, Interns, id_of, interned}
+use Rattle.pfs_names.specs.Interning.{AreNames, Interns, id_of}
 use Rattle.pfs_classes.specs.Settings.{ComesFrom}
 use Rattle.pfs_script.specs.Headings.{Head, IsSound, count_named, ref_of, resolved}
 use Rattle.pfs_script.specs.declared.forms.Form.{Form}
 use Rattle.pfs_script.specs.SessionNames.{with_session, head_named}
 use Rattle.pfs_script.proofs.BlockLemmas.{here}
 use Rattle.pfs_script.proofs.CountLemmas.{ref-none}
-use Rattle.pfs_script.proofs.NameLemmas.{id_is, id_absent}
+use Rattle.pfs_script.proofs.NameLemmas.{id_is}
 use Rattle.pfs_script.proofs.RegisterLemmas.{longer, more_room, utf8_after}
 
 -- what is no id of the names stands for nothing

@@ -1,20 +1,20 @@
 -- The names of a script are those of its classes and of its sessions, in the order of their first appearance.
-use Rattle.std.proofs.Common.{ℕ, zero, suc, ◌≡◌, ◌<◌, ◌+◌, Bool, true, false, not, List, [], ◌∷◌, ◌++◌, length, map, get_or, Option, Some, None, Contains, inl, inr, refl, sym, ap, ◌∙◌, subst, codes, arith}
+use Rattle.std.proofs.Common.{ℕ, zero, suc, ◌≡◌, Bool, true, false, List, [], ◌∷◌, ◌++◌, length, map, get_or, Option, Some, Contains, inl, inr, refl, sym, ap, ◌∙◌, subst, codes, arith}
 use Rattle.std.specs.Prelude.{slice_get, fold, option_map}
 use Rattle.std.specs.List.{list_any, flat_map}
 use Rattle.std.specs.Str.{bytes_eq}
 use Rattle.std.proofs.lemmas.Bool.{false≢true}
 use Rattle.std.proofs.lemmas.List.{append-nil, append_assoc}
 use Rattle.std.proofs.lemmas.List.Sums.{passes_at_first}
-use Rattle.std.proofs.lemmas.Option.{slice_get-get_or, slice_get-map, slice_get_within}
+use Rattle.std.proofs.lemmas.Option.{slice_get-get_or, slice_get-map}
 use Rattle.std.proofs.lemmas.Slice.Eq.{bytes_eq-Decides}
 use Rattle.pfs_names.specs.Interning.{id_of, interned}
-use Rattle.pfs_classes.specs.Builtins.{builtins, with_rows, with_builtins}
+use Rattle.pfs_classes.specs.Builtins.{builtins, with_rows}
 use Rattle.pfs_script.specs.declared.forms.Form.{Form}
 use Rattle.pfs_script.specs.declared.forms.Form.TheVariants as form
 use Rattle.pfs_script.specs.Headings.{Naming, naming_under, with_class, naming_behind, naming_of, limits_of, head_of}
 use Rattle.pfs_script.specs.SessionNames.{with_session, names_of, connect_of}
-use Rattle.pfs_script.specs.Appearances.{IsFirstAt, AreInOrder, names_given, names_told, AreNamed}
+use Rattle.pfs_script.specs.Appearances.{IsFirstAt, names_given, names_told, AreNamed}
 use Rattle.pfs_script.proofs.AppearanceLemmas.{contains_at, at_contains, push_old, push_new, first_once, Kept, kept_same, kept_more}
 use Rattle.pfs_script.proofs.NameLemmas.{contains_from_any, any_from_contains, interned_known, interned_new, id_within}
 

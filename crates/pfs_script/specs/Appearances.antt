@@ -1,5 +1,5 @@
 -- Values in the order of their first appearance among what the lines of a list name.
-use Rattle.std.specs.Prelude.{ℕ, [], ◌∷◌, ◌++◌, ◌≡◌, ◌≤◌, ◌<◌, ◌↔◌, ◌⊎◌, List, Option, Some, None, option_map, Result, Ok, Err, length, map, slice_get, Contains}
+use Rattle.std.specs.Prelude.{ℕ, [], ◌∷◌, ◌++◌, ◌≡◌, ◌≤◌, ◌<◌, ◌↔◌, ◌⊎◌, List, Option, Some, None, Result, Ok, Err, length, map, slice_get, Contains}
 use Rattle.std.specs.List.{flat_map}
 use Rattle.std.specs.Option.{MatchOption}
 use Rattle.sha2.specs.Sha256.{sha256}

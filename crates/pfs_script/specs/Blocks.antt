@@ -1,5 +1,5 @@
 -- The phases of a script, their blocks, and what the lines of a block say to its session.
-use Rattle.std.specs.Prelude.{ℕ, ◌||◌, Bool, true, false, if◌then◌else◌, List, [], ◌∷◌, Option, Some, None, option_map, option_and_then, unwrap_or}
+use Rattle.std.specs.Prelude.{ℕ, Bool, true, false, if◌then◌else◌, List, [], ◌∷◌, Option, Some, None, option_map, option_and_then, unwrap_or}
 use Rattle.pfs_classes.specs.declared.classes.ClassRef.{ClassRef}
 use Rattle.pfs_script.specs.declared.forms.Numbers.{Numbers}
 use Rattle.pfs_script.specs.declared.forms.Form.{Form}

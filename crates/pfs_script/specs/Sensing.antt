@@ -1,5 +1,4 @@
 -- What names and texts stand for, by what the reader has found.
-use Rattle.std.specs.Prelude.{ℕ, List}
 use Rattle.pfs_script.specs.declared.forms.Form.{Form}
 use Rattle.pfs_script.specs.declared.forms.Form.TheVariants as form
 use Rattle.pfs_script.specs.declared.finds.Finds.{Finds}

@@ -1,12 +1,8 @@
 use Rattle.std.proofs.Common.{ℕ, ◌∙◌, List, Err, ap}
-use Rattle.pfs_classes.specs.declared.setting.Setting.{Setting}
-use Rattle.pfs_script.specs.declared.blocks.Phase.{Phase}
-use Rattle.pfs_script.specs.declared.forms.Form.{Form}
 use Rattle.pfs_script.specs.declared.reading.ScriptFault.{ScriptFault}
 use Rattle.pfs_script.specs.declared.reading.ScriptFault.TheVariants.{Bad, NoMemory}
 use Rattle.pfs_script.specs.declared.reasons.Extent.{Extent}
-use Rattle.pfs_script.specs.Headings.{Head, head_of}
-use Rattle.pfs_script.specs.Scripts.{IsScript, IsSetting}
+use Rattle.pfs_script.specs.Headings.{Head}
 use Rattle.pfs_script.specs.Readings.{Reads, Gives}
 use Rattle.pfs_script.proofs.Exactness.{found_text, found_first}
 use Rattle.pfs_script.proofs.Finding.{phases_as, few_named, names_as, setting_as}

@@ -1,4 +1,4 @@
-use Rattle.std.proofs.Common.{◌≡◌, List, ℕ, ap, ◌∙◌}
+use Rattle.std.proofs.Common.{List, ℕ, ap, ◌∙◌}
 use Rattle.pfs_names.specs.Interning.{interned}
 use Rattle.pfs_script.specs.Headings.{Head, resolved}
 use Rattle.pfs_script.specs.SessionNames.{head_named}

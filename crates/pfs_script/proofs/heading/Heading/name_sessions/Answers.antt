@@ -1,7 +1,4 @@
 use Rattle.std.proofs.Common.{◌∙◌}
-use Rattle.std.specs.List.{fold}
-use Rattle.pfs_script.specs.SessionNames.{with_session, head_named}
-use Rattle.pfs_script.proofs.BlockLemmas.{here}
 use Rattle.pfs_script.proofs.NamingLemmas.{named_step, named_end}
 use Rattle.pfs_script.proofs.heading.Heading.name_sessions.Goals as goal
 
