@@ -246,6 +246,9 @@ times_join all opened closed le =
 said_of : (all : List BlockLine) (event : Event) → IsMade all event → subject_of (line_at all event.opened) ≡ Some event.subject
 said_of all event m = subst (λ (one : Event). subject_of (line_at all one.opened) ≡ Some one.subject) m.made m.said
 
+clock_of : (all : List BlockLine) (event : Event) → IsMade all event → event.clock ≡ passed_between all 0 event.opened
+clock_of all event m = subst (λ (one : Event). one.clock ≡ passed_between all 0 one.opened) m.made refl
+
 abbrev LastsTo : List BlockLine → ℕ → Event → Type 0
 LastsTo all closed event = event.closed ≡ Some closed → event.opened ≤ closed → (lasted : ℕ) × (event.lasted ≡ Some lasted) × (event.clock + lasted ≡ passed_between all 0 closed)
 
@@ -274,6 +277,7 @@ are_events all = record {
   subject = λ i event e. said_of all event (event_made all i event e);
   inside = λ i event e. let range = opened_range 0 (map mark_of all) i (bracket_of event) (bracket_at all i event e) in omega (arith, range.1, length-map all mark_of);
   later = later_of all;
+  clock = λ i event e. clock_of all event (event_made all i event e);
   lasts = λ i event closed e c. let range = later_of all i event closed e c in lasts_of all event closed (event_made all i event e) c (omega (arith, range.0));
   unclosed = λ i event e c. unclosed_of all event (event_made all i event e) c;
   order = λ i j a b ea eb lt. in_order 0 (map mark_of all) i j (bracket_of a) (bracket_of b) (bracket_at all i a ea) (bracket_at all j b eb) lt;

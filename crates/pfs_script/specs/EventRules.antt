@@ -18,6 +18,8 @@ pub record AreEvents (all : List BlockLine) (events : List Event) : Type 0 where
   pub inside : (i : ℕ) (event : Event) → slice_get events i ≡ Some event → event.opened < length all
   pub later : (i : ℕ) (event : Event) (closed : ℕ) → slice_get events i ≡ Some event → event.closed ≡ Some closed
       → (event.opened < closed) × (closed < length all)
+  pub clock : (i : ℕ) (event : Event) → slice_get events i ≡ Some event
+      → event.clock ≡ passed_between all 0 event.opened
   pub lasts : (i : ℕ) (event : Event) (closed : ℕ) → slice_get events i ≡ Some event → event.closed ≡ Some closed
       → (lasted : ℕ) × (event.lasted ≡ Some lasted) × (event.clock + lasted ≡ passed_between all 0 closed)
   pub unclosed : (i : ℕ) (event : Event) → slice_get events i ≡ Some event → event.closed ≡ None
