@@ -1,9 +1,7 @@
 -- One step of the loops that build phases, blocks and their lines, and their ends.
-use Rattle.std.proofs.Common.{ℕ, ◌≡◌, ◌<◌, ◌≤◌, ◌+◌, true, false, List, [], ◌∷◌, ◌++◌, Option, refl, ap, sym, ◌∙◌, length, drop, get_or, append-nil}
-use Rattle.std.specs.Prelude.{option_map}
+use Rattle.std.proofs.Common.{ℕ, ◌≡◌, ◌<◌, ◌≤◌, ◌+◌, true, false, List, [], ◌∷◌, ◌++◌, refl, ap, sym, ◌∙◌, length, drop, get_or, append-nil}
 use Rattle.std.proofs.lemmas.List.{drop_more}
 use Rattle.std.proofs.Math.ListN.{drop_of_length-le}
-use Rattle.pfs_classes.specs.declared.classes.ClassRef.{ClassRef}
 use Rattle.pfs_script.specs.declared.forms.Form.{Form}
 use Rattle.pfs_script.specs.declared.blocks.BlockLine.{BlockLine}
 use Rattle.pfs_script.specs.declared.blocks.Block.{Block}
@@ -11,7 +9,7 @@ use Rattle.pfs_script.specs.declared.blocks.Phase.{Phase}
 use Rattle.pfs_script.specs.Sessions.{is_phase, ends_block}
 use Rattle.pfs_script.specs.Blocks.{Sense, with_front, block_line, block_lines, block_behind, blocks_of, with_phase, phases_of}
 
-here : (lines : List Form) (at : ℕ) (line : Form) → at < length lines → line ≡ get_or lines at line → drop at lines ≡ line ∷ drop (at + 1) lines
+pub here : (lines : List Form) (at : ℕ) (line : Form) → at < length lines → line ≡ get_or lines at line → drop at lines ≡ line ∷ drop (at + 1) lines
 here lines at line within is = drop_more lines at line within ∙ ap (λ z. z ∷ drop (at + 1) lines) (sym is)
 
 phases_first : (sense : Sense) (line : Form) (lines : List Form) → phases_of sense (line ∷ lines) ≡ with_phase (is_phase line) (blocks_of sense lines) (phases_of sense lines)

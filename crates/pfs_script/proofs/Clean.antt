@@ -1,11 +1,12 @@
 -- The bytes of a script are ASCII, and so are those of a part of it.
-use Rattle.std.proofs.Common.{ℕ, zero, suc, ◌≡◌, Bool, true, ◌&&◌, List, [], ◌∷◌, drop, refl, arith}
+use Rattle.std.proofs.Common.{ℕ, zero, suc, ◌≡◌, Bool, true, ◌&&◌, nat_lt, List, [], ◌∷◌, length, drop, refl, arith}
+use Rattle.std.specs.Prelude.{nat_le}
 use Rattle.std.specs.List.{list_all}
 use Rattle.std.specs.Str.{IsUtf8}
 use Rattle.std.proofs.lemmas.Bool.{and_parts}
 use Rattle.std.proofs.lemmas.Bool.Decides.{nat_tests}
 use Rattle.std.proofs.lemmas.Str.{IsUtf8-from_ascii}
-use Rattle.pfs_script.specs.Words.{is_script_byte}
+use Rattle.pfs_script.specs.Words.{is_script_byte, is_name_byte, is_name}
 use Rattle.pfs_script.proofs.BaseLemmas.{is_low, ascii_from}
 
 low_byte : (byte : ℕ) → is_script_byte byte ≡ true → is_low byte ≡ true
@@ -29,3 +30,17 @@ pub clean_drop : (n : ℕ) (text : List ℕ) → list_all is_script_byte text �
 clean_drop zero text h = h
 clean_drop (suc n) [] h = refl
 clean_drop (suc n) (byte ∷ text) h = clean_drop n text (and_parts (is_script_byte byte) (list_all is_script_byte text) h).1
+
+-- a user's or a host's name has such bytes alone
+clean_byte : (byte : ℕ) → is_name_byte byte ≡ true → is_script_byte byte ≡ true
+clean_byte byte h = grind (arith, nat_tests, h)
+
+clean_all : (text : List ℕ) → list_all is_name_byte text ≡ true → list_all is_script_byte text ≡ true
+clean_all [] h = refl
+clean_all (byte ∷ text) h =
+    let both = and_parts (is_name_byte byte) (list_all is_name_byte text) h in
+    both_true (is_script_byte byte) (list_all is_script_byte text) (clean_byte byte both.0) (clean_all text both.1)
+
+pub name_clean : (most : ℕ) (name : List ℕ) → is_name most name ≡ true → list_all is_script_byte name ≡ true
+unfolding is_name
+name_clean most name h = clean_all name (and_parts (nat_lt 0 (length name) && nat_le (length name) most) (list_all is_name_byte name) h).1

@@ -1,6 +1,6 @@
 -- The course agrees with the lines of the sessions, of the phase and of the block.
 use Rattle.std.proofs.Common.{ℕ, ◌≡◌, ◌<◌, ◌≤◌, ◌+◌, ◌^◌, Bool, false, true, ◌||◌, ◌&&◌, ◌==◌, not, List, [], ◌∷◌, ◌++◌, Option, Some, None, refl, ap, sym, ◌∙◌, subst, length, length-set, map, inl, inr, arith}
-use Rattle.std.specs.Prelude.{nat_le, get_or, slice_set, ◌⊎◌, IfSome, is_some, count_by, unwrap_or}
+use Rattle.std.specs.Prelude.{nat_le, get_or, slice_set, ◌⊎◌, IfSome, is_some, unwrap_or}
 use Rattle.std.specs.List.{list_any}
 use Rattle.std.proofs.lemmas.Bool.Decides.{nat_tests}
 use Rattle.std.proofs.lemmas.Grind.{get_or-set_at}
@@ -11,7 +11,7 @@ use Rattle.pfs_script.specs.declared.courses.Course.{Course}
 use Rattle.pfs_event.specs.declared.kind.EventKind.{EventKind}
 use Rattle.pfs_script.specs.declared.open_kinds.OpenKinds.{OpenKinds}
 use Rattle.pfs_script.specs.declared.open_kinds.SessionState.{SessionState}
-use Rattle.pfs_script.specs.Marks.{Mark, Passes}
+use Rattle.pfs_script.specs.Marks.{Passes}
 use Rattle.pfs_script.specs.Brackets.{brackets_from, open_in, kinds_of, innermost, kinds_behind, may_stand, is_in_statement}
 use Rattle.pfs_script.specs.Counts.{ahead_of_last, is_repeat, is_done, is_in_repeat}
 use Rattle.pfs_script.specs.Sessions.{is_phase, is_session, is_block_of, is_quit, ends_block, phase_of, session_now, lines_in, lines_of, has_quit}

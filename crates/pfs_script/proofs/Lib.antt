@@ -1,3 +1,4 @@
+pub mod AppearanceLemmas
 pub mod BaseLemmas
 pub mod Behind
 pub mod BlockLemmas
@@ -5,6 +6,7 @@ pub mod CountLemmas
 pub mod Clean
 pub mod Coursing
 pub mod EventExamples
+pub mod EventLemmas
 pub mod Exactness
 pub mod Faultless
 pub mod Finding
@@ -14,6 +16,9 @@ pub mod Fronting
 pub mod HeadLemmas
 pub mod NamedLemmas
 pub mod NameLemmas
+pub mod Listing
+pub mod ListingExamples
+pub mod NamingLemmas
 pub mod Nesting
 pub mod NestingExamples
 pub mod NumberLemmas
@@ -23,6 +28,7 @@ pub mod ReadingExamples
 pub mod ReferLemmas
 pub mod RegisterLemmas
 pub mod RunLemmas
+pub mod SessionNaming
 pub mod SetLemmas
 pub mod Splits
 pub mod Steps

@@ -21,7 +21,7 @@ pub any_from_contains : (texts : List (List ℕ)) (text : List ℕ) → Contains
 any_from_contains texts text (k, within, is) =
     list_any_at (λ (one : List ℕ). bytes_eq one text) texts k text within ((bytes_eq-Decides (get_or texts k text) text).1 is)
 
-interned_known : (texts : List (List ℕ)) (text : List ℕ) → Contains texts text → interned texts text ≡ texts
+pub interned_known : (texts : List (List ℕ)) (text : List ℕ) → Contains texts text → interned texts text ≡ texts
 unfolding interned
 interned_known texts text has = rw (any_from_contains texts text has) refl
 
@@ -29,7 +29,7 @@ new_by : (texts : List (List ℕ)) (text : List ℕ) (b : Bool) → list_any (λ
 new_by texts text true e absent = absurd (absent (contains_from_any texts text e))
 new_by texts text false e absent = refl
 
-interned_new : (texts : List (List ℕ)) (text : List ℕ) → ¬ Contains texts text → interned texts text ≡ texts ++ text ∷ []
+pub interned_new : (texts : List (List ℕ)) (text : List ℕ) → ¬ Contains texts text → interned texts text ≡ texts ++ text ∷ []
 unfolding interned
 interned_new texts text absent = new_by texts text (list_any (λ one. bytes_eq one text) texts) refl absent
 

@@ -1,8 +1,7 @@
 -- Worked examples of faults, counts and blocks.
-use Rattle.std.proofs.Common.{ℕ, ◌≡◌, true, false, List, [], ◌∷◌, Option, Some, None, refl}
+use Rattle.std.proofs.Common.{ℕ, ◌≡◌, true, false, List, [], ◌∷◌, Some, None, refl}
 use Rattle.std.specs.Prelude.{codes}
 use Rattle.pfs_classes.specs.declared.kind.Kind.TheVariants.{File}
-use Rattle.pfs_classes.specs.declared.classes.ClassRef.{ClassRef}
 use Rattle.pfs_classes.specs.declared.classes.ClassRef.TheVariants as refs
 use Rattle.pfs_script.specs.declared.forms.Form.{Form}
 use Rattle.pfs_script.specs.declared.forms.Form.TheVariants as form
@@ -104,10 +103,10 @@ unfolding counted
 not_done = refl
 
 abbrev lost_file : Sense
-lost_file = record { class = λ name. Some (refs.Lost File); tables = []; digests = [] }
+lost_file = record { class = λ name. Some (refs.Lost File); names = codes "h" ∷ codes "u" ∷ []; tables = []; digests = [] }
 
 abbrev names : Connect
-names = record { user = codes "u"; host = codes "h" }
+names = record { user = 1; host = 0 }
 
 -- the lines of a block end with the next one
 two_blocks : blocks_of lost_file (connect 7 ∷ form.Wait [] ∷ form.Silent ∷ connect 2 ∷ form.Spend (Some 5) ∷ []) ≡ record { session = 7; connect = Some names; lines = said.Wait (refs.Lost File) ∷ [] } ∷ record { session = 2; connect = Some names; lines = said.Spend 5 ∷ [] } ∷ []

@@ -37,11 +37,11 @@ fresh_count head after name id sound (inr (absent, more)) at names none =
     let here : id ≡ length head.names = sym (id_is after id name names at) ∙ (ap (λ (all : List (List ℕ)). id_of all name) more ∙ id_pushed head.names name absent) in
     uncounted head id sound here
 
-longer : (before after : List (List ℕ)) (name : List ℕ) → Interns before after name → length before ≤ length after
+pub longer : (before after : List (List ℕ)) (name : List ℕ) → Interns before after name → length before ≤ length after
 longer before after name (inl (has, same)) = let e = ap {B = ℕ} length same in omega arith
 longer before after name (inr (absent, more)) = let e = ap {B = ℕ} length more in let n = length_push before name in omega arith
 
-utf8_after : (before after : List (List ℕ)) (name : List ℕ) → Interns before after name → IsUtf8 name → ((text : List ℕ) → Contains before text → IsUtf8 text) → (text : List ℕ) → Contains after text → IsUtf8 text
+pub utf8_after : (before after : List (List ℕ)) (name : List ℕ) → Interns before after name → IsUtf8 name → ((text : List ℕ) → Contains before text → IsUtf8 text) → (text : List ℕ) → Contains after text → IsUtf8 text
 utf8_after before after name (inl (has, same)) here all text there = all text (subst (λ (texts : List (List ℕ)). Contains texts text) same there)
 utf8_after before after name (inr (absent, more)) here all text there =
     elim (Contains-push_cases before name text (subst (λ (texts : List (List ℕ)). Contains texts text) more there)) [
@@ -58,7 +58,7 @@ once_by count id place n true e fresh lt few =
     subst (λ (b : Bool). count + 1 ≤ cond {A = ℕ} b 1 0) (sym inside) (omega arith)
 once_by count id place n false e fresh lt few = omega arith
 
-more_room : (id m n : ℕ) (b : Bool) → nat_lt id m ≡ b → m ≤ n → cond {A = ℕ} b 1 0 ≤ cond {A = ℕ} (nat_lt id n) 1 0
+pub more_room : (id m n : ℕ) (b : Bool) → nat_lt id m ≡ b → m ≤ n → cond {A = ℕ} b 1 0 ≤ cond {A = ℕ} (nat_lt id n) 1 0
 more_room id m n true e le =
     let lt = ltb-true id m e in
     subst (λ (b : Bool). 1 ≤ cond {A = ℕ} b 1 0) (sym (lt-ltb id n (omega arith))) (omega arith)

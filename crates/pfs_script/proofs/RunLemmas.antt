@@ -20,6 +20,7 @@ use Rattle.pfs_script.specs.declared.reasons.Extent.TheVariants.{Built}
 use Rattle.pfs_script.specs.Finds.{digest_place}
 use Rattle.pfs_script.specs.Sessions.{is_phase, is_session, is_block_of, ends_block, phase_of}
 use Rattle.pfs_script.specs.Next.{is_blockless, is_event_class, is_bad_nesting, mark_of_form, session_kinds, kinds_open, same_kinds, one_each}
+use Rattle.pfs_script.specs.SessionNames.{names_of, connect_of}
 use Rattle.pfs_script.specs.Blocks.{Sense, sense_of, with_front, statement_numbers, block_line, block_lines, block_behind, blocks_of, phases_of}
 use Rattle.pfs_script.specs.Runnable as run
 use Rattle.pfs_script.specs.Scripts.{Begins, IsScript}
@@ -453,7 +454,7 @@ module _ (all : List Form) (few : counted one_each all ≤ 200000) where
       → All (run.IsBlock (length (head_of all).classes.classes)) (with_front (block_behind (sense_of all) lines line) more)
   block_front before (form.Connect (Some number) user host) lines more p s e h =
       let bounds = low_session before number user host p in
-      All-cons (run.IsBlock (length (head_of all).classes.classes)) (record { session = number; connect = Some (record { user = user; host = host }); lines = block_lines (sense_of all) lines }) more (record {
+      All-cons (run.IsBlock (length (head_of all).classes.classes)) (record { session = number; connect = Some (connect_of (names_of all) user host); lines = block_lines (sense_of all) lines }) more (record {
         low = bounds.0;
         high = bounds.1;
         nested = (let first = before ++ form.Connect (Some number) user host ∷ [] in rw (open_new before number user host bounds.0 (new_session before number user host p), start_connect before number user host p) at (nest first lines s e));

@@ -6,7 +6,7 @@ use Rattle.pfs_script.specs.declared.forms.Form.{Form}
 use Rattle.pfs_script.specs.declared.forms.Form.TheVariants as form
 use Rattle.pfs_script.specs.declared.totals.Tally.{Tally}
 use Rattle.pfs_script.specs.declared.totals.Totals.{Totals}
-use Rattle.pfs_script.specs.Counts.{counted, is_done, is_repeat, is_in_repeat, once_more, more_times, pending}
+use Rattle.pfs_script.specs.Counts.{counted, is_done, is_repeat, is_in_repeat, once_more, more_times}
 use Rattle.pfs_script.specs.Next.{is_class, is_select, one_select, begins_with, has_over, is_blockless, is_out_of_place, is_too_long, is_too_much, one_each, weight_of}
 use Rattle.pfs_script.specs.Sessions.{is_phase}
 use Rattle.pfs_script.specs.Places.{KnowsTally, KnowsTotals, more_with, body_with}

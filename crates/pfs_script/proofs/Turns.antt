@@ -1,5 +1,5 @@
 -- The session of the next line, and a session's lines and open events, with one line more.
-use Rattle.std.proofs.Common.{ℕ, ◌≡◌, ◌≤◌, Bool, false, true, ◌||◌, ◌&&◌, ◌==◌, not, List, [], ◌∷◌, ◌++◌, Option, Some, None, refl, ap, sym, ◌∙◌, map, arith, append_assoc, append-nil}
+use Rattle.std.proofs.Common.{ℕ, ◌≡◌, ◌≤◌, Bool, false, true, ◌||◌, ◌&&◌, ◌==◌, List, [], ◌∷◌, ◌++◌, Some, None, refl, ap, sym, ◌∙◌, map, arith, append_assoc, append-nil}
 use Rattle.std.specs.Prelude.{fold}
 use Rattle.std.specs.List.{list_any}
 use Rattle.std.proofs.lemmas.Bool.Decides.{nat_tests}
@@ -7,7 +7,7 @@ use Rattle.std.proofs.lemmas.List.Sums.{fold_push}
 use Rattle.pfs_script.specs.declared.forms.Form.{Form}
 use Rattle.pfs_script.specs.declared.forms.Form.TheVariants as form
 use Rattle.pfs_script.specs.Brackets.{kinds_behind}
-use Rattle.pfs_script.specs.Sessions.{is_phase, is_session, is_block_of, ends_block, session_behind, session_now, own_line, lines_in, lines_of}
+use Rattle.pfs_script.specs.Sessions.{is_block_of, ends_block, session_behind, session_now, own_line, lines_in, lines_of}
 use Rattle.pfs_script.specs.Next.{mark_of_form, session_kinds, kinds_open}
 use Rattle.pfs_script.proofs.Nesting.{kinds_more}
 

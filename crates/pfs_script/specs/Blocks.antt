@@ -1,5 +1,5 @@
 -- The phases of a script, their blocks, and what the lines of a block say to its session.
-use Rattle.std.specs.Prelude.{ℕ, ◌||◌, Bool, true, false, if◌then◌else◌, List, [], ◌∷◌, Option, Some, None, option_map, option_and_then, unwrap_or}
+use Rattle.std.specs.Prelude.{ℕ, Bool, true, false, if◌then◌else◌, List, [], ◌∷◌, Option, Some, None, option_map, option_and_then, unwrap_or}
 use Rattle.pfs_classes.specs.declared.classes.ClassRef.{ClassRef}
 use Rattle.pfs_script.specs.declared.forms.Numbers.{Numbers}
 use Rattle.pfs_script.specs.declared.forms.Form.{Form}
@@ -13,6 +13,7 @@ use Rattle.pfs_classes.specs.declared.setting.TableName.{TableName}
 use Rattle.pfs_classes.specs.declared.setting.DigestText.{DigestText}
 use Rattle.pfs_script.specs.Sessions.{is_phase, ends_block}
 use Rattle.pfs_script.specs.Headings.{head_of, limits_of, resolved}
+use Rattle.pfs_script.specs.SessionNames.{names_of, connect_of}
 use Rattle.pfs_script.specs.Finds.{table_number, digest_place, tables_of, digests_of}
 
 -- the numbers of a statement's end; one that is over 2^64 - 1 stands on no line of a script
@@ -26,9 +27,10 @@ statement_numbers numbers = record {
   examined = unwrap_or numbers.examined 0;
 }
 
--- what names and texts of lines stand for: classes, tables by number, and digest texts by place
+-- what names and texts of lines stand for: classes, names by id, tables by number, and digest texts by place
 pub record Sense : Type 0 where
   pub class : List ℕ → Option ClassRef
+  pub names : List (List ℕ)
   pub tables : List TableName
   pub digests : List DigestText
 
@@ -36,6 +38,7 @@ pub record Sense : Type 0 where
 abbrev pub sense_of : List Form → Sense
 sense_of lines = record {
   class = resolved (head_of lines);
+  names = names_of lines;
   tables = tables_of lines;
   digests = digests_of (limits_of lines).digests lines;
 }
@@ -71,23 +74,24 @@ block_lines sense [] = []
 block_lines sense (line ∷ lines) = if ends_block line then []
     else with_front (block_line sense line) (block_lines sense lines)
 
--- the block that a line begins, with these lines behind it: at its first one a session gives its names
-abbrev pub block_with : List BlockLine → Form → Option Block
-block_with lines (form.Connect session user host) =
+-- the block that a line begins, with these lines behind it, under these names: at its first one a session gives its
+-- user and host
+abbrev pub block_with : List (List ℕ) → List BlockLine → Form → Option Block
+block_with names lines (form.Connect session user host) =
     option_map (λ number. record {
       session = number;
-      connect = Some (record { user = user; host = host });
+      connect = Some (connect_of names user host);
       lines = lines;
     }) session
-block_with lines (form.Resume session) = option_map (λ number. record {
+block_with names lines (form.Resume session) = option_map (λ number. record {
   session = number;
   connect = None;
   lines = lines;
 }) session
-block_with lines _ = None
+block_with names lines _ = None
 
 abbrev pub block_behind : Sense → List Form → Form → Option Block
-block_behind sense lines line = block_with (block_lines sense lines) line
+block_behind sense lines line = block_with sense.names (block_lines sense lines) line
 
 -- the blocks of the lines, up to the next phase
 unfoldable pub blocks_of : Sense → List Form → List Block

@@ -1,5 +1,5 @@
 -- Which lines the engine runs so far. All others are refused where it is to run the script.
-use Rattle.std.specs.Prelude.{◌==◌, Bool, true, false, not, nat_lt, List, length, Option, Some, None, count_by}
+use Rattle.std.specs.Prelude.{◌==◌, Bool, true, false, not, nat_lt, List, length, Option, Some, count_by}
 use Rattle.std.specs.List.{list_any}
 use Rattle.pfs_rows.specs.declared.limits.Limit.{Limit}
 use Rattle.pfs_rows.specs.declared.limits.Limit.TheVariants as limit

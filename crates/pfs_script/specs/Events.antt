@@ -1,5 +1,5 @@
 -- The lines of a session over all phases, and its events. Whether an event counts anywhere is no part of it.
-use Rattle.std.specs.Prelude.{ℕ, ◌+◌, ◌-◌, ◌==◌, Bool, List, [], ◌∷◌, ◌++◌, map, filter, take, drop, Option, Some, None, option_map}
+use Rattle.std.specs.Prelude.{ℕ, ◌-◌, ◌==◌, List, [], ◌∷◌, map, filter, take, drop, Option, Some, None, option_map}
 use Rattle.std.specs.List.{sum_by, flat_map, slice_index_or}
 use Rattle.pfs_classes.specs.declared.classes.ClassRef.{ClassRef}
 use Rattle.pfs_classes.specs.declared.classes.ClassRef.TheVariants as refs

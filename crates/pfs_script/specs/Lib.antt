@@ -11,10 +11,13 @@ pub mod Built
 pub mod Finds
 pub mod Next
 pub mod Places
+pub mod SessionNames
 pub mod Blocks
+pub mod Appearances
 pub mod Sensing
 pub mod Runnable
 pub mod RunnableProps
 pub mod Scripts
 pub mod Readings
 pub mod Events
+pub mod EventRules

@@ -9,6 +9,7 @@ use Rattle.pfs_script.specs.declared.reasons.Reason.{Reason}
 use Rattle.pfs_script.specs.declared.reasons.Reason.TheVariants.{BadByte, OpenLine, OutOfPlace}
 use Rattle.pfs_script.specs.Words.{is_script_byte}
 use Rattle.pfs_script.specs.Headings.{head_of, limits_of}
+use Rattle.pfs_script.specs.SessionNames.{names_of}
 use Rattle.pfs_script.specs.Finds.{tables_of, digests_of}
 use Rattle.pfs_script.specs.Counts.{is_in_repeat}
 use Rattle.pfs_script.specs.Next.{next}
@@ -42,9 +43,9 @@ IsBad extent before [] [] reason = (is_in_repeat before ≡ true) × (reason ≡
 IsBad extent before (byte ∷ bytes) [] reason = reason ≡ open_reason (byte ∷ bytes)
 IsBad extent before bad (part ∷ parts) reason = next extent before bad ≡ Err reason
 
--- the setting has what the lines before the first phase fix, and the tables and digest texts of all lines
+-- the setting has what the lines before the first phase fix, and the names, tables and digest texts of all lines
 pub record IsSetting (lines : List Form) (setting : Setting) : Type 0 where
-  pub names : setting.names ≡ (head_of lines).names
+  pub names : setting.names ≡ names_of lines
   pub classes : setting.classes ≡ (head_of lines).classes
   pub tables : setting.tables ≡ tables_of lines
   pub digests : setting.digests ≡ digests_of (limits_of lines).digests lines

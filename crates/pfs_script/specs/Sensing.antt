@@ -1,5 +1,4 @@
 -- What names and texts stand for, by what the reader has found.
-use Rattle.std.specs.Prelude.{ℕ, List}
 use Rattle.pfs_script.specs.declared.forms.Form.{Form}
 use Rattle.pfs_script.specs.declared.forms.Form.TheVariants as form
 use Rattle.pfs_script.specs.declared.finds.Finds.{Finds}
@@ -7,7 +6,12 @@ use Rattle.pfs_script.specs.Headings.{Head, resolved}
 use Rattle.pfs_script.specs.Blocks.{Sense}
 
 abbrev pub sense : Head → Finds → Sense
-sense head finds = record { class = resolved head; tables = finds.tables; digests = finds.digests }
+sense head finds = record {
+  class = resolved head;
+  names = head.names;
+  tables = finds.tables;
+  digests = finds.digests;
+}
 
 -- the line is neither a command, a statement nor a wait on a table
 abbrev pub IsPlain : Form → Type 0

@@ -5,7 +5,7 @@ ghost use Rattle.pfs_script.specs.Forms.{connect_form, session_form, spend_form,
 
 use crate::forms::{Form, Number};
 use crate::numerals::{parse_number, parse_numbers};
-use crate::texts::Text;
+use crate::texts::{AsciiText, Text};
 use crate::words::{is_name, is_word, split_word};
 
 /// `session K` or `session K USER HOST`, from K on.
@@ -31,8 +31,8 @@ fn parse_connect(session: Number, names: &[u8]) -> Option<Form<'_>>
     if is_name(32, user) && is_name(60, host) {
         Some(Form::Connect {
             session,
-            user: Text::new(user),
-            host: Text::new(host),
+            user: AsciiText::new(user),
+            host: AsciiText::new(host),
         })
     } else {
         None

@@ -3,6 +3,7 @@
 ghost use Rattle.std.specs.Prelude.{◌≡◌};
 
 use pfs_classes::ClassRef;
+use pfs_names::NameId;
 use pfs_text::Text;
 use std::marker::Model;
 
@@ -99,11 +100,11 @@ impl BlockLineList {
     }
 }
 
-/// Whose session it is: the names that its first block gives.
-#[derive(Debug, PartialEq, Eq, Drop)]
+/// Whose session it is: the names that its first block gives, by their ids in the setting.
+#[derive(Clone, Copy, Debug, PartialEq, Eq)]
 pub struct Connect {
-    pub user: Text,
-    pub host: Text,
+    pub user: NameId,
+    pub host: NameId,
 }
 
 /// A block: what one session does in a phase.

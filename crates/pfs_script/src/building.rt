@@ -6,6 +6,7 @@ ghost use Rattle.pfs_script.specs.declared.finds.Finds.{Finds};
 ghost use Rattle.pfs_script.specs.Sensing.{sense, IsPlain};
 ghost use Rattle.pfs_script.specs.declared.forms.Form.{Form};
 ghost use Rattle.pfs_script.specs.Sessions.{is_phase, ends_block};
+ghost use Rattle.pfs_script.specs.SessionNames.{connect_of};
 ghost use Rattle.pfs_script.specs.Blocks.{with_front, statement_numbers, block_line, block_lines, block_behind, blocks_of, with_phase, phases_of};
 ghost use Rattle.pfs_script.specs.declared.blocks.BlockLine.{BlockLine};
 ghost use Rattle.pfs_script.specs.declared.blocks.Block.{Block};
@@ -103,7 +104,7 @@ fn add_block(
             user,
             host,
         } => {
-            let connect = connect(alloc, user.bytes(), host.bytes())?;
+            let connect = connect(heading, user.as_str(), host.as_str());
             let lines = block_lines(alloc, heading, finds, behind)?;
             push_block(blocks, *session, Some(connect), lines)
         }
@@ -117,13 +118,13 @@ fn add_block(
     }
 }
 
-fn connect(alloc: Global, user: &[u8], host: &[u8]) -> Result<Connect, NoMemory>
-    ensures { IfOk result (λ connect. connect ≡ record { user = user.now; host = host.now }) }
+fn connect(heading: &Heading, user: &str, host: &str) -> Connect
+    ensures { result ≡ connect_of heading.now.names user.now host.now }
 {
-    Ok(Connect {
-        user: Text::from_slice(alloc, user)?,
-        host: Text::from_slice(alloc, host)?,
-    })
+    Connect {
+        user: heading.name_id(user),
+        host: heading.name_id(host),
+    }
 }
 
 fn push_block(

@@ -10,7 +10,7 @@ use crate::blocks::Access;
 use crate::heading_lines::{parse_class, parse_consumer, parse_instrument, parse_limit};
 use crate::reasons::Reason;
 use crate::starts::{parse_stage, parse_start};
-use crate::texts::{StatementText, Text};
+use crate::texts::{AsciiText, Text};
 use crate::words::{is_clean, is_text, split_word};
 use pfs_classes::Kind;
 use pfs_classes::laws::computed_kind;
@@ -64,8 +64,8 @@ pub enum Form<'a> {
     /// `session K USER HOST`; user and host keep the rules of their names.
     Connect {
         session: Number,
-        user: Text<'a>,
-        host: Text<'a>,
+        user: AsciiText<'a>,
+        host: AsciiText<'a>,
     },
     /// `session K`.
     Resume {
@@ -84,7 +84,7 @@ pub enum Form<'a> {
     /// `start CLASS TEXT`, of kind statement; the text is empty where the line ends behind the class.
     Statement {
         class: Text<'a>,
-        text: StatementText<'a>,
+        text: AsciiText<'a>,
     },
     /// `start transaction rw` or `start transaction ro`.
     Transaction {

@@ -6,6 +6,9 @@ ghost use Rattle.pfs_rows.specs.Limits.{AreInRange};
 ghost use Rattle.pfs_classes.specs.Kinds.{Fits, is_fixed};
 ghost use Rattle.pfs_classes.specs.Registry.{is_given, registered, text_of};
 ghost use Rattle.pfs_classes.specs.Settings.{ComesFrom};
+ghost use Rattle.std.specs.List.{fold};
+ghost use Rattle.pfs_names.specs.Interning.{id_of, interned};
+ghost use Rattle.pfs_script.specs.SessionNames.{with_session, head_named};
 ghost use Rattle.pfs_script.specs.declared.forms.Form.{Form};
 ghost use Rattle.pfs_script.specs.Headings.{named_limit, named_consumer, set_consumer, naming_under, naming_in, with_class, with_flags_like, head_with, head_of, is_known, resolved, MayCome, StandsIn, IsAllowed, limited};
 
@@ -137,6 +140,54 @@ impl Heading {
             self.limits,
             self.consumers.0,
         )
+    }
+
+    /// Interns the users and hosts of these lines behind the names that are there, in their order. What
+    /// stands for a class stays.
+    pub fn name_sessions(&mut self, lines: &[Form]) -> Result<(), NoMemory>
+        ensures names { OnOk result (self.new ≡ head_named self.old (fold with_session self.old.names lines.now)) }
+        ensures same { OnOk result ((name : List ℕ) → resolved self.new name ≡ resolved self.old name) }
+    {
+        for line in lines {
+            self.name_session(line)?;
+        }
+        Ok(())
+    }
+
+    /// The id of a name; where it isn't there, that of the next one to come.
+    pub fn name_id(&self, name: &str) -> NameId
+        ensures { result ≡ id_of self.now.names name.now }
+    {
+        match self.names.find(name) {
+            Some(id) => id,
+            None => NameId(self.names.count()),
+        }
+    }
+
+    // Interns the user and the host of one line.
+    fn name_session(&mut self, line: &Form) -> Result<(), NoMemory>
+        ensures names { OnOk result (self.new ≡ head_named self.old (with_session self.old.names line.now)) }
+        ensures same { OnOk result ((name : List ℕ) → resolved self.new name ≡ resolved self.old name) }
+    {
+        match line {
+            Form::Connect { user, host, .. } => {
+                self.intern(user.as_str())?;
+                self.intern(host.as_str())
+            }
+            _ => Ok(()),
+        }
+    }
+
+    // Interns a name that needs stand for nothing.
+    fn intern(&mut self, text: &str) -> Result<(), NoMemory>
+        ensures names { OnOk result (self.new ≡ head_named self.old (interned self.old.names text.now)) }
+        ensures same { OnOk result ((name : List ℕ) → resolved self.new name ≡ resolved self.old name) }
+    {
+        more_names();
+        let Ok(_) = self.names.intern(text) else {
+            return Err(AllocError);
+        };
+        Ok(())
     }
 
     // The built-in names and classes under these limits.

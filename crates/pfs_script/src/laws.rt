@@ -4,10 +4,16 @@ ghost use Rattle.std.specs.Prelude.{◌≡◌, ◌++◌, ◌∷◌, [], List, �
 ghost use Rattle.std.specs.Str.{bytes_eq};
 ghost use Rattle.pfs_classes.specs.declared.classes.ClassRef.TheVariants as refs;
 ghost use Rattle.pfs_script.specs.declared.forms.Form.{Form};
-ghost use Rattle.pfs_script.specs.Headings.{is_known, resolved, head_of};
+ghost use Rattle.pfs_script.specs.Headings.{is_known, resolved, head_of, limits_of};
 ghost use Rattle.pfs_script.specs.Marks.{Mark, copies};
 ghost use Rattle.pfs_script.specs.Brackets.{open_in, closed_at, kinds_of, ended_by, opened_by, Follows};
 ghost use Rattle.pfs_script.specs.Scripts.{IsExact};
+ghost use Rattle.pfs_script.specs.Finds.{tables_of, digests_of};
+ghost use Rattle.pfs_script.specs.declared.blocks.Phase.{Phase};
+ghost use Rattle.pfs_script.specs.Events.{lines_for, events_for};
+ghost use Rattle.pfs_script.specs.EventRules.{AreEvents};
+ghost use Rattle.pfs_script.specs.SessionNames.{names_of};
+ghost use Rattle.pfs_script.specs.Appearances.{AreNamed, AreTables, AreDigests};
 
 /// A text is a script or has a first fault, and not both. It is at most one script, and has at most
 /// one first fault, with one reason.
@@ -45,4 +51,31 @@ pub fn repeats()
     ensures leave { (before body : List Mark) → Follows before body
         → kinds_of (open_in (before ++ body)) ≡ kinds_of (open_in before) → (times : ℕ)
         → kinds_of (open_in (before ++ copies times body)) ≡ kinds_of (open_in before) }
+{}
+
+/// The tables of lines are exactly those that a line names, none twice, in the order of their first
+/// appearance, and a line that names one is given its place.
+pub fn tables()
+    ensures { (lines : List Form) → AreTables lines (tables_of lines) }
+{}
+
+/// The digest texts of lines are those that their statements have, none twice, in the order of their
+/// first appearance, as many as the limit allows, each with its SHA-256. A statement is given the place
+/// of its text, and none exactly where its text isn't among them.
+pub fn digests()
+    ensures { (lines : List Form) → AreDigests lines (digests_of (limits_of lines).digests lines) }
+{}
+
+/// The names of lines are exactly those of their classes, which keep their ids, and behind them those of
+/// users and hosts, none twice, in the order of their first appearance. A session is given the ids of
+/// its own user and host.
+pub fn session_names()
+    ensures { (lines : List Form) → AreNamed lines (names_of lines) }
+{}
+
+/// The events of a session over all phases are the brackets of its lines. Each is of what its opening
+/// line says, closes behind that line, and lasts from the clock there to the clock where it closes. They
+/// come in the order of their openings, and lie before or inside one another.
+pub fn events()
+    ensures { (number : ℕ) (phases : List Phase) → AreEvents (lines_for number phases) (events_for number phases) }
 {}

@@ -65,17 +65,21 @@ fn read_script(alloc: Global, extent: Extent, bytes: &[u8]) -> Result<Script, Sc
         Ok(reading) => reading,
         Err(fault) => return Err(fault),
     };
-    let phases = match phases(
-        alloc,
-        &reading.heading,
-        &reading.finds,
-        reading.lines.as_slice(),
-    ) {
+    let Reading {
+        lines,
+        mut heading,
+        finds,
+    } = reading;
+    match heading.name_sessions(lines.as_slice()) {
+        Ok(()) => {}
+        Err(_) => return Err(ScriptFault::NoMemory),
+    }
+    let phases = match phases(alloc, &heading, &finds, lines.as_slice()) {
         Ok(phases) => phases,
         Err(_) => return Err(ScriptFault::NoMemory),
     };
-    let Finds { tables, digests } = reading.finds;
-    let setting = reading.heading.into_setting(tables, digests);
+    let Finds { tables, digests } = finds;
+    let setting = heading.into_setting(tables, digests);
     Ok(Script { setting, phases })
 }
 

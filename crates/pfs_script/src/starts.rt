@@ -7,7 +7,7 @@ ghost use Rattle.pfs_script.specs.Forms.{start_form, start_class, start_class_wi
 
 use crate::blocks::Access;
 use crate::forms::Form;
-use crate::texts::{StatementText, Text};
+use crate::texts::{AsciiText, Text};
 use crate::words::{is_table_name, is_text, split_table, split_word};
 use pfs_classes::Kind;
 
@@ -42,7 +42,7 @@ fn start_of_kind(class: &[u8], kind: Kind) -> Option<Form<'_>>
         }),
         Kind::Statement => Some(Form::Statement {
             class: Text::new(class),
-            text: StatementText::new(b""),
+            text: AsciiText::new(b""),
         }),
         Kind::TableIo | Kind::TableLock | Kind::Stage | Kind::Transaction => None,
     }
@@ -69,7 +69,7 @@ fn start_of_kind_with<'a>(class: &'a [u8], more: &'a [u8], kind: Kind) -> Option
         Kind::TableIo | Kind::TableLock => parse_table_wait(class, more),
         Kind::Statement => Some(Form::Statement {
             class: Text::new(class),
-            text: StatementText::new(more),
+            text: AsciiText::new(more),
         }),
         Kind::Mutex
         | Kind::Rwlock

@@ -2,6 +2,7 @@
 
 use super::*;
 use pfs_classes::{ClassId, ClassRef, Kind};
+use pfs_names::NameId;
 use std::alloc::Global;
 use std::process::Abort;
 use std::test::Fail;
@@ -497,5 +498,11 @@ fn a_script_is_its_setting_and_phases(rt: HostRuntime) {
     assert_eq!(rt; blocks[0].lines.as_slice(), first.as_slice());
     let second = [BlockLine::Wait(ClassRef::Lost(Kind::File))];
     assert_eq!(rt; blocks[1].session, 2);
+    // behind 24 built-in classes, `transaction` and the script's own
+    let names = Connect {
+        user: NameId(26),
+        host: NameId(27),
+    };
+    assert_eq!(rt; blocks[1].connect, Some(names));
     assert_eq!(rt; blocks[1].lines.as_slice(), second.as_slice());
 }

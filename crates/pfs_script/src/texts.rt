@@ -65,13 +65,13 @@ impl<'a> Debug for Text<'a> {
     }
 }
 
-/// A statement's text. A clause sees its bytes alone.
+/// Bytes of a line that are ASCII. A clause sees the bytes alone.
 #[derive(Drop)]
-pub struct StatementText<'a> {
+pub struct AsciiText<'a> {
     text: &'a str,
 }
 
-impl<'a> Model for StatementText<'a> {
+impl<'a> Model for AsciiText<'a> {
     ghost use Rattle.std.specs.Prelude.{List, ℕ};
 
     ghost Value = { List ℕ };
@@ -79,14 +79,14 @@ impl<'a> Model for StatementText<'a> {
     ghost view = { λ text. text.text.now };
 }
 
-impl<'a> StatementText<'a> {
+impl<'a> AsciiText<'a> {
     /// The text of these bytes, which a script may have, so that they are ASCII.
-    pub fn new(bytes: &'a [u8]) -> StatementText<'a>
+    pub fn new(bytes: &'a [u8]) -> AsciiText<'a>
         requires { list_all is_script_byte bytes.now ≡ true }
         ensures { result ≡ bytes.now }
     {
         match from_utf8(bytes) {
-            Ok(text) => StatementText { text },
+            Ok(text) => AsciiText { text },
             Err(_) => unreachable!(),
         }
     }
@@ -100,21 +100,21 @@ impl<'a> StatementText<'a> {
 }
 
 /// Texts are equal where their bytes are.
-impl<'a> PartialEq for StatementText<'a> {
+impl<'a> PartialEq for AsciiText<'a> {
     ghost eq = { λ a b. pointwise ◌==◌ a b };
 
     ghost laws = { partial_equiv_from_equiv nat_list_eq_equiv };
 
-    fn eq(&self, other: &StatementText<'a>) -> bool {
+    fn eq(&self, other: &AsciiText<'a>) -> bool {
         self.text.as_bytes() == other.text.as_bytes()
     }
 }
 
-impl<'a> Eq for StatementText<'a> {
+impl<'a> Eq for AsciiText<'a> {
     ghost laws = { nat_list_eq_equiv };
 }
 
-impl<'a> Debug for StatementText<'a> {
+impl<'a> Debug for AsciiText<'a> {
     fn fmt<W: fmt::Write>(&self, f: &mut Formatter<W>) -> fmt::Result {
         Debug::fmt(&self.text, f)
     }

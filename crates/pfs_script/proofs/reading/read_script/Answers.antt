@@ -1,15 +1,11 @@
 use Rattle.std.proofs.Common.{ℕ, ◌∙◌, List, Err, ap}
-use Rattle.pfs_classes.specs.declared.setting.Setting.{Setting}
-use Rattle.pfs_script.specs.declared.blocks.Phase.{Phase}
-use Rattle.pfs_script.specs.declared.forms.Form.{Form}
 use Rattle.pfs_script.specs.declared.reading.ScriptFault.{ScriptFault}
 use Rattle.pfs_script.specs.declared.reading.ScriptFault.TheVariants.{Bad, NoMemory}
 use Rattle.pfs_script.specs.declared.reasons.Extent.{Extent}
-use Rattle.pfs_script.specs.Headings.{Head, head_of}
-use Rattle.pfs_script.specs.Scripts.{IsScript, IsSetting}
+use Rattle.pfs_script.specs.Headings.{Head}
 use Rattle.pfs_script.specs.Readings.{Reads, Gives}
 use Rattle.pfs_script.proofs.Exactness.{found_text, found_first}
-use Rattle.pfs_script.proofs.Finding.{phases_as, few_found}
+use Rattle.pfs_script.proofs.Finding.{phases_as, few_named, names_as, setting_as}
 use Rattle.pfs_script.proofs.Wholly.{script_made, is_whole}
 use Rattle.pfs_script.proofs.reading.read_script.Goals as goal
 
@@ -18,44 +14,35 @@ fault_given extent text (Bad number reason) h = found_first extent text number r
 fault_given extent text NoMemory h = tt
 
 pub into_setting-setting-requires-clause-few_digests : goal.into_setting-setting-requires-clause-few_digests
-into_setting-setting-requires-clause-few_digests c = few_found c.in-Ok.reading.heading c.in-Ok.reading.finds c.in-Ok.reading.lines.items c.in-Ok.ensures.1 c.in-Ok.ensures.2
+into_setting-setting-requires-clause-few_digests c =
+    few_named c.in-Ok.reading.heading c.name_sessions.new.self c.in-Ok.reading.finds c.in-Ok.reading.lines.items _ c.in-Ok.ensures.1 c.in-Ok.ensures.2 c.in-Ok-name_sessions.ensures.names
 
 pub returns-in-Err : goal.returns-in-Err
 returns-in-Err c = fault_given c.args.extent c.args.bytes.now c.in-Err.fault c.in-Err.ensures
 
 pub invariant_of-result : goal.invariant_of-result
 invariant_of-result c =
-    let head = c.in-Ok.ensures.1 in
-    let finds = c.in-Ok.ensures.2 in
     let made = c.into_setting-setting.ensures in
     record {
       given = ∣ (
         c.args.bytes.now,
         is_whole c.args.extent c.args.bytes.now _ _ (script_made c.args.extent c.args.bytes.now c.in-Ok.reading.lines.items _ _ (found_text c.args.extent c.args.bytes.now c.in-Ok.reading.lines.items c.in-Ok.ensures.0)
-            (record {
-              names = made.names ∙ ap (λ (h : Head). h.names) head;
-              classes = made.classes ∙ ap (λ (h : Head). h.classes) head;
-              tables = made.tables ∙ finds.tables;
-              digests = made.digests ∙ finds.digests;
-              limits = made.limits ∙ ap (λ (h : Head). h.limits) head;
-              consumers = made.consumers ∙ ap (λ (h : Head). h.consumers) head;
-            })
-            (c.in-Ok-phases.ensures ∙ phases_as c.in-Ok.reading.heading c.in-Ok.reading.finds c.in-Ok.reading.lines.items _ head finds c.as_slice.ensures.value)),
+            (setting_as c.in-Ok.reading.heading c.name_sessions.new.self c.in-Ok.reading.finds c.in-Ok.reading.lines.items _ c.into_setting-setting.result c.in-Ok.ensures.1 c.in-Ok.ensures.2 c.in-Ok-name_sessions.ensures.names c.as_slice.ensures.value
+            made.names made.classes made.tables made.digests made.limits made.consumers)
+            (c.in-Ok-phases.ensures
+            ∙ phases_as c.in-Ok.reading.heading c.name_sessions.new.self c.in-Ok.reading.finds c.in-Ok.reading.lines.items _ c.in-Ok.ensures.1 c.in-Ok-name_sessions.ensures.same
+            (ap (λ (head : Head). head.names) c.in-Ok-name_sessions.ensures.names ∙ names_as c.in-Ok.reading.heading c.in-Ok.reading.lines.items _ c.in-Ok.ensures.1 c.as_slice.ensures.value)
+            c.in-Ok.ensures.2 c.as_slice-2.ensures.value)),
       ) ∣₁;
     }
 
 pub returns : goal.returns
 returns c =
-    let head = c.in-Ok.ensures.1 in
-    let finds = c.in-Ok.ensures.2 in
     let made = c.into_setting-setting.ensures in
     script_made c.args.extent c.args.bytes.now c.in-Ok.reading.lines.items _ _ (found_text c.args.extent c.args.bytes.now c.in-Ok.reading.lines.items c.in-Ok.ensures.0)
-    (record {
-      names = made.names ∙ ap (λ (h : Head). h.names) head;
-      classes = made.classes ∙ ap (λ (h : Head). h.classes) head;
-      tables = made.tables ∙ finds.tables;
-      digests = made.digests ∙ finds.digests;
-      limits = made.limits ∙ ap (λ (h : Head). h.limits) head;
-      consumers = made.consumers ∙ ap (λ (h : Head). h.consumers) head;
-    })
-    (c.in-Ok-phases.ensures ∙ phases_as c.in-Ok.reading.heading c.in-Ok.reading.finds c.in-Ok.reading.lines.items _ head finds c.as_slice.ensures.value)
+    (setting_as c.in-Ok.reading.heading c.name_sessions.new.self c.in-Ok.reading.finds c.in-Ok.reading.lines.items _ c.into_setting-setting.result c.in-Ok.ensures.1 c.in-Ok.ensures.2 c.in-Ok-name_sessions.ensures.names c.as_slice.ensures.value
+    made.names made.classes made.tables made.digests made.limits made.consumers)
+    (c.in-Ok-phases.ensures
+    ∙ phases_as c.in-Ok.reading.heading c.name_sessions.new.self c.in-Ok.reading.finds c.in-Ok.reading.lines.items _ c.in-Ok.ensures.1 c.in-Ok-name_sessions.ensures.same
+    (ap (λ (head : Head). head.names) c.in-Ok-name_sessions.ensures.names ∙ names_as c.in-Ok.reading.heading c.in-Ok.reading.lines.items _ c.in-Ok.ensures.1 c.as_slice.ensures.value)
+    c.in-Ok.ensures.2 c.as_slice-2.ensures.value)

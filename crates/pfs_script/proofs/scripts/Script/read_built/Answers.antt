@@ -1,8 +1,5 @@
-use Rattle.std.proofs.Common.{List, ℕ, Result, Ok, Err, length, sym, ap, subst}
+use Rattle.std.proofs.Common.{List, ℕ, Result, Ok, Err, length}
 use Rattle.std.specs.Prelude.{IfOk}
-use Rattle.pfs_classes.specs.declared.setting.Setting.{Setting}
-use Rattle.pfs_classes.specs.Registry.{Registry}
-use Rattle.pfs_script.specs.declared.blocks.Phase.{Phase}
 use Rattle.pfs_script.specs.declared.reading.ScriptFault.{ScriptFault}
 use Rattle.pfs_script.specs.declared.reasons.Extent.TheVariants.{Built}
 use Rattle.pfs_script.specs.declared.scripts.Script.{Script}

@@ -1,0 +1,5 @@
+use Rattle.pfs_script.proofs.SessionNaming.{are_named}
+use Rattle.pfs_script.proofs.laws.session_names.Goals as goal
+
+pub returns : goal.returns
+returns c = are_named
