@@ -19,14 +19,14 @@ use Rattle.pfs_journal.specs.Words.{is_word_byte, IsBehind, Fits, FitsField, Fit
 use Rattle.pfs_journal.proofs.WordsRead.{is_start, entry_says, fields_behind, clean_test, clean_told}
 
 -- no entry's line begins with a word of the lines with values and names, and a start's alone begins with its word
-record Apart (word : List ℕ) (starts : Bool) : Type 0 where
-  row : bytes_eq word (codes "row") ≡ false
-  table : bytes_eq word (codes "table") ≡ false
-  lost : bytes_eq word (codes "lost") ≡ false
-  start : bytes_eq word (codes "start") ≡ starts
-  clean : clean_test word ≡ true
+pub record Apart (word : List ℕ) (starts : Bool) : Type 0 where
+  pub row : bytes_eq word (codes "row") ≡ false
+  pub table : bytes_eq word (codes "table") ≡ false
+  pub lost : bytes_eq word (codes "lost") ≡ false
+  pub start : bytes_eq word (codes "start") ≡ starts
+  pub clean : clean_test word ≡ true
 
-apart : (e : Entry) → Apart (entry_word e) (is_start e)
+pub apart : (e : Entry) → Apart (entry_word e) (is_start e)
 apart (entry.Start event verdict a b c d) = record { row = refl; table = refl; lost = refl; start = refl; clean = refl }
 apart e = record { row = refl; table = refl; lost = refl; start = refl; clean = refl }
 

@@ -61,7 +61,7 @@ verdict_told LostLocker = refl
 verdict_told Aside = refl
 verdict_told Attributed = refl
 
-dash_no_numeral : ¬ IsNumeral 10 (codes "-")
+pub dash_no_numeral : ¬ IsNumeral 10 (codes "-")
 dash_no_numeral n = omega (arith, n.1.0)
 
 pub number_told : (word : List ℕ) (n : ℕ) (number : Option ℕ) → IsNumeral 10 word → n ≡ digits_value 10 word → FitsField number → word ≡ optional_word number → Some (Some n) ≡ Some number
