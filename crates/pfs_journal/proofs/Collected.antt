@@ -1,7 +1,7 @@
 -- The report of lines that run from its first place to its last.
-use Rattle.std.proofs.Common.{ℕ, zero, suc, ◌≡◌, ◌≢◌, ◌≤◌, Bool, true, false, List, [], ◌∷◌, ◌++◌, length, map, drop, Option, Some, None, append_assoc, append-nil, sym, ap, subst, ◌∙◌, refl, arith}
+use Rattle.std.proofs.Common.{ℕ, zero, suc, ◌≡◌, ◌≢◌, ◌≤◌, List, [], ◌∷◌, ◌++◌, length, map, Option, Some, None, append_assoc, sym, ap, subst, ◌∙◌, refl, arith}
 use Rattle.std.specs.Prelude.{if◌then◌else◌}
-use Rattle.std.specs.List.{All, flat_map, filter_map}
+use Rattle.std.specs.List.{All, flat_map}
 use Rattle.std.proofs.lemmas.List.Elements.{All-head, All-tail, All-nil, All-cons}
 use Rattle.pfs_event.specs.declared.entry.Entry.{Entry}
 use Rattle.pfs_event.specs.declared.entry.Entry.TheVariants as entry
@@ -15,7 +15,7 @@ use Rattle.pfs_journal.specs.declared.report.PhaseParts.{PhaseParts}
 use Rattle.pfs_journal.specs.declared.report.ReportParts.{ReportParts}
 use Rattle.pfs_journal.specs.Lines.{IsLine}
 use Rattle.pfs_journal.specs.Places.{Place, Start, Phases, Blocks, Journal, Results, Named, Rows, Counters, Ended, rows_due, step, run}
-use Rattle.pfs_journal.specs.ReportLines.{row_lines, answered_lines, journal_lines, block_lines, table_lines, phase_lines, report_lines}
+use Rattle.pfs_journal.specs.ReportLines.{row_lines, journal_lines, block_lines, table_lines, phase_lines, report_lines}
 use Rattle.pfs_journal.specs.Reports.{IsRow, IsName, IsTable, IsLost, IsBlock, IsPhase, IsReport, AreAnswered, rows_asked, sizes_of}
 use Rattle.pfs_journal.specs.Spelling.{is_answered}
 

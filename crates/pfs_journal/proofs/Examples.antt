@@ -8,7 +8,7 @@ use Rattle.pfs_event.specs.declared.entry.Entry.TheVariants as entry
 use Rattle.pfs_event.specs.declared.verdict.Verdict.TheVariants.{Attributed}
 use Rattle.pfs_values.specs.declared.RowValue.TheVariants as value
 use Rattle.pfs_journal.specs.Reports.{is_text_byte, IsText, AreAnswered}
-use Rattle.pfs_journal.specs.Spelling.{field_text, numbers_text, entry_text, value_text, row_text, is_answered, answered_text, journal_text, session_line, block_text, results_text, final_line, final_text, body_text, phase_line, phase_text, phases_text, first_line, spelling}
+use Rattle.pfs_journal.specs.Spelling.{field_text, numbers_text, entry_text, value_text, row_text, answered_text, journal_text, session_line, block_text, results_text, final_line, final_text, body_text, phase_line, phase_text, phases_text, first_line, spelling}
 
 -- a start, with a version that wasn't loaded
 start_line : entry_text (entry.Start (Some 1) Attributed (Some 0) (Some 12) (Some 0) None) ≡ codes "start 1 attributed 0 12 0 -\n"

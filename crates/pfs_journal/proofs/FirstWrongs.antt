@@ -1,8 +1,7 @@
 -- A reader of a report's lines stops at the first line with which no report begins.
-use Rattle.std.proofs.Common.{ℕ, zero, suc, ◌≡◌, ◌≢◌, ◌+◌, ◌-◌, ◌*◌, ◌^◌, ◌<◌, ◌≤◌, ◌⊎◌, inl, inr, min, Bool, true, false, eqb, List, [], ◌∷◌, ◌++◌, length, Option, Some, None, append_assoc, append-nil, length-append, sym, ap, subst, ◌∙◌, refl, arith}
-use Rattle.std.specs.Prelude.{not, ◌&&◌, codes, if◌then◌else◌}
+use Rattle.std.proofs.Common.{ℕ, zero, suc, ◌≡◌, ◌≢◌, ◌+◌, ◌-◌, ◌^◌, ◌<◌, ◌≤◌, Bool, true, false, eqb, List, [], ◌∷◌, ◌++◌, length, Option, Some, None, append_assoc, append-nil, length-append, sym, ap, subst, ◌∙◌, refl, arith}
+use Rattle.std.specs.Prelude.{not, ◌&&◌, if◌then◌else◌}
 use Rattle.std.specs.List.{All}
-use Rattle.std.proofs.lemmas.Bool.{false≢true, cases_lt}
 use Rattle.std.proofs.lemmas.Bool.Decides.{Decides-eqb}
 use Rattle.std.proofs.lemmas.List.Elements.{All-head, All-tail, All-nil, All-cons, All-append}
 use Rattle.pfs_event.specs.declared.entry.Entry.{Entry}
@@ -12,9 +11,9 @@ use Rattle.pfs_journal.specs.declared.line.Line.TheVariants as says
 use Rattle.pfs_journal.specs.declared.report.ReportParts.{ReportParts}
 use Rattle.pfs_journal.specs.FirstWrong.{whole_lines, first_lines, Begins, IsFirstWrong}
 use Rattle.pfs_journal.specs.Lines.{line_text, IsLine, IsGoodLine}
-use Rattle.pfs_journal.specs.Places.{Place, Start, Phases, Blocks, Journal, Results, Named, Rows, Counters, Ended, step, run, capped, Stops}
+use Rattle.pfs_journal.specs.Places.{Place, Start, Phases, Blocks, Journal, Results, Named, Rows, Counters, Ended, step, run, Stops}
 use Rattle.pfs_journal.specs.ReportLines.{report_lines, FitsReport}
-use Rattle.pfs_journal.specs.Reports.{IsRow, IsReport, IsValue}
+use Rattle.pfs_journal.specs.Reports.{IsReport, IsValue}
 use Rattle.pfs_journal.specs.Spelling.{spelling}
 use Rattle.pfs_journal.specs.Words.{FitsField, FitsValue, FitsLine, entry_word, line_word, line_rest}
 use Rattle.pfs_journal.proofs.Collected.{report_made}

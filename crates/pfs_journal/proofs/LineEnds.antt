@@ -1,7 +1,7 @@
 -- A line feed ends each line, and stands nowhere else in it.
-use Rattle.std.proofs.Common.{ℕ, suc, ◌≡◌, ◌≢◌, ◌+◌, ◌<◌, ◌≤◌, Bool, true, false, eqb, cond, List, [], ◌∷◌, ◌++◌, length, take, Option, Some, None, Result, Ok, Err, append_assoc, length-append, sym, ap, subst, ◌∙◌, refl, arith}
+use Rattle.std.proofs.Common.{ℕ, suc, ◌≡◌, ◌≢◌, ◌+◌, ◌≤◌, Bool, true, eqb, cond, List, [], ◌∷◌, ◌++◌, length, take, Some, Err, append_assoc, length-append, ap, ◌∙◌, refl, arith}
 use Rattle.std.specs.Prelude.{codes, not}
-use Rattle.std.specs.List.{All, flat_map, prefix_len}
+use Rattle.std.specs.List.{flat_map, prefix_len}
 use Rattle.pfs_event.specs.declared.entry.Entry.{Entry}
 use Rattle.pfs_event.specs.declared.entry.Entry.TheVariants as entry
 use Rattle.pfs_event.specs.Verdicts.{verdict_name}

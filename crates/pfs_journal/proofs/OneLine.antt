@@ -1,12 +1,11 @@
 -- A line's text says one thing alone.
-use Rattle.std.proofs.Common.{ℕ, ◌≡◌, ◌≢◌, ◌+◌, ◌<◌, ◌≤◌, ◌^◌, Bool, true, false, eqb, List, [], ◌∷◌, ◌++◌, length, take, drop, Option, Some, None, Result, Ok, Err, IfOk, append_assoc, append-nil, length-append, sym, ap, subst, ◌∙◌, refl, arith}
+use Rattle.std.proofs.Common.{ℕ, ◌≡◌, true, eqb, List, [], ◌∷◌, ◌++◌, length, drop, Option, Some, None, Ok, append_assoc, sym, ap, subst, ◌∙◌, refl}
 use Rattle.std.specs.Prelude.{codes, decimal, not}
-use Rattle.std.specs.List.{All, flat_map, prefix_len}
-use Rattle.std.specs.Str.{bytes_eq}
+use Rattle.std.specs.List.{All, flat_map}
 use Rattle.std.specs.Str.Parse.{IsNumeral, digits_value}
 use Rattle.std.proofs.lemmas.Fmt.{decimal_is_IsNumeral}
 use Rattle.std.proofs.lemmas.List.Elements.{All-head, All-tail, All-nil, All-cons}
-use Rattle.pfs_text.specs.Quotes.{doubled, quoted}
+use Rattle.pfs_text.specs.Quotes.{quoted}
 use Rattle.pfs_text.proofs.QuoteLaws.{quotes_are_exact}
 use Rattle.pfs_event.specs.declared.entry.Entry.{Entry}
 use Rattle.pfs_event.specs.declared.entry.Entry.TheVariants as entry
@@ -17,11 +16,11 @@ use Rattle.pfs_values.specs.declared.RowValue.TheVariants as value
 use Rattle.pfs_journal.specs.declared.line.Line.{Line}
 use Rattle.pfs_journal.specs.declared.line.Line.TheVariants as says
 use Rattle.pfs_journal.specs.declared.values.LostReport.{LostReport}
-use Rattle.pfs_journal.specs.Lines.{line_text, IsLine, IsGoodLine}
+use Rattle.pfs_journal.specs.Lines.{line_text, IsGoodLine}
 use Rattle.pfs_journal.specs.Reports.{IsName}
 use Rattle.pfs_journal.specs.Spelling.{field_text, optional_text, value_text}
-use Rattle.pfs_journal.specs.Words.{front_word, behind_word, IsBehind, Leads, Fits, FitsField, FitsValue, FitsLine, optional_word, verdict_of, entry_word, entry_numbers, entry_rest, line_word, line_numbers, line_rest, plain_says}
-use Rattle.pfs_journal.proofs.WordsRead.{word_front, is_start, entry_says, dash_no_numeral, field_leads, field_some, fields_behind, name_leads, verdict_told, verdict_leads, clean_told, number_clean}
+use Rattle.pfs_journal.specs.Words.{front_word, behind_word, IsBehind, Leads, Fits, FitsField, FitsValue, optional_word, verdict_of, entry_word, entry_numbers, entry_rest, line_word, line_rest, plain_says}
+use Rattle.pfs_journal.proofs.WordsRead.{word_front, entry_says, dash_no_numeral, field_leads, field_some, fields_behind, name_leads, verdict_told, verdict_leads, clean_told, number_clean}
 use Rattle.pfs_journal.proofs.ValuesRead.{behind_plain, plain_only, text_rest, null_no_number, value_some}
 use Rattle.pfs_journal.proofs.GuessTold.{IsPlain, apart, row_told, table_told, lost_told, start_told, plain_told, line_clean}
 use Rattle.pfs_journal.proofs.LastLines.{no_feed, parts_true}

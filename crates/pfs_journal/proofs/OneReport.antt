@@ -1,5 +1,5 @@
 -- A report is told from its spelling.
-use Rattle.std.proofs.Common.{ℕ, ◌≡◌, ◌≢◌, Bool, true, false, List, [], ◌∷◌, ◌++◌, length, map, append_assoc, append-nil, sym, ap, subst, ◌∙◌, refl, arith}
+use Rattle.std.proofs.Common.{◌≡◌, List, [], ◌∷◌, ◌++◌, map, append_assoc, sym, ap, ◌∙◌, refl}
 use Rattle.std.specs.List.{All, flat_map, filter_map}
 use Rattle.std.proofs.lemmas.List.Elements.{All-head, All-tail}
 use Rattle.pfs_event.specs.declared.entry.Entry.{Entry}
@@ -12,6 +12,7 @@ use Rattle.pfs_journal.specs.declared.values.LostReport.{LostReport}
 use Rattle.pfs_journal.specs.declared.blocks.BlockReport.{BlockReport}
 use Rattle.pfs_journal.specs.declared.report.PhaseParts.{PhaseParts}
 use Rattle.pfs_journal.specs.declared.report.ReportParts.{ReportParts}
+use Rattle.pfs_journal.specs.OneSpelling.{IsReadAgain}
 use Rattle.pfs_journal.specs.ReportLines.{row_lines, journal_lines, block_lines, table_lines, phase_lines, report_lines, FitsReport}
 use Rattle.pfs_journal.specs.Reports.{IsBlock, IsPhase, IsReport, AreAnswered, rows_asked, sizes_of}
 use Rattle.pfs_journal.specs.Spelling.{spelling}
@@ -87,8 +88,14 @@ report_back : (report : ReportParts) → IsReport report → report_of (collect 
 report_back report good = ap (λ (p : Parts). report_of (add (says.Head report.format) p)) (phases_back report.phases good.phases)
 
 -- no two reports are spelled alike
-pub one_report : (a b : ReportParts) → IsReport a → IsReport b → FitsReport a → FitsReport b → spelling a ≡ spelling b → a ≡ b
+one_report : (a b : ReportParts) → IsReport a → IsReport b → FitsReport a → FitsReport b → spelling a ≡ spelling b → a ≡ b
 one_report a b good_a good_b fits_a fits_b e =
     sym (report_back a good_a)
     ∙ (ap (λ (ls : List Line). report_of (collect ls)) (same_lines a b good_a good_b fits_a fits_b (sym (spelled a) ∙ (e ∙ spelled b)))
     ∙ report_back b good_b)
+
+pub read_again : (report : ReportParts) → IsReport report → FitsReport report → IsReadAgain report
+read_again report good fits = record {
+  taken = λ at wrong. wrong.no_report report good fits refl;
+  same = λ other good_other fits_other e. one_report other report good_other good fits_other fits e;
+}

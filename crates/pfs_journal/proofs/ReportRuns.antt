@@ -1,5 +1,5 @@
 -- A report's lines run from the first place to the last, and spell it.
-use Rattle.std.proofs.Common.{ℕ, zero, suc, ◌≡◌, ◌≢◌, ◌≤◌, Bool, true, false, List, [], ◌∷◌, ◌++◌, length, map, drop, Option, Some, None, append_assoc, append-nil, sym, ap, subst, ◌∙◌, refl, arith}
+use Rattle.std.proofs.Common.{ℕ, ◌≡◌, ◌≢◌, Bool, true, false, List, [], ◌∷◌, ◌++◌, length, map, drop, Some, append_assoc, sym, ap, subst, ◌∙◌, refl}
 use Rattle.std.specs.Prelude.{codes, if◌then◌else◌}
 use Rattle.std.specs.List.{All, flat_map, filter_map, slice_index_or}
 use Rattle.std.proofs.lemmas.List.Concat.{flat_map-append}
@@ -15,7 +15,7 @@ use Rattle.pfs_journal.specs.declared.blocks.BlockReport.{BlockReport}
 use Rattle.pfs_journal.specs.declared.report.PhaseParts.{PhaseParts}
 use Rattle.pfs_journal.specs.declared.report.ReportParts.{ReportParts}
 use Rattle.pfs_journal.specs.Lines.{line_text, IsLine}
-use Rattle.pfs_journal.specs.Places.{Place, Start, Phases, Blocks, Journal, Results, Named, Rows, Counters, Ended, rows_due, step, run}
+use Rattle.pfs_journal.specs.Places.{Place, Start, Phases, Blocks, Journal, Results, Named, Rows, Counters, Ended, run}
 use Rattle.pfs_journal.specs.ReportLines.{row_lines, answered_lines, journal_lines, block_lines, table_lines, phase_lines, report_lines}
 use Rattle.pfs_journal.specs.Reports.{IsRow, IsTable, IsLost, IsBlock, IsPhase, IsReport, AreAnswered, rows_asked, sizes_of}
 use Rattle.pfs_journal.proofs.Collected.{phase_group}

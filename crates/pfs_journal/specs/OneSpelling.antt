@@ -2,6 +2,7 @@
 use Rattle.std.specs.Prelude.{ℕ, ◌≡◌, List, [], ◌++◌}
 use Rattle.std.specs.List.{flat_map}
 use Rattle.pfs_journal.specs.declared.report.ReportParts.{ReportParts}
+use Rattle.pfs_journal.specs.FirstWrong.{IsFirstWrong}
 use Rattle.pfs_journal.specs.Lines.{line_text}
 use Rattle.pfs_journal.specs.ReportLines.{FitsReport, report_lines}
 use Rattle.pfs_journal.specs.Reports.{IsReport}
@@ -12,10 +13,14 @@ abbrev pub NoSpellingIsAFront : Type 0
 NoSpellingIsAFront = (a b : ReportParts) (more : List ℕ) → IsReport a → IsReport b → spelling b ≡ spelling a ++ more
     → more ≡ []
 
--- no two reports are spelled alike
-abbrev pub NoTwoSpelledAlike : Type 0
-NoTwoSpelledAlike = (a b : ReportParts) → IsReport a → IsReport b → FitsReport a → FitsReport b
-    → spelling a ≡ spelling b → a ≡ b
+-- what is written of a report is wrong at no line, and no other report is spelled so
+pub record IsReadAgain (report : ReportParts) : Type 0 where
+  pub taken : (at : ℕ) → ¬ IsFirstWrong (spelling report) at
+  pub same : (other : ReportParts) → IsReport other → FitsReport other → spelling other ≡ spelling report
+      → other ≡ report
+
+abbrev pub WrittenIsRead : Type 0
+WrittenIsRead = (report : ReportParts) → IsReport report → FitsReport report → IsReadAgain report
 
 -- a report is spelled by its lines
 abbrev pub SpelledByLines : Type 0

@@ -90,7 +90,8 @@ run (Some place) (line ∷ lines) = run (step place line) lines
 abbrev pub capped : ℕ → ℕ
 capped number = min number (2 ^ 64 - 1)
 
--- where a reader stands here, these bytes are left and their first line has this number, the line `at` is the first wrong one
+-- where a reader stands here, these bytes are left and their first line has this number, the line `at` is the first
+-- wrong one
 pub record Stops (place : Place) (rest : List ℕ) (number at : ℕ) : Type 0 where
   pub lines : List Line
   pub good : All IsGoodLine lines

@@ -1,5 +1,5 @@
 -- A report as its lines.
-use Rattle.std.specs.Prelude.{ℕ, if◌then◌else◌, List, [], ◌∷◌, ◌++◌, map, drop}
+use Rattle.std.specs.Prelude.{if◌then◌else◌, List, [], ◌∷◌, ◌++◌, map, drop}
 use Rattle.std.specs.List.{All, flat_map, slice_index_or}
 use Rattle.pfs_event.specs.declared.entry.Entry.{Entry}
 use Rattle.pfs_values.specs.declared.RowValue.{RowValue}

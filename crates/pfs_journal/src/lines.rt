@@ -86,7 +86,8 @@ pub fn numbers_line(
 
 /// What a start's line begins with: its word, number and verdict.
 fn begin_start(line: &mut Vec<u8>, event: Option<u64>, verdict: Verdict) -> Result<(), NoMemory>
-    ensures text { OnOk result (line.new.items ≡ codes "start" ++ optional_text event ++ codes " " ++ verdict_name verdict) }
+    ensures text { OnOk result (line.new.items ≡ codes "start" ++ optional_text event
+        ++ codes " " ++ verdict_name verdict) }
     ensures fits { OnOk result (FitsField event) }
 {
     begin(line, b"start")?;

@@ -45,7 +45,8 @@ fn read_rows(alloc: Global, lines: &mut Lines<'_>, first: Line) -> Result<(Rowse
     ensures read { IfOk result
         (λ x. IsRead (flat_map row_text x.0) (All IsRow x.0) first lines.old.rest.now x.1 lines.new.rest.now) }
     ensures leads { IfOk result (λ x. x.0 ≢ []
-        → Leads (step Named first) lines.old.rest.now lines.old.taken (step Results x.1) lines.new.rest.now lines.new.taken) }
+        → Leads (step Named first) lines.old.rest.now lines.old.taken (step Results x.1)
+        lines.new.rest.now lines.new.taken) }
     ensures none { IfOk result (λ x. x.0 ≡ []
         → StopsAfter (step Named first) lines.old.rest.now lines.old.taken lines.new.taken) }
     ensures stops { IfBad result (λ at. StopsAfter (step Named first) lines.old.rest.now lines.old.taken at) }
@@ -174,9 +175,10 @@ fn read_answer(
     ensures read { IfOk result
         (λ x. IsRead (flat_map row_text x.0) (All IsRow x.0) first lines.old.rest.now x.1 lines.new.rest.now) }
     ensures size { IfOk result (λ x. length x.0 ≡ number) }
-    ensures leads { IfOk result (λ x. Leads (step (Journal number) first) lines.old.rest.now lines.old.taken (step (Journal 0) x.1)
-        lines.new.rest.now lines.new.taken) }
-    ensures stops { IfBad result (λ at. StopsAfter (step (Journal number) first) lines.old.rest.now lines.old.taken at) }
+    ensures leads { IfOk result (λ x. Leads (step (Journal number) first)
+        lines.old.rest.now lines.old.taken (step (Journal 0) x.1) lines.new.rest.now lines.new.taken) }
+    ensures stops { IfBad result (λ at. StopsAfter (step (Journal number) first)
+        lines.old.rest.now lines.old.taken at) }
 {
     let mut rows = Vec::new(alloc);
     let mut line = first;
@@ -199,9 +201,10 @@ fn take_answer(
     requires { IsLine first }
     ensures grows { IfOk result (λ line. AnswerGrows number answers.old.items answers.new.items first lines.old.rest.now
         line lines.new.rest.now) }
-    ensures leads { IfOk result (λ line. Leads (step (Journal number) first) lines.old.rest.now lines.old.taken (step (Journal 0) line)
-        lines.new.rest.now lines.new.taken) }
-    ensures stops { IfBad result (λ at. StopsAfter (step (Journal number) first) lines.old.rest.now lines.old.taken at) }
+    ensures leads { IfOk result (λ line. Leads (step (Journal number) first)
+        lines.old.rest.now lines.old.taken (step (Journal 0) line) lines.new.rest.now lines.new.taken) }
+    ensures stops { IfBad result (λ at. StopsAfter (step (Journal number) first)
+        lines.old.rest.now lines.old.taken at) }
 {
     let (rows, line) = read_answer(alloc, lines, number, first)?;
     push(answers, rows)?;
@@ -217,11 +220,12 @@ fn take_answer_if(
     first: Line,
 ) -> Result<Line, ReadStop>
     requires { IsLine first }
-    ensures grows { IfOk result (λ line. AnswersGrow asked answers.old.items answers.new.items first lines.old.rest.now line
-        lines.new.rest.now) }
-    ensures leads { IfOk result (λ line. Leads (step (Journal (rows_due asked)) first) lines.old.rest.now lines.old.taken (step (Journal 0) line)
-        lines.new.rest.now lines.new.taken) }
-    ensures stops { IfBad result (λ at. StopsAfter (step (Journal (rows_due asked)) first) lines.old.rest.now lines.old.taken at) }
+    ensures grows { IfOk result (λ line. AnswersGrow asked answers.old.items answers.new.items first
+        lines.old.rest.now line lines.new.rest.now) }
+    ensures leads { IfOk result (λ line. Leads (step (Journal (rows_due asked)) first)
+        lines.old.rest.now lines.old.taken (step (Journal 0) line) lines.new.rest.now lines.new.taken) }
+    ensures stops { IfBad result (λ at. StopsAfter (step (Journal (rows_due asked)) first)
+        lines.old.rest.now lines.old.taken at) }
 {
     match asked {
         Some(number) => take_answer(alloc, lines, answers, number, first),
@@ -239,9 +243,10 @@ fn take_entry(
     ensures grows { IfOk result
         (λ line. JournalGrows entry entries.old.items entries.new.items answers.old.items answers.new.items
         lines.old.rest.now line lines.new.rest.now) }
-    ensures leads { IfOk result (λ line. Leads (Some (Journal (rows_due (rows_asked entry)))) lines.old.rest.now lines.old.taken (step (Journal 0) line)
-        lines.new.rest.now lines.new.taken) }
-    ensures stops { IfBad result (λ at. StopsAfter (Some (Journal (rows_due (rows_asked entry)))) lines.old.rest.now lines.old.taken at) }
+    ensures leads { IfOk result (λ line. Leads (Some (Journal (rows_due (rows_asked entry))))
+        lines.old.rest.now lines.old.taken (step (Journal 0) line) lines.new.rest.now lines.new.taken) }
+    ensures stops { IfBad result (λ at. StopsAfter (Some (Journal (rows_due (rows_asked entry))))
+        lines.old.rest.now lines.old.taken at) }
 {
     push(entries, entry)?;
     let first = next(alloc, lines)?;
@@ -256,8 +261,8 @@ pub fn read_journal(
 ) -> Result<(EntryList, AnswerList, Line), ReadStop>
     requires { IsLine first }
     ensures read { IfOk result (λ x. IsJournalRead x.0 x.1 first lines.old.rest.now x.2 lines.new.rest.now) }
-    ensures leads { IfOk result (λ x. Leads (step (Journal 0) first) lines.old.rest.now lines.old.taken (step Blocks x.2)
-        lines.new.rest.now lines.new.taken) }
+    ensures leads { IfOk result (λ x. Leads (step (Journal 0) first)
+        lines.old.rest.now lines.old.taken (step Blocks x.2) lines.new.rest.now lines.new.taken) }
     ensures stops { IfBad result (λ at. StopsAfter (step (Journal 0) first) lines.old.rest.now lines.old.taken at) }
 {
     let mut entries = Vec::new(alloc);

@@ -47,8 +47,8 @@ fn take_block(
     blocks: &mut Vec<BlockReport>,
     session: u64,
 ) -> Result<Line, ReadStop>
-    ensures grows { IfOk result (λ line. Grows block_text IsBlock blocks.old.items blocks.new.items (says.Session session)
-        lines.old.rest.now line lines.new.rest.now) }
+    ensures grows { IfOk result (λ line. Grows block_text IsBlock blocks.old.items
+        blocks.new.items (says.Session session) lines.old.rest.now line lines.new.rest.now) }
     ensures leads { IfOk result (λ line. Leads (Some (Journal 0)) lines.old.rest.now lines.old.taken (step Blocks line)
         lines.new.rest.now lines.new.taken) }
     ensures stops { IfBad result (λ at. StopsAfter (Some (Journal 0)) lines.old.rest.now lines.old.taken at) }

@@ -1,8 +1,7 @@
-use Rattle.std.proofs.Common.{ℕ, suc, List, None, refl, ◌≡◌, ◌-◌, ◌+◌, length, length-append, sym, ap, subst, ◌∙◌, arith}
-use Rattle.pfs_values.specs.declared.RowValue.{RowValue}
+use Rattle.std.proofs.Common.{ℕ, suc, None, refl, ◌≡◌, ◌-◌, ◌+◌, sym, ap, subst, arith}
 use Rattle.pfs_journal.specs.declared.line.Line.{Line}
-use Rattle.pfs_journal.specs.Places.{Place, Journal, step, StopsAfter}
-use Rattle.pfs_journal.specs.Readings.{IsRead, Grows}
+use Rattle.pfs_journal.specs.Places.{Journal, step}
+use Rattle.pfs_journal.specs.Readings.{Grows}
 use Rattle.pfs_journal.specs.Reports.{IsRow}
 use Rattle.pfs_journal.specs.Spelling.{row_text}
 use Rattle.pfs_journal.proofs.PartsRead.{read_more}

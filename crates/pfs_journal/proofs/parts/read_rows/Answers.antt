@@ -1,8 +1,8 @@
-use Rattle.std.proofs.Common.{List, None, refl, ◌≡◌, ◌≢◌, sym, ap, subst, ◌∙◌}
+use Rattle.std.proofs.Common.{List, None, refl, ◌≡◌, sym, ap, subst, ◌∙◌}
 use Rattle.std.specs.List.{All, flat_map}
 use Rattle.pfs_values.specs.declared.RowValue.{RowValue}
 use Rattle.pfs_journal.specs.declared.line.Line.{Line}
-use Rattle.pfs_journal.specs.Places.{Place, Named, Results, Rows, step, StopsAfter}
+use Rattle.pfs_journal.specs.Places.{Place, Named, Results, Rows, step}
 use Rattle.pfs_journal.specs.Readings.{IsRead, Grows}
 use Rattle.pfs_journal.specs.Reports.{IsRow}
 use Rattle.pfs_journal.specs.Spelling.{row_text}

@@ -1,8 +1,6 @@
 use Rattle.pfs_journal.proofs.PartsRead.{table_read}
-use Rattle.std.proofs.Common.{sym, ◌∙◌}
 use Rattle.pfs_journal.specs.Places.{Named}
-use Rattle.pfs_journal.proofs.PartsRead.{not_empty, is_empty}
-use Rattle.pfs_journal.proofs.Stopping.{passed, bad_at}
+use Rattle.pfs_journal.proofs.Stopping.{passed}
 use Rattle.pfs_journal.proofs.parts.read_table.Goals as goal
 
 pub returns-clause-read : goal.returns-clause-read

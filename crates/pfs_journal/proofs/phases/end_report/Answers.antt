@@ -1,6 +1,5 @@
 use Rattle.std.proofs.Common.{◌+◌, sym, ◌∙◌, refl}
-use Rattle.pfs_journal.specs.Places.{Ended, StopsAfter, capped}
-use Rattle.pfs_journal.specs.Places.{Place}
+use Rattle.pfs_journal.specs.Places.{capped}
 use Rattle.pfs_journal.proofs.PartsRead.{not_empty}
 use Rattle.pfs_journal.proofs.Stopping.{bad_at, ended_stops}
 use Rattle.pfs_journal.proofs.phases.end_report.Goals as goal

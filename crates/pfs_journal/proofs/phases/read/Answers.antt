@@ -1,6 +1,6 @@
 use Rattle.std.proofs.Common.{None, refl, sym, subst}
 use Rattle.pfs_journal.specs.declared.line.Line.{Line}
-use Rattle.pfs_journal.specs.Places.{Place, Start, Phases, step, StopsAfter}
+use Rattle.pfs_journal.specs.Places.{Start, step, StopsAfter}
 use Rattle.pfs_journal.proofs.FirstWrongs.{first_wrong}
 use Rattle.pfs_journal.proofs.Stopping.{passed, bad_at, bad_of, along, start_wrong}
 use Rattle.pfs_journal.proofs.phases.read.Goals as goal

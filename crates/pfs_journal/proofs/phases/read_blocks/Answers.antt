@@ -7,7 +7,7 @@ use Rattle.pfs_journal.specs.Readings.{IsRead, Grows}
 use Rattle.pfs_journal.specs.Reports.{IsBlock}
 use Rattle.pfs_journal.specs.Spelling.{block_text}
 use Rattle.pfs_journal.proofs.PartsRead.{read_more}
-use Rattle.pfs_journal.proofs.Stopping.{passed, along, never}
+use Rattle.pfs_journal.proofs.Stopping.{passed}
 use Rattle.pfs_journal.proofs.phases.read_blocks.Goals as goal
 
 pub each_block-preserved : goal.each_block-preserved

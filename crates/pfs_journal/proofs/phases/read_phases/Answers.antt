@@ -7,7 +7,7 @@ use Rattle.pfs_journal.specs.Readings.{IsRead, Grows}
 use Rattle.pfs_journal.specs.Reports.{IsPhase}
 use Rattle.pfs_journal.specs.Spelling.{phase_text}
 use Rattle.pfs_journal.proofs.PartsRead.{read_more}
-use Rattle.pfs_journal.proofs.Stopping.{passed, along, never}
+use Rattle.pfs_journal.proofs.Stopping.{passed}
 use Rattle.pfs_journal.proofs.phases.read_phases.Goals as goal
 
 pub each_phase-preserved : goal.each_phase-preserved
