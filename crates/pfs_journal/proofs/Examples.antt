@@ -7,8 +7,9 @@ use Rattle.std.proofs.lemmas.List.Elements.{All-head}
 use Rattle.pfs_event.specs.declared.entry.Entry.TheVariants as entry
 use Rattle.pfs_event.specs.declared.verdict.Verdict.TheVariants.{Attributed}
 use Rattle.pfs_values.specs.declared.RowValue.TheVariants as value
+use Rattle.pfs_journal.specs.FirstWrong.{whole_lines, first_lines}
 use Rattle.pfs_journal.specs.Reports.{is_text_byte, IsText, AreAnswered}
-use Rattle.pfs_journal.specs.Spelling.{field_text, numbers_text, entry_text, value_text, row_text, is_answered, answered_text, journal_text, session_line, block_text, results_text, final_line, final_text, body_text, phase_line, phase_text, phases_text, first_line, spelling}
+use Rattle.pfs_journal.specs.Spelling.{field_text, numbers_text, entry_text, value_text, row_text, answered_text, journal_text, session_line, block_text, results_text, final_line, final_text, body_text, phase_line, phase_text, phases_text, first_line, spelling}
 
 -- a start, with a version that wasn't loaded
 start_line : entry_text (entry.Start (Some 1) Attributed (Some 0) (Some 12) (Some 0) None) ≡ codes "start 1 attributed 0 12 0 -\n"
@@ -36,3 +37,10 @@ rows_too_few same = omega (arith, same_head 2 3 same)
 -- the byte 127 is in no text
 no_delete : ¬ IsText (127 ∷ [])
 no_delete all = false≢true (All-head (λ b. is_text_byte b ≡ true) 127 [] all)
+
+-- a last line without its end isn't whole
+one_whole : whole_lines (codes "pfs-report 1\nend") ≡ 1
+one_whole = refl
+
+whole_front : first_lines 1 (codes "pfs-report 1\nend") ≡ codes "pfs-report 1\n"
+whole_front = refl

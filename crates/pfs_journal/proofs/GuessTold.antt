@@ -1,10 +1,10 @@
 -- What a line says is told from its word and what stands behind it.
-use Rattle.std.proofs.Common.{ℕ, ◌≡◌, ◌≤◌, Bool, true, false, List, [], ◌∷◌, ◌++◌, length, Option, Some, None, Result, Ok, Err, IfOk, append_assoc, append-nil, sym, ap, subst, ◌∙◌, refl, arith}
+use Rattle.std.proofs.Common.{ℕ, ◌≡◌, ◌≤◌, Bool, true, false, List, [], ◌∷◌, length, Option, Some, Result, IfOk, sym, ap, ◌∙◌, refl, arith}
 use Rattle.std.specs.Prelude.{codes}
 use Rattle.std.specs.List.{All, flat_map}
 use Rattle.std.specs.Str.{bytes_eq}
 use Rattle.std.proofs.lemmas.Bool.{false≢true}
-use Rattle.std.proofs.lemmas.List.Elements.{All-head, All-tail}
+use Rattle.std.proofs.lemmas.List.Elements.{All-head}
 use Rattle.pfs_event.specs.declared.entry.Entry.{Entry}
 use Rattle.pfs_event.specs.declared.entry.Entry.TheVariants as entry
 use Rattle.pfs_event.specs.declared.verdict.Verdict.{Verdict}
@@ -15,18 +15,18 @@ use Rattle.pfs_journal.specs.declared.values.LostReport.{LostReport}
 use Rattle.pfs_journal.specs.Lines.{IsLine}
 use Rattle.pfs_journal.specs.Reports.{IsName}
 use Rattle.pfs_journal.specs.Spelling.{optional_text, value_text}
-use Rattle.pfs_journal.specs.Words.{is_word_byte, IsBehind, Fits, FitsField, FitsValue, FitsLine, entry_word, entry_numbers, entry_rest, line_word, line_numbers, line_rest, plain_says}
-use Rattle.pfs_journal.proofs.WordsRead.{is_start, entry_says, fields_behind, clean_test, clean_told}
+use Rattle.pfs_journal.specs.Words.{is_word_byte, Fits, FitsField, FitsValue, FitsLine, entry_word, entry_numbers, entry_rest, line_word, line_rest, plain_says}
+use Rattle.pfs_journal.proofs.WordsRead.{is_start, entry_says, clean_test, clean_told}
 
 -- no entry's line begins with a word of the lines with values and names, and a start's alone begins with its word
-record Apart (word : List ℕ) (starts : Bool) : Type 0 where
-  row : bytes_eq word (codes "row") ≡ false
-  table : bytes_eq word (codes "table") ≡ false
-  lost : bytes_eq word (codes "lost") ≡ false
-  start : bytes_eq word (codes "start") ≡ starts
-  clean : clean_test word ≡ true
+pub record Apart (word : List ℕ) (starts : Bool) : Type 0 where
+  pub row : bytes_eq word (codes "row") ≡ false
+  pub table : bytes_eq word (codes "table") ≡ false
+  pub lost : bytes_eq word (codes "lost") ≡ false
+  pub start : bytes_eq word (codes "start") ≡ starts
+  pub clean : clean_test word ≡ true
 
-apart : (e : Entry) → Apart (entry_word e) (is_start e)
+pub apart : (e : Entry) → Apart (entry_word e) (is_start e)
 apart (entry.Start event verdict a b c d) = record { row = refl; table = refl; lost = refl; start = refl; clean = refl }
 apart e = record { row = refl; table = refl; lost = refl; start = refl; clean = refl }
 

@@ -1,5 +1,5 @@
 -- The line `end` stands last in a report and nowhere else, so what stands behind it can be told.
-use Rattle.std.proofs.Common.{ℕ, zero, suc, ◌≡◌, ◌+◌, ◌/◌, ◌%◌, ◌<◌, Bool, true, false, eqb, List, [], ◌∷◌, ◌++◌, length, take, drop, get_or, Option, Some, None, append_assoc, append-nil, sym, ap, subst, ◌∙◌, refl, arith}
+use Rattle.std.proofs.Common.{ℕ, zero, suc, ◌≡◌, ◌+◌, ◌/◌, ◌%◌, ◌<◌, Bool, true, false, eqb, List, [], ◌∷◌, ◌++◌, drop, Option, Some, None, append_assoc, append-nil, sym, ap, ◌∙◌, refl, arith}
 use Rattle.std.specs.Prelude.{codes, not, ◌&&◌, if◌then◌else◌, decimal, nat_lt}
 use Rattle.std.specs.Fmt.{digits, digits_onto, digit_glyph}
 use Rattle.std.specs.List.{All, flat_map, slice_index_or}

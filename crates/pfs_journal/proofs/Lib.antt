@@ -1,5 +1,7 @@
 mod Answered
+mod Collected
 mod Examples
+mod FirstWrongs
 mod GuessTold
 mod ItemsRead
 mod Journals
@@ -7,8 +9,12 @@ mod JournalsRead
 mod LastLines
 mod LineEnds
 mod LinesRead
+mod OneLine
+mod OneReport
 mod PartsRead
 mod PhasesRead
+mod ReportRuns
+mod Stopping
 mod Streams
 mod ValuesRead
 mod WordsRead

@@ -1,7 +1,7 @@
 -- A line feed ends each line, and stands nowhere else in it.
-use Rattle.std.proofs.Common.{ℕ, suc, ◌≡◌, ◌≢◌, ◌+◌, ◌<◌, ◌≤◌, Bool, true, false, eqb, cond, List, [], ◌∷◌, ◌++◌, length, take, Option, Some, None, Result, Ok, Err, append_assoc, length-append, sym, ap, subst, ◌∙◌, refl, arith}
+use Rattle.std.proofs.Common.{ℕ, suc, ◌≡◌, ◌≢◌, ◌+◌, ◌≤◌, Bool, true, eqb, cond, List, [], ◌∷◌, ◌++◌, length, take, Some, Err, append_assoc, length-append, ap, ◌∙◌, refl, arith}
 use Rattle.std.specs.Prelude.{codes, not}
-use Rattle.std.specs.List.{All, flat_map, prefix_len}
+use Rattle.std.specs.List.{flat_map, prefix_len}
 use Rattle.pfs_event.specs.declared.entry.Entry.{Entry}
 use Rattle.pfs_event.specs.declared.entry.Entry.TheVariants as entry
 use Rattle.pfs_event.specs.Verdicts.{verdict_name}
@@ -25,19 +25,20 @@ entry_clean (entry.Start event verdict a b c d) =
     (clean_append (codes " " ++ verdict_name verdict) (flat_map optional_text (a ∷ b ∷ c ∷ d ∷ [])) (clean_append (codes " ") (verdict_name verdict) refl (verdict_clean verdict)) (numbers_clean (a ∷ b ∷ c ∷ d ∷ []))))
 entry_clean e = clean_append (entry_word e) (flat_map optional_text (entry_numbers e)) refl (numbers_clean (entry_numbers e))
 
-line_clean : (line : Line) → IsLine line → no_feed (line_word line ++ line_rest line) ≡ true
+-- no line feed stands inside a line
+pub feedless : (line : Line) → IsLine line → no_feed (line_word line ++ line_rest line) ≡ true
 unfolding no_feed
-line_clean (says.Entry e) good = entry_clean e
-line_clean (says.Row row) good = clean_append (codes "row") (flat_map value_text row) refl (clean_flat value_text IsValue value_clean row good)
-line_clean (says.Table name) good = clean_append (codes "table ") name refl (bytes_clean is_name_byte refl name good.bytes)
-line_clean (says.Lost lost) good =
+feedless (says.Entry e) good = entry_clean e
+feedless (says.Row row) good = clean_append (codes "row") (flat_map value_text row) refl (clean_flat value_text IsValue value_clean row good)
+feedless (says.Table name) good = clean_append (codes "table ") name refl (bytes_clean is_name_byte refl name good.bytes)
+feedless (says.Lost lost) good =
     clean_append (codes "lost ") (lost.name ++ flat_map optional_text (Some lost.number ∷ [])) refl
     (clean_append lost.name (flat_map optional_text (Some lost.number ∷ [])) (bytes_clean is_name_byte refl lost.name good.bytes) (numbers_clean (Some lost.number ∷ [])))
-line_clean (says.Head format) good = clean_append (codes "pfs-report") (flat_map optional_text (Some format ∷ [])) refl (numbers_clean (Some format ∷ []))
-line_clean (says.Phase number) good = clean_append (codes "phase") (flat_map optional_text (Some number ∷ [])) refl (numbers_clean (Some number ∷ []))
-line_clean (says.Session number) good = clean_append (codes "session") (flat_map optional_text (Some number ∷ [])) refl (numbers_clean (Some number ∷ []))
-line_clean says.Final good = refl
-line_clean says.End good = refl
+feedless (says.Head format) good = clean_append (codes "pfs-report") (flat_map optional_text (Some format ∷ [])) refl (numbers_clean (Some format ∷ []))
+feedless (says.Phase number) good = clean_append (codes "phase") (flat_map optional_text (Some number ∷ [])) refl (numbers_clean (Some number ∷ []))
+feedless (says.Session number) good = clean_append (codes "session") (flat_map optional_text (Some number ∷ [])) refl (numbers_clean (Some number ∷ []))
+feedless says.Final good = refl
+feedless says.End good = refl
 
 one_more : (n : ℕ) → 1 + n ≡ suc n
 one_more n = omega arith
@@ -54,7 +55,7 @@ feed_at (b ∷ body) more clean =
 line_at : (line : Line) (rest more : List ℕ) → IsLine line → rest ≡ line_text line ++ more → prefix_len is_line_byte rest ≡ length (line_word line ++ line_rest line)
 line_at line rest more good same =
     ap (prefix_len is_line_byte) (same ∙ (ap (λ (z : List ℕ). z ++ more) (line_is line) ∙ append_assoc (line_word line ++ line_rest line) (codes "\n") more))
-    ∙ feed_at (line_word line ++ line_rest line) more (line_clean line good)
+    ∙ feed_at (line_word line ++ line_rest line) more (feedless line good)
 
 -- no line stands in front where there is no line feed
 pub no_line : (line : Line) (rest more : List ℕ) → IsLine line → length rest ≤ prefix_len is_line_byte rest → rest ≢ line_text line ++ more

@@ -1,19 +1,17 @@
 -- A line's text is its word, what stands behind it, and a line feed.
-use Rattle.std.proofs.Common.{ℕ, ◌≡◌, ◌≢◌, ◌-◌, ◌+◌, ◌≤◌, Bool, true, false, List, [], ◌∷◌, ◌++◌, length, take, Option, Some, None, Result, Ok, Err, IfOk, append_assoc, append-nil, length-append, sym, ap, subst, ◌∙◌, refl, arith}
-use Rattle.std.specs.Prelude.{codes, IfSome, IsTrue, ◌↔◌}
-use Rattle.std.specs.List.{All, flat_map}
-use Rattle.std.proofs.lemmas.Bool.{false≢true}
+use Rattle.std.proofs.Common.{ℕ, ◌≡◌, ◌-◌, List, [], ◌∷◌, ◌++◌, length, take, Option, Some, None, append_assoc, length-append, ap, ◌∙◌, refl, arith}
+use Rattle.std.specs.Prelude.{codes}
+use Rattle.std.specs.List.{flat_map}
 use Rattle.pfs_event.specs.declared.entry.Entry.{Entry}
 use Rattle.pfs_event.specs.declared.entry.Entry.TheVariants as entry
 use Rattle.pfs_event.specs.Verdicts.{verdict_name}
 use Rattle.pfs_values.specs.declared.RowValue.{RowValue}
 use Rattle.pfs_values.specs.declared.RowValue.TheVariants as value
-use Rattle.pfs_text.specs.Quotes.{quoted}
 use Rattle.pfs_journal.specs.declared.line.Line.{Line}
 use Rattle.pfs_journal.specs.declared.line.Line.TheVariants as says
-use Rattle.pfs_journal.specs.Lines.{line_text, IsLine}
+use Rattle.pfs_journal.specs.Lines.{line_text}
 use Rattle.pfs_journal.specs.Spelling.{field_text, optional_text, numbers_text, entry_text, value_text, row_text, table_line, lost_text, final_line, phase_line, session_line, first_line}
-use Rattle.pfs_journal.specs.Words.{IsBehind, FitsLine, entry_word, entry_numbers, entry_rest, line_word, line_rest}
+use Rattle.pfs_journal.specs.Words.{IsBehind, entry_word, entry_numbers, entry_rest, line_word, line_rest}
 use Rattle.pfs_journal.proofs.WordsRead.{fields_behind}
 
 numbers_line : (word : List ℕ) (numbers : List (Option ℕ)) → numbers_text word numbers ≡ (word ++ flat_map optional_text numbers) ++ codes "\n"

@@ -1,5 +1,5 @@
 -- Blocks and phases that were read.
-use Rattle.std.proofs.Common.{ℕ, ◌≡◌, ◌<◌, ◌≤◌, Result, Ok, Err, IfOk, List, [], ◌∷◌, ◌++◌, length, append_assoc, append-nil, sym, ap, subst, ◌∙◌, refl, arith}
+use Rattle.std.proofs.Common.{ℕ, ◌≡◌, ◌<◌, Result, Ok, Err, IfOk, List, [], ◌++◌, length, append_assoc, append-nil, sym, ap, subst, ◌∙◌, refl, arith}
 use Rattle.std.specs.Prelude.{codes}
 use Rattle.std.specs.List.{All, flat_map}
 use Rattle.pfs_event.specs.declared.entry.Entry.{Entry}
@@ -11,7 +11,7 @@ use Rattle.pfs_journal.specs.declared.values.LostReport.{LostReport}
 use Rattle.pfs_journal.specs.declared.blocks.BlockReport.{BlockReport}
 use Rattle.pfs_journal.specs.declared.report.PhaseParts.{PhaseParts}
 use Rattle.pfs_journal.specs.declared.report.ReportParts.{ReportParts}
-use Rattle.pfs_journal.specs.Lines.{line_text, IsLine}
+use Rattle.pfs_journal.specs.Lines.{line_text}
 use Rattle.pfs_journal.specs.Readings.{IsTaken, IsRead, IsJournalRead, PhaseEnds}
 use Rattle.pfs_journal.specs.Reports.{IsTable, IsLost, IsBlock, IsPhase}
 use Rattle.pfs_journal.specs.Spelling.{journal_text, block_text, session_line, table_text, lost_text, results_text, final_text, final_line, phase_text, phase_line, body_text, phases_text, first_line, spelling}

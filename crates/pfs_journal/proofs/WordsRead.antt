@@ -1,6 +1,6 @@
 -- What is told from the words of a line.
-use Rattle.std.proofs.Common.{ℕ, zero, suc, ◌≡◌, ◌+◌, ◌<◌, ◌≤◌, ◌^◌, Bool, true, false, eqb, cond, List, [], ◌∷◌, ◌++◌, length, take, drop, Option, Some, None, append_assoc, append-nil, sym, ap, subst, ◌∙◌, refl, arith}
-use Rattle.std.specs.Prelude.{codes, not, ◌==◌, ◌&&◌, decimal}
+use Rattle.std.proofs.Common.{ℕ, zero, suc, ◌≡◌, ◌+◌, ◌<◌, ◌≤◌, ◌^◌, Bool, true, false, eqb, cond, List, [], ◌∷◌, ◌++◌, length, take, drop, Option, Some, None, append-nil, sym, ap, subst, ◌∙◌, refl, arith}
+use Rattle.std.specs.Prelude.{codes, not, ◌&&◌, decimal}
 use Rattle.std.specs.List.{All, flat_map, prefix_len}
 use Rattle.std.proofs.lemmas.List.Elements.{All-head, All-tail, All-nil, All-cons}
 use Rattle.pfs_event.specs.declared.entry.Entry.{Entry}
@@ -8,9 +8,8 @@ use Rattle.pfs_event.specs.declared.entry.Entry.TheVariants as entry
 use Rattle.pfs_event.specs.declared.verdict.Verdict.{Verdict}
 use Rattle.pfs_event.specs.declared.verdict.Verdict.TheVariants.{LostThread, LostClass, OffGlobal, OffClass, OffTable, OffThread, LostNested, LostLocker, Aside, Attributed}
 use Rattle.pfs_event.specs.Verdicts.{verdict_name}
-use Rattle.pfs_journal.specs.declared.line.Line.{Line}
 use Rattle.pfs_journal.specs.declared.line.Line.TheVariants as says
-use Rattle.pfs_journal.specs.Words.{is_word_byte, front_word, behind_word, IsBehind, Leads, verdict_of, alone_says, one_says, two_say, three_say, plain_says, entry_word, entry_numbers, optional_word, dash_of, FitsField}
+use Rattle.pfs_journal.specs.Words.{is_word_byte, front_word, behind_word, IsBehind, Leads, verdict_of, plain_says, entry_word, entry_numbers, optional_word, dash_of, FitsField}
 use Rattle.std.specs.Str.Parse.{IsNumeral, digits_value}
 use Rattle.std.proofs.lemmas.Fmt.{decimal_is_IsNumeral}
 use Rattle.std.proofs.lemmas.Bool.{false≢true}
@@ -19,8 +18,7 @@ use Rattle.std.specs.Prelude.{MatchOption, ◌≢◌, ◌-◌}
 use Rattle.std.specs.Char.{digit_value}
 use Rattle.std.specs.Str.Parse.{AllDigits}
 use Rattle.std.specs.Option.{SomeIff}
-use Rattle.pfs_journal.specs.declared.values.LostReport.{LostReport}
-use Rattle.pfs_journal.specs.Words.{entry_rest, line_rest, Fits}
+use Rattle.pfs_journal.specs.Words.{Fits}
 use Rattle.pfs_journal.specs.Reports.{IsName, is_name_byte}
 use Rattle.pfs_journal.specs.Spelling.{field_text, optional_text}
 use Rattle.pfs_journal.proofs.ItemsRead.{ItemsRead, items_more, items_left, items_end}
@@ -61,7 +59,7 @@ verdict_told LostLocker = refl
 verdict_told Aside = refl
 verdict_told Attributed = refl
 
-dash_no_numeral : ¬ IsNumeral 10 (codes "-")
+pub dash_no_numeral : ¬ IsNumeral 10 (codes "-")
 dash_no_numeral n = omega (arith, n.1.0)
 
 pub number_told : (word : List ℕ) (n : ℕ) (number : Option ℕ) → IsNumeral 10 word → n ≡ digits_value 10 word → FitsField number → word ≡ optional_word number → Some (Some n) ≡ Some number

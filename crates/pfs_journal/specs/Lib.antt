@@ -1,6 +1,9 @@
+pub mod FirstWrong
 pub mod Lines
 pub mod OneSpelling
+pub mod Places
 pub mod Readings
+pub mod ReportLines
 pub mod Reports
 pub mod Spelling
 pub mod Words

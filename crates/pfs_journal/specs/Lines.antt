@@ -3,6 +3,7 @@ use Rattle.std.specs.Prelude.{ℕ, ◌≤◌, List, codes}
 use Rattle.pfs_journal.specs.declared.line.Line.{Line}
 use Rattle.pfs_journal.specs.declared.line.Line.TheVariants.{Head, Phase, Session, Entry, Row, Final, Table, Lost, End}
 use Rattle.pfs_journal.specs.Reports.{IsRow, IsName, IsLost}
+use Rattle.pfs_journal.specs.Words.{FitsLine}
 use Rattle.pfs_journal.specs.Spelling.{first_line, phase_line, session_line, entry_text, row_text, final_line, table_line, lost_text}
 
 -- the line that says something
@@ -24,3 +25,8 @@ IsLine (Table name) = IsName name
 IsLine (Lost lost) = IsLost lost
 IsLine (Head format) = format ≤ 2
 IsLine _ = Unit {0}
+
+-- a line of a report whose numbers are below 2^64
+pub record IsGoodLine (line : Line) : Type 0 where
+  pub can : IsLine line
+  pub fits : FitsLine line

@@ -1,5 +1,5 @@
 -- Which values a report can have.
-use Rattle.std.specs.Prelude.{ℕ, ◌≡◌, ◌≢◌, ◌≤◌, ◌==◌, Bool, true, ◌&&◌, ◌||◌, nat_le, IsTrue, List, [], length, map, Option, Some, None}
+use Rattle.std.specs.Prelude.{ℕ, ◌≡◌, ◌≢◌, ◌≤◌, ◌==◌, Bool, true, ◌&&◌, ◌||◌, nat_le, List, [], length, map, Option, Some, None}
 use Rattle.std.specs.List.{All, filter_map}
 use Rattle.pfs_event.specs.declared.entry.Entry.{Entry}
 use Rattle.pfs_event.specs.declared.entry.Entry.TheVariants as entry

@@ -1,5 +1,5 @@
 -- The words of a line, and what its words say.
-use Rattle.std.specs.Prelude.{ℕ, ◌≡◌, ◌<◌, ◌^◌, ◌==◌, not, Bool, true, false, if◌then◌else◌, List, [], ◌∷◌, ◌++◌, Option, Some, None, codes, take, drop, decimal}
+use Rattle.std.specs.Prelude.{ℕ, ◌≡◌, ◌<◌, ◌^◌, ◌==◌, not, Bool, true, if◌then◌else◌, List, [], ◌∷◌, ◌++◌, Option, Some, None, codes, take, drop, decimal}
 use Rattle.std.specs.List.{All, flat_map, prefix_len}
 use Rattle.std.specs.Str.{bytes_eq}
 use Rattle.pfs_event.specs.declared.entry.Entry.{Entry}

@@ -2,6 +2,7 @@
 
 ghost use Rattle.std.specs.Prelude.{◌≡◌, ◌↔◌, IsTrue, OnOk};
 ghost use Rattle.pfs_journal.specs.Lines.{line_text, IsLine};
+ghost use Rattle.pfs_journal.specs.Words.{FitsLine};
 
 use crate::NoMemory;
 use crate::checks::{is_name, is_row};
@@ -37,7 +38,8 @@ pub enum Line {
 /// Makes the line that says this.
 #[tactic(auto, unfolding(crate::specs::Lines::line_text, crate::specs::Spelling::first_line, crate::specs::Spelling::phase_line, crate::specs::Spelling::session_line, crate::specs::Spelling::final_line))]
 pub fn line_of(line: &mut Vec<u8>, says: &Line) -> Result<(), NoMemory>
-    ensures { OnOk result (line.new.items ≡ line_text says.now) }
+    ensures text { OnOk result (line.new.items ≡ line_text says.now) }
+    ensures fits { OnOk result (FitsLine says.now) }
 {
     match says {
         Line::Head(format) => numbers_line(line, b"pfs-report", &[Some(*format)]),

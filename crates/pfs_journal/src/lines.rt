@@ -1,10 +1,11 @@
 //! The lines of a report, each built in a buffer that serves for all of them.
 
 ghost use Rattle.std.specs.Prelude.{◌≡◌, ◌++◌, ◌∷◌, [], Some, OnOk, codes};
-ghost use Rattle.std.specs.List.{flat_map};
+ghost use Rattle.std.specs.List.{All, flat_map};
 ghost use Rattle.pfs_event.specs.Verdicts.{verdict_name};
 ghost use Rattle.pfs_text.specs.Quotes.{quoted};
 ghost use Rattle.pfs_journal.specs.Spelling.{field_text, optional_text, numbers_text, entry_text, value_text, row_text, table_line, lost_text};
+ghost use Rattle.pfs_journal.specs.Words.{FitsField, FitsValue, entry_numbers};
 
 use crate::NoMemory;
 use crate::values::LostReport;
@@ -40,7 +41,8 @@ fn put_field(line: &mut Vec<u8>, number: u64) -> Result<(), NoMemory>
 
 /// Appends a space and a number, or `-` where there is none.
 fn put_optional(line: &mut Vec<u8>, number: Option<u64>) -> Result<(), NoMemory>
-    ensures { OnOk result (line.new.items ≡ line.old.items ++ optional_text number) }
+    ensures text { OnOk result (line.new.items ≡ line.old.items ++ optional_text number) }
+    ensures fits { OnOk result (FitsField number) }
 {
     match number {
         Some(number) => put_field(line, number),
@@ -50,7 +52,8 @@ fn put_optional(line: &mut Vec<u8>, number: Option<u64>) -> Result<(), NoMemory>
 
 /// Appends such numbers.
 fn put_numbers(line: &mut Vec<u8>, numbers: &[Option<u64>]) -> Result<(), NoMemory>
-    ensures { OnOk result (line.new.items ≡ line.old.items ++ flat_map optional_text numbers.now) }
+    ensures text { OnOk result (line.new.items ≡ line.old.items ++ flat_map optional_text numbers.now) }
+    ensures fits { OnOk result (All FitsField numbers.now) }
 {
     for number in numbers {
         put_optional(line, *number)?;
@@ -60,7 +63,8 @@ fn put_numbers(line: &mut Vec<u8>, numbers: &[Option<u64>]) -> Result<(), NoMemo
 
 /// Ends a line with numbers, behind what it begins with.
 fn end_numbers(line: &mut Vec<u8>, numbers: &[Option<u64>]) -> Result<(), NoMemory>
-    ensures { OnOk result (line.new.items ≡ line.old.items ++ flat_map optional_text numbers.now ++ codes "\n") }
+    ensures text { OnOk result (line.new.items ≡ line.old.items ++ flat_map optional_text numbers.now ++ codes "\n") }
+    ensures fits { OnOk result (All FitsField numbers.now) }
 {
     put_numbers(line, numbers)?;
     put_text(line, b"\n")
@@ -73,7 +77,8 @@ pub fn numbers_line(
     word: &[u8],
     numbers: &[Option<u64>],
 ) -> Result<(), NoMemory>
-    ensures { OnOk result (line.new.items ≡ numbers_text word.now numbers.now) }
+    ensures text { OnOk result (line.new.items ≡ numbers_text word.now numbers.now) }
+    ensures fits { OnOk result (All FitsField numbers.now) }
 {
     begin(line, word)?;
     end_numbers(line, numbers)
@@ -81,7 +86,9 @@ pub fn numbers_line(
 
 /// What a start's line begins with: its word, number and verdict.
 fn begin_start(line: &mut Vec<u8>, event: Option<u64>, verdict: Verdict) -> Result<(), NoMemory>
-    ensures { OnOk result (line.new.items ≡ codes "start" ++ optional_text event ++ codes " " ++ verdict_name verdict) }
+    ensures text { OnOk result (line.new.items ≡ codes "start" ++ optional_text event
+        ++ codes " " ++ verdict_name verdict) }
+    ensures fits { OnOk result (FitsField event) }
 {
     begin(line, b"start")?;
     put_optional(line, event)?;
@@ -98,9 +105,10 @@ fn start_line(
     verdict: Verdict,
     versions: &[Option<u64>],
 ) -> Result<(), NoMemory>
-    ensures { OnOk result
+    ensures text { OnOk result
         (line.new.items ≡ numbers_text (codes "start" ++ optional_text event ++ codes " " ++ verdict_name verdict)
         versions.now) }
+    ensures fits { OnOk result (All FitsField (event ∷ versions.now)) }
 {
     begin_start(line, event, verdict)?;
     end_numbers(line, versions)
@@ -108,7 +116,8 @@ fn start_line(
 
 /// The line of an entry.
 pub fn entry_line(line: &mut Vec<u8>, entry: &Entry) -> Result<(), NoMemory>
-    ensures { OnOk result (line.new.items ≡ entry_text entry.now) }
+    ensures text { OnOk result (line.new.items ≡ entry_text entry.now) }
+    ensures fits { OnOk result (All FitsField (entry_numbers entry.now)) }
 {
     match entry {
         Entry::Connect {
@@ -199,7 +208,8 @@ fn put_quoted(line: &mut Vec<u8>, text: &[u8]) -> Result<(), NoMemory>
 /// Appends a space and a value.
 #[tactic(auto, unfolding(crate::specs::Spelling::value_text))]
 fn put_value(line: &mut Vec<u8>, value: &RowValue) -> Result<(), NoMemory>
-    ensures { OnOk result (line.new.items ≡ line.old.items ++ value_text value.now) }
+    ensures text { OnOk result (line.new.items ≡ line.old.items ++ value_text value.now) }
+    ensures fits { OnOk result (FitsValue value.now) }
 {
     match value {
         RowValue::Null => put_text(line, b" NULL"),
@@ -210,7 +220,8 @@ fn put_value(line: &mut Vec<u8>, value: &RowValue) -> Result<(), NoMemory>
 
 /// Appends such values.
 fn put_values(line: &mut Vec<u8>, values: &[RowValue]) -> Result<(), NoMemory>
-    ensures { OnOk result (line.new.items ≡ line.old.items ++ flat_map value_text values.now) }
+    ensures text { OnOk result (line.new.items ≡ line.old.items ++ flat_map value_text values.now) }
+    ensures fits { OnOk result (All FitsValue values.now) }
 {
     for value in values {
         put_value(line, value)?;
@@ -221,7 +232,8 @@ fn put_values(line: &mut Vec<u8>, values: &[RowValue]) -> Result<(), NoMemory>
 /// The line of a row.
 #[tactic(auto, unfolding(crate::specs::Spelling::row_text))]
 pub fn row_line(line: &mut Vec<u8>, row: &Row) -> Result<(), NoMemory>
-    ensures { OnOk result (line.new.items ≡ row_text row.now) }
+    ensures text { OnOk result (line.new.items ≡ row_text row.now) }
+    ensures fits { OnOk result (All FitsValue row.now) }
 {
     begin(line, b"row")?;
     put_values(line, row.as_slice())?;
@@ -249,7 +261,8 @@ fn begin_lost(line: &mut Vec<u8>, name: &[u8]) -> Result<(), NoMemory>
 /// The line of a counter.
 #[tactic(auto, unfolding(crate::specs::Spelling::lost_text, crate::specs::Spelling::numbers_text))]
 pub fn lost_line(line: &mut Vec<u8>, lost: &LostReport) -> Result<(), NoMemory>
-    ensures { OnOk result (line.new.items ≡ lost_text lost.now) }
+    ensures text { OnOk result (line.new.items ≡ lost_text lost.now) }
+    ensures fits { OnOk result (FitsField (Some lost.now.number)) }
 {
     begin_lost(line, lost.name.as_bytes())?;
     end_numbers(line, &[Some(lost.number)])

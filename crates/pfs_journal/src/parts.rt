@@ -1,12 +1,13 @@
 //! Reading the parts of a report. A part begins with a line that was taken already, and the line
 //! behind it is given back with it.
 
-ghost use Rattle.std.specs.Prelude.{ℕ, List, ◌≡◌, ◌++◌, ◌∷◌, [], ◌<◌, ◌≤◌, length, IfOk};
+ghost use Rattle.std.specs.Prelude.{ℕ, List, ◌≡◌, ◌≢◌, ◌++◌, ◌∷◌, [], ◌<◌, ◌≤◌, length, IfOk, Some};
 ghost use Rattle.std.specs.List.{All, flat_map};
 ghost use Rattle.pfs_journal.specs.declared.line.Line.TheVariants as says;
 ghost use Rattle.pfs_journal.specs.Lines.{line_text, IsLine};
-ghost use Rattle.pfs_journal.specs.Readings.{IsRead, Grows, AnswerGrows, AnswersGrow, JournalGrows, IsJournalRead};
-ghost use Rattle.pfs_journal.specs.Reports.{IsRow, IsName, IsTable, IsLost, IsBlock, IsPhase, IsReport};
+ghost use Rattle.pfs_journal.specs.Places.{Place, Blocks, Counters, Ended, Journal, Named, Phases, Results, rows_due, step, Leads, StopsAfter};
+ghost use Rattle.pfs_journal.specs.Readings.{IfBad, IsRead, Grows, AnswerGrows, AnswersGrow, JournalGrows, IsJournalRead};
+ghost use Rattle.pfs_journal.specs.Reports.{IsRow, IsName, IsTable, IsLost, IsBlock, IsPhase, IsReport, rows_asked};
 ghost use Rattle.pfs_journal.specs.Spelling.{row_text, table_text, lost_text, block_text, phase_text, results_text, spelling};
 
 use crate::blocks::{AnswerList, EntryList};
@@ -26,9 +27,13 @@ fn take_row(
     row: Row,
 ) -> Result<Line, ReadStop>
     requires { IsRow row }
-    ensures { IfOk result
+    ensures grows { IfOk result
         (λ line. Grows row_text IsRow rows.old.items rows.new.items (says.Row row) lines.old.rest.now line
         lines.new.rest.now) }
+    ensures leads { IfOk result (λ line. (place : Place) → Leads (Some place) lines.old.rest.now lines.old.taken
+        (step place line) lines.new.rest.now lines.new.taken) }
+    ensures stops { IfBad result (λ at. (place : Place) → place ≢ Ended
+        → StopsAfter (Some place) lines.old.rest.now lines.old.taken at) }
 {
     push(rows, row)?;
     next(alloc, lines)
@@ -37,8 +42,14 @@ fn take_row(
 /// Rows, as many as there are.
 fn read_rows(alloc: Global, lines: &mut Lines<'_>, first: Line) -> Result<(Rowset, Line), ReadStop>
     requires { IsLine first }
-    ensures { IfOk result
+    ensures read { IfOk result
         (λ x. IsRead (flat_map row_text x.0) (All IsRow x.0) first lines.old.rest.now x.1 lines.new.rest.now) }
+    ensures leads { IfOk result (λ x. x.0 ≢ []
+        → Leads (step Named first) lines.old.rest.now lines.old.taken (step Results x.1)
+        lines.new.rest.now lines.new.taken) }
+    ensures none { IfOk result (λ x. x.0 ≡ []
+        → StopsAfter (step Named first) lines.old.rest.now lines.old.taken lines.new.taken) }
+    ensures stops { IfBad result (λ at. StopsAfter (step Named first) lines.old.rest.now lines.old.taken at) }
 {
     let mut rows = Vec::new(alloc);
     let mut line = first;
@@ -60,6 +71,9 @@ fn read_table(
     ensures read { IfOk result (λ x. IsRead (table_text x.0) (IsTable x.0) (says.Table name) lines.old.rest.now x.1
         lines.new.rest.now) }
     ensures shorter { IfOk result (λ _. length lines.new.rest.now < length lines.old.rest.now) }
+    ensures leads { IfOk result (λ x. Leads (Some Named) lines.old.rest.now lines.old.taken (step Results x.1)
+        lines.new.rest.now lines.new.taken) }
+    ensures stops { IfBad result (λ at. StopsAfter (Some Named) lines.old.rest.now lines.old.taken at) }
 {
     let first = next(alloc, lines)?;
     let (rows, line) = read_rows(alloc, lines, first)?;
@@ -76,8 +90,11 @@ fn take_table(
     name: Text,
 ) -> Result<Line, ReadStop>
     requires { IsName name }
-    ensures { IfOk result (λ line. Grows table_text IsTable tables.old.items tables.new.items (says.Table name)
+    ensures grows { IfOk result (λ line. Grows table_text IsTable tables.old.items tables.new.items (says.Table name)
         lines.old.rest.now line lines.new.rest.now) }
+    ensures leads { IfOk result (λ line. Leads (Some Named) lines.old.rest.now lines.old.taken (step Results line)
+        lines.new.rest.now lines.new.taken) }
+    ensures stops { IfBad result (λ at. StopsAfter (Some Named) lines.old.rest.now lines.old.taken at) }
 {
     let (table, line) = read_table(alloc, lines, name)?;
     push(tables, table)?;
@@ -91,8 +108,11 @@ pub fn read_tables(
     first: Line,
 ) -> Result<(TableList, Line), ReadStop>
     requires { IsLine first }
-    ensures { IfOk result (λ x. IsRead (flat_map table_text x.0) (All IsTable x.0) first lines.old.rest.now x.1
+    ensures read { IfOk result (λ x. IsRead (flat_map table_text x.0) (All IsTable x.0) first lines.old.rest.now x.1
         lines.new.rest.now) }
+    ensures leads { IfOk result (λ x. Leads (step Results first) lines.old.rest.now lines.old.taken (step Counters x.1)
+        lines.new.rest.now lines.new.taken) }
+    ensures stops { IfBad result (λ at. StopsAfter (step Results first) lines.old.rest.now lines.old.taken at) }
 {
     let mut tables = Vec::new(alloc);
     let mut line = first;
@@ -111,8 +131,11 @@ fn take_lost(
     lost: LostReport,
 ) -> Result<Line, ReadStop>
     requires { IsLost lost }
-    ensures { IfOk result (λ line. Grows lost_text IsLost counters.old.items counters.new.items (says.Lost lost)
+    ensures grows { IfOk result (λ line. Grows lost_text IsLost counters.old.items counters.new.items (says.Lost lost)
         lines.old.rest.now line lines.new.rest.now) }
+    ensures leads { IfOk result (λ line. Leads (Some Counters) lines.old.rest.now lines.old.taken (step Counters line)
+        lines.new.rest.now lines.new.taken) }
+    ensures stops { IfBad result (λ at. StopsAfter (Some Counters) lines.old.rest.now lines.old.taken at) }
 {
     push(counters, lost)?;
     next(alloc, lines)
@@ -125,8 +148,11 @@ pub fn read_lost(
     first: Line,
 ) -> Result<(LostList, Line), ReadStop>
     requires { IsLine first }
-    ensures { IfOk result (λ x. IsRead (flat_map lost_text x.0) (All IsLost x.0) first lines.old.rest.now x.1
+    ensures read { IfOk result (λ x. IsRead (flat_map lost_text x.0) (All IsLost x.0) first lines.old.rest.now x.1
         lines.new.rest.now) }
+    ensures leads { IfOk result (λ x. Leads (step Counters first) lines.old.rest.now lines.old.taken (step Phases x.1)
+        lines.new.rest.now lines.new.taken) }
+    ensures stops { IfBad result (λ at. StopsAfter (step Counters first) lines.old.rest.now lines.old.taken at) }
 {
     let mut counters = Vec::new(alloc);
     let mut line = first;
@@ -149,6 +175,10 @@ fn read_answer(
     ensures read { IfOk result
         (λ x. IsRead (flat_map row_text x.0) (All IsRow x.0) first lines.old.rest.now x.1 lines.new.rest.now) }
     ensures size { IfOk result (λ x. length x.0 ≡ number) }
+    ensures leads { IfOk result (λ x. Leads (step (Journal number) first)
+        lines.old.rest.now lines.old.taken (step (Journal 0) x.1) lines.new.rest.now lines.new.taken) }
+    ensures stops { IfBad result (λ at. StopsAfter (step (Journal number) first)
+        lines.old.rest.now lines.old.taken at) }
 {
     let mut rows = Vec::new(alloc);
     let mut line = first;
@@ -169,8 +199,12 @@ fn take_answer(
     first: Line,
 ) -> Result<Line, ReadStop>
     requires { IsLine first }
-    ensures { IfOk result (λ line. AnswerGrows number answers.old.items answers.new.items first lines.old.rest.now
+    ensures grows { IfOk result (λ line. AnswerGrows number answers.old.items answers.new.items first lines.old.rest.now
         line lines.new.rest.now) }
+    ensures leads { IfOk result (λ line. Leads (step (Journal number) first)
+        lines.old.rest.now lines.old.taken (step (Journal 0) line) lines.new.rest.now lines.new.taken) }
+    ensures stops { IfBad result (λ at. StopsAfter (step (Journal number) first)
+        lines.old.rest.now lines.old.taken at) }
 {
     let (rows, line) = read_answer(alloc, lines, number, first)?;
     push(answers, rows)?;
@@ -186,8 +220,12 @@ fn take_answer_if(
     first: Line,
 ) -> Result<Line, ReadStop>
     requires { IsLine first }
-    ensures { IfOk result (λ line. AnswersGrow asked answers.old.items answers.new.items first lines.old.rest.now line
-        lines.new.rest.now) }
+    ensures grows { IfOk result (λ line. AnswersGrow asked answers.old.items answers.new.items first
+        lines.old.rest.now line lines.new.rest.now) }
+    ensures leads { IfOk result (λ line. Leads (step (Journal (rows_due asked)) first)
+        lines.old.rest.now lines.old.taken (step (Journal 0) line) lines.new.rest.now lines.new.taken) }
+    ensures stops { IfBad result (λ at. StopsAfter (step (Journal (rows_due asked)) first)
+        lines.old.rest.now lines.old.taken at) }
 {
     match asked {
         Some(number) => take_answer(alloc, lines, answers, number, first),
@@ -202,9 +240,13 @@ fn take_entry(
     answers: &mut Vec<Rowset>,
     entry: Entry,
 ) -> Result<Line, ReadStop>
-    ensures { IfOk result
+    ensures grows { IfOk result
         (λ line. JournalGrows entry entries.old.items entries.new.items answers.old.items answers.new.items
         lines.old.rest.now line lines.new.rest.now) }
+    ensures leads { IfOk result (λ line. Leads (Some (Journal (rows_due (rows_asked entry))))
+        lines.old.rest.now lines.old.taken (step (Journal 0) line) lines.new.rest.now lines.new.taken) }
+    ensures stops { IfBad result (λ at. StopsAfter (Some (Journal (rows_due (rows_asked entry))))
+        lines.old.rest.now lines.old.taken at) }
 {
     push(entries, entry)?;
     let first = next(alloc, lines)?;
@@ -218,7 +260,10 @@ pub fn read_journal(
     first: Line,
 ) -> Result<(EntryList, AnswerList, Line), ReadStop>
     requires { IsLine first }
-    ensures { IfOk result (λ x. IsJournalRead x.0 x.1 first lines.old.rest.now x.2 lines.new.rest.now) }
+    ensures read { IfOk result (λ x. IsJournalRead x.0 x.1 first lines.old.rest.now x.2 lines.new.rest.now) }
+    ensures leads { IfOk result (λ x. Leads (step (Journal 0) first)
+        lines.old.rest.now lines.old.taken (step Blocks x.2) lines.new.rest.now lines.new.taken) }
+    ensures stops { IfBad result (λ at. StopsAfter (step (Journal 0) first) lines.old.rest.now lines.old.taken at) }
 {
     let mut entries = Vec::new(alloc);
     let mut answers = Vec::new(alloc);

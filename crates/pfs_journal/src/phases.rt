@@ -1,10 +1,12 @@
 //! Reading the blocks and phases of a report, and the whole of it.
 
-ghost use Rattle.std.specs.Prelude.{ℕ, List, ◌≡◌, ◌++◌, [], ◌<◌, ◌≤◌, length, IfOk};
+ghost use Rattle.std.specs.Prelude.{ℕ, List, ◌≡◌, ◌≢◌, ◌++◌, [], ◌<◌, ◌≤◌, length, IfOk, Some};
 ghost use Rattle.std.specs.List.{All, flat_map};
 ghost use Rattle.pfs_journal.specs.declared.line.Line.TheVariants as says;
 ghost use Rattle.pfs_journal.specs.Lines.{line_text, IsLine};
-ghost use Rattle.pfs_journal.specs.Readings.{IsRead, Grows, PhaseEnds};
+ghost use Rattle.pfs_journal.specs.FirstWrong.{IsFirstWrong};
+ghost use Rattle.pfs_journal.specs.Places.{Blocks, Ended, Journal, Phases, Results, step, Leads, StopsAfter};
+ghost use Rattle.pfs_journal.specs.Readings.{IfBad, IsRead, Grows, PhaseEnds};
 ghost use Rattle.pfs_journal.specs.Reports.{IsTable, IsLost, IsBlock, IsPhase, IsReport};
 ghost use Rattle.pfs_journal.specs.Spelling.{block_text, phase_text, final_text, spelling};
 
@@ -25,6 +27,9 @@ fn read_block(
     ensures read { IfOk result (λ x. IsRead (block_text x.0) (IsBlock x.0) (says.Session session) lines.old.rest.now
         x.1 lines.new.rest.now) }
     ensures shorter { IfOk result (λ _. length lines.new.rest.now < length lines.old.rest.now) }
+    ensures leads { IfOk result (λ x. Leads (Some (Journal 0)) lines.old.rest.now lines.old.taken (step Blocks x.1)
+        lines.new.rest.now lines.new.taken) }
+    ensures stops { IfBad result (λ at. StopsAfter (Some (Journal 0)) lines.old.rest.now lines.old.taken at) }
 {
     let first = next(alloc, lines)?;
     let (entries, answers, line) = read_journal(alloc, lines, first)?;
@@ -42,8 +47,11 @@ fn take_block(
     blocks: &mut Vec<BlockReport>,
     session: u64,
 ) -> Result<Line, ReadStop>
-    ensures { IfOk result (λ line. Grows block_text IsBlock blocks.old.items blocks.new.items (says.Session session)
-        lines.old.rest.now line lines.new.rest.now) }
+    ensures grows { IfOk result (λ line. Grows block_text IsBlock blocks.old.items
+        blocks.new.items (says.Session session) lines.old.rest.now line lines.new.rest.now) }
+    ensures leads { IfOk result (λ line. Leads (Some (Journal 0)) lines.old.rest.now lines.old.taken (step Blocks line)
+        lines.new.rest.now lines.new.taken) }
+    ensures stops { IfBad result (λ at. StopsAfter (Some (Journal 0)) lines.old.rest.now lines.old.taken at) }
 {
     let (block, line) = read_block(alloc, lines, session)?;
     push(blocks, block)?;
@@ -57,8 +65,12 @@ fn read_blocks(
     first: Line,
 ) -> Result<(BlockList, Line), ReadStop>
     requires { IsLine first }
-    ensures { IfOk result (λ x. IsRead (flat_map block_text x.0) (All IsBlock x.0) first lines.old.rest.now x.1
+    ensures read { IfOk result (λ x. IsRead (flat_map block_text x.0) (All IsBlock x.0) first lines.old.rest.now x.1
         lines.new.rest.now) }
+    ensures leads { IfOk result (λ x. Leads (step Blocks first) lines.old.rest.now lines.old.taken (step Blocks x.1)
+        lines.new.rest.now lines.new.taken) }
+    ensures apart { IfOk result (λ x. (session : ℕ) → x.1 ≢ says.Session session) }
+    ensures stops { IfBad result (λ at. StopsAfter (step Blocks first) lines.old.rest.now lines.old.taken at) }
 {
     let mut blocks = Vec::new(alloc);
     let mut line = first;
@@ -78,6 +90,9 @@ fn read_results(
     ensures read { IfOk result (λ x. IsRead (final_text x.0 x.1) (All IsTable x.0
         × All IsLost x.1) says.Final lines.old.rest.now x.2 lines.new.rest.now) }
     ensures shorter { IfOk result (λ _. length lines.new.rest.now < length lines.old.rest.now) }
+    ensures leads { IfOk result (λ x. Leads (Some Results) lines.old.rest.now lines.old.taken (step Phases x.2)
+        lines.new.rest.now lines.new.taken) }
+    ensures stops { IfBad result (λ at. StopsAfter (Some Results) lines.old.rest.now lines.old.taken at) }
 {
     let first = next(alloc, lines)?;
     let (tables, behind) = read_tables(alloc, lines, first)?;
@@ -93,7 +108,10 @@ fn end_phase(
     blocks: BlockList,
 ) -> Result<(PhaseReport, Line), ReadStop>
     requires { All IsBlock blocks }
-    ensures { IfOk result (λ x. PhaseEnds number blocks x.0 lines.old.rest.now x.1 lines.new.rest.now) }
+    ensures ends { IfOk result (λ x. PhaseEnds number blocks x.0 lines.old.rest.now x.1 lines.new.rest.now) }
+    ensures leads { IfOk result (λ x. Leads (Some Results) lines.old.rest.now lines.old.taken (step Phases x.1)
+        lines.new.rest.now lines.new.taken) }
+    ensures stops { IfBad result (λ at. StopsAfter (Some Results) lines.old.rest.now lines.old.taken at) }
 {
     let (tables, lost, line) = read_results(alloc, lines)?;
     let parts = PhaseParts {
@@ -114,6 +132,9 @@ fn read_phase(
     ensures read { IfOk result (λ x. IsRead (phase_text x.0) (IsPhase x.0) (says.Phase number) lines.old.rest.now x.1
         lines.new.rest.now) }
     ensures shorter { IfOk result (λ _. length lines.new.rest.now < length lines.old.rest.now) }
+    ensures leads { IfOk result (λ x. Leads (Some Blocks) lines.old.rest.now lines.old.taken (step Phases x.1)
+        lines.new.rest.now lines.new.taken) }
+    ensures stops { IfBad result (λ at. StopsAfter (Some Blocks) lines.old.rest.now lines.old.taken at) }
 {
     let first = next(alloc, lines)?;
     let (blocks, line) = read_blocks(alloc, lines, first)?;
@@ -129,8 +150,11 @@ fn take_phase(
     phases: &mut Vec<PhaseReport>,
     number: u64,
 ) -> Result<Line, ReadStop>
-    ensures { IfOk result (λ line. Grows phase_text IsPhase phases.old.items phases.new.items (says.Phase number)
+    ensures grows { IfOk result (λ line. Grows phase_text IsPhase phases.old.items phases.new.items (says.Phase number)
         lines.old.rest.now line lines.new.rest.now) }
+    ensures leads { IfOk result (λ line. Leads (Some Blocks) lines.old.rest.now lines.old.taken (step Phases line)
+        lines.new.rest.now lines.new.taken) }
+    ensures stops { IfBad result (λ at. StopsAfter (Some Blocks) lines.old.rest.now lines.old.taken at) }
 {
     let (phase, line) = read_phase(alloc, lines, number)?;
     push(phases, phase)?;
@@ -144,8 +168,12 @@ fn read_phases(
     first: Line,
 ) -> Result<(PhaseList, Line), ReadStop>
     requires { IsLine first }
-    ensures { IfOk result (λ x. IsRead (flat_map phase_text x.0) (All IsPhase x.0) first lines.old.rest.now x.1
+    ensures read { IfOk result (λ x. IsRead (flat_map phase_text x.0) (All IsPhase x.0) first lines.old.rest.now x.1
         lines.new.rest.now) }
+    ensures leads { IfOk result (λ x. Leads (step Phases first) lines.old.rest.now lines.old.taken (step Phases x.1)
+        lines.new.rest.now lines.new.taken) }
+    ensures apart { IfOk result (λ x. (number : ℕ) → x.1 ≢ says.Phase number) }
+    ensures stops { IfBad result (λ at. StopsAfter (step Phases first) lines.old.rest.now lines.old.taken at) }
 {
     let mut phases = Vec::new(alloc);
     let mut line = first;
@@ -163,6 +191,7 @@ fn end_report(lines: &Lines<'_>, format: u64, phases: PhaseList) -> Result<Repor
     requires phases { All IsPhase phases }
     ensures report { IfOk result (λ report. report ≡ record { format = format; phases = phases }) }
     ensures whole { IfOk result (λ _. lines.now.rest.now ≡ []) }
+    ensures stops { IfBad result (λ at. StopsAfter (Some Ended) lines.now.rest.now lines.now.taken at) }
 {
     if lines.rest.is_empty() {
         Ok(Report::new(ReportParts { format, phases }))
@@ -174,7 +203,8 @@ fn end_report(lines: &Lines<'_>, format: u64, phases: PhaseList) -> Result<Repor
 /// What follows the first line.
 fn read_report(alloc: Global, lines: &mut Lines<'_>, format: u64) -> Result<Report, ReadStop>
     requires { format ≤ 2 }
-    ensures { IfOk result (λ report. line_text (says.Head format) ++ lines.old.rest.now ≡ spelling report) }
+    ensures report { IfOk result (λ report. line_text (says.Head format) ++ lines.old.rest.now ≡ spelling report) }
+    ensures stops { IfBad result (λ at. StopsAfter (Some Phases) lines.old.rest.now lines.old.taken at) }
 {
     let first = next(alloc, lines)?;
     let (phases, line) = read_phases(alloc, lines, first)?;
@@ -188,7 +218,8 @@ fn read_report(alloc: Global, lines: &mut Lines<'_>, format: u64) -> Result<Repo
 /// told, counted from 1: the first with which no report begins or, where there is none, the one
 /// behind the last. The grammar is our own.
 pub fn read(alloc: Global, bytes: &[u8]) -> Result<Report, ReadStop>
-    ensures { IfOk result (λ report. bytes.now ≡ spelling report) }
+    ensures report { IfOk result (λ report. bytes.now ≡ spelling report) }
+    ensures wrong { IfBad result (λ at. IsFirstWrong bytes.now at) }
 {
     let mut lines = Lines {
         rest: bytes,

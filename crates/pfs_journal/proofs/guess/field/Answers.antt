@@ -1,4 +1,4 @@
-use Rattle.std.proofs.Common.{◌≡◌, Some}
+use Rattle.std.proofs.Common.{◌≡◌}
 use Rattle.pfs_journal.specs.Words.{optional_word}
 use Rattle.pfs_journal.proofs.WordsRead.{field_leads, no_some}
 use Rattle.pfs_journal.proofs.guess.field.Goals as goal

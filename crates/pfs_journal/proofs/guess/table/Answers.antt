@@ -1,4 +1,4 @@
-use Rattle.std.proofs.Common.{[], ap, sym, ◌∙◌, append-nil}
+use Rattle.std.proofs.Common.{[], ap, ◌∙◌}
 use Rattle.std.specs.Prelude.{Some}
 use Rattle.pfs_journal.specs.declared.line.Line.TheVariants as says
 use Rattle.pfs_journal.proofs.WordsRead.{name_leads, table_same}

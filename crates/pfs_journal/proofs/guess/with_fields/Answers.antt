@@ -1,4 +1,4 @@
-use Rattle.std.proofs.Common.{ℕ, ◌≡◌, take, subst, sym, arith}
+use Rattle.std.proofs.Common.{ℕ, ◌≡◌, take, subst, arith}
 use Rattle.pfs_journal.specs.Words.{plain_says}
 use Rattle.pfs_journal.proofs.guess.with_fields.Goals as goal
 

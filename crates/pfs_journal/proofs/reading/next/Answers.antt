@@ -1,17 +1,39 @@
-use Rattle.std.proofs.Common.{◌≤◌, length}
+use Rattle.std.proofs.Common.{ℕ, List, ◌≡◌, ◌≤◌, ◌+◌, ◌-◌, ◌++◌, length, length-drop, take, drop, sym, ap, ◌∙◌, refl, arith}
+use Rattle.std.proofs.lemmas.List.{take_all, take-append-drop}
 use Rattle.std.specs.List.{prefix_len}
-use Rattle.pfs_journal.specs.declared.line.Line.{Line}
+use Rattle.pfs_journal.specs.Lines.{line_text}
+use Rattle.pfs_journal.specs.Places.{capped}
 use Rattle.pfs_journal.specs.Words.{is_line_byte}
-use Rattle.pfs_journal.proofs.LineEnds.{no_line, line_found, bad_by}
+use Rattle.pfs_journal.proofs.LineEnds.{no_line, line_found}
+use Rattle.pfs_journal.proofs.Stopping.{bad_at, line_leads, none_here}
 use Rattle.pfs_journal.proofs.reading.next.Goals as goal
 
-pub returns-in_default-clause-wrong : goal.returns-in_default-clause-wrong
-returns-in_default-clause-wrong c =
-    let none : length c.args.lines.now.rest.now ≤ prefix_len is_line_byte c.args.lines.now.rest.now = c.in_default.ensures.first in
-    bad_by Line c.next_is_wrong.result _ (λ at line more good fits. no_line line c.args.lines.now.rest.now more good none)
+pub returns-in_default-clause-stops : goal.returns-in_default-clause-stops
+returns-in_default-clause-stops c =
+    let rest = c.args.lines.now.rest.now in
+    let number = c.args.lines.now.taken + 1 in
+    let none : length rest ≤ prefix_len is_line_byte rest = c.in_default.ensures.first in
+    bad_at c.next_is_wrong.result (capped number) _ c.next_is_wrong.ensures
+    (λ place apart. none_here place rest number (capped number) (λ line more good. no_line line rest more good.can none) apart refl)
 
-pub returns-in-Ok-None-clause-wrong : goal.returns-in-Ok-None-clause-wrong
-returns-in-Ok-None-clause-wrong c =
-    bad_by Line c.next_is_wrong-in-Ok-None.result _ (λ at line more good fits same.
-    let told = c.in-Ok-None.ensures.taken line good fits (line_found line c.args.lines.now.rest.now more c.in-Some.at good c.in-Some.ensures.first same) in
-    absurd (cc (told, c.in-Ok-None.field-0-is)))
+pub returns-in-Ok-None-clause-stops : goal.returns-in-Ok-None-clause-stops
+returns-in-Ok-None-clause-stops c =
+    let rest = c.args.lines.now.rest.now in
+    let number = c.args.lines.now.taken + 1 in
+    bad_at c.next_is_wrong-in-Ok-None.result (capped number) _ c.next_is_wrong-in-Ok-None.ensures
+    (λ place apart. none_here place rest number (capped number) (λ line more good same.
+    let told = c.in-Ok-None.ensures.taken line good.can good.fits (line_found line rest more c.in-Some.at good.can c.in-Some.ensures.first same) in
+    absurd (cc (told, c.in-Ok-None.field-0-is))) apart refl)
+
+pub returns-in-Ok-Some-clause-leads : goal.returns-in-Ok-Some-clause-leads
+returns-in-Ok-Some-clause-leads c =
+    let rest = c.args.lines.now.rest.now in
+    let says = c.in-Ok-Some.says in
+    let end = c.in-Some.at + 1 in
+    let after = take (length rest - end) (drop end rest) in
+    let found = rw c.in-Ok-Some.field-0-is at c.in-Ok-Some.ensures.found in
+    let size = length-drop end rest in
+    let short : length (drop end rest) ≤ length rest - end = omega (arith, size) in
+    let whole : rest ≡ line_text says ++ after =
+    sym (take-append-drop end rest) ∙ (ap (λ (z : List ℕ). z ++ drop end rest) found.1 ∙ ap (λ (z : List ℕ). line_text says ++ z) (sym (take_all (length rest - end) (drop end rest) short))) in
+    λ place. line_leads place says rest after c.args.lines.now.taken c.saturating_add-lines.result found.0 whole c.saturating_add-lines.ensures

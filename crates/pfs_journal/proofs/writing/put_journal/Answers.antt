@@ -1,4 +1,3 @@
-use Rattle.std.proofs.Common.{arith, drop}
 use Rattle.std.proofs.lemmas.List.{drop_more}
 use Rattle.pfs_journal.proofs.Journals.{leaves_more, leaves_stop, leaves_none}
 use Rattle.pfs_journal.proofs.writing.put_journal.Goals as goal

@@ -1,4 +1,3 @@
-use Rattle.std.proofs.Common.{◌≡◌, ◌≤◌, drop}
 use Rattle.pfs_journal.proofs.Journals.{Leaves}
 use Rattle.pfs_journal.proofs.writing.put_journal.Given as goal
 

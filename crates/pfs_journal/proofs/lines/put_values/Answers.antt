@@ -1,0 +1,12 @@
+use Rattle.std.proofs.Common.{arith, subst}
+use Rattle.std.proofs.lemmas.Grind.{common_steps}
+use Rattle.std.proofs.lemmas.List.Elements.{All-more}
+use Rattle.pfs_values.specs.declared.RowValue.{RowValue}
+use Rattle.pfs_journal.specs.Words.{FitsValue}
+use Rattle.pfs_journal.proofs.lines.put_values.Goals as goal
+
+pub loop-value-preserved : goal.loop-value-preserved
+loop-value-preserved c = (
+  grind (arith, common_steps),
+  All-more FitsValue c.args.values.now c.loop-value.value-index c.value-item.result c.loop-value-test.true c.loop-value.invariant.1 (subst (λ (v : RowValue). FitsValue v) c.value-item.is c.in_ok-put_value.ensures.fits),
+)

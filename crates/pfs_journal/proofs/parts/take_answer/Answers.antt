@@ -1,0 +1,5 @@
+use Rattle.pfs_journal.proofs.Stopping.{passed}
+use Rattle.pfs_journal.proofs.parts.take_answer.Goals as goal
+
+pub returns-in_err-push-clause-stops : goal.returns-in_err-push-clause-stops
+returns-in_err-push-clause-stops c = passed c.from_residual-in_err-push.result c.in_err-push.field-0.0 _ _ c.from_residual-in_err-push.ensures (λ at none. absurd none) c.in_err-push.ensures.memory
