@@ -35,7 +35,7 @@ unfolding changes_of
 changes_append [] ys = refl
 changes_append (x ∷ xs) ys = ap (λ z. changes_by x ++ z) (changes_append xs ys) ∙ sym (append_assoc (changes_by x) (changes_of xs) (changes_of ys))
 
-yes_lt : (a b : ℕ) → a < b → nat_lt a b ≡ true
+pub yes_lt : (a b : ℕ) → a < b → nat_lt a b ≡ true
 yes_lt a b h = grind (arith, nat_tests)
 
 made_at : (start : Start) (action after r v : ℕ) (puts : Bool) (p : Change) → 0 < r → IsMade start action after r v puts p → at r v puts ∷ [] ≡ ats_by p
@@ -150,7 +150,7 @@ count_step puts r row v xs some = elim (cases_eq r row) [
   away true apart = rw (ne_eqb r row apart) refl
   away false apart = refl
 
-counts : (start : List ℕ) (log : List Change) (row : ℕ) → 0 < row → count (ats_of log) row ≡ version log row
+pub counts : (start : List ℕ) (log : List Change) (row : ℕ) → 0 < row → count (ats_of log) row ≡ version log row
 unfolding ats_of count
 counts start [] row some = refl
 counts start (p ∷ ps) row some = count_step p.puts p.row row p.version (ats_of ps) some ∙ ap (λ n. cond (p.row == row) (n + cond p.puts 1 0) n) (counts start ps row some)

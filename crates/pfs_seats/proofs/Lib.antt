@@ -9,3 +9,9 @@ pub mod Gathering
 pub mod Histories
 pub mod Labels
 pub mod Begun
+pub mod Contents
+pub mod Agreeing
+pub mod Flags
+pub mod Totals
+pub mod Tickets
+pub mod Together

@@ -2,3 +2,4 @@ pub mod Ties
 pub mod Reached
 pub mod Pen
 pub mod Gathered
+pub mod Shared

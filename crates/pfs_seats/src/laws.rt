@@ -1,6 +1,7 @@
 //! Laws of the definitions.
 
 ghost use Rattle.pfs_seats.specs.Gathered.{ChangedLaw, GatherLaw};
+ghost use Rattle.pfs_seats.specs.Shared.{JointLaw};
 
 /// The seats that a root takes in leave their actors' calls tied to what the root has: each actor's changes, loads,
 /// meets and tickets are a part of its lists, one actor after another, and what their calls showed is among its
@@ -14,4 +15,12 @@ pub fn gathered()
 /// numbers are 1, 2 and so on, and never fall along a row; and each actor's calls rise.
 pub fn changed()
     ensures { ChangedLaw }
+{}
+
+/// What a root knows that is alone, has taken in the seats of all actors, meets the writer of the words and has told
+/// the tickets: one order of all changes, one of all sets and one of all tickets, and of each call that what it found
+/// and left is the content of the row, or the flags of the word, at its version. Of the sets it is asked that those
+/// that the writer made are the actors'.
+pub fn joint()
+    ensures { JointLaw }
 {}

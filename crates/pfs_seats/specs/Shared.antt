@@ -1,0 +1,55 @@
+-- What all actors have in common, as a root that is alone is told it of the board, the setup words and the tickets.
+use Rattle.std.specs.Prelude.{ℕ, ◌≡◌, ◌≢◌, ◌+◌, ◌*◌, ◌<◌, ◌≤◌, false, List, [], ◌∷◌, length, slice_index}
+use Rattle.std.proofs.Common.{zero, suc}
+use Rattle.pfs_board.specs.declared.answers.Opening.{Opening as FirstRow}
+use Rattle.pfs_board.specs.declared.view.Change.{Change}
+use Rattle.pfs_board.specs.declared.view.View.{View}
+use Rattle.pfs_board.specs.Closing.{History}
+use Rattle.pfs_board.specs.History.{lock_at, word_at, stood}
+use Rattle.pfs_levels.specs.Calls.{Call}
+use Rattle.pfs_levels.specs.Contents.{opening_content}
+use Rattle.pfs_levels.specs.Joint.{total, opens_free, Setting, sets_of, Draw, Joint, all_calls}
+use Rattle.pfs_seats.specs.Gathered.{Worked, calls_of_all, AreGathered, ats_of}
+use Rattle.pfs_switches.specs.declared.view.Setting.{Setting as Written}
+use Rattle.pfs_switches.specs.declared.view.View.{View as WordView}
+use Rattle.pfs_switches.specs.Closing.{IsTold}
+use Rattle.pfs_switches.specs.Knowledge.{met}
+use Rattle.pfs_switches.specs.Opening.{opening_words}
+use Rattle.pfs_tickets.specs.declared.view.View.{View as TicketView}
+use Rattle.pfs_tickets.specs.Whole.{IsComplete}
+
+-- so many numbers from a place on
+unfoldable pub listed : ℕ → ℕ → (ℕ → ℕ) → List ℕ
+listed zero i f = []
+listed (suc n) i f = f i ∷ listed n (i + 1) f
+
+-- the sixteen words of a row at a version
+abbrev pub content_of : List ℕ → List Change → ℕ → ℕ → List ℕ
+content_of start log row k = listed 16 0 (λ i. stood start log row k i)
+
+-- The opening words of a board are those of a run: it has all rows, each with the content that a run begins with, and
+-- row 0, cells and digest rows are not free
+pub record IsRunsBoard (start : List ℕ) : Type 0 where
+  pub wide : 17 * 14242 ≤ length start
+  pub contents : (row i : ℕ) → 0 < row → row < 14242 → i < 16
+      → slice_index start (word_at row i) ≡ slice_index (opening_content row) i
+  pub allocated : (row : ℕ) → opens_free row ≡ false → slice_index start (lock_at row) ≢ 0
+
+-- the writer's sets, newest first
+unfoldable pub settings_in : List Written → List Setting
+settings_in [] = []
+settings_in (s ∷ ss) = record { word = s.word; version = s.version; flags = s.flags } ∷ settings_in ss
+
+-- Each set of these actors' calls is one that the writer made, and it made no other. The words tell of no maker: this
+-- is for the kept value to tell, which has the writer between two actions
+abbrev pub AreWritten : List (List Call) → List Written → Type 0
+AreWritten actors sets = (h : Setting → ℕ) → total h (sets_of (all_calls actors)) ≡ total h (settings_in sets)
+
+-- A root that is alone and has taken in the seats of all actors, meets the writer, and has told all tickets, knows one
+-- order of all changes, of all sets and of all tickets, and each call found and left what stood at its version
+abbrev pub JointLaw : Type 0
+JointLaw = (flags start words : List ℕ) (v : View) (w pen : WordView) (t : TicketView) (actors : List Worked)
+    → AreGathered actors v w t → IsRunsBoard start → (h : History start words v)
+    → IsTold (opening_words flags) (met w pen) pen → AreWritten (calls_of_all actors) pen.sets → IsComplete t
+    → (draws : List Draw)
+    × Joint flags (calls_of_all actors) (content_of start h.t.log) (ats_of h.t.log) (settings_in pen.sets) draws
