@@ -109,7 +109,7 @@ module _ (start words : List ℕ) (v : View) (h : History start words v) (o : Is
   low_is begun action after r k puts p m s = omega (arith, m.version_is, s.low, ap (version log) m.row_is)
 
   -- a read found the content at its version, and a free word was seen of a row that was released at it
-  read_is : (begun : Start) (row k action after : ℕ) (f : Finished) → IsFinished begun row k action after f → IsRead start h.t f → (content row k ≡ f.content) × (k ≤ version log row)
+  pub read_is : (begun : Start) (row k action after : ℕ) (f : Finished) → IsFinished begun row k action after f → IsRead start h.t f → (content row k ≡ f.content) × (k ≤ version log row)
   read_is begun row k action after f m r =
       let same : content f.row f.version ≡ f.content = whole_is start h.t.log f.row f.version f.content r.wide r.content_is in
       (sym (ap (λ z. content z f.version) m.row_is ∙ ap (content row) m.version_is) ∙ same, omega (arith, m.version_is, r.below, ap (version log) m.row_is))

@@ -76,7 +76,7 @@ tied_ats start (Enters label labels ∷ calls) made t = tied_ats start calls mad
 tied_ats start (Leaves ∷ calls) [] t = absurd t
 tied_ats start (Leaves ∷ calls) (p ∷ made) t = ap (λ z. z ++ changes_of calls) (first_at p t.1.row_is) ∙ ap (λ z. ats_by p ++ z) (tied_ats start calls made t.3)
 
-tied_marks : (start : Start) (calls : List Call) (made : List Change) → IsTied start calls made → marks_of calls ≡ marks_in made
+pub tied_marks : (start : Start) (calls : List Call) (made : List Change) → IsTied start calls made → marks_of calls ≡ marks_in made
 unfolding marks_of marks_in
 tied_marks start [] made t = sym (ap marks_in t)
 tied_marks start (Adds row amount (Counted r v) ∷ calls) [] t = absurd t
@@ -173,7 +173,7 @@ mark_step true true n = refl
 mark_step true false n = omega arith
 mark_step false c n = refl
 
-mark_counts : (log : List Change) (row : ℕ) → marked (marks_in log) row ≡ version log row
+pub mark_counts : (log : List Change) (row : ℕ) → marked (marks_in log) row ≡ version log row
 unfolding marks_in marked
 mark_counts [] row = refl
 mark_counts (p ∷ ps) row = mark_step (p.row == row) p.puts (marked (marks_in ps) row) ∙ ap (λ n. cond (p.row == row) (n + cond p.puts 1 0) n) (mark_counts ps row)

@@ -15,3 +15,6 @@ pub mod Flags
 pub mod Totals
 pub mod Tickets
 pub mod Together
+pub mod Floors
+pub mod Causes
+pub mod Ordering

@@ -1,7 +1,7 @@
 //! Laws of the definitions.
 
 ghost use Rattle.pfs_seats.specs.Gathered.{ChangedLaw, GatherLaw};
-ghost use Rattle.pfs_seats.specs.Shared.{JointLaw};
+ghost use Rattle.pfs_seats.specs.Shared.{JointLaw, OrderLaw};
 
 /// The seats that a root takes in leave their actors' calls tied to what the root has: each actor's changes, loads,
 /// meets and tickets are a part of its lists, one actor after another, and what their calls showed is among its
@@ -23,4 +23,11 @@ pub fn changed()
 /// that the writer made are the actors'.
 pub fn joint()
     ensures { JointLaw }
+{}
+
+/// What a root knows that is alone, holds no row and has taken in the seats of all actors, of the order of their calls:
+/// the numbers of the actions, that no call is below what actions gave that its actor knew as ended, and why each call
+/// was held back, busy or late. Of the sets of words it is asked that they have an order of this kind.
+pub fn ordered()
+    ensures { OrderLaw }
 {}
