@@ -21,7 +21,7 @@ at row v puts = record { row = row; version = v; puts = puts }
 abbrev Tied : Worked → List Change → Type 0
 Tied a made = IsTied a.start.board a.calls made
 
-total_append : {A : Type 0} (h : A → ℕ) (xs ys : List A) → total h (xs ++ ys) ≡ total h xs + total h ys
+pub total_append : {A : Type 0} (h : A → ℕ) (xs ys : List A) → total h (xs ++ ys) ≡ total h xs + total h ys
 unfolding total
 total_append h [] ys = sym (zero-add (total h ys))
 total_append h (x ∷ xs) ys = ap (λ n. h x + n) (total_append h xs ys) ∙ sym (add_assoc (h x) (total h xs) (total h ys))

@@ -18,3 +18,4 @@ pub mod Together
 pub mod Floors
 pub mod Causes
 pub mod Ordering
+pub mod Written

@@ -10,7 +10,7 @@ use Rattle.pfs_board.specs.Knowledge.{held}
 use Rattle.pfs_levels.specs.Calls.{Call}
 use Rattle.pfs_levels.specs.Contents.{opening_content}
 use Rattle.pfs_levels.specs.Joint.{total, opens_free, Setting, sets_of, Draw, Joint, all_calls}
-use Rattle.pfs_levels.specs.Order.{Mark, AreMarked, all_word_marks, AllCalls, AreFloored, Order}
+use Rattle.pfs_levels.specs.Order.{Mark, all_word_marks, AllCalls, AreFloored, Order}
 use Rattle.pfs_seats.specs.Gathered.{Worked, calls_of_all, AreGathered, ats_of, marks_in}
 use Rattle.pfs_switches.specs.declared.view.Setting.{Setting as Written}
 use Rattle.pfs_switches.specs.declared.view.View.{View as WordView}
@@ -56,18 +56,17 @@ JointLaw = (flags start words : List ℕ) (v : View) (w pen : WordView) (t : Tic
     → (draws : List Draw)
     × Joint flags (calls_of_all actors) (content_of start h.t.log) (ats_of h.t.log) (settings_in pen.sets) draws
 
--- the marks of these actors' sets, in one order in which each has its word's next version; and no set, load or meet is
--- below what actions set that its actor knew as ended. The words tell of no maker and of no action: this, too, is for
--- the kept value to tell
-pub record AreSetInOrder (actors : List (List Call)) (sets : List Mark) : Type 0 where
-  pub chain : AreMarked sets
-  pub once : (h : Mark → ℕ) → total h (all_word_marks actors) ≡ total h sets
-  pub floored : AllCalls (AreFloored [] sets) actors
+-- No set, load or meet is below what the actions set that its actor knew as ended. The words tell of no action: this,
+-- too, is for the kept value to tell
+abbrev pub AreWordsFloored : List (List Call) → Type 0
+AreWordsFloored actors = AllCalls (AreFloored [] (all_word_marks actors)) actors
 
--- A root that is alone, holds no row and has taken in the seats of all actors, knows the order of their calls: the
--- numbers of actions, floors, and the causes of what was held back
+-- A root that is alone, holds no row, has taken in the seats of all actors and meets the writer, knows the order of
+-- their calls: the numbers of the actions, floors, and the causes of what was held back
 abbrev pub OrderLaw : Type 0
-OrderLaw = (start words : List ℕ) (v : View) (w : WordView) (t : TicketView) (actors : List Worked)
-    → AreGathered actors v w t → IsRunsBoard start → held v.rows ≡ 0 → (h : History start words v) → (sets : List Mark)
-    → AreSetInOrder (calls_of_all actors) sets
-    → Order (calls_of_all actors) (content_of start h.t.log) (marks_in h.t.log) sets (labels_of h.t.log)
+OrderLaw = (flags start words : List ℕ) (v : View) (w pen : WordView) (t : TicketView) (actors : List Worked)
+    → AreGathered actors v w t → IsRunsBoard start → held v.rows ≡ 0 → (h : History start words v)
+    → IsTold (opening_words flags) (met w pen) pen → AreWritten (calls_of_all actors) pen.sets
+    → AreWordsFloored (calls_of_all actors)
+    → (sets : List Mark)
+    × Order (calls_of_all actors) (content_of start h.t.log) (marks_in h.t.log) sets (labels_of h.t.log)

@@ -25,9 +25,10 @@ pub fn joint()
     ensures { JointLaw }
 {}
 
-/// What a root knows that is alone, holds no row and has taken in the seats of all actors, of the order of their calls:
-/// the numbers of the actions, that no call is below what actions gave that its actor knew as ended, and why each call
-/// was held back, busy or late. Of the sets of words it is asked that they have an order of this kind.
+/// What a root knows that is alone, holds no row, has taken in the seats of all actors and meets the writer of the
+/// words, of the order of their calls: the numbers of the actions, that no call is below what actions gave that its
+/// actor knew as ended, and why each call was held back, busy or late. Of the words it is asked that the writer's sets
+/// are the actors', and that what actions set is below what those say of words that knew them as ended.
 pub fn ordered()
     ensures { OrderLaw }
 {}
