@@ -20,6 +20,10 @@ listed_is (suc n) i f (x ∷ xs) e h =
     let same : (i + 1) + j ≡ i + suc j = omega arith in ap f same ∙ h (suc j) (omega (arith, low))) in
     ap (λ z. z ∷ listed n (i + 1) f) here ∙ ap (λ z. x ∷ z) rest
 
+pub opening_wide : (b : Bool) → length (cond b zero_words (replicate 16 0)) ≡ 16
+opening_wide true = refl
+opening_wide false = refl
+
 module _ (start : List ℕ) where
   -- what a change found and put stands in the history, at its version and the one that it found
   pub record Stays (log : List Change) (p : Change) : Type 0 where
@@ -85,10 +89,6 @@ module _ (start : List ℕ) where
   stood_first : (log : List Change) (r i : ℕ) → IsChain start log → stood start log r 0 i ≡ slice_index start (word_at r i)
   stood_first [] r i c = refl
   stood_first (p ∷ ps) r i c = stood_before start p ps r 0 i c.0 (omega arith) ∙ stood_first ps r i c.1
-
-  opening_wide : (b : Bool) → length (cond b zero_words (replicate 16 0)) ≡ 16
-  opening_wide true = refl
-  opening_wide false = refl
 
   pub opens : (log : List Change) → IsChain start log → IsRunsBoard start → (row : ℕ) → 0 < row → row < 14242 → content_of start log row 0 ≡ opening_content row
   opens log c o row some low =

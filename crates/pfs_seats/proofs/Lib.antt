@@ -19,3 +19,4 @@ pub mod Floors
 pub mod Causes
 pub mod Ordering
 pub mod Written
+pub mod Openings

@@ -98,8 +98,8 @@ paired (s ∷ ss) marks e =
     let version : m.one.version ≡ s.version = eqb-true m.one.version s.version y.0 in
     let puts : m.one.puts ≡ true = bits_true m.one.puts y.1 in
     let fewer : (q : Weight) → total (of_mark q) m.rest ≡ total (of_set q) ss = λ q.
-        let same : of_mark q m.one ≡ of_set q s = weighs_same q m.one.row s.word m.one.version s.version m.one.puts row version puts in
-        omega (arith, e q, m.sums (of_mark q), total_one (of_set q) s ss, same) in
+    let same : of_mark q m.one ≡ of_set q s = weighs_same q m.one.row s.word m.one.version s.version m.one.puts row version puts in
+    omega (arith, e q, m.sums (of_mark q), total_one (of_set q) s ss, same) in
     let rest = paired ss m.rest fewer in
     record {
       order = m.one ∷ rest.order;

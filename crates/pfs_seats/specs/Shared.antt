@@ -1,10 +1,11 @@
 -- What all actors have in common, as a root that is alone is told it of the board, the setup words and the tickets.
-use Rattle.std.specs.Prelude.{ℕ, ◌≡◌, ◌≢◌, ◌+◌, ◌*◌, ◌<◌, ◌≤◌, false, List, [], ◌∷◌, length, slice_index}
+use Rattle.std.specs.Prelude.{ℕ, ◌≡◌, ◌≢◌, ◌+◌, ◌*◌, ◌<◌, ◌≤◌, false, not, List, [], ◌∷◌, length, slice_index}
 use Rattle.std.proofs.Common.{zero, suc}
 use Rattle.pfs_board.specs.declared.answers.Opening.{Opening as FirstRow}
 use Rattle.pfs_board.specs.declared.view.Change.{Change}
 use Rattle.pfs_board.specs.declared.view.View.{View}
 use Rattle.pfs_board.specs.Closing.{History}
+use Rattle.pfs_board.specs.Opening.{opening_words as board_words, row_of}
 use Rattle.pfs_board.specs.History.{lock_at, word_at, stood, labels_of}
 use Rattle.pfs_board.specs.Knowledge.{held}
 use Rattle.pfs_levels.specs.Calls.{Call}
@@ -36,6 +37,15 @@ pub record IsRunsBoard (start : List ℕ) : Type 0 where
   pub contents : (row i : ℕ) → 0 < row → row < 14242 → i < 16
       → slice_index start (word_at row i) ≡ slice_index (opening_content row) i
   pub allocated : (row : ℕ) → opens_free row ≡ false → slice_index start (lock_at row) ≢ 0
+
+-- a row as a run begins with it
+abbrev pub IsFirstRow : ℕ → FirstRow → Type 0
+IsFirstRow row o = (o.allocated ≡ not (opens_free row)) × (o.content ≡ opening_content row)
+
+-- a board that opens with these rows is a run's
+abbrev pub OpenedLaw : Type 0
+OpenedLaw = (rows : List FirstRow) → length rows ≡ 14242
+    → ((row : ℕ) → row < 14242 → IsFirstRow row (row_of rows row)) → IsRunsBoard (board_words rows)
 
 -- the writer's sets, newest first
 unfoldable pub settings_in : List Written → List Setting

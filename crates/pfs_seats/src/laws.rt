@@ -1,7 +1,7 @@
 //! Laws of the definitions.
 
 ghost use Rattle.pfs_seats.specs.Gathered.{ChangedLaw, GatherLaw};
-ghost use Rattle.pfs_seats.specs.Shared.{JointLaw, OrderLaw};
+ghost use Rattle.pfs_seats.specs.Shared.{JointLaw, OpenedLaw, OrderLaw};
 
 /// The seats that a root takes in leave their actors' calls tied to what the root has: each actor's changes, loads,
 /// meets and tickets are a part of its lists, one actor after another, and what their calls showed is among its
@@ -15,6 +15,11 @@ pub fn gathered()
 /// numbers are 1, 2 and so on, and never fall along a row; and each actor's calls rise.
 pub fn changed()
     ensures { ChangedLaw }
+{}
+
+/// A board that opens with the 14,242 rows of a run is one of which `joint` and `ordered` speak.
+pub fn opened()
+    ensures { OpenedLaw }
 {}
 
 /// What a root knows that is alone, has taken in the seats of all actors, meets the writer of the words and has told
