@@ -20,3 +20,5 @@ pub mod Causes
 pub mod Ordering
 pub mod Written
 pub mod Openings
+pub mod Meeting
+pub mod Examples

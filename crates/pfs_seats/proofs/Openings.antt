@@ -15,11 +15,11 @@ words_long : (rows : List Opening) → AreWide rows → length (words_of rows) �
 words_long [] w = refl
 words_long (o ∷ os) w = omega (arith, w.0, length-append o.content (words_of os), words_long os w.1)
 
-board_long : (rows : List Opening) → AreWide rows → length (opening_words rows) ≡ 17 * length rows
+pub board_long : (rows : List Opening) → AreWide rows → length (opening_words rows) ≡ 17 * length rows
 board_long [] w = refl
 board_long (o ∷ os) w = omega (arith, w.0, length-append o.content (words_of os), words_long os w.1)
 
-all_wide : (rows : List Opening) → ((row : ℕ) → row < length rows → length (row_of rows row).content ≡ 16) → AreWide rows
+pub all_wide : (rows : List Opening) → ((row : ℕ) → row < length rows → length (row_of rows row).content ≡ 16) → AreWide rows
 all_wide [] f = tt
 all_wide (o ∷ os) f = (f 0 (omega arith), all_wide os (λ row low. f (suc row) (omega (arith, low))))
 

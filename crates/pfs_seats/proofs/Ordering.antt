@@ -9,7 +9,7 @@ use Rattle.pfs_board.specs.Closing.{History}
 use Rattle.pfs_board.specs.Knowledge.{corner, newcomer, is_holding, held}
 use Rattle.pfs_board.proofs.VersionFacts.{each_made}
 use Rattle.pfs_levels.specs.Calls.{Call}
-use Rattle.pfs_levels.specs.Order.{Mark, marks_of, AllCalls, AreFloored, AreCaused}
+use Rattle.pfs_levels.specs.Order.{Mark, marks_of, all_word_marks, AllCalls, AreFloored, AreCaused}
 use Rattle.pfs_seats.specs.Gathered.{Worked, calls_of_all, AreParts, AllShown, AllDone, AreChanged, marks_in}
 use Rattle.pfs_seats.specs.Shared.{content_of, settings_in, IsRunsBoard, OrderLaw}
 use Rattle.pfs_seats.specs.Ties.{IsTied}
@@ -17,6 +17,7 @@ use Rattle.pfs_seats.proofs.Causes.{Covers, own_made, caused}
 use Rattle.pfs_seats.proofs.Floors.{Below, all_below, floored}
 use Rattle.pfs_seats.proofs.Histories.{changed, tied_marks}
 use Rattle.pfs_seats.proofs.Flags.{words_chain}
+use Rattle.pfs_seats.proofs.Meeting.{all_floors}
 use Rattle.pfs_seats.proofs.Together.{each_front, each_back}
 use Rattle.pfs_seats.proofs.Written.{Marked, in_order}
 
@@ -59,7 +60,7 @@ module _ (start words : List ℕ) (v : View) (h : History start words v) (o : Is
       )
 
 pub ordered : OrderLaw
-ordered flags start words v w pen t actors g o empty h told written floors =
+ordered flags start words v w pen t actors g o empty h told written known =
     let c : AreChanged (calls_of_all actors) h.t.log = changed start words v w t actors g h in
     let covers : Covers h.t.log v.made = λ P e. each_made P v.made h.t.log h.once e in
     let P : Change → Type 0 = λ p. board.Each (Below p) h.t.log in
@@ -72,7 +73,7 @@ ordered flags start words v w pen t actors g o empty h told written floors =
         once = c.marks_once;
         words_once = r.once;
         ended = c.ended;
-        floored = all_floored start words v h o empty r.order actors v.made g.tied g.shown g.done (covers P (all_below start h.t.log h.chain)) (r.floored floors);
+        floored = all_floored start words v h o empty r.order actors v.made g.tied g.shown g.done (covers P (all_below start h.t.log h.chain)) (r.floored (all_floors (all_word_marks (calls_of_all actors)) (calls_of_all actors) c.rising known));
         rising = c.rising;
         caused = all_caused start words v h o empty actors v.made g.tied g.shown covers;
         named = c.named;

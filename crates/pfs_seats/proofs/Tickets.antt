@@ -158,7 +158,7 @@ no_times : (k t : ℕ) (xs : List Drawn) → 4 ≤ k → Each (λ (x : Drawn). x
 no_times k t [] up e = refl
 no_times k t (x ∷ xs) up e = rw (ne_eqb x.kind k (λ z. absurd (omega (arith, z, up, e.0)))) (no_times k t xs up e.1)
 
-lt_cases : (a b : ℕ) → ((a < b) × (nat_lt a b ≡ true)) ⊎ ((b ≤ a) × (nat_lt a b ≡ false))
+pub lt_cases : (a b : ℕ) → ((a < b) × (nat_lt a b ≡ true)) ⊎ ((b ≤ a) × (nat_lt a b ≡ false))
 lt_cases a b = at (nat_lt a b) refl where
   at : (c : Bool) → nat_lt a b ≡ c → ((a < b) × (nat_lt a b ≡ true)) ⊎ ((b ≤ a) × (nat_lt a b ≡ false))
   at true e = inl (grind (arith, nat_tests), e)

@@ -1,5 +1,5 @@
 -- What all actors have in common, as a root that is alone is told it of the board, the setup words and the tickets.
-use Rattle.std.specs.Prelude.{ℕ, ◌≡◌, ◌≢◌, ◌+◌, ◌*◌, ◌<◌, ◌≤◌, false, not, List, [], ◌∷◌, length, slice_index}
+use Rattle.std.specs.Prelude.{ℕ, ◌≡◌, ◌≢◌, ◌+◌, ◌*◌, ◌<◌, ◌≤◌, Bool, true, false, not, List, [], ◌∷◌, length, slice_index}
 use Rattle.std.proofs.Common.{zero, suc}
 use Rattle.pfs_board.specs.declared.answers.Opening.{Opening as FirstRow}
 use Rattle.pfs_board.specs.declared.view.Change.{Change}
@@ -8,10 +8,10 @@ use Rattle.pfs_board.specs.Closing.{History}
 use Rattle.pfs_board.specs.Opening.{opening_words as board_words, row_of}
 use Rattle.pfs_board.specs.History.{lock_at, word_at, stood, labels_of}
 use Rattle.pfs_board.specs.Knowledge.{held}
-use Rattle.pfs_levels.specs.Calls.{Call}
+use Rattle.pfs_levels.specs.Calls.{Call, Adds, Rings, Reads, Loads, Draws, Takes, Puts, Frees, Sets, Enters, Leaves, Meets, action_in, after_in}
 use Rattle.pfs_levels.specs.Contents.{opening_content}
 use Rattle.pfs_levels.specs.Joint.{total, opens_free, Setting, sets_of, Draw, Joint, all_calls}
-use Rattle.pfs_levels.specs.Order.{Mark, all_word_marks, AllCalls, AreFloored, Order}
+use Rattle.pfs_levels.specs.Order.{Mark, all_word_marks, above, top_word, AllCalls, Order}
 use Rattle.pfs_seats.specs.Gathered.{Worked, calls_of_all, AreGathered, ats_of, marks_in}
 use Rattle.pfs_switches.specs.declared.view.Setting.{Setting as Written}
 use Rattle.pfs_switches.specs.declared.view.View.{View as WordView}
@@ -66,10 +66,45 @@ JointLaw = (flags start words : List ℕ) (v : View) (w pen : WordView) (t : Tic
     → (draws : List Draw)
     × Joint flags (calls_of_all actors) (content_of start h.t.log) (ats_of h.t.log) (settings_in pen.sets) draws
 
--- No set, load or meet is below what the actions set that its actor knew as ended. The words tell of no action: this,
--- too, is for the kept value to tell
-abbrev pub AreWordsFloored : List (List Call) → Type 0
-AreWordsFloored actors = AllCalls (AreFloored [] (all_word_marks actors)) actors
+-- the actor has met the writer since its newest action began, or is in its first one not yet
+abbrev pub has_met : List Call → Bool
+has_met [] = true
+has_met (Meets versions ∷ calls) = true
+has_met (Enters label labels ∷ calls) = false
+has_met (Leaves ∷ calls) = has_met calls
+has_met (Adds row amount answer ∷ calls) = has_met calls
+has_met (Rings row content answer ∷ calls) = has_met calls
+has_met (Reads row seen ∷ calls) = has_met calls
+has_met (Loads at version flags ∷ calls) = has_met calls
+has_met (Draws kind ticket ∷ calls) = has_met calls
+has_met (Takes row version found ∷ calls) = has_met calls
+has_met (Puts row content version ∷ calls) = has_met calls
+has_met (Frees row version ∷ calls) = has_met calls
+has_met (Sets at flags version ∷ calls) = has_met calls
+
+-- A load or a set has a meet of its actor's newest action behind it. Where an actor meets the writer, it learns of no
+-- version below what the actions set that it knew as ended; and as its action ends it has named none below what the
+-- actions up to its own set. The words tell of no action: these two are for the kept value to tell, which has the
+-- writer between two actions
+abbrev pub KnowsSets : List Mark → List Call → Call → Type 0
+KnowsSets marks calls (Loads at version flags) = (at < 160) × (has_met calls ≡ true)
+KnowsSets marks calls (Sets at flags version) = (at < 160) × (has_met calls ≡ true)
+KnowsSets marks calls (Meets versions) =
+    (at : ℕ) → at < 160 → above marks at (slice_index versions at) (after_in calls) ≡ 0
+KnowsSets marks calls Leaves =
+    has_met calls ≡ true → (at : ℕ) → at < 160 → above marks at (top_word calls at) (action_in calls) ≡ 0
+KnowsSets marks calls (Adds row amount answer) = Unit {0}
+KnowsSets marks calls (Rings row content answer) = Unit {0}
+KnowsSets marks calls (Reads row seen) = Unit {0}
+KnowsSets marks calls (Draws kind ticket) = Unit {0}
+KnowsSets marks calls (Takes row version found) = Unit {0}
+KnowsSets marks calls (Puts row content version) = Unit {0}
+KnowsSets marks calls (Frees row version) = Unit {0}
+KnowsSets marks calls (Enters label labels) = Unit {0}
+
+abbrev pub AllKnowSets : List Mark → List Call → Type 0
+AllKnowSets marks [] = Unit {0}
+AllKnowSets marks (call ∷ calls) = KnowsSets marks calls call × AllKnowSets marks calls
 
 -- A root that is alone, holds no row, has taken in the seats of all actors and meets the writer, knows the order of
 -- their calls: the numbers of the actions, floors, and the causes of what was held back
@@ -77,6 +112,6 @@ abbrev pub OrderLaw : Type 0
 OrderLaw = (flags start words : List ℕ) (v : View) (w pen : WordView) (t : TicketView) (actors : List Worked)
     → AreGathered actors v w t → IsRunsBoard start → held v.rows ≡ 0 → (h : History start words v)
     → IsTold (opening_words flags) (met w pen) pen → AreWritten (calls_of_all actors) pen.sets
-    → AreWordsFloored (calls_of_all actors)
+    → AllCalls (AllKnowSets (all_word_marks (calls_of_all actors))) (calls_of_all actors)
     → (sets : List Mark)
     × Order (calls_of_all actors) (content_of start h.t.log) (marks_in h.t.log) sets (labels_of h.t.log)
