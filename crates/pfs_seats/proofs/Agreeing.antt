@@ -23,13 +23,7 @@ use Rattle.pfs_seats.specs.Ties.{IsMade, IsTied, IsSighted, IsFinished, WasOlder
 use Rattle.pfs_seats.proofs.Contents.{Says, whole_is}
 use Rattle.pfs_seats.proofs.Histories.{counts, yes_lt}
 use Rattle.pfs_seats.proofs.Labels.{some_each}
-use Rattle.pfs_seats.proofs.Turned.{away_if, here_if}
-
-some_same : (a b : ℕ) → Some a ≡ Some b → a ≡ b
-some_same a b e = cc
-
-none_some : (a : ℕ) → None ≡ Some a → ⊥
-none_some a e = cc
+use Rattle.pfs_seats.proofs.Turned.{away_if, here_if, some_same, none_some}
 
 -- what a call says of the words alone
 abbrev pub Flagged : List ℕ → List Setting → Call → Type 0

@@ -16,10 +16,11 @@ use Rattle.pfs_board.specs.Knowledge.{no_label, newcomer, corner, is_holding, he
 use Rattle.pfs_board.specs.Opening.{opening_words, row_of, lock_of, AreWide, AreOpened}
 use Rattle.pfs_board.specs.Rule.{Moment, FitsRow}
 use Rattle.pfs_board.proofs.OpeningFacts.{opening_law}
-use Rattle.pfs_levels.specs.Calls.{Call, Reads, Loads, Draws, Takes, Frees, Opening, hand_in}
+use Rattle.pfs_board.specs.declared.view.Label.{Label}
+use Rattle.pfs_levels.specs.Calls.{Call, Reads, Loads, Draws, Takes, Frees, Sets, Enters, Leaves, Meets, Opening, hand_in}
 use Rattle.pfs_levels.specs.Contents.{zero_words}
 use Rattle.pfs_levels.specs.Joint.{total, opens_free, Draw, sets_of, all_calls, Joint}
-use Rattle.pfs_levels.specs.Order.{Mark, all_word_marks, AllCalls, Order}
+use Rattle.pfs_levels.specs.Order.{Mark, mark, word_marks_of, all_word_marks, above, top_word, AllCalls, Order}
 use Rattle.pfs_rows.specs.declared.table.Seen.TheVariants.{Whole}
 use Rattle.pfs_seats.specs.Gathered.{Worked, AreGathered, IsDone, ats_of, marks_in}
 use Rattle.pfs_seats.specs.Shared.{content_of, settings_in, IsFirstRow, IsRunsBoard, AreWritten, AllKnowSets}
@@ -326,3 +327,65 @@ module _ (rows : List FirstRow) (many : length rows ≡ 14242) (each : (row : �
   pub two_ordered : (sets : List Mark) × Order (freeing ∷ reading ∷ []) (content_of start history_of) (marks_in history_of) sets (labels_of history_of)
   unfolding history
   two_ordered = ordered flags start start board_view word_view pen ticket_view both gathered runs empty history told written known
+
+-- Two actors that set word 39, the one in action 1 and the other in action 2, which meets the writer at version 1. What
+-- is asked of sets holds of them; it doesn't hold where the second meets the writer at version 0
+abbrev setting : ℕ → List ℕ → List Label → ℕ → ℕ → List Call
+setting session versions before k to = Leaves ∷ Sets 39 to k ∷ Meets versions ∷ Enters (record { session = session; line = 1 }) before ∷ []
+
+abbrev versions_of : ℕ → List ℕ
+versions_of k = replicate 39 0 ++ (k ∷ replicate 121 0)
+
+abbrev setters : ℕ → List (List Call)
+setters k = setting 2 (versions_of k) (record { session = 1; line = 1 } ∷ []) 2 3 ∷ setting 1 (versions_of 0) [] 1 1 ∷ []
+
+pub two_written : AreWritten (setters 1) (record { word = 39; version = 2; flags = 3 } ∷ record { word = 39; version = 1; flags = 1 } ∷ [])
+unfolding sets_of all_calls settings_in
+two_written h = refl
+
+abbrev two_marks : List Mark
+two_marks = mark 39 2 true 2 1 ∷ mark 39 1 true 1 0 ∷ []
+
+-- of no other word anything was set
+elsewhere : (at k after : ℕ) → 39 ≢ at → above two_marks at k after ≡ 0
+unfolding total
+elsewhere at k after e = rw (ne_eqb 39 at e) refl
+
+none_above : (f : ℕ → ℕ) (after : ℕ) → above two_marks 39 (f 39) after ≡ 0 → (at : ℕ) → above two_marks at (f at) after ≡ 0
+none_above f after here at = elim (cases_eq 39 at) [
+  | inl e ↦ let P : ℕ → Type 0 = λ z. above two_marks z (f z) after ≡ 0 in subst P e here
+  | inr e ↦ elsewhere at (f at) after e
+]
+
+marks_are : (k : ℕ) → all_word_marks (setters k) ≡ two_marks
+unfolding all_word_marks word_marks_of
+marks_are k = refl
+
+two_known_of : AllCalls (AllKnowSets two_marks) (setters 1)
+unfolding total
+two_known_of = (
+  (
+    (λ _ at low. none_above (λ z. top_word (Sets 39 3 2 ∷ Meets (versions_of 1) ∷ []) z) 2 refl at),
+    ((omega arith, refl), ((λ at low. none_above (λ z. slice_index (versions_of 1) z) 1 refl at), (tt, tt))),
+  ),
+  (
+    (
+      (λ _ at low. none_above (λ z. top_word (Sets 39 1 1 ∷ Meets (versions_of 0) ∷ []) z) 1 refl at),
+      ((omega arith, refl), ((λ at low. none_above (λ z. slice_index (versions_of 0) z) 0 refl at), (tt, tt))),
+    ),
+    tt,
+  ),
+)
+
+pub two_known : AllCalls (AllKnowSets (all_word_marks (setters 1))) (setters 1)
+two_known = let P : List Mark → Type 0 = λ z. AllCalls (AllKnowSets z) (setters 1) in subst P (sym (marks_are 1)) two_known_of
+
+one_not_none : (let one : ℕ = 1 in one ≡ 0) → ⊥
+one_not_none e = cc
+
+late_of : AllCalls (AllKnowSets two_marks) (setters 0) → ⊥
+unfolding total
+late_of h = one_not_none (h.0.1.1.0 39 (omega arith))
+
+pub one_meets_late : ¬ (AllCalls (AllKnowSets (all_word_marks (setters 0))) (setters 0))
+one_meets_late h = let P : List Mark → Type 0 = λ z. AllCalls (AllKnowSets z) (setters 0) in late_of (subst P (marks_are 0) h)

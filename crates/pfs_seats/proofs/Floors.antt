@@ -19,7 +19,7 @@ use Rattle.pfs_rows.specs.declared.table.Seen.TheVariants as sees
 use Rattle.pfs_seats.specs.Gathered.{marks_in}
 use Rattle.pfs_seats.specs.Ties.{IsMade, IsTied, IsFinished, AreShown}
 use Rattle.pfs_seats.proofs.Labels.{some_each}
-use Rattle.pfs_seats.proofs.Turned.{away_if, here_if}
+use Rattle.pfs_seats.proofs.Turned.{away_if, here_if, some_same, none_some}
 
 abbrev pub mark_of : Change → Mark
 mark_of p = mark p.row p.version p.puts p.action p.after
@@ -154,12 +154,6 @@ after_top (Frees row k ∷ calls) r = omega (arith, after_top calls r.1, top_up 
 after_top (Sets at to k ∷ calls) r = after_top calls r.1
 after_top (Enters label labels ∷ calls) r = omega arith
 after_top (Leaves ∷ calls) r = omega arith
-
-some_same : (a b : ℕ) → Some a ≡ Some b → a ≡ b
-some_same a b e = cc
-
-none_some : (a : ℕ) → None ≡ Some a → ⊥
-none_some a e = cc
 
 module _ (start words : List ℕ) (v : View) (h : History start words v) (sets : List Mark) where
   abbrev log : List Change

@@ -19,13 +19,11 @@ use Rattle.pfs_seats.proofs.Histories.{changed, tied_marks}
 use Rattle.pfs_seats.proofs.Flags.{words_chain}
 use Rattle.pfs_seats.proofs.Meeting.{all_floors}
 use Rattle.pfs_seats.proofs.Together.{each_front, each_back}
+use Rattle.pfs_seats.proofs.Turned.{none_some}
 use Rattle.pfs_seats.proofs.Written.{Marked, in_order}
 
 abbrev Tied : Worked → List Change → Type 0
 Tied a made = IsTied a.start.board a.calls made
-
-none_some : {A : Type 0} (a : ℕ) → None ≡ Some a → A
-none_some a e = absurd (cc)
 
 one_zero : (b : Bool) (n : ℕ) → cond b 1 0 + n ≡ 0 → (b ≡ false) × (n ≡ 0)
 one_zero true n e = absurd (omega (arith, e))
@@ -44,7 +42,7 @@ module _ (start words : List ℕ) (v : View) (h : History start words v) (o : Is
   all_floored sets (a ∷ actors) made g s d u f =
       let P : Change → Type 0 = λ p. board.Each (Below p) h.t.log in
       let U = subst (board.Each P) g.2 u in (
-        floored start words v h sets a.start.board a.calls g.0 g.3 s.0 d.0.rising (each_front P g.0 g.1 U) f.0 (λ row some k is. none_some k (sym (d.0.empty row some) ∙ is)),
+        floored start words v h sets a.start.board a.calls g.0 g.3 s.0 d.0.rising (each_front P g.0 g.1 U) f.0 (λ row some k is. absurd (none_some k (sym (d.0.empty row some) ∙ is))),
         all_floored sets actors g.1 g.4 s.1 d.1 (each_back P g.0 g.1 U) f.1,
       )
 

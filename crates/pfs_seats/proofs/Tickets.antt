@@ -6,6 +6,7 @@ use Rattle.pfs_levels.specs.Calls.{Call, Adds, Rings, Reads, Loads, Draws, Takes
 use Rattle.pfs_levels.specs.Joint.{total, one_if, Draw, draws_by, draws_of, drawn, AreDrawn, all_calls}
 use Rattle.pfs_seats.specs.Gathered.{Worked, calls_of_all, AreParts}
 use Rattle.pfs_seats.specs.Ties as ties
+use Rattle.pfs_seats.proofs.Floors.{both_true}
 use Rattle.pfs_seats.proofs.Totals.{total_one, total_nil, same_sums}
 use Rattle.pfs_tickets.specs.declared.view.Drawn.{Drawn}
 use Rattle.pfs_tickets.specs.declared.view.View.{View}
@@ -97,11 +98,6 @@ are_drawn f (suc k) = kind_drawn k (f k) (kinds_below f k) (none_yet f k k (omeg
 -- two draws are the same
 abbrev same : Draw → Draw → Bool
 same a b = (a.kind == b.kind) && (a.ticket == b.ticket)
-
-both_true : (a b : Bool) → a && b ≡ true → (a ≡ true) × (b ≡ true)
-both_true true true e = (refl, refl)
-both_true true false e = absurd (cc)
-both_true false b e = absurd (cc)
 
 same_is : (a b : Draw) → same a b ≡ true → a ≡ b
 same_is a b e =

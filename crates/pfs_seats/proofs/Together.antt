@@ -16,6 +16,7 @@ use Rattle.pfs_seats.proofs.Contents.{Stays, Says, all_stay, says, opens}
 use Rattle.pfs_seats.proofs.Flags.{IsSo, HasMet, flagged, words_chain}
 use Rattle.pfs_seats.proofs.Histories.{changed}
 use Rattle.pfs_seats.proofs.Tickets.{tickets_of, are_drawn, draws_once}
+use Rattle.pfs_seats.proofs.Turned.{none_some}
 use Rattle.pfs_switches.specs.declared.view.Loaded.{Loaded}
 use Rattle.pfs_switches.specs.declared.view.Met.{Met}
 use Rattle.pfs_switches.specs.declared.view.Setting.{Setting as Written}
@@ -51,9 +52,6 @@ Loading a loads = AreLoaded a.start a.calls loads
 abbrev Meeting : Worked → List Met → Type 0
 Meeting a meets = AreMet a.start.switches a.calls meets
 
-none_some : {A : Type 0} (a : ℕ) → None ≡ Some a → A
-none_some a e = absurd (cc)
-
 module _ (start words : List ℕ) (v : View) (h : History start words v) (o : IsRunsBoard start) (flags : List ℕ) (sets : List Written) where
   all_agree : (actors : List Worked) (made : List Change) (loads : List Loaded) (meets : List Met) → AreParts Tied actors made → AllShown v.reads v.sights v.entered actors → AllDone actors → AreParts Loading actors loads → AreParts Meeting actors meets
       → board.Each (Says start h.t.log) made → switches.Each (IsSo flags sets) loads → switches.Each (HasMet flags sets) meets
@@ -66,7 +64,7 @@ module _ (start words : List ℕ) (v : View) (h : History start words v) (o : Is
       let F = subst (switches.Each (HasMet flags sets)) m.2 f in
       let words_is : AllFlagged flags (settings_in sets) a.calls = flagged flags sets a.start a.calls l.0 m.0 l.3 m.3 (word_front (IsSo flags sets) l.0 l.1 E) (word_front (HasMet flags sets) m.0 m.1 F) in
       agree_join flags (content_of start h.t.log) (ats_of h.t.log) (settings_in sets) a.calls (all_calls (calls_of_all actors))
-      (agree start words v h o flags (settings_in sets) a.start.board a.calls g.0 g.3 s.0 (each_front (Says start h.t.log) g.0 g.1 Y) words_is (λ row some k is. none_some k (sym (d.0.empty row some) ∙ is)))
+      (agree start words v h o flags (settings_in sets) a.start.board a.calls g.0 g.3 s.0 (each_front (Says start h.t.log) g.0 g.1 Y) words_is (λ row some k is. absurd (none_some k (sym (d.0.empty row some) ∙ is))))
       (all_agree actors g.1 l.1 m.1 g.4 s.1 d.1 l.4 m.4 (each_back (Says start h.t.log) g.0 g.1 Y) (word_back (IsSo flags sets) l.0 l.1 E) (word_back (HasMet flags sets) m.0 m.1 F))
 
 pub joint : JointLaw
