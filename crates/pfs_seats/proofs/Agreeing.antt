@@ -1,12 +1,11 @@
 -- What each call of an actor found and left, by the contents of the history and the flags of the words.
-use Rattle.std.proofs.Common.{ℕ, ◌≡◌, ◌≢◌, ◌⊎◌, ◌+◌, ◌*◌, ◌/◌, ◌%◌, ◌==◌, ◌<◌, ◌≤◌, nat_lt, ◌&&◌, not, Bool, true, false, cond, List, [], ◌∷◌, ◌++◌, Option, Some, None, slice_index, length, refl, ap, sym, ◌∙◌, subst, inl, inr, ⊎_elim, arith, eq-eqb, ne_eqb, add-zero}
+use Rattle.std.proofs.Common.{ℕ, ◌≡◌, ◌≢◌, ◌⊎◌, ◌+◌, ◌*◌, ◌/◌, ◌%◌, ◌==◌, ◌<◌, ◌≤◌, nat_lt, ◌&&◌, not, Bool, true, false, cond, List, [], ◌∷◌, ◌++◌, Option, Some, None, slice_index, length, refl, ap, sym, ◌∙◌, subst, inl, inr, arith, eq-eqb, add-zero}
 use Rattle.std.proofs.lemmas.Bool.{cases_eq}
 use Rattle.pfs_board.specs.declared.view.Change.{Change}
-use Rattle.pfs_board.specs.declared.view.Entered.{Entered}
 use Rattle.pfs_board.specs.declared.view.Finished.{Finished}
 use Rattle.pfs_board.specs.declared.view.Sight.{Sight}
 use Rattle.pfs_board.specs.declared.view.View.{View}
-use Rattle.pfs_board.specs.History.{Each, Some_of, IsFreedAt, version, step_of, lock_at}
+use Rattle.pfs_board.specs.History.{Each, Some_of, IsFreedAt, version}
 use Rattle.pfs_board.specs.Rule.{IsRead, IsSight}
 use Rattle.pfs_board.specs.Closing.{History}
 use Rattle.pfs_board.proofs.HistoryFacts.{step_put, step_release}
@@ -14,10 +13,10 @@ use Rattle.pfs_levels.specs.declared.answers.Added.TheVariants.{Counted, Held}
 use Rattle.pfs_levels.specs.declared.answers.RingPut.TheVariants.{Done, Busy, Late}
 use Rattle.pfs_levels.specs.Calls.{Call, Adds, Rings, Reads, Loads, Draws, Takes, Puts, Frees, Sets, Enters, Leaves, Meets, Start, action_in, after_in, hand_in}
 use Rattle.pfs_levels.specs.Contents.{merged}
-use Rattle.pfs_levels.specs.Joint.{total, one_if, At, count, Setting, flags_at, word_version, opens_free, frees_at, IsNewer, Agrees, AllAgree, all_calls}
+use Rattle.pfs_levels.specs.Joint.{total, one_if, At, count, Setting, flags_at, word_version, opens_free, frees_at, IsNewer, AllAgree}
 use Rattle.pfs_rows.specs.declared.table.Seen.TheVariants.{Whole, Free}
 use Rattle.pfs_rows.specs.declared.table.Seen.TheVariants as sees
-use Rattle.pfs_seats.specs.Gathered.{ats_by, ats_of}
+use Rattle.pfs_seats.specs.Gathered.{ats_of}
 use Rattle.pfs_seats.specs.Shared.{content_of, IsRunsBoard}
 use Rattle.pfs_seats.specs.Ties.{IsMade, IsTied, IsSighted, IsFinished, WasOlder, AreShown, last_found}
 use Rattle.pfs_seats.proofs.Contents.{Says, whole_is}

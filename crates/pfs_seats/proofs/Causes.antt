@@ -1,5 +1,5 @@
 -- What was held back, busy or late has its cause.
-use Rattle.std.proofs.Common.{ℕ, ◌≡◌, ◌≢◌, ◌⊎◌, ◌+◌, ◌*◌, ◌/◌, ◌%◌, ◌==◌, ◌<◌, ◌≤◌, nat_lt, nat_le, ◌&&◌, not, Bool, true, false, cond, List, [], ◌∷◌, length, slice_index, refl, ap, sym, ◌∙◌, subst, inl, inr, ⊎_elim, arith, eq-eqb}
+use Rattle.std.proofs.Common.{ℕ, ◌≡◌, ◌≢◌, ◌⊎◌, ◌+◌, ◌/◌, ◌%◌, ◌==◌, ◌<◌, ◌≤◌, nat_lt, nat_le, ◌&&◌, not, Bool, true, false, List, [], ◌∷◌, slice_index, refl, ap, sym, ◌∙◌, subst, inl, inr, ⊎_elim, arith, eq-eqb}
 use Rattle.std.proofs.lemmas.Bool.{cases_eq, eqb-true}
 use Rattle.std.proofs.lemmas.Bool.Decides.{nat_tests}
 use Rattle.pfs_board.specs.declared.view.Change.{Change}
@@ -16,12 +16,12 @@ use Rattle.pfs_levels.specs.declared.answers.Added.TheVariants.{Counted, Held}
 use Rattle.pfs_levels.specs.declared.answers.RingPut.TheVariants.{Done, Busy, Late}
 use Rattle.pfs_levels.specs.Calls.{Call, Adds, Rings, Reads, Loads, Draws, Takes, Puts, Frees, Sets, Enters, Leaves, Meets, Start, action_in, after_in}
 use Rattle.pfs_levels.specs.Joint.{total, one_if}
-use Rattle.pfs_levels.specs.Order.{Mark, mark, top_in, is_between, published, released, IsOthers, IsCaused, IsOverdue, AreCaused}
+use Rattle.pfs_levels.specs.Order.{Mark, is_between, published, released, IsOthers, IsCaused, IsOverdue, AreCaused}
 use Rattle.pfs_rows.specs.declared.table.Seen.TheVariants.{Whole, Free}
 use Rattle.pfs_rows.specs.declared.table.Seen.TheVariants as sees
 use Rattle.pfs_seats.specs.Gathered.{marks_in}
 use Rattle.pfs_seats.specs.Shared.{content_of, IsRunsBoard}
-use Rattle.pfs_seats.specs.Ties.{IsMade, IsTied, IsSighted, IsFinished, WasRefused, AreAnothers, AreShown}
+use Rattle.pfs_seats.specs.Ties.{IsTied, IsSighted, IsFinished, WasRefused, AreAnothers, AreShown}
 use Rattle.pfs_seats.proofs.Agreeing.{read_is}
 use Rattle.pfs_seats.proofs.Floors.{mark_of, none_marked, some_marked, both_true, lt_true, le_true, Past, past_map, above_none, level_up, read_floor}
 use Rattle.pfs_seats.proofs.Histories.{mark_counts}

@@ -1,10 +1,8 @@
 -- The contents of the rows by version, from the history of a board, and what each change says of them.
-use Rattle.std.proofs.Common.{ℕ, zero, suc, ◌≡◌, ◌+◌, ◌*◌, ◌<◌, ◌≤◌, Bool, true, false, cond, List, [], ◌∷◌, ◌++◌, length, slice_index, get_or, refl, ap, sym, ◌∙◌, arith, add-zero, zero-add, replicate}
+use Rattle.std.proofs.Common.{ℕ, zero, suc, ◌≡◌, ◌+◌, ◌<◌, ◌≤◌, Bool, true, false, cond, List, [], ◌∷◌, length, slice_index, get_or, refl, ap, sym, ◌∙◌, arith, add-zero, zero-add, replicate}
 use Rattle.pfs_board.specs.declared.view.Change.{Change}
-use Rattle.pfs_board.specs.History as board
-use Rattle.pfs_board.specs.History.{Each, IsChain, Follows, version, step_of, stands, stood, word_at}
-use Rattle.pfs_board.proofs.HistoryFacts.{each_map, version_more, version_here, step_put, stands_put, stood_before, stood_now}
-use Rattle.pfs_board.proofs.VersionFacts.{each_made}
+use Rattle.pfs_board.specs.History.{Each, IsChain, Follows, version, step_of, stood, word_at}
+use Rattle.pfs_board.proofs.HistoryFacts.{each_map, version_more, version_here, stands_put, stood_before, stood_now}
 use Rattle.pfs_levels.specs.Contents.{is_cell, zero_words, opening_content}
 use Rattle.pfs_seats.specs.Shared.{listed, content_of, IsRunsBoard}
 

@@ -1,19 +1,18 @@
 -- Two actors of which the laws of a root that is alone speak: one reads a cell and then loads a word, the other draws
 -- a ticket, and then takes a ring place that was never written to and frees it.
-use Rattle.std.proofs.Common.{ℕ, ◌≡◌, ◌≢◌, ◌⊎◌, ◌+◌, ◌*◌, ◌/◌, ◌%◌, ◌==◌, ◌<◌, ◌≤◌, not, Bool, true, false, cond, List, [], ◌∷◌, ◌++◌, length, replicate, slice_index, get_or, Option, Some, None, refl, ap, sym, ◌∙◌, subst, inl, inr, arith, eq-eqb, ne_eqb}
+use Rattle.std.proofs.Common.{ℕ, ◌≡◌, ◌≢◌, ◌*◌, ◌/◌, ◌==◌, ◌<◌, not, Bool, true, false, cond, List, [], ◌∷◌, ◌++◌, length, replicate, slice_index, get_or, None, refl, ap, sym, ◌∙◌, subst, inl, inr, arith, eq-eqb, ne_eqb}
 use Rattle.std.proofs.lemmas.Bool.{cases_eq}
 use Rattle.std.proofs.lemmas.List.{get_or-replicate, get_or_past, length-replicate}
 use Rattle.atomic_table.specs.Seated.{TableId}
 use Rattle.pfs_board.specs.declared.answers.Opening.{Opening as FirstRow}
 use Rattle.pfs_board.specs.declared.view.Change.{Change}
 use Rattle.pfs_board.specs.declared.view.Finished.{Finished}
-use Rattle.pfs_board.specs.declared.view.Stage.{Stage}
-use Rattle.pfs_board.specs.declared.view.Stage.TheVariants.{Idle, Reading, Holding}
+use Rattle.pfs_board.specs.declared.view.Stage.TheVariants.{Idle, Reading}
 use Rattle.pfs_board.specs.declared.view.View.{View}
 use Rattle.pfs_board.specs.Closing.{History, IsFinalRow}
-use Rattle.pfs_board.specs.History.{version, stands, is_free, lock_at, word_at, labels_of}
+use Rattle.pfs_board.specs.History.{version, lock_at, word_at, labels_of}
 use Rattle.pfs_board.specs.Knowledge.{no_label, newcomer, corner, is_holding, held, root, IsWhole}
-use Rattle.pfs_board.specs.Opening.{opening_words, row_of, lock_of, AreWide, AreOpened}
+use Rattle.pfs_board.specs.Opening.{opening_words, row_of, AreWide, AreOpened}
 use Rattle.pfs_board.specs.Rule.{Moment, FitsRow}
 use Rattle.pfs_board.proofs.OpeningFacts.{opening_law}
 use Rattle.pfs_board.specs.declared.view.Label.{Label}
@@ -37,7 +36,6 @@ use Rattle.pfs_switches.specs.Knowledge.{spent, whole, writer, met}
 use Rattle.pfs_switches.specs.Opening.{opening_words as flag_words}
 use Rattle.pfs_tickets.specs.declared.view.Drawn.{Drawn}
 use Rattle.pfs_tickets.specs.declared.view.View.{View as TicketView}
-use Rattle.pfs_tickets.specs.History.{count_of, times}
 use Rattle.pfs_tickets.specs.Whole.{IsComplete}
 
 same_if : {A : Type 0} (b : Bool) (x : A) → cond b x x ≡ x

@@ -1,11 +1,11 @@
 -- What the calls say of the setup words, from what a meet of the root with the writer tells.
-use Rattle.std.proofs.Common.{ℕ, zero, suc, ◌≡◌, ◌+◌, ◌==◌, ◌<◌, ◌≤◌, ◌&&◌, Bool, true, false, cond, List, [], ◌∷◌, ◌++◌, slice_index, get_or, refl, ap, sym, ◌∙◌, subst, arith}
+use Rattle.std.proofs.Common.{ℕ, zero, suc, ◌≡◌, ◌+◌, ◌==◌, ◌<◌, ◌≤◌, ◌&&◌, Bool, true, false, cond, List, [], ◌∷◌, ◌++◌, slice_index, get_or, refl, ap, sym, ◌∙◌, arith}
 use Rattle.pfs_levels.specs.Calls.{Call, Adds, Rings, Reads, Loads, Draws, Takes, Puts, Frees, Sets, Enters, Leaves, Meets, Opening}
-use Rattle.pfs_levels.specs.Joint.{Setting, flags_at, word_version, AreWordsCounted}
+use Rattle.pfs_levels.specs.Joint.{flags_at, word_version, AreWordsCounted}
 use Rattle.pfs_seats.specs.Shared.{settings_in}
 use Rattle.pfs_seats.specs.Ties.{AreLoaded, AreMet}
 use Rattle.pfs_seats.specs.Ties as ties
-use Rattle.pfs_seats.proofs.Agreeing.{Flagged, AllFlagged}
+use Rattle.pfs_seats.proofs.Agreeing.{AllFlagged}
 use Rattle.pfs_switches.specs.declared.view.Loaded.{Loaded}
 use Rattle.pfs_switches.specs.declared.view.Met.{Met}
 use Rattle.pfs_switches.specs.declared.view.Setting.{Setting as Written}

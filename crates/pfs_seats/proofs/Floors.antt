@@ -5,7 +5,7 @@ use Rattle.std.proofs.lemmas.Bool.Decides.{nat_tests}
 use Rattle.pfs_board.specs.declared.view.Change.{Change}
 use Rattle.pfs_board.specs.declared.view.Finished.{Finished}
 use Rattle.pfs_board.specs.declared.view.View.{View}
-use Rattle.pfs_board.specs.History.{Each, Some_of, IsChain, Follows, version, version_of, step_of, level}
+use Rattle.pfs_board.specs.History.{Each, Some_of, IsChain, version, version_of, step_of, level}
 use Rattle.pfs_board.specs.Rule.{IsRead}
 use Rattle.pfs_board.specs.Closing.{History}
 use Rattle.pfs_board.proofs.HistoryFacts.{each_map, each_both, below_all, afters_below, level_put, level_release, step_put, step_release, either_way}
@@ -13,7 +13,7 @@ use Rattle.pfs_levels.specs.declared.answers.Added.TheVariants.{Counted, Held}
 use Rattle.pfs_levels.specs.declared.answers.RingPut.TheVariants.{Done, Busy, Late}
 use Rattle.pfs_levels.specs.Calls.{Call, Adds, Rings, Reads, Loads, Draws, Takes, Puts, Frees, Sets, Enters, Leaves, Meets, Start, action_in, after_in, hand_in}
 use Rattle.pfs_levels.specs.Joint.{total, one_if}
-use Rattle.pfs_levels.specs.Order.{Mark, mark, is_past, above, reaching, freed, AreFloored, top_in, IsRising, AreRising}
+use Rattle.pfs_levels.specs.Order.{Mark, mark, is_past, above, reaching, freed, AreFloored, top_in, AreRising}
 use Rattle.pfs_rows.specs.declared.table.Seen.TheVariants.{Whole, Free}
 use Rattle.pfs_rows.specs.declared.table.Seen.TheVariants as sees
 use Rattle.pfs_seats.specs.Gathered.{marks_in}

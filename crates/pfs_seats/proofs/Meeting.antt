@@ -1,15 +1,15 @@
 -- What an actor met of the words is not below what the actions set that it knew as ended, and so no load and no set is.
-use Rattle.std.proofs.Common.{ℕ, ◌≡◌, ◌+◌, ◌==◌, ◌<◌, ◌≤◌, nat_lt, nat_le, ◌&&◌, Bool, true, false, cond, List, [], ◌∷◌, slice_index, refl, ap, sym, ◌∙◌, subst, inl, inr, arith, eq-eqb, ne_eqb}
+use Rattle.std.proofs.Common.{ℕ, ◌≡◌, ◌==◌, ◌<◌, ◌≤◌, nat_lt, nat_le, ◌&&◌, Bool, true, false, cond, List, [], ◌∷◌, refl, ap, sym, subst, inl, inr, arith, eq-eqb, ne_eqb}
 use Rattle.std.proofs.lemmas.Bool.{cases_eq}
 use Rattle.std.proofs.lemmas.Bool.Decides.{nat_tests}
-use Rattle.pfs_levels.specs.Calls.{Call, Adds, Rings, Reads, Loads, Draws, Takes, Puts, Frees, Sets, Enters, Leaves, Meets, action_in, after_in}
+use Rattle.pfs_levels.specs.Calls.{Call, Adds, Rings, Reads, Loads, Draws, Takes, Puts, Frees, Sets, Enters, Leaves, Meets, after_in}
 use Rattle.pfs_levels.specs.Joint.{total, one_if}
-use Rattle.pfs_levels.specs.Order.{Mark, is_past, above, reaching, freed, AllCalls, AreFloored, top_word, AreRising}
+use Rattle.pfs_levels.specs.Order.{Mark, is_past, above, reaching, AllCalls, AreFloored, top_word, AreRising}
 use Rattle.pfs_levels.specs.declared.answers.Added.TheVariants.{Counted, Held}
 use Rattle.pfs_levels.specs.declared.answers.RingPut.TheVariants.{Done, Busy, Late}
 use Rattle.pfs_rows.specs.declared.table.Seen.TheVariants.{Whole, Free}
 use Rattle.pfs_rows.specs.declared.table.Seen.TheVariants as sees
-use Rattle.pfs_seats.specs.Shared.{has_met, KnowsSets, AllKnowSets}
+use Rattle.pfs_seats.specs.Shared.{has_met, AllKnowSets}
 
 -- a sum of ones over fewer is no greater
 fewer : (f g : Mark → Bool) → ((m : Mark) → f m ≡ true → g m ≡ true) → (ms : List Mark) → total (λ m. one_if (f m)) ms ≤ total (λ m. one_if (g m)) ms

@@ -1,14 +1,14 @@
 -- A board that opens with the rows of a run has the opening words of one.
-use Rattle.std.proofs.Common.{ℕ, zero, suc, ◌≡◌, ◌≢◌, ◌+◌, ◌*◌, ◌==◌, ◌<◌, ◌≤◌, nat_lt, nat_le, ◌&&◌, ◌||◌, not, Bool, true, false, cond, List, [], ◌∷◌, ◌++◌, length, slice_index, get_or, refl, ap, sym, ◌∙◌, subst, inl, inr, arith, eq-eqb, ne_eqb, replicate, length-append}
+use Rattle.std.proofs.Common.{ℕ, suc, ◌≡◌, ◌*◌, ◌<◌, nat_lt, nat_le, ◌&&◌, ◌||◌, not, Bool, true, false, cond, List, [], ◌∷◌, length, slice_index, refl, ap, sym, ◌∙◌, inl, inr, arith, ne_eqb, length-append}
 use Rattle.std.proofs.lemmas.Bool.{cases_eq}
 use Rattle.std.proofs.lemmas.Bool.Decides.{nat_tests}
 use Rattle.pfs_board.specs.declared.answers.Opening.{Opening}
 use Rattle.pfs_board.specs.History.{lock_at}
-use Rattle.pfs_board.specs.Opening.{lock_of, words_of, opening_words, row_of, AreWide, AreOpened}
+use Rattle.pfs_board.specs.Opening.{words_of, opening_words, row_of, AreWide, AreOpened}
 use Rattle.pfs_board.proofs.OpeningFacts.{opening_law}
-use Rattle.pfs_levels.specs.Contents.{is_cell, opening_content}
+use Rattle.pfs_levels.specs.Contents.{is_cell}
 use Rattle.pfs_levels.specs.Joint.{opens_free}
-use Rattle.pfs_seats.specs.Shared.{IsFirstRow, IsRunsBoard, OpenedLaw}
+use Rattle.pfs_seats.specs.Shared.{OpenedLaw}
 use Rattle.pfs_seats.proofs.Contents.{opening_wide}
 
 words_long : (rows : List Opening) → AreWide rows → length (words_of rows) ≡ 17 * length rows

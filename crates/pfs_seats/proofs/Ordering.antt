@@ -1,14 +1,13 @@
 -- What a root that is alone knows of the order of all actors' calls.
-use Rattle.std.proofs.Common.{ℕ, ◌≡◌, ◌+◌, ◌<◌, Bool, true, false, cond, List, [], ◌∷◌, ◌++◌, None, Some, ap, sym, ◌∙◌, subst, refl, arith}
+use Rattle.std.proofs.Common.{ℕ, ◌≡◌, ◌+◌, Bool, true, false, cond, List, [], ◌∷◌, sym, ◌∙◌, subst, refl, arith}
 use Rattle.std.proofs.Common.{zero, suc, get_or}
 use Rattle.pfs_board.specs.declared.view.Change.{Change}
 use Rattle.pfs_board.specs.declared.view.Corner.{Corner}
 use Rattle.pfs_board.specs.declared.view.View.{View}
 use Rattle.pfs_board.specs.History as board
 use Rattle.pfs_board.specs.Closing.{History}
-use Rattle.pfs_board.specs.Knowledge.{corner, newcomer, is_holding, held}
+use Rattle.pfs_board.specs.Knowledge.{newcomer, is_holding, held}
 use Rattle.pfs_board.proofs.VersionFacts.{each_made}
-use Rattle.pfs_levels.specs.Calls.{Call}
 use Rattle.pfs_levels.specs.Order.{Mark, marks_of, all_word_marks, AllCalls, AreFloored, AreCaused}
 use Rattle.pfs_seats.specs.Gathered.{Worked, calls_of_all, AreParts, AllShown, AllDone, AreChanged, marks_in}
 use Rattle.pfs_seats.specs.Shared.{content_of, settings_in, IsRunsBoard, OrderLaw}

@@ -1,5 +1,5 @@
 -- What a root that is alone knows of what all actors have in common.
-use Rattle.std.proofs.Common.{ℕ, ◌≡◌, ◌<◌, List, [], ◌∷◌, ◌++◌, None, Some, ap, sym, ◌∙◌, subst}
+use Rattle.std.proofs.Common.{ℕ, List, [], ◌∷◌, ◌++◌, sym, ◌∙◌, subst}
 use Rattle.pfs_board.specs.declared.view.Change.{Change}
 use Rattle.pfs_board.specs.declared.view.View.{View}
 use Rattle.pfs_board.specs.History as board
@@ -8,7 +8,7 @@ use Rattle.pfs_board.proofs.HistoryFacts.{each_map}
 use Rattle.pfs_board.proofs.VersionFacts.{each_made}
 use Rattle.pfs_levels.specs.Calls.{Call}
 use Rattle.pfs_levels.specs.Joint.{At, Setting, AllAgree, all_calls}
-use Rattle.pfs_seats.specs.Gathered.{Worked, calls_of_all, AreParts, AllShown, AllDone, AreGathered, AreChanged, ats_of}
+use Rattle.pfs_seats.specs.Gathered.{Worked, calls_of_all, AreParts, AllShown, AllDone, AreChanged, ats_of}
 use Rattle.pfs_seats.specs.Shared.{content_of, IsRunsBoard, settings_in, JointLaw}
 use Rattle.pfs_seats.specs.Ties.{IsTied, AreLoaded, AreMet}
 use Rattle.pfs_seats.proofs.Agreeing.{AllFlagged, agree}

@@ -1,5 +1,5 @@
 -- Lists in which each thing stands as often have the same sums.
-use Rattle.std.proofs.Common.{ℕ, ◌≡◌, ◌+◌, ◌<◌, Bool, true, false, cond, List, [], ◌∷◌, refl, ap, sym, ◌∙◌, arith}
+use Rattle.std.proofs.Common.{ℕ, ◌≡◌, ◌+◌, ◌<◌, Bool, true, false, List, [], ◌∷◌, refl, ap, sym, ◌∙◌, arith}
 use Rattle.pfs_levels.specs.Joint.{total, one_if}
 
 pub total_one : {A : Type 0} (h : A → ℕ) (x : A) (xs : List A) → total h (x ∷ xs) ≡ h x + total h xs

@@ -1,9 +1,9 @@
 -- The sets of words of all actors, in the order in which the writer made them.
-use Rattle.std.proofs.Common.{ℕ, ◌≡◌, ◌+◌, ◌==◌, ◌<◌, ◌≤◌, ◌&&◌, Bool, true, false, cond, List, [], ◌∷◌, ◌++◌, refl, ap, sym, ◌∙◌, arith, append_assoc, eq-eqb}
+use Rattle.std.proofs.Common.{ℕ, ◌≡◌, ◌+◌, ◌==◌, ◌<◌, ◌&&◌, Bool, true, false, cond, List, [], ◌∷◌, ◌++◌, refl, ap, sym, ◌∙◌, arith, append_assoc, eq-eqb}
 use Rattle.std.proofs.lemmas.Bool.{eqb-true}
-use Rattle.pfs_levels.specs.Calls.{Call, Adds, Rings, Reads, Loads, Draws, Takes, Puts, Frees, Sets, Enters, Leaves, Meets, action_in, after_in}
+use Rattle.pfs_levels.specs.Calls.{Call, Adds, Rings, Reads, Loads, Draws, Takes, Puts, Frees, Sets, Enters, Leaves, Meets}
 use Rattle.pfs_levels.specs.Joint.{total, one_if, Setting, sets_by, sets_of, word_version, AreWordsCounted, all_calls}
-use Rattle.pfs_levels.specs.Order.{Mark, mark, word_marks_of, all_word_marks, marked, AreMarked, AllCalls, AreFloored}
+use Rattle.pfs_levels.specs.Order.{Mark, word_marks_of, all_word_marks, marked, AreMarked, AllCalls, AreFloored}
 use Rattle.pfs_seats.proofs.Floors.{both_true}
 use Rattle.pfs_seats.proofs.Histories.{total_append}
 use Rattle.pfs_seats.proofs.Totals.{total_one, total_nil}
