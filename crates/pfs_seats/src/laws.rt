@@ -32,8 +32,9 @@ pub fn joint()
 
 /// What a root knows that is alone, holds no row, has taken in the seats of all actors and meets the writer of the
 /// words, of the order of their calls: the numbers of the actions, that no call is below what actions gave that its
-/// actor knew as ended, and why each call was held back, busy or late. Of the words it is asked that the writer's sets
-/// are the actors', and that what actions set is below what those say of words that knew them as ended.
+/// actor knew as ended, and why each call was held back, busy or late. Of sets it is asked that those that the writer
+/// made are the actors', that an actor meets the writer in an action before it loads or sets a word, and that each meet
+/// and each end of an action shows what ended actions set.
 pub fn ordered()
     ensures { OrderLaw }
 {}
