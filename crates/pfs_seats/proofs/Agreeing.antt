@@ -173,7 +173,7 @@ module _ (start words : List ℕ) (v : View) (h : History start words v) (o : Is
       let found : R = some_each P (IsRead start h.t) R (λ e m r. let d = read_is begun row k _ _ e m.0 r in (omega (arith, d.1, count_is row some), ap (λ z. slice_index z 15) d.0 ∙ m.1)) v.reads s.0.3 h.fits.reads in
       ((k, found), agree begun calls made t s.1 y f.1 w)
   agree begun (Reads row (Whole k found) ∷ calls) made t s y f w =
-      let some : 0 < row = s.0.0 in
+      let some : 0 < row = s.0.0.0 in
       let P : Finished → Type 0 = λ e. IsFinished begun row k (action_in calls) (after_in calls) e × (e.content ≡ found) in
       let R : Type 0 = (found ≡ content row k) × (k ≤ count (ats_of log) row) in
       (some_each P (IsRead start h.t) R (λ e m r. let d = read_is begun row k _ _ e m.0 r in (sym (d.0 ∙ m.1), omega (arith, d.1, count_is row some))) v.reads s.0.1 h.fits.reads, agree begun calls made t s.1 y f.1 w)

@@ -1,5 +1,5 @@
--- Two actors of which the laws of a root that is alone speak: one reads a cell and then loads a word, the other draws
--- a ticket, and then takes a ring place that was never written to and frees it.
+-- Two actors of which the laws of a root that is alone speak: one draws a ticket, and then takes a ring place that was
+-- never written to and frees it; the other, whose seat was split off behind that, reads a cell and then loads a word.
 use Rattle.std.proofs.Common.{ℕ, ◌≡◌, ◌≢◌, ◌*◌, ◌/◌, ◌==◌, ◌<◌, not, Bool, true, false, cond, List, [], ◌∷◌, ◌++◌, length, replicate, slice_index, get_or, None, refl, ap, sym, ◌∙◌, subst, inl, inr, arith, eq-eqb, ne_eqb}
 use Rattle.std.proofs.lemmas.Bool.{cases_eq}
 use Rattle.std.proofs.lemmas.List.{get_or-replicate, get_or_past, length-replicate}
@@ -18,15 +18,18 @@ use Rattle.pfs_board.proofs.OpeningFacts.{opening_law}
 use Rattle.pfs_board.specs.declared.view.Label.{Label}
 use Rattle.pfs_levels.specs.Calls.{Call, Reads, Loads, Draws, Takes, Frees, Sets, Enters, Leaves, Meets, Opening, hand_in}
 use Rattle.pfs_levels.specs.Contents.{zero_words}
-use Rattle.pfs_levels.specs.Joint.{total, opens_free, Draw, sets_of, all_calls, Joint}
-use Rattle.pfs_levels.specs.Order.{Mark, mark, word_marks_of, all_word_marks, above, top_word, AllCalls, Order}
+use Rattle.pfs_levels.specs.Joint.{total, opens_free, Draw, sets_of, word_version, all_calls, Joint}
+use Rattle.pfs_levels.specs.Order.{Mark, mark, marks_of, all_marks, word_marks_of, all_word_marks, above, top_word, AllCalls, Order}
 use Rattle.pfs_rows.specs.declared.table.Seen.TheVariants.{Whole}
 use Rattle.pfs_seats.specs.Gathered.{Worked, AreGathered, IsDone, ats_of, marks_in}
 use Rattle.pfs_seats.specs.Shared.{content_of, settings_in, IsFirstRow, IsRunsBoard, AreWritten, AllKnowSets}
 use Rattle.pfs_seats.proofs.Acting.{held_none}
 use Rattle.pfs_seats.proofs.Openings.{all_wide, board_long, opened}
 use Rattle.pfs_seats.proofs.Contents.{opening_wide}
+use Rattle.pfs_levels.specs.Since.{AllSince}
+use Rattle.pfs_seats.specs.Phases.{IsLater}
 use Rattle.pfs_seats.proofs.Ordering.{ordered}
+use Rattle.pfs_seats.proofs.Phases.{later}
 use Rattle.pfs_seats.proofs.Tickets.{lt_cases}
 use Rattle.pfs_seats.proofs.Together.{joint}
 use Rattle.pfs_switches.specs.declared.view.Loaded.{Loaded}
@@ -69,7 +72,7 @@ change = record {
 }
 
 abbrev finished : Finished
-finished = record { by = 1; row = 135; version = 0; action = 0; after = 0; base = 0; content = zero_words }
+finished = record { by = 1; row = 135; version = 0; action = 0; after = 0; base = 1; content = zero_words }
 
 abbrev history_of : List Change
 history_of = change ∷ []
@@ -209,7 +212,7 @@ module _ (rows : List FirstRow) (many : length rows ≡ 14242) (each : (row : �
           wide = refl;
           content_is = λ i low. sym (runs.contents 135 i (omega arith) (omega arith) low);
           opened = λ _ e. runs.allocated 135 refl e;
-          floor = record { ended = omega arith; split_at = omega arith; actions = ((λ _ some _. absurd (omega (arith, some))), tt); first = tt };
+          floor = record { ended = omega arith; split_at = omega arith; actions = ((λ _ some _. absurd (omega (arith, some))), tt); first = ((λ e. absurd (omega (arith, e))), tt) };
         },
         tt,
       );
@@ -219,10 +222,10 @@ module _ (rows : List FirstRow) (many : length rows ≡ 14242) (each : (row : �
     rows = λ r low. final r (omega (arith, low, long));
   }
 
-  abbrev begun : ℕ → Opening
-  begun n = record {
+  abbrev begun : ℕ → ℕ → Opening
+  begun n behind = record {
     flags = flags;
-    board = record { table = table; number = n; stake = 0; base = 0 };
+    board = record { table = table; number = n; stake = 0; base = behind };
     switches = record { table = table; number = n; stake = 0; base = 0 };
     tickets = record { table = table; number = n; stake = 0; base = 0 };
     words = [];
@@ -238,7 +241,7 @@ module _ (rows : List FirstRow) (many : length rows ≡ 14242) (each : (row : �
   freeing = Frees 8450 0 ∷ Takes 8450 0 (replicate 16 0) ∷ Draws 0 0 ∷ []
 
   abbrev both : List Worked
-  both = record { start = begun 2; calls = freeing } ∷ record { start = begun 1; calls = reading } ∷ []
+  both = record { start = begun 1 1; calls = reading } ∷ record { start = begun 2 0; calls = freeing } ∷ []
 
   abbrev load : Loaded
   load = record { by = 1; place = 0; word = 39; version = 0; flags = slice_index (flag_words flags) 39; first = 0; least = 0 }
@@ -264,7 +267,7 @@ module _ (rows : List FirstRow) (many : length rows ≡ 14242) (each : (row : �
     seen = λ r. omega (arith, never_set r);
   }
 
-  done_reading : IsDone (record { start = begun 1; calls = reading })
+  done_reading : IsDone (record { start = begun 1 1; calls = reading })
   done_reading = record { outside = refl; empty = λ row some. refl; rising = (omega arith, (omega arith, tt)) }
 
   hands : (row : ℕ) → hand_in freeing row ≡ None
@@ -273,58 +276,70 @@ module _ (rows : List FirstRow) (many : length rows ≡ 14242) (each : (row : �
     | inr e ↦ rw (ne_eqb 8450 row e) refl
   ]
 
-  done_freeing : IsDone (record { start = begun 2; calls = freeing })
+  done_freeing : IsDone (record { start = begun 2 0; calls = freeing })
   done_freeing = record { outside = refl; empty = λ row some. hands row; rising = (omega arith, (omega arith, (omega arith, tt))) }
 
   gathered : AreGathered both board_view word_view ticket_view
   gathered = record {
     tied = (
-      history_of,
       [],
+      history_of,
+      refl,
       refl,
       (
-        omega arith,
-        record { by_is = refl; base_is = refl; action_is = refl; after_is = refl; row_is = refl; version_is = refl; puts_is = refl },
+        history_of,
+        [],
         refl,
+        (
+          omega arith,
+          record { by_is = refl; base_is = refl; action_is = refl; after_is = refl; row_is = refl; version_is = refl; puts_is = refl },
+          refl,
+          refl,
+          (omega arith, refl, refl),
+        ),
         refl,
-        (omega arith, refl, refl),
       ),
-      ([], [], refl, refl, refl),
     );
     shown = (
-      (tt, (tt, (tt, tt))),
       (
-        (
-          tt,
-          (
-            (omega arith, inl (record { by_is = refl; base_is = refl; row_is = refl; version_is = refl; action_is = refl; after_is = refl }, refl)),
-            tt,
-          ),
-        ),
         tt,
+        (
+          ((omega arith, omega arith), inl (record { by_is = refl; base_is = refl; row_is = refl; version_is = refl; action_is = refl; after_is = refl }, refl)),
+          tt,
+        ),
       ),
+      ((tt, (tt, (tt, tt))), tt),
     );
-    loaded = ([], load ∷ [], refl, refl, (load ∷ [], [], refl, (record { by_is = refl; first_is = refl; word_is = refl; version_is = refl; flags_is = refl }, refl), refl));
+    loaded = (load ∷ [], [], refl, (record { by_is = refl; first_is = refl; word_is = refl; version_is = refl; flags_is = refl }, refl), ([], [], refl, refl, refl));
     met = ([], [], refl, refl, ([], [], refl, refl, refl));
-    drawn = (ticket ∷ [], [], refl, (refl, refl, refl, refl), ([], [], refl, refl, refl));
-    done = (done_freeing, (done_reading, tt));
+    drawn = ([], ticket ∷ [], refl, refl, (ticket ∷ [], [], refl, (refl, refl, refl, refl), refl));
+    done = (done_reading, (done_freeing, tt));
   }
 
-  written : AreWritten (freeing ∷ reading ∷ []) pen.sets
+  written : AreWritten (reading ∷ freeing ∷ []) pen.sets
   unfolding sets_of all_calls settings_in
   written h = refl
 
-  known : AllCalls (AllKnowSets (all_word_marks (freeing ∷ reading ∷ []))) (freeing ∷ reading ∷ [])
-  known = ((tt, (tt, (tt, tt))), (((omega arith, refl), (tt, tt)), tt))
+  known : AllCalls (AllKnowSets (all_word_marks (reading ∷ freeing ∷ []))) (reading ∷ freeing ∷ [])
+  known = (((omega arith, refl), (tt, tt)), ((tt, (tt, (tt, tt))), tt))
 
   -- the premises of both laws hold of them together
-  pub two_joint : (draws : List Draw) × Joint flags (freeing ∷ reading ∷ []) (content_of start history_of) (ats_of history_of) (settings_in pen.sets) draws
+  pub two_joint : (draws : List Draw) × Joint flags (reading ∷ freeing ∷ []) (content_of start history_of) (ats_of history_of) (settings_in pen.sets) draws
   unfolding history
   two_joint = joint flags start start board_view word_view pen ticket_view both gathered runs history told written complete
 
-  pub two_ordered : (sets : List Mark) × Order (freeing ∷ reading ∷ []) (content_of start history_of) (marks_in history_of) sets (labels_of history_of)
+  pub two_ordered : (sets : List Mark) × Order (reading ∷ freeing ∷ []) (content_of start history_of) (marks_in history_of) sets (labels_of history_of)
   unfolding history
   two_ordered = ordered flags start start board_view word_view pen ticket_view both gathered runs empty history told written known
+
+  -- the reader's seat was split off behind the release
+  behind_it : IsLater (freeing ∷ []) (record { start = begun 1 1; calls = reading })
+  unfolding marks_of all_marks sets_of all_calls word_version
+  behind_it = record { base = refl; words = λ at. omega arith; met = (tt, (tt, tt)) }
+
+  pub one_later : AllSince (content_of start history_of) (freeing ∷ []) (reading ∷ [])
+  unfolding history
+  one_later = later flags start start board_view word_view pen ticket_view (record { start = begun 2 0; calls = freeing } ∷ []) (record { start = begun 1 1; calls = reading } ∷ []) gathered runs history told (behind_it, tt)
 
 -- Two actors that set word 39, the one in action 1 and the other in action 2, which meets the writer at version 1. What
 -- is asked of sets holds of them; it doesn't hold where the second meets the writer at version 0

@@ -111,14 +111,14 @@ unfolding marks_in
 marks_append [] ys = refl
 marks_append (x ∷ xs) ys = ap (λ z. mark x.row x.version x.puts x.action x.after ∷ z) (marks_append xs ys)
 
-all_ats : (actors : List Worked) (made : List Change) → AreParts Tied actors made → changes_of (all_calls (calls_of_all actors)) ≡ ats_of made
+pub all_ats : (actors : List Worked) (made : List Change) → AreParts Tied actors made → changes_of (all_calls (calls_of_all actors)) ≡ ats_of made
 unfolding all_calls changes_of ats_of
 all_ats [] made g = sym (ap ats_of g)
 all_ats (a ∷ actors) made g =
     changes_append a.calls (all_calls (calls_of_all actors)) ∙ ap (λ z. z ++ changes_of (all_calls (calls_of_all actors))) (tied_ats a.start.board a.calls g.0 g.3)
     ∙ ap (λ z. ats_of g.0 ++ z) (all_ats actors g.1 g.4) ∙ sym (ats_append g.0 g.1) ∙ sym (ap ats_of g.2)
 
-all_marked : (actors : List Worked) (made : List Change) → AreParts Tied actors made → all_marks (calls_of_all actors) ≡ marks_in made
+pub all_marked : (actors : List Worked) (made : List Change) → AreParts Tied actors made → all_marks (calls_of_all actors) ≡ marks_in made
 unfolding all_marks marks_in
 all_marked [] made g = sym (ap marks_in g)
 all_marked (a ∷ actors) made g =

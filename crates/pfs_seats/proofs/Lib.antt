@@ -22,3 +22,4 @@ pub mod Written
 pub mod Openings
 pub mod Meeting
 pub mod Examples
+pub mod Phases

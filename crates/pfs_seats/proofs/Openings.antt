@@ -33,6 +33,9 @@ not_free row some e = at (is_cell row) (sym (ap (λ b. not (b || is_cell row)) (
   at true f = refl
   at false f = absurd (cc)
 
+first_shut : (row : ℕ) → row ≡ 0 → opens_free row ≡ true → ⊥
+first_shut row e f = let g : opens_free 0 ≡ true = sym (ap opens_free e) ∙ f in cc
+
 pub opened : OpenedLaw
 opened rows many each =
     let wide : AreWide rows = all_wide rows (λ row low. ap (λ (z : List ℕ). length z) (each row (omega (arith, low, many))).1 ∙ opening_wide (is_cell row)) in
@@ -45,5 +48,9 @@ opened rows many each =
         | inr z ↦ let low : row < 14242 = cell_low row (not_free row (omega (arith, z)) shut) in
             let taken : (row_of rows row).allocated ≡ true = (each row low).0 ∙ ap not shut in
             omega (arith, a.locks row (omega (arith, z)) (omega (arith, low, many)), e, ap (λ b. cond {A = ℕ} b 2 0) taken)
+      ];
+      free = λ row low unlocked. elim (cases_eq row 0) [
+        | inl z ↦ absurd (first_shut row z unlocked)
+        | inr z ↦ a.locks row (omega (arith, z)) (omega (arith, low, many)) ∙ ap (λ b. cond {A = ℕ} b 2 0) ((each row low).0 ∙ ap not unlocked)
       ];
     }

@@ -160,7 +160,7 @@ lt_cases a b = at (nat_lt a b) refl where
   at true e = inl (grind (arith, nat_tests), e)
   at false e = inr (grind (arith, nat_tests), e)
 
-no_and : (b : Bool) → one_if (b && false) ≡ 0
+pub no_and : (b : Bool) → one_if (b && false) ≡ 0
 no_and true = refl
 no_and false = refl
 

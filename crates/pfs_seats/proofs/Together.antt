@@ -35,11 +35,11 @@ pub each_back : {A : Type 0} (P : A → Type 0) (xs ys : List A) → board.Each 
 each_back P [] ys e = e
 each_back P (x ∷ xs) ys e = each_back P xs ys e.1
 
-word_front : {A : Type 0} (P : A → Type 0) (xs ys : List A) → switches.Each P (xs ++ ys) → switches.Each P xs
+pub word_front : {A : Type 0} (P : A → Type 0) (xs ys : List A) → switches.Each P (xs ++ ys) → switches.Each P xs
 word_front P [] ys e = tt
 word_front P (x ∷ xs) ys e = (e.0, word_front P xs ys e.1)
 
-word_back : {A : Type 0} (P : A → Type 0) (xs ys : List A) → switches.Each P (xs ++ ys) → switches.Each P ys
+pub word_back : {A : Type 0} (P : A → Type 0) (xs ys : List A) → switches.Each P (xs ++ ys) → switches.Each P ys
 word_back P [] ys e = e
 word_back P (x ∷ xs) ys e = word_back P xs ys e.1
 

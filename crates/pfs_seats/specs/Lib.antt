@@ -3,3 +3,4 @@ pub mod Reached
 pub mod Pen
 pub mod Gathered
 pub mod Shared
+pub mod Phases

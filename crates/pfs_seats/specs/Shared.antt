@@ -37,6 +37,7 @@ pub record IsRunsBoard (start : List ℕ) : Type 0 where
   pub contents : (row i : ℕ) → 0 < row → row < 14242 → i < 16
       → slice_index start (word_at row i) ≡ slice_index (opening_content row) i
   pub allocated : (row : ℕ) → opens_free row ≡ false → slice_index start (lock_at row) ≢ 0
+  pub free : (row : ℕ) → row < 14242 → opens_free row ≡ true → slice_index start (lock_at row) ≡ 0
 
 -- a row as a run begins with it
 abbrev pub IsFirstRow : ℕ → FirstRow → Type 0

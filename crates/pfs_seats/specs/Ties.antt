@@ -201,7 +201,7 @@ IsShown start reads sights entered calls (Rings row content (Late ticket)) =
     (10242 ≤ row) × (version : ℕ) × (top_in calls row ≤ version)
     × Some_of (λ (f : Finished). IsFinished start row version (action_in calls) (after_in calls) f
     × (slice_index f.content 15 ≡ ticket + 1)) reads
-IsShown start reads sights entered calls (Reads row (Whole version found)) = (0 < row)
+IsShown start reads sights entered calls (Reads row (Whole version found)) = IsRow row
     × Some_of (λ (f : Finished). IsFinished start row version (action_in calls) (after_in calls) f
     × (f.content ≡ found)) reads
 IsShown start reads sights entered calls (Reads row (Free word)) = (0 < row) × (word % 4 ≡ 0)

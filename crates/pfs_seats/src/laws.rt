@@ -1,6 +1,7 @@
 //! Laws of the definitions.
 
 ghost use Rattle.pfs_seats.specs.Gathered.{ChangedLaw, GatherLaw};
+ghost use Rattle.pfs_seats.specs.Phases.{SinceLaw};
 ghost use Rattle.pfs_seats.specs.Shared.{JointLaw, OpenedLaw, OrderLaw};
 
 /// The seats that a root takes in leave their actors' calls tied to what the root has: each actor's changes, loads,
@@ -37,4 +38,11 @@ pub fn joint()
 /// and each end of an action shows what ended actions set.
 pub fn ordered()
     ensures { OrderLaw }
+{}
+
+/// What a root knows besides of actors of a later phase, whose seats it split off once it had taken in those of the
+/// earlier ones: what they named is not below what those left. Of the words it is asked that their seats began with the
+/// versions that the earlier ones left, and met the writer and set words behind these.
+pub fn later()
+    ensures { SinceLaw }
 {}
