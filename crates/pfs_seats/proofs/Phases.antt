@@ -1,5 +1,5 @@
 -- No call of a later phase is below what the actors of earlier phases left.
-use Rattle.std.proofs.Common.{ℕ, ◌≡◌, ◌≢◌, ◌+◌, ◌*◌, ◌/◌, ◌%◌, ◌==◌, ◌<◌, ◌≤◌, nat_lt, nat_le, ◌&&◌, not, Bool, true, false, cond, List, [], ◌∷◌, ◌++◌, length, slice_index, Option, Some, None, refl, ap, sym, ◌∙◌, subst, inl, inr, ⊎_elim, arith, eq-eqb, ne_eqb, length-append, append_assoc}
+use Rattle.std.proofs.Common.{ℕ, ◌≡◌, ◌≢◌, ◌+◌, ◌/◌, ◌==◌, ◌<◌, ◌≤◌, nat_lt, nat_le, ◌&&◌, not, Bool, true, false, cond, List, [], ◌∷◌, ◌++◌, length, slice_index, Option, Some, None, refl, ap, sym, ◌∙◌, subst, inl, inr, ⊎_elim, arith, eq-eqb, length-append, append_assoc}
 use Rattle.std.proofs.lemmas.Bool.{cases_eq, eqb-true}
 use Rattle.std.proofs.lemmas.Bool.Decides.{nat_tests}
 use Rattle.pfs_board.specs.declared.view.Change.{Change}
@@ -10,7 +10,7 @@ use Rattle.pfs_board.specs.History as board
 use Rattle.pfs_board.specs.History.{Each, Some_of, IsChain, version, version_of, step_of, level, shows_to, oldest, Floor}
 use Rattle.pfs_board.specs.Rule.{IsRead, IsSight}
 use Rattle.pfs_board.specs.Closing.{History}
-use Rattle.pfs_board.proofs.HistoryFacts.{each_map, if_true, if_false, level_put, level_release, step_put, step_release, either_way, version_here, version_other, version_more}
+use Rattle.pfs_board.proofs.HistoryFacts.{each_map, if_true, if_false, level_release, either_way}
 use Rattle.pfs_board.proofs.HistoryFacts.{total_append}
 use Rattle.pfs_board.proofs.VersionFacts.{each_made}
 use Rattle.pfs_board.specs.History.{lock_at}
@@ -36,7 +36,6 @@ use Rattle.pfs_seats.proofs.Together.{each_front, each_back, word_front, word_ba
 use Rattle.pfs_seats.proofs.Turned.{away_if, here_if, some_same, none_some}
 use Rattle.pfs_switches.specs.declared.view.Loaded.{Loaded}
 use Rattle.pfs_switches.specs.declared.view.Setting.{Setting as Written}
-use Rattle.pfs_switches.specs.declared.view.View.{View as WordView}
 use Rattle.pfs_switches.specs.History as switches
 
 abbrev Tied : Worked → List Change → Type 0
@@ -67,7 +66,6 @@ AllWordsSince sets (call ∷ calls) = WordsSince sets call × AllWordsSince sets
 -- a publication of the row at no version above k
 abbrev lower : ℕ → ℕ → Change → Bool
 lower r k p = ((p.row == r) && p.puts) && nat_le p.version k
-
 
 le_yes : (a b : ℕ) → a ≤ b → nat_le a b ≡ true
 le_yes a b h = grind (arith, nat_tests)
@@ -335,10 +333,11 @@ module _ (start words : List ℕ) (v : View) (h : History start words v) (o : Is
       let G = subst (Each F) g.2 f in
       let E = subst (switches.Each (IsSo flags written)) l.2 e in
       let sums : (q : Change → ℕ) → board.total q made ≡ board.total q g.0 + board.total q g.1 = λ q. ap (board.total q) g.2 ∙ total_append q g.0 g.1 in
-      let P : List At → Type 0 = λ z. AreSince (content_of start h.t.log) z sets x.calls in
-      (subst P (sym (all_ats before rest tied)) (since start words v h o rest sets back part x.start.board x.calls g.0 (base_is x.start.board.base m.0.base) g.3 s.0 (λ q. omega (arith, a q, sums q)) (each_front F g.0 g.1 G)
-       (loads_since flags written sets x.start x.calls l.0 l.3 (word_front (IsSo flags written) l.0 l.1 E) m.0.words m.0.met) (λ row some k is. absurd (none_some k (sym (d.0.empty row some) ∙ is)))),
-       all_since now g.1 l.1 g.4 l.4 s.1 d.1 (λ q. omega (arith, a q, sums q)) (each_back F g.0 g.1 G) (word_back (IsSo flags written) l.0 l.1 E) m.1)
+      let P : List At → Type 0 = λ z. AreSince (content_of start h.t.log) z sets x.calls in (
+        subst P (sym (all_ats before rest tied)) (since start words v h o rest sets back part x.start.board x.calls g.0 (base_is x.start.board.base m.0.base) g.3 s.0 (λ q. omega (arith, a q, sums q)) (each_front F g.0 g.1 G)
+            (loads_since flags written sets x.start x.calls l.0 l.3 (word_front (IsSo flags written) l.0 l.1 E) m.0.words m.0.met) (λ row some k is. absurd (none_some k (sym (d.0.empty row some) ∙ is)))),
+        all_since now g.1 l.1 g.4 l.4 s.1 d.1 (λ q. omega (arith, a q, sums q)) (each_back F g.0 g.1 G) (word_back (IsSo flags written) l.0 l.1 E) m.1,
+      )
 
 pub later : SinceLaw
 later flags start words v w pen t before now g o h told m =
