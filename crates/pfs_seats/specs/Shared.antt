@@ -8,7 +8,7 @@ use Rattle.pfs_board.specs.Closing.{History}
 use Rattle.pfs_board.specs.Opening.{opening_words as board_words, row_of}
 use Rattle.pfs_board.specs.History.{lock_at, word_at, stood, labels_of}
 use Rattle.pfs_board.specs.Knowledge.{held}
-use Rattle.pfs_levels.specs.Calls.{Call, Adds, Rings, Reads, Loads, Draws, Takes, Puts, Frees, Sets, Enters, Leaves, Meets, action_in, after_in}
+use Rattle.pfs_levels.specs.Calls.{Call, Adds, Rings, Reads, Loads, Draws, Takes, Puts, Frees, Sets, Enters, Leaves, Meets, Opening, action_in, after_in}
 use Rattle.pfs_levels.specs.Contents.{opening_content}
 use Rattle.pfs_levels.specs.Joint.{total, opens_free, Setting, sets_of, Draw, Joint, all_calls}
 use Rattle.pfs_levels.specs.Order.{Mark, all_word_marks, above, top_word, AllCalls, Order}
@@ -57,6 +57,12 @@ settings_in (s ∷ ss) = record { word = s.word; version = s.version; flags = s.
 -- is for the kept value to tell, which has the writer between two actions
 abbrev pub AreWritten : List (List Call) → List Written → Type 0
 AreWritten actors sets = (h : Setting → ℕ) → total h (sets_of (all_calls actors)) ≡ total h (settings_in sets)
+
+-- a root that meets the writer itself is one actor more, of which that is the one call
+abbrev pub MeetLaw : Type 0
+MeetLaw = (actors : List Worked) (v : View) (w pen : WordView) (t : TicketView) → AreGathered actors v w t
+    → (start : Opening) → start.switches.number ≡ w.number
+    → AreGathered (record { start = start; calls = Meets pen.seen ∷ [] } ∷ actors) v (met w pen) t
 
 -- A root that is alone and has taken in the seats of all actors, meets the writer, and has told all tickets, knows one
 -- order of all changes, of all sets and of all tickets, and each call found and left what stood at its version

@@ -2,13 +2,19 @@
 
 ghost use Rattle.pfs_seats.specs.Gathered.{ChangedLaw, GatherLaw};
 ghost use Rattle.pfs_seats.specs.Phases.{SinceLaw};
-ghost use Rattle.pfs_seats.specs.Shared.{JointLaw, OpenedLaw, OrderLaw};
+ghost use Rattle.pfs_seats.specs.Shared.{JointLaw, MeetLaw, OpenedLaw, OrderLaw};
 
 /// The seats that a root takes in leave their actors' calls tied to what the root has: each actor's changes, loads,
 /// meets and tickets are a part of its lists, one actor after another, and what their calls showed is among its
 /// reads, sights and labels.
 pub fn gathered()
     ensures { GatherLaw }
+{}
+
+/// A root that meets the writer of the words itself, as at the end of a phase, stays gathered: its meet is the one call
+/// of an actor more.
+pub fn met()
+    ensures { MeetLaw }
 {}
 
 /// What a root knows that is alone and has taken in the seats of all actors: their publications and releases have one
