@@ -73,7 +73,7 @@ JointLaw = (flags start words : List ℕ) (v : View) (w pen : WordView) (t : Tic
     → (draws : List Draw)
     × Joint flags (calls_of_all actors) (content_of start h.t.log) (ats_of h.t.log) (settings_in pen.sets) draws
 
--- the actor has met the writer since its newest action began, or is in its first one not yet
+-- the actor has met the writer since its newest action began, or has begun none
 abbrev pub has_met : List Call → Bool
 has_met [] = true
 has_met (Meets versions ∷ calls) = true
