@@ -1,9 +1,11 @@
 -- A root takes an actor's seats in.
-use Rattle.std.proofs.Common.{List, [], ◌∷◌, ◌++◌, refl, inl, inr, ⊎_elim}
+use Rattle.std.proofs.Common.{List, [], ◌∷◌, ◌++◌, sym, arith, refl, inl, inr, ⊎_elim}
 use Rattle.pfs_board.specs.declared.view.Entered.{Entered}
 use Rattle.pfs_board.specs.declared.view.Finished.{Finished}
 use Rattle.pfs_board.specs.declared.view.Sight.{Sight}
 use Rattle.pfs_seats.specs.Gathered.{Worked, AllShown, GatherLaw}
+use Rattle.pfs_seats.specs.Shared.{MeetLaw}
+use Rattle.pfs_switches.specs.Knowledge.{meet_of}
 use Rattle.pfs_seats.proofs.Shown.{Within, shown_more}
 
 within_left : {A : Type 0} (xs ys : List A) → Within xs (xs ++ ys)
@@ -35,3 +37,13 @@ gathers actors v w t g start calls b words tickets m =
       drawn = (tickets.view.tickets, t.tickets, refl, r.tickets.2, g.drawn);
       done = (record { outside = m.outside; empty = m.empty; rising = r.rising }, g.done);
     }
+
+pub meets : MeetLaw
+meets actors v w pen t g start same = record {
+  tied = ([], v.made, refl, refl, g.tied);
+  shown = ((tt, tt), g.shown);
+  loaded = ([], w.loads, refl, refl, g.loaded);
+  met = (meet_of w pen ∷ [], w.meets, refl, (sym same, refl, refl), g.met);
+  drawn = ([], t.tickets, refl, refl, g.drawn);
+  done = (record { outside = refl; empty = λ row some. refl; rising = ((λ at low. omega arith), tt) }, g.done);
+}

@@ -21,7 +21,7 @@ at row v puts = record { row = row; version = v; puts = puts }
 abbrev Tied : Worked → List Change → Type 0
 Tied a made = IsTied a.start.board a.calls made
 
-total_append : {A : Type 0} (h : A → ℕ) (xs ys : List A) → total h (xs ++ ys) ≡ total h xs + total h ys
+pub total_append : {A : Type 0} (h : A → ℕ) (xs ys : List A) → total h (xs ++ ys) ≡ total h xs + total h ys
 unfolding total
 total_append h [] ys = sym (zero-add (total h ys))
 total_append h (x ∷ xs) ys = ap (λ n. h x + n) (total_append h xs ys) ∙ sym (add_assoc (h x) (total h xs) (total h ys))
@@ -35,7 +35,7 @@ unfolding changes_of
 changes_append [] ys = refl
 changes_append (x ∷ xs) ys = ap (λ z. changes_by x ++ z) (changes_append xs ys) ∙ sym (append_assoc (changes_by x) (changes_of xs) (changes_of ys))
 
-yes_lt : (a b : ℕ) → a < b → nat_lt a b ≡ true
+pub yes_lt : (a b : ℕ) → a < b → nat_lt a b ≡ true
 yes_lt a b h = grind (arith, nat_tests)
 
 made_at : (start : Start) (action after r v : ℕ) (puts : Bool) (p : Change) → 0 < r → IsMade start action after r v puts p → at r v puts ∷ [] ≡ ats_by p
@@ -76,7 +76,7 @@ tied_ats start (Enters label labels ∷ calls) made t = tied_ats start calls mad
 tied_ats start (Leaves ∷ calls) [] t = absurd t
 tied_ats start (Leaves ∷ calls) (p ∷ made) t = ap (λ z. z ++ changes_of calls) (first_at p t.1.row_is) ∙ ap (λ z. ats_by p ++ z) (tied_ats start calls made t.3)
 
-tied_marks : (start : Start) (calls : List Call) (made : List Change) → IsTied start calls made → marks_of calls ≡ marks_in made
+pub tied_marks : (start : Start) (calls : List Call) (made : List Change) → IsTied start calls made → marks_of calls ≡ marks_in made
 unfolding marks_of marks_in
 tied_marks start [] made t = sym (ap marks_in t)
 tied_marks start (Adds row amount (Counted r v) ∷ calls) [] t = absurd t
@@ -111,14 +111,14 @@ unfolding marks_in
 marks_append [] ys = refl
 marks_append (x ∷ xs) ys = ap (λ z. mark x.row x.version x.puts x.action x.after ∷ z) (marks_append xs ys)
 
-all_ats : (actors : List Worked) (made : List Change) → AreParts Tied actors made → changes_of (all_calls (calls_of_all actors)) ≡ ats_of made
+pub all_ats : (actors : List Worked) (made : List Change) → AreParts Tied actors made → changes_of (all_calls (calls_of_all actors)) ≡ ats_of made
 unfolding all_calls changes_of ats_of
 all_ats [] made g = sym (ap ats_of g)
 all_ats (a ∷ actors) made g =
     changes_append a.calls (all_calls (calls_of_all actors)) ∙ ap (λ z. z ++ changes_of (all_calls (calls_of_all actors))) (tied_ats a.start.board a.calls g.0 g.3)
     ∙ ap (λ z. ats_of g.0 ++ z) (all_ats actors g.1 g.4) ∙ sym (ats_append g.0 g.1) ∙ sym (ap ats_of g.2)
 
-all_marked : (actors : List Worked) (made : List Change) → AreParts Tied actors made → all_marks (calls_of_all actors) ≡ marks_in made
+pub all_marked : (actors : List Worked) (made : List Change) → AreParts Tied actors made → all_marks (calls_of_all actors) ≡ marks_in made
 unfolding all_marks marks_in
 all_marked [] made g = sym (ap marks_in g)
 all_marked (a ∷ actors) made g =
@@ -150,7 +150,7 @@ count_step puts r row v xs some = elim (cases_eq r row) [
   away true apart = rw (ne_eqb r row apart) refl
   away false apart = refl
 
-counts : (start : List ℕ) (log : List Change) (row : ℕ) → 0 < row → count (ats_of log) row ≡ version log row
+pub counts : (start : List ℕ) (log : List Change) (row : ℕ) → 0 < row → count (ats_of log) row ≡ version log row
 unfolding ats_of count
 counts start [] row some = refl
 counts start (p ∷ ps) row some = count_step p.puts p.row row p.version (ats_of ps) some ∙ ap (λ n. cond (p.row == row) (n + cond p.puts 1 0) n) (counts start ps row some)
@@ -173,7 +173,7 @@ mark_step true true n = refl
 mark_step true false n = omega arith
 mark_step false c n = refl
 
-mark_counts : (log : List Change) (row : ℕ) → marked (marks_in log) row ≡ version log row
+pub mark_counts : (log : List Change) (row : ℕ) → marked (marks_in log) row ≡ version log row
 unfolding marks_in marked
 mark_counts [] row = refl
 mark_counts (p ∷ ps) row = mark_step (p.row == row) p.puts (marked (marks_in ps) row) ∙ ap (λ n. cond (p.row == row) (n + cond p.puts 1 0) n) (mark_counts ps row)

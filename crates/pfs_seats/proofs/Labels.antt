@@ -24,11 +24,11 @@ total_none : {A : Type 0} (h : A → ℕ) (xs : List A) → Each (λ x. h x ≡ 
 total_none h [] f = refl
 total_none h (x ∷ xs) f = omega (arith, f.0, total_none h xs f.1)
 
-each_map : {A : Type 0} (P Q : A → Type 0) → ((x : A) → P x → Q x) → (xs : List A) → Each P xs → Each Q xs
+pub each_map : {A : Type 0} (P Q : A → Type 0) → ((x : A) → P x → Q x) → (xs : List A) → Each P xs → Each Q xs
 each_map P Q h [] f = tt
 each_map P Q h (x ∷ xs) f = (h x f.0, each_map P Q h xs f.1)
 
-some_each : {A : Type 0} (P Q : A → Type 0) (R : Type 0) → ((x : A) → P x → Q x → R) → (xs : List A) → Some_of P xs → Each Q xs → R
+pub some_each : {A : Type 0} (P Q : A → Type 0) (R : Type 0) → ((x : A) → P x → Q x → R) → (xs : List A) → Some_of P xs → Each Q xs → R
 some_each P Q R f [] s e = absurd s
 some_each P Q R f (x ∷ xs) (inl s) e = f x s e.0
 some_each P Q R f (x ∷ xs) (inr s) e = some_each P Q R f xs s e.1

@@ -9,3 +9,17 @@ pub mod Gathering
 pub mod Histories
 pub mod Labels
 pub mod Begun
+pub mod Contents
+pub mod Agreeing
+pub mod Flags
+pub mod Totals
+pub mod Tickets
+pub mod Together
+pub mod Floors
+pub mod Causes
+pub mod Ordering
+pub mod Written
+pub mod Openings
+pub mod Meeting
+pub mod Examples
+pub mod Phases

@@ -26,10 +26,10 @@ module _ (start : Start) (reads reads' : List Finished) (sights sights' : List S
   older_more row version content action after o = ⊎_elim (λ x. inl (g _ x)) (λ x. inr (f _ x)) o
 
   shown_one : (calls : List Call) (call : Call) → IsShown start reads sights entered calls call → IsShown start reads' sights' entered' calls call
-  shown_one calls (Adds row amount (Held r first second)) s = (s.0, g _ s.1)
+  shown_one calls (Adds row amount (Held r first second)) s = (s.0, s.1, g _ s.2)
   shown_one calls (Adds row amount (Counted r version)) s = tt
   shown_one calls (Rings row content (Done version)) s = λ long. let o = s long in (o.0, o.1, older_more row o.0 content (action_in calls) (after_in calls) o.2)
-  shown_one calls (Rings row content (Busy first second)) s = (s.0, g _ s.1)
+  shown_one calls (Rings row content (Busy first second)) s = (s.0, s.1, g _ s.2)
   shown_one calls (Rings row content (Late ticket)) s = (s.0, s.1, s.2, f _ s.3)
   shown_one calls (Reads row (Whole version found)) s = (s.0, f _ s.1)
   shown_one calls (Reads row (Free word)) s = (s.0, s.1, g _ s.2)

@@ -1,5 +1,5 @@
 -- A call on one row turns one corner of the seat's view.
-use Rattle.std.proofs.Common.{ℕ, ◌≡◌, ◌≢◌, ◌<◌, ◌≤◌, ◌==◌, true, cond, get_or, length, slice_set, List, refl, ap, sym, ◌∙◌, subst, arith, eq-eqb, ne_eqb, inl, inr, ⊎_elim}
+use Rattle.std.proofs.Common.{ℕ, ◌≡◌, ◌≢◌, ◌<◌, ◌≤◌, ◌==◌, true, cond, get_or, length, slice_set, List, Some, None, refl, ap, sym, ◌∙◌, subst, arith, eq-eqb, ne_eqb, inl, inr, ⊎_elim}
 use Rattle.std.proofs.lemmas.Bool.{cases_eq}
 use Rattle.std.proofs.lemmas.List.{get_or-set_other, get_or-set_same, length-set}
 use Rattle.pfs_board.specs.declared.view.Corner.{Corner}
@@ -25,6 +25,12 @@ here_if row k n = ap (λ b. cond b k n) (eq-eqb row row refl)
 
 pub away_if : {A : Type 0} (row r : ℕ) (k n : A) → r ≢ row → cond (row == r) k n ≡ n
 away_if row r k n apart = ap (λ b. cond b k n) (ne_eqb row r (λ z. apart (sym z)))
+
+pub some_same : (a b : ℕ) → Some a ≡ Some b → a ≡ b
+some_same a b e = cc
+
+pub none_some : (a : ℕ) → None ≡ Some a → ⊥
+none_some a e = cc
 
 -- What the calls tell of the seat after a call on one row, from what they told before it
 pub reach : (start : Start) (calls more : List Call) (v w : View) (row : ℕ) (c : Corner) → row < length v.rows → w.rows ≡ slice_set v.rows row c → w.number ≡ v.number → w.base ≡ v.base → stake w ≡ stake v → OnBoard start calls v

@@ -5,7 +5,7 @@ use Rattle.pfs_board.specs.declared.view.Entered.{Entered}
 use Rattle.pfs_board.specs.declared.view.Finished.{Finished}
 use Rattle.pfs_board.specs.declared.view.Sight.{Sight}
 use Rattle.pfs_board.specs.History.{Some_of}
-use Rattle.pfs_levels.specs.Calls.{Call, Adds, Rings, Reads, Loads, Draws, Takes, Puts, Frees, Sets, Enters, Leaves, Meets, Start, Opening, action_in, after_in, label_in, hand_in}
+use Rattle.pfs_levels.specs.Calls.{Call, Adds, Rings, Reads, Loads, Draws, Takes, Puts, Frees, Sets, Enters, Leaves, Meets, Start, Opening, IsRow, action_in, after_in, label_in, hand_in}
 use Rattle.pfs_levels.specs.Contents.{merged}
 use Rattle.pfs_levels.specs.Order.{top_in}
 use Rattle.pfs_levels.specs.declared.answers.Added.TheVariants.{Counted, Held}
@@ -182,27 +182,32 @@ AreAnothers first second = (((first % 4 ≡ 1) × (second ≡ first)) ⊎ ((firs
     × (first % 4 < 3) × (second % 4 < 3) × (first / 4 ≤ second / 4)
     × (first % 4 ≡ 0 → second % 4 ≡ 2 → first / 4 < second / 4)
 
+-- the call named a row that it may, the two words show that it was another's, and the seat saw them
+abbrev pub WasRefused : Start → List Sight → ℕ → ℕ → ℕ → ℕ → ℕ → Type 0
+WasRefused start sights row first second action after = IsRow row × AreAnothers first second
+    × Some_of (IsSighted start row first second action after) sights
+
 -- what the seat has kept of a call that changed nothing, or of what let it change: a read, the words that it saw, or
 -- the labels that an action found
 abbrev pub IsShown : Start → List Finished → List Sight → List Entered → List Call → Call → Type 0
-IsShown start reads sights entered calls (Adds row amount (Held r first second)) = AreAnothers first second
-    × Some_of (IsSighted start r first second (action_in calls) (after_in calls)) sights
+IsShown start reads sights entered calls (Adds row amount (Held r first second)) =
+    WasRefused start sights r first second (action_in calls) (after_in calls)
 IsShown start reads sights entered calls (Adds row amount (Counted r version)) = Unit {0}
 IsShown start reads sights entered calls (Rings row content (Done version)) = 10242 ≤ row
     → (n : ℕ) × (version ≡ n + 1) × WasOlder start reads sights row n content (action_in calls) (after_in calls)
-IsShown start reads sights entered calls (Rings row content (Busy first second)) = AreAnothers first second
-    × Some_of (IsSighted start row first second (action_in calls) (after_in calls)) sights
+IsShown start reads sights entered calls (Rings row content (Busy first second)) =
+    WasRefused start sights row first second (action_in calls) (after_in calls)
 IsShown start reads sights entered calls (Rings row content (Late ticket)) =
     (10242 ≤ row) × (version : ℕ) × (top_in calls row ≤ version)
     × Some_of (λ (f : Finished). IsFinished start row version (action_in calls) (after_in calls) f
     × (slice_index f.content 15 ≡ ticket + 1)) reads
-IsShown start reads sights entered calls (Reads row (Whole version found)) = (0 < row)
+IsShown start reads sights entered calls (Reads row (Whole version found)) = IsRow row
     × Some_of (λ (f : Finished). IsFinished start row version (action_in calls) (after_in calls) f
     × (f.content ≡ found)) reads
 IsShown start reads sights entered calls (Reads row (Free word)) = (0 < row) × (word % 4 ≡ 0)
     × Some_of (IsSighted start row word word (action_in calls) (after_in calls)) sights
-IsShown start reads sights entered calls (Reads row (sees.Busy first second)) = (0 < row) × AreAnothers first second
-    × Some_of (IsSighted start row first second (action_in calls) (after_in calls)) sights
+IsShown start reads sights entered calls (Reads row (sees.Busy first second)) =
+    WasRefused start sights row first second (action_in calls) (after_in calls)
 IsShown start reads sights entered calls (Enters label labels) =
     Some_of (λ (e : Entered). (e.by ≡ start.number) × (e.action ≡ length labels + 1) × (e.labels ≡ labels)) entered
 IsShown start reads sights entered calls (Loads at version flags) = Unit {0}

@@ -27,7 +27,7 @@ returns-in-Busy-clause-call g c = λ start calls r.
       r.2,
       record {
         board = glanced start.board calls more v w row second v.reads (sight_of v row first second ∷ v.sights) (omega (arith, rows, cell)) a.5 c.requires.away c.in-Busy.ensures.hands.2 b b.tied
-            (((a.0, a.7, a.3, a.2, a.8), inl (sighted_now start.board calls v row first second b)), sight_more start.board calls v (sight_of v row first second) b) (λ q. refl) (λ q. refl)
+            (((omega (arith, cell), omega (arith, cell)), (a.0, a.7, a.3, a.2, a.8), inl (sighted_now start.board calls v row first second b)), sight_more start.board calls v (sight_of v row first second) b) (λ q. refl) (λ q. refl)
             (λ q n. away_if row q (second / 4) (top_in calls q) n) (omega (arith, here_if row (second / 4) (top_in calls row))) refl refl refl refl;
         words = r.3.words;
         tickets = r.3.tickets;
