@@ -1,3 +1,4 @@
+pub mod Answering
 pub mod Owed
 pub mod Playing
 pub mod Turning

@@ -96,6 +96,7 @@ finish_done old new slot cell consumers thread answer amount what numbers mid he
         entries_are = refl;
         after_is = state ∙ ap (λ z. record old.state { held = z }) br2.held_is;
       };
+      answer_is = refl;
       did = record {
         entries_are = br2.did.entries_are ∙ (ap (λ z. z ++ added_entry answer ∷ []) m ∙ append_assoc old.journal.entries (End ∷ []) (added_entry answer ∷ []));
         goes = λ start calls h0. br2.did.goes start _ (l1 start _ (l0 start calls h0));

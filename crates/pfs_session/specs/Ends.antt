@@ -111,6 +111,7 @@ pub record Finished (old new : Book) (what : Open) (numbers : Numbers) (answer :
   pub entries : List Entry
   pub slot_is : old.state.place.thread ≡ Some slot
   pub ends : EndsThrough old.state slot what old.state.opened.events numbers calls entries new.state
+  pub answer_is : ends.answer ≡ answer
   pub did : Did calls entries old.journal new.journal was now
 
 -- the open events without the innermost

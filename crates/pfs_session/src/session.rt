@@ -6,9 +6,10 @@ ghost use Rattle.pfs_admin.specs.States.{connected, has_quit, seat_at};
 ghost use Rattle.pfs_admin.specs.Works.{Leaves};
 ghost use Rattle.pfs_event.specs.Nesting.{MayStart};
 ghost use Rattle.pfs_event.specs.Verdicts.{is_let_through};
+ghost use Rattle.pfs_session.specs.Answers.{SaysStart, SaysEnd, SaysStage, SaysStageEnd, is_in_stage};
 ghost use Rattle.pfs_session.specs.Ends.{Finished, without_innermost};
 ghost use Rattle.pfs_session.specs.Settles.{owed_by_state, settle_cost};
-ghost use Rattle.pfs_session.specs.Starts.{started};
+ghost use Rattle.pfs_session.specs.Starts.{started, if_through};
 ghost use Rattle.pfs_session.specs.States.{fresh, around, one_if, nothing_held, without_stage};
 ghost use Rattle.pfs_session.specs.Turns.{Played, StartsEvent, EndsEvent, SettlesHeld, Connects, Quits, StageMayStart, stage_steps, stage_ends};
 
@@ -17,7 +18,7 @@ use crate::adding::bring;
 use crate::events::{Numbers, amount_of, cell_number, is_statement, is_wait};
 use crate::opening::opened;
 use crate::paying::{clear, settle_all};
-use crate::setup::{is_timed, judge, load, load_word, start_entry};
+use crate::setup::{if_through, is_timed, judge, load, load_word, start_entry};
 use pfs_admin::{Admin, Lost, Placed};
 use pfs_event::{Entry, EventKind, Nest, Open, Verdict};
 use pfs_levels::{Added, Hold, Label, Log, Rows};
@@ -179,6 +180,7 @@ impl Session {
         requires room { 1 ≤ self.old.journal.room }
         ensures played { Played (StartsEvent what.now ∷ []) self.old self.new (R.reached rows.old)
             (R.reached rows.new) }
+        ensures answer { SaysStart result self.old.journal.entries self.new.journal.entries }
         ensures leaves { Leaves 0 1 (R.hand rows.old) (R.hand rows.new) (R.left rows.old) (R.left rows.new)
             (R.draws rows.old) (R.draws rows.new) (R.name rows.old) (R.name rows.new) self.old.journal
             self.new.journal }
@@ -217,6 +219,10 @@ impl Session {
         requires early { self.old.state.drawn + 1 < 2 ^ 64 }
         ensures state { self.new.state ≡ started self.old.state what }
         ensures journal { self.new.journal ≡ self.old.journal }
+        ensures answer { result ≡ record {
+          event = if_through what.verdict what.event.number;
+          verdict = what.verdict;
+        } }
     {
         // Its clause bounds how many events are open.
         let _ = self.nest.depth();
@@ -229,11 +235,7 @@ impl Session {
         self.waits += one_if(through, is_wait(what.kind));
         self.drawn += one_if(through, true);
         Started {
-            event: if through {
-                Some(what.event.number)
-            } else {
-                None
-            },
+            event: if_through(what.verdict, what.event.number),
             verdict: what.verdict,
         }
     }
@@ -249,6 +251,7 @@ impl Session {
         requires room { 2 ≤ self.old.journal.room }
         ensures played { Played (EndsEvent numbers.now ∷ []) self.old self.new (R.reached rows.old)
             (R.reached rows.new) }
+        ensures answer { SaysEnd result self.old.journal.entries self.new.journal.entries }
         ensures leaves { Leaves 1 2 (R.hand rows.old) (R.hand rows.new) (R.left rows.old) (R.left rows.new)
             (R.draws rows.old) (R.draws rows.new) (R.name rows.old) (R.name rows.new) self.old.journal
             self.new.journal }
@@ -338,6 +341,8 @@ impl Session {
         requires room { 3 ≤ self.old.journal.room }
         ensures played { Played (stage_steps self.old.state.opened.events what.now) self.old self.new
             (R.reached rows.old) (R.reached rows.new) }
+        ensures answer { SaysStage self.old.state.opened.events what.now result.0 result.1
+            self.old.journal.entries self.new.journal.entries }
         ensures leaves { Leaves 1 3 (R.hand rows.old) (R.hand rows.new) (R.left rows.old) (R.left rows.new)
             (R.draws rows.old) (R.draws rows.new) (R.name rows.old) (R.name rows.new) self.old.journal
             self.new.journal }
@@ -360,6 +365,8 @@ impl Session {
         requires room { 2 ≤ self.old.journal.room }
         ensures played { Played (stage_ends self.old.state.opened.events) self.old self.new (R.reached rows.old)
             (R.reached rows.new) }
+        ensures answer { SaysStageEnd (is_in_stage self.old.state.opened.events) result self.old.journal.entries
+            self.new.journal.entries }
         ensures opened { self.new.state.opened ≡ record self.old.state.opened {
           events = without_stage self.old.state.opened.events;
         } }

@@ -1,6 +1,7 @@
 use Rattle.std.proofs.Common.{ap, sym, ◌∙◌, ◌++◌, ◌∷◌, [], None}
 use Rattle.pfs_event.specs.declared.entry.Entry.TheVariants as says
 use Rattle.pfs_session.specs.States.{Book}
+use Rattle.pfs_session.proofs.Answering.{end_says}
 use Rattle.pfs_session.proofs.Turning.{end_through, end_silent}
 use Rattle.pfs_session.proofs.session.Session.end.Goals as goal
 
@@ -15,3 +16,7 @@ returns-else-is_let_through-clause-played g c =
     c.close-what.ensures.state c.close-what.ensures.journal (sym c.is_let_through.ensures ∙ c.if-is_let_through.false)
     (ap (λ (b : Book). b.state) c.self.view_is)
     (ap (λ j. j.entries) c.push.ensures ∙ ap (λ (b : Book). b.journal.entries ++ says.End None None None None ∷ []) c.self.view_is)
+
+pub returns-then-is_let_through-clause-answer : goal.returns-then-is_let_through-clause-answer
+returns-then-is_let_through-clause-answer g c =
+    end_says c.args.self.now c.close-what.new.self c.finish.new.self c.close-what.result c.args.numbers.now c.finish.result _ _ c.close-what.ensures.journal c.finish.ensures.finished
