@@ -1,5 +1,5 @@
 -- What starts, ends and stages answer, from what their parts wrote.
-use Rattle.std.proofs.Common.{ℕ, ◌≡◌, Bool, true, false, List, [], ◌∷◌, ◌++◌, Option, Some, None, refl, ap, sym, ◌∙◌, subst}
+use Rattle.std.proofs.Common.{ℕ, ◌≡◌, List, [], ◌∷◌, ◌++◌, Option, Some, None, refl, ap, sym, ◌∙◌, subst}
 use Rattle.pfs_event.specs.declared.entry.Entry.{Entry}
 use Rattle.pfs_event.specs.declared.entry.Entry.TheVariants as says
 use Rattle.pfs_event.specs.declared.open.Open.{Open}
@@ -10,7 +10,7 @@ use Rattle.pfs_levels.specs.declared.answers.Added.{Added}
 use Rattle.pfs_model.specs.declared.lines.Subject.{Subject}
 use Rattle.pfs_session.specs.Answers.{SaysStart, SaysEnd, SaysStage, SaysStageEnd, SaysStageStart, is_in_stage}
 use Rattle.pfs_session.specs.Ends.{Finished, added_entry}
-use Rattle.pfs_session.specs.Starts.{if_through, start_entry, version_of, versions_in}
+use Rattle.pfs_session.specs.Starts.{if_through, start_entry, versions_in}
 use Rattle.pfs_session.specs.States.{Book}
 use Rattle.pfs_session.specs.declared.events.Numbers.{Numbers}
 use Rattle.pfs_session.specs.declared.session.Started.{Started}

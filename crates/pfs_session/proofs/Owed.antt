@@ -1,5 +1,5 @@
 -- Amounts that are held, added one after another.
-use Rattle.std.proofs.Common.{ℕ, zero, suc, ◌≡◌, ◌<◌, ◌≤◌, ◌+◌, List, [], ◌∷◌, ◌++◌, Option, Some, None, Bool, true, false, is_some, length, take, drop, slice_index_or, refl, ap, sym, ◌∙◌, subst, arith}
+use Rattle.std.proofs.Common.{ℕ, suc, ◌≡◌, ◌<◌, ◌≤◌, ◌+◌, List, [], ◌∷◌, ◌++◌, Option, Some, None, true, false, is_some, length, take, drop, slice_index_or, refl, ap, sym, ◌∙◌, subst, arith}
 use Rattle.std.proofs.lemmas.List.{append_assoc, append-nil, take_more, take-append-drop, length-take-le}
 use Rattle.std.proofs.Common.{length-append}
 use Rattle.std.proofs.lemmas.Bool.{true≢false, false≢true}
@@ -7,7 +7,6 @@ use Rattle.pfs_event.specs.declared.entry.Entry.TheVariants as says
 use Rattle.pfs_levels.specs.Calls.{Call, Puts, Takes, Opening, Goes}
 use Rattle.pfs_levels.specs.Contents.{merged}
 use Rattle.pfs_levels.specs.Journal.{Journal}
-use Rattle.pfs_levels.specs.Moves.{Did}
 use Rattle.pfs_levels.proofs.Moving.{did_none, did_then, did_as, goes_two}
 use Rattle.pfs_stat.specs.declared.Stat.{Stat}
 use Rattle.pfs_session.specs.States.{Owed, owed_of}

@@ -1,7 +1,7 @@
 -- Starts, ends and actions as steps, from what their parts do.
 use Rattle.std.proofs.Common.{ℕ, ◌≡◌, ◌<◌, ◌≤◌, ◌+◌, ◌^◌, ◌&&◌, Bool, true, false, List, [], ◌∷◌, ◌++◌, Option, Some, None, length, refl, ap, sym, ◌∙◌, subst, arith}
 use Rattle.std.specs.Prelude.{IfSome}
-use Rattle.std.proofs.lemmas.List.{append_assoc, append-nil}
+use Rattle.std.proofs.lemmas.List.{append_assoc}
 use Rattle.pfs_admin.proofs.Signing.{worked_behind}
 use Rattle.pfs_admin.specs.Asks.{work_of_connect, work_of_quit, connect_entry, placed_of}
 use Rattle.pfs_admin.specs.States.{State as Administration}
@@ -16,21 +16,20 @@ use Rattle.pfs_event.specs.declared.entry.Entry.TheVariants as says
 use Rattle.pfs_event.specs.declared.kind.EventKind.{EventKind}
 use Rattle.pfs_event.specs.declared.open.Open.{Open}
 use Rattle.pfs_event.specs.declared.verdict.Verdict.{Verdict}
-use Rattle.pfs_levels.proofs.Moving.{did_then, did_as, goes_two}
 use Rattle.pfs_levels.specs.Calls.{Call, Opening, Goes, Loads}
 use Rattle.pfs_levels.specs.Journal.{Journal}
 use Rattle.pfs_levels.specs.Moves.{Did, moves_calls, moves_entries}
 use Rattle.pfs_levels.specs.declared.answers.Added.{Added}
 use Rattle.pfs_levels.specs.declared.answers.Word.{Word}
-use Rattle.pfs_model.specs.Setups.{is_wait, is_statement, thread_word}
+use Rattle.pfs_model.specs.Setups.{is_wait, is_statement}
 use Rattle.pfs_model.specs.declared.lines.Subject.{Subject}
 use Rattle.pfs_stat.specs.declared.Stat.{Stat}
 use Rattle.pfs_session.specs.Adding.{Brings}
-use Rattle.pfs_session.specs.Ends.{Ends, EndsIn, EndsThrough, EndsSilently, Finished, amount_of, cell_number, added_entry, without_innermost}
-use Rattle.pfs_session.specs.Settles.{PaysAll, Settles, owed_in, owed_by_state}
+use Rattle.pfs_session.specs.Ends.{EndsIn, EndsThrough, EndsSilently, Finished, amount_of, cell_number, added_entry, without_innermost}
+use Rattle.pfs_session.specs.Settles.{PaysAll, owed_in, owed_by_state}
 use Rattle.pfs_session.specs.Starts.{Starts, IsLoaded, IsOpened, load_calls, start_entry, started, verdict_seen, verdict_in, is_timed_by}
 use Rattle.pfs_session.specs.States.{State, Book, count_open, one_if, IsKept, AreAround, AreSeated, AreSilent, no_place, nothing_held}
-use Rattle.pfs_session.specs.Turns.{Step, StartsEvent, EndsEvent, SettlesHeld, Connects, Quits, Played, Works, stage_ends, stage_steps}
+use Rattle.pfs_session.specs.Turns.{StartsEvent, EndsEvent, SettlesHeld, Connects, Quits, Played, Works, stage_ends, stage_steps}
 use Rattle.pfs_session.specs.declared.events.Numbers.{Numbers}
 use Rattle.pfs_session.specs.declared.setup.Setup.{Setup}
 use Rattle.pfs_session.proofs.Playing.{played_one, played_then}

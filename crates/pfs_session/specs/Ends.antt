@@ -6,8 +6,6 @@ use Rattle.pfs_event.specs.declared.entry.Entry.TheVariants as says
 use Rattle.pfs_event.specs.declared.kind.EventKind.{EventKind}
 use Rattle.pfs_event.specs.declared.kind.EventKind.TheVariants as kinds
 use Rattle.pfs_event.specs.declared.open.Open.{Open}
-use Rattle.pfs_event.specs.declared.verdict.Verdict.{Verdict}
-use Rattle.pfs_event.specs.declared.verdict.Verdict.TheVariants.{Attributed}
 use Rattle.pfs_levels.specs.Calls.{Call, Opening, Adds, Loads, row_in}
 use Rattle.pfs_levels.specs.Moves.{Did}
 use Rattle.pfs_levels.specs.declared.answers.Added.{Added}

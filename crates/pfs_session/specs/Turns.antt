@@ -11,7 +11,6 @@ use Rattle.pfs_event.specs.declared.entry.Entry.TheVariants as says
 use Rattle.pfs_event.specs.Nesting.{OpenEvents, MayStart}
 use Rattle.pfs_event.specs.declared.open.Open.{Open}
 use Rattle.pfs_levels.specs.Calls.{Call, Opening}
-use Rattle.pfs_levels.specs.Journal.{Journal}
 use Rattle.pfs_levels.specs.Moves.{Move, AreMoves, moves_calls, moves_entries, Did}
 use Rattle.pfs_levels.specs.declared.answers.Word.{Word}
 use Rattle.pfs_model.specs.Shapes.{is_stage}

@@ -1,5 +1,4 @@
-use Rattle.std.proofs.Common.{◌∷◌, [], ap, sym, ◌∙◌, subst, refl, ◌+◌}
-use Rattle.pfs_session.specs.States.{Book}
+use Rattle.std.proofs.Common.{◌∷◌, [], ap, refl, ◌+◌}
 use Rattle.pfs_session.specs.Turns.{SettlesHeld, Quits}
 use Rattle.pfs_session.proofs.Playing.{played_then}
 use Rattle.pfs_session.proofs.Turning.{quit_from}

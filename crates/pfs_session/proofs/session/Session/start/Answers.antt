@@ -1,4 +1,4 @@
-use Rattle.std.proofs.Common.{ℕ, List, ◌∷◌, [], ap, sym, ◌∙◌, subst}
+use Rattle.std.proofs.Common.{◌∷◌, [], ap, ◌∙◌, subst}
 use Rattle.pfs_session.specs.States.{Book}
 use Rattle.pfs_session.specs.Answers.{SaysStart}
 use Rattle.pfs_session.specs.Turns.{Played, StartsEvent}
