@@ -1,6 +1,6 @@
 -- What an action writes behind its head: moves, then signs, then sets.
-use Rattle.std.proofs.Common.{ℕ, ◌≡◌, ◌<◌, ◌+◌, Bool, true, false, List, [], ◌∷◌, ◌++◌, Option, Some, None, map, length, refl, ap, sym, ◌∙◌, subst}
-use Rattle.std.specs.Prelude.{Ok, IfSome, if◌then◌else◌}
+use Rattle.std.proofs.Common.{ℕ, ◌≡◌, Bool, true, false, List, [], ◌∷◌, ◌++◌, Option, Some, None, refl, ap, sym, ◌∙◌}
+use Rattle.std.specs.Prelude.{Ok, if◌then◌else◌}
 use Rattle.std.proofs.lemmas.Bool.{false≢true}
 use Rattle.std.proofs.lemmas.List.{append-nil}
 use Rattle.pfs_admin.specs.Asks.{connect_entry, placed_of}
@@ -11,8 +11,8 @@ use Rattle.pfs_event.specs.declared.entry.Entry.TheVariants as says
 use Rattle.pfs_levels.specs.Moves.{Gift, Move, gift_entries, move_entries, moves_entries}
 use Rattle.pfs_levels.specs.declared.answers.Word.{Word}
 use Rattle.pfs_model.specs.Asks.{fits, is_move, is_sign, is_set}
-use Rattle.pfs_model.specs.Contexts.{Context, subject_of, noted, after_entries}
-use Rattle.pfs_model.specs.Cuts.{cut, behind, step, then_cut, are_closed}
+use Rattle.pfs_model.specs.Contexts.{Context, noted, after_entries}
+use Rattle.pfs_model.specs.Cuts.{cut, behind}
 use Rattle.pfs_model.specs.Shapes.{changes, many}
 use Rattle.pfs_model.specs.declared.lines.Subject.{Subject}
 use Rattle.pfs_model.specs.declared.shapes.Ask.{Ask}
@@ -20,7 +20,7 @@ use Rattle.pfs_model.specs.declared.shapes.Ask.TheVariants as asks
 use Rattle.pfs_model.specs.declared.shapes.Item.{Item}
 use Rattle.pfs_parts.proofs.Cutting.{cut_nothing}
 use Rattle.pfs_parts.proofs.Pieces.{is_plain}
-use Rattle.pfs_parts.proofs.Settled.{ArePlain, plain_then, Untouched, Kept}
+use Rattle.pfs_parts.proofs.Settled.{ArePlain, Kept}
 
 -- all entries pass a test, or none does
 abbrev pub AreAll : Bool → (Entry → Bool) → List Entry → Type 0

@@ -1,13 +1,12 @@
 -- What an agreeing session and its journal have in common.
-use Rattle.std.proofs.Common.{ℕ, ◌≡◌, ◌+◌, ◌&&◌, Bool, true, false, cond, List, [], ◌∷◌, Option, Some, None, is_some, is_none, refl, ap, sym, ◌∙◌, subst, arith}
+use Rattle.std.proofs.Common.{ℕ, ◌≡◌, ◌+◌, ◌&&◌, Bool, true, false, cond, List, [], ◌∷◌, Option, refl, ap, ◌∙◌}
 use Rattle.pfs_event.specs.Verdicts.{is_let_through}
 use Rattle.pfs_event.specs.declared.kind.EventKind.{EventKind}
 use Rattle.pfs_event.specs.declared.open.Open.{Open}
-use Rattle.pfs_event.specs.declared.verdict.Verdict.{Verdict}
 use Rattle.pfs_model.specs.Setups.{open_through}
 use Rattle.pfs_model.specs.declared.lines.Opened.{Opened}
 use Rattle.pfs_session.specs.States.{count_open, one_if}
-use Rattle.pfs_parts.specs.Agreeing.{IsAlike, AreAlike}
+use Rattle.pfs_parts.specs.Agreeing.{AreAlike}
 
 pub one_cond : (b : Bool) → cond b 1 0 ≡ one_if b
 one_cond true = refl

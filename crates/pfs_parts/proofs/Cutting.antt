@@ -1,12 +1,12 @@
 -- Shapes, item by item.
-use Rattle.std.proofs.Common.{◌≡◌, Bool, true, false, List, [], ◌∷◌, ◌++◌, refl, ap, ◌∙◌}
-use Rattle.std.specs.Prelude.{Result, Ok, Err, if◌then◌else◌}
+use Rattle.std.proofs.Common.{◌≡◌, true, false, List, [], ◌∷◌, refl, ap}
+use Rattle.std.specs.Prelude.{Ok, Err, if◌then◌else◌}
 use Rattle.pfs_event.specs.declared.entry.Entry.{Entry}
 use Rattle.pfs_model.specs.declared.shapes.Ask.{Ask}
 use Rattle.pfs_model.specs.declared.shapes.Item.{Item}
 use Rattle.pfs_model.specs.Asks.{fits}
 use Rattle.pfs_model.specs.Cuts.{cut, then_cut}
-use Rattle.pfs_model.specs.Shapes.{one, maybe, many}
+use Rattle.pfs_model.specs.Shapes.{one, maybe}
 
 -- what is asked for stands there
 pub cut_one : (ask : Ask) (items : List Item) (entry : Entry) (entries : List Entry) → fits ask entry ≡ true

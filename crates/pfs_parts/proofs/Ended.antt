@@ -1,12 +1,12 @@
 -- What an end writes, and how the session stands behind it.
-use Rattle.std.proofs.Common.{ℕ, zero, ◌≡◌, ◌<◌, ◌+◌, ◌*◌, ◌&&◌, Bool, true, false, cond, List, [], ◌∷◌, ◌++◌, Option, Some, None, is_some, drop, map, length, slice_set, eq-eqb, refl, ap, sym, ◌∙◌, subst, arith}
-use Rattle.std.specs.Prelude.{Ok, IfSome, ◌==◌, if◌then◌else◌}
+use Rattle.std.proofs.Common.{ℕ, ◌≡◌, ◌<◌, ◌+◌, ◌*◌, ◌&&◌, Bool, true, false, cond, List, [], ◌∷◌, ◌++◌, Option, Some, None, is_some, drop, map, length, slice_set, eq-eqb, refl, ap, sym, ◌∙◌, subst, arith}
+use Rattle.std.specs.Prelude.{Ok, IfSome, if◌then◌else◌}
 use Rattle.std.specs.Ordering.{nat_cmp}
 use Rattle.std.specs.BTreeMap.{is_at}
 use Rattle.std.specs.BTreeSet.{insert_key}
 use Rattle.std.specs.Set.{remove_key}
 use Rattle.std.proofs.lemmas.List.{length-set}
-use Rattle.std.proofs.lemmas.Bool.{lt-ltb, le-ltb, true≢false, false≢true}
+use Rattle.std.proofs.lemmas.Bool.{lt-ltb, le-ltb, false≢true}
 use Rattle.pfs_event.specs.Verdicts.{is_let_through}
 use Rattle.pfs_event.specs.declared.entry.Entry.{Entry}
 use Rattle.pfs_event.specs.declared.entry.Entry.TheVariants as says
@@ -18,7 +18,7 @@ use Rattle.pfs_event.specs.declared.verdict.Verdict.TheVariants.{Aside, Attribut
 use Rattle.pfs_levels.specs.Calls.{Call, row_in}
 use Rattle.pfs_levels.specs.declared.answers.Added.{Added}
 use Rattle.pfs_levels.specs.declared.answers.Added.TheVariants.{Counted, Held}
-use Rattle.pfs_model.specs.Asks.{cell_row, is_end, is_summary, both_loaded}
+use Rattle.pfs_model.specs.Asks.{cell_row, is_summary, both_loaded}
 use Rattle.pfs_model.specs.Contexts.{Context, subject_of, noted, with_row, without_row}
 use Rattle.pfs_model.specs.Cuts.{cut, are_closed, is_headed}
 use Rattle.pfs_model.specs.Numbers.{IsNumbered, ending_id, end_event_id}
@@ -30,7 +30,6 @@ use Rattle.pfs_model.specs.declared.lines.Subject.{Subject}
 use Rattle.pfs_model.specs.declared.shapes.Ask.TheVariants as asks
 use Rattle.pfs_stat.specs.declared.Stat.{Stat}
 use Rattle.pfs_session.specs.Ends.{Ends, EndsIn, EndsThrough, EndsSilently, cell_in, cell_number, added_entry, still_held, with_held, amount_of}
-use Rattle.pfs_session.specs.Starts.{if_through}
 use Rattle.pfs_session.specs.Settles.{owed_in}
 use Rattle.pfs_session.specs.States.{State, held_row, held_at}
 use Rattle.pfs_session.specs.declared.events.Numbers.{Numbers}

@@ -1,5 +1,5 @@
 -- The rows for which something is held, as an ascending list.
-use Rattle.std.proofs.Common.{ℕ, zero, suc, ◌≡◌, ◌<◌, ◌≤◌, ◌+◌, ◌*◌, Bool, true, false, cond, List, [], ◌∷◌, ◌++◌, Option, Some, None, length, map, slice_set, eq-eqb, ne_eqb, inl, inr, refl, ap, sym, ◌∙◌, subst, arith}
+use Rattle.std.proofs.Common.{ℕ, zero, suc, ◌≡◌, ◌<◌, ◌≤◌, ◌+◌, ◌*◌, Bool, true, false, cond, List, [], ◌∷◌, Option, Some, None, length, map, slice_set, eq-eqb, ne_eqb, inl, inr, refl, ap, sym, ◌∙◌, arith}
 use Rattle.std.specs.Prelude.{nat_lt, ◌==◌, ◌⊎◌, if◌then◌else◌}
 use Rattle.std.specs.Ordering.{nat_cmp, match_ordering, is_eq}
 use Rattle.std.proofs.Common.{Less, Equal, Greater}
@@ -9,7 +9,7 @@ use Rattle.std.specs.Set.{remove_key}
 use Rattle.std.proofs.lemmas.Bool.{lt-ltb, le-ltb, ltb-true, ltb-false}
 use Rattle.pfs_stat.specs.declared.Stat.{Stat}
 use Rattle.pfs_session.specs.Settles.{owed_from}
-use Rattle.pfs_session.specs.States.{Owed, held_row}
+use Rattle.pfs_session.specs.States.{held_row}
 use Rattle.pfs_parts.specs.Agreeing.{row_owed}
 
 abbrev pub rows : ℕ → ℕ → List (Option Stat) → List ℕ

@@ -1,5 +1,5 @@
 -- The turns of one step, of two, and of none.
-use Rattle.std.proofs.Common.{◌≡◌, List, [], ◌∷◌, ◌++◌, refl, ap, sym, ◌∙◌, subst}
+use Rattle.std.proofs.Common.{◌≡◌, List, [], ◌∷◌, ◌++◌, refl, ap, ◌∙◌}
 use Rattle.pfs_session.specs.Turns.{Step, Turn, steps_of}
 
 record Last {A : Type 0} (xs : List A) (a : A) (ys : List A) (b : A) : Type 0 where

@@ -1,5 +1,5 @@
 -- The law of a line, and of lines one after another.
-use Rattle.std.proofs.Common.{ℕ, ◌≡◌, Bool, true, false, List, [], ◌∷◌, ◌++◌, refl, ap, sym, ◌∙◌, subst}
+use Rattle.std.proofs.Common.{ℕ, ◌≡◌, Bool, true, false, List, [], ◌∷◌, refl, ap, ◌∙◌, subst}
 use Rattle.std.proofs.lemmas.Bool.{true≢false}
 use Rattle.pfs_event.specs.declared.entry.Entry.{Entry}
 use Rattle.pfs_levels.specs.Calls.{Call}
@@ -9,8 +9,8 @@ use Rattle.pfs_session.specs.Turns.{Step, StartsEvent, EndsEvent, Spends, Settle
 use Rattle.pfs_parts.proofs.Pieces.{judged_then, numbered_then}
 use Rattle.pfs_parts.proofs.Written.{IsLine, written_by, starting_line, staging_line, stage_end_line, end_line, spend_line, connect_line, quit_line, close_line, over_line, ends_stack}
 use Rattle.pfs_parts.specs.Agreeing.{LoadsAgree, Stands}
-use Rattle.pfs_parts.specs.Deeds.{Deed, Connecting, Starting, Staging, StageEnding, Ending, Spending, Quitting, Closing, Part, IsPart, MayDo, is_over, line_of, steps_for}
-use Rattle.pfs_parts.specs.Shaped.{IsWritten, WrittenLaw, IsJournaled, JournalLaw, AreParts, MayDoAll, AllLoadsAgree, lines_of, entries_of, state_behind, over_behind}
+use Rattle.pfs_parts.specs.Deeds.{Deed, Connecting, Starting, Staging, StageEnding, Ending, Spending, Quitting, Closing, Part, MayDo, is_over, line_of, steps_for}
+use Rattle.pfs_parts.specs.Shaped.{WrittenLaw, IsJournaled, JournalLaw, AreParts, MayDoAll, AllLoadsAgree}
 
 by_deed : (flags : ℕ → ℕ → ℕ) (over : Bool) (context : Context) (s : State) (deed : Deed) (turns : List Turn) → Stands flags over context s → MayDo over s deed → AreTurns s turns
     → steps_of turns ≡ steps_for s deed → LoadsAgree flags (turns_calls turns)

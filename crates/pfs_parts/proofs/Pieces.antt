@@ -13,8 +13,6 @@ use Rattle.pfs_model.specs.Setups.{IsJudged, AreJudged}
 use Rattle.pfs_model.specs.declared.lines.Line.{Line}
 use Rattle.pfs_model.specs.declared.lines.Subject.{Subject}
 use Rattle.pfs_model.specs.declared.shapes.Item.{Item}
-use Rattle.pfs_session.specs.States.{State}
-use Rattle.pfs_parts.specs.Agreeing.{Agrees}
 
 pub record IsPiece (flags : ℕ → ℕ → ℕ) (stack : ℕ) (line : Line) (context : Context) (entries : List Entry) (behind : Context) : Type 0 where
   pub judged : (phase session : ℕ) → AreJudged stack flags (placed_part phase session line context entries)

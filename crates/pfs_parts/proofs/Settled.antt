@@ -1,5 +1,5 @@
 -- What settling writes, and how the session stands behind it.
-use Rattle.std.proofs.Common.{ℕ, zero, suc, ◌≡◌, ◌+◌, Bool, true, false, List, [], ◌∷◌, ◌++◌, Option, Some, None, map, length, eq-eqb, refl, ap, sym, ◌∙◌, subst}
+use Rattle.std.proofs.Common.{ℕ, zero, suc, ◌≡◌, ◌+◌, true, List, [], ◌∷◌, ◌++◌, Option, Some, None, map, eq-eqb, refl, ap, sym, ◌∙◌, subst}
 use Rattle.std.specs.Prelude.{Ok, replicate}
 use Rattle.std.proofs.lemmas.List.{append_assoc, append-nil, map-append, length-replicate}
 use Rattle.pfs_event.specs.declared.entry.Entry.{Entry}

@@ -1,5 +1,5 @@
 -- What a start writes, and how the session stands behind it.
-use Rattle.std.proofs.Common.{ℕ, ◌≡◌, ◌+◌, Bool, true, false, cond, List, [], ◌∷◌, ◌++◌, Option, Some, None, map, refl, ap, sym, ◌∙◌, subst, arith}
+use Rattle.std.proofs.Common.{ℕ, ◌≡◌, ◌+◌, true, cond, List, [], ◌∷◌, Option, Some, None, refl, ap, sym, ◌∙◌, subst}
 use Rattle.std.specs.Prelude.{Ok}
 use Rattle.pfs_event.specs.Verdicts.{is_let_through}
 use Rattle.pfs_event.specs.declared.entry.Entry.{Entry}
@@ -7,20 +7,18 @@ use Rattle.pfs_event.specs.declared.entry.Entry.TheVariants as says
 use Rattle.pfs_event.specs.declared.open.Open.{Open}
 use Rattle.pfs_event.specs.declared.verdict.Verdict.{Verdict}
 use Rattle.pfs_levels.specs.Calls.{Call}
-use Rattle.pfs_model.specs.Contexts.{Context, turned, noted, after_entries}
+use Rattle.pfs_model.specs.Contexts.{Context, noted}
 use Rattle.pfs_model.specs.Cuts.{cut, is_headed}
 use Rattle.pfs_model.specs.Numbers.{IsNumbered}
-use Rattle.pfs_model.specs.Setups.{IsJudged, verdict_of, seen_by, is_statement, is_wait, open_through}
+use Rattle.pfs_model.specs.Setups.{IsJudged, verdict_of, seen_by, is_statement, is_wait}
 use Rattle.pfs_model.specs.Shapes.{starting}
-use Rattle.pfs_model.specs.declared.lines.Opened.{Opened}
 use Rattle.pfs_model.specs.declared.lines.Subject.{Subject}
-use Rattle.pfs_session.specs.Settles.{owed_by_state}
-use Rattle.pfs_session.specs.Starts.{Starts, IsOpened, start_entry, started, verdict_seen, verdict_in, is_timed_by, if_through}
+use Rattle.pfs_session.specs.Starts.{Starts, started, verdict_in, is_timed_by, if_through}
 use Rattle.pfs_session.specs.States.{State, count_open, one_if}
 use Rattle.pfs_session.specs.declared.setup.Setup.{Setup}
 use Rattle.pfs_parts.proofs.Alike.{same_count, one_cond}
 use Rattle.pfs_parts.proofs.Starting.{consumers_in, thread_in, class_in, table_in, start_as, start_shaped, start_judged, start_counted, event_of}
-use Rattle.pfs_parts.specs.Agreeing.{LoadsAgree, IsAlike, AreAlike, Agrees, row_owed}
+use Rattle.pfs_parts.specs.Agreeing.{LoadsAgree, IsAlike, Agrees}
 use Rattle.pfs_parts.specs.Deeds.{IsSubject}
 
 -- a start by itself, where the line before it has turned or a stage has just ended

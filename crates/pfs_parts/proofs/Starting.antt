@@ -1,18 +1,16 @@
 -- A start, by what it loaded.
-use Rattle.std.proofs.Common.{ℕ, ◌≡◌, ◌+◌, ◌&&◌, ◌||◌, not, Bool, true, false, cond, List, [], ◌∷◌, ◌++◌, Option, Some, None, is_some, is_none, inl, inr, eq-eqb, refl, ap, sym, ◌∙◌, subst, arith}
+use Rattle.std.proofs.Common.{ℕ, ◌≡◌, ◌&&◌, ◌||◌, Bool, true, false, List, [], ◌∷◌, ◌++◌, Option, Some, None, is_some, is_none, inl, inr, eq-eqb, refl, ap, sym, ◌∙◌, subst}
 use Rattle.std.specs.Option.{option_map}
 use Rattle.std.specs.Prelude.{Ok, ◌⊎◌, ◌==◌, if◌then◌else◌}
 use Rattle.std.proofs.lemmas.Bool.{true≢false, false≢true, eqb-true}
 use Rattle.pfs_event.specs.Verdicts.{is_let_through}
-use Rattle.pfs_event.specs.declared.entry.Entry.{Entry}
 use Rattle.pfs_event.specs.declared.entry.Entry.TheVariants as says
 use Rattle.pfs_event.specs.declared.open.Open.{Open}
 use Rattle.pfs_event.specs.declared.verdict.Verdict.{Verdict}
 use Rattle.pfs_event.specs.declared.verdict.Verdict.TheVariants.{LostThread, LostClass, OffGlobal, OffClass, OffTable, OffThread, LostNested, LostLocker, Aside, Attributed}
-use Rattle.pfs_levels.specs.Calls.{Call, Loads}
+use Rattle.pfs_levels.specs.Calls.{Loads}
 use Rattle.pfs_levels.specs.declared.answers.Word.{Word}
 use Rattle.pfs_model.specs.Asks.{is_start, verdict_fits, are_loaded}
-use Rattle.pfs_model.specs.Contexts.{Context, turned}
 use Rattle.pfs_model.specs.Cuts.{cut}
 use Rattle.pfs_model.specs.Setups.{SeenSetup, verdict_by, verdict_of, seen_by, flags_seen, class_word, table_word, thread_word, is_timed, has_time, is_statement, is_wait, open_through}
 use Rattle.pfs_model.specs.Shapes.{starting}
@@ -20,12 +18,10 @@ use Rattle.pfs_model.specs.declared.lines.Opened.{Opened}
 use Rattle.pfs_model.specs.declared.lines.Subject.{Subject}
 use Rattle.pfs_model.specs.declared.shapes.Ask.TheVariants as asks
 use Rattle.pfs_session.specs.Ends.{cell_in}
-use Rattle.pfs_session.specs.Starts.{Starts, IsLoaded, IsOpened, IsClass, load_calls, setup_calls, table_calls, start_entry, started, verdict_seen, is_timed_by, flags_in, flags_of, if_through, versions_in, version_of}
-use Rattle.pfs_session.specs.States.{State, one_if, count_open}
+use Rattle.pfs_session.specs.Starts.{IsLoaded, IsOpened, IsClass, load_calls, setup_calls, table_calls, start_entry, verdict_seen, is_timed_by, flags_in, flags_of, if_through, versions_in, version_of}
 use Rattle.pfs_session.specs.declared.setup.Setup.{Setup}
-use Rattle.pfs_parts.proofs.Alike.{same_count, one_cond}
 use Rattle.pfs_parts.proofs.Cutting.{cut_one, cut_maybe_end, cut_nothing}
-use Rattle.pfs_parts.specs.Agreeing.{LoadsAgree, IsAlike, IsCounted, Agrees}
+use Rattle.pfs_parts.specs.Agreeing.{LoadsAgree, IsCounted}
 use Rattle.pfs_parts.specs.Deeds.{IsSubject}
 
 -- the versions that a start names

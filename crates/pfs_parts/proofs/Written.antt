@@ -1,7 +1,7 @@
 -- What a session writes at each line.
-use Rattle.std.proofs.Common.{ℕ, ◌≡◌, ◌<◌, ◌+◌, ◌%◌, ◌^◌, Bool, true, false, cond, List, [], ◌∷◌, ◌++◌, Option, Some, None, map, length, refl, ap, sym, ◌∙◌, subst}
+use Rattle.std.proofs.Common.{ℕ, ◌≡◌, ◌<◌, ◌+◌, Bool, true, false, List, [], ◌∷◌, ◌++◌, Option, Some, None, map, refl, ap, sym, ◌∙◌, subst}
 use Rattle.std.specs.Prelude.{Ok, IfSome, if◌then◌else◌}
-use Rattle.std.proofs.lemmas.Bool.{false≢true, true≢false}
+use Rattle.std.proofs.lemmas.Bool.{false≢true}
 use Rattle.std.proofs.lemmas.List.{append-nil}
 use Rattle.pfs_admin.specs.Asks.{connect_entry, placed_of, work_of_connect, work_of_quit}
 use Rattle.pfs_admin.specs.States.{seat_at, connected}
@@ -14,33 +14,28 @@ use Rattle.pfs_event.specs.declared.open.Open.{Open}
 use Rattle.pfs_levels.specs.Calls.{Call}
 use Rattle.pfs_levels.specs.Moves.{moves_entries}
 use Rattle.pfs_model.specs.Contexts.{Context, subject_of, noted, turned, after, after_entries}
-use Rattle.pfs_model.specs.Cuts.{cut, is_headed}
-use Rattle.pfs_model.specs.Numbers.{AreNumbered}
-use Rattle.pfs_model.specs.Places.{placed_part}
-use Rattle.pfs_model.specs.Setups.{IsJudged, AreJudged}
+use Rattle.pfs_model.specs.Cuts.{cut}
+use Rattle.pfs_model.specs.Setups.{IsJudged}
 use Rattle.pfs_model.specs.Shapes.{shape, starting, ending, ending_first, ending_stage, ending_both, is_stage, settling, changes, one}
 use Rattle.pfs_model.specs.declared.lines.Line.{Line}
 use Rattle.pfs_model.specs.declared.lines.Line.TheVariants as lines
 use Rattle.pfs_model.specs.declared.lines.Opened.{Opened}
 use Rattle.pfs_model.specs.declared.lines.Subject.{Subject}
 use Rattle.pfs_model.specs.declared.shapes.Ask.TheVariants as asks
-use Rattle.pfs_model.specs.declared.shapes.Item.{Item}
 use Rattle.pfs_session.specs.Ends.{Ends, EndsIn, no_numbers}
 use Rattle.pfs_session.specs.Settles.{Settles, owed_in, owed_by_state, settle_head, paid_entries}
-use Rattle.pfs_session.specs.Starts.{Starts}
 use Rattle.pfs_session.specs.States.{State, nothing_held}
 use Rattle.pfs_session.specs.Turns.{Step, StartsEvent, EndsEvent, Spends, SettlesHeld, Connects, Quits, Does, Turn, AreTurns, state_after, steps_of, turns_calls, turns_entries, stage_ends, stage_steps, acted}
 use Rattle.pfs_session.specs.declared.events.Numbers.{Numbers}
 use Rattle.pfs_parts.proofs.Acting.{connected_context, connect_fits, connect_plain, quiet_context, quiet_plains, work_quiet, work_shaped}
 use Rattle.pfs_parts.proofs.Cutting.{cut_one, cut_nothing}
-use Rattle.pfs_parts.proofs.Ended.{EndIs, end_is, ending_closed, innermost_of}
+use Rattle.pfs_parts.proofs.Ended.{EndIs, end_is, ending_closed}
 use Rattle.pfs_parts.proofs.Inverting.{OneTurn, TwoTurns, no_turns, one_turn, two_turns}
 use Rattle.pfs_parts.proofs.Pieces.{IsPiece, piece_none, piece_one, piece_plain, piece_then, cut_both}
 use Rattle.pfs_parts.proofs.Settled.{SettleIs, settle_is, settling_closed, settled_context, settle_shaped, settle_plain, nothing_owed, piece_plains}
 use Rattle.pfs_parts.proofs.Started.{StartIs, start_is}
 use Rattle.pfs_parts.specs.Agreeing.{LoadsAgree, AreAlike, Agrees, IsOver, Stands, row_owed}
-use Rattle.pfs_parts.specs.Deeds.{Deed, Part, IsPart, IsSubject, MayDo, is_over, line_of, steps_for, part_calls, part_entries}
-use Rattle.pfs_parts.specs.Deeds as deeds
+use Rattle.pfs_parts.specs.Deeds.{IsSubject}
 use Rattle.pfs_parts.specs.Shaped.{IsWritten}
 
 -- a new line tells no more of its session

@@ -1,5 +1,5 @@
 -- What the lines of a session make it do, and the parts of its journal that this gives.
-use Rattle.std.specs.Prelude.{ℕ, ◌≡◌, ◌⊎◌, ◌<◌, Bool, true, false, List, [], ◌∷◌, ◌++◌, Option, Some, None, IfSome}
+use Rattle.std.specs.Prelude.{ℕ, ◌≡◌, ◌⊎◌, ◌<◌, Bool, true, false, List, [], ◌∷◌, ◌++◌, Some, None, IfSome}
 use Rattle.pfs_admin.specs.Asks.{placed_of}
 use Rattle.pfs_admin.specs.States.{seat_at}
 use Rattle.pfs_admin.specs.States.{State as Administration}
@@ -9,7 +9,7 @@ use Rattle.pfs_model.specs.declared.lines.Line.{Line}
 use Rattle.pfs_model.specs.declared.lines.Line.TheVariants as lines
 use Rattle.pfs_model.specs.declared.lines.Subject.{Subject}
 use Rattle.pfs_session.specs.States.{State, nothing_held}
-use Rattle.pfs_session.specs.Turns.{Step, StartsEvent, EndsEvent, Spends, SettlesHeld, Connects, Quits, Turn, AreTurns, state_after, steps_of, turns_calls, turns_entries, stage_ends, stage_steps}
+use Rattle.pfs_session.specs.Turns.{Step, StartsEvent, EndsEvent, Spends, SettlesHeld, Connects, Quits, Turn, AreTurns, steps_of, turns_calls, turns_entries, stage_ends, stage_steps}
 use Rattle.pfs_session.specs.declared.events.Numbers.{Numbers}
 
 -- a line with what its session is told: of an action the administration as it stands before it, of an end a statement's

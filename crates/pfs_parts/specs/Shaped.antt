@@ -1,7 +1,6 @@
 -- What stands at a line of a session is what the line asks for, and the session stands behind it as its journal tells.
 use Rattle.std.specs.Prelude.{ℕ, ◌≡◌, Bool, List, [], ◌∷◌, Ok}
 use Rattle.pfs_event.specs.declared.entry.Entry.{Entry}
-use Rattle.pfs_levels.specs.Calls.{Call}
 use Rattle.pfs_model.specs.Contexts.{Context, turned, after}
 use Rattle.pfs_model.specs.Contexts.{fresh as empty}
 use Rattle.pfs_model.specs.Cuts.{cut}
