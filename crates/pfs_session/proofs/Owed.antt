@@ -1,5 +1,5 @@
 -- Amounts that are held, added one after another.
-use Rattle.std.proofs.Common.{ℕ, suc, ◌≡◌, ◌<◌, ◌≤◌, ◌+◌, List, [], ◌∷◌, ◌++◌, Option, Some, None, true, false, is_some, length, take, drop, slice_index_or, refl, ap, sym, ◌∙◌, subst, arith}
+use Rattle.std.proofs.Common.{ℕ, zero, suc, ◌≡◌, ◌<◌, ◌≤◌, ◌+◌, List, [], ◌∷◌, ◌++◌, Option, Some, None, true, false, is_some, length, take, drop, slice_index_or, slice_set, replicate, refl, ap, sym, ◌∙◌, subst, arith}
 use Rattle.std.proofs.lemmas.List.{append_assoc, append-nil, take_more, take-append-drop, length-take-le}
 use Rattle.std.proofs.Common.{length-append}
 use Rattle.std.proofs.lemmas.Bool.{true≢false, false≢true}
@@ -9,8 +9,8 @@ use Rattle.pfs_levels.specs.Contents.{merged}
 use Rattle.pfs_levels.specs.Journal.{Journal}
 use Rattle.pfs_levels.proofs.Moving.{did_none, did_then, did_as, goes_two}
 use Rattle.pfs_stat.specs.declared.Stat.{Stat}
-use Rattle.pfs_session.specs.States.{Owed, owed_of}
-use Rattle.pfs_session.specs.Settles.{owed_from, Paid, pay_calls, pay_entries, paid_calls, paid_entries, owed_by, Pays}
+use Rattle.pfs_session.specs.States.{State, Owed, owed_of, nothing_held}
+use Rattle.pfs_session.specs.Settles.{owed_from, owed_in, owed_by_state, settle_cost, Paid, pay_calls, pay_entries, paid_calls, paid_entries, owed_by, Pays}
 
 pub pays_one : (row version next : ℕ) (found content : List ℕ) (amount : Stat) (old new : Journal) (was mid now : Opening → List Call → Type 0)
     → Goes was mid (Takes row version found ∷ []) → Goes mid now (Puts row content next ∷ []) → content ≡ merged found amount → next ≡ version + 1
@@ -133,3 +133,60 @@ length_more slot xs i d lt =
 pub enough : (slot : ℕ) (xs : List (Option Stat)) (i have now : ℕ) (d : Option Stat) → i < length xs → length (owed_from slot 0 xs) ≤ have
     → have ≤ now + length (owed_from slot 0 (take i xs)) → length (owed_of slot i (slice_index_or xs i d)) ≤ now
 enough slot xs i have now d lt le used = omega (arith, length_more slot xs i d lt, owed_fit slot xs (i + 1), le, used)
+
+owed_few : (slot cell : ℕ) (x : Option Stat) → length (owed_of slot cell x) ≤ 1
+owed_few slot cell None = omega arith
+owed_few slot cell (Some amount) = omega arith
+
+-- what is held in one place more or otherwise is one amount more at most
+owed_set : (slot cell : ℕ) (xs : List (Option Stat)) (i : ℕ) (x : Option Stat)
+    → length (owed_from slot cell (slice_set xs i x)) ≤ length (owed_from slot cell xs) + 1
+unfolding owed_from
+owed_set slot cell [] i x = omega arith
+owed_set slot cell (y ∷ ys) zero x =
+    omega (
+      arith,
+      length-append (owed_of slot cell x) (owed_from slot (cell + 1) ys),
+      length-append (owed_of slot cell y) (owed_from slot (cell + 1) ys),
+      owed_few slot cell x,
+    )
+owed_set slot cell (y ∷ ys) (suc i) x =
+    omega (
+      arith,
+      length-append (owed_of slot cell y) (owed_from slot (cell + 1) (slice_set ys i x)),
+      length-append (owed_of slot cell y) (owed_from slot (cell + 1) ys),
+      owed_set slot (cell + 1) ys i x,
+    )
+
+pub owed_brought : (thread : Option ℕ) (cell : ℕ) (held there : List (Option Stat)) (x : Option Stat) → there ≡ slice_set held cell x
+    → length (owed_in thread there) ≤ length (owed_in thread held) + 1
+owed_brought None cell held there x e = omega arith
+owed_brought (Some slot) cell held there x e =
+    subst (λ z. length (owed_from slot 0 z) ≤ length (owed_from slot 0 held) + 1) (sym e) (owed_set slot 0 held cell x)
+
+-- behind an addition that was tried a session owes one amount more at most
+pub finish_owes : (cell : ℕ) (old at : State) (here there last : List (Option Stat)) (x : Option Stat) → at ≡ old → here ≡ at.held
+    → there ≡ slice_set here cell x → last ≡ there → length (owed_in at.place.thread last) ≤ length (owed_by_state old) + 1
+finish_owes cell old at here there last x e h b n =
+    let P : List (Option Stat) → Type 0 = λ z. there ≡ slice_set z cell x in
+    omega (
+      arith,
+      owed_brought at.place.thread cell at.held there x (subst P h b),
+      ap (λ z. length (owed_in at.place.thread z)) n,
+      ap (λ z. length (owed_by_state z)) e,
+    )
+
+-- a session that holds nothing owes nothing
+none_owed : (slot cell n : ℕ) → owed_from slot cell (replicate n None) ≡ []
+unfolding owed_from
+none_owed slot cell zero = refl
+none_owed slot cell (suc n) = none_owed slot (cell + 1) n
+
+pub nothing_owed : (slot : Option ℕ) → owed_in slot nothing_held ≡ []
+nothing_owed None = refl
+nothing_owed (Some slot) = none_owed slot 0 193
+
+-- what settling costs
+pub settle_few : (owed : List Owed) → settle_cost owed ≤ length owed + 1
+settle_few [] = omega arith
+settle_few (one ∷ others) = omega arith

@@ -28,7 +28,7 @@ use Rattle.pfs_session.specs.Adding.{Brings}
 use Rattle.pfs_session.specs.Ends.{EndsIn, EndsThrough, EndsSilently, Finished, amount_of, cell_number, added_entry, without_innermost}
 use Rattle.pfs_session.specs.Settles.{PaysAll, owed_in, owed_by_state}
 use Rattle.pfs_session.specs.Starts.{Starts, IsLoaded, IsOpened, load_calls, start_entry, started, verdict_seen, verdict_in, is_timed_by}
-use Rattle.pfs_session.specs.States.{State, Book, count_open, one_if, IsKept, AreAround, AreSeated, AreSilent, no_place, nothing_held}
+use Rattle.pfs_session.specs.States.{State, Book, count_open, one_if, IsKept, AreAround, AreSeated, AreSilent, AreHeldFor, no_place, nothing_held}
 use Rattle.pfs_session.specs.Turns.{StartsEvent, EndsEvent, SettlesHeld, Connects, Quits, Played, Works, stage_ends, stage_steps}
 use Rattle.pfs_session.specs.declared.events.Numbers.{Numbers}
 use Rattle.pfs_session.specs.declared.setup.Setup.{Setup}
@@ -139,11 +139,28 @@ end_silent old mid new what numbers was inner same journal silent state entries 
     (record { what = what; others = others; innermost = inner; ends = subst R (sym silent) own })
     refl (record { entries_are = entries ∙ ap (λ (j : Journal). j.entries ++ says.End None None None None ∷ []) journal; goes = λ start calls h. h })
 
-pub settle_played : (old new : Book) (was now : Opening → List Call → Type 0) → PaysAll (owed_by_state old.state) old.journal new.journal was now
+-- a session without a slot holds nothing
+pub none_held : (thread : Option ℕ) (held : List (Option Stat)) → AreHeldFor thread held → thread ≡ None → held ≡ nothing_held
+none_held thread held h e = subst (λ t. AreHeldFor t held) e h
+
+held_for : (thread : Option ℕ) (held : List (Option Stat)) → held ≡ nothing_held → AreHeldFor thread held
+held_for None held e = e
+held_for (Some slot) held e = tt
+
+pub settle_played : (old new : Book) (was now : Opening → List Call → Type 0) → AreHeldFor old.state.place.thread old.state.held
+    → PaysAll (owed_by_state old.state) old.journal new.journal was now
     → new.state ≡ record old.state { held = nothing_held } → Played (SettlesHeld ∷ []) old new was now
-settle_played old new was now p state =
-    played_one SettlesHeld _ _ (record old.state { held = nothing_held }) old new was now
-    (record { paid = p.paid; owed_are = p.owed_are; calls_are = refl; entries_are = refl; after_is = refl }) state p.did
+settle_played old new was now seated p state =
+    let s : State = old.state in
+    played_one SettlesHeld _ _ (record s { held = nothing_held }) old new was now
+    (record {
+      unseated = none_held s.place.thread s.held seated;
+      paid = p.paid;
+      owed_are = p.owed_are;
+      calls_are = refl;
+      entries_are = refl;
+      after_is = refl;
+    }) state p.did
 
 works_of : (work : Work) (words : List Word) (head : List Entry) (old new : Journal) (was now : Opening → List Call → Type 0) (w : Worked work words head old new was now)
     → Works work words head (flagging_calls words work.flags ++ (signs_calls w.made ++ moves_calls w.moves))
@@ -212,13 +229,14 @@ pub quit_from : (at old new : Book) (mid : Journal) (admin after : Administratio
 quit_from at old new mid admin after number action lost was now e a m w step n l state =
     subst (λ b. Played (Quits admin ∷ []) b new was now) e (quit_played at new mid admin after number action lost was now a m w step n l state)
 
-pub settle_from : (at old new : Book) (held there : List (Option Stat)) (was now : Opening → List Call → Type 0) → at ≡ old → held ≡ at.state.held
+pub settle_from : (at old new : Book) (held there : List (Option Stat)) (was now : Opening → List Call → Type 0) → at ≡ old
+    → AreHeldFor at.state.place.thread at.state.held → held ≡ at.state.held
     → PaysAll (owed_in at.state.place.thread held) at.journal new.journal was now → there ≡ nothing_held → new.state ≡ record at.state { held = there }
     → Played (SettlesHeld ∷ []) old new was now
-settle_from at old new held there was now e h p none state =
+settle_from at old new held there was now e seated h p none state =
     let P : List (Option Stat) → Type 0 = λ z. PaysAll (owed_in at.state.place.thread z) at.journal new.journal was now in
     subst (λ b. Played (SettlesHeld ∷ []) b new was now) e
-    (settle_played at new was now (subst P h p) (state ∙ ap (λ z. record at.state { held = z }) none))
+    (settle_played at new was now seated (subst P h p) (state ∙ ap (λ z. record at.state { held = z }) none))
 
 pub finish_from : (at old new : Book) (slot cell : ℕ) (consumers thread : Word) (answer : Added) (amount : Stat) (what : Open) (numbers : Numbers) (mid : Journal)
     (here there last : List (Option Stat)) (was a b now : Opening → List Call → Type 0)
@@ -252,15 +270,21 @@ seated_by : (thread : Option ℕ) (events : List Open) → events ≡ [] → IfS
 seated_by None events e low = subst AreSilent (sym e) tt
 seated_by (Some slot) events e low = low
 
-pub kept_elsewhere : (s after : State) (statements waits : ℕ) → s.opened.events ≡ [] → IfSome after.place.thread (λ n. n < 32)
-    → after.opened ≡ s.opened → after.held ≡ s.held → IsKept s statements waits → IsKept after statements waits
-kept_elsewhere s after statements waits e low o h k = record {
+pub kept_elsewhere : (s after : State) (statements waits : ℕ) → s.opened.events ≡ [] → s.place.thread ≡ None
+    → IfSome after.place.thread (λ n. n < 32) → after.opened ≡ s.opened → after.held ≡ s.held
+    → IsKept s statements waits → IsKept after statements waits
+kept_elsewhere s after statements waits e nowhere low o h k = record {
   statements_are = k.statements_are ∙ ap (λ z. count_open is_statement z.events) (sym o);
   waits_are = k.waits_are ∙ ap (λ z. count_open is_wait z.events) (sym o);
   nested = subst (λ z. AreAround z.events) (sym o) k.nested;
   seated = seated_by after.place.thread after.opened.events (ap (λ z. z.events) o ∙ e) low;
   held_wide = ap length h ∙ k.held_wide;
+  held_seated = held_for after.place.thread after.held (h ∙ none_held s.place.thread s.held k.held_seated nowhere);
 }
+
+-- a session in a slot may hold what it likes
+pub held_in_slot : (thread : Option ℕ) (slot : ℕ) (held : List (Option Stat)) → thread ≡ Some slot → AreHeldFor thread held
+held_in_slot thread slot held e = subst (λ t. AreHeldFor t held) (sym e) tt
 
 pub stage_from : (old mid new : Book) (what : Option Subject) (subject : Subject) (was at now : Opening → List Call → Type 0) → what ≡ Some subject
     → Played (stage_ends old.state.opened.events) old mid was at → Played (StartsEvent subject ∷ []) mid new at now

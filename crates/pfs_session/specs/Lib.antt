@@ -5,3 +5,4 @@ pub mod Answers
 pub mod Adding
 pub mod Settles
 pub mod Turns
+pub mod Leaving

@@ -69,8 +69,9 @@ pub record PaysAll (owed : List Owed) (old new : Journal) (was now : Opening →
   pub owed_are : owed_by paid ≡ owed
   pub did : Did (paid_calls paid) (settle_head owed ++ paid_entries paid) old new was now
 
--- all that is held is added, and nothing is held any more
+-- all that is held is added, and nothing is held any more; a session without a slot held nothing
 pub record Settles (s : State) (calls : List Call) (entries : List Entry) (after : State) : Type 0 where
+  pub unseated : s.place.thread ≡ None → s.held ≡ nothing_held
   pub paid : List Paid
   pub owed_are : owed_by paid ≡ owed_by_state s
   pub calls_are : calls ≡ paid_calls paid

@@ -11,6 +11,7 @@ use Rattle.pfs_levels.specs.Calls.{Call, Loads}
 use Rattle.pfs_levels.specs.declared.answers.Word.{Word}
 use Rattle.pfs_model.specs.Setups.{SeenSetup, verdict_by, has_time, is_wait, is_statement, thread_word, class_word, table_word}
 use Rattle.pfs_model.specs.declared.lines.Subject.{Subject}
+use Rattle.pfs_session.specs.Ends.{no_numbers}
 use Rattle.pfs_session.specs.States.{State, around, count_open, one_if}
 use Rattle.pfs_session.specs.declared.setup.Setup.{Setup}
 
@@ -84,6 +85,22 @@ abbrev pub IsClass : Option ℕ → ℕ → Type 0
 IsClass None number = number ≡ 0
 IsClass (Some class) number = number ≡ class
 
+-- what an end fills in, or a place that an event gets, is empty in an event that has just started
+pub record IsUnfilled (what : Open) : Type 0 where
+  pub last : what.event.last ≡ 0
+  pub duration : what.event.duration ≡ 0
+  pub numbers : record {
+    lock = what.event.lock;
+    errors = what.event.errors;
+    warnings = what.event.warnings;
+    affected = what.event.affected;
+    sent = what.event.sent;
+    examined = what.event.examined;
+  } ≡ no_numbers
+  pub ticket : what.event.ticket ≡ 0
+  pub digested : what.digested ≡ false
+  pub placed : what.placed ≡ false
+
 -- the open event that a start of a subject makes, with this verdict, in a session of this number that has drawn so many
 -- event numbers, at this clock, where those events are open
 pub record IsOpened (session drawn clock : ℕ) (events : List Open) (subject : Subject) (verdict : Verdict)
@@ -98,6 +115,7 @@ pub record IsOpened (session drawn clock : ℕ) (events : List Open) (subject : 
   pub start : what.event.start ≡ clock
   pub timed_is : what.event.timed ≡ timed
   pub read_only : what.event.read_only ≡ (subject.cell == 63)
+  pub unfilled : IsUnfilled what
 
 -- the EVENT_ID of an event that is let through
 abbrev pub if_through : Verdict → ℕ → Option ℕ

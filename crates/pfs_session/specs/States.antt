@@ -104,6 +104,11 @@ abbrev pub AreSeated : Option ℕ → List Open → Type 0
 AreSeated None events = AreSilent events
 AreSeated (Some slot) events = slot < 32
 
+-- a session without a thread slot holds nothing
+abbrev pub AreHeldFor : Option ℕ → List (Option Stat) → Type 0
+AreHeldFor None held = held ≡ nothing_held
+AreHeldFor (Some slot) held = Unit {0}
+
 -- what always holds of a session that counts so many open statements and waits
 pub record IsKept (s : State) (statements waits : ℕ) : Type 0 where
   pub statements_are : statements ≡ count_open is_statement s.opened.events
@@ -111,6 +116,7 @@ pub record IsKept (s : State) (statements waits : ℕ) : Type 0 where
   pub nested : AreAround s.opened.events
   pub seated : AreSeated s.place.thread s.opened.events
   pub held_wide : length s.held ≡ 193
+  pub held_seated : AreHeldFor s.place.thread s.held
 
 -- the open events without the innermost one, where that is a stage
 abbrev pub without_stage : List Open → List Open

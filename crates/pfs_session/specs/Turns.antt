@@ -9,6 +9,7 @@ use Rattle.pfs_containers.specs.Kept.{lost_in}
 use Rattle.pfs_event.specs.declared.entry.Entry.{Entry}
 use Rattle.pfs_event.specs.declared.entry.Entry.TheVariants as says
 use Rattle.pfs_event.specs.Nesting.{OpenEvents, MayStart}
+use Rattle.pfs_event.specs.declared.kind.EventKind.TheVariants.{Stage}
 use Rattle.pfs_event.specs.declared.open.Open.{Open}
 use Rattle.pfs_levels.specs.Calls.{Call, Opening}
 use Rattle.pfs_levels.specs.Moves.{Move, AreMoves, moves_calls, moves_entries, Did}
@@ -81,7 +82,7 @@ stage_steps events subject = stage_ends events ++ stage_starts subject
 abbrev pub StageMayStart : OpenEvents → Option Subject → Type 0
 StageMayStart nest None = Unit {0}
 StageMayStart nest (Some subject) = MayStart nest subject.kind × (length nest.events < nest.depth)
-    × IfSome subject.class (λ n. n < 63) × IfSome subject.table (λ n. n < 64)
+    × IfSome subject.class (λ n. n < 63) × IfSome subject.table (λ n. n < 64) × (subject.kind ≡ Stage)
 
 -- a step that was done
 pub record Turn : Type 0 where

@@ -7,11 +7,12 @@ ghost use Rattle.pfs_admin.specs.Works.{Leaves};
 ghost use Rattle.pfs_event.specs.Nesting.{MayStart};
 ghost use Rattle.pfs_event.specs.Verdicts.{is_let_through};
 ghost use Rattle.pfs_session.specs.Answers.{SaysStart, SaysEnd, SaysStage, SaysStageEnd, is_in_stage};
-ghost use Rattle.pfs_session.specs.Ends.{Finished, without_innermost};
+ghost use Rattle.pfs_session.specs.Ends.{Finished, outer_events, without_innermost};
+ghost use Rattle.pfs_session.specs.Leaving.{HasStarted, HasStaged};
 ghost use Rattle.pfs_session.specs.Settles.{owed_by_state, settle_cost};
 ghost use Rattle.pfs_session.specs.Starts.{started, if_through};
-ghost use Rattle.pfs_session.specs.States.{fresh, around, one_if, nothing_held, without_stage};
-ghost use Rattle.pfs_session.specs.Turns.{Played, StartsEvent, EndsEvent, SettlesHeld, Connects, Quits, StageMayStart, stage_steps, stage_ends};
+ghost use Rattle.pfs_session.specs.States.{fresh, around, one_if, no_place, nothing_held, without_stage};
+ghost use Rattle.pfs_session.specs.Turns.{Played, Does, StartsEvent, EndsEvent, Spends, SettlesHeld, Connects, Quits, StageMayStart, stage_steps, stage_ends};
 
 use crate::NoMemory;
 use crate::adding::bring;
@@ -163,6 +164,7 @@ impl Session {
     /// Lets so many picoseconds pass on the session's clock, which goes modulo 2^64.
     pub fn spend(&mut self, time: u64)
         ensures state { self.new.state ≡ record self.old.state { clock = (self.old.state.clock + time) % 2 ^ 64 } }
+        ensures does { Does self.old.state (Spends time) [] [] self.new.state }
         ensures journal { self.new.journal ≡ self.old.journal }
     {
         self.clock = self.clock.wrapping_add(time);
@@ -181,6 +183,12 @@ impl Session {
         ensures played { Played (StartsEvent what.now ∷ []) self.old self.new (R.reached rows.old)
             (R.reached rows.new) }
         ensures answer { SaysStart result self.old.journal.entries self.new.journal.entries }
+        ensures opened { HasStarted what.now.kind self.old.state.opened self.new.state.opened }
+        ensures drawn { self.new.state.drawn ≡ self.old.state.drawn + one_if (is_let_through result.verdict) }
+        ensures rest { self.new.state ≡ record self.old.state {
+          drawn = self.new.state.drawn;
+          opened = self.new.state.opened;
+        } }
         ensures leaves { Leaves 0 1 (R.hand rows.old) (R.hand rows.new) (R.left rows.old) (R.left rows.new)
             (R.draws rows.old) (R.draws rows.new) (R.name rows.old) (R.name rows.new) self.old.journal
             self.new.journal }
@@ -252,6 +260,11 @@ impl Session {
         ensures played { Played (EndsEvent numbers.now ∷ []) self.old self.new (R.reached rows.old)
             (R.reached rows.new) }
         ensures answer { SaysEnd result self.old.journal.entries self.new.journal.entries }
+        ensures rest { self.new.state ≡ record self.old.state {
+          opened = record self.old.state.opened { events = outer_events self.old.state.opened.events };
+          held = self.new.state.held;
+        } }
+        ensures owed { length (owed_by_state self.new.state) ≤ length (owed_by_state self.old.state) + 1 }
         ensures leaves { Leaves 1 2 (R.hand rows.old) (R.hand rows.new) (R.left rows.old) (R.left rows.new)
             (R.draws rows.old) (R.draws rows.new) (R.name rows.old) (R.name rows.new) self.old.journal
             self.new.journal }
@@ -297,6 +310,8 @@ impl Session {
         requires room { 2 ≤ self.old.journal.room }
         ensures finished { Finished self.old self.new what.now numbers.now result (R.reached rows.old)
             (R.reached rows.new) }
+        ensures rest { self.new.state ≡ record self.old.state { held = self.new.state.held } }
+        ensures owed { length (owed_by_state self.new.state) ≤ length (owed_by_state self.old.state) + 1 }
         ensures leaves { Leaves 1 2 (R.hand rows.old) (R.hand rows.new) (R.left rows.old) (R.left rows.new)
             (R.draws rows.old) (R.draws rows.new) (R.name rows.old) (R.name rows.new) self.old.journal
             self.new.journal }
@@ -343,6 +358,14 @@ impl Session {
             (R.reached rows.old) (R.reached rows.new) }
         ensures answer { SaysStage self.old.state.opened.events what.now result.0 result.1
             self.old.journal.entries self.new.journal.entries }
+        ensures opened { HasStaged what.now self.old.state.opened self.new.state.opened }
+        ensures drawn { self.new.state.drawn ≤ self.old.state.drawn + 1 }
+        ensures rest { self.new.state ≡ record self.old.state {
+          drawn = self.new.state.drawn;
+          opened = self.new.state.opened;
+          held = self.new.state.held;
+        } }
+        ensures owed { length (owed_by_state self.new.state) ≤ length (owed_by_state self.old.state) + 1 }
         ensures leaves { Leaves 1 3 (R.hand rows.old) (R.hand rows.new) (R.left rows.old) (R.left rows.new)
             (R.draws rows.old) (R.draws rows.new) (R.name rows.old) (R.name rows.new) self.old.journal
             self.new.journal }
@@ -367,10 +390,11 @@ impl Session {
             (R.reached rows.new) }
         ensures answer { SaysStageEnd (is_in_stage self.old.state.opened.events) result self.old.journal.entries
             self.new.journal.entries }
-        ensures opened { self.new.state.opened ≡ record self.old.state.opened {
-          events = without_stage self.old.state.opened.events;
+        ensures rest { self.new.state ≡ record self.old.state {
+          opened = record self.old.state.opened { events = without_stage self.old.state.opened.events };
+          held = self.new.state.held;
         } }
-        ensures drawn { self.new.state.drawn ≡ self.old.state.drawn }
+        ensures owed { length (owed_by_state self.new.state) ≤ length (owed_by_state self.old.state) + 1 }
         ensures leaves { Leaves 1 2 (R.hand rows.old) (R.hand rows.new) (R.left rows.old) (R.left rows.new)
             (R.draws rows.old) (R.draws rows.new) (R.name rows.old) (R.name rows.new) self.old.journal
             self.new.journal }
@@ -396,8 +420,9 @@ impl Session {
         user: NameId,
         host: NameId,
     ) -> Placed
+        requires first { self.old.state.actions ≡ 0 }
+        requires unplaced { self.old.state.place ≡ no_place }
         requires closed { self.old.state.opened.events ≡ [] }
-        requires first { self.old.state.actions + 1 < 2 ^ 64 }
         requires few { admin.old.actions < 2 ^ 47 }
         requires user { user < length admin.old.names }
         requires host { host < length admin.old.names }
@@ -409,6 +434,12 @@ impl Session {
             (H.reached rows.new) }
         ensures admin { admin.new ≡ connected admin.old self.old.state.number user host }
         ensures placed { result ≡ placed_of (seat_at admin.old self.old.state.number user host) }
+        ensures rest { self.new.state ≡ record self.old.state {
+          place = result;
+          actions = 1;
+          last = self.new.state.last;
+        } }
+        ensures owed { owed_by_state self.new.state ≡ [] }
         ensures leaves { Leaves 4 6 (H.hand rows.old) (H.hand rows.new) (H.left rows.old) (H.left rows.new)
             (H.draws rows.old) (H.draws rows.new) (H.name rows.old) (H.name rows.new) self.old.journal
             self.new.journal }
@@ -437,6 +468,12 @@ impl Session {
         ensures played { Played (SettlesHeld ∷ Quits admin.old ∷ []) self.old self.new (H.reached rows.old)
             (H.reached rows.new) }
         ensures admin { admin.new ≡ has_quit admin.old self.old.state.number }
+        ensures rest { self.new.state ≡ record self.old.state {
+          place = no_place;
+          held = nothing_held;
+          actions = self.old.state.actions + 1;
+          last = self.new.state.last;
+        } }
         ensures leaves { Leaves (length (owed_by_state self.old.state) + 196)
             (settle_cost (owed_by_state self.old.state) + 198) (H.hand rows.old) (H.hand rows.new) (H.left rows.old)
             (H.left rows.new) (H.draws rows.old) (H.draws rows.new) (H.name rows.old) (H.name rows.new)
@@ -483,6 +520,7 @@ impl Session {
         requires spare { length (owed_by_state self.state) ≤ H.left rows.old }
         requires room { settle_cost (owed_by_state self.state) ≤ self.journal.room }
         ensures played { Played (SettlesHeld ∷ []) self result (H.reached rows.old) (H.reached rows.new) }
+        ensures state { result.state ≡ record self.state { held = nothing_held } }
         ensures leaves { Leaves (length (owed_by_state self.state)) (settle_cost (owed_by_state self.state))
             (H.hand rows.old) (H.hand rows.new) (H.left rows.old) (H.left rows.new) (H.draws rows.old)
             (H.draws rows.new) (H.name rows.old) (H.name rows.new) self.journal result.journal }
@@ -501,11 +539,14 @@ pub struct Paused {
 }
 
 impl Model for Paused {
-    ghost use Rattle.pfs_session.specs.States.{Book};
+    ghost use Rattle.std.specs.Prelude.{◌≡◌};
+    ghost use Rattle.pfs_session.specs.States.{Book, nothing_held};
 
     ghost Value = { Book };
 
     ghost view = { λ s. s.session };
+
+    ghost invariant = { λ s. s.session.state.held ≡ nothing_held };
 }
 
 impl Paused {
@@ -527,7 +568,9 @@ impl Paused {
 
     /// Goes on with the session in another phase, in which it has had no action yet.
     pub fn resume(self) -> Session
-        ensures { result ≡ record self { state = record self.state { last = None } } }
+        ensures state { result ≡ record self { state = record self.state { last = None } } }
+        ensures held { result.state.held ≡ nothing_held }
+        ensures owed { owed_by_state result.state ≡ [] }
     {
         let mut session = self.session;
         session.last = None;

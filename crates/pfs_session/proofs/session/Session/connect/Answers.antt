@@ -1,6 +1,8 @@
 use Rattle.std.proofs.Common.{refl, ap, ◌∙◌}
 use Rattle.pfs_session.specs.States.{Book}
-use Rattle.pfs_session.proofs.Turning.{connect_from, kept_elsewhere}
+use Rattle.pfs_session.specs.Settles.{owed_in}
+use Rattle.pfs_session.proofs.Owed.{nothing_owed}
+use Rattle.pfs_session.proofs.Turning.{connect_from, kept_elsewhere, none_held}
 use Rattle.pfs_session.proofs.session.Session.connect.Goals as goal
 
 pub returns-clause-played : goal.returns-clause-played
@@ -10,4 +12,10 @@ returns-clause-played g c =
 
 pub invariant_of-self : goal.invariant_of-self
 invariant_of-self g c =
-    kept_elsewhere _ _ _ _ (ap (λ (b : Book). b.state.opened.events) c.self.view_is ∙ c.requires.closed) c.connect-placed.ensures.slot refl refl c.self.invariant
+    kept_elsewhere _ _ _ _ (ap (λ (b : Book). b.state.opened.events) c.self.view_is ∙ c.requires.closed)
+    (ap (λ (b : Book). b.state.place.thread) c.self.view_is ∙ ap (λ p. p.thread) c.requires.unplaced) c.connect-placed.ensures.slot refl refl c.self.invariant
+
+pub returns-clause-owed : goal.returns-clause-owed
+returns-clause-owed g c =
+    let nowhere = ap (λ (b : Book). b.state.place.thread) c.self.view_is ∙ ap (λ p. p.thread) c.requires.unplaced in
+    ap (owed_in c.connect-placed.result.thread) (none_held _ _ c.self.invariant.held_seated nowhere) ∙ nothing_owed c.connect-placed.result.thread
