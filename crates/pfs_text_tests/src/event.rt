@@ -1,5 +1,5 @@
 //! Worked rows, and the call that may want memory.
-use crate::*;
+use pfs_event::*;
 use std::test::Fail;
 
 // The second event of session 7: a wait of class 5 and table 2 in statement 1.

@@ -1,4 +1,4 @@
-use super::*;
+use pfs_digest::*;
 use pfs_lexer::LexFault;
 use std::alloc::Global;
 use std::test::Fail;

@@ -1,4 +1,4 @@
-use crate::script_of;
+use pfs_gen::script_of;
 use sha2::{Digest, Sha256};
 use std::test::Fail;
 

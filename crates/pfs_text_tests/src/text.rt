@@ -1,5 +1,5 @@
 //! Examples of the manual of MySQL, and each call that may want memory.
-use crate::*;
+use pfs_text::*;
 use std::test::Fail;
 
 // Texts compare by bytes here, so that letter case counts.

@@ -1,26 +1,33 @@
-use super::*;
+use pfs_outside::*;
 use std::test::Fail;
 
 #[test]
 fn a_source_gives_its_bytes_and_fails_where_it_is_told(rt: HostRuntime) -> Result<(), Fail> {
     let mut source = MemorySource::new(rt.alloc(), b"abcde", &[2])?;
     let mut buffer = [0u8; 4];
-    assert_eq!(rt; source.read(&mut buffer), Got::Bytes(4));
-    assert_eq!(rt; buffer, [97, 98, 99, 100]);
-    assert_eq!(rt; source.read(&mut buffer), Got::Failed);
-    assert_eq!(rt; source.read(&mut buffer), Got::Bytes(1));
-    assert_eq!(rt; buffer[0], 101);
-    assert_eq!(rt; source.read(&mut buffer), Got::End);
+    for (told, held) in [
+        (Got::Bytes(4), *b"abcd"),
+        (Got::Failed, *b"abcd"),
+        (Got::Bytes(1), *b"ebcd"),
+        (Got::End, *b"ebcd"),
+    ] {
+        assert_eq!(rt; source.read(&mut buffer), told);
+        assert_eq!(rt; buffer, held);
+    }
     Ok(())
 }
 
 #[test]
 fn a_sink_takes_what_fits_and_fails_where_it_is_told(rt: HostRuntime) -> Result<(), Fail> {
     let mut sink = MemorySink::new(rt.alloc(), 4, &[1])?;
-    assert_eq!(rt; sink.write(b"ab"), Wrote::Failed);
-    assert_eq!(rt; sink.write(b"abc"), Wrote::Bytes(3));
-    assert_eq!(rt; sink.write(b"de"), Wrote::Bytes(1));
-    assert_eq!(rt; sink.write(b"e"), Wrote::Failed);
+    for (bytes, told) in [
+        (b"ab".as_slice(), Wrote::Failed),
+        (b"abc".as_slice(), Wrote::Bytes(3)),
+        (b"de".as_slice(), Wrote::Bytes(1)),
+        (b"e".as_slice(), Wrote::Failed),
+    ] {
+        assert_eq!(rt; sink.write(bytes), told);
+    }
     assert_eq!(rt; sink.bytes(), b"abcd".as_slice());
     Ok(())
 }
