@@ -10,7 +10,7 @@ mod courses;
 mod finds;
 #[cfg(test)]
 mod form_tests;
-mod forms;
+pub mod forms;
 mod fronts;
 mod heading;
 mod heading_lines;
