@@ -1,7 +1,7 @@
 //! Scripts with nested events and repeats, and the first faulty line of what is none, with its reason.
 
-use super::*;
 use pfs_classes::{ClassId, ClassRef};
+use pfs_script::*;
 use std::alloc::Global;
 use std::process::Abort;
 use std::test::Fail;

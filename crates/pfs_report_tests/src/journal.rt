@@ -1,4 +1,4 @@
-use crate::*;
+use pfs_journal::*;
 use pfs_outside::{MemorySink, WriteStop};
 use std::alloc::Global;
 use std::test::Fail;

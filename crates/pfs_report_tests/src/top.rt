@@ -1,8 +1,8 @@
 ghost use Rattle.std.specs.Prelude.{None, ◌<◌, length};
 
-use super::*;
 use pfs_outside::{Got, MemorySink, MemorySource, Sink, Source};
 use pfs_script::Reason;
+use pfs_top::*;
 use std::alloc::{AllocError, Global};
 use std::test::Fail;
 
@@ -199,15 +199,22 @@ fn summaries_have_the_numbers_of_great_and_empty_waits(rt: HostRuntime) -> Resul
 
 #[test]
 fn failures_leave_what_was_written_before_them(rt: HostRuntime) -> Result<(), Fail> {
-    let (status, sink) = ran(rt.alloc(), ONE_WAIT, 1_000, &[], &[3])?;
-    assert_eq!(rt; status, Status::WriteFault);
-    assert_eq!(rt; sink.bytes(), b"pfs-report 0\nphase 1\n".as_slice());
-    let (status, sink) = ran(rt.alloc(), ONE_WAIT, 1_000, &[1], &[])?;
-    assert_eq!(rt; status, Status::ReadFault);
-    assert!(rt; sink.bytes().is_empty());
-    let (status, sink) = ran(rt.alloc(), ONE_WAIT, 15, &[], &[])?;
-    assert_eq!(rt; status, Status::WriteFault);
-    assert_eq!(rt; sink.bytes(), b"pfs-report 0\nph".as_slice());
+    let cases: [(u64, &[u64], &[u64], Status, &[u8]); 3] = [
+        (
+            1_000,
+            &[],
+            &[3],
+            Status::WriteFault,
+            b"pfs-report 0\nphase 1\n",
+        ),
+        (1_000, &[1], &[], Status::ReadFault, b""),
+        (15, &[], &[], Status::WriteFault, b"pfs-report 0\nph"),
+    ];
+    for (room, read_fails, write_fails, want, text) in cases {
+        let (status, sink) = ran(rt.alloc(), ONE_WAIT, room, read_fails, write_fails)?;
+        assert_eq!(rt; status, want);
+        assert_eq!(rt; sink.bytes(), text);
+    }
     Ok(())
 }
 

@@ -1,11 +1,14 @@
 //! Scripts, and the first faulty line of what is none, with its reason.
 
-use super::*;
-use pfs_classes::{ClassId, ClassRef, Kind};
+use pfs_classes::{ClassId, ClassRef, DigestText, Kind, TableName};
 use pfs_names::NameId;
+use pfs_script::*;
 use std::alloc::Global;
 use std::process::Abort;
 use std::test::Fail;
+
+mod forms;
+mod nesting;
 
 /// The first faulty line and its reason's number; zeros where the bytes are a script.
 fn fault(alloc: Global, bytes: &[u8]) -> Option<(u64, u64)> {
@@ -356,6 +359,46 @@ fn the_most_tables(rt: HostRuntime) -> Result<(), Fail> {
     Ok(())
 }
 
+/// The tables at these places, by the names of their schemas.
+fn expect_tables(rt: &impl Abort, tables: &[TableName], schemas: &[(usize, &[u8])]) {
+    assert_eq!(rt; tables.len(), schemas.len());
+    for (place, schema) in schemas {
+        match tables.get(*place) {
+            Some(table) => assert_eq!(rt; table.schema.as_bytes(), *schema),
+            None => panic!(rt; "there is no such table"),
+        }
+    }
+}
+
+/// The digest texts at these places, each with the first and the last byte of its digest.
+fn expect_digests(rt: &impl Abort, digests: &[DigestText], texts: &[(usize, &[u8], u8, u8)]) {
+    assert_eq!(rt; digests.len(), texts.len());
+    for (place, text, first, last) in texts {
+        match digests.get(*place) {
+            Some(digest) => {
+                assert_eq!(rt; digest.text.as_bytes(), *text);
+                assert_eq!(rt; digest.hash[0], *first);
+                assert_eq!(rt; digest.hash[31], *last);
+            }
+            None => panic!(rt; "there is no such digest text"),
+        }
+    }
+}
+
+fn statement(class: u64, digest: Option<u64>) -> BlockLine {
+    BlockLine::Statement {
+        class: ClassRef::Class(ClassId(class)),
+        digest,
+    }
+}
+
+/// What stands at these places among the lines of a block.
+fn expect_lines(rt: &impl Abort, lines: &[BlockLine], places: &[(usize, BlockLine)]) {
+    for (place, line) in places {
+        assert_eq!(rt; lines.get(*place), Some(line));
+    }
+}
+
 #[test]
 fn a_setting_has_tables_and_digest_texts(rt: HostRuntime) {
     let script = Script::read(
@@ -365,16 +408,10 @@ fn a_setting_has_tables_and_digest_texts(rt: HostRuntime) {
     let Ok(script) = script else {
         panic!(rt; "it is a script");
     };
-    let tables = script.setting.tables.as_slice();
-    assert_eq!(rt; tables.len(), 2);
-    assert_eq!(rt; tables[0].schema.as_bytes(), b"z".as_slice());
-    assert_eq!(rt; tables[1].schema.as_bytes(), b"a".as_slice());
-    let digests = script.setting.digests.as_slice();
-    assert_eq!(rt; digests.len(), 2);
-    assert_eq!(rt; digests[0].text.as_bytes(), b"SELECT ?".as_slice());
-    assert_eq!(rt; digests[1].text.as_bytes(), b"".as_slice());
-    assert_eq!(rt; digests[1].hash[0], 0xe3);
-    assert_eq!(rt; digests[1].hash[31], 0x55);
+    let schemas: [(usize, &[u8]); 2] = [(0, b"z"), (1, b"a")];
+    expect_tables(&rt, script.setting.tables.as_slice(), &schemas);
+    let texts: [(usize, &[u8], u8, u8); 2] = [(0, b"SELECT ?", 0x66, 0x81), (1, b"", 0xe3, 0x55)];
+    expect_digests(&rt, script.setting.digests.as_slice(), &texts);
     let phases = script.phases.as_slice();
     assert_eq!(rt; phases.len(), 2);
     let blocks = phases[1].blocks.as_slice();
@@ -382,35 +419,18 @@ fn a_setting_has_tables_and_digest_texts(rt: HostRuntime) {
     assert_eq!(rt; blocks[0].connect, None);
     let lines = blocks[0].lines.as_slice();
     assert_eq!(rt; lines.len(), 10);
-    assert_eq!(rt;
-        lines[0],
-        BlockLine::Statement {
-            class: ClassRef::Class(ClassId(17)),
-            digest: Some(1)
-        }
-    );
-    assert_eq!(rt;
-        lines[2],
-        BlockLine::Statement {
-            class: ClassRef::Class(ClassId(20)),
-            digest: None
-        }
-    );
-    assert_eq!(rt;
-        lines[4],
-        BlockLine::Statement {
-            class: ClassRef::Class(ClassId(17)),
-            digest: Some(0)
-        }
-    );
-    assert_eq!(rt;
-        lines[6],
-        BlockLine::TableWait {
-            class: ClassRef::Class(ClassId(11)),
-            table: 0
-        }
-    );
-    assert_eq!(rt; lines[9], BlockLine::Quit);
+    let wait = BlockLine::TableWait {
+        class: ClassRef::Class(ClassId(11)),
+        table: 0,
+    };
+    let places = [
+        (0, statement(17, Some(1))),
+        (2, statement(20, None)),
+        (4, statement(17, Some(0))),
+        (6, wait),
+        (9, BlockLine::Quit),
+    ];
+    expect_lines(&rt, lines, &places);
 }
 
 /// Such a line so many times, behind these lines.
@@ -446,32 +466,44 @@ fn sessions(alloc: Global, count: u64) -> Result<Vec<u8>, Fail> {
 #[test]
 fn the_most_of_each(rt: HostRuntime) -> Result<(), Fail> {
     let alloc = rt.alloc();
-    let lines = many(alloc, b"", b"\n", 200_000)?;
-    assert_eq!(rt; fault(alloc, lines.as_slice()), Some((0, 0)));
-    let lines = many(alloc, b"", b"\n", 200_001)?;
-    assert_eq!(rt; fault(alloc, lines.as_slice()), Some((200_001, 11)));
-    let lines = classes(alloc, 256)?;
-    assert_eq!(rt; fault(alloc, lines.as_slice()), Some((0, 0)));
-    let lines = classes(alloc, 257)?;
-    assert_eq!(rt; fault(alloc, lines.as_slice()), Some((257, 12)));
-    let lines = sessions(alloc, 32)?;
-    assert_eq!(rt; built_fault(alloc, lines.as_slice()), Some((0, 0)));
-    let lines = sessions(alloc, 33)?;
-    assert_eq!(rt; built_fault(alloc, lines.as_slice()), Some((34, 13)));
-    let lines = sessions(alloc, 64)?;
-    assert_eq!(rt; fault(alloc, lines.as_slice()), Some((0, 0)));
-    let lines = sessions(alloc, 65)?;
-    assert_eq!(rt; fault(alloc, lines.as_slice()), Some((66, 6)));
-    let lines = many(alloc, b"", b"phase\n", 64)?;
-    assert_eq!(rt; fault(alloc, lines.as_slice()), Some((0, 0)));
-    let lines = many(alloc, b"", b"phase\n", 65)?;
-    assert_eq!(rt; fault(alloc, lines.as_slice()), Some((65, 12)));
+    for (times, line, reason) in [(200_000, 0, 0), (200_001, 200_001, 11)] {
+        let lines = many(alloc, b"", b"\n", times)?;
+        assert_eq!(rt; fault(alloc, lines.as_slice()), Some((line, reason)));
+    }
+    for (count, line, reason) in [(256, 0, 0), (257, 257, 12)] {
+        let lines = classes(alloc, count)?;
+        assert_eq!(rt; fault(alloc, lines.as_slice()), Some((line, reason)));
+    }
+    for (count, line, reason) in [(32, 0, 0), (33, 34, 13)] {
+        let lines = sessions(alloc, count)?;
+        assert_eq!(rt; built_fault(alloc, lines.as_slice()), Some((line, reason)));
+    }
+    for (count, line, reason) in [(64, 0, 0), (65, 66, 6)] {
+        let lines = sessions(alloc, count)?;
+        assert_eq!(rt; fault(alloc, lines.as_slice()), Some((line, reason)));
+    }
+    for (times, line, reason) in [(64, 0, 0), (65, 65, 12)] {
+        let lines = many(alloc, b"", b"phase\n", times)?;
+        assert_eq!(rt; fault(alloc, lines.as_slice()), Some((line, reason)));
+    }
     let select = b"sql  seLECT 1\n".as_slice();
-    let lines = many(alloc, b"phase\nsession 1 u h\n", select, 256)?;
-    assert_eq!(rt; fault(alloc, lines.as_slice()), Some((0, 0)));
-    let lines = many(alloc, b"phase\nsession 1 u h\n", select, 257)?;
-    assert_eq!(rt; fault(alloc, lines.as_slice()), Some((259, 12)));
+    for (times, line, reason) in [(256, 0, 0), (257, 259, 12)] {
+        let lines = many(alloc, b"phase\nsession 1 u h\n", select, times)?;
+        assert_eq!(rt; fault(alloc, lines.as_slice()), Some((line, reason)));
+    }
     Ok(())
+}
+
+/// A block that connects its session as `u` and `h`, the first names behind 24 built-in classes, `transaction` and a
+/// class of the script's own.
+fn expect_block(rt: &impl Abort, block: &Block, session: u64, lines: &[BlockLine]) {
+    let names = Connect {
+        user: NameId(26),
+        host: NameId(27),
+    };
+    assert_eq!(rt; block.session, session);
+    assert_eq!(rt; block.connect, Some(names));
+    assert_eq!(rt; block.lines.as_slice(), lines);
 }
 
 #[test]
@@ -494,15 +526,7 @@ fn a_script_is_its_setting_and_phases(rt: HostRuntime) {
         BlockLine::Spend(5),
         BlockLine::End,
     ];
-    assert_eq!(rt; blocks[0].session, 7);
-    assert_eq!(rt; blocks[0].lines.as_slice(), first.as_slice());
+    expect_block(&rt, &blocks[0], 7, &first);
     let second = [BlockLine::Wait(ClassRef::Lost(Kind::File))];
-    assert_eq!(rt; blocks[1].session, 2);
-    // behind 24 built-in classes, `transaction` and the script's own
-    let names = Connect {
-        user: NameId(26),
-        host: NameId(27),
-    };
-    assert_eq!(rt; blocks[1].connect, Some(names));
-    assert_eq!(rt; blocks[1].lines.as_slice(), second.as_slice());
+    expect_block(&rt, &blocks[1], 2, &second);
 }

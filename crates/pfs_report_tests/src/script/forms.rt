@@ -1,6 +1,6 @@
 //! What lines say, in a table: each line beside what it says, or beside the reason why it says nothing.
 
-use crate::forms::parse_line;
+use pfs_script::forms::parse_line;
 use std::alloc::Global;
 use std::process::Abort;
 use std::test::Fail;
