@@ -1,5 +1,5 @@
 //! Each public function on its happy path, by the names of MySQL's manual.
-use crate::*;
+use pfs_catalogue::*;
 use pfs_rows::{EventTable, SummaryTable, Table, TableKind};
 
 #[test]
@@ -28,10 +28,12 @@ fn tables_by_name(rt: HostRuntime) {
 fn columns_of_a_summary(rt: HostRuntime) {
     let table = Table::Summary(TableKind::Statements, SummaryTable::ByUser);
     assert_eq!(rt; column_count(table), 13);
-    assert_eq!(rt; find_column(table, b"sum_rows_SENT"), Some(11));
-    assert_eq!(rt; find_column(table, b"HOST"), None);
-    assert_eq!(rt; column_kind(table, 1), Some(ColumnKind::Text));
-    assert_eq!(rt; column_kind(table, 13), None);
+    for (name, want) in [("sum_rows_SENT", Some(11)), ("HOST", None)] {
+        assert_eq!(rt; find_column(table, name.as_bytes()), want, "{name}");
+    }
+    for (column, want) in [(1, Some(ColumnKind::Text)), (13, None)] {
+        assert_eq!(rt; column_kind(table, column), want);
+    }
     match column_at(table, 2) {
         Some(column) => assert_eq!(rt; column.name, "COUNT_STAR"),
         None => panic!(rt; "no column"),
@@ -40,12 +42,17 @@ fn columns_of_a_summary(rt: HostRuntime) {
 
 #[test]
 fn what_is_allowed(rt: HostRuntime) {
-    assert!(rt; allows(Table::SetupConsumers, CommandKind::Update));
-    assert!(rt; !allows(Table::SetupConsumers, CommandKind::Truncate));
-    assert!(rt; !allows(Table::Accounts, CommandKind::Insert));
+    for (table, command, want) in [
+        (Table::SetupConsumers, CommandKind::Update, true),
+        (Table::SetupConsumers, CommandKind::Truncate, false),
+        (Table::Accounts, CommandKind::Insert, false),
+    ] {
+        assert_eq!(rt; allows(table, command), want);
+    }
     assert_eq!(rt; flag_place(Table::Threads, Flag::First), Some(3));
-    assert_eq!(rt; flag_at(Table::SetupObjects, 4), Some(Flag::Second));
-    assert_eq!(rt; flag_at(Table::SetupObjects, 2), None);
+    for (column, want) in [(4, Some(Flag::Second)), (2, None)] {
+        assert_eq!(rt; flag_at(Table::SetupObjects, column), want);
+    }
     let key = key_of(Table::Events(TableKind::Stages, EventTable::HistoryLong));
     assert_eq!(rt; key.number, Some(KeyNumber::Ticket));
     assert_eq!(rt; TABLES.len(), 41);

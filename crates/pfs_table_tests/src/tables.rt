@@ -2,36 +2,24 @@
 
 ghost use Rattle.std.specs.Prelude.{◌≡◌, ◌≤◌};
 
-use crate::{NoMemory, listed};
-use pfs_classes::{Classes, DigestList, DigestText, Setting, TableList, TableName};
+use crate::settings;
+use pfs_classes::{Setting, TableList, TableName};
 use pfs_event::{Event, EventKind};
-use pfs_names::Names;
-use pfs_rows::{EventTable, Limits, Reading, Seen, SummaryTable, Table, TableKind};
+use pfs_rows::{EventTable, Reading, Seen, SummaryTable, Table, TableKind};
+use pfs_tables::{NoMemory, listed};
 use pfs_text::{Text, put_u64};
 use pfs_values::{Row, RowValue};
 use std::alloc::Global;
+use std::process::Abort;
 use std::test::Fail;
 
-// Names 0 to 3, the built-in classes, one table and one digest text.
+// A setting with one table.
 fn setting(alloc: Global) -> Result<Setting, Fail> {
-    let mut names = Names::new(alloc);
-    for name in ["u", "h", "b", "a"] {
-        names.intern(name)?;
-    }
-    if names.count() > 65_500 {
-        return Err(Fail::from("too many names"));
-    }
-    let limits = Limits::opening();
-    let classes = Classes::builtin(alloc, &mut names, &limits)?;
     let mut tables = TableList::new(Vec::new(alloc));
     let schema = Text::from_slice(alloc, b"shop")?;
     let name = Text::from_slice(alloc, b"orders")?;
     tables.push(TableName { schema, name })?;
-    let mut digests = DigestList::new(Vec::new(alloc));
-    let text = Text::from_slice(alloc, b"SELECT ?")?;
-    let hash = [171; 32];
-    digests.push(DigestText { text, hash })?;
-    Ok(Setting::new(names, classes, tables, digests, limits, 28_888))
+    settings::setting(alloc, &["u", "h", "b", "a"], tables)
 }
 
 fn whole(row: u64, content: [u64; 16]) -> Reading {
@@ -117,35 +105,57 @@ fn shown(
     Ok(out)
 }
 
+fn expect(
+    rt: &impl Abort,
+    alloc: Global,
+    table: Table,
+    readings: &[Reading],
+    want: &[u8],
+) -> Result<(), Fail> {
+    let setting = setting(alloc)?;
+    let rows = shown(alloc, &setting, table, readings)?;
+    assert_eq!(rt; rows.as_slice(), want);
+    Ok(())
+}
+
 // A statement of 105 with two stages, in the first of which lies a wait of 20.
 #[test]
 fn histories(rt: HostRuntime) -> Result<(), Fail> {
-    let alloc = rt.alloc();
-    let setting = setting(alloc)?;
     let wait = inside(ended(event(3, 6, 15), 3, 20), EventKind::Stage, 2);
     let init = inside(ended(event(2, 12, 5), 3, 60), EventKind::Statement, 1);
     let executing = inside(ended(event(4, 15, 65), 4, 40), EventKind::Statement, 1);
     let mut statement = ended(event(1, 17, 0), 4, 105);
     statement.link = 1;
     let waits = [whole(8_466, wait.to_words())];
-    let rows = shown(alloc, &setting, history(TableKind::Waits), &waits)?;
-    assert_eq!(rt;
-        rows.as_slice(),
-        b"1 3 3 wait/io/file/sql/binlog 15 35 20 2 STAGE NULL NULL \n".as_slice()
-    );
+    expect(
+        &rt,
+        rt.alloc(),
+        history(TableKind::Waits),
+        &waits,
+        b"1 3 3 wait/io/file/sql/binlog 15 35 20 2 STAGE NULL NULL \n",
+    )?;
     let stages = [
         whole(8_476, executing.to_words()),
         whole(8_477, init.to_words()),
     ];
-    let rows = shown(alloc, &setting, history(TableKind::Stages), &stages)?;
-    assert_eq!(rt; rows.as_slice(), TWO_STAGES);
+    expect(
+        &rt,
+        rt.alloc(),
+        history(TableKind::Stages),
+        &stages,
+        TWO_STAGES,
+    )?;
     let statements = [
         whole(8_486, statement.to_words()),
         whole(8_466, wait.to_words()),
     ];
-    let rows = shown(alloc, &setting, history(TableKind::Statements), &statements)?;
-    assert_eq!(rt; rows.as_slice(), ONE_STATEMENT);
-    Ok(())
+    expect(
+        &rt,
+        rt.alloc(),
+        history(TableKind::Statements),
+        &statements,
+        ONE_STATEMENT,
+    )
 }
 
 const TWO_STAGES: &[u8] =
@@ -161,8 +171,6 @@ fn history(kind: TableKind) -> Table {
 // Untimed and open, on a table, by ticket; and what gives no row.
 #[test]
 fn long_history(rt: HostRuntime) -> Result<(), Fail> {
-    let alloc = rt.alloc();
-    let setting = setting(alloc)?;
     let mut late = event(7, 10, 50);
     late.link = 1;
     late.ticket = 1_001;
@@ -191,14 +199,13 @@ fn long_history(rt: HostRuntime) -> Result<(), Fail> {
             },
         },
     ];
-    let rows = shown(
-        alloc,
-        &setting,
+    expect(
+        &rt,
+        rt.alloc(),
         Table::Events(TableKind::Waits, EventTable::HistoryLong),
         &readings,
-    )?;
-    assert_eq!(rt; rows.as_slice(), BY_TICKET);
-    Ok(())
+        BY_TICKET,
+    )
 }
 
 const BY_TICKET: &[u8] =
@@ -216,25 +223,24 @@ fn user(name: u64, current: u64, total: u64) -> [u64; 16] {
 // The names "b" and "a" by their bytes; an id that the setting doesn't have gives no row.
 #[test]
 fn users(rt: HostRuntime) -> Result<(), Fail> {
-    let alloc = rt.alloc();
-    let setting = setting(alloc)?;
     let readings = [
         whole(65, user(2, 1, 1)),
         whole(66, user(3, 0, 5)),
         whole(67, user(99, 1, 1)),
     ];
-    let rows = shown(alloc, &setting, Table::Users, &readings)?;
-    assert_eq!(rt; rows.as_slice(), b"a 0 5 \nb 1 1 \n".as_slice());
-    let rows = shown(alloc, &setting, Table::Hosts, &readings)?;
-    assert_eq!(rt; rows.as_slice(), b"".as_slice());
-    Ok(())
+    expect(
+        &rt,
+        rt.alloc(),
+        Table::Users,
+        &readings,
+        b"a 0 5 \nb 1 1 \n",
+    )?;
+    expect(&rt, rt.alloc(), Table::Hosts, &readings, b"")
 }
 
 // A thread with its word, and an account.
 #[test]
 fn infos(rt: HostRuntime) -> Result<(), Fail> {
-    let alloc = rt.alloc();
-    let setting = setting(alloc)?;
     let mut info = [0; 16];
     info[0] = 1;
     info[5] = 1;
@@ -246,19 +252,20 @@ fn infos(rt: HostRuntime) -> Result<(), Fail> {
             flags: 1,
         },
     ];
-    let rows = shown(alloc, &setting, Table::Threads, &readings)?;
-    assert_eq!(rt; rows.as_slice(), b"1 u h YES NO \n".as_slice());
+    expect(
+        &rt,
+        rt.alloc(),
+        Table::Threads,
+        &readings,
+        b"1 u h YES NO \n",
+    )?;
     let account = [whole(33, [0, 1, 1, 1, 2, 3, 0, 0, 0, 0, 0, 0, 0, 0, 0, 0])];
-    let rows = shown(alloc, &setting, Table::Accounts, &account)?;
-    assert_eq!(rt; rows.as_slice(), b"u h 2 3 \n".as_slice());
-    Ok(())
+    expect(&rt, rt.alloc(), Table::Accounts, &account, b"u h 2 3 \n")
 }
 
 // The words of two classes and of the consumers.
 #[test]
 fn words(rt: HostRuntime) -> Result<(), Fail> {
-    let alloc = rt.alloc();
-    let setting = setting(alloc)?;
     let classes = [
         Reading::Word {
             word: 95,
@@ -271,17 +278,20 @@ fn words(rt: HostRuntime) -> Result<(), Fail> {
             flags: 1,
         },
     ];
-    let rows = shown(alloc, &setting, Table::SetupInstruments, &classes)?;
-    assert_eq!(rt;
-        rows.as_slice(),
-        b"wait/io/file/sql/binlog YES NO \ntransaction YES YES \n".as_slice()
-    );
+    expect(
+        &rt,
+        rt.alloc(),
+        Table::SetupInstruments,
+        &classes,
+        b"wait/io/file/sql/binlog YES NO \ntransaction YES YES \n",
+    )?;
     let consumers = [Reading::Word {
         word: 0,
         version: 0,
         flags: 28_888,
     }];
-    let rows = shown(alloc, &setting, Table::SetupConsumers, &consumers)?;
+    let setting = setting(rt.alloc())?;
+    let rows = shown(rt.alloc(), &setting, Table::SetupConsumers, &consumers)?;
     assert!(rt;
         rows.as_slice()
             .starts_with(b"events_stages_current NO \nevents_stages_history NO \n")
@@ -292,24 +302,24 @@ fn words(rt: HostRuntime) -> Result<(), Fail> {
 // Tables whose rows are made elsewhere: the digest table, a summary, and one of which no reading tells.
 #[test]
 fn other_tables(rt: HostRuntime) -> Result<(), Fail> {
-    let alloc = rt.alloc();
-    let setting = setting(alloc)?;
     let mut two = [0; 16];
     two[0] = 2;
     two[2] = 18_446_744_073_709_551_615;
     let readings = [whole(8_383, two), whole(8_385, two)];
-    let rows = shown(alloc, &setting, Table::DigestSummary, &readings)?;
-    assert_eq!(rt;
-        rows.as_slice(),
-        b"NULL NULL NULL 2 0 0 0 0 0 0 0 0 0 0 \n".as_slice()
-    );
+    expect(
+        &rt,
+        rt.alloc(),
+        Table::DigestSummary,
+        &readings,
+        b"NULL NULL NULL 2 0 0 0 0 0 0 0 0 0 0 \n",
+    )?;
     let summary = Table::Summary(TableKind::Transactions, SummaryTable::Global);
-    let rows = shown(alloc, &setting, summary, &readings)?;
-    assert_eq!(rt;
-        rows.as_slice(),
-        b"transaction 2 0 0 0 0 2 0 0 0 0 0 0 0 0 0 \n".as_slice()
-    );
-    let rows = shown(alloc, &setting, Table::SetupActors, &readings)?;
-    assert_eq!(rt; rows.as_slice(), b"".as_slice());
-    Ok(())
+    expect(
+        &rt,
+        rt.alloc(),
+        summary,
+        &readings,
+        b"transaction 2 0 0 0 0 2 0 0 0 0 0 0 0 0 0 \n",
+    )?;
+    expect(&rt, rt.alloc(), Table::SetupActors, &readings, b"")
 }

@@ -1,5 +1,5 @@
 //! Texts from MySQL's grammar with what each says, worked out by hand, and texts that say nothing.
-use crate::*;
+use pfs_sql::*;
 use pfs_text::{Comparison, Literal, TestKind, Text, put_u64, quote};
 use std::test::Fail;
 

@@ -1,6 +1,6 @@
 //! What no clause says: that the calls succeed with ample memory, and the list under its limits.
 
-use crate::{
+use pfs_classes::{
     ClassFault, ClassId, ClassRef, Classes, DigestList, DigestText, Kind, Registered, TableList,
     TableName,
 };

@@ -1,15 +1,17 @@
 ghost use Rattle.std.specs.Prelude.{◌<◌};
 ghost use Rattle.std.specs.Option.{ForSome};
 
-use super::*;
-use pfs_classes::{Classes, DigestList, DigestText, Setting, TableList};
+use crate::settings;
+use pfs_classes::{Setting, TableList};
 use pfs_infos::{AccountInfo, Content, NameInfo, ThreadInfo};
-use pfs_names::{NameId, Names};
-use pfs_rows::{Limits, Reading, Seen, SummaryTable, TableKind};
+use pfs_names::NameId;
+use pfs_rows::{Reading, Seen, SummaryTable, TableKind};
 use pfs_stat::{Stat, zero};
-use pfs_text::{Text, put_u64};
+use pfs_summaries::*;
+use pfs_text::put_u64;
 use pfs_values::{Row, RowValue, Rowset};
 use std::alloc::Global;
+use std::process::Abort;
 use std::test::Fail;
 
 const BINLOG: &[u8] = b"wait/io/file/sql/binlog";
@@ -27,26 +29,12 @@ const U: u64 = 4;
 
 const H: u64 = 5;
 
-// Six names, the built-in classes and one digest text.
+const NAMES: [&str; 6] = ["a", "b", "h1", "h2", "u", "h"];
+
+// A setting without tables.
 fn setting(alloc: Global) -> Result<Setting, Fail> {
-    let mut names = Names::new(alloc);
-    for name in ["a", "b", "h1", "h2", "u", "h"] {
-        names.intern(name)?;
-    }
-    if names.count() > 65_500 {
-        return Err(Fail::from("too many names"));
-    }
-    let limits = Limits::opening();
-    let classes = Classes::builtin(alloc, &mut names, &limits)?;
-    let text = Text::from_slice(alloc, b"SELECT ?")?;
-    let digest = DigestText {
-        text,
-        hash: [171; 32],
-    };
-    let mut digests = DigestList::new(Vec::new(alloc));
-    digests.push(digest)?;
     let tables = TableList::new(Vec::new(alloc));
-    Ok(Setting::new(names, classes, tables, digests, limits, 28_888))
+    settings::setting(alloc, &NAMES, tables)
 }
 
 fn whole(row: u64, content: Content) -> Reading {
@@ -161,11 +149,23 @@ fn binlog(
     lines(alloc, &rows, BINLOG)
 }
 
+fn expect(
+    rt: &impl Abort,
+    alloc: Global,
+    readings: &[Reading],
+    cases: &[(SummaryTable, &[u8])],
+) -> Result<(), Fail> {
+    let setting = setting(alloc)?;
+    for (which, want) in cases {
+        let shown = binlog(alloc, &setting, *which, readings)?;
+        assert_eq!(rt; shown.as_slice(), *want);
+    }
+    Ok(())
+}
+
 // One session of one wait of 120, which each level shows.
 #[test]
 fn one_wait(rt: HostRuntime) -> Result<(), Fail> {
-    let alloc = rt.alloc();
-    let setting = setting(alloc)?;
     let readings = [
         thread(0, U, H, Some(0)),
         account(33, U, H, 0),
@@ -173,32 +173,29 @@ fn one_wait(rt: HostRuntime) -> Result<(), Fail> {
         name(97, H, 1),
         waits(135, 1, 120, 120),
     ];
-    let shown = binlog(alloc, &setting, SummaryTable::ByThread, &readings)?;
-    assert_eq!(rt;
-        shown.as_slice(),
-        b"1 wait/io/file/sql/binlog 1 120 120 120 120 \n".as_slice()
-    );
-    let shown = binlog(alloc, &setting, SummaryTable::ByAccount, &readings)?;
-    assert_eq!(rt;
-        shown.as_slice(),
-        b"u h wait/io/file/sql/binlog 1 120 120 120 120 \n".as_slice()
-    );
-    let shown = binlog(alloc, &setting, SummaryTable::ByUser, &readings)?;
-    assert_eq!(rt;
-        shown.as_slice(),
-        b"u wait/io/file/sql/binlog 1 120 120 120 120 \n".as_slice()
-    );
-    let shown = binlog(alloc, &setting, SummaryTable::ByHost, &readings)?;
-    assert_eq!(rt;
-        shown.as_slice(),
-        b"h wait/io/file/sql/binlog 1 120 120 120 120 \n".as_slice()
-    );
-    let shown = binlog(alloc, &setting, SummaryTable::Global, &readings)?;
-    assert_eq!(rt;
-        shown.as_slice(),
-        b"wait/io/file/sql/binlog 1 120 120 120 120 \n".as_slice()
-    );
-    Ok(())
+    let cases: [(SummaryTable, &[u8]); 5] = [
+        (
+            SummaryTable::ByThread,
+            b"1 wait/io/file/sql/binlog 1 120 120 120 120 \n",
+        ),
+        (
+            SummaryTable::ByAccount,
+            b"u h wait/io/file/sql/binlog 1 120 120 120 120 \n",
+        ),
+        (
+            SummaryTable::ByUser,
+            b"u wait/io/file/sql/binlog 1 120 120 120 120 \n",
+        ),
+        (
+            SummaryTable::ByHost,
+            b"h wait/io/file/sql/binlog 1 120 120 120 120 \n",
+        ),
+        (
+            SummaryTable::Global,
+            b"wait/io/file/sql/binlog 1 120 120 120 120 \n",
+        ),
+    ];
+    expect(&rt, rt.alloc(), &readings, &cases)
 }
 
 // Three waits of 5 by a session that is gone, whose account was truncated, and another session
@@ -206,8 +203,6 @@ fn one_wait(rt: HostRuntime) -> Result<(), Fail> {
 // its place is higher.
 #[test]
 fn truncated_accounts(rt: HostRuntime) -> Result<(), Fail> {
-    let alloc = rt.alloc();
-    let setting = setting(alloc)?;
     let readings = [
         name(65, U, 0),
         name(66, A, 1),
@@ -216,29 +211,26 @@ fn truncated_accounts(rt: HostRuntime) -> Result<(), Fail> {
         waits(4_231, 3, 15, 5),
         waits(6_279, 3, 15, 5),
     ];
-    let shown = binlog(alloc, &setting, SummaryTable::ByUser, &readings)?;
-    assert_eq!(rt;
-        shown.as_slice(),
-        b"a wait/io/file/sql/binlog 0 0 0 0 0 \nu wait/io/file/sql/binlog 3 15 5 5 5 \n".as_slice()
-    );
-    let shown = binlog(alloc, &setting, SummaryTable::ByHost, &readings)?;
-    assert_eq!(rt;
-        shown.as_slice(),
-        b"b wait/io/file/sql/binlog 0 0 0 0 0 \nh wait/io/file/sql/binlog 3 15 5 5 5 \n".as_slice()
-    );
-    let shown = binlog(alloc, &setting, SummaryTable::Global, &readings)?;
-    assert_eq!(rt;
-        shown.as_slice(),
-        b"wait/io/file/sql/binlog 3 15 5 5 5 \n".as_slice()
-    );
-    Ok(())
+    let cases: [(SummaryTable, &[u8]); 3] = [
+        (
+            SummaryTable::ByUser,
+            b"a wait/io/file/sql/binlog 0 0 0 0 0 \nu wait/io/file/sql/binlog 3 15 5 5 5 \n",
+        ),
+        (
+            SummaryTable::ByHost,
+            b"b wait/io/file/sql/binlog 0 0 0 0 0 \nh wait/io/file/sql/binlog 3 15 5 5 5 \n",
+        ),
+        (
+            SummaryTable::Global,
+            b"wait/io/file/sql/binlog 3 15 5 5 5 \n",
+        ),
+    ];
+    expect(&rt, rt.alloc(), &readings, &cases)
 }
 
 // Two sessions of one wait of 5, the second without an account.
 #[test]
 fn lost_account(rt: HostRuntime) -> Result<(), Fail> {
-    let alloc = rt.alloc();
-    let setting = setting(alloc)?;
     let readings = [
         thread(0, A, H1, Some(0)),
         thread(1, B, H2, None),
@@ -248,22 +240,21 @@ fn lost_account(rt: HostRuntime) -> Result<(), Fail> {
         waits(135, 1, 5, 5),
         waits(199, 1, 5, 5),
     ];
-    let shown = binlog(alloc, &setting, SummaryTable::ByAccount, &readings)?;
-    assert_eq!(rt;
-        shown.as_slice(),
-        b"a h1 wait/io/file/sql/binlog 1 5 5 5 5 \n".as_slice()
-    );
-    let shown = binlog(alloc, &setting, SummaryTable::ByUser, &readings)?;
-    assert_eq!(rt;
-        shown.as_slice(),
-        b"a wait/io/file/sql/binlog 1 5 5 5 5 \nb wait/io/file/sql/binlog 1 5 5 5 5 \n".as_slice()
-    );
-    let shown = binlog(alloc, &setting, SummaryTable::Global, &readings)?;
-    assert_eq!(rt;
-        shown.as_slice(),
-        b"wait/io/file/sql/binlog 2 10 5 5 5 \n".as_slice()
-    );
-    Ok(())
+    let cases: [(SummaryTable, &[u8]); 3] = [
+        (
+            SummaryTable::ByAccount,
+            b"a h1 wait/io/file/sql/binlog 1 5 5 5 5 \n",
+        ),
+        (
+            SummaryTable::ByUser,
+            b"a wait/io/file/sql/binlog 1 5 5 5 5 \nb wait/io/file/sql/binlog 1 5 5 5 5 \n",
+        ),
+        (
+            SummaryTable::Global,
+            b"wait/io/file/sql/binlog 2 10 5 5 5 \n",
+        ),
+    ];
+    expect(&rt, rt.alloc(), &readings, &cases)
 }
 
 // Two statements of the first digest text, and two of texts without a place.

@@ -1,5 +1,5 @@
 //! Worked rows, and each call that may want memory.
-use crate::*;
+use pfs_matching::*;
 use pfs_text::Text;
 use std::alloc::Global;
 use std::test::Fail;

@@ -1,7 +1,7 @@
 //! Worked rows: ties keep their order, NULL goes first and last under DESC, the limit comes behind the filter. Texts
 //! with MySQL's number of their refusal.
-use crate::*;
 use pfs_changes::TestList;
+use pfs_exec::*;
 use pfs_rows::Table;
 use pfs_sql::{SqlFault, parse};
 use pfs_text::{Comparison, Literal, Test, TestKind, Text};
@@ -77,28 +77,20 @@ fn worked_rows(rt: HostRuntime) -> Result<(), Fail> {
             (None, "e"),
         ],
     )?;
-    let ascending = Order {
-        column: 0,
-        descending: false,
-    };
-    let descending = Order {
-        column: 0,
-        descending: true,
-    };
-    let query = query_of(alloc, ascending, u64::MAX, None)?;
-    assert_eq!(rt;
-        letters(alloc, &query, &rows)?.as_slice(),
-        b"beadc".as_slice()
-    );
-    let query = query_of(alloc, descending, u64::MAX, None)?;
-    assert_eq!(rt;
-        letters(alloc, &query, &rows)?.as_slice(),
-        b"cadbe".as_slice()
-    );
-    let query = query_of(alloc, descending, 9, Some(1))?;
-    assert_eq!(rt; letters(alloc, &query, &rows)?.as_slice(), b"a".as_slice());
-    let query = query_of(alloc, ascending, 9, Some(7))?;
-    assert_eq!(rt; letters(alloc, &query, &rows)?.as_slice(), b"ad".as_slice());
+    let cases: [(bool, u64, Option<u64>, &[u8]); 4] = [
+        (false, u64::MAX, None, b"beadc"),
+        (true, u64::MAX, None, b"cadbe"),
+        (true, 9, Some(1), b"a"),
+        (false, 9, Some(7), b"ad"),
+    ];
+    for (descending, most, limit, want) in cases {
+        let order = Order {
+            column: 0,
+            descending,
+        };
+        let query = query_of(alloc, order, most, limit)?;
+        assert_eq!(rt; letters(alloc, &query, &rows)?.as_slice(), want);
+    }
     Ok(())
 }
 
