@@ -8,8 +8,6 @@ mod naming;
 mod opening;
 mod signs;
 mod tags;
-#[cfg(test)]
-mod tests;
 mod threads;
 
 pub use admin::{Admin, Placed};

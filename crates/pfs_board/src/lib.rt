@@ -1,18 +1,12 @@
 //! The slot board: rows of seventeen words that many actors read and change, with no lock but the row's own word.
 #![tactic(auto)]
 
-#[cfg(test)]
-mod action_tests;
 mod actions;
 mod answers;
 mod board;
-#[cfg(test)]
-mod hostile_tests;
 pub mod laws;
 mod rules;
 mod steps;
-#[cfg(test)]
-mod tests;
 mod view;
 mod words;
 

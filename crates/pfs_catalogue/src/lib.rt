@@ -11,6 +11,3 @@ pub use columns::{Column, ColumnKind, column_at, column_count, column_kind, find
 pub use commands::{CommandKind, Flag, allows, flag_at, flag_place};
 pub use keys::{KeyNumber, TableKey, key_of};
 pub use tables::{TABLES, find_table};
-
-#[cfg(test)]
-mod tests;

@@ -6,8 +6,6 @@ mod classes;
 mod kind;
 pub mod laws;
 mod setting;
-#[cfg(test)]
-mod tests;
 
 pub use builtin::{BUILTINS, Builtin, TRANSACTION_NAME};
 pub use classes::{

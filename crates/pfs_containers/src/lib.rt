@@ -10,6 +10,3 @@ pub use containers::{Account, Connection, Containers, Lost, Seated};
 
 /// Memory ran out.
 pub type NoMemory = std::alloc::AllocError;
-
-#[cfg(test)]
-mod tests;

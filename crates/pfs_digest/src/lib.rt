@@ -14,6 +14,3 @@ pub use digests::{DigestFault, digest, digest_text};
 
 /// Memory ran out.
 pub type NoMemory = std::alloc::AllocError;
-
-#[cfg(test)]
-mod tests;

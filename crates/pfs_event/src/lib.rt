@@ -9,8 +9,6 @@ mod kind;
 pub mod laws;
 mod nest;
 mod open;
-#[cfg(test)]
-mod tests;
 mod verdict;
 
 pub use entry::Entry;

@@ -3,8 +3,6 @@
 
 mod numbers;
 mod script;
-#[cfg(test)]
-mod tests;
 mod units;
 
 pub use script::script_of;

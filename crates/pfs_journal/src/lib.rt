@@ -11,8 +11,6 @@ mod parts;
 mod phases;
 mod reading;
 mod report;
-#[cfg(test)]
-mod tests;
 mod values;
 mod writing;
 

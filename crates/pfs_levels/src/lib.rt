@@ -9,8 +9,6 @@ pub mod moves;
 pub mod places;
 pub mod plain;
 pub mod store;
-#[cfg(test)]
-mod tests;
 
 pub use answers::{Added, RingPut, Word};
 pub use flushes::{Source, flush, flush_cells};

@@ -17,6 +17,3 @@ mod tokens;
 
 pub use reading::Lexer;
 pub use tokens::{LexFault, Token, TokenKind};
-
-#[cfg(test)]
-mod tests;

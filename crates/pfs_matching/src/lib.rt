@@ -14,6 +14,3 @@ pub use object_rows::{ObjectKind, ObjectRow, Objects};
 
 /// Memory ran out.
 pub type NoMemory = std::alloc::AllocError;
-
-#[cfg(test)]
-mod tests;

@@ -7,8 +7,6 @@ mod reading;
 mod sink;
 mod source;
 mod standard;
-#[cfg(test)]
-mod tests;
 mod writing;
 
 pub use memory::{MemorySink, MemorySource};

@@ -8,16 +8,12 @@ mod building;
 mod commands;
 mod courses;
 mod finds;
-#[cfg(test)]
-mod form_tests;
-mod forms;
+pub mod forms;
 mod fronts;
 mod heading;
 mod heading_lines;
 pub mod laws;
 mod likes;
-#[cfg(test)]
-mod nesting_tests;
 mod numerals;
 mod open_kinds;
 mod places;
@@ -25,8 +21,6 @@ mod reading;
 mod reasons;
 mod scripts;
 mod starts;
-#[cfg(test)]
-mod tests;
 mod texts;
 mod totals;
 mod words;

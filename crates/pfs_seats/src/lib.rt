@@ -5,8 +5,6 @@ mod hold;
 mod holding;
 pub mod laws;
 mod rows;
-#[cfg(test)]
-mod tests;
 
 pub use hold::BoardHold;
 pub use rows::{BoardRows, Seats};

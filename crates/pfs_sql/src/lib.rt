@@ -25,6 +25,3 @@ pub use parsing::parse;
 
 /// Memory ran out.
 pub type NoMemory = std::alloc::AllocError;
-
-#[cfg(test)]
-mod tests;

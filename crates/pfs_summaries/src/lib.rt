@@ -9,8 +9,6 @@ mod numbers;
 mod rows;
 mod summaries;
 mod tallies;
-#[cfg(test)]
-mod tests;
 
 pub use digests::digest_rows;
 pub use heads::{Head, RowKey};

@@ -4,8 +4,6 @@
 mod both;
 mod rules;
 mod switches;
-#[cfg(test)]
-mod tests;
 mod view;
 mod words;
 

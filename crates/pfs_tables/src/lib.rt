@@ -7,8 +7,6 @@ mod listing;
 mod orders;
 mod plain;
 mod rows;
-#[cfg(test)]
-mod tests;
 
 pub use listing::listed;
 pub use orders::RowKey;

@@ -16,6 +16,3 @@ pub use texts::Text;
 
 /// Memory ran out.
 pub type NoMemory = std::alloc::AllocError;
-
-#[cfg(test)]
-mod tests;

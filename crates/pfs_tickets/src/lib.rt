@@ -3,8 +3,6 @@
 
 pub mod laws;
 mod rules;
-#[cfg(test)]
-mod tests;
 mod tickets;
 mod view;
 

@@ -8,8 +8,6 @@ mod player;
 mod rounds;
 mod summaries;
 mod summary_rows;
-#[cfg(test)]
-mod tests;
 mod texts;
 
 pub use commands::{Status, pfs};

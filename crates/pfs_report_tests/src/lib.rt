@@ -1,0 +1,9 @@
+//! Tests of scripts, reports and the top call, by public calls alone.
+#![tactic(auto)]
+
+#[cfg(test)]
+mod journal;
+#[cfg(test)]
+mod script;
+#[cfg(test)]
+mod top;

@@ -1,0 +1,295 @@
+ghost use Rattle.std.specs.Prelude.{None, ◌<◌, length};
+
+use pfs_outside::{Got, MemorySink, MemorySource, Sink, Source};
+use pfs_script::Reason;
+use pfs_top::*;
+use std::alloc::{AllocError, Global};
+use std::test::Fail;
+
+const ONE_WAIT: &[u8] = b"phase\nsession 1 u h\nstart wait/io/file/sql/binlog\nspend 120\nend\n";
+
+const ONE_WAIT_REPORT: &[u8] =
+    b"pfs-report 0\nphase 1\nsession 1\nstart 1 attributed 0 0 0 -\nend 1 1 0 0\nadd 135 1\nfinal\ntable events_waits_summary_by_thread_by_event_name\nrow 1 'wait/io/file/sql/binlog' 1 120 120 120 120\ntable events_waits_summary_global_by_event_name\nrow 'wait/io/file/sql/binlog' 1 120 120 120 120\nend\n";
+
+/// The words of a command.
+fn words(alloc: Global, texts: &[&str]) -> Result<Vec<String>, AllocError> {
+    let mut words = Vec::new(alloc);
+    for text in texts {
+        words.push(String::from_str(alloc, text)?)?;
+    }
+    Ok(words)
+}
+
+/// The status and the text of `run` on these bytes.
+fn ran(
+    alloc: Global,
+    bytes: &[u8],
+    room: u64,
+    read_fails: &[u64],
+    write_fails: &[u64],
+) -> Result<(Status, MemorySink), AllocError> {
+    let words = words(alloc, &["run"])?;
+    let mut source = MemorySource::new(alloc, bytes, read_fails)?;
+    let mut sink = MemorySink::new(alloc, room, write_fails)?;
+    let status = pfs(alloc, &words, &mut source, &mut sink);
+    Ok((status, sink))
+}
+
+/// Whether `run` on each script writes the report beside it.
+fn reports(alloc: Global, cases: &[(&[u8], &[u8])]) -> Result<bool, AllocError> {
+    for (script, report) in cases {
+        let (status, sink) = ran(alloc, script, 3_000, &[], &[])?;
+        if status != Status::Done || sink.bytes() != *report {
+            return Ok(false);
+        }
+    }
+    Ok(true)
+}
+
+#[test]
+fn reports_are_those_of_the_worked_scripts(rt: HostRuntime) -> Result<(), Fail> {
+    let cases: [(&[u8], &[u8]); 3] = [
+        (ONE_WAIT, ONE_WAIT_REPORT),
+        (b"", b"pfs-report 0\nend\n"),
+        (
+            b"limit mutex_classes 3\nclass wait/synch/mutex/a/b YES YES\nclass wait/io/file/x/y YES NO\ninstrument wait/synch/% YES YES\nphase\nsession 3 a h1\nstart wait/io/file/x/y\nspend 9\nend\nsession 1 b h2\nstart wait/synch/mutex/a/b\nend\nstart wait/synch/mutex/sql/LOCK_open\nspend 4\nend\nsession 64 c h3\nspend 1\n",
+            b"pfs-report 0\nphase 1\nsession 3\nstart 1 attributed 0 0 0 -\nend 1 1 0 0\nadd 153 1\nsession 1\nstart - lost-class - - - -\nend - - - -\nstart 1 attributed 0 0 0 -\nend 1 1 0 0\nadd 193 1\nsession 64\nfinal\ntable events_waits_summary_by_thread_by_event_name\nrow 1 'wait/synch/mutex/sql/LOCK_open' 1 4 4 4 4\nrow 3 'wait/io/file/x/y' 1 0 0 0 0\ntable events_waits_summary_global_by_event_name\nrow 'wait/synch/mutex/sql/LOCK_open' 1 4 4 4 4\nrow 'wait/io/file/x/y' 1 0 0 0 0\nlost Performance_schema_mutex_classes_lost 1\nend\n",
+        ),
+    ];
+    assert!(rt; reports(rt.alloc(), &cases)?);
+    Ok(())
+}
+
+#[test]
+fn events_that_are_lost_or_off_count_nowhere(rt: HostRuntime) -> Result<(), Fail> {
+    let cases: [(&[u8], &[u8]); 3] = [
+        (
+            b"limit file_classes 1\nphase\nsession 1 u h\nstart wait/io/file/innodb/innodb_data_file\nend\n",
+            b"pfs-report 0\nphase 1\nsession 1\nstart - lost-class - - - -\nend - - - -\nfinal\nlost Performance_schema_file_classes_lost 2\nend\n",
+        ),
+        (
+            b"consumer global_instrumentation NO\nphase\nsession 1 u h\nstart wait/io/file/sql/binlog\nspend 5\nend\n",
+            b"pfs-report 0\nphase 1\nsession 1\nstart - off-global 0 0 0 -\nend - - - -\nfinal\nend\n",
+        ),
+        (
+            b"phase\nsession 1 u h\nstart wait/synch/cond/sql/COND_thread_cache\nend\nstart wait/io/file/sql/binlog\n",
+            b"pfs-report 0\nphase 1\nsession 1\nstart - off-class 0 0 0 -\nend - - - -\nstart 1 attributed 0 0 0 -\nfinal\nend\n",
+        ),
+    ];
+    assert!(rt; reports(rt.alloc(), &cases)?);
+    Ok(())
+}
+
+#[test]
+fn events_aside_and_untimed_ones_are_counted(rt: HostRuntime) -> Result<(), Fail> {
+    let cases: [(&[u8], &[u8]); 2] = [
+        (
+            b"consumer thread_instrumentation NO\nphase\nsession 1 u h\nstart wait/io/file/sql/binlog\nspend 5\nend\nsession 2 v h\nstart wait/io/file/sql/binlog\nspend 7\nend\n",
+            b"pfs-report 0\nphase 1\nsession 1\nstart 1 aside 0 0 0 -\nend 1 1 0 0\nadd 8327 1\nsession 2\nstart 1 aside 0 0 0 -\nend 1 1 0 0\nadd 8327 2\nfinal\ntable events_waits_summary_global_by_event_name\nrow 'wait/io/file/sql/binlog' 2 12 5 6 7\nend\n",
+        ),
+        (
+            b"instrument wait/io/file/% YES NO\nphase\nsession 1 u h\nstart wait/io/file/sql/binlog\nspend 7\nend\nstart wait/io/file/sql/binlog\nspend 7\nend\n",
+            b"pfs-report 0\nphase 1\nsession 1\nstart 1 attributed 0 0 0 -\nend 1 1 0 0\nadd 135 1\nstart 2 attributed 0 0 0 -\nend 2 2 0 0\nadd 135 2\nfinal\ntable events_waits_summary_by_thread_by_event_name\nrow 1 'wait/io/file/sql/binlog' 2 0 0 0 0\ntable events_waits_summary_global_by_event_name\nrow 'wait/io/file/sql/binlog' 2 0 0 0 0\nend\n",
+        ),
+    ];
+    assert!(rt; reports(rt.alloc(), &cases)?);
+    Ok(())
+}
+
+/// Whether a text has this part.
+fn has(text: &[u8], part: &[u8]) -> bool {
+    text.windows(part.len().max(1)).any(|window| window == part)
+}
+
+#[test]
+fn events_of_four_kinds_nest(rt: HostRuntime) -> Result<(), Fail> {
+    let cases: [(&[u8], &[u8]); 4] = [
+        (
+            b"phase\nsession 1 u h\nstart transaction rw\nstart statement/sql/select\nspend 5\nstage stage/sql/init\nspend 10\nstart wait/io/file/sql/binlog\nspend 20\nend\nspend 30\nstage stage/sql/executing\nspend 40\nend 1 2 3 4 5 6\nstart statement/sql/call_procedure\nstart statement/sp/stmt\nspend 3\nend\nstage stage/sql/end\nstage -\nend\nend\n",
+            b"pfs-report 0\nphase 1\nsession 1\nstart 1 attributed 0 0 0 -\nstart 2 attributed 0 0 0 -\nstart 3 attributed 0 0 0 -\nstart 4 attributed 0 0 0 -\nend 4 4 0 0\nadd 135 1\nend 3 4 0 0\nadd 141 1\nstart 5 attributed 0 0 0 -\nend 5 5 0 0\nadd 144 1\nend 2 5 0 0\nadd 146 1\nstart 6 attributed 0 0 0 -\nstart 7 attributed 0 0 0 -\nend 7 7 0 0\nadd 152 1\nstart 8 attributed 0 0 0 -\nend 8 8 0 0\nadd 145 1\nend 6 8 0 0\nadd 151 1\nend 1 8 0 0\nadd 191 1\nfinal\ntable events_waits_summary_by_thread_by_event_name\nrow 1 'wait/io/file/sql/binlog' 1 20 20 20 20\ntable events_waits_summary_global_by_event_name\nrow 'wait/io/file/sql/binlog' 1 20 20 20 20\ntable events_stages_summary_by_thread_by_event_name\nrow 1 'stage/sql/init' 1 60 60 60 60\nrow 1 'stage/sql/executing' 1 40 40 40 40\nrow 1 'stage/sql/end' 1 0 0 0 0\ntable events_stages_summary_global_by_event_name\nrow 'stage/sql/init' 1 60 60 60 60\nrow 'stage/sql/executing' 1 40 40 40 40\nrow 'stage/sql/end' 1 0 0 0 0\ntable events_statements_summary_by_thread_by_event_name\nrow 1 'statement/sql/select' 1 105 105 105 105 1 2 3 4 5 6\nrow 1 'statement/sql/call_procedure' 1 3 3 3 3 0 0 0 0 0 0\nrow 1 'statement/sp/stmt' 1 3 3 3 3 0 0 0 0 0 0\ntable events_statements_summary_global_by_event_name\nrow 'statement/sql/select' 1 105 105 105 105 1 2 3 4 5 6\nrow 'statement/sql/call_procedure' 1 3 3 3 3 0 0 0 0 0 0\nrow 'statement/sp/stmt' 1 3 3 3 3 0 0 0 0 0 0\ntable events_transactions_summary_by_thread_by_event_name\nrow 1 'transaction' 1 108 108 108 108 1 108 108 108 108 0 0 0 0 0\ntable events_transactions_summary_global_by_event_name\nrow 'transaction' 1 108 108 108 108 1 108 108 108 108 0 0 0 0 0\nend\n",
+        ),
+        (
+            b"phase\nsession 1 u h\nstart transaction rw\nspend 5\nend\nstart transaction ro\nspend 7\nend\n",
+            b"pfs-report 0\nphase 1\nsession 1\nstart 1 attributed 0 0 0 -\nend 1 1 0 0\nadd 191 1\nstart 2 attributed 0 0 0 -\nend 2 2 0 0\nadd 192 1\nfinal\ntable events_transactions_summary_by_thread_by_event_name\nrow 1 'transaction' 2 12 5 6 7 1 5 5 5 5 1 7 7 7 7\ntable events_transactions_summary_global_by_event_name\nrow 'transaction' 2 12 5 6 7 1 5 5 5 5 1 7 7 7 7\nend\n",
+        ),
+        (
+            b"limit statement_stack 2\nphase\nsession 2 u h\nrepeat 2\nstart statement/sql/insert\nspend 3\nstart statement/sp/stmt\nstart statement/sp/stmt\nspend 1\nend\nend\nend 0 1 0 1 0 0\ndone\n",
+            b"pfs-report 0\nphase 1\nsession 2\nstart 1 attributed 0 0 0 -\nstart 2 attributed 0 0 0 -\nstart - lost-nested 0 0 0 -\nend - - - -\nend 2 2 0 0\nadd 152 1\nend 1 2 0 0\nadd 147 1\nstart 3 attributed 0 0 0 -\nstart 4 attributed 0 0 0 -\nstart - lost-nested 0 0 0 -\nend - - - -\nend 4 4 0 0\nadd 152 2\nend 3 4 0 0\nadd 147 2\nfinal\ntable events_statements_summary_by_thread_by_event_name\nrow 2 'statement/sql/insert' 2 8 4 4 4 0 2 0 2 0 0\nrow 2 'statement/sp/stmt' 2 2 1 1 1 0 0 0 0 0 0\ntable events_statements_summary_global_by_event_name\nrow 'statement/sql/insert' 2 8 4 4 4 0 2 0 2 0 0\nrow 'statement/sp/stmt' 2 2 1 1 1 0 0 0 0 0 0\nlost Performance_schema_nested_statement_lost 2\nend\n",
+        ),
+        // The greatest number of rounds, with nothing in them.
+        (
+            b"phase\nsession 1 u h\nrepeat 18446744073709551615\ndone\n",
+            b"pfs-report 0\nphase 1\nsession 1\nfinal\nend\n",
+        ),
+    ];
+    assert!(rt; reports(rt.alloc(), &cases)?);
+    Ok(())
+}
+
+/// A script of one session with so many events of a class, each inside the one before.
+fn nested(alloc: Global, class: &[u8], depth: u64) -> Result<Vec<u8>, AllocError> {
+    let mut script = Vec::from_slice(alloc, b"phase\nsession 1 u h\n")?;
+    for _ in 0..depth {
+        script.extend_from_slice(b"start ")?;
+        script.extend_from_slice(class)?;
+        script.extend_from_slice(b"\n")?;
+    }
+    for _ in 0..depth {
+        script.extend_from_slice(b"end\n")?;
+    }
+    Ok(script)
+}
+
+#[test]
+fn events_beyond_the_depth_are_lost(rt: HostRuntime) -> Result<(), Fail> {
+    let cases: [(&[u8], u64, &[u8]); 4] = [
+        (
+            b"wait/io/file/sql/binlog",
+            4,
+            b"\nrow 'wait/io/file/sql/binlog' 4 0 0 0 0\nend\n",
+        ),
+        (
+            b"wait/io/file/sql/binlog",
+            5,
+            b"\nrow 'wait/io/file/sql/binlog' 4 0 0 0 0\nlost Performance_schema_locker_lost 1\nend\n",
+        ),
+        (
+            b"statement/sp/stmt",
+            10,
+            b"\nrow 'statement/sp/stmt' 10 0 0 0 0 0 0 0 0 0 0\nend\n",
+        ),
+        (
+            b"statement/sp/stmt",
+            11,
+            b"\nrow 'statement/sp/stmt' 10 0 0 0 0 0 0 0 0 0 0\nlost Performance_schema_nested_statement_lost 1\nend\n",
+        ),
+    ];
+    for (class, depth, last) in cases {
+        let script = nested(rt.alloc(), class, depth)?;
+        let (status, sink) = ran(rt.alloc(), &script, 2_000, &[], &[])?;
+        assert_eq!(rt; status, Status::Done);
+        assert!(rt; has(sink.bytes(), last));
+    }
+    Ok(())
+}
+
+#[test]
+fn summaries_have_the_numbers_of_great_and_empty_waits(rt: HostRuntime) -> Result<(), Fail> {
+    let head: &[u8] = b"phase\nsession 1 u h\nstart wait/io/file/sql/binlog\nspend ";
+    let cases: [(&[u8], &[u8]); 3] = [
+        (
+            b"9223372036854775808\nend\nstart wait/io/file/sql/binlog\nspend 9223372036854775808\nend\n",
+            b"\nrow 'wait/io/file/sql/binlog' 2 0 9223372036854775808 0 9223372036854775808\n",
+        ),
+        (
+            b"18446744073709551615\nend\n",
+            b"\nrow 'wait/io/file/sql/binlog' 1 18446744073709551615 18446744073709551615 18446744073709551615 18446744073709551615\n",
+        ),
+        (b"0\nend\n", b"\nrow 'wait/io/file/sql/binlog' 1 0 0 0 0\n"),
+    ];
+    for (tail, row) in cases {
+        let mut script = Vec::from_slice(rt.alloc(), head)?;
+        script.extend_from_slice(tail)?;
+        let (status, sink) = ran(rt.alloc(), &script, 1_000, &[], &[])?;
+        assert_eq!(rt; status, Status::Done);
+        assert!(rt; has(sink.bytes(), row));
+    }
+    Ok(())
+}
+
+#[test]
+fn failures_leave_what_was_written_before_them(rt: HostRuntime) -> Result<(), Fail> {
+    let cases: [(u64, &[u64], &[u64], Status, &[u8]); 3] = [
+        (
+            1_000,
+            &[],
+            &[3],
+            Status::WriteFault,
+            b"pfs-report 0\nphase 1\n",
+        ),
+        (1_000, &[1], &[], Status::ReadFault, b""),
+        (15, &[], &[], Status::WriteFault, b"pfs-report 0\nph"),
+    ];
+    for (room, read_fails, write_fails, want, text) in cases {
+        let (status, sink) = ran(rt.alloc(), ONE_WAIT, room, read_fails, write_fails)?;
+        assert_eq!(rt; status, want);
+        assert_eq!(rt; sink.bytes(), text);
+    }
+    Ok(())
+}
+
+#[test]
+fn faulty_scripts_get_their_line_and_reason(rt: HostRuntime) -> Result<(), Fail> {
+    let (status, sink) = ran(rt.alloc(), b"phase\nsession 1 u h\nend\n", 1_000, &[], &[])?;
+    assert_eq!(rt;
+        status,
+        Status::BadScript {
+            line: 3,
+            reason: Reason::BadNesting
+        }
+    );
+    assert_eq!(rt; sink.bytes(), b"bad script: line 3 reason 9\n".as_slice());
+    let many = vec![in rt.alloc(); 10u8; 1_048_577]?;
+    let (status, sink) = ran(rt.alloc(), &many, 1_000, &[], &[])?;
+    assert_eq!(rt;
+        status,
+        Status::BadScript {
+            line: 0,
+            reason: Reason::TooLong
+        }
+    );
+    assert_eq!(rt; sink.bytes(), b"bad script: line 0 reason 11\n".as_slice());
+    Ok(())
+}
+
+#[test]
+fn other_words_get_the_usage_line(rt: HostRuntime) -> Result<(), Fail> {
+    let cases: [&[&str]; 4] = [&[], &["run", "now"], &["-h"], &["plain"]];
+    for case in cases {
+        let words = words(rt.alloc(), case)?;
+        let mut source = MemorySource::new(rt.alloc(), ONE_WAIT, &[])?;
+        let mut sink = MemorySink::new(rt.alloc(), 100, &[])?;
+        assert_eq!(rt;
+            pfs(rt.alloc(), &words, &mut source, &mut sink),
+            Status::Usage
+        );
+        assert_eq!(rt; sink.bytes(), b"usage: run\n".as_slice());
+    }
+    Ok(())
+}
+
+/// A source that hands out one byte at a time, and tells nothing.
+#[derive(Drop)]
+struct Dripping<'a> {
+    bytes: &'a [u8],
+}
+
+impl Source for Dripping<'_> {
+    ghost left = { λ _. None };
+
+    ghost faults = { λ _. 0 };
+
+    fn read(&mut self, buffer: &mut [u8]) -> Got {
+        match self.bytes.split_first() {
+            Some((byte, rest)) => {
+                buffer[0] = *byte;
+                self.bytes = rest;
+                Got::Bytes(1)
+            }
+            None => Got::End,
+        }
+    }
+}
+
+#[test]
+fn one_byte_at_a_time_gives_the_same_report(rt: HostRuntime) -> Result<(), Fail> {
+    let words = words(rt.alloc(), &["run"])?;
+    let mut source = Dripping { bytes: ONE_WAIT };
+    let mut sink = MemorySink::new(rt.alloc(), 1_000, &[])?;
+    assert_eq!(rt;
+        pfs(rt.alloc(), &words, &mut source, &mut sink),
+        Status::Done
+    );
+    assert_eq!(rt; sink.bytes(), ONE_WAIT_REPORT);
+    Ok(())
+}

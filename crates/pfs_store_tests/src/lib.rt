@@ -1,0 +1,17 @@
+//! Tests of the board, the setup words, the tickets, the stores and the administration, by public calls alone.
+#![tactic(auto)]
+
+#[cfg(test)]
+mod admin;
+#[cfg(test)]
+mod board;
+#[cfg(test)]
+mod containers;
+#[cfg(test)]
+mod levels;
+#[cfg(test)]
+mod seats;
+#[cfg(test)]
+mod switches;
+#[cfg(test)]
+mod tickets;
