@@ -215,7 +215,7 @@ ended_from : (subject : Option Subject) (context : Context) (number last consume
 ended_from None context number last consumers thread = record { slot = refl; opened = refl; held = refl; drawn = refl }
 ended_from (Some subject) context number last consumers thread = record { slot = refl; opened = refl; held = refl; drawn = refl }
 
-cell_fits : (what : Open) (held : List (Option Stat)) → length held ≡ 193 → cell_number what < length held
+pub cell_fits : (what : Open) (held : List (Option Stat)) → length held ≡ 193 → cell_number what < length held
 cell_fits what held wide = fits (is_attributed what.verdict) where
   fits : (b : Bool) → (if b then cell_in what else 64 + cell_in what) < length held
   fits true = omega (arith, cell_small what, wide)

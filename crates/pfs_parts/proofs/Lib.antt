@@ -10,3 +10,8 @@ pub mod Inverting
 pub mod Written
 pub mod Journaling
 pub mod Started
+pub mod Owing
+pub mod Summing
+pub mod Bringing
+pub mod Settling
+pub mod Accounting

@@ -1,0 +1,204 @@
+-- What a session adds to a row is what its journal brings there: each ended event once, with its time and its numbers.
+use Rattle.std.specs.Prelude.{ℕ, ◌≡◌, ◌+◌, ◌-◌, ◌%◌, ◌^◌, ◌==◌, Bool, if◌then◌else◌, List, [], ◌∷◌, drop, map, Option, Some, None, IfSome}
+use Rattle.pfs_admin.specs.Asks.{placed_of}
+use Rattle.pfs_admin.specs.States.{seat_at}
+use Rattle.pfs_event.specs.declared.entry.Entry.{Entry}
+use Rattle.pfs_event.specs.declared.entry.Entry.TheVariants as says
+use Rattle.pfs_event.specs.declared.kind.EventKind.{EventKind}
+use Rattle.pfs_event.specs.declared.open.Open.{Open}
+use Rattle.pfs_levels.specs.Calls.{Call, Adds, Rings, Reads, Loads, Draws, Takes, Puts, Frees, Sets, Enters, Leaves, Meets}
+use Rattle.pfs_levels.specs.Contents.{merged}
+use Rattle.pfs_levels.specs.declared.answers.Added.TheVariants.{Counted, Held}
+use Rattle.pfs_model.specs.Contents.{Facts, amount_by, IsNext}
+use Rattle.pfs_model.specs.Contents.{merged as all_merged}
+use Rattle.pfs_model.specs.Contexts.{Context, brought, held_for}
+use Rattle.pfs_model.specs.Contexts.{fresh as empty}
+use Rattle.pfs_model.specs.Places.{Placed, placed_lines, after_lines}
+use Rattle.pfs_model.specs.declared.lines.Opened.{Opened}
+use Rattle.pfs_session.specs.Ends.{numbers_for, with_held}
+use Rattle.pfs_session.specs.Settles.{owed_by_state}
+use Rattle.pfs_session.specs.States.{State, Owed, fresh}
+use Rattle.pfs_session.specs.Turns.{Step, StartsEvent, EndsEvent, Spends, SettlesHeld, Connects, Quits, state_after, steps_of}
+use Rattle.pfs_session.specs.declared.events.Numbers.{Numbers}
+use Rattle.pfs_stat.specs.Stat.{words_of, stat_of_words}
+use Rattle.pfs_stat.specs.declared.Stat.{Stat}
+use Rattle.pfs_parts.specs.Agreeing.{Stands}
+use Rattle.pfs_parts.specs.Deeds.{Deed, Connecting, Starting, Staging, StageEnding, Ending, Spending, Quitting, Closing, Part, part_calls}
+use Rattle.pfs_parts.specs.Shaped.{AreParts, MayDoAll, AllLoadsAgree, lines_of, entries_of, state_behind}
+
+-- an event that has started and not ended: its position among the session's starts, its kind, the clock at its start
+pub record Going : Type 0 where
+  pub index : ℕ
+  pub kind : EventKind
+  pub start : ℕ
+
+-- what the steps of a session tell of it: its clock, how many events it has started, and those that it hasn't ended,
+-- the innermost first
+pub record Clocked : Type 0 where
+  pub clock : ℕ
+  pub begun : ℕ
+  pub going : List Going
+
+abbrev pub at_first : Clocked
+at_first = record { clock = 0; begun = 0; going = [] }
+
+abbrev pub stepped : Clocked → Step → Clocked
+stepped k (StartsEvent subject) = record {
+  clock = k.clock;
+  begun = k.begun + 1;
+  going = record { index = k.begun; kind = subject.kind; start = k.clock } ∷ k.going;
+}
+stepped k (EndsEvent numbers) = record k { going = drop 1 k.going }
+stepped k (Spends time) = record k { clock = (k.clock + time) % 2 ^ 64 }
+stepped k SettlesHeld = k
+stepped k (Connects admin user host) = k
+stepped k (Quits admin) = k
+
+-- these are the facts of an event that ends when the clock stands so: how long it took, modulo 2^64, and a statement's
+-- numbers
+pub record IsMeasured (clock : ℕ) (numbers : Numbers) (event : Going) (facts : Facts) : Type 0 where
+  pub duration : facts.duration ≡ (clock + (2 ^ 64 - event.start)) % 2 ^ 64
+  pub lock : facts.lock ≡ (numbers_for event.kind numbers).lock
+  pub errors : facts.errors ≡ (numbers_for event.kind numbers).errors
+  pub warnings : facts.warnings ≡ (numbers_for event.kind numbers).warnings
+  pub affected : facts.affected ≡ (numbers_for event.kind numbers).affected
+  pub sent : facts.sent ≡ (numbers_for event.kind numbers).sent
+  pub examined : facts.examined ≡ (numbers_for event.kind numbers).examined
+
+abbrev pub EndFacts : (ℕ → Facts) → ℕ → Numbers → List Going → Type 0
+EndFacts facts clock numbers [] = Unit {0}
+EndFacts facts clock numbers (event ∷ events) = IsMeasured clock numbers event (facts event.index)
+
+-- a start gives the clock at the start of its event, an end the rest
+abbrev pub StepFacts : (ℕ → Facts) → Clocked → Step → Type 0
+StepFacts facts k (StartsEvent subject) = (facts k.begun).start ≡ k.clock
+StepFacts facts k (EndsEvent numbers) = EndFacts facts k.clock numbers k.going
+StepFacts facts k (Spends time) = Unit {0}
+StepFacts facts k SettlesHeld = Unit {0}
+StepFacts facts k (Connects admin user host) = Unit {0}
+StepFacts facts k (Quits admin) = Unit {0}
+
+abbrev pub all_stepped : Clocked → List Step → Clocked
+all_stepped k [] = k
+all_stepped k (step ∷ steps) = all_stepped (stepped k step) steps
+
+-- these are the facts of a session's events, by their position among its starts, as its steps give them
+abbrev pub AreFacts : (ℕ → Facts) → Clocked → List Step → Type 0
+AreFacts facts k [] = Unit {0}
+AreFacts facts k (step ∷ steps) = StepFacts facts k step × AreFacts facts (stepped k step) steps
+
+abbrev pub AllFacts : (ℕ → Facts) → Clocked → List Part → Type 0
+AllFacts facts k [] = Unit {0}
+AllFacts facts k (p ∷ ps) = AreFacts facts k (steps_of p.turns) × AllFacts facts (all_stepped k (steps_of p.turns)) ps
+
+abbrev pub clock_behind : Clocked → List Part → Clocked
+clock_behind k [] = k
+clock_behind k (p ∷ ps) = clock_behind (all_stepped k (steps_of p.turns)) ps
+
+-- amounts put together, the newest first; none where there are none
+abbrev pub sum_of : List Stat → Option Stat
+sum_of [] = None
+sum_of (amount ∷ amounts) = Some (with_held (sum_of amounts) amount)
+
+-- what is owed to a row
+abbrev pub owed_to : ℕ → List Owed → Option Stat
+owed_to row [] = None
+owed_to row (one ∷ others) = if one.row == row then Some one.amount else owed_to row others
+
+-- the open events, of which a journal knows the positions and a session kind and start
+abbrev pub going_of : List Opened → List Open → List Going
+going_of [] whats = []
+going_of (event ∷ events) [] = []
+going_of (event ∷ events) (what ∷ whats) =
+    record { index = event.index; kind = what.kind; start = what.event.start } ∷ going_of events whats
+
+abbrev pub HaveStarted : (ℕ → Facts) → List Going → Type 0
+HaveStarted facts [] = Unit {0}
+HaveStarted facts (event ∷ events) = ((facts event.index).start ≡ event.start) × HaveStarted facts events
+
+-- a session holds for each row exactly the sum of what its journal says is waiting for the row; its clock and its open
+-- events are those of its steps, and the facts have their starts; and its slot, where it has one, is the one given
+pub record Sums (flags : ℕ → ℕ → ℕ) (slots : ℕ → Option ℕ) (facts : ℕ → ℕ → Facts) (session : ℕ) (k : Clocked)
+    (context : Context) (s : State) : Type 0 where
+  pub clock : k.clock ≡ s.clock
+  pub begun : k.begun ≡ context.begun
+  pub going : k.going ≡ going_of context.opened s.opened.events
+  pub starts : HaveStarted (facts session) k.going
+  pub held : (row : ℕ) → owed_to row (owed_by_state s)
+      ≡ sum_of (map (amount_by flags slots facts session) (held_for row context.waiting))
+  pub seat : IfSome s.place.thread (λ n. slots session ≡ Some n)
+
+-- by the contents of the rows: an addition and a put made a row's content, and a take found it
+abbrev pub ContentAgrees : (ℕ → ℕ → List ℕ) → Call → Type 0
+ContentAgrees content (Adds row amount (Counted r k)) =
+    (n : ℕ) × (k ≡ n + 1) × (content r k ≡ merged (content r n) amount)
+ContentAgrees content (Adds row amount (Held r first second)) = Unit {0}
+ContentAgrees content (Takes row k found) = found ≡ content row k
+ContentAgrees content (Puts row put k) = content row k ≡ put
+ContentAgrees content (Rings row put answer) = Unit {0}
+ContentAgrees content (Reads row seen) = Unit {0}
+ContentAgrees content (Loads at k found) = Unit {0}
+ContentAgrees content (Draws kind ticket) = Unit {0}
+ContentAgrees content (Frees row k) = Unit {0}
+ContentAgrees content (Sets at to k) = Unit {0}
+ContentAgrees content (Enters label labels) = Unit {0}
+ContentAgrees content Leaves = Unit {0}
+ContentAgrees content (Meets versions) = Unit {0}
+
+abbrev pub ContentsAgree : (ℕ → ℕ → List ℕ) → List Call → Type 0
+ContentsAgree content [] = Unit {0}
+ContentsAgree content (call ∷ calls) = ContentAgrees content call × ContentsAgree content calls
+
+abbrev pub AllContentsAgree : (ℕ → ℕ → List ℕ) → List Part → Type 0
+AllContentsAgree content [] = Unit {0}
+AllContentsAgree content (p ∷ ps) = ContentsAgree content (part_calls p) × AllContentsAgree content ps
+
+-- a session gets this slot when it connects
+abbrev pub IsPlaced : Option ℕ → State → Deed → Type 0
+IsPlaced slot s (Connecting admin user host) = (placed_of (seat_at admin s.number user host)).thread ≡ slot
+IsPlaced slot s (Starting subject) = Unit {0}
+IsPlaced slot s (Staging subject) = Unit {0}
+IsPlaced slot s StageEnding = Unit {0}
+IsPlaced slot s (Ending numbers) = Unit {0}
+IsPlaced slot s (Spending time) = Unit {0}
+IsPlaced slot s (Quitting admin) = Unit {0}
+IsPlaced slot s Closing = Unit {0}
+
+abbrev pub AllPlaced : Option ℕ → State → List Part → Type 0
+AllPlaced slot s [] = Unit {0}
+AllPlaced slot s (p ∷ ps) = IsPlaced slot s p.deed × AllPlaced slot (state_after s p.turns) ps
+
+-- an addition makes its row's content of the one before, by all events that it brings there
+abbrev pub IsAdded : (Opened → Stat) → (ℕ → ℕ → List ℕ) → Context → Entry → Type 0
+IsAdded amount content context (says.Add row version) =
+    IsNext content (λ here. words_of (all_merged (stat_of_words here) (map amount (brought context row)))) row version
+IsAdded amount content context entry = Unit {0}
+
+abbrev pub AreAdded : (Opened → Stat) → (ℕ → ℕ → List ℕ) → List Placed → Type 0
+AreAdded amount content [] = Unit {0}
+AreAdded amount content (place ∷ places) =
+    IsAdded amount content place.context place.entry × AreAdded amount content places
+
+-- each addition of a session's journal brings its row exactly the events that the journal says; and behind it the
+-- session holds for each row exactly what waits for it
+pub record IsAccounted (flags : ℕ → ℕ → ℕ) (slots : ℕ → Option ℕ) (facts : ℕ → ℕ → Facts) (session : ℕ)
+    (content : ℕ → ℕ → List ℕ) (k : Clocked) (context : Context) (s : State) (parts : List Part) : Type 0 where
+  pub added : (phase : ℕ) → AreAdded (amount_by flags slots facts session) content
+      (placed_lines phase session context (lines_of parts) (entries_of parts))
+  pub sums : Sums flags slots facts session (clock_behind k parts)
+      (after_lines context (lines_of parts) (entries_of parts)) (state_behind s parts)
+
+-- of lines one after another of a session that stands as its journal tells, whose facts are those that its steps give,
+-- where each load gave the flags of its version, and each addition, take and put agrees with the contents
+abbrev pub AmountsLaw : Type 0
+AmountsLaw = (flags : ℕ → ℕ → ℕ) (slots : ℕ → Option ℕ) (facts : ℕ → ℕ → Facts) (session : ℕ)
+    (content : ℕ → ℕ → List ℕ) (over : Bool) (k : Clocked) (context : Context) (s : State) (parts : List Part)
+    → Stands flags over context s → Sums flags slots facts session k context s → MayDoAll over s parts
+    → AreParts s parts → AllLoadsAgree flags parts → AllPlaced (slots session) s parts
+    → AllFacts (facts session) k parts → AllContentsAgree content parts
+    → IsAccounted flags slots facts session content k context s parts
+
+-- a session that begins holds nothing, and nothing waits
+abbrev pub FreshSumsLaw : Type 0
+FreshSumsLaw = (flags : ℕ → ℕ → ℕ) (slots : ℕ → Option ℕ) (facts : ℕ → ℕ → Facts)
+    (session number stack depth : ℕ) → Sums flags slots facts session at_first empty (fresh number stack depth)
