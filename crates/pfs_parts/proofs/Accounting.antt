@@ -27,10 +27,11 @@ use Rattle.pfs_session.specs.declared.events.Numbers.{Numbers}
 use Rattle.pfs_stat.specs.Stat.{MergeIsMonoid}
 use Rattle.pfs_stat.specs.declared.Stat.{Stat}
 use Rattle.pfs_parts.proofs.Acting.{work_quiet}
-use Rattle.pfs_parts.proofs.Bringing.{AddedBy, Accounts, brings_as, brings_then, turned_sums, start_brings, end_brings, quiet_added, quiet_context, quiet_then, connect_quiet, connect_added}
+use Rattle.pfs_parts.proofs.Bringing.{AddedBy, Accounts, brings_as, brings_then, turned_sums, start_brings, end_brings, quiet_added, quiet_context, quiet_then, connect_quiet, connect_added, quiet_once, connect_once}
 use Rattle.pfs_parts.proofs.Ended.{EndIs, end_is}
 use Rattle.pfs_parts.proofs.Inverting.{OneTurn, TwoTurns, no_turns, one_turn, two_turns}
 use Rattle.pfs_parts.proofs.Journaling.{written}
+use Rattle.pfs_parts.proofs.Once.{once_then, once_lines}
 use Rattle.pfs_parts.proofs.Owing.{Ascend, ascending}
 use Rattle.pfs_parts.proofs.Settling.{settle_brings, acted_sums, is_seated}
 use Rattle.pfs_parts.proofs.Written.{turned_agrees, does_at, ends_by, has_stage}
@@ -101,7 +102,7 @@ module _ (m : MergeIsMonoid) (flags : ℕ → ℕ → ℕ) (slots : ℕ → Opti
 
   no_line : (subject : Option Subject) (k : Clocked) (context : Context) (s : State) (turns : List Turn) → Rests k context s → turns ≡ [] → OfLine subject k context s turns
   no_line subject k context s turns a none =
-      subst (OfLine subject k context s) (sym none) (λ are f c. record { added = tt; sums = turned_sums m flags slots facts session content k context s a })
+      subst (OfLine subject k context s) (sym none) (λ are f c. record { added = tt; once = λ h. refl; sums = turned_sums m flags slots facts session content k context s a })
 
   of_start : (subject : Subject) (k : Clocked) (context : Context) (s : State) → Rests k context s → (calls : List Call) (entries : List Entry) (after : State)
       → OfStep (Some subject) k context s (StartsEvent subject) calls entries after
@@ -120,6 +121,7 @@ module _ (m : MergeIsMonoid) (flags : ℕ → ℕ → ℕ) (slots : ℕ → Opti
   of_spend subject time k context s a calls entries after d f c =
       brings_as m flags slots facts session content subject context entries [] _ after _ d.1 d.2 (record {
         added = tt;
+        once = λ h. refl;
         sums = record {
           clock = ap (λ z. (z + time) % 2 ^ 64) a.clock;
           begun = a.begun;
@@ -145,6 +147,7 @@ module _ (m : MergeIsMonoid) (flags : ℕ → ℕ → ℕ) (slots : ℕ → Opti
       let q = quiet_then context mid (after_entries None mid rest) (connect_quiet context (admin.actions + 1) seat) (quiet_context mid rest quiet) in
       brings_as m flags slots facts session content None context entries (head ∷ rest) _ after next w.entries_are d.1 (record {
         added = (connect_added (amount_by flags slots facts session) content context (admin.actions + 1) seat, quiet_added (amount_by flags slots facts session) content mid rest quiet);
+        once = once_then None context (head ∷ []) rest (connect_once context (admin.actions + 1) seat) (quiet_once mid rest quiet);
         sums = acted_sums m flags slots facts session content k context (after_entries None mid rest) s next a free q refl refl refl (is_seated (slots session) (placed_of seat).thread placed);
       })
 
@@ -160,6 +163,7 @@ module _ (m : MergeIsMonoid) (flags : ℕ → ℕ → ℕ) (slots : ℕ → Opti
       let q = quiet_context context (head ∷ rest) (refl, quiet) in
       brings_as m flags slots facts session content None context entries (head ∷ rest) _ after next w.entries_are d.1 (record {
         added = quiet_added (amount_by flags slots facts session) content context (head ∷ rest) (refl, quiet);
+        once = quiet_once context (head ∷ rest) (refl, quiet);
         sums = acted_sums m flags slots facts session content k context (after_entries None context (head ∷ rest)) s next a free q refl refl refl tt;
       })
 
@@ -236,7 +240,7 @@ accounted m = λ flags slots facts session content over k context s parts stands
       all : (flags : ℕ → ℕ → ℕ) (slots : ℕ → Option ℕ) (facts : ℕ → ℕ → Facts) (session : ℕ) (content : ℕ → ℕ → List ℕ) (over : Bool) (k : Clocked) (context : Context) (s : State)
           (parts : List Part) → Stands flags over context s → Sums flags slots facts session k context s → MayDoAll over s parts → AreParts s parts → AllLoadsAgree flags parts
           → AllPlaced (slots session) s parts → AllFacts (facts session) k parts → AllContentsAgree content parts → IsAccounted flags slots facts session content k context s parts
-      all flags slots facts session content over k context s [] stands sums may are loads placed given contents = record { added = λ phase. tt; sums = sums }
+      all flags slots facts session content over k context s [] stands sums may are loads placed given contents = record { added = λ phase. tt; once = λ phase h. refl; sums = sums }
       all flags slots facts session content over k context s (p ∷ ps) stands sums may are loads placed given contents =
           let w = written flags over context s p stands may.0 are.0 loads.0 in
           let line : Line = line_of p.deed in
@@ -248,6 +252,7 @@ accounted m = λ flags slots facts session content over k context s parts stands
           all flags slots facts session content (is_over over p.deed) then next (state_after s p.turns) ps w.stands b.sums may.1 are.1 loads.1 placed.1 given.1 contents.1 in
           record {
             added = λ phase. added_more _ content _ _ (at_places (amount_by flags slots facts session) content phase session line (turned context) (turns_entries p.turns) b.added) (r.added phase);
+            once = λ phase. once_lines phase session line (turned context) (turns_entries p.turns) _ _ b.once (r.once phase);
             sums = r.sums;
           }
 

@@ -1,6 +1,6 @@
 -- What each step of a session adds is what its journal brings there.
 use Rattle.std.proofs.Common.{ℕ, ◌≡◌, ◌<◌, ◌+◌, ◌-◌, ◌%◌, ◌^◌, Bool, true, false, List, [], ◌∷◌, ◌++◌, Option, Some, None, length, map, drop, slice_set, refl, ap, sym, ◌∙◌, subst}
-use Rattle.std.specs.Prelude.{◌==◌, IfSome}
+use Rattle.std.specs.Prelude.{if◌then◌else◌, ◌==◌, IfSome}
 use Rattle.std.proofs.lemmas.Bool.{eqb-true, false≢true}
 use Rattle.pfs_admin.specs.Asks.{connect_entry}
 use Rattle.pfs_containers.specs.declared.containers.Seated.{Seated}
@@ -26,13 +26,17 @@ use Rattle.pfs_session.specs.declared.events.Numbers.{Numbers}
 use Rattle.pfs_stat.specs.Stat.{stat_of, MergeIsMonoid}
 use Rattle.pfs_stat.specs.declared.Stat.{Stat}
 use Rattle.pfs_parts.proofs.Acting.{AreAll, is_quiet}
-use Rattle.pfs_parts.proofs.Ended.{Innermost, innermost_of, cell_fits}
+use Rattle.pfs_parts.proofs.Ended.{Innermost, innermost_of, cell_fits, counted_cell, summary_row}
+use Rattle.pfs_parts.proofs.Once.{OnceBy, once_then, once_plain, once_added, once_held}
+use Rattle.pfs_model.specs.Asks.{cell_row}
+use Rattle.pfs_model.specs.Shapes.{counted_slot}
+use Rattle.pfs_session.specs.Ends.{cell_in}
 use Rattle.pfs_parts.proofs.Owing.{owed_cell, owed_same, owed_other, wait_same, wait_other, else_same, else_other}
 use Rattle.pfs_parts.proofs.Pieces.{entries_then}
 use Rattle.pfs_parts.proofs.Starting.{consumers_in, thread_in, class_in, table_in, start_as}
 use Rattle.pfs_parts.proofs.Summing.{is_added, same_measure}
 use Rattle.pfs_parts.specs.Agreeing.{AreAlike, Agrees, IsCounted}
-use Rattle.pfs_parts.specs.Amounts.{Going, Clocked, stepped, IsMeasured, EndFacts, StepFacts, sum_of, owed_to, going_of, HaveStarted, Sums, ContentAgrees, ContentsAgree, IsAdded}
+use Rattle.pfs_parts.specs.Amounts.{Going, Clocked, stepped, IsMeasured, EndFacts, StepFacts, sum_of, owed_to, going_of, HaveStarted, Sums, ContentAgrees, ContentsAgree, IsAdded, in_row, counted_first, counted_at, brought_at}
 
 -- each addition among these entries brings what the entries before it say
 abbrev pub AddedBy : (Opened → Stat) → (ℕ → ℕ → List ℕ) → Option Subject → Context → List Entry → Type 0
@@ -48,6 +52,7 @@ added_then amounts content subject context (e ∷ es) fs a b = (a.0, added_then 
 pub record Accounts (flags : ℕ → ℕ → ℕ) (slots : ℕ → Option ℕ) (facts : ℕ → ℕ → Facts) (session : ℕ) (content : ℕ → ℕ → List ℕ) (subject : Option Subject) (context : Context)
     (entries : List Entry) (k : Clocked) (after : State) : Type 0 where
   pub added : AddedBy (amount_by flags slots facts session) content subject context entries
+  pub once : OnceBy subject context entries
   pub sums : Sums flags slots facts session k (after_entries subject context entries) after
 
 -- what entries change of events and of what waits
@@ -117,6 +122,26 @@ quiet_one : (amounts : Opened → Stat) (content : ℕ → ℕ → List ℕ) (co
 quiet_one amounts content context (says.Add row version) q = absurd (false≢true q)
 quiet_one amounts content context _ q = tt
 
+-- and neither count nor bring an event
+quiet_nothing : (context : Context) (e : Entry) → is_quiet e ≡ true → (counted_at context e ≡ []) × (brought_at context e ≡ [])
+quiet_nothing context (says.Take row version) q = (refl, refl)
+quiet_nothing context (says.Give row version from) q = (refl, refl)
+quiet_nothing context (says.Tag row version) q = (refl, refl)
+quiet_nothing context (says.Free row version) q = (refl, refl)
+quiet_nothing context (says.Set word version flags) q = (refl, refl)
+quiet_nothing context (says.Act action) q = (refl, refl)
+quiet_nothing context _ q = absurd (false≢true q)
+
+pub quiet_once : (context : Context) (es : List Entry) → AreAll true is_quiet es → OnceBy None context es
+quiet_once context [] q = λ h. refl
+quiet_once context (e ∷ es) q =
+    let n = quiet_nothing context e q.0 in
+    once_then None context (e ∷ []) es (once_plain None context e n.0 n.1 (quiet_noted context e q.0).waiting) (quiet_once (noted None context e) es q.1)
+
+pub connect_once : (context : Context) (action : ℕ) (seat : Option Seated) → OnceBy None context (connect_entry action seat ∷ [])
+connect_once context action None = once_plain None context (connect_entry action None) refl refl refl
+connect_once context action (Some seat) = once_plain None context (connect_entry action (Some seat)) refl refl refl
+
 pub quiet_added : (amounts : Opened → Stat) (content : ℕ → ℕ → List ℕ) (context : Context) (es : List Entry) → AreAll true is_quiet es → AddedBy amounts content None context es
 quiet_added amounts content context [] q = tt
 quiet_added amounts content context (e ∷ es) q = (quiet_one amounts content context e q.0, quiet_added amounts content (noted None context e) es q.1)
@@ -141,6 +166,13 @@ starts_drop : (facts : ℕ → Facts) (gs : List Going) → HaveStarted facts gs
 starts_drop facts [] h = tt
 starts_drop facts (g ∷ gs) h = h.1
 
+counted_none : (slot : Option ℕ) (event : Opened) (others : List Opened) → is_let_through event.verdict ≡ false → counted_first slot (event ∷ others) ≡ []
+counted_none slot event others e = ap (λ b. if b then in_row (cell_row (counted_slot slot event.verdict) event.subject.cell) event ∷ [] else []) e
+
+counted_one : (slot : Option ℕ) (event : Opened) (others : List Opened) → is_let_through event.verdict ≡ true
+    → counted_first slot (event ∷ others) ≡ in_row (cell_row (counted_slot slot event.verdict) event.subject.cell) event ∷ []
+counted_one slot event others e = ap (λ b. if b then in_row (cell_row (counted_slot slot event.verdict) event.subject.cell) event ∷ [] else []) e
+
 module _ (m : MergeIsMonoid) (flags : ℕ → ℕ → ℕ) (slots : ℕ → Option ℕ) (facts : ℕ → ℕ → Facts) (session : ℕ) (content : ℕ → ℕ → List ℕ) where
   abbrev amounts : Opened → Stat
   amounts = amount_by flags slots facts session
@@ -160,6 +192,7 @@ module _ (m : MergeIsMonoid) (flags : ℕ → ℕ → ℕ) (slots : ℕ → Opti
       → Brings subject (after_entries subject context es) fs k after → Brings subject context (es ++ fs) k after
   brings_then subject context es fs j k s after a b = record {
     added = added_then amounts content subject context es fs a.added b.added;
+    once = once_then subject context es fs a.once b.once;
     sums = subst (λ z. Stands' k z after) (sym (entries_then subject context es fs)) b.sums;
   }
 
@@ -181,7 +214,7 @@ module _ (m : MergeIsMonoid) (flags : ℕ → ℕ → ℕ) (slots : ℕ → Opti
         held = a.held;
         seat = a.seat;
       } in
-      brings_as (Some subject) context entries (entry ∷ []) _ after (started s st.what) same st.after_is (record { added = (tt, tt); sums = sums })
+      brings_as (Some subject) context entries (entry ∷ []) _ after (started s st.what) same st.after_is (record { added = (tt, tt); once = once_plain (Some subject) context entry refl refl refl; sums = sums })
 
   -- the events that go on, behind an end
   went_on : (k : Clocked) (context behind : Context) (s : State) (what : Open) (others : List Open) (event : Opened) (rest : List Opened) → Stands' k context s
@@ -191,9 +224,9 @@ module _ (m : MergeIsMonoid) (flags : ℕ → ℕ → ℕ) (slots : ℕ → Opti
       ∙ sym (ap (λ z. going_of z others) (b ∙ ap (drop 1) o))))
 
   silent_brings : (subject : Option Subject) (k : Clocked) (context : Context) (s after : State) (what : Open) (others : List Open) (event : Opened) (rest : List Opened) (numbers : Numbers)
-      (calls : List Call) (entries : List Entry) → Stands' k context s → context.opened ≡ event ∷ rest → s.opened.events ≡ what ∷ others
+      (calls : List Call) (entries : List Entry) → Stands' k context s → context.opened ≡ event ∷ rest → s.opened.events ≡ what ∷ others → is_let_through event.verdict ≡ false
       → EndsSilently s others calls entries after → Brings subject context entries (stepped k (EndsEvent numbers)) after
-  silent_brings subject k context s after what others event rest numbers calls entries a o e x =
+  silent_brings subject k context s after what others event rest numbers calls entries a o e silent x =
       let End : Entry = says.End None None None None in
       let d : EndsTo context (noted subject context End) = end_noted subject context None None None None in
       let sums : Stands' (stepped k (EndsEvent numbers)) (noted subject context End) (record s { opened = record s.opened { events = others } }) = record {
@@ -204,7 +237,11 @@ module _ (m : MergeIsMonoid) (flags : ℕ → ℕ → ℕ) (slots : ℕ → Opti
         held = λ row. a.held row ∙ ap (λ z. sum_of (map amounts (held_for row z))) (sym d.waiting);
         seat = a.seat;
       } in
-      brings_as subject context entries (End ∷ []) _ after _ x.entries_are x.after_is (record { added = (tt, tt); sums = sums })
+      brings_as subject context entries (End ∷ []) _ after _ x.entries_are x.after_is (record {
+        added = (tt, tt);
+        once = once_plain subject context End (ap (counted_first context.slot) o ∙ counted_none context.slot event rest silent) refl d.waiting;
+        sums = sums;
+      })
 
   -- an ended event adds what its facts say
   own_amount : (s : State) (slot : ℕ) (what : Open) (event : Opened) (numbers : Numbers) (clock : ℕ) → s.place.thread ≡ Some slot → IfSome s.place.thread (λ n. slots session ≡ Some n)
@@ -277,6 +314,13 @@ module _ (m : MergeIsMonoid) (flags : ℕ → ℕ → ℕ) (slots : ℕ → Opti
             sym (a.held row) ∙ (ap (λ z. owed_to row (owed_in z s.held)) seat ∙ owed_cell slot cell s.held low fits) in
             ap (λ z. Some (with_held z (amounts i.event))) waits ∙ ap (λ z. Some (with_held (held_at s.held cell) z)) own
 
+        counted : counted_at context End ≡ in_row row i.event ∷ []
+        counted =
+            let cell_is : i.event.subject.cell ≡ cell_in what = counted_cell flags s.place.thread i.event what through i.alike.counted in
+            let place : cell_row (counted_slot context.slot i.event.verdict) i.event.subject.cell ≡ row =
+            ap (λ z. cell_row (counted_slot z i.event.verdict) i.event.subject.cell) (agrees.slot ∙ seat) ∙ sym (summary_row slot what i.event.verdict i.event.subject.cell i.alike.verdict cell_is through) in
+            ap (counted_first context.slot) i.is ∙ (counted_one context.slot i.event i.rest (ap is_let_through i.alike.verdict ∙ through) ∙ ap (λ z. in_row z i.event ∷ []) place)
+
         ended : mid.ended ≡ Some i.event
         ended = d.ended ∙ ap first_of i.is
 
@@ -304,6 +348,7 @@ module _ (m : MergeIsMonoid) (flags : ℕ → ℕ → ℕ) (slots : ℕ → Opti
             t.waiting ∙ (ap (held_else r) d.waiting ∙ ap (λ z. held_else z context.waiting) r_is) in
             record {
               added = (tt, (is_added m amounts content mid r version agree.0 sum agree.1 agree.2 (ap (λ z. sum_of (map amounts z)) brings ∙ all), tt));
+              once = once_added subject context End r version row i.event counted refl r_is brings left;
               sums = behind (noted subject mid (says.Add r version)) None t.same
                   (ap (λ z. sum_of (map amounts (held_for row z))) left ∙ ap (λ z. sum_of (map amounts z)) (else_same row context.waiting))
                   (λ q o. ap (held_for q) left ∙ else_other q row context.waiting o);
@@ -314,6 +359,7 @@ module _ (m : MergeIsMonoid) (flags : ℕ → ℕ → ℕ) (slots : ℕ → Opti
             t.waiting ∙ (ap (λ z. own_wait r z ++ mid.waiting) ended ∙ (ap (λ z. own_wait r (Some i.event) ++ z) d.waiting ∙ ap (λ z. own_wait z (Some i.event) ++ context.waiting) r_is)) in
             record {
               added = (tt, (tt, tt));
+              once = once_held subject context End r first second row i.event counted refl left;
               sums = behind (noted subject mid (says.Held r first second)) (Some sum) t.same
                   (ap (λ z. sum_of (map amounts (held_for row z))) left ∙ (ap (λ z. sum_of (map amounts z)) (wait_same row i.event context.waiting) ∙ all))
                   (λ q o. ap (held_for q) left ∙ wait_other q row i.event context.waiting o);
@@ -328,6 +374,7 @@ module _ (m : MergeIsMonoid) (flags : ℕ → ℕ → ℕ) (slots : ℕ → Opti
 
     by_case : (slot : Option ℕ) (b : Bool) → s.place.thread ≡ slot → is_let_through x.what.verdict ≡ b → EndsIn s slot b x.what x.others numbers calls entries after
         → Brings subject context entries (stepped k (EndsEvent numbers)) after
-    by_case slot false o t y = silent_brings subject k context s after x.what x.others inner.event inner.rest numbers calls entries a inner.is x.innermost y
+    by_case slot false o t y =
+        silent_brings subject k context s after x.what x.others inner.event inner.rest numbers calls entries a inner.is x.innermost (ap is_let_through inner.alike.verdict ∙ t) y
     by_case None true o t y = absurd y
     by_case (Some slot) true o t y = through_brings subject k context s after slot x.what x.others numbers calls entries agrees a o x.innermost inner t f y c

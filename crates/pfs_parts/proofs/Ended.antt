@@ -73,7 +73,7 @@ cell_small what = small what.event.read_only where
   small true = omega arith
   small false = omega (arith, what.event.class_fits)
 
-summary_row : (slot : ℕ) (what : Open) (verdict : Verdict) (cell : ℕ) → verdict ≡ what.verdict → cell ≡ cell_in what → is_let_through what.verdict ≡ true
+pub summary_row : (slot : ℕ) (what : Open) (verdict : Verdict) (cell : ℕ) → verdict ≡ what.verdict → cell ≡ cell_in what → is_let_through what.verdict ≡ true
     → held_row slot (cell_number what) ≡ cell_row (counted_slot (Some slot) verdict) cell
 summary_row slot what verdict cell v c through =
     by_verdict what.verdict through ∙ (ap (λ z. cell_row (counted_slot (Some slot) z) (cell_in what)) (sym v) ∙ ap (cell_row (counted_slot (Some slot) verdict)) (sym c)) where
@@ -224,7 +224,7 @@ cell_fits what held wide = fits (is_attributed what.verdict) where
 wide_set : (held : List (Option Stat)) (cell : ℕ) (one : Option Stat) → length (slice_set held cell one) ≡ length held
 wide_set held cell one = length-set held cell one
 
-counted_cell : (flags : ℕ → ℕ → ℕ) (slot : Option ℕ) (event : Opened) (what : Open) → is_let_through what.verdict ≡ true → IsCounted flags slot (is_let_through what.verdict) event what
+pub counted_cell : (flags : ℕ → ℕ → ℕ) (slot : Option ℕ) (event : Opened) (what : Open) → is_let_through what.verdict ≡ true → IsCounted flags slot (is_let_through what.verdict) event what
     → event.subject.cell ≡ cell_in what
 counted_cell flags slot event what through c =
     let d : IsCounted flags slot true event what = subst (λ b. IsCounted flags slot b event what) through c in

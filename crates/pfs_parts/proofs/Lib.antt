@@ -12,6 +12,7 @@ pub mod Journaling
 pub mod Started
 pub mod Owing
 pub mod Summing
+pub mod Once
 pub mod Bringing
 pub mod Settling
 pub mod Accounting

@@ -17,6 +17,7 @@ use Rattle.pfs_stat.specs.Stat.{MergeIsMonoid}
 use Rattle.pfs_stat.specs.declared.Stat.{Stat}
 use Rattle.pfs_parts.proofs.Bringing.{AddedBy, added_then, Accounts, AddsTo, add_noted, SettlesTo, settle_noted, Quiet, brings_as}
 use Rattle.pfs_parts.proofs.Held.{Above}
+use Rattle.pfs_parts.proofs.Once.{OnceBy, once_then, once_plain, once_settled}
 use Rattle.pfs_parts.proofs.Owing.{Ascend, above_none, head_owed, else_same, else_other, ascend_back}
 use Rattle.pfs_parts.proofs.Pieces.{entries_then}
 use Rattle.pfs_parts.proofs.Settled.{nothing_owed}
@@ -27,6 +28,7 @@ use Rattle.pfs_parts.specs.Amounts.{Clocked, sum_of, owed_to, going_of, Sums, Co
 -- entries that bring some of what was owed, so that this is left
 record PaidIs (amounts : Opened → Stat) (content : ℕ → ℕ → List ℕ) (subject : Option Subject) (context : Context) (entries : List Entry) (left : List Owed) : Type 0 where
   pub added : AddedBy amounts content subject context entries
+  pub once : OnceBy subject context entries
   pub ended : (after_entries subject context entries).ended ≡ None
   pub begun : (after_entries subject context entries).begun ≡ context.begun
   pub opened : (after_entries subject context entries).opened ≡ context.opened
@@ -42,6 +44,7 @@ one_paid m amounts content subject context one left version ended above c held =
     record {
       added = (is_added m amounts content context one.row (version + 1) version one.amount refl c
           (ap (λ z. sum_of (map amounts (own_event z ++ held_for one.row context.waiting))) ended ∙ (sym (held one.row) ∙ head_owed one left)), tt);
+      once = once_settled subject context one.row (version + 1) ended t.waiting;
       ended = t.ended ∙ ended;
       begun = t.same.begun;
       opened = t.same.opened;
@@ -58,7 +61,7 @@ one_paid m amounts content subject context one left version ended above c held =
 all_paid : MergeIsMonoid → (amounts : Opened → Stat) (content : ℕ → ℕ → List ℕ) (subject : Option Subject) (context : Context) (ps : List Paid) (left : List Owed)
     → context.ended ≡ None → Ascend (owed_by ps ++ left) → ContentsAgree content (paid_calls ps)
     → ((row : ℕ) → owed_to row (owed_by ps ++ left) ≡ sum_of (map amounts (held_for row context.waiting))) → PaidIs amounts content subject context (paid_entries ps) left
-all_paid m amounts content subject context [] left ended up c held = record { added = tt; ended = ended; begun = refl; opened = refl; held = held }
+all_paid m amounts content subject context [] left ended up c held = record { added = tt; once = λ h. refl; ended = ended; begun = refl; opened = refl; held = held }
 all_paid m amounts content subject context (p ∷ ps) left ended up c held =
     let es : List Entry = paid_entries ps in
     let mid : Context = after_entries subject context es in
@@ -73,6 +76,7 @@ all_paid m amounts content subject context (p ∷ ps) left ended up c held =
     let same : after_entries subject mid (last ∷ []) ≡ after_entries subject context (es ++ last ∷ []) = sym (entries_then subject context es (last ∷ [])) in
     record {
       added = added_then amounts content subject context es (last ∷ []) first.added second.added;
+      once = once_then subject context es (last ∷ []) first.once second.once;
       ended = ap (λ (z : Context). z.ended) (sym same) ∙ second.ended;
       begun = ap (λ (z : Context). z.begun) (sym same) ∙ (second.begun ∙ first.begun);
       opened = ap (λ (z : Context). z.opened) (sym same) ∙ (second.opened ∙ first.opened);
@@ -97,7 +101,14 @@ settled m amounts content subject context owed ps e ended up c held = by_owed ow
   by_owed (x ∷ xs) q =
       let t : SettlesTo context (noted subject context says.Settle) = settle_noted subject context in
       let r : PaidIs amounts content subject (noted subject context says.Settle) (paid_entries ps) [] = rest (noted subject context says.Settle) t.ended t.waiting in
-      record { added = (tt, r.added); ended = r.ended; begun = r.begun ∙ t.same.begun; opened = r.opened ∙ t.same.opened; held = r.held }
+      record {
+        added = (tt, r.added);
+        once = once_then subject context (says.Settle ∷ []) (paid_entries ps) (once_plain subject context says.Settle refl refl t.waiting) r.once;
+        ended = r.ended;
+        begun = r.begun ∙ t.same.begun;
+        opened = r.opened ∙ t.same.opened;
+        held = r.held;
+      }
 
 module _ (m : MergeIsMonoid) (flags : ℕ → ℕ → ℕ) (slots : ℕ → Option ℕ) (facts : ℕ → ℕ → Facts) (session : ℕ) (content : ℕ → ℕ → List ℕ) where
   pub settle_brings : (subject : Option Subject) (k : Clocked) (context : Context) (s after : State) (calls : List Call) (entries : List Entry)
@@ -117,7 +128,7 @@ module _ (m : MergeIsMonoid) (flags : ℕ → ℕ → ℕ) (slots : ℕ → Opti
         held = λ row. ap (owed_to row) (nothing_owed s.place.thread) ∙ r.held row;
         seat = a.seat;
       } in
-      brings_as m flags slots facts session content subject context entries whole k after next x.entries_are x.after_is (record { added = r.added; sums = sums })
+      brings_as m flags slots facts session content subject context entries whole k after next x.entries_are x.after_is (record { added = r.added; once = r.once; sums = sums })
 
   -- an action of a session that holds nothing, wherever it is connected then
   pub acted_sums : (k : Clocked) (context behind : Context) (s after : State) → Sums flags slots facts session k context s → s.held ≡ nothing_held → Quiet context behind

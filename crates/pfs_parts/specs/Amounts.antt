@@ -1,7 +1,8 @@
 -- What a session adds to a row is what its journal brings there: each ended event once, with its time and its numbers.
-use Rattle.std.specs.Prelude.{ℕ, ◌≡◌, ◌+◌, ◌-◌, ◌%◌, ◌^◌, ◌==◌, Bool, if◌then◌else◌, List, [], ◌∷◌, drop, map, Option, Some, None, IfSome}
+use Rattle.std.specs.Prelude.{ℕ, ◌≡◌, ◌+◌, ◌-◌, ◌%◌, ◌^◌, ◌==◌, Bool, if◌then◌else◌, List, [], ◌∷◌, ◌++◌, drop, map, Option, Some, None, IfSome}
 use Rattle.pfs_admin.specs.Asks.{placed_of}
 use Rattle.pfs_admin.specs.States.{seat_at}
+use Rattle.pfs_event.specs.Verdicts.{is_let_through}
 use Rattle.pfs_event.specs.declared.entry.Entry.{Entry}
 use Rattle.pfs_event.specs.declared.entry.Entry.TheVariants as says
 use Rattle.pfs_event.specs.declared.kind.EventKind.{EventKind}
@@ -11,9 +12,12 @@ use Rattle.pfs_levels.specs.Contents.{merged}
 use Rattle.pfs_levels.specs.declared.answers.Added.TheVariants.{Counted, Held}
 use Rattle.pfs_model.specs.Contents.{Facts, amount_by, IsNext}
 use Rattle.pfs_model.specs.Contents.{merged as all_merged}
-use Rattle.pfs_model.specs.Contexts.{Context, brought, held_for}
+use Rattle.pfs_levels.specs.Joint.{total}
+use Rattle.pfs_model.specs.Asks.{cell_row}
+use Rattle.pfs_model.specs.Contexts.{Context, Waiting, brought, held_for}
 use Rattle.pfs_model.specs.Contexts.{fresh as empty}
 use Rattle.pfs_model.specs.Places.{Placed, placed_lines, after_lines}
+use Rattle.pfs_model.specs.Shapes.{counted_slot}
 use Rattle.pfs_model.specs.declared.lines.Opened.{Opened}
 use Rattle.pfs_session.specs.Ends.{numbers_for, with_held}
 use Rattle.pfs_session.specs.Settles.{owed_by_state}
@@ -179,12 +183,49 @@ AreAdded amount content [] = Unit {0}
 AreAdded amount content (place ∷ places) =
     IsAdded amount content place.context place.entry × AreAdded amount content places
 
--- each addition of a session's journal brings its row exactly the events that the journal says; and behind it the
--- session holds for each row exactly what waits for it
+-- an event with the row in which it counts
+abbrev pub in_row : ℕ → Opened → Waiting
+in_row row event = record { row = row; event = event }
+
+-- the event that an end counts: the innermost open one, where it is let through, in its cell
+abbrev pub counted_first : Option ℕ → List Opened → List Waiting
+counted_first slot [] = []
+counted_first slot (event ∷ others) =
+    if is_let_through event.verdict
+    then in_row (cell_row (counted_slot slot event.verdict) event.subject.cell) event ∷ []
+    else []
+
+abbrev pub counted_at : Context → Entry → List Waiting
+counted_at context (says.End event last consumers thread) = counted_first context.slot context.opened
+counted_at context entry = []
+
+-- the events that an addition brings
+abbrev pub brought_at : Context → Entry → List Waiting
+brought_at context (says.Add row version) = map (in_row row) (brought context row)
+brought_at context entry = []
+
+abbrev pub counted_in : List Placed → List Waiting
+counted_in [] = []
+counted_in (place ∷ places) = counted_at place.context place.entry ++ counted_in places
+
+abbrev pub brought_in : List Placed → List Waiting
+brought_in [] = []
+brought_in (place ∷ places) = brought_at place.context place.entry ++ brought_in places
+
+-- each event that ended and counts, or waited before, was brought or waits behind, just as often, each in its row
+abbrev pub IsOnce : List Waiting → List Placed → List Waiting → Type 0
+IsOnce before places behind = (h : Waiting → ℕ)
+    → total h (counted_in places) + total h before ≡ total h (brought_in places) + total h behind
+
+-- each addition of a session's journal brings its row exactly the events that the journal says; each event that ended
+-- and counts was brought once to its row, or waits for it; and behind the journal the session holds for each row exactly what waits for it
 pub record IsAccounted (flags : ℕ → ℕ → ℕ) (slots : ℕ → Option ℕ) (facts : ℕ → ℕ → Facts) (session : ℕ)
     (content : ℕ → ℕ → List ℕ) (k : Clocked) (context : Context) (s : State) (parts : List Part) : Type 0 where
   pub added : (phase : ℕ) → AreAdded (amount_by flags slots facts session) content
       (placed_lines phase session context (lines_of parts) (entries_of parts))
+  pub once : (phase : ℕ) → IsOnce context.waiting
+      (placed_lines phase session context (lines_of parts) (entries_of parts))
+      (after_lines context (lines_of parts) (entries_of parts)).waiting
   pub sums : Sums flags slots facts session (clock_behind k parts)
       (after_lines context (lines_of parts) (entries_of parts)) (state_behind s parts)
 
