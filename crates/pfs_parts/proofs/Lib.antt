@@ -16,3 +16,4 @@ pub mod Once
 pub mod Bringing
 pub mod Settling
 pub mod Accounting
+pub mod Examples

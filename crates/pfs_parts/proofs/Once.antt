@@ -1,21 +1,18 @@
 -- Each event that ends and counts is brought once, or waits.
-use Rattle.std.proofs.Common.{ℕ, ◌≡◌, ◌+◌, Bool, true, false, cond, List, [], ◌∷◌, ◌++◌, Option, Some, None, map, refl, ap, sym, ◌∙◌, subst, arith}
-use Rattle.std.specs.Prelude.{◌==◌, if◌then◌else◌}
+use Rattle.std.proofs.Common.{ℕ, ◌≡◌, ◌+◌, Bool, true, false, cond, List, [], ◌∷◌, ◌++◌, Option, None, map, refl, ap, sym, ◌∙◌, arith}
+use Rattle.std.specs.Prelude.{◌==◌}
 use Rattle.std.proofs.lemmas.Bool.{eqb-true}
 use Rattle.std.proofs.lemmas.List.{append_assoc}
-use Rattle.pfs_event.specs.Verdicts.{is_let_through}
 use Rattle.pfs_event.specs.declared.entry.Entry.{Entry}
 use Rattle.pfs_event.specs.declared.entry.Entry.TheVariants as says
 use Rattle.pfs_levels.specs.Joint.{total}
-use Rattle.pfs_model.specs.Asks.{cell_row}
 use Rattle.pfs_model.specs.Contexts.{Context, Waiting, subject_of, noted, after_entries, held_for, held_else, brought, own_event}
 use Rattle.pfs_model.specs.Places.{Placed, placed_part}
-use Rattle.pfs_model.specs.Shapes.{counted_slot}
 use Rattle.pfs_model.specs.declared.lines.Line.{Line}
 use Rattle.pfs_model.specs.declared.lines.Opened.{Opened}
 use Rattle.pfs_model.specs.declared.lines.Subject.{Subject}
 use Rattle.pfs_parts.proofs.Pieces.{entries_then}
-use Rattle.pfs_parts.specs.Amounts.{in_row, counted_first, counted_at, brought_at, counted_in, brought_in, IsOnce}
+use Rattle.pfs_parts.specs.Amounts.{in_row, counted_at, brought_at, counted_in, brought_in, IsOnce}
 
 total_nil : (h : Waiting → ℕ) → total h [] ≡ 0
 unfolding total
