@@ -1,5 +1,5 @@
 -- The law of amounts: of a line, and of lines one after another.
-use Rattle.std.proofs.Common.{ℕ, ◌≡◌, ◌<◌, ◌+◌, ◌%◌, ◌^◌, Bool, true, false, List, [], ◌∷◌, ◌++◌, Option, Some, None, refl, ap, sym, ◌∙◌, subst}
+use Rattle.std.proofs.Common.{ℕ, ◌≡◌, ◌<◌, ◌+◌, ◌%◌, ◌^◌, Bool, true, false, List, [], ◌∷◌, ◌++◌, Option, Some, None, map, refl, ap, sym, ◌∙◌, subst}
 use Rattle.std.specs.Prelude.{IfSome}
 use Rattle.std.proofs.lemmas.Bool.{true≢false}
 use Rattle.std.proofs.lemmas.List.{append-nil}
@@ -12,7 +12,7 @@ use Rattle.pfs_event.specs.declared.entry.Entry.TheVariants as says
 use Rattle.pfs_levels.specs.Calls.{Call}
 use Rattle.pfs_levels.specs.Moves.{moves_entries}
 use Rattle.pfs_model.specs.Contents.{Facts, amount_by}
-use Rattle.pfs_model.specs.Contexts.{Context, subject_of, noted, turned, after_entries}
+use Rattle.pfs_model.specs.Contexts.{Context, Waiting, held_for, subject_of, noted, turned, after_entries}
 use Rattle.pfs_model.specs.Contexts.{after as context_after}
 use Rattle.pfs_model.specs.Places.{Placed, placed_part}
 use Rattle.pfs_model.specs.declared.lines.Line.{Line}
@@ -32,11 +32,11 @@ use Rattle.pfs_parts.proofs.Ended.{EndIs, end_is}
 use Rattle.pfs_parts.proofs.Inverting.{OneTurn, TwoTurns, no_turns, one_turn, two_turns}
 use Rattle.pfs_parts.proofs.Journaling.{written}
 use Rattle.pfs_parts.proofs.Once.{once_then, once_lines}
-use Rattle.pfs_parts.proofs.Owing.{Ascend, ascending}
+use Rattle.pfs_parts.proofs.Owing.{Ascend, ascending, wait_same}
 use Rattle.pfs_parts.proofs.Settling.{settle_brings, acted_sums, is_seated}
 use Rattle.pfs_parts.proofs.Written.{turned_agrees, does_at, ends_by, has_stage}
 use Rattle.pfs_parts.specs.Agreeing.{Agrees, Stands}
-use Rattle.pfs_parts.specs.Amounts.{Clocked, stepped, all_stepped, StepFacts, AreFacts, AllFacts, AllPlaced, IsPlaced, ContentsAgree, AllContentsAgree, AreAdded, Sums, IsAccounted, AmountsLaw, FreshSumsLaw}
+use Rattle.pfs_parts.specs.Amounts.{Clocked, stepped, all_stepped, StepFacts, AreFacts, AllFacts, AllPlaced, IsPlaced, ContentsAgree, AllContentsAgree, AreAdded, Sums, sum_of, owed_to, IsAccounted, AmountsLaw, SumsLaw}
 use Rattle.pfs_parts.specs.Deeds.{Deed, Connecting, Starting, Staging, StageEnding, Ending, Spending, Quitting, Closing, Part, MayDo, is_over, line_of, steps_for}
 use Rattle.pfs_parts.specs.Shaped.{AreParts, MayDoAll, AllLoadsAgree}
 
@@ -256,5 +256,19 @@ accounted m = λ flags slots facts session content over k context s parts stands
             sums = r.sums;
           }
 
-pub fresh_sums : FreshSumsLaw
-fresh_sums = λ flags slots facts session number stack depth. record { clock = refl; begun = refl; going = refl; starts = tt; held = λ row. refl; seat = tt }
+no_wait : (waiting : List Waiting) → ((row : ℕ) → held_for row waiting ≡ []) → waiting ≡ []
+no_wait [] none = refl
+no_wait (one ∷ others) none =
+    let some : one.event ∷ held_for one.row others ≡ [] = sym (wait_same one.row one.event others) ∙ none one.row in
+    absurd (cc)
+
+no_sum : (amounts : Opened → Stat) (events : List Opened) → sum_of (map amounts events) ≡ None → events ≡ []
+no_sum amounts [] e = refl
+no_sum amounts (x ∷ xs) e = absurd (cc)
+
+pub sums : SumsLaw
+sums = record {
+  fresh = λ flags slots facts session number stack depth. record { clock = refl; begun = refl; going = refl; starts = tt; held = λ row. refl; seat = tt };
+  nothing = λ flags slots facts session clocked context s a none. no_wait context.waiting
+      (λ row. no_sum (amount_by flags slots facts session) (held_for row context.waiting) (sym (a.held row) ∙ ap (owed_to row) none));
+}

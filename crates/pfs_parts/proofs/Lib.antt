@@ -17,3 +17,4 @@ pub mod Bringing
 pub mod Settling
 pub mod Accounting
 pub mod Examples
+pub mod Agreed

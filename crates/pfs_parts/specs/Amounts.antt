@@ -10,9 +10,9 @@ use Rattle.pfs_event.specs.declared.open.Open.{Open}
 use Rattle.pfs_levels.specs.Calls.{Call, Adds, Rings, Reads, Loads, Draws, Takes, Puts, Frees, Sets, Enters, Leaves, Meets}
 use Rattle.pfs_levels.specs.Contents.{merged}
 use Rattle.pfs_levels.specs.declared.answers.Added.TheVariants.{Counted, Held}
-use Rattle.pfs_model.specs.Contents.{Facts, amount_by, IsNext}
+use Rattle.pfs_model.specs.Contents.{Facts, Given, amount_by, IsNext, IsContent}
 use Rattle.pfs_model.specs.Contents.{merged as all_merged}
-use Rattle.pfs_levels.specs.Joint.{total}
+use Rattle.pfs_levels.specs.Joint.{total, At, Setting, AllAgree}
 use Rattle.pfs_model.specs.Asks.{cell_row}
 use Rattle.pfs_model.specs.Contexts.{Context, Waiting, brought, held_for}
 use Rattle.pfs_model.specs.Contexts.{fresh as empty}
@@ -47,16 +47,16 @@ abbrev pub at_first : Clocked
 at_first = record { clock = 0; begun = 0; going = [] }
 
 abbrev pub stepped : Clocked → Step → Clocked
-stepped k (StartsEvent subject) = record {
-  clock = k.clock;
-  begun = k.begun + 1;
-  going = record { index = k.begun; kind = subject.kind; start = k.clock } ∷ k.going;
+stepped clocked (StartsEvent subject) = record {
+  clock = clocked.clock;
+  begun = clocked.begun + 1;
+  going = record { index = clocked.begun; kind = subject.kind; start = clocked.clock } ∷ clocked.going;
 }
-stepped k (EndsEvent numbers) = record k { going = drop 1 k.going }
-stepped k (Spends time) = record k { clock = (k.clock + time) % 2 ^ 64 }
-stepped k SettlesHeld = k
-stepped k (Connects admin user host) = k
-stepped k (Quits admin) = k
+stepped clocked (EndsEvent numbers) = record clocked { going = drop 1 clocked.going }
+stepped clocked (Spends time) = record clocked { clock = (clocked.clock + time) % 2 ^ 64 }
+stepped clocked SettlesHeld = clocked
+stepped clocked (Connects admin user host) = clocked
+stepped clocked (Quits admin) = clocked
 
 -- these are the facts of an event that ends when the clock stands so: how long it took, modulo 2^64, and a statement's
 -- numbers
@@ -75,29 +75,30 @@ EndFacts facts clock numbers (event ∷ events) = IsMeasured clock numbers event
 
 -- a start gives the clock at the start of its event, an end the rest
 abbrev pub StepFacts : (ℕ → Facts) → Clocked → Step → Type 0
-StepFacts facts k (StartsEvent subject) = (facts k.begun).start ≡ k.clock
-StepFacts facts k (EndsEvent numbers) = EndFacts facts k.clock numbers k.going
-StepFacts facts k (Spends time) = Unit {0}
-StepFacts facts k SettlesHeld = Unit {0}
-StepFacts facts k (Connects admin user host) = Unit {0}
-StepFacts facts k (Quits admin) = Unit {0}
+StepFacts facts clocked (StartsEvent subject) = (facts clocked.begun).start ≡ clocked.clock
+StepFacts facts clocked (EndsEvent numbers) = EndFacts facts clocked.clock numbers clocked.going
+StepFacts facts clocked (Spends time) = Unit {0}
+StepFacts facts clocked SettlesHeld = Unit {0}
+StepFacts facts clocked (Connects admin user host) = Unit {0}
+StepFacts facts clocked (Quits admin) = Unit {0}
 
 abbrev pub all_stepped : Clocked → List Step → Clocked
-all_stepped k [] = k
-all_stepped k (step ∷ steps) = all_stepped (stepped k step) steps
+all_stepped clocked [] = clocked
+all_stepped clocked (step ∷ steps) = all_stepped (stepped clocked step) steps
 
 -- these are the facts of a session's events, by their position among its starts, as its steps give them
 abbrev pub AreFacts : (ℕ → Facts) → Clocked → List Step → Type 0
-AreFacts facts k [] = Unit {0}
-AreFacts facts k (step ∷ steps) = StepFacts facts k step × AreFacts facts (stepped k step) steps
+AreFacts facts clocked [] = Unit {0}
+AreFacts facts clocked (step ∷ steps) = StepFacts facts clocked step × AreFacts facts (stepped clocked step) steps
 
 abbrev pub AllFacts : (ℕ → Facts) → Clocked → List Part → Type 0
-AllFacts facts k [] = Unit {0}
-AllFacts facts k (p ∷ ps) = AreFacts facts k (steps_of p.turns) × AllFacts facts (all_stepped k (steps_of p.turns)) ps
+AllFacts facts clocked [] = Unit {0}
+AllFacts facts clocked (p ∷ ps) =
+    AreFacts facts clocked (steps_of p.turns) × AllFacts facts (all_stepped clocked (steps_of p.turns)) ps
 
 abbrev pub clock_behind : Clocked → List Part → Clocked
-clock_behind k [] = k
-clock_behind k (p ∷ ps) = clock_behind (all_stepped k (steps_of p.turns)) ps
+clock_behind clocked [] = clocked
+clock_behind clocked (p ∷ ps) = clock_behind (all_stepped clocked (steps_of p.turns)) ps
 
 -- amounts put together, the newest first; none where there are none
 abbrev pub sum_of : List Stat → Option Stat
@@ -122,29 +123,29 @@ HaveStarted facts (event ∷ events) = ((facts event.index).start ≡ event.star
 
 -- a session holds for each row exactly the sum of what its journal says is waiting for the row; its clock and its open
 -- events are those of its steps, and the facts have their starts; and its slot, where it has one, is the one given
-pub record Sums (flags : ℕ → ℕ → ℕ) (slots : ℕ → Option ℕ) (facts : ℕ → ℕ → Facts) (session : ℕ) (k : Clocked)
+pub record Sums (flags : ℕ → ℕ → ℕ) (slots : ℕ → Option ℕ) (facts : ℕ → ℕ → Facts) (session : ℕ) (clocked : Clocked)
     (context : Context) (s : State) : Type 0 where
-  pub clock : k.clock ≡ s.clock
-  pub begun : k.begun ≡ context.begun
-  pub going : k.going ≡ going_of context.opened s.opened.events
-  pub starts : HaveStarted (facts session) k.going
+  pub clock : clocked.clock ≡ s.clock
+  pub begun : clocked.begun ≡ context.begun
+  pub going : clocked.going ≡ going_of context.opened s.opened.events
+  pub starts : HaveStarted (facts session) clocked.going
   pub held : (row : ℕ) → owed_to row (owed_by_state s)
       ≡ sum_of (map (amount_by flags slots facts session) (held_for row context.waiting))
   pub seat : IfSome s.place.thread (λ n. slots session ≡ Some n)
 
 -- by the contents of the rows: an addition and a put made a row's content, and a take found it
 abbrev pub ContentAgrees : (ℕ → ℕ → List ℕ) → Call → Type 0
-ContentAgrees content (Adds row amount (Counted r k)) =
-    (n : ℕ) × (k ≡ n + 1) × (content r k ≡ merged (content r n) amount)
-ContentAgrees content (Adds row amount (Held r first second)) = Unit {0}
-ContentAgrees content (Takes row k found) = found ≡ content row k
-ContentAgrees content (Puts row put k) = content row k ≡ put
+ContentAgrees content (Adds row amount (Counted at version)) =
+    (before : ℕ) × (version ≡ before + 1) × (content at version ≡ merged (content at before) amount)
+ContentAgrees content (Adds row amount (Held at first second)) = Unit {0}
+ContentAgrees content (Takes row version found) = found ≡ content row version
+ContentAgrees content (Puts row put version) = content row version ≡ put
 ContentAgrees content (Rings row put answer) = Unit {0}
 ContentAgrees content (Reads row seen) = Unit {0}
-ContentAgrees content (Loads at k found) = Unit {0}
+ContentAgrees content (Loads at version found) = Unit {0}
 ContentAgrees content (Draws kind ticket) = Unit {0}
-ContentAgrees content (Frees row k) = Unit {0}
-ContentAgrees content (Sets at to k) = Unit {0}
+ContentAgrees content (Frees row version) = Unit {0}
+ContentAgrees content (Sets at to version) = Unit {0}
 ContentAgrees content (Enters label labels) = Unit {0}
 ContentAgrees content Leaves = Unit {0}
 ContentAgrees content (Meets versions) = Unit {0}
@@ -214,32 +215,47 @@ brought_in (place ∷ places) = brought_at place.context place.entry ++ brought_
 
 -- each event that ended and counts, or waited before, was brought or waits behind, just as often, each in its row
 abbrev pub IsOnce : List Waiting → List Placed → List Waiting → Type 0
-IsOnce before places behind = (h : Waiting → ℕ)
-    → total h (counted_in places) + total h before ≡ total h (brought_in places) + total h behind
+IsOnce before places behind = (weight : Waiting → ℕ)
+    → total weight (counted_in places) + total weight before
+    ≡ total weight (brought_in places) + total weight behind
 
 -- each addition of a session's journal brings its row exactly the events that the journal says; each event that ended
--- and counts was brought once to its row, or waits for it; and behind the journal the session holds for each row exactly what waits for it
+-- and counts was brought once to its row, or waits for it; and behind the journal the session holds for each row exactly
+-- what waits for it
 pub record IsAccounted (flags : ℕ → ℕ → ℕ) (slots : ℕ → Option ℕ) (facts : ℕ → ℕ → Facts) (session : ℕ)
-    (content : ℕ → ℕ → List ℕ) (k : Clocked) (context : Context) (s : State) (parts : List Part) : Type 0 where
+    (content : ℕ → ℕ → List ℕ) (clocked : Clocked) (context : Context) (s : State) (parts : List Part) : Type 0 where
   pub added : (phase : ℕ) → AreAdded (amount_by flags slots facts session) content
       (placed_lines phase session context (lines_of parts) (entries_of parts))
   pub once : (phase : ℕ) → IsOnce context.waiting
       (placed_lines phase session context (lines_of parts) (entries_of parts))
       (after_lines context (lines_of parts) (entries_of parts)).waiting
-  pub sums : Sums flags slots facts session (clock_behind k parts)
+  pub sums : Sums flags slots facts session (clock_behind clocked parts)
       (after_lines context (lines_of parts) (entries_of parts)) (state_behind s parts)
 
 -- of lines one after another of a session that stands as its journal tells, whose facts are those that its steps give,
 -- where each load gave the flags of its version, and each addition, take and put agrees with the contents
 abbrev pub AmountsLaw : Type 0
 AmountsLaw = (flags : ℕ → ℕ → ℕ) (slots : ℕ → Option ℕ) (facts : ℕ → ℕ → Facts) (session : ℕ)
-    (content : ℕ → ℕ → List ℕ) (over : Bool) (k : Clocked) (context : Context) (s : State) (parts : List Part)
-    → Stands flags over context s → Sums flags slots facts session k context s → MayDoAll over s parts
+    (content : ℕ → ℕ → List ℕ) (over : Bool) (clocked : Clocked) (context : Context) (s : State) (parts : List Part)
+    → Stands flags over context s → Sums flags slots facts session clocked context s → MayDoAll over s parts
     → AreParts s parts → AllLoadsAgree flags parts → AllPlaced (slots session) s parts
-    → AllFacts (facts session) k parts → AllContentsAgree content parts
-    → IsAccounted flags slots facts session content k context s parts
+    → AllFacts (facts session) clocked parts → AllContentsAgree content parts
+    → IsAccounted flags slots facts session content clocked context s parts
 
--- a session that begins holds nothing, and nothing waits
-abbrev pub FreshSumsLaw : Type 0
-FreshSumsLaw = (flags : ℕ → ℕ → ℕ) (slots : ℕ → Option ℕ) (facts : ℕ → ℕ → Facts)
-    (session number stack depth : ℕ) → Sums flags slots facts session at_first empty (fresh number stack depth)
+-- a session that begins stands so; and where a session holds nothing, nothing waits
+pub record SumsLaw : Type 0 where
+  pub fresh : (flags : ℕ → ℕ → ℕ) (slots : ℕ → Option ℕ) (facts : ℕ → ℕ → Facts) (session number stack depth : ℕ)
+      → Sums flags slots facts session at_first empty (fresh number stack depth)
+  pub nothing : (flags : ℕ → ℕ → ℕ) (slots : ℕ → Option ℕ) (facts : ℕ → ℕ → Facts) (session : ℕ) (clocked : Clocked)
+      (context : Context) (s : State) → Sums flags slots facts session clocked context s → owed_by_state s ≡ []
+      → context.waiting ≡ []
+
+-- what a store's actors have in common says what this law asks of the contents, and what it answers is the content that
+-- the rules of a journal ask for
+pub record ContentsLaw : Type 0 where
+  pub agree : (opening : List ℕ) (content : ℕ → ℕ → List ℕ) (log : List At) (sets : List Setting) (calls : List Call)
+      → AllAgree opening content log sets calls → ContentsAgree content calls
+  pub ask : (given : Given) (content : ℕ → ℕ → List ℕ) (place : Placed) (row version : ℕ)
+      → place.entry ≡ says.Add row version
+      → IsAdded (given.amount place.session) content place.context place.entry
+      → IsContent given content place place.entry

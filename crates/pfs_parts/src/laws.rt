@@ -1,6 +1,6 @@
 //! Laws of the definitions.
 
-ghost use Rattle.pfs_parts.specs.Amounts.{AmountsLaw, FreshSumsLaw};
+ghost use Rattle.pfs_parts.specs.Amounts.{AmountsLaw, ContentsLaw, SumsLaw};
 ghost use Rattle.pfs_parts.specs.Shaped.{FreshLaw, JournalLaw, WrittenLaw};
 
 /// What a session writes at a line is what the line asks for, each verdict is that of the flags that were loaded, each
@@ -27,7 +27,13 @@ pub fn amounts()
     pfs_stat::laws::merge();
 }
 
-/// A session that begins holds nothing, and nothing waits.
-pub fn fresh_sums()
-    ensures { FreshSumsLaw }
+/// A session that begins holds nothing and nothing waits; and where a session holds nothing, nothing waits.
+pub fn sums()
+    ensures { SumsLaw }
+{}
+
+/// What the law of amounts asks of the contents is what a store's actors have in common, and what it answers is what
+/// the rules of a journal ask for.
+pub fn contents()
+    ensures { ContentsLaw }
 {}
