@@ -184,8 +184,10 @@ clocked = record {
 agrees : Agrees flags told first
 agrees = record {
   slot = refl;
-  opened = (record { kind = refl; verdict = refl; number = refl; counted = (refl, refl) },
-      (record { kind = refl; verdict = refl; number = refl; counted = (refl, refl) }, tt));
+  opened = (
+    record { kind = refl; verdict = refl; number = refl; counted = (refl, refl) },
+    (record { kind = refl; verdict = refl; number = refl; counted = (refl, refl) }, tt),
+  );
   held = sym (ap (map row_owed) (nothing_owed (Some 3)));
   drawn = refl;
   wide = refl;
@@ -203,31 +205,44 @@ sums = record {
 }
 
 are_parts : AreParts first parts
-are_parts =
-    (record {
-      are_turns = (record {
+are_parts = (
+  record {
+    are_turns = (
+      record {
         what = inner;
         others = outer ∷ [];
         innermost = refl;
         ends = record { consumers = words; thread = words; answer = Held 326 7 9; row_is = refl; calls_are = refl; entries_are = refl; after_is = refl };
-      }, tt);
-      steps_are = refl;
-    },
-    (record { are_turns = ((refl, refl, refl), tt); steps_are = refl },
-    (record {
-      are_turns = (record {
-        what = outer;
-        others = [];
-        innermost = refl;
-        ends = record { consumers = words; thread = words; answer = Counted 326 12; row_is = refl; calls_are = refl; entries_are = refl; after_is = refl };
-      }, tt);
-      steps_are = refl;
-    }, tt)))
+      },
+      tt,
+    );
+    steps_are = refl;
+  },
+  (
+    record { are_turns = ((refl, refl, refl), tt); steps_are = refl },
+    (
+      record {
+        are_turns = (
+          record {
+            what = outer;
+            others = [];
+            innermost = refl;
+            ends = record { consumers = words; thread = words; answer = Counted 326 12; row_is = refl; calls_are = refl; entries_are = refl; after_is = refl };
+          },
+          tt,
+        );
+        steps_are = refl;
+      },
+      tt,
+    ),
+  ),
+)
 
 are_facts : AllFacts (facts 1) clocked parts
-are_facts =
-    ((record { duration = refl; lock = refl; errors = refl; warnings = refl; affected = refl; sent = refl; examined = refl }, tt),
-    ((tt, tt), ((record { duration = refl; lock = refl; errors = refl; warnings = refl; affected = refl; sent = refl; examined = refl }, tt), tt)))
+are_facts = (
+  (record { duration = refl; lock = refl; errors = refl; warnings = refl; affected = refl; sent = refl; examined = refl }, tt),
+  ((tt, tt), ((record { duration = refl; lock = refl; errors = refl; warnings = refl; affected = refl; sent = refl; examined = refl }, tt), tt)),
+)
 
 contents : (content : ℕ → ℕ → List ℕ) → content 326 12 ≡ merged (content 326 11) both → AllContentsAgree content parts
 contents content made = ((tt, (tt, (tt, tt))), (tt, (((11, refl, made), (tt, (tt, tt))), tt)))

@@ -18,3 +18,4 @@ pub mod Settling
 pub mod Accounting
 pub mod Examples
 pub mod Agreed
+pub mod Given

@@ -42,8 +42,11 @@ one_paid : MergeIsMonoid → (amounts : Opened → Stat) (content : ℕ → ℕ 
 one_paid m amounts content subject context one left version ended above c held =
     let t : AddsTo one.row context (noted subject context (says.Add one.row (version + 1))) = add_noted subject context one.row (version + 1) in
     record {
-      added = (is_added m amounts content context one.row (version + 1) version one.amount refl c
-          (ap (λ z. sum_of (map amounts (own_event z ++ held_for one.row context.waiting))) ended ∙ (sym (held one.row) ∙ head_owed one left)), tt);
+      added = (
+        is_added m amounts content context one.row (version + 1) version one.amount refl c
+            (ap (λ z. sum_of (map amounts (own_event z ++ held_for one.row context.waiting))) ended ∙ (sym (held one.row) ∙ head_owed one left)),
+        tt,
+      );
       once = once_settled subject context one.row (version + 1) ended t.waiting;
       ended = t.ended ∙ ended;
       begun = t.same.begun;

@@ -250,6 +250,10 @@ pub record SumsLaw : Type 0 where
       (context : Context) (s : State) → Sums flags slots facts session clocked context s → owed_by_state s ≡ []
       → context.waiting ≡ []
 
+-- whatever a session does from its beginning on has facts
+abbrev pub FactsLaw : Type 0
+FactsLaw = (parts : List Part) → (facts : ℕ → Facts) × AllFacts facts at_first parts
+
 -- what a store's actors have in common says what this law asks of the contents, and what it answers is the content that
 -- the rules of a journal ask for
 pub record ContentsLaw : Type 0 where

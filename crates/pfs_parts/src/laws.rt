@@ -1,6 +1,6 @@
 //! Laws of the definitions.
 
-ghost use Rattle.pfs_parts.specs.Amounts.{AmountsLaw, ContentsLaw, SumsLaw};
+ghost use Rattle.pfs_parts.specs.Amounts.{AmountsLaw, ContentsLaw, FactsLaw, SumsLaw};
 ghost use Rattle.pfs_parts.specs.Shaped.{FreshLaw, JournalLaw, WrittenLaw};
 
 /// What a session writes at a line is what the line asks for, each verdict is that of the flags that were loaded, each
@@ -36,4 +36,9 @@ pub fn sums()
 /// the rules of a journal ask for.
 pub fn contents()
     ensures { ContentsLaw }
+{}
+
+/// Whatever a session does from its beginning on has facts.
+pub fn facts()
+    ensures { FactsLaw }
 {}
