@@ -14,14 +14,15 @@ use Rattle.pfs_levels.specs.Moves.{moves_entries}
 use Rattle.pfs_model.specs.Contents.{Facts, amount_by}
 use Rattle.pfs_model.specs.Contexts.{Context, Waiting, held_for, subject_of, noted, turned, after_entries}
 use Rattle.pfs_model.specs.Contexts.{after as context_after}
-use Rattle.pfs_model.specs.Places.{Placed, placed_part}
+use Rattle.pfs_model.specs.Contexts.{fresh as empty}
+use Rattle.pfs_model.specs.Places.{Placed, placed_part, placed_lines, after_lines}
 use Rattle.pfs_model.specs.declared.lines.Line.{Line}
 use Rattle.pfs_model.specs.declared.lines.Line.TheVariants as lines
 use Rattle.pfs_model.specs.declared.lines.Opened.{Opened}
 use Rattle.pfs_model.specs.declared.lines.Subject.{Subject}
 use Rattle.pfs_session.specs.Ends.{Ends, no_numbers}
 use Rattle.pfs_session.specs.Settles.{owed_in, owed_by_state}
-use Rattle.pfs_session.specs.States.{State, no_place, nothing_held}
+use Rattle.pfs_session.specs.States.{State, no_place, nothing_held, fresh}
 use Rattle.pfs_session.specs.Turns.{Step, StartsEvent, EndsEvent, Spends, SettlesHeld, Connects, Quits, Does, Turn, AreTurns, state_after, steps_of, turns_calls, turns_entries, stage_ends, acted}
 use Rattle.pfs_session.specs.declared.events.Numbers.{Numbers}
 use Rattle.pfs_stat.specs.Stat.{MergeIsMonoid}
@@ -30,15 +31,15 @@ use Rattle.pfs_parts.proofs.Acting.{work_quiet}
 use Rattle.pfs_parts.proofs.Bringing.{AddedBy, Accounts, brings_as, brings_then, turned_sums, start_brings, end_brings, quiet_added, quiet_context, quiet_then, connect_quiet, connect_added, quiet_once, connect_once}
 use Rattle.pfs_parts.proofs.Ended.{EndIs, end_is}
 use Rattle.pfs_parts.proofs.Inverting.{OneTurn, TwoTurns, no_turns, one_turn, two_turns}
-use Rattle.pfs_parts.proofs.Journaling.{written}
+use Rattle.pfs_parts.proofs.Journaling.{written, journaled}
 use Rattle.pfs_parts.proofs.Once.{once_then, once_lines}
 use Rattle.pfs_parts.proofs.Owing.{Ascend, ascending, wait_same}
 use Rattle.pfs_parts.proofs.Settling.{settle_brings, acted_sums, is_seated}
 use Rattle.pfs_parts.proofs.Written.{turned_agrees, does_at, ends_by, has_stage}
-use Rattle.pfs_parts.specs.Agreeing.{Agrees, Stands}
-use Rattle.pfs_parts.specs.Amounts.{Clocked, stepped, all_stepped, StepFacts, AreFacts, AllFacts, AllPlaced, IsPlaced, ContentsAgree, AllContentsAgree, AreAdded, Sums, sum_of, owed_to, IsAccounted, AmountsLaw, SumsLaw}
+use Rattle.pfs_parts.specs.Agreeing.{Agrees, Stands, IsOver}
+use Rattle.pfs_parts.specs.Amounts.{Clocked, stepped, all_stepped, StepFacts, AreFacts, AllFacts, AllPlaced, IsPlaced, ContentsAgree, AllContentsAgree, AreAdded, Sums, sum_of, owed_to, IsAccounted, AmountsLaw, SumsLaw, WholeLaw, IsOnce, at_first, clock_behind}
 use Rattle.pfs_parts.specs.Deeds.{Deed, Connecting, Starting, Staging, StageEnding, Ending, Spending, Quitting, Closing, Part, MayDo, is_over, line_of, steps_for}
-use Rattle.pfs_parts.specs.Shaped.{AreParts, MayDoAll, AllLoadsAgree}
+use Rattle.pfs_parts.specs.Shaped.{AreParts, MayDoAll, AllLoadsAgree, lines_of, entries_of, state_behind, over_behind}
 
 ascend_state : (slot : Option ℕ) (s : State) → IfSome slot (λ n. n < 32) → Ascend (owed_in slot s.held)
 ascend_state None s low = tt
@@ -272,3 +273,20 @@ sums = record {
   nothing = λ flags slots facts session clocked context s a none. no_wait context.waiting
       (λ row. no_sum (amount_by flags slots facts session) (held_for row context.waiting) (sym (a.held row) ∙ ap (owed_to row) none));
 }
+
+pub whole : MergeIsMonoid → WholeLaw
+whole m = λ flags slots facts session content number stack depth parts may are loads placed given contents.
+    (let s : State = fresh number stack depth in
+    let agrees : Agrees flags empty s = record { slot = refl; opened = tt; held = refl; drawn = refl; wide = refl; low = tt } in
+    let starts : Sums flags slots facts session at_first empty s = sums.fresh flags slots facts session number stack depth in
+    let a : IsAccounted flags slots facts session content at_first empty s parts =
+    accounted m flags slots facts session content false at_first empty s parts agrees starts may are loads placed given contents in
+    let behind : Context = after_lines empty (lines_of parts) (entries_of parts) in
+    let j : Stands flags (over_behind false parts) behind (state_behind s parts) = (journaled flags false empty s parts agrees may are loads).stands in (
+      a,
+      λ over phase.
+          (let ended : IsOver behind (state_behind s parts) = subst (λ b. Stands flags b behind (state_behind s parts)) over j in
+          let none : behind.waiting ≡ [] =
+          sums.nothing flags slots facts session (clock_behind at_first parts) behind (state_behind s parts) a.sums (ap (λ z. owed_in z (state_behind s parts).held) ended.nowhere) in
+          subst (IsOnce [] (placed_lines phase session empty (lines_of parts) (entries_of parts))) none (a.once phase)),
+    ))

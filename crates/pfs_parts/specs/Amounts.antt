@@ -1,5 +1,5 @@
 -- What a session adds to a row is what its journal brings there: each ended event once, with its time and its numbers.
-use Rattle.std.specs.Prelude.{ℕ, ◌≡◌, ◌+◌, ◌-◌, ◌%◌, ◌^◌, ◌==◌, Bool, if◌then◌else◌, List, [], ◌∷◌, ◌++◌, drop, map, Option, Some, None, IfSome}
+use Rattle.std.specs.Prelude.{ℕ, ◌≡◌, ◌+◌, ◌-◌, ◌%◌, ◌^◌, ◌==◌, Bool, true, false, if◌then◌else◌, List, [], ◌∷◌, ◌++◌, drop, map, Option, Some, None, IfSome}
 use Rattle.pfs_admin.specs.Asks.{placed_of}
 use Rattle.pfs_admin.specs.States.{seat_at}
 use Rattle.pfs_event.specs.Verdicts.{is_let_through}
@@ -28,7 +28,7 @@ use Rattle.pfs_stat.specs.Stat.{words_of, stat_of_words}
 use Rattle.pfs_stat.specs.declared.Stat.{Stat}
 use Rattle.pfs_parts.specs.Agreeing.{Stands}
 use Rattle.pfs_parts.specs.Deeds.{Deed, Connecting, Starting, Staging, StageEnding, Ending, Spending, Quitting, Closing, Part, part_calls}
-use Rattle.pfs_parts.specs.Shaped.{AreParts, MayDoAll, AllLoadsAgree, lines_of, entries_of, state_behind}
+use Rattle.pfs_parts.specs.Shaped.{AreParts, MayDoAll, AllLoadsAgree, lines_of, entries_of, state_behind, over_behind}
 
 -- an event that has started and not ended: its position among the session's starts, its kind, the clock at its start
 pub record Going : Type 0 where
@@ -249,6 +249,18 @@ pub record SumsLaw : Type 0 where
   pub nothing : (flags : ℕ → ℕ → ℕ) (slots : ℕ → Option ℕ) (facts : ℕ → ℕ → Facts) (session : ℕ) (clocked : Clocked)
       (context : Context) (s : State) → Sums flags slots facts session clocked context s → owed_by_state s ≡ []
       → context.waiting ≡ []
+
+-- of all lines of a session from its beginning on: it accounts for them, and once it has ended, each event that ended
+-- and counts was brought just once, to its row, and nothing else was brought
+abbrev pub WholeLaw : Type 0
+WholeLaw = (flags : ℕ → ℕ → ℕ) (slots : ℕ → Option ℕ) (facts : ℕ → ℕ → Facts) (session : ℕ)
+    (content : ℕ → ℕ → List ℕ) (number stack depth : ℕ) (parts : List Part)
+    → MayDoAll false (fresh number stack depth) parts → AreParts (fresh number stack depth) parts
+    → AllLoadsAgree flags parts → AllPlaced (slots session) (fresh number stack depth) parts
+    → AllFacts (facts session) at_first parts → AllContentsAgree content parts
+    → IsAccounted flags slots facts session content at_first empty (fresh number stack depth) parts
+    × (over_behind false parts ≡ true → (phase : ℕ)
+    → IsOnce [] (placed_lines phase session empty (lines_of parts) (entries_of parts)) [])
 
 -- whatever a session does from its beginning on has facts
 abbrev pub FactsLaw : Type 0

@@ -1,6 +1,6 @@
 //! Laws of the definitions.
 
-ghost use Rattle.pfs_parts.specs.Amounts.{AmountsLaw, ContentsLaw, FactsLaw, SumsLaw};
+ghost use Rattle.pfs_parts.specs.Amounts.{AmountsLaw, ContentsLaw, FactsLaw, SumsLaw, WholeLaw};
 ghost use Rattle.pfs_parts.specs.Shaped.{FreshLaw, JournalLaw, WrittenLaw};
 
 /// What a session writes at a line is what the line asks for, each verdict is that of the flags that were loaded, each
@@ -23,6 +23,14 @@ pub fn fresh()
 /// let-through event once, with its time and its numbers; and what it holds back is the sum of what waits.
 pub fn amounts()
     ensures { AmountsLaw }
+{
+    pfs_stat::laws::merge();
+}
+
+/// The same of all lines of a session from its beginning on; once it has ended, each ended let-through event was
+/// brought just once, to its row, and nothing else was brought.
+pub fn whole()
+    ensures { WholeLaw }
 {
     pfs_stat::laws::merge();
 }
