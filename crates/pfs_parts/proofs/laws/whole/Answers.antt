@@ -1,0 +1,5 @@
+use Rattle.pfs_parts.proofs.Accounting.{whole}
+use Rattle.pfs_parts.proofs.laws.whole.Goals as goal
+
+pub returns : goal.returns
+returns c = whole c.merge.ensures
