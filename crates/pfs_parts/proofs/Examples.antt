@@ -22,7 +22,7 @@ use Rattle.pfs_session.specs.Turns.{EndsEvent, Spends}
 use Rattle.pfs_stat.specs.Stat.{MergeIsMonoid, stat_of, merge_of, words_of, stat_of_words}
 use Rattle.pfs_stat.specs.declared.Stat.{Stat}
 use Rattle.pfs_parts.proofs.Accounting.{accounted}
-use Rattle.pfs_parts.proofs.Settled.{nothing_owed}
+use Rattle.pfs_session.proofs.Owed.{nothing_owed}
 use Rattle.pfs_parts.specs.Agreeing.{Agrees, row_owed}
 use Rattle.pfs_parts.specs.Amounts.{Clocked, owed_to, Sums, AllFacts, AllContentsAgree, IsAccounted}
 use Rattle.pfs_parts.specs.Deeds.{Ending, Spending, Part}

@@ -15,6 +15,7 @@ use Rattle.pfs_model.specs.declared.shapes.Item.{Item}
 use Rattle.pfs_session.specs.Settles.{Settles, Paid, owed_from, owed_in, owed_by, owed_by_state, paid_entries, pay_entries, settle_head}
 use Rattle.pfs_session.specs.States.{State, Owed, nothing_held}
 use Rattle.pfs_stat.specs.declared.Stat.{Stat}
+use Rattle.pfs_session.proofs.Owed.{nothing_owed}
 use Rattle.pfs_parts.proofs.Cutting.{cut_one, cut_nothing}
 use Rattle.pfs_parts.proofs.Held.{drop_same}
 use Rattle.pfs_parts.proofs.Pieces.{IsPiece, piece_none, piece_plain, piece_then, is_plain, cut_append, entries_then}
@@ -126,16 +127,6 @@ settled_context subject (o ∷ os) ps context e h =
     let k = settle_noted subject context in
     let a = all_added subject ps (noted subject context says.Settle) [] (k.held ∙ (h ∙ ap (map row_owed) (sym e) ∙ sym (append-nil (map row_owed (owed_by ps))))) in
     record { untouched = untouched_then _ _ _ k.untouched a.untouched; held = a.held }
-
--- nothing is owed where nothing is held
-none_owed : (slot cell n : ℕ) → owed_from slot cell (replicate n None) ≡ []
-unfolding owed_from
-none_owed slot cell zero = refl
-none_owed slot cell (suc n) = none_owed slot (cell + 1) n
-
-pub nothing_owed : (slot : Option ℕ) → owed_in slot nothing_held ≡ []
-nothing_owed None = refl
-nothing_owed (Some slot) = none_owed slot 0 193
 
 -- settling by itself
 pub record SettleIs (flags : ℕ → ℕ → ℕ) (stack : ℕ) (line : Line) (context : Context) (entries : List Entry) (after : State) : Type 0 where

@@ -20,7 +20,7 @@ use Rattle.pfs_parts.proofs.Held.{Above}
 use Rattle.pfs_parts.proofs.Once.{OnceBy, once_then, once_plain, once_settled}
 use Rattle.pfs_parts.proofs.Owing.{Ascend, above_none, head_owed, else_same, else_other, ascend_back}
 use Rattle.pfs_parts.proofs.Pieces.{entries_then}
-use Rattle.pfs_parts.proofs.Settled.{nothing_owed}
+use Rattle.pfs_session.proofs.Owed.{nothing_owed}
 use Rattle.pfs_parts.proofs.Summing.{is_added}
 use Rattle.pfs_parts.specs.Agreeing.{row_owed}
 use Rattle.pfs_parts.specs.Amounts.{Clocked, sum_of, owed_to, going_of, Sums, ContentsAgree}

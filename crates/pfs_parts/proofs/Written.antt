@@ -32,7 +32,8 @@ use Rattle.pfs_parts.proofs.Cutting.{cut_one, cut_nothing}
 use Rattle.pfs_parts.proofs.Ended.{EndIs, end_is, ending_closed}
 use Rattle.pfs_parts.proofs.Inverting.{OneTurn, TwoTurns, no_turns, one_turn, two_turns}
 use Rattle.pfs_parts.proofs.Pieces.{IsPiece, piece_none, piece_one, piece_plain, piece_then, cut_both}
-use Rattle.pfs_parts.proofs.Settled.{SettleIs, settle_is, settling_closed, settled_context, settle_shaped, settle_plain, nothing_owed, piece_plains}
+use Rattle.pfs_parts.proofs.Settled.{SettleIs, settle_is, settling_closed, settled_context, settle_shaped, settle_plain, piece_plains}
+use Rattle.pfs_session.proofs.Owed.{nothing_owed}
 use Rattle.pfs_parts.proofs.Started.{StartIs, start_is}
 use Rattle.pfs_parts.specs.Agreeing.{LoadsAgree, AreAlike, Agrees, IsOver, Stands, row_owed}
 use Rattle.pfs_parts.specs.Deeds.{IsSubject}

@@ -5,6 +5,7 @@ ghost use Rattle.pfs_admin.specs.Opening.{opened};
 
 use pfs_admin::*;
 use pfs_classes::{Classes, DigestList, Setting, TableList};
+use pfs_consumers::Flags;
 use pfs_levels::{Log, PlainRows, Rows};
 use pfs_matching::Objects;
 use pfs_names::{NameId, Names};
@@ -13,7 +14,7 @@ use std::alloc::Global;
 use std::test::Fail;
 
 // The built-in classes, the names `u` and `h`, and no table.
-fn setting(alloc: Global) -> Result<Setting, Fail>
+pub(crate) fn setting(alloc: Global) -> Result<Setting, Fail>
     ensures { IfOk result (λ setting. 2 ≤ length setting.names) }
 {
     let mut names = Names::new(alloc);
@@ -29,11 +30,11 @@ fn setting(alloc: Global) -> Result<Setting, Fail>
     }
     let tables = TableList::new(Vec::new(alloc));
     let digests = DigestList::new(Vec::new(alloc));
-    Ok(Setting::new(names, classes, tables, digests, limits, 63))
+    Ok(Setting::new(names, classes, tables, digests, limits, Flags::OPENING.0))
 }
 
 // A store that opens with the setting's flags.
-fn store(alloc: Global, setting: &Setting) -> Result<PlainRows, NoMemory>
+pub(crate) fn store(alloc: Global, setting: &Setting) -> Result<PlainRows, NoMemory>
     ensures words { IfOk result (λ rows. ⟦<PlainRows as Rows>⟧.words rows ≡ Some (opened setting.now).words) }
     ensures left { IfOk result (λ rows. ⟦<PlainRows as Rows>⟧.left rows ≡ 2 ^ 47) }
     ensures hand { IfOk result (λ rows. (r : ℕ) → ⟦<PlainRows as Rows>⟧.hand rows r ≡ None) }

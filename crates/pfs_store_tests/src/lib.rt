@@ -1,4 +1,4 @@
-//! Tests of the board, the setup words, the tickets, the stores and the administration, by public calls alone.
+//! Tests of the board, the setup words, the tickets, the stores, the administration and sessions, by public calls alone.
 #![tactic(auto)]
 
 #[cfg(test)]
@@ -11,6 +11,8 @@ mod containers;
 mod levels;
 #[cfg(test)]
 mod seats;
+#[cfg(test)]
+mod sessions;
 #[cfg(test)]
 mod switches;
 #[cfg(test)]
