@@ -1,0 +1,9 @@
+pub mod Nexts
+pub mod Telling
+pub mod Inner
+pub mod Steps
+pub mod Quiet
+pub mod Agreed
+pub mod Turned
+pub mod Blocks
+pub mod Stinted

@@ -1,0 +1,3 @@
+pub mod Notes
+pub mod Stints
+pub mod Alone

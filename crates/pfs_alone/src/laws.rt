@@ -1,0 +1,10 @@
+//! Laws of the definitions.
+
+ghost use Rattle.pfs_alone.specs.Alone.{AloneLaw};
+
+/// Sessions that run one after another on a plain store write journals in which each line agrees with those before it.
+/// So these have the right shape, chains, the order of the actions and floors, and nothing is held back in them; each
+/// verdict is that of the flags at the versions that it names, and each event has its numbers.
+pub fn alone()
+    ensures { AloneLaw }
+{}
