@@ -7,3 +7,4 @@ pub mod Agreed
 pub mod Turned
 pub mod Blocks
 pub mod Stinted
+mod Examples
