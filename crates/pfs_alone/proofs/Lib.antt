@@ -6,5 +6,6 @@ pub mod Quiet
 pub mod Agreed
 pub mod Turned
 pub mod Blocks
+pub mod Printed
 pub mod Stinted
 mod Examples

@@ -6,7 +6,7 @@ use Rattle.pfs_levels.specs.Joint.{At, Setting, sets_of, changes_of, flags_at, a
 use Rattle.pfs_levels.specs.Plain.{AllAnswer, ops_of, content_at}
 use Rattle.pfs_levels.specs.declared.answers.Added.TheVariants.{Counted, Held}
 use Rattle.pfs_levels.specs.declared.answers.RingPut.TheVariants.{Done, Busy, Late}
-use Rattle.pfs_levels.proofs.PlainJoint.{plain_joint}
+use Rattle.pfs_levels.proofs.PlainJoint.{plain_joint, plain_words}
 use Rattle.pfs_model.specs.Contexts.{Context, fresh as empty}
 use Rattle.pfs_model.specs.Numbers.{AreNumbered}
 use Rattle.pfs_model.specs.Places.{Block, Placed, places, places_behind, placed_lines, after_lines, told_by, AreShapedBehind}
@@ -19,12 +19,13 @@ use Rattle.pfs_parts.proofs.Journaling.{journaled}
 use Rattle.pfs_parts.proofs.Pieces.{judged_then, numbered_then}
 use Rattle.pfs_alone.specs.Notes.{Note, notes_of, all_told}
 use Rattle.pfs_alone.specs.Stints.{Doing, Stint, doings_calls, parts_in, calls_of, block_of, blocks_of, resumed, state_by, over_by, IsStint, AreStintsBehind, AreStints}
-use Rattle.pfs_alone.specs.Alone.{IsAlone, AloneLaw}
+use Rattle.pfs_alone.specs.Alone.{IsAlone, AloneLaw, printed}
 use Rattle.pfs_alone.proofs.Inner.{told_then}
 use Rattle.pfs_alone.proofs.Steps.{Sits}
 use Rattle.pfs_alone.proofs.Quiet.{nobody, AreAdded, added_front, added_back, plain_added}
 use Rattle.pfs_alone.proofs.Agreed.{AreQuietPlaces, agreed}
 use Rattle.pfs_alone.proofs.Nexts.{AreNextNotes}
+use Rattle.pfs_alone.proofs.Printed.{printed_same}
 use Rattle.pfs_alone.proofs.Telling.{told_next}
 use Rattle.pfs_alone.proofs.Blocks.{notes_join, quiet_join, IsBlockTold, block_told, loads_front, loads_back, block_loads, parts_stack}
 
@@ -138,30 +139,31 @@ good flags stack depth earlier phase (stint ∷ stints) all are loads added =
       numbered = numbered_then here rest (j.numbered stint.phase k) (subst (λ z. AreNumbered (places_behind z (blocks_of stints))) more g0.numbered);
     }
 
-loads_agree : (flags : List ℕ) (content : ℕ → ℕ → List ℕ) (log : List At) (sets : List Setting) (calls : List Call) → AllAgree flags content log sets calls → LoadsAgree (flags_at flags sets) calls
-loads_agree flags content log sets [] a = tt
-loads_agree flags content log sets (Loads at k found ∷ calls) a = (a.0.0, loads_agree flags content log sets calls a.1)
-loads_agree flags content log sets (Adds row amount answer ∷ calls) a = (tt, loads_agree flags content log sets calls a.1)
-loads_agree flags content log sets (Rings row put answer ∷ calls) a = (tt, loads_agree flags content log sets calls a.1)
-loads_agree flags content log sets (Reads row seen ∷ calls) a = (tt, loads_agree flags content log sets calls a.1)
-loads_agree flags content log sets (Draws kind ticket ∷ calls) a = (tt, loads_agree flags content log sets calls a.1)
-loads_agree flags content log sets (Meets versions ∷ calls) a = (tt, loads_agree flags content log sets calls a.1)
-loads_agree flags content log sets (Takes row k found ∷ calls) a = (tt, loads_agree flags content log sets calls a.1)
-loads_agree flags content log sets (Puts row put k ∷ calls) a = (tt, loads_agree flags content log sets calls a.1)
-loads_agree flags content log sets (Frees row k ∷ calls) a = (tt, loads_agree flags content log sets calls a.1)
-loads_agree flags content log sets (Sets at to k ∷ calls) a = (tt, loads_agree flags content log sets calls a.1)
-loads_agree flags content log sets (Enters label labels ∷ calls) a = (tt, loads_agree flags content log sets calls a.1)
-loads_agree flags content log sets (Leaves ∷ calls) a = (tt, loads_agree flags content log sets calls a.1)
+loads_agree : (of : ℕ → ℕ → ℕ) (flags : List ℕ) (content : ℕ → ℕ → List ℕ) (log : List At) (sets : List Setting) (calls : List Call) → ((at k : ℕ) → flags_at flags sets at k ≡ of at k)
+    → AllAgree flags content log sets calls → LoadsAgree of calls
+loads_agree of flags content log sets [] same a = tt
+loads_agree of flags content log sets (Loads at k found ∷ calls) same a = (a.0.0 ∙ same at k, loads_agree of flags content log sets calls same a.1)
+loads_agree of flags content log sets (Adds row amount answer ∷ calls) same a = (tt, loads_agree of flags content log sets calls same a.1)
+loads_agree of flags content log sets (Rings row put answer ∷ calls) same a = (tt, loads_agree of flags content log sets calls same a.1)
+loads_agree of flags content log sets (Reads row seen ∷ calls) same a = (tt, loads_agree of flags content log sets calls same a.1)
+loads_agree of flags content log sets (Draws kind ticket ∷ calls) same a = (tt, loads_agree of flags content log sets calls same a.1)
+loads_agree of flags content log sets (Meets versions ∷ calls) same a = (tt, loads_agree of flags content log sets calls same a.1)
+loads_agree of flags content log sets (Takes row k found ∷ calls) same a = (tt, loads_agree of flags content log sets calls same a.1)
+loads_agree of flags content log sets (Puts row put k ∷ calls) same a = (tt, loads_agree of flags content log sets calls same a.1)
+loads_agree of flags content log sets (Frees row k ∷ calls) same a = (tt, loads_agree of flags content log sets calls same a.1)
+loads_agree of flags content log sets (Sets at to k ∷ calls) same a = (tt, loads_agree of flags content log sets calls same a.1)
+loads_agree of flags content log sets (Enters label labels ∷ calls) same a = (tt, loads_agree of flags content log sets calls same a.1)
+loads_agree of flags content log sets (Leaves ∷ calls) same a = (tt, loads_agree of flags content log sets calls same a.1)
 
 one_actor : (calls : List Call) → all_calls (calls ∷ []) ≡ calls
 unfolding all_calls
 one_actor calls = append-nil calls
 
-plain_loads : (flags : List ℕ) (calls : List Call) → AllAnswer flags calls → LoadsAgree (flags_at flags (sets_of calls)) calls
-plain_loads flags calls a =
+plain_loads : (of : ℕ → ℕ → ℕ) (flags : List ℕ) (calls : List Call) → ((at k : ℕ) → flags_at flags (sets_of calls) at k ≡ of at k) → AllAnswer flags calls → LoadsAgree of calls
+plain_loads of flags calls same a =
     let e = one_actor calls in
     let j = plain_joint flags (calls ∷ []) (subst (AllAnswer flags) (sym e) a) in
-    loads_agree flags (content_at (ops_of calls)) (changes_of calls) (sets_of calls) calls
+    loads_agree of flags (content_at (ops_of calls)) (changes_of calls) (sets_of calls) calls same
     (subst (λ z. AllAgree flags (content_at (ops_of z)) (changes_of z) (sets_of z) z) e j.agrees)
 
 fresh_ready : (flags : ℕ → ℕ → ℕ) (stack depth : ℕ) → AllReady flags stack depth []
@@ -176,8 +178,13 @@ pub alone : AloneLaw
 unfolding places_behind
 alone = λ flags stack depth stints are answers.
     let calls = calls_of stints in
-    let of : ℕ → ℕ → ℕ = flags_at flags (sets_of calls) in
-    let g = good of stack depth [] 0 stints (fresh_ready of stack depth) are (plain_loads flags calls answers) (plain_added flags calls answers) in
+    let added = plain_added flags calls answers in
+    let first : ℕ → ℕ → ℕ = flags_at flags (sets_of calls) in
+    let told = good first stack depth [] 0 stints (fresh_ready first stack depth) are (plain_loads first flags calls (λ at k. refl) answers) added in
+    let all : List Placed = places (blocks_of stints) in
+    let of : ℕ → ℕ → ℕ = printed flags all in
+    let same : (at k : ℕ) → first at k ≡ of at k = λ at k. printed_same flags all calls at k (plain_words flags calls answers) told.same in
+    let g = good of stack depth [] 0 stints (fresh_ready of stack depth) are (plain_loads of flags calls same answers) added in
     let plain = agreed [] [] (places (blocks_of stints)) (record { rows = refl; words = refl; numbers = refl }) g.quiet (subst (AreNextNotes []) (sym g.same) (told_next flags calls answers)) in
     record {
       shaped = g.shaped;
