@@ -13,53 +13,40 @@ use Rattle.pfs_parts.specs.Deeds.{Deed, Connecting, Starting, Staging, StageEndi
 use Rattle.pfs_parts.specs.Shaped.{AreParts, AllLoadsAgree, lines_of, entries_of, state_behind}
 use Rattle.pfs_parts.proofs.Written.{ends_stack}
 use Rattle.pfs_alone.specs.Notes.{Note, notes_at, notes_in, notes_of, all_told}
+use Rattle.pfs_alone.specs.Told.{parts_notes}
 use Rattle.pfs_alone.specs.Stints.{Doing, around, doing_calls, doings_calls, parts_in, AreEntered}
 use Rattle.pfs_alone.proofs.Inner.{told_then}
-use Rattle.pfs_alone.proofs.Steps.{Sits}
 use Rattle.pfs_alone.proofs.Quiet.{AreAdded, added_front, added_back, AreQuiet}
 use Rattle.pfs_alone.proofs.Agreed.{AreQuietPlaces}
-use Rattle.pfs_alone.proofs.Turned.{AreTold, doing_told}
-
-pub notes_join : (xs ys : List Placed) → notes_of (xs ++ ys) ≡ notes_of xs ++ notes_of ys
-notes_join [] ys = refl
-notes_join (x ∷ xs) ys = ap (λ z. notes_at (subject_of x.line) x.context x.entry ++ z) (notes_join xs ys) ∙ sym (append_assoc (notes_at (subject_of x.line) x.context x.entry) (notes_of xs) (notes_of ys))
+use Rattle.pfs_alone.proofs.Turned.{doing_told}
 
 pub quiet_join : (xs ys : List Placed) → AreQuietPlaces xs → AreQuietPlaces ys → AreQuietPlaces (xs ++ ys)
 quiet_join [] ys a b = b
 quiet_join (x ∷ xs) ys a b = (a.0, quiet_join xs ys a.1 b)
-
-part_notes : (phase session : ℕ) (line : Line) (context : Context) (es : List Entry) → notes_of (placed_part phase session line context es) ≡ notes_in (subject_of line) context es
-part_notes phase session line context [] = refl
-part_notes phase session line context (e ∷ es) =
-    ap (λ z. notes_at (subject_of line) context e ++ z) (part_notes phase session line (noted (subject_of line) context e) es)
 
 part_quiet : (phase session : ℕ) (line : Line) (context : Context) (es : List Entry) → AreQuiet es → AreQuietPlaces (placed_part phase session line context es)
 part_quiet phase session line context [] q = tt
 part_quiet phase session line context (e ∷ es) q = (q.0, part_quiet phase session line (noted (subject_of line) context e) es q.1)
 
 pub record IsBlockTold (phase session : ℕ) (context : Context) (s : State) (doings : List Doing) : Type 0 where
-  pub same : notes_of (placed_lines phase session context (lines_of (parts_in doings)) (entries_of (parts_in doings))) ≡ all_told (doings_calls doings)
+  pub same : parts_notes (parts_in doings) ≡ all_told (doings_calls doings)
   pub quiet : AreQuietPlaces (placed_lines phase session context (lines_of (parts_in doings)) (entries_of (parts_in doings)))
-  pub sits : Sits (after_lines context (lines_of (parts_in doings)) (entries_of (parts_in doings))) (state_behind s (parts_in doings))
   pub held : (state_behind s (parts_in doings)).held ≡ nothing_held
 
-pub block_told : (phase session : ℕ) (context : Context) (s : State) (doings : List Doing) → Sits context s → s.held ≡ nothing_held → AreParts s (parts_in doings) → AreEntered doings
+pub block_told : (phase session : ℕ) (context : Context) (s : State) (doings : List Doing) → s.held ≡ nothing_held → AreParts s (parts_in doings) → AreEntered doings
     → AreAdded (doings_calls doings) → IsBlockTold phase session context s doings
 unfolding all_told
-block_told phase session context s [] sits h are entered added = record { same = refl; quiet = tt; sits = sits; held = h }
-block_told phase session context s (d ∷ ds) sits h are entered added =
+block_told phase session context s [] h are entered added = record { same = refl; quiet = tt; held = h }
+block_told phase session context s (d ∷ ds) h are entered added =
     let line = line_of d.part.deed in
     let entries = part_entries d.part in
-    let t = doing_told context s d sits h are.0 entered.0 (added_back (doings_calls ds) (doing_calls d) added) in
+    let t = doing_told s d h are.0 entered.0 (added_back (doings_calls ds) (doing_calls d) added) in
     let next : Context = after context line entries in
-    let r = block_told phase session next (state_after s d.part.turns) ds t.sits t.held are.1 entered.1 (added_front (doings_calls ds) (doing_calls d) added) in
-    let rest = placed_lines phase session next (lines_of (parts_in ds)) (entries_of (parts_in ds)) in
+    let r = block_told phase session next (state_after s d.part.turns) ds t.held are.1 entered.1 (added_front (doings_calls ds) (doing_calls d) added) in
     record {
-      same = notes_join (placed_part phase session line (turned context) entries) rest
-          ∙ (ap (λ z. z ++ notes_of rest) (part_notes phase session line (turned context) entries ∙ t.same) ∙ ap (λ z. all_told (doing_calls d) ++ z) r.same)
-          ∙ sym (told_then (doings_calls ds) (doing_calls d));
-      quiet = quiet_join (placed_part phase session line (turned context) entries) rest (part_quiet phase session line (turned context) entries t.quiet) r.quiet;
-      sits = r.sits;
+      same = ap (λ z. z ++ parts_notes (parts_in ds)) t.same ∙ (ap (λ z. all_told (doing_calls d) ++ z) r.same ∙ sym (told_then (doings_calls ds) (doing_calls d)));
+      quiet = quiet_join (placed_part phase session line (turned context) entries) (placed_lines phase session next (lines_of (parts_in ds)) (entries_of (parts_in ds)))
+          (part_quiet phase session line (turned context) entries t.quiet) r.quiet;
       held = r.held;
     }
 

@@ -2,6 +2,7 @@ pub mod Nexts
 pub mod Telling
 pub mod Inner
 pub mod Steps
+pub mod Lines
 pub mod Quiet
 pub mod Agreed
 pub mod Turned

@@ -30,20 +30,8 @@ use Rattle.pfs_session.specs.declared.events.Numbers.{Numbers}
 use Rattle.pfs_session.specs.declared.setup.Setup.{Setup}
 use Rattle.pfs_stat.specs.declared.Stat.{Stat}
 use Rattle.pfs_alone.specs.Notes.{Note, Wrote, Freed, Switched, Saw, Acted, saw_all, notes_at, notes_in, told, all_told}
+use Rattle.pfs_alone.specs.Told.{Sits, head_of}
 use Rattle.pfs_alone.proofs.Inner.{told_then, notes_then, entries_then, AreInner, inner_slots, IsSame, same_then, moves_same, signs_same, flags_same, paid_same}
-
--- a session that has a slot is in that of its journal
-abbrev pub Sits : Context → State → Type 0
-Sits context s = (thread : ℕ) → s.place.thread ≡ Some thread → context.slot ≡ Some thread
-
--- what an action tells before its calls
-abbrev pub head_of : Step → List Note
-head_of (Connects admin user host) = Acted (admin.actions + 1) ∷ []
-head_of (Quits admin) = Acted (admin.actions + 1) ∷ []
-head_of (StartsEvent subject) = []
-head_of (EndsEvent numbers) = []
-head_of (Spends time) = []
-head_of SettlesHeld = []
 
 -- a step that starts an event starts what its line says
 abbrev pub IsOf : Option Subject → Step → Type 0

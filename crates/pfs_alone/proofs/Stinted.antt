@@ -21,13 +21,14 @@ use Rattle.pfs_alone.specs.Notes.{Note, notes_of, all_told}
 use Rattle.pfs_alone.specs.Stints.{Doing, Stint, doings_calls, parts_in, calls_of, block_of, blocks_of, resumed, state_by, over_by, IsStint, AreStintsBehind, AreStints}
 use Rattle.pfs_alone.specs.Alone.{IsAlone, AloneLaw, printed}
 use Rattle.pfs_alone.proofs.Inner.{told_then}
-use Rattle.pfs_alone.proofs.Steps.{Sits}
 use Rattle.pfs_alone.proofs.Quiet.{nobody, AreAdded, added_front, added_back, plain_added}
+use Rattle.pfs_alone.specs.Told.{Sits}
+use Rattle.pfs_alone.proofs.Lines.{notes_join, told_all}
 use Rattle.pfs_alone.proofs.Agreed.{AreQuietPlaces, agreed}
 use Rattle.pfs_alone.proofs.Nexts.{AreNextNotes}
 use Rattle.pfs_alone.proofs.Printed.{printed_same}
 use Rattle.pfs_alone.proofs.Telling.{told_next}
-use Rattle.pfs_alone.proofs.Blocks.{notes_join, quiet_join, IsBlockTold, block_told, loads_front, loads_back, block_loads, parts_stack}
+use Rattle.pfs_alone.proofs.Blocks.{quiet_join, IsBlockTold, block_told, loads_front, loads_back, block_loads, parts_stack}
 
 -- how a session stands between two of its stints
 record IsReady (flags : ℕ → ℕ → ℕ) (stack : ℕ) (over : Bool) (context : Context) (s : State) : Type 0 where
@@ -116,10 +117,11 @@ good flags stack depth earlier phase (stint ∷ stints) all are loads added =
     let is : IsStint over s stint.doings = are.1 in
     let j : IsJournaled flags s.stack over context s ps =
     journaled flags over context s ps r.stands is.may is.are_parts (block_loads flags stint.doings (loads_back flags (calls_of stints) (doings_calls stint.doings) loads)) in
-    let t = block_told stint.phase k context s stint.doings r.sits r.held is.are_parts is.entered (added_back (calls_of stints) (doings_calls stint.doings) added) in
+    let l = told_all context s ps r.sits is.are_parts in
+    let t = block_told stint.phase k context s stint.doings r.held is.are_parts is.entered (added_back (calls_of stints) (doings_calls stint.doings) added) in
     let next = ready_next flags stack depth earlier stint all (record {
       stands = resumed_stands flags (over_behind over ps) (after_lines context (lines_of ps) (entries_of ps)) (state_behind s ps) j.stands;
-      sits = λ thread q. t.sits thread q;
+      sits = λ thread q. l.sits thread q;
       held = t.held;
       stack_is = parts_stack s ps is.are_parts ∙ r.stack_is;
     }) in
@@ -132,7 +134,7 @@ good flags stack depth earlier phase (stint ∷ stints) all are loads added =
     let judged_here = subst (λ z. AreJudged z flags here) r.stack_is (j.judged stint.phase k) in
     record {
       shaped = (are.0, j.shaped, subst (λ z. AreShapedBehind z stint.phase (blocks_of stints)) more g0.shaped);
-      same = notes_join here rest ∙ (ap (λ z. z ++ notes_of rest) t.same ∙ ap (λ z. all_told (doings_calls stint.doings) ++ z) (subst (λ z. notes_of (places_behind z (blocks_of stints)) ≡ all_told (calls_of stints)) more g0.same))
+      same = notes_join here rest ∙ (ap (λ z. z ++ notes_of rest) (l.same stint.phase k ∙ t.same) ∙ ap (λ z. all_told (doings_calls stint.doings) ++ z) (subst (λ z. notes_of (places_behind z (blocks_of stints)) ≡ all_told (calls_of stints)) more g0.same))
           ∙ sym (told_then (calls_of stints) (doings_calls stint.doings));
       quiet = quiet_join here rest t.quiet (subst (λ z. AreQuietPlaces (places_behind z (blocks_of stints))) more g0.quiet);
       judged = judged_then stack flags here rest judged_here (subst (λ z. AreJudged stack flags (places_behind z (blocks_of stints))) more g0.judged);

@@ -1,4 +1,5 @@
--- What the entries of a line and its calls tell is the same, where the session holds nothing.
+-- Where a session holds nothing, a line's turns tell what its calls tell, with those that begin and end its action;
+-- nothing is settled or held.
 use Rattle.std.proofs.Common.{ℕ, ◌≡◌, ◌+◌, Bool, true, false, List, [], ◌∷◌, ◌++◌, length, Option, Some, None, cond, refl, ap, sym, ◌∙◌, subst}
 use Rattle.std.proofs.lemmas.List.{append_assoc, append-nil}
 use Rattle.pfs_board.specs.declared.view.Label.{Label}
@@ -14,52 +15,21 @@ use Rattle.pfs_session.specs.Turns.{Step, StartsEvent, EndsEvent, Spends, Settle
 use Rattle.pfs_parts.specs.Deeds.{Deed, Connecting, Starting, Staging, StageEnding, Ending, Spending, Quitting, Closing, Part, IsPart, steps_for, line_of, part_calls, part_entries}
 use Rattle.pfs_parts.proofs.Inverting.{OneTurn, one_turn, TwoTurns, two_turns}
 use Rattle.pfs_alone.specs.Notes.{Note, Acted, notes_at, notes_in, told, all_told}
+use Rattle.pfs_alone.specs.Told.{head_of, turns_notes}
 use Rattle.pfs_alone.specs.Stints.{Doing, around, doing_calls, EntersBehind}
 use Rattle.pfs_alone.proofs.Inner.{told_then, notes_then, entries_then}
-use Rattle.pfs_alone.proofs.Steps.{Sits, head_of, IsOf, does_told}
 use Rattle.pfs_alone.proofs.Quiet.{AreAdded, added_front, added_back, AreQuiet, quiet_then, does_quiet, settles_nothing}
 
--- what turns tell, with the number of each action before its calls
-abbrev pub turns_notes : List Turn → List Note
-turns_notes [] = []
-turns_notes (t ∷ ts) = turns_notes ts ++ (head_of t.step ++ all_told t.calls)
-
-abbrev pub AreOf : Option Subject → List Step → Type 0
-AreOf subject [] = Unit {0}
-AreOf subject (x ∷ xs) = IsOf subject x × AreOf subject xs
-
-of_front : (subject : Option Subject) (xs ys : List Step) → AreOf subject (xs ++ ys) → AreOf subject xs
-of_front subject [] ys a = tt
-of_front subject (x ∷ xs) ys a = (a.0, of_front subject xs ys a.1)
-
-of_back : (subject : Option Subject) (xs ys : List Step) → AreOf subject (xs ++ ys) → AreOf subject ys
-of_back subject [] ys a = a
-of_back subject (x ∷ xs) ys a = of_back subject xs ys a.1
-
-of_then : (subject : Option Subject) (xs ys : List Step) → AreOf subject xs → AreOf subject ys → AreOf subject (xs ++ ys)
-of_then subject [] ys a b = b
-of_then subject (x ∷ xs) ys a b = (a.0, of_then subject xs ys a.1 b)
-
-pub record AreTold (subject : Option Subject) (context : Context) (notes : List Note) (entries : List Entry) (after : State) : Type 0 where
-  pub same : notes_in subject context entries ≡ notes
-  pub sits : Sits (after_entries subject context entries) after
-  pub quiet : AreQuiet entries
+pub record AreQuietTurns (turns : List Turn) (after : State) : Type 0 where
+  pub quiet : AreQuiet (turns_entries turns)
   pub held : after.held ≡ nothing_held
 
-turns_told : (subject : Option Subject) (context : Context) (s : State) (turns : List Turn) → Sits context s → s.held ≡ nothing_held → AreOf subject (steps_of turns)
-    → AreAdded (turns_calls turns) → AreTurns s turns → AreTold subject context (turns_notes turns) (turns_entries turns) (state_after s turns)
-turns_told subject context s [] sits h of added are = record { same = refl; sits = sits; quiet = tt; held = h }
-turns_told subject context s (t ∷ ts) sits h of added are =
-    let r = turns_told subject context s ts sits h (of_front subject (steps_of ts) (t.step ∷ []) of) (added_back t.calls (turns_calls ts) added) are.1 in
-    let mid : Context = after_entries subject context (turns_entries ts) in
-    let d = does_told subject mid (state_after s ts) t.step t.calls t.entries t.after (of_back subject (steps_of ts) (t.step ∷ []) of).0 r.sits are.0 in
+turns_quiet : (s : State) (turns : List Turn) → s.held ≡ nothing_held → AreAdded (turns_calls turns) → AreTurns s turns → AreQuietTurns turns (state_after s turns)
+turns_quiet s [] h added are = record { quiet = tt; held = h }
+turns_quiet s (t ∷ ts) h added are =
+    let r = turns_quiet s ts h (added_back t.calls (turns_calls ts) added) are.1 in
     let q = does_quiet (state_after s ts) t.step t.calls t.entries t.after r.held (added_front t.calls (turns_calls ts) added) are.0 in
-    record {
-      same = notes_then subject context (turns_entries ts) t.entries ∙ (ap (λ z. z ++ notes_in subject mid t.entries) r.same ∙ ap (λ z. turns_notes ts ++ z) d.same);
-      sits = subst (λ z. Sits z t.after) (sym (entries_then subject context (turns_entries ts) t.entries)) d.sits;
-      quiet = quiet_then (turns_entries ts) t.entries r.quiet q.quiet;
-      held = q.held;
-    }
+    record { quiet = quiet_then (turns_entries ts) t.entries r.quiet q.quiet; held = q.held }
 
 -- steps that are no actions
 abbrev AreStill : List Step → Type 0
@@ -85,30 +55,12 @@ still_notes (t ∷ ts) a =
     ap (λ z. turns_notes ts ++ (z ++ all_told t.calls)) (still_back (steps_of ts) (t.step ∷ []) a).0
     ∙ (ap (λ z. z ++ all_told t.calls) (still_notes ts (still_front (steps_of ts) (t.step ∷ []) a)) ∙ sym (told_then t.calls (turns_calls ts)))
 
--- what a line's steps are
-stage_of : (subject : Option Subject) (events : List Open) → AreOf subject (stage_ends events)
-stage_of subject [] = tt
-stage_of subject (what ∷ events) = by_test (is_stage what.kind) where
-  by_test : (b : Bool) → AreOf subject (cond b (EndsEvent no_numbers ∷ []) [])
-  by_test true = (tt, tt)
-  by_test false = tt
-
 stage_still : (events : List Open) → AreStill (stage_ends events)
 stage_still [] = tt
 stage_still (what ∷ events) = by_test (is_stage what.kind) where
   by_test : (b : Bool) → AreStill (cond b (EndsEvent no_numbers ∷ []) [])
   by_test true = (refl, tt)
   by_test false = tt
-
-deed_of : (s : State) (deed : Deed) → AreOf (subject_of (line_of deed)) (steps_for s deed)
-deed_of s (Connecting admin user host) = (tt, tt)
-deed_of s (Starting subject) = (refl, tt)
-deed_of s (Staging subject) = of_then (Some subject) (stage_ends s.opened.events) (StartsEvent subject ∷ []) (stage_of (Some subject) s.opened.events) (refl, tt)
-deed_of s StageEnding = of_then None (stage_ends s.opened.events) [] (stage_of None s.opened.events) tt
-deed_of s (Ending numbers) = of_then None (stage_ends s.opened.events) (EndsEvent numbers ∷ []) (stage_of None s.opened.events) (tt, tt)
-deed_of s (Spending time) = (tt, tt)
-deed_of s (Quitting admin) = (tt, (tt, tt))
-deed_of s Closing = (tt, tt)
 
 -- an action's calls tell its number first
 around_told : (label : Label) (labels : List Label) (calls : List Call) → all_told (Leaves ∷ (calls ++ Enters label labels ∷ [])) ≡ Acted (length labels + 1) ∷ all_told calls
@@ -168,13 +120,13 @@ around_added label labels (Ending numbers) calls a = a
 around_added label labels (Spending time) calls a = a
 around_added label labels Closing calls a = a
 
--- a line: what its entries tell is what its calls tell, nothing is settled or held, and the session still sits in its
--- journal's slot
-pub doing_told : (context : Context) (s : State) (d : Doing) → Sits context s → s.held ≡ nothing_held → IsPart s d.part → EntersBehind d.labels d.part.deed → AreAdded (doing_calls d)
-    → AreTold (subject_of (line_of d.part.deed)) (turned context) (all_told (doing_calls d)) (part_entries d.part) (state_after s d.part.turns)
-doing_told context s d sits h p e added =
-    let subject = subject_of (line_of d.part.deed) in
+pub record IsDone (s : State) (d : Doing) : Type 0 where
+  pub same : turns_notes d.part.turns ≡ all_told (doing_calls d)
+  pub quiet : AreQuiet (part_entries d.part)
+  pub held : (state_after s d.part.turns).held ≡ nothing_held
+
+pub doing_told : (s : State) (d : Doing) → s.held ≡ nothing_held → IsPart s d.part → EntersBehind d.labels d.part.deed → AreAdded (doing_calls d) → IsDone s d
+doing_told s d h p e added =
     let turns = d.part.turns in
-    let r = turns_told subject (turned context) s turns (λ thread q. sits thread q) h (subst (AreOf subject) (sym p.steps_are) (deed_of s d.part.deed))
-        (around_added d.label d.labels d.part.deed (turns_calls turns) added) p.are_turns in
-    record { same = r.same ∙ deed_notes s d.part.deed turns d.label d.labels h p.are_turns p.steps_are e; sits = r.sits; quiet = r.quiet; held = r.held }
+    let r = turns_quiet s turns h (around_added d.label d.labels d.part.deed (turns_calls turns) added) p.are_turns in
+    record { same = deed_notes s d.part.deed turns d.label d.labels h p.are_turns p.steps_are e; quiet = r.quiet; held = r.held }

@@ -1,3 +1,4 @@
 pub mod Notes
+pub mod Told
 pub mod Stints
 pub mod Alone

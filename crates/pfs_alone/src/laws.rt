@@ -1,6 +1,13 @@
 //! Laws of the definitions.
 
 ghost use Rattle.pfs_alone.specs.Alone.{AloneLaw};
+ghost use Rattle.pfs_alone.specs.Told.{ToldLaw};
+
+/// What a session's entries tell is what its calls tell, in the same order, whatever store it has: the changes and
+/// releases of rows, the sets and loads of switch words, and the numbers of actions.
+pub fn told()
+    ensures { ToldLaw }
+{}
 
 /// Sessions that run one after another on a plain store write journals in which each line agrees with those before it.
 /// So these have the right shape, chains, the order of the actions and floors, and nothing is held back in them; each
