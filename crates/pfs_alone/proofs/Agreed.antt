@@ -1,16 +1,16 @@
 -- Lines whose notes go each by those before it agree each with those before it.
-use Rattle.std.proofs.Common.{ℕ, ◌≡◌, ◌+◌, List, [], ◌∷◌, ◌++◌, Option, refl, ap, sym, ◌∙◌, subst}
+use Rattle.std.proofs.Common.{ℕ, ◌≡◌, ◌+◌, List, [], ◌∷◌, ◌++◌, Option, refl, ap, ◌∙◌}
 use Rattle.pfs_event.specs.declared.entry.Entry.{Entry}
 use Rattle.pfs_event.specs.declared.entry.Entry.TheVariants as says
 use Rattle.pfs_model.specs.declared.changes.Change.{Change}
 use Rattle.pfs_model.specs.declared.lines.Subject.{Subject}
-use Rattle.pfs_model.specs.Chains.{row_change, word_change, action_change, each_of, change_at}
+use Rattle.pfs_model.specs.Chains.{row_change, word_change, action_change, each_of}
 use Rattle.pfs_model.specs.Contexts.{Context, subject_of}
 use Rattle.pfs_model.specs.Places.{Placed}
-use Rattle.pfs_model.specs.Plain.{last_of, AreNext, AreLast, Agrees, AgreesWith, AgreeBehind}
+use Rattle.pfs_model.specs.Plain.{last_of, AreNext, AreLast, Agrees, AgreeBehind}
 use Rattle.pfs_model.specs.Setups.{loads_at}
-use Rattle.pfs_alone.specs.Notes.{Note, Wrote, Freed, Switched, Saw, Acted, saw_all, notes_at, notes_of}
-use Rattle.pfs_alone.proofs.Nexts.{writes, switches, acts, IsNextNote, AreNextNotes, behind, next_front, next_back, saw_writes, saw_switches, saw_acts}
+use Rattle.pfs_alone.specs.Notes.{Note, Saw, saw_all, notes_at, notes_of}
+use Rattle.pfs_alone.proofs.Nexts.{writes, switches, acts, AreNextNotes, behind, next_front, next_back, saw_writes, saw_switches, saw_acts}
 use Rattle.pfs_alone.proofs.Quiet.{IsQuiet}
 
 abbrev pub AreQuietPlaces : List Placed → Type 0
@@ -90,6 +90,7 @@ pub agreed : (before : List Note) (earlier ps : List Placed) → IsBefore before
 agreed before earlier [] b q n = tt
 agreed before earlier (p ∷ ps) b q n =
     let notes = notes_at (subject_of p.line) p.context p.entry in
-    let m = meets (subject_of p.line) p.context before earlier p.entry b q.0 (next_front before notes (notes_of ps) n) in
-    (record { rows = m.rows; words = m.words; numbers = m.numbers; loads = m.loaded; others = m.others },
-    agreed (behind before notes) (p ∷ earlier) ps (more_before before earlier p b q.0) q.1 (next_back before notes (notes_of ps) n))
+    let m = meets (subject_of p.line) p.context before earlier p.entry b q.0 (next_front before notes (notes_of ps) n) in (
+      record { rows = m.rows; words = m.words; numbers = m.numbers; loads = m.loaded; others = m.others },
+      agreed (behind before notes) (p ∷ earlier) ps (more_before before earlier p b q.0) q.1 (next_back before notes (notes_of ps) n),
+    )

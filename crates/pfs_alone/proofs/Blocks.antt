@@ -1,18 +1,17 @@
 -- What the entries of a block and the calls of its stint tell is the same.
-use Rattle.std.proofs.Common.{ℕ, ◌≡◌, ◌+◌, Bool, List, [], ◌∷◌, ◌++◌, Option, refl, ap, sym, ◌∙◌, subst}
-use Rattle.std.proofs.lemmas.List.{append_assoc, append-nil}
+use Rattle.std.proofs.Common.{ℕ, ◌≡◌, List, [], ◌∷◌, ◌++◌, refl, ap, sym, ◌∙◌}
 use Rattle.pfs_event.specs.declared.entry.Entry.{Entry}
-use Rattle.pfs_levels.specs.Calls.{Call, Enters, Leaves}
+use Rattle.pfs_levels.specs.Calls.{Call, Enters}
 use Rattle.pfs_model.specs.declared.lines.Line.{Line}
-use Rattle.pfs_model.specs.Contexts.{Context, noted, after, after_entries, subject_of, turned}
-use Rattle.pfs_model.specs.Places.{Placed, placed_part, placed_lines, after_lines}
+use Rattle.pfs_model.specs.Contexts.{Context, noted, after, subject_of, turned}
+use Rattle.pfs_model.specs.Places.{Placed, placed_part, placed_lines}
 use Rattle.pfs_session.specs.States.{State, nothing_held}
-use Rattle.pfs_session.specs.Turns.{Step, StartsEvent, EndsEvent, Spends, SettlesHeld, Connects, Quits, Does, Turn, AreTurns, state_after, turns_calls}
-use Rattle.pfs_parts.specs.Agreeing.{LoadAgrees, LoadsAgree}
+use Rattle.pfs_session.specs.Turns.{Step, StartsEvent, EndsEvent, Spends, SettlesHeld, Connects, Quits, Does, Turn, AreTurns, state_after}
+use Rattle.pfs_parts.specs.Agreeing.{LoadsAgree}
 use Rattle.pfs_parts.specs.Deeds.{Deed, Connecting, Starting, Staging, StageEnding, Ending, Spending, Quitting, Closing, Part, line_of, part_calls, part_entries}
 use Rattle.pfs_parts.specs.Shaped.{AreParts, AllLoadsAgree, lines_of, entries_of, state_behind}
 use Rattle.pfs_parts.proofs.Written.{ends_stack}
-use Rattle.pfs_alone.specs.Notes.{Note, notes_at, notes_in, notes_of, all_told}
+use Rattle.pfs_alone.specs.Notes.{all_told}
 use Rattle.pfs_alone.specs.Told.{parts_notes}
 use Rattle.pfs_alone.specs.Stints.{Doing, around, doing_calls, doings_calls, parts_in, AreEntered}
 use Rattle.pfs_alone.proofs.Inner.{told_then}

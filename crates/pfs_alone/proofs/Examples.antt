@@ -1,34 +1,31 @@
 -- Two sessions, worked: the first connects and a wait of it is counted, the second connects. All that the law asks of
 -- them holds.
-use Rattle.std.proofs.Common.{ℕ, ◌≡◌, ◌+◌, ◌<◌, ◌≤◌, Bool, true, false, List, [], ◌∷◌, ◌++◌, Option, Some, None, inl, replicate, refl, ap, sym, arith}
+use Rattle.std.proofs.Common.{ℕ, ◌≡◌, ◌+◌, true, false, List, [], ◌∷◌, ◌++◌, Some, None, inl, replicate, refl, ap, sym, arith}
 use Rattle.pfs_admin.specs.Asks.{work_of_connect, connect_entry, placed_of}
 use Rattle.pfs_admin.specs.Examples.{start, label}
 use Rattle.pfs_admin.specs.Laws.{row_of}
 use Rattle.pfs_admin.specs.States.{seat_at, connected}
 use Rattle.pfs_admin.specs.States.{State as Administration}
-use Rattle.pfs_admin.specs.Works.{Sign, Releases, Tags, Made, signs_of, signs_calls, signs_entries, flagging_calls, flagging_entries}
-use Rattle.pfs_event.specs.declared.entry.Entry.{Entry}
+use Rattle.pfs_admin.specs.Works.{Sign, Made, signs_calls, signs_entries, flagging_calls, flagging_entries}
 use Rattle.pfs_event.specs.declared.entry.Entry.TheVariants as says
-use Rattle.pfs_event.specs.declared.event.Event.{Event}
 use Rattle.pfs_event.specs.declared.kind.EventKind.TheVariants as kinds
 use Rattle.pfs_event.specs.declared.open.Open.{Open}
 use Rattle.pfs_event.specs.declared.verdict.Verdict.TheVariants.{Attributed}
-use Rattle.pfs_levels.specs.Calls.{Call, Adds, Loads}
+use Rattle.pfs_levels.specs.Calls.{Adds, Loads}
 use Rattle.pfs_levels.specs.Contents.{opening_content}
 use Rattle.pfs_levels.specs.Joint.{sets_of}
 use Rattle.pfs_levels.specs.Plain.{AllAnswer, ops_of, slot_after, word_after, labels_after, word}
-use Rattle.pfs_levels.specs.declared.answers.Added.{Added}
 use Rattle.pfs_levels.specs.declared.answers.Added.TheVariants.{Counted}
 use Rattle.pfs_model.specs.declared.lines.Subject.{Subject}
 use Rattle.pfs_session.specs.Ends.{no_numbers, amount_of}
 use Rattle.pfs_session.specs.States.{State, fresh, nothing_held}
 use Rattle.pfs_session.specs.Settles.{owed_by_state, settle_head}
-use Rattle.pfs_session.specs.Starts.{started, is_timed_by}
+use Rattle.pfs_session.specs.Starts.{started}
 use Rattle.pfs_session.specs.Turns.{StartsEvent, EndsEvent, SettlesHeld, Connects, Turn, acted}
 use Rattle.pfs_session.specs.declared.setup.Setup.{Setup}
 use Rattle.pfs_parts.specs.Deeds.{Deed, Connecting, Starting, Ending, Closing, Part, IsPart}
 use Rattle.pfs_parts.proofs.Settled.{nothing_owed}
-use Rattle.pfs_alone.specs.Stints.{Doing, Stint, AreStints, calls_of, parts_in}
+use Rattle.pfs_alone.specs.Stints.{Doing, Stint, AreStints, calls_of}
 use Rattle.pfs_alone.specs.Alone.{IsAlone}
 use Rattle.pfs_alone.proofs.Stinted.{alone}
 
@@ -155,26 +152,32 @@ first_connects = record {
 
 wait_starts : IsPart first_seated (record { deed = Starting wait; turns = start_turn ∷ [] })
 wait_starts = record {
-  are_turns = (record {
-    seen = Some seen;
-    what = open_wait;
-    loaded = record { there = refl; table_is = refl };
-    calls_are = refl;
-    opened = record { kind = refl; verdict_is = refl; session_is = refl; number = refl; class = refl; link = refl; lies_in = refl; start = refl; timed_is = refl; read_only = refl };
-    entries_are = refl;
-    after_is = refl;
-  }, tt);
+  are_turns = (
+    record {
+      seen = Some seen;
+      what = open_wait;
+      loaded = record { there = refl; table_is = refl };
+      calls_are = refl;
+      opened = record { kind = refl; verdict_is = refl; session_is = refl; number = refl; class = refl; link = refl; lies_in = refl; start = refl; timed_is = refl; read_only = refl };
+      entries_are = refl;
+      after_is = refl;
+    },
+    tt,
+  );
   steps_are = refl;
 }
 
 wait_ends : IsPart first_waits (record { deed = Ending no_numbers; turns = end_turn ∷ [] })
 wait_ends = record {
-  are_turns = (record {
-    what = open_wait;
-    others = [];
-    innermost = refl;
-    ends = record { consumers = word 0 12288; thread = word 1 3; answer = Counted 129 1; row_is = refl; calls_are = refl; entries_are = refl; after_is = refl };
-  }, tt);
+  are_turns = (
+    record {
+      what = open_wait;
+      others = [];
+      innermost = refl;
+      ends = record { consumers = word 0 12288; thread = word 1 3; answer = Counted 129 1; row_is = refl; calls_are = refl; entries_are = refl; after_is = refl };
+    },
+    tt,
+  );
   steps_are = refl;
 }
 

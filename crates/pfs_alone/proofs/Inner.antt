@@ -1,10 +1,10 @@
 -- Entries that change rows and words: what they tell goes by no context, and they leave a journal's slot.
-use Rattle.std.proofs.Common.{ℕ, ◌≡◌, ◌+◌, List, [], ◌∷◌, ◌++◌, Option, Some, None, refl, ap, sym, ◌∙◌, subst}
+use Rattle.std.proofs.Common.{ℕ, ◌≡◌, ◌+◌, List, [], ◌∷◌, ◌++◌, Option, refl, ap, sym, ◌∙◌}
 use Rattle.std.proofs.lemmas.List.{append_assoc, append-nil}
 use Rattle.pfs_admin.specs.Works.{Sign, Releases, Tags, Made, signs_calls, signs_entries, made_calls, made_entries, Flagging, flagging_calls, flagging_entries, word_at}
 use Rattle.pfs_event.specs.declared.entry.Entry.{Entry}
 use Rattle.pfs_event.specs.declared.entry.Entry.TheVariants as says
-use Rattle.pfs_levels.specs.Calls.{Call, Takes, Puts, Frees, Sets}
+use Rattle.pfs_levels.specs.Calls.{Call, Takes, Puts, Sets}
 use Rattle.pfs_levels.specs.Contents.{merged, zero_words}
 use Rattle.pfs_levels.specs.Moves.{Gift, Move, gift_calls, gift_entries, empty_calls, move_calls, move_entries, moves_calls, moves_entries}
 use Rattle.pfs_levels.specs.declared.answers.Word.{Word}
@@ -13,7 +13,7 @@ use Rattle.pfs_model.specs.Contexts.{Context, noted, after_entries}
 use Rattle.pfs_session.specs.Settles.{Paid, paid_calls, paid_entries, pay_calls, pay_entries}
 use Rattle.pfs_stat.specs.Stat.{stat_of_words}
 use Rattle.pfs_stat.specs.declared.Stat.{Stat}
-use Rattle.pfs_alone.specs.Notes.{Note, Wrote, Freed, Switched, Saw, Acted, notes_at, notes_in, told, all_told}
+use Rattle.pfs_alone.specs.Notes.{Wrote, notes_at, notes_in, told, all_told}
 
 pub told_then : (xs ys : List Call) → all_told (xs ++ ys) ≡ all_told ys ++ all_told xs
 unfolding all_told

@@ -1,6 +1,6 @@
 -- What the entries of lines and their calls tell is the same.
-use Rattle.std.proofs.Common.{ℕ, ◌≡◌, ◌+◌, Bool, true, false, List, [], ◌∷◌, ◌++◌, Option, Some, None, cond, refl, ap, sym, ◌∙◌, subst}
-use Rattle.std.proofs.lemmas.List.{append_assoc, append-nil}
+use Rattle.std.proofs.Common.{ℕ, ◌≡◌, Bool, true, false, List, [], ◌∷◌, ◌++◌, Option, Some, None, cond, refl, ap, sym, ◌∙◌, subst}
+use Rattle.std.proofs.lemmas.List.{append_assoc}
 use Rattle.pfs_event.specs.declared.entry.Entry.{Entry}
 use Rattle.pfs_event.specs.declared.open.Open.{Open}
 use Rattle.pfs_model.specs.declared.lines.Line.{Line}
@@ -14,7 +14,7 @@ use Rattle.pfs_session.specs.Turns.{Step, StartsEvent, EndsEvent, Turn, AreTurns
 use Rattle.pfs_parts.specs.Deeds.{Deed, Connecting, Starting, Staging, StageEnding, Ending, Spending, Quitting, Closing, Part, IsPart, steps_for, line_of, part_entries}
 use Rattle.pfs_parts.specs.Shaped.{AreParts, lines_of, entries_of}
 use Rattle.pfs_alone.specs.Notes.{Note, notes_at, notes_in, notes_of}
-use Rattle.pfs_alone.specs.Told.{Sits, turns_notes, parts_notes, AreTold, ToldLaw}
+use Rattle.pfs_alone.specs.Told.{Sits, turns_notes, AreTold, ToldLaw}
 use Rattle.pfs_alone.proofs.Inner.{notes_then, entries_then}
 use Rattle.pfs_alone.proofs.Steps.{IsOf, does_told}
 

@@ -1,5 +1,5 @@
 -- Notes of which each goes by those before it: it names the next version or number, or the last one.
-use Rattle.std.proofs.Common.{ℕ, ◌≡◌, ◌+◌, List, [], ◌∷◌, ◌++◌, refl, ap, sym, ◌∙◌, subst}
+use Rattle.std.proofs.Common.{◌≡◌, ◌+◌, List, [], ◌∷◌, ◌++◌, refl}
 use Rattle.pfs_model.specs.declared.changes.Change.{Change}
 use Rattle.pfs_model.specs.Chains.{change_at}
 use Rattle.pfs_model.specs.Plain.{last_of}

@@ -13,7 +13,7 @@ use Rattle.pfs_levels.specs.Calls.{Call, Adds, Rings, Reads, Loads, Draws, Takes
 use Rattle.pfs_levels.specs.Plain.{AllAnswer}
 use Rattle.pfs_levels.specs.declared.answers.Added.{Added}
 use Rattle.pfs_levels.specs.declared.answers.Added.TheVariants.{Counted, Held}
-use Rattle.pfs_session.specs.Ends.{Ends, EndsIn, EndsThrough, EndsSilently, added_entry, still_held, cell_number, with_held, amount_of}
+use Rattle.pfs_session.specs.Ends.{EndsIn, EndsThrough, added_entry, still_held, cell_number, with_held, amount_of}
 use Rattle.pfs_session.specs.Settles.{Settles, Paid, owed_in, owed_by, owed_by_state, paid_calls, paid_entries, settle_head}
 use Rattle.pfs_session.specs.Starts.{start_entry}
 use Rattle.pfs_session.specs.States.{State, Owed, nothing_held, held_row, held_at}

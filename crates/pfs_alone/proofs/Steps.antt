@@ -1,11 +1,10 @@
 -- What a step's entries and its calls tell is the same, in the same order; a session that has a slot is in that of its
 -- journal.
-use Rattle.std.proofs.Common.{ℕ, ◌≡◌, ◌+◌, Bool, true, false, ◌&&◌, List, [], ◌∷◌, ◌++◌, Option, Some, None, is_some, refl, ap, sym, ◌∙◌, subst}
+use Rattle.std.proofs.Common.{ℕ, ◌≡◌, ◌+◌, Bool, true, false, List, [], ◌∷◌, ◌++◌, Option, Some, None, is_some, refl, ap, sym, ◌∙◌, subst}
 use Rattle.std.specs.Option.{option_map}
 use Rattle.std.proofs.lemmas.List.{append_assoc, append-nil}
 use Rattle.pfs_admin.specs.Asks.{work_of_connect, work_of_quit, connect_entry, placed_of}
 use Rattle.pfs_admin.specs.States.{seat_at}
-use Rattle.pfs_admin.specs.States.{State as Administration}
 use Rattle.pfs_admin.specs.Works.{Work, signs_calls, signs_entries, flagging_calls, flagging_entries}
 use Rattle.pfs_containers.specs.declared.containers.Seated.{Seated}
 use Rattle.pfs_event.specs.declared.entry.Entry.{Entry}
@@ -20,18 +19,18 @@ use Rattle.pfs_levels.specs.declared.answers.Added.TheVariants.{Counted, Held}
 use Rattle.pfs_levels.specs.declared.answers.Word.{Word}
 use Rattle.pfs_model.specs.declared.lines.Subject.{Subject}
 use Rattle.pfs_model.specs.Contexts.{Context, noted, after_entries}
-use Rattle.pfs_model.specs.Setups.{thread_word, class_word, table_word, loads_at, word_named}
-use Rattle.pfs_session.specs.Ends.{Ends, EndsIn, EndsThrough, EndsSilently, added_entry}
-use Rattle.pfs_session.specs.Settles.{Settles, Paid, paid_calls, paid_entries, settle_head}
-use Rattle.pfs_session.specs.Starts.{Starts, start_entry, load_calls, table_calls, IsLoaded, HasTable, if_through, versions_in, version_of}
+use Rattle.pfs_model.specs.Setups.{thread_word, class_word, table_word, word_named}
+use Rattle.pfs_session.specs.Ends.{EndsIn, EndsSilently, added_entry}
+use Rattle.pfs_session.specs.Settles.{Paid, paid_calls, paid_entries, settle_head}
+use Rattle.pfs_session.specs.Starts.{Starts, start_entry, load_calls, table_calls, IsLoaded, versions_in, version_of}
 use Rattle.pfs_session.specs.States.{State, Owed}
 use Rattle.pfs_session.specs.Turns.{Step, StartsEvent, EndsEvent, Spends, SettlesHeld, Connects, Quits, Does, Works}
 use Rattle.pfs_session.specs.declared.events.Numbers.{Numbers}
 use Rattle.pfs_session.specs.declared.setup.Setup.{Setup}
 use Rattle.pfs_stat.specs.declared.Stat.{Stat}
-use Rattle.pfs_alone.specs.Notes.{Note, Wrote, Freed, Switched, Saw, Acted, saw_all, notes_at, notes_in, told, all_told}
+use Rattle.pfs_alone.specs.Notes.{Note, Saw, Acted, saw_all, notes_at, notes_in, told, all_told}
 use Rattle.pfs_alone.specs.Told.{Sits, head_of}
-use Rattle.pfs_alone.proofs.Inner.{told_then, notes_then, entries_then, AreInner, inner_slots, IsSame, same_then, moves_same, signs_same, flags_same, paid_same}
+use Rattle.pfs_alone.proofs.Inner.{inner_slots, IsSame, same_then, moves_same, signs_same, flags_same, paid_same}
 
 -- a step that starts an event starts what its line says
 abbrev pub IsOf : Option Subject → Step → Type 0

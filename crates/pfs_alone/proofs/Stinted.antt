@@ -1,11 +1,9 @@
 -- Sessions one after another on a plain store: the law.
-use Rattle.std.proofs.Common.{ℕ, ◌≡◌, ◌≤◌, ◌+◌, ◌==◌, Bool, true, false, cond, List, [], ◌∷◌, ◌++◌, Option, Some, None, refl, ap, sym, ◌∙◌, subst, arith}
-use Rattle.std.proofs.lemmas.List.{append_assoc, append-nil, length-replicate}
+use Rattle.std.proofs.Common.{ℕ, ◌≡◌, ◌==◌, Bool, true, false, cond, List, [], ◌∷◌, ◌++◌, refl, ap, sym, ◌∙◌, subst, arith}
+use Rattle.std.proofs.lemmas.List.{append-nil, length-replicate}
 use Rattle.pfs_levels.specs.Calls.{Call, Adds, Rings, Reads, Loads, Draws, Takes, Puts, Frees, Sets, Enters, Leaves, Meets}
 use Rattle.pfs_levels.specs.Joint.{At, Setting, sets_of, changes_of, flags_at, all_calls, AllAgree}
 use Rattle.pfs_levels.specs.Plain.{AllAnswer, ops_of, content_at}
-use Rattle.pfs_levels.specs.declared.answers.Added.TheVariants.{Counted, Held}
-use Rattle.pfs_levels.specs.declared.answers.RingPut.TheVariants.{Done, Busy, Late}
 use Rattle.pfs_levels.proofs.PlainJoint.{plain_joint, plain_words}
 use Rattle.pfs_model.specs.Contexts.{Context, fresh as empty}
 use Rattle.pfs_model.specs.Numbers.{AreNumbered}
@@ -13,13 +11,13 @@ use Rattle.pfs_model.specs.Places.{Block, Placed, places, places_behind, placed_
 use Rattle.pfs_model.specs.Setups.{AreJudged}
 use Rattle.pfs_model.proofs.Plainly.{plain_keeps}
 use Rattle.pfs_session.specs.States.{State, fresh, nothing_held}
-use Rattle.pfs_parts.specs.Agreeing.{LoadAgrees, LoadsAgree, Agrees, IsOver, Stands}
+use Rattle.pfs_parts.specs.Agreeing.{LoadsAgree, Stands}
 use Rattle.pfs_parts.specs.Shaped.{lines_of, entries_of, state_behind, over_behind, IsJournaled}
 use Rattle.pfs_parts.proofs.Journaling.{journaled}
 use Rattle.pfs_parts.proofs.Pieces.{judged_then, numbered_then}
-use Rattle.pfs_alone.specs.Notes.{Note, notes_of, all_told}
-use Rattle.pfs_alone.specs.Stints.{Doing, Stint, doings_calls, parts_in, calls_of, block_of, blocks_of, resumed, state_by, over_by, IsStint, AreStintsBehind, AreStints}
-use Rattle.pfs_alone.specs.Alone.{IsAlone, AloneLaw, printed}
+use Rattle.pfs_alone.specs.Notes.{notes_of, all_told}
+use Rattle.pfs_alone.specs.Stints.{Stint, doings_calls, parts_in, calls_of, block_of, blocks_of, resumed, state_by, over_by, IsStint, AreStintsBehind}
+use Rattle.pfs_alone.specs.Alone.{AloneLaw, printed}
 use Rattle.pfs_alone.proofs.Inner.{told_then}
 use Rattle.pfs_alone.proofs.Quiet.{nobody, AreAdded, added_front, added_back, plain_added}
 use Rattle.pfs_alone.specs.Told.{Sits}
@@ -28,7 +26,7 @@ use Rattle.pfs_alone.proofs.Agreed.{AreQuietPlaces, agreed}
 use Rattle.pfs_alone.proofs.Nexts.{AreNextNotes}
 use Rattle.pfs_alone.proofs.Printed.{printed_same}
 use Rattle.pfs_alone.proofs.Telling.{told_next}
-use Rattle.pfs_alone.proofs.Blocks.{quiet_join, IsBlockTold, block_told, loads_front, loads_back, block_loads, parts_stack}
+use Rattle.pfs_alone.proofs.Blocks.{quiet_join, block_told, loads_front, loads_back, block_loads, parts_stack}
 
 -- how a session stands between two of its stints
 record IsReady (flags : ℕ → ℕ → ℕ) (stack : ℕ) (over : Bool) (context : Context) (s : State) : Type 0 where
@@ -84,13 +82,14 @@ ready_next flags stack depth earlier stint all next = λ k. led k (by_test k (st
       (subst (λ z. IsReady flags stack (cond (stint.session == k) (over_behind (over_by k false earlier) (parts_in stint.doings)) (over_by k false earlier)) z (state_by k (fresh k stack depth) (earlier ++ stint ∷ []))) t
       (subst (λ z. IsReady flags stack (cond (stint.session == k) (over_behind (over_by k false earlier) (parts_in stint.doings)) (over_by k false earlier))
       (cond (stint.session == k) (after_lines (told_by k empty (blocks_of earlier)) (lines_of (parts_in stint.doings)) (entries_of (parts_in stint.doings))) (told_by k empty (blocks_of earlier))) z) m r))
+
   by_test : (k : ℕ) (b : Bool) → (stint.session == k) ≡ b → IsReady flags stack (cond b (over_behind (over_by k false earlier) (parts_in stint.doings)) (over_by k false earlier))
       (cond b (after_lines (told_by k empty (blocks_of earlier)) (lines_of (parts_in stint.doings)) (entries_of (parts_in stint.doings))) (told_by k empty (blocks_of earlier)))
       (cond b (resumed (state_behind (state_by k (fresh k stack depth) earlier) (parts_in stint.doings))) (state_by k (fresh k stack depth) earlier))
   by_test k true e =
       let P : ℕ → Type 0 = λ z. IsReady flags stack (over_behind (over_by z false earlier) (parts_in stint.doings))
-          (after_lines (told_by z empty (blocks_of earlier)) (lines_of (parts_in stint.doings)) (entries_of (parts_in stint.doings)))
-          (resumed (state_behind (state_by z (fresh z stack depth) earlier) (parts_in stint.doings))) in
+      (after_lines (told_by z empty (blocks_of earlier)) (lines_of (parts_in stint.doings)) (entries_of (parts_in stint.doings)))
+      (resumed (state_behind (state_by z (fresh z stack depth) earlier) (parts_in stint.doings))) in
       subst P (same stint.session k e) next where
         same : (a b : ℕ) → (a == b) ≡ true → a ≡ b
         same a b q = grind arith
@@ -126,7 +125,7 @@ good flags stack depth earlier phase (stint ∷ stints) all are loads added =
       stack_is = parts_stack s ps is.are_parts ∙ r.stack_is;
     }) in
     let g0 = good flags stack depth (earlier ++ stint ∷ []) stint.phase stints next are.2 (loads_front flags (calls_of stints) (doings_calls stint.doings) loads)
-        (added_front (calls_of stints) (doings_calls stint.doings) added) in
+    (added_front (calls_of stints) (doings_calls stint.doings) added) in
     let here = placed_lines stint.phase k context (lines_of ps) (entries_of ps) in
     let B : List Block = blocks_of earlier ++ block_of stint ∷ [] in
     let more = blocks_more earlier stint in

@@ -1,20 +1,18 @@
 -- What the calls of a plain store tell: each note goes by those before it.
-use Rattle.std.proofs.Common.{ℕ, inl, inr, ◌≡◌, ◌<◌, ◌≤◌, ◌+◌, ◌==◌, false, true, Bool, cond, List, [], ◌∷◌, ◌++◌, length, refl, ap, sym, ◌∙◌, subst, arith, eq-eqb, ne_eqb, length-append, ◌&&◌}
-use Rattle.std.proofs.lemmas.Bool.{cases_eq}
+use Rattle.std.proofs.Common.{ℕ, inl, inr, ◌≡◌, ◌<◌, ◌+◌, ◌==◌, false, true, Bool, cond, List, [], ◌∷◌, ◌++◌, length, refl, ap, sym, ◌∙◌, subst, arith, ne_eqb, length-append, ◌&&◌}
 use Rattle.pfs_levels.specs.declared.answers.Added.TheVariants.{Counted, Held}
 use Rattle.pfs_levels.specs.declared.answers.RingPut.TheVariants.{Done, Busy, Late}
-use Rattle.pfs_levels.specs.declared.plain.Slot.{Slot}
 use Rattle.pfs_board.specs.declared.view.Label.{Label}
 use Rattle.pfs_levels.specs.Calls.{Call, Adds, Rings, Reads, Loads, Draws, Takes, Puts, Frees, Sets, Enters, Leaves, Meets, IsRing, label_in}
-use Rattle.pfs_levels.specs.Joint.{At, at_put, at_free, changes_of, count, IsCounted, Setting, sets_of, word_version, AreWordsCounted}
-use Rattle.pfs_levels.specs.Plain.{AllAnswer, AreNext, IsNext, Op, op, Merges, Becomes, Holds, Releases, ops_of, slot_after, labels_after}
+use Rattle.pfs_levels.specs.Joint.{At, changes_of, count, IsCounted, Setting, sets_of, word_version, AreWordsCounted}
+use Rattle.pfs_levels.specs.Plain.{AllAnswer, IsNext, Op, op, Merges, Becomes, Holds, Releases, ops_of, slot_after, labels_after}
 use Rattle.pfs_levels.proofs.PlainJoint.{plain_chain, plain_words}
 use Rattle.pfs_levels.proofs.PlainNext.{plain_next}
 use Rattle.pfs_model.specs.declared.changes.Change.{Change}
 use Rattle.pfs_model.specs.Chains.{change_at}
 use Rattle.pfs_model.specs.Plain.{last_of}
-use Rattle.pfs_alone.specs.Notes.{Note, Wrote, Freed, Switched, Saw, Acted, told, all_told}
-use Rattle.pfs_alone.proofs.Nexts.{writes, switches, acts, IsNextNote, AreNextNotes, behind, behind_then, next_then}
+use Rattle.pfs_alone.specs.Notes.{Note, told, all_told}
+use Rattle.pfs_alone.proofs.Nexts.{writes, switches, acts, AreNextNotes, behind, behind_then, next_then}
 
 -- what calls tell, newest first
 abbrev pub newest : List Call → List Note
@@ -128,7 +126,7 @@ unfolding slot_after
 stood_kept o os last ended up st = rw (ne_eqb o.row 0 (λ z. absurd (omega (arith, up, z)))) st
 
 ring_up : (row : ℕ) (content : List ℕ) → IsRing row content → 0 < row
-ring_up row content r = elim r [ | inl a ↦ omega (arith, a.0) | inr b ↦ omega (arith, b.0) ]
+ring_up row content r = elim r [ inl a ↦ omega (arith, a.0) | inr b ↦ omega (arith, b.0) ]
 
 pub stood : (flags : List ℕ) (calls : List Call) → AllAnswer flags calls → Stood (slot_after (ops_of calls) 0).taken (last_of 0 (acts (newest calls))) (length (labels_after calls))
 unfolding ops_of labels_after slot_after

@@ -1,23 +1,20 @@
 -- Where a session holds nothing, a line's turns tell what its calls tell, with those that begin and end its action;
 -- nothing is settled or held.
-use Rattle.std.proofs.Common.{ℕ, ◌≡◌, ◌+◌, Bool, true, false, List, [], ◌∷◌, ◌++◌, length, Option, Some, None, cond, refl, ap, sym, ◌∙◌, subst}
-use Rattle.std.proofs.lemmas.List.{append_assoc, append-nil}
+use Rattle.std.proofs.Common.{ℕ, ◌≡◌, ◌+◌, Bool, true, false, List, [], ◌∷◌, ◌++◌, length, cond, refl, ap, sym, ◌∙◌, subst}
+use Rattle.std.proofs.lemmas.List.{append-nil}
 use Rattle.pfs_board.specs.declared.view.Label.{Label}
-use Rattle.pfs_event.specs.declared.entry.Entry.{Entry}
 use Rattle.pfs_event.specs.declared.open.Open.{Open}
 use Rattle.pfs_levels.specs.Calls.{Call, Enters, Leaves}
-use Rattle.pfs_model.specs.declared.lines.Subject.{Subject}
-use Rattle.pfs_model.specs.Contexts.{Context, after_entries, subject_of, turned}
 use Rattle.pfs_model.specs.Shapes.{is_stage}
 use Rattle.pfs_session.specs.Ends.{no_numbers}
 use Rattle.pfs_session.specs.States.{State, nothing_held}
-use Rattle.pfs_session.specs.Turns.{Step, StartsEvent, EndsEvent, Spends, SettlesHeld, Connects, Quits, Does, Turn, AreTurns, state_after, steps_of, turns_calls, turns_entries, stage_ends}
-use Rattle.pfs_parts.specs.Deeds.{Deed, Connecting, Starting, Staging, StageEnding, Ending, Spending, Quitting, Closing, Part, IsPart, steps_for, line_of, part_calls, part_entries}
+use Rattle.pfs_session.specs.Turns.{Step, StartsEvent, EndsEvent, SettlesHeld, Connects, Quits, Does, Turn, AreTurns, state_after, steps_of, turns_calls, turns_entries, stage_ends}
+use Rattle.pfs_parts.specs.Deeds.{Deed, Connecting, Starting, Staging, StageEnding, Ending, Spending, Quitting, Closing, IsPart, steps_for, part_entries}
 use Rattle.pfs_parts.proofs.Inverting.{OneTurn, one_turn, TwoTurns, two_turns}
-use Rattle.pfs_alone.specs.Notes.{Note, Acted, notes_at, notes_in, told, all_told}
+use Rattle.pfs_alone.specs.Notes.{Acted, all_told}
 use Rattle.pfs_alone.specs.Told.{head_of, turns_notes}
 use Rattle.pfs_alone.specs.Stints.{Doing, around, doing_calls, EntersBehind}
-use Rattle.pfs_alone.proofs.Inner.{told_then, notes_then, entries_then}
+use Rattle.pfs_alone.proofs.Inner.{told_then}
 use Rattle.pfs_alone.proofs.Quiet.{AreAdded, added_front, added_back, AreQuiet, quiet_then, does_quiet, settles_nothing}
 
 pub record AreQuietTurns (turns : List Turn) (after : State) : Type 0 where
@@ -73,8 +70,8 @@ connect_notes s turns step n label labels head e steps =
     let o : OneTurn turns step = one_turn turns step steps in
     let P : List Turn → Type 0 = λ z. turns_notes z ≡ all_told (Leaves ∷ (turns_calls z ++ Enters label labels ∷ [])) in
     subst P (sym o.is) (
-      ap (λ z. head_of z ++ all_told o.turn.calls) o.step_is ∙ (ap (λ z. z ++ all_told o.turn.calls) head ∙ (ap (λ z. Acted (z + 1) ∷ all_told o.turn.calls) (sym e)
-      ∙ ap (λ z. Acted (length labels + 1) ∷ all_told z) (sym (append-nil o.turn.calls)))) ∙ sym (around_told label labels (o.turn.calls ++ []))
+    ap (λ z. head_of z ++ all_told o.turn.calls) o.step_is ∙ (ap (λ z. z ++ all_told o.turn.calls) head ∙ (ap (λ z. Acted (z + 1) ∷ all_told o.turn.calls) (sym e)
+    ∙ ap (λ z. Acted (length labels + 1) ∷ all_told z) (sym (append-nil o.turn.calls)))) ∙ sym (around_told label labels (o.turn.calls ++ []))
     )
 
 pub does_at : (s : State) (t : Turn) (step : Step) → t.step ≡ step → Does s t.step t.calls t.entries t.after → Does s step t.calls t.entries t.after
@@ -91,10 +88,10 @@ quit_notes s turns step n label labels h are head e steps =
     let ours : AreTurns s (u ∷ t ∷ []) = subst (AreTurns s) o.is are in
     let none : t.calls ≡ [] = (settles_nothing s t.calls t.entries t.after h (does_at s t SettlesHeld o.first_is ours.1.0)).calls_are in
     subst P (sym o.is) (
-      ap (λ z. (head_of z ++ all_told t.calls) ++ (head_of u.step ++ all_told u.calls)) o.first_is ∙ (ap (λ z. all_told z ++ (head_of u.step ++ all_told u.calls)) none
-      ∙ (ap (λ z. head_of z ++ all_told u.calls) o.second_is ∙ (ap (λ z. z ++ all_told u.calls) head ∙ (ap (λ z. Acted (z + 1) ∷ all_told u.calls) (sym e)
-      ∙ (ap (λ z. Acted (length labels + 1) ∷ all_told z) (sym (append-nil u.calls)) ∙ ap (λ z. Acted (length labels + 1) ∷ all_told (u.calls ++ (z ++ []))) (sym none))))))
-      ∙ sym (around_told label labels (u.calls ++ (t.calls ++ [])))
+    ap (λ z. (head_of z ++ all_told t.calls) ++ (head_of u.step ++ all_told u.calls)) o.first_is ∙ (ap (λ z. all_told z ++ (head_of u.step ++ all_told u.calls)) none
+    ∙ (ap (λ z. head_of z ++ all_told u.calls) o.second_is ∙ (ap (λ z. z ++ all_told u.calls) head ∙ (ap (λ z. Acted (z + 1) ∷ all_told u.calls) (sym e)
+    ∙ (ap (λ z. Acted (length labels + 1) ∷ all_told z) (sym (append-nil u.calls)) ∙ ap (λ z. Acted (length labels + 1) ∷ all_told (u.calls ++ (z ++ []))) (sym none))))))
+    ∙ sym (around_told label labels (u.calls ++ (t.calls ++ [])))
     )
 
 deed_notes : (s : State) (deed : Deed) (turns : List Turn) (label : Label) (labels : List Label) → s.held ≡ nothing_held → AreTurns s turns → steps_of turns ≡ steps_for s deed → EntersBehind labels deed
