@@ -1,6 +1,6 @@
 -- Two sessions, worked: the first connects and a wait of it is counted, the second connects. All that the law asks of
 -- them holds.
-use Rattle.std.proofs.Common.{ℕ, ◌≡◌, ◌+◌, true, false, List, [], ◌∷◌, ◌++◌, Some, None, inl, replicate, refl, ap, sym, arith}
+use Rattle.std.proofs.Common.{ℕ, ◌≡◌, ◌+◌, true, false, List, [], ◌∷◌, ◌++◌, Some, None, inl, replicate, refl, ap, sym, ◌∙◌, arith}
 use Rattle.pfs_admin.specs.Asks.{work_of_connect, connect_entry, placed_of}
 use Rattle.pfs_admin.specs.Examples.{start, label}
 use Rattle.pfs_admin.specs.Laws.{row_of}
@@ -19,7 +19,7 @@ use Rattle.pfs_levels.specs.declared.answers.Added.TheVariants.{Counted}
 use Rattle.pfs_model.specs.declared.lines.Subject.{Subject}
 use Rattle.pfs_session.specs.Ends.{no_numbers, amount_of}
 use Rattle.pfs_session.specs.States.{State, fresh, nothing_held}
-use Rattle.pfs_session.specs.Settles.{owed_by_state, settle_head}
+use Rattle.pfs_session.specs.Settles.{owed_in, owed_by_state, settle_head}
 use Rattle.pfs_session.specs.Starts.{started}
 use Rattle.pfs_session.specs.Turns.{StartsEvent, EndsEvent, SettlesHeld, Connects, Turn, acted}
 use Rattle.pfs_session.specs.declared.setup.Setup.{Setup}
@@ -181,11 +181,13 @@ wait_ends = record {
   steps_are = refl;
 }
 
-closes : (s : State) → owed_by_state s ≡ [] → IsPart s (record { deed = Closing; turns = close_turn s ∷ [] })
-closes s none = record {
-  are_turns = (record { paid = []; owed_are = sym none; calls_are = refl; entries_are = ap (λ z. settle_head z ++ []) (sym none); after_is = refl }, tt);
-  steps_are = refl;
-}
+closes : (s : State) → s.held ≡ nothing_held → IsPart s (record { deed = Closing; turns = close_turn s ∷ [] })
+closes s h =
+    let none : owed_by_state s ≡ [] = ap (λ z. owed_in s.place.thread z) h ∙ nothing_owed s.place.thread in
+    record {
+      are_turns = (record { paid = []; owed_are = sym none; calls_are = refl; entries_are = ap (λ z. settle_head z ++ []) (sym none); after_is = refl }, tt);
+      steps_are = refl;
+    }
 
 second_connects : IsPart (fresh 2 2 5) (connect_part between 1 0 (fresh 2 2 5))
 second_connects = record {
@@ -197,7 +199,7 @@ pub are_stints : AreStints 2 5 (first ∷ second ∷ [])
 are_stints = (
   omega arith,
   record {
-    are_parts = (first_connects, (wait_starts, (wait_ends, (closes end_turn.after (nothing_owed (Some 0)), tt))));
+    are_parts = (first_connects, (wait_starts, (wait_ends, (closes end_turn.after refl, tt))));
     may = (
       (refl, refl, refl, omega arith),
       ((refl, record { cell = λ class e. inl (cc) }), (refl, (tt, tt))),
@@ -207,7 +209,7 @@ are_stints = (
   (
     omega arith,
     record {
-      are_parts = (second_connects, (closes (connect_turn between 1 0 (fresh 2 2 5)).after (nothing_owed (Some 1)), tt));
+      are_parts = (second_connects, (closes (connect_turn between 1 0 (fresh 2 2 5)).after refl, tt));
       may = ((refl, refl, refl, omega arith), (tt, tt));
       entered = (refl, (tt, tt));
     },
