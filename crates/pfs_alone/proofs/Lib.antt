@@ -3,6 +3,7 @@ pub mod Telling
 pub mod Inner
 pub mod Steps
 pub mod Lines
+pub mod Weighing
 pub mod Quiet
 pub mod Agreed
 pub mod Turned
