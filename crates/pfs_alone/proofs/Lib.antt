@@ -10,4 +10,5 @@ pub mod Turned
 pub mod Blocks
 pub mod Printed
 pub mod Stinted
+pub mod Appending
 mod Examples
