@@ -1,0 +1,96 @@
+-- Lines whose notes go each by those before it agree each with those before it.
+use Rattle.std.proofs.Common.{ℕ, ◌≡◌, ◌+◌, List, [], ◌∷◌, ◌++◌, Option, refl, ap, ◌∙◌}
+use Rattle.pfs_event.specs.declared.entry.Entry.{Entry}
+use Rattle.pfs_event.specs.declared.entry.Entry.TheVariants as says
+use Rattle.pfs_model.specs.declared.changes.Change.{Change}
+use Rattle.pfs_model.specs.declared.lines.Subject.{Subject}
+use Rattle.pfs_model.specs.Chains.{row_change, word_change, action_change, each_of}
+use Rattle.pfs_model.specs.Contexts.{Context, subject_of}
+use Rattle.pfs_model.specs.Places.{Placed}
+use Rattle.pfs_model.specs.Plain.{last_of, AreNext, AreLast, Agrees, AgreeBehind}
+use Rattle.pfs_model.specs.Setups.{loads_at}
+use Rattle.pfs_alone.specs.Notes.{Note, Saw, saw_all, notes_at, notes_of}
+use Rattle.pfs_alone.proofs.Nexts.{writes, switches, acts, AreNextNotes, behind, next_front, next_back, saw_writes, saw_switches, saw_acts}
+use Rattle.pfs_alone.proofs.Quiet.{IsQuiet}
+
+abbrev pub AreQuietPlaces : List Placed → Type 0
+AreQuietPlaces [] = Unit {0}
+AreQuietPlaces (p ∷ ps) = IsQuiet p.entry × AreQuietPlaces ps
+
+-- notes, newest first, tell what the lines before tell
+pub record IsBefore (before : List Note) (earlier : List Placed) : Type 0 where
+  pub rows : writes before ≡ each_of row_change earlier
+  pub words : switches before ≡ each_of word_change earlier
+  pub numbers : acts before ≡ each_of action_change earlier
+
+-- what an entry adds to each
+record Adds (before : List Note) (notes : List Note) (entry : Entry) : Type 0 where
+  pub rows : writes (behind before notes) ≡ row_change entry ++ writes before
+  pub words : switches (behind before notes) ≡ word_change entry ++ switches before
+  pub numbers : acts (behind before notes) ≡ action_change entry ++ acts before
+
+adds : (subject : Option Subject) (context : Context) (before : List Note) (entry : Entry) → IsQuiet entry → Adds before (notes_at subject context entry) entry
+adds subject context before (says.Connect action thread account user host) q = record { rows = refl; words = refl; numbers = refl }
+adds subject context before (says.Act action) q = record { rows = refl; words = refl; numbers = refl }
+adds subject context before (says.Start event verdict consumers thread class table) q =
+    let loads = loads_at subject context (says.Start event verdict consumers thread class table) in
+    record { rows = saw_writes before loads; words = saw_switches before loads; numbers = saw_acts before loads }
+adds subject context before (says.End event last consumers thread) q =
+    let loads = loads_at subject context (says.End event last consumers thread) in
+    record { rows = saw_writes before loads; words = saw_switches before loads; numbers = saw_acts before loads }
+adds subject context before (says.Add row version) q = record { rows = refl; words = refl; numbers = refl }
+adds subject context before (says.Take row version) q = record { rows = refl; words = refl; numbers = refl }
+adds subject context before (says.Give row version from) q = record { rows = refl; words = refl; numbers = refl }
+adds subject context before (says.Tag row version) q = record { rows = refl; words = refl; numbers = refl }
+adds subject context before (says.Free row version) q = record { rows = refl; words = refl; numbers = refl }
+adds subject context before (says.Set word version flags) q = record { rows = refl; words = refl; numbers = refl }
+adds subject context before _ q = absurd q
+
+-- the parts of an agreement
+record Meets (earlier : List Placed) (loads : List Change) (entry : Entry) : Type 0 where
+  pub rows : AreNext (each_of row_change earlier) (row_change entry)
+  pub words : AreNext (each_of word_change earlier) (word_change entry)
+  pub numbers : AreNext (each_of action_change earlier) (action_change entry)
+  pub loaded : AreLast (each_of word_change earlier) loads
+  pub others : Agrees earlier entry
+
+saw_last : (before : List Note) (changes loads : List Change) → switches before ≡ changes → AreNextNotes before (saw_all loads) → AreLast changes loads
+saw_last before changes [] e n = tt
+saw_last before changes (l ∷ ls) e n = (n.0 ∙ ap (last_of l.row) e, saw_last (Saw l.row l.version ∷ before) changes ls e n.1)
+
+one_more : (v row : ℕ) (xs ys : List Change) → xs ≡ ys → v ≡ last_of row xs + 1 → v ≡ last_of row ys + 1
+one_more v row xs ys e n = n ∙ ap (λ z. last_of row z + 1) e
+
+meets : (subject : Option Subject) (context : Context) (before : List Note) (earlier : List Placed) (entry : Entry) → IsBefore before earlier → IsQuiet entry
+    → AreNextNotes before (notes_at subject context entry) → Meets earlier (loads_at subject context entry) entry
+meets subject context before earlier (says.Connect action thread account user host) b q n = record { rows = tt; words = tt; numbers = (one_more action 0 _ _ b.numbers n.0, tt); loaded = tt; others = tt }
+meets subject context before earlier (says.Act action) b q n = record { rows = tt; words = tt; numbers = (one_more action 0 _ _ b.numbers n.0, tt); loaded = tt; others = tt }
+meets subject context before earlier (says.Start event verdict consumers thread class table) b q n =
+    record { rows = tt; words = tt; numbers = tt; loaded = saw_last before _ _ b.words n; others = tt }
+meets subject context before earlier (says.End event last consumers thread) b q n = record { rows = tt; words = tt; numbers = tt; loaded = saw_last before _ _ b.words n; others = tt }
+meets subject context before earlier (says.Add row version) b q n = record { rows = (one_more version row _ _ b.rows n.0, tt); words = tt; numbers = tt; loaded = tt; others = tt }
+meets subject context before earlier (says.Take row version) b q n = record { rows = (one_more version row _ _ b.rows n.0, tt); words = tt; numbers = tt; loaded = tt; others = tt }
+meets subject context before earlier (says.Give row version from) b q n = record { rows = (one_more version row _ _ b.rows n.0, tt); words = tt; numbers = tt; loaded = tt; others = tt }
+meets subject context before earlier (says.Tag row version) b q n = record { rows = (one_more version row _ _ b.rows n.0, tt); words = tt; numbers = tt; loaded = tt; others = tt }
+meets subject context before earlier (says.Free row version) b q n = record { rows = tt; words = tt; numbers = tt; loaded = tt; others = n.0 ∙ ap (last_of row) b.rows }
+meets subject context before earlier (says.Set word version flags) b q n = record { rows = tt; words = (one_more version word _ _ b.words n.0, tt); numbers = tt; loaded = tt; others = tt }
+meets subject context before earlier _ b q n = absurd q
+
+more_before : (before : List Note) (earlier : List Placed) (p : Placed) → IsBefore before earlier → IsQuiet p.entry
+    → IsBefore (behind before (notes_at (subject_of p.line) p.context p.entry)) (p ∷ earlier)
+more_before before earlier p b q =
+    let a = adds (subject_of p.line) p.context before p.entry q in
+    record {
+      rows = a.rows ∙ ap (λ z. row_change p.entry ++ z) b.rows;
+      words = a.words ∙ ap (λ z. word_change p.entry ++ z) b.words;
+      numbers = a.numbers ∙ ap (λ z. action_change p.entry ++ z) b.numbers;
+    }
+
+pub agreed : (before : List Note) (earlier ps : List Placed) → IsBefore before earlier → AreQuietPlaces ps → AreNextNotes before (notes_of ps) → AgreeBehind earlier ps
+agreed before earlier [] b q n = tt
+agreed before earlier (p ∷ ps) b q n =
+    let notes = notes_at (subject_of p.line) p.context p.entry in
+    let m = meets (subject_of p.line) p.context before earlier p.entry b q.0 (next_front before notes (notes_of ps) n) in (
+      record { rows = m.rows; words = m.words; numbers = m.numbers; loads = m.loaded; others = m.others },
+      agreed (behind before notes) (p ∷ earlier) ps (more_before before earlier p b q.0) q.1 (next_back before notes (notes_of ps) n),
+    )

@@ -1,0 +1,91 @@
+-- What the entries of a block and the calls of its stint tell is the same.
+use Rattle.std.proofs.Common.{ℕ, ◌≡◌, List, [], ◌∷◌, ◌++◌, refl, ap, sym, ◌∙◌}
+use Rattle.pfs_event.specs.declared.entry.Entry.{Entry}
+use Rattle.pfs_levels.specs.Calls.{Call, Enters}
+use Rattle.pfs_model.specs.declared.lines.Line.{Line}
+use Rattle.pfs_model.specs.Contexts.{Context, noted, after, subject_of, turned}
+use Rattle.pfs_model.specs.Places.{Placed, placed_part, placed_lines}
+use Rattle.pfs_session.specs.States.{State, nothing_held}
+use Rattle.pfs_session.specs.Turns.{Step, StartsEvent, EndsEvent, Spends, SettlesHeld, Connects, Quits, Does, Turn, AreTurns, state_after}
+use Rattle.pfs_parts.specs.Agreeing.{LoadsAgree}
+use Rattle.pfs_parts.specs.Deeds.{Deed, Connecting, Starting, Staging, StageEnding, Ending, Spending, Quitting, Closing, Part, line_of, part_calls, part_entries}
+use Rattle.pfs_parts.specs.Shaped.{AreParts, AllLoadsAgree, lines_of, entries_of, state_behind}
+use Rattle.pfs_parts.proofs.Written.{ends_stack}
+use Rattle.pfs_alone.specs.Notes.{all_told}
+use Rattle.pfs_alone.specs.Told.{parts_notes}
+use Rattle.pfs_alone.specs.Stints.{Doing, around, doing_calls, doings_calls, parts_in, AreEntered}
+use Rattle.pfs_alone.proofs.Inner.{told_then}
+use Rattle.pfs_alone.proofs.Quiet.{AreAdded, added_front, added_back, AreQuiet}
+use Rattle.pfs_alone.proofs.Agreed.{AreQuietPlaces}
+use Rattle.pfs_alone.proofs.Turned.{doing_told}
+
+pub quiet_join : (xs ys : List Placed) → AreQuietPlaces xs → AreQuietPlaces ys → AreQuietPlaces (xs ++ ys)
+quiet_join [] ys a b = b
+quiet_join (x ∷ xs) ys a b = (a.0, quiet_join xs ys a.1 b)
+
+part_quiet : (phase session : ℕ) (line : Line) (context : Context) (es : List Entry) → AreQuiet es → AreQuietPlaces (placed_part phase session line context es)
+part_quiet phase session line context [] q = tt
+part_quiet phase session line context (e ∷ es) q = (q.0, part_quiet phase session line (noted (subject_of line) context e) es q.1)
+
+pub record IsBlockTold (phase session : ℕ) (context : Context) (s : State) (doings : List Doing) : Type 0 where
+  pub same : parts_notes (parts_in doings) ≡ all_told (doings_calls doings)
+  pub quiet : AreQuietPlaces (placed_lines phase session context (lines_of (parts_in doings)) (entries_of (parts_in doings)))
+  pub held : (state_behind s (parts_in doings)).held ≡ nothing_held
+
+pub block_told : (phase session : ℕ) (context : Context) (s : State) (doings : List Doing) → s.held ≡ nothing_held → AreParts s (parts_in doings) → AreEntered doings
+    → AreAdded (doings_calls doings) → IsBlockTold phase session context s doings
+unfolding all_told
+block_told phase session context s [] h are entered added = record { same = refl; quiet = tt; held = h }
+block_told phase session context s (d ∷ ds) h are entered added =
+    let line = line_of d.part.deed in
+    let entries = part_entries d.part in
+    let t = doing_told s d h are.0 entered.0 (added_back (doings_calls ds) (doing_calls d) added) in
+    let next : Context = after context line entries in
+    let r = block_told phase session next (state_after s d.part.turns) ds t.held are.1 entered.1 (added_front (doings_calls ds) (doing_calls d) added) in
+    record {
+      same = ap (λ z. z ++ parts_notes (parts_in ds)) t.same ∙ (ap (λ z. all_told (doing_calls d) ++ z) r.same ∙ sym (told_then (doings_calls ds) (doing_calls d)));
+      quiet = quiet_join (placed_part phase session line (turned context) entries) (placed_lines phase session next (lines_of (parts_in ds)) (entries_of (parts_in ds)))
+          (part_quiet phase session line (turned context) entries t.quiet) r.quiet;
+      held = r.held;
+    }
+
+-- loads agree along lists
+pub loads_front : (flags : ℕ → ℕ → ℕ) (xs ys : List Call) → LoadsAgree flags (xs ++ ys) → LoadsAgree flags xs
+loads_front flags [] ys a = tt
+loads_front flags (x ∷ xs) ys a = (a.0, loads_front flags xs ys a.1)
+
+pub loads_back : (flags : ℕ → ℕ → ℕ) (xs ys : List Call) → LoadsAgree flags (xs ++ ys) → LoadsAgree flags ys
+loads_back flags [] ys a = a
+loads_back flags (x ∷ xs) ys a = loads_back flags xs ys a.1
+
+around_loads : (flags : ℕ → ℕ → ℕ) (d : Doing) (deed : Deed) (calls : List Call) → LoadsAgree flags (around d.label d.labels deed calls) → LoadsAgree flags calls
+around_loads flags d (Connecting admin user host) calls a = loads_front flags calls (Enters d.label d.labels ∷ []) a.1
+around_loads flags d (Quitting admin) calls a = loads_front flags calls (Enters d.label d.labels ∷ []) a.1
+around_loads flags d (Starting subject) calls a = a
+around_loads flags d (Staging subject) calls a = a
+around_loads flags d StageEnding calls a = a
+around_loads flags d (Ending numbers) calls a = a
+around_loads flags d (Spending time) calls a = a
+around_loads flags d Closing calls a = a
+
+pub block_loads : (flags : ℕ → ℕ → ℕ) (doings : List Doing) → LoadsAgree flags (doings_calls doings) → AllLoadsAgree flags (parts_in doings)
+block_loads flags [] a = tt
+block_loads flags (d ∷ ds) a =
+    (around_loads flags d d.part.deed (part_calls d.part) (loads_back flags (doings_calls ds) (doing_calls d) a), block_loads flags ds (loads_front flags (doings_calls ds) (doing_calls d) a))
+
+-- no step changes how many statements may be open
+does_stack : (s : State) (step : Step) (calls : List Call) (entries : List Entry) (after : State) → Does s step calls entries after → after.stack ≡ s.stack
+does_stack s (StartsEvent subject) calls entries after d = ap (λ (z : State). z.stack) d.after_is
+does_stack s (EndsEvent numbers) calls entries after d = ends_stack s numbers calls entries after d
+does_stack s (Spends time) calls entries after d = ap (λ (z : State). z.stack) d.2
+does_stack s SettlesHeld calls entries after d = ap (λ (z : State). z.stack) d.after_is
+does_stack s (Connects admin user host) calls entries after d = ap (λ (z : State). z.stack) d.1
+does_stack s (Quits admin) calls entries after d = ap (λ (z : State). z.stack) d.1
+
+turns_stack : (s : State) (turns : List Turn) → AreTurns s turns → (state_after s turns).stack ≡ s.stack
+turns_stack s [] are = refl
+turns_stack s (t ∷ ts) are = does_stack (state_after s ts) t.step t.calls t.entries t.after are.0 ∙ turns_stack s ts are.1
+
+pub parts_stack : (s : State) (parts : List Part) → AreParts s parts → (state_behind s parts).stack ≡ s.stack
+parts_stack s [] are = refl
+parts_stack s (p ∷ ps) are = parts_stack (state_after s p.turns) ps are.1 ∙ turns_stack s p.turns are.0.are_turns

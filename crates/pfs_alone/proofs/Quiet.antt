@@ -1,0 +1,197 @@
+-- A session that holds nothing, and of which nothing was held: it writes no settling, and still holds nothing.
+use Rattle.std.proofs.Common.{ℕ, zero, suc, ◌≡◌, ◌+◌, Bool, true, false, List, [], ◌∷◌, ◌++◌, Option, Some, None, slice_set, refl, ap, sym, ◌∙◌, subst}
+use Rattle.std.specs.Prelude.{replicate}
+use Rattle.pfs_admin.specs.Asks.{work_of_connect, work_of_quit, connect_entry}
+use Rattle.pfs_admin.specs.States.{seat_at}
+use Rattle.pfs_containers.specs.declared.containers.Seated.{Seated}
+use Rattle.pfs_event.specs.declared.entry.Entry.{Entry}
+use Rattle.pfs_event.specs.declared.entry.Entry.TheVariants as says
+use Rattle.pfs_event.specs.declared.open.Open.{Open}
+use Rattle.pfs_event.specs.declared.verdict.Verdict.{Verdict}
+use Rattle.pfs_event.specs.Verdicts.{is_let_through}
+use Rattle.pfs_levels.specs.Calls.{Call, Adds, Rings, Reads, Loads, Draws, Takes, Puts, Frees, Sets, Enters, Leaves, Meets}
+use Rattle.pfs_levels.specs.Plain.{AllAnswer}
+use Rattle.pfs_levels.specs.declared.answers.Added.{Added}
+use Rattle.pfs_levels.specs.declared.answers.Added.TheVariants.{Counted, Held}
+use Rattle.pfs_session.specs.Ends.{EndsIn, EndsThrough, added_entry, still_held, cell_number, with_held, amount_of}
+use Rattle.pfs_session.specs.Settles.{Settles, Paid, owed_in, owed_by, owed_by_state, paid_calls, paid_entries, settle_head}
+use Rattle.pfs_session.specs.Starts.{start_entry}
+use Rattle.pfs_session.specs.States.{State, Owed, nothing_held, held_row, held_at}
+use Rattle.pfs_session.specs.Turns.{Step, StartsEvent, EndsEvent, Spends, SettlesHeld, Connects, Quits, Does}
+use Rattle.pfs_session.specs.declared.events.Numbers.{Numbers}
+use Rattle.pfs_session.specs.declared.setup.Setup.{Setup}
+use Rattle.pfs_stat.specs.declared.Stat.{Stat}
+use Rattle.pfs_parts.proofs.Settled.{nothing_owed}
+use Rattle.pfs_alone.proofs.Inner.{IsInner, AreInner}
+use Rattle.pfs_alone.proofs.Steps.{IsActed, acted}
+
+-- an addition was counted
+abbrev pub IsAdded : Call → Type 0
+IsAdded (Adds row amount (Counted r version)) = Unit {0}
+IsAdded (Adds row amount (Held r first second)) = ⊥
+IsAdded (Rings row content answer) = Unit {0}
+IsAdded (Reads row seen) = Unit {0}
+IsAdded (Loads at version found) = Unit {0}
+IsAdded (Draws kind ticket) = Unit {0}
+IsAdded (Takes row version found) = Unit {0}
+IsAdded (Puts row content version) = Unit {0}
+IsAdded (Frees row version) = Unit {0}
+IsAdded (Sets at found version) = Unit {0}
+IsAdded (Enters label labels) = Unit {0}
+IsAdded Leaves = Unit {0}
+IsAdded (Meets versions) = Unit {0}
+
+abbrev pub AreAdded : List Call → Type 0
+AreAdded [] = Unit {0}
+AreAdded (call ∷ calls) = IsAdded call × AreAdded calls
+
+pub added_front : (xs ys : List Call) → AreAdded (xs ++ ys) → AreAdded xs
+added_front [] ys a = tt
+added_front (x ∷ xs) ys a = (a.0, added_front xs ys a.1)
+
+pub added_back : (xs ys : List Call) → AreAdded (xs ++ ys) → AreAdded ys
+added_back [] ys a = a
+added_back (x ∷ xs) ys a = added_back xs ys a.1
+
+pub plain_added : (flags : List ℕ) (calls : List Call) → AllAnswer flags calls → AreAdded calls
+plain_added flags [] a = tt
+plain_added flags (Adds row amount (Counted r v) ∷ calls) a = (tt, plain_added flags calls a.1)
+plain_added flags (Adds row amount (Held r v w) ∷ calls) a = absurd a.0
+plain_added flags (Rings row content answer ∷ calls) a = (tt, plain_added flags calls a.1)
+plain_added flags (Reads row seen ∷ calls) a = (tt, plain_added flags calls a.1)
+plain_added flags (Loads at v found ∷ calls) a = (tt, plain_added flags calls a.1)
+plain_added flags (Draws kind ticket ∷ calls) a = (tt, plain_added flags calls a.1)
+plain_added flags (Takes row v found ∷ calls) a = (tt, plain_added flags calls a.1)
+plain_added flags (Puts row content v ∷ calls) a = (tt, plain_added flags calls a.1)
+plain_added flags (Frees row v ∷ calls) a = (tt, plain_added flags calls a.1)
+plain_added flags (Sets at to v ∷ calls) a = (tt, plain_added flags calls a.1)
+plain_added flags (Enters label labels ∷ calls) a = (tt, plain_added flags calls a.1)
+plain_added flags (Leaves ∷ calls) a = (tt, plain_added flags calls a.1)
+plain_added flags (Meets versions ∷ calls) a = (tt, plain_added flags calls a.1)
+
+-- an entry of a session of which nothing was held
+abbrev pub IsQuiet : Entry → Type 0
+IsQuiet (says.Connect action thread account user host) = Unit {0}
+IsQuiet (says.Act action) = Unit {0}
+IsQuiet (says.Start event verdict consumers thread class table) = Unit {0}
+IsQuiet (says.End event last consumers thread) = Unit {0}
+IsQuiet (says.Add row version) = Unit {0}
+IsQuiet (says.Take row version) = Unit {0}
+IsQuiet (says.Give row version from) = Unit {0}
+IsQuiet (says.Tag row version) = Unit {0}
+IsQuiet (says.Free row version) = Unit {0}
+IsQuiet (says.Set word version flags) = Unit {0}
+IsQuiet entry = ⊥
+
+abbrev pub AreQuiet : List Entry → Type 0
+AreQuiet [] = Unit {0}
+AreQuiet (e ∷ es) = IsQuiet e × AreQuiet es
+
+pub quiet_then : (xs ys : List Entry) → AreQuiet xs → AreQuiet ys → AreQuiet (xs ++ ys)
+quiet_then [] ys a b = b
+quiet_then (x ∷ xs) ys a b = (a.0, quiet_then xs ys a.1 b)
+
+inner_quiet : (e : Entry) → IsInner e → IsQuiet e
+inner_quiet (says.Add row version) i = tt
+inner_quiet (says.Take row version) i = tt
+inner_quiet (says.Give row version from) i = tt
+inner_quiet (says.Tag row version) i = tt
+inner_quiet (says.Free row version) i = tt
+inner_quiet (says.Set word version flags) i = tt
+inner_quiet _ i = absurd i
+
+inner_quiets : (es : List Entry) → AreInner es → AreQuiet es
+inner_quiets [] i = tt
+inner_quiets (e ∷ es) i = (inner_quiet e i.0, inner_quiets es i.1)
+
+pub record IsQuietStep (entries : List Entry) (after : State) : Type 0 where
+  pub quiet : AreQuiet entries
+  pub held : after.held ≡ nothing_held
+
+quiet_as : (entries es : List Entry) (after a : State) → entries ≡ es → after ≡ a → IsQuietStep es a → IsQuietStep entries after
+quiet_as entries es after a p q t = subst (λ z. IsQuietStep z after) (sym p) (subst (λ z. IsQuietStep es z) (sym q) t)
+
+set_same : {A : Type 0} (x : A) (n i : ℕ) → slice_set (replicate n x) i x ≡ replicate n x
+set_same x zero i = refl
+set_same x (suc n) zero = refl
+set_same x (suc n) (suc i) = ap (λ z. x ∷ z) (set_same x n i)
+
+abbrev pub nobody : Option Stat
+nobody = None
+
+start_quiet : (v : Verdict) (n : ℕ) (seen : Option Setup) → IsQuiet (start_entry v n seen)
+start_quiet v n None = tt
+start_quiet v n (Some seen) = tt
+
+added_quiet : (row : ℕ) (amount : Stat) (answer : Added) → IsAdded (Adds row amount answer) → IsQuiet (added_entry answer)
+added_quiet row amount (Counted r v) a = tt
+added_quiet row amount (Held r v w) a = absurd a
+
+counted_none : (row : ℕ) (amount : Stat) (answer : Added) → IsAdded (Adds row amount answer) → still_held amount answer ≡ None
+counted_none row amount (Counted r v) a = refl
+counted_none row amount (Held r v w) a = absurd a
+
+through_quiet : (s : State) (slot : ℕ) (what : Open) (others : List Open) (numbers : Numbers) (calls : List Call) (entries : List Entry) (after : State) → s.held ≡ nothing_held → AreAdded calls
+    → EndsThrough s slot what others numbers calls entries after → IsQuietStep entries after
+through_quiet s slot what others numbers calls entries after h added e =
+    let row = held_row slot (cell_number what) in
+    let amount = with_held (held_at s.held (cell_number what)) (amount_of what s.clock numbers) in
+    let one = (subst AreAdded e.calls_are added).0 in
+    quiet_as entries _ after _ e.entries_are e.after_is (record {
+      quiet = (tt, (added_quiet row amount e.answer one, tt));
+      held = ap (λ z. slice_set s.held (cell_number what) z) (counted_none row amount e.answer one) ∙ (ap (λ z. slice_set z (cell_number what) None) h ∙ set_same nobody 193 (cell_number what));
+    })
+
+ends_quiet : (s : State) (slot : Option ℕ) (b : Bool) (what : Open) (others : List Open) (numbers : Numbers) (calls : List Call) (entries : List Entry) (after : State) → s.held ≡ nothing_held → AreAdded calls
+    → EndsIn s slot b what others numbers calls entries after → IsQuietStep entries after
+ends_quiet s slot false what others numbers calls entries after h added e = quiet_as entries _ after _ e.entries_are e.after_is (record { quiet = (tt, tt); held = h })
+ends_quiet s None true what others numbers calls entries after h added e = absurd e
+ends_quiet s (Some slot) true what others numbers calls entries after h added e = through_quiet s slot what others numbers calls entries after h added e
+
+none_paid : (ps : List Paid) → owed_by ps ≡ [] → ps ≡ []
+none_paid [] e = refl
+none_paid (p ∷ ps) e = absurd (snoc (owed_by ps) p.owed e) where
+  snoc : (xs : List Owed) (x : Owed) → (xs ++ x ∷ []) ≡ [] → ⊥
+  snoc [] x e = absurd (cc)
+  snoc (y ∷ ys) x e = absurd (cc)
+
+-- nothing is settled
+pub record IsNoStep (calls : List Call) (entries : List Entry) (after : State) : Type 0 where
+  pub calls_are : calls ≡ []
+  pub entries_are : entries ≡ []
+  pub held : after.held ≡ nothing_held
+
+pub settles_nothing : (s : State) (calls : List Call) (entries : List Entry) (after : State) → s.held ≡ nothing_held → Settles s calls entries after → IsNoStep calls entries after
+settles_nothing s calls entries after h e =
+    let none : owed_by_state s ≡ [] = ap (λ z. owed_in s.place.thread z) h ∙ nothing_owed s.place.thread in
+    let paid : e.paid ≡ [] = none_paid e.paid (e.owed_are ∙ none) in
+    record {
+      calls_are = e.calls_are ∙ ap paid_calls paid;
+      entries_are = e.entries_are ∙ (ap (λ z. settle_head z ++ paid_entries e.paid) none ∙ ap paid_entries paid);
+      held = ap (λ (z : State). z.held) e.after_is;
+    }
+
+connect_quiet : (action : ℕ) (seat : Option Seated) → IsQuiet (connect_entry action seat)
+connect_quiet action None = tt
+connect_quiet action (Some seat) = tt
+
+acted_quiet : (head : Entry) (calls : List Call) (entries : List Entry) → IsQuiet head → IsActed head calls entries → AreQuiet entries
+acted_quiet head calls entries q a = subst AreQuiet (sym a.entries_are) (q, inner_quiets a.rest a.same.inner)
+
+pub does_quiet : (s : State) (step : Step) (calls : List Call) (entries : List Entry) (after : State) → s.held ≡ nothing_held → AreAdded calls → Does s step calls entries after → IsQuietStep entries after
+does_quiet s (StartsEvent what) calls entries after h added d = quiet_as entries _ after _ d.entries_are d.after_is (record { quiet = (start_quiet _ _ d.seen, tt); held = h })
+does_quiet s (EndsEvent numbers) calls entries after h added d =
+    ends_quiet s s.place.thread (is_let_through d.what.verdict) d.what d.others numbers calls entries after h added d.ends
+does_quiet s (Spends time) calls entries after h added d = quiet_as entries _ after _ d.1 d.2 (record { quiet = tt; held = h })
+does_quiet s SettlesHeld calls entries after h added d =
+    let n = settles_nothing s calls entries after h d in
+    record { quiet = subst AreQuiet (sym n.entries_are) tt; held = n.held }
+does_quiet s (Connects admin user host) calls entries after h added d = record {
+  quiet = acted_quiet (connect_entry (admin.actions + 1) (seat_at admin s.number user host)) calls entries (connect_quiet (admin.actions + 1) (seat_at admin s.number user host))
+      (acted (work_of_connect admin s.number user host) admin.words (connect_entry (admin.actions + 1) (seat_at admin s.number user host)) calls entries d.0);
+  held = ap (λ (z : State). z.held) d.1 ∙ h;
+}
+does_quiet s (Quits admin) calls entries after h added d = record {
+  quiet = acted_quiet (says.Act (admin.actions + 1)) calls entries tt (acted (work_of_quit admin s.number) admin.words (says.Act (admin.actions + 1)) calls entries d.0);
+  held = ap (λ (z : State). z.held) d.1 ∙ h;
+}

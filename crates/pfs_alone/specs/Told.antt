@@ -1,0 +1,42 @@
+-- What the entries of a session tell is what its calls tell, in the same order, whatever store it has.
+use Rattle.std.specs.Prelude.{ℕ, ◌≡◌, ◌+◌, List, [], ◌∷◌, ◌++◌, Some}
+use Rattle.pfs_model.specs.Contexts.{Context}
+use Rattle.pfs_model.specs.Places.{placed_lines, after_lines}
+use Rattle.pfs_parts.specs.Deeds.{Part}
+use Rattle.pfs_parts.specs.Shaped.{AreParts, lines_of, entries_of, state_behind}
+use Rattle.pfs_session.specs.States.{State}
+use Rattle.pfs_session.specs.Turns.{Step, StartsEvent, EndsEvent, Spends, SettlesHeld, Connects, Quits, Turn}
+use Rattle.pfs_alone.specs.Notes.{Note, Acted, notes_of, all_told}
+
+-- a session that has a slot is in that of its journal
+abbrev pub Sits : Context → State → Type 0
+Sits context s = (thread : ℕ) → s.place.thread ≡ Some thread → context.slot ≡ Some thread
+
+-- an action tells its number before its calls
+abbrev pub head_of : Step → List Note
+head_of (Connects admin user host) = Acted (admin.actions + 1) ∷ []
+head_of (Quits admin) = Acted (admin.actions + 1) ∷ []
+head_of (StartsEvent subject) = []
+head_of (EndsEvent numbers) = []
+head_of (Spends time) = []
+head_of SettlesHeld = []
+
+abbrev pub turns_notes : List Turn → List Note
+turns_notes [] = []
+turns_notes (turn ∷ turns) = turns_notes turns ++ (head_of turn.step ++ all_told turn.calls)
+
+abbrev pub parts_notes : List Part → List Note
+parts_notes [] = []
+parts_notes (p ∷ ps) = turns_notes p.turns ++ parts_notes ps
+
+-- the same row changes and releases, sets and loads of words and actions, and the session still sits in its journal's
+-- slot
+pub record AreTold (context : Context) (s : State) (parts : List Part) : Type 0 where
+  pub same : (phase session : ℕ)
+      → notes_of (placed_lines phase session context (lines_of parts) (entries_of parts)) ≡ parts_notes parts
+  pub sits : Sits (after_lines context (lines_of parts) (entries_of parts)) (state_behind s parts)
+
+-- of lines one after another: a block, or all blocks of a session
+abbrev pub ToldLaw : Type 0
+ToldLaw = (context : Context) (s : State) (parts : List Part) → Sits context s → AreParts s parts
+    → AreTold context s parts

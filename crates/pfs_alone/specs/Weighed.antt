@@ -1,0 +1,41 @@
+-- What the entries of a session print weighs as what its calls did, whatever store it has.
+use Rattle.std.specs.Prelude.{ℕ, ◌≡◌, ◌+◌, List, [], ◌∷◌, ◌++◌}
+use Rattle.pfs_levels.specs.Calls.{Call}
+use Rattle.pfs_levels.specs.Joint.{total, At, at_put, at_free, changes_of, Setting, sets_of}
+use Rattle.pfs_model.specs.Actions.{settings_of}
+use Rattle.pfs_model.specs.Actions.{Setting as PrintedSetting}
+use Rattle.pfs_model.specs.Chains.{row_change, release_of, each_of}
+use Rattle.pfs_model.specs.Contexts.{Context}
+use Rattle.pfs_model.specs.Places.{Placed, placed_lines}
+use Rattle.pfs_model.specs.declared.changes.Change.{Change}
+use Rattle.pfs_parts.specs.Deeds.{Part, part_calls}
+use Rattle.pfs_parts.specs.Shaped.{AreParts, lines_of, entries_of}
+use Rattle.pfs_session.specs.States.{State}
+use Rattle.pfs_alone.specs.Told.{Sits}
+
+-- newest first; parts stand in order
+abbrev pub parts_calls : List Part → List Call
+parts_calls [] = []
+parts_calls (p ∷ ps) = parts_calls ps ++ part_calls p
+
+abbrev pub put_at : Change → At
+put_at change = at_put change.row change.version
+
+abbrev pub free_at : Change → At
+free_at change = at_free change.row change.version
+
+abbrev pub setting_of : PrintedSetting → Setting
+setting_of s = record { word = s.word; version = s.version; flags = s.flags }
+
+-- however publications, releases and sets are weighed, those that are printed weigh as those of the calls
+pub record AreWeighed (all : List Placed) (calls : List Call) : Type 0 where
+  pub rows : (h : At → ℕ)
+      → total (λ c. h (put_at c)) (each_of row_change all) + total (λ c. h (free_at c)) (each_of release_of all)
+      ≡ total h (changes_of calls)
+  pub sets : (h : Setting → ℕ) → total (λ s. h (setting_of s)) (settings_of all) ≡ total h (sets_of calls)
+
+-- of lines one after another: a block, or all blocks of a session
+abbrev pub WeighedLaw : Type 0
+WeighedLaw = (phase session : ℕ) (context : Context) (s : State) (parts : List Part) → Sits context s
+    → AreParts s parts
+    → AreWeighed (placed_lines phase session context (lines_of parts) (entries_of parts)) (parts_calls parts)

@@ -1,0 +1,24 @@
+//! Laws of the definitions.
+
+ghost use Rattle.pfs_alone.specs.Alone.{AloneLaw};
+ghost use Rattle.pfs_alone.specs.Told.{ToldLaw};
+ghost use Rattle.pfs_alone.specs.Weighed.{WeighedLaw};
+
+/// What a session's entries tell is what its calls tell, in the same order, whatever store it has: the changes and
+/// releases of rows, the sets and loads of switch words, and the numbers of actions.
+pub fn told()
+    ensures { ToldLaw }
+{}
+
+/// So what its entries print weighs as what its calls did: each sum over the publications and releases of rows, and over
+/// the sets of switch words, is the same of both.
+pub fn weighed()
+    ensures { WeighedLaw }
+{}
+
+/// Sessions that run one after another on a plain store write journals in which each line agrees with those before it.
+/// So these have the right shape, chains, the order of the actions and floors, and nothing is held back in them; each
+/// verdict is that of the flags at the versions that it names, and each event has its numbers.
+pub fn alone()
+    ensures { AloneLaw }
+{}
