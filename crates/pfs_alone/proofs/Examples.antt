@@ -24,7 +24,7 @@ use Rattle.pfs_session.specs.Starts.{started}
 use Rattle.pfs_session.specs.Turns.{StartsEvent, EndsEvent, SettlesHeld, Connects, Turn, acted}
 use Rattle.pfs_session.specs.declared.setup.Setup.{Setup}
 use Rattle.pfs_parts.specs.Deeds.{Deed, Connecting, Starting, Ending, Closing, Part, IsPart}
-use Rattle.pfs_parts.proofs.Settled.{nothing_owed}
+use Rattle.pfs_session.proofs.Owed.{nothing_owed}
 use Rattle.pfs_alone.specs.Stints.{Doing, Stint, AreStints, calls_of}
 use Rattle.pfs_alone.specs.Alone.{IsAlone}
 use Rattle.pfs_alone.proofs.Stinted.{alone}
@@ -158,7 +158,7 @@ wait_starts = record {
       what = open_wait;
       loaded = record { there = refl; table_is = refl };
       calls_are = refl;
-      opened = record { kind = refl; verdict_is = refl; session_is = refl; number = refl; class = refl; link = refl; lies_in = refl; start = refl; timed_is = refl; read_only = refl };
+      opened = record { kind = refl; verdict_is = refl; session_is = refl; number = refl; class = refl; link = refl; lies_in = refl; start = refl; timed_is = refl; read_only = refl; unfilled = record { last = refl; duration = refl; numbers = refl; ticket = refl; digested = refl; placed = refl } };
       entries_are = refl;
       after_is = refl;
     },
@@ -185,7 +185,7 @@ closes : (s : State) → s.held ≡ nothing_held → IsPart s (record { deed = C
 closes s h =
     let none : owed_by_state s ≡ [] = ap (λ z. owed_in s.place.thread z) h ∙ nothing_owed s.place.thread in
     record {
-      are_turns = (record { paid = []; owed_are = sym none; calls_are = refl; entries_are = ap (λ z. settle_head z ++ []) (sym none); after_is = refl }, tt);
+      are_turns = (record { unseated = λ e. h; paid = []; owed_are = sym none; calls_are = refl; entries_are = ap (λ z. settle_head z ++ []) (sym none); after_is = refl }, tt);
       steps_are = refl;
     }
 

@@ -21,7 +21,7 @@ use Rattle.pfs_session.specs.Turns.{Step, StartsEvent, EndsEvent, Spends, Settle
 use Rattle.pfs_session.specs.declared.events.Numbers.{Numbers}
 use Rattle.pfs_session.specs.declared.setup.Setup.{Setup}
 use Rattle.pfs_stat.specs.declared.Stat.{Stat}
-use Rattle.pfs_parts.proofs.Settled.{nothing_owed}
+use Rattle.pfs_session.proofs.Owed.{nothing_owed}
 use Rattle.pfs_alone.proofs.Inner.{IsInner, AreInner}
 use Rattle.pfs_alone.proofs.Steps.{IsActed, acted}
 
