@@ -6,11 +6,11 @@ use Rattle.pfs_model.specs.declared.lines.Line.{Line}
 use Rattle.pfs_model.specs.Contexts.{Context, noted, after, subject_of, turned}
 use Rattle.pfs_model.specs.Places.{Placed, placed_part, placed_lines}
 use Rattle.pfs_session.specs.States.{State, nothing_held}
-use Rattle.pfs_session.specs.Turns.{Step, StartsEvent, EndsEvent, Spends, SettlesHeld, Connects, Quits, Does, Turn, AreTurns, state_after}
+use Rattle.pfs_session.specs.Turns.{state_after}
 use Rattle.pfs_parts.specs.Agreeing.{LoadsAgree}
 use Rattle.pfs_parts.specs.Deeds.{Deed, Connecting, Starting, Staging, StageEnding, Ending, Spending, Quitting, Closing, Part, line_of, part_calls, part_entries}
 use Rattle.pfs_parts.specs.Shaped.{AreParts, AllLoadsAgree, lines_of, entries_of, state_behind}
-use Rattle.pfs_parts.proofs.Written.{ends_stack}
+use Rattle.pfs_parts.proofs.Journaling.{turns_stack}
 use Rattle.pfs_alone.specs.Notes.{all_told}
 use Rattle.pfs_alone.specs.Told.{parts_notes}
 use Rattle.pfs_alone.specs.Stints.{Doing, around, doing_calls, doings_calls, parts_in, AreEntered}
@@ -72,19 +72,6 @@ pub block_loads : (flags : ℕ → ℕ → ℕ) (doings : List Doing) → LoadsA
 block_loads flags [] a = tt
 block_loads flags (d ∷ ds) a =
     (around_loads flags d d.part.deed (part_calls d.part) (loads_back flags (doings_calls ds) (doing_calls d) a), block_loads flags ds (loads_front flags (doings_calls ds) (doing_calls d) a))
-
--- no step changes how many statements may be open
-does_stack : (s : State) (step : Step) (calls : List Call) (entries : List Entry) (after : State) → Does s step calls entries after → after.stack ≡ s.stack
-does_stack s (StartsEvent subject) calls entries after d = ap (λ (z : State). z.stack) d.after_is
-does_stack s (EndsEvent numbers) calls entries after d = ends_stack s numbers calls entries after d
-does_stack s (Spends time) calls entries after d = ap (λ (z : State). z.stack) d.2
-does_stack s SettlesHeld calls entries after d = ap (λ (z : State). z.stack) d.after_is
-does_stack s (Connects admin user host) calls entries after d = ap (λ (z : State). z.stack) d.1
-does_stack s (Quits admin) calls entries after d = ap (λ (z : State). z.stack) d.1
-
-turns_stack : (s : State) (turns : List Turn) → AreTurns s turns → (state_after s turns).stack ≡ s.stack
-turns_stack s [] are = refl
-turns_stack s (t ∷ ts) are = does_stack (state_after s ts) t.step t.calls t.entries t.after are.0 ∙ turns_stack s ts are.1
 
 pub parts_stack : (s : State) (parts : List Part) → AreParts s parts → (state_behind s parts).stack ≡ s.stack
 parts_stack s [] are = refl

@@ -46,7 +46,7 @@ does_stack s SettlesHeld calls entries after d = ap (λ (z : State). z.stack) d.
 does_stack s (Connects admin user host) calls entries after d = ap (λ (z : State). z.stack) d.1
 does_stack s (Quits admin) calls entries after d = ap (λ (z : State). z.stack) d.1
 
-turns_stack : (s : State) (turns : List Turn) → AreTurns s turns → (state_after s turns).stack ≡ s.stack
+pub turns_stack : (s : State) (turns : List Turn) → AreTurns s turns → (state_after s turns).stack ≡ s.stack
 turns_stack s [] are = refl
 turns_stack s (t ∷ ts) are = does_stack (state_after s ts) t.step t.calls t.entries t.after are.0 ∙ turns_stack s ts are.1
 

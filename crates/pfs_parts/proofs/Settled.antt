@@ -1,6 +1,6 @@
 -- What settling writes, and how the session stands behind it.
-use Rattle.std.proofs.Common.{ℕ, zero, suc, ◌≡◌, ◌+◌, true, List, [], ◌∷◌, ◌++◌, Option, Some, None, map, eq-eqb, refl, ap, sym, ◌∙◌, subst}
-use Rattle.std.specs.Prelude.{Ok, replicate}
+use Rattle.std.proofs.Common.{ℕ, ◌≡◌, ◌+◌, true, List, [], ◌∷◌, ◌++◌, Option, Some, None, map, eq-eqb, refl, ap, sym, ◌∙◌, subst}
+use Rattle.std.specs.Prelude.{Ok}
 use Rattle.std.proofs.lemmas.List.{append_assoc, append-nil, map-append, length-replicate}
 use Rattle.pfs_event.specs.declared.entry.Entry.{Entry}
 use Rattle.pfs_event.specs.declared.entry.Entry.TheVariants as says
@@ -12,7 +12,7 @@ use Rattle.pfs_model.specs.declared.lines.Line.{Line}
 use Rattle.pfs_model.specs.declared.lines.Subject.{Subject}
 use Rattle.pfs_model.specs.declared.shapes.Ask.TheVariants as asks
 use Rattle.pfs_model.specs.declared.shapes.Item.{Item}
-use Rattle.pfs_session.specs.Settles.{Settles, Paid, owed_from, owed_in, owed_by, owed_by_state, paid_entries, pay_entries, settle_head}
+use Rattle.pfs_session.specs.Settles.{Settles, Paid, owed_by, owed_by_state, paid_entries, pay_entries, settle_head}
 use Rattle.pfs_session.specs.States.{State, Owed, nothing_held}
 use Rattle.pfs_stat.specs.declared.Stat.{Stat}
 use Rattle.pfs_session.proofs.Owed.{nothing_owed}
