@@ -73,7 +73,7 @@ cell_small what = small what.event.read_only where
   small true = omega arith
   small false = omega (arith, what.event.class_fits)
 
-summary_row : (slot : ℕ) (what : Open) (verdict : Verdict) (cell : ℕ) → verdict ≡ what.verdict → cell ≡ cell_in what → is_let_through what.verdict ≡ true
+pub summary_row : (slot : ℕ) (what : Open) (verdict : Verdict) (cell : ℕ) → verdict ≡ what.verdict → cell ≡ cell_in what → is_let_through what.verdict ≡ true
     → held_row slot (cell_number what) ≡ cell_row (counted_slot (Some slot) verdict) cell
 summary_row slot what verdict cell v c through =
     by_verdict what.verdict through ∙ (ap (λ z. cell_row (counted_slot (Some slot) z) (cell_in what)) (sym v) ∙ ap (cell_row (counted_slot (Some slot) verdict)) (sym c)) where
@@ -215,7 +215,7 @@ ended_from : (subject : Option Subject) (context : Context) (number last consume
 ended_from None context number last consumers thread = record { slot = refl; opened = refl; held = refl; drawn = refl }
 ended_from (Some subject) context number last consumers thread = record { slot = refl; opened = refl; held = refl; drawn = refl }
 
-cell_fits : (what : Open) (held : List (Option Stat)) → length held ≡ 193 → cell_number what < length held
+pub cell_fits : (what : Open) (held : List (Option Stat)) → length held ≡ 193 → cell_number what < length held
 cell_fits what held wide = fits (is_attributed what.verdict) where
   fits : (b : Bool) → (if b then cell_in what else 64 + cell_in what) < length held
   fits true = omega (arith, cell_small what, wide)
@@ -224,7 +224,7 @@ cell_fits what held wide = fits (is_attributed what.verdict) where
 wide_set : (held : List (Option Stat)) (cell : ℕ) (one : Option Stat) → length (slice_set held cell one) ≡ length held
 wide_set held cell one = length-set held cell one
 
-counted_cell : (flags : ℕ → ℕ → ℕ) (slot : Option ℕ) (event : Opened) (what : Open) → is_let_through what.verdict ≡ true → IsCounted flags slot (is_let_through what.verdict) event what
+pub counted_cell : (flags : ℕ → ℕ → ℕ) (slot : Option ℕ) (event : Opened) (what : Open) → is_let_through what.verdict ≡ true → IsCounted flags slot (is_let_through what.verdict) event what
     → event.subject.cell ≡ cell_in what
 counted_cell flags slot event what through c =
     let d : IsCounted flags slot true event what = subst (λ b. IsCounted flags slot b event what) through c in

@@ -10,3 +10,12 @@ pub mod Inverting
 pub mod Written
 pub mod Journaling
 pub mod Started
+pub mod Owing
+pub mod Summing
+pub mod Once
+pub mod Bringing
+pub mod Settling
+pub mod Accounting
+pub mod Examples
+pub mod Agreed
+pub mod Given

@@ -39,7 +39,7 @@ use Rattle.pfs_parts.specs.Deeds.{IsSubject}
 use Rattle.pfs_parts.specs.Shaped.{IsWritten}
 
 -- a new line tells no more of its session
-turned_agrees : (flags : ℕ → ℕ → ℕ) (context : Context) (s : State) → Agrees flags context s → Agrees flags (turned context) s
+pub turned_agrees : (flags : ℕ → ℕ → ℕ) (context : Context) (s : State) → Agrees flags context s → Agrees flags (turned context) s
 turned_agrees flags context s a = record { slot = a.slot; opened = a.opened; held = a.held; drawn = a.drawn; wide = a.wide; low = a.low }
 
 -- a line's entries as one piece, with its shape
@@ -67,7 +67,7 @@ start_piece flags stack line subject context entries after e s =
     subst (λ z. IsPiece flags stack line context z (noted (Some subject) context s.entry)) (sym s.only)
     (subst P e (piece_one flags stack line context s.entry J s.numbered))
 
-does_at : (s : State) (t : Turn) (step : Step) → t.step ≡ step → Does s t.step t.calls t.entries t.after → Does s step t.calls t.entries t.after
+pub does_at : (s : State) (t : Turn) (step : Step) → t.step ≡ step → Does s t.step t.calls t.entries t.after → Does s step t.calls t.entries t.after
 does_at s t step e d = subst (λ z. Does s z t.calls t.entries t.after) e d
 
 -- the calls and entries of one turn, and of two
@@ -184,7 +184,7 @@ abbrev pub has_stage : List Open → Bool
 has_stage [] = false
 has_stage (what ∷ events) = is_stage what.kind
 
-ends_by : (events : List Open) (b : Bool) → has_stage events ≡ b → stage_ends events ≡ (if b then EndsEvent no_numbers ∷ [] else [])
+pub ends_by : (events : List Open) (b : Bool) → has_stage events ≡ b → stage_ends events ≡ (if b then EndsEvent no_numbers ∷ [] else [])
 ends_by [] true e = absurd (false≢true e)
 ends_by [] false e = refl
 ends_by (what ∷ events) b e = ap (λ z. if z then EndsEvent no_numbers ∷ [] else []) e

@@ -1,3 +1,4 @@
 pub mod Deeds
 pub mod Agreeing
 pub mod Shaped
+pub mod Amounts

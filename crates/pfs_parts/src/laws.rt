@@ -1,5 +1,6 @@
 //! Laws of the definitions.
 
+ghost use Rattle.pfs_parts.specs.Amounts.{AmountsLaw, ContentsLaw, FactsLaw, SumsLaw};
 ghost use Rattle.pfs_parts.specs.Shaped.{FreshLaw, JournalLaw, WrittenLaw};
 
 /// What a session writes at a line is what the line asks for, each verdict is that of the flags that were loaded, each
@@ -16,4 +17,28 @@ pub fn journaled()
 /// A session that begins stands as an empty journal tells.
 pub fn fresh()
     ensures { FreshLaw }
+{}
+
+/// What a session adds to a row is exactly the amounts of the events that its journal brings there: each ended
+/// let-through event once, with its time and its numbers; and what it holds back is the sum of what waits.
+pub fn amounts()
+    ensures { AmountsLaw }
+{
+    pfs_stat::laws::merge();
+}
+
+/// A session that begins holds nothing and nothing waits; and where a session holds nothing, nothing waits.
+pub fn sums()
+    ensures { SumsLaw }
+{}
+
+/// What the law of amounts asks of the contents is what a store's actors have in common, and what it answers is what
+/// the rules of a journal ask for.
+pub fn contents()
+    ensures { ContentsLaw }
+{}
+
+/// Whatever a session does from its beginning on has facts.
+pub fn facts()
+    ensures { FactsLaw }
 {}

@@ -1,0 +1,380 @@
+-- What each step of a session adds is what its journal brings there.
+use Rattle.std.proofs.Common.{ℕ, ◌≡◌, ◌<◌, ◌+◌, ◌-◌, ◌%◌, ◌^◌, Bool, true, false, List, [], ◌∷◌, ◌++◌, Option, Some, None, length, map, drop, slice_set, refl, ap, sym, ◌∙◌, subst}
+use Rattle.std.specs.Prelude.{if◌then◌else◌, ◌==◌, IfSome}
+use Rattle.std.proofs.lemmas.Bool.{eqb-true, false≢true}
+use Rattle.pfs_admin.specs.Asks.{connect_entry}
+use Rattle.pfs_containers.specs.declared.containers.Seated.{Seated}
+use Rattle.pfs_event.specs.Verdicts.{is_let_through}
+use Rattle.pfs_event.specs.declared.entry.Entry.{Entry}
+use Rattle.pfs_event.specs.declared.entry.Entry.TheVariants as says
+use Rattle.pfs_event.specs.declared.kind.EventKind.{EventKind}
+use Rattle.pfs_event.specs.declared.open.Open.{Open}
+use Rattle.pfs_levels.specs.Calls.{Call, Adds, row_in}
+use Rattle.pfs_levels.specs.declared.answers.Added.{Added}
+use Rattle.pfs_levels.specs.declared.answers.Added.TheVariants.{Counted, Held}
+use Rattle.pfs_model.specs.Contents.{Facts, amount_by}
+use Rattle.pfs_model.specs.Contexts.{Context, Waiting, noted, turned, after_entries, brought, held_for, held_else, own_event, own_wait, first_of}
+use Rattle.pfs_model.specs.Setups.{is_timed}
+use Rattle.pfs_model.specs.declared.lines.Opened.{Opened}
+use Rattle.pfs_model.specs.declared.lines.Subject.{Subject}
+use Rattle.pfs_session.specs.Ends.{Ends, EndsIn, EndsThrough, EndsSilently, cell_number, added_entry, still_held, with_held, amount_of}
+use Rattle.pfs_session.specs.Settles.{owed_in, owed_by_state}
+use Rattle.pfs_session.specs.Starts.{Starts, started, verdict_in, if_through}
+use Rattle.pfs_session.specs.States.{State, held_row, held_at}
+use Rattle.pfs_session.specs.Turns.{StartsEvent, EndsEvent}
+use Rattle.pfs_session.specs.declared.events.Numbers.{Numbers}
+use Rattle.pfs_stat.specs.Stat.{stat_of, MergeIsMonoid}
+use Rattle.pfs_stat.specs.declared.Stat.{Stat}
+use Rattle.pfs_parts.proofs.Acting.{AreAll, is_quiet}
+use Rattle.pfs_parts.proofs.Ended.{Innermost, innermost_of, cell_fits, counted_cell, summary_row}
+use Rattle.pfs_parts.proofs.Once.{OnceBy, once_then, once_plain, once_added, once_held}
+use Rattle.pfs_model.specs.Asks.{cell_row}
+use Rattle.pfs_model.specs.Shapes.{counted_slot}
+use Rattle.pfs_session.specs.Ends.{cell_in}
+use Rattle.pfs_parts.proofs.Owing.{owed_cell, owed_same, owed_other, wait_same, wait_other, else_same, else_other}
+use Rattle.pfs_parts.proofs.Pieces.{entries_then}
+use Rattle.pfs_parts.proofs.Starting.{consumers_in, thread_in, class_in, table_in, start_as}
+use Rattle.pfs_parts.proofs.Summing.{is_added, same_measure}
+use Rattle.pfs_parts.specs.Agreeing.{AreAlike, Agrees, IsCounted}
+use Rattle.pfs_parts.specs.Amounts.{Going, Clocked, stepped, IsMeasured, EndFacts, StepFacts, sum_of, owed_to, going_of, HaveStarted, Sums, ContentAgrees, ContentsAgree, IsAdded, in_row, counted_first, counted_at, brought_at}
+
+-- each addition among these entries brings what the entries before it say
+abbrev pub AddedBy : (Opened → Stat) → (ℕ → ℕ → List ℕ) → Option Subject → Context → List Entry → Type 0
+AddedBy amounts content subject context [] = Unit {0}
+AddedBy amounts content subject context (e ∷ es) = IsAdded amounts content context e × AddedBy amounts content subject (noted subject context e) es
+
+pub added_then : (amounts : Opened → Stat) (content : ℕ → ℕ → List ℕ) (subject : Option Subject) (context : Context) (es fs : List Entry) → AddedBy amounts content subject context es
+    → AddedBy amounts content subject (after_entries subject context es) fs → AddedBy amounts content subject context (es ++ fs)
+added_then amounts content subject context [] fs a b = b
+added_then amounts content subject context (e ∷ es) fs a b = (a.0, added_then amounts content subject (noted subject context e) es fs a.1 b)
+
+-- entries that bring what they say, and how the session stands behind them
+pub record Accounts (flags : ℕ → ℕ → ℕ) (slots : ℕ → Option ℕ) (facts : ℕ → ℕ → Facts) (session : ℕ) (content : ℕ → ℕ → List ℕ) (subject : Option Subject) (context : Context)
+    (entries : List Entry) (k : Clocked) (after : State) : Type 0 where
+  pub added : AddedBy (amount_by flags slots facts session) content subject context entries
+  pub once : OnceBy subject context entries
+  pub sums : Sums flags slots facts session k (after_entries subject context entries) after
+
+-- what entries change of events and of what waits
+pub record Same (old new : Context) : Type 0 where
+  pub begun : new.begun ≡ old.begun
+  pub opened : new.opened ≡ old.opened
+
+record EndsTo (old new : Context) : Type 0 where
+  pub begun : new.begun ≡ old.begun
+  pub opened : new.opened ≡ drop 1 old.opened
+  pub waiting : new.waiting ≡ old.waiting
+  pub ended : new.ended ≡ first_of old.opened
+
+end_noted : (subject : Option Subject) (context : Context) (n l c t : Option ℕ) → EndsTo context (noted subject context (says.End n l c t))
+end_noted None context n l c t = record { begun = refl; opened = refl; waiting = refl; ended = refl }
+end_noted (Some subject) context n l c t = record { begun = refl; opened = refl; waiting = refl; ended = refl }
+
+pub record AddsTo (row : ℕ) (old new : Context) : Type 0 where
+  pub same : Same old new
+  pub waiting : new.waiting ≡ held_else row old.waiting
+  pub ended : new.ended ≡ old.ended
+
+pub add_noted : (subject : Option Subject) (context : Context) (row version : ℕ) → AddsTo row context (noted subject context (says.Add row version))
+add_noted None context row version = record { same = record { begun = refl; opened = refl }; waiting = refl; ended = refl }
+add_noted (Some subject) context row version = record { same = record { begun = refl; opened = refl }; waiting = refl; ended = refl }
+
+record HoldsTo (row : ℕ) (old new : Context) : Type 0 where
+  pub same : Same old new
+  pub waiting : new.waiting ≡ own_wait row old.ended ++ old.waiting
+
+held_noted : (subject : Option Subject) (context : Context) (row first second : ℕ) → HoldsTo row context (noted subject context (says.Held row first second))
+held_noted None context row first second = record { same = record { begun = refl; opened = refl }; waiting = refl }
+held_noted (Some subject) context row first second = record { same = record { begun = refl; opened = refl }; waiting = refl }
+
+pub record SettlesTo (old new : Context) : Type 0 where
+  pub same : Same old new
+  pub waiting : new.waiting ≡ old.waiting
+  pub ended : new.ended ≡ None
+
+pub settle_noted : (subject : Option Subject) (context : Context) → SettlesTo context (noted subject context says.Settle)
+settle_noted None context = record { same = record { begun = refl; opened = refl }; waiting = refl; ended = refl }
+settle_noted (Some subject) context = record { same = record { begun = refl; opened = refl }; waiting = refl; ended = refl }
+
+-- entries that change none of that
+pub record Quiet (old new : Context) : Type 0 where
+  pub begun : new.begun ≡ old.begun
+  pub opened : new.opened ≡ old.opened
+  pub waiting : new.waiting ≡ old.waiting
+
+quiet_noted : (context : Context) (e : Entry) → is_quiet e ≡ true → Quiet context (noted None context e)
+quiet_noted context (says.Take row version) q = record { begun = refl; opened = refl; waiting = refl }
+quiet_noted context (says.Give row version from) q = record { begun = refl; opened = refl; waiting = refl }
+quiet_noted context (says.Tag row version) q = record { begun = refl; opened = refl; waiting = refl }
+quiet_noted context (says.Free row version) q = record { begun = refl; opened = refl; waiting = refl }
+quiet_noted context (says.Set word version flags) q = record { begun = refl; opened = refl; waiting = refl }
+quiet_noted context (says.Act action) q = record { begun = refl; opened = refl; waiting = refl }
+quiet_noted context _ q = absurd (false≢true q)
+
+pub quiet_then : (a b c : Context) → Quiet a b → Quiet b c → Quiet a c
+quiet_then a b c p q = record { begun = q.begun ∙ p.begun; opened = q.opened ∙ p.opened; waiting = q.waiting ∙ p.waiting }
+
+pub quiet_context : (context : Context) (es : List Entry) → AreAll true is_quiet es → Quiet context (after_entries None context es)
+quiet_context context [] q = record { begun = refl; opened = refl; waiting = refl }
+quiet_context context (e ∷ es) q = quiet_then _ _ _ (quiet_noted context e q.0) (quiet_context (noted None context e) es q.1)
+
+quiet_one : (amounts : Opened → Stat) (content : ℕ → ℕ → List ℕ) (context : Context) (e : Entry) → is_quiet e ≡ true → IsAdded amounts content context e
+quiet_one amounts content context (says.Add row version) q = absurd (false≢true q)
+quiet_one amounts content context _ q = tt
+
+-- and neither count nor bring an event
+quiet_nothing : (context : Context) (e : Entry) → is_quiet e ≡ true → (counted_at context e ≡ []) × (brought_at context e ≡ [])
+quiet_nothing context (says.Take row version) q = (refl, refl)
+quiet_nothing context (says.Give row version from) q = (refl, refl)
+quiet_nothing context (says.Tag row version) q = (refl, refl)
+quiet_nothing context (says.Free row version) q = (refl, refl)
+quiet_nothing context (says.Set word version flags) q = (refl, refl)
+quiet_nothing context (says.Act action) q = (refl, refl)
+quiet_nothing context _ q = absurd (false≢true q)
+
+pub quiet_once : (context : Context) (es : List Entry) → AreAll true is_quiet es → OnceBy None context es
+quiet_once context [] q = λ h. refl
+quiet_once context (e ∷ es) q =
+    let n = quiet_nothing context e q.0 in
+    once_then None context (e ∷ []) es (once_plain None context e n.0 n.1 (quiet_noted context e q.0).waiting) (quiet_once (noted None context e) es q.1)
+
+pub connect_once : (context : Context) (action : ℕ) (seat : Option Seated) → OnceBy None context (connect_entry action seat ∷ [])
+connect_once context action None = once_plain None context (connect_entry action None) refl refl refl
+connect_once context action (Some seat) = once_plain None context (connect_entry action (Some seat)) refl refl refl
+
+pub quiet_added : (amounts : Opened → Stat) (content : ℕ → ℕ → List ℕ) (context : Context) (es : List Entry) → AreAll true is_quiet es → AddedBy amounts content None context es
+quiet_added amounts content context [] q = tt
+quiet_added amounts content context (e ∷ es) q = (quiet_one amounts content context e q.0, quiet_added amounts content (noted None context e) es q.1)
+
+pub connect_quiet : (context : Context) (action : ℕ) (seat : Option Seated) → Quiet context (noted None context (connect_entry action seat))
+connect_quiet context action None = record { begun = refl; opened = refl; waiting = refl }
+connect_quiet context action (Some seat) = record { begun = refl; opened = refl; waiting = refl }
+
+pub connect_added : (amounts : Opened → Stat) (content : ℕ → ℕ → List ℕ) (context : Context) (action : ℕ) (seat : Option Seated)
+    → IsAdded amounts content context (connect_entry action seat)
+connect_added amounts content context action None = tt
+connect_added amounts content context action (Some seat) = tt
+
+abbrev going : ℕ → EventKind → ℕ → Going
+going index kind start = record { index = index; kind = kind; start = start }
+
+same_going : (i j : ℕ) (a b : EventKind) (c d : ℕ) (xs ys : List Going) → i ≡ j → a ≡ b → c ≡ d → xs ≡ ys → (going i a c ∷ xs) ≡ (going j b d ∷ ys)
+same_going i j a b c d xs ys p q r s =
+    ap (λ z. going z a c ∷ xs) p ∙ (ap (λ z. going j z c ∷ xs) q ∙ (ap (λ z. going j b z ∷ xs) r ∙ ap (λ z. going j b d ∷ z) s))
+
+starts_drop : (facts : ℕ → Facts) (gs : List Going) → HaveStarted facts gs → HaveStarted facts (drop 1 gs)
+starts_drop facts [] h = tt
+starts_drop facts (g ∷ gs) h = h.1
+
+counted_none : (slot : Option ℕ) (event : Opened) (others : List Opened) → is_let_through event.verdict ≡ false → counted_first slot (event ∷ others) ≡ []
+counted_none slot event others e = ap (λ b. if b then in_row (cell_row (counted_slot slot event.verdict) event.subject.cell) event ∷ [] else []) e
+
+counted_one : (slot : Option ℕ) (event : Opened) (others : List Opened) → is_let_through event.verdict ≡ true
+    → counted_first slot (event ∷ others) ≡ in_row (cell_row (counted_slot slot event.verdict) event.subject.cell) event ∷ []
+counted_one slot event others e = ap (λ b. if b then in_row (cell_row (counted_slot slot event.verdict) event.subject.cell) event ∷ [] else []) e
+
+module _ (m : MergeIsMonoid) (flags : ℕ → ℕ → ℕ) (slots : ℕ → Option ℕ) (facts : ℕ → ℕ → Facts) (session : ℕ) (content : ℕ → ℕ → List ℕ) where
+  abbrev amounts : Opened → Stat
+  amounts = amount_by flags slots facts session
+
+  abbrev Stands' : Clocked → Context → State → Type 0
+  Stands' k context s = Sums flags slots facts session k context s
+
+  abbrev Brings : Option Subject → Context → List Entry → Clocked → State → Type 0
+  Brings subject context entries k after = Accounts flags slots facts session content subject context entries k after
+
+  pub brings_as : (subject : Option Subject) (context : Context) (entries es : List Entry) (k : Clocked) (after s : State) → entries ≡ es → after ≡ s → Brings subject context es k s
+      → Brings subject context entries k after
+  brings_as subject context entries es k after s p q a =
+      subst (λ z. Brings subject context z k after) (sym p) (subst (λ z. Brings subject context es k z) (sym q) a)
+
+  pub brings_then : (subject : Option Subject) (context : Context) (es fs : List Entry) (j k : Clocked) (s after : State) → Brings subject context es j s
+      → Brings subject (after_entries subject context es) fs k after → Brings subject context (es ++ fs) k after
+  brings_then subject context es fs j k s after a b = record {
+    added = added_then amounts content subject context es fs a.added b.added;
+    once = once_then subject context es fs a.once b.once;
+    sums = subst (λ z. Stands' k z after) (sym (entries_then subject context es fs)) b.sums;
+  }
+
+  pub turned_sums : (k : Clocked) (context : Context) (s : State) → Stands' k context s → Stands' k (turned context) s
+  turned_sums k context s a = record { clock = a.clock; begun = a.begun; going = a.going; starts = a.starts; held = a.held; seat = a.seat }
+
+  pub start_brings : (k : Clocked) (context : Context) (s after : State) (subject : Subject) (calls : List Call) (entries : List Entry) → Stands' k context s
+      → Starts s subject calls entries after → StepFacts (facts session) k (StartsEvent subject) → Brings (Some subject) context entries (stepped k (StartsEvent subject)) after
+  start_brings k context s after subject calls entries a st f =
+      let v = verdict_in s subject st.seen in
+      let n : ℕ = s.drawn + 1 in
+      let entry : Entry = says.Start (if_through v n) v (consumers_in st.seen) (thread_in st.seen) (class_in st.seen) (table_in st.seen) in
+      let same : entries ≡ entry ∷ [] = st.entries_are ∙ ap (λ z. z ∷ []) (start_as v n st.seen) in
+      let sums : Stands' (stepped k (StartsEvent subject)) (noted (Some subject) context entry) (started s st.what) = record {
+        clock = a.clock;
+        begun = ap (λ z. z + 1) a.begun;
+        going = same_going _ _ _ _ _ _ _ _ a.begun (sym st.opened.kind) (a.clock ∙ sym st.opened.start) a.going;
+        starts = (f, a.starts);
+        held = a.held;
+        seat = a.seat;
+      } in
+      brings_as (Some subject) context entries (entry ∷ []) _ after (started s st.what) same st.after_is (record { added = (tt, tt); once = once_plain (Some subject) context entry refl refl refl; sums = sums })
+
+  -- the events that go on, behind an end
+  went_on : (k : Clocked) (context behind : Context) (s : State) (what : Open) (others : List Open) (event : Opened) (rest : List Opened) → Stands' k context s
+      → context.opened ≡ event ∷ rest → s.opened.events ≡ what ∷ others → behind.opened ≡ drop 1 context.opened → drop 1 k.going ≡ going_of behind.opened others
+  went_on k context behind s what others event rest a o e b =
+      ap (drop 1) a.going ∙ (ap (λ z. drop 1 (going_of z s.opened.events)) o ∙ (ap (λ z. drop 1 (going_of (event ∷ rest) z)) e
+      ∙ sym (ap (λ z. going_of z others) (b ∙ ap (drop 1) o))))
+
+  silent_brings : (subject : Option Subject) (k : Clocked) (context : Context) (s after : State) (what : Open) (others : List Open) (event : Opened) (rest : List Opened) (numbers : Numbers)
+      (calls : List Call) (entries : List Entry) → Stands' k context s → context.opened ≡ event ∷ rest → s.opened.events ≡ what ∷ others → is_let_through event.verdict ≡ false
+      → EndsSilently s others calls entries after → Brings subject context entries (stepped k (EndsEvent numbers)) after
+  silent_brings subject k context s after what others event rest numbers calls entries a o e silent x =
+      let End : Entry = says.End None None None None in
+      let d : EndsTo context (noted subject context End) = end_noted subject context None None None None in
+      let sums : Stands' (stepped k (EndsEvent numbers)) (noted subject context End) (record s { opened = record s.opened { events = others } }) = record {
+        clock = a.clock;
+        begun = a.begun ∙ sym d.begun;
+        going = went_on k context (noted subject context End) s what others event rest a o e d.opened;
+        starts = starts_drop (facts session) k.going a.starts;
+        held = λ row. a.held row ∙ ap (λ z. sum_of (map amounts (held_for row z))) (sym d.waiting);
+        seat = a.seat;
+      } in
+      brings_as subject context entries (End ∷ []) _ after _ x.entries_are x.after_is (record {
+        added = (tt, tt);
+        once = once_plain subject context End (ap (counted_first context.slot) o ∙ counted_none context.slot event rest silent) refl d.waiting;
+        sums = sums;
+      })
+
+  -- an ended event adds what its facts say
+  own_amount : (s : State) (slot : ℕ) (what : Open) (event : Opened) (numbers : Numbers) (clock : ℕ) → s.place.thread ≡ Some slot → IfSome s.place.thread (λ n. slots session ≡ Some n)
+      → is_timed flags s.place.thread event ≡ what.event.timed → clock ≡ s.clock → IsMeasured clock numbers (going event.index what.kind what.event.start) (facts session event.index)
+      → amounts event ≡ amount_of what s.clock numbers
+  own_amount s slot what event numbers clock seat sits timed c f =
+      let same : slots session ≡ s.place.thread = subst (λ z. IfSome z (λ n. slots session ≡ Some n)) seat sits ∙ sym seat in
+      ap stat_of (same_measure _ _ _ _ _ _ _ _ _ _ _ _ _ _ _ _ (ap (λ z. is_timed flags z event) same ∙ timed)
+      (f.duration ∙ ap (λ z. (z + (2 ^ 64 - what.event.start)) % 2 ^ 64) c) f.lock f.errors f.warnings f.affected f.sent f.examined)
+
+  -- what is held, behind a change of one cell
+  held_behind : (s : State) (slot cell : ℕ) (one : Option Stat) (old new : List Waiting) → s.place.thread ≡ Some slot → slot < 32 → cell < length s.held
+      → ((row : ℕ) → owed_to row (owed_by_state s) ≡ sum_of (map amounts (held_for row old))) → sum_of (map amounts (held_for (held_row slot cell) new)) ≡ one
+      → ((row : ℕ) → (held_row slot cell == row) ≡ false → held_for row new ≡ held_for row old) → (row : ℕ)
+      → owed_to row (owed_in s.place.thread (slice_set s.held cell one)) ≡ sum_of (map amounts (held_for row new))
+  held_behind s slot cell one old new seat low lt held own others row = by_test (held_row slot cell == row) refl where
+    at : owed_to row (owed_in s.place.thread (slice_set s.held cell one)) ≡ owed_to row (owed_in (Some slot) (slice_set s.held cell one))
+    at = ap (λ z. owed_to row (owed_in z (slice_set s.held cell one))) seat
+
+    by_test : (b : Bool) → (held_row slot cell == row) ≡ b → owed_to row (owed_in s.place.thread (slice_set s.held cell one)) ≡ sum_of (map amounts (held_for row new))
+    by_test true e =
+        let r : row ≡ held_row slot cell = sym (eqb-true (held_row slot cell) row e) in
+        at ∙ (ap (λ z. owed_to z (owed_in (Some slot) (slice_set s.held cell one))) r ∙ (owed_same slot cell s.held one low lt
+        ∙ (sym own ∙ ap (λ z. sum_of (map amounts (held_for z new))) (sym r))))
+    by_test false e =
+        at ∙ (owed_other row slot cell s.held one e ∙ (ap (λ z. owed_to row (owed_in z s.held)) (sym seat) ∙ (held row ∙ ap (λ z. sum_of (map amounts z)) (sym (others row e)))))
+
+  through_brings : (subject : Option Subject) (k : Clocked) (context : Context) (s after : State) (slot : ℕ) (what : Open) (others : List Open) (numbers : Numbers) (calls : List Call)
+      (entries : List Entry) → Agrees flags context s → Stands' k context s → s.place.thread ≡ Some slot → s.opened.events ≡ what ∷ others
+      → (i : Innermost flags s.place.thread context.opened what others) → is_let_through what.verdict ≡ true → StepFacts (facts session) k (EndsEvent numbers)
+      → EndsThrough s slot what others numbers calls entries after → ContentsAgree content calls → Brings subject context entries (stepped k (EndsEvent numbers)) after
+  through_brings subject k context s after slot what others numbers calls entries agrees a seat e i through f x c =
+      let agree = subst (ContentsAgree content) x.calls_are c in
+      brings_as subject context entries (End ∷ added_entry x.answer ∷ []) _ after _ x.entries_are x.after_is (by_answer x.answer x.row_is agree.0) where
+        cell : ℕ
+        cell = cell_number what
+
+        row : ℕ
+        row = held_row slot cell
+
+        sum : Stat
+        sum = with_held (held_at s.held cell) (amount_of what s.clock numbers)
+
+        End : Entry
+        End = says.End (Some what.event.number) (Some s.drawn) (Some x.consumers.version) (Some x.thread.version)
+
+        mid : Context
+        mid = noted subject context End
+
+        d : EndsTo context mid
+        d = end_noted subject context (Some what.event.number) (Some s.drawn) (Some x.consumers.version) (Some x.thread.version)
+
+        low : slot < 32
+        low = subst (λ z. IfSome z (λ n. n < 32)) seat agrees.low
+
+        fits : cell < length s.held
+        fits = cell_fits what s.held agrees.wide
+
+        gone : k.going ≡ going i.event.index what.kind what.event.start ∷ going_of i.rest others
+        gone = a.going ∙ (ap (λ z. going_of z s.opened.events) i.is ∙ ap (going_of (i.event ∷ i.rest)) e)
+
+        own : amounts i.event ≡ amount_of what s.clock numbers
+        own =
+            let counted : IsCounted flags s.place.thread true i.event what = subst (λ b. IsCounted flags s.place.thread b i.event what) through i.alike.counted in
+            own_amount s slot what i.event numbers k.clock seat a.seat counted.1 a.clock (subst (EndFacts (facts session) k.clock numbers) gone f)
+
+        all : sum_of (map amounts (i.event ∷ held_for row context.waiting)) ≡ Some sum
+        all =
+            let waits : sum_of (map amounts (held_for row context.waiting)) ≡ held_at s.held cell =
+            sym (a.held row) ∙ (ap (λ z. owed_to row (owed_in z s.held)) seat ∙ owed_cell slot cell s.held low fits) in
+            ap (λ z. Some (with_held z (amounts i.event))) waits ∙ ap (λ z. Some (with_held (held_at s.held cell) z)) own
+
+        counted : counted_at context End ≡ in_row row i.event ∷ []
+        counted =
+            let cell_is : i.event.subject.cell ≡ cell_in what = counted_cell flags s.place.thread i.event what through i.alike.counted in
+            let place : cell_row (counted_slot context.slot i.event.verdict) i.event.subject.cell ≡ row =
+            ap (λ z. cell_row (counted_slot z i.event.verdict) i.event.subject.cell) (agrees.slot ∙ seat) ∙ sym (summary_row slot what i.event.verdict i.event.subject.cell i.alike.verdict cell_is through) in
+            ap (counted_first context.slot) i.is ∙ (counted_one context.slot i.event i.rest (ap is_let_through i.alike.verdict ∙ through) ∙ ap (λ z. in_row z i.event ∷ []) place)
+
+        ended : mid.ended ≡ Some i.event
+        ended = d.ended ∙ ap first_of i.is
+
+        next : Option Stat → State
+        next one = record s { opened = record s.opened { events = others }; held = slice_set s.held cell one }
+
+        behind : (last : Context) (one : Option Stat) → Same mid last → sum_of (map amounts (held_for row last.waiting)) ≡ one
+            → ((q : ℕ) → (row == q) ≡ false → held_for q last.waiting ≡ held_for q context.waiting) → Stands' (stepped k (EndsEvent numbers)) last (next one)
+        behind last one same here there = record {
+          clock = a.clock;
+          begun = a.begun ∙ sym (same.begun ∙ d.begun);
+          going = went_on k context last s what others i.event i.rest a i.is e (same.opened ∙ d.opened);
+          starts = starts_drop (facts session) k.going a.starts;
+          held = held_behind s slot cell one context.waiting last.waiting seat low fits a.held here there;
+          seat = a.seat;
+        }
+
+        by_answer : (answer : Added) → row_in answer ≡ row → ContentAgrees content (Adds row sum answer)
+            → Brings subject context (End ∷ added_entry answer ∷ []) (stepped k (EndsEvent numbers)) (next (still_held sum answer))
+        by_answer (Counted r version) r_is agree =
+            let t : AddsTo r mid (noted subject mid (says.Add r version)) = add_noted subject mid r version in
+            let brings : brought mid r ≡ i.event ∷ held_for row context.waiting =
+            ap (λ z. own_event z ++ held_for r mid.waiting) ended ∙ (ap (λ z. i.event ∷ held_for r z) d.waiting ∙ ap (λ z. i.event ∷ held_for z context.waiting) r_is) in
+            let left : (noted subject mid (says.Add r version)).waiting ≡ held_else row context.waiting =
+            t.waiting ∙ (ap (held_else r) d.waiting ∙ ap (λ z. held_else z context.waiting) r_is) in
+            record {
+              added = (tt, (is_added m amounts content mid r version agree.0 sum agree.1 agree.2 (ap (λ z. sum_of (map amounts z)) brings ∙ all), tt));
+              once = once_added subject context End r version row i.event counted refl r_is brings left;
+              sums = behind (noted subject mid (says.Add r version)) None t.same
+                  (ap (λ z. sum_of (map amounts (held_for row z))) left ∙ ap (λ z. sum_of (map amounts z)) (else_same row context.waiting))
+                  (λ q o. ap (held_for q) left ∙ else_other q row context.waiting o);
+            }
+        by_answer (Held r first second) r_is agree =
+            let t : HoldsTo r mid (noted subject mid (says.Held r first second)) = held_noted subject mid r first second in
+            let left : (noted subject mid (says.Held r first second)).waiting ≡ record { row = row; event = i.event } ∷ context.waiting =
+            t.waiting ∙ (ap (λ z. own_wait r z ++ mid.waiting) ended ∙ (ap (λ z. own_wait r (Some i.event) ++ z) d.waiting ∙ ap (λ z. own_wait z (Some i.event) ++ context.waiting) r_is)) in
+            record {
+              added = (tt, (tt, tt));
+              once = once_held subject context End r first second row i.event counted refl left;
+              sums = behind (noted subject mid (says.Held r first second)) (Some sum) t.same
+                  (ap (λ z. sum_of (map amounts (held_for row z))) left ∙ (ap (λ z. sum_of (map amounts z)) (wait_same row i.event context.waiting) ∙ all))
+                  (λ q o. ap (held_for q) left ∙ wait_other q row i.event context.waiting o);
+            }
+
+  pub end_brings : (subject : Option Subject) (k : Clocked) (context : Context) (s after : State) (numbers : Numbers) (calls : List Call) (entries : List Entry) → Agrees flags context s
+      → Stands' k context s → Ends s numbers calls entries after → StepFacts (facts session) k (EndsEvent numbers) → ContentsAgree content calls
+      → Brings subject context entries (stepped k (EndsEvent numbers)) after
+  end_brings subject k context s after numbers calls entries agrees a x f c = by_case s.place.thread (is_let_through x.what.verdict) refl refl x.ends where
+    inner : Innermost flags s.place.thread context.opened x.what x.others
+    inner = innermost_of flags s.place.thread context.opened x.what x.others (subst (λ z. AreAlike flags s.place.thread context.opened z) x.innermost agrees.opened)
+
+    by_case : (slot : Option ℕ) (b : Bool) → s.place.thread ≡ slot → is_let_through x.what.verdict ≡ b → EndsIn s slot b x.what x.others numbers calls entries after
+        → Brings subject context entries (stepped k (EndsEvent numbers)) after
+    by_case slot false o t y =
+        silent_brings subject k context s after x.what x.others inner.event inner.rest numbers calls entries a inner.is x.innermost (ap is_let_through inner.alike.verdict ∙ t) y
+    by_case None true o t y = absurd y
+    by_case (Some slot) true o t y = through_brings subject k context s after slot x.what x.others numbers calls entries agrees a o x.innermost inner t f y c

@@ -1,0 +1,265 @@
+-- What a session adds to a row is what its journal brings there: each ended event once, with its time and its numbers.
+use Rattle.std.specs.Prelude.{ℕ, ◌≡◌, ◌+◌, ◌-◌, ◌%◌, ◌^◌, ◌==◌, Bool, if◌then◌else◌, List, [], ◌∷◌, ◌++◌, drop, map, Option, Some, None, IfSome}
+use Rattle.pfs_admin.specs.Asks.{placed_of}
+use Rattle.pfs_admin.specs.States.{seat_at}
+use Rattle.pfs_event.specs.Verdicts.{is_let_through}
+use Rattle.pfs_event.specs.declared.entry.Entry.{Entry}
+use Rattle.pfs_event.specs.declared.entry.Entry.TheVariants as says
+use Rattle.pfs_event.specs.declared.kind.EventKind.{EventKind}
+use Rattle.pfs_event.specs.declared.open.Open.{Open}
+use Rattle.pfs_levels.specs.Calls.{Call, Adds, Rings, Reads, Loads, Draws, Takes, Puts, Frees, Sets, Enters, Leaves, Meets}
+use Rattle.pfs_levels.specs.Contents.{merged}
+use Rattle.pfs_levels.specs.declared.answers.Added.TheVariants.{Counted, Held}
+use Rattle.pfs_model.specs.Contents.{Facts, Given, amount_by, IsNext, IsContent}
+use Rattle.pfs_model.specs.Contents.{merged as all_merged}
+use Rattle.pfs_levels.specs.Joint.{total, At, Setting, AllAgree}
+use Rattle.pfs_model.specs.Asks.{cell_row}
+use Rattle.pfs_model.specs.Contexts.{Context, Waiting, brought, held_for}
+use Rattle.pfs_model.specs.Contexts.{fresh as empty}
+use Rattle.pfs_model.specs.Places.{Placed, placed_lines, after_lines}
+use Rattle.pfs_model.specs.Shapes.{counted_slot}
+use Rattle.pfs_model.specs.declared.lines.Opened.{Opened}
+use Rattle.pfs_session.specs.Ends.{numbers_for, with_held}
+use Rattle.pfs_session.specs.Settles.{owed_by_state}
+use Rattle.pfs_session.specs.States.{State, Owed, fresh}
+use Rattle.pfs_session.specs.Turns.{Step, StartsEvent, EndsEvent, Spends, SettlesHeld, Connects, Quits, state_after, steps_of}
+use Rattle.pfs_session.specs.declared.events.Numbers.{Numbers}
+use Rattle.pfs_stat.specs.Stat.{words_of, stat_of_words}
+use Rattle.pfs_stat.specs.declared.Stat.{Stat}
+use Rattle.pfs_parts.specs.Agreeing.{Stands}
+use Rattle.pfs_parts.specs.Deeds.{Deed, Connecting, Starting, Staging, StageEnding, Ending, Spending, Quitting, Closing, Part, part_calls}
+use Rattle.pfs_parts.specs.Shaped.{AreParts, MayDoAll, AllLoadsAgree, lines_of, entries_of, state_behind}
+
+-- an event that has started and not ended: its position among the session's starts, its kind, the clock at its start
+pub record Going : Type 0 where
+  pub index : ℕ
+  pub kind : EventKind
+  pub start : ℕ
+
+-- what the steps of a session tell of it: its clock, how many events it has started, and those that it hasn't ended,
+-- the innermost first
+pub record Clocked : Type 0 where
+  pub clock : ℕ
+  pub begun : ℕ
+  pub going : List Going
+
+abbrev pub at_first : Clocked
+at_first = record { clock = 0; begun = 0; going = [] }
+
+abbrev pub stepped : Clocked → Step → Clocked
+stepped clocked (StartsEvent subject) = record {
+  clock = clocked.clock;
+  begun = clocked.begun + 1;
+  going = record { index = clocked.begun; kind = subject.kind; start = clocked.clock } ∷ clocked.going;
+}
+stepped clocked (EndsEvent numbers) = record clocked { going = drop 1 clocked.going }
+stepped clocked (Spends time) = record clocked { clock = (clocked.clock + time) % 2 ^ 64 }
+stepped clocked SettlesHeld = clocked
+stepped clocked (Connects admin user host) = clocked
+stepped clocked (Quits admin) = clocked
+
+-- these are the facts of an event that ends when the clock stands so: how long it took, modulo 2^64, and a statement's
+-- numbers
+pub record IsMeasured (clock : ℕ) (numbers : Numbers) (event : Going) (facts : Facts) : Type 0 where
+  pub duration : facts.duration ≡ (clock + (2 ^ 64 - event.start)) % 2 ^ 64
+  pub lock : facts.lock ≡ (numbers_for event.kind numbers).lock
+  pub errors : facts.errors ≡ (numbers_for event.kind numbers).errors
+  pub warnings : facts.warnings ≡ (numbers_for event.kind numbers).warnings
+  pub affected : facts.affected ≡ (numbers_for event.kind numbers).affected
+  pub sent : facts.sent ≡ (numbers_for event.kind numbers).sent
+  pub examined : facts.examined ≡ (numbers_for event.kind numbers).examined
+
+abbrev pub EndFacts : (ℕ → Facts) → ℕ → Numbers → List Going → Type 0
+EndFacts facts clock numbers [] = Unit {0}
+EndFacts facts clock numbers (event ∷ events) = IsMeasured clock numbers event (facts event.index)
+
+-- a start gives the clock at the start of its event, an end the rest
+abbrev pub StepFacts : (ℕ → Facts) → Clocked → Step → Type 0
+StepFacts facts clocked (StartsEvent subject) = (facts clocked.begun).start ≡ clocked.clock
+StepFacts facts clocked (EndsEvent numbers) = EndFacts facts clocked.clock numbers clocked.going
+StepFacts facts clocked (Spends time) = Unit {0}
+StepFacts facts clocked SettlesHeld = Unit {0}
+StepFacts facts clocked (Connects admin user host) = Unit {0}
+StepFacts facts clocked (Quits admin) = Unit {0}
+
+abbrev pub all_stepped : Clocked → List Step → Clocked
+all_stepped clocked [] = clocked
+all_stepped clocked (step ∷ steps) = all_stepped (stepped clocked step) steps
+
+-- these are the facts of a session's events, by their position among its starts, as its steps give them
+abbrev pub AreFacts : (ℕ → Facts) → Clocked → List Step → Type 0
+AreFacts facts clocked [] = Unit {0}
+AreFacts facts clocked (step ∷ steps) = StepFacts facts clocked step × AreFacts facts (stepped clocked step) steps
+
+abbrev pub AllFacts : (ℕ → Facts) → Clocked → List Part → Type 0
+AllFacts facts clocked [] = Unit {0}
+AllFacts facts clocked (p ∷ ps) =
+    AreFacts facts clocked (steps_of p.turns) × AllFacts facts (all_stepped clocked (steps_of p.turns)) ps
+
+abbrev pub clock_behind : Clocked → List Part → Clocked
+clock_behind clocked [] = clocked
+clock_behind clocked (p ∷ ps) = clock_behind (all_stepped clocked (steps_of p.turns)) ps
+
+-- amounts put together, the newest first; none where there are none
+abbrev pub sum_of : List Stat → Option Stat
+sum_of [] = None
+sum_of (amount ∷ amounts) = Some (with_held (sum_of amounts) amount)
+
+-- what is owed to a row
+abbrev pub owed_to : ℕ → List Owed → Option Stat
+owed_to row [] = None
+owed_to row (one ∷ others) = if one.row == row then Some one.amount else owed_to row others
+
+-- the open events, of which a journal knows the positions and a session kind and start
+abbrev pub going_of : List Opened → List Open → List Going
+going_of [] whats = []
+going_of (event ∷ events) [] = []
+going_of (event ∷ events) (what ∷ whats) =
+    record { index = event.index; kind = what.kind; start = what.event.start } ∷ going_of events whats
+
+abbrev pub HaveStarted : (ℕ → Facts) → List Going → Type 0
+HaveStarted facts [] = Unit {0}
+HaveStarted facts (event ∷ events) = ((facts event.index).start ≡ event.start) × HaveStarted facts events
+
+-- a session holds for each row exactly the sum of what its journal says is waiting for the row; its clock and its open
+-- events are those of its steps, and the facts have their starts; and its slot, where it has one, is the one given
+pub record Sums (flags : ℕ → ℕ → ℕ) (slots : ℕ → Option ℕ) (facts : ℕ → ℕ → Facts) (session : ℕ) (clocked : Clocked)
+    (context : Context) (s : State) : Type 0 where
+  pub clock : clocked.clock ≡ s.clock
+  pub begun : clocked.begun ≡ context.begun
+  pub going : clocked.going ≡ going_of context.opened s.opened.events
+  pub starts : HaveStarted (facts session) clocked.going
+  pub held : (row : ℕ) → owed_to row (owed_by_state s)
+      ≡ sum_of (map (amount_by flags slots facts session) (held_for row context.waiting))
+  pub seat : IfSome s.place.thread (λ n. slots session ≡ Some n)
+
+-- by the contents of the rows: an addition and a put made a row's content, and a take found it
+abbrev pub ContentAgrees : (ℕ → ℕ → List ℕ) → Call → Type 0
+ContentAgrees content (Adds row amount (Counted at version)) =
+    (before : ℕ) × (version ≡ before + 1) × (content at version ≡ merged (content at before) amount)
+ContentAgrees content (Adds row amount (Held at first second)) = Unit {0}
+ContentAgrees content (Takes row version found) = found ≡ content row version
+ContentAgrees content (Puts row put version) = content row version ≡ put
+ContentAgrees content (Rings row put answer) = Unit {0}
+ContentAgrees content (Reads row seen) = Unit {0}
+ContentAgrees content (Loads at version found) = Unit {0}
+ContentAgrees content (Draws kind ticket) = Unit {0}
+ContentAgrees content (Frees row version) = Unit {0}
+ContentAgrees content (Sets at to version) = Unit {0}
+ContentAgrees content (Enters label labels) = Unit {0}
+ContentAgrees content Leaves = Unit {0}
+ContentAgrees content (Meets versions) = Unit {0}
+
+abbrev pub ContentsAgree : (ℕ → ℕ → List ℕ) → List Call → Type 0
+ContentsAgree content [] = Unit {0}
+ContentsAgree content (call ∷ calls) = ContentAgrees content call × ContentsAgree content calls
+
+abbrev pub AllContentsAgree : (ℕ → ℕ → List ℕ) → List Part → Type 0
+AllContentsAgree content [] = Unit {0}
+AllContentsAgree content (p ∷ ps) = ContentsAgree content (part_calls p) × AllContentsAgree content ps
+
+-- a session gets this slot when it connects
+abbrev pub IsPlaced : Option ℕ → State → Deed → Type 0
+IsPlaced slot s (Connecting admin user host) = (placed_of (seat_at admin s.number user host)).thread ≡ slot
+IsPlaced slot s (Starting subject) = Unit {0}
+IsPlaced slot s (Staging subject) = Unit {0}
+IsPlaced slot s StageEnding = Unit {0}
+IsPlaced slot s (Ending numbers) = Unit {0}
+IsPlaced slot s (Spending time) = Unit {0}
+IsPlaced slot s (Quitting admin) = Unit {0}
+IsPlaced slot s Closing = Unit {0}
+
+abbrev pub AllPlaced : Option ℕ → State → List Part → Type 0
+AllPlaced slot s [] = Unit {0}
+AllPlaced slot s (p ∷ ps) = IsPlaced slot s p.deed × AllPlaced slot (state_after s p.turns) ps
+
+-- an addition makes its row's content of the one before, by all events that it brings there
+abbrev pub IsAdded : (Opened → Stat) → (ℕ → ℕ → List ℕ) → Context → Entry → Type 0
+IsAdded amount content context (says.Add row version) =
+    IsNext content (λ here. words_of (all_merged (stat_of_words here) (map amount (brought context row)))) row version
+IsAdded amount content context entry = Unit {0}
+
+abbrev pub AreAdded : (Opened → Stat) → (ℕ → ℕ → List ℕ) → List Placed → Type 0
+AreAdded amount content [] = Unit {0}
+AreAdded amount content (place ∷ places) =
+    IsAdded amount content place.context place.entry × AreAdded amount content places
+
+-- an event with the row in which it counts
+abbrev pub in_row : ℕ → Opened → Waiting
+in_row row event = record { row = row; event = event }
+
+-- the event that an end counts: the innermost open one, where it is let through, in its cell
+abbrev pub counted_first : Option ℕ → List Opened → List Waiting
+counted_first slot [] = []
+counted_first slot (event ∷ others) =
+    if is_let_through event.verdict
+    then in_row (cell_row (counted_slot slot event.verdict) event.subject.cell) event ∷ []
+    else []
+
+abbrev pub counted_at : Context → Entry → List Waiting
+counted_at context (says.End event last consumers thread) = counted_first context.slot context.opened
+counted_at context entry = []
+
+-- the events that an addition brings
+abbrev pub brought_at : Context → Entry → List Waiting
+brought_at context (says.Add row version) = map (in_row row) (brought context row)
+brought_at context entry = []
+
+abbrev pub counted_in : List Placed → List Waiting
+counted_in [] = []
+counted_in (place ∷ places) = counted_at place.context place.entry ++ counted_in places
+
+abbrev pub brought_in : List Placed → List Waiting
+brought_in [] = []
+brought_in (place ∷ places) = brought_at place.context place.entry ++ brought_in places
+
+-- each event that ended and counts, or waited before, was brought or waits behind, just as often, each in its row
+abbrev pub IsOnce : List Waiting → List Placed → List Waiting → Type 0
+IsOnce before places behind = (weight : Waiting → ℕ)
+    → total weight (counted_in places) + total weight before
+    ≡ total weight (brought_in places) + total weight behind
+
+-- each addition of a session's journal brings its row exactly the events that the journal says; each event that ended
+-- and counts was brought once to its row, or waits for it; and behind the journal the session holds for each row exactly
+-- what waits for it
+pub record IsAccounted (flags : ℕ → ℕ → ℕ) (slots : ℕ → Option ℕ) (facts : ℕ → ℕ → Facts) (session : ℕ)
+    (content : ℕ → ℕ → List ℕ) (clocked : Clocked) (context : Context) (s : State) (parts : List Part) : Type 0 where
+  pub added : (phase : ℕ) → AreAdded (amount_by flags slots facts session) content
+      (placed_lines phase session context (lines_of parts) (entries_of parts))
+  pub once : (phase : ℕ) → IsOnce context.waiting
+      (placed_lines phase session context (lines_of parts) (entries_of parts))
+      (after_lines context (lines_of parts) (entries_of parts)).waiting
+  pub sums : Sums flags slots facts session (clock_behind clocked parts)
+      (after_lines context (lines_of parts) (entries_of parts)) (state_behind s parts)
+
+-- of lines one after another of a session that stands as its journal tells, whose facts are those that its steps give,
+-- where each load gave the flags of its version, and each addition, take and put agrees with the contents
+abbrev pub AmountsLaw : Type 0
+AmountsLaw = (flags : ℕ → ℕ → ℕ) (slots : ℕ → Option ℕ) (facts : ℕ → ℕ → Facts) (session : ℕ)
+    (content : ℕ → ℕ → List ℕ) (over : Bool) (clocked : Clocked) (context : Context) (s : State) (parts : List Part)
+    → Stands flags over context s → Sums flags slots facts session clocked context s → MayDoAll over s parts
+    → AreParts s parts → AllLoadsAgree flags parts → AllPlaced (slots session) s parts
+    → AllFacts (facts session) clocked parts → AllContentsAgree content parts
+    → IsAccounted flags slots facts session content clocked context s parts
+
+-- a session that begins stands so; and where a session holds nothing, nothing waits
+pub record SumsLaw : Type 0 where
+  pub fresh : (flags : ℕ → ℕ → ℕ) (slots : ℕ → Option ℕ) (facts : ℕ → ℕ → Facts) (session number stack depth : ℕ)
+      → Sums flags slots facts session at_first empty (fresh number stack depth)
+  pub nothing : (flags : ℕ → ℕ → ℕ) (slots : ℕ → Option ℕ) (facts : ℕ → ℕ → Facts) (session : ℕ) (clocked : Clocked)
+      (context : Context) (s : State) → Sums flags slots facts session clocked context s → owed_by_state s ≡ []
+      → context.waiting ≡ []
+
+-- whatever a session does from its beginning on has facts
+abbrev pub FactsLaw : Type 0
+FactsLaw = (parts : List Part) → (facts : ℕ → Facts) × AllFacts facts at_first parts
+
+-- what a store's actors have in common says what this law asks of the contents, and what it answers is the content that
+-- the rules of a journal ask for
+pub record ContentsLaw : Type 0 where
+  pub agree : (opening : List ℕ) (content : ℕ → ℕ → List ℕ) (log : List At) (sets : List Setting) (calls : List Call)
+      → AllAgree opening content log sets calls → ContentsAgree content calls
+  pub ask : (given : Given) (content : ℕ → ℕ → List ℕ) (place : Placed) (row version : ℕ)
+      → place.entry ≡ says.Add row version
+      → IsAdded (given.amount place.session) content place.context place.entry
+      → IsContent given content place place.entry
