@@ -1,0 +1,5 @@
+pub mod Deeds
+pub mod Bits
+pub mod Working
+pub mod Calming
+pub mod Parting
