@@ -3,3 +3,5 @@ pub mod Bits
 pub mod Working
 pub mod Calming
 pub mod Parting
+pub mod Listing
+pub mod Running

@@ -13,12 +13,10 @@ use Rattle.pfs_parts.specs.Deeds.{Part, IsPart, line_of, part_calls, part_entrie
 use Rattle.pfs_session.specs.States.{State}
 use Rattle.pfs_asked.specs.Asking.{Orders, AreOrders, action_of}
 
--- a take, a give and a tag make their row's content of the one before
+-- but for an addition, a change makes its row's content of the one before: a take, a give, a tag
 abbrev pub IsMade : Given → (ℕ → ℕ → List ℕ) → Placed → Entry → Type 0
-IsMade given content place (says.Take row version) = IsContent given content place (says.Take row version)
-IsMade given content place (says.Give row version from) = IsContent given content place (says.Give row version from)
-IsMade given content place (says.Tag row version) = IsContent given content place (says.Tag row version)
-IsMade given content place entry = Unit {0}
+IsMade given content place (says.Add row version) = Unit {0}
+IsMade given content place entry = IsContent given content place entry
 
 abbrev pub AreMade : Given → (ℕ → ℕ → List ℕ) → List Placed → Type 0
 AreMade given content [] = Unit {0}

@@ -1,9 +1,20 @@
 //! Laws of the definitions.
 
 ghost use Rattle.pfs_asked.specs.Done.{DoneLaw};
+ghost use Rattle.pfs_asked.specs.Runs.{ContentsLaw, RunLaw};
 
 /// An action of a session does just what the administration asks for, in its order; a connect prints the places that
 /// the administration found; and each take, give and tag makes its row's content of the one before.
 pub fn done()
     ensures { DoneLaw }
+{}
+
+/// The same of all journals of any number of sessions, where each number is that of one action.
+pub fn run()
+    ensures { RunLaw }
+{}
+
+/// With the additions, the contents of all rows are as their changes make them.
+pub fn contents()
+    ensures { ContentsLaw }
 {}
