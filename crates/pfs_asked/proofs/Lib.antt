@@ -5,3 +5,4 @@ pub mod Calming
 pub mod Parting
 pub mod Listing
 pub mod Running
+pub mod Examples

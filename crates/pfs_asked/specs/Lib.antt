@@ -1,3 +1,4 @@
 pub mod Asking
 pub mod Done
 pub mod Runs
+pub mod Examples

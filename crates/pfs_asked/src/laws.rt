@@ -1,6 +1,7 @@
 //! Laws of the definitions.
 
 ghost use Rattle.pfs_asked.specs.Done.{DoneLaw};
+ghost use Rattle.pfs_asked.specs.Examples.{WorkedRun};
 ghost use Rattle.pfs_asked.specs.Runs.{ContentsLaw, RunLaw};
 
 /// An action of a session does just what the administration asks for, in its order; a connect prints the places that
@@ -17,4 +18,9 @@ pub fn run()
 /// With the additions, the contents of all rows are as their changes make them.
 pub fn contents()
     ensures { ContentsLaw }
+{}
+
+/// Two sessions of one account connect, and the first one ends: a wait that it has counted goes up to the account.
+pub fn worked()
+    ensures { WorkedRun }
 {}
