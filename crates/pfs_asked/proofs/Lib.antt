@@ -6,3 +6,4 @@ pub mod Parting
 pub mod Listing
 pub mod Running
 pub mod Examples
+pub mod Taking

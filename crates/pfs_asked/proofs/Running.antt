@@ -16,7 +16,7 @@ use Rattle.pfs_asked.proofs.Bits.{all_found, all_made, all_answered}
 use Rattle.pfs_asked.proofs.Listing.{owed, ArePaid, paid_then, lines_paid, owed_none, owed_once}
 use Rattle.pfs_asked.specs.Asking.{Orders}
 use Rattle.pfs_asked.specs.Done.{IsMade, AreMade}
-use Rattle.pfs_asked.specs.Runs.{Stay, block_of, blocks_of, all_numbers, numbers_of, AreStays, nothing_asked, AreActions, IsAsked, RunLaw, AreAddedBy, ContentsLaw}
+use Rattle.pfs_asked.specs.Runs.{Stay, block_of, blocks_of, all_numbers, numbers_of, AreStays, nothing_asked, AreActions, IsAsked, LinesLaw, RunLaw, AreAddedBy, ContentsLaw}
 
 blocks_paid : (orders : Orders) (given : Given) (content : ℕ → ℕ → List ℕ) (earlier : List Block) (stays : List Stay) → AreStays orders given content stays
     → ArePaid orders given content (all_numbers stays) (places_behind earlier (blocks_of stays))
@@ -27,21 +27,27 @@ blocks_paid orders given content earlier (stay ∷ stays) are =
     (lines_paid orders given content stay.phase stay.session stay.session (told_by stay.session fresh earlier) stay.from stay.parts are.0.number are.0.parts are.0.contents are.0.told)
     (blocks_paid orders given content (earlier ++ block_of stay ∷ []) stays are.1)
 
+once : (orders : Orders) (numbers : List ℕ) (number : ℕ)
+    → (times (λ n. n == number) numbers ≡ 1) ⊎ ((times (λ n. n == number) numbers ≡ 0) × (orders.asked number ≡ nothing_asked))
+    → owed orders number numbers ≡ asked_of (orders.counted number) (orders.asked number)
+once orders numbers number (inl e) = owed_once orders number numbers e
+once orders numbers number (inr e) = owed_none orders number numbers e.0 ∙ ap (asked_of (orders.counted number)) (sym e.1)
+
+asked_where : (orders : Orders) (given : Given) (content : ℕ → ℕ → List ℕ) (numbers : List ℕ) (all : List Placed) → ArePaid orders given content numbers all → AreActions orders.asked numbers
+    → IsAsked orders given content all
+asked_where orders given content numbers all paid actions = record {
+  done = λ number p. paid.done number p ∙ once orders numbers number (actions number p);
+  answered = λ answers refusal. all_answered orders given content answers refusal all paid.facts;
+  found = all_found orders given content all paid.facts;
+  made = all_made orders given content all paid.facts;
+}
+
+pub lines : LinesLaw
+lines = λ orders given content phase session context s parts are calls told actions.
+    asked_where orders given content (numbers_of parts) _ (lines_paid orders given content phase session s.number context s parts refl are calls told) actions
+
 pub run : RunLaw
-run = λ orders given content stays are actions.
-    let all : List Placed = places (blocks_of stays) in
-    let paid : ArePaid orders given content (all_numbers stays) all = blocks_paid orders given content [] stays are in
-    record {
-      done = λ number p. paid.done number p ∙ once orders (all_numbers stays) number (actions number p);
-      answered = λ answers refusal. all_answered orders given content answers refusal all paid.facts;
-      found = all_found orders given content all paid.facts;
-      made = all_made orders given content all paid.facts;
-    } where
-      once : (orders : Orders) (numbers : List ℕ) (number : ℕ)
-          → (times (λ n. n == number) numbers ≡ 1) ⊎ ((times (λ n. n == number) numbers ≡ 0) × (orders.asked number ≡ nothing_asked))
-          → owed orders number numbers ≡ asked_of (orders.counted number) (orders.asked number)
-      once orders numbers number (inl e) = owed_once orders number numbers e
-      once orders numbers number (inr e) = owed_none orders number numbers e.0 ∙ ap (asked_of (orders.counted number)) (sym e.1)
+run = λ orders given content stays are actions. asked_where orders given content (all_numbers stays) _ (blocks_paid orders given content [] stays are) actions
 
 -- an addition, or anything else
 content_of : (given : Given) (content : ℕ → ℕ → List ℕ) (phase session : ℕ) (line : Line) (context : Context) (e : Entry)

@@ -2,3 +2,4 @@ pub mod Asking
 pub mod Done
 pub mod Runs
 pub mod Examples
+pub mod Takes

@@ -74,6 +74,13 @@ pub record IsAsked (orders : Orders) (given : Given) (content : ℕ → ℕ → 
   pub found : AreFoundAsCounted content orders.counted all
   pub made : AreMade given content all
 
+-- of lines of a session one after another
+abbrev pub LinesLaw : Type 0
+LinesLaw = (orders : Orders) (given : Given) (content : ℕ → ℕ → List ℕ) (phase session : ℕ) (context : Context)
+    (s : State) (parts : List Part) → AreParts s parts → AllContentsAgree content parts
+    → AllOrders orders given content s.number parts → AreActions orders.asked (numbers_of parts)
+    → IsAsked orders given content (placed_lines phase session context (lines_of parts) (entries_of parts))
+
 -- of any number of sessions, in whatever order their blocks stand, whatever their store
 abbrev pub RunLaw : Type 0
 RunLaw = (orders : Orders) (given : Given) (content : ℕ → ℕ → List ℕ) (stays : List Stay)

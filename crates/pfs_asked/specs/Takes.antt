@@ -1,0 +1,62 @@
+-- Whether a take found something counted, as a function of its action's number and its row: there is one where no action
+-- takes a row twice.
+use Rattle.std.specs.Prelude.{ℕ, ◌≡◌, ◌-◌, ◌==◌, ◌&&◌, not, Bool, true, false, if◌then◌else◌, List, [], ◌∷◌, ◌++◌}
+use Rattle.pfs_event.specs.declared.entry.Entry.{Entry}
+use Rattle.pfs_event.specs.declared.entry.Entry.TheVariants as says
+use Rattle.pfs_model.specs.Chains.{Each}
+use Rattle.pfs_parts.specs.Deeds.{Part, part_entries}
+use Rattle.pfs_stat.specs.Stat.{stat_of_words}
+use Rattle.pfs_asked.specs.Asking.{AreCounted, action_of}
+use Rattle.pfs_asked.specs.Runs.{Stay}
+
+-- a row that an action took, and the version at which it was left
+pub record Taken : Type 0 where
+  pub action : ℕ
+  pub row : ℕ
+  pub version : ℕ
+
+abbrev pub taken_at : ℕ → Entry → List Taken
+taken_at action (says.Take row version) = record { action = action; row = row; version = version } ∷ []
+taken_at action entry = []
+
+abbrev pub taken_in : ℕ → List Entry → List Taken
+taken_in action [] = []
+taken_in action (entry ∷ entries) = taken_at action entry ++ taken_in action entries
+
+abbrev pub taken_by : List Part → List Taken
+taken_by [] = []
+taken_by (p ∷ ps) = taken_in (action_of p.deed) (part_entries p) ++ taken_by ps
+
+abbrev pub all_taken : List Stay → List Taken
+all_taken [] = []
+all_taken (stay ∷ stays) = taken_by stay.parts ++ all_taken stays
+
+abbrev pub found_counted : (ℕ → ℕ → List ℕ) → Taken → Bool
+found_counted content taken = not ((stat_of_words (content taken.row (taken.version - 1))).count == 0)
+
+abbrev pub is_of : ℕ → ℕ → Taken → Bool
+is_of action row taken = (taken.action == action) && (taken.row == row)
+
+abbrev pub counted_by : (ℕ → ℕ → List ℕ) → List Taken → ℕ → ℕ → Bool
+counted_by content [] action row = false
+counted_by content (taken ∷ others) action row =
+    if is_of action row taken then found_counted content taken else counted_by content others action row
+
+-- no action takes a row twice
+abbrev pub AreApart : List Taken → Type 0
+AreApart [] = Unit {0}
+AreApart (taken ∷ others) = Each (λ other. is_of other.action other.row taken ≡ false) others × AreApart others
+
+abbrev pub CountedIn : (ℕ → ℕ → List ℕ) → (ℕ → ℕ → Bool) → List Part → Type 0
+CountedIn content counted [] = Unit {0}
+CountedIn content counted (p ∷ ps) =
+    AreCounted content counted (action_of p.deed) (part_entries p) × CountedIn content counted ps
+
+abbrev pub AllCounted : (ℕ → ℕ → List ℕ) → (ℕ → ℕ → Bool) → List Stay → Type 0
+AllCounted content counted [] = Unit {0}
+AllCounted content counted (stay ∷ stays) =
+    CountedIn content counted stay.parts × AllCounted content counted stays
+
+abbrev pub CountedLaw : Type 0
+CountedLaw = (content : ℕ → ℕ → List ℕ) (stays : List Stay) → AreApart (all_taken stays)
+    → AllCounted content (counted_by content (all_taken stays)) stays
