@@ -16,7 +16,7 @@ use Rattle.pfs_asked.proofs.Bits.{all_found, all_made, all_answered}
 use Rattle.pfs_asked.proofs.Listing.{owed, ArePaid, paid_then, lines_paid, owed_none, owed_once}
 use Rattle.pfs_asked.specs.Asking.{Orders}
 use Rattle.pfs_asked.specs.Done.{IsMade, AreMade}
-use Rattle.pfs_asked.specs.Runs.{Stay, block_of, blocks_of, all_numbers, numbers_of, AreStays, nothing_asked, AreActions, IsAsked, LinesLaw, RunLaw, AreAddedBy, ContentsLaw}
+use Rattle.pfs_asked.specs.Runs.{Stay, block_of, blocks_of, all_numbers, numbers_of, AreStays, nothing_asked, AreActions, IsAsked, LinesLaw, RunLaw, AreAddedBy, AllAdded, ContentsLaw}
 
 blocks_paid : (orders : Orders) (given : Given) (content : ℕ → ℕ → List ℕ) (earlier : List Block) (stays : List Stay) → AreStays orders given content stays
     → ArePaid orders given content (all_numbers stays) (places_behind earlier (blocks_of stays))
@@ -88,5 +88,13 @@ lines_added given content phase session context (p ∷ ps) a =
     added_join given content first _ (part_added given content phase session line (turned context) (part_entries p) (front given content session first _ a))
     (lines_added given content phase session next ps (back given content session first _ a))
 
+blocks_added : (given : Given) (content : ℕ → ℕ → List ℕ) (earlier : List Block) (stays : List Stay) → AllAdded given content earlier stays
+    → AreAddedBy given content (places_behind earlier (blocks_of stays))
+unfolding places_behind
+blocks_added given content earlier [] a = tt
+blocks_added given content earlier (stay ∷ stays) a =
+    added_join given content _ (places_behind (earlier ++ block_of stay ∷ []) (blocks_of stays))
+    (lines_added given content stay.phase stay.session (told_by stay.session fresh earlier) stay.parts a.0) (blocks_added given content (earlier ++ block_of stay ∷ []) stays a.1)
+
 pub contents : ContentsLaw
-contents = record { all = all_contents; added = lines_added }
+contents = record { all = all_contents; added = λ given content stays a. blocks_added given content [] stays a }

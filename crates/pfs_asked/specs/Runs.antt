@@ -3,8 +3,8 @@ use Rattle.std.specs.Prelude.{ℕ, ◌≡◌, ◌<◌, ◌==◌, ◌⊎◌, List
 use Rattle.pfs_model.specs.Asked.{Answer, Asked, AreAnswered, DoAsAsked}
 use Rattle.pfs_model.specs.Chains.{times}
 use Rattle.pfs_model.specs.Contents.{Given, AllContents, AreFoundAsCounted}
-use Rattle.pfs_model.specs.Contexts.{Context}
-use Rattle.pfs_model.specs.Places.{Block, Placed, places, placed_lines}
+use Rattle.pfs_model.specs.Contexts.{Context, fresh}
+use Rattle.pfs_model.specs.Places.{Block, Placed, places, placed_lines, told_by}
 use Rattle.pfs_parts.specs.Amounts.{AllContentsAgree, IsAdded, AreAdded}
 use Rattle.pfs_parts.specs.Deeds.{Part}
 use Rattle.pfs_parts.specs.Shaped.{AreParts, lines_of, entries_of}
@@ -93,11 +93,17 @@ AreAddedBy given content [] = Unit {0}
 AreAddedBy given content (place ∷ places) =
     IsAdded (given.amount place.session) content place.context place.entry × AreAddedBy given content places
 
--- where additions are made too, all contents are; and a session's additions are such, where it adds what is given
+-- each session adds what is given, behind these blocks
+abbrev pub AllAdded : Given → (ℕ → ℕ → List ℕ) → List Block → List Stay → Type 0
+AllAdded given content earlier [] = Unit {0}
+AllAdded given content earlier (stay ∷ stays) =
+    AreAdded (given.amount stay.session) content (placed_lines stay.phase stay.session
+        (told_by stay.session fresh earlier) (lines_of stay.parts) (entries_of stay.parts))
+    × AllAdded given content (earlier ++ block_of stay ∷ []) stays
+
+-- where additions are made too, all contents are; and the additions are made where each session adds what is given
 pub record ContentsLaw : Type 0 where
   pub all : (given : Given) (content : ℕ → ℕ → List ℕ) (places : List Placed) → AreMade given content places
       → AreAddedBy given content places → AllContents given content places
-  pub added : (given : Given) (content : ℕ → ℕ → List ℕ) (phase session : ℕ) (context : Context) (parts : List Part)
-      → AreAdded (given.amount session) content
-      (placed_lines phase session context (lines_of parts) (entries_of parts))
-      → AreAddedBy given content (placed_lines phase session context (lines_of parts) (entries_of parts))
+  pub added : (given : Given) (content : ℕ → ℕ → List ℕ) (stays : List Stay) → AllAdded given content [] stays
+      → AreAddedBy given content (places (blocks_of stays))
