@@ -2,13 +2,13 @@
 use Rattle.std.proofs.Common.{ℕ, ◌≡◌, ◌==◌, Bool, true, false, cond, List, [], ◌∷◌, ◌++◌, refl, ap, sym, ◌∙◌}
 use Rattle.std.specs.Prelude.{if◌then◌else◌, not}
 use Rattle.std.proofs.lemmas.List.{append_assoc, append-nil}
-use Rattle.pfs_admin.specs.Works.{Sign, Releases, Tags, Made, Flagging, Work, signs_of, signs_entries, made_entries, sign_entry, flagging_entries}
+use Rattle.pfs_admin.specs.Works.{Sign, Releases, Tags, Made, Flagging, signs_of, signs_entries, made_entries, sign_entry, flagging_entries}
 use Rattle.pfs_event.specs.declared.entry.Entry.{Entry}
 use Rattle.pfs_event.specs.declared.entry.Entry.TheVariants as says
 use Rattle.pfs_levels.specs.Moves.{Ask, Gift, Move, IsMove, due, receivers, gift_entries, move_entries}
 use Rattle.pfs_levels.specs.declared.answers.Word.{Word}
 use Rattle.pfs_model.specs.Asked.{Did, Took, Gave, did, given_to, moved_by, signed_by, flagged_by}
-use Rattle.pfs_model.specs.Asked.{Move as Moving, Sign as Signing}
+use Rattle.pfs_model.specs.Asked.{Move as Moving}
 use Rattle.pfs_stat.specs.Stat.{stat_of_words}
 use Rattle.pfs_asked.specs.Asking.{moves_asked, signs_asked, sets_asked}
 

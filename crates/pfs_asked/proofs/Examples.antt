@@ -1,20 +1,18 @@
 -- The worked run meets the premises of the law.
-use Rattle.std.proofs.Common.{ℕ, ◌≡◌, ◌+◌, ◌==◌, ◌<◌, Bool, true, false, cond, List, [], ◌∷◌, ◌++◌, Option, Some, None, inl, inr, refl, ap, sym, ◌∙◌, subst, arith}
+use Rattle.std.proofs.Common.{ℕ, ◌≡◌, ◌+◌, ◌==◌, ◌<◌, Bool, true, false, cond, [], ◌∷◌, ◌++◌, Some, inl, inr, refl, ap, sym, subst}
 use Rattle.std.specs.Prelude.{◌⊎◌, if◌then◌else◌}
 use Rattle.std.proofs.lemmas.Bool.{eqb-true, true≢false}
 use Rattle.pfs_levels.specs.Moves.{AreMoves, ask}
-use Rattle.pfs_model.specs.Asked.{Asked}
 use Rattle.pfs_model.specs.Chains.{times}
 use Rattle.pfs_parts.proofs.Settled.{nothing_owed}
 use Rattle.pfs_parts.specs.Amounts.{ContentsAgree}
 use Rattle.pfs_parts.specs.Deeds.{IsPart, part_calls}
 use Rattle.pfs_session.specs.Settles.{settle_head}
-use Rattle.pfs_session.specs.Turns.{Works}
 use Rattle.pfs_asked.proofs.Running.{run}
 use Rattle.pfs_asked.specs.Asking.{AreOrders, asked_by}
 use Rattle.pfs_admin.specs.Examples.{start}
-use Rattle.pfs_asked.specs.Examples.{second, third, first_work, second_work, third_work, content, first_made, second_made, third_made, third_moves, connect_part, connected_one, quit_part, one, two, stays, asked, orders, given, WorkedRun}
-use Rattle.pfs_asked.specs.Runs.{AreStays, AreActions, nothing_asked}
+use Rattle.pfs_asked.specs.Examples.{second, first_work, second_work, third_work, content, first_made, second_made, third_made, third_moves, connect_part, connected_one, quit_part, one, two, stays, asked, orders, given, WorkedRun}
+use Rattle.pfs_asked.specs.Runs.{AreStays, nothing_asked}
 
 first_is : IsPart one (connect_part one start first_work first_made)
 first_is = record {
@@ -31,13 +29,31 @@ second_is = record {
 moves_are : AreMoves third_work.moves third_moves
 moves_are = (
   ask 129 (2177 ∷ []) ∷ ask 191 (2239 ∷ []) ∷ [],
-  (ask 192 (2240 ∷ []), (refl, (record { from_is = refl; next = refl; gifts_are = tt; to_is = refl }, (
-    ask 129 (2177 ∷ []) ∷ [],
-    (ask 191 (2239 ∷ []), (refl, (record { from_is = refl; next = refl; gifts_are = tt; to_is = refl }, (
-      [],
-      (ask 129 (2177 ∷ []), (refl, (record { from_is = refl; next = refl; gifts_are = (refl, tt); to_is = refl }, refl))),
-    )))),
-  )))),
+  (
+    ask 192 (2240 ∷ []),
+    (
+      refl,
+      (
+        record { from_is = refl; next = refl; gifts_are = tt; to_is = refl },
+        (
+          ask 129 (2177 ∷ []) ∷ [],
+          (
+            ask 191 (2239 ∷ []),
+            (
+              refl,
+              (
+                record { from_is = refl; next = refl; gifts_are = tt; to_is = refl },
+                (
+                  [],
+                  (ask 129 (2177 ∷ []), (refl, (record { from_is = refl; next = refl; gifts_are = (refl, tt); to_is = refl }, refl))),
+                ),
+              ),
+            ),
+          ),
+        ),
+      ),
+    ),
+  ),
 )
 
 third_is : IsPart connected_one quit_part

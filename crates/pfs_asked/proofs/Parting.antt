@@ -1,6 +1,5 @@
 -- What a part of a session's journal says was done is what its line asks for.
 use Rattle.std.proofs.Common.{ℕ, ◌≡◌, ◌+◌, ◌==◌, ◌<◌, Bool, true, false, cond, List, [], ◌∷◌, ◌++◌, Option, Some, None, ne_eqb, refl, ap, sym, ◌∙◌, subst, arith}
-use Rattle.std.proofs.lemmas.List.{append-nil}
 use Rattle.std.proofs.lemmas.Bool.{eqb-true}
 use Rattle.pfs_admin.specs.Asks.{connect_entry, placed_of, work_of_connect, work_of_quit}
 use Rattle.pfs_admin.specs.States.{seat_at}
@@ -9,10 +8,9 @@ use Rattle.pfs_admin.specs.Works.{Work, Made, signs_of, signs_calls, signs_entri
 use Rattle.pfs_containers.specs.declared.containers.Seated.{Seated}
 use Rattle.pfs_event.specs.declared.entry.Entry.{Entry}
 use Rattle.pfs_event.specs.declared.entry.Entry.TheVariants as says
-use Rattle.pfs_levels.specs.Calls.{Call}
 use Rattle.pfs_levels.specs.Moves.{Move, AreMoves, moves_calls, moves_entries}
 use Rattle.pfs_levels.specs.declared.answers.Word.{Word}
-use Rattle.pfs_model.specs.Asked.{Answer, Did, did, of_action, asked_of, moved_by, signed_by, flagged_by}
+use Rattle.pfs_model.specs.Asked.{Did, did, of_action, asked_of, moved_by, signed_by}
 use Rattle.pfs_model.specs.Chains.{Each, each_of}
 use Rattle.pfs_model.specs.Contents.{Given}
 use Rattle.pfs_model.specs.Contexts.{Context, noted, after_entries, subject_of, turned}
@@ -24,13 +22,13 @@ use Rattle.pfs_parts.proofs.Inverting.{OneTurn, TwoTurns, one_turn, two_turns}
 use Rattle.pfs_parts.specs.Amounts.{ContentsAgree}
 use Rattle.pfs_parts.specs.Deeds.{Deed, Connecting, Starting, Staging, StageEnding, Ending, Spending, Quitting, Closing, Part, IsPart, line_of, part_calls, part_entries, steps_for}
 use Rattle.pfs_session.specs.States.{State}
-use Rattle.pfs_session.specs.Turns.{Step, Connects, Quits, SettlesHeld, Does, Turn, AreTurns, Works, state_after, steps_of, turns_calls, turns_entries}
+use Rattle.pfs_session.specs.Turns.{Step, Connects, Quits, SettlesHeld, Does, Turn, AreTurns, steps_of, turns_calls, turns_entries}
 use Rattle.pfs_asked.proofs.Bits.{each_then, placed_then, AreActed, acted_then, all_keep, acted_at, Fact, IsBit, bit_then, still_bit, calm_bit, calm_idle, all_of, each_placed, all_found, all_made, all_answered}
 use Rattle.pfs_asked.proofs.Calming.{AreIdleSteps, does_calm, turns_calm, deed_idle}
 use Rattle.pfs_asked.proofs.Deeds.{dids, dids_then, signs_done, sets_done}
 use Rattle.pfs_asked.proofs.Working.{contents_front, contents_back, counted_front, counted_back, moves_acted, signs_acted, sets_acted, MovesAre, moves_are, signs_facts, sets_facts}
-use Rattle.pfs_asked.specs.Asking.{Orders, AreOrders, AreWords, AreCounted, moves_asked, signs_asked, sets_asked, asked_by, action_of, asked_of_deed, work_of, rooms_of, AreRooms}
-use Rattle.pfs_asked.specs.Done.{IsDone, DoneLaw, AreIdle}
+use Rattle.pfs_asked.specs.Asking.{Orders, AreOrders, AreWords, AreCounted, moves_asked, signs_asked, asked_by, action_of, rooms_of}
+use Rattle.pfs_asked.specs.Done.{DoneLaw, AreIdle}
 
 -- what an action of this number owes under each number
 abbrev pub owes : Orders → ℕ → ℕ → List Did

@@ -1,13 +1,13 @@
 -- All blocks of all sessions, and the contents.
-use Rattle.std.proofs.Common.{ℕ, ◌≡◌, ◌+◌, ◌==◌, ◌<◌, Bool, true, false, cond, List, [], ◌∷◌, ◌++◌, inl, inr, refl, ap, sym, ◌∙◌, subst, arith}
+use Rattle.std.proofs.Common.{ℕ, ◌≡◌, ◌==◌, List, [], ◌∷◌, ◌++◌, inl, inr, refl, ap, sym, ◌∙◌}
 use Rattle.std.specs.Prelude.{◌⊎◌}
 use Rattle.pfs_event.specs.declared.entry.Entry.{Entry}
 use Rattle.pfs_event.specs.declared.entry.Entry.TheVariants as says
-use Rattle.pfs_model.specs.Asked.{did, of_action, asked_of}
-use Rattle.pfs_model.specs.Chains.{Each, each_of, times}
+use Rattle.pfs_model.specs.Asked.{asked_of}
+use Rattle.pfs_model.specs.Chains.{times}
 use Rattle.pfs_model.specs.Contents.{Given, IsContent, AllContents}
 use Rattle.pfs_model.specs.Contexts.{Context, fresh, noted, after, subject_of, turned}
-use Rattle.pfs_model.specs.Places.{Block, Placed, places_behind, placed_part, placed_lines, told_by, places}
+use Rattle.pfs_model.specs.Places.{Block, Placed, places_behind, placed_part, placed_lines, told_by}
 use Rattle.pfs_model.specs.declared.lines.Line.{Line}
 use Rattle.pfs_parts.specs.Amounts.{IsAdded, AreAdded}
 use Rattle.pfs_parts.specs.Deeds.{Part, line_of, part_entries}

@@ -1,5 +1,5 @@
 -- Each take is found by its action and its row.
-use Rattle.std.proofs.Common.{ℕ, ◌≡◌, ◌==◌, Bool, true, false, List, [], ◌∷◌, ◌++◌, eq-eqb, refl, ap, sym, ◌∙◌}
+use Rattle.std.proofs.Common.{ℕ, ◌≡◌, ◌==◌, Bool, true, false, List, [], ◌∷◌, ◌++◌, eq-eqb, refl, ap, ◌∙◌}
 use Rattle.std.specs.Prelude.{◌&&◌, if◌then◌else◌}
 use Rattle.pfs_event.specs.declared.entry.Entry.{Entry}
 use Rattle.pfs_event.specs.declared.entry.Entry.TheVariants as says
@@ -42,22 +42,25 @@ one_counted content counted action _ a = tt
 
 entries_counted : (content : ℕ → ℕ → List ℕ) (counted : ℕ → ℕ → Bool) (action : ℕ) (es : List Entry) → Each (IsHeld content counted) (taken_in action es) → AreCounted content counted action es
 entries_counted content counted action [] a = tt
-entries_counted content counted action (e ∷ es) a =
-    (one_counted content counted action e (each_front (IsHeld content counted) (taken_at action e) (taken_in action es) a),
-    entries_counted content counted action es (each_back (IsHeld content counted) (taken_at action e) (taken_in action es) a))
+entries_counted content counted action (e ∷ es) a = (
+  one_counted content counted action e (each_front (IsHeld content counted) (taken_at action e) (taken_in action es) a),
+  entries_counted content counted action es (each_back (IsHeld content counted) (taken_at action e) (taken_in action es) a),
+)
 
 parts_counted : (content : ℕ → ℕ → List ℕ) (counted : ℕ → ℕ → Bool) (ps : List Part) → Each (IsHeld content counted) (taken_by ps) → CountedIn content counted ps
 parts_counted content counted [] a = tt
 parts_counted content counted (p ∷ ps) a =
-    let own : List Taken = taken_in (action_of p.deed) (part_entries p) in
-    (entries_counted content counted (action_of p.deed) (part_entries p) (each_front (IsHeld content counted) own (taken_by ps) a),
-    parts_counted content counted ps (each_back (IsHeld content counted) own (taken_by ps) a))
+    let own : List Taken = taken_in (action_of p.deed) (part_entries p) in (
+      entries_counted content counted (action_of p.deed) (part_entries p) (each_front (IsHeld content counted) own (taken_by ps) a),
+      parts_counted content counted ps (each_back (IsHeld content counted) own (taken_by ps) a),
+    )
 
 stays_counted : (content : ℕ → ℕ → List ℕ) (counted : ℕ → ℕ → Bool) (stays : List Stay) → Each (IsHeld content counted) (all_taken stays) → AllCounted content counted stays
 stays_counted content counted [] a = tt
-stays_counted content counted (stay ∷ stays) a =
-    (parts_counted content counted stay.parts (each_front (IsHeld content counted) (taken_by stay.parts) (all_taken stays) a),
-    stays_counted content counted stays (each_back (IsHeld content counted) (taken_by stay.parts) (all_taken stays) a))
+stays_counted content counted (stay ∷ stays) a = (
+  parts_counted content counted stay.parts (each_front (IsHeld content counted) (taken_by stay.parts) (all_taken stays) a),
+  stays_counted content counted stays (each_back (IsHeld content counted) (taken_by stay.parts) (all_taken stays) a),
+)
 
 pub counted : CountedLaw
 counted = λ content stays apart. stays_counted content (counted_by content (all_taken stays)) stays (all_held content (all_taken stays) apart)

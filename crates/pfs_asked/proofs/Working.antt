@@ -1,9 +1,7 @@
 -- The work of an action: what its entries say was done, and that each makes its row's content.
-use Rattle.std.proofs.Common.{ℕ, ◌≡◌, ◌+◌, ◌-◌, ◌==◌, ◌<◌, Bool, true, false, cond, List, [], ◌∷◌, ◌++◌, Option, Some, None, refl, ap, sym, ◌∙◌, subst, arith}
+use Rattle.std.proofs.Common.{ℕ, ◌≡◌, ◌+◌, ◌-◌, ◌==◌, Bool, true, List, [], ◌∷◌, ◌++◌, Some, refl, ap, sym, ◌∙◌, subst, arith}
 use Rattle.std.specs.Prelude.{not}
-use Rattle.std.proofs.lemmas.Bool.{false≢true}
-use Rattle.std.proofs.lemmas.List.{append_assoc, append-nil}
-use Rattle.pfs_admin.specs.Works.{Sign, Releases, Tags, Made, Flagging, Work, signs_of, signs_calls, sign_calls, made_calls, signs_entries, made_entries, sign_entry, flagging_calls, flagging_entries}
+use Rattle.pfs_admin.specs.Works.{Sign, Releases, Tags, Made, Flagging, signs_of, signs_calls, sign_calls, made_calls, signs_entries, made_entries, sign_entry, flagging_entries}
 use Rattle.pfs_event.specs.declared.entry.Entry.{Entry}
 use Rattle.pfs_event.specs.declared.entry.Entry.TheVariants as says
 use Rattle.pfs_levels.specs.Calls.{Call}
@@ -11,19 +9,18 @@ use Rattle.pfs_levels.specs.Contents.{merged, zero_words}
 use Rattle.pfs_levels.specs.Moves.{Ask, Gift, Move, AreGifts, IsMove, AreMoves, gift_calls, move_calls, moves_calls, empty_calls, gift_entries, move_entries, moves_entries}
 use Rattle.pfs_levels.specs.declared.answers.Word.{Word}
 use Rattle.pfs_model.specs.Actions.{is_acted}
-use Rattle.pfs_model.specs.Asked.{Answer, Did, IsAnswered, did, of_action, asked_of, moved_by, signed_by, flagged_by}
-use Rattle.pfs_model.specs.Chains.{Each, each_of}
-use Rattle.pfs_model.specs.Contents.{Given, IsContent, IsFoundAsCounted}
+use Rattle.pfs_model.specs.Asked.{moved_by}
+use Rattle.pfs_model.specs.Chains.{Each}
+use Rattle.pfs_model.specs.Contents.{Given, IsFoundAsCounted}
 use Rattle.pfs_model.specs.Contexts.{Context, noted, after_entries, subject_of}
-use Rattle.pfs_model.specs.Places.{Placed, placed_part}
+use Rattle.pfs_model.specs.Places.{placed_part}
 use Rattle.pfs_model.specs.declared.lines.Line.{Line}
 use Rattle.pfs_parts.specs.Amounts.{ContentsAgree}
 use Rattle.pfs_stat.specs.Stat.{stat_of_words, merge_of, words_of}
 use Rattle.pfs_stat.specs.declared.Stat.{Stat}
 use Rattle.pfs_asked.proofs.Bits.{each_then, placed_then, AreActed, acted_then, all_keep, Fact}
-use Rattle.pfs_asked.proofs.Deeds.{dids, dids_then, move_done, moved_then, asked_then, signs_done, sets_done}
-use Rattle.pfs_asked.specs.Asking.{Orders, AreWords, AreCounted, moves_asked, signs_asked, sets_asked, asked_by}
-use Rattle.pfs_asked.specs.Done.{IsMade}
+use Rattle.pfs_asked.proofs.Deeds.{dids, dids_then, move_done, moved_then, asked_then}
+use Rattle.pfs_asked.specs.Asking.{Orders, AreWords, AreCounted, moves_asked}
 
 -- what is said of two lists of calls, or of entries, is said of each
 pub contents_front : (content : ℕ → ℕ → List ℕ) (xs ys : List Call) → ContentsAgree content (xs ++ ys) → ContentsAgree content xs
@@ -83,9 +80,10 @@ gifts_facts orders given content phase session line amount from (g ∷ gs) conte
     let there : g.there ≡ content g.to g.before = own.1.0 in
     let put : content g.to g.version ≡ merged g.there amount = own.0 in
     let makes : content g.to g.version ≡ words_of (merge_of (stat_of_words (content g.to g.before)) (stat_of_words (content from (context.source_version - 1)))) =
-    put ∙ (ap (λ z. words_of (merge_of (stat_of_words z) amount)) there ∙ ap (λ z. words_of (merge_of (stat_of_words (content g.to g.before)) z)) (sym is)) in
-    (record { found = tt; made = (source, (g.before, next.0, makes)); answered = λ a r. tt },
-    gifts_facts orders given content phase session line amount from gs context source is next.1 (contents_front content (gift_calls amount gs) _ calls))
+    put ∙ (ap (λ z. words_of (merge_of (stat_of_words z) amount)) there ∙ ap (λ z. words_of (merge_of (stat_of_words (content g.to g.before)) z)) (sym is)) in (
+      record { found = tt; made = (source, (g.before, next.0, makes)); answered = λ a r. tt },
+      gifts_facts orders given content phase session line amount from gs context source is next.1 (contents_front content (gift_calls amount gs) _ calls),
+    )
 
 one_less : (n m : ℕ) → n ≡ m + 1 → n - 1 ≡ m
 one_less n m e = omega (arith, e)
@@ -100,10 +98,11 @@ move_facts orders given content phase session line action a m context at is call
     let was : m.found ≡ content m.from m.before = own.1.0 in
     let here : stat_of_words (content m.from (m.version - 1)) ≡ amount = ap (λ z. stat_of_words (content m.from z)) (one_less m.version m.before is.next) ∙ ap stat_of_words (sym was) in
     let counted : IsFoundAsCounted content orders.counted context.action (says.Take m.from m.version) =
-    subst (λ z. IsFoundAsCounted content orders.counted z (says.Take m.from m.version)) (sym at) counts.0 in
-    (record { found = counted; made = (m.before, is.next, zeros); answered = λ a r. tt },
-    gifts_facts orders given content phase session line amount m.from m.gifts (noted (subject_of line) context (says.Take m.from m.version)) refl here is.gifts_are
-    (contents_front content (gift_calls amount m.gifts) (empty_calls m.from m.before m.version m.found) calls))
+    subst (λ z. IsFoundAsCounted content orders.counted z (says.Take m.from m.version)) (sym at) counts.0 in (
+      record { found = counted; made = (m.before, is.next, zeros); answered = λ a r. tt },
+      gifts_facts orders given content phase session line amount m.from m.gifts (noted (subject_of line) context (says.Take m.from m.version)) refl here is.gifts_are
+          (contents_front content (gift_calls amount m.gifts) (empty_calls m.from m.before m.version m.found) calls),
+    )
 
 -- what was moved
 pub record MovesAre (orders : Orders) (given : Given) (content : ℕ → ℕ → List ℕ) (action : ℕ) (asks : List Ask) (ms : List Move) (phase session : ℕ) (line : Line) (context : Context) : Type 0 where
@@ -158,9 +157,11 @@ signs_facts orders given content phase session line action (m ∷ ms) context at
     let mid : Context = after_entries (subject_of line) context (signs_entries ms) in
     subst (Each (Fact orders given content)) (sym (placed_then phase session line context (signs_entries ms) (made_entries m)))
     (each_then (Fact orders given content) _ _
-    (signs_facts orders given content phase session line action ms context at (words_front (given.info_words action) (signs_of ms) (m.sign ∷ []) words) (contents_back content (made_calls m) (signs_calls ms) calls))
-    (sign_fact orders given content phase session line action m.sign m.version m.found mid (all_keep (subject_of line) context (signs_entries ms) (signs_acted ms) ∙ at)
-    (words_back (given.info_words action) (signs_of ms) (m.sign ∷ []) words) (contents_front content (made_calls m) (signs_calls ms) calls), tt))
+    (signs_facts orders given content phase session line action ms context at (words_front (given.info_words action) (signs_of ms) (m.sign ∷ []) words) (contents_back content (made_calls m) (signs_calls ms) calls)) (
+      sign_fact orders given content phase session line action m.sign m.version m.found mid (all_keep (subject_of line) context (signs_entries ms) (signs_acted ms) ∙ at)
+          (words_back (given.info_words action) (signs_of ms) (m.sign ∷ []) words) (contents_front content (made_calls m) (signs_calls ms) calls),
+      tt,
+    ))
 
 pub sets_facts : (orders : Orders) (given : Given) (content : ℕ → ℕ → List ℕ) (phase session : ℕ) (line : Line) (words : List Word) (fs : List Flagging) (context : Context)
     → Each (Fact orders given content) (placed_part phase session line context (flagging_entries words fs))

@@ -1,11 +1,10 @@
 -- What the administration asks for at a line of a session, as the rules of a journal have it.
-use Rattle.std.specs.Prelude.{ℕ, ◌≡◌, ◌+◌, ◌-◌, ◌<◌, ◌==◌, not, Bool, List, [], ◌∷◌, Option}
+use Rattle.std.specs.Prelude.{ℕ, ◌≡◌, ◌+◌, Bool, List, [], ◌∷◌}
 use Rattle.pfs_admin.specs.Asks.{work_of_connect, work_of_quit, placed_of}
 use Rattle.pfs_admin.specs.States.{seat_at}
 use Rattle.pfs_admin.specs.Works.{Sign, Releases, Tags, Flagging, Work, no_work}
 use Rattle.pfs_admin.specs.declared.admin.Placed.{Placed as Found}
 use Rattle.pfs_event.specs.declared.entry.Entry.{Entry}
-use Rattle.pfs_event.specs.declared.entry.Entry.TheVariants as says
 use Rattle.pfs_levels.specs.Moves.{Ask}
 use Rattle.pfs_model.specs.Asked.{Asked, Move, Frees, Rooms}
 use Rattle.pfs_model.specs.Asked.{Sign as Signing, Tags as Tagging, Flagging as Setting}

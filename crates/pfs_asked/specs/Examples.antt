@@ -1,16 +1,15 @@
 -- Two sessions of one account connect, and the first one ends: a wait that it has counted goes up to the account.
-use Rattle.std.specs.Prelude.{ℕ, ◌≡◌, ◌+◌, ◌==◌, ◌&&◌, nat_lt, if◌then◌else◌, Bool, true, List, [], ◌∷◌, ◌++◌, replicate, Option, Some, None}
+use Rattle.std.specs.Prelude.{ℕ, ◌≡◌, ◌+◌, ◌==◌, ◌&&◌, nat_lt, if◌then◌else◌, true, List, [], ◌∷◌, ◌++◌, replicate}
 use Rattle.pfs_admin.specs.Asks.{work_of_connect, work_of_quit, connect_entry, placed_of}
 use Rattle.pfs_admin.specs.Examples.{start}
 use Rattle.pfs_admin.specs.Laws.{row_of}
 use Rattle.pfs_admin.specs.States.{connected, has_quit, seat_at}
 use Rattle.pfs_admin.specs.States.{State as Administration}
 use Rattle.pfs_admin.specs.Works.{Sign, Releases, Tags, Made, Work, signs_calls, signs_entries, flagging_calls, flagging_entries}
-use Rattle.pfs_event.specs.declared.entry.Entry.{Entry}
 use Rattle.pfs_event.specs.declared.entry.Entry.TheVariants as says
 use Rattle.pfs_levels.specs.Contents.{merged, zero_words}
 use Rattle.pfs_levels.specs.Moves.{Gift, Move, moves_calls, moves_entries}
-use Rattle.pfs_model.specs.Asked.{Rooms, Asked, Did, Took, Gave, Freed, Tagged, Flagged, asked_of}
+use Rattle.pfs_model.specs.Asked.{Asked, Took, Gave, Freed, Tagged, Flagged, asked_of}
 use Rattle.pfs_model.specs.Contents.{Given}
 use Rattle.pfs_model.specs.Places.{places}
 use Rattle.pfs_parts.specs.Deeds.{Connecting, Quitting, Part}
@@ -67,8 +66,8 @@ one_wait = words_of (stat_of (record {
 abbrev pub content : ℕ → ℕ → List ℕ
 content row version =
     if nat_lt row 129 then
-        if version == 0 then replicate 16 0
-        else info_words (if row == 2 then 2 else version) row
+    if version == 0 then replicate 16 0
+    else info_words (if row == 2 then 2 else version) row
     else if (row == 129) && (version == 5) then one_wait
     else if (row == 2177) && (version == 4) then merged zero_words (stat_of_words one_wait)
     else zero_words

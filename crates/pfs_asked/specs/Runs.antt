@@ -98,7 +98,7 @@ abbrev pub AllAdded : Given → (ℕ → ℕ → List ℕ) → List Block → Li
 AllAdded given content earlier [] = Unit {0}
 AllAdded given content earlier (stay ∷ stays) =
     AreAdded (given.amount stay.session) content (placed_lines stay.phase stay.session
-        (told_by stay.session fresh earlier) (lines_of stay.parts) (entries_of stay.parts))
+    (told_by stay.session fresh earlier) (lines_of stay.parts) (entries_of stay.parts))
     × AllAdded given content (earlier ++ block_of stay ∷ []) stays
 
 -- where additions are made too, all contents are; and the additions are made where each session adds what is given
