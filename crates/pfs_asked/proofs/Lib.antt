@@ -7,3 +7,4 @@ pub mod Listing
 pub mod Running
 pub mod Examples
 pub mod Taking
+pub mod Aparting

@@ -37,7 +37,7 @@ does_number s SettlesHeld calls entries after d = ap (λ (z : State). z.number) 
 does_number s (Connects admin user host) calls entries after d = ap (λ (z : State). z.number) d.1
 does_number s (Quits admin) calls entries after d = ap (λ (z : State). z.number) d.1
 
-turns_number : (s : State) (turns : List Turn) → AreTurns s turns → (state_after s turns).number ≡ s.number
+pub turns_number : (s : State) (turns : List Turn) → AreTurns s turns → (state_after s turns).number ≡ s.number
 turns_number s [] are = refl
 turns_number s (t ∷ ts) are = does_number (state_after s ts) t.step t.calls t.entries t.after are.0 ∙ turns_number s ts are.1
 

@@ -105,7 +105,9 @@ third_moves = emptied 192 0 [] ∷ emptied 191 0 []
     ∷ emptied 129 5 (record { to = 2177; before = 3; version = 4; there = zero_words } ∷ []) ∷ []
 
 abbrev pub state_behind : State → Administration → State
-state_behind s admin = record (acted s (connected admin s.number 0 1)) { place = placed_of (seat_at admin s.number 0 1) }
+state_behind s admin = record (acted s (connected admin s.number 0 1)) {
+  place = placed_of (seat_at admin s.number 0 1);
+}
 
 abbrev pub connect_turn : State → Administration → Work → List Made → Turn
 connect_turn s admin work made = record {

@@ -1,13 +1,17 @@
--- Whether a take found something counted, as a function of its action's number and its row: there is one where no action
--- takes a row twice.
-use Rattle.std.specs.Prelude.{ℕ, ◌≡◌, ◌-◌, ◌==◌, ◌&&◌, not, Bool, false, if◌then◌else◌, List, [], ◌∷◌, ◌++◌}
+-- Whether a take found something counted, as a function of its action's number and its row: there is one, since no
+-- action takes a row twice.
+use Rattle.std.specs.Prelude.{ℕ, ◌<◌, ◌≤◌, IfSome, ◌≡◌, ◌-◌, ◌==◌, ◌&&◌, not, Bool, false, if◌then◌else◌, List, [], ◌∷◌, ◌++◌}
+use Rattle.pfs_admin.specs.States.{seat_in}
+use Rattle.pfs_containers.specs.Kept.{IsInRange}
 use Rattle.pfs_event.specs.declared.entry.Entry.{Entry}
 use Rattle.pfs_event.specs.declared.entry.Entry.TheVariants as says
-use Rattle.pfs_model.specs.Chains.{Each}
-use Rattle.pfs_parts.specs.Deeds.{Part, part_entries}
+use Rattle.pfs_levels.specs.Flushes.{Ascends}
+use Rattle.pfs_model.specs.Chains.{Each, times}
+use Rattle.pfs_parts.specs.Deeds.{Deed, Connecting, Starting, Staging, StageEnding, Ending, Spending, Quitting, Closing, Part, part_entries}
+use Rattle.pfs_parts.specs.Shaped.{AreParts}
 use Rattle.pfs_stat.specs.Stat.{stat_of_words}
 use Rattle.pfs_asked.specs.Asking.{AreCounted, action_of}
-use Rattle.pfs_asked.specs.Runs.{Stay}
+use Rattle.pfs_asked.specs.Runs.{Stay, all_numbers}
 
 -- a row that an action took, and the version at which it was left
 pub record Taken : Type 0 where
@@ -60,3 +64,28 @@ AllCounted content counted (stay ∷ stays) =
 abbrev pub CountedLaw : Type 0
 CountedLaw = (content : ℕ → ℕ → List ℕ) (stays : List Stay) → AreApart (all_taken stays)
     → AllCounted content (counted_by content (all_taken stays)) stays
+
+-- at a quit the session's places are in range, and the cells that are moved ascend
+abbrev pub IsSeated : ℕ → Deed → Type 0
+IsSeated session (Quitting admin) = Ascends 0 64 admin.cells × IfSome (seat_in admin session) IsInRange
+IsSeated session (Connecting admin user host) = Unit {0}
+IsSeated session (Starting subject) = Unit {0}
+IsSeated session (Staging subject) = Unit {0}
+IsSeated session StageEnding = Unit {0}
+IsSeated session (Ending numbers) = Unit {0}
+IsSeated session (Spending time) = Unit {0}
+IsSeated session Closing = Unit {0}
+
+abbrev pub AreSeated : ℕ → List Part → Type 0
+AreSeated session [] = Unit {0}
+AreSeated session (p ∷ ps) = IsSeated session p.deed × AreSeated session ps
+
+pub record IsSeatedStay (stay : Stay) : Type 0 where
+  pub number : stay.from.number ≡ stay.session
+  pub parts : AreParts stay.from stay.parts
+  pub seated : AreSeated stay.session stay.parts
+
+-- so no action takes a row twice, where no number is that of two
+abbrev pub ApartLaw : Type 0
+ApartLaw = (stays : List Stay) → Each IsSeatedStay stays
+    → ((number : ℕ) → 0 < number → times (λ n. n == number) (all_numbers stays) ≤ 1) → AreApart (all_taken stays)

@@ -3,7 +3,7 @@
 ghost use Rattle.pfs_asked.specs.Done.{DoneLaw};
 ghost use Rattle.pfs_asked.specs.Examples.{WorkedRun};
 ghost use Rattle.pfs_asked.specs.Runs.{ContentsLaw, LinesLaw, RunLaw};
-ghost use Rattle.pfs_asked.specs.Takes.{CountedLaw};
+ghost use Rattle.pfs_asked.specs.Takes.{ApartLaw, CountedLaw};
 
 /// An action of a session does just what the administration asks for, in its order; a connect prints the places that
 /// the administration found; and each take, give and tag makes its row's content of the one before.
@@ -29,6 +29,11 @@ pub fn contents()
 /// Where no action takes a row twice, its number and the row say whether the take found something counted.
 pub fn counted()
     ensures { CountedLaw }
+{}
+
+/// No action takes a row twice, where each number is that of one action and each quit's places are in range.
+pub fn apart()
+    ensures { ApartLaw }
 {}
 
 /// Two sessions of one account connect, and the first one ends: a wait that it has counted goes up to the account.
