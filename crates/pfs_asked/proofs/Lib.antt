@@ -8,3 +8,4 @@ pub mod Running
 pub mod Examples
 pub mod Taking
 pub mod Aparting
+pub mod Wholly

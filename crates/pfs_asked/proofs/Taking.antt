@@ -13,11 +13,11 @@ use Rattle.pfs_asked.specs.Takes.{Taken, taken_at, taken_in, taken_by, all_taken
 abbrev IsHeld : (ℕ → ℕ → List ℕ) → (ℕ → ℕ → Bool) → Taken → Type 0
 IsHeld content counted taken = counted taken.action taken.row ≡ found_counted content taken
 
-each_front : {A : Type 0} (P : A → Type 0) (xs ys : List A) → Each P (xs ++ ys) → Each P xs
+pub each_front : {A : Type 0} (P : A → Type 0) (xs ys : List A) → Each P (xs ++ ys) → Each P xs
 each_front P [] ys a = tt
 each_front P (x ∷ xs) ys a = (a.0, each_front P xs ys a.1)
 
-each_back : {A : Type 0} (P : A → Type 0) (xs ys : List A) → Each P (xs ++ ys) → Each P ys
+pub each_back : {A : Type 0} (P : A → Type 0) (xs ys : List A) → Each P (xs ++ ys) → Each P ys
 each_back P [] ys a = a
 each_back P (x ∷ xs) ys a = each_back P xs ys a.1
 

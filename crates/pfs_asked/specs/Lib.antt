@@ -3,3 +3,4 @@ pub mod Done
 pub mod Runs
 pub mod Examples
 pub mod Takes
+pub mod Whole

@@ -1,7 +1,7 @@
 -- Whether a take found something counted, as a function of its action's number and its row: there is one, since no
 -- action takes a row twice.
 use Rattle.std.specs.Prelude.{ℕ, ◌<◌, ◌≤◌, IfSome, ◌≡◌, ◌-◌, ◌==◌, ◌&&◌, not, Bool, false, if◌then◌else◌, List, [], ◌∷◌, ◌++◌}
-use Rattle.pfs_admin.specs.States.{seat_in}
+use Rattle.pfs_admin.specs.States.{seat_at, seat_in}
 use Rattle.pfs_containers.specs.Kept.{IsInRange}
 use Rattle.pfs_event.specs.declared.entry.Entry.{Entry}
 use Rattle.pfs_event.specs.declared.entry.Entry.TheVariants as says
@@ -65,10 +65,10 @@ abbrev pub CountedLaw : Type 0
 CountedLaw = (content : ℕ → ℕ → List ℕ) (stays : List Stay) → AreApart (all_taken stays)
     → AllCounted content (counted_by content (all_taken stays)) stays
 
--- at a quit the session's places are in range, and the cells that are moved ascend
+-- a session's places are in range, and the cells that a quit moves ascend
 abbrev pub IsSeated : ℕ → Deed → Type 0
 IsSeated session (Quitting admin) = Ascends 0 64 admin.cells × IfSome (seat_in admin session) IsInRange
-IsSeated session (Connecting admin user host) = Unit {0}
+IsSeated session (Connecting admin user host) = IfSome (seat_at admin session user host) IsInRange
 IsSeated session (Starting subject) = Unit {0}
 IsSeated session (Staging subject) = Unit {0}
 IsSeated session StageEnding = Unit {0}

@@ -4,6 +4,7 @@ ghost use Rattle.pfs_asked.specs.Done.{DoneLaw};
 ghost use Rattle.pfs_asked.specs.Examples.{WorkedRun};
 ghost use Rattle.pfs_asked.specs.Runs.{ContentsLaw, LinesLaw, RunLaw};
 ghost use Rattle.pfs_asked.specs.Takes.{ApartLaw, CountedLaw};
+ghost use Rattle.pfs_asked.specs.Whole.{WholeLaw};
 
 /// An action of a session does just what the administration asks for, in its order; a connect prints the places that
 /// the administration found; and each take, give and tag makes its row's content of the one before.
@@ -34,6 +35,11 @@ pub fn counted()
 /// No action takes a row twice, where each number is that of one action and each quit's places are in range.
 pub fn apart()
     ensures { ApartLaw }
+{}
+
+/// So of any number of sessions there are orders, those of their parts, and all journals say that just this was done.
+pub fn whole()
+    ensures { WholeLaw }
 {}
 
 /// Two sessions of one account connect, and the first one ends: a wait that it has counted goes up to the account.
