@@ -1,14 +1,18 @@
 -- The worked run meets the premises of the law.
-use Rattle.std.proofs.Common.{ℕ, ◌≡◌, ◌+◌, ◌==◌, ◌<◌, Bool, true, false, cond, [], ◌∷◌, ◌++◌, Some, inl, inr, refl, ap, sym, subst}
+use Rattle.std.proofs.Common.{arith, ℕ, ◌≡◌, ◌+◌, ◌==◌, ◌<◌, ◌≤◌, Bool, true, false, cond, [], ◌∷◌, ◌++◌, Some, inl, inr, refl, ap, sym, subst}
 use Rattle.std.specs.Prelude.{◌⊎◌, if◌then◌else◌}
 use Rattle.std.proofs.lemmas.Bool.{eqb-true, true≢false}
 use Rattle.pfs_levels.specs.Moves.{AreMoves, ask}
-use Rattle.pfs_model.specs.Chains.{times}
+use Rattle.pfs_model.specs.Chains.{Each, times}
 use Rattle.pfs_parts.proofs.Settled.{nothing_owed}
 use Rattle.pfs_parts.specs.Amounts.{ContentsAgree}
 use Rattle.pfs_parts.specs.Deeds.{IsPart, part_calls}
 use Rattle.pfs_session.specs.Settles.{settle_head}
 use Rattle.pfs_asked.proofs.Running.{run}
+use Rattle.pfs_asked.proofs.Wholly.{whole}
+use Rattle.pfs_asked.specs.Takes.{IsSeatedStay}
+use Rattle.pfs_containers.specs.Kept.{IsInRange}
+use Rattle.pfs_levels.specs.Flushes.{Ascends}
 use Rattle.pfs_asked.specs.Asking.{AreOrders, asked_by}
 use Rattle.pfs_admin.specs.Examples.{start}
 use Rattle.pfs_asked.specs.Examples.{second, first_work, second_work, third_work, content, first_made, second_made, third_made, third_moves, connect_part, connected_one, quit_part, one, two, stays, asked, orders, given, WorkedRun}
@@ -132,5 +136,32 @@ are_actions number p = by_tests (1 == number) (2 == number) (3 == number) refl r
   by_tests false false true e f g = subst IsOne (eqb-true 3 number g) (inl refl)
   by_tests false false false e f g = inr (none_of (1 == number) (2 == number) (3 == number) e f g, none_asked (1 == number) (2 == number) (3 == number) e f g)
 
+in_range : (number slot : ℕ) → slot < 32 → IsInRange (record {
+  slot = slot;
+  connection = record { number = number; user_name = 0; host_name = 1; account = Some 0; user = Some 0; host = Some 0 };
+})
+in_range number slot low = record { slot = low; places = record { account = omega arith; user = omega arith; host = omega arith } }
+
+are_seated : Each IsSeatedStay stays
+are_seated = (
+  record { number = refl; parts = (first_is, tt); seated = (in_range 1 0 (omega arith), tt) },
+  (
+    record { number = refl; parts = (second_is, tt); seated = (in_range 2 1 (omega arith), tt) },
+    (record { number = refl; parts = (third_is, tt); seated = ((cells_ascend, in_range 1 0 (omega arith)), tt) }, tt),
+  ),
+) where
+  cells_ascend : Ascends 0 64 (0 ∷ 62 ∷ 63 ∷ [])
+  cells_ascend = (omega arith, (omega arith, (omega arith, (omega arith, (omega arith, (omega arith, tt))))))
+
+few : (number : ℕ) → 0 < number → times (λ n. n == number) (1 ∷ 2 ∷ 3 ∷ []) ≤ 1
+few number p = by_one (are_actions number p) where
+  by_one : IsOne number → times (λ n. n == number) (1 ∷ 2 ∷ 3 ∷ []) ≤ 1
+  by_one (inl e) = omega (arith, e)
+  by_one (inr e) = omega (arith, e.0)
+
 pub worked : WorkedRun
-worked = record { asked = run orders given content stays are_stays are_actions; quit = refl }
+worked = record {
+  asked = run orders given content stays are_stays are_actions;
+  whole = λ given info. whole given content stays info are_seated ((first_contents, tt), ((second_contents, tt), ((third_contents, tt), tt))) few;
+  quit = refl;
+}

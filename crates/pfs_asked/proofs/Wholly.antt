@@ -16,11 +16,10 @@ use Rattle.pfs_model.specs.Contents.{Given}
 use Rattle.pfs_parts.specs.Amounts.{AllContentsAgree}
 use Rattle.pfs_parts.specs.Deeds.{Deed, Connecting, Starting, Staging, StageEnding, Ending, Spending, Quitting, Closing, Part}
 use Rattle.pfs_asked.proofs.Aparting.{apart}
-use Rattle.pfs_asked.proofs.Bits.{each_then}
 use Rattle.pfs_asked.proofs.Running.{run}
 use Rattle.pfs_asked.proofs.Taking.{counted, each_front, each_back}
-use Rattle.pfs_asked.specs.Asking.{Orders, AreOrders, AreRooms, AreWords, action_of, work_of}
-use Rattle.pfs_asked.specs.Runs.{Stay, AllOrders, AreStays, AreActions, numbers_of, all_numbers, nothing_asked}
+use Rattle.pfs_asked.specs.Asking.{AreOrders, AreRooms, AreWords, action_of, work_of}
+use Rattle.pfs_asked.specs.Runs.{Stay, AllOrders, AreStays, numbers_of, all_numbers, nothing_asked}
 use Rattle.pfs_asked.specs.Takes.{AreSeated, IsSeated, IsSeatedStay, AllCounted, CountedIn}
 use Rattle.pfs_asked.specs.Whole.{Acting, actings_of, all_actings, of_number, no_rooms, rooms_for, signed_words, asked_for, room_for, words_for, no_words, orders_of, words_of_all, WholeLaw}
 
@@ -79,10 +78,11 @@ still_gives {A} give none one others (other ∷ some) u there g = (own, still_gi
 
 all_give : {A : Type 0} (give : Acting → A) (none : A) (full : List Acting) → IsUnique (numbers_in full) → Each (Gives give none full) full
 all_give give none [] u = tt
-all_give {A} give none (one ∷ others) u =
-    ((λ p. ap (λ b. if b then give one else of_number give none others (number_in one)) (eq-eqb (number_in one) (number_in one) refl)),
-    still_gives give none one others others u (all_there others)
-    (all_give give none others (λ number p. sum_small (cond (number_in one == number) 1 0) (times (λ n. n == number) (numbers_in others)) (u number p))))
+all_give {A} give none (one ∷ others) u = (
+  (λ p. ap (λ b. if b then give one else of_number give none others (number_in one)) (eq-eqb (number_in one) (number_in one) refl)),
+  still_gives give none one others others u (all_there others)
+      (all_give give none others (λ number p. sum_small (cond (number_in one == number) 1 0) (times (λ n. n == number) (numbers_in others)) (u number p))),
+)
 
 none_gives : {A : Type 0} (give : Acting → A) (none : A) (full : List Acting) (number : ℕ) → times (λ n. n == number) (numbers_in full) ≡ 0 → of_number give none full number ≡ none
 none_gives give none [] number e = refl
@@ -97,9 +97,10 @@ still_signed : (low limit row : ℕ) (words : List ℕ) (some others : List Sign
     → AreWords (signed_words (Tags row words ∷ others)) some
 still_signed low limit row words [] others l a w = tt
 still_signed low limit row words (Releases released ∷ some) others l a w = still_signed (released + 1) limit row words some others (omega (arith, l, a.0)) a.1.1 w
-still_signed low limit row words (Tags tagged more ∷ some) others l a w =
-    (ap (λ b. if b then words else signed_words others tagged) (ne_eqb row tagged (λ q. absurd (omega (arith, q, l, a.0)))) ∙ w.0,
-    still_signed (tagged + 1) limit row words some others (omega (arith, l, a.0)) a.1.1 w.1)
+still_signed low limit row words (Tags tagged more ∷ some) others l a w = (
+  ap (λ b. if b then words else signed_words others tagged) (ne_eqb row tagged (λ q. absurd (omega (arith, q, l, a.0)))) ∙ w.0,
+  still_signed (tagged + 1) limit row words some others (omega (arith, l, a.0)) a.1.1 w.1,
+)
 
 all_signed : (low limit : ℕ) (signs : List Sign) → Ascends low limit (map row_of signs) → AreWords (signed_words signs) signs
 all_signed low limit [] a = tt
@@ -156,13 +157,15 @@ stays_are : (given : Given) (content : ℕ → ℕ → List ℕ) (all stays : Li
 stays_are given content all [] info are calls a r w c = tt
 stays_are given content all (stay ∷ stays) info are calls a r w c =
     let xs : List Acting = actings_of stay.session stay.parts in
-    let ys : List Acting = all_actings stays in
-    (record {
-      number = are.0.number;
-      parts = are.0.parts;
-      contents = calls.0;
-      told = parts_orders given content all stay.session stay.parts info are.0.seated (each_front _ xs ys a) (each_front _ xs ys r) (each_front _ xs ys w) c.0;
-    }, stays_are given content all stays info are.1 calls.1 (each_back _ xs ys a) (each_back _ xs ys r) (each_back _ xs ys w) c.1)
+    let ys : List Acting = all_actings stays in (
+      record {
+        number = are.0.number;
+        parts = are.0.parts;
+        contents = calls.0;
+        told = parts_orders given content all stay.session stay.parts info are.0.seated (each_front _ xs ys a) (each_front _ xs ys r) (each_front _ xs ys w) c.0;
+      },
+      stays_are given content all stays info are.1 calls.1 (each_back _ xs ys a) (each_back _ xs ys r) (each_back _ xs ys w) c.1,
+    )
 
 pub whole : WholeLaw
 whole = λ given content stays info are calls unique.

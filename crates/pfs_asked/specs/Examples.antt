@@ -19,6 +19,7 @@ use Rattle.pfs_session.specs.Turns.{Connects, Quits, SettlesHeld, Turn, acted}
 use Rattle.pfs_stat.specs.Stat.{zero_of, stat_of, words_of, stat_of_words}
 use Rattle.pfs_asked.specs.Asking.{Orders, asked_by, rooms_of}
 use Rattle.pfs_asked.specs.Runs.{Stay, blocks_of, nothing_asked, IsAsked}
+use Rattle.pfs_asked.specs.Whole.{orders_of, words_of_all}
 
 -- the administration before each of the three actions, and what they are to do
 abbrev pub second : Administration
@@ -185,8 +186,10 @@ abbrev pub given : Given
 given = record { amount = λ session event. zero_of; event_words = λ place. []; info_words = info_words }
 
 pub record WorkedRun : Type 0 where
-  -- the laws' premises are met
+  -- the premises are met, of these orders and of those of the parts themselves
   pub asked : IsAsked orders given content (places (blocks_of stays))
+  pub whole : (given : Given) → given.info_words ≡ words_of_all stays
+      → IsAsked (orders_of content stays) given content (places (blocks_of stays))
   -- the wait goes up; the other two cells had counted nothing; then the infos, and the thread's flags
   pub quit : asked_of (orders.counted 3) (orders.asked 3)
       ≡ Took 129 ∷ Gave 2177 129 ∷ Took 191 ∷ Took 192 ∷ Freed 1 ∷ Tagged 33 ∷ Tagged 65 ∷ Tagged 97 ∷ Flagged 1 0 ∷ []

@@ -32,7 +32,7 @@ pub fn counted()
     ensures { CountedLaw }
 {}
 
-/// No action takes a row twice, where each number is that of one action and each quit's places are in range.
+/// No action takes a row twice, where no number is that of two and the places of each session are in range.
 pub fn apart()
     ensures { ApartLaw }
 {}
