@@ -1,0 +1,97 @@
+-- What a session writes at a step that is no action.
+use Rattle.std.proofs.Common.{ℕ, ◌≡◌, Bool, true, false, List, [], ◌∷◌, ◌++◌, Option, Some, None, refl, sym, subst, arith}
+use Rattle.std.specs.Prelude.{if◌then◌else◌}
+use Rattle.std.proofs.lemmas.Bool.{false≢true}
+use Rattle.pfs_event.specs.Verdicts.{is_let_through}
+use Rattle.pfs_event.specs.declared.entry.Entry.{Entry}
+use Rattle.pfs_event.specs.declared.open.Open.{Open}
+use Rattle.pfs_event.specs.declared.verdict.Verdict.{Verdict}
+use Rattle.pfs_levels.specs.Calls.{Call}
+use Rattle.pfs_levels.specs.declared.answers.Added.{Added}
+use Rattle.pfs_levels.specs.declared.answers.Added.TheVariants.{Counted, Held}
+use Rattle.pfs_model.specs.Shapes.{is_stage}
+use Rattle.pfs_parts.specs.Deeds.{Deed, Connecting, Starting, Staging, StageEnding, Ending, Spending, Quitting, Closing, steps_for}
+use Rattle.pfs_session.specs.Ends.{Ends, EndsIn, added_entry, no_numbers}
+use Rattle.pfs_session.specs.Settles.{Paid, paid_entries, pay_entries, settle_head}
+use Rattle.pfs_session.specs.Starts.{start_entry}
+use Rattle.pfs_session.specs.States.{State, Owed}
+use Rattle.pfs_session.specs.Turns.{Step, StartsEvent, EndsEvent, Spends, SettlesHeld, Connects, Quits, Does, Turn, AreTurns, state_after, steps_of, turns_entries, stage_ends}
+use Rattle.pfs_session.specs.declared.events.Numbers.{Numbers}
+use Rattle.pfs_session.specs.declared.setup.Setup.{Setup}
+use Rattle.pfs_asked.proofs.Bits.{is_calm, AreCalm, calm_then}
+use Rattle.pfs_asked.specs.Asking.{action_of}
+
+start_calm : (verdict : Verdict) (number : ℕ) (seen : Option Setup) → is_calm (start_entry verdict number seen) ≡ true
+start_calm verdict number None = refl
+start_calm verdict number (Some seen) = refl
+
+added_calm : (answer : Added) → is_calm (added_entry answer) ≡ true
+added_calm (Counted row version) = refl
+added_calm (Held row first second) = refl
+
+paid_calm : (ps : List Paid) → AreCalm (paid_entries ps)
+paid_calm [] = tt
+paid_calm (p ∷ ps) = calm_then (paid_entries ps) (pay_entries p) (paid_calm ps) (refl, tt)
+
+settle_calm : (owed : List Owed) (ps : List Paid) → AreCalm (settle_head owed ++ paid_entries ps)
+settle_calm [] ps = paid_calm ps
+settle_calm (o ∷ os) ps = (refl, paid_calm ps)
+
+ends_calm : (s : State) (numbers : Numbers) (calls : List Call) (entries : List Entry) (after : State) → Ends s numbers calls entries after → AreCalm entries
+ends_calm s numbers calls entries after e = by_case s.place.thread (is_let_through e.what.verdict) e.ends where
+  by_case : (slot : Option ℕ) (b : Bool) → EndsIn s slot b e.what e.others numbers calls entries after → AreCalm entries
+  by_case slot false x = subst AreCalm (sym x.entries_are) (refl, tt)
+  by_case None true x = absurd x
+  by_case (Some slot) true x = subst AreCalm (sym x.entries_are) (refl, (added_calm x.answer, tt))
+
+abbrev pub is_idle : Step → Bool
+is_idle (Connects admin user host) = false
+is_idle (Quits admin) = false
+is_idle _ = true
+
+pub does_calm : (s : State) (step : Step) (calls : List Call) (entries : List Entry) (after : State) → is_idle step ≡ true → Does s step calls entries after → AreCalm entries
+does_calm s (StartsEvent subject) calls entries after i d = subst AreCalm (sym d.entries_are) (start_calm _ _ d.seen, tt)
+does_calm s (EndsEvent numbers) calls entries after i d = ends_calm s numbers calls entries after d
+does_calm s (Spends time) calls entries after i d = subst AreCalm (sym d.1) tt
+does_calm s SettlesHeld calls entries after i d = subst AreCalm (sym d.entries_are) (settle_calm _ d.paid)
+does_calm s (Connects admin user host) calls entries after i d = absurd (false≢true i)
+does_calm s (Quits admin) calls entries after i d = absurd (false≢true i)
+
+abbrev pub AreIdleSteps : List Step → Type 0
+AreIdleSteps [] = Unit {0}
+AreIdleSteps (x ∷ xs) = (is_idle x ≡ true) × AreIdleSteps xs
+
+idle_then : (xs ys : List Step) → AreIdleSteps xs → AreIdleSteps ys → AreIdleSteps (xs ++ ys)
+idle_then [] ys a b = b
+idle_then (x ∷ xs) ys a b = (a.0, idle_then xs ys a.1 b)
+
+idle_front : (xs ys : List Step) → AreIdleSteps (xs ++ ys) → AreIdleSteps xs
+idle_front [] ys a = tt
+idle_front (x ∷ xs) ys a = (a.0, idle_front xs ys a.1)
+
+idle_back : (xs ys : List Step) → AreIdleSteps (xs ++ ys) → AreIdleSteps ys
+idle_back [] ys a = a
+idle_back (x ∷ xs) ys a = idle_back xs ys a.1
+
+pub turns_calm : (s : State) (turns : List Turn) → AreTurns s turns → AreIdleSteps (steps_of turns) → AreCalm (turns_entries turns)
+turns_calm s [] are idle = tt
+turns_calm s (t ∷ ts) are idle =
+    let own = idle_back (steps_of ts) (t.step ∷ []) idle in
+    calm_then (turns_entries ts) t.entries (turns_calm s ts are.1 (idle_front (steps_of ts) (t.step ∷ []) idle)) (does_calm (state_after s ts) t.step t.calls t.entries t.after own.0 are.0)
+
+stage_idle : (events : List Open) → AreIdleSteps (stage_ends events)
+stage_idle [] = tt
+stage_idle (what ∷ events) = by_test (is_stage what.kind) where
+  by_test : (b : Bool) → AreIdleSteps (if b then EndsEvent no_numbers ∷ [] else [])
+  by_test true = (refl, tt)
+  by_test false = tt
+
+pub deed_idle : (s : State) (deed : Deed) → action_of deed ≡ 0 → AreIdleSteps (steps_for s deed)
+deed_idle s (Connecting admin user host) e = absurd (omega (arith, e))
+deed_idle s (Starting subject) e = (refl, tt)
+deed_idle s (Staging subject) e = idle_then (stage_ends s.opened.events) (StartsEvent subject ∷ []) (stage_idle s.opened.events) (refl, tt)
+deed_idle s StageEnding e = idle_then (stage_ends s.opened.events) [] (stage_idle s.opened.events) tt
+deed_idle s (Ending numbers) e = idle_then (stage_ends s.opened.events) (EndsEvent numbers ∷ []) (stage_idle s.opened.events) (refl, tt)
+deed_idle s (Spending time) e = (refl, tt)
+deed_idle s (Quitting admin) e = absurd (omega (arith, e))
+deed_idle s Closing e = (refl, tt)

@@ -1,0 +1,167 @@
+-- The worked run meets the premises of the law.
+use Rattle.std.proofs.Common.{arith, ℕ, ◌≡◌, ◌+◌, ◌==◌, ◌<◌, ◌≤◌, Bool, true, false, cond, [], ◌∷◌, ◌++◌, Some, inl, inr, refl, ap, sym, subst}
+use Rattle.std.specs.Prelude.{◌⊎◌, if◌then◌else◌}
+use Rattle.std.proofs.lemmas.Bool.{eqb-true, true≢false}
+use Rattle.pfs_levels.specs.Moves.{AreMoves, ask}
+use Rattle.pfs_model.specs.Chains.{Each, times}
+use Rattle.pfs_session.proofs.Owed.{nothing_owed}
+use Rattle.pfs_parts.specs.Amounts.{ContentsAgree}
+use Rattle.pfs_parts.specs.Deeds.{IsPart, part_calls}
+use Rattle.pfs_session.specs.Settles.{settle_head}
+use Rattle.pfs_asked.proofs.Running.{run}
+use Rattle.pfs_asked.proofs.Wholly.{whole}
+use Rattle.pfs_asked.specs.Takes.{IsSeatedStay}
+use Rattle.pfs_containers.specs.Kept.{IsInRange}
+use Rattle.pfs_levels.specs.Flushes.{Ascends}
+use Rattle.pfs_asked.specs.Asking.{AreOrders, asked_by}
+use Rattle.pfs_admin.specs.Examples.{start}
+use Rattle.pfs_asked.specs.Examples.{second, first_work, second_work, third_work, content, first_made, second_made, third_made, third_moves, connect_part, connected_one, quit_part, one, two, stays, asked, orders, given, WorkedRun}
+use Rattle.pfs_asked.specs.Runs.{AreStays, nothing_asked}
+
+first_is : IsPart one (connect_part one start first_work first_made)
+first_is = record {
+  are_turns = ((record { moves = []; made = first_made; are_moves = refl; signs_are = refl; calls_are = refl; entries_are = refl }, refl), tt);
+  steps_are = refl;
+}
+
+second_is : IsPart two (connect_part two second second_work second_made)
+second_is = record {
+  are_turns = ((record { moves = []; made = second_made; are_moves = refl; signs_are = refl; calls_are = refl; entries_are = refl }, refl), tt);
+  steps_are = refl;
+}
+
+moves_are : AreMoves third_work.moves third_moves
+moves_are = (
+  ask 129 (2177 ∷ []) ∷ ask 191 (2239 ∷ []) ∷ [],
+  (
+    ask 192 (2240 ∷ []),
+    (
+      refl,
+      (
+        record { from_is = refl; next = refl; gifts_are = tt; to_is = refl },
+        (
+          ask 129 (2177 ∷ []) ∷ [],
+          (
+            ask 191 (2239 ∷ []),
+            (
+              refl,
+              (
+                record { from_is = refl; next = refl; gifts_are = tt; to_is = refl },
+                (
+                  [],
+                  (ask 129 (2177 ∷ []), (refl, (record { from_is = refl; next = refl; gifts_are = (refl, tt); to_is = refl }, refl))),
+                ),
+              ),
+            ),
+          ),
+        ),
+      ),
+    ),
+  ),
+)
+
+third_is : IsPart connected_one quit_part
+third_is = record {
+  are_turns = (
+    (record { moves = third_moves; made = third_made; are_moves = moves_are; signs_are = refl; calls_are = refl; entries_are = refl }, refl),
+    (
+      record {
+        unseated = λ e. refl;
+        paid = [];
+        owed_are = sym (nothing_owed (Some 0));
+        calls_are = refl;
+        entries_are = ap (λ z. settle_head z ++ []) (sym (nothing_owed (Some 0)));
+        after_is = refl;
+      },
+      tt,
+    ),
+  );
+  steps_are = refl;
+}
+
+first_orders : AreOrders orders given content 1 (connect_part one start first_work first_made)
+first_orders = record { asked = refl; rooms = refl; counted = (tt, (tt, (tt, (tt, (tt, (tt, tt)))))); words = (refl, (refl, (refl, (refl, tt)))) }
+
+second_orders : AreOrders orders given content 2 (connect_part two second second_work second_made)
+second_orders = record { asked = refl; rooms = refl; counted = (tt, (tt, (tt, (tt, (tt, (tt, tt)))))); words = (refl, (refl, (refl, (refl, tt)))) }
+
+third_orders : AreOrders orders given content 1 quit_part
+third_orders = record {
+  asked = refl;
+  rooms = tt;
+  counted = (tt, (refl, (tt, (refl, (refl, (tt, (tt, (tt, (tt, (tt, tt))))))))));
+  words = (refl, (refl, (refl, tt)));
+}
+
+first_contents : ContentsAgree content (part_calls (connect_part one start first_work first_made))
+first_contents = (tt, (refl, (refl, (refl, (refl, (refl, (refl, (refl, (refl, tt)))))))))
+
+second_contents : ContentsAgree content (part_calls (connect_part two second second_work second_made))
+second_contents = (tt, (refl, (refl, (refl, (refl, (refl, (refl, (refl, (refl, tt)))))))))
+
+third_contents : ContentsAgree content (part_calls quit_part)
+third_contents = (tt, (refl, (refl, (refl, (refl, (refl, (refl, (tt, (refl, (refl, (refl, (refl, (refl, (refl, (refl, (refl, (refl, tt)))))))))))))))))
+
+are_stays : AreStays orders given content stays
+are_stays = (
+  record { number = refl; parts = (first_is, tt); contents = (first_contents, tt); told = (λ q. first_orders, tt) },
+  (
+    record { number = refl; parts = (second_is, tt); contents = (second_contents, tt); told = (λ q. second_orders, tt) },
+    (record { number = refl; parts = (third_is, tt); contents = (third_contents, tt); told = (λ q. third_orders, tt) }, tt),
+  ),
+)
+
+-- the numbers are 1 to 3
+none_of : (a b c : Bool) → a ≡ false → b ≡ false → c ≡ false → (cond a 1 0 + (cond b 1 0 + (cond c 1 0 + 0))) ≡ 0
+none_of false false false e f g = refl
+none_of true b c e f g = absurd (true≢false e)
+none_of false true c e f g = absurd (true≢false f)
+none_of false false true e f g = absurd (true≢false g)
+
+none_asked : (a b c : Bool) → a ≡ false → b ≡ false → c ≡ false
+    → (if a then asked_by first_work else if b then asked_by second_work else if c then asked_by third_work else nothing_asked) ≡ nothing_asked
+none_asked false false false e f g = refl
+none_asked true b c e f g = absurd (true≢false e)
+none_asked false true c e f g = absurd (true≢false f)
+none_asked false false true e f g = absurd (true≢false g)
+
+abbrev IsOne : ℕ → Type 0
+IsOne number = (times (λ n. n == number) (1 ∷ 2 ∷ 3 ∷ []) ≡ 1) ⊎ ((times (λ n. n == number) (1 ∷ 2 ∷ 3 ∷ []) ≡ 0) × (asked number ≡ nothing_asked))
+
+are_actions : (number : ℕ) → 0 < number → IsOne number
+are_actions number p = by_tests (1 == number) (2 == number) (3 == number) refl refl refl where
+  by_tests : (a b c : Bool) → (1 == number) ≡ a → (2 == number) ≡ b → (3 == number) ≡ c → IsOne number
+  by_tests true b c e f g = subst IsOne (eqb-true 1 number e) (inl refl)
+  by_tests false true c e f g = subst IsOne (eqb-true 2 number f) (inl refl)
+  by_tests false false true e f g = subst IsOne (eqb-true 3 number g) (inl refl)
+  by_tests false false false e f g = inr (none_of (1 == number) (2 == number) (3 == number) e f g, none_asked (1 == number) (2 == number) (3 == number) e f g)
+
+in_range : (number slot : ℕ) → slot < 32 → IsInRange (record {
+  slot = slot;
+  connection = record { number = number; user_name = 0; host_name = 1; account = Some 0; user = Some 0; host = Some 0 };
+})
+in_range number slot low = record { slot = low; places = record { account = omega arith; user = omega arith; host = omega arith } }
+
+are_seated : Each IsSeatedStay stays
+are_seated = (
+  record { number = refl; parts = (first_is, tt); seated = (in_range 1 0 (omega arith), tt) },
+  (
+    record { number = refl; parts = (second_is, tt); seated = (in_range 2 1 (omega arith), tt) },
+    (record { number = refl; parts = (third_is, tt); seated = ((cells_ascend, in_range 1 0 (omega arith)), tt) }, tt),
+  ),
+) where
+  cells_ascend : Ascends 0 64 (0 ∷ 62 ∷ 63 ∷ [])
+  cells_ascend = (omega arith, (omega arith, (omega arith, (omega arith, (omega arith, (omega arith, tt))))))
+
+few : (number : ℕ) → 0 < number → times (λ n. n == number) (1 ∷ 2 ∷ 3 ∷ []) ≤ 1
+few number p = by_one (are_actions number p) where
+  by_one : IsOne number → times (λ n. n == number) (1 ∷ 2 ∷ 3 ∷ []) ≤ 1
+  by_one (inl e) = omega (arith, e)
+  by_one (inr e) = omega (arith, e.0)
+
+pub worked : WorkedRun
+worked = record {
+  asked = run orders given content stays are_stays are_actions;
+  whole = λ given info. whole given content stays info are_seated ((first_contents, tt), ((second_contents, tt), ((third_contents, tt), tt))) few;
+  quit = refl;
+}

@@ -1,0 +1,11 @@
+pub mod Deeds
+pub mod Bits
+pub mod Working
+pub mod Calming
+pub mod Parting
+pub mod Listing
+pub mod Running
+pub mod Examples
+pub mod Taking
+pub mod Aparting
+pub mod Wholly

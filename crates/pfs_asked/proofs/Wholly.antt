@@ -1,0 +1,183 @@
+-- The orders of the parts themselves are orders.
+use Rattle.std.proofs.Common.{ℕ, ◌≡◌, ◌≤◌, ◌+◌, ◌==◌, ◌<◌, Bool, true, false, cond, List, [], ◌∷◌, ◌++◌, map, Option, Some, None, inl, inr, ne_eqb, eq-eqb, refl, ap, sym, ◌∙◌, subst, arith}
+use Rattle.std.specs.Prelude.{nat_lt, if◌then◌else◌, IfSome, ◌⊎◌}
+use Rattle.std.proofs.lemmas.Bool.{false≢true, ltb-true, ltb-false}
+use Rattle.pfs_admin.proofs.Rows.{connect_rows, quit_rows}
+use Rattle.pfs_admin.specs.Asks.{connect_work, quit_work}
+use Rattle.pfs_admin.specs.Laws.{row_of}
+use Rattle.pfs_admin.specs.States.{seat_at, seat_in, has_quit, connected, thread_flags}
+use Rattle.pfs_admin.specs.Works.{Sign, Releases, Tags}
+use Rattle.pfs_containers.specs.Kept.{IsInRange}
+use Rattle.pfs_containers.specs.declared.containers.Seated.{Seated}
+use Rattle.pfs_levels.specs.Flushes.{Ascends}
+use Rattle.pfs_model.specs.Asked.{Rooms}
+use Rattle.pfs_model.specs.Chains.{Each, times}
+use Rattle.pfs_model.specs.Contents.{Given}
+use Rattle.pfs_parts.specs.Amounts.{AllContentsAgree}
+use Rattle.pfs_parts.specs.Deeds.{Deed, Connecting, Starting, Staging, StageEnding, Ending, Spending, Quitting, Closing, Part}
+use Rattle.pfs_asked.proofs.Aparting.{apart}
+use Rattle.pfs_asked.proofs.Running.{run}
+use Rattle.pfs_asked.proofs.Taking.{counted, each_front, each_back}
+use Rattle.pfs_asked.specs.Asking.{AreOrders, AreRooms, AreWords, action_of, work_of}
+use Rattle.pfs_asked.specs.Runs.{Stay, AllOrders, AreStays, numbers_of, all_numbers, nothing_asked}
+use Rattle.pfs_asked.specs.Takes.{AreSeated, IsSeated, IsSeatedStay, AllCounted, CountedIn}
+use Rattle.pfs_asked.specs.Whole.{Acting, actings_of, all_actings, of_number, no_rooms, rooms_for, signed_words, asked_for, room_for, words_for, no_words, orders_of, words_of_all, WholeLaw}
+
+abbrev number_in : Acting → ℕ
+number_in one = action_of one.deed
+
+abbrev numbers_in : List Acting → List ℕ
+numbers_in [] = []
+numbers_in (one ∷ others) = number_in one ∷ numbers_in others
+
+parts_numbers : (session : ℕ) (ps : List Part) (rest : List Acting) → numbers_in (actings_of session ps ++ rest) ≡ numbers_of ps ++ numbers_in rest
+parts_numbers session [] rest = refl
+parts_numbers session (p ∷ ps) rest = ap (λ z. action_of p.deed ∷ z) (parts_numbers session ps rest)
+
+stays_numbers : (stays : List Stay) → numbers_in (all_actings stays) ≡ all_numbers stays
+stays_numbers [] = refl
+stays_numbers (stay ∷ stays) = parts_numbers stay.session stay.parts (all_actings stays) ∙ ap (λ z. numbers_of stay.parts ++ z) (stays_numbers stays)
+
+abbrev IsUnique : List ℕ → Type 0
+IsUnique ns = (number : ℕ) → 0 < number → times (λ n. n == number) ns ≤ 1
+
+sum_small : (x y : ℕ) → (x + y) ≤ 1 → y ≤ 1
+sum_small x y h = omega (arith, h)
+
+sum_more : (x y : ℕ) → 1 ≤ y → 1 ≤ (x + y)
+sum_more x y h = omega (arith, h)
+
+-- each is there
+more_there : (a : ℕ) (full some : List Acting) → Each (λ one. 1 ≤ times (λ n. n == number_in one) (numbers_in full)) some
+    → Each (λ one. 1 ≤ times (λ n. n == number_in one) (a ∷ numbers_in full)) some
+more_there a full [] e = tt
+more_there a full (one ∷ some) e = (sum_more (cond (a == number_in one) 1 0) (times (λ n. n == number_in one) (numbers_in full)) e.0, more_there a full some e.1)
+
+all_there : (full : List Acting) → Each (λ one. 1 ≤ times (λ n. n == number_in one) (numbers_in full)) full
+all_there [] = tt
+all_there (one ∷ others) = (at (number_in one == number_in one) (eq-eqb (number_in one) (number_in one) refl), more_there (number_in one) others others (all_there others)) where
+  at : (b : Bool) → b ≡ true → 1 ≤ (cond b 1 0 + times (λ n. n == number_in one) (numbers_in others))
+  at true e = omega arith
+  at false e = absurd (false≢true e)
+
+-- what is given by a number
+abbrev Gives : {A : Type 0} → (Acting → A) → A → List Acting → Acting → Type 0
+Gives give none full one = 0 < number_in one → of_number give none full (number_in one) ≡ give one
+
+still_gives : {A : Type 0} (give : Acting → A) (none : A) (one : Acting) (others some : List Acting) → IsUnique (number_in one ∷ numbers_in others)
+    → Each (λ other. 1 ≤ times (λ n. n == number_in other) (numbers_in others)) some → Each (Gives give none others) some → Each (Gives give none (one ∷ others)) some
+still_gives give none one others [] u there g = tt
+still_gives {A} give none one others (other ∷ some) u there g = (own, still_gives give none one others some u there.1 g.1) where
+  at : (b : Bool) → (cond b 1 0 + times (λ n. n == number_in other) (numbers_in others)) ≤ 1 → of_number give none others (number_in other) ≡ give other
+      → (if b then give one else of_number give none others (number_in other)) ≡ give other
+  at true few e = absurd (omega (arith, few, there.0))
+  at false few e = e
+
+  own : Gives give none (one ∷ others) other
+  own p = at (number_in one == number_in other) (u (number_in other) p) (g.0 p)
+
+all_give : {A : Type 0} (give : Acting → A) (none : A) (full : List Acting) → IsUnique (numbers_in full) → Each (Gives give none full) full
+all_give give none [] u = tt
+all_give {A} give none (one ∷ others) u = (
+  (λ p. ap (λ b. if b then give one else of_number give none others (number_in one)) (eq-eqb (number_in one) (number_in one) refl)),
+  still_gives give none one others others u (all_there others)
+      (all_give give none others (λ number p. sum_small (cond (number_in one == number) 1 0) (times (λ n. n == number) (numbers_in others)) (u number p))),
+)
+
+none_gives : {A : Type 0} (give : Acting → A) (none : A) (full : List Acting) (number : ℕ) → times (λ n. n == number) (numbers_in full) ≡ 0 → of_number give none full number ≡ none
+none_gives give none [] number e = refl
+none_gives {A} give none (one ∷ others) number e = at (number_in one == number) e (none_gives give none others number) where
+  at : (b : Bool) → (cond b 1 0 + times (λ n. n == number) (numbers_in others)) ≡ 0 → (times (λ n. n == number) (numbers_in others) ≡ 0 → of_number give none others number ≡ none)
+      → (if b then give one else of_number give none others number) ≡ none
+  at true e rest = absurd (omega (arith, e))
+  at false e rest = rest (omega (arith, e))
+
+-- signs of ascending rows
+still_signed : (low limit row : ℕ) (words : List ℕ) (some others : List Sign) → row < low → Ascends low limit (map row_of some) → AreWords (signed_words others) some
+    → AreWords (signed_words (Tags row words ∷ others)) some
+still_signed low limit row words [] others l a w = tt
+still_signed low limit row words (Releases released ∷ some) others l a w = still_signed (released + 1) limit row words some others (omega (arith, l, a.0)) a.1.1 w
+still_signed low limit row words (Tags tagged more ∷ some) others l a w = (
+  ap (λ b. if b then words else signed_words others tagged) (ne_eqb row tagged (λ q. absurd (omega (arith, q, l, a.0)))) ∙ w.0,
+  still_signed (tagged + 1) limit row words some others (omega (arith, l, a.0)) a.1.1 w.1,
+)
+
+all_signed : (low limit : ℕ) (signs : List Sign) → Ascends low limit (map row_of signs) → AreWords (signed_words signs) signs
+all_signed low limit [] a = tt
+all_signed low limit (Releases row ∷ signs) a = all_signed (row + 1) limit signs a.1.1
+all_signed low limit (Tags row words ∷ signs) a =
+    (ap (λ b. if b then words else signed_words signs row) (eq-eqb row row refl), still_signed (row + 1) limit row words signs signs (omega arith) a.1.1 (all_signed (row + 1) limit signs a.1.1))
+
+signs_ascend : (session : ℕ) (deed : Deed) → IsSeated session deed → Ascends 1 129 (map row_of (work_of session deed).signs)
+signs_ascend session (Connecting admin user host) is = by_seat (seat_at admin session user host) is where
+  by_seat : (seat : Option Seated) → IfSome seat IsInRange → Ascends 1 129 (map row_of (connect_work admin.words (thread_flags admin user host) (connected admin session user host).kept.now seat).signs)
+  by_seat None h = tt
+  by_seat (Some seat) h = connect_rows admin.words (thread_flags admin user host) (connected admin session user host).kept.now seat h
+signs_ascend session (Quitting admin) is = by_seat (seat_in admin session) is.1 where
+  by_seat : (seat : Option Seated) → IfSome seat IsInRange → Ascends 1 129 (map row_of (quit_work admin.words admin.cells (has_quit admin session).kept.now seat).signs)
+  by_seat None h = tt
+  by_seat (Some seat) h = (quit_rows admin.words admin.cells (has_quit admin session).kept.now seat h is.0).1
+signs_ascend session (Starting subject) is = tt
+signs_ascend session (Staging subject) is = tt
+signs_ascend session StageEnding is = tt
+signs_ascend session (Ending numbers) is = tt
+signs_ascend session (Spending time) is = tt
+signs_ascend session Closing is = tt
+
+deed_rooms : (rooms : ℕ → Rooms) (session : ℕ) (deed : Deed) → rooms (action_of deed) ≡ rooms_for session deed → AreRooms rooms session deed
+deed_rooms rooms session (Connecting admin user host) e = e
+deed_rooms rooms session (Quitting admin) e = tt
+deed_rooms rooms session (Starting subject) e = tt
+deed_rooms rooms session (Staging subject) e = tt
+deed_rooms rooms session StageEnding e = tt
+deed_rooms rooms session (Ending numbers) e = tt
+deed_rooms rooms session (Spending time) e = tt
+deed_rooms rooms session Closing e = tt
+
+parts_orders : (given : Given) (content : ℕ → ℕ → List ℕ) (all : List Stay) (session : ℕ) (ps : List Part) → given.info_words ≡ words_of_all all → AreSeated session ps
+    → Each (Gives asked_for nothing_asked (all_actings all)) (actings_of session ps) → Each (Gives room_for no_rooms (all_actings all)) (actings_of session ps)
+    → Each (Gives words_for no_words (all_actings all)) (actings_of session ps) → CountedIn content (orders_of content all).counted ps
+    → AllOrders (orders_of content all) given content session ps
+parts_orders given content all session [] info seated a r w c = tt
+parts_orders given content all session (p ∷ ps) info seated a r w c =
+    let signs : List Sign = (work_of session p.deed).signs in
+    let own : 0 < action_of p.deed → AreOrders (orders_of content all) given content session p = λ q. record {
+      asked = a.0 q;
+      rooms = deed_rooms (orders_of content all).rooms session p.deed (r.0 q);
+      counted = c.0;
+      words = subst (λ z. AreWords z signs) (sym (ap (λ z. z (action_of p.deed)) info ∙ w.0 q)) (all_signed 1 129 signs (signs_ascend session p.deed seated.0));
+    } in
+    (own, parts_orders given content all session ps info seated.1 a.1 r.1 w.1 c.1)
+
+stays_are : (given : Given) (content : ℕ → ℕ → List ℕ) (all stays : List Stay) → given.info_words ≡ words_of_all all → Each IsSeatedStay stays
+    → Each (λ stay. AllContentsAgree content stay.parts) stays
+    → Each (Gives asked_for nothing_asked (all_actings all)) (all_actings stays) → Each (Gives room_for no_rooms (all_actings all)) (all_actings stays)
+    → Each (Gives words_for no_words (all_actings all)) (all_actings stays) → AllCounted content (orders_of content all).counted stays
+    → AreStays (orders_of content all) given content stays
+stays_are given content all [] info are calls a r w c = tt
+stays_are given content all (stay ∷ stays) info are calls a r w c =
+    let xs : List Acting = actings_of stay.session stay.parts in
+    let ys : List Acting = all_actings stays in (
+      record {
+        number = are.0.number;
+        parts = are.0.parts;
+        contents = calls.0;
+        told = parts_orders given content all stay.session stay.parts info are.0.seated (each_front _ xs ys a) (each_front _ xs ys r) (each_front _ xs ys w) c.0;
+      },
+      stays_are given content all stays info are.1 calls.1 (each_back _ xs ys a) (each_back _ xs ys r) (each_back _ xs ys w) c.1,
+    )
+
+pub whole : WholeLaw
+whole = λ given content stays info are calls unique.
+    let full : List Acting = all_actings stays in
+    let own : IsUnique (numbers_in full) = subst IsUnique (sym (stays_numbers stays)) unique in
+    run (orders_of content stays) given content stays
+    (stays_are given content stays stays info are calls (all_give asked_for nothing_asked full own) (all_give room_for no_rooms full own) (all_give words_for no_words full own)
+    (counted content stays (apart stays are unique)))
+    (λ number p. at content stays number (nat_lt 0 (times (λ n. n == number) (all_numbers stays))) refl (unique number p)) where
+      at : (content : ℕ → ℕ → List ℕ) (stays : List Stay) (number : ℕ) (b : Bool) → nat_lt 0 (times (λ n. n == number) (all_numbers stays)) ≡ b → times (λ n. n == number) (all_numbers stays) ≤ 1
+          → (times (λ n. n == number) (all_numbers stays) ≡ 1) ⊎ ((times (λ n. n == number) (all_numbers stays) ≡ 0) × ((orders_of content stays).asked number ≡ nothing_asked))
+      at content stays number true e few = inl (omega (arith, ltb-true 0 (times (λ n. n == number) (all_numbers stays)) e, few))
+      at content stays number false e few =
+          let none : times (λ n. n == number) (all_numbers stays) ≡ 0 = omega (arith, ltb-false 0 (times (λ n. n == number) (all_numbers stays)) e) in
+          inr (none, none_gives asked_for nothing_asked (all_actings stays) number (ap (times (λ n. n == number)) (stays_numbers stays) ∙ none))

@@ -1,0 +1,104 @@
+-- What the administration asks for at a line of a session, as the rules of a journal have it.
+use Rattle.std.specs.Prelude.{ℕ, ◌≡◌, ◌+◌, Bool, List, [], ◌∷◌}
+use Rattle.pfs_admin.specs.Asks.{work_of_connect, work_of_quit, placed_of}
+use Rattle.pfs_admin.specs.States.{seat_at}
+use Rattle.pfs_admin.specs.Works.{Sign, Releases, Tags, Flagging, Work, no_work}
+use Rattle.pfs_admin.specs.declared.admin.Placed.{Placed as Found}
+use Rattle.pfs_event.specs.declared.entry.Entry.{Entry}
+use Rattle.pfs_levels.specs.Moves.{Ask}
+use Rattle.pfs_model.specs.Asked.{Asked, Move, Frees, Rooms}
+use Rattle.pfs_model.specs.Asked.{Sign as Signing, Tags as Tagging, Flagging as Setting}
+use Rattle.pfs_model.specs.Contents.{Given, IsFoundAsCounted}
+use Rattle.pfs_parts.specs.Deeds.{Deed, Connecting, Starting, Staging, StageEnding, Ending, Spending, Quitting, Closing, Part, part_entries}
+
+abbrev pub moves_asked : List Ask → List Move
+moves_asked [] = []
+moves_asked (a ∷ asks) = record { from = a.from; to = a.to } ∷ moves_asked asks
+
+abbrev pub signs_asked : List Sign → List Signing
+signs_asked [] = []
+signs_asked (Releases row ∷ signs) = Frees row ∷ signs_asked signs
+signs_asked (Tags row content ∷ signs) = Tagging row ∷ signs_asked signs
+
+abbrev pub sets_asked : List Flagging → List Setting
+sets_asked [] = []
+sets_asked (f ∷ fs) = record { word = f.word; flags = f.flags } ∷ sets_asked fs
+
+abbrev pub asked_by : Work → Asked
+asked_by work = record {
+  moves = moves_asked work.moves;
+  signs = signs_asked work.signs;
+  sets = sets_asked work.flags;
+}
+
+-- what the administration has to do at a line of a session of this number; nothing where it is no action
+abbrev pub work_of : ℕ → Deed → Work
+work_of session (Connecting admin user host) = work_of_connect admin session user host
+work_of session (Quitting admin) = work_of_quit admin session
+work_of session (Starting subject) = no_work
+work_of session (Staging subject) = no_work
+work_of session StageEnding = no_work
+work_of session (Ending numbers) = no_work
+work_of session (Spending time) = no_work
+work_of session Closing = no_work
+
+abbrev pub asked_of_deed : ℕ → Deed → Asked
+asked_of_deed session deed = asked_by (work_of session deed)
+
+-- the number of an action; 0 of a line that is none
+abbrev pub action_of : Deed → ℕ
+action_of (Connecting admin user host) = admin.actions + 1
+action_of (Quitting admin) = admin.actions + 1
+action_of (Starting subject) = 0
+action_of (Staging subject) = 0
+action_of StageEnding = 0
+action_of (Ending numbers) = 0
+action_of (Spending time) = 0
+action_of Closing = 0
+
+abbrev pub rooms_of : Found → Rooms
+rooms_of found = record {
+  thread = found.thread;
+  account = found.account;
+  user = found.user;
+  host = found.host;
+}
+
+-- what is said of each action, by its number: what it asks for, where a connect finds room, and whether its take of a
+-- row found something counted
+pub record Orders : Type 0 where
+  pub asked : ℕ → Asked
+  pub rooms : ℕ → Rooms
+  pub counted : ℕ → ℕ → Bool
+
+-- the rooms are those that the administration finds for a connect
+abbrev pub AreRooms : (ℕ → Rooms) → ℕ → Deed → Type 0
+AreRooms rooms session (Connecting admin user host) =
+    rooms (admin.actions + 1) ≡ rooms_of (placed_of (seat_at admin session user host))
+AreRooms rooms session (Quitting admin) = Unit {0}
+AreRooms rooms session (Starting subject) = Unit {0}
+AreRooms rooms session (Staging subject) = Unit {0}
+AreRooms rooms session StageEnding = Unit {0}
+AreRooms rooms session (Ending numbers) = Unit {0}
+AreRooms rooms session (Spending time) = Unit {0}
+AreRooms rooms session Closing = Unit {0}
+
+-- the words of each info row that is written
+abbrev pub AreWords : (ℕ → List ℕ) → List Sign → Type 0
+AreWords words [] = Unit {0}
+AreWords words (Releases row ∷ signs) = AreWords words signs
+AreWords words (Tags row content ∷ signs) = (words row ≡ content) × AreWords words signs
+
+-- each take found something counted where the content before it has counted one
+abbrev pub AreCounted : (ℕ → ℕ → List ℕ) → (ℕ → ℕ → Bool) → ℕ → List Entry → Type 0
+AreCounted content counted action [] = Unit {0}
+AreCounted content counted action (entry ∷ entries) =
+    IsFoundAsCounted content counted action entry × AreCounted content counted action entries
+
+-- these orders, and the words that are given of info rows, are those of an action of a session of this number
+pub record AreOrders (orders : Orders) (given : Given) (content : ℕ → ℕ → List ℕ) (session : ℕ) (p : Part) : Type 0
+  where
+    pub asked : orders.asked (action_of p.deed) ≡ asked_of_deed session p.deed
+    pub rooms : AreRooms orders.rooms session p.deed
+    pub counted : AreCounted content orders.counted (action_of p.deed) (part_entries p)
+    pub words : AreWords (given.info_words (action_of p.deed)) (work_of session p.deed).signs

@@ -1,0 +1,195 @@
+-- Two sessions of one account connect, and the first one ends: a wait that it has counted goes up to the account.
+use Rattle.std.specs.Prelude.{ℕ, ◌≡◌, ◌+◌, ◌==◌, ◌&&◌, nat_lt, if◌then◌else◌, true, List, [], ◌∷◌, ◌++◌, replicate}
+use Rattle.pfs_admin.specs.Asks.{work_of_connect, work_of_quit, connect_entry, placed_of}
+use Rattle.pfs_admin.specs.Examples.{start}
+use Rattle.pfs_admin.specs.Laws.{row_of}
+use Rattle.pfs_admin.specs.States.{connected, has_quit, seat_at}
+use Rattle.pfs_admin.specs.States.{State as Administration}
+use Rattle.pfs_admin.specs.Works.{Sign, Releases, Tags, Made, Work, signs_calls, signs_entries, flagging_calls, flagging_entries}
+use Rattle.pfs_event.specs.declared.entry.Entry.TheVariants as says
+use Rattle.pfs_levels.specs.Contents.{merged, zero_words}
+use Rattle.pfs_levels.specs.Moves.{Gift, Move, moves_calls, moves_entries}
+use Rattle.pfs_model.specs.Asked.{Asked, Took, Gave, Freed, Tagged, Flagged, asked_of}
+use Rattle.pfs_model.specs.Contents.{Given}
+use Rattle.pfs_model.specs.Places.{places}
+use Rattle.pfs_parts.specs.Deeds.{Connecting, Quitting, Part}
+use Rattle.pfs_session.specs.States.{State, fresh, nothing_held}
+use Rattle.pfs_session.specs.States.{no_place}
+use Rattle.pfs_session.specs.Turns.{Connects, Quits, SettlesHeld, Turn, acted}
+use Rattle.pfs_stat.specs.Stat.{zero_of, stat_of, words_of, stat_of_words}
+use Rattle.pfs_asked.specs.Asking.{Orders, asked_by, rooms_of}
+use Rattle.pfs_asked.specs.Runs.{Stay, blocks_of, nothing_asked, IsAsked}
+use Rattle.pfs_asked.specs.Whole.{orders_of, words_of_all}
+
+-- the administration before each of the three actions, and what they are to do
+abbrev pub second : Administration
+second = connected start 1 0 1
+
+abbrev pub third : Administration
+third = connected second 2 0 1
+
+abbrev pub first_work : Work
+first_work = work_of_connect start 1 0 1
+
+abbrev pub second_work : Work
+second_work = work_of_connect second 2 0 1
+
+abbrev pub third_work : Work
+third_work = work_of_quit third 1
+
+-- what an action writes to a row
+abbrev pub written : List Sign → ℕ → List ℕ
+written [] row = []
+written (Releases released ∷ signs) row = written signs row
+written (Tags tagged words ∷ signs) row = if tagged == row then words else written signs row
+
+abbrev pub info_words : ℕ → ℕ → List ℕ
+info_words action row =
+    if action == 1 then written first_work.signs row
+    else if action == 2 then written second_work.signs row
+    else written third_work.signs row
+
+-- a wait of 40
+abbrev pub one_wait : List ℕ
+one_wait = words_of (stat_of (record {
+  timed = true;
+  wait = 40;
+  lock = 0;
+  errors = 0;
+  warnings = 0;
+  affected = 0;
+  sent = 0;
+  examined = 0;
+}))
+
+-- the thread of the second session is written by the second action alone, its account by all three; version 5 of the
+-- first one's cell has the wait, and version 4 of the account's has it too
+abbrev pub content : ℕ → ℕ → List ℕ
+content row version =
+    if nat_lt row 129 then
+    if version == 0 then replicate 16 0
+    else info_words (if row == 2 then 2 else version) row
+    else if (row == 129) && (version == 5) then one_wait
+    else if (row == 2177) && (version == 4) then merged zero_words (stat_of_words one_wait)
+    else zero_words
+
+-- signs that were made, newest first, of rows at these versions
+abbrev pub made_at : (ℕ → ℕ) → List Sign → List Made
+made_at versions [] = []
+made_at versions (sign ∷ signs) = made_at versions signs ++ record {
+  sign = sign;
+  version = versions (row_of sign);
+  found = content (row_of sign) (versions (row_of sign));
+} ∷ []
+
+abbrev pub first_made : List Made
+first_made = made_at (λ row. 0) first_work.signs
+
+abbrev pub second_made : List Made
+second_made = made_at (λ row. if row == 2 then 0 else 1) second_work.signs
+
+abbrev pub third_made : List Made
+third_made = made_at (λ row. if row == 1 then 1 else 2) third_work.signs
+
+abbrev pub emptied : ℕ → ℕ → List Gift → Move
+emptied from before gifts = record {
+  from = from;
+  before = before;
+  version = before + 1;
+  found = content from before;
+  gifts = gifts;
+}
+
+-- the first session's three cells, of which one has counted something; newest first
+abbrev pub third_moves : List Move
+third_moves = emptied 192 0 [] ∷ emptied 191 0 []
+    ∷ emptied 129 5 (record { to = 2177; before = 3; version = 4; there = zero_words } ∷ []) ∷ []
+
+abbrev pub state_behind : State → Administration → State
+state_behind s admin = record (acted s (connected admin s.number 0 1)) {
+  place = placed_of (seat_at admin s.number 0 1);
+}
+
+abbrev pub connect_turn : State → Administration → Work → List Made → Turn
+connect_turn s admin work made = record {
+  step = Connects admin 0 1;
+  calls = flagging_calls admin.words work.flags ++ signs_calls made;
+  entries = connect_entry (admin.actions + 1) (seat_at admin s.number 0 1)
+      ∷ (signs_entries made ++ flagging_entries admin.words work.flags);
+  after = state_behind s admin;
+}
+
+abbrev pub connect_part : State → Administration → Work → List Made → Part
+connect_part s admin work made = record {
+  deed = Connecting admin 0 1;
+  turns = connect_turn s admin work made ∷ [];
+}
+
+abbrev pub one : State
+one = fresh 1 10 8
+
+abbrev pub two : State
+two = fresh 2 10 8
+
+abbrev pub connected_one : State
+connected_one = state_behind one start
+
+abbrev pub settled_one : State
+settled_one = record connected_one { held = nothing_held }
+
+abbrev pub quit_part : Part
+quit_part = record {
+  deed = Quitting third;
+  turns = record {
+    step = Quits third;
+    calls = flagging_calls third.words third_work.flags ++ (signs_calls third_made ++ moves_calls third_moves);
+    entries = says.Act 3 ∷ (moves_entries third_moves
+        ++ (signs_entries third_made ++ flagging_entries third.words third_work.flags));
+    after = record (acted settled_one (has_quit third 1)) { place = no_place };
+  } ∷ record { step = SettlesHeld; calls = []; entries = []; after = settled_one } ∷ [];
+}
+
+-- both connect in phase 1, and the first one ends in phase 2
+abbrev pub stays : List Stay
+stays = record {
+  phase = 1;
+  session = 1;
+  from = one;
+  parts = connect_part one start first_work first_made ∷ [];
+} ∷ record {
+  phase = 1;
+  session = 2;
+  from = two;
+  parts = connect_part two second second_work second_made ∷ [];
+} ∷ record {
+  phase = 2;
+  session = 1;
+  from = connected_one;
+  parts = quit_part ∷ [];
+} ∷ []
+
+abbrev pub asked : ℕ → Asked
+asked number =
+    if 1 == number then asked_by first_work
+    else if 2 == number then asked_by second_work
+    else if 3 == number then asked_by third_work
+    else nothing_asked
+
+abbrev pub orders : Orders
+orders = record {
+  asked = asked;
+  rooms = λ number. rooms_of (placed_of (if number == 1 then seat_at start 1 0 1 else seat_at second 2 0 1));
+  counted = λ number row. row == 129;
+}
+
+abbrev pub given : Given
+given = record { amount = λ session event. zero_of; event_words = λ place. []; info_words = info_words }
+
+pub record WorkedRun : Type 0 where
+  -- the premises are met, of these orders and of those of the parts themselves
+  pub asked : IsAsked orders given content (places (blocks_of stays))
+  pub whole : (given : Given) → given.info_words ≡ words_of_all stays
+      → IsAsked (orders_of content stays) given content (places (blocks_of stays))
+  -- the wait goes up; the other two cells had counted nothing; then the infos, and the thread's flags
+  pub quit : asked_of (orders.counted 3) (orders.asked 3)
+      ≡ Took 129 ∷ Gave 2177 129 ∷ Took 191 ∷ Took 192 ∷ Freed 1 ∷ Tagged 33 ∷ Tagged 65 ∷ Tagged 97 ∷ Flagged 1 0 ∷ []

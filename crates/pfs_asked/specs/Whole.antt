@@ -1,0 +1,82 @@
+-- Of any number of sessions there are orders: those of the parts themselves.
+use Rattle.std.specs.Prelude.{ℕ, ◌≡◌, ◌<◌, ◌≤◌, ◌==◌, if◌then◌else◌, List, [], ◌∷◌, ◌++◌, None}
+use Rattle.pfs_admin.specs.Asks.{placed_of}
+use Rattle.pfs_admin.specs.States.{seat_at}
+use Rattle.pfs_admin.specs.Works.{Sign, Releases, Tags}
+use Rattle.pfs_model.specs.Asked.{Asked, Rooms}
+use Rattle.pfs_model.specs.Chains.{Each, times}
+use Rattle.pfs_model.specs.Contents.{Given}
+use Rattle.pfs_model.specs.Places.{places}
+use Rattle.pfs_parts.specs.Amounts.{AllContentsAgree}
+use Rattle.pfs_parts.specs.Deeds.{Deed, Connecting, Starting, Staging, StageEnding, Ending, Spending, Quitting, Closing, Part}
+use Rattle.pfs_asked.specs.Asking.{Orders, action_of, asked_of_deed, rooms_of, work_of}
+use Rattle.pfs_asked.specs.Runs.{Stay, all_numbers, blocks_of, nothing_asked, IsAsked}
+use Rattle.pfs_asked.specs.Takes.{all_taken, counted_by, IsSeatedStay}
+
+-- what a line asks of a session
+pub record Acting : Type 0 where
+  pub session : ℕ
+  pub deed : Deed
+
+abbrev pub actings_of : ℕ → List Part → List Acting
+actings_of session [] = []
+actings_of session (p ∷ ps) = record { session = session; deed = p.deed } ∷ actings_of session ps
+
+abbrev pub all_actings : List Stay → List Acting
+all_actings [] = []
+all_actings (stay ∷ stays) = actings_of stay.session stay.parts ++ all_actings stays
+
+-- what the action of a number gives
+abbrev pub of_number : {A : Type 0} → (Acting → A) → A → List Acting → ℕ → A
+of_number give none [] number = none
+of_number give none (one ∷ others) number =
+    if action_of one.deed == number then give one else of_number give none others number
+
+abbrev pub no_rooms : Rooms
+no_rooms = record { thread = None; account = None; user = None; host = None }
+
+abbrev pub rooms_for : ℕ → Deed → Rooms
+rooms_for session (Connecting admin user host) = rooms_of (placed_of (seat_at admin session user host))
+rooms_for session (Quitting admin) = no_rooms
+rooms_for session (Starting subject) = no_rooms
+rooms_for session (Staging subject) = no_rooms
+rooms_for session StageEnding = no_rooms
+rooms_for session (Ending numbers) = no_rooms
+rooms_for session (Spending time) = no_rooms
+rooms_for session Closing = no_rooms
+
+-- the words of an info row among signs
+abbrev pub signed_words : List Sign → ℕ → List ℕ
+signed_words [] row = []
+signed_words (Releases released ∷ signs) row = signed_words signs row
+signed_words (Tags tagged words ∷ signs) row = if tagged == row then words else signed_words signs row
+
+abbrev pub asked_for : Acting → Asked
+asked_for one = asked_of_deed one.session one.deed
+
+abbrev pub room_for : Acting → Rooms
+room_for one = rooms_for one.session one.deed
+
+abbrev pub words_for : Acting → ℕ → List ℕ
+words_for one = signed_words (work_of one.session one.deed).signs
+
+abbrev pub no_words : ℕ → List ℕ
+no_words row = []
+
+abbrev pub orders_of : (ℕ → ℕ → List ℕ) → List Stay → Orders
+orders_of content stays = record {
+  asked = of_number asked_for nothing_asked (all_actings stays);
+  rooms = of_number room_for no_rooms (all_actings stays);
+  counted = counted_by content (all_taken stays);
+}
+
+abbrev pub words_of_all : List Stay → ℕ → ℕ → List ℕ
+words_of_all stays = of_number words_for no_words (all_actings stays)
+
+-- all journals say that just this was done, where no number is that of two actions
+abbrev pub WholeLaw : Type 0
+WholeLaw = (given : Given) (content : ℕ → ℕ → List ℕ) (stays : List Stay)
+    → given.info_words ≡ words_of_all stays → Each IsSeatedStay stays
+    → Each (λ stay. AllContentsAgree content stay.parts) stays
+    → ((number : ℕ) → 0 < number → times (λ n. n == number) (all_numbers stays) ≤ 1)
+    → IsAsked (orders_of content stays) given content (places (blocks_of stays))

@@ -1,0 +1,48 @@
+//! Laws of the definitions.
+
+ghost use Rattle.pfs_asked.specs.Done.{DoneLaw};
+ghost use Rattle.pfs_asked.specs.Examples.{WorkedRun};
+ghost use Rattle.pfs_asked.specs.Runs.{ContentsLaw, LinesLaw, RunLaw};
+ghost use Rattle.pfs_asked.specs.Takes.{ApartLaw, CountedLaw};
+ghost use Rattle.pfs_asked.specs.Whole.{WholeLaw};
+
+/// An action of a session does just what the administration asks for, in its order; a connect prints the places that
+/// the administration found; and each take, give and tag makes its row's content of the one before.
+pub fn done()
+    ensures { DoneLaw }
+{}
+
+/// The same of lines of a session one after another, where each number is that of one action.
+pub fn lines()
+    ensures { LinesLaw }
+{}
+
+/// The same of all journals of any number of sessions.
+pub fn run()
+    ensures { RunLaw }
+{}
+
+/// With the additions, the contents of all rows are as their changes make them.
+pub fn contents()
+    ensures { ContentsLaw }
+{}
+
+/// Where no action takes a row twice, its number and the row say whether the take found something counted.
+pub fn counted()
+    ensures { CountedLaw }
+{}
+
+/// No action takes a row twice, where no number is that of two and the places of each session are in range.
+pub fn apart()
+    ensures { ApartLaw }
+{}
+
+/// So of any number of sessions there are orders, those of their parts, and all journals say that just this was done.
+pub fn whole()
+    ensures { WholeLaw }
+{}
+
+/// Two sessions of one account connect, and the first one ends: a wait that it has counted goes up to the account.
+pub fn worked()
+    ensures { WorkedRun }
+{}
