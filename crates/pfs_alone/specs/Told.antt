@@ -1,4 +1,5 @@
--- What the entries of a session tell is what its calls tell, in the same order, whatever store it has.
+-- What the entries of a session tell is what its calls tell, in the same order, whatever store it has; of an action's
+-- number they tell that of its administration.
 use Rattle.std.specs.Prelude.{ℕ, ◌≡◌, ◌+◌, List, [], ◌∷◌, ◌++◌, Some}
 use Rattle.pfs_model.specs.Contexts.{Context}
 use Rattle.pfs_model.specs.Places.{placed_lines, after_lines}

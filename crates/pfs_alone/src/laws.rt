@@ -5,13 +5,13 @@ ghost use Rattle.pfs_alone.specs.Told.{ToldLaw};
 ghost use Rattle.pfs_alone.specs.Weighed.{WeighedLaw};
 
 /// What a session's entries tell is what its calls tell, in the same order, whatever store it has: the changes and
-/// releases of rows, the sets and loads of switch words, and the numbers of actions.
+/// releases of rows, and the sets and loads of switch words; and actions have the numbers of their administration.
 pub fn told()
     ensures { ToldLaw }
 {}
 
-/// So what its entries print weighs as what its calls did: each sum over the publications and releases of rows, and over
-/// the sets of switch words, is the same of both.
+/// So what its entries print weighs as what its calls did: each sum over the publications and releases of rows, and
+/// over the sets of switch words, is the same of both.
 pub fn weighed()
     ensures { WeighedLaw }
 {}

@@ -12,7 +12,7 @@ pub fn done()
     ensures { DoneLaw }
 {}
 
-/// The same of lines of a session one after another, where each number is that of one action.
+/// The same of the lines of a session that acts alone, where each number is that of one of its actions.
 pub fn lines()
     ensures { LinesLaw }
 {}

@@ -220,8 +220,8 @@ IsOnce before places behind = (weight : Waiting → ℕ)
     ≡ total weight (brought_in places) + total weight behind
 
 -- each addition of a session's journal brings its row exactly the events that the journal says; each event that ended
--- and counts was brought once to its row, or waits for it; and behind the journal the session holds for each row exactly
--- what waits for it
+-- and counts was brought once to its row, or waits for it; and behind the journal the session holds for each row
+-- exactly what waits for it
 pub record IsAccounted (flags : ℕ → ℕ → ℕ) (slots : ℕ → Option ℕ) (facts : ℕ → ℕ → Facts) (session : ℕ)
     (content : ℕ → ℕ → List ℕ) (clocked : Clocked) (context : Context) (s : State) (parts : List Part) : Type 0 where
   pub added : (phase : ℕ) → AreAdded (amount_by flags slots facts session) content
@@ -250,8 +250,8 @@ pub record SumsLaw : Type 0 where
       (context : Context) (s : State) → Sums flags slots facts session clocked context s → owed_by_state s ≡ []
       → context.waiting ≡ []
 
--- of all lines of a session from its beginning on: it accounts for them, and once it has ended, each event that ended
--- and counts was brought just once, to its row, and nothing else was brought
+-- of a session from its beginning on, whose lines stand in one phase: it accounts for them, and once it has ended, each
+-- event that ended and counts was brought just once, to its row, and nothing else was brought
 abbrev pub WholeLaw : Type 0
 WholeLaw = (flags : ℕ → ℕ → ℕ) (slots : ℕ → Option ℕ) (facts : ℕ → ℕ → Facts) (session : ℕ)
     (content : ℕ → ℕ → List ℕ) (number stack depth : ℕ) (parts : List Part)

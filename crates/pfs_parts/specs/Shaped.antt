@@ -30,7 +30,7 @@ WrittenLaw = (flags : ℕ → ℕ → ℕ) (over : Bool) (context : Context) (s 
     → MayDo over s p.deed → IsPart s p → LoadsAgree flags (part_calls p)
     → IsWritten flags s.stack (is_over over p.deed) context (line_of p.deed) (part_entries p) (state_after s p.turns)
 
--- lines one after another: a block, or all blocks of a session
+-- lines one after another within a phase, such as a block
 abbrev pub AreParts : State → List Part → Type 0
 AreParts s [] = Unit {0}
 AreParts s (p ∷ ps) = IsPart s p × AreParts (state_after s p.turns) ps

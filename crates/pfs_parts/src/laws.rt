@@ -9,7 +9,7 @@ pub fn written()
     ensures { WrittenLaw }
 {}
 
-/// The same of lines one after another, as the rules of a journal have it.
+/// The same of lines one after another within a phase, as the rules of a journal have it.
 pub fn journaled()
     ensures { JournalLaw }
 {}
@@ -27,8 +27,8 @@ pub fn amounts()
     pfs_stat::laws::merge();
 }
 
-/// The same of all lines of a session from its beginning on; once it has ended, each ended let-through event was
-/// brought just once, to its row, and nothing else was brought.
+/// The same of a session from its beginning on, whose lines stand in one phase; once it has ended, each ended
+/// let-through event was brought just once, to its row, and nothing else was brought.
 pub fn whole()
     ensures { WholeLaw }
 {

@@ -85,7 +85,8 @@ abbrev pub IsClass : Option ℕ → ℕ → Type 0
 IsClass None number = number ≡ 0
 IsClass (Some class) number = number ≡ class
 
--- what an end fills in, or a place that an event gets, is empty in an event that has just started
+-- what an end fills in, or a place that an event gets, is empty in an event that has just started; no statement is
+-- digested yet
 pub record IsUnfilled (what : Open) : Type 0 where
   pub last : what.event.last ≡ 0
   pub duration : what.event.duration ≡ 0

@@ -1,4 +1,4 @@
-//! Tests of the board, the setup words, the tickets, the stores, the administration and sessions, by public calls alone.
+//! Tests of the board, the setup words, the tickets, the stores, the administration and sessions, by public calls.
 #![tactic(auto)]
 
 #[cfg(test)]
