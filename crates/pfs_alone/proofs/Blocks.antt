@@ -1,5 +1,5 @@
 -- What the entries of a block and the calls of its stint tell is the same.
-use Rattle.std.proofs.Common.{ℕ, ◌≡◌, List, [], ◌∷◌, ◌++◌, refl, ap, sym, ◌∙◌}
+use Rattle.std.proofs.Common.{ℕ, ◌≡◌, List, [], ◌∷◌, ◌++◌, Option, Some, None, refl, ap, sym, ◌∙◌}
 use Rattle.pfs_event.specs.declared.entry.Entry.{Entry}
 use Rattle.pfs_levels.specs.Calls.{Call, Enters}
 use Rattle.pfs_model.specs.declared.lines.Line.{Line}
@@ -8,12 +8,11 @@ use Rattle.pfs_model.specs.Places.{Placed, placed_part, placed_lines}
 use Rattle.pfs_session.specs.States.{State, nothing_held}
 use Rattle.pfs_session.specs.Turns.{state_after}
 use Rattle.pfs_parts.specs.Agreeing.{LoadsAgree}
-use Rattle.pfs_parts.specs.Deeds.{Deed, Connecting, Starting, Staging, StageEnding, Ending, Spending, Quitting, Closing, Part, line_of, part_calls, part_entries}
+use Rattle.pfs_parts.specs.Deeds.{line_of, part_calls, part_entries, action_of}
 use Rattle.pfs_parts.specs.Shaped.{AreParts, AllLoadsAgree, lines_of, entries_of, state_behind}
-use Rattle.pfs_parts.proofs.Journaling.{turns_stack}
 use Rattle.pfs_alone.specs.Notes.{all_told}
 use Rattle.pfs_alone.specs.Told.{parts_notes}
-use Rattle.pfs_alone.specs.Stints.{Doing, around, doing_calls, doings_calls, parts_in, AreEntered}
+use Rattle.pfs_alone.specs.Spells.{Doing, around, doing_calls, doings_calls, parts_in, AreEntered}
 use Rattle.pfs_alone.proofs.Inner.{told_then}
 use Rattle.pfs_alone.proofs.Quiet.{AreAdded, added_front, added_back, AreQuiet}
 use Rattle.pfs_alone.proofs.Agreed.{AreQuietPlaces}
@@ -32,7 +31,7 @@ pub record IsBlockTold (phase session : ℕ) (context : Context) (s : State) (do
   pub quiet : AreQuietPlaces (placed_lines phase session context (lines_of (parts_in doings)) (entries_of (parts_in doings)))
   pub held : (state_behind s (parts_in doings)).held ≡ nothing_held
 
-pub block_told : (phase session : ℕ) (context : Context) (s : State) (doings : List Doing) → s.held ≡ nothing_held → AreParts s (parts_in doings) → AreEntered doings
+pub block_told : (phase session : ℕ) (context : Context) (s : State) (doings : List Doing) → s.held ≡ nothing_held → AreParts s (parts_in doings) → AreEntered s doings
     → AreAdded (doings_calls doings) → IsBlockTold phase session context s doings
 unfolding all_told
 block_told phase session context s [] h are entered added = record { same = refl; quiet = tt; held = h }
@@ -58,21 +57,11 @@ pub loads_back : (flags : ℕ → ℕ → ℕ) (xs ys : List Call) → LoadsAgre
 loads_back flags [] ys a = a
 loads_back flags (x ∷ xs) ys a = loads_back flags xs ys a.1
 
-around_loads : (flags : ℕ → ℕ → ℕ) (d : Doing) (deed : Deed) (calls : List Call) → LoadsAgree flags (around d.label d.labels deed calls) → LoadsAgree flags calls
-around_loads flags d (Connecting admin user host) calls a = loads_front flags calls (Enters d.label d.labels ∷ []) a.1
-around_loads flags d (Quitting admin) calls a = loads_front flags calls (Enters d.label d.labels ∷ []) a.1
-around_loads flags d (Starting subject) calls a = a
-around_loads flags d (Staging subject) calls a = a
-around_loads flags d StageEnding calls a = a
-around_loads flags d (Ending numbers) calls a = a
-around_loads flags d (Spending time) calls a = a
-around_loads flags d Closing calls a = a
+around_loads : (flags : ℕ → ℕ → ℕ) (d : Doing) (action : Option ℕ) (calls : List Call) → LoadsAgree flags (around d.label d.labels action calls) → LoadsAgree flags calls
+around_loads flags d None calls a = a
+around_loads flags d (Some number) calls a = loads_front flags calls (Enters d.label d.labels ∷ []) a.1
 
 pub block_loads : (flags : ℕ → ℕ → ℕ) (doings : List Doing) → LoadsAgree flags (doings_calls doings) → AllLoadsAgree flags (parts_in doings)
 block_loads flags [] a = tt
 block_loads flags (d ∷ ds) a =
-    (around_loads flags d d.part.deed (part_calls d.part) (loads_back flags (doings_calls ds) (doing_calls d) a), block_loads flags ds (loads_front flags (doings_calls ds) (doing_calls d) a))
-
-pub parts_stack : (s : State) (parts : List Part) → AreParts s parts → (state_behind s parts).stack ≡ s.stack
-parts_stack s [] are = refl
-parts_stack s (p ∷ ps) are = parts_stack (state_after s p.turns) ps are.1 ∙ turns_stack s p.turns are.0.are_turns
+    (around_loads flags d (action_of d.part.deed) (part_calls d.part) (loads_back flags (doings_calls ds) (doing_calls d) a), block_loads flags ds (loads_front flags (doings_calls ds) (doing_calls d) a))

@@ -25,7 +25,8 @@ use Rattle.pfs_session.specs.Turns.{StartsEvent, EndsEvent, SettlesHeld, Connect
 use Rattle.pfs_session.specs.declared.setup.Setup.{Setup}
 use Rattle.pfs_parts.specs.Deeds.{Deed, Connecting, Starting, Ending, Closing, Part, IsPart}
 use Rattle.pfs_session.proofs.Owed.{nothing_owed}
-use Rattle.pfs_alone.specs.Stints.{Doing, Stint, AreStints, calls_of}
+use Rattle.pfs_parts.specs.Stints.{AreStints}
+use Rattle.pfs_alone.specs.Spells.{Doing, Spell, AreSpells, stints_of, calls_of}
 use Rattle.pfs_alone.specs.Alone.{IsAlone}
 use Rattle.pfs_alone.proofs.Stinted.{alone}
 
@@ -119,7 +120,7 @@ end_turn = record {
 abbrev pub close_turn : State → Turn
 close_turn s = record { step = SettlesHeld; calls = []; entries = []; after = record s { held = nothing_held } }
 
-abbrev pub first : Stint
+abbrev pub first : Spell
 first = record {
   phase = 0;
   session = 1;
@@ -133,7 +134,7 @@ first = record {
 abbrev pub between : Administration
 between = connected opening 1 0 1
 
-abbrev pub second : Stint
+abbrev pub second : Spell
 second = record {
   phase = 0;
   session = 2;
@@ -195,7 +196,7 @@ second_connects = record {
   steps_are = refl;
 }
 
-pub are_stints : AreStints 2 5 (first ∷ second ∷ [])
+are_stints : AreStints 2 (λ session. 5) (stints_of (first ∷ second ∷ []))
 are_stints = (
   omega arith,
   record {
@@ -204,23 +205,24 @@ are_stints = (
       (refl, refl, refl, omega arith),
       ((refl, record { cell = λ class e. inl (cc) }), (refl, (tt, tt))),
     );
-    entered = (refl, (tt, (tt, (tt, tt))));
   },
   (
     omega arith,
     record {
       are_parts = (second_connects, (closes (connect_turn between 1 0 (fresh 2 2 5)).after refl, tt));
       may = ((refl, refl, refl, omega arith), (tt, tt));
-      entered = (refl, (tt, tt));
     },
     tt,
   ),
 )
+
+pub are_spells : AreSpells 2 (λ session. 5) (first ∷ second ∷ [])
+are_spells = record { stints = are_stints; entered = (((refl, refl), (tt, (tt, (tt, tt)))), (((refl, refl), (tt, tt)), tt)) }
 
 pub answers : AllAnswer flags (calls_of (first ∷ second ∷ []))
 unfolding ops_of sets_of slot_after word_after labels_after
 answers = (refl, ((omega arith, refl), (((omega arith, omega arith), refl, refl), (((omega arith, omega arith), refl, refl, refl), ((refl, refl), (((omega arith, omega arith), refl, refl, refl), ((omega arith, refl), ((omega arith, refl), ((omega arith, refl), ((omega arith, refl), ((omega arith, refl), (refl, ((omega arith, refl), (((omega arith, omega arith), refl, refl), (((omega arith, omega arith), refl, refl, refl), (((omega arith, omega arith), refl, refl), (((omega arith, omega arith), refl, refl, refl), (((omega arith, omega arith), refl, refl), (((omega arith, omega arith), refl, refl, refl), (((omega arith, omega arith), refl, refl), (((omega arith, omega arith), refl, refl, refl), ((refl, refl), tt))))))))))))))))))))))
 
 -- so their journals are such as the law says
-pub worked : IsAlone 2 flags (first ∷ second ∷ [])
-worked = alone flags 2 5 (first ∷ second ∷ []) are_stints answers
+pub worked : IsAlone 2 flags (stints_of (first ∷ second ∷ []))
+worked = alone flags 2 (λ session. 5) (first ∷ second ∷ []) are_spells answers

@@ -1,20 +1,23 @@
 -- What the entries of lines and their calls tell is the same.
-use Rattle.std.proofs.Common.{ℕ, ◌≡◌, Bool, true, false, List, [], ◌∷◌, ◌++◌, Option, Some, None, cond, refl, ap, sym, ◌∙◌, subst}
+use Rattle.std.proofs.Common.{ℕ, ◌≡◌, ◌==◌, Bool, true, false, List, [], ◌∷◌, ◌++◌, Option, Some, None, cond, refl, ap, sym, ◌∙◌, subst}
 use Rattle.std.proofs.lemmas.List.{append_assoc}
 use Rattle.pfs_event.specs.declared.entry.Entry.{Entry}
 use Rattle.pfs_event.specs.declared.open.Open.{Open}
 use Rattle.pfs_model.specs.declared.lines.Line.{Line}
 use Rattle.pfs_model.specs.declared.lines.Subject.{Subject}
 use Rattle.pfs_model.specs.Contexts.{Context, noted, after, after_entries, subject_of, turned}
-use Rattle.pfs_model.specs.Places.{Placed, placed_part, placed_lines}
+use Rattle.pfs_model.specs.Contexts.{fresh as empty}
+use Rattle.pfs_model.specs.Places.{Placed, placed_part, placed_lines, after_lines}
 use Rattle.pfs_model.specs.Shapes.{is_stage}
 use Rattle.pfs_session.specs.Ends.{no_numbers}
-use Rattle.pfs_session.specs.States.{State}
+use Rattle.pfs_session.specs.States.{State, fresh}
 use Rattle.pfs_session.specs.Turns.{Step, StartsEvent, EndsEvent, Turn, AreTurns, state_after, steps_of, turns_entries, stage_ends}
 use Rattle.pfs_parts.specs.Deeds.{Deed, Connecting, Starting, Staging, StageEnding, Ending, Spending, Quitting, Closing, Part, IsPart, steps_for, line_of, part_entries}
-use Rattle.pfs_parts.specs.Shaped.{AreParts, lines_of, entries_of}
+use Rattle.pfs_parts.proofs.Stinting.{own_places, own_is, IfOwn, AreOwn, own_stints}
+use Rattle.pfs_parts.specs.Shaped.{AreParts, lines_of, entries_of, state_behind, over_behind}
+use Rattle.pfs_parts.specs.Stints.{Stint, IsStint, parts_by, resumed}
 use Rattle.pfs_alone.specs.Notes.{Note, notes_at, notes_in, notes_of}
-use Rattle.pfs_alone.specs.Told.{Sits, turns_notes, AreTold, ToldLaw}
+use Rattle.pfs_alone.specs.Told.{Sits, turns_notes, parts_notes, AreTold, ToldLaw, ToldThroughLaw}
 use Rattle.pfs_alone.proofs.Inner.{notes_then, entries_then}
 use Rattle.pfs_alone.proofs.Steps.{IsOf, does_told}
 
@@ -99,3 +102,36 @@ told_all = λ context s parts sits are. all context s parts sits are where
             ∙ ap (λ z. turns_notes p.turns ++ z) (r.same phase session));
         sits = r.sits;
       }
+
+-- of a session's own stints
+parts_notes_then : (xs ys : List Part) → parts_notes (xs ++ ys) ≡ parts_notes xs ++ parts_notes ys
+parts_notes_then [] ys = refl
+parts_notes_then (x ∷ xs) ys = ap (λ z. turns_notes x.turns ++ z) (parts_notes_then xs ys) ∙ sym (append_assoc (turns_notes x.turns) (parts_notes xs) (parts_notes ys))
+
+abbrev IsOwnTold : ℕ → List Stint → Bool → Context → State → Type 0
+IsOwnTold session stints over context s = Sits context s → AreOwn session over s stints → notes_of (own_places session context stints) ≡ parts_notes (parts_by session stints)
+
+own_told : (session : ℕ) (stints : List Stint) (over : Bool) (context : Context) (s : State) → Sits context s → AreOwn session over s stints
+    → notes_of (own_places session context stints) ≡ parts_notes (parts_by session stints)
+own_told session [] over context s sits are = refl
+own_told session (stint ∷ stints) over context s sits are = at (stint.session == session) (own_told session stints) are where
+  at : (b : Bool) → ((over : Bool) (context : Context) (s : State) → IsOwnTold session stints over context s)
+      → IfOwn b over s stint.parts × AreOwn session (cond b (over_behind over stint.parts) over) (cond b (resumed (state_behind s stint.parts)) s) stints
+      → notes_of (cond b (placed_lines stint.phase session context (lines_of stint.parts) (entries_of stint.parts)) []
+      ++ own_places session (cond b (after_lines context (lines_of stint.parts) (entries_of stint.parts)) context) stints) ≡ parts_notes (cond b stint.parts [] ++ parts_by session stints)
+  at true rest are =
+      let ps : List Part = stint.parts in
+      let is : IsStint over s ps = are.0 in
+      let l = told_all context s ps sits is.are_parts in
+      let now : Context = after_lines context (lines_of ps) (entries_of ps) in
+      let here : List Placed = placed_lines stint.phase session context (lines_of ps) (entries_of ps) in
+      let others : List Placed = own_places session now stints in
+      notes_join here others
+      ∙ (ap (λ z. z ++ notes_of others) (l.same stint.phase session)
+      ∙ (ap (λ z. parts_notes ps ++ z) (rest (over_behind over ps) now (resumed (state_behind s ps)) (λ thread q. l.sits thread q) are.1) ∙ sym (parts_notes_then ps (parts_by session stints))))
+  at false rest are = rest over context s sits are.1
+
+pub told_through : ToldThroughLaw
+told_through = λ stack depths session stints are.
+    ap notes_of (own_is session [] empty stints refl)
+    ∙ own_told session stints false empty (fresh session stack (depths session)) (λ thread q. q) (own_stints stack depths session [] 0 stints are)

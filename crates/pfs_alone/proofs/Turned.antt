@@ -1,6 +1,6 @@
 -- Where a session holds nothing, a line's turns tell what its calls tell, with those that begin and end its action;
 -- nothing is settled or held.
-use Rattle.std.proofs.Common.{ℕ, ◌≡◌, ◌+◌, Bool, true, false, List, [], ◌∷◌, ◌++◌, length, cond, refl, ap, sym, ◌∙◌, subst}
+use Rattle.std.proofs.Common.{ℕ, ◌≡◌, ◌+◌, Bool, true, false, List, [], ◌∷◌, ◌++◌, length, Option, Some, None, cond, refl, ap, sym, ◌∙◌, subst}
 use Rattle.std.proofs.lemmas.List.{append-nil}
 use Rattle.pfs_board.specs.declared.view.Label.{Label}
 use Rattle.pfs_event.specs.declared.open.Open.{Open}
@@ -9,11 +9,11 @@ use Rattle.pfs_model.specs.Shapes.{is_stage}
 use Rattle.pfs_session.specs.Ends.{no_numbers}
 use Rattle.pfs_session.specs.States.{State, nothing_held}
 use Rattle.pfs_session.specs.Turns.{Step, StartsEvent, EndsEvent, SettlesHeld, Connects, Quits, Does, Turn, AreTurns, state_after, steps_of, turns_calls, turns_entries, stage_ends}
-use Rattle.pfs_parts.specs.Deeds.{Deed, Connecting, Starting, Staging, StageEnding, Ending, Spending, Quitting, Closing, IsPart, steps_for, part_entries}
+use Rattle.pfs_parts.specs.Deeds.{Deed, Connecting, Starting, Staging, StageEnding, Ending, Spending, Quitting, Closing, IsPart, steps_for, part_entries, action_of}
 use Rattle.pfs_parts.proofs.Inverting.{OneTurn, one_turn, TwoTurns, two_turns}
 use Rattle.pfs_alone.specs.Notes.{Acted, all_told}
 use Rattle.pfs_alone.specs.Told.{head_of, turns_notes}
-use Rattle.pfs_alone.specs.Stints.{Doing, around, doing_calls, EntersBehind}
+use Rattle.pfs_alone.specs.Spells.{Doing, around, doing_calls, IsEntered}
 use Rattle.pfs_alone.proofs.Inner.{told_then}
 use Rattle.pfs_alone.proofs.Quiet.{AreAdded, added_front, added_back, AreQuiet, quiet_then, does_quiet, settles_nothing}
 
@@ -64,20 +64,20 @@ around_told : (label : Label) (labels : List Label) (calls : List Call) → all_
 unfolding all_told
 around_told label labels calls = append-nil (all_told (calls ++ Enters label labels ∷ [])) ∙ told_then calls (Enters label labels ∷ [])
 
-connect_notes : (s : State) (turns : List Turn) (step : Step) (n : ℕ) (label : Label) (labels : List Label) → head_of step ≡ Acted (n + 1) ∷ [] → length labels ≡ n → steps_of turns ≡ step ∷ []
+connect_notes : (s : State) (turns : List Turn) (step : Step) (n : ℕ) (label : Label) (labels : List Label) → head_of step ≡ Acted n ∷ [] → n ≡ length labels + 1 → steps_of turns ≡ step ∷ []
     → turns_notes turns ≡ all_told (Leaves ∷ (turns_calls turns ++ Enters label labels ∷ []))
 connect_notes s turns step n label labels head e steps =
     let o : OneTurn turns step = one_turn turns step steps in
     let P : List Turn → Type 0 = λ z. turns_notes z ≡ all_told (Leaves ∷ (turns_calls z ++ Enters label labels ∷ [])) in
     subst P (sym o.is) (
-    ap (λ z. head_of z ++ all_told o.turn.calls) o.step_is ∙ (ap (λ z. z ++ all_told o.turn.calls) head ∙ (ap (λ z. Acted (z + 1) ∷ all_told o.turn.calls) (sym e)
+    ap (λ z. head_of z ++ all_told o.turn.calls) o.step_is ∙ (ap (λ z. z ++ all_told o.turn.calls) head ∙ (ap (λ z. Acted z ∷ all_told o.turn.calls) e
     ∙ ap (λ z. Acted (length labels + 1) ∷ all_told z) (sym (append-nil o.turn.calls)))) ∙ sym (around_told label labels (o.turn.calls ++ []))
     )
 
 pub does_at : (s : State) (t : Turn) (step : Step) → t.step ≡ step → Does s t.step t.calls t.entries t.after → Does s step t.calls t.entries t.after
 does_at s t step e d = subst (λ z. Does s z t.calls t.entries t.after) e d
 
-quit_notes : (s : State) (turns : List Turn) (step : Step) (n : ℕ) (label : Label) (labels : List Label) → s.held ≡ nothing_held → AreTurns s turns → head_of step ≡ Acted (n + 1) ∷ [] → length labels ≡ n
+quit_notes : (s : State) (turns : List Turn) (step : Step) (n : ℕ) (label : Label) (labels : List Label) → s.held ≡ nothing_held → AreTurns s turns → head_of step ≡ Acted n ∷ [] → n ≡ length labels + 1
     → steps_of turns ≡ SettlesHeld ∷ step ∷ [] → turns_notes turns ≡ all_told (Leaves ∷ (turns_calls turns ++ Enters label labels ∷ []))
 unfolding all_told
 quit_notes s turns step n label labels h are head e steps =
@@ -89,15 +89,15 @@ quit_notes s turns step n label labels h are head e steps =
     let none : t.calls ≡ [] = (settles_nothing s t.calls t.entries t.after h (does_at s t SettlesHeld o.first_is ours.1.0)).calls_are in
     subst P (sym o.is) (
     ap (λ z. (head_of z ++ all_told t.calls) ++ (head_of u.step ++ all_told u.calls)) o.first_is ∙ (ap (λ z. all_told z ++ (head_of u.step ++ all_told u.calls)) none
-    ∙ (ap (λ z. head_of z ++ all_told u.calls) o.second_is ∙ (ap (λ z. z ++ all_told u.calls) head ∙ (ap (λ z. Acted (z + 1) ∷ all_told u.calls) (sym e)
+    ∙ (ap (λ z. head_of z ++ all_told u.calls) o.second_is ∙ (ap (λ z. z ++ all_told u.calls) head ∙ (ap (λ z. Acted z ∷ all_told u.calls) e
     ∙ (ap (λ z. Acted (length labels + 1) ∷ all_told z) (sym (append-nil u.calls)) ∙ ap (λ z. Acted (length labels + 1) ∷ all_told (u.calls ++ (z ++ []))) (sym none))))))
     ∙ sym (around_told label labels (u.calls ++ (t.calls ++ [])))
     )
 
-deed_notes : (s : State) (deed : Deed) (turns : List Turn) (label : Label) (labels : List Label) → s.held ≡ nothing_held → AreTurns s turns → steps_of turns ≡ steps_for s deed → EntersBehind labels deed
-    → turns_notes turns ≡ all_told (around label labels deed (turns_calls turns))
-deed_notes s (Connecting admin user host) turns label labels h are steps e = connect_notes s turns (Connects admin user host) admin.actions label labels refl e steps
-deed_notes s (Quitting admin) turns label labels h are steps e = quit_notes s turns (Quits admin) admin.actions label labels h are refl e steps
+deed_notes : (s : State) (deed : Deed) (turns : List Turn) (label : Label) (labels : List Label) → s.held ≡ nothing_held → AreTurns s turns → steps_of turns ≡ steps_for s deed → IsEntered s label labels deed
+    → turns_notes turns ≡ all_told (around label labels (action_of deed) (turns_calls turns))
+deed_notes s (Connecting admin user host) turns label labels h are steps e = connect_notes s turns (Connects admin user host) (admin.actions + 1) label labels refl e.0 steps
+deed_notes s (Quitting admin) turns label labels h are steps e = quit_notes s turns (Quits admin) (admin.actions + 1) label labels h are refl e.0 steps
 deed_notes s (Starting subject) turns label labels h are steps e = still_notes turns (subst AreStill (sym steps) (refl, tt))
 deed_notes s (Staging subject) turns label labels h are steps e =
     still_notes turns (subst AreStill (sym steps) (still_then (stage_ends s.opened.events) (StartsEvent subject ∷ []) (stage_still s.opened.events) (refl, tt)))
@@ -107,23 +107,17 @@ deed_notes s (Ending numbers) turns label labels h are steps e =
 deed_notes s (Spending time) turns label labels h are steps e = still_notes turns (subst AreStill (sym steps) (refl, tt))
 deed_notes s Closing turns label labels h are steps e = still_notes turns (subst AreStill (sym steps) (refl, tt))
 
-around_added : (label : Label) (labels : List Label) (deed : Deed) (calls : List Call) → AreAdded (around label labels deed calls) → AreAdded calls
-around_added label labels (Connecting admin user host) calls a = added_front calls (Enters label labels ∷ []) a.1
-around_added label labels (Quitting admin) calls a = added_front calls (Enters label labels ∷ []) a.1
-around_added label labels (Starting subject) calls a = a
-around_added label labels (Staging subject) calls a = a
-around_added label labels StageEnding calls a = a
-around_added label labels (Ending numbers) calls a = a
-around_added label labels (Spending time) calls a = a
-around_added label labels Closing calls a = a
+around_added : (label : Label) (labels : List Label) (action : Option ℕ) (calls : List Call) → AreAdded (around label labels action calls) → AreAdded calls
+around_added label labels None calls a = a
+around_added label labels (Some number) calls a = added_front calls (Enters label labels ∷ []) a.1
 
 pub record IsDone (s : State) (d : Doing) : Type 0 where
   pub same : turns_notes d.part.turns ≡ all_told (doing_calls d)
   pub quiet : AreQuiet (part_entries d.part)
   pub held : (state_after s d.part.turns).held ≡ nothing_held
 
-pub doing_told : (s : State) (d : Doing) → s.held ≡ nothing_held → IsPart s d.part → EntersBehind d.labels d.part.deed → AreAdded (doing_calls d) → IsDone s d
+pub doing_told : (s : State) (d : Doing) → s.held ≡ nothing_held → IsPart s d.part → IsEntered s d.label d.labels d.part.deed → AreAdded (doing_calls d) → IsDone s d
 doing_told s d h p e added =
     let turns = d.part.turns in
-    let r = turns_quiet s turns h (around_added d.label d.labels d.part.deed (turns_calls turns) added) p.are_turns in
+    let r = turns_quiet s turns h (around_added d.label d.labels (action_of d.part.deed) (turns_calls turns) added) p.are_turns in
     record { same = deed_notes s d.part.deed turns d.label d.labels h p.are_turns p.steps_are e; quiet = r.quiet; held = r.held }

@@ -9,18 +9,19 @@ use Rattle.pfs_levels.specs.declared.answers.RingPut.TheVariants.{Done, Busy, La
 use Rattle.pfs_model.specs.Actions.{settings_of, setting_at}
 use Rattle.pfs_model.specs.Chains.{row_change, release_of, each_of}
 use Rattle.pfs_model.specs.Contexts.{Context, subject_of}
-use Rattle.pfs_model.specs.Places.{Placed, placed_lines}
+use Rattle.pfs_model.specs.Places.{Placed, placed_lines, by_session, places}
 use Rattle.pfs_model.specs.Setups.{loads_at}
 use Rattle.pfs_model.specs.declared.changes.Change.{Change}
 use Rattle.pfs_model.specs.declared.lines.Subject.{Subject}
 use Rattle.pfs_session.specs.Turns.{Step, StartsEvent, EndsEvent, Spends, SettlesHeld, Connects, Quits, Turn, turns_calls}
-use Rattle.pfs_parts.specs.Deeds.{Part, part_calls}
+use Rattle.pfs_parts.specs.Deeds.{Part, part_calls, parts_calls}
 use Rattle.pfs_parts.specs.Shaped.{lines_of, entries_of}
+use Rattle.pfs_parts.specs.Stints.{blocks_of, parts_by}
 use Rattle.pfs_alone.specs.Notes.{Note, Wrote, Freed, Switched, Saw, Acted, saw_all, notes_at, notes_of, told, all_told}
 use Rattle.pfs_alone.specs.Told.{head_of, turns_notes, parts_notes}
-use Rattle.pfs_alone.specs.Weighed.{parts_calls, put_at, free_at, setting_of, WeighedLaw}
+use Rattle.pfs_alone.specs.Weighed.{put_at, free_at, setting_of, AreWeighed, WeighedLaw, WeighedThroughLaw}
 use Rattle.pfs_alone.proofs.Inner.{told_then}
-use Rattle.pfs_alone.proofs.Lines.{told_all}
+use Rattle.pfs_alone.proofs.Lines.{told_all, told_through}
 
 total_then : {A : Type 0} (h : A → ℕ) (xs ys : List A) → total h (xs ++ ys) ≡ total h xs + total h ys
 unfolding total
@@ -171,11 +172,16 @@ parts_weigh w none (p ∷ ps) =
     let a = total_then w (turns_notes p.turns) (parts_notes ps) in
     omega (arith, a, turns_weigh w none p.turns, parts_weigh w none ps, weigh_then w (parts_calls ps) (part_calls p))
 
+weighed_where : (all : List Placed) (parts : List Part) → notes_of all ≡ parts_notes parts → AreWeighed all (parts_calls parts)
+weighed_where all parts same = record {
+  rows = λ h. sym (places_rows h all) ∙ (ap (total (of_row h)) same ∙ (parts_weigh (of_row h) (λ number. refl) parts ∙ calls_rows h (parts_calls parts)));
+  sets = λ h. sym (places_sets h all) ∙ (ap (total (of_set h)) same ∙ (parts_weigh (of_set h) (λ number. refl) parts ∙ calls_sets h (parts_calls parts)));
+}
+
 pub weighed : WeighedLaw
 weighed = λ phase session context s parts sits are.
-    let all : List Placed = placed_lines phase session context (lines_of parts) (entries_of parts) in
-    let same = (told_all context s parts sits are).same phase session in
-    record {
-      rows = λ h. sym (places_rows h all) ∙ (ap (total (of_row h)) same ∙ (parts_weigh (of_row h) (λ number. refl) parts ∙ calls_rows h (parts_calls parts)));
-      sets = λ h. sym (places_sets h all) ∙ (ap (total (of_set h)) same ∙ (parts_weigh (of_set h) (λ number. refl) parts ∙ calls_sets h (parts_calls parts)));
-    }
+    weighed_where (placed_lines phase session context (lines_of parts) (entries_of parts)) parts ((told_all context s parts sits are).same phase session)
+
+pub weighed_through : WeighedThroughLaw
+weighed_through = λ stack depths session stints are.
+    weighed_where (by_session session (places (blocks_of stints))) (parts_by session stints) (told_through stack depths session stints are)

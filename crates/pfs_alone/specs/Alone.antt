@@ -7,7 +7,8 @@ use Rattle.pfs_model.specs.Numbers.{AreNumbered}
 use Rattle.pfs_model.specs.Places.{Placed, places, IsShaped}
 use Rattle.pfs_model.specs.Plain.{IsPlain, AreAlone}
 use Rattle.pfs_model.specs.Setups.{AreJudged, flags_at}
-use Rattle.pfs_alone.specs.Stints.{Stint, AreStints, calls_of, blocks_of}
+use Rattle.pfs_parts.specs.Stints.{Stint, blocks_of}
+use Rattle.pfs_alone.specs.Spells.{Spell, AreSpells, stints_of, calls_of}
 
 -- the flags of a word's version, by the sets that are printed, and at first these
 abbrev pub printed : List ℕ → List Placed → ℕ → ℕ → ℕ
@@ -23,5 +24,5 @@ pub record IsAlone (stack : ℕ) (flags : List ℕ) (stints : List Stint) : Type
   pub numbered : AreNumbered (places (blocks_of stints))
 
 abbrev pub AloneLaw : Type 0
-AloneLaw = (flags : List ℕ) (stack depth : ℕ) (stints : List Stint) → AreStints stack depth stints
-    → AllAnswer flags (calls_of stints) → IsAlone stack flags stints
+AloneLaw = (flags : List ℕ) (stack : ℕ) (depths : ℕ → ℕ) (spells : List Spell) → AreSpells stack depths spells
+    → AllAnswer flags (calls_of spells) → IsAlone stack flags (stints_of spells)

@@ -1,5 +1,5 @@
 pub mod Notes
 pub mod Told
 pub mod Weighed
-pub mod Stints
+pub mod Spells
 pub mod Alone

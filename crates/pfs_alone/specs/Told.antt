@@ -2,9 +2,10 @@
 -- number they tell that of its administration.
 use Rattle.std.specs.Prelude.{ℕ, ◌≡◌, ◌+◌, List, [], ◌∷◌, ◌++◌, Some}
 use Rattle.pfs_model.specs.Contexts.{Context}
-use Rattle.pfs_model.specs.Places.{placed_lines, after_lines}
+use Rattle.pfs_model.specs.Places.{placed_lines, after_lines, by_session, places}
 use Rattle.pfs_parts.specs.Deeds.{Part}
 use Rattle.pfs_parts.specs.Shaped.{AreParts, lines_of, entries_of, state_behind}
+use Rattle.pfs_parts.specs.Stints.{Stint, AreStints, blocks_of, parts_by}
 use Rattle.pfs_session.specs.States.{State}
 use Rattle.pfs_session.specs.Turns.{Step, StartsEvent, EndsEvent, Spends, SettlesHeld, Connects, Quits, Turn}
 use Rattle.pfs_alone.specs.Notes.{Note, Acted, notes_of, all_told}
@@ -37,7 +38,12 @@ pub record AreTold (context : Context) (s : State) (parts : List Part) : Type 0 
       → notes_of (placed_lines phase session context (lines_of parts) (entries_of parts)) ≡ parts_notes parts
   pub sits : Sits (after_lines context (lines_of parts) (entries_of parts)) (state_behind s parts)
 
--- of lines one after another: a block, or all blocks of a session
+-- of lines one after another, such as a block
 abbrev pub ToldLaw : Type 0
 ToldLaw = (context : Context) (s : State) (parts : List Part) → Sits context s → AreParts s parts
     → AreTold context s parts
+
+-- of all blocks of each session among those that run
+abbrev pub ToldThroughLaw : Type 0
+ToldThroughLaw = (stack : ℕ) (depths : ℕ → ℕ) (session : ℕ) (stints : List Stint) → AreStints stack depths stints
+    → notes_of (by_session session (places (blocks_of stints))) ≡ parts_notes (parts_by session stints)

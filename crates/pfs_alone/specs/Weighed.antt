@@ -1,22 +1,18 @@
 -- What the entries of a session print weighs as what its calls did, whatever store it has.
-use Rattle.std.specs.Prelude.{ℕ, ◌≡◌, ◌+◌, List, [], ◌∷◌, ◌++◌}
+use Rattle.std.specs.Prelude.{ℕ, ◌≡◌, ◌+◌, List}
 use Rattle.pfs_levels.specs.Calls.{Call}
 use Rattle.pfs_levels.specs.Joint.{total, At, at_put, at_free, changes_of, Setting, sets_of}
 use Rattle.pfs_model.specs.Actions.{settings_of}
 use Rattle.pfs_model.specs.Actions.{Setting as PrintedSetting}
 use Rattle.pfs_model.specs.Chains.{row_change, release_of, each_of}
 use Rattle.pfs_model.specs.Contexts.{Context}
-use Rattle.pfs_model.specs.Places.{Placed, placed_lines}
+use Rattle.pfs_model.specs.Places.{Placed, placed_lines, by_session, places}
 use Rattle.pfs_model.specs.declared.changes.Change.{Change}
-use Rattle.pfs_parts.specs.Deeds.{Part, part_calls}
+use Rattle.pfs_parts.specs.Deeds.{Part, parts_calls}
 use Rattle.pfs_parts.specs.Shaped.{AreParts, lines_of, entries_of}
+use Rattle.pfs_parts.specs.Stints.{Stint, AreStints, blocks_of, parts_by}
 use Rattle.pfs_session.specs.States.{State}
 use Rattle.pfs_alone.specs.Told.{Sits}
-
--- newest first; parts stand in order
-abbrev pub parts_calls : List Part → List Call
-parts_calls [] = []
-parts_calls (p ∷ ps) = parts_calls ps ++ part_calls p
 
 abbrev pub put_at : Change → At
 put_at change = at_put change.row change.version
@@ -34,8 +30,13 @@ pub record AreWeighed (all : List Placed) (calls : List Call) : Type 0 where
       ≡ total h (changes_of calls)
   pub sets : (h : Setting → ℕ) → total (λ s. h (setting_of s)) (settings_of all) ≡ total h (sets_of calls)
 
--- of lines one after another: a block, or all blocks of a session
+-- of lines one after another, such as a block
 abbrev pub WeighedLaw : Type 0
 WeighedLaw = (phase session : ℕ) (context : Context) (s : State) (parts : List Part) → Sits context s
     → AreParts s parts
     → AreWeighed (placed_lines phase session context (lines_of parts) (entries_of parts)) (parts_calls parts)
+
+-- of all blocks of each session among those that run
+abbrev pub WeighedThroughLaw : Type 0
+WeighedThroughLaw = (stack : ℕ) (depths : ℕ → ℕ) (session : ℕ) (stints : List Stint) → AreStints stack depths stints
+    → AreWeighed (by_session session (places (blocks_of stints))) (parts_calls (parts_by session stints))

@@ -1,8 +1,8 @@
 //! Laws of the definitions.
 
 ghost use Rattle.pfs_alone.specs.Alone.{AloneLaw};
-ghost use Rattle.pfs_alone.specs.Told.{ToldLaw};
-ghost use Rattle.pfs_alone.specs.Weighed.{WeighedLaw};
+ghost use Rattle.pfs_alone.specs.Told.{ToldLaw, ToldThroughLaw};
+ghost use Rattle.pfs_alone.specs.Weighed.{WeighedLaw, WeighedThroughLaw};
 
 /// What a session's entries tell is what its calls tell, in the same order, whatever store it has: the changes and
 /// releases of rows, and the sets and loads of switch words; and actions have the numbers of their administration.
@@ -10,10 +10,20 @@ pub fn told()
     ensures { ToldLaw }
 {}
 
+/// The same of a session through all its phases.
+pub fn told_through()
+    ensures { ToldThroughLaw }
+{}
+
 /// So what its entries print weighs as what its calls did: each sum over the publications and releases of rows, and
 /// over the sets of switch words, is the same of both.
 pub fn weighed()
     ensures { WeighedLaw }
+{}
+
+/// The same of a session through all its phases.
+pub fn weighed_through()
+    ensures { WeighedThroughLaw }
 {}
 
 /// Sessions that run one after another on a plain store write journals in which each line agrees with those before it.

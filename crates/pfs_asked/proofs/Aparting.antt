@@ -15,18 +15,19 @@ use Rattle.pfs_levels.specs.Flushes.{Ascends, from_of}
 use Rattle.pfs_levels.specs.Moves.{Ask, Gift, Move, IsMove, AreMoves, gift_entries, move_entries, moves_entries}
 use Rattle.pfs_levels.specs.declared.answers.Word.{Word}
 use Rattle.pfs_model.specs.Chains.{Each, times}
+use Rattle.pfs_parts.proofs.Journaling.{turns_number}
 use Rattle.pfs_parts.proofs.Inverting.{OneTurn, TwoTurns, one_turn, two_turns}
 use Rattle.pfs_parts.specs.Deeds.{Deed, Connecting, Starting, Staging, StageEnding, Ending, Spending, Quitting, Closing, Part, part_entries, steps_for}
 use Rattle.pfs_parts.specs.Shaped.{AreParts}
+use Rattle.pfs_parts.specs.Stints.{Stint}
 use Rattle.pfs_session.specs.States.{State}
 use Rattle.pfs_session.specs.Turns.{Step, Connects, Quits, SettlesHeld, Does, Turn, AreTurns, state_after, steps_of, turns_entries}
 use Rattle.pfs_asked.proofs.Bits.{each_then, is_calm, AreCalm}
 use Rattle.pfs_asked.proofs.Calming.{AreIdleSteps, does_calm, turns_calm, deed_idle}
-use Rattle.pfs_asked.proofs.Listing.{turns_number}
 use Rattle.pfs_asked.proofs.Parting.{work_entries}
-use Rattle.pfs_asked.specs.Asking.{action_of, work_of}
-use Rattle.pfs_asked.specs.Runs.{Stay, numbers_of, all_numbers}
-use Rattle.pfs_asked.specs.Takes.{Taken, taken_at, taken_in, taken_by, all_taken, is_of, AreApart, AreSeated, IsSeated, IsSeatedStay, ApartLaw}
+use Rattle.pfs_asked.specs.Asking.{number_of, work_of}
+use Rattle.pfs_asked.specs.Runs.{numbers_of, all_numbers}
+use Rattle.pfs_asked.specs.Takes.{Taken, taken_at, taken_in, taken_by, all_taken, is_of, AreApart, AreSeated, IsSeated, IsSeatedStint, ApartLaw}
 
 abbrev row_in : Taken → ℕ
 row_in taken = taken.row
@@ -108,12 +109,12 @@ head_taken : (action : ℕ) (seat : Option Seated) (n : ℕ) (rest : List Entry)
 head_taken action None n rest = refl
 head_taken action (Some seat) n rest = refl
 
-idle_rows : (action : ℕ) (s : State) (deed : Deed) (turns : List Turn) → AreTurns s turns → steps_of turns ≡ steps_for s deed → action_of deed ≡ 0
+idle_rows : (action : ℕ) (s : State) (deed : Deed) (turns : List Turn) → AreTurns s turns → steps_of turns ≡ steps_for s deed → number_of deed ≡ 0
     → map row_in (taken_in action (turns_entries turns)) ≡ map from_of (work_of s.number deed).moves
 idle_rows action s deed turns are steps none =
     let calm = turns_calm s turns are (subst AreIdleSteps (sym steps) (deed_idle s deed none)) in
     ap (map row_in) (none_taken action (turns_entries turns) (calms_none (turns_entries turns) calm)) ∙ no_moves deed none where
-      no_moves : (deed : Deed) → action_of deed ≡ 0 → [] ≡ map from_of (work_of s.number deed).moves
+      no_moves : (deed : Deed) → number_of deed ≡ 0 → [] ≡ map from_of (work_of s.number deed).moves
       no_moves (Connecting admin user host) e = absurd (omega (arith, e))
       no_moves (Quitting admin) e = absurd (omega (arith, e))
       no_moves (Starting subject) e = refl
@@ -267,7 +268,7 @@ parts_apart : (number : ℕ) (s : State) (parts : List Part) (ns : List ℕ) (ts
     → IsUnique (numbers_of parts ++ ns) → IsApart ns ts → IsApart (numbers_of parts ++ ns) (taken_by parts ++ ts)
 parts_apart number s [] ns ts same are seated u r = r
 parts_apart number s (p ∷ ps) ns ts same are seated u r =
-    let a : ℕ = action_of p.deed in
+    let a : ℕ = number_of p.deed in
     let own : List Taken = taken_in a (part_entries p) in
     let rows : Ascends 129 2177 (map row_in own) =
     subst (Ascends 129 2177) (sym (part_rows a s p.deed p.turns are.0.are_turns are.0.steps_are ∙ ap (λ z. map from_of (work_of z p.deed).moves) same)) (rows_ascend number p.deed seated.0) in
@@ -277,11 +278,11 @@ parts_apart number s (p ∷ ps) ns ts same are seated u r =
     (part_more a own (numbers_of ps ++ ns) (taken_by ps ++ ts) (all_own a (part_entries p)) (ascends_apart 129 2177 own rows) none u
     (parts_apart number (state_after s p.turns) ps ns ts (turns_number s p.turns are.0.are_turns ∙ same) are.1 seated.1 (tail_unique a (numbers_of ps ++ ns) u) r))
 
-stays_apart : (stays : List Stay) → Each IsSeatedStay stays → IsUnique (all_numbers stays) → IsApart (all_numbers stays) (all_taken stays)
-stays_apart [] are u = record { apart = tt; away = λ action e. tt }
-stays_apart (stay ∷ stays) are u =
-    parts_apart stay.session stay.from stay.parts (all_numbers stays) (all_taken stays) are.0.number are.0.parts are.0.seated u
-    (stays_apart stays are.1 (back_unique (numbers_of stay.parts) (all_numbers stays) u))
+stints_apart : (stints : List Stint) → Each IsSeatedStint stints → IsUnique (all_numbers stints) → IsApart (all_numbers stints) (all_taken stints)
+stints_apart [] are u = record { apart = tt; away = λ action e. tt }
+stints_apart (stint ∷ stints) are u =
+    parts_apart stint.session are.0.done.from stint.parts (all_numbers stints) (all_taken stints) are.0.done.number_is are.0.done.are_parts are.0.seated u
+    (stints_apart stints are.1 (back_unique (numbers_of stint.parts) (all_numbers stints) u))
 
 pub apart : ApartLaw
-apart = λ stays are u. (stays_apart stays are u).apart
+apart = λ stints are u. (stints_apart stints are u).apart

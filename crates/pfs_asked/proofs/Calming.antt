@@ -19,7 +19,7 @@ use Rattle.pfs_session.specs.Turns.{Step, StartsEvent, EndsEvent, Spends, Settle
 use Rattle.pfs_session.specs.declared.events.Numbers.{Numbers}
 use Rattle.pfs_session.specs.declared.setup.Setup.{Setup}
 use Rattle.pfs_asked.proofs.Bits.{is_calm, AreCalm, calm_then}
-use Rattle.pfs_asked.specs.Asking.{action_of}
+use Rattle.pfs_asked.specs.Asking.{number_of}
 
 start_calm : (verdict : Verdict) (number : ℕ) (seen : Option Setup) → is_calm (start_entry verdict number seen) ≡ true
 start_calm verdict number None = refl
@@ -86,7 +86,7 @@ stage_idle (what ∷ events) = by_test (is_stage what.kind) where
   by_test true = (refl, tt)
   by_test false = tt
 
-pub deed_idle : (s : State) (deed : Deed) → action_of deed ≡ 0 → AreIdleSteps (steps_for s deed)
+pub deed_idle : (s : State) (deed : Deed) → number_of deed ≡ 0 → AreIdleSteps (steps_for s deed)
 deed_idle s (Connecting admin user host) e = absurd (omega (arith, e))
 deed_idle s (Starting subject) e = (refl, tt)
 deed_idle s (Staging subject) e = idle_then (stage_ends s.opened.events) (StartsEvent subject ∷ []) (stage_idle s.opened.events) (refl, tt)

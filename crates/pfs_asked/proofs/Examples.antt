@@ -5,18 +5,23 @@ use Rattle.std.proofs.lemmas.Bool.{eqb-true, true≢false}
 use Rattle.pfs_levels.specs.Moves.{AreMoves, ask}
 use Rattle.pfs_model.specs.Chains.{Each, times}
 use Rattle.pfs_session.proofs.Owed.{nothing_owed}
-use Rattle.pfs_parts.specs.Amounts.{ContentsAgree}
+use Rattle.pfs_parts.specs.Agreeing.{LoadsAgree}
+use Rattle.pfs_parts.specs.Amounts.{ContentsAgree, AllContentsAgree, IsWhole}
 use Rattle.pfs_parts.specs.Deeds.{IsPart, part_calls}
+use Rattle.pfs_parts.specs.Stints.{IsDoneBy, AreStints, over_by}
+use Rattle.pfs_parts.proofs.Through.{whole as all_whole}
+use Rattle.pfs_stat.specs.Stat.{MergeIsMonoid}
+use Rattle.pfs_model.specs.Contents.{Facts}
 use Rattle.pfs_session.specs.Settles.{settle_head}
 use Rattle.pfs_asked.proofs.Running.{run}
 use Rattle.pfs_asked.proofs.Wholly.{whole}
-use Rattle.pfs_asked.specs.Takes.{IsSeatedStay}
+use Rattle.pfs_asked.specs.Takes.{IsSeatedStint}
 use Rattle.pfs_containers.specs.Kept.{IsInRange}
 use Rattle.pfs_levels.specs.Flushes.{Ascends}
 use Rattle.pfs_asked.specs.Asking.{AreOrders, asked_by}
 use Rattle.pfs_admin.specs.Examples.{start}
-use Rattle.pfs_asked.specs.Examples.{second, first_work, second_work, third_work, content, first_made, second_made, third_made, third_moves, connect_part, connected_one, quit_part, one, two, stays, asked, orders, given, WorkedRun}
-use Rattle.pfs_asked.specs.Runs.{AreStays, nothing_asked}
+use Rattle.pfs_asked.specs.Examples.{second, first_work, second_work, third_work, content, first_made, second_made, third_made, third_moves, connect_part, connected_one, quit_part, one, two, stints, asked, orders, given, WorkedRun}
+use Rattle.pfs_asked.specs.Runs.{IsOrdered, nothing_asked}
 
 first_is : IsPart one (connect_part one start first_work first_made)
 first_is = record {
@@ -102,12 +107,32 @@ second_contents = (tt, (refl, (refl, (refl, (refl, (refl, (refl, (refl, (refl, t
 third_contents : ContentsAgree content (part_calls quit_part)
 third_contents = (tt, (refl, (refl, (refl, (refl, (refl, (refl, (tt, (refl, (refl, (refl, (refl, (refl, (refl, (refl, (refl, (refl, tt)))))))))))))))))
 
-are_stays : AreStays orders given content stays
-are_stays = (
-  record { number = refl; parts = (first_is, tt); contents = (first_contents, tt); told = (λ q. first_orders, tt) },
+first_done : IsDoneBy 1 (connect_part one start first_work first_made ∷ [])
+first_done = record { from = one; number_is = refl; are_parts = (first_is, tt) }
+
+second_done : IsDoneBy 2 (connect_part two second second_work second_made ∷ [])
+second_done = record { from = two; number_is = refl; are_parts = (second_is, tt) }
+
+third_done : IsDoneBy 1 (quit_part ∷ [])
+third_done = record { from = connected_one; number_is = refl; are_parts = (third_is, tt) }
+
+chained : AreStints 10 (λ session. 8) stints
+chained = (
+  omega arith,
+  record { are_parts = (first_is, tt); may = ((refl, refl, refl, omega arith), tt) },
   (
-    record { number = refl; parts = (second_is, tt); contents = (second_contents, tt); told = (λ q. second_orders, tt) },
-    (record { number = refl; parts = (third_is, tt); contents = (third_contents, tt); told = (λ q. third_orders, tt) }, tt),
+    omega arith,
+    record { are_parts = (second_is, tt); may = ((refl, refl, refl, omega arith), tt) },
+    (omega arith, record { are_parts = (third_is, tt); may = ((refl, refl), tt) }, tt),
+  ),
+)
+
+ordered : Each (IsOrdered orders given content) stints
+ordered = (
+  record { done = first_done; contents = (first_contents, tt); told = (λ q. first_orders, tt) },
+  (
+    record { done = second_done; contents = (second_contents, tt); told = (λ q. second_orders, tt) },
+    (record { done = third_done; contents = (third_contents, tt); told = (λ q. third_orders, tt) }, tt),
   ),
 )
 
@@ -142,12 +167,12 @@ in_range : (number slot : ℕ) → slot < 32 → IsInRange (record {
 })
 in_range number slot low = record { slot = low; places = record { account = omega arith; user = omega arith; host = omega arith } }
 
-are_seated : Each IsSeatedStay stays
+are_seated : Each IsSeatedStint stints
 are_seated = (
-  record { number = refl; parts = (first_is, tt); seated = (in_range 1 0 (omega arith), tt) },
+  record { done = first_done; seated = (in_range 1 0 (omega arith), tt) },
   (
-    record { number = refl; parts = (second_is, tt); seated = (in_range 2 1 (omega arith), tt) },
-    (record { number = refl; parts = (third_is, tt); seated = ((cells_ascend, in_range 1 0 (omega arith)), tt) }, tt),
+    record { done = second_done; seated = (in_range 2 1 (omega arith), tt) },
+    (record { done = third_done; seated = ((cells_ascend, in_range 1 0 (omega arith)), tt) }, tt),
   ),
 ) where
   cells_ascend : Ascends 0 64 (0 ∷ 62 ∷ 63 ∷ [])
@@ -159,9 +184,37 @@ few number p = by_one (are_actions number p) where
   by_one (inl e) = omega (arith, e)
   by_one (inr e) = omega (arith, e.0)
 
+agreed : Each (λ stint. AllContentsAgree content stint.parts) stints
+agreed = ((first_contents, tt), ((second_contents, tt), ((third_contents, tt), tt)))
+
 pub worked : WorkedRun
 worked = record {
-  asked = run orders given content stays are_stays are_actions;
-  whole = λ given info. whole given content stays info are_seated ((first_contents, tt), ((second_contents, tt), ((third_contents, tt), tt))) few;
+  chained = chained;
+  ordered = ordered;
+  actions = are_actions;
+  seated = are_seated;
+  agreed = agreed;
+  few = few;
+  run = run orders given content stints ordered are_actions;
+  whole = λ given info. whole given content stints info are_seated agreed few;
   quit = refl;
 }
+
+-- the law of amounts reaches the first session, which acts in each of its phases
+first_loads : LoadsAgree (λ word version. 0) (part_calls (connect_part one start first_work first_made))
+first_loads = (tt, (tt, (tt, (tt, (tt, (tt, (tt, (tt, (tt, tt)))))))))
+
+third_loads : LoadsAgree (λ word version. 0) (part_calls quit_part)
+third_loads = (tt, (tt, (tt, (tt, (tt, (tt, (tt, (tt, (tt, (tt, (tt, (tt, (tt, (tt, (tt, (tt, (tt, tt)))))))))))))))))
+
+abbrev pub no_facts : ℕ → ℕ → Facts
+no_facts session index = record { start = 0; duration = 0; lock = 0; errors = 0; warnings = 0; affected = 0; sent = 0; examined = 0 }
+
+pub first_whole : MergeIsMonoid → IsWhole (λ word version. 0) (λ session. Some 0) no_facts content one 1 stints
+first_whole m =
+    all_whole m (λ word version. 0) (λ session. Some 0) no_facts content 10 (λ session. 8) 1 stints chained (first_loads, (third_loads, tt)) (refl, (tt, tt))
+    ((tt, tt), ((tt, (tt, tt)), tt)) (first_contents, (third_contents, tt))
+
+-- it has ended, so nothing else was brought
+pub first_over : over_by 1 false stints ≡ true
+first_over = refl

@@ -1,45 +1,21 @@
 -- Lines of a session one after another.
-use Rattle.std.proofs.Common.{ℕ, ◌≡◌, ◌+◌, ◌==◌, ◌<◌, Bool, true, false, cond, List, [], ◌∷◌, ◌++◌, Option, Some, None, refl, ap, sym, ◌∙◌, subst, arith}
+use Rattle.std.proofs.Common.{ℕ, ◌≡◌, ◌+◌, ◌==◌, ◌<◌, Bool, true, false, cond, List, [], ◌∷◌, ◌++◌, refl, ap, sym, ◌∙◌, subst, arith}
 use Rattle.std.proofs.lemmas.List.{append_assoc, append-nil}
-use Rattle.pfs_event.specs.Verdicts.{is_let_through}
-use Rattle.pfs_event.specs.declared.entry.Entry.{Entry}
-use Rattle.pfs_levels.specs.Calls.{Call}
 use Rattle.pfs_model.specs.Asked.{Did, did, of_action, asked_of}
 use Rattle.pfs_model.specs.Chains.{Each, each_of, times}
 use Rattle.pfs_model.specs.Contents.{Given}
 use Rattle.pfs_model.specs.Contexts.{Context, after, turned}
 use Rattle.pfs_model.specs.Places.{Placed, placed_part, placed_lines}
+use Rattle.pfs_parts.proofs.Journaling.{turns_number}
 use Rattle.pfs_parts.specs.Amounts.{AllContentsAgree}
 use Rattle.pfs_parts.specs.Deeds.{Part, line_of, part_entries}
 use Rattle.pfs_parts.specs.Shaped.{AreParts, lines_of, entries_of}
-use Rattle.pfs_session.specs.Ends.{Ends, EndsIn}
 use Rattle.pfs_session.specs.States.{State}
-use Rattle.pfs_session.specs.Turns.{Step, StartsEvent, EndsEvent, Spends, SettlesHeld, Connects, Quits, Does, Turn, AreTurns, state_after}
-use Rattle.pfs_session.specs.declared.events.Numbers.{Numbers}
+use Rattle.pfs_session.specs.Turns.{state_after}
 use Rattle.pfs_asked.proofs.Bits.{each_then, each_of_then, chosen_then, Fact}
 use Rattle.pfs_asked.proofs.Parting.{owes, IsPaid, paid_part}
-use Rattle.pfs_asked.specs.Asking.{Orders, AreOrders, action_of}
+use Rattle.pfs_asked.specs.Asking.{Orders, AreOrders, number_of}
 use Rattle.pfs_asked.specs.Runs.{AllOrders, numbers_of}
-
--- no step changes a session's number
-ends_number : (s : State) (numbers : Numbers) (calls : List Call) (entries : List Entry) (after : State) → Ends s numbers calls entries after → after.number ≡ s.number
-ends_number s numbers calls entries after e = by_case s.place.thread (is_let_through e.what.verdict) e.ends where
-  by_case : (slot : Option ℕ) (b : Bool) → EndsIn s slot b e.what e.others numbers calls entries after → after.number ≡ s.number
-  by_case slot false x = ap (λ (z : State). z.number) x.after_is
-  by_case None true x = absurd x
-  by_case (Some slot) true x = ap (λ (z : State). z.number) x.after_is
-
-does_number : (s : State) (step : Step) (calls : List Call) (entries : List Entry) (after : State) → Does s step calls entries after → after.number ≡ s.number
-does_number s (StartsEvent subject) calls entries after d = ap (λ (z : State). z.number) d.after_is
-does_number s (EndsEvent numbers) calls entries after d = ends_number s numbers calls entries after d
-does_number s (Spends time) calls entries after d = ap (λ (z : State). z.number) d.2
-does_number s SettlesHeld calls entries after d = ap (λ (z : State). z.number) d.after_is
-does_number s (Connects admin user host) calls entries after d = ap (λ (z : State). z.number) d.1
-does_number s (Quits admin) calls entries after d = ap (λ (z : State). z.number) d.1
-
-pub turns_number : (s : State) (turns : List Turn) → AreTurns s turns → (state_after s turns).number ≡ s.number
-turns_number s [] are = refl
-turns_number s (t ∷ ts) are = does_number (state_after s ts) t.step t.calls t.entries t.after are.0 ∙ turns_number s ts are.1
 
 -- what actions of these numbers owe under a number
 abbrev pub owed : Orders → ℕ → List ℕ → List Did
@@ -71,10 +47,10 @@ lines_paid orders given content phase session number context s [] same are calls
 lines_paid orders given content phase session number context s (p ∷ ps) same are calls all =
     let line = line_of p.deed in
     let first : List Placed = placed_part phase session line (turned context) (part_entries p) in
-    let own : 0 < action_of p.deed → AreOrders orders given content s.number p = λ q. subst (λ z. AreOrders orders given content z p) (sym same) (all.0 q) in
+    let own : 0 < number_of p.deed → AreOrders orders given content s.number p = λ q. subst (λ z. AreOrders orders given content z p) (sym same) (all.0 q) in
     let paid : IsPaid orders given content p.deed first = paid_part orders given content phase session context s p are.0 calls.0 own in
-    let one : ArePaid orders given content (action_of p.deed ∷ []) first = record { done = λ n q. paid.done n q ∙ sym (append-nil (owes orders (action_of p.deed) n)); facts = paid.facts } in
-    paid_then orders given content (action_of p.deed ∷ []) (numbers_of ps) first _ one
+    let one : ArePaid orders given content (number_of p.deed ∷ []) first = record { done = λ n q. paid.done n q ∙ sym (append-nil (owes orders (number_of p.deed) n)); facts = paid.facts } in
+    paid_then orders given content (number_of p.deed ∷ []) (numbers_of ps) first _ one
     (lines_paid orders given content phase session number (after context line (part_entries p)) (state_after s p.turns) ps (turns_number s p.turns are.0.are_turns ∙ same) are.1 calls.1 all.1)
 
 -- a number that is nobody's, and one that is an action's

@@ -27,7 +27,7 @@ use Rattle.pfs_asked.proofs.Bits.{each_then, placed_then, AreActed, acted_then, 
 use Rattle.pfs_asked.proofs.Calming.{AreIdleSteps, does_calm, turns_calm, deed_idle}
 use Rattle.pfs_asked.proofs.Deeds.{dids, dids_then, signs_done, sets_done}
 use Rattle.pfs_asked.proofs.Working.{contents_front, contents_back, counted_front, counted_back, moves_acted, signs_acted, sets_acted, MovesAre, moves_are, signs_facts, sets_facts}
-use Rattle.pfs_asked.specs.Asking.{Orders, AreOrders, AreWords, AreCounted, moves_asked, signs_asked, asked_by, action_of, rooms_of}
+use Rattle.pfs_asked.specs.Asking.{Orders, AreOrders, AreWords, AreCounted, moves_asked, signs_asked, asked_by, number_of, rooms_of}
 use Rattle.pfs_asked.specs.Done.{DoneLaw, AreIdle}
 
 -- what an action of this number owes under each number
@@ -88,16 +88,16 @@ connect_at subject context action (Some seat) = refl
 connect_fact : (orders : Orders) (given : Given) (content : ℕ → ℕ → List ℕ) (phase session : ℕ) (line : Line) (context : Context) (action : ℕ) (seat : Option Seated)
     → orders.rooms action ≡ rooms_of (placed_of seat)
     → Fact orders given content (record { phase = phase; session = session; line = line; context = context; entry = connect_entry action seat })
-connect_fact orders given content phase session line context action None e = record { found = tt; made = tt; answered = λ a r. e }
-connect_fact orders given content phase session line context action (Some seat) e = record { found = tt; made = tt; answered = λ a r. e }
+connect_fact orders given content phase session line context action None e = record { found = tt; made = tt; answered = λ a. e }
+connect_fact orders given content phase session line context action (Some seat) e = record { found = tt; made = tt; answered = λ a. e }
 
 does_at : (s : State) (t : Turn) (step : Step) → t.step ≡ step → Does s t.step t.calls t.entries t.after → Does s step t.calls t.entries t.after
 does_at s t step e d = subst (λ z. Does s z t.calls t.entries t.after) e d
 
 -- what a line of a session owes, and that it is done
 pub record IsPaid (orders : Orders) (given : Given) (content : ℕ → ℕ → List ℕ) (deed : Deed) (places : List Placed) : Type 0 where
-  pub done : (number : ℕ) → 0 < number → each_of did (of_action number places) ≡ owes orders (action_of deed) number
-  pub idle : action_of deed ≡ 0 → AreIdle places
+  pub done : (number : ℕ) → 0 < number → each_of did (of_action number places) ≡ owes orders (number_of deed) number
+  pub idle : number_of deed ≡ 0 → AreIdle places
   pub facts : Each (Fact orders given content) places
 
 connect_paid : (orders : Orders) (given : Given) (content : ℕ → ℕ → List ℕ) (phase session : ℕ) (context : Context) (s : State) (admin : Administration) (user host : ℕ) (turns : List Turn)
@@ -159,7 +159,7 @@ quit_paid orders given content phase session context s admin turns are steps cal
     let mid : Context = after_entries None now t.entries in
     let place : Placed = record { phase = phase; session = session; line = lines.Quit; context = mid; entry = head } in
     let settled = calm_bit orders given content phase session lines.Quit now t.entries (does_calm s SettlesHeld t.calls t.entries t.after refl settles) in
-    let first : IsBit orders given content (λ n. []) (place ∷ []) = still_bit orders given content (place ∷ []) (refl, tt) (record { found = tt; made = tt; answered = λ a r. tt }, tt) in
+    let first : IsBit orders given content (λ n. []) (place ∷ []) = still_bit orders given content (place ∷ []) (refl, tt) (record { found = tt; made = tt; answered = λ a. tt }, tt) in
     let then = work_bit orders given content phase session lines.Quit action work admin.words w.moves w.made (noted None mid head) refl w.are_moves w.signs_are made counts.1 words asks in
     let both = bit_then orders given content (λ n. []) (owes orders action) (place ∷ []) _ first then in
     let whole = bit_then orders given content (λ n. []) (owes orders action) _ _ settled both in
@@ -173,7 +173,7 @@ quit_paid orders given content phase session context s admin turns are steps cal
 none_due : (orders : Orders) (number : ℕ) → 0 < number → [] ≡ owes orders 0 number
 none_due orders number p = ap (λ b. cond b (asked_of (orders.counted number) (orders.asked number)) []) (sym (ne_eqb 0 number (λ e. absurd (omega (arith, e, p)))))
 
-idle_paid : (orders : Orders) (given : Given) (content : ℕ → ℕ → List ℕ) (phase session : ℕ) (context : Context) (s : State) (deed : Deed) (turns : List Turn) → action_of deed ≡ 0
+idle_paid : (orders : Orders) (given : Given) (content : ℕ → ℕ → List ℕ) (phase session : ℕ) (context : Context) (s : State) (deed : Deed) (turns : List Turn) → number_of deed ≡ 0
     → AreTurns s turns → steps_of turns ≡ steps_for s deed → IsPaid orders given content deed (placed_part phase session (line_of deed) (turned context) (turns_entries turns))
 idle_paid orders given content phase session context s deed turns none are steps =
     let calm = turns_calm s turns are (subst AreIdleSteps (sym steps) (deed_idle s deed none)) in
@@ -186,7 +186,7 @@ idle_paid orders given content phase session context s deed turns none are steps
 
 by_deed : (orders : Orders) (given : Given) (content : ℕ → ℕ → List ℕ) (phase session : ℕ) (context : Context) (s : State) (deed : Deed) (turns : List Turn)
     → AreTurns s turns → steps_of turns ≡ steps_for s deed → ContentsAgree content (turns_calls turns)
-    → (0 < action_of deed → AreOrders orders given content s.number (record { deed = deed; turns = turns }))
+    → (0 < number_of deed → AreOrders orders given content s.number (record { deed = deed; turns = turns }))
     → IsPaid orders given content deed (placed_part phase session (line_of deed) (turned context) (turns_entries turns))
 by_deed orders given content phase session context s (Connecting admin user host) turns are steps calls o = connect_paid orders given content phase session context s admin user host turns are steps calls (o (omega arith))
 by_deed orders given content phase session context s (Quitting admin) turns are steps calls o = quit_paid orders given content phase session context s admin turns are steps calls (o (omega arith))
@@ -198,7 +198,7 @@ by_deed orders given content phase session context s (Spending time) turns are s
 by_deed orders given content phase session context s Closing turns are steps calls o = idle_paid orders given content phase session context s Closing turns refl are steps
 
 pub paid_part : (orders : Orders) (given : Given) (content : ℕ → ℕ → List ℕ) (phase session : ℕ) (context : Context) (s : State) (p : Part) → IsPart s p → ContentsAgree content (part_calls p)
-    → (0 < action_of p.deed → AreOrders orders given content s.number p)
+    → (0 < number_of p.deed → AreOrders orders given content s.number p)
     → IsPaid orders given content p.deed (placed_part phase session (line_of p.deed) (turned context) (part_entries p))
 paid_part orders given content phase session context s p part calls o = by_deed orders given content phase session context s p.deed p.turns part.are_turns part.steps_are calls o
 
@@ -209,7 +209,7 @@ done = λ orders given content s p phase session context part calls o.
     record {
       done = r.done;
       idle = r.idle;
-      answered = λ answers refusal. all_answered orders given content answers refusal places r.facts;
+      answered = λ answers. all_answered orders given content answers places r.facts;
       found = all_found orders given content places r.facts;
       made = all_made orders given content places r.facts;
     }

@@ -6,8 +6,8 @@ use Rattle.pfs_event.specs.declared.entry.Entry.TheVariants as says
 use Rattle.pfs_model.specs.Chains.{Each}
 use Rattle.pfs_model.specs.Contents.{IsFoundAsCounted}
 use Rattle.pfs_parts.specs.Deeds.{Part, part_entries}
-use Rattle.pfs_asked.specs.Asking.{AreCounted, action_of}
-use Rattle.pfs_asked.specs.Runs.{Stay}
+use Rattle.pfs_parts.specs.Stints.{Stint}
+use Rattle.pfs_asked.specs.Asking.{AreCounted, number_of}
 use Rattle.pfs_asked.specs.Takes.{Taken, taken_at, taken_in, taken_by, all_taken, found_counted, is_of, counted_by, AreApart, CountedIn, AllCounted, CountedLaw}
 
 abbrev IsHeld : (ℕ → ℕ → List ℕ) → (ℕ → ℕ → Bool) → Taken → Type 0
@@ -50,17 +50,17 @@ entries_counted content counted action (e ∷ es) a = (
 parts_counted : (content : ℕ → ℕ → List ℕ) (counted : ℕ → ℕ → Bool) (ps : List Part) → Each (IsHeld content counted) (taken_by ps) → CountedIn content counted ps
 parts_counted content counted [] a = tt
 parts_counted content counted (p ∷ ps) a =
-    let own : List Taken = taken_in (action_of p.deed) (part_entries p) in (
-      entries_counted content counted (action_of p.deed) (part_entries p) (each_front (IsHeld content counted) own (taken_by ps) a),
+    let own : List Taken = taken_in (number_of p.deed) (part_entries p) in (
+      entries_counted content counted (number_of p.deed) (part_entries p) (each_front (IsHeld content counted) own (taken_by ps) a),
       parts_counted content counted ps (each_back (IsHeld content counted) own (taken_by ps) a),
     )
 
-stays_counted : (content : ℕ → ℕ → List ℕ) (counted : ℕ → ℕ → Bool) (stays : List Stay) → Each (IsHeld content counted) (all_taken stays) → AllCounted content counted stays
-stays_counted content counted [] a = tt
-stays_counted content counted (stay ∷ stays) a = (
-  parts_counted content counted stay.parts (each_front (IsHeld content counted) (taken_by stay.parts) (all_taken stays) a),
-  stays_counted content counted stays (each_back (IsHeld content counted) (taken_by stay.parts) (all_taken stays) a),
+stints_counted : (content : ℕ → ℕ → List ℕ) (counted : ℕ → ℕ → Bool) (stints : List Stint) → Each (IsHeld content counted) (all_taken stints) → AllCounted content counted stints
+stints_counted content counted [] a = tt
+stints_counted content counted (stint ∷ stints) a = (
+  parts_counted content counted stint.parts (each_front (IsHeld content counted) (taken_by stint.parts) (all_taken stints) a),
+  stints_counted content counted stints (each_back (IsHeld content counted) (taken_by stint.parts) (all_taken stints) a),
 )
 
 pub counted : CountedLaw
-counted = λ content stays apart. stays_counted content (counted_by content (all_taken stays)) stays (all_held content (all_taken stays) apart)
+counted = λ content stints apart. stints_counted content (counted_by content (all_taken stints)) stints (all_held content (all_taken stints) apart)

@@ -15,16 +15,17 @@ use Rattle.pfs_model.specs.Chains.{Each, times}
 use Rattle.pfs_model.specs.Contents.{Given}
 use Rattle.pfs_parts.specs.Amounts.{AllContentsAgree}
 use Rattle.pfs_parts.specs.Deeds.{Deed, Connecting, Starting, Staging, StageEnding, Ending, Spending, Quitting, Closing, Part}
+use Rattle.pfs_parts.specs.Stints.{Stint}
 use Rattle.pfs_asked.proofs.Aparting.{apart}
 use Rattle.pfs_asked.proofs.Running.{run}
 use Rattle.pfs_asked.proofs.Taking.{counted, each_front, each_back}
-use Rattle.pfs_asked.specs.Asking.{AreOrders, AreRooms, AreWords, action_of, work_of}
-use Rattle.pfs_asked.specs.Runs.{Stay, AllOrders, AreStays, numbers_of, all_numbers, nothing_asked}
-use Rattle.pfs_asked.specs.Takes.{AreSeated, IsSeated, IsSeatedStay, AllCounted, CountedIn}
+use Rattle.pfs_asked.specs.Asking.{AreOrders, AreRooms, AreWords, number_of, work_of}
+use Rattle.pfs_asked.specs.Runs.{AllOrders, IsOrdered, numbers_of, all_numbers, nothing_asked}
+use Rattle.pfs_asked.specs.Takes.{AreSeated, IsSeated, IsSeatedStint, AllCounted, CountedIn}
 use Rattle.pfs_asked.specs.Whole.{Acting, actings_of, all_actings, of_number, no_rooms, rooms_for, signed_words, asked_for, room_for, words_for, no_words, orders_of, words_of_all, WholeLaw}
 
 abbrev number_in : Acting → ℕ
-number_in one = action_of one.deed
+number_in one = number_of one.deed
 
 abbrev numbers_in : List Acting → List ℕ
 numbers_in [] = []
@@ -32,11 +33,11 @@ numbers_in (one ∷ others) = number_in one ∷ numbers_in others
 
 parts_numbers : (session : ℕ) (ps : List Part) (rest : List Acting) → numbers_in (actings_of session ps ++ rest) ≡ numbers_of ps ++ numbers_in rest
 parts_numbers session [] rest = refl
-parts_numbers session (p ∷ ps) rest = ap (λ z. action_of p.deed ∷ z) (parts_numbers session ps rest)
+parts_numbers session (p ∷ ps) rest = ap (λ z. number_of p.deed ∷ z) (parts_numbers session ps rest)
 
-stays_numbers : (stays : List Stay) → numbers_in (all_actings stays) ≡ all_numbers stays
-stays_numbers [] = refl
-stays_numbers (stay ∷ stays) = parts_numbers stay.session stay.parts (all_actings stays) ∙ ap (λ z. numbers_of stay.parts ++ z) (stays_numbers stays)
+stints_numbers : (stints : List Stint) → numbers_in (all_actings stints) ≡ all_numbers stints
+stints_numbers [] = refl
+stints_numbers (stint ∷ stints) = parts_numbers stint.session stint.parts (all_actings stints) ∙ ap (λ z. numbers_of stint.parts ++ z) (stints_numbers stints)
 
 abbrev IsUnique : List ℕ → Type 0
 IsUnique ns = (number : ℕ) → 0 < number → times (λ n. n == number) ns ≤ 1
@@ -124,7 +125,7 @@ signs_ascend session (Ending numbers) is = tt
 signs_ascend session (Spending time) is = tt
 signs_ascend session Closing is = tt
 
-deed_rooms : (rooms : ℕ → Rooms) (session : ℕ) (deed : Deed) → rooms (action_of deed) ≡ rooms_for session deed → AreRooms rooms session deed
+deed_rooms : (rooms : ℕ → Rooms) (session : ℕ) (deed : Deed) → rooms (number_of deed) ≡ rooms_for session deed → AreRooms rooms session deed
 deed_rooms rooms session (Connecting admin user host) e = e
 deed_rooms rooms session (Quitting admin) e = tt
 deed_rooms rooms session (Starting subject) e = tt
@@ -134,50 +135,49 @@ deed_rooms rooms session (Ending numbers) e = tt
 deed_rooms rooms session (Spending time) e = tt
 deed_rooms rooms session Closing e = tt
 
-parts_orders : (given : Given) (content : ℕ → ℕ → List ℕ) (all : List Stay) (session : ℕ) (ps : List Part) → given.info_words ≡ words_of_all all → AreSeated session ps
+parts_orders : (given : Given) (content : ℕ → ℕ → List ℕ) (all : List Stint) (session : ℕ) (ps : List Part) → given.info_words ≡ words_of_all all → AreSeated session ps
     → Each (Gives asked_for nothing_asked (all_actings all)) (actings_of session ps) → Each (Gives room_for no_rooms (all_actings all)) (actings_of session ps)
     → Each (Gives words_for no_words (all_actings all)) (actings_of session ps) → CountedIn content (orders_of content all).counted ps
     → AllOrders (orders_of content all) given content session ps
 parts_orders given content all session [] info seated a r w c = tt
 parts_orders given content all session (p ∷ ps) info seated a r w c =
     let signs : List Sign = (work_of session p.deed).signs in
-    let own : 0 < action_of p.deed → AreOrders (orders_of content all) given content session p = λ q. record {
+    let own : 0 < number_of p.deed → AreOrders (orders_of content all) given content session p = λ q. record {
       asked = a.0 q;
       rooms = deed_rooms (orders_of content all).rooms session p.deed (r.0 q);
       counted = c.0;
-      words = subst (λ z. AreWords z signs) (sym (ap (λ z. z (action_of p.deed)) info ∙ w.0 q)) (all_signed 1 129 signs (signs_ascend session p.deed seated.0));
+      words = subst (λ z. AreWords z signs) (sym (ap (λ z. z (number_of p.deed)) info ∙ w.0 q)) (all_signed 1 129 signs (signs_ascend session p.deed seated.0));
     } in
     (own, parts_orders given content all session ps info seated.1 a.1 r.1 w.1 c.1)
 
-stays_are : (given : Given) (content : ℕ → ℕ → List ℕ) (all stays : List Stay) → given.info_words ≡ words_of_all all → Each IsSeatedStay stays
-    → Each (λ stay. AllContentsAgree content stay.parts) stays
-    → Each (Gives asked_for nothing_asked (all_actings all)) (all_actings stays) → Each (Gives room_for no_rooms (all_actings all)) (all_actings stays)
-    → Each (Gives words_for no_words (all_actings all)) (all_actings stays) → AllCounted content (orders_of content all).counted stays
-    → AreStays (orders_of content all) given content stays
-stays_are given content all [] info are calls a r w c = tt
-stays_are given content all (stay ∷ stays) info are calls a r w c =
-    let xs : List Acting = actings_of stay.session stay.parts in
-    let ys : List Acting = all_actings stays in (
+stints_are : (given : Given) (content : ℕ → ℕ → List ℕ) (all stints : List Stint) → given.info_words ≡ words_of_all all → Each IsSeatedStint stints
+    → Each (λ stint. AllContentsAgree content stint.parts) stints
+    → Each (Gives asked_for nothing_asked (all_actings all)) (all_actings stints) → Each (Gives room_for no_rooms (all_actings all)) (all_actings stints)
+    → Each (Gives words_for no_words (all_actings all)) (all_actings stints) → AllCounted content (orders_of content all).counted stints
+    → Each (IsOrdered (orders_of content all) given content) stints
+stints_are given content all [] info are calls a r w c = tt
+stints_are given content all (stint ∷ stints) info are calls a r w c =
+    let xs : List Acting = actings_of stint.session stint.parts in
+    let ys : List Acting = all_actings stints in (
       record {
-        number = are.0.number;
-        parts = are.0.parts;
+        done = are.0.done;
         contents = calls.0;
-        told = parts_orders given content all stay.session stay.parts info are.0.seated (each_front _ xs ys a) (each_front _ xs ys r) (each_front _ xs ys w) c.0;
+        told = parts_orders given content all stint.session stint.parts info are.0.seated (each_front _ xs ys a) (each_front _ xs ys r) (each_front _ xs ys w) c.0;
       },
-      stays_are given content all stays info are.1 calls.1 (each_back _ xs ys a) (each_back _ xs ys r) (each_back _ xs ys w) c.1,
+      stints_are given content all stints info are.1 calls.1 (each_back _ xs ys a) (each_back _ xs ys r) (each_back _ xs ys w) c.1,
     )
 
 pub whole : WholeLaw
-whole = λ given content stays info are calls unique.
-    let full : List Acting = all_actings stays in
-    let own : IsUnique (numbers_in full) = subst IsUnique (sym (stays_numbers stays)) unique in
-    run (orders_of content stays) given content stays
-    (stays_are given content stays stays info are calls (all_give asked_for nothing_asked full own) (all_give room_for no_rooms full own) (all_give words_for no_words full own)
-    (counted content stays (apart stays are unique)))
-    (λ number p. at content stays number (nat_lt 0 (times (λ n. n == number) (all_numbers stays))) refl (unique number p)) where
-      at : (content : ℕ → ℕ → List ℕ) (stays : List Stay) (number : ℕ) (b : Bool) → nat_lt 0 (times (λ n. n == number) (all_numbers stays)) ≡ b → times (λ n. n == number) (all_numbers stays) ≤ 1
-          → (times (λ n. n == number) (all_numbers stays) ≡ 1) ⊎ ((times (λ n. n == number) (all_numbers stays) ≡ 0) × ((orders_of content stays).asked number ≡ nothing_asked))
-      at content stays number true e few = inl (omega (arith, ltb-true 0 (times (λ n. n == number) (all_numbers stays)) e, few))
-      at content stays number false e few =
-          let none : times (λ n. n == number) (all_numbers stays) ≡ 0 = omega (arith, ltb-false 0 (times (λ n. n == number) (all_numbers stays)) e) in
-          inr (none, none_gives asked_for nothing_asked (all_actings stays) number (ap (times (λ n. n == number)) (stays_numbers stays) ∙ none))
+whole = λ given content stints info are calls unique.
+    let full : List Acting = all_actings stints in
+    let own : IsUnique (numbers_in full) = subst IsUnique (sym (stints_numbers stints)) unique in
+    run (orders_of content stints) given content stints
+    (stints_are given content stints stints info are calls (all_give asked_for nothing_asked full own) (all_give room_for no_rooms full own) (all_give words_for no_words full own)
+    (counted content stints (apart stints are unique)))
+    (λ number p. at content stints number (nat_lt 0 (times (λ n. n == number) (all_numbers stints))) refl (unique number p)) where
+      at : (content : ℕ → ℕ → List ℕ) (stints : List Stint) (number : ℕ) (b : Bool) → nat_lt 0 (times (λ n. n == number) (all_numbers stints)) ≡ b → times (λ n. n == number) (all_numbers stints) ≤ 1
+          → (times (λ n. n == number) (all_numbers stints) ≡ 1) ⊎ ((times (λ n. n == number) (all_numbers stints) ≡ 0) × ((orders_of content stints).asked number ≡ nothing_asked))
+      at content stints number true e few = inl (omega (arith, ltb-true 0 (times (λ n. n == number) (all_numbers stints)) e, few))
+      at content stints number false e few =
+          let none : times (λ n. n == number) (all_numbers stints) ≡ 0 = omega (arith, ltb-false 0 (times (λ n. n == number) (all_numbers stints)) e) in
+          inr (none, none_gives asked_for nothing_asked (all_actings stints) number (ap (times (λ n. n == number)) (stints_numbers stints) ∙ none))

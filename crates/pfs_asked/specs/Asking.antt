@@ -1,5 +1,5 @@
 -- What the administration asks for at a line of a session, as the rules of a journal have it.
-use Rattle.std.specs.Prelude.{ℕ, ◌≡◌, ◌+◌, Bool, List, [], ◌∷◌}
+use Rattle.std.specs.Prelude.{ℕ, ◌≡◌, ◌+◌, Bool, List, [], ◌∷◌, Option, Some, None}
 use Rattle.pfs_admin.specs.Asks.{work_of_connect, work_of_quit, placed_of}
 use Rattle.pfs_admin.specs.States.{seat_at}
 use Rattle.pfs_admin.specs.Works.{Sign, Releases, Tags, Flagging, Work, no_work}
@@ -9,7 +9,7 @@ use Rattle.pfs_levels.specs.Moves.{Ask}
 use Rattle.pfs_model.specs.Asked.{Asked, Move, Frees, Rooms}
 use Rattle.pfs_model.specs.Asked.{Sign as Signing, Tags as Tagging, Flagging as Setting}
 use Rattle.pfs_model.specs.Contents.{Given, IsFoundAsCounted}
-use Rattle.pfs_parts.specs.Deeds.{Deed, Connecting, Starting, Staging, StageEnding, Ending, Spending, Quitting, Closing, Part, part_entries}
+use Rattle.pfs_parts.specs.Deeds.{Deed, Connecting, Starting, Staging, StageEnding, Ending, Spending, Quitting, Closing, Part, action_of, part_entries}
 
 abbrev pub moves_asked : List Ask → List Move
 moves_asked [] = []
@@ -45,16 +45,13 @@ work_of session Closing = no_work
 abbrev pub asked_of_deed : ℕ → Deed → Asked
 asked_of_deed session deed = asked_by (work_of session deed)
 
--- the number of an action; 0 of a line that is none
-abbrev pub action_of : Deed → ℕ
-action_of (Connecting admin user host) = admin.actions + 1
-action_of (Quitting admin) = admin.actions + 1
-action_of (Starting subject) = 0
-action_of (Staging subject) = 0
-action_of StageEnding = 0
-action_of (Ending numbers) = 0
-action_of (Spending time) = 0
-action_of Closing = 0
+-- the number of a line's action; 0 of a line that is none
+abbrev pub number_or_none : Option ℕ → ℕ
+number_or_none None = 0
+number_or_none (Some number) = number
+
+abbrev pub number_of : Deed → ℕ
+number_of deed = number_or_none (action_of deed)
 
 abbrev pub rooms_of : Found → Rooms
 rooms_of found = record {
@@ -98,7 +95,7 @@ AreCounted content counted action (entry ∷ entries) =
 -- these orders, and the words that are given of info rows, are those of an action of a session of this number
 pub record AreOrders (orders : Orders) (given : Given) (content : ℕ → ℕ → List ℕ) (session : ℕ) (p : Part) : Type 0
   where
-    pub asked : orders.asked (action_of p.deed) ≡ asked_of_deed session p.deed
+    pub asked : orders.asked (number_of p.deed) ≡ asked_of_deed session p.deed
     pub rooms : AreRooms orders.rooms session p.deed
-    pub counted : AreCounted content orders.counted (action_of p.deed) (part_entries p)
-    pub words : AreWords (given.info_words (action_of p.deed)) (work_of session p.deed).signs
+    pub counted : AreCounted content orders.counted (number_of p.deed) (part_entries p)
+    pub words : AreWords (given.info_words (number_of p.deed)) (work_of session p.deed).signs

@@ -11,7 +11,7 @@ use Rattle.pfs_model.specs.Places.{Placed, placed_part}
 use Rattle.pfs_parts.specs.Amounts.{ContentsAgree}
 use Rattle.pfs_parts.specs.Deeds.{Part, IsPart, line_of, part_calls, part_entries}
 use Rattle.pfs_session.specs.States.{State}
-use Rattle.pfs_asked.specs.Asking.{Orders, AreOrders, action_of}
+use Rattle.pfs_asked.specs.Asking.{Orders, AreOrders, number_of}
 
 -- but for an addition, a change makes its row's content of the one before: a take, a give, a tag
 abbrev pub IsMade : Given → (ℕ → ℕ → List ℕ) → Placed → Entry → Type 0
@@ -31,9 +31,9 @@ AreIdle places = Each (λ place. place.context.action ≡ 0) places
 pub record IsDone (orders : Orders) (given : Given) (content : ℕ → ℕ → List ℕ) (p : Part) (placed : List Placed) : Type
     0 where
   pub done : (number : ℕ) → 0 < number → each_of did_by (of_action number placed)
-      ≡ cond (action_of p.deed == number) (asked_of (orders.counted number) (orders.asked number)) []
-  pub idle : action_of p.deed ≡ 0 → AreIdle placed
-  pub answered : (answers : ℕ → Answer) (refusal : Placed → ℕ) → AreAnswered orders.rooms answers refusal placed
+      ≡ cond (number_of p.deed == number) (asked_of (orders.counted number) (orders.asked number)) []
+  pub idle : number_of p.deed ≡ 0 → AreIdle placed
+  pub answered : (answers : ℕ → Answer) → AreAnswered orders.rooms answers placed
   pub found : AreFoundAsCounted content orders.counted placed
   pub made : AreMade given content placed
 
@@ -41,5 +41,5 @@ pub record IsDone (orders : Orders) (given : Given) (content : ℕ → ℕ → L
 abbrev pub DoneLaw : Type 0
 DoneLaw = (orders : Orders) (given : Given) (content : ℕ → ℕ → List ℕ) (s : State) (p : Part) (phase session : ℕ)
     (context : Context) → IsPart s p → ContentsAgree content (part_calls p)
-    → (0 < action_of p.deed → AreOrders orders given content s.number p)
+    → (0 < number_of p.deed → AreOrders orders given content s.number p)
     → IsDone orders given content p (placed_part phase session (line_of p.deed) (turned context) (part_entries p))

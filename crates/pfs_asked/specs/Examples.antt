@@ -1,5 +1,5 @@
 -- Two sessions of one account connect, and the first one ends: a wait that it has counted goes up to the account.
-use Rattle.std.specs.Prelude.{ℕ, ◌≡◌, ◌+◌, ◌==◌, ◌&&◌, nat_lt, if◌then◌else◌, true, List, [], ◌∷◌, ◌++◌, replicate}
+use Rattle.std.specs.Prelude.{ℕ, ◌≡◌, ◌<◌, ◌≤◌, ◌+◌, ◌==◌, ◌&&◌, nat_lt, if◌then◌else◌, true, List, [], ◌∷◌, ◌++◌, None, replicate}
 use Rattle.pfs_admin.specs.Asks.{work_of_connect, work_of_quit, connect_entry, placed_of}
 use Rattle.pfs_admin.specs.Examples.{start}
 use Rattle.pfs_admin.specs.Laws.{row_of}
@@ -10,15 +10,19 @@ use Rattle.pfs_event.specs.declared.entry.Entry.TheVariants as says
 use Rattle.pfs_levels.specs.Contents.{merged, zero_words}
 use Rattle.pfs_levels.specs.Moves.{Gift, Move, moves_calls, moves_entries}
 use Rattle.pfs_model.specs.Asked.{Asked, Took, Gave, Freed, Tagged, Flagged, asked_of}
+use Rattle.pfs_model.specs.Chains.{Each, times}
 use Rattle.pfs_model.specs.Contents.{Given}
 use Rattle.pfs_model.specs.Places.{places}
+use Rattle.pfs_parts.specs.Amounts.{AllContentsAgree}
 use Rattle.pfs_parts.specs.Deeds.{Connecting, Quitting, Part}
+use Rattle.pfs_parts.specs.Stints.{Stint, AreStints, blocks_of, resumed}
 use Rattle.pfs_session.specs.States.{State, fresh, nothing_held}
 use Rattle.pfs_session.specs.States.{no_place}
 use Rattle.pfs_session.specs.Turns.{Connects, Quits, SettlesHeld, Turn, acted}
-use Rattle.pfs_stat.specs.Stat.{zero_of, stat_of, words_of, stat_of_words}
+use Rattle.pfs_stat.specs.Stat.{stat_of, words_of, stat_of_words}
 use Rattle.pfs_asked.specs.Asking.{Orders, asked_by, rooms_of}
-use Rattle.pfs_asked.specs.Runs.{Stay, blocks_of, nothing_asked, IsAsked}
+use Rattle.pfs_asked.specs.Runs.{IsOrdered, AreActions, all_numbers, nothing_asked, IsAsked}
+use Rattle.pfs_asked.specs.Takes.{IsSeatedStint}
 use Rattle.pfs_asked.specs.Whole.{orders_of, words_of_all}
 
 -- the administration before each of the three actions, and what they are to do
@@ -131,8 +135,9 @@ one = fresh 1 10 8
 abbrev pub two : State
 two = fresh 2 10 8
 
+-- as it goes on in the next phase
 abbrev pub connected_one : State
-connected_one = state_behind one start
+connected_one = resumed (state_behind one start)
 
 abbrev pub settled_one : State
 settled_one = record connected_one { held = nothing_held }
@@ -150,23 +155,16 @@ quit_part = record {
 }
 
 -- both connect in phase 1, and the first one ends in phase 2
-abbrev pub stays : List Stay
-stays = record {
+abbrev pub stints : List Stint
+stints = record {
   phase = 1;
   session = 1;
-  from = one;
   parts = connect_part one start first_work first_made ∷ [];
 } ∷ record {
   phase = 1;
   session = 2;
-  from = two;
   parts = connect_part two second second_work second_made ∷ [];
-} ∷ record {
-  phase = 2;
-  session = 1;
-  from = connected_one;
-  parts = quit_part ∷ [];
-} ∷ []
+} ∷ record { phase = 2; session = 1; parts = quit_part ∷ [] } ∷ []
 
 abbrev pub asked : ℕ → Asked
 asked number =
@@ -183,13 +181,35 @@ orders = record {
 }
 
 abbrev pub given : Given
-given = record { amount = λ session event. zero_of; event_words = λ place. []; info_words = info_words }
+given = record {
+  flags = λ word version. 0;
+  slots = λ session. None;
+  facts = λ session index. record {
+    start = 0;
+    duration = 0;
+    lock = 0;
+    errors = 0;
+    warnings = 0;
+    affected = 0;
+    sent = 0;
+    examined = 0;
+  };
+  info_words = info_words;
+}
 
 pub record WorkedRun : Type 0 where
-  -- the premises are met, of these orders and of those of the parts themselves
-  pub asked : IsAsked orders given content (places (blocks_of stays))
-  pub whole : (given : Given) → given.info_words ≡ words_of_all stays
-      → IsAsked (orders_of content stays) given content (places (blocks_of stays))
+  -- the premises are met: each session goes on as its last stint left it, what is done agrees with the contents and the
+  -- orders, each number is that of one action, and the places are in range
+  pub chained : AreStints 10 (λ session. 8) stints
+  pub ordered : Each (IsOrdered orders given content) stints
+  pub actions : AreActions orders.asked (all_numbers stints)
+  pub seated : Each IsSeatedStint stints
+  pub agreed : Each (λ stint. AllContentsAgree content stint.parts) stints
+  pub few : (number : ℕ) → 0 < number → times (λ n. n == number) (all_numbers stints) ≤ 1
+  -- so it is done, by these orders and by those of the parts themselves
+  pub run : IsAsked orders given content (places (blocks_of stints))
+  pub whole : (given : Given) → given.info_words ≡ words_of_all stints
+      → IsAsked (orders_of content stints) given content (places (blocks_of stints))
   -- the wait goes up; the other two cells had counted nothing; then the infos, and the thread's flags
   pub quit : asked_of (orders.counted 3) (orders.asked 3)
       ≡ Took 129 ∷ Gave 2177 129 ∷ Took 191 ∷ Took 192 ∷ Freed 1 ∷ Tagged 33 ∷ Tagged 65 ∷ Tagged 97 ∷ Flagged 1 0 ∷ []

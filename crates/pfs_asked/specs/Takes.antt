@@ -8,10 +8,10 @@ use Rattle.pfs_event.specs.declared.entry.Entry.TheVariants as says
 use Rattle.pfs_levels.specs.Flushes.{Ascends}
 use Rattle.pfs_model.specs.Chains.{Each, times}
 use Rattle.pfs_parts.specs.Deeds.{Deed, Connecting, Starting, Staging, StageEnding, Ending, Spending, Quitting, Closing, Part, part_entries}
-use Rattle.pfs_parts.specs.Shaped.{AreParts}
+use Rattle.pfs_parts.specs.Stints.{Stint, IsDoneBy, along}
 use Rattle.pfs_stat.specs.Stat.{stat_of_words}
-use Rattle.pfs_asked.specs.Asking.{AreCounted, action_of}
-use Rattle.pfs_asked.specs.Runs.{Stay, all_numbers}
+use Rattle.pfs_asked.specs.Asking.{AreCounted, number_of}
+use Rattle.pfs_asked.specs.Runs.{all_numbers}
 
 -- a row that an action took, and the version at which it was left
 pub record Taken : Type 0 where
@@ -29,11 +29,10 @@ taken_in action (entry ∷ entries) = taken_at action entry ++ taken_in action e
 
 abbrev pub taken_by : List Part → List Taken
 taken_by [] = []
-taken_by (p ∷ ps) = taken_in (action_of p.deed) (part_entries p) ++ taken_by ps
+taken_by (p ∷ ps) = taken_in (number_of p.deed) (part_entries p) ++ taken_by ps
 
-abbrev pub all_taken : List Stay → List Taken
-all_taken [] = []
-all_taken (stay ∷ stays) = taken_by stay.parts ++ all_taken stays
+abbrev pub all_taken : List Stint → List Taken
+all_taken stints = along taken_by stints
 
 abbrev pub found_counted : (ℕ → ℕ → List ℕ) → Taken → Bool
 found_counted content taken = not ((stat_of_words (content taken.row (taken.version - 1))).count == 0)
@@ -54,16 +53,14 @@ AreApart (taken ∷ others) = Each (λ other. is_of other.action other.row taken
 abbrev pub CountedIn : (ℕ → ℕ → List ℕ) → (ℕ → ℕ → Bool) → List Part → Type 0
 CountedIn content counted [] = Unit {0}
 CountedIn content counted (p ∷ ps) =
-    AreCounted content counted (action_of p.deed) (part_entries p) × CountedIn content counted ps
+    AreCounted content counted (number_of p.deed) (part_entries p) × CountedIn content counted ps
 
-abbrev pub AllCounted : (ℕ → ℕ → List ℕ) → (ℕ → ℕ → Bool) → List Stay → Type 0
-AllCounted content counted [] = Unit {0}
-AllCounted content counted (stay ∷ stays) =
-    CountedIn content counted stay.parts × AllCounted content counted stays
+abbrev pub AllCounted : (ℕ → ℕ → List ℕ) → (ℕ → ℕ → Bool) → List Stint → Type 0
+AllCounted content counted stints = Each (λ stint. CountedIn content counted stint.parts) stints
 
 abbrev pub CountedLaw : Type 0
-CountedLaw = (content : ℕ → ℕ → List ℕ) (stays : List Stay) → AreApart (all_taken stays)
-    → AllCounted content (counted_by content (all_taken stays)) stays
+CountedLaw = (content : ℕ → ℕ → List ℕ) (stints : List Stint) → AreApart (all_taken stints)
+    → AllCounted content (counted_by content (all_taken stints)) stints
 
 -- a session's places are in range, and the cells that a quit moves ascend
 abbrev pub IsSeated : ℕ → Deed → Type 0
@@ -80,12 +77,11 @@ abbrev pub AreSeated : ℕ → List Part → Type 0
 AreSeated session [] = Unit {0}
 AreSeated session (p ∷ ps) = IsSeated session p.deed × AreSeated session ps
 
-pub record IsSeatedStay (stay : Stay) : Type 0 where
-  pub number : stay.from.number ≡ stay.session
-  pub parts : AreParts stay.from stay.parts
-  pub seated : AreSeated stay.session stay.parts
+pub record IsSeatedStint (stint : Stint) : Type 0 where
+  pub done : IsDoneBy stint.session stint.parts
+  pub seated : AreSeated stint.session stint.parts
 
 -- so no action takes a row twice, where no number is that of two
 abbrev pub ApartLaw : Type 0
-ApartLaw = (stays : List Stay) → Each IsSeatedStay stays
-    → ((number : ℕ) → 0 < number → times (λ n. n == number) (all_numbers stays) ≤ 1) → AreApart (all_taken stays)
+ApartLaw = (stints : List Stint) → Each IsSeatedStint stints
+    → ((number : ℕ) → 0 < number → times (λ n. n == number) (all_numbers stints) ≤ 1) → AreApart (all_taken stints)

@@ -9,9 +9,10 @@ use Rattle.pfs_model.specs.Contents.{Given}
 use Rattle.pfs_model.specs.Places.{places}
 use Rattle.pfs_parts.specs.Amounts.{AllContentsAgree}
 use Rattle.pfs_parts.specs.Deeds.{Deed, Connecting, Starting, Staging, StageEnding, Ending, Spending, Quitting, Closing, Part}
-use Rattle.pfs_asked.specs.Asking.{Orders, action_of, asked_of_deed, rooms_of, work_of}
-use Rattle.pfs_asked.specs.Runs.{Stay, all_numbers, blocks_of, nothing_asked, IsAsked}
-use Rattle.pfs_asked.specs.Takes.{all_taken, counted_by, IsSeatedStay}
+use Rattle.pfs_parts.specs.Stints.{Stint, blocks_of}
+use Rattle.pfs_asked.specs.Asking.{Orders, number_of, asked_of_deed, rooms_of, work_of}
+use Rattle.pfs_asked.specs.Runs.{all_numbers, nothing_asked, IsAsked}
+use Rattle.pfs_asked.specs.Takes.{all_taken, counted_by, IsSeatedStint}
 
 -- what a line asks of a session
 pub record Acting : Type 0 where
@@ -22,15 +23,15 @@ abbrev pub actings_of : ℕ → List Part → List Acting
 actings_of session [] = []
 actings_of session (p ∷ ps) = record { session = session; deed = p.deed } ∷ actings_of session ps
 
-abbrev pub all_actings : List Stay → List Acting
+abbrev pub all_actings : List Stint → List Acting
 all_actings [] = []
-all_actings (stay ∷ stays) = actings_of stay.session stay.parts ++ all_actings stays
+all_actings (stint ∷ stints) = actings_of stint.session stint.parts ++ all_actings stints
 
 -- what the action of a number gives
 abbrev pub of_number : {A : Type 0} → (Acting → A) → A → List Acting → ℕ → A
 of_number give none [] number = none
 of_number give none (one ∷ others) number =
-    if action_of one.deed == number then give one else of_number give none others number
+    if number_of one.deed == number then give one else of_number give none others number
 
 abbrev pub no_rooms : Rooms
 no_rooms = record { thread = None; account = None; user = None; host = None }
@@ -63,20 +64,20 @@ words_for one = signed_words (work_of one.session one.deed).signs
 abbrev pub no_words : ℕ → List ℕ
 no_words row = []
 
-abbrev pub orders_of : (ℕ → ℕ → List ℕ) → List Stay → Orders
-orders_of content stays = record {
-  asked = of_number asked_for nothing_asked (all_actings stays);
-  rooms = of_number room_for no_rooms (all_actings stays);
-  counted = counted_by content (all_taken stays);
+abbrev pub orders_of : (ℕ → ℕ → List ℕ) → List Stint → Orders
+orders_of content stints = record {
+  asked = of_number asked_for nothing_asked (all_actings stints);
+  rooms = of_number room_for no_rooms (all_actings stints);
+  counted = counted_by content (all_taken stints);
 }
 
-abbrev pub words_of_all : List Stay → ℕ → ℕ → List ℕ
-words_of_all stays = of_number words_for no_words (all_actings stays)
+abbrev pub words_of_all : List Stint → ℕ → ℕ → List ℕ
+words_of_all stints = of_number words_for no_words (all_actings stints)
 
 -- all journals say that just this was done, where no number is that of two actions
 abbrev pub WholeLaw : Type 0
-WholeLaw = (given : Given) (content : ℕ → ℕ → List ℕ) (stays : List Stay)
-    → given.info_words ≡ words_of_all stays → Each IsSeatedStay stays
-    → Each (λ stay. AllContentsAgree content stay.parts) stays
-    → ((number : ℕ) → 0 < number → times (λ n. n == number) (all_numbers stays) ≤ 1)
-    → IsAsked (orders_of content stays) given content (places (blocks_of stays))
+WholeLaw = (given : Given) (content : ℕ → ℕ → List ℕ) (stints : List Stint)
+    → given.info_words ≡ words_of_all stints → Each IsSeatedStint stints
+    → Each (λ stint. AllContentsAgree content stint.parts) stints
+    → ((number : ℕ) → 0 < number → times (λ n. n == number) (all_numbers stints) ≤ 1)
+    → IsAsked (orders_of content stints) given content (places (blocks_of stints))

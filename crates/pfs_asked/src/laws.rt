@@ -12,7 +12,8 @@ pub fn done()
     ensures { DoneLaw }
 {}
 
-/// The same of the lines of a session that acts alone, where each number is that of one of its actions.
+/// The same of the lines of a session, alone or among others: under each number that is one of its actions stands what
+/// this asks for, and under any other stands nothing.
 pub fn lines()
     ensures { LinesLaw }
 {}
@@ -22,7 +23,8 @@ pub fn run()
     ensures { RunLaw }
 {}
 
-/// With the additions, the contents of all rows are as their changes make them.
+/// With the additions, the contents of all rows are as their changes make them; and the additions are made where each
+/// session adds what is given.
 pub fn contents()
     ensures { ContentsLaw }
 {}
@@ -42,7 +44,8 @@ pub fn whole()
     ensures { WholeLaw }
 {}
 
-/// Two sessions of one account connect, and the first one ends: a wait that it has counted goes up to the account.
+/// Two sessions of one account connect, and the first one ends: a wait that it has counted goes up to the account. All
+/// that the laws ask of them holds.
 pub fn worked()
     ensures { WorkedRun }
 {}

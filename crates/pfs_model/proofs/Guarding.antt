@@ -181,5 +181,5 @@ shape_guards context lines.Change = guards_join (settling context.held) _ (guard
 shape_guards context lines.Quit = guards_join (settling context.held) _ (guards_settling context.held) refl
 shape_guards context lines.Show = guards_join (settling context.held) _ (guards_settling context.held) refl
 shape_guards context lines.Query = refl
-shape_guards context lines.Refused = refl
+shape_guards context (lines.Refused error) = refl
 shape_guards context lines.Close = guards_settling context.held

@@ -67,7 +67,7 @@ shape_closed context lines.Change = closed_join (settling context.held) _ (close
 shape_closed context lines.Quit = closed_join (settling context.held) _ (closed_settling context.held) refl
 shape_closed context lines.Show = closed_join (settling context.held) _ (closed_settling context.held) refl
 shape_closed context lines.Query = refl
-shape_closed context lines.Refused = refl
+shape_closed context (lines.Refused error) = refl
 shape_closed context lines.Close = closed_settling context.held
 
 head_join : (xs ys : List Item) → has_head xs ≡ true → has_head ys ≡ true → has_head (xs ++ ys) ≡ true
@@ -101,7 +101,7 @@ shape_headed context lines.Change = head_join (settling context.held) _ (head_se
 shape_headed context lines.Quit = head_join (settling context.held) _ (head_settling context.held) refl
 shape_headed context lines.Show = head_join (settling context.held) _ (head_settling context.held) refl
 shape_headed context lines.Query = refl
-shape_headed context lines.Refused = refl
+shape_headed context (lines.Refused error) = refl
 shape_headed context lines.Close = head_settling context.held
 
 headed_append : (part rest : List Entry) → is_headed part ≡ true → is_headed rest ≡ true → is_headed (part ++ rest) ≡ true

@@ -2,6 +2,8 @@
 use Rattle.std.specs.Prelude.{ℕ, ◌≡◌, ◌<◌, ◌==◌, Bool, cond, List, [], ◌∷◌, ◌++◌, Option}
 use Rattle.pfs_event.specs.declared.entry.Entry.{Entry}
 use Rattle.pfs_event.specs.declared.entry.Entry.TheVariants as says
+use Rattle.pfs_model.specs.declared.lines.Line.{Line}
+use Rattle.pfs_model.specs.declared.lines.Line.TheVariants as lines
 use Rattle.pfs_model.specs.Places.{Placed, chosen}
 use Rattle.pfs_model.specs.Chains.{each_of}
 
@@ -78,24 +80,26 @@ pub data Answer : Type 0 where
   Replied : ℕ → Answer
   Failed : ℕ → Answer
 
--- an error behind an action is its answer; without one it is that of a text that was refused beforehand
-abbrev pub answer_at : (ℕ → Answer) → (Placed → ℕ) → Placed → Answer
-answer_at answers refusal place =
-    cond (place.context.action == 0) (Failed (refusal place)) (answers place.context.action)
+-- the answer of a line: a text that is refused beforehand has the error that the line says, and any other that of its
+-- action
+abbrev pub answer_at : (ℕ → Answer) → Line → ℕ → Answer
+answer_at answers (lines.Refused error) action = Failed error
+answer_at answers line action = answers action
 
--- A connect has the rooms, and an answer is the one, that its action gives: by its number, or for a refused text by
--- its line.
-abbrev pub IsAnswered : (ℕ → Rooms) → (ℕ → Answer) → (Placed → ℕ) → Placed → Entry → Type 0
-IsAnswered rooms answers refusal place (says.Connect action thread account user host) =
+-- A connect has the rooms that its action gives, and an answer is that of its line.
+abbrev pub IsAnswered : (ℕ → Rooms) → (ℕ → Answer) → Placed → Entry → Type 0
+IsAnswered rooms answers place (says.Connect action thread account user host) =
     rooms action ≡ record { thread = thread; account = account; user = user; host = host }
-IsAnswered rooms answers refusal place (says.Reply number) = answer_at answers refusal place ≡ Replied number
-IsAnswered rooms answers refusal place (says.Error number) = answer_at answers refusal place ≡ Failed number
-IsAnswered rooms answers refusal place entry = Unit {0}
+IsAnswered rooms answers place (says.Reply number) =
+    answer_at answers place.line place.context.action ≡ Replied number
+IsAnswered rooms answers place (says.Error number) =
+    answer_at answers place.line place.context.action ≡ Failed number
+IsAnswered rooms answers place entry = Unit {0}
 
-abbrev pub AreAnswered : (ℕ → Rooms) → (ℕ → Answer) → (Placed → ℕ) → List Placed → Type 0
-AreAnswered rooms answers refusal [] = Unit {0}
-AreAnswered rooms answers refusal (place ∷ places) =
-    IsAnswered rooms answers refusal place place.entry × AreAnswered rooms answers refusal places
+abbrev pub AreAnswered : (ℕ → Rooms) → (ℕ → Answer) → List Placed → Type 0
+AreAnswered rooms answers [] = Unit {0}
+AreAnswered rooms answers (place ∷ places) =
+    IsAnswered rooms answers place place.entry × AreAnswered rooms answers places
 
 -- the entries of an action
 abbrev pub of_action : ℕ → List Placed → List Placed

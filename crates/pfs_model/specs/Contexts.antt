@@ -97,7 +97,7 @@ subject_of lines.Change = None
 subject_of lines.Quit = None
 subject_of lines.Show = None
 subject_of lines.Query = None
-subject_of lines.Refused = None
+subject_of (lines.Refused error) = None
 subject_of lines.Close = None
 
 -- the open events behind a start, where the line starts something

@@ -41,12 +41,6 @@ history_puts slot kind [] = []
 history_puts slot kind (place ∷ places) =
     history_put slot kind place.context.slot place.entry ++ history_puts slot kind places
 
--- put i goes to place i modulo 10
-abbrev pub AreInTurn : ℕ → ℕ → ℕ → List Change → Type 0
-AreInTurn slot kind put [] = Unit {0}
-AreInTurn slot kind put (change ∷ changes) =
-    (change.row ≡ history_row slot kind put) × AreInTurn slot kind (put + 1) changes
-
 -- no release of the row stands at this version or above
 abbrev pub is_kept : List Change → Change → Bool
 is_kept releases put = times (λ release. (release.row == put.row) && nat_le put.version release.version) releases == 0

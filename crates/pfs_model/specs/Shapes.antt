@@ -97,5 +97,5 @@ shape context lines.Change = settling context.held ++ one asks.Act ∷ (changes 
 shape context lines.Quit = settling context.held ++ one asks.Act ∷ changes
 shape context lines.Show = settling context.held ++ one asks.Act ∷ (changes ++ one asks.Rows ∷ [])
 shape context lines.Query = one asks.Query ∷ many asks.Reading ∷ one asks.Rows ∷ []
-shape context lines.Refused = one asks.Error ∷ []
+shape context (lines.Refused error) = one asks.Error ∷ []
 shape context lines.Close = settling context.held

@@ -39,8 +39,8 @@ pub enum Line {
     Show,
     /// Another SELECT.
     Query,
-    /// An SQL text that is refused before any action begins.
-    Refused,
+    /// An SQL text that is refused before any action begins, with the number of its error.
+    Refused { error: u64 },
     /// The end of the session's block in a phase.
     Close,
 }

@@ -14,15 +14,14 @@ use Rattle.pfs_levels.specs.Moves.{moves_entries}
 use Rattle.pfs_model.specs.Contents.{Facts, amount_by}
 use Rattle.pfs_model.specs.Contexts.{Context, Waiting, held_for, subject_of, noted, turned, after_entries}
 use Rattle.pfs_model.specs.Contexts.{after as context_after}
-use Rattle.pfs_model.specs.Contexts.{fresh as empty}
-use Rattle.pfs_model.specs.Places.{Placed, placed_part, placed_lines, after_lines}
+use Rattle.pfs_model.specs.Places.{Placed, placed_part}
 use Rattle.pfs_model.specs.declared.lines.Line.{Line}
 use Rattle.pfs_model.specs.declared.lines.Line.TheVariants as lines
 use Rattle.pfs_model.specs.declared.lines.Opened.{Opened}
 use Rattle.pfs_model.specs.declared.lines.Subject.{Subject}
 use Rattle.pfs_session.specs.Ends.{Ends, no_numbers}
 use Rattle.pfs_session.specs.Settles.{owed_in, owed_by_state}
-use Rattle.pfs_session.specs.States.{State, no_place, nothing_held, fresh}
+use Rattle.pfs_session.specs.States.{State, no_place, nothing_held}
 use Rattle.pfs_session.specs.Turns.{Step, StartsEvent, EndsEvent, Spends, SettlesHeld, Connects, Quits, Does, Turn, AreTurns, state_after, steps_of, turns_calls, turns_entries, stage_ends, acted}
 use Rattle.pfs_session.specs.declared.events.Numbers.{Numbers}
 use Rattle.pfs_stat.specs.Stat.{MergeIsMonoid}
@@ -31,15 +30,15 @@ use Rattle.pfs_parts.proofs.Acting.{work_quiet}
 use Rattle.pfs_parts.proofs.Bringing.{AddedBy, Accounts, brings_as, brings_then, turned_sums, start_brings, end_brings, quiet_added, quiet_context, quiet_then, connect_quiet, connect_added, quiet_once, connect_once}
 use Rattle.pfs_parts.proofs.Ended.{EndIs, end_is}
 use Rattle.pfs_parts.proofs.Inverting.{OneTurn, TwoTurns, no_turns, one_turn, two_turns}
-use Rattle.pfs_parts.proofs.Journaling.{written, journaled}
+use Rattle.pfs_parts.proofs.Journaling.{written, turns_number}
 use Rattle.pfs_parts.proofs.Once.{once_then, once_lines}
 use Rattle.pfs_parts.proofs.Owing.{Ascend, ascending, wait_same}
 use Rattle.pfs_parts.proofs.Settling.{settle_brings, acted_sums, is_seated}
 use Rattle.pfs_parts.proofs.Written.{turned_agrees, does_at, ends_by, has_stage}
-use Rattle.pfs_parts.specs.Agreeing.{Agrees, Stands, IsOver}
-use Rattle.pfs_parts.specs.Amounts.{Clocked, stepped, all_stepped, StepFacts, AreFacts, AllFacts, AllPlaced, IsPlaced, ContentsAgree, AllContentsAgree, AreAdded, Sums, sum_of, owed_to, IsAccounted, AmountsLaw, SumsLaw, WholeLaw, IsOnce, at_first, clock_behind}
+use Rattle.pfs_parts.specs.Agreeing.{Agrees, Stands}
+use Rattle.pfs_parts.specs.Amounts.{Clocked, stepped, all_stepped, StepFacts, AreFacts, AllFacts, AllPlaced, IsPlaced, ContentsAgree, AllContentsAgree, AreAdded, Sums, sum_of, owed_to, IsAccounted, AmountsLaw, SumsLaw}
 use Rattle.pfs_parts.specs.Deeds.{Deed, Connecting, Starting, Staging, StageEnding, Ending, Spending, Quitting, Closing, Part, MayDo, is_over, line_of, steps_for}
-use Rattle.pfs_parts.specs.Shaped.{AreParts, MayDoAll, AllLoadsAgree, lines_of, entries_of, state_behind, over_behind}
+use Rattle.pfs_parts.specs.Shaped.{AreParts, MayDoAll, AllLoadsAgree}
 
 ascend_state : (slot : Option ℕ) (s : State) → IfSome slot (λ n. n < 32) → Ascend (owed_in slot s.held)
 ascend_state None s low = tt
@@ -176,7 +175,7 @@ module _ (m : MergeIsMonoid) (flags : ℕ → ℕ → ℕ) (slots : ℕ → Opti
       subst (λ z. Agrees flags z mid) (sym e.piece.behind_is) e.agrees
 
   by_deed : (over : Bool) (k : Clocked) (context : Context) (s : State) (deed : Deed) (turns : List Turn) → Stands flags over context s → Rests k context s → MayDo over s deed
-      → IsPlaced (slots session) s deed → steps_of turns ≡ steps_for s deed → OfLine (subject_of (line_of deed)) k context s turns
+      → IsPlaced (slots session) s.number deed → steps_of turns ≡ steps_for s deed → OfLine (subject_of (line_of deed)) k context s turns
   by_deed false k context s (Connecting admin user host) turns a r may placed steps =
       one_line None k context s turns (Connects admin user host) steps (of_connect admin user host k (turned context) s (turned_sums m flags slots facts session content k context s r) may.2 placed)
   by_deed false k context s (Starting subject) turns a r may placed steps =
@@ -226,7 +225,7 @@ module _ (m : MergeIsMonoid) (flags : ℕ → ℕ → ℕ) (slots : ℕ → Opti
       one_line None k context s turns SettlesHeld steps
       (of_settle None k context s (turned_sums m flags slots facts session content k context s r) (subst (λ z. Ascend (owed_in z s.held)) (sym a.nowhere) tt))
 
-added_more : (amounts : Opened → Stat) (content : ℕ → ℕ → List ℕ) (xs ys : List Placed) → AreAdded amounts content xs → AreAdded amounts content ys → AreAdded amounts content (xs ++ ys)
+pub added_more : (amounts : Opened → Stat) (content : ℕ → ℕ → List ℕ) (xs ys : List Placed) → AreAdded amounts content xs → AreAdded amounts content ys → AreAdded amounts content (xs ++ ys)
 added_more amounts content [] ys a b = b
 added_more amounts content (x ∷ xs) ys a b = (a.0, added_more amounts content xs ys a.1 b)
 
@@ -240,7 +239,7 @@ accounted m = λ flags slots facts session content over k context s parts stands
     all flags slots facts session content over k context s parts stands sums may are loads placed given contents where
       all : (flags : ℕ → ℕ → ℕ) (slots : ℕ → Option ℕ) (facts : ℕ → ℕ → Facts) (session : ℕ) (content : ℕ → ℕ → List ℕ) (over : Bool) (k : Clocked) (context : Context) (s : State)
           (parts : List Part) → Stands flags over context s → Sums flags slots facts session k context s → MayDoAll over s parts → AreParts s parts → AllLoadsAgree flags parts
-          → AllPlaced (slots session) s parts → AllFacts (facts session) k parts → AllContentsAgree content parts → IsAccounted flags slots facts session content k context s parts
+          → AllPlaced (slots session) s.number parts → AllFacts (facts session) k parts → AllContentsAgree content parts → IsAccounted flags slots facts session content k context s parts
       all flags slots facts session content over k context s [] stands sums may are loads placed given contents = record { added = λ phase. tt; once = λ phase h. refl; sums = sums }
       all flags slots facts session content over k context s (p ∷ ps) stands sums may are loads placed given contents =
           let w = written flags over context s p stands may.0 are.0 loads.0 in
@@ -250,7 +249,8 @@ accounted m = λ flags slots facts session content over k context s parts stands
           let b : Accounts flags slots facts session content (subject_of line) (turned context) (turns_entries p.turns) then (state_after s p.turns) =
           by_deed m flags slots facts session content over k context s p.deed p.turns stands sums may.0 placed.0 are.0.steps_are are.0.are_turns given.0 contents.0 in
           let r : IsAccounted flags slots facts session content then next (state_after s p.turns) ps =
-          all flags slots facts session content (is_over over p.deed) then next (state_after s p.turns) ps w.stands b.sums may.1 are.1 loads.1 placed.1 given.1 contents.1 in
+          all flags slots facts session content (is_over over p.deed) then next (state_after s p.turns) ps w.stands b.sums may.1 are.1 loads.1
+          (subst (λ z. AllPlaced (slots session) z ps) (sym (turns_number s p.turns are.0.are_turns)) placed.1) given.1 contents.1 in
           record {
             added = λ phase. added_more _ content _ _ (at_places (amount_by flags slots facts session) content phase session line (turned context) (turns_entries p.turns) b.added) (r.added phase);
             once = λ phase. once_lines phase session line (turned context) (turns_entries p.turns) _ _ b.once (r.once phase);
@@ -273,20 +273,3 @@ sums = record {
   nothing = λ flags slots facts session clocked context s a none. no_wait context.waiting
       (λ row. no_sum (amount_by flags slots facts session) (held_for row context.waiting) (sym (a.held row) ∙ ap (owed_to row) none));
 }
-
-pub whole : MergeIsMonoid → WholeLaw
-whole m = λ flags slots facts session content number stack depth parts may are loads placed given contents.
-    (let s : State = fresh number stack depth in
-    let agrees : Agrees flags empty s = record { slot = refl; opened = tt; held = refl; drawn = refl; wide = refl; low = tt } in
-    let starts : Sums flags slots facts session at_first empty s = sums.fresh flags slots facts session number stack depth in
-    let a : IsAccounted flags slots facts session content at_first empty s parts =
-    accounted m flags slots facts session content false at_first empty s parts agrees starts may are loads placed given contents in
-    let behind : Context = after_lines empty (lines_of parts) (entries_of parts) in
-    let j : Stands flags (over_behind false parts) behind (state_behind s parts) = (journaled flags false empty s parts agrees may are loads).stands in (
-      a,
-      λ over phase.
-          (let ended : IsOver behind (state_behind s parts) = subst (λ b. Stands flags b behind (state_behind s parts)) over j in
-          let none : behind.waiting ≡ [] =
-          sums.nothing flags slots facts session (clock_behind at_first parts) behind (state_behind s parts) a.sums (ap (λ z. owed_in z (state_behind s parts).held) ended.nowhere) in
-          subst (IsOnce [] (placed_lines phase session empty (lines_of parts) (entries_of parts))) none (a.once phase)),
-    ))

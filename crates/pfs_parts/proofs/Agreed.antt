@@ -4,7 +4,7 @@ use Rattle.pfs_event.specs.declared.entry.Entry.TheVariants as says
 use Rattle.pfs_levels.specs.Calls.{Call, Adds, Rings, Reads, Loads, Draws, Takes, Puts, Frees, Sets, Enters, Leaves, Meets}
 use Rattle.pfs_levels.specs.Joint.{At, Setting, Agrees, AllAgree}
 use Rattle.pfs_levels.specs.declared.answers.Added.TheVariants.{Counted, Held}
-use Rattle.pfs_model.specs.Contents.{Given, IsContent}
+use Rattle.pfs_model.specs.Contents.{Given, amount_of, IsContent}
 use Rattle.pfs_model.specs.Places.{Placed}
 use Rattle.pfs_parts.specs.Amounts.{ContentAgrees, ContentsAgree, IsAdded, ContentsLaw}
 
@@ -28,11 +28,11 @@ all_agree opening content log sets [] a = tt
 all_agree opening content log sets (call ∷ calls) a = (one_agrees opening content log sets call a.0, all_agree opening content log sets calls a.1)
 
 is_content : (given : Given) (content : ℕ → ℕ → List ℕ) (place : Placed) (row version : ℕ) → place.entry ≡ says.Add row version
-    → IsAdded (given.amount place.session) content place.context place.entry → IsContent given content place place.entry
+    → IsAdded (amount_of given place.session) content place.context place.entry → IsContent given content place place.entry
 is_content given content place row version e a =
     let whole : Placed = record { phase = place.phase; session = place.session; line = place.line; context = place.context; entry = says.Add row version } in
     let same : place ≡ whole = ap (λ z. record { phase = place.phase; session = place.session; line = place.line; context = place.context; entry = z }) e in
-    let added : IsAdded (given.amount whole.session) content whole.context whole.entry = subst (λ z. IsAdded (given.amount place.session) content place.context z) e a in
+    let added : IsAdded (amount_of given whole.session) content whole.context whole.entry = subst (λ z. IsAdded (amount_of given place.session) content place.context z) e a in
     let there : IsContent given content whole whole.entry = added in
     subst (λ (z : Placed). IsContent given content z z.entry) (sym same) there
 

@@ -1,16 +1,19 @@
 -- The law of a line, and of lines one after another.
-use Rattle.std.proofs.Common.{ℕ, ◌≡◌, Bool, true, false, List, [], ◌∷◌, refl, ap, ◌∙◌, subst}
+use Rattle.std.proofs.Common.{ℕ, ◌≡◌, Bool, true, false, List, [], ◌∷◌, Option, Some, None, refl, ap, ◌∙◌, subst}
 use Rattle.std.proofs.lemmas.Bool.{true≢false}
+use Rattle.pfs_event.specs.Verdicts.{is_let_through}
 use Rattle.pfs_event.specs.declared.entry.Entry.{Entry}
 use Rattle.pfs_levels.specs.Calls.{Call}
 use Rattle.pfs_model.specs.Contexts.{Context, after}
+use Rattle.pfs_session.specs.Ends.{Ends, EndsIn}
 use Rattle.pfs_session.specs.States.{State}
 use Rattle.pfs_session.specs.Turns.{Step, StartsEvent, EndsEvent, Spends, SettlesHeld, Connects, Quits, Does, Turn, AreTurns, state_after, steps_of, turns_calls, turns_entries}
+use Rattle.pfs_session.specs.declared.events.Numbers.{Numbers}
 use Rattle.pfs_parts.proofs.Pieces.{judged_then, numbered_then}
 use Rattle.pfs_parts.proofs.Written.{IsLine, written_by, starting_line, staging_line, stage_end_line, end_line, spend_line, connect_line, quit_line, close_line, over_line, ends_stack}
 use Rattle.pfs_parts.specs.Agreeing.{LoadsAgree, Stands}
 use Rattle.pfs_parts.specs.Deeds.{Deed, Connecting, Starting, Staging, StageEnding, Ending, Spending, Quitting, Closing, Part, MayDo, is_over, line_of, steps_for}
-use Rattle.pfs_parts.specs.Shaped.{WrittenLaw, IsJournaled, JournalLaw, AreParts, MayDoAll, AllLoadsAgree}
+use Rattle.pfs_parts.specs.Shaped.{WrittenLaw, IsJournaled, JournalLaw, AreParts, MayDoAll, AllLoadsAgree, state_behind}
 
 by_deed : (flags : ℕ → ℕ → ℕ) (over : Bool) (context : Context) (s : State) (deed : Deed) (turns : List Turn) → Stands flags over context s → MayDo over s deed → AreTurns s turns
     → steps_of turns ≡ steps_for s deed → LoadsAgree flags (turns_calls turns)
@@ -49,6 +52,34 @@ does_stack s (Quits admin) calls entries after d = ap (λ (z : State). z.stack) 
 pub turns_stack : (s : State) (turns : List Turn) → AreTurns s turns → (state_after s turns).stack ≡ s.stack
 turns_stack s [] are = refl
 turns_stack s (t ∷ ts) are = does_stack (state_after s ts) t.step t.calls t.entries t.after are.0 ∙ turns_stack s ts are.1
+
+-- nor does any change the session's number
+ends_number : (s : State) (numbers : Numbers) (calls : List Call) (entries : List Entry) (after : State) → Ends s numbers calls entries after → after.number ≡ s.number
+ends_number s numbers calls entries after e = by_case s.place.thread (is_let_through e.what.verdict) e.ends where
+  by_case : (slot : Option ℕ) (b : Bool) → EndsIn s slot b e.what e.others numbers calls entries after → after.number ≡ s.number
+  by_case slot false x = ap (λ (z : State). z.number) x.after_is
+  by_case None true x = absurd x
+  by_case (Some slot) true x = ap (λ (z : State). z.number) x.after_is
+
+does_number : (s : State) (step : Step) (calls : List Call) (entries : List Entry) (after : State) → Does s step calls entries after → after.number ≡ s.number
+does_number s (StartsEvent subject) calls entries after d = ap (λ (z : State). z.number) d.after_is
+does_number s (EndsEvent numbers) calls entries after d = ends_number s numbers calls entries after d
+does_number s (Spends time) calls entries after d = ap (λ (z : State). z.number) d.2
+does_number s SettlesHeld calls entries after d = ap (λ (z : State). z.number) d.after_is
+does_number s (Connects admin user host) calls entries after d = ap (λ (z : State). z.number) d.1
+does_number s (Quits admin) calls entries after d = ap (λ (z : State). z.number) d.1
+
+pub turns_number : (s : State) (turns : List Turn) → AreTurns s turns → (state_after s turns).number ≡ s.number
+turns_number s [] are = refl
+turns_number s (t ∷ ts) are = does_number (state_after s ts) t.step t.calls t.entries t.after are.0 ∙ turns_number s ts are.1
+
+pub parts_number : (s : State) (parts : List Part) → AreParts s parts → (state_behind s parts).number ≡ s.number
+parts_number s [] are = refl
+parts_number s (p ∷ ps) are = parts_number (state_after s p.turns) ps are.1 ∙ turns_number s p.turns are.0.are_turns
+
+pub parts_stack : (s : State) (parts : List Part) → AreParts s parts → (state_behind s parts).stack ≡ s.stack
+parts_stack s [] are = refl
+parts_stack s (p ∷ ps) are = parts_stack (state_after s p.turns) ps are.1 ∙ turns_stack s p.turns are.0.are_turns
 
 pub journaled : JournalLaw
 journaled = λ flags over context s parts stands may are loads. all flags over context s parts stands may are loads where

@@ -19,3 +19,6 @@ pub mod Accounting
 pub mod Examples
 pub mod Agreed
 pub mod Given
+pub mod Stinting
+pub mod Through
+pub mod Journals

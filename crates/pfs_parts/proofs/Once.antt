@@ -136,6 +136,13 @@ brought_both : (xs ys : List Placed) → brought_in (xs ++ ys) ≡ brought_in xs
 brought_both [] ys = refl
 brought_both (x ∷ xs) ys = ap (λ z. brought_at x.context x.entry ++ z) (brought_both xs ys) ∙ sym (append_assoc (brought_at x.context x.entry) (brought_in xs) (brought_in ys))
 
+-- places behind others
+pub once_both : (xs ys : List Placed) (before mid behind : List Waiting) → IsOnce before xs mid → IsOnce mid ys behind → IsOnce before (xs ++ ys) behind
+once_both xs ys before mid behind p q = λ h.
+    let a : total h (counted_in (xs ++ ys)) ≡ total h (counted_in xs) + total h (counted_in ys) = ap (total h) (counted_both xs ys) ∙ total_both h (counted_in xs) (counted_in ys) in
+    let b : total h (brought_in (xs ++ ys)) ≡ total h (brought_in xs) + total h (brought_in ys) = ap (total h) (brought_both xs ys) ∙ total_both h (brought_in xs) (brought_in ys) in
+    omega (arith, p h, q h, a, b)
+
 -- one line behind others
 pub once_lines : (phase session : ℕ) (line : Line) (context : Context) (entries : List Entry) (places : List Placed) (behind : List Waiting) → OnceBy (subject_of line) context entries
     → IsOnce (after_entries (subject_of line) context entries).waiting places behind → IsOnce context.waiting (placed_part phase session line context entries ++ places) behind

@@ -10,25 +10,26 @@ use Rattle.pfs_event.specs.declared.open.Open.{Open}
 use Rattle.pfs_levels.specs.Calls.{Call, Adds, Rings, Reads, Loads, Draws, Takes, Puts, Frees, Sets, Enters, Leaves, Meets}
 use Rattle.pfs_levels.specs.Contents.{merged}
 use Rattle.pfs_levels.specs.declared.answers.Added.TheVariants.{Counted, Held}
-use Rattle.pfs_model.specs.Contents.{Facts, Given, amount_by, IsNext, IsContent}
+use Rattle.pfs_model.specs.Contents.{Facts, Given, amount_by, amount_of, IsNext, IsContent}
 use Rattle.pfs_model.specs.Contents.{merged as all_merged}
 use Rattle.pfs_levels.specs.Joint.{total, At, Setting, AllAgree}
 use Rattle.pfs_model.specs.Asks.{cell_row}
 use Rattle.pfs_model.specs.Contexts.{Context, Waiting, brought, held_for}
 use Rattle.pfs_model.specs.Contexts.{fresh as empty}
-use Rattle.pfs_model.specs.Places.{Placed, placed_lines, after_lines}
+use Rattle.pfs_model.specs.Places.{Placed, placed_lines, after_lines, told_by, by_session, places}
 use Rattle.pfs_model.specs.Shapes.{counted_slot}
 use Rattle.pfs_model.specs.declared.lines.Opened.{Opened}
 use Rattle.pfs_session.specs.Ends.{numbers_for, with_held}
 use Rattle.pfs_session.specs.Settles.{owed_by_state}
 use Rattle.pfs_session.specs.States.{State, Owed, fresh}
-use Rattle.pfs_session.specs.Turns.{Step, StartsEvent, EndsEvent, Spends, SettlesHeld, Connects, Quits, state_after, steps_of}
+use Rattle.pfs_session.specs.Turns.{Step, StartsEvent, EndsEvent, Spends, SettlesHeld, Connects, Quits, steps_of}
 use Rattle.pfs_session.specs.declared.events.Numbers.{Numbers}
 use Rattle.pfs_stat.specs.Stat.{words_of, stat_of_words}
 use Rattle.pfs_stat.specs.declared.Stat.{Stat}
 use Rattle.pfs_parts.specs.Agreeing.{Stands}
 use Rattle.pfs_parts.specs.Deeds.{Deed, Connecting, Starting, Staging, StageEnding, Ending, Spending, Quitting, Closing, Part, part_calls}
-use Rattle.pfs_parts.specs.Shaped.{AreParts, MayDoAll, AllLoadsAgree, lines_of, entries_of, state_behind, over_behind}
+use Rattle.pfs_parts.specs.Shaped.{AreParts, MayDoAll, AllLoadsAgree, lines_of, entries_of, state_behind}
+use Rattle.pfs_parts.specs.Stints.{Stint, AreStints, blocks_of, parts_by, state_by, over_by}
 
 -- an event that has started and not ended: its position among the session's starts, its kind, the clock at its start
 pub record Going : Type 0 where
@@ -158,20 +159,20 @@ abbrev pub AllContentsAgree : (ℕ → ℕ → List ℕ) → List Part → Type 
 AllContentsAgree content [] = Unit {0}
 AllContentsAgree content (p ∷ ps) = ContentsAgree content (part_calls p) × AllContentsAgree content ps
 
--- a session gets this slot when it connects
-abbrev pub IsPlaced : Option ℕ → State → Deed → Type 0
-IsPlaced slot s (Connecting admin user host) = (placed_of (seat_at admin s.number user host)).thread ≡ slot
-IsPlaced slot s (Starting subject) = Unit {0}
-IsPlaced slot s (Staging subject) = Unit {0}
-IsPlaced slot s StageEnding = Unit {0}
-IsPlaced slot s (Ending numbers) = Unit {0}
-IsPlaced slot s (Spending time) = Unit {0}
-IsPlaced slot s (Quitting admin) = Unit {0}
-IsPlaced slot s Closing = Unit {0}
+-- a session of this number gets this slot when it connects
+abbrev pub IsPlaced : Option ℕ → ℕ → Deed → Type 0
+IsPlaced slot number (Connecting admin user host) = (placed_of (seat_at admin number user host)).thread ≡ slot
+IsPlaced slot number (Starting subject) = Unit {0}
+IsPlaced slot number (Staging subject) = Unit {0}
+IsPlaced slot number StageEnding = Unit {0}
+IsPlaced slot number (Ending numbers) = Unit {0}
+IsPlaced slot number (Spending time) = Unit {0}
+IsPlaced slot number (Quitting admin) = Unit {0}
+IsPlaced slot number Closing = Unit {0}
 
-abbrev pub AllPlaced : Option ℕ → State → List Part → Type 0
-AllPlaced slot s [] = Unit {0}
-AllPlaced slot s (p ∷ ps) = IsPlaced slot s p.deed × AllPlaced slot (state_after s p.turns) ps
+abbrev pub AllPlaced : Option ℕ → ℕ → List Part → Type 0
+AllPlaced slot number [] = Unit {0}
+AllPlaced slot number (p ∷ ps) = IsPlaced slot number p.deed × AllPlaced slot number ps
 
 -- an addition makes its row's content of the one before, by all events that it brings there
 abbrev pub IsAdded : (Opened → Stat) → (ℕ → ℕ → List ℕ) → Context → Entry → Type 0
@@ -238,7 +239,7 @@ abbrev pub AmountsLaw : Type 0
 AmountsLaw = (flags : ℕ → ℕ → ℕ) (slots : ℕ → Option ℕ) (facts : ℕ → ℕ → Facts) (session : ℕ)
     (content : ℕ → ℕ → List ℕ) (over : Bool) (clocked : Clocked) (context : Context) (s : State) (parts : List Part)
     → Stands flags over context s → Sums flags slots facts session clocked context s → MayDoAll over s parts
-    → AreParts s parts → AllLoadsAgree flags parts → AllPlaced (slots session) s parts
+    → AreParts s parts → AllLoadsAgree flags parts → AllPlaced (slots session) s.number parts
     → AllFacts (facts session) clocked parts → AllContentsAgree content parts
     → IsAccounted flags slots facts session content clocked context s parts
 
@@ -250,17 +251,25 @@ pub record SumsLaw : Type 0 where
       (context : Context) (s : State) → Sums flags slots facts session clocked context s → owed_by_state s ≡ []
       → context.waiting ≡ []
 
--- of a session from its beginning on, whose lines stand in one phase: it accounts for them, and once it has ended, each
--- event that ended and counts was brought just once, to its row, and nothing else was brought
+-- of a session through all its phases: each addition of its journal brings its row exactly the events that the journal
+-- says; each event that ended and counts was brought once to its row, or waits for it, and the session holds exactly
+-- what waits; and once it has ended, each such event was brought just once, to its row, and nothing else was brought
+pub record IsWhole (flags : ℕ → ℕ → ℕ) (slots : ℕ → Option ℕ) (facts : ℕ → ℕ → Facts) (content : ℕ → ℕ → List ℕ)
+    (s : State) (session : ℕ) (stints : List Stint) : Type 0 where
+  pub added : AreAdded (amount_by flags slots facts session) content (by_session session (places (blocks_of stints)))
+  pub once : IsOnce [] (by_session session (places (blocks_of stints)))
+      (told_by session empty (blocks_of stints)).waiting
+  pub sums : Sums flags slots facts session (clock_behind at_first (parts_by session stints))
+      (told_by session empty (blocks_of stints)) (state_by session s stints)
+  pub ended : over_by session false stints ≡ true → IsOnce [] (by_session session (places (blocks_of stints))) []
+
+-- of each session among those that run
 abbrev pub WholeLaw : Type 0
-WholeLaw = (flags : ℕ → ℕ → ℕ) (slots : ℕ → Option ℕ) (facts : ℕ → ℕ → Facts) (session : ℕ)
-    (content : ℕ → ℕ → List ℕ) (number stack depth : ℕ) (parts : List Part)
-    → MayDoAll false (fresh number stack depth) parts → AreParts (fresh number stack depth) parts
-    → AllLoadsAgree flags parts → AllPlaced (slots session) (fresh number stack depth) parts
-    → AllFacts (facts session) at_first parts → AllContentsAgree content parts
-    → IsAccounted flags slots facts session content at_first empty (fresh number stack depth) parts
-    × (over_behind false parts ≡ true → (phase : ℕ)
-    → IsOnce [] (placed_lines phase session empty (lines_of parts) (entries_of parts)) [])
+WholeLaw = (flags : ℕ → ℕ → ℕ) (slots : ℕ → Option ℕ) (facts : ℕ → ℕ → Facts) (content : ℕ → ℕ → List ℕ)
+    (stack : ℕ) (depths : ℕ → ℕ) (session : ℕ) (stints : List Stint) → AreStints stack depths stints
+    → AllLoadsAgree flags (parts_by session stints) → AllPlaced (slots session) session (parts_by session stints)
+    → AllFacts (facts session) at_first (parts_by session stints) → AllContentsAgree content (parts_by session stints)
+    → IsWhole flags slots facts content (fresh session stack (depths session)) session stints
 
 -- whatever a session does from its beginning on has facts
 abbrev pub FactsLaw : Type 0
@@ -273,5 +282,5 @@ pub record ContentsLaw : Type 0 where
       → AllAgree opening content log sets calls → ContentsAgree content calls
   pub ask : (given : Given) (content : ℕ → ℕ → List ℕ) (place : Placed) (row version : ℕ)
       → place.entry ≡ says.Add row version
-      → IsAdded (given.amount place.session) content place.context place.entry
+      → IsAdded (amount_of given place.session) content place.context place.entry
       → IsContent given content place place.entry

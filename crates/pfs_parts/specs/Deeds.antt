@@ -1,5 +1,5 @@
 -- What the lines of a session make it do, and the parts of its journal that this gives.
-use Rattle.std.specs.Prelude.{ℕ, ◌≡◌, ◌⊎◌, ◌<◌, Bool, true, false, List, [], ◌∷◌, ◌++◌, Some, None, IfSome}
+use Rattle.std.specs.Prelude.{ℕ, ◌≡◌, ◌⊎◌, ◌<◌, Bool, true, false, ◌+◌, List, [], ◌∷◌, ◌++◌, Option, Some, None, IfSome}
 use Rattle.pfs_admin.specs.Asks.{placed_of}
 use Rattle.pfs_admin.specs.States.{seat_at}
 use Rattle.pfs_admin.specs.States.{State as Administration}
@@ -35,6 +35,17 @@ line_of (Spending time) = lines.Spend
 line_of (Quitting admin) = lines.Quit
 line_of Closing = lines.Close
 
+-- the number of its action, by the administration; None of a line that is none
+abbrev pub action_of : Deed → Option ℕ
+action_of (Connecting admin user host) = Some (admin.actions + 1)
+action_of (Quitting admin) = Some (admin.actions + 1)
+action_of (Starting subject) = None
+action_of (Staging subject) = None
+action_of StageEnding = None
+action_of (Ending numbers) = None
+action_of (Spending time) = None
+action_of Closing = None
+
 -- the steps that a session does at it: a stage that is open ends before another starts, and before its statement ends;
 -- what is held is settled before the session ends and at the end of its block
 abbrev pub steps_for : State → Deed → List Step
@@ -57,6 +68,11 @@ part_calls p = turns_calls p.turns
 
 abbrev pub part_entries : Part → List Entry
 part_entries p = turns_entries p.turns
+
+-- newest first; parts stand in order
+abbrev pub parts_calls : List Part → List Call
+parts_calls [] = []
+parts_calls (p ∷ ps) = parts_calls ps ++ part_calls p
 
 pub record IsPart (s : State) (p : Part) : Type 0 where
   pub are_turns : AreTurns s p.turns

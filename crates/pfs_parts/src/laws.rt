@@ -2,6 +2,7 @@
 
 ghost use Rattle.pfs_parts.specs.Amounts.{AmountsLaw, ContentsLaw, FactsLaw, SumsLaw, WholeLaw};
 ghost use Rattle.pfs_parts.specs.Shaped.{FreshLaw, JournalLaw, WrittenLaw};
+ghost use Rattle.pfs_parts.specs.Stints.{JournalsLaw, StintsLaw};
 
 /// What a session writes at a line is what the line asks for, each verdict is that of the flags that were loaded, each
 /// event has its numbers, and the session stands behind it as its journal tells.
@@ -12,6 +13,11 @@ pub fn written()
 /// The same of lines one after another within a phase, as the rules of a journal have it.
 pub fn journaled()
     ensures { JournalLaw }
+{}
+
+/// The same of all blocks of any number of sessions, phase by phase, whatever their store.
+pub fn journals()
+    ensures { JournalsLaw }
 {}
 
 /// A session that begins stands as an empty journal tells.
@@ -27,8 +33,8 @@ pub fn amounts()
     pfs_stat::laws::merge();
 }
 
-/// The same of a session from its beginning on, whose lines stand in one phase; once it has ended, each ended
-/// let-through event was brought just once, to its row, and nothing else was brought.
+/// The same of each session from its beginning on, through all its phases and among any others; once it has ended, each
+/// ended let-through event was brought just once, to its row, and nothing else was brought.
 pub fn whole()
     ensures { WholeLaw }
 {
@@ -44,6 +50,11 @@ pub fn sums()
 /// the rules of a journal ask for.
 pub fn contents()
     ensures { ContentsLaw }
+{}
+
+/// Whatever sessions do phase by phase, each going on as it was left, each stint is done by a session of its number.
+pub fn stints()
+    ensures { StintsLaw }
 {}
 
 /// Whatever a session does from its beginning on has facts.

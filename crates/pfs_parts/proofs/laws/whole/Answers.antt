@@ -1,4 +1,4 @@
-use Rattle.pfs_parts.proofs.Accounting.{whole}
+use Rattle.pfs_parts.proofs.Through.{whole}
 use Rattle.pfs_parts.proofs.laws.whole.Goals as goal
 
 pub returns : goal.returns
