@@ -1,12 +1,14 @@
-"""Runs of a program with their times and their peak of memory, for the scripts of this folder. It wants Linux and a
-shell."""
+"""Runs of a program with their times and their peak of memory, and programs made for them, for the scripts of this
+folder. It wants Linux, a shell and, where a program is made, `rt`."""
 import ctypes
 import os
 import pathlib
+import shutil
 import subprocess
 import sys
 
 PR_SET_CHILD_SUBREAPER = 36
+TOP = pathlib.Path(__file__).resolve().parent.parent
 
 
 def keep_orphans():
@@ -38,3 +40,41 @@ class Run:
 def best(command, source, target):
     """Of five runs the one with the least time."""
     return min((Run(command, source, target) for _ in range(5)), key=lambda run: run.time)
+
+
+def needed(stands_on):
+    """The lines of crates.txt of the repository's crates among these names and below them."""
+    lines = [line.split("#")[0] for line in (TOP / "crates.txt").read_text().splitlines()]
+    below = {name.strip(): words.split() for name, _, words in (line.partition(":") for line in lines) if name.strip()}
+    found = {}
+    names = stands_on.split()
+    while names:
+        name = names.pop()
+        if name in below and name not in found:
+            found[name] = f"{name}: {' '.join(below[name])}\n"
+            names += below[name]
+    return found
+
+
+def built(folder, name, stands_on, main):
+    """A program of this text over these crates, built in the folder."""
+    crates = folder / "crates"
+    (crates / name / "src").mkdir(parents=True)
+    lines = needed(stands_on)
+    for below in lines:
+        shutil.copytree(TOP / "crates" / below, crates / below)
+    (folder / "HANDLES").write_bytes((TOP / "HANDLES").read_bytes())
+    (folder / "crates.txt").write_text("".join(lines.values()) + f"{name}: {stands_on}\n")
+    (crates / name / "src/main.rt").write_text(main)
+    made = subprocess.run(
+        ["rt", "run"],
+        cwd=crates / name,
+        stdin=subprocess.DEVNULL,
+        stdout=subprocess.PIPE,
+        stderr=subprocess.STDOUT,
+        text=True,
+    )
+    program = crates / name / "out" / name
+    if not program.exists():
+        sys.exit(f"{name}: it was not built:\n{made.stdout[-4000:]}")
+    return str(program)

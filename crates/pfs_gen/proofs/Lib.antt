@@ -1,3 +1,10 @@
+mod Counting
+mod Coursing
 mod Drawing
 mod Examples
+mod Fixing
+mod Goes
+mod Leading
 mod Ranges
+mod Scripts
+mod Spelling

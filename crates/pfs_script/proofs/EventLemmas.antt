@@ -14,7 +14,7 @@ use Rattle.pfs_script.specs.declared.blocks.BlockLine.TheVariants as lines
 use Rattle.pfs_script.specs.declared.blocks.Phase.{Phase}
 use Rattle.pfs_script.specs.Marks.{Mark, Opens, Ends, EndsStage, Passes, mark_of}
 use Rattle.pfs_script.specs.Brackets.{deeper, depth_behind, closes, closing_from, Bracket, brackets_from, brackets_of}
-use Rattle.pfs_script.specs.Events.{Event, Subject, time_of, subject_of, line_at, passed_between, event_of, as_list, events_of, lines_for, events_for}
+use Rattle.pfs_script.specs.Events.{Event, Subject, time_of, subject_of, line_at, passed_between, numbers_at, event_of, as_list, events_of, lines_for, events_for}
 use Rattle.pfs_script.specs.EventRules.{bracket_of, AreEvents}
 
 -- brackets
@@ -261,6 +261,9 @@ lasts_of all event closed m = subst (λ (one : Event). LastsTo all closed one) m
 unclosed_of : (all : List BlockLine) (event : Event) → IsMade all event → event.closed ≡ None → event.lasted ≡ None
 unclosed_of all event m = subst (λ (one : Event). one.closed ≡ None → one.lasted ≡ None) m.made (λ c. ap (option_map (passed_between all m.bracket.opened)) c)
 
+numbers_of : (all : List BlockLine) (event : Event) → IsMade all event → event.numbers ≡ numbers_at all event.subject.kind event.closed
+numbers_of all event m = subst (λ (one : Event). one.numbers ≡ numbers_at all one.subject.kind one.closed) m.made refl
+
 -- an event's bracket
 bracket_at : (all : List BlockLine) (i : ℕ) (event : Event) → slice_get (events_of all) i ≡ Some event → slice_get (brackets_of (map mark_of all)) i ≡ Some (bracket_of event)
 bracket_at all i event e =
@@ -279,6 +282,7 @@ are_events all = record {
   later = later_of all;
   clock = λ i event e. clock_of all event (event_made all i event e);
   lasts = λ i event closed e c. let range = later_of all i event closed e c in lasts_of all event closed (event_made all i event e) c (omega (arith, range.0));
+  numbers = λ i event e. numbers_of all event (event_made all i event e);
   unclosed = λ i event e c. unclosed_of all event (event_made all i event e) c;
   order = λ i j a b ea eb lt. in_order 0 (map mark_of all) i j (bracket_of a) (bracket_of b) (bracket_at all i a ea) (bracket_at all j b eb) lt;
   nested = λ i j a b closed ea eb lt c. nested_from 0 (map mark_of all) i j (bracket_of a) (bracket_of b) closed (bracket_at all i a ea) (bracket_at all j b eb) lt c;

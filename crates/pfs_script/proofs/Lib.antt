@@ -2,6 +2,7 @@ pub mod AppearanceLemmas
 pub mod BaseLemmas
 pub mod Behind
 pub mod BlockLemmas
+pub mod BlockNesting
 pub mod CountLemmas
 pub mod Clean
 pub mod Coursing
@@ -29,6 +30,7 @@ pub mod ReferLemmas
 pub mod RegisterLemmas
 pub mod RunLemmas
 pub mod SessionNaming
+pub mod SessionNesting
 pub mod SetLemmas
 pub mod Splits
 pub mod Steps

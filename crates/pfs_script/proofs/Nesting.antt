@@ -430,7 +430,7 @@ follows_same one other (mark ∷ marks) same follows =
     ((first, rest.0), ap (λ m. kinds_of (open_in m)) (sym (append_assoc one (mark ∷ []) marks)) ∙ rest.1 ∙ ap (λ m. kinds_of (open_in m)) (append_assoc other (mark ∷ []) marks))
 
 -- marks behind marks
-follows_append : (before one other : List Mark) → Follows before one → Follows (before ++ one) other → Follows before (one ++ other)
+pub follows_append : (before one other : List Mark) → Follows before one → Follows (before ++ one) other → Follows before (one ++ other)
 follows_append before [] other first second = let P : List Mark → Type 0 = λ m. Follows m other in subst P (append-nil before) second
 follows_append before (mark ∷ one) other first second =
     let P : List Mark → Type 0 = λ m. Follows m other in

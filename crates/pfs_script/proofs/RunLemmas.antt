@@ -1,11 +1,9 @@
 -- The phases of a script's lines can be run.
 use Rattle.std.proofs.Common.{ℕ, zero, suc, ◌≡◌, ◌<◌, ◌≤◌, ◌+◌, Bool, true, false, ◌||◌, ◌&&◌, not, cond, List, [], ◌∷◌, ◌++◌, Option, Some, None, refl, ap, sym, ◌∙◌, subst, length, get_or, map, nat_lt, nat_le, append_assoc, append-nil, ◌⊎◌, inl, inr, arith}
-use Rattle.std.specs.Prelude.{count_by, option_map, if◌then◌else◌, Contains, codes}
+use Rattle.std.specs.Prelude.{count_by, option_map, Contains}
 use Rattle.std.specs.List.{list_any, All}
-use Rattle.std.specs.Str.{bytes_eq}
 use Rattle.std.proofs.lemmas.Bool.Decides.{nat_tests}
 use Rattle.std.proofs.lemmas.List.Elements.{All-cons}
-use Rattle.std.proofs.lemmas.List.Folds.{list_any-append}
 use Rattle.pfs_classes.specs.declared.classes.ClassRef.{ClassRef}
 use Rattle.pfs_classes.specs.declared.classes.ClassRef.TheVariants as refs
 use Rattle.pfs_script.specs.declared.forms.Form.{Form}
@@ -15,27 +13,25 @@ use Rattle.pfs_script.specs.declared.blocks.BlockLine.TheVariants as said
 use Rattle.pfs_classes.specs.declared.setting.Setting.{Setting}
 use Rattle.pfs_script.specs.declared.blocks.Block.{Block}
 use Rattle.pfs_script.specs.declared.blocks.Phase.{Phase}
-use Rattle.pfs_script.specs.Headings.{head_of, resolved, is_known, is_builtin, is_class_named}
-use Rattle.pfs_script.specs.declared.reasons.Extent.TheVariants.{Built}
+use Rattle.pfs_script.specs.Headings.{head_of, resolved}
+use Rattle.pfs_script.specs.declared.reasons.Extent.TheVariants.{Whole, Built}
 use Rattle.pfs_script.specs.Finds.{digest_place}
 use Rattle.pfs_script.specs.Sessions.{is_phase, is_session, is_block_of, ends_block, phase_of}
-use Rattle.pfs_script.specs.Next.{is_blockless, is_event_class, is_bad_nesting, mark_of_form, session_kinds, kinds_open, same_kinds, one_each}
+use Rattle.pfs_script.specs.Next.{is_event_class, mark_of_form, session_kinds, kinds_open, one_each}
 use Rattle.pfs_script.specs.SessionNames.{names_of, connect_of}
 use Rattle.pfs_script.specs.Blocks.{Sense, sense_of, with_front, statement_numbers, block_line, block_lines, block_behind, blocks_of, phases_of}
 use Rattle.pfs_script.specs.Runnable as run
 use Rattle.pfs_script.specs.Scripts.{Begins, IsScript}
-use Rattle.pfs_event.specs.declared.kind.EventKind.{EventKind}
-use Rattle.pfs_script.specs.Marks.{mark_of, Passes as Passing}
-use Rattle.pfs_script.specs.Brackets.{brackets_from, open_in, kinds_of, kinds_behind, may_stand}
-use Rattle.pfs_script.specs.Nested.{IsNested}
-use Rattle.pfs_script.specs.Counts.{behind_last, ahead_of_last, is_repeat, is_done, is_in_repeat, counted}
-use Rattle.pfs_script.proofs.Behind.{count_more, any_more, ahead_more, in_repeat-begun, in_repeat-done, in_repeat-same, counted_none}
-use Rattle.pfs_script.proofs.Turns.{now_more, lines_ends, lines_none, open_more}
-use Rattle.pfs_script.proofs.Coursing.{phase_new, phase_same, stands}
-use Rattle.pfs_script.proofs.Opening.{same_all}
+use Rattle.pfs_script.specs.Brackets.{brackets_from, open_in, kinds_of}
+use Rattle.pfs_script.specs.Counts.{behind_last, counted}
+use Rattle.pfs_script.proofs.Behind.{count_more, any_more, counted_none}
+use Rattle.pfs_script.proofs.Turns.{now_more, lines_ends, lines_none}
+use Rattle.pfs_script.proofs.Coursing.{phase_new, phase_same}
+use Rattle.pfs_script.proofs.BlockNesting as blocks
+use Rattle.pfs_script.proofs.BlockNesting.{event_other, start_session, nest}
 use Rattle.pfs_script.proofs.Writing.{written_short}
 use Rattle.pfs_script.proofs.Faultless.{Passes, passes}
-use Rattle.pfs_script.proofs.ReferLemmas.{known_resolved, resolved_within}
+use Rattle.pfs_script.proofs.ReferLemmas.{resolved_within}
 use Rattle.pfs_script.proofs.Taking.{next_none}
 
 -- behind the lines before them, none of these lines has a fault
@@ -64,27 +60,6 @@ first_false false b h = refl
 second_false : (a b : Bool) → (a || b) ≡ false → b ≡ false
 second_false true b h = cc
 second_false false b h = h
-
-both_first : (a b : Bool) → (a && b) ≡ true → a ≡ true
-both_first true b h = refl
-both_first false b h = cc
-
-both_second : (a b : Bool) → (a && b) ≡ true → b ≡ true
-both_second true b h = h
-both_second false b h = cc
-
-not_false : (b : Bool) → not b ≡ false → b ≡ true
-not_false true h = refl
-not_false false h = cc
-
-not_true : (b : Bool) → not b ≡ true → b ≡ false
-not_true true h = cc
-not_true false h = refl
-
-or_longer : (a b c : Bool) → (a || b) ≡ true → (a || (b || c)) ≡ true
-or_longer true b c h = refl
-or_longer false true c h = refl
-or_longer false false c h = cc
 
 or_true : (a : Bool) → (a || true) ≡ true
 or_true true = refl
@@ -243,84 +218,26 @@ module _ (sense : Sense) where
         | inr p ↦ rw p (apart_front sense before line lines (blocks_of sense lines) s.0 p (apart (before ++ line ∷ []) lines s.1))
       ]
 
--- known classes
+-- what the engine runs is a whole script
 
-known_longer : (before more : List Form) (name : List ℕ) → is_known before name ≡ true → is_known (before ++ more) name ≡ true
-unfolding is_known
-known_longer before more name h = rw (list_any-append (is_class_named name) before more) (or_longer (is_builtin name) (list_any (is_class_named name) before) (list_any (is_class_named name) more) h)
+whole_passes : (before : List Form) (line : Form) → Passes Built before line → Passes Whole before line
+whole_passes before line p = record {
+  let_in = refl;
+  place = p.place;
+  number = p.number;
+  session = p.session;
+  known = p.known;
+  limit = p.limit;
+  nesting = p.nesting;
+  long = p.long;
+  statement = p.statement;
+  much = p.much;
+  tables = p.tables;
+}
 
-event_known : (before : List Form) (class : List ℕ) → not (is_event_class before class) ≡ false → is_known before class ≡ true
-event_known before class h = both_first (is_known before class) (not (bytes_eq class (codes "transaction"))) (not_false (is_event_class before class) h)
-
-event_other : (before : List Form) (class : List ℕ) → not (is_event_class before class) ≡ false → bytes_eq class (codes "transaction") ≡ false
-event_other before class h = not_true (bytes_eq class (codes "transaction")) (both_second (is_known before class) (not (bytes_eq class (codes "transaction"))) (not_false (is_event_class before class) h))
-
--- events that nest
-
--- the line neither begins a repeat nor ends one
-abbrev IsPlain : BlockLine → Type 0
-IsPlain (said.Wait class) = Unit {0}
-IsPlain (said.TableWait class table) = Unit {0}
-IsPlain (said.Statement class digest) = Unit {0}
-IsPlain (said.Transaction access) = Unit {0}
-IsPlain (said.Stage class) = Unit {0}
-IsPlain said.StageEnd = Unit {0}
-IsPlain (said.Spend time) = Unit {0}
-IsPlain (said.Sql text) = Unit {0}
-IsPlain said.Quit = Unit {0}
-IsPlain said.End = Unit {0}
-IsPlain (said.EndStatement numbers) = Unit {0}
-IsPlain (said.Repeat times) = ⊥
-IsPlain said.Done = ⊥
-
-plain_nested : (kinds : List EventKind) (start : Option (List EventKind)) (line : BlockLine) (more : List BlockLine) → IsPlain line → may_stand kinds (mark_of line) ≡ true → IsNested (kinds_behind (mark_of line) kinds) start more → IsNested kinds start (line ∷ more)
-unfolding IsNested
-plain_nested kinds None (said.Wait class) more plain may rest = (may, rest)
-plain_nested kinds None (said.TableWait class table) more plain may rest = (may, rest)
-plain_nested kinds (Some first) (said.Wait class) more plain may rest = (may, rest)
-plain_nested kinds (Some first) (said.TableWait class table) more plain may rest = (may, rest)
-plain_nested kinds None (said.Statement class digest) more plain may rest = (may, rest)
-plain_nested kinds (Some first) (said.Statement class digest) more plain may rest = (may, rest)
-plain_nested kinds None (said.Transaction access) more plain may rest = (may, rest)
-plain_nested kinds (Some first) (said.Transaction access) more plain may rest = (may, rest)
-plain_nested kinds None (said.Stage class) more plain may rest = (may, rest)
-plain_nested kinds (Some first) (said.Stage class) more plain may rest = (may, rest)
-plain_nested kinds None said.StageEnd more plain may rest = (may, rest)
-plain_nested kinds (Some first) said.StageEnd more plain may rest = (may, rest)
-plain_nested kinds None (said.Spend time) more plain may rest = (may, rest)
-plain_nested kinds (Some first) (said.Spend time) more plain may rest = (may, rest)
-plain_nested kinds None (said.Sql text) more plain may rest = (may, rest)
-plain_nested kinds (Some first) (said.Sql text) more plain may rest = (may, rest)
-plain_nested kinds None said.Quit more plain may rest = (may, rest)
-plain_nested kinds (Some first) said.Quit more plain may rest = (may, rest)
-plain_nested kinds None said.End more plain may rest = (may, rest)
-plain_nested kinds (Some first) said.End more plain may rest = (may, rest)
-plain_nested kinds None (said.EndStatement numbers) more plain may rest = (may, rest)
-plain_nested kinds (Some first) (said.EndStatement numbers) more plain may rest = (may, rest)
-plain_nested kinds start (said.Repeat times) more plain may rest = absurd plain
-plain_nested kinds start said.Done more plain may rest = absurd plain
-
-repeat_nested : (kinds : List EventKind) (times : ℕ) (more : List BlockLine) → IsNested kinds (Some kinds) more → IsNested kinds None (said.Repeat times ∷ more)
-unfolding IsNested
-repeat_nested kinds times more rest = rest
-
-done_nested : (kinds start : List EventKind) (more : List BlockLine) → kinds ≡ start → IsNested kinds None more → IsNested kinds (Some start) (said.Done ∷ more)
-unfolding IsNested
-done_nested kinds start more same rest = (same, rest)
-
-nothing_nested : (kinds : List EventKind) (start : Option (List EventKind)) → IsNested kinds start []
-unfolding IsNested
-nothing_nested kinds start = tt
-
--- the kinds that were open where a repeat began, while it isn't done
-abbrev start_of : List Form → Option (List EventKind)
-start_of before = if is_in_repeat before then Some (kinds_open (ahead_of_last is_repeat before)) else None
-
-start_same : (before : List Form) (line : Form) → is_repeat line ≡ false → is_done line ≡ false → start_of (before ++ line ∷ []) ≡ start_of before
-start_same before line r d = rw (in_repeat-same before line r d, ahead_more is_repeat before line, r) refl
-
-start_begun : (before : List Form) (times : Option ℕ) → start_of (before ++ form.Repeat times ∷ []) ≡ Some (kinds_open before)
-start_begun before times = rw (in_repeat-begun before (form.Repeat times) refl, ahead_more is_repeat before (form.Repeat times)) refl
+whole_stand : (before lines : List Form) → Stand before lines → blocks.Stand before lines
+whole_stand before [] s = tt
+whole_stand before (line ∷ lines) s = (whole_passes before line s.0, whole_stand (before ++ line ∷ []) lines s.1)
 
 -- nothing is open where a session begins
 open_new : (before : List Form) (number : ℕ) (user host : List ℕ) → 1 ≤ number → list_any (is_block_of number) before ≡ false → kinds_open (before ++ form.Connect (Some number) user host ∷ []) ≡ []
@@ -330,87 +247,10 @@ open_new before number user host low new =
     ap (λ session. session_kinds session (before ++ line ∷ [])) (now_more before line)
     ∙ ap (λ lines. kinds_of (open_in (map mark_of_form lines))) (lines_ends number before line refl ∙ lines_none number before low new)
 
--- no repeat goes on in another block
-start_connect : (before : List Form) (number : ℕ) (user host : List ℕ) → Passes Built before (form.Connect (Some number) user host) → start_of (before ++ form.Connect (Some number) user host ∷ []) ≡ None
-start_connect before number user host p =
-    let line = form.Connect (Some number) user host in
-    let out : is_in_repeat before ≡ false = second_false (not (list_any is_phase before)) (is_in_repeat before) p.place in
-    start_same before line refl refl ∙ rw out refl
-
-start_done : (before : List Form) → start_of (before ++ form.Done ∷ []) ≡ None
-start_done before = rw (in_repeat-done before) refl
-
--- behind the lines so far, the events of these nest
-abbrev Nests : List Form → List BlockLine → Type 0
-Nests before more = IsNested (kinds_open before) (start_of before) more
-
-nests_same : (before : List Form) (line : Form) (more : List BlockLine) → ends_block line ≡ false → mark_of_form line ≡ Passing → is_repeat line ≡ false → is_done line ≡ false → Nests (before ++ line ∷ []) more → Nests before more
-nests_same before line more c m r d h =
-    let kinds : kinds_open (before ++ line ∷ []) ≡ kinds_open before = open_more before line c ∙ ap (λ mark. kinds_behind mark (kinds_open before)) m in
-    rw (kinds, start_same before line r d) at h
-
-nests_more : (before : List Form) (line : Form) (one : BlockLine) (more : List BlockLine) → ends_block line ≡ false → is_repeat line ≡ false → is_done line ≡ false → IsPlain one → mark_of one ≡ mark_of_form line
-    → is_bad_nesting before line ≡ false → Nests (before ++ line ∷ []) more → Nests before (one ∷ more)
-nests_more before line one more c r d plain m nesting h =
-    let kinds : kinds_open (before ++ line ∷ []) ≡ kinds_behind (mark_of one) (kinds_open before) = open_more before line c ∙ ap (λ mark. kinds_behind mark (kinds_open before)) (sym m) in
-    plain_nested (kinds_open before) (start_of before) one more plain (rw m (stands before line nesting)) (rw (kinds, start_same before line r d) at h)
-
-nests_repeat : (before : List Form) (times : ℕ) (more : List BlockLine) → is_in_repeat before ≡ false → Nests (before ++ form.Repeat (Some times) ∷ []) more → Nests before (said.Repeat times ∷ more)
-nests_repeat before times more out h =
-    let line = form.Repeat (Some times) in
-    let kinds : kinds_open (before ++ line ∷ []) ≡ kinds_open before = open_more before line refl in
-    rw out (repeat_nested (kinds_open before) times more (rw (kinds, start_begun before (Some times)) at h))
-
-nests_done : (before : List Form) (more : List BlockLine) → is_in_repeat before ≡ true → same_kinds (kinds_open before) (kinds_open (ahead_of_last is_repeat before)) ≡ true → Nests (before ++ form.Done ∷ []) more → Nests before (said.Done ∷ more)
-nests_done before more within same h =
-    let kinds : kinds_open (before ++ form.Done ∷ []) ≡ kinds_open before = open_more before form.Done refl in
-    rw within (done_nested (kinds_open before) (kinds_open (ahead_of_last is_repeat before)) more (same_all (kinds_open before) (kinds_open (ahead_of_last is_repeat before)) same) (rw (kinds, start_done before) at h))
-
 all_none : {A : Type 0} (P : A → Type 0) → All P []
 all_none P k d h = absurd (omega (arith, h))
 
 module _ (all : List Form) (few : counted one_each all ≤ 200000) where
-  class_nests : (before : List Form) (line : Form) (class : List ℕ) (starts : ClassRef → BlockLine) (more : List BlockLine) → ((name : List ℕ) → is_known before name ≡ true → is_known all name ≡ true) → not (is_event_class before class) ≡ false
-      → ((ref : ClassRef) → Nests before (starts ref ∷ more)) → Nests before (with_front (option_map starts (resolved (head_of all) class)) more)
-  class_nests before line class starts more known h nests =
-      let r = known_resolved all class (known class (event_known before class h)) in
-      rw r.1 (nests r.0)
-
-  nest_front : (before : List Form) (line : Form) (more : List BlockLine) → Passes Built before line → ends_block line ≡ false → ((name : List ℕ) → is_known before name ≡ true → is_known all name ≡ true)
-      → Nests (before ++ line ∷ []) more → Nests before (with_front (block_line (sense_of all) line) more)
-  nest_front before (form.Wait class) more p n known rest =
-      class_nests before (form.Wait class) class said.Wait more known p.known (λ ref. nests_more before (form.Wait class) (said.Wait ref) more refl refl refl tt refl p.nesting rest)
-  nest_front before (form.Statement class text) more p n known rest =
-      class_nests before (form.Statement class text) class (λ ref. said.Statement ref (digest_place (sense_of all).digests text)) more known p.known (λ ref. nests_more before (form.Statement class text) (said.Statement ref (digest_place (sense_of all).digests text)) more refl refl refl tt refl p.nesting rest)
-  nest_front before (form.Stage class) more p n known rest =
-      class_nests before (form.Stage class) class said.Stage more known p.known (λ ref. nests_more before (form.Stage class) (said.Stage ref) more refl refl refl tt refl p.nesting rest)
-  nest_front before (form.Transaction access) more p n known rest = nests_more before (form.Transaction access) (said.Transaction access) more refl refl refl tt refl p.nesting rest
-  nest_front before form.StageEnd more p n known rest = nests_more before form.StageEnd said.StageEnd more refl refl refl tt refl p.nesting rest
-  nest_front before (form.Spend (Some time)) more p n known rest = nests_more before (form.Spend (Some time)) (said.Spend time) more refl refl refl tt refl p.nesting rest
-  nest_front before (form.Spend None) more p n known rest = nests_same before (form.Spend None) more refl refl refl refl rest
-  nest_front before form.End more p n known rest = nests_more before form.End said.End more refl refl refl tt refl p.nesting rest
-  nest_front before (form.EndStatement numbers) more p n known rest = nests_more before (form.EndStatement numbers) (said.EndStatement (statement_numbers numbers)) more refl refl refl tt refl p.nesting rest
-  nest_front before (form.Repeat (Some times)) more p n known rest = nests_repeat before times more (second_false (is_blockless before) (is_in_repeat before) p.place) rest
-  nest_front before (form.Repeat None) more p n known rest = absurd (let q = p.number in cc)
-  nest_front before form.Done more p n known rest =
-      nests_done before more (not_false (is_in_repeat before) p.place) (not_false (same_kinds (kinds_open before) (kinds_open (ahead_of_last is_repeat before))) p.nesting) rest
-  nest_front before (form.TableWait class schema name) more p n known rest = absurd (let q = p.let_in in cc)
-  nest_front before (form.Sql text) more p n known rest = absurd (let q = p.let_in in cc)
-  nest_front before form.Quit more p n known rest = absurd (let q = p.let_in in cc)
-  nest_front before (form.Resume session) more p n known rest = cc
-  nest_front before form.Phase more p n known rest = cc
-  nest_front before (form.Connect session user host) more p n known rest = cc
-  nest_front before line more p n known rest = nests_same before line more refl refl refl refl rest
-
-  nest : (before lines : List Form) → Stand before lines → all ≡ before ++ lines → Nests before (block_lines (sense_of all) lines)
-  unfolding block_lines
-  nest before [] s e = nothing_nested (kinds_open before) (start_of before)
-  nest before (line ∷ lines) s e =
-      elim (bool_cases (ends_block line)) [
-        | inl p ↦ rw p (nothing_nested (kinds_open before) (start_of before))
-        | inr p ↦ rw p (nest_front before line (block_lines (sense_of all) lines) s.0 p (λ name h. rw e (known_longer before (line ∷ lines) name h)) (nest (before ++ line ∷ []) lines s.1 (e ∙ sym (append_assoc before (line ∷ []) lines))))
-      ]
-
   abbrev AreKnown : List BlockLine → Type 0
   AreKnown lines = All (run.IsKnown (length (head_of all).classes.classes)) lines
 
@@ -457,7 +297,7 @@ module _ (all : List Form) (few : counted one_each all ≤ 200000) where
       All-cons (run.IsBlock (length (head_of all).classes.classes)) (record { session = number; connect = Some (connect_of (names_of all) user host); lines = block_lines (sense_of all) lines }) more (record {
         low = bounds.0;
         high = bounds.1;
-        nested = (let first = before ++ form.Connect (Some number) user host ∷ [] in rw (open_new before number user host bounds.0 (new_session before number user host p), start_connect before number user host p) at (nest first lines s e));
+        nested = (let first = before ++ form.Connect (Some number) user host ∷ [] in rw (open_new before number user host bounds.0 (new_session before number user host p), start_session before (form.Connect (Some number) user host) refl refl p.place) at (nest all first lines (whole_stand first lines s) e));
         known = knowns (before ++ form.Connect (Some number) user host ∷ []) lines s;
         short = written_short (sense_of all) all (before ++ form.Connect (Some number) user host ∷ []) lines e few;
       }) h

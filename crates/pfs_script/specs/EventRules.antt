@@ -3,14 +3,14 @@ use Rattle.std.specs.Prelude.{ℕ, ◌≡◌, ◌+◌, ◌≤◌, ◌<◌, ◌�
 use Rattle.pfs_script.specs.declared.blocks.BlockLine.{BlockLine}
 use Rattle.pfs_script.specs.Marks.{mark_of}
 use Rattle.pfs_script.specs.Brackets.{Bracket, brackets_of}
-use Rattle.pfs_script.specs.Events.{Event, subject_of, line_at, passed_between}
+use Rattle.pfs_script.specs.Events.{Event, subject_of, line_at, passed_between, numbers_at}
 
 -- an event as a bracket
 abbrev pub bracket_of : Event → Bracket
 bracket_of event = record { opened = event.opened; kind = event.subject.kind; closed = event.closed }
 
--- the events are the brackets of these lines, each is of what its opening line says, it closes behind that line, and
--- lasts from the clock there to the clock at its closing line
+-- the events are the brackets of these lines, each is of what its opening line says, it closes behind that line, lasts
+-- from the clock there to the clock at its closing line, and a statement has the numbers of that line
 pub record AreEvents (all : List BlockLine) (events : List Event) : Type 0 where
   pub brackets : map bracket_of events ≡ brackets_of (map mark_of all)
   pub subject : (i : ℕ) (event : Event) → slice_get events i ≡ Some event
@@ -24,6 +24,8 @@ pub record AreEvents (all : List BlockLine) (events : List Event) : Type 0 where
       → (lasted : ℕ) × (event.lasted ≡ Some lasted) × (event.clock + lasted ≡ passed_between all 0 closed)
   pub unclosed : (i : ℕ) (event : Event) → slice_get events i ≡ Some event → event.closed ≡ None
       → event.lasted ≡ None
+  pub numbers : (i : ℕ) (event : Event) → slice_get events i ≡ Some event
+      → event.numbers ≡ numbers_at all event.subject.kind event.closed
   -- they come in the order of their opening lines
   pub order : (i j : ℕ) (a b : Event) → slice_get events i ≡ Some a → slice_get events j ≡ Some b → i < j
       → a.opened < b.opened

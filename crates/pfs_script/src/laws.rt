@@ -1,15 +1,17 @@
 //! What holds of all texts, lines and names, and of events as brackets.
 
-ghost use Rattle.std.specs.Prelude.{◌≡◌, ◌++◌, ◌∷◌, [], List, ℕ, is_some, false, length, take, drop, Some, codes, ◌<◌};
+ghost use Rattle.std.specs.Prelude.{◌≡◌, ◌++◌, ◌∷◌, [], List, ℕ, is_some, false, length, map, take, drop, Some, codes, ◌<◌};
 ghost use Rattle.std.specs.Str.{bytes_eq};
 ghost use Rattle.pfs_classes.specs.declared.classes.ClassRef.TheVariants as refs;
 ghost use Rattle.pfs_script.specs.declared.forms.Form.{Form};
 ghost use Rattle.pfs_script.specs.Headings.{is_known, resolved, head_of, limits_of};
-ghost use Rattle.pfs_script.specs.Marks.{Mark, copies};
+ghost use Rattle.pfs_script.specs.Marks.{Mark, mark_of, copies};
 ghost use Rattle.pfs_script.specs.Brackets.{open_in, closed_at, kinds_of, ended_by, opened_by, Follows};
-ghost use Rattle.pfs_script.specs.Scripts.{IsExact};
+ghost use Rattle.pfs_script.specs.Scripts.{IsExact, IsScript};
 ghost use Rattle.pfs_script.specs.Finds.{tables_of, digests_of};
+ghost use Rattle.pfs_classes.specs.declared.setting.Setting.{Setting};
 ghost use Rattle.pfs_script.specs.declared.blocks.Phase.{Phase};
+ghost use Rattle.pfs_script.specs.declared.reasons.Extent.{Extent};
 ghost use Rattle.pfs_script.specs.Events.{lines_for, events_for};
 ghost use Rattle.pfs_script.specs.EventRules.{AreEvents};
 ghost use Rattle.pfs_script.specs.SessionNames.{names_of};
@@ -51,6 +53,14 @@ pub fn repeats()
     ensures leave { (before body : List Mark) → Follows before body
         → kinds_of (open_in (before ++ body)) ≡ kinds_of (open_in before) → (times : ℕ)
         → kinds_of (open_in (before ++ copies times body)) ≡ kinds_of (open_in before) }
+{}
+
+/// In any script the lines of a session's blocks, one after another over all phases and with each repeat
+/// written out, open and end events where they may. So what a phase leaves open is still open in a later
+/// one, and may be ended there.
+pub fn over_phases()
+    ensures { (extent : Extent) (text : List ℕ) (setting : Setting) (phases : List Phase) (number : ℕ)
+        → IsScript extent text setting phases → Follows [] (map mark_of (lines_for number phases)) }
 {}
 
 /// The tables of lines are exactly those that a line names, none twice, in the order of their first

@@ -1,4 +1,5 @@
 use pfs_gen::script_of;
+use pfs_script::Script;
 use sha2::{Digest, Sha256};
 use std::test::Fail;
 
@@ -28,5 +29,13 @@ fn scripts_have_these_digests(rt: HostRuntime) -> Result<(), Fail> {
         }
         assert_eq!(rt; text.as_str(), digest, "the script of {number}");
     }
+    Ok(())
+}
+
+#[test]
+fn a_generated_script_is_read(rt: HostRuntime) -> Result<(), Fail> {
+    let script = script_of(rt.alloc(), 0)?;
+    let read = Script::read(rt.alloc(), script.as_slice());
+    assert!(rt; read.is_ok());
     Ok(())
 }
