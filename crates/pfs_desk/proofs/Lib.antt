@@ -1,3 +1,10 @@
 pub mod Fresh
 pub mod Stepping
 pub mod Shown
+pub mod Spread
+pub mod Balance
+pub mod Knowing
+pub mod Sharing
+pub mod Keeping
+pub mod Later
+pub mod Examples
