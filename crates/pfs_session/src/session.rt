@@ -350,7 +350,7 @@ impl Session {
         requires may { StageMayStart (record self.old.state.opened {
           events = without_stage self.old.state.opened.events;
         }) what.now }
-        requires early { self.old.state.drawn + 1 < 2 ^ 64 }
+        requires early { IfSome what.now (λ subject. self.old.state.drawn + 1 < 2 ^ 64) }
         requires alone { (r : ℕ) → 0 < r → R.hand rows.old r ≡ None }
         requires spare { 1 ≤ R.left rows.old }
         requires room { 3 ≤ self.old.journal.room }
@@ -440,6 +440,7 @@ impl Session {
           last = self.new.state.last;
         } }
         ensures owed { owed_by_state self.new.state ≡ [] }
+        ensures held { self.new.state.held ≡ nothing_held }
         ensures leaves { Leaves 4 6 (H.hand rows.old) (H.hand rows.new) (H.left rows.old) (H.left rows.new)
             (H.draws rows.old) (H.draws rows.new) (H.name rows.old) (H.name rows.new) self.old.journal
             self.new.journal }
