@@ -1,0 +1,3 @@
+pub mod Examples
+mod Names
+pub mod Putting

@@ -1,0 +1,14 @@
+use Rattle.std.proofs.Common.{◌++◌, List, ap, ◌∙◌}
+use Rattle.std.proofs.lemmas.Result.{on_ok_weaker}
+use Rattle.pfs_values.specs.declared.RowValue.{RowValue}
+use Rattle.pfs_finals.specs.Finals.{shown_rows, table_if}
+use Rattle.pfs_finals.proofs.finals.put_table.Goals as goal
+
+pub returns-clause-put : goal.returns-clause-put
+returns-clause-put g c =
+    on_ok_weaker c.add_table.result (λ added. record {
+      readings = c.in_ok-readings.readings;
+      read = c.in_ok-readings.ensures.read;
+      calls = c.in_ok-readings.ensures.calls;
+      put = added ∙ ap (λ (rows : List (List RowValue)). c.args.tables.now.items ++ table_if c.args.table rows) (c.in_ok-shown.ensures ∙ ap (shown_rows c.args.setting.now c.args.table) c.as_slice.ensures);
+    }) c.add_table.ensures
