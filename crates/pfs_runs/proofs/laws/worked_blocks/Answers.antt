@@ -1,0 +1,5 @@
+use Rattle.pfs_runs.proofs.Worked.{blocks}
+use Rattle.pfs_runs.proofs.laws.worked_blocks.Goals as goal
+
+pub returns : goal.returns
+returns c = blocks

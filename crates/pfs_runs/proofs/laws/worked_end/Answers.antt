@@ -1,0 +1,5 @@
+use Rattle.pfs_runs.proofs.Worked.{ended}
+use Rattle.pfs_runs.proofs.laws.worked_end.Goals as goal
+
+pub returns : goal.returns
+returns c = ended

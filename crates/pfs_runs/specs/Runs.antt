@@ -1,0 +1,79 @@
+-- When a report is a run of a script.
+use Rattle.std.specs.Prelude.{ℕ, ◌≡◌, ◌+◌, Bool, List, [], ◌∷◌, ◌++◌}
+use Rattle.pfs_board.specs.declared.view.Label.{Label}
+use Rattle.pfs_classes.specs.declared.setting.Setting.{Setting}
+use Rattle.pfs_journal.specs.declared.blocks.BlockReport.{BlockReport}
+use Rattle.pfs_journal.specs.declared.report.PhaseParts.{PhaseParts}
+use Rattle.pfs_journal.specs.declared.report.ReportParts.{ReportParts}
+use Rattle.pfs_model.specs.Asked.{Answer}
+use Rattle.pfs_model.specs.Journals.{joined}
+use Rattle.pfs_model.specs.Places.{Block, Placed, places, up_to_phase}
+use Rattle.pfs_model.specs.Plain.{IsPlain}
+use Rattle.pfs_model.specs.Puts.{AreBrought}
+use Rattle.pfs_script.specs.declared.blocks.Block.{Block as Said}
+use Rattle.pfs_script.specs.declared.blocks.Phase.{Phase}
+use Rattle.pfs_runs.specs.Finals.{IsFinal}
+use Rattle.pfs_runs.specs.Labels.{AreLabels, terms_of}
+use Rattle.pfs_runs.specs.Lines.{lines_in, change_in, facts_in}
+use Rattle.pfs_runs.specs.Rules.{AreRules, flags_by}
+
+-- A block of a report is that of the script: of the same session, its journal cut by the block's lines. No SELECT is
+-- answered yet.
+pub record IsBlockOf (phase : ℕ) (said : Said) (report : BlockReport) (block : Block) : Type 0 where
+  pub phase_is : block.phase ≡ phase
+  pub session : block.session ≡ said.session
+  pub reported : report.session ≡ said.session
+  pub lines : block.lines ≡ lines_in said
+  pub entries : joined block.parts ≡ report.entries
+  pub answers : report.answers ≡ []
+
+abbrev pub AreBlocksOf : ℕ → List Said → List BlockReport → List Block → Type 0
+AreBlocksOf phase [] [] [] = Unit {0}
+AreBlocksOf phase (said ∷ others) (report ∷ reports) (block ∷ blocks) =
+    IsBlockOf phase said report block × AreBlocksOf phase others reports blocks
+AreBlocksOf phase _ _ _ = ⊥
+
+-- the phases are numbered from this one on, each with the script's blocks in their order
+abbrev pub ArePhasesOf : ℕ → List Phase → List PhaseParts → List (List Block) → Type 0
+ArePhasesOf number [] [] [] = Unit {0}
+ArePhasesOf number (phase ∷ phases) (report ∷ reports) (blocks ∷ others) =
+    (report.number ≡ number) × AreBlocksOf number phase.blocks report.blocks blocks
+    × ArePhasesOf (number + 1) phases reports others
+ArePhasesOf number _ _ _ = ⊥
+
+-- the blocks of all phases
+abbrev pub all_blocks : List (List Block) → List Block
+all_blocks [] = []
+all_blocks (blocks ∷ others) = blocks ++ all_blocks others
+
+-- Each event is brought to its summary row alone: to rings and rows of digests, which no flags ask for, it isn't yet.
+abbrev pub AreBroughtOnce : List Placed → Type 0
+AreBroughtOnce all = AreBrought (λ word version. 0) all
+
+abbrev pub AreFinal : (PhaseParts → Type 0) → List PhaseParts → Type 0
+AreFinal final [] = Unit {0}
+AreFinal final (report ∷ reports) = final report × AreFinal final reports
+
+-- The report's phases and blocks are the script's; its journals keep the rules of a run, by the actions that the
+-- script's lines ask for and the facts that it says of their events; and under each phase's end stands what the
+-- journals so far make of rows, words and counters. Its format is the one of a report in part: rings, digests and SQL
+-- are not in it yet. No line has an answer either, so the answers may be any.
+pub record IsRun (setting : Setting) (phases : List Phase) (report : ReportParts) : Type 0 where
+  pub format : report.format ≡ 0
+  pub blocks : List (List Block)
+  pub labels : List Label
+  pub counted : ℕ → ℕ → Bool
+  pub content : ℕ → ℕ → List ℕ
+  pub phases_are : ArePhasesOf 1 phases report.phases blocks
+  pub labelled : AreLabels labels (places (all_blocks blocks))
+  pub rules : (answers : ℕ → Answer) → AreRules (terms_of setting (change_in phases) (facts_in phases) answers labels)
+      counted content (all_blocks blocks)
+  pub brought : AreBroughtOnce (places (all_blocks blocks))
+  pub finals : (answers : ℕ → Answer) → AreFinal (λ (phase : PhaseParts). IsFinal setting (change_in phases) labels
+      content (flags_by (terms_of setting (change_in phases) (facts_in phases) answers labels)
+      (places (all_blocks blocks))) (up_to_phase phase.number (places (all_blocks blocks))) phase) report.phases
+
+-- and a plain one, where each line goes by those before it
+pub record IsPlainRun (setting : Setting) (phases : List Phase) (report : ReportParts) : Type 0 where
+  pub run : IsRun setting phases report
+  pub plain : IsPlain (places (all_blocks run.blocks))
