@@ -18,7 +18,7 @@ use Rattle.pfs_parts.specs.Stints.{Stint, block_of, blocks_of, resumed, state_by
 use Rattle.pfs_parts.proofs.Journals.{journals}
 use Rattle.pfs_parts.proofs.Stinting.{state_more, told_more, blocks_more}
 use Rattle.pfs_alone.specs.Notes.{notes_of, all_told}
-use Rattle.pfs_alone.specs.Spells.{Spell, doings_calls, parts_in, stint_of, stints_of, calls_of, AllEntered}
+use Rattle.pfs_alone.specs.Spells.{Spell, doings_calls, parts_in, stint_of, stints_of, calls_of, AllEntered, AreSpells}
 use Rattle.pfs_alone.specs.Alone.{AloneLaw, printed}
 use Rattle.pfs_alone.specs.Told.{Sits}
 use Rattle.pfs_alone.proofs.Inner.{told_then}
@@ -121,7 +121,7 @@ loads_agree of flags content log sets (Sets at to k ∷ calls) same a = (tt, loa
 loads_agree of flags content log sets (Enters label labels ∷ calls) same a = (tt, loads_agree of flags content log sets calls same a.1)
 loads_agree of flags content log sets (Leaves ∷ calls) same a = (tt, loads_agree of flags content log sets calls same a.1)
 
-one_actor : (calls : List Call) → all_calls (calls ∷ []) ≡ calls
+pub one_actor : (calls : List Call) → all_calls (calls ∷ []) ≡ calls
 unfolding all_calls
 one_actor calls = append-nil calls
 
@@ -132,18 +132,31 @@ plain_loads of flags calls same a =
     loads_agree of flags (content_at (ops_of calls)) (changes_of calls) (sets_of calls) calls same
     (subst (λ z. AllAgree flags (content_at (ops_of z)) (changes_of z) (sets_of z) z) e j.agrees)
 
-pub alone : AloneLaw
+-- what all journals tell is what all calls tell, nothing is held or settled in them, and each load gave the flags that
+-- the printed sets give
+pub record AreTogether (flags : List ℕ) (spells : List Spell) : Type 0 where
+  pub same : notes_of (places (blocks_of (stints_of spells))) ≡ all_told (calls_of spells)
+  pub quiet : AreQuietPlaces (places (blocks_of (stints_of spells)))
+  pub loads : Each (λ stint. AllLoadsAgree (printed flags (places (blocks_of (stints_of spells)))) stint.parts) (stints_of spells)
+
+pub together : (flags : List ℕ) (stack : ℕ) (depths : ℕ → ℕ) (spells : List Spell) → AreSpells stack depths spells → AllAnswer flags (calls_of spells) → AreTogether flags spells
 unfolding places_behind
-alone = λ flags stack depths spells are answers.
+together flags stack depths spells are answers =
     let calls = calls_of spells in
-    let stints : List Stint = stints_of spells in
-    let all : List Placed = places (blocks_of stints) in
+    let all : List Placed = places (blocks_of (stints_of spells)) in
     let ready : AllReady stack depths [] = λ k. record { sits = λ thread q. q; held = refl } in
     let g = good stack depths [] 0 spells ready are.stints are.entered (plain_added flags calls answers) in
     let of : ℕ → ℕ → ℕ = printed flags all in
     let same : (at k : ℕ) → flags_at flags (sets_of calls) at k ≡ of at k = λ at k. printed_same flags all calls at k (plain_words flags calls answers) g.same in
-    let j = journals of stack depths stints are.stints (all_loads of spells (plain_loads of flags calls same answers)) in
-    let plain = agreed [] [] all (record { rows = refl; words = refl; numbers = refl }) g.quiet (subst (AreNextNotes []) (sym g.same) (told_next flags calls answers)) in
+    record { same = g.same; quiet = g.quiet; loads = all_loads of spells (plain_loads of flags calls same answers) }
+
+pub alone : AloneLaw
+alone = λ flags stack depths spells are answers.
+    let stints : List Stint = stints_of spells in
+    let all : List Placed = places (blocks_of stints) in
+    let t : AreTogether flags spells = together flags stack depths spells are answers in
+    let j = journals (printed flags all) stack depths stints are.stints t.loads in
+    let plain = agreed [] [] all (record { rows = refl; words = refl; numbers = refl }) t.quiet (subst (AreNextNotes []) (sym t.same) (told_next flags (calls_of spells) answers)) in
     record {
       shaped = j.shaped;
       plain = plain;
