@@ -1,0 +1,127 @@
+-- What was played is a part of its errand, and the lines of a script may be played where they may stand.
+use Rattle.std.proofs.Common.{ℕ, suc, ◌≡◌, ◌≤◌, ◌<◌, true, List, [], ◌∷◌, ◌++◌, length, drop, Option, Some, None, refl, ap, sym, ◌∙◌, subst, lit<, arith}
+use Rattle.std.specs.Prelude.{is_some, IfSome}
+use Rattle.std.proofs.lemmas.List.{append-nil}
+use Rattle.pfs_admin.specs.States.{State as Administration}
+use Rattle.pfs_classes.specs.declared.classes.ClassRef.{ClassRef}
+use Rattle.pfs_classes.specs.declared.classes.ClassRef.TheVariants as refs
+use Rattle.pfs_event.specs.Nesting.{OpenEvents, innermost_of, kind_of}
+use Rattle.pfs_event.specs.Order.{may_start}
+use Rattle.pfs_event.specs.declared.kind.EventKind.{EventKind}
+use Rattle.pfs_event.specs.declared.kind.EventKind.TheVariants.{Wait, Stage, Statement, Transaction}
+use Rattle.pfs_event.specs.declared.open.Open.{Open}
+use Rattle.pfs_levels.specs.Calls.{Call, Opening}
+use Rattle.pfs_model.specs.declared.lines.Subject.{Subject}
+use Rattle.pfs_parts.specs.Deeds.{Deed, steps_for}
+use Rattle.pfs_runs.specs.Lines.{class_in}
+use Rattle.pfs_script.specs.declared.blocks.BlockLine.{BlockLine}
+use Rattle.pfs_script.specs.declared.blocks.BlockLine.TheVariants as said
+use Rattle.pfs_script.specs.Brackets.{innermost, ended_by}
+use Rattle.pfs_script.specs.Marks.{Opens}
+use Rattle.pfs_script.specs.Runnable.{IsKnownClass}
+use Rattle.pfs_session.specs.Leaving.{HasStaged}
+use Rattle.pfs_session.specs.States.{Book, without_stage}
+use Rattle.pfs_session.specs.Turns.{Step, EndsEvent, Spends, Does, Played, stage_ends, stage_steps}
+use Rattle.pfs_session.specs.declared.events.Numbers.{Numbers}
+use Rattle.pfs_session.proofs.Playing.{played_one, played_then}
+use Rattle.pfs_facts.specs.Steps.{kinds_in}
+use Rattle.pfs_play.specs.declared.errands.Errand.{Errand}
+use Rattle.pfs_play.specs.declared.errands.Errand.TheVariants as ask
+use Rattle.pfs_play.specs.Errands.{deed_of, errand_on, MayBegin, MayRun, MayPlay, HasRun, StagesLie}
+
+-- steps that are those of an errand's deed
+pub ran : (errand : Errand) (deed : Deed) (steps : List Step) (old new : Book) (was now : Opening → List Call → Type 0) → ((admin : Administration) → deed ≡ deed_of admin errand) → steps ≡ steps_for old.state deed
+    → Played steps old new was now → HasRun errand old new was now
+ran errand deed steps old new was now deeds same p = record {
+  part = record { deed = deed; turns = p.turns };
+  deed = deeds;
+  is_part = record { are_turns = p.are_turns; steps_are = p.steps_are ∙ same };
+  state = p.state_is;
+  did = p.did;
+}
+
+pub stage_ran : (subject : Option Subject) (old new : Book) (was now : Opening → List Call → Type 0) → Played (stage_steps old.state.opened.events subject) old new was now → HasRun (ask.Stage subject) old new was now
+stage_ran (Some subject) old new was now p = ran (ask.Stage (Some subject)) _ _ old new was now (λ admin. refl) refl p
+stage_ran None old new was now p = ran (ask.Stage None) _ _ old new was now (λ admin. refl) refl p
+
+pub end_ran : (numbers : Numbers) (old at new : Book) (was mid now : Opening → List Call → Type 0) → Played (stage_steps old.state.opened.events None) old at was mid → Played (EndsEvent numbers ∷ []) at new mid now
+    → HasRun (ask.End numbers) old new was now
+end_ran numbers old at new was mid now p q =
+    ran (ask.End numbers) _ _ old new was now (λ admin. refl) (ap (λ (z : List Step). z ++ EndsEvent numbers ∷ []) (append-nil (stage_ends old.state.opened.events)))
+    (played_then (stage_steps old.state.opened.events None) (EndsEvent numbers ∷ []) old at new was mid now p q)
+
+pub spend_ran : (time : ℕ) (old new : Book) (was : Opening → List Call → Type 0) → Does old.state (Spends time) [] [] new.state → new.journal ≡ old.journal → HasRun (ask.Spend time) old new was was
+spend_ran time old new was does same =
+    ran (ask.Spend time) _ _ old new was was (λ admin. refl) refl
+    (played_one (Spends time) [] [] new.state old new was was does refl (record { entries_are = ap (λ j. j.entries) same ∙ sym (append-nil old.journal.entries); goes = λ start calls h. h }))
+
+pub stage_depth : (subject : Option Subject) (old new : OpenEvents) → HasStaged subject old new → new.depth ≡ old.depth
+stage_depth None old new staged = ap (λ (nest : OpenEvents). nest.depth) staged
+stage_depth (Some subject) old new staged = staged.depth
+
+-- where a line may stand
+inner : (events : List Open) → innermost (kinds_in events) ≡ kind_of (innermost_of events)
+inner [] = refl
+inner (what ∷ events) = refl
+
+known_class : (class : ClassRef) → IsKnownClass 62 class → IfSome (class_in class) (λ n. n < 63)
+known_class (refs.Class id) known = omega arith
+known_class (refs.Lost kind) known = tt
+
+begins : (nest : OpenEvents) (subject : Subject) → may_start subject.kind (innermost (kinds_in nest.events)) ≡ true → length nest.events < nest.depth → IfSome subject.class (λ n. n < 63) → IfSome subject.table (λ n. n < 64)
+    → MayBegin nest subject
+begins nest subject order shallow class table = record { order = ap (λ (kind : Option EventKind). may_start subject.kind kind) (sym (inner nest.events)) ∙ order; shallow = shallow; class = class; table = table }
+
+-- the kinds of the events without an open stage
+stage_inner : (events : List Open) → innermost (drop (ended_by (Opens Stage) (kinds_in events)) (kinds_in events)) ≡ kind_of (innermost_of (without_stage events))
+stage_inner [] = refl
+stage_inner (what ∷ events) = at what.kind refl
+  where
+    at : (kind : EventKind) → what.kind ≡ kind → innermost (drop (ended_by (Opens Stage) (what.kind ∷ kinds_in events)) (what.kind ∷ kinds_in events)) ≡ kind_of (innermost_of (without_stage (what ∷ events)))
+    at Stage e = rw e (inner events)
+    at Wait e = rw e refl
+    at Statement e = rw e refl
+    at Transaction e = rw e refl
+
+fewer : (events : List Open) → length (without_stage events) ≤ length events
+fewer [] = omega arith
+fewer (what ∷ events) = at what.kind refl
+  where
+    at : (kind : EventKind) → what.kind ≡ kind → length (without_stage (what ∷ events)) ≤ length (what ∷ events)
+    at Stage e = rw e (omega arith)
+    at Wait e = rw e (omega arith)
+    at Statement e = rw e (omega arith)
+    at Transaction e = rw e (omega arith)
+
+kinds_long : (events : List Open) → length (kinds_in events) ≡ length events
+kinds_long [] = refl
+kinds_long (what ∷ events) = ap suc (kinds_long events)
+
+-- an end ends something, since no stage is alone
+some_open : (events : List Open) → StagesLie (kinds_in events) → is_some (innermost (kinds_in events)) ≡ true → 0 < length (without_stage events)
+some_open [] lie stands = cc
+some_open (what ∷ events) lie stands = at what.kind events refl lie
+  where
+    at : (kind : EventKind) (events : List Open) → what.kind ≡ kind → StagesLie (what.kind ∷ kinds_in events) → 0 < length (without_stage (what ∷ events))
+    at Stage [] e lie = let none : StagesLie (Stage ∷ []) = subst (λ (k : EventKind). StagesLie (k ∷ [])) e lie in absurd none
+    at Stage (next ∷ events) e lie = rw e (omega arith)
+    at Wait events e lie = rw e (omega arith)
+    at Statement events e lie = rw e (omega arith)
+    at Transaction events e lie = rw e (omega arith)
+
+pub may_run : (nest : OpenEvents) (line : BlockLine) → StagesLie (kinds_in nest.events) → MayPlay 62 nest.depth (kinds_in nest.events) line → MayRun (errand_on line) nest
+may_run nest (said.Wait class) lie may = begins nest _ may.stands (omega (arith, may.shallow, kinds_long nest.events)) (known_class class may.known) tt
+may_run nest (said.TableWait class table) lie may = begins nest _ may.stands (omega (arith, may.shallow, kinds_long nest.events)) (known_class class may.known) may.table
+may_run nest (said.Statement class digest) lie may = begins nest _ may.stands (omega (arith, may.shallow, kinds_long nest.events)) (known_class class may.known) tt
+may_run nest (said.Transaction access) lie may = begins nest _ may.stands (omega (arith, may.shallow, kinds_long nest.events)) (lit< tt) tt
+may_run nest (said.Stage class) lie may =
+    let below : length (without_stage nest.events) < nest.depth = omega (arith, may.shallow, kinds_long nest.events, fewer nest.events) in
+    (ap (λ (kind : Option EventKind). may_start Stage kind) (sym (stage_inner nest.events)) ∙ may.stands, below, known_class class may.known, tt, refl)
+may_run nest said.StageEnd lie may = tt
+may_run nest (said.Spend time) lie may = tt
+may_run nest said.End lie may = some_open nest.events lie may.stands
+may_run nest (said.EndStatement numbers) lie may = some_open nest.events lie may.stands
+may_run nest said.Quit lie may = let quits = may.quits in cc
+may_run nest (said.Sql text) lie may = tt
+may_run nest (said.Repeat times) lie may = tt
+may_run nest said.Done lie may = tt

@@ -1,0 +1,143 @@
+-- What lines of a script ask their session to do, and what it does.
+use Rattle.std.specs.Prelude.{ℕ, ◌≡◌, ◌<◌, ◌+◌, Bool, true, false, List, [], ◌∷◌, length, Some, None, IfSome}
+use Rattle.pfs_admin.specs.States.{State as Administration}
+use Rattle.pfs_event.specs.Nesting.{OpenEvents, MayStart}
+use Rattle.pfs_event.specs.declared.kind.EventKind.{EventKind}
+use Rattle.pfs_event.specs.declared.kind.EventKind.TheVariants.{Wait, Stage, Statement, Transaction}
+use Rattle.pfs_levels.specs.Calls.{Call, Opening}
+use Rattle.pfs_levels.specs.Moves.{Did}
+use Rattle.pfs_model.specs.Journals.{joined}
+use Rattle.pfs_model.specs.declared.lines.Subject.{Subject}
+use Rattle.pfs_parts.specs.Deeds.{Deed, Starting, Staging, StageEnding, Ending, Spending, Quitting, Part, IsPart, part_calls, part_entries, parts_calls}
+use Rattle.pfs_parts.specs.Shaped.{AreParts, MayDoAll, entries_of, state_behind, over_behind}
+use Rattle.pfs_script.specs.declared.blocks.BlockLine.{BlockLine}
+use Rattle.pfs_script.specs.declared.blocks.BlockLine.TheVariants as said
+use Rattle.pfs_script.specs.Brackets.{kinds_behind, may_stand}
+use Rattle.pfs_script.specs.Marks.{mark_of}
+use Rattle.pfs_script.specs.Runnable.{IsKnown}
+use Rattle.pfs_session.specs.States.{Book, without_stage}
+use Rattle.pfs_session.specs.Turns.{StageMayStart}
+use Rattle.pfs_session.specs.Ends.{no_numbers}
+use Rattle.pfs_runs.specs.Lines.{wait_on, statement_on, transaction_on, stage_on}
+use Rattle.pfs_facts.specs.Deeds.{deed_on}
+use Rattle.pfs_facts.specs.Steps.{numbers_in}
+use Rattle.pfs_play.specs.declared.errands.Errand.{Errand}
+use Rattle.pfs_play.specs.declared.errands.Errand.TheVariants as ask
+
+-- what a line asks its session to do. No SQL runs yet, and no line that begins or ends a repeat stands among lines that
+-- are written out: these let no time pass
+abbrev pub errand_on : BlockLine → Errand
+errand_on (said.Wait class) = ask.Start (wait_on class None)
+errand_on (said.TableWait class table) = ask.Start (wait_on class (Some table))
+errand_on (said.Statement class digest) = ask.Start (statement_on class digest)
+errand_on (said.Transaction access) = ask.Start (transaction_on access)
+errand_on (said.Stage class) = ask.Stage (Some (stage_on class))
+errand_on said.StageEnd = ask.Stage None
+errand_on (said.Spend time) = ask.Spend time
+errand_on said.End = ask.End no_numbers
+errand_on (said.EndStatement numbers) = ask.End (numbers_in numbers)
+errand_on said.Quit = ask.Quit
+errand_on (said.Sql text) = ask.Spend 0
+errand_on (said.Repeat times) = ask.Spend 0
+errand_on said.Done = ask.Spend 0
+
+-- how many entries it writes at most, where it isn't the session's end
+abbrev pub cost_of : Errand → ℕ
+cost_of (ask.Start subject) = 1
+cost_of (ask.Stage subject) = 3
+cost_of (ask.End numbers) = 5
+cost_of (ask.Spend time) = 0
+cost_of ask.Quit = 0
+
+abbrev pub cost_on : List BlockLine → ℕ
+cost_on [] = 0
+cost_on (line ∷ lines) = cost_of (errand_on line) + cost_on lines
+
+-- the deed that an errand is to its session, before this administration
+abbrev pub deed_of : Administration → Errand → Deed
+deed_of admin (ask.Start subject) = Starting subject
+deed_of admin (ask.Stage (Some subject)) = Staging subject
+deed_of admin (ask.Stage None) = StageEnding
+deed_of admin (ask.End numbers) = Ending numbers
+deed_of admin (ask.Spend time) = Spending time
+deed_of admin ask.Quit = Quitting admin
+
+-- what a start asks of its session
+pub record MayBegin (nest : OpenEvents) (subject : Subject) : Type 0 where
+  pub order : MayStart nest subject.kind
+  pub shallow : length nest.events < nest.depth
+  pub class : IfSome subject.class (λ n. n < 63)
+  pub table : IfSome subject.table (λ n. n < 64)
+
+-- what an errand asks of a session as it stands; an end is an action, and asked of an administration
+abbrev pub MayRun : Errand → OpenEvents → Type 0
+MayRun (ask.Start subject) nest = MayBegin nest subject
+MayRun (ask.Stage subject) nest = StageMayStart (record nest { events = without_stage nest.events }) subject
+MayRun (ask.End numbers) nest = 0 < length (without_stage nest.events)
+MayRun (ask.Spend time) nest = Unit {0}
+MayRun ask.Quit nest = ⊥
+
+-- a session ran an errand, and did nothing else: its part, with its calls of the store and its entries
+pub record HasRun (errand : Errand) (old new : Book) (was now : Opening → List Call → Type 0) : Type 0 where
+  pub part : Part
+  pub deed : (admin : Administration) → part.deed ≡ deed_of admin errand
+  pub is_part : IsPart old.state part
+  pub state : new.state ≡ state_behind old.state (part ∷ [])
+  pub did : Did (part_calls part) (part_entries part) old.journal new.journal was now
+
+-- a statement lies around each stage
+abbrev pub StagesLie : List EventKind → Type 0
+StagesLie [] = Unit {0}
+StagesLie (Stage ∷ []) = ⊥
+StagesLie (Stage ∷ (Statement ∷ kinds)) = StagesLie (Statement ∷ kinds)
+StagesLie (Stage ∷ (Wait ∷ kinds)) = ⊥
+StagesLie (Stage ∷ (Stage ∷ kinds)) = ⊥
+StagesLie (Stage ∷ (Transaction ∷ kinds)) = ⊥
+StagesLie (Wait ∷ kinds) = StagesLie kinds
+StagesLie (Statement ∷ kinds) = StagesLie kinds
+StagesLie (Transaction ∷ kinds) = StagesLie kinds
+
+abbrev pub is_quit : BlockLine → Bool
+is_quit said.Quit = true
+is_quit _ = false
+
+-- the table that a line names
+abbrev pub IsKnownTable : BlockLine → Type 0
+IsKnownTable (said.TableWait class table) = table < 64
+IsKnownTable _ = Unit {0}
+
+-- a line may be played where events of these kinds are open and so many may be: it doesn't end the session, its class
+-- and its table are known, and it may stand there
+pub record MayPlay (classes depth : ℕ) (kinds : List EventKind) (line : BlockLine) : Type 0 where
+  pub quits : is_quit line ≡ false
+  pub known : IsKnown classes line
+  pub table : IsKnownTable line
+  pub stands : may_stand kinds (mark_of line) ≡ true
+  pub shallow : length kinds < depth
+
+-- lines one after another
+abbrev pub CanPlay : ℕ → ℕ → List EventKind → List BlockLine → Type 0
+CanPlay classes depth kinds [] = Unit {0}
+CanPlay classes depth kinds (line ∷ lines) =
+    MayPlay classes depth kinds line × CanPlay classes depth (kinds_behind (mark_of line) kinds) lines
+
+abbrev pub kinds_after : List EventKind → List BlockLine → List EventKind
+kinds_after kinds [] = kinds
+kinds_after kinds (line ∷ lines) = kinds_after (kinds_behind (mark_of line) kinds) lines
+
+-- each part is the line's, whatever the administration
+abbrev pub AreOf : List BlockLine → List Part → Type 0
+AreOf [] [] = Unit {0}
+AreOf (line ∷ lines) (p ∷ ps) = ((admin : Administration) → p.deed ≡ deed_on admin line) × AreOf lines ps
+AreOf _ _ = ⊥
+
+-- a session did these lines, one after another, and nothing else
+pub record HavePlayed (lines : List BlockLine) (old new : Book) (was now : Opening → List Call → Type 0) : Type 0
+  where
+    pub parts : List Part
+    pub are_of : AreOf lines parts
+    pub are_parts : AreParts old.state parts
+    pub may : MayDoAll false old.state parts
+    pub goes_on : over_behind false parts ≡ false
+    pub state : new.state ≡ state_behind old.state parts
+    pub did : Did (parts_calls parts) (joined (entries_of parts)) old.journal new.journal was now

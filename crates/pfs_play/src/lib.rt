@@ -1,0 +1,12 @@
+//! Playing the lines of a script in their session, over any store.
+#![tactic(auto)]
+
+mod errands;
+mod lines;
+mod playing;
+mod repeats;
+
+pub use errands::{Errand, errand_of};
+pub use lines::play_lines;
+pub use playing::play;
+pub use repeats::play_times;
