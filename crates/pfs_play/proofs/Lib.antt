@@ -1,3 +1,4 @@
 pub mod Running
 pub mod Following
 pub mod Repeating
+pub mod Writing

@@ -1,5 +1,5 @@
 -- Lines so many times.
-use Rattle.std.proofs.Common.{ℕ, zero, suc, ◌≡◌, ◌+◌, ◌*◌, Bool, false, List, [], ◌∷◌, ◌++◌, refl, ap, sym, ◌∙◌, subst, append_assoc, arith}
+use Rattle.std.proofs.Common.{ℕ, zero, suc, ◌≡◌, ◌+◌, Bool, false, List, [], ◌∷◌, ◌++◌, refl, ap, sym, ◌∙◌, subst, append_assoc, arith}
 use Rattle.std.proofs.lemmas.List.{append-nil}
 use Rattle.pfs_event.specs.declared.entry.Entry.{Entry}
 use Rattle.pfs_levels.specs.Calls.{Call, Opening}
@@ -11,7 +11,7 @@ use Rattle.pfs_script.specs.declared.blocks.BlockLine.{BlockLine}
 use Rattle.pfs_script.specs.Marks.{copies}
 use Rattle.pfs_session.specs.States.{State, Book}
 use Rattle.pfs_session.specs.Turns.{state_after}
-use Rattle.pfs_play.specs.Errands.{HavePlayed, AreOf, cost_on, cost_of, errand_on}
+use Rattle.pfs_play.specs.Errands.{HavePlayed, AreOf}
 
 of_then : (xs ys : List BlockLine) (ps qs : List Part) → AreOf xs ps → AreOf ys qs → AreOf (xs ++ ys) (ps ++ qs)
 of_then [] ys [] qs are more = more

@@ -1,1 +1,2 @@
 pub mod Errands
+pub mod Repeats

@@ -9,4 +9,4 @@ mod repeats;
 pub use errands::{Errand, errand_of};
 pub use lines::play_lines;
 pub use playing::play;
-pub use repeats::play_times;
+pub use repeats::{play_times, play_written};

@@ -1,9 +1,11 @@
-//! Playing the lines of a repeat.
+//! Playing the lines of a block, those of a repeat so many times.
 
 ghost use Rattle.std.specs.Prelude.{◌≡◌, ◌<◌, ◌≤◌, ◌+◌, ◌-◌, ◌*◌, ◌^◌, ℕ, [], List, None, Some, length, take, drop};
+ghost use Rattle.std.specs.List.{position};
 ghost use Rattle.pfs_admin.specs.Works.{Leaves};
 ghost use Rattle.pfs_facts.specs.Steps.{kinds_at};
-ghost use Rattle.pfs_script.specs.Marks.{copies, written_from, written_out};
+ghost use Rattle.pfs_script.specs.Marks.{copies, is_done, repeats_of, written_out};
+ghost use Rattle.pfs_play.specs.Repeats.{AllMayPlay, HaveGone, repeated};
 ghost use Rattle.pfs_play.specs.Errands.{CanPlay, HavePlayed, StagesLie, kinds_after, cost_on};
 
 use crate::errands::errand_of;
@@ -46,5 +48,154 @@ pub fn play_times<R: Rows>(session: &mut Session, rows: &mut R, body: &[BlockLin
     for round in 0..times {
         let _ = round;
         play_lines(session, rows, body);
+    }
+}
+
+// How often the lines run that begin behind this one, where it begins a repeat.
+fn times_of(line: &BlockLine) -> Option<u64>
+    ensures { result ≡ repeats_of line.now }
+{
+    match line {
+        BlockLine::Repeat(times) => Some(*times),
+        _ => None,
+    }
+}
+
+fn is_done(line: &BlockLine) -> bool
+    ensures { result ≡ is_done line.now }
+{
+    matches!(line, BlockLine::Done)
+}
+
+// The place of the line that ends a repeat, the first of these.
+fn done_in(lines: &[BlockLine]) -> Option<usize>
+    ensures { result ≡ position is_done lines.now }
+{
+    lines.iter().position(|line| is_done(line))
+}
+
+// Plays the lines behind the beginning of a repeat, up to its end, so many times; once where it has no end. So many of
+// the lines it took.
+fn play_repeat<R: Rows>(
+    session: &mut Session,
+    rows: &mut R,
+    lines: &[BlockLine],
+    times: u64,
+) -> usize
+    requires may { AllMayPlay 62 session.old.state.opened.depth (kinds_at session.old.state)
+        (Some (kinds_at session.old.state)) lines.now }
+    requires lie { StagesLie (kinds_at session.old.state) }
+    requires early { session.old.state.drawn + length (repeated times lines.now) < 2 ^ 64 }
+    requires alone { (r : ℕ) → 0 < r → R.hand rows.old r ≡ None }
+    requires spare { 2 * length (repeated times lines.now) ≤ R.left rows.old }
+    requires room { cost_on (repeated times lines.now) ≤ session.old.journal.room }
+    ensures count { result ≤ length lines.now }
+    ensures gone { HaveGone (repeated times lines.now) (written_out (drop result lines.now)) session.old session.new
+        (R.reached rows.old) (R.reached rows.new) }
+    ensures may { AllMayPlay 62 session.old.state.opened.depth (kinds_at session.new.state) None
+        (drop result lines.now) }
+    ensures kinds { kinds_after (kinds_at session.new.state) (written_out (drop result lines.now))
+        ≡ kinds_after (kinds_at session.old.state) (repeated times lines.now) }
+    ensures lie { StagesLie (kinds_at session.new.state) }
+    ensures drawn { session.new.state.drawn + length (written_out (drop result lines.now))
+        ≤ session.old.state.drawn + length (repeated times lines.now) }
+    ensures rest { session.new.state ≡ record session.old.state {
+      clock = session.new.state.clock;
+      drawn = session.new.state.drawn;
+      opened = session.new.state.opened;
+      held = session.new.state.held;
+    } }
+    ensures depth { session.new.state.opened.depth ≡ session.old.state.opened.depth }
+    ensures leaves { Leaves (2 * (length (repeated times lines.now) - length (written_out (drop result lines.now))))
+        (cost_on (repeated times lines.now) - cost_on (written_out (drop result lines.now))) (R.hand rows.old)
+        (R.hand rows.new) (R.left rows.old) (R.left rows.new) (R.draws rows.old) (R.draws rows.new)
+        (R.name rows.old) (R.name rows.new) session.old.journal session.new.journal }
+    ensures words { R.words rows.new ≡ R.words rows.old }
+{
+    match done_in(lines) {
+        Some(end) => {
+            play_times(session, rows, &lines[..end], times);
+            end + 1
+        }
+        None => {
+            play_lines(session, rows, lines);
+            lines.len()
+        }
+    }
+}
+
+// Plays the line that stands first, or the repeat that it begins. So many of the lines it took.
+fn play_next<R: Rows>(session: &mut Session, rows: &mut R, lines: &[BlockLine]) -> usize
+    requires some { 0 < length lines.now }
+    requires may { AllMayPlay 62 session.old.state.opened.depth (kinds_at session.old.state) None lines.now }
+    requires lie { StagesLie (kinds_at session.old.state) }
+    requires early { session.old.state.drawn + length (written_out lines.now) < 2 ^ 64 }
+    requires alone { (r : ℕ) → 0 < r → R.hand rows.old r ≡ None }
+    requires spare { 2 * length (written_out lines.now) ≤ R.left rows.old }
+    requires room { cost_on (written_out lines.now) ≤ session.old.journal.room }
+    ensures count { (0 < result) × (result ≤ length lines.now) }
+    ensures gone { HaveGone (written_out lines.now) (written_out (drop result lines.now)) session.old session.new
+        (R.reached rows.old) (R.reached rows.new) }
+    ensures may { AllMayPlay 62 session.old.state.opened.depth (kinds_at session.new.state) None
+        (drop result lines.now) }
+    ensures kinds { kinds_after (kinds_at session.new.state) (written_out (drop result lines.now))
+        ≡ kinds_after (kinds_at session.old.state) (written_out lines.now) }
+    ensures lie { StagesLie (kinds_at session.new.state) }
+    ensures drawn { session.new.state.drawn + length (written_out (drop result lines.now))
+        ≤ session.old.state.drawn + length (written_out lines.now) }
+    ensures rest { session.new.state ≡ record session.old.state {
+      clock = session.new.state.clock;
+      drawn = session.new.state.drawn;
+      opened = session.new.state.opened;
+      held = session.new.state.held;
+    } }
+    ensures depth { session.new.state.opened.depth ≡ session.old.state.opened.depth }
+    ensures leaves { Leaves (2 * (length (written_out lines.now) - length (written_out (drop result lines.now))))
+        (cost_on (written_out lines.now) - cost_on (written_out (drop result lines.now))) (R.hand rows.old)
+        (R.hand rows.new) (R.left rows.old) (R.left rows.new) (R.draws rows.old) (R.draws rows.new)
+        (R.name rows.old) (R.name rows.new) session.old.journal session.new.journal }
+    ensures words { R.words rows.new ≡ R.words rows.old }
+{
+    let Some((first, others)) = lines.split_first() else {
+        return 0;
+    };
+    match times_of(first) {
+        Some(times) => 1 + play_repeat(session, rows, others, times),
+        None => {
+            play_lines(session, rows, &lines[..1]);
+            1
+        }
+    }
+}
+
+/// Plays the lines of a block, each repeat so many times as it says; one that isn't done runs once. None of them ends
+/// the session.
+pub fn play_written<R: Rows>(session: &mut Session, rows: &mut R, lines: &[BlockLine])
+    requires may { AllMayPlay 62 session.old.state.opened.depth (kinds_at session.old.state) None lines.now }
+    requires lie { StagesLie (kinds_at session.old.state) }
+    requires early { session.old.state.drawn + length (written_out lines.now) < 2 ^ 64 }
+    requires alone { (r : ℕ) → 0 < r → R.hand rows.old r ≡ None }
+    requires spare { 2 * length (written_out lines.now) ≤ R.left rows.old }
+    requires room { cost_on (written_out lines.now) ≤ session.old.journal.room }
+    ensures played { HavePlayed (written_out lines.now) session.old session.new (R.reached rows.old)
+        (R.reached rows.new) }
+    ensures kinds { kinds_at session.new.state ≡ kinds_after (kinds_at session.old.state) (written_out lines.now) }
+    ensures lie { StagesLie (kinds_at session.new.state) }
+    ensures drawn { session.new.state.drawn ≤ session.old.state.drawn + length (written_out lines.now) }
+    ensures rest { session.new.state ≡ record session.old.state {
+      clock = session.new.state.clock;
+      drawn = session.new.state.drawn;
+      opened = session.new.state.opened;
+      held = session.new.state.held;
+    } }
+    ensures depth { session.new.state.opened.depth ≡ session.old.state.opened.depth }
+    ensures leaves { Leaves (2 * length (written_out lines.now)) (cost_on (written_out lines.now)) (R.hand rows.old)
+        (R.hand rows.new) (R.left rows.old) (R.left rows.new) (R.draws rows.old) (R.draws rows.new)
+        (R.name rows.old) (R.name rows.new) session.old.journal session.new.journal }
+    ensures words { R.words rows.new ≡ R.words rows.old }
+{
+    let mut at = 0;
+    while at < lines.len() {
+        at += play_next(session, rows, &lines[at..]);
     }
 }

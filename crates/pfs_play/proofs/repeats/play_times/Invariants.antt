@@ -1,4 +1,4 @@
-use Rattle.std.proofs.Common.{◌≡◌, ◌≤◌, ◌+◌, ◌*◌, ◌-◌, ℕ, length}
+use Rattle.std.proofs.Common.{◌≡◌, ◌≤◌, ◌+◌, ◌*◌, ℕ, length}
 use Rattle.pfs_facts.specs.Steps.{kinds_at}
 use Rattle.pfs_script.specs.Marks.{copies}
 use Rattle.pfs_play.specs.Errands.{HavePlayed, StagesLie, cost_on}

@@ -1,0 +1,118 @@
+use Rattle.std.proofs.Common.{◌++◌, ◌∙◌, List, None, ap, sym, subst, length, take, drop, arith}
+use Rattle.pfs_event.specs.declared.kind.EventKind.{EventKind}
+use Rattle.pfs_facts.specs.Steps.{kinds_at}
+use Rattle.pfs_script.specs.declared.blocks.BlockLine.{BlockLine}
+use Rattle.pfs_script.specs.Marks.{written_out}
+use Rattle.pfs_play.specs.Errands.{kinds_after, cost_on}
+use Rattle.pfs_play.specs.Repeats.{AllMayPlay}
+use Rattle.pfs_play.proofs.Writing.{begun, played, kinds_then}
+use Rattle.pfs_play.proofs.repeats.play_next.Goals as goal
+
+pub play_repeat-requires-clause-may : goal.play_repeat-requires-clause-may
+play_repeat-requires-clause-may g c = (begun 62 c.args.session.now.state.opened.depth (kinds_at c.args.session.now.state) c.in-Some-times_of.times c.args.lines.now c.in-Some.first.now c.in-Some.others.now c.in-Some.ensures.cases.0 (sym c.times_of.ensures ∙ c.in-Some-times_of.is) c.requires.may).may
+
+pub play_repeat-requires-clause-early : goal.play_repeat-requires-clause-early
+play_repeat-requires-clause-early g c =
+    let b = begun 62 c.args.session.now.state.opened.depth (kinds_at c.args.session.now.state) c.in-Some-times_of.times c.args.lines.now c.in-Some.first.now c.in-Some.others.now c.in-Some.ensures.cases.0 (sym c.times_of.ensures ∙ c.in-Some-times_of.is) c.requires.may in
+    let w = ap length b.written in
+    omega (arith, w, c.requires.early)
+
+pub play_repeat-requires-clause-spare : goal.play_repeat-requires-clause-spare
+play_repeat-requires-clause-spare g c =
+    let b = begun 62 c.args.session.now.state.opened.depth (kinds_at c.args.session.now.state) c.in-Some-times_of.times c.args.lines.now c.in-Some.first.now c.in-Some.others.now c.in-Some.ensures.cases.0 (sym c.times_of.ensures ∙ c.in-Some-times_of.is) c.requires.may in
+    let w = ap length b.written in
+    omega (arith, w, c.requires.spare)
+
+pub play_repeat-requires-clause-room : goal.play_repeat-requires-clause-room
+play_repeat-requires-clause-room g c =
+    let b = begun 62 c.args.session.now.state.opened.depth (kinds_at c.args.session.now.state) c.in-Some-times_of.times c.args.lines.now c.in-Some.first.now c.in-Some.others.now c.in-Some.ensures.cases.0 (sym c.times_of.ensures ∙ c.in-Some-times_of.is) c.requires.may in
+    let w = ap cost_on b.written in
+    omega (arith, w, c.requires.room)
+
+pub play_lines-requires-clause-can : goal.play_lines-requires-clause-can
+play_lines-requires-clause-can g c = (played 62 c.args.session.now.state.opened.depth (kinds_at c.args.session.now.state) c.args.lines.now c.in-Some.first.now c.in-Some.others.now c.in-Some.ensures.cases.0 (sym c.times_of.ensures ∙ c.in-None.is) c.requires.may).can
+
+pub play_lines-requires-clause-early : goal.play_lines-requires-clause-early
+play_lines-requires-clause-early g c =
+    let p = played 62 c.args.session.now.state.opened.depth (kinds_at c.args.session.now.state) c.args.lines.now c.in-Some.first.now c.in-Some.others.now c.in-Some.ensures.cases.0 (sym c.times_of.ensures ∙ c.in-None.is) c.requires.may in
+    omega (arith, p.lengths, c.requires.early)
+
+pub play_lines-requires-clause-spare : goal.play_lines-requires-clause-spare
+play_lines-requires-clause-spare g c =
+    let p = played 62 c.args.session.now.state.opened.depth (kinds_at c.args.session.now.state) c.args.lines.now c.in-Some.first.now c.in-Some.others.now c.in-Some.ensures.cases.0 (sym c.times_of.ensures ∙ c.in-None.is) c.requires.may in
+    omega (arith, p.lengths, c.requires.spare)
+
+pub play_lines-requires-clause-room : goal.play_lines-requires-clause-room
+play_lines-requires-clause-room g c =
+    let p = played 62 c.args.session.now.state.opened.depth (kinds_at c.args.session.now.state) c.args.lines.now c.in-Some.first.now c.in-Some.others.now c.in-Some.ensures.cases.0 (sym c.times_of.ensures ∙ c.in-None.is) c.requires.may in
+    omega (arith, p.costs, c.requires.room)
+
+pub returns-in-Some-times_of-clause-gone : goal.returns-in-Some-times_of-clause-gone
+returns-in-Some-times_of-clause-gone g c =
+    let b = begun 62 c.args.session.now.state.opened.depth (kinds_at c.args.session.now.state) c.in-Some-times_of.times c.args.lines.now c.in-Some.first.now c.in-Some.others.now c.in-Some.ensures.cases.0 (sym c.times_of.ensures ∙ c.in-Some-times_of.is) c.requires.may in
+    let gone = c.play_repeat.ensures.gone in
+    record {
+      first = gone.first;
+      are = b.written ∙ (gone.are ∙ ap (λ (l : List BlockLine). gone.first ++ written_out l) (sym (b.behind c.play_repeat.result)));
+      played = gone.played;
+    }
+
+pub returns-in-Some-times_of-clause-kinds : goal.returns-in-Some-times_of-clause-kinds
+returns-in-Some-times_of-clause-kinds g c =
+    let b = begun 62 c.args.session.now.state.opened.depth (kinds_at c.args.session.now.state) c.in-Some-times_of.times c.args.lines.now c.in-Some.first.now c.in-Some.others.now c.in-Some.ensures.cases.0 (sym c.times_of.ensures ∙ c.in-Some-times_of.is) c.requires.may in
+    ap (λ (l : List BlockLine). kinds_after (kinds_at c.play_repeat.new.session.state) (written_out l)) (b.behind c.play_repeat.result)
+    ∙ (c.play_repeat.ensures.kinds ∙ ap (kinds_after (kinds_at c.args.session.now.state)) (sym b.written))
+
+pub returns-in-Some-times_of-clause-drawn : goal.returns-in-Some-times_of-clause-drawn
+returns-in-Some-times_of-clause-drawn g c =
+    let b = begun 62 c.args.session.now.state.opened.depth (kinds_at c.args.session.now.state) c.in-Some-times_of.times c.args.lines.now c.in-Some.first.now c.in-Some.others.now c.in-Some.ensures.cases.0 (sym c.times_of.ensures ∙ c.in-Some-times_of.is) c.requires.may in
+    let w = ap length b.written in
+    let n = ap (λ (l : List BlockLine). length (written_out l)) (b.behind c.play_repeat.result) in
+    omega (arith, w, n, c.play_repeat.ensures.drawn)
+
+pub returns-in-Some-times_of-clause-leaves : goal.returns-in-Some-times_of-clause-leaves
+returns-in-Some-times_of-clause-leaves g c =
+    let b = begun 62 c.args.session.now.state.opened.depth (kinds_at c.args.session.now.state) c.in-Some-times_of.times c.args.lines.now c.in-Some.first.now c.in-Some.others.now c.in-Some.ensures.cases.0 (sym c.times_of.ensures ∙ c.in-Some-times_of.is) c.requires.may in
+    let w = ap length b.written in
+    let n = ap (λ (l : List BlockLine). length (written_out l)) (b.behind c.play_repeat.result) in
+    let v = ap cost_on b.written in
+    let m = ap (λ (l : List BlockLine). cost_on (written_out l)) (b.behind c.play_repeat.result) in
+    record {
+      hand = c.play_repeat.ensures.leaves.hand;
+      left = omega (arith, w, n, c.play_repeat.ensures.leaves.left);
+      draws = c.play_repeat.ensures.leaves.draws;
+      name = c.play_repeat.ensures.leaves.name;
+      room = omega (arith, v, m, c.play_repeat.ensures.leaves.room);
+    }
+
+pub returns-in-None-clause-gone : goal.returns-in-None-clause-gone
+returns-in-None-clause-gone g c =
+    let p = played 62 c.args.session.now.state.opened.depth (kinds_at c.args.session.now.state) c.args.lines.now c.in-Some.first.now c.in-Some.others.now c.in-Some.ensures.cases.0 (sym c.times_of.ensures ∙ c.in-None.is) c.requires.may in
+    record { first = take 1 c.args.lines.now; are = p.written; played = c.play_lines.ensures.played }
+
+pub returns-in-None-clause-may : goal.returns-in-None-clause-may
+returns-in-None-clause-may g c =
+    let p = played 62 c.args.session.now.state.opened.depth (kinds_at c.args.session.now.state) c.args.lines.now c.in-Some.first.now c.in-Some.others.now c.in-Some.ensures.cases.0 (sym c.times_of.ensures ∙ c.in-None.is) c.requires.may in
+    subst (λ (k : List EventKind). AllMayPlay 62 c.args.session.now.state.opened.depth k None (drop 1 c.args.lines.now)) (sym c.play_lines.ensures.kinds) p.others
+
+pub returns-in-None-clause-kinds : goal.returns-in-None-clause-kinds
+returns-in-None-clause-kinds g c =
+    let p = played 62 c.args.session.now.state.opened.depth (kinds_at c.args.session.now.state) c.args.lines.now c.in-Some.first.now c.in-Some.others.now c.in-Some.ensures.cases.0 (sym c.times_of.ensures ∙ c.in-None.is) c.requires.may in
+    ap (λ (k : List EventKind). kinds_after k (written_out (drop 1 c.args.lines.now))) c.play_lines.ensures.kinds
+    ∙ sym (ap (kinds_after (kinds_at c.args.session.now.state)) p.written ∙ kinds_then (kinds_at c.args.session.now.state) (take 1 c.args.lines.now) (written_out (drop 1 c.args.lines.now)))
+
+pub returns-in-None-clause-drawn : goal.returns-in-None-clause-drawn
+returns-in-None-clause-drawn g c =
+    let p = played 62 c.args.session.now.state.opened.depth (kinds_at c.args.session.now.state) c.args.lines.now c.in-Some.first.now c.in-Some.others.now c.in-Some.ensures.cases.0 (sym c.times_of.ensures ∙ c.in-None.is) c.requires.may in
+    omega (arith, p.lengths, c.play_lines.ensures.drawn)
+
+pub returns-in-None-clause-leaves : goal.returns-in-None-clause-leaves
+returns-in-None-clause-leaves g c =
+    let p = played 62 c.args.session.now.state.opened.depth (kinds_at c.args.session.now.state) c.args.lines.now c.in-Some.first.now c.in-Some.others.now c.in-Some.ensures.cases.0 (sym c.times_of.ensures ∙ c.in-None.is) c.requires.may in
+    record {
+      hand = c.play_lines.ensures.leaves.hand;
+      left = omega (arith, p.lengths, c.play_lines.ensures.leaves.left);
+      draws = c.play_lines.ensures.leaves.draws;
+      name = c.play_lines.ensures.leaves.name;
+      room = omega (arith, p.costs, c.play_lines.ensures.leaves.room);
+    }
