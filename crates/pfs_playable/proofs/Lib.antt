@@ -1,0 +1,14 @@
+mod Bools
+mod Bounds
+mod ClassBounds
+mod OwnBlocks
+mod Leaving
+mod Prefixes
+mod Bodies
+mod Running
+mod PhaseSplits
+mod PhaseSessions
+mod OwnLines
+mod Totals
+mod Phases
+pub mod Examples
