@@ -1,0 +1,67 @@
+-- An action as a part of its session, and parts one after another.
+use Rattle.std.proofs.Common.{ℕ, ◌≡◌, ◌<◌, ◌≤◌, length, arith, List, [], ◌∷◌, ◌++◌, Option, Some, None, refl, ap, sym, ◌∙◌, subst, append_assoc}
+use Rattle.std.specs.Prelude.{IfSome}
+use Rattle.std.proofs.lemmas.List.{append-nil}
+use Rattle.pfs_admin.specs.Asks.{placed_of}
+use Rattle.pfs_admin.specs.States.{State as Administration, seat_at}
+use Rattle.pfs_alone.specs.Spells.{around, doings_calls, label_of}
+use Rattle.pfs_board.specs.declared.view.Label.{Label}
+use Rattle.pfs_containers.specs.Administration.{Containers, lowest_free}
+use Rattle.pfs_containers.specs.Kept.{seat_by}
+use Rattle.pfs_containers.proofs.Keeping.{free_inside}
+use Rattle.pfs_event.specs.declared.entry.Entry.{Entry}
+use Rattle.pfs_levels.specs.Calls.{Call, Opening, Goes, Begins, Enters, Leaves}
+use Rattle.pfs_model.specs.Journals.{joined}
+use Rattle.pfs_parts.specs.Deeds.{Deed, Part, action_of, part_calls, part_entries, steps_for}
+use Rattle.pfs_session.specs.States.{Book}
+use Rattle.pfs_session.specs.Turns.{Played, turns_calls}
+use Rattle.pfs_actions.specs.Done.{HasActed}
+
+joined_one : (entries : List Entry) → joined (entries ∷ []) ≡ entries
+unfolding joined
+joined_one entries = append-nil entries
+
+-- the calls of an action, behind others
+around_calls : (label : Label) (labels : List Label) (its calls : List Call) → (Leaves ∷ (its ++ Enters label labels ∷ [])) ++ calls ≡ (Leaves ∷ []) ++ (its ++ Enters label labels ∷ calls)
+around_calls label labels its calls = ap (λ (z : List Call). Leaves ∷ z) (append_assoc its (Enters label labels ∷ []) calls)
+
+-- a session that entered, did the steps of a deed, and left
+pub acted : (deed : Deed) (number answer : ℕ) (old new : Book) (was begun did now : Opening → List Call → Type 0) → action_of deed ≡ Some number → Begins was begun (label_of old.state) answer → Played (steps_for old.state deed) old new begun did → Goes did now (Leaves ∷ []) → HasActed deed old new was now
+acted deed number answer old new was begun did now acts begins played leaves =
+    let its : Part = record { deed = deed; turns = played.turns } in
+    record {
+      part = its;
+      deed_is = refl;
+      done = record {
+        are_parts = (record { are_turns = played.are_turns; steps_are = played.steps_are }, tt);
+        state = played.state_is;
+        entries_are = played.did.entries_are ∙ ap (λ (z : List Entry). old.journal.entries ++ z) (sym (joined_one (part_entries its)));
+        leads = λ start calls h.
+            let found = begins start calls h in
+            let labels : List Label = found.0 in
+            let inside : did start (turns_calls played.turns ++ Enters (label_of old.state) labels ∷ calls) = played.did.goes start (Enters (label_of old.state) labels ∷ calls) found.1.1 in
+            let left = leaves start (turns_calls played.turns ++ Enters (label_of old.state) labels ∷ calls) inside in
+            record {
+              doings = (record { part = its; label = label_of old.state; labels = labels }) ∷ [];
+              parts_are = refl;
+              labelled = (subst (λ (n : Option ℕ). IfSome n (λ k. label_of old.state ≡ label_of old.state)) (sym acts) refl, tt);
+              reached = subst (λ (z : List Call). now start (z ++ calls)) (sym (one_doing its labels acts)) (subst (λ (z : List Call). now start z) (sym (around_calls (label_of old.state) labels (turns_calls played.turns) calls)) left);
+            };
+      };
+    }
+  where
+    one_doing : (its : Part) (labels : List Label) → action_of its.deed ≡ Some number → doings_calls ((record { part = its; label = label_of old.state; labels = labels }) ∷ []) ≡ Leaves ∷ (part_calls its ++ Enters (label_of old.state) labels ∷ [])
+    one_doing its labels is = ap (λ (n : Option ℕ). around (label_of old.state) labels n (part_calls its)) is
+
+-- a session gets one of the slots
+seat_inside : (most : ℕ) (now : Containers) (number user host : ℕ) (slot : Option ℕ) → IfSome slot (λ n. n < most) → IfSome (placed_of (seat_by now number user host slot)).thread (λ n. n < most)
+seat_inside most now number user host None inside = tt
+seat_inside most now number user host (Some slot) inside = inside
+
+fewer : (few many : ℕ) (slot : Option ℕ) → few ≤ many → IfSome slot (λ n. n < few) → IfSome slot (λ n. n < many)
+fewer few many None less inside = tt
+fewer few many (Some slot) less inside = omega (arith, less, inside)
+
+pub gets_a_slot : (s : Administration) (number user host : ℕ) → length s.kept.now.places.threads ≤ 32 → IfSome (placed_of (seat_at s number user host)).thread (λ n. n < 32)
+gets_a_slot s number user host few =
+    seat_inside 32 s.kept.now number user host (lowest_free s.kept.now.places.threads) (fewer (length s.kept.now.places.threads) 32 (lowest_free s.kept.now.places.threads) few (free_inside s.kept.now.places.threads))

@@ -1,0 +1,83 @@
+//! Actions of a session: it enters with its label, does what it asks for, and leaves.
+
+ghost use Rattle.std.specs.Prelude.{◌≡◌, ◌<◌, ◌≤◌, ◌+◌, ◌^◌, ℕ, [], false, None, Some, length};
+ghost use Rattle.pfs_admin.specs.States.{connected, has_quit};
+ghost use Rattle.pfs_admin.specs.Works.{Leaves};
+ghost use Rattle.pfs_parts.specs.Deeds.{Connecting, MayDo, Quitting};
+ghost use Rattle.pfs_session.specs.Settles.{owed_by_state, settle_cost};
+ghost use Rattle.pfs_session.specs.States.{no_place, nothing_held};
+ghost use Rattle.pfs_actions.specs.Done.{HasActed};
+
+use pfs_admin::Admin;
+use pfs_levels::Acts;
+use pfs_names::NameId;
+use pfs_session::Session;
+
+/// Connects a session, its first action: the store gives the action its number, and the session gets the places that the
+/// administration finds for this user and this host.
+pub fn connect<A: Acts>(
+    session: &mut Session,
+    rows: &mut A,
+    admin: &mut Admin,
+    user: NameId,
+    host: NameId,
+)
+    requires first { session.old.state.actions ≡ 0 }
+    requires unplaced { session.old.state.place ≡ no_place }
+    requires closed { session.old.state.opened.events ≡ [] }
+    requires free { session.old.state.held ≡ nothing_held }
+    requires few { admin.old.actions < 2 ^ 47 }
+    requires slots { length admin.old.kept.now.places.threads ≤ 32 }
+    requires user { user < length admin.old.names }
+    requires host { host < length admin.old.names }
+    requires idle { (r : ℕ) → A.hand rows.old r ≡ None }
+    requires lent { A.words rows.old ≡ Some admin.old.words }
+    requires spare { 5 ≤ A.left rows.old }
+    requires room { 6 ≤ session.old.journal.room }
+    ensures acted { HasActed (Connecting admin.old user host) session.old session.new (A.reached rows.old)
+        (A.reached rows.new) }
+    ensures may { MayDo false session.old.state (Connecting admin.old user host) }
+    ensures admin { admin.new ≡ connected admin.old session.old.state.number user host }
+    ensures rest { session.new.state ≡ record session.old.state {
+      place = session.new.state.place;
+      actions = 1;
+      last = session.new.state.last;
+    } }
+    ensures leaves { Leaves 5 6 (A.hand rows.old) (A.hand rows.new) (A.left rows.old) (A.left rows.new)
+        (A.draws rows.old) (A.draws rows.new) (A.name rows.old) (A.name rows.new) session.old.journal
+        session.new.journal }
+    ensures lent { A.words rows.new ≡ Some admin.new.words }
+{
+    rows.enter(session.label());
+    session.connect(rows, admin, user, host);
+    rows.leave();
+}
+
+/// Ends a session's connection, an action: what it holds is settled first.
+pub fn quit<A: Acts>(session: &mut Session, rows: &mut A, admin: &mut Admin)
+    requires closed { session.old.state.opened.events ≡ [] }
+    requires early { session.old.state.actions + 1 < 2 ^ 64 }
+    requires few { admin.old.actions < 2 ^ 47 }
+    requires idle { (r : ℕ) → A.hand rows.old r ≡ None }
+    requires lent { A.words rows.old ≡ Some admin.old.words }
+    requires spare { length (owed_by_state session.old.state) + 197 ≤ A.left rows.old }
+    requires room { settle_cost (owed_by_state session.old.state) + 198 ≤ session.old.journal.room }
+    ensures acted { HasActed (Quitting admin.old) session.old session.new (A.reached rows.old) (A.reached rows.new) }
+    ensures may { MayDo false session.old.state (Quitting admin.old) }
+    ensures admin { admin.new ≡ has_quit admin.old session.old.state.number }
+    ensures rest { session.new.state ≡ record session.old.state {
+      place = no_place;
+      held = nothing_held;
+      actions = session.old.state.actions + 1;
+      last = session.new.state.last;
+    } }
+    ensures leaves { Leaves (length (owed_by_state session.old.state) + 197)
+        (settle_cost (owed_by_state session.old.state) + 198) (A.hand rows.old) (A.hand rows.new) (A.left rows.old)
+        (A.left rows.new) (A.draws rows.old) (A.draws rows.new) (A.name rows.old) (A.name rows.new)
+        session.old.journal session.new.journal }
+    ensures lent { A.words rows.new ≡ Some admin.new.words }
+{
+    rows.enter(session.label());
+    session.quit(rows, admin);
+    rows.leave();
+}
