@@ -1,5 +1,5 @@
 -- An action as a part of its session, and parts one after another.
-use Rattle.std.proofs.Common.{ℕ, ◌≡◌, ◌<◌, ◌≤◌, length, arith, List, [], ◌∷◌, ◌++◌, Option, Some, None, refl, ap, sym, ◌∙◌, subst, append_assoc}
+use Rattle.std.proofs.Common.{false, ℕ, ◌≡◌, ◌<◌, ◌≤◌, length, arith, List, [], ◌∷◌, ◌++◌, Option, Some, None, refl, ap, sym, ◌∙◌, subst, append_assoc}
 use Rattle.std.specs.Prelude.{IfSome}
 use Rattle.std.proofs.lemmas.List.{append-nil}
 use Rattle.pfs_admin.specs.Asks.{placed_of}
@@ -12,8 +12,8 @@ use Rattle.pfs_containers.proofs.Keeping.{free_inside}
 use Rattle.pfs_event.specs.declared.entry.Entry.{Entry}
 use Rattle.pfs_levels.specs.Calls.{Call, Opening, Goes, Begins, Enters, Leaves}
 use Rattle.pfs_model.specs.Journals.{joined}
-use Rattle.pfs_parts.specs.Deeds.{Deed, Part, action_of, part_calls, part_entries, steps_for}
-use Rattle.pfs_session.specs.States.{Book}
+use Rattle.pfs_parts.specs.Deeds.{Connecting, Deed, MayDo, Part, Quitting, action_of, part_calls, part_entries, steps_for}
+use Rattle.pfs_session.specs.States.{State, Book, nothing_held}
 use Rattle.pfs_session.specs.Turns.{Played, turns_calls}
 use Rattle.pfs_actions.specs.Done.{HasActed}
 
@@ -62,6 +62,13 @@ fewer : (few many : ℕ) (slot : Option ℕ) → few ≤ many → IfSome slot (�
 fewer few many None less inside = tt
 fewer few many (Some slot) less inside = omega (arith, less, inside)
 
-pub gets_a_slot : (s : Administration) (number user host : ℕ) → length s.kept.now.places.threads ≤ 32 → IfSome (placed_of (seat_at s number user host)).thread (λ n. n < 32)
+gets_a_slot : (s : Administration) (number user host : ℕ) → length s.kept.now.places.threads ≤ 32 → IfSome (placed_of (seat_at s number user host)).thread (λ n. n < 32)
 gets_a_slot s number user host few =
     seat_inside 32 s.kept.now number user host (lowest_free s.kept.now.places.threads) (fewer (length s.kept.now.places.threads) 32 (lowest_free s.kept.now.places.threads) few (free_inside s.kept.now.places.threads))
+
+-- so a session that has nothing open and holds nothing may connect, and one that has nothing open may end
+pub may_connect : (s : State) (admin : Administration) (user host : ℕ) → s.opened.events ≡ [] → s.held ≡ nothing_held → length admin.kept.now.places.threads ≤ 32 → MayDo false s (Connecting admin user host)
+may_connect s admin user host closed free few = (refl, closed, free, gets_a_slot admin s.number user host few)
+
+pub may_quit : (s : State) (admin : Administration) → s.opened.events ≡ [] → MayDo false s (Quitting admin)
+may_quit s admin closed = (refl, closed)

@@ -1,9 +1,9 @@
 //! Actions of a session: it enters with its label, does what it asks for, and leaves.
 
-ghost use Rattle.std.specs.Prelude.{◌≡◌, ◌<◌, ◌≤◌, ◌+◌, ◌^◌, ℕ, [], false, None, Some, length};
+ghost use Rattle.std.specs.Prelude.{◌≡◌, ◌<◌, ◌≤◌, ◌+◌, ◌^◌, ℕ, [], None, Some, length};
 ghost use Rattle.pfs_admin.specs.States.{connected, has_quit};
 ghost use Rattle.pfs_admin.specs.Works.{Leaves};
-ghost use Rattle.pfs_parts.specs.Deeds.{Connecting, MayDo, Quitting};
+ghost use Rattle.pfs_parts.specs.Deeds.{Connecting, Quitting};
 ghost use Rattle.pfs_session.specs.Settles.{owed_by_state, settle_cost};
 ghost use Rattle.pfs_session.specs.States.{no_place, nothing_held};
 ghost use Rattle.pfs_actions.specs.Done.{HasActed};
@@ -25,9 +25,7 @@ pub fn connect<A: Acts>(
     requires first { session.old.state.actions ≡ 0 }
     requires unplaced { session.old.state.place ≡ no_place }
     requires closed { session.old.state.opened.events ≡ [] }
-    requires free { session.old.state.held ≡ nothing_held }
     requires few { admin.old.actions < 2 ^ 47 }
-    requires slots { length admin.old.kept.now.places.threads ≤ 32 }
     requires user { user < length admin.old.names }
     requires host { host < length admin.old.names }
     requires idle { (r : ℕ) → A.hand rows.old r ≡ None }
@@ -36,7 +34,6 @@ pub fn connect<A: Acts>(
     requires room { 6 ≤ session.old.journal.room }
     ensures acted { HasActed (Connecting admin.old user host) session.old session.new (A.reached rows.old)
         (A.reached rows.new) }
-    ensures may { MayDo false session.old.state (Connecting admin.old user host) }
     ensures admin { admin.new ≡ connected admin.old session.old.state.number user host }
     ensures rest { session.new.state ≡ record session.old.state {
       place = session.new.state.place;
@@ -63,7 +60,6 @@ pub fn quit<A: Acts>(session: &mut Session, rows: &mut A, admin: &mut Admin)
     requires spare { length (owed_by_state session.old.state) + 197 ≤ A.left rows.old }
     requires room { settle_cost (owed_by_state session.old.state) + 198 ≤ session.old.journal.room }
     ensures acted { HasActed (Quitting admin.old) session.old session.new (A.reached rows.old) (A.reached rows.new) }
-    ensures may { MayDo false session.old.state (Quitting admin.old) }
     ensures admin { admin.new ≡ has_quit admin.old session.old.state.number }
     ensures rest { session.new.state ≡ record session.old.state {
       place = no_place;

@@ -2,7 +2,7 @@ use Rattle.std.proofs.Common.{◌+◌, refl, subst}
 use Rattle.pfs_board.specs.declared.view.Label.{Label}
 use Rattle.pfs_levels.specs.Calls.{Begins}
 use Rattle.pfs_parts.specs.Deeds.{Connecting}
-use Rattle.pfs_actions.proofs.Acting.{acted, gets_a_slot}
+use Rattle.pfs_actions.proofs.Acting.{acted}
 use Rattle.pfs_actions.proofs.actions.connect.Goals as goal
 
 pub returns-clause-acted : goal.returns-clause-acted
@@ -10,6 +10,3 @@ returns-clause-acted g c =
     acted (Connecting c.args.admin.now c.args.user c.args.host) (c.args.admin.now.actions + 1) c.enter.result c.args.session.now c.connect.new.self (g.A.Rows.reached c.args.rows.now) (g.A.Rows.reached c.enter.new.self)
     (g.A.Rows.reached c.connect.new.rows) (g.A.Rows.reached c.leave.new.self) refl
     (subst (λ (label : Label). Begins (g.A.Rows.reached c.args.rows.now) (g.A.Rows.reached c.enter.new.self) label c.enter.result) c.label.ensures c.enter.ensures.call) c.connect.ensures.played c.leave.ensures.call
-
-pub returns-clause-may : goal.returns-clause-may
-returns-clause-may g c = (refl, c.requires.closed, c.requires.free, gets_a_slot c.args.admin.now c.args.session.now.state.number c.args.user c.args.host c.requires.slots)
