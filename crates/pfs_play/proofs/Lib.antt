@@ -2,3 +2,4 @@ pub mod Running
 pub mod Following
 pub mod Repeating
 pub mod Writing
+pub mod Costing

@@ -1,11 +1,13 @@
 //! Playing the lines of a script in their session, over any store.
 #![tactic(auto)]
 
+mod costs;
 mod errands;
 mod lines;
 mod playing;
 mod repeats;
 
+pub use costs::written_cost;
 pub use errands::{Errand, errand_of};
 pub use lines::play_lines;
 pub use playing::play;

@@ -52,7 +52,7 @@ pub fn play_times<R: Rows>(session: &mut Session, rows: &mut R, body: &[BlockLin
 }
 
 // How often the lines run that begin behind this one, where it begins a repeat.
-fn times_of(line: &BlockLine) -> Option<u64>
+pub(crate) fn times_of(line: &BlockLine) -> Option<u64>
     ensures { result ≡ repeats_of line.now }
 {
     match line {
@@ -68,7 +68,7 @@ fn is_done(line: &BlockLine) -> bool
 }
 
 // The place of the line that ends a repeat, the first of these.
-fn done_in(lines: &[BlockLine]) -> Option<usize>
+pub(crate) fn done_in(lines: &[BlockLine]) -> Option<usize>
     ensures { result ≡ position is_done lines.now }
 {
     lines.iter().position(|line| is_done(line))

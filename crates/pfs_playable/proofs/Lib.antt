@@ -10,5 +10,6 @@ mod PhaseSplits
 mod PhaseSessions
 mod OwnLines
 mod Totals
+mod Blocks
 mod Phases
 pub mod Examples

@@ -85,7 +85,7 @@ rounds_more times body longer line None h = omega arith
 rounds_more times body longer line (Some more) h =
     times_more (times - 1) (longer + length more) (body + suc (length more)) (omega (arith, h))
 
-counted_first : (line : Form) (lines : List Form)
+pub counted_first : (line : Form) (lines : List Form)
     → counted one_each (line ∷ lines) ≡ 1 + again one_each line lines + counted one_each lines
 unfolding counted
 counted_first line lines = refl

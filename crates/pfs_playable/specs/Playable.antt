@@ -1,5 +1,5 @@
 -- When the blocks of a script may be played, phase after phase, each in its session.
-use Rattle.std.specs.Prelude.{ℕ, ◌≡◌, ◌≤◌, ◌+◌, Bool, true, false, List, [], ◌∷◌, ◌++◌, length, map, None, MatchOption}
+use Rattle.std.specs.Prelude.{ℕ, ◌≡◌, ◌≤◌, ◌<◌, ◌+◌, Bool, true, false, List, [], ◌∷◌, ◌++◌, length, map, None, IfSome, MatchOption}
 use Rattle.std.specs.List.{All, sum_by}
 use Rattle.pfs_classes.specs.declared.setting.Setting.{Setting}
 use Rattle.pfs_event.specs.declared.kind.EventKind.{EventKind}
@@ -38,6 +38,10 @@ written_in phases = sum_by (λ (phase : Phase). written_among phase.blocks) phas
 abbrev pub end_of : Bool → List BlockLine
 end_of true = said.Quit ∷ []
 end_of false = []
+
+-- how many blocks phases have
+abbrev pub blocks_in : List Phase → ℕ
+blocks_in phases = sum_by (λ (phase : Phase). length phase.blocks) phases
 
 -- The lines of a block, but for a quit at their end, may be played where those events are open that its session left
 -- open, under each depth that isn't below the number of the session's lines so far, those of the block among them: each
@@ -80,3 +84,22 @@ PlayableLaw = (text : List ℕ) (setting : Setting) (phases before : List Phase)
 abbrev pub TotalLaw : Type 0
 TotalLaw = (text : List ℕ) (setting : Setting) (phases : List Phase) → IsScript Whole text setting phases
     → written_in phases ≤ 200000
+
+-- each block is begun by a line, so there are as few
+abbrev pub FewLaw : Type 0
+FewLaw = (text : List ℕ) (setting : Setting) (phases : List Phase) → IsScript Whole text setting phases
+    → blocks_in phases ≤ 200000
+
+-- and a session has as few lines, those of a repeat once
+abbrev pub LinesLaw : Type 0
+LinesLaw = (text : List ℕ) (setting : Setting) (phases : List Phase) (session : ℕ)
+    → IsScript Whole text setting phases → lines_among (blocks_for session phases) ≤ 200000
+
+-- a block that connects its session gives names of the setting
+abbrev pub IsNamed : Setting → Block → Type 0
+IsNamed setting block =
+    IfSome block.connect (λ names. (names.user < length setting.names) × (names.host < length setting.names))
+
+abbrev pub NamedLaw : Type 0
+NamedLaw = (text : List ℕ) (setting : Setting) (phases : List Phase) → IsScript Whole text setting phases
+    → All (λ phase. All (IsNamed setting) phase.blocks) phases

@@ -1,7 +1,7 @@
 //! Laws of the definitions.
 
 ghost use Rattle.pfs_playable.specs.Examples.{WorkedPhases};
-ghost use Rattle.pfs_playable.specs.Playable.{PlayableLaw, TotalLaw};
+ghost use Rattle.pfs_playable.specs.Playable.{FewLaw, LinesLaw, NamedLaw, PlayableLaw, TotalLaw};
 
 /// The blocks of each phase of any script may be played, behind the phases before it.
 pub fn playable()
@@ -11,6 +11,21 @@ pub fn playable()
 /// With each repeat written out the blocks of any script have at most 200,000 lines together.
 pub fn total()
     ensures { TotalLaw }
+{}
+
+/// Any script has at most 200,000 blocks.
+pub fn few()
+    ensures { FewLaw }
+{}
+
+/// The blocks of a session of any script have at most 200,000 lines, those of a repeat once.
+pub fn lines()
+    ensures { LinesLaw }
+{}
+
+/// Where a block of any script connects its session, it gives names of the script's setting.
+pub fn named()
+    ensures { NamedLaw }
 {}
 
 /// A script of two sessions and two phases, worked, and what may not be played.

@@ -1,0 +1,38 @@
+use Rattle.std.proofs.Common.{◌≡◌, ◌+◌, ◌*◌, ◌∙◌, List, ap, sym, length, take, drop, arith}
+use Rattle.pfs_script.specs.Marks.{written_out}
+use Rattle.pfs_play.specs.Errands.{cost_on}
+use Rattle.pfs_play.proofs.Costing.{round_cost, open_cost}
+use Rattle.pfs_play.proofs.Writing.{nothing_behind}
+use Rattle.pfs_play.proofs.costs.repeat_cost.Goals as goal
+
+pub rounds_cost-requires : goal.rounds_cost-requires
+rounds_cost-requires c =
+    let r = round_cost c.args.times c.in-Some.end c.args.lines.now (sym c.done_in.ensures ∙ c.in-Some.is) in
+    record { short = omega (arith, r.lengths, c.requires.short) }
+
+pub rounds_cost-requires-in-None : goal.rounds_cost-requires-in-None
+rounds_cost-requires-in-None c =
+    let w = ap length (open_cost c.args.times c.args.lines.now (sym c.done_in.ensures ∙ c.in-None.is)) in
+    record { short = omega (arith, w, c.requires.short) }
+
+pub returns-in-Some-clause-cost : goal.returns-in-Some-clause-cost
+returns-in-Some-clause-cost c =
+    let r = round_cost c.args.times c.in-Some.end c.args.lines.now (sym c.done_in.ensures ∙ c.in-Some.is) in
+    r.cost ∙ ap (λ n. n + cost_on (written_out (drop (c.in-Some.end + 1) c.args.lines.now))) (sym c.rounds_cost.ensures)
+
+pub returns-in-Some-clause-shorter : goal.returns-in-Some-clause-shorter
+returns-in-Some-clause-shorter c =
+    let r = round_cost c.args.times c.in-Some.end c.args.lines.now (sym c.done_in.ensures ∙ c.in-Some.is) in
+    omega (arith, r.lengths)
+
+pub returns-in-None-clause-cost : goal.returns-in-None-clause-cost
+returns-in-None-clause-cost c =
+    let w = ap cost_on (open_cost c.args.times c.args.lines.now (sym c.done_in.ensures ∙ c.in-None.is)) in
+    let none = ap cost_on (nothing_behind c.args.lines.now) in
+    let its = c.rounds_cost-in-None.ensures in
+    omega (arith, w, none, its)
+
+pub returns-in-None-clause-shorter : goal.returns-in-None-clause-shorter
+returns-in-None-clause-shorter c =
+    let none = ap length (nothing_behind c.args.lines.now) in
+    omega (arith, none)
