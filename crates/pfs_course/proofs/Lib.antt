@@ -1,0 +1,16 @@
+pub mod QuietLines
+pub mod Counting
+pub mod Following
+pub mod Naming
+pub mod Changing
+pub mod More
+pub mod Telling
+pub mod Matching
+pub mod Doing
+pub mod Dues
+pub mod Bringing
+pub mod Carrying
+pub mod Whole
+pub mod Ahead
+pub mod Playing
+mod Examples

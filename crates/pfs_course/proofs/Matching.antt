@@ -1,0 +1,107 @@
+-- The blocks of the journals are those of the script, phase by phase.
+use Rattle.std.proofs.Common.{ℕ, ◌≡◌, ◌+◌, List, [], ◌∷◌, ◌++◌, map, Option, Some, None, refl, ap, sym, ◌∙◌, subst}
+use Rattle.pfs_admin.specs.States.{State as Administration}
+use Rattle.pfs_alone.specs.Spells.{Spell, parts_in, stints_of}
+use Rattle.pfs_facts.specs.Deeds.{deed_on}
+use Rattle.pfs_journal.specs.declared.blocks.BlockReport.{BlockReport}
+use Rattle.pfs_journal.specs.declared.report.PhaseParts.{PhaseParts}
+use Rattle.pfs_model.specs.Places.{Block}
+use Rattle.pfs_model.specs.declared.lines.Line.TheVariants as told
+use Rattle.pfs_parts.specs.Deeds.{Closing, Part, line_of}
+use Rattle.pfs_parts.specs.Shaped.{lines_of}
+use Rattle.pfs_parts.specs.Stints.{Stint, block_of, blocks_of}
+use Rattle.pfs_ruled.proofs.Fronts.{stints_then}
+use Rattle.pfs_ruled.specs.Ruled.{journals_of}
+use Rattle.pfs_runs.specs.Lines.{line_in, connect_lines, lines_in}
+use Rattle.pfs_runs.specs.Runs.{AreBlocksOf, ArePhasesOf, all_blocks}
+use Rattle.pfs_script.specs.declared.blocks.Block.{Block as Said}
+use Rattle.pfs_script.specs.declared.blocks.BlockLine.{BlockLine}
+use Rattle.pfs_script.specs.declared.blocks.BlockLine.TheVariants as said
+use Rattle.pfs_script.specs.declared.blocks.Connect.{Connect}
+use Rattle.pfs_script.specs.declared.blocks.Phase.{Phase}
+use Rattle.pfs_script.specs.Marks.{written_out}
+use Rattle.pfs_course.specs.Course.{PhasedBlock, phased, numbered, connected_by, deeds_of, deeds_in, IsSpellOf, AreSpellsOf}
+use Rattle.pfs_course.specs.Told.{AreTold, ArePhasesTold}
+
+blocks_then : (xs ys : List Stint) → blocks_of (xs ++ ys) ≡ blocks_of xs ++ blocks_of ys
+blocks_then [] ys = refl
+blocks_then (x ∷ xs) ys = ap (λ z. block_of x ∷ z) (blocks_then xs ys)
+
+journals_then : (xs ys : List Spell) → journals_of (xs ++ ys) ≡ journals_of xs ++ journals_of ys
+journals_then xs ys = ap blocks_of (stints_then xs ys) ∙ blocks_then (stints_of xs) (stints_of ys)
+
+-- the lines of a block's deeds
+parts_lines : (ps : List Part) → lines_of ps ≡ map line_of (deeds_in ps)
+parts_lines [] = refl
+parts_lines (p ∷ ps) = ap (λ z. line_of p.deed ∷ z) (parts_lines ps)
+
+deed_line : (admin : Administration) (line : BlockLine) → line_of (deed_on admin line) ≡ line_in line
+deed_line admin said.Quit = refl
+deed_line admin _ = refl
+
+body_lines : (admin : Administration) (lines : List BlockLine) → map line_of (map (deed_on admin) lines ++ Closing ∷ []) ≡ map line_in lines ++ told.Close ∷ []
+body_lines admin [] = refl
+body_lines admin (line ∷ lines) = ap (λ z. z ∷ map line_of (map (deed_on admin) lines ++ Closing ∷ [])) (deed_line admin line) ∙ ap (λ z. line_in line ∷ z) (body_lines admin lines)
+
+deeds_lines : (admin : Administration) (session : ℕ) (connect : Option Connect) (lines : List BlockLine)
+    → map line_of (deeds_of admin session connect lines) ≡ connect_lines connect ++ (map line_in lines ++ told.Close ∷ [])
+deeds_lines admin session None lines = body_lines admin lines
+deeds_lines admin session (Some names) lines = ap (λ z. told.Connect ∷ z) (body_lines (connected_by admin session (Some names)) lines)
+
+spell_lines : (one : PhasedBlock) (spell : Spell) → IsSpellOf one spell → lines_of (parts_in spell.doings) ≡ lines_in one.block
+spell_lines one spell is =
+    parts_lines (parts_in spell.doings) ∙ (ap (map line_of) is.deeds ∙ deeds_lines is.admin one.block.session one.block.connect (written_out one.block.lines))
+
+-- the blocks of a phase
+blocks_are : (number : ℕ) (blocks : List Said) (spells : List Spell) (reports : List BlockReport) → AreTold number blocks spells reports → AreSpellsOf (phased number blocks) spells
+    → AreBlocksOf number blocks reports (journals_of spells)
+blocks_are number [] [] [] are of = tt
+blocks_are number (block ∷ blocks) (spell ∷ spells) (report ∷ reports) are of = (
+  record {
+    phase_is = are.0.phase;
+    session = are.0.session;
+    reported = are.0.reported;
+    lines = spell_lines (record { phase = number; block = block }) spell of.0;
+    entries = sym are.0.entries;
+    answers = are.0.answers;
+  },
+  blocks_are number blocks spells reports are.1 of.1,
+)
+blocks_are number [] [] (z ∷ zs) are of = absurd are
+blocks_are number [] (y ∷ ys) reports are of = absurd are
+blocks_are number (x ∷ xs) [] reports are of = absurd are
+blocks_are number (x ∷ xs) (y ∷ ys) [] are of = absurd are
+
+split_spells : (number : ℕ) (blocks : List Said) (first : List Spell) (reports : List BlockReport) (others : List PhasedBlock) (rest : List Spell) → AreTold number blocks first reports
+    → AreSpellsOf (phased number blocks ++ others) (first ++ rest) → AreSpellsOf (phased number blocks) first × AreSpellsOf others rest
+split_spells number [] [] [] others rest are of = (tt, of)
+split_spells number (block ∷ blocks) (spell ∷ first) (report ∷ reports) others rest are of =
+    let both : AreSpellsOf (phased number blocks) first × AreSpellsOf others rest = split_spells number blocks first reports others rest are.1 of.1 in
+    ((of.0, both.0), both.1)
+split_spells number [] [] (z ∷ zs) others rest are of = absurd are
+split_spells number [] (y ∷ ys) reports others rest are of = absurd are
+split_spells number (x ∷ xs) [] reports others rest are of = absurd are
+split_spells number (x ∷ xs) (y ∷ ys) [] others rest are of = absurd are
+
+-- all phases
+pub record HaveJournals (number : ℕ) (phases : List Phase) (reports : List PhaseParts) (spells : List Spell) : Type 0 where
+  pub blocks : List (List Block)
+  pub are : ArePhasesOf number phases reports blocks
+  pub all : all_blocks blocks ≡ journals_of spells
+
+pub have_journals : (number : ℕ) (phases : List Phase) (reports : List PhaseParts) (spells : List Spell) → ArePhasesTold number phases reports spells → AreSpellsOf (numbered number phases) spells
+    → HaveJournals number phases reports spells
+have_journals number [] [] spells are of = record { blocks = []; are = tt; all = ap journals_of (sym are) }
+have_journals number [] (y ∷ ys) spells are of = absurd are
+have_journals number (x ∷ xs) [] spells are of = absurd are
+have_journals number (phase ∷ phases) (report ∷ reports) spells are of =
+    let first : List Spell = are.0 in
+    let rest : List Spell = are.1 in
+    let both : AreSpellsOf (phased number phase.blocks) first × AreSpellsOf (numbered (number + 1) phases) rest =
+    split_spells number phase.blocks first report.blocks (numbered (number + 1) phases) rest are.2.blocks (subst (AreSpellsOf (phased number phase.blocks ++ numbered (number + 1) phases)) are.2.split of) in
+    let others : HaveJournals (number + 1) phases reports rest = have_journals (number + 1) phases reports rest are.3 both.1 in
+    record {
+      blocks = journals_of first ∷ others.blocks;
+      are = (are.2.numbered, blocks_are number phase.blocks first report.blocks are.2.blocks both.0, others.are);
+      all = ap (λ z. journals_of first ++ z) others.all ∙ (sym (journals_then first rest) ∙ ap journals_of (sym are.2.split));
+    }

@@ -1,0 +1,67 @@
+-- A course over all blocks of a script, with a report that tells of it, is a run but for the ends of phases.
+use Rattle.std.proofs.Common.{ℕ, ◌≡◌, List, sym, subst}
+use Rattle.pfs_admin.specs.Opening.{opening_flags}
+use Rattle.pfs_admin.specs.declared.changes.Change.{Change}
+use Rattle.pfs_alone.proofs.Stinted.{AreTogether, together}
+use Rattle.pfs_alone.specs.Alone.{printed}
+use Rattle.pfs_alone.specs.Spells.{stints_of}
+use Rattle.pfs_asked.specs.Takes.{all_taken, counted_by}
+use Rattle.pfs_board.specs.declared.view.Label.{Label}
+use Rattle.pfs_facts.specs.Deeds.{SessionLaw}
+use Rattle.pfs_matching.specs.ObjectRules.{opening_objects}
+use Rattle.pfs_model.specs.Places.{places}
+use Rattle.pfs_model.specs.Plain.{IsPlain}
+use Rattle.pfs_parts.specs.Amounts.{AllFacts, at_first}
+use Rattle.pfs_parts.specs.Stints.{Stint, parts_by}
+use Rattle.pfs_ruled.specs.Ruled.{RuledLaw, IsRuled, journals_of, entries_of, labels_of, contents_of}
+use Rattle.pfs_runs.specs.Labels.{AreLabels, terms_of}
+use Rattle.pfs_runs.specs.Lines.{change_in, facts_in}
+use Rattle.pfs_runs.specs.Rules.{AreRules}
+use Rattle.pfs_runs.specs.Runs.{AreBroughtOnce, AreFinal, all_blocks}
+use Rattle.pfs_script.proofs.EventLemmas.{session_events}
+use Rattle.pfs_script.specs.Events.{lines_for, events_for}
+use Rattle.pfs_course.specs.Whole.{WholeLaw, IsFinalBy, RunLaw}
+use Rattle.pfs_course.proofs.Carrying.{brought}
+use Rattle.pfs_course.proofs.Doing.{session_does}
+use Rattle.pfs_course.proofs.Matching.{HaveJournals, have_journals}
+
+pub whole : RuledLaw → SessionLaw → WholeLaw
+whole ruled session_law = λ setting phases report depths spells admin c told format.
+    (let flags : List ℕ = opening_flags setting opening_objects in
+    let stack : ℕ = setting.limits.statement_stack in
+    let change : Label → Change = change_in phases in
+    let stints : List Stint = stints_of spells in
+    let facts : (session : ℕ) → AllFacts (facts_in phases session) at_first (parts_by session stints) = λ session.
+    session_law stack depths session stints (lines_for session phases) (events_for session phases) c.are_spells.stints (session_events session phases) (session_does session 1 phases spells c.blocks) in
+    let is : IsRuled setting change (facts_in phases) spells = ruled setting change (facts_in phases) depths spells c.are_spells c.answer c.folded c.first facts in
+    let t : AreTogether flags spells = together flags stack depths spells c.are_spells c.answer in
+    let once : AreBroughtOnce (entries_of spells) = brought (printed flags (entries_of spells)) stack depths stints c.are_spells.stints t.loads in
+    let h : HaveJournals 1 phases report.phases spells = have_journals 1 phases report.phases spells told c.blocks in
+    let same : journals_of spells ≡ all_blocks h.blocks = sym h.all in
+    record {
+      format = format;
+      blocks = h.blocks;
+      journals = h.all;
+      phases_are = h.are;
+      labelled = subst (λ z. AreLabels (labels_of spells) (places z)) same is.labelled;
+      rules = λ answers. subst (AreRules (terms_of setting change (facts_in phases) answers (labels_of spells)) (counted_by (contents_of spells) (all_taken stints)) (contents_of spells)) same (is.rules answers);
+      brought = subst (λ z. AreBroughtOnce (places z)) same once;
+      plain = subst (λ z. IsPlain (places z)) same is.plain;
+    })
+
+pub run_of : RunLaw
+run_of = λ setting phases report spells r finals. record {
+  run = record {
+    format = r.format;
+    blocks = r.blocks;
+    labels = labels_of spells;
+    counted = counted_by (contents_of spells) (all_taken (stints_of spells));
+    content = contents_of spells;
+    phases_are = r.phases_are;
+    labelled = r.labelled;
+    rules = r.rules;
+    brought = r.brought;
+    finals = λ answers. subst (λ z. AreFinal (IsFinalBy setting phases spells answers (places z)) report.phases) (sym r.journals) (finals answers);
+  };
+  plain = r.plain;
+}

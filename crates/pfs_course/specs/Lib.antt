@@ -1,0 +1,5 @@
+pub mod Course
+pub mod Steps
+pub mod Told
+pub mod Whole
+pub mod Ahead

@@ -1,0 +1,45 @@
+-- Where the calls of a store lead as the spells' own do, they go on to: whatever is read between, and by one spell more.
+use Rattle.std.proofs.Common.{ℕ, ◌≡◌, List, [], ◌∷◌, ◌++◌, sym, subst}
+use Rattle.pfs_alone.specs.Spells.{Spell, doings_calls, calls_of}
+use Rattle.pfs_levels.specs.Calls.{Call}
+use Rattle.pfs_levels.specs.Plain.{AllAnswer}
+use Rattle.pfs_reader.proofs.Reading.{calls_then as readings_then}
+use Rattle.pfs_reader.specs.Readings.{call_of}
+use Rattle.pfs_reader.specs.Readings.{calls_of as calls_of_readings}
+use Rattle.pfs_rows.specs.declared.table.Reading.{Reading}
+use Rattle.pfs_rows.specs.declared.table.Reading.TheVariants as readings
+use Rattle.pfs_ruled.proofs.Fronts.{calls_then}
+use Rattle.pfs_ruled.proofs.Quiet.{OnlyReads, AllOnlyRead, LeadAlike, reads_more, calls_more, answers_more}
+
+-- readings only read
+only_then : (xs ys : List Call) → AllOnlyRead xs → AllOnlyRead ys → AllOnlyRead (xs ++ ys)
+only_then [] ys p q = q
+only_then (x ∷ xs) ys p q = (p.0, only_then xs ys p.1 q)
+
+reading_reads : (r : Reading) → OnlyReads (call_of r)
+reading_reads (readings.Slot row seen) = tt
+reading_reads (readings.Word word version flags) = tt
+
+pub readings_read : (rs : List Reading) → AllOnlyRead (calls_of_readings rs)
+readings_read [] = tt
+readings_read (r ∷ rs) =
+    let behind : AllOnlyRead (calls_of_readings rs) = readings_read rs in
+    subst AllOnlyRead (sym (readings_then (r ∷ []) rs)) (only_then (calls_of_readings rs) (call_of r ∷ []) behind (reading_reads r, tt))
+
+-- so behind them the calls lead where they led
+pub leads_still : (rs : List Reading) (calls others : List Call) → LeadAlike calls others → LeadAlike (calls_of_readings rs ++ calls) others
+leads_still rs calls others alike = reads_more (calls_of_readings rs) calls others (readings_read rs) alike
+
+last_calls : (spells : List Spell) (spell : Spell) → calls_of (spells ++ spell ∷ []) ≡ doings_calls spell.doings ++ calls_of spells
+last_calls spells spell = calls_then spells (spell ∷ [])
+
+-- by one spell more they lead where all spells with it do
+pub leads_more : (spells : List Spell) (spell : Spell) (calls : List Call) → LeadAlike calls (calls_of spells) → LeadAlike (doings_calls spell.doings ++ calls) (calls_of (spells ++ spell ∷ []))
+leads_more spells spell calls alike =
+    subst (LeadAlike (doings_calls spell.doings ++ calls)) (sym (last_calls spells spell)) (calls_more (doings_calls spell.doings) calls (calls_of spells) alike)
+
+-- and what the store answered to it, it answers without what was read
+pub answers_spell : (flags : List ℕ) (spells : List Spell) (spell : Spell) (calls : List Call) → LeadAlike calls (calls_of spells) → AllAnswer flags (calls_of spells)
+    → AllAnswer flags (doings_calls spell.doings ++ calls) → AllAnswer flags (calls_of (spells ++ spell ∷ []))
+answers_spell flags spells spell calls alike there here =
+    subst (AllAnswer flags) (sym (last_calls spells spell)) (answers_more flags (doings_calls spell.doings) calls (calls_of spells) alike there here)
