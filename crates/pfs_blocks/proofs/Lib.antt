@@ -1,0 +1,6 @@
+mod Closing
+mod Doing
+pub mod Ending
+mod Lines
+pub mod WrittenKinds
+mod Width

@@ -1,0 +1,63 @@
+-- A session holds back an amount for each of 193 cells at most, so that is all it ever owes.
+use Rattle.std.proofs.Common.{ℕ, ◌≡◌, ◌<◌, ◌≤◌, ◌+◌, Bool, true, false, List, [], ◌∷◌, ◌++◌, Option, Some, None, length, slice_set, replicate, refl, ap, sym, ◌∙◌, subst, arith}
+use Rattle.std.proofs.lemmas.List.{length-set, length-replicate}
+use Rattle.pfs_event.specs.Verdicts.{is_let_through}
+use Rattle.pfs_event.specs.declared.entry.Entry.{Entry}
+use Rattle.pfs_event.specs.declared.open.Open.{Open}
+use Rattle.pfs_levels.specs.Calls.{Call}
+use Rattle.pfs_parts.specs.Deeds.{Part}
+use Rattle.pfs_parts.specs.Shaped.{AreParts, state_behind}
+use Rattle.pfs_session.specs.Ends.{EndsIn}
+use Rattle.pfs_session.specs.Settles.{owed_from, owed_in, owed_by_state, settle_cost}
+use Rattle.pfs_session.specs.States.{State, Owed, nothing_held}
+use Rattle.pfs_session.specs.Turns.{Step, StartsEvent, EndsEvent, Spends, SettlesHeld, Connects, Quits, Does, Turn, AreTurns, state_after}
+use Rattle.pfs_session.specs.declared.events.Numbers.{Numbers}
+use Rattle.pfs_stat.specs.declared.Stat.{Stat}
+
+abbrev width : State → ℕ
+width s = length s.held
+
+pub none_wide : length nothing_held ≡ 193
+none_wide = refl
+
+ends_in : (s after : State) (slot : Option ℕ) (through : Bool) (what : Open) (others : List Open) (numbers : Numbers) (calls : List Call) (entries : List Entry)
+    → EndsIn s slot through what others numbers calls entries after → width after ≡ width s
+ends_in s after slot false what others numbers calls entries e = ap width e.after_is
+ends_in s after None true what others numbers calls entries e = absurd e
+ends_in s after (Some n) true what others numbers calls entries e = ap width e.after_is ∙ length-set s.held _ _
+
+step_wide : (s after : State) (step : Step) (calls : List Call) (entries : List Entry) → Does s step calls entries after → width s ≡ 193 → width after ≡ 193
+step_wide s after (StartsEvent subject) calls entries d wide = ap width d.after_is ∙ wide
+step_wide s after (EndsEvent numbers) calls entries d wide = ends_in s after s.place.thread (is_let_through d.what.verdict) d.what d.others numbers calls entries d.ends ∙ wide
+step_wide s after (Spends time) calls entries d wide = ap width d.2 ∙ wide
+step_wide s after SettlesHeld calls entries d wide = ap width d.after_is ∙ none_wide
+step_wide s after (Connects admin user host) calls entries d wide = ap width d.1 ∙ wide
+step_wide s after (Quits admin) calls entries d wide = ap width d.1 ∙ wide
+
+turns_wide : (s : State) (turns : List Turn) → AreTurns s turns → width s ≡ 193 → width (state_after s turns) ≡ 193
+turns_wide s [] are wide = wide
+turns_wide s (turn ∷ turns) are wide = step_wide (state_after s turns) turn.after turn.step turn.calls turn.entries are.0 (turns_wide s turns are.1 wide)
+
+pub parts_wide : (s : State) (parts : List Part) → AreParts s parts → width s ≡ 193 → width (state_behind s parts) ≡ 193
+parts_wide s [] are wide = wide
+parts_wide s (p ∷ ps) are wide = parts_wide (state_after s p.turns) ps are.1 (turns_wide s p.turns are.0.are_turns wide)
+
+owed_few : (slot cell : ℕ) (held : List (Option Stat)) → length (owed_from slot cell held) ≤ length held
+unfolding owed_from
+owed_few slot cell [] = omega arith
+owed_few slot cell (None ∷ held) = omega (arith, owed_few slot (cell + 1) held)
+owed_few slot cell (Some amount ∷ held) = omega (arith, owed_few slot (cell + 1) held)
+
+owed_in_few : (slot : Option ℕ) (held : List (Option Stat)) → length held ≡ 193 → length (owed_in slot held) ≤ 193
+owed_in_few None held wide = omega arith
+owed_in_few (Some slot) held wide = omega (arith, wide, owed_few slot 0 held)
+
+pub owed_fits : (s : State) → width s ≡ 193 → length (owed_by_state s) ≤ 193
+owed_fits s wide = owed_in_few s.place.thread s.held wide
+
+cost_fits : (owed : List Owed) → length owed ≤ 193 → settle_cost owed ≤ 194
+cost_fits [] few = omega arith
+cost_fits (one ∷ others) few = omega (arith, few)
+
+pub settling_fits : (s : State) → width s ≡ 193 → settle_cost (owed_by_state s) ≤ 194
+settling_fits s wide = cost_fits (owed_by_state s) (owed_fits s wide)

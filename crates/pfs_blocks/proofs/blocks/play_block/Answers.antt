@@ -1,0 +1,131 @@
+use Rattle.std.proofs.Common.{◌≡◌, ◌≤◌, ◌∙◌, ◌++◌, ℕ, false, List, [], ◌∷◌, ap, refl, sym, subst, length, map, arith}
+use Rattle.pfs_admin.specs.States.{State as Administration}
+use Rattle.pfs_event.specs.declared.kind.EventKind.{EventKind}
+use Rattle.pfs_event.specs.Nesting.{OpenEvents}
+use Rattle.pfs_facts.specs.Deeds.{deed_on}
+use Rattle.pfs_facts.specs.Steps.{kinds_at, kinds_in}
+use Rattle.pfs_play.specs.Errands.{StagesLie, cost_on, kinds_after}
+use Rattle.pfs_script.specs.declared.blocks.BlockLine.{BlockLine}
+use Rattle.pfs_script.specs.Marks.{written_out}
+use Rattle.pfs_session.specs.States.{State}
+use Rattle.pfs_course.specs.Course.{connected_by, ended_by}
+use Rattle.pfs_blocks.specs.Played.{HasDeeds, MayEnd}
+use Rattle.pfs_blocks.proofs.Closing.{block_deeds}
+use Rattle.pfs_blocks.proofs.Width.{none_wide, owed_fits, settling_fits}
+use Rattle.pfs_blocks.proofs.blocks.play_block.Goals as goal
+
+pub play_to_end-requires-clause-may : goal.play_to_end-requires-clause-may
+play_to_end-requires-clause-may g c =
+    subst (λ (l : List BlockLine). MayEnd c.connect_by.new.session.state.opened.depth (kinds_in c.connect_by.new.session.state.opened.events) l) (sym c.as_slice.ensures)
+    (subst (λ (o : OpenEvents). MayEnd o.depth (kinds_in o.events) c.args.block.now.lines) (sym (ap (λ (s : State). s.opened) c.connect_by.ensures.rest)) c.requires.may)
+
+pub play_to_end-requires-clause-lie : goal.play_to_end-requires-clause-lie
+play_to_end-requires-clause-lie g c = subst (λ (o : OpenEvents). StagesLie (kinds_in o.events)) (sym (ap (λ (s : State). s.opened) c.connect_by.ensures.rest)) c.requires.lie
+
+pub play_to_end-requires-clause-wide : goal.play_to_end-requires-clause-wide
+play_to_end-requires-clause-wide g c = ap (λ (s : State). length s.held) c.connect_by.ensures.rest ∙ (ap length c.requires.free ∙ none_wide)
+
+pub play_to_end-requires-clause-early : goal.play_to_end-requires-clause-early
+play_to_end-requires-clause-early g c =
+    let e = ap (λ (s : State). s.drawn) c.connect_by.ensures.rest in
+    let n = ap (λ (l : List BlockLine). length (written_out l)) c.as_slice.ensures in
+    omega (arith, e, n, c.requires.early)
+
+pub play_to_end-requires-clause-rare : goal.play_to_end-requires-clause-rare
+play_to_end-requires-clause-rare g c = omega (arith, c.connect_by.ensures.actions, c.requires.rare)
+
+pub play_to_end-requires-clause-few : goal.play_to_end-requires-clause-few
+play_to_end-requires-clause-few g c = omega (arith, c.connect_by.ensures.counted, c.requires.few)
+
+pub play_to_end-requires-clause-idle : goal.play_to_end-requires-clause-idle
+play_to_end-requires-clause-idle g c = λ r. c.connect_by.ensures.leaves.hand r ∙ c.requires.idle r
+
+pub play_to_end-requires-clause-spare : goal.play_to_end-requires-clause-spare
+play_to_end-requires-clause-spare g c =
+    let n = ap (λ (l : List BlockLine). length (written_out l)) c.as_slice.ensures in
+    omega (arith, n, c.connect_by.ensures.leaves.left, c.requires.spare)
+
+pub play_to_end-requires-clause-room : goal.play_to_end-requires-clause-room
+play_to_end-requires-clause-room g c =
+    let m = ap (λ (l : List BlockLine). cost_on (written_out l)) c.as_slice.ensures in
+    omega (arith, m, c.connect_by.ensures.leaves.room, c.requires.room)
+
+pub pause-requires-clause-alone : goal.pause-requires-clause-alone
+pause-requires-clause-alone g c = λ r some. c.play_to_end.ensures.leaves.hand r ∙ (c.connect_by.ensures.leaves.hand r ∙ c.requires.idle r)
+
+pub pause-requires-clause-spare : goal.pause-requires-clause-spare
+pause-requires-clause-spare g c =
+    let n = ap (λ (l : List BlockLine). length (written_out l)) c.as_slice.ensures in
+    omega (arith, n, owed_fits c.play_to_end.new.session.state c.play_to_end.ensures.wide, c.connect_by.ensures.leaves.left, c.play_to_end.ensures.leaves.left, c.requires.spare)
+
+pub pause-requires-clause-room : goal.pause-requires-clause-room
+pause-requires-clause-room g c =
+    let m = ap (λ (l : List BlockLine). cost_on (written_out l)) c.as_slice.ensures in
+    omega (arith, m, settling_fits c.play_to_end.new.session.state c.play_to_end.ensures.wide, c.connect_by.ensures.leaves.room, c.play_to_end.ensures.leaves.room, c.requires.room)
+
+pub returns-clause-did : goal.returns-clause-did
+returns-clause-did g c few =
+    let old = c.args.session in
+    let one = c.connect_by.new.session in
+    let two = c.play_to_end.new.session in
+    let p = c.play_to_end.ensures.did in
+    let admin : Administration = c.args.admin.now in
+    let number : ℕ = c.args.session.state.number in
+    let numbers : c.connect_by.new.session.state.number ≡ c.args.session.state.number = ap (λ (s : State). s.number) c.connect_by.ensures.rest in
+    let its : HasDeeds (map (deed_on c.connect_by.new.admin) (written_out c.args.block.now.lines)) p.over c.connect_by.new.session c.play_to_end.new.session (g.A.Rows.reached c.connect_by.new.rows) (g.A.Rows.reached c.play_to_end.new.rows) =
+    subst (λ (l : List BlockLine). HasDeeds (map (deed_on c.connect_by.new.admin) (written_out l)) p.over c.connect_by.new.session c.play_to_end.new.session (g.A.Rows.reached c.connect_by.new.rows) (g.A.Rows.reached c.play_to_end.new.rows)) c.as_slice.ensures p.did in
+    let lines : HasDeeds (map (deed_on (connected_by admin number c.args.block.now.connect)) (written_out c.args.block.now.lines)) p.over c.connect_by.new.session c.play_to_end.new.session (g.A.Rows.reached c.connect_by.new.rows) (g.A.Rows.reached c.play_to_end.new.rows) =
+    subst (λ (a : Administration). HasDeeds (map (deed_on a) (written_out c.args.block.now.lines)) p.over c.connect_by.new.session c.play_to_end.new.session (g.A.Rows.reached c.connect_by.new.rows) (g.A.Rows.reached c.play_to_end.new.rows)) c.connect_by.ensures.admin its in
+    record {
+      over = p.over;
+      did = block_deeds admin number c.args.block.now.connect c.args.block.now.lines p.over c.args.session c.connect_by.new.session c.play_to_end.new.session c.pause.result (g.A.Rows.reached c.args.rows.now) (g.A.Rows.reached c.connect_by.new.rows)
+          (g.A.Rows.reached c.play_to_end.new.rows) (g.A.Rows.reached c.pause.new.rows) (c.connect_by.ensures.did few) lines c.pause.ensures.played;
+      after_is = p.after_is ∙ (ap (λ (a : Administration). ended_by a c.connect_by.new.session.state.number p.over) c.connect_by.ensures.admin ∙ ap (λ n. ended_by (connected_by admin number c.args.block.now.connect) n p.over) numbers);
+    }
+
+pub returns-clause-kinds : goal.returns-clause-kinds
+returns-clause-kinds g c =
+    ap (λ (s : State). kinds_at s) c.pause.ensures.state
+    ∙ (c.play_to_end.ensures.kinds ∙ (ap (λ (l : List BlockLine). kinds_after (kinds_at c.connect_by.new.session.state) (written_out l)) c.as_slice.ensures ∙ ap (λ (k : List EventKind). kinds_after k (written_out c.args.block.now.lines)) (ap (λ (s : State). kinds_at s) c.connect_by.ensures.rest)))
+
+pub returns-clause-lie : goal.returns-clause-lie
+returns-clause-lie g c = subst StagesLie (sym (ap (λ (s : State). kinds_at s) c.pause.ensures.state)) c.play_to_end.ensures.lie
+
+pub returns-clause-free : goal.returns-clause-free
+returns-clause-free g c = ap (λ (s : State). s.held) c.pause.ensures.state
+
+pub returns-clause-drawn : goal.returns-clause-drawn
+returns-clause-drawn g c =
+    let e = ap (λ (s : State). s.drawn) c.pause.ensures.state in
+    let f = ap (λ (s : State). s.drawn) c.connect_by.ensures.rest in
+    let n = ap (λ (l : List BlockLine). length (written_out l)) c.as_slice.ensures in
+    omega (arith, e, f, n, c.play_to_end.ensures.drawn)
+
+pub returns-clause-number : goal.returns-clause-number
+returns-clause-number g c = ap (λ (s : State). s.number) c.pause.ensures.state ∙ (c.play_to_end.ensures.number ∙ ap (λ (s : State). s.number) c.connect_by.ensures.rest)
+
+pub returns-clause-depth : goal.returns-clause-depth
+returns-clause-depth g c = ap (λ (s : State). s.opened.depth) c.pause.ensures.state ∙ (c.play_to_end.ensures.depth ∙ ap (λ (s : State). s.opened.depth) c.connect_by.ensures.rest)
+
+pub returns-clause-actions : goal.returns-clause-actions
+returns-clause-actions g c =
+    let e = ap (λ (s : State). s.actions) c.pause.ensures.state in
+    omega (arith, e, c.connect_by.ensures.actions, c.play_to_end.ensures.actions)
+
+pub returns-clause-counted : goal.returns-clause-counted
+returns-clause-counted g c = omega (arith, c.connect_by.ensures.counted, c.play_to_end.ensures.counted)
+
+pub returns-clause-leaves : goal.returns-clause-leaves
+returns-clause-leaves g c =
+    let n = ap (λ (l : List BlockLine). length (written_out l)) c.as_slice.ensures in
+    let m = ap (λ (l : List BlockLine). cost_on (written_out l)) c.as_slice.ensures in
+    record {
+      hand = λ r. c.pause.ensures.leaves.hand r ∙ (c.play_to_end.ensures.leaves.hand r ∙ c.connect_by.ensures.leaves.hand r);
+      left = omega (arith, n, owed_fits c.play_to_end.new.session.state c.play_to_end.ensures.wide, c.connect_by.ensures.leaves.left, c.play_to_end.ensures.leaves.left, c.pause.ensures.leaves.left);
+      draws = c.pause.ensures.leaves.draws ∙ (c.play_to_end.ensures.leaves.draws ∙ c.connect_by.ensures.leaves.draws);
+      name = c.pause.ensures.leaves.name ∙ (c.play_to_end.ensures.leaves.name ∙ c.connect_by.ensures.leaves.name);
+      room = omega (arith, m, settling_fits c.play_to_end.new.session.state c.play_to_end.ensures.wide, c.connect_by.ensures.leaves.room, c.play_to_end.ensures.leaves.room, c.pause.ensures.leaves.room);
+    }
+
+pub returns-clause-lent : goal.returns-clause-lent
+returns-clause-lent g c = c.pause.ensures.words ∙ c.play_to_end.ensures.lent

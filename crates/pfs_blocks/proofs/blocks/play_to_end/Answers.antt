@@ -1,0 +1,95 @@
+use Rattle.std.proofs.Common.{◌≡◌, ◌≤◌, ◌∙◌, ◌++◌, ℕ, false, List, [], ◌∷◌, ap, refl, sym, subst, length, arith}
+use Rattle.pfs_facts.specs.Steps.{kinds_at}
+use Rattle.pfs_play.specs.Errands.{cost_on, kinds_after}
+use Rattle.pfs_script.specs.declared.blocks.BlockLine.{BlockLine}
+use Rattle.pfs_script.specs.declared.blocks.BlockLine.TheVariants as said
+use Rattle.pfs_script.specs.Marks.{written_out}
+use Rattle.pfs_session.specs.States.{State}
+use Rattle.pfs_blocks.specs.Played.{HasEnded, MayEnd}
+use Rattle.pfs_blocks.proofs.Closing.{none_lie, quit_cost, quit_kinds, quit_length}
+use Rattle.pfs_blocks.proofs.Ending.{ends_so, goes_on}
+use Rattle.pfs_blocks.proofs.Lines.{played_deeds}
+use Rattle.pfs_blocks.proofs.Width.{parts_wide}
+use Rattle.pfs_blocks.proofs.blocks.play_to_end.Goals as goal
+
+pub play_and_quit-requires-clause-may : goal.play_and_quit-requires-clause-may
+play_and_quit-requires-clause-may g c = subst (λ (l : List BlockLine). MayEnd c.args.session.now.state.opened.depth (kinds_at c.args.session.now.state) l) c.in-Some.ensures c.requires.may
+
+pub play_and_quit-requires-clause-early : goal.play_and_quit-requires-clause-early
+play_and_quit-requires-clause-early g c =
+    let n = ap (λ (l : List BlockLine). length (written_out l)) c.in-Some.ensures in
+    omega (arith, n, quit_length c.in-Some.body.now, c.requires.early)
+
+pub play_and_quit-requires-clause-spare : goal.play_and_quit-requires-clause-spare
+play_and_quit-requires-clause-spare g c =
+    let n = ap (λ (l : List BlockLine). length (written_out l)) c.in-Some.ensures in
+    omega (arith, n, quit_length c.in-Some.body.now, c.requires.spare)
+
+pub play_and_quit-requires-clause-room : goal.play_and_quit-requires-clause-room
+play_and_quit-requires-clause-room g c =
+    let n = ap (λ (l : List BlockLine). cost_on (written_out l)) c.in-Some.ensures in
+    omega (arith, n, quit_cost c.in-Some.body.now, c.requires.room)
+
+pub play_written-requires-clause-may : goal.play_written-requires-clause-may
+play_written-requires-clause-may g c = goes_on c.args.session.now.state.opened.depth (kinds_at c.args.session.now.state) c.args.lines.now c.requires.may c.in-None.ensures
+
+pub returns-in-Some-clause-did : goal.returns-in-Some-clause-did
+returns-in-Some-clause-did g c =
+    subst (λ (l : List BlockLine). HasEnded l c.args.admin.now c.play_and_quit.new.admin c.args.session.now c.play_and_quit.new.session (g.A.Rows.reached c.args.rows.now) (g.A.Rows.reached c.play_and_quit.new.rows)) (sym c.in-Some.ensures)
+    c.play_and_quit.ensures.did
+
+pub returns-in-Some-clause-kinds : goal.returns-in-Some-clause-kinds
+returns-in-Some-clause-kinds g c =
+    let kinds = kinds_at c.args.session.now.state in
+    let closed = (ends_so c.args.session.now.state.opened.depth kinds c.args.lines.now c.in-Some.body.now c.requires.may c.in-Some.ensures).1 in
+    c.play_and_quit.ensures.kinds ∙ sym (ap (λ (l : List BlockLine). kinds_after (kinds_at c.args.session.now.state) (written_out l)) c.in-Some.ensures ∙ quit_kinds (kinds_at c.args.session.now.state) c.in-Some.body.now closed)
+
+pub returns-in-Some-clause-lie : goal.returns-in-Some-clause-lie
+returns-in-Some-clause-lie g c = none_lie (kinds_at c.play_and_quit.new.session.state) c.play_and_quit.ensures.kinds
+
+pub returns-in-Some-clause-drawn : goal.returns-in-Some-clause-drawn
+returns-in-Some-clause-drawn g c =
+    let n = ap (λ (l : List BlockLine). length (written_out l)) c.in-Some.ensures in
+    omega (arith, n, quit_length c.in-Some.body.now, c.play_and_quit.ensures.drawn)
+
+pub returns-in-Some-clause-leaves : goal.returns-in-Some-clause-leaves
+returns-in-Some-clause-leaves g c =
+    let n = ap (λ (l : List BlockLine). length (written_out l)) c.in-Some.ensures in
+    let m = ap (λ (l : List BlockLine). cost_on (written_out l)) c.in-Some.ensures in
+    record {
+      hand = c.play_and_quit.ensures.leaves.hand;
+      left = omega (arith, n, quit_length c.in-Some.body.now, c.play_and_quit.ensures.leaves.left);
+      draws = c.play_and_quit.ensures.leaves.draws;
+      name = c.play_and_quit.ensures.leaves.name;
+      room = omega (arith, m, quit_cost c.in-Some.body.now, c.play_and_quit.ensures.leaves.room);
+    }
+
+pub returns-in-None-clause-did : goal.returns-in-None-clause-did
+returns-in-None-clause-did g c = record {
+  over = false;
+  did = played_deeds c.args.admin.now (written_out c.args.lines.now) c.args.session.now c.play_written.new.session (g.A.Rows.reached c.args.rows.now) (g.A.Rows.reached c.play_written.new.rows) c.play_written.ensures.played;
+  after_is = refl;
+}
+
+pub returns-in-None-clause-number : goal.returns-in-None-clause-number
+returns-in-None-clause-number g c = ap (λ (s : State). s.number) c.play_written.ensures.rest
+
+pub returns-in-None-clause-actions : goal.returns-in-None-clause-actions
+returns-in-None-clause-actions g c = let e = ap (λ (s : State). s.actions) c.play_written.ensures.rest in omega (arith, e)
+
+pub returns-in-None-clause-wide : goal.returns-in-None-clause-wide
+returns-in-None-clause-wide g c =
+    let p = c.play_written.ensures.played in
+    ap (λ (s : State). length s.held) p.state ∙ parts_wide c.args.session.now.state p.parts p.are_parts c.requires.wide
+
+pub returns-in-None-clause-leaves : goal.returns-in-None-clause-leaves
+returns-in-None-clause-leaves g c = record {
+  hand = c.play_written.ensures.leaves.hand;
+  left = omega (arith, c.play_written.ensures.leaves.left);
+  draws = c.play_written.ensures.leaves.draws;
+  name = c.play_written.ensures.leaves.name;
+  room = omega (arith, c.play_written.ensures.leaves.room);
+}
+
+pub returns-in-None-clause-lent : goal.returns-in-None-clause-lent
+returns-in-None-clause-lent g c = c.play_written.ensures.words ∙ c.requires.lent

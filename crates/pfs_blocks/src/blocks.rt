@@ -1,0 +1,178 @@
+//! A block of a script in its session.
+
+ghost use Rattle.std.specs.Prelude.{◌≡◌, ◌<◌, ◌≤◌, ◌+◌, ◌*◌, ◌^◌, ◌++◌, ◌∷◌, ℕ, List, [], Bool, true, false, None, Some, IfSome, MatchOption, length, map};
+ghost use Rattle.pfs_admin.specs.Works.{Leaves};
+ghost use Rattle.pfs_facts.specs.Steps.{kinds_at};
+ghost use Rattle.pfs_play.specs.Errands.{StagesLie, kinds_after, cost_on};
+ghost use Rattle.pfs_script.specs.Marks.{written_out};
+ghost use Rattle.pfs_script.specs.declared.blocks.BlockLine.{BlockLine as Line};
+ghost use Rattle.pfs_script.specs.declared.blocks.BlockLine.TheVariants as said;
+ghost use Rattle.pfs_session.specs.States.{nothing_held};
+ghost use Rattle.pfs_course.specs.Course.{connected_by, connecting};
+ghost use Rattle.pfs_blocks.specs.Played.{HasDeeds, HasEnded, HasPlayed, MayConnect, MayEnd};
+
+use pfs_actions::{connect, quit};
+use pfs_admin::Admin;
+use pfs_levels::Acts;
+use pfs_play::play_written;
+use pfs_script::{Block, BlockLine, Connect};
+use pfs_session::{Paused, Session};
+
+// Connects the session, where its block gives names.
+fn connect_by<A: Acts>(
+    session: &mut Session,
+    rows: &mut A,
+    admin: &mut Admin,
+    names: Option<Connect>,
+)
+    requires may { IfSome names (λ connect. MayConnect session.old.state admin.old connect) }
+    requires few { admin.old.actions < 2 ^ 47 }
+    requires idle { (r : ℕ) → A.hand rows.old r ≡ None }
+    requires lent { A.words rows.old ≡ Some admin.old.words }
+    requires spare { 5 ≤ A.left rows.old }
+    requires room { 6 ≤ session.old.journal.room }
+    ensures did { length admin.old.kept.now.places.threads ≤ 32
+        → HasDeeds (connecting admin.old names) false session.old session.new (A.reached rows.old)
+        (A.reached rows.new) }
+    ensures admin { admin.new ≡ connected_by admin.old session.old.state.number names }
+    ensures rest { session.new.state ≡ record session.old.state {
+      place = session.new.state.place;
+      actions = session.new.state.actions;
+      last = session.new.state.last;
+    } }
+    ensures actions { session.new.state.actions ≤ session.old.state.actions + 1 }
+    ensures counted { admin.new.actions ≤ admin.old.actions + 1 }
+    ensures leaves { Leaves 5 6 (A.hand rows.old) (A.hand rows.new) (A.left rows.old) (A.left rows.new)
+        (A.draws rows.old) (A.draws rows.new) (A.name rows.old) (A.name rows.new) session.old.journal
+        session.new.journal }
+    ensures lent { A.words rows.new ≡ Some admin.new.words }
+{
+    match names {
+        Some(names) => connect(session, rows, admin, names.user, names.host),
+        None => {}
+    }
+}
+
+// The lines before a quit, where one is the last.
+fn before_quit(lines: &[BlockLine]) -> Option<&[BlockLine]>
+    ensures { MatchOption result ((before : List Line) → lines.now ≡ before ++ said.Quit ∷ [] → ⊥)
+        (λ before. lines.now ≡ before.now ++ said.Quit ∷ []) }
+{
+    match lines.split_last() {
+        Some((last, before)) => match last {
+            BlockLine::Quit => Some(before),
+            _ => None,
+        },
+        None => None,
+    }
+}
+
+// Plays lines, and then ends the session.
+fn play_and_quit<A: Acts>(
+    session: &mut Session,
+    rows: &mut A,
+    admin: &mut Admin,
+    body: &[BlockLine],
+)
+    requires may { MayEnd session.old.state.opened.depth (kinds_at session.old.state)
+        (body.now ++ said.Quit ∷ []) }
+    requires lie { StagesLie (kinds_at session.old.state) }
+    requires wide { length session.old.state.held ≡ 193 }
+    requires early { session.old.state.drawn + length (written_out body.now) < 2 ^ 64 }
+    requires rare { session.old.state.actions + 1 < 2 ^ 64 }
+    requires few { admin.old.actions < 2 ^ 47 }
+    requires idle { (r : ℕ) → A.hand rows.old r ≡ None }
+    requires lent { A.words rows.old ≡ Some admin.old.words }
+    requires spare { 2 * length (written_out body.now) + 390 ≤ A.left rows.old }
+    requires room { cost_on (written_out body.now) + 392 ≤ session.old.journal.room }
+    ensures did { HasEnded (body.now ++ said.Quit ∷ []) admin.old admin.new session.old session.new
+        (A.reached rows.old) (A.reached rows.new) }
+    ensures kinds { kinds_at session.new.state ≡ [] }
+    ensures drawn { session.new.state.drawn ≤ session.old.state.drawn + length (written_out body.now) }
+    ensures number { session.new.state.number ≡ session.old.state.number }
+    ensures depth { session.new.state.opened.depth ≡ session.old.state.opened.depth }
+    ensures actions { session.new.state.actions ≤ session.old.state.actions + 1 }
+    ensures counted { admin.new.actions ≤ admin.old.actions + 1 }
+    ensures wide { length session.new.state.held ≡ 193 }
+    ensures leaves { Leaves (2 * length (written_out body.now) + 390) (cost_on (written_out body.now) + 392)
+        (A.hand rows.old) (A.hand rows.new) (A.left rows.old) (A.left rows.new) (A.draws rows.old)
+        (A.draws rows.new) (A.name rows.old) (A.name rows.new) session.old.journal session.new.journal }
+    ensures lent { A.words rows.new ≡ Some admin.new.words }
+{
+    play_written(session, rows, body);
+    quit(session, rows, admin);
+}
+
+// Plays the lines of a block, and ends the session where the last line says so.
+fn play_to_end<A: Acts>(session: &mut Session, rows: &mut A, admin: &mut Admin, lines: &[BlockLine])
+    requires may { MayEnd session.old.state.opened.depth (kinds_at session.old.state) lines.now }
+    requires lie { StagesLie (kinds_at session.old.state) }
+    requires wide { length session.old.state.held ≡ 193 }
+    requires early { session.old.state.drawn + length (written_out lines.now) < 2 ^ 64 }
+    requires rare { session.old.state.actions + 1 < 2 ^ 64 }
+    requires few { admin.old.actions < 2 ^ 47 }
+    requires idle { (r : ℕ) → A.hand rows.old r ≡ None }
+    requires lent { A.words rows.old ≡ Some admin.old.words }
+    requires spare { 2 * length (written_out lines.now) + 390 ≤ A.left rows.old }
+    requires room { cost_on (written_out lines.now) + 392 ≤ session.old.journal.room }
+    ensures did { HasEnded lines.now admin.old admin.new session.old session.new (A.reached rows.old)
+        (A.reached rows.new) }
+    ensures kinds { kinds_at session.new.state ≡ kinds_after (kinds_at session.old.state) (written_out lines.now) }
+    ensures lie { StagesLie (kinds_at session.new.state) }
+    ensures drawn { session.new.state.drawn ≤ session.old.state.drawn + length (written_out lines.now) }
+    ensures number { session.new.state.number ≡ session.old.state.number }
+    ensures depth { session.new.state.opened.depth ≡ session.old.state.opened.depth }
+    ensures actions { session.new.state.actions ≤ session.old.state.actions + 1 }
+    ensures counted { admin.new.actions ≤ admin.old.actions + 1 }
+    ensures wide { length session.new.state.held ≡ 193 }
+    ensures leaves { Leaves (2 * length (written_out lines.now) + 390) (cost_on (written_out lines.now) + 392)
+        (A.hand rows.old) (A.hand rows.new) (A.left rows.old) (A.left rows.new) (A.draws rows.old)
+        (A.draws rows.new) (A.name rows.old) (A.name rows.new) session.old.journal session.new.journal }
+    ensures lent { A.words rows.new ≡ Some admin.new.words }
+{
+    match before_quit(lines) {
+        Some(body) => play_and_quit(session, rows, admin, body),
+        None => play_written(session, rows, lines),
+    }
+}
+
+/// Plays a block of a script in its session: it connects where the block gives names, plays the lines, each repeat so
+/// many times as it says, ends where the last line says so, and settles at the block's end what it still holds.
+pub fn play_block<A: Acts>(
+    session: Session,
+    rows: &mut A,
+    admin: &mut Admin,
+    block: &Block,
+) -> Paused
+    requires connects { IfSome block.now.connect (λ connect. MayConnect session.state admin.old connect) }
+    requires may { MayEnd session.state.opened.depth (kinds_at session.state) block.now.lines }
+    requires lie { StagesLie (kinds_at session.state) }
+    requires free { session.state.held ≡ nothing_held }
+    requires early { session.state.drawn + length (written_out block.now.lines) < 2 ^ 64 }
+    requires rare { session.state.actions + 2 < 2 ^ 64 }
+    requires few { admin.old.actions + 1 < 2 ^ 47 }
+    requires idle { (r : ℕ) → A.hand rows.old r ≡ None }
+    requires lent { A.words rows.old ≡ Some admin.old.words }
+    requires spare { 2 * length (written_out block.now.lines) + 588 ≤ A.left rows.old }
+    requires room { cost_on (written_out block.now.lines) + 592 ≤ session.journal.room }
+    ensures did { length admin.old.kept.now.places.threads ≤ 32
+        → HasPlayed block.now admin.old admin.new session result (A.reached rows.old) (A.reached rows.new) }
+    ensures kinds { kinds_at result.state ≡ kinds_after (kinds_at session.state) (written_out block.now.lines) }
+    ensures lie { StagesLie (kinds_at result.state) }
+    ensures free { result.state.held ≡ nothing_held }
+    ensures drawn { result.state.drawn ≤ session.state.drawn + length (written_out block.now.lines) }
+    ensures number { result.state.number ≡ session.state.number }
+    ensures depth { result.state.opened.depth ≡ session.state.opened.depth }
+    ensures actions { result.state.actions ≤ session.state.actions + 2 }
+    ensures counted { admin.new.actions ≤ admin.old.actions + 2 }
+    ensures leaves { Leaves (2 * length (written_out block.now.lines) + 588)
+        (cost_on (written_out block.now.lines) + 592) (A.hand rows.old) (A.hand rows.new) (A.left rows.old)
+        (A.left rows.new) (A.draws rows.old) (A.draws rows.new) (A.name rows.old) (A.name rows.new) session.journal
+        result.journal }
+    ensures lent { A.words rows.new ≡ Some admin.new.words }
+{
+    let mut session = session;
+    connect_by(&mut session, rows, admin, block.connect);
+    play_to_end(&mut session, rows, admin, block.lines.as_slice());
+    session.pause(rows)
+}

@@ -1,0 +1,49 @@
+-- What a run knows where its next block begins.
+use Rattle.std.proofs.Common.{ℕ, ◌≤◌, ◌<◌, ◌+◌, ◌*◌, ◌^◌, List, ◌∷◌, ◌++◌, length, Option, sym, subst, arith}
+use Rattle.pfs_admin.proofs.Folding.{fixed_law}
+use Rattle.pfs_admin.specs.States.{State as Administration}
+use Rattle.pfs_alone.specs.Spells.{Spell}
+use Rattle.pfs_classes.specs.declared.setting.Setting.{Setting}
+use Rattle.pfs_course.specs.Ahead.{ahead_of, block_at, done_before}
+use Rattle.pfs_ends.specs.declared.counts.LostEvents.{LostEvents}
+use Rattle.pfs_journal.specs.declared.blocks.BlockReport.{BlockReport}
+use Rattle.pfs_journal.specs.declared.report.PhaseParts.{PhaseParts}
+use Rattle.pfs_levels.specs.Calls.{Call, Opening}
+use Rattle.pfs_levels.specs.declared.answers.Word.{Word}
+use Rattle.pfs_ruled.specs.Ruled.{labels_of}
+use Rattle.pfs_runs.specs.Lines.{change_in}
+use Rattle.pfs_script.specs.Marks.{written_out}
+use Rattle.pfs_script.specs.declared.blocks.Block.{Block}
+use Rattle.pfs_script.specs.declared.blocks.Phase.{Phase}
+use Rattle.pfs_session.specs.States.{Book}
+use Rattle.pfs_run.specs.Along.{GoesOn, IsAlong, depth_of, seat_of}
+use Rattle.pfs_run.proofs.Here.{IsHere}
+use Rattle.pfs_run.proofs.Ready.{IsReady, ready}
+use Rattle.pfs_run.proofs.Slots.{few_slots}
+
+module _ (setting : Setting) (phases before : List Phase) (first : List Block) (block : Block) (others : List Block) (after : List Phase)
+    (was : Opening → List Call → Type 0) (hand : ℕ → Option ℕ) (left : ℕ) (words : Option (List Word)) (admin : Administration) (seats : List (Option Book)) (lost : LostEvents) (ended : List PhaseParts) (told : List BlockReport)
+    (along : IsAlong setting phases before first (block_at before block ∷ ahead_of before others after) was hand left words admin seats lost ended told)
+    (here : IsHere setting phases before first block others after) where
+  abbrev spells : List Spell
+  spells = along.earlier ++ along.current
+
+  pub ready_at : (book : Book) → GoesOn (seat_of seats block.session) block.session setting.limits.statement_stack (depth_of phases block.session) book → IsReady setting phases (done_before before first) spells admin block book
+  ready_at book goes =
+      ready setting phases before first block others after spells admin book (seat_of seats block.session) here (fixed_law setting (change_in phases) (labels_of spells) admin along.course.admin_is).0 along.course.blocks
+      (along.seated block.session here.playable.low here.playable.high) goes
+
+  pub slots_at : length admin.kept.now.places.threads ≤ 32
+  slots_at = subst (λ (a : Administration). length a.kept.now.places.threads ≤ 32) (sym along.course.admin_is) (few_slots setting (change_in phases) (labels_of spells) along.limits)
+
+  pub spare_at : 2 * length (written_out block.lines) + 588 ≤ left
+  spare_at = omega (arith, along.spare, here.few, here.playable.short)
+
+  pub actions_at : admin.actions + 1 < 2 ^ 47
+  actions_at = omega (arith, along.acted, here.few)
+
+  pub statements_at : (n : ℕ) → n < 2 ^ 63 → lost.statements + n < 2 ^ 64
+  statements_at n less = omega (arith, along.few_statements, here.few, less)
+
+  pub waits_at : (n : ℕ) → n < 2 ^ 63 → lost.waits + n < 2 ^ 64
+  waits_at n less = omega (arith, along.few_waits, here.few, less)

@@ -1,0 +1,139 @@
+-- Each line of a session starts one event at most, so a block says of few that they were lost.
+use Rattle.std.proofs.Common.{ℕ, suc, ◌≡◌, ◌≤◌, ◌+◌, Bool, true, false, List, [], ◌∷◌, ◌++◌, length, map, Option, Some, None, refl, ap, sym, ◌∙◌, subst, length-append, arith}
+use Rattle.std.proofs.lemmas.List.{length-map}
+use Rattle.pfs_admin.specs.Asks.{work_of_connect, work_of_quit}
+use Rattle.pfs_admin.specs.States.{State as Administration, seat_at}
+use Rattle.pfs_admin.specs.Works.{Work, flagging_entries, signs_entries}
+use Rattle.pfs_course.specs.Course.{connected_by, connecting, deeds_in, deeds_of}
+use Rattle.pfs_ends.specs.Counts.{started}
+use Rattle.pfs_ends.proofs.Started.{started_one, started_then}
+use Rattle.pfs_event.specs.Verdicts.{is_let_through}
+use Rattle.pfs_event.specs.declared.entry.Entry.{Entry}
+use Rattle.pfs_event.specs.declared.entry.Entry.TheVariants as says
+use Rattle.pfs_event.specs.declared.open.Open.{Open}
+use Rattle.pfs_event.specs.declared.verdict.Verdict.{Verdict}
+use Rattle.pfs_facts.specs.Deeds.{deed_on}
+use Rattle.pfs_levels.specs.Calls.{Call}
+use Rattle.pfs_levels.specs.Moves.{moves_entries}
+use Rattle.pfs_levels.specs.declared.answers.Added.{Added}
+use Rattle.pfs_levels.specs.declared.answers.Added.TheVariants.{Counted, Held}
+use Rattle.pfs_levels.specs.declared.answers.Word.{Word}
+use Rattle.pfs_model.specs.Journals.{joined}
+use Rattle.pfs_parts.proofs.Acting.{connect_plain, quiet_plains, work_quiet}
+use Rattle.pfs_parts.proofs.Pieces.{is_plain}
+use Rattle.pfs_parts.proofs.Settled.{ArePlain, settle_plain}
+use Rattle.pfs_parts.proofs.Written.{ends_by, has_stage}
+use Rattle.pfs_parts.specs.Deeds.{Deed, Connecting, Starting, Staging, StageEnding, Ending, Spending, Quitting, Closing, Part, part_entries, steps_for}
+use Rattle.pfs_parts.specs.Shaped.{AreParts, entries_of}
+use Rattle.pfs_script.specs.declared.blocks.BlockLine.{BlockLine}
+use Rattle.pfs_script.specs.declared.blocks.Connect.{Connect}
+use Rattle.pfs_session.specs.Ends.{EndsIn, added_entry}
+use Rattle.pfs_session.specs.Settles.{owed_by_state}
+use Rattle.pfs_session.specs.States.{State}
+use Rattle.pfs_session.specs.Turns.{Step, StartsEvent, EndsEvent, Spends, SettlesHeld, Connects, Quits, Does, Works, Turn, AreTurns, state_after, stage_ends, steps_of, turns_entries}
+use Rattle.pfs_session.specs.declared.events.Numbers.{Numbers}
+
+-- entries that start no event say of none that it was lost
+plain_one : (test : Verdict → Bool) (e : Entry) → is_plain e ≡ true → started test (e ∷ []) ≡ 0
+plain_one test (says.Start _ _ _ _ _ _) plain = cc
+plain_one test _ plain = refl
+
+plain_none : (test : Verdict → Bool) (es : List Entry) → ArePlain es → started test es ≡ 0
+plain_none test [] plain = refl
+plain_none test (e ∷ es) plain =
+    let both = started_then test (e ∷ []) es in
+    let one = plain_one test e plain.0 in
+    let rest = plain_none test es plain.1 in
+    omega (arith, both, one, rest)
+
+-- how many events steps start
+abbrev starts_in : Step → ℕ
+starts_in (StartsEvent subject) = 1
+starts_in (EndsEvent numbers) = 0
+starts_in (Spends time) = 0
+starts_in SettlesHeld = 0
+starts_in (Connects admin user host) = 0
+starts_in (Quits admin) = 0
+
+abbrev starts_of : List Step → ℕ
+starts_of [] = 0
+starts_of (step ∷ steps) = starts_in step + starts_of steps
+
+starts_then : (xs ys : List Step) → starts_of (xs ++ ys) ≡ starts_of xs + starts_of ys
+starts_then [] ys = omega arith
+starts_then (x ∷ xs) ys = omega (arith, starts_then xs ys)
+
+added_none : (test : Verdict → Bool) (event last consumers thread : Option ℕ) (answer : Added) → started test (says.End event last consumers thread ∷ added_entry answer ∷ []) ≡ 0
+added_none test event last consumers thread (Counted row version) = refl
+added_none test event last consumers thread (Held row first second) = refl
+
+ends_none : (test : Verdict → Bool) (s after : State) (slot : Option ℕ) (through : Bool) (what : Open) (others : List Open) (numbers : Numbers) (calls : List Call) (entries : List Entry) → EndsIn s slot through what others numbers calls entries after
+    → started test entries ≡ 0
+ends_none test s after slot false what others numbers calls entries e = ap (started test) e.entries_are
+ends_none test s after None true what others numbers calls entries e = absurd e
+ends_none test s after (Some n) true what others numbers calls entries e = ap (started test) e.entries_are ∙ added_none test (Some what.event.number) (Some s.drawn) (Some e.consumers.version) (Some e.thread.version) e.answer
+
+works_none : (test : Verdict → Bool) (work : Work) (words : List Word) (head : Entry) (calls : List Call) (entries : List Entry) → is_plain head ≡ true → Works work words (head ∷ []) calls entries → started test entries ≡ 0
+works_none test work words head calls entries plain w =
+    ap (started test) w.entries_are ∙ plain_none test (head ∷ (moves_entries w.moves ++ (signs_entries w.made ++ flagging_entries words work.flags))) (plain, quiet_plains _ (work_quiet w.moves w.made words work.flags))
+
+step_few : (test : Verdict → Bool) (s after : State) (step : Step) (calls : List Call) (entries : List Entry) → Does s step calls entries after → started test entries ≤ starts_in step
+step_few test s after (StartsEvent subject) calls entries d = subst (λ (es : List Entry). started test es ≤ 1) (sym d.entries_are) (started_one test _)
+step_few test s after (EndsEvent numbers) calls entries d = let e = ends_none test s after s.place.thread (is_let_through d.what.verdict) d.what d.others numbers calls entries d.ends in omega (arith, e)
+step_few test s after (Spends time) calls entries d = let e = ap (started test) d.1 in omega (arith, e)
+step_few test s after SettlesHeld calls entries d = let e = ap (started test) d.entries_are ∙ plain_none test _ (settle_plain (owed_by_state s) d.paid) in omega (arith, e)
+step_few test s after (Connects admin user host) calls entries d =
+    let e = works_none test (work_of_connect admin s.number user host) admin.words _ calls entries (connect_plain (admin.actions + 1) (seat_at admin s.number user host)) d.0 in omega (arith, e)
+step_few test s after (Quits admin) calls entries d = let e = works_none test (work_of_quit admin s.number) admin.words _ calls entries refl d.0 in omega (arith, e)
+
+turns_few : (test : Verdict → Bool) (s : State) (turns : List Turn) → AreTurns s turns → started test (turns_entries turns) ≤ starts_of (steps_of turns)
+turns_few test s [] are = omega arith
+turns_few test s (turn ∷ turns) are =
+    let both = started_then test (turns_entries turns) turn.entries in
+    let steps = starts_then (steps_of turns) (turn.step ∷ []) in
+    omega (arith, both, steps, turns_few test s turns are.1, step_few test (state_after s turns) turn.after turn.step turn.calls turn.entries are.0)
+
+-- a stage that ends starts no event
+stage_by : (events : List Open) (b : Bool) → has_stage events ≡ b → starts_of (stage_ends events) ≡ 0
+stage_by events true has = ap starts_of (ends_by events true has)
+stage_by events false has = ap starts_of (ends_by events false has)
+
+stage_none : (events : List Open) → starts_of (stage_ends events) ≡ 0
+stage_none events = stage_by events (has_stage events) refl
+
+deed_few : (s : State) (deed : Deed) → starts_of (steps_for s deed) ≤ 1
+deed_few s (Connecting admin user host) = omega arith
+deed_few s (Starting subject) = omega arith
+deed_few s (Staging subject) = omega (arith, starts_then (stage_ends s.opened.events) (StartsEvent subject ∷ []), stage_none s.opened.events)
+deed_few s StageEnding = omega (arith, starts_then (stage_ends s.opened.events) [], stage_none s.opened.events)
+deed_few s (Ending numbers) = omega (arith, starts_then (stage_ends s.opened.events) (EndsEvent numbers ∷ []), stage_none s.opened.events)
+deed_few s (Spending time) = omega arith
+deed_few s (Quitting admin) = omega arith
+deed_few s Closing = omega arith
+
+parts_few : (test : Verdict → Bool) (s : State) (parts : List Part) → AreParts s parts → started test (joined (entries_of parts)) ≤ length parts
+unfolding joined
+parts_few test s [] are = omega arith
+parts_few test s (p ∷ ps) are =
+    let both = started_then test (part_entries p) (joined (entries_of ps)) in
+    let steps = ap starts_of are.0.steps_are in
+    omega (arith, both, steps, turns_few test s p.turns are.0.are_turns, deed_few s p.deed, parts_few test (state_after s p.turns) ps are.1)
+
+-- a block has a deed for each line, one for its connect and one for its end
+deeds_length : (parts : List Part) → length (deeds_in parts) ≡ length parts
+deeds_length [] = refl
+deeds_length (p ∷ ps) = ap suc (deeds_length ps)
+
+connect_few : (admin : Administration) (names : Option Connect) → length (connecting admin names) ≤ 1
+connect_few admin None = omega arith
+connect_few admin (Some names) = omega arith
+
+pub block_few : (test : Verdict → Bool) (s : State) (parts : List Part) (admin : Administration) (number : ℕ) (names : Option Connect) (lines : List BlockLine) → AreParts s parts → deeds_in parts ≡ deeds_of admin number names lines → length lines ≤ 200000
+    → started test (joined (entries_of parts)) ≤ 200002
+block_few test s parts admin number names lines are deeds short =
+    let count = ap length deeds in
+    let rest : List Deed = map (deed_on (connected_by admin number names)) lines in
+    let sum = length-append (connecting admin names) (rest ++ Closing ∷ []) in
+    let more = length-append rest (Closing ∷ []) in
+    let same = length-map lines (deed_on (connected_by admin number names)) in
+    omega (arith, count, sum, more, same, deeds_length parts, connect_few admin names, short, parts_few test s parts are)

@@ -1,0 +1,12 @@
+pub mod At
+pub mod Beginning
+pub mod Ending
+pub mod FewLost
+pub mod Going
+pub mod Here
+pub mod Lines
+pub mod Ready
+pub mod Running
+pub mod Slots
+pub mod Standing
+pub mod Stepping

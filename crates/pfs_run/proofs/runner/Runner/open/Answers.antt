@@ -1,0 +1,15 @@
+use Rattle.std.proofs.Common.{ap, sym, ◌∙◌, refl, Some, map}
+use Rattle.pfs_admin.specs.Opening.{opening_flags}
+use Rattle.pfs_levels.specs.Plain.{word}
+use Rattle.pfs_runs.specs.Lines.{change_in}
+use Rattle.pfs_run.specs.Along.{depth_of}
+use Rattle.pfs_run.proofs.Beginning.{begun}
+use Rattle.pfs_run.proofs.runner.Runner.open.Goals as goal
+
+pub returns : goal.returns
+returns c =
+    let setting = c.args.setting.now in
+    let flags = c.as_slice.ensures.value ∙ (c.in_ok-flags.ensures.flags ∙ ap (opening_flags setting) c.in_ok-objects.ensures) in
+    λ phases. begun setting phases _ _ _ _ _ _ _ _ _ setting.in_range (c.no_course.ensures setting (change_in phases) (depth_of phases))
+    (λ start e. c.in_ok-new.ensures.opened start (e ∙ sym flags)) c.in_ok-new.ensures.hand c.in_ok-new.ensures.left (c.in_ok-new.ensures.words ∙ ap (λ z. Some (map (word 0) z)) flags)
+    c.in_ok-open.ensures c.in_ok-empty_seats.ensures refl refl c.new-3.ensures.items c.new-2.ensures.items

@@ -1,0 +1,76 @@
+//! A run of a whole script.
+
+ghost use Rattle.std.specs.Prelude.{◌≡◌, ◌+◌, ◌++◌, ◌∷◌, [], ℕ, List, IfOk, OnOk, length};
+ghost use Rattle.pfs_course.specs.Course.{numbered};
+ghost use Rattle.pfs_script.specs.Scripts.{IsScript};
+ghost use Rattle.pfs_script.specs.declared.blocks.Phase.{Phase as SaidPhase};
+ghost use Rattle.pfs_script.specs.declared.reasons.Extent.TheVariants.{Whole};
+ghost use Rattle.pfs_runs.specs.Runs.{IsPlainRun};
+ghost use Rattle.pfs_run.specs.Along.{IsAlong};
+
+use crate::NoMemory;
+use crate::runner::Runner;
+use pfs_classes::Setting;
+use pfs_journal::{PhaseList, Report, ReportParts};
+use pfs_levels::{PlainRows, Rows};
+use pfs_script::Phase;
+use std::alloc::Global;
+
+/// The number of the report's format: parts of the report are not built yet.
+const FORMAT: u64 = 0;
+
+/// Runs a script on one thread, its sessions one after another in the order of its blocks, and reports it.
+pub fn run_plain(alloc: Global, setting: &Setting, phases: &[Phase]) -> Result<Report, NoMemory>
+    requires { (text : List ℕ) × IsScript Whole text setting.now phases.now }
+    ensures { IfOk result (λ report. IsPlainRun setting.now phases.now report) }
+{
+    pfs_course::laws::whole();
+    pfs_course::laws::run();
+    pfs_ends::laws::all_end();
+    let mut runner = Runner::open(alloc, setting)?;
+    for phase in phases {
+        match run_phase(&mut runner, setting, phases, phase) {
+            Ok(()) => {}
+            Err(fault) => return Err(fault),
+        }
+    }
+    Ok(Report::new(ReportParts {
+        format: FORMAT,
+        phases: PhaseList::new(runner.into_phases()),
+    }))
+}
+
+// The blocks of a phase, and its end.
+fn run_phase(
+    runner: &mut Runner,
+    setting: &Setting,
+    phases: &[Phase],
+    phase: &Phase,
+) -> Result<(), NoMemory>
+    requires script { (text : List ℕ) × IsScript Whole text setting.now phases.now }
+    requires here { (before : List SaidPhase) × (after : List SaidPhase)
+        × (phases.now ≡ before ++ phase.now ∷ after)
+        × IsAlong setting.now phases.now before [] (numbered (1 + length before) (phase.now ∷ after))
+        (⟦<PlainRows as Rows>⟧.reached runner.old.rows) (⟦<PlainRows as Rows>⟧.hand runner.old.rows)
+        (⟦<PlainRows as Rows>⟧.left runner.old.rows) (⟦<PlainRows as Rows>⟧.words runner.old.rows) runner.old.admin
+        runner.old.seats.items runner.old.lost runner.old.phases.items runner.old.blocks.items }
+    ensures { OnOk result ((before : List SaidPhase) → (after : List SaidPhase)
+        → phases.now ≡ before ++ phase.now ∷ after
+        → IsAlong setting.now phases.now before [] (numbered (1 + length before) (phase.now ∷ after))
+        (⟦<PlainRows as Rows>⟧.reached runner.old.rows) (⟦<PlainRows as Rows>⟧.hand runner.old.rows)
+        (⟦<PlainRows as Rows>⟧.left runner.old.rows) (⟦<PlainRows as Rows>⟧.words runner.old.rows) runner.old.admin
+        runner.old.seats.items runner.old.lost runner.old.phases.items runner.old.blocks.items
+        → IsAlong setting.now phases.now (before ++ phase.now ∷ []) []
+        (numbered (1 + length (before ++ phase.now ∷ [])) after)
+        (⟦<PlainRows as Rows>⟧.reached runner.new.rows) (⟦<PlainRows as Rows>⟧.hand runner.new.rows)
+        (⟦<PlainRows as Rows>⟧.left runner.new.rows) (⟦<PlainRows as Rows>⟧.words runner.new.rows) runner.new.admin
+        runner.new.seats.items runner.new.lost runner.new.phases.items runner.new.blocks.items) }
+{
+    for block in phase.blocks.as_slice() {
+        match runner.play(setting, phases, block) {
+            Ok(()) => {}
+            Err(fault) => return Err(fault),
+        }
+    }
+    runner.end_phase(setting)
+}

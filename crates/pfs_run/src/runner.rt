@@ -1,0 +1,186 @@
+//! A run of a script: its store, its administration, its sessions, and what is reported of it so far.
+
+ghost use Rattle.std.specs.Prelude.{◌≡◌, ◌<◌, ◌≤◌, ◌+◌, ◌++◌, ◌∷◌, [], ℕ, List, IfOk, OnOk, length};
+ghost use Rattle.pfs_course.specs.Ahead.{ahead_of, block_at};
+ghost use Rattle.pfs_course.specs.Course.{numbered};
+ghost use Rattle.pfs_journal.specs.Reports.{IsPhase};
+ghost use Rattle.pfs_script.specs.Scripts.{IsScript};
+ghost use Rattle.pfs_script.specs.declared.blocks.Block.{Block as Said};
+ghost use Rattle.pfs_script.specs.declared.blocks.Phase.{Phase as SaidPhase};
+ghost use Rattle.pfs_script.specs.declared.reasons.Extent.TheVariants.{Whole};
+ghost use Rattle.pfs_run.specs.Along.{IsAlong};
+
+use crate::NoMemory;
+use crate::seats::{empty_seats, keep_seat, take_seat};
+use pfs_admin::{Admin, opening_flags};
+use pfs_blocks::play_block;
+use pfs_classes::Setting;
+use pfs_ends::{LostEvents, count_lost};
+use pfs_finals::{LostCounters, final_tables, lost_rows};
+use pfs_journal::{AnswerList, BlockList, BlockReport, EntryList, PhaseParts, PhaseReport};
+use pfs_levels::{PlainRows, Rows};
+use pfs_matching::Objects;
+use pfs_play::written_cost;
+use pfs_script::{Block, Phase};
+use pfs_session::Paused;
+use std::alloc::{AllocError, Global};
+
+/// The journal entries that a connect, what is settled, and a quit take at most.
+const AT_ENDS: u64 = 592;
+
+/// A run between two blocks.
+#[derive(Drop)]
+pub struct Runner {
+    alloc: Global,
+    rows: PlainRows,
+    admin: Admin,
+    // The session of number K, from 1 on, has the place K - 1; None before its first block.
+    seats: Vec<Option<Paused>>,
+    lost: LostEvents,
+    // Of the phase under way.
+    blocks: Vec<BlockReport>,
+    // Of the phases that ended.
+    phases: Vec<PhaseReport>,
+}
+
+impl Runner {
+    /// Nothing done yet: the store and the administration as the setting opens them.
+    pub fn open(alloc: Global, setting: &Setting) -> Result<Runner, NoMemory>
+        ensures { IfOk result (λ runner. (phases : List SaidPhase) → IsAlong setting.now phases [] [] (numbered 1 phases)
+            (⟦<PlainRows as Rows>⟧.reached runner.rows) (⟦<PlainRows as Rows>⟧.hand runner.rows)
+            (⟦<PlainRows as Rows>⟧.left runner.rows) (⟦<PlainRows as Rows>⟧.words runner.rows) runner.admin
+            runner.seats.items runner.lost runner.phases.items runner.blocks.items) }
+    {
+        pfs_course::laws::no_course();
+        let objects = Objects::open(alloc)?;
+        let flags = opening_flags(alloc, setting, &objects)?;
+        Ok(Runner {
+            alloc,
+            rows: PlainRows::new(alloc, flags.as_slice())?,
+            admin: Admin::open(alloc, setting)?,
+            seats: empty_seats(alloc)?,
+            lost: LostEvents::NONE,
+            blocks: Vec::new(alloc),
+            phases: Vec::new(alloc),
+        })
+    }
+
+    /// Plays the next block of the script in its session, and reports its journal.
+    pub fn play(
+        &mut self,
+        setting: &Setting,
+        phases: &[Phase],
+        block: &Block,
+    ) -> Result<(), NoMemory>
+        requires script { (text : List ℕ) × IsScript Whole text setting.now phases.now }
+        requires here { (before : List SaidPhase) × (first : List Said) × (others : List Said)
+            × (after : List SaidPhase)
+            × (phases.now ≡ before ++ record { blocks = first ++ block.now ∷ others } ∷ after)
+            × IsAlong setting.now phases.now before first (block_at before block.now ∷ ahead_of before others after)
+            (⟦<PlainRows as Rows>⟧.reached self.old.rows) (⟦<PlainRows as Rows>⟧.hand self.old.rows)
+            (⟦<PlainRows as Rows>⟧.left self.old.rows) (⟦<PlainRows as Rows>⟧.words self.old.rows) self.old.admin
+            self.old.seats.items self.old.lost self.old.phases.items self.old.blocks.items }
+        ensures { OnOk result ((before : List SaidPhase) → (first : List Said) → (others : List Said)
+            → (after : List SaidPhase)
+            → phases.now ≡ before ++ record { blocks = first ++ block.now ∷ others } ∷ after
+            → IsAlong setting.now phases.now before first (block_at before block.now ∷ ahead_of before others after)
+            (⟦<PlainRows as Rows>⟧.reached self.old.rows) (⟦<PlainRows as Rows>⟧.hand self.old.rows)
+            (⟦<PlainRows as Rows>⟧.left self.old.rows) (⟦<PlainRows as Rows>⟧.words self.old.rows) self.old.admin
+            self.old.seats.items self.old.lost self.old.phases.items self.old.blocks.items
+            → IsAlong setting.now phases.now before (first ++ block.now ∷ []) (ahead_of before others after)
+            (⟦<PlainRows as Rows>⟧.reached self.new.rows) (⟦<PlainRows as Rows>⟧.hand self.new.rows)
+            (⟦<PlainRows as Rows>⟧.left self.new.rows) (⟦<PlainRows as Rows>⟧.words self.new.rows) self.new.admin
+            self.new.seats.items self.new.lost self.new.phases.items self.new.blocks.items) }
+    {
+        pfs_playable::laws::playable();
+        pfs_playable::laws::few();
+        pfs_playable::laws::lines();
+        pfs_playable::laws::named();
+        let mut session = take_seat(self.alloc, setting, phases, &mut self.seats, block.session)?;
+        session.reserve(AT_ENDS + written_cost(block.lines.as_slice()))?;
+        let mut paused = play_block(session, &mut self.rows, &mut self.admin, block);
+        let entries = paused.take_log().into_entries();
+        keep_seat(&mut self.seats, block.session, paused);
+        self.lost = count_lost(entries.as_slice(), self.lost);
+        self.blocks.push(BlockReport {
+            session: block.session,
+            entries: EntryList::new(entries),
+            answers: AnswerList::new(Vec::new(self.alloc)),
+        })?;
+        Ok(())
+    }
+
+    /// Ends the phase that stands behind those that ended: reads its tables and counters, and reports it.
+    pub fn end_phase(&mut self, setting: &Setting) -> Result<(), NoMemory>
+        requires here { (phases : List SaidPhase) × (before : List SaidPhase) × (first : List Said)
+            × (after : List SaidPhase) × IsAlong setting.now phases before first (ahead_of before [] after)
+            (⟦<PlainRows as Rows>⟧.reached self.old.rows) (⟦<PlainRows as Rows>⟧.hand self.old.rows)
+            (⟦<PlainRows as Rows>⟧.left self.old.rows) (⟦<PlainRows as Rows>⟧.words self.old.rows) self.old.admin
+            self.old.seats.items self.old.lost self.old.phases.items self.old.blocks.items }
+        ensures { OnOk result ((phases : List SaidPhase) → (before : List SaidPhase) → (first : List Said)
+            → (after : List SaidPhase) → IsAlong setting.now phases before first (ahead_of before [] after)
+            (⟦<PlainRows as Rows>⟧.reached self.old.rows) (⟦<PlainRows as Rows>⟧.hand self.old.rows)
+            (⟦<PlainRows as Rows>⟧.left self.old.rows) (⟦<PlainRows as Rows>⟧.words self.old.rows) self.old.admin
+            self.old.seats.items self.old.lost self.old.phases.items self.old.blocks.items
+            → IsAlong setting.now phases (before ++ record { blocks = first } ∷ []) []
+            (numbered (1 + length (before ++ record { blocks = first } ∷ [])) after)
+            (⟦<PlainRows as Rows>⟧.reached self.new.rows) (⟦<PlainRows as Rows>⟧.hand self.new.rows)
+            (⟦<PlainRows as Rows>⟧.left self.new.rows) (⟦<PlainRows as Rows>⟧.words self.new.rows) self.new.admin
+            self.new.seats.items self.new.lost self.new.phases.items self.new.blocks.items) }
+    {
+        let number = self.phases.len() as u64 + 1;
+        let tables = final_tables(self.alloc, setting, &mut self.rows)?;
+        let lost = lost_rows(self.alloc, setting, &self.counters())?;
+        let empty = Vec::new(self.alloc);
+        let blocks = std::mem::replace(&mut self.blocks, empty);
+        let parts = PhaseParts {
+            number,
+            blocks: BlockList::new(blocks),
+            tables,
+            lost,
+        };
+        self.phases.push(checked(parts)?)?;
+        Ok(())
+    }
+
+    // What was lost so far. No digest is counted yet.
+    fn counters(&self) -> LostCounters
+        ensures threads { result.threads ≡ self.now.admin.kept.now.lost_threads }
+        ensures accounts { result.accounts ≡ self.now.admin.kept.now.lost_accounts }
+        ensures users { result.users ≡ self.now.admin.kept.now.lost_users }
+        ensures hosts { result.hosts ≡ self.now.admin.kept.now.lost_hosts }
+        ensures digests { result.digests ≡ 0 }
+        ensures statements { result.statements ≡ self.now.lost.statements }
+        ensures waits { result.waits ≡ self.now.lost.waits }
+    {
+        let lost = self.admin.lost();
+        LostCounters {
+            threads: lost.threads,
+            accounts: lost.accounts,
+            users: lost.users,
+            hosts: lost.hosts,
+            digests: 0,
+            statements: self.lost.statements,
+            waits: self.lost.waits,
+        }
+    }
+
+    /// What is reported of the phases that ended.
+    pub fn into_phases(self) -> Vec<PhaseReport>
+        ensures { result.items ≡ self.phases.items }
+    {
+        self.phases
+    }
+}
+
+/// The phase of these parts. A run's parts are always such as a report can have; with others there
+/// would be no report to write, and the answer is that of a want of memory.
+fn checked(parts: PhaseParts) -> Result<PhaseReport, NoMemory>
+    ensures same { IfOk result (λ report. report ≡ parts) }
+    ensures good { IfOk result (λ report. IsPhase parts) }
+{
+    match PhaseReport::checked(parts) {
+        Some(report) => Ok(report),
+        None => Err(AllocError),
+    }
+}
