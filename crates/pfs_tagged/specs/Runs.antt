@@ -1,0 +1,88 @@
+-- What is said of a run, and what conservation goes by up to a phase's end.
+use Rattle.std.specs.Prelude.{ℕ, ◌≡◌, nat_lt, Bool, List, Some}
+use Rattle.pfs_admin.specs.declared.changes.Change.{Change}
+use Rattle.pfs_board.specs.declared.view.Label.{Label}
+use Rattle.pfs_classes.specs.declared.setting.Setting.{Setting}
+use Rattle.pfs_conservation.specs.Administration.{Action}
+use Rattle.pfs_conservation.specs.Chains.{Sums, found_by}
+use Rattle.pfs_conservation.specs.Laws.{stats}
+use Rattle.pfs_conservation.specs.Lines.{Tagged, chain_of}
+use Rattle.pfs_conservation.specs.Seats.{Numbering}
+use Rattle.pfs_conservation.specs.Tables.{Key, KeyThread, KeyAccount, KeyUser, KeyHost, KeyAll, Whose}
+use Rattle.pfs_model.specs.Asked.{Answer}
+use Rattle.pfs_model.specs.Contents.{Facts, Given}
+use Rattle.pfs_model.specs.Places.{Block, Placed, places, up_to_phase}
+use Rattle.pfs_rows.specs.declared.table.TableKind.{TableKind}
+use Rattle.pfs_runs.specs.Finals.{row_version}
+use Rattle.pfs_runs.specs.Labels.{terms_of}
+use Rattle.pfs_runs.specs.Rules.{Terms, slot_in, given_by}
+use Rattle.pfs_stat.specs.Stat.{stat_of_words}
+use Rattle.pfs_stat.specs.declared.Stat.{Stat}
+use Rattle.pfs_tagged.specs.Acts.{labels_so_far, actions_of, names_by}
+use Rattle.pfs_tagged.specs.Board.{cells_of, board}
+use Rattle.pfs_tagged.specs.Ends.{events_in, measures_in, whose_in}
+use Rattle.pfs_tagged.specs.Tagged.{lines_in}
+
+-- A run: its setting; the change of each label, and the labels of its actions; the script's facts of the events, and
+-- the answers; which takes found something counted, and the contents of rows at their versions; its blocks; and the
+-- flags by which events are put into rings and rows of digests.
+pub record Run : Type 0 where
+  pub setting : Setting
+  pub change : Label → Change
+  pub labels : List Label
+  pub facts : ℕ → ℕ → Facts
+  pub answers : ℕ → Answer
+  pub counted : ℕ → ℕ → Bool
+  pub content : ℕ → ℕ → List ℕ
+  pub blocks : List Block
+  pub flags : ℕ → ℕ → ℕ
+
+abbrev pub terms_by : Run → Terms
+terms_by run = terms_of run.setting run.change run.facts run.answers run.labels
+
+abbrev pub given_in : Run → Given
+given_in run = given_by (terms_by run) run.blocks
+
+-- the entries up to a phase
+abbrev pub entries_to : Run → ℕ → List Placed
+entries_to run phase = up_to_phase phase (places run.blocks)
+
+-- the actions up to there
+abbrev pub actions_to : Run → ℕ → List Action
+actions_to run phase = actions_of run.change (labels_so_far run.labels (entries_to run phase))
+
+-- of a kind: its rows, the lines that change them, and its events
+abbrev pub rows_by : Run → TableKind → Numbering
+rows_by run kind = board (cells_of run.setting kind)
+
+abbrev pub lines_to : Run → TableKind → ℕ → List Tagged
+lines_to run kind phase = lines_in (cells_of run.setting kind) (entries_to run phase)
+
+abbrev pub events_to : Run → TableKind → ℕ → List ℕ
+events_to run kind phase = events_in (cells_of run.setting kind) (entries_to run phase)
+
+-- what each event adds, and whose it is
+abbrev pub sums_to : Run → ℕ → Sums Stat
+sums_to run phase = stats (measures_in (given_in run) (entries_to run phase))
+
+abbrev pub whose_to : Run → ℕ → ℕ → Whose
+whose_to run phase = whose_in (names_by run.change) (entries_to run phase)
+
+-- what an action's take of a row found by these lines, and whether that has counted something
+abbrev pub found_to : Run → TableKind → ℕ → ℕ → ℕ → Stat
+found_to run kind phase = found_by (sums_to run phase) (chain_of (lines_to run kind phase)) 4
+
+abbrev pub kept_to : Run → TableKind → ℕ → ℕ → ℕ → Bool
+kept_to run kind phase action row = nat_lt 0 (found_to run kind phase action row).count
+
+-- what stands in a row under the phase's end
+abbrev pub stands_to : Run → ℕ → ℕ → Stat
+stands_to run phase row = stat_of_words (run.content row (row_version (entries_to run phase) row))
+
+-- the slot of a thread's key is the one that its session's connect printed
+abbrev pub IsKeyOf : Run → Key → Type 0
+IsKeyOf run (KeyThread session slot) = slot_in run.blocks session ≡ Some slot
+IsKeyOf run (KeyAccount user host) = Unit {0}
+IsKeyOf run (KeyUser user) = Unit {0}
+IsKeyOf run (KeyHost host) = Unit {0}
+IsKeyOf run KeyAll = Unit {0}

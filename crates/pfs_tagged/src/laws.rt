@@ -1,0 +1,53 @@
+//! Laws of the definitions.
+
+ghost use Rattle.pfs_tagged.specs.Laws.{ActedLaw, AddedLaw, ContentLaw, FoundLaw, SummedLaw};
+ghost use Rattle.pfs_tagged.specs.Worked.{WorkedTags};
+
+/// The lines of a kind keep the rules of acted lines: their versions are those of chains and rise along a session, the
+/// numbers of actions never fall along a row, and each action prints just what it moves.
+pub fn acted()
+    ensures { ActedLaw }
+{
+    pfs_rows::laws::rows();
+}
+
+/// What the lines of a kind make of a row, change after change, is what stands there under the phase's end.
+pub fn contents()
+    ensures { ContentLaw }
+{
+    pfs_rows::laws::rows();
+    pfs_stat::laws::words();
+}
+
+/// The run says of an action's take that it found something counted just where it does so by the lines.
+pub fn found()
+    ensures { FoundLaw }
+{
+    pfs_rows::laws::rows();
+    pfs_stat::laws::words();
+}
+
+/// Each event of a kind is added once, at its home: by its session, above what the actions up to its connect did there,
+/// and below the take of its quit.
+pub fn added()
+    ensures { AddedLaw }
+{
+    pfs_rows::laws::rows();
+}
+
+/// What the rows of a key show under a phase's end is the merge of the events that lead to the key and that no covering
+/// action took since they were added.
+pub fn summed()
+    ensures { SummedLaw }
+{
+    pfs_conservation::laws::reported();
+    pfs_rows::laws::rows();
+    pfs_stat::laws::merge();
+    pfs_stat::laws::words();
+}
+
+/// The lines of a worked run: its waits and its statement, the actions of its sessions, whose the events are, and what
+/// the rows show after the quit.
+pub fn worked()
+    ensures { WorkedTags }
+{}
