@@ -259,17 +259,18 @@ fn the_heaviest_repeats(rt: HostRuntime) {
 
 #[test]
 fn forms_that_are_not_built(rt: HostRuntime) {
-    let cases: [(&[u8], u64, u64); 10] = [
-        (b"phase\nphase\n", 2, 13),
-        (b"limit users 99\n", 1, 13),
+    let cases: [(&[u8], u64, u64); 11] = [
+        (b"phase\nphase\n", 0, 0),
+        (b"limit users 99\n", 1, 8),
+        (b"limit digests 9\n", 1, 13),
         (b"phase\nsession 1 u h\nend\nquit\n", 3, 9),
         (b"limit no_such 18446744073709551616\n", 1, 13),
         (b"start statement/sql/select SELECT 1\n", 1, 13),
-        (b"start wait/io/table/sql/handler a.b\n", 1, 13),
+        (b"start wait/io/table/sql/handler a.b\n", 1, 4),
         (b"sql SELECT\n", 1, 13),
-        (b"quit\n", 1, 13),
-        (b"session 99\n", 1, 13),
-        (b"phase\nsession 1 u h\nrepeat 2\nquit\n", 4, 13),
+        (b"quit\n", 1, 4),
+        (b"session 99\n", 1, 4),
+        (b"phase\nsession 1 u h\nrepeat 2\nquit\n", 4, 4),
     ];
     for (bytes, line, reason) in &cases {
         assert_eq!(rt; built_fault(rt.alloc(), bytes), Some((*line, *reason)));
@@ -474,13 +475,10 @@ fn the_most_of_each(rt: HostRuntime) -> Result<(), Fail> {
         let lines = classes(alloc, count)?;
         assert_eq!(rt; fault(alloc, lines.as_slice()), Some((line, reason)));
     }
-    for (count, line, reason) in [(32, 0, 0), (33, 34, 13)] {
-        let lines = sessions(alloc, count)?;
-        assert_eq!(rt; built_fault(alloc, lines.as_slice()), Some((line, reason)));
-    }
     for (count, line, reason) in [(64, 0, 0), (65, 66, 6)] {
         let lines = sessions(alloc, count)?;
         assert_eq!(rt; fault(alloc, lines.as_slice()), Some((line, reason)));
+        assert_eq!(rt; built_fault(alloc, lines.as_slice()), Some((line, reason)));
     }
     for (times, line, reason) in [(64, 0, 0), (65, 65, 12)] {
         let lines = many(alloc, b"", b"phase\n", times)?;

@@ -17,7 +17,7 @@ use Rattle.pfs_script.specs.Counts.{ahead_of_last, is_repeat, is_done, is_in_rep
 use Rattle.pfs_script.specs.Sessions.{is_phase, is_session, is_block_of, is_quit, ends_block, phase_of, session_now, lines_in, lines_of, has_quit}
 use Rattle.pfs_script.specs.Next.{is_bad_number, is_bad_session, is_bad_nesting, mark_of_form, session_kinds, kinds_open}
 use Rattle.pfs_script.specs.Places.{KnowsSession, KnowsCourse, HasBegun, state_at, no_session, kinds_in}
-use Rattle.pfs_script.proofs.Behind.{ahead_more, behind_more, behind_none, count_more, any_more, in_repeat-begun, in_repeat-done, in_repeat-same}
+use Rattle.pfs_script.proofs.Behind.{ahead_more, behind_more, behind_none, any_more, in_repeat-begun, in_repeat-done, in_repeat-same}
 use Rattle.pfs_script.proofs.Turns.{now_none, now_more, now_same, lines_ends, lines_other, lines_own, kinds_own}
 
 pub phase_new : (before : List Form) (line : Form) → is_phase line ≡ true → phase_of (before ++ line ∷ []) ≡ []
@@ -210,16 +210,14 @@ none_known sessions s number low = subst (λ one. KnowsSession one number []) (s
 })
 
 pub none_knows : (course : Course) → ((number : ℕ) → number < 65 → state_at course.sessions number ≡ no_session) → length course.sessions ≡ 65
-    → ((number : ℕ) → number < 65 → get_or course.here number false ≡ false) → length course.here ≡ 65 → course.present ≡ 0 → course.blocks ≡ 0 → course.repeat ≡ None → KnowsCourse course []
-none_knows course s n h m p b r = record {
+    → ((number : ℕ) → number < 65 → get_or course.here number false ≡ false) → length course.here ≡ 65 → course.present ≡ 0 → course.repeat ≡ None → KnowsCourse course []
+none_knows course s n h m p r = record {
   sessions = none_known course.sessions s;
   numbers = n;
   here = λ number low. rw (behind_none is_phase) (h number low);
   here_numbers = m;
   present = p ∙ sym now_none;
   low = omega arith;
-  blocks = rw (behind_none is_phase) b;
-  few_blocks = omega arith;
   repeats = rw r refl;
   first = rw r tt;
 }
@@ -238,34 +236,30 @@ not_second line e = second_false (is_phase line) (is_session line) e
 
 -- one line more of a block, or a line that says nothing here
 inside_knows : (course after : Course) (before : List Form) (line : Form) → KnowsCourse course before → ends_block line ≡ false → AllKnown after.sessions (before ++ line ∷ []) → length after.sessions ≡ 65
-    → after.here ≡ course.here → after.present ≡ course.present → after.blocks ≡ course.blocks
+    → after.here ≡ course.here → after.present ≡ course.present
     → is_some after.repeat ≡ is_in_repeat (before ++ line ∷ []) → IfSome after.repeat (λ events. kinds_in events ≡ kinds_open (ahead_of_last is_repeat (before ++ line ∷ [])))
     → KnowsCourse after (before ++ line ∷ [])
-inside_knows course after before line k e s n h p b r f = record {
+inside_knows course after before line k e s n h p r f = record {
   sessions = s;
   numbers = n;
   here = λ number low. rw (h, phase_same before line (not_first line e), any_same (is_block_of number) (phase_of before) line (not_block number line (not_second line e))) (k.here number low);
   here_numbers = rw h k.here_numbers;
   present = p ∙ (k.present ∙ sym (now_same before line e));
   low = rw p k.low;
-  blocks = rw (b, phase_same before line (not_first line e), count_more is_session (phase_of before) line, not_second line e) (k.blocks ∙ omega arith);
-  few_blocks = omega (arith, b, k.few_blocks, length_more before line);
   repeats = r;
   first = f;
 }
 
 -- a phase begins
 pub phase_knows : (course after : Course) (before : List Form) → KnowsCourse course before → after.sessions ≡ course.sessions
-    → ((number : ℕ) → number < 65 → get_or after.here number false ≡ false) → length after.here ≡ 65 → after.present ≡ 0 → after.blocks ≡ 0 → after.repeat ≡ course.repeat → KnowsCourse after (before ++ form.Phase ∷ [])
-phase_knows course after before k s h n p b r = record {
+    → ((number : ℕ) → number < 65 → get_or after.here number false ≡ false) → length after.here ≡ 65 → after.present ≡ 0 → after.repeat ≡ course.repeat → KnowsCourse after (before ++ form.Phase ∷ [])
+phase_knows course after before k s h n p r = record {
   sessions = all_phase course after.sessions before k s;
   numbers = rw s k.numbers;
   here = λ number low. rw (phase_new before form.Phase refl) (h number low);
   here_numbers = n;
   present = p ∙ sym (now_more before form.Phase);
   low = omega arith;
-  blocks = rw (phase_new before form.Phase refl) b;
-  few_blocks = omega arith;
   repeats = rw r (k.repeats ∙ sym (in_repeat-same before form.Phase refl refl));
   first = rw r (first_same course before form.Phase k refl);
 }
@@ -284,17 +278,15 @@ after_set flags number other b within h =
     ]
 
 -- a block begins
-block_knows : (course after : Course) (before : List Form) (line : Form) (first : ℕ) → KnowsCourse course before → first < 65 → length before < 2 ^ 63 → is_phase line ≡ false → is_session line ≡ true
+block_knows : (course after : Course) (before : List Form) (line : Form) (first : ℕ) → KnowsCourse course before → first < 65 → is_phase line ≡ false → is_session line ≡ true
     → ((number : ℕ) → is_block_of number line ≡ (first == number)) → session_now (before ++ line ∷ []) ≡ first → is_repeat line ≡ false → is_done line ≡ false → HasBegun course after first → KnowsCourse after (before ++ line ∷ [])
-block_knows course after before line first k low short p c own now r d h = record {
+block_knows course after before line first k low p c own now r d h = record {
   sessions = all_begin course after.sessions before line first k low (rw (p, c) refl) own h.sessions;
   numbers = rw h.sessions (omega (arith, length-set {A = SessionState}, k.numbers));
   here = λ other within. rw (h.here, phase_same before line p, any_more (is_block_of other) (phase_of before) line, own other) (after_set course.here first other (list_any (is_block_of other) (phase_of before)) (omega (arith, k.here_numbers)) (k.here other within));
   here_numbers = rw h.here (omega (arith, length-set {A = Bool}, k.here_numbers));
   present = h.present ∙ sym now;
   low = omega (arith, h.present, low);
-  blocks = rw (phase_same before line p, count_more is_session (phase_of before) line, c) (h.blocks (omega (arith, k.few_blocks)) ∙ ap (λ n. n + 1) k.blocks);
-  few_blocks = omega (arith, h.blocks (omega (arith, k.few_blocks)), k.few_blocks, length_more before line);
   repeats = rw h.repeat (k.repeats ∙ sym (in_repeat-same before line r d));
   first = rw h.repeat (first_same course before line k r);
 }
@@ -302,38 +294,38 @@ block_knows course after before line first k low short p c own now r d h = recor
 low_number : (number : ℕ) (taken : Bool) → (not (nat_le 1 number && nat_le number 64) || taken) ≡ false → number < 65
 low_number number taken h = grind (arith, nat_tests, h)
 
-pub connect_knows : (course after : Course) (before : List Form) (session : Option ℕ) (user host : List ℕ) → KnowsCourse course before → length before < 2 ^ 63
+pub connect_knows : (course after : Course) (before : List Form) (session : Option ℕ) (user host : List ℕ) → KnowsCourse course before
     → is_bad_number (form.Connect session user host) ≡ false → is_bad_session before (form.Connect session user host) ≡ false
     → (first : ℕ) → first ≡ unwrap_or session 0 → (first < 65 → HasBegun course after first) → KnowsCourse after (before ++ form.Connect session user host ∷ [])
-connect_knows course after before None user host k short bad session first is h = cc
-connect_knows course after before (Some number) user host k short bad session first is h =
+connect_knows course after before None user host k bad session first is h = cc
+connect_knows course after before (Some number) user host k bad session first is h =
     let line = form.Connect (Some number) user host in
     let low = low_number number (list_any (is_block_of number) before) session in
-    block_knows course after before line number k low short refl refl (λ other. refl) (now_more before line) refl refl (subst (λ n. HasBegun course after n) is (h (omega (arith, low, is))))
+    block_knows course after before line number k low refl refl (λ other. refl) (now_more before line) refl refl (subst (λ n. HasBegun course after n) is (h (omega (arith, low, is))))
 
-pub resume_knows : (course after : Course) (before : List Form) (session : Option ℕ) → KnowsCourse course before → length before < 2 ^ 63
+pub resume_knows : (course after : Course) (before : List Form) (session : Option ℕ) → KnowsCourse course before
     → is_bad_number (form.Resume session) ≡ false → is_bad_session before (form.Resume session) ≡ false
     → (first : ℕ) → first ≡ unwrap_or session 0 → (first < 65 → HasBegun course after first) → KnowsCourse after (before ++ form.Resume session ∷ [])
-resume_knows course after before None k short bad session first is h = cc
-resume_knows course after before (Some number) k short bad session first is h =
+resume_knows course after before None k bad session first is h = cc
+resume_knows course after before (Some number) k bad session first is h =
     let line = form.Resume (Some number) in
     let low = low_number number (not (list_any (is_block_of number) before) || (list_any (is_block_of number) (phase_of before) || has_quit number before)) session in
-    block_knows course after before line number k low short refl refl (λ other. refl) (now_more before line) refl refl (subst (λ n. HasBegun course after n) is (h (omega (arith, low, is))))
+    block_knows course after before line number k low refl refl (λ other. refl) (now_more before line) refl refl (subst (λ n. HasBegun course after n) is (h (omega (arith, low, is))))
 
 -- a repeat begins
 pub repeat_knows : (course after : Course) (before : List Form) (times : Option ℕ) (events : OpenKinds) → KnowsCourse course before → kinds_in events ≡ kinds_open before
-    → after.sessions ≡ course.sessions → after.here ≡ course.here → after.present ≡ course.present → after.blocks ≡ course.blocks → after.repeat ≡ Some events → KnowsCourse after (before ++ form.Repeat times ∷ [])
-repeat_knows course after before times events k o s h p b r =
+    → after.sessions ≡ course.sessions → after.here ≡ course.here → after.present ≡ course.present → after.repeat ≡ Some events → KnowsCourse after (before ++ form.Repeat times ∷ [])
+repeat_knows course after before times events k o s h p r =
     let line = form.Repeat times in
-    inside_knows course after before line k refl (all_idle course after.sessions before line k refl refl refl s) (rw s k.numbers) h p b
+    inside_knows course after before line k refl (all_idle course after.sessions before line k refl refl refl s) (rw s k.numbers) h p
     (rw r (sym (in_repeat-begun before line refl)))
     (rw (r, ahead_more is_repeat before line) o)
 
 -- a repeat is done
 pub done_knows : (course after : Course) (before : List Form) → KnowsCourse course before
-    → after.sessions ≡ course.sessions → after.here ≡ course.here → after.present ≡ course.present → after.blocks ≡ course.blocks → after.repeat ≡ None → KnowsCourse after (before ++ form.Done ∷ [])
-done_knows course after before k s h p b r =
-    inside_knows course after before form.Done k refl (all_idle course after.sessions before form.Done k refl refl refl s) (rw s k.numbers) h p b (rw r (sym (in_repeat-done before))) (rw r tt)
+    → after.sessions ≡ course.sessions → after.here ≡ course.here → after.present ≡ course.present → after.repeat ≡ None → KnowsCourse after (before ++ form.Done ∷ [])
+done_knows course after before k s h p r =
+    inside_knows course after before form.Done k refl (all_idle course after.sessions before form.Done k refl refl refl s) (rw s k.numbers) h p (rw r (sym (in_repeat-done before))) (rw r tt)
 
 not_ending : (line : Form) → (line ≡ form.Phase → ⊥) → ((session : Option ℕ) (user host : List ℕ) → line ≡ form.Connect session user host → ⊥) → ((session : Option ℕ) → line ≡ form.Resume session → ⊥) → ends_block line ≡ false
 not_ending form.Phase p c m = absurd (p refl)
@@ -374,15 +366,15 @@ moved_knows course state before line k short nesting e m =
 pub rest_knows : (course after : Course) (before : List Form) (line : Form) (state : SessionState) → KnowsCourse course before → length before < 2 ^ 63 → is_bad_nesting before line ≡ false → (line ≡ form.Phase → ⊥)
     → ((session : Option ℕ) (user host : List ℕ) → line ≡ form.Connect session user host → ⊥) → ((session : Option ℕ) → line ≡ form.Resume session → ⊥) → ((times : Option ℕ) → line ≡ form.Repeat times → ⊥) → (line ≡ form.Done → ⊥)
     → Moved (state_at course.sessions course.present) state line → (course.present < 65 → after.sessions ≡ slice_set course.sessions course.present state)
-    → after.here ≡ course.here → after.present ≡ course.present → after.blocks ≡ course.blocks → after.repeat ≡ course.repeat
+    → after.here ≡ course.here → after.present ≡ course.present → after.repeat ≡ course.repeat
     → KnowsCourse after (before ++ line ∷ [])
-rest_knows course after before line state k short nesting p c m r d moved s h pr b same =
+rest_knows course after before line state k short nesting p c m r d moved s h pr same =
     let e = not_ending line p c m in
     let other = not_repeat line r in
     let set = s k.low in
     inside_knows course after before line k e
     (all_move course after.sessions state before line k e set (moved_knows course state before line k short nesting e moved))
     (rw set (omega (arith, length-set {A = SessionState}, k.numbers)))
-    h pr b
+    h pr
     (rw same (k.repeats ∙ sym (in_repeat-same before line other (not_done line d))))
     (rw same (first_same course before line k other))

@@ -8,7 +8,7 @@ use Rattle.pfs_script.specs.Next.{is_let_in, is_out_of_place, is_bad_number, is_
 
 -- each test for a fault fails
 pub record Passes (extent : Extent) (before : List Form) (line : Form) : Type 0 where
-  pub let_in : is_let_in extent before line ≡ true
+  pub let_in : is_let_in extent line ≡ true
   pub place : is_out_of_place before line ≡ false
   pub number : is_bad_number line ≡ false
   pub session : is_bad_session before line ≡ false
@@ -39,7 +39,7 @@ when false rest reason h = cc
 pub passes : (extent : Extent) (before : List Form) (line : Form) → fault_of extent before line ≡ None → Passes extent before line
 unfolding fault_of least_reason
 passes extent before line h =
-    let a = when (is_let_in extent before line) _ NotBuilt h in
+    let a = when (is_let_in extent line) _ NotBuilt h in
     let b = unless (is_out_of_place before line) OutOfPlace _ a.1 in
     let c = unless (is_bad_number line) BadNumber _ b.1 in
     let d = unless (is_bad_session before line) BadSession _ c.1 in

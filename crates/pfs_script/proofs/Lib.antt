@@ -3,6 +3,7 @@ pub mod BaseLemmas
 pub mod Behind
 pub mod BlockLemmas
 pub mod BlockNesting
+pub mod BuiltLemmas
 pub mod CountLemmas
 pub mod Clean
 pub mod Coursing
@@ -28,7 +29,6 @@ pub mod PassLemmas
 pub mod ReadingExamples
 pub mod ReferLemmas
 pub mod RegisterLemmas
-pub mod RunLemmas
 pub mod SessionNaming
 pub mod SessionNesting
 pub mod SetLemmas

@@ -11,6 +11,7 @@ use Rattle.pfs_script.specs.Brackets.{closing_from, brackets_from}
 use Rattle.pfs_script.specs.Counts.{behind_last, ahead_of_last, counted}
 use Rattle.pfs_script.specs.declared.reasons.Extent.TheVariants.{Whole, Built}
 use Rattle.pfs_script.specs.declared.blocks.Connect.{Connect}
+use Rattle.pfs_script.specs.Headings.{named_limit}
 use Rattle.pfs_script.specs.Finds.{tables_of}
 use Rattle.pfs_script.specs.Sessions.{session_now, lines_in}
 use Rattle.pfs_script.specs.Next.{one_each, weight_of, sql_weight, command_of, begins_with, kinds_open, is_too_much, least_reason, fault_of}
@@ -72,9 +73,31 @@ unfolding fault_of least_reason session_now lines_in kinds_open brackets_from cl
 early_quit = refl
 
 -- what isn't built is told before its place
-not_built : fault_of Built [] form.Quit ≡ Some NotBuilt
+not_built : fault_of Built [] (form.Sql (codes "SELECT 1")) ≡ Some NotBuilt
 unfolding fault_of
 not_built = refl
+
+-- and so is a statement with a text, and the limit of digest texts
+text_not_built : fault_of Built [] (form.Statement (codes "statement/sql/select") (codes "SELECT 1")) ≡ Some NotBuilt
+unfolding fault_of
+text_not_built = refl
+
+limit_not_built : fault_of Built [] (form.Limit (codes "digests") (Some 8)) ≡ Some NotBuilt
+unfolding fault_of named_limit
+limit_not_built = refl
+
+-- a later phase is, in which a session goes on and ends, and so is another limit
+phase_built : fault_of Built (form.Phase ∷ connect 7 ∷ []) form.Phase ≡ None
+unfolding fault_of least_reason behind_last lines_in session_now kinds_open brackets_from counted tables_of
+phase_built = refl
+
+quit_built : fault_of Built (form.Phase ∷ connect 7 ∷ form.Phase ∷ form.Resume (Some 7) ∷ []) form.Quit ≡ None
+unfolding fault_of least_reason behind_last lines_in session_now kinds_open brackets_from counted tables_of
+quit_built = refl
+
+limit_built : fault_of Built [] (form.Limit (codes "users") (Some 8)) ≡ None
+unfolding fault_of least_reason named_limit lines_in session_now kinds_open brackets_from counted tables_of
+limit_built = refl
 
 -- SQL commands by their first letters
 select_weight : sql_weight (codes " \tsElEcTx") ≡ 10000

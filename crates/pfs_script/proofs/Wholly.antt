@@ -36,7 +36,7 @@ fault_by false rest h = cc
 
 fault_whole : (before : List Form) (line : Form) → fault_of Built before line ≡ None → fault_of Whole before line ≡ None
 unfolding fault_of
-fault_whole before line h = fault_by (is_built before line) (least_reason before line) h
+fault_whole before line h = fault_by (is_built line) (least_reason before line) h
 
 next_whole : (before : List Form) (bytes : List ℕ) (line : Form) → next Built before bytes ≡ Ok line → next Whole before bytes ≡ Ok line
 next_whole before bytes line e = next_of Whole before bytes line (next_form Built before bytes line e) (fault_whole before line (next_none Built before bytes line e))

@@ -1,42 +1,29 @@
 -- Which lines the engine runs so far. All others are refused where it is to run the script.
-use Rattle.std.specs.Prelude.{◌==◌, Bool, true, false, not, nat_lt, List, length, Option, Some, count_by}
-use Rattle.std.specs.List.{list_any}
+use Rattle.std.specs.Prelude.{◌≡◌, ◌==◌, Bool, true, false, length, Option, Some, None}
 use Rattle.pfs_rows.specs.declared.limits.Limit.{Limit}
 use Rattle.pfs_rows.specs.declared.limits.Limit.TheVariants as limit
 use Rattle.pfs_script.specs.declared.forms.Form.{Form}
 use Rattle.pfs_script.specs.declared.forms.Form.TheVariants as form
+use Rattle.pfs_script.specs.declared.blocks.BlockLine.{BlockLine}
+use Rattle.pfs_script.specs.declared.blocks.BlockLine.TheVariants as said
 use Rattle.pfs_script.specs.Headings.{named_limit}
-use Rattle.pfs_script.specs.Sessions.{is_phase, is_session, phase_of}
 
--- the limits that are built: those of a kind of classes, and how many statements are recorded inside one another
+-- the limits that are built: all but that of digest texts
 abbrev pub is_built_limit : Option Limit → Bool
-is_built_limit (Some limit.StatementStack) = true
-is_built_limit (Some limit.MutexClasses) = true
-is_built_limit (Some limit.RwlockClasses) = true
-is_built_limit (Some limit.CondClasses) = true
-is_built_limit (Some limit.FileClasses) = true
-is_built_limit (Some limit.SocketClasses) = true
-is_built_limit (Some limit.StageClasses) = true
-is_built_limit (Some limit.StatementClasses) = true
-is_built_limit _ = false
+is_built_limit None = false
+is_built_limit (Some limit.Digests) = false
+is_built_limit (Some one) = true
 
--- the line is run behind these: there is one phase so far, with 32 blocks at most, and no statement has a text
-abbrev pub is_built : List Form → Form → Bool
-is_built before form.Silent = true
-is_built before (form.Limit name value) = is_built_limit (named_limit name)
-is_built before (form.Class name kind enabled timed) = true
-is_built before (form.Consumer name on) = true
-is_built before (form.Instrument pattern enabled timed) = true
-is_built before form.Phase = not (list_any is_phase before)
-is_built before (form.Connect session user host) = nat_lt (count_by is_session (phase_of before)) 32
-is_built before (form.Wait class) = true
-is_built before (form.Statement class text) = length text == 0
-is_built before (form.Transaction access) = true
-is_built before (form.Stage class) = true
-is_built before form.StageEnd = true
-is_built before (form.Spend time) = true
-is_built before form.End = true
-is_built before (form.EndStatement numbers) = true
-is_built before (form.Repeat times) = true
-is_built before form.Done = true
-is_built before _ = false
+-- the engine runs the line: any but a command, a statement with a text and a limit that isn't built
+abbrev pub is_built : Form → Bool
+is_built (form.Limit name value) = is_built_limit (named_limit name)
+is_built (form.Statement class text) = length text == 0
+is_built (form.Sql text) = false
+is_built _ = true
+
+-- what such a line says to its session is no command, and a statement has the first digest text: that of a statement
+-- without a text is the empty one, and there is no other
+abbrev pub IsBuiltLine : BlockLine → Type 0
+IsBuiltLine (said.Sql text) = ⊥
+IsBuiltLine (said.Statement class digest) = digest ≡ Some 0
+IsBuiltLine _ = Unit {0}

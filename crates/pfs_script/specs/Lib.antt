@@ -16,7 +16,6 @@ pub mod Blocks
 pub mod Appearances
 pub mod Sensing
 pub mod Runnable
-pub mod RunnableProps
 pub mod Scripts
 pub mod Readings
 pub mod Events

@@ -257,13 +257,13 @@ least_reason before line =
     else None))))))))
 
 -- whether a line is let in at all: into a script any is, and into one for the engine what the engine runs
-abbrev pub is_let_in : Extent → List Form → Form → Bool
-is_let_in Whole before line = true
-is_let_in Built before line = is_built before line
+abbrev pub is_let_in : Extent → Form → Bool
+is_let_in Whole line = true
+is_let_in Built line = is_built line
 
 -- why the line may not stand behind those before it; one that isn't let in is tested for nothing else
 unfoldable pub fault_of : Extent → List Form → Form → Option Reason
-fault_of extent before line = if is_let_in extent before line then least_reason before line else Some NotBuilt
+fault_of extent before line = if is_let_in extent line then least_reason before line else Some NotBuilt
 
 -- the line, where it has no fault
 abbrev pub unless_fault : Form → Option Reason → Result Form Reason

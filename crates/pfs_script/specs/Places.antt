@@ -1,5 +1,5 @@
 -- What the reader keeps of the lines so far.
-use Rattle.std.specs.Prelude.{ℕ, zero, suc, ◌≡◌, ◌+◌, ◌*◌, ◌^◌, ◌<◌, ◌≤◌, slice_set, Bool, true, false, List, [], ◌∷◌, length, Some, is_some, IfSome, count_by, get_or}
+use Rattle.std.specs.Prelude.{ℕ, zero, suc, ◌≡◌, ◌+◌, ◌*◌, ◌<◌, ◌≤◌, slice_set, Bool, true, false, List, [], ◌∷◌, length, Some, is_some, IfSome, count_by, get_or}
 use Rattle.std.specs.List.{list_any, list_all}
 use Rattle.pfs_rows.specs.declared.limits.Limit.{Limit}
 use Rattle.pfs_rows.specs.Limits.{order_of}
@@ -15,7 +15,7 @@ use Rattle.pfs_script.specs.declared.open_kinds.OpenKinds.{OpenKinds}
 use Rattle.pfs_script.specs.declared.totals.Totals.{Totals}
 use Rattle.pfs_script.specs.Headings.{is_before_limits}
 use Rattle.pfs_script.specs.Counts.{ahead_of_last, is_repeat, is_in_repeat, counted, once_more, more_times, pending}
-use Rattle.pfs_script.specs.Sessions.{is_phase, is_session, is_block_of, phase_of, session_now, has_quit}
+use Rattle.pfs_script.specs.Sessions.{is_phase, is_block_of, phase_of, session_now, has_quit}
 use Rattle.pfs_script.specs.declared.totals.Tally.{Tally}
 use Rattle.pfs_script.specs.declared.finds.Finds.{Finds}
 use Rattle.pfs_script.specs.Headings.{limits_of}
@@ -83,8 +83,6 @@ pub record KnowsCourse (course : Course) (before : List Form) : Type 0 where
   pub here_numbers : length course.here ≡ 65
   pub present : course.present ≡ session_now before
   pub low : course.present < 65
-  pub blocks : course.blocks ≡ count_by is_session (phase_of before)
-  pub few_blocks : course.blocks ≤ length before
   pub repeats : is_some course.repeat ≡ is_in_repeat before
   pub first : IfSome course.repeat (λ events. kinds_in events ≡ kinds_open (ahead_of_last is_repeat before))
 
@@ -94,7 +92,6 @@ pub record HasBegun (old new : Course) (number : ℕ) : Type 0 where
       ≡ slice_set old.sessions number (record (state_at old.sessions number) { has_begun = true })
   pub here : new.here ≡ slice_set old.here number true
   pub present : new.present ≡ number
-  pub blocks : old.blocks < 2 ^ 63 → new.blocks ≡ old.blocks + 1
   pub repeat : new.repeat ≡ old.repeat
 
 -- how often more than once the next line runs, behind this one

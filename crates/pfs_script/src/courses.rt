@@ -1,18 +1,15 @@
 //! The phase, the block and the session in which the next line would stand.
 
-ghost use Rattle.std.specs.Prelude.{◌≡◌, ◌≤◌, ◌<◌, ◌+◌, ◌^◌, ◌&&◌, ◌||◌, not, nat_le, nat_lt, ℕ, List, ◌∷◌, ◌++◌, [], Bool, true, false, IfSome, Option, length, get_or, slice_set, unwrap_or, count_by, if◌then◌else◌};
+ghost use Rattle.std.specs.Prelude.{◌≡◌, ◌<◌, ◌^◌, ◌&&◌, ◌||◌, not, nat_le, ℕ, List, ◌∷◌, ◌++◌, [], Bool, true, false, IfSome, Option, length, get_or, slice_set, unwrap_or, if◌then◌else◌};
 ghost use Rattle.std.specs.List.{list_any};
 ghost use Rattle.pfs_script.specs.declared.forms.Form.{Form};
-ghost use Rattle.pfs_script.specs.Sessions.{is_block_of, is_session, phase_of, has_quit};
+ghost use Rattle.pfs_script.specs.Sessions.{is_block_of, phase_of, has_quit};
 ghost use Rattle.pfs_script.specs.Next.{is_bad_number, is_bad_session, is_bad_nesting, is_out_of_place, is_blockless, kinds_open, same_kinds};
 ghost use Rattle.pfs_script.specs.Counts.{ahead_of_last, is_repeat, is_in_repeat};
 ghost use Rattle.pfs_script.specs.Places.{KnowsCourse, state_at, no_session, kinds_in};
 
 use crate::forms::Form;
 use crate::open_kinds::{OpenKinds, SessionState, no_session};
-
-/// The most blocks of a phase that the engine runs.
-const MOST_BLOCKS: u64 = 32;
 
 /// What is known of each session, which of them have a block in the phase, and the block of the next
 /// line.
@@ -24,8 +21,6 @@ pub struct Course {
     pub here: [bool; 65],
     /// The session of the block; 0 where the phase has no block yet.
     pub present: u64,
-    /// How many blocks the phase has so far.
-    pub blocks: u64,
     /// The events that were open where a repeat began, while it isn't done.
     pub repeat: Option<OpenKinds>,
 }
@@ -38,7 +33,6 @@ pub fn no_course() -> Course
         sessions: no_sessions(),
         here: nobody(),
         present: 0,
-        blocks: 0,
         repeat: None,
     }
 }
@@ -83,14 +77,6 @@ impl Course {
         ensures { (before : List Form) → KnowsCourse self.now before → result ≡ is_in_repeat before }
     {
         self.repeat.is_some()
-    }
-
-    /// Whether a phase may have one more block that the engine runs.
-    pub fn has_room(&self) -> bool
-        ensures { (before : List Form) → KnowsCourse self.now before
-            → result ≡ nat_lt (count_by is_session (phase_of before)) 32 }
-    {
-        self.blocks < MOST_BLOCKS
     }
 
     /// Whether the line begins a block of a session that there isn't, that has a block in the phase
@@ -189,13 +175,11 @@ impl Course {
         ensures here { (number : ℕ) → number < 65 → get_or self.new.here number false ≡ false }
         ensures here_numbers { length self.new.here ≡ 65 }
         ensures present { self.new.present ≡ 0 }
-        ensures blocks { self.new.blocks ≡ 0 }
         ensures sessions { self.new.sessions ≡ self.old.sessions }
         ensures repeat { self.new.repeat ≡ self.old.repeat }
     {
         self.here = nobody();
         self.present = 0;
-        self.blocks = 0;
     }
 
     fn begin_block(&mut self, number: u64)
@@ -204,7 +188,6 @@ impl Course {
             (record (state_at self.old.sessions number) { has_begun = true }) }
         ensures here { number < 65 → self.new.here ≡ slice_set self.old.here number true }
         ensures present { number < 65 → self.new.present ≡ number }
-        ensures blocks { number < 65 → self.old.blocks < 2 ^ 63 → self.new.blocks ≡ self.old.blocks + 1 }
         ensures repeat { number < 65 → self.new.repeat ≡ self.old.repeat }
     {
         if number < 65 {
@@ -213,7 +196,6 @@ impl Course {
             self.sessions[number as usize] = state;
             self.here[number as usize] = true;
             self.present = number;
-            self.blocks = self.blocks.saturating_add(1);
         }
     }
 
@@ -223,7 +205,6 @@ impl Course {
             → self.new.sessions ≡ slice_set self.old.sessions self.old.present state }
         ensures here { self.new.here ≡ self.old.here }
         ensures present { self.new.present ≡ self.old.present }
-        ensures blocks { self.new.blocks ≡ self.old.blocks }
         ensures repeat { self.new.repeat ≡ self.old.repeat }
     {
         if self.present < 65 {

@@ -1,6 +1,7 @@
 //! What holds of all texts, lines and names, and of events as brackets.
 
-ghost use Rattle.std.specs.Prelude.{◌≡◌, ◌++◌, ◌∷◌, [], List, ℕ, is_some, false, length, map, take, drop, Some, codes, ◌<◌};
+ghost use Rattle.std.specs.Prelude.{◌≡◌, ◌++◌, ◌∷◌, [], ◌⊎◌, List, ℕ, is_some, false, length, map, take, drop, Some, codes, ◌<◌};
+ghost use Rattle.std.specs.List.{All};
 ghost use Rattle.std.specs.Str.{bytes_eq};
 ghost use Rattle.pfs_classes.specs.declared.classes.ClassRef.TheVariants as refs;
 ghost use Rattle.pfs_script.specs.declared.forms.Form.{Form};
@@ -8,10 +9,13 @@ ghost use Rattle.pfs_script.specs.Headings.{is_known, resolved, head_of, limits_
 ghost use Rattle.pfs_script.specs.Marks.{Mark, mark_of, copies};
 ghost use Rattle.pfs_script.specs.Brackets.{open_in, closed_at, kinds_of, ended_by, opened_by, Follows};
 ghost use Rattle.pfs_script.specs.Scripts.{IsExact, IsScript};
-ghost use Rattle.pfs_script.specs.Finds.{tables_of, digests_of};
+ghost use Rattle.pfs_script.specs.Finds.{tables_of, digests_of, hashed};
 ghost use Rattle.pfs_classes.specs.declared.setting.Setting.{Setting};
+ghost use Rattle.pfs_script.specs.declared.blocks.Block.{Block};
 ghost use Rattle.pfs_script.specs.declared.blocks.Phase.{Phase};
 ghost use Rattle.pfs_script.specs.declared.reasons.Extent.{Extent};
+ghost use Rattle.pfs_script.specs.declared.reasons.Extent.TheVariants.{Built};
+ghost use Rattle.pfs_script.specs.Built.{IsBuiltLine};
 ghost use Rattle.pfs_script.specs.Events.{lines_for, events_for};
 ghost use Rattle.pfs_script.specs.EventRules.{AreEvents};
 ghost use Rattle.pfs_script.specs.SessionNames.{names_of};
@@ -88,4 +92,13 @@ pub fn session_names()
 /// come in the order of their openings, and lie before or inside one another.
 pub fn events()
     ensures { (number : ℕ) (phases : List Phase) → AreEvents (lines_for number phases) (events_for number phases) }
+{}
+
+/// A script that the engine runs has no command, and no statement of it has a text. So it has at most
+/// one digest text, the empty one, and each statement has its place, the first.
+pub fn built()
+    ensures lines { (text : List ℕ) (setting : Setting) (phases : List Phase) → IsScript Built text setting phases
+        → All (λ (phase : Phase). All (λ (block : Block). All IsBuiltLine block.lines) phase.blocks) phases }
+    ensures digests { (text : List ℕ) (setting : Setting) (phases : List Phase) → IsScript Built text setting phases
+        → (setting.digests ≡ []) ⊎ (setting.digests ≡ hashed [] ∷ []) }
 {}

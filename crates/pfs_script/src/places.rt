@@ -50,7 +50,7 @@ impl Place {
         ensures { (before : List Form) → Knows self.now before → heading.now ≡ head_of before
             → KnowsFinds finds.now before → result ≡ fault_of extent before line.now }
     {
-        if self.is_let_in(extent, line) {
+        if is_let_in(extent, line) {
             self.least_reason(heading, finds, line)
         } else {
             Some(Reason::NotBuilt)
@@ -95,41 +95,6 @@ impl Place {
         self.front.pass(line);
         self.course.pass(line);
         self.totals.pass(line);
-    }
-
-    fn is_let_in(&self, extent: Extent, line: &Form) -> bool
-        ensures { (before : List Form) → Knows self.now before → result ≡ is_let_in extent before line.now }
-    {
-        match extent {
-            Extent::Whole => true,
-            Extent::Built => self.is_built(line),
-        }
-    }
-
-    // Whether the engine runs the line.
-    fn is_built(&self, line: &Form) -> bool
-        ensures { (before : List Form) → Knows self.now before → result ≡ is_built before line.now }
-    {
-        match line {
-            Form::Limit { name, .. } => is_built_limit(find_limit(name.bytes())),
-            Form::Statement { text, .. } => text.as_str().is_empty(),
-            Form::Phase => !self.front.has_phase,
-            Form::Connect { .. } => self.course.has_room(),
-            Form::Silent
-            | Form::Class { .. }
-            | Form::Consumer { .. }
-            | Form::Instrument { .. }
-            | Form::Wait { .. }
-            | Form::Transaction { .. }
-            | Form::Stage { .. }
-            | Form::StageEnd
-            | Form::Spend { .. }
-            | Form::End
-            | Form::EndStatement { .. }
-            | Form::Repeat { .. }
-            | Form::Done => true,
-            _ => false,
-        }
     }
 
     fn is_out_of_place(&self, line: &Form) -> bool
@@ -180,24 +145,35 @@ fn is_table_too_many(finds: &Finds, line: &Form) -> bool
     finds.is_table_too_many(line)
 }
 
-// Whether the limit is built: one of a kind of classes, or how many statements are recorded inside one
-// another.
+// Whether the line is let in at all.
+fn is_let_in(extent: Extent, line: &Form) -> bool
+    ensures { result ≡ is_let_in extent line.now }
+{
+    match extent {
+        Extent::Whole => true,
+        Extent::Built => is_built(line),
+    }
+}
+
+// Whether the engine runs the line.
+fn is_built(line: &Form) -> bool
+    ensures { result ≡ is_built line.now }
+{
+    match line {
+        Form::Limit { name, .. } => is_built_limit(find_limit(name.bytes())),
+        Form::Statement { text, .. } => text.as_str().is_empty(),
+        Form::Sql { .. } => false,
+        _ => true,
+    }
+}
+
+// Whether the limit is built: any but that of digest texts.
 fn is_built_limit(limit: Option<Limit>) -> bool
     ensures { result ≡ is_built_limit limit }
 {
     match limit {
-        Some(limit) => matches!(
-            limit,
-            Limit::StatementStack
-                | Limit::MutexClasses
-                | Limit::RwlockClasses
-                | Limit::CondClasses
-                | Limit::FileClasses
-                | Limit::SocketClasses
-                | Limit::StageClasses
-                | Limit::StatementClasses
-        ),
-        None => false,
+        Some(Limit::Digests) | None => false,
+        Some(_) => true,
     }
 }
 

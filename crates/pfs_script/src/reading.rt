@@ -7,10 +7,9 @@ ghost use Rattle.pfs_script.specs.Forms.{HasItsKind};
 ghost use Rattle.pfs_script.specs.Headings.{head_of};
 ghost use Rattle.pfs_script.specs.Next.{next};
 ghost use Rattle.pfs_script.specs.Places.{Knows, KnowsFinds};
-ghost use Rattle.pfs_script.specs.Scripts.{parts_of, open_reason};
+ghost use Rattle.pfs_script.specs.Scripts.{parts_of, open_reason, IsScript};
 ghost use Rattle.pfs_script.specs.declared.reasons.Extent.TheVariants.{Whole, Built};
 ghost use Rattle.pfs_script.specs.Readings.{Reads, Gives};
-ghost use Rattle.pfs_script.specs.Runnable.{IsRunnable};
 
 use crate::building::phases;
 use crate::finds::Finds;
@@ -49,10 +48,10 @@ impl Script {
     }
 
     /// The same for a script that the engine runs: the first line that it doesn't run yet is refused with
-    /// NotBuilt, where no line before it is faulty.
+    /// NotBuilt, where no line before it is faulty. What it reads, `read` reads too.
     pub fn read_built(alloc: Global, bytes: &[u8]) -> Result<Script, ScriptFault>
         ensures gives { Gives Built bytes.now result }
-        ensures runs { IfOk result (λ script. IsRunnable (length script.setting.classes.classes) script.phases) }
+        ensures whole { IfOk result (λ script. IsScript Whole bytes.now script.setting script.phases) }
     {
         read_script(alloc, Extent::Built, bytes)
     }

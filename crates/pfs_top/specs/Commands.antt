@@ -11,12 +11,12 @@ use Rattle.pfs_script.specs.declared.reasons.Extent.TheVariants.{Built}
 use Rattle.pfs_script.specs.declared.reasons.Reason.{Reason}
 use Rattle.pfs_script.specs.declared.reasons.Reason.TheVariants.{BadByte, OpenLine, BadForm, OutOfPlace, BadNumber, BadSession, UnknownName, BadLimit, BadNesting, BadStatement, TooLong, TooMuch, NotBuilt}
 use Rattle.pfs_script.specs.Scripts.{IsScript, IsFirstFault}
+use Rattle.pfs_runs.specs.Runs.{IsPlainRun}
 use Rattle.pfs_journal.specs.declared.report.ReportParts.{ReportParts}
 use Rattle.pfs_journal.specs.Reports.{IsReport}
 use Rattle.pfs_journal.specs.Spelling.{spelling}
 use Rattle.pfs_top.specs.declared.commands.Status.{Status}
 use Rattle.pfs_top.specs.declared.commands.Status.TheVariants.{Done, Usage, BadScript, ReadFault, WriteFault, NoMemory}
-use Rattle.pfs_top.specs.Runs.{IsRun}
 
 -- the words are the one command
 abbrev pub IsCommand : List (String Global) → Type 0
@@ -59,7 +59,7 @@ fault_text line reason =
 
 -- which statuses have which text: of phases that were run
 abbrev pub HasRun : Setting → List Phase → Status → List ℕ → Type 0
-HasRun setting phases Done due = (report : ReportParts) × IsReport report × IsRun setting phases report
+HasRun setting phases Done due = (report : ReportParts) × IsReport report × IsPlainRun setting phases report
     × (due ≡ spelling report)
 HasRun setting phases _ due = ⊥
 

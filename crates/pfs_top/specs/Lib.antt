@@ -1,12 +1,1 @@
-pub mod Begun
-pub mod Ended
-pub mod Sums
-pub mod Entries
-pub mod Player
-pub mod Counters
-pub mod RowValues
-pub mod Summaries
-pub mod Runs
-pub mod Blocks
-pub mod Phases
 pub mod Commands

@@ -1,16 +1,17 @@
 //! The command `run`: reads a script, runs it, and writes its report.
 
-ghost use Rattle.std.specs.Prelude.{◌≡◌, ◌∷◌, [], List, ◌↔◌, IsTrue, length, IfOk, IfSome};
+ghost use Rattle.std.specs.Prelude.{ℕ, ◌≡◌, ◌∷◌, [], List, ◌↔◌, IsTrue, IfOk, IfSome};
 ghost use Rattle.pfs_outside.specs.Outside.{Rose};
 ghost use Rattle.pfs_outside.specs.Streams.{Puts};
-ghost use Rattle.pfs_script.specs.Runnable.{IsRunnable};
+ghost use Rattle.pfs_script.specs.Scripts.{IsScript};
+ghost use Rattle.pfs_script.specs.declared.reasons.Extent.TheVariants.{Whole};
 ghost use Rattle.pfs_top.specs.Commands.{IsCommand, reason_number, status_number, usage_text, fault_text, HasRun, HasFault, HasRead, HasInput, HasUsage, Has, Tells, Ends, status_after, Completes, LeavesNothing};
 
 use crate::NoMemory;
-use crate::phases::run_phases;
 use crate::texts::put_text;
 use pfs_journal::write;
 use pfs_outside::{ReadStop, Sink, Source, WriteStop, read_all, write_all};
+use pfs_run::run_plain;
 use pfs_script::{Reason, Script, ScriptFault, laws};
 use pfs_text::put_u64;
 use std::alloc::Global;
@@ -107,12 +108,16 @@ fn complain<K: Sink>(alloc: Global, sink: &mut K, line: u64, reason: Reason) -> 
 
 /// Runs a script and writes the report.
 fn report<K: Sink>(alloc: Global, sink: &mut K, script: &Script) -> Status
-    requires { IsRunnable (length script.now.setting.classes.classes) script.now.phases }
+    requires { (text : List ℕ) × IsScript Whole text script.now.setting script.now.phases }
     ensures { Tells (HasRun script.now.setting script.now.phases) (K.written sink.old) (K.written sink.new)
         (Rose (K.faults sink.old) (K.faults sink.new)) result }
 {
-    match run_phases(alloc, &script.setting, script.phases.as_slice()) {
-        Ok(report) => status_after(write(alloc, &report, sink), Status::Done),
+    match run_plain(alloc, &script.setting, script.phases.as_slice()) {
+        Ok(report) => {
+            // A report's parts tell that they can be spelled.
+            let _ = report.parts();
+            status_after(write(alloc, &report, sink), Status::Done)
+        }
         Err(_) => Status::NoMemory,
     }
 }

@@ -2,12 +2,6 @@
 #![tactic(auto)]
 
 mod commands;
-mod counters;
-mod phases;
-mod player;
-mod rounds;
-mod summaries;
-mod summary_rows;
 mod texts;
 
 pub use commands::{Status, pfs};

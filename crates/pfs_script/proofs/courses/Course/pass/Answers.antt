@@ -5,35 +5,33 @@ use Rattle.pfs_script.proofs.courses.Course.pass.Goals as goal
 
 pub returns-in-Phase : goal.returns-in-Phase
 returns-in-Phase c before short knows number session nesting =
-    rw c.in-Phase.is (phase_knows c.args.self.now c.begin_phase.new.self before knows c.begin_phase.ensures.sessions c.begin_phase.ensures.here c.begin_phase.ensures.here_numbers c.begin_phase.ensures.present c.begin_phase.ensures.blocks c.begin_phase.ensures.repeat)
+    rw c.in-Phase.is (phase_knows c.args.self.now c.begin_phase.new.self before knows c.begin_phase.ensures.sessions c.begin_phase.ensures.here c.begin_phase.ensures.here_numbers c.begin_phase.ensures.present c.begin_phase.ensures.repeat)
 
 pub returns-in-Connect : goal.returns-in-Connect
 returns-in-Connect c before short knows number session nesting =
-    rw c.in-Connect.is (connect_knows c.args.self.now c.begin_block.new.self before c.in-Connect.session c.in-Connect.user c.in-Connect.host knows short (rw c.in-Connect.is at number) (rw c.in-Connect.is at session) c.unwrap_or.result c.unwrap_or.ensures (λ low. record {
+    rw c.in-Connect.is (connect_knows c.args.self.now c.begin_block.new.self before c.in-Connect.session c.in-Connect.user c.in-Connect.host knows (rw c.in-Connect.is at number) (rw c.in-Connect.is at session) c.unwrap_or.result c.unwrap_or.ensures (λ low. record {
       sessions = c.begin_block.ensures.sessions low;
       here = c.begin_block.ensures.here low;
       present = c.begin_block.ensures.present low;
-      blocks = c.begin_block.ensures.blocks low;
       repeat = c.begin_block.ensures.repeat low;
     }))
 
 pub returns-in-Resume : goal.returns-in-Resume
 returns-in-Resume c before short knows number session nesting =
-    rw c.in-Resume.is (resume_knows c.args.self.now c.begin_block-in-Resume.new.self before c.in-Resume.session knows short (rw c.in-Resume.is at number) (rw c.in-Resume.is at session) c.unwrap_or-in-Resume.result c.unwrap_or-in-Resume.ensures (λ low. record {
+    rw c.in-Resume.is (resume_knows c.args.self.now c.begin_block-in-Resume.new.self before c.in-Resume.session knows (rw c.in-Resume.is at number) (rw c.in-Resume.is at session) c.unwrap_or-in-Resume.result c.unwrap_or-in-Resume.ensures (λ low. record {
       sessions = c.begin_block-in-Resume.ensures.sessions low;
       here = c.begin_block-in-Resume.ensures.here low;
       present = c.begin_block-in-Resume.ensures.present low;
-      blocks = c.begin_block-in-Resume.ensures.blocks low;
       repeat = c.begin_block-in-Resume.ensures.repeat low;
     }))
 
 pub returns-in-Repeat : goal.returns-in-Repeat
 returns-in-Repeat c before short knows number session nesting =
-    rw c.in-Repeat.is (repeat_knows c.args.self.now _ before _ c.events.result knows (c.events.ensures before knows) refl refl refl refl refl)
+    rw c.in-Repeat.is (repeat_knows c.args.self.now _ before _ c.events.result knows (c.events.ensures before knows) refl refl refl refl)
 
 pub returns-in-Done : goal.returns-in-Done
 returns-in-Done c before short knows number session nesting =
-    rw c.in-Done.is (done_knows c.args.self.now _ before knows refl refl refl refl refl)
+    rw c.in-Done.is (done_knows c.args.self.now _ before knows refl refl refl refl)
 
 pub returns-in_default : goal.returns-in_default
 returns-in_default c before short knows number session nesting =
@@ -46,4 +44,4 @@ returns-in_default c before short knows number session nesting =
       statements = c.pass.ensures.statements;
     }) in
     rest_knows c.args.self.now c.put.new.self before c.args.line.now c.pass.new.self knows short nesting c.in_default.not-Phase c.in_default.not-Connect c.in_default.not-Resume c.in_default.not-Repeat c.in_default.not-Done
-    moved c.put.ensures.sessions c.put.ensures.here c.put.ensures.present c.put.ensures.blocks c.put.ensures.repeat
+    moved c.put.ensures.sessions c.put.ensures.here c.put.ensures.present c.put.ensures.repeat

@@ -1,6 +1,0 @@
-use Rattle.std.proofs.Common.{◌≡◌, ◌++◌, take}
-use Rattle.pfs_top.specs.RowValues.{numbers_row}
-use Rattle.pfs_top.proofs.summary_rows.put_numbers.Given as goal
-
-abbrev pub invariant-loop-number : goal.invariant-loop-number
-invariant-loop-number l = l.values.items ≡ l.fn.values.items ++ numbers_row (take l.number-index l.numbers)
