@@ -1,0 +1,6 @@
+-- The rules of a run of a script are those that conservation goes by.
+use Rattle.pfs_orderly.specs.Orderly.{KeptLaw}
+
+pub kept_law : KeptLaw
+kept_law setting phases report run answers =
+    record { rules = run.rules answers; labelled = run.labelled; brought = run.brought }

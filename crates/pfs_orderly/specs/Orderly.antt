@@ -1,0 +1,49 @@
+-- A run of a script as conservation speaks of runs, and what it meets of what conservation asks.
+use Rattle.std.specs.Prelude.{ℕ, List, []}
+use Rattle.pfs_classes.specs.declared.setting.Setting.{Setting}
+use Rattle.pfs_journal.specs.declared.report.ReportParts.{ReportParts}
+use Rattle.pfs_model.specs.Asked.{Answer}
+use Rattle.pfs_model.specs.Places.{places}
+use Rattle.pfs_runs.specs.Lines.{change_in, facts_in}
+use Rattle.pfs_runs.specs.Runs.{IsRun, all_blocks}
+use Rattle.pfs_script.specs.declared.blocks.Phase.{Phase}
+use Rattle.pfs_script.specs.declared.reasons.Extent.TheVariants.{Whole}
+use Rattle.pfs_script.specs.Scripts.{IsScript}
+use Rattle.pfs_tagged.specs.Premises.{AreKept, AreClosed, AreFirstBehind, AreSmall}
+use Rattle.pfs_tagged.specs.Runs.{Run}
+
+-- the run of a report: the changes and the facts are the script's, and no flags ask for rings and rows of digests
+abbrev pub run_of : (setting : Setting) (phases : List Phase) (report : ReportParts)
+    → IsRun setting phases report → (ℕ → Answer) → Run
+run_of setting phases report run answers = record {
+  setting = setting;
+  change = change_in phases;
+  labels = run.labels;
+  facts = facts_in phases;
+  answers = answers;
+  counted = run.counted;
+  content = run.content;
+  blocks = all_blocks run.blocks;
+  flags = λ word version. 0;
+}
+
+-- it keeps the rules, has its labels, and brings each event as its flags ask
+abbrev pub KeptLaw : Type 0
+KeptLaw = (setting : Setting) (phases : List Phase) (report : ReportParts) (run : IsRun setting phases report)
+    → (answers : ℕ → Answer) → AreKept (run_of setting phases report run answers)
+
+-- the last line of each block is the block's end
+abbrev pub ClosedLaw : Type 0
+ClosedLaw = (setting : Setting) (phases : List Phase) (report : ReportParts) (run : IsRun setting phases report)
+    → AreClosed (all_blocks run.blocks)
+
+-- what a line starts counts in one of 64 cells
+abbrev pub SmallLaw : Type 0
+SmallLaw = (text : List ℕ) (setting : Setting) (phases : List Phase) (report : ReportParts)
+    → IsScript Whole text setting phases → (run : IsRun setting phases report) → AreSmall (all_blocks run.blocks)
+
+-- a session's connect is its first entry, so it connects once; the rules hold whatever the answers are
+abbrev pub FirstLaw : Type 0
+FirstLaw = (text : List ℕ) (setting : Setting) (phases : List Phase) (report : ReportParts)
+    → IsScript Whole text setting phases → (run : IsRun setting phases report) → (answers : ℕ → Answer)
+    → AreFirstBehind [] (places (all_blocks run.blocks))

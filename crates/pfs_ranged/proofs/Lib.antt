@@ -1,0 +1,5 @@
+mod Forms
+mod Blocks
+mod Facts
+mod Ends
+mod Few
