@@ -6,7 +6,7 @@ ghost use Rattle.pfs_journal.specs.Words.{FitsLine};
 
 use crate::NoMemory;
 use crate::checks::{is_name, is_row};
-use crate::lines::{begin, entry_line, lost_line, numbers_line, row_line, table_line};
+use crate::lines::{begin, entry_line, lost_line, one_line, row_line, table_line};
 use crate::values::LostReport;
 use pfs_event::Entry;
 use pfs_text::Text;
@@ -42,9 +42,9 @@ pub fn line_of(line: &mut Vec<u8>, says: &Line) -> Result<(), NoMemory>
     ensures fits { OnOk result (FitsLine says.now) }
 {
     match says {
-        Line::Head(format) => numbers_line(line, b"pfs-report", &[Some(*format)]),
-        Line::Phase(number) => numbers_line(line, b"phase", &[Some(*number)]),
-        Line::Session(number) => numbers_line(line, b"session", &[Some(*number)]),
+        Line::Head(format) => one_line(line, b"pfs-report", *format),
+        Line::Phase(number) => one_line(line, b"phase", *number),
+        Line::Session(number) => one_line(line, b"session", *number),
         Line::Entry(entry) => entry_line(line, entry),
         Line::Row(row) => row_line(line, row),
         Line::Final => begin(line, b"final\n"),

@@ -7,7 +7,7 @@ ghost use Rattle.pfs_journal.specs.Spelling.{entry_text, is_answered, answered_t
 
 use crate::NoMemory;
 use crate::blocks::BlockReport;
-use crate::lines::{entry_line, lost_line, numbers_line, row_line, table_line};
+use crate::lines::{entry_line, lost_line, one_line, row_line, table_line};
 use crate::report::{PhaseParts, PhaseReport, Report};
 use crate::values::{LostReport, TableReport};
 use pfs_event::Entry;
@@ -158,7 +158,7 @@ fn put_session_line<K: Sink>(line: &mut Vec<u8>, sink: &mut K, number: u64) -> R
     ensures { Puts (K.written sink.old) (K.written sink.new) (K.faults sink.old) (K.faults sink.new)
         (session_line number) result }
 {
-    let built = numbers_line(line, b"session", &[Some(number)]);
+    let built = one_line(line, b"session", number);
     offer(sink, line, built)
 }
 
@@ -250,7 +250,7 @@ fn put_phase_line<K: Sink>(line: &mut Vec<u8>, sink: &mut K, number: u64) -> Res
     ensures { Puts (K.written sink.old) (K.written sink.new) (K.faults sink.old) (K.faults sink.new)
         (phase_line number) result }
 {
-    let built = numbers_line(line, b"phase", &[Some(number)]);
+    let built = one_line(line, b"phase", number);
     offer(sink, line, built)
 }
 
@@ -289,7 +289,7 @@ fn put_first_line<K: Sink>(line: &mut Vec<u8>, sink: &mut K, format: u64) -> Res
     ensures { Puts (K.written sink.old) (K.written sink.new) (K.faults sink.old) (K.faults sink.new)
         (first_line format) result }
 {
-    let built = numbers_line(line, b"pfs-report", &[Some(format)]);
+    let built = one_line(line, b"pfs-report", format);
     offer(sink, line, built)
 }
 
