@@ -6,6 +6,7 @@ pub mod Going
 pub mod Here
 pub mod Lines
 pub mod Ready
+pub mod Reporting
 pub mod Running
 pub mod Slots
 pub mod Standing

@@ -66,6 +66,7 @@ fn run_phase(
         (⟦<PlainRows as Rows>⟧.left runner.new.rows) (⟦<PlainRows as Rows>⟧.words runner.new.rows) runner.new.admin
         runner.new.seats.items runner.new.lost runner.new.phases.items runner.new.blocks.items) }
 {
+    pfs_reportable::laws::names();
     for block in phase.blocks.as_slice() {
         match runner.play(setting, phases, block) {
             Ok(()) => {}

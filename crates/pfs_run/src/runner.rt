@@ -1,9 +1,10 @@
 //! A run of a script: its store, its administration, its sessions, and what is reported of it so far.
 
 ghost use Rattle.std.specs.Prelude.{◌≡◌, ◌<◌, ◌≤◌, ◌+◌, ◌++◌, ◌∷◌, [], ℕ, List, IfOk, OnOk, length};
+ghost use Rattle.std.specs.List.{All};
 ghost use Rattle.pfs_course.specs.Ahead.{ahead_of, block_at};
 ghost use Rattle.pfs_course.specs.Course.{numbered};
-ghost use Rattle.pfs_journal.specs.Reports.{IsPhase};
+ghost use Rattle.pfs_journal.specs.Reports.{IsText};
 ghost use Rattle.pfs_script.specs.Scripts.{IsScript};
 ghost use Rattle.pfs_script.specs.declared.blocks.Block.{Block as Said};
 ghost use Rattle.pfs_script.specs.declared.blocks.Phase.{Phase as SaidPhase};
@@ -23,7 +24,7 @@ use pfs_matching::Objects;
 use pfs_play::written_cost;
 use pfs_script::{Block, Phase};
 use pfs_session::Paused;
-use std::alloc::{AllocError, Global};
+use std::alloc::Global;
 
 /// The journal entries that a connect, what is settled, and a quit take at most.
 const AT_ENDS: u64 = 592;
@@ -112,6 +113,7 @@ impl Runner {
 
     /// Ends the phase that stands behind those that ended: reads its tables and counters, and reports it.
     pub fn end_phase(&mut self, setting: &Setting) -> Result<(), NoMemory>
+        requires named { All IsText setting.now.names }
         requires here { (phases : List SaidPhase) × (before : List SaidPhase) × (first : List Said)
             × (after : List SaidPhase) × IsAlong setting.now phases before first (ahead_of before [] after)
             (⟦<PlainRows as Rows>⟧.reached self.old.rows) (⟦<PlainRows as Rows>⟧.hand self.old.rows)
@@ -128,18 +130,20 @@ impl Runner {
             (⟦<PlainRows as Rows>⟧.left self.new.rows) (⟦<PlainRows as Rows>⟧.words self.new.rows) self.new.admin
             self.new.seats.items self.new.lost self.new.phases.items self.new.blocks.items) }
     {
+        pfs_reportable::laws::tables();
+        pfs_reportable::laws::blocks();
         let number = self.phases.len() as u64 + 1;
         let tables = final_tables(self.alloc, setting, &mut self.rows)?;
         let lost = lost_rows(self.alloc, setting, &self.counters())?;
         let empty = Vec::new(self.alloc);
         let blocks = std::mem::replace(&mut self.blocks, empty);
-        let parts = PhaseParts {
+        let report = PhaseReport::new(PhaseParts {
             number,
             blocks: BlockList::new(blocks),
             tables,
             lost,
-        };
-        self.phases.push(checked(parts)?)?;
+        });
+        self.phases.push(report)?;
         Ok(())
     }
 
@@ -170,17 +174,5 @@ impl Runner {
         ensures { result.items ≡ self.phases.items }
     {
         self.phases
-    }
-}
-
-/// The phase of these parts. A run's parts are always such as a report can have; with others there
-/// would be no report to write, and the answer is that of a want of memory.
-fn checked(parts: PhaseParts) -> Result<PhaseReport, NoMemory>
-    ensures same { IfOk result (λ report. report ≡ parts) }
-    ensures good { IfOk result (λ report. IsPhase parts) }
-{
-    match PhaseReport::checked(parts) {
-        Some(report) => Ok(report),
-        None => Err(AllocError),
     }
 }

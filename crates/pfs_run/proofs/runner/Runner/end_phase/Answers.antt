@@ -1,22 +1,36 @@
-use Rattle.std.proofs.Common.{◌+◌, ◌++◌, ◌∷◌, [], ap, ◌∙◌, arith}
+use Rattle.std.proofs.Common.{◌+◌, ◌++◌, ◌∷◌, [], ap, ◌∙◌, subst, sym, arith}
+use Rattle.std.specs.List.{All}
+use Rattle.pfs_journal.specs.Reports.{IsBlock}
 use Rattle.pfs_journal.specs.declared.report.PhaseParts.{PhaseParts}
 use Rattle.pfs_run.proofs.Ending.{ended_along}
+use Rattle.pfs_run.proofs.Reporting.{blocks_good, tables_good}
 use Rattle.pfs_run.proofs.runner.Runner.end_phase.Goals as goal
 
 pub final_tables-requires : goal.final_tables-requires
 final_tables-requires c = record { away = λ row high. c.requires.here.4.idle row }
 
+pub new-report-requires : goal.new-report-requires
+new-report-requires c =
+    let h = c.requires.here in
+    let told = c.new.ensures ∙ ap (λ z. z.items) c.replace-blocks.ensures.value in
+    record {
+      blocks = subst (All IsBlock) (sym told) (blocks_good c.blocks-2.ensures c.args.setting.now h.0 h.1 h.2 h.3 _ _ _ _ _ _ _ _ _ h.4);
+      tables = tables_good c.tables.ensures c.args.setting.now c.in_ok-tables.tables _ _ c.requires.named c.in_ok-tables.ensures.tables;
+      lost = c.in_ok-lost.ensures.good;
+    }
+
 pub returns : goal.returns
 returns c =
     let report : PhaseParts = record { number = c.len.result + 1; blocks = c.new.result; tables = c.in_ok-tables.tables; lost = c.in_ok-lost.lost } in
     let kept = c.in_ok-tables.ensures.kept in
+    let told = c.new.ensures ∙ ap (λ z. z.items) c.replace-blocks.ensures.value in
     λ phases before first after a. ended_along c.args.setting.now phases before first after _ _ _ _ _ _ _ _ _ _ _ _ _ _ _ report a (record {
       answers = λ start calls at. at.answers;
       hand = kept.hand;
       left = kept.left;
       words = kept.words;
       number = omega (arith, c.len.ensures, c.args.self.now.phases.ok);
-      blocks = c.new.ensures ∙ ap (λ z. z.items) c.replace-blocks.ensures.value;
+      blocks = told;
       tables = c.in_ok-tables.ensures.tables;
       counters_of = c.counters.result;
       threads = c.counters.ensures.threads;
@@ -26,6 +40,10 @@ returns c =
       digests = c.counters.ensures.digests;
       statements = c.counters.ensures.statements;
       waits = c.counters.ensures.waits;
-      good = c.in_ok-checked.ensures.good;
+      good = record {
+        blocks = subst (All IsBlock) (sym told) (blocks_good c.blocks-2.ensures c.args.setting.now phases before first after _ _ _ _ _ _ _ _ _ a);
+        tables = tables_good c.tables.ensures c.args.setting.now c.in_ok-tables.tables _ _ c.requires.named c.in_ok-tables.ensures.tables;
+        lost = c.in_ok-lost.ensures.good;
+      };
       lost_are = c.in_ok-lost.ensures.rows;
-    }) (c.in_ok-push.ensures.items ∙ ap (λ z. c.args.self.now.phases.items ++ z ∷ []) c.in_ok-checked.ensures.same) (ap (λ z. z.items) c.replace-blocks.ensures.after ∙ c.new-empty.ensures.items)
+    }) (c.in_ok-push.ensures.items ∙ ap (λ z. c.args.self.now.phases.items ++ z ∷ []) c.new-report.ensures) (ap (λ z. z.items) c.replace-blocks.ensures.after ∙ c.new-empty.ensures.items)

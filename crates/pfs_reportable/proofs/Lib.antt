@@ -1,0 +1,3 @@
+pub mod Answerless
+pub mod Named
+pub mod Tabled
