@@ -141,7 +141,7 @@ shape_calm context lines.Query q = refl
 shape_calm context (lines.Refused error) q = refl
 shape_calm context lines.Close q = calm_settling context.held
 
-abbrev past : List Placed → List Placed → List Placed
+abbrev pub past : List Placed → List Placed → List Placed
 past earlier [] = earlier
 past earlier (p ∷ ps) = past (p ∷ earlier) ps
 
@@ -190,7 +190,7 @@ begun_lines phase session c (line ∷ ls) (part ∷ parts) earlier fact g s q =
     (lines_first phase session (after c line part) ls parts (past earlier (placed_part phase session line (turned c) part)) s.1 q.1)
 
 -- entries of other sessions
-abbrev AreOthers : ℕ → List Placed → Type 0
+abbrev pub AreOthers : ℕ → List Placed → Type 0
 AreOthers session ps = Each (λ (p : Placed). (p.session == session) ≡ false) ps
 
 others_past : (session : ℕ) (earlier ps : List Placed) → by_session session earlier ≡ [] → AreOthers session ps → by_session session (past earlier ps) ≡ []
@@ -202,7 +202,7 @@ part_others : (s phase session : ℕ) (line : Line) (c : Context) (part : List E
 part_others s phase session line c [] q = tt
 part_others s phase session line c (e ∷ es) q = (q, part_others s phase session line (noted (subject_of line) c e) es q)
 
-lines_others : (s phase session : ℕ) (c : Context) (ls : List Line) (parts : List (List Entry)) → (session == s) ≡ false → AreOthers s (placed_lines phase session c ls parts)
+pub lines_others : (s phase session : ℕ) (c : Context) (ls : List Line) (parts : List (List Entry)) → (session == s) ≡ false → AreOthers s (placed_lines phase session c ls parts)
 lines_others s phase session c [] parts q = tt
 lines_others s phase session c (line ∷ ls) [] q = tt
 lines_others s phase session c (line ∷ ls) (part ∷ parts) q =

@@ -3,3 +3,9 @@ pub mod Closing
 pub mod Small
 pub mod Begun
 pub mod First
+pub mod Quitting
+pub mod Last
+pub mod Acting
+pub mod Named
+pub mod Asking
+pub mod Actions

@@ -9,7 +9,7 @@ use Rattle.pfs_runs.specs.Runs.{IsRun, all_blocks}
 use Rattle.pfs_script.specs.declared.blocks.Phase.{Phase}
 use Rattle.pfs_script.specs.declared.reasons.Extent.TheVariants.{Whole}
 use Rattle.pfs_script.specs.Scripts.{IsScript}
-use Rattle.pfs_tagged.specs.Premises.{AreKept, AreClosed, AreFirstBehind, AreSmall}
+use Rattle.pfs_tagged.specs.Premises.{AreActionsOf, AreKept, AreClosed, AreFirstBehind, AreLastBehind, AreSmall, IsOrderly}
 use Rattle.pfs_tagged.specs.Runs.{Run}
 
 -- the run of a report: the changes and the facts are the script's, and no flags ask for rings and rows of digests
@@ -47,3 +47,24 @@ abbrev pub FirstLaw : Type 0
 FirstLaw = (text : List ℕ) (setting : Setting) (phases : List Phase) (report : ReportParts)
     → IsScript Whole text setting phases → (run : IsRun setting phases report) → (answers : ℕ → Answer)
     → AreFirstBehind [] (places (all_blocks run.blocks))
+
+-- behind a session's quit is nothing but what the quit does; the rules hold whatever the answers are
+abbrev pub LastLaw : Type 0
+LastLaw = (text : List ℕ) (setting : Setting) (phases : List Phase) (report : ReportParts)
+    → IsScript Whole text setting phases → (run : IsRun setting phases report) → (answers : ℕ → Answer)
+    → AreLastBehind [] (places (all_blocks run.blocks))
+
+-- an action does what its line does: that of a connect's connects, that of a quit's quits
+abbrev pub HasActions : Run → Type 0
+HasActions run = AreActionsOf run.change run.labels (places run.blocks)
+
+-- by the labels that tell whose line each action is, and the changes that the script says of them
+abbrev pub ActionsLaw : Type 0
+ActionsLaw = (setting : Setting) (phases : List Phase) (report : ReportParts) (run : IsRun setting phases report)
+    → (answers : ℕ → Answer) → HasActions (run_of setting phases report run answers)
+
+-- so a run of a script meets all that conservation asks of its order
+abbrev pub OrderlyLaw : Type 0
+OrderlyLaw = (text : List ℕ) (setting : Setting) (phases : List Phase) (report : ReportParts)
+    → IsScript Whole text setting phases → (run : IsRun setting phases report) → (answers : ℕ → Answer)
+    → IsOrderly (run_of setting phases report run answers)

@@ -1,7 +1,8 @@
 //! Laws of the definitions.
 
 ghost use Rattle.pfs_orderly.specs.Begun.{BegunLaw};
-ghost use Rattle.pfs_orderly.specs.Orderly.{ClosedLaw, FirstLaw, KeptLaw, SmallLaw};
+ghost use Rattle.pfs_orderly.specs.Orderly.{ActionsLaw, ClosedLaw, FirstLaw, KeptLaw, LastLaw, OrderlyLaw, SmallLaw};
+ghost use Rattle.pfs_orderly.specs.Quits.{QuitLaw};
 
 /// A run of a script keeps the rules that conservation goes by.
 pub fn kept()
@@ -31,4 +32,32 @@ pub fn first()
 {
     pfs_course::laws::reached();
     pfs_playable::laws::playable();
+}
+
+/// Where sessions quit in their last block alone, as its last line, nothing is behind a quit but what it does.
+pub fn quit()
+    ensures { QuitLaw }
+{}
+
+/// Nothing is behind a session's quit but what the quit does.
+pub fn last()
+    ensures { LastLaw }
+{
+    pfs_playable::laws::playable();
+}
+
+/// The label of each of its actions asks for what the action's line does.
+pub fn actions()
+    ensures { ActionsLaw }
+{}
+
+/// A run of a script meets all that conservation asks of its order.
+pub fn orderly()
+    ensures { OrderlyLaw }
+{
+    actions();
+    first();
+    last();
+    closed();
+    small();
 }
