@@ -1,20 +1,16 @@
 -- From a run's journals to the conservation law, step by step, of each kind and at each phase's end.
-use Rattle.std.specs.Prelude.{ℕ, ◌≡◌, ◌≤◌, ◌<◌, ◌^◌, ◌==◌, ◌&&◌, true, List, length, fold, filter, count_by}
-use Rattle.pfs_conservation.specs.Administration.{numbered}
-use Rattle.pfs_conservation.specs.Chains.{Taken, with_event, content}
-use Rattle.pfs_conservation.specs.Conservation.{counts_after}
+use Rattle.std.specs.Prelude.{ℕ, ◌≡◌, ◌≤◌, ◌<◌, ◌^◌, ◌==◌, true, List, length, fold, count_by}
+use Rattle.pfs_conservation.specs.Chains.{Taken, content}
 use Rattle.pfs_conservation.specs.Lines.{chain_of, Stands, AreAdded}
 use Rattle.pfs_conservation.specs.Prints.{AreActed}
-use Rattle.pfs_conservation.specs.Removals.{removal}
 use Rattle.pfs_conservation.specs.Seats.{opened_by}
-use Rattle.pfs_conservation.specs.Tables.{Key, AreLow, home_at, shown_in, leads_at, covers_to}
-use Rattle.pfs_rows.specs.Tables.{kind_number}
+use Rattle.pfs_conservation.specs.Tables.{Key, AreLow, shown_in}
 use Rattle.pfs_rows.specs.declared.table.TableKind.{TableKind}
 use Rattle.pfs_stat.specs.Stat.{zero_of, merge_of}
 use Rattle.pfs_tagged.specs.Acts.{moves_at, places_behind}
 use Rattle.pfs_tagged.specs.Board.{limits_of, is_kind_row, cells_of}
 use Rattle.pfs_tagged.specs.Premises.{AreKept, IsOrderly, AreInRange}
-use Rattle.pfs_tagged.specs.Runs.{Run, actions_to, rows_by, lines_to, events_to, sums_to, whose_to, found_to, kept_to, stands_to, IsKeyOf}
+use Rattle.pfs_tagged.specs.Runs.{Run, actions_to, rows_by, lines_to, events_to, sums_to, whose_to, found_to, kept_to, stands_to, counted_to, IsKeyOf}
 
 -- the lines of a kind are acted: chained, in the order of the actions, by one session each, rising along sessions; and
 -- each action prints just its moves
@@ -43,8 +39,7 @@ FoundLaw = (run : Run) (kind : TableKind) (phase : ℕ) → AreKept run
     → (action row version : ℕ) → Stands (lines_to run kind phase) row version (Taken action)
     → run.counted action row ≡ kept_to run kind phase action row
 
--- What the rows of a key show under a phase's end is the merge of the events that lead to the key and that no covering
--- action took since they were added.
+-- what the rows of a key show under a phase's end is what counts for it
 abbrev pub SummedLaw : Type 0
 SummedLaw = (run : Run) (kind : TableKind) (phase : ℕ) → AreKept run → IsOrderly run → AreInRange run.facts
     → length (events_to run kind phase) < 2 ^ 64
@@ -52,9 +47,4 @@ SummedLaw = (run : Run) (kind : TableKind) (phase : ℕ) → AreKept run → IsO
     → ((cell : ℕ) → count_by (λ c. c == cell) cells ≤ 1)
     → fold (λ sum row. merge_of sum (stands_to run phase row)) zero_of
     (shown_in (rows_by run kind) key cells (places_behind run.setting (actions_to run phase)))
-    ≡ fold (with_event (sums_to run phase)) zero_of (filter (λ event.
-    leads_at key cells (whose_to run phase event)
-    && counts_after (removal event (chain_of (lines_to run kind phase) (home_at (rows_by run kind)
-    (whose_to run phase event))))
-    (covers_to (kind_number kind) key (opened_by (limits_of run.setting)) (numbered (actions_to run phase))
-    (length (actions_to run phase)))) (events_to run kind phase))
+    ≡ counted_to run kind phase key cells

@@ -1,25 +1,28 @@
 -- What is said of a run, and what conservation goes by up to a phase's end.
-use Rattle.std.specs.Prelude.{ℕ, ◌≡◌, nat_lt, Bool, List, Some}
+use Rattle.std.specs.Prelude.{ℕ, ◌≡◌, ◌&&◌, nat_lt, Bool, List, length, fold, filter, Some}
 use Rattle.pfs_admin.specs.declared.changes.Change.{Change}
 use Rattle.pfs_board.specs.declared.view.Label.{Label}
 use Rattle.pfs_classes.specs.declared.setting.Setting.{Setting}
-use Rattle.pfs_conservation.specs.Administration.{Action}
-use Rattle.pfs_conservation.specs.Chains.{Sums, found_by}
+use Rattle.pfs_conservation.specs.Administration.{Action, numbered}
+use Rattle.pfs_conservation.specs.Chains.{Sums, with_event, found_by}
+use Rattle.pfs_conservation.specs.Conservation.{counts_after}
 use Rattle.pfs_conservation.specs.Laws.{stats}
 use Rattle.pfs_conservation.specs.Lines.{Tagged, chain_of}
-use Rattle.pfs_conservation.specs.Seats.{Numbering}
-use Rattle.pfs_conservation.specs.Tables.{Key, KeyThread, KeyAccount, KeyUser, KeyHost, KeyAll, Whose}
+use Rattle.pfs_conservation.specs.Removals.{removal}
+use Rattle.pfs_conservation.specs.Seats.{Numbering, opened_by}
+use Rattle.pfs_conservation.specs.Tables.{Key, KeyThread, KeyAccount, KeyUser, KeyHost, KeyAll, Whose, home_at, leads_at, covers_to}
 use Rattle.pfs_model.specs.Asked.{Answer}
 use Rattle.pfs_model.specs.Contents.{Facts, Given}
 use Rattle.pfs_model.specs.Places.{Block, Placed, places, up_to_phase}
+use Rattle.pfs_rows.specs.Tables.{kind_number}
 use Rattle.pfs_rows.specs.declared.table.TableKind.{TableKind}
 use Rattle.pfs_runs.specs.Finals.{row_version}
 use Rattle.pfs_runs.specs.Labels.{terms_of}
 use Rattle.pfs_runs.specs.Rules.{Terms, slot_in, given_by}
-use Rattle.pfs_stat.specs.Stat.{stat_of_words}
+use Rattle.pfs_stat.specs.Stat.{zero_of, stat_of_words}
 use Rattle.pfs_stat.specs.declared.Stat.{Stat}
 use Rattle.pfs_tagged.specs.Acts.{labels_so_far, actions_of, names_by}
-use Rattle.pfs_tagged.specs.Board.{cells_of, board}
+use Rattle.pfs_tagged.specs.Board.{cells_of, board, limits_of}
 use Rattle.pfs_tagged.specs.Ends.{events_in, measures_in, whose_in}
 use Rattle.pfs_tagged.specs.Tagged.{lines_in}
 
@@ -86,3 +89,19 @@ IsKeyOf run (KeyAccount user host) = Unit {0}
 IsKeyOf run (KeyUser user) = Unit {0}
 IsKeyOf run (KeyHost host) = Unit {0}
 IsKeyOf run KeyAll = Unit {0}
+
+-- an event of these cells counts for a key where it leads to the key, and no action that covers the key took it since
+-- it was added
+abbrev pub counts_to : Run → TableKind → ℕ → Key → List ℕ → ℕ → Bool
+counts_to run kind phase key cells event =
+    leads_at key cells (whose_to run phase event)
+    && counts_after (removal event (chain_of (lines_to run kind phase) (home_at (rows_by run kind)
+    (whose_to run phase event))))
+    (covers_to (kind_number kind) key (opened_by (limits_of run.setting)) (numbered (actions_to run phase))
+    (length (actions_to run phase)))
+
+-- what all these events add up to: how many they are, and the sums, the least and the greatest of their numbers
+abbrev pub counted_to : Run → TableKind → ℕ → Key → List ℕ → Stat
+counted_to run kind phase key cells =
+    fold (with_event (sums_to run phase)) zero_of
+    (filter (counts_to run kind phase key cells) (events_to run kind phase))

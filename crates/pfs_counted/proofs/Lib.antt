@@ -1,0 +1,15 @@
+pub mod Passed
+pub mod Read
+pub mod Told
+pub mod Tallies
+pub mod Keyed
+pub mod Containing
+pub mod Listed
+pub mod ClassCells
+pub mod Standing
+pub mod Reported
+pub mod Phase
+pub mod Names
+pub mod Seated
+pub mod Freed
+pub mod Runs

@@ -1,0 +1,5 @@
+pub mod Keys
+pub mod Summed
+pub mod Named
+pub mod Counted
+pub mod Laws
