@@ -11,7 +11,7 @@ use Rattle.pfs_script.specs.declared.reasons.Extent.TheVariants.{Built}
 use Rattle.pfs_script.specs.declared.reasons.Reason.{Reason}
 use Rattle.pfs_script.specs.declared.reasons.Reason.TheVariants.{BadByte, OpenLine, BadForm, OutOfPlace, BadNumber, BadSession, UnknownName, BadLimit, BadNesting, BadStatement, TooLong, TooMuch, NotBuilt}
 use Rattle.pfs_script.specs.Scripts.{IsScript, IsFirstFault}
-use Rattle.pfs_runs.specs.Runs.{IsPlainRun}
+use Rattle.pfs_counted.specs.Laws.{IsCountedRun}
 use Rattle.pfs_journal.specs.declared.report.ReportParts.{ReportParts}
 use Rattle.pfs_journal.specs.Reports.{IsReport}
 use Rattle.pfs_journal.specs.Spelling.{spelling}
@@ -59,7 +59,7 @@ fault_text line reason =
 
 -- which statuses have which text: of phases that were run
 abbrev pub HasRun : Setting → List Phase → Status → List ℕ → Type 0
-HasRun setting phases Done due = (report : ReportParts) × IsReport report × IsPlainRun setting phases report
+HasRun setting phases Done due = (report : ReportParts) × IsReport report × IsCountedRun setting phases report
     × (due ≡ spelling report)
 HasRun setting phases _ due = ⊥
 

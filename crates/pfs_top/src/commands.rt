@@ -114,8 +114,9 @@ fn report<K: Sink>(alloc: Global, sink: &mut K, script: &Script) -> Status
 {
     match run_plain(alloc, &script.setting, script.phases.as_slice()) {
         Ok(report) => {
-            // A report's parts tell that they can be spelled.
+            // A report's parts tell that they can be spelled, and the summaries of a run show what counts there.
             let _ = report.parts();
+            pfs_counted::laws::counted();
             status_after(write(alloc, &report, sink), Status::Done)
         }
         Err(_) => Status::NoMemory,
