@@ -5,3 +5,4 @@ pub mod Order
 pub mod Verdicts
 pub mod Words
 pub mod Kinds
+pub mod Packing

@@ -5,14 +5,17 @@
 mod entry;
 mod event;
 mod form;
+mod kept;
 mod kind;
 pub mod laws;
 mod nest;
 mod open;
+mod packed;
 mod verdict;
 
 pub use entry::Entry;
 pub use event::Event;
+pub use kept::KeptEntry;
 pub use kind::EventKind;
 pub use nest::{Nest, Refused};
 pub use open::Open;

@@ -3,14 +3,14 @@
 ghost use Rattle.std.specs.Prelude.{◌≡◌, ◌<◌, ◌+◌, ◌-◌, ◌++◌, ◌∷◌, [], IfOk, OnOk, OnErr};
 
 use crate::NoMemory;
-use pfs_event::Entry;
+use pfs_event::{Entry, KeptEntry};
 use std::alloc::{AllocError, Global};
 use std::marker::Model;
 
 /// Entries in the order in which they were added, and room for more. Contracts see both, the room as a number.
 #[derive(Drop)]
 pub struct Log {
-    entries: Vec<Entry>,
+    entries: Vec<KeptEntry>,
     room: u64,
 }
 
@@ -66,7 +66,7 @@ impl Log {
         ensures { self.new ≡ record { entries = self.old.entries ++ entry ∷ []; room = self.old.room - 1 } }
     {
         self.room -= 1;
-        self.entries.push_reserved(entry);
+        self.entries.push_reserved(KeptEntry::new(entry));
     }
 
     /// How many more entries have room.
@@ -79,14 +79,14 @@ impl Log {
     }
 
     /// The entries, in the order in which they were added.
-    pub fn entries(&self) -> &[Entry]
+    pub fn entries(&self) -> &[KeptEntry]
         ensures { result.now ≡ self.now.entries }
     {
         self.entries.as_slice()
     }
 
     /// Hands out the entries.
-    pub fn into_entries(self) -> Vec<Entry>
+    pub fn into_entries(self) -> Vec<KeptEntry>
         ensures { result.items ≡ self.entries }
     {
         self.entries
