@@ -44,7 +44,8 @@ abbrev pub entry_of : Packed → Entry
 entry_of (packed.Connect has_thread has_account has_user has_host action thread account user host) =
     says.Connect action (optional has_thread thread) (optional has_account account) (optional has_user user)
     (optional has_host host)
-entry_of (packed.Start verdict has_event has_consumers has_thread has_class has_table event consumers thread class table) =
+entry_of
+    (packed.Start verdict has_event has_consumers has_thread has_class has_table event consumers thread class table) =
     says.Start (optional has_event event) verdict (optional has_consumers consumers) (optional has_thread thread)
     (optional has_class class) (optional has_table table)
 entry_of (packed.End has_event has_last has_consumers has_thread event last consumers thread) =

@@ -1,4 +1,4 @@
-//! The entries as a journal keeps them: flags beside numbers, where an `Option` of each number would take twice the room.
+//! The entries as a journal keeps them: flags beside numbers, where options would take twice the room.
 
 ghost use Rattle.std.specs.Prelude.{◌≡◌, Option};
 ghost use Rattle.pfs_event.specs.declared.entry.Entry.{Entry};

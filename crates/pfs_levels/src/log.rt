@@ -7,7 +7,8 @@ use pfs_event::{Entry, KeptEntry};
 use std::alloc::{AllocError, Global};
 use std::marker::Model;
 
-/// Entries in the order in which they were added, and room for more. Contracts see both, the room as a number.
+/// Entries in the order in which they were added, each kept in 48 bytes, and room for more. Contracts see both, the room
+/// as a number.
 #[derive(Drop)]
 pub struct Log {
     entries: Vec<KeptEntry>,
