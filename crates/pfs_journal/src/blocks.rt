@@ -2,14 +2,14 @@
 
 ghost use Rattle.std.specs.Prelude.{◌≡◌};
 
-use pfs_event::Entry;
+use pfs_event::KeptEntry;
 use pfs_values::Rowset;
 use std::marker::Model;
 
 /// The entries of a journal, in order.
 #[derive(Drop)]
 pub struct EntryList {
-    items: Vec<Entry>,
+    items: Vec<KeptEntry>,
 }
 
 impl Model for EntryList {
@@ -23,21 +23,21 @@ impl Model for EntryList {
 
 impl EntryList {
     /// The list of these entries. It takes no memory.
-    pub fn new(items: Vec<Entry>) -> EntryList
+    pub fn new(items: Vec<KeptEntry>) -> EntryList
         ensures { result ≡ items.items }
     {
         EntryList { items }
     }
 
     /// The entries, in order.
-    pub fn as_slice(&self) -> &[Entry]
+    pub fn as_slice(&self) -> &[KeptEntry]
         ensures { result.now ≡ self.now }
     {
         self.items.as_slice()
     }
 
     /// The entries, given back without taking memory.
-    pub fn into_vec(self) -> Vec<Entry>
+    pub fn into_vec(self) -> Vec<KeptEntry>
         ensures { result.items ≡ self }
     {
         self.items

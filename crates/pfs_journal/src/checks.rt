@@ -8,7 +8,7 @@ ghost use Rattle.pfs_journal.specs.Reports.{is_text_byte, is_name_byte, IsText, 
 use crate::blocks::BlockReport;
 use crate::report::PhaseParts;
 use crate::values::{LostReport, TableReport};
-use pfs_event::Entry;
+use pfs_event::{Entry, KeptEntry};
 use pfs_values::{Row, RowValue, Rowset};
 
 /// Whether a text may have the byte.
@@ -99,14 +99,14 @@ fn has_rows(answers: &[Rowset], place: usize, number: u64) -> bool
 }
 
 /// The place of the next answer behind an entry, or None where the one that is due isn't there.
-fn place_behind(entry: &Entry, answers: &[Rowset], place: usize) -> Option<usize>
+fn place_behind(entry: &KeptEntry, answers: &[Rowset], place: usize) -> Option<usize>
     requires { place ≤ length answers.now }
     ensures { (rest : List Entry)
         → MatchOption result (¬ AreAnswered (entry.now ∷ rest) (drop place answers.now))
         (λ next. (next ≤ length answers.now)
         × (AreAnswered (entry.now ∷ rest) (drop place answers.now) ↔ AreAnswered rest (drop next answers.now))) }
 {
-    match rows_asked(entry) {
+    match rows_asked(&entry.entry()) {
         Some(number) => {
             if has_rows(answers, place, number) {
                 Some(place + 1)
@@ -119,7 +119,7 @@ fn place_behind(entry: &Entry, answers: &[Rowset], place: usize) -> Option<usize
 }
 
 /// Whether each answer has so many rows as its entry says.
-fn are_answered(entries: &[Entry], answers: &[Rowset]) -> bool
+fn are_answered(entries: &[KeptEntry], answers: &[Rowset]) -> bool
     ensures { IsTrue result ↔ AreAnswered entries.now answers.now }
 {
     let mut place = 0usize;

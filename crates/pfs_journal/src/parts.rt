@@ -15,7 +15,7 @@ use crate::checks::rows_asked;
 use crate::line::Line;
 use crate::reading::{Lines, ReadStop, next, push};
 use crate::values::{LostList, LostReport, TableList, TableReport};
-use pfs_event::Entry;
+use pfs_event::{Entry, KeptEntry};
 use pfs_text::Text;
 use pfs_values::{Row, Rowset};
 use std::alloc::Global;
@@ -236,7 +236,7 @@ fn take_answer_if(
 fn take_entry(
     alloc: Global,
     lines: &mut Lines<'_>,
-    entries: &mut Vec<Entry>,
+    entries: &mut Vec<KeptEntry>,
     answers: &mut Vec<Rowset>,
     entry: Entry,
 ) -> Result<Line, ReadStop>
@@ -248,7 +248,7 @@ fn take_entry(
     ensures stops { IfBad result (λ at. StopsAfter (Some (Journal (rows_due (rows_asked entry))))
         lines.old.rest.now lines.old.taken at) }
 {
-    push(entries, entry)?;
+    push(entries, KeptEntry::new(entry))?;
     let first = next(alloc, lines)?;
     take_answer_if(alloc, lines, answers, rows_asked(&entry), first)
 }

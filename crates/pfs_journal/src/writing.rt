@@ -10,7 +10,7 @@ use crate::blocks::BlockReport;
 use crate::lines::{entry_line, lost_line, one_line, row_line, table_line};
 use crate::report::{PhaseParts, PhaseReport, Report};
 use crate::values::{LostReport, TableReport};
-use pfs_event::Entry;
+use pfs_event::{Entry, KeptEntry};
 use pfs_outside::{Sink, WriteStop, write_all};
 use pfs_values::{Row, Rowset};
 use std::alloc::Global;
@@ -136,7 +136,7 @@ fn put_entry<K: Sink>(
 fn put_journal<K: Sink>(
     line: &mut Vec<u8>,
     sink: &mut K,
-    entries: &[Entry],
+    entries: &[KeptEntry],
     answers: &[Rowset],
 ) -> Result<(), WriteStop>
     ensures { Puts (K.written sink.old) (K.written sink.new) (K.faults sink.old) (K.faults sink.new)
@@ -144,11 +144,12 @@ fn put_journal<K: Sink>(
 {
     let mut place = 0usize;
     for entry in entries {
-        match put_entry(line, sink, entry, answers, place) {
+        let said = entry.entry();
+        match put_entry(line, sink, &said, answers, place) {
             Ok(()) => {}
             Err(stop) => return Err(stop),
         }
-        place = place_behind(entry, place);
+        place = place_behind(&said, place);
     }
     Ok(())
 }
