@@ -32,6 +32,7 @@ pub mod RegisterLemmas
 pub mod SessionNaming
 pub mod SessionNesting
 pub mod SetLemmas
+pub mod Shown
 pub mod Splits
 pub mod Steps
 pub mod Taking

@@ -1,12 +1,15 @@
 -- One line more of the pass over a text.
-use Rattle.std.proofs.Common.{ℕ, ◌≡◌, ◌+◌, ◌<◌, List, [], ◌∷◌, ◌++◌, length, Ok, Err, true, false, refl, arith}
+use Rattle.std.proofs.Common.{ℕ, ◌≡◌, ◌+◌, ◌<◌, List, [], ◌∷◌, ◌++◌, length, Ok, Err, true, false, refl, sym, ap, ◌∙◌, arith}
 use Rattle.pfs_script.specs.declared.forms.Form.{Form}
+use Rattle.pfs_script.specs.declared.reading.ScriptFault.{ScriptFault}
+use Rattle.pfs_script.specs.declared.reading.ScriptFault.TheVariants.{Bad, NoMemory}
 use Rattle.pfs_script.specs.declared.reasons.Extent.{Extent}
 use Rattle.pfs_script.specs.declared.reasons.Reason.{Reason}
 use Rattle.pfs_script.specs.declared.reasons.Reason.TheVariants.{OutOfPlace}
 use Rattle.pfs_script.specs.Counts.{is_in_repeat}
 use Rattle.pfs_script.specs.Next.{next}
-use Rattle.pfs_script.specs.Scripts.{lines_from, open_reason}
+use Rattle.pfs_script.specs.Scripts.{lines_from, script_of, open_reason}
+use Rattle.pfs_script.specs.Readings.{SaysNext, Reads}
 
 -- the next line says something: the pass goes on behind it
 pub says_line : (extent : Extent) (before : List Form) (bytes : List ℕ) (parts : List (List ℕ)) (line : Form) → 0 < length parts → next extent before bytes ≡ Ok line → lines_from extent before (bytes ∷ parts) ≡ lines_from extent (before ++ line ∷ []) parts
@@ -37,3 +40,9 @@ pub says_open : (extent : Extent) (before : List Form) (bytes : List ℕ) (numbe
 unfolding lines_from
 says_open extent before [] number m h = absurd (omega arith)
 says_open extent before (byte ∷ bytes) number m h = rw m refl
+
+-- the reader's answer at a faulty line is that of the text
+pub next_bad : (extent : Extent) (text : List ℕ) (before : List Form) (bytes : List ℕ) (parts : List (List ℕ)) (count : ℕ) (fault : ScriptFault) → count ≡ length before → 0 < length parts → SaysNext extent before count bytes (Err fault)
+    → lines_from extent before (bytes ∷ parts) ≡ script_of extent text → Reads extent text (Err fault)
+next_bad extent text before bytes parts count (Bad number reason) c h says i = sym i ∙ says_fault extent before bytes parts reason number (says.0 ∙ ap (λ n. n + 1) c) h says.1
+next_bad extent text before bytes parts count NoMemory c h says i = tt

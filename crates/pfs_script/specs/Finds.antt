@@ -1,6 +1,7 @@
 -- The tables and the digest texts of lines, in the order of their first appearance.
 use Rattle.std.specs.Prelude.{ℕ, ◌&&◌, Bool, true, false, nat_lt, if◌then◌else◌, List, [], ◌∷◌, ◌++◌, length, position, is_some, Option, None, Result, Ok, Err}
 use Rattle.std.specs.List.{list_any, fold}
+use Rattle.std.specs.Result.{result_ok}
 use Rattle.std.specs.Str.{bytes_eq}
 use Rattle.sha2.specs.Sha256.{sha256}
 use Rattle.pfs_lexer.specs.declared.tokens.LexFault.{LexFault}
@@ -19,6 +20,11 @@ is_fault (Err fault) = true
 -- the lexer finds a fault in the statement
 abbrev pub is_refused : List ℕ → Bool
 is_refused text = list_any is_fault (items_of text)
+
+-- the digest text of a line's statement; none where the lexer refuses its text, and of any other line
+abbrev pub shown_of : Form → Option (List ℕ)
+shown_of (form.Statement class text) = result_ok (digest_text_of text)
+shown_of _ = None
 
 abbrev pub is_table : List ℕ → List ℕ → TableName → Bool
 is_table schema name table = bytes_eq table.schema schema && bytes_eq table.name name

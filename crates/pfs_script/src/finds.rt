@@ -1,16 +1,16 @@
 //! The tables and digest texts that lines bring in, in the order of their first appearance.
 
-ghost use Rattle.std.specs.Prelude.{◌≡◌, ◌++◌, ◌∷◌, [], false, nat_lt, length, is_some, position, OnOk, IfOk, Ok};
-ghost use Rattle.std.specs.List.{list_any};
+ghost use Rattle.std.specs.Prelude.{◌≡◌, ◌++◌, ◌∷◌, [], false, nat_lt, length, is_some, position, OnOk, IfOk, Ok, Result, List, ℕ};
+ghost use Rattle.std.specs.Result.{result_ok};
 ghost use Rattle.sha2.specs.Sha256.{sha256};
-ghost use Rattle.pfs_script.specs.Finds.{is_refused, is_table, table_number, with_table, has_text, place_of, digest_place, add_digest, with_digest};
+ghost use Rattle.pfs_script.specs.Finds.{shown_of, is_table, table_number, with_table, has_text, place_of, digest_place, add_digest, with_digest};
+ghost use Rattle.pfs_lexer.specs.declared.tokens.LexFault.{LexFault};
 ghost use Rattle.pfs_script.specs.declared.forms.Form.{Form};
 ghost use Rattle.pfs_script.specs.declared.forms.Form.TheVariants as form;
 
 use crate::forms::Form;
 use pfs_classes::{DigestList, DigestText, NoMemory, TableList, TableName};
 use pfs_digest::{DigestFault, digest, digest_text};
-use pfs_lexer::Lexer;
 use pfs_text::Text;
 use std::alloc::{AllocError, Global};
 
@@ -24,18 +24,18 @@ pub struct Finds {
     pub digests: DigestList,
 }
 
-/// Whether the lexer refuses a statement's text.
-pub fn is_refused(text: &str) -> bool
-    ensures { result ≡ is_refused text.now }
+/// The digest text of a line's statement: None where the lexer refuses its text, and for any other line.
+pub fn shown_of(alloc: Global, line: &Form) -> Result<Option<Text>, NoMemory>
+    ensures { IfOk result (λ shown. shown ≡ shown_of line.now) }
 {
-    let mut lexer = Lexer::new(text);
-    'tokens: while let Some(item) = lexer.next() {
-        match item {
-            Ok(_) => {}
-            Err(_) => return true,
-        }
+    match line {
+        Form::Statement { text, .. } => match digest_text(alloc, text.as_str()) {
+            Ok(shown) => Ok(Some(shown)),
+            Err(DigestFault::Lex(_)) => Ok(None),
+            Err(DigestFault::NoMemory) => Err(AllocError),
+        },
+        _ => Ok(None),
     }
-    false
 }
 
 fn is_table(schema: &[u8], name: &[u8], table: &TableName) -> bool
@@ -107,8 +107,15 @@ impl Finds {
         }
     }
 
-    /// Takes one more line, where so many digest texts are kept at most.
-    pub fn note(&mut self, alloc: Global, most: u64, line: &Form) -> Result<(), NoMemory>
+    /// Takes one more line with its statement's digest text, where so many digest texts are kept at most.
+    pub fn note(
+        &mut self,
+        alloc: Global,
+        most: u64,
+        line: &Form,
+        shown: Option<Text>,
+    ) -> Result<(), NoMemory>
+        requires { shown ≡ shown_of line.now }
         ensures tables { OnOk result (self.new.tables ≡ with_table self.old.tables line.now) }
         ensures digests { OnOk result (self.new.digests ≡ with_digest most self.old.digests line.now) }
     {
@@ -116,7 +123,7 @@ impl Finds {
             Form::TableWait { schema, name, .. } => {
                 self.add_table(alloc, schema.bytes(), name.bytes())
             }
-            Form::Statement { text, .. } => self.add_statement(alloc, most, text.as_str()),
+            Form::Statement { .. } => self.add_statement(most, shown),
             _ => Ok(()),
         }
     }
@@ -134,15 +141,15 @@ impl Finds {
         self.tables.push(TableName { schema, name })
     }
 
-    fn add_statement(&mut self, alloc: Global, most: u64, text: &str) -> Result<(), NoMemory>
+    // The digest text of a statement, which has none where the lexer refuses it.
+    fn add_statement(&mut self, most: u64, shown: Option<Text>) -> Result<(), NoMemory>
         ensures tables { self.new.tables ≡ self.old.tables }
-        ensures digests { OnOk result (self.new.digests
-            ≡ with_digest most self.old.digests (form.Statement [] text.now)) }
+        ensures digests { OnOk result ((due : Result (List ℕ) LexFault) → shown ≡ result_ok due
+            → self.new.digests ≡ add_digest most self.old.digests due) }
     {
-        match digest_text(alloc, text) {
-            Ok(shown) => self.add_digest(most, shown),
-            Err(DigestFault::Lex(_)) => Ok(()),
-            Err(DigestFault::NoMemory) => Err(AllocError),
+        match shown {
+            Some(shown) => self.add_digest(most, shown),
+            None => Ok(()),
         }
     }
 

@@ -6,16 +6,18 @@ ghost use Rattle.pfs_script.specs.Headings.{head_of};
 ghost use Rattle.pfs_script.specs.Built.{is_built, is_built_limit};
 ghost use Rattle.pfs_script.specs.declared.reasons.Extent.{Extent};
 ghost use Rattle.pfs_script.specs.Next.{has_bad_number, is_no_count, is_out_of_place, is_bad_number, is_unknown, is_event_class, is_bad_statement, is_table_too_many, is_let_in, fault_of, least_reason};
+ghost use Rattle.pfs_script.specs.Finds.{shown_of};
 ghost use Rattle.pfs_script.specs.Places.{Knows, KnowsFinds};
 
 use crate::courses::{Course, no_course};
-use crate::finds::{Finds, is_refused};
+use crate::finds::Finds;
 use crate::forms::{Form, Number, Numbers};
 use crate::fronts::{Front, no_front};
 use crate::heading::{Heading, find_consumer, find_limit};
 use crate::reasons::{Extent, Reason};
 use crate::totals::{Totals, no_lines};
 use pfs_rows::Limit;
+use pfs_text::Text;
 
 /// What the lines so far amount to, as far as the next line depends on it.
 #[derive(Clone, Copy)]
@@ -37,8 +39,8 @@ pub fn start() -> Place
 }
 
 impl Place {
-    /// Why the line may not stand behind the lines so far: the least reason, or none. One that isn't let
-    /// in is tested for nothing else.
+    /// Why the line, whose statement has this digest text, may not stand behind the lines so far: the least
+    /// reason, or none. One that isn't let in is tested for nothing else.
     #[tactic(auto, unfolding(crate::specs::Next::fault_of))]
     pub fn fault(
         &self,
@@ -46,19 +48,28 @@ impl Place {
         heading: &Heading,
         finds: &Finds,
         line: &Form,
+        shown: &Option<Text>,
     ) -> Option<Reason>
+        requires { shown.now ≡ shown_of line.now }
         ensures { (before : List Form) → Knows self.now before → heading.now ≡ head_of before
             → KnowsFinds finds.now before → result ≡ fault_of extent before line.now }
     {
         if is_let_in(extent, line) {
-            self.least_reason(heading, finds, line)
+            self.least_reason(heading, finds, line, shown)
         } else {
             Some(Reason::NotBuilt)
         }
     }
 
     #[tactic(auto, unfolding(crate::specs::Next::least_reason))]
-    fn least_reason(&self, heading: &Heading, finds: &Finds, line: &Form) -> Option<Reason>
+    fn least_reason(
+        &self,
+        heading: &Heading,
+        finds: &Finds,
+        line: &Form,
+        shown: &Option<Text>,
+    ) -> Option<Reason>
+        requires { shown.now ≡ shown_of line.now }
         ensures { (before : List Form) → Knows self.now before → heading.now ≡ head_of before
             → KnowsFinds finds.now before → result ≡ least_reason before line.now }
     {
@@ -74,7 +85,7 @@ impl Place {
             Some(Reason::BadLimit)
         } else if self.course.is_bad_nesting(line) {
             Some(Reason::BadNesting)
-        } else if is_bad_statement(line) {
+        } else if is_bad_statement(line, shown) {
             Some(Reason::BadStatement)
         } else if self.totals.is_too_long(line) {
             Some(Reason::TooLong)
@@ -128,12 +139,13 @@ impl Place {
     }
 }
 
-// Whether the lexer refuses the statement's text.
-fn is_bad_statement(line: &Form) -> bool
+// Whether the lexer refuses the statement's text, so that it has no digest text.
+fn is_bad_statement(line: &Form, shown: &Option<Text>) -> bool
+    requires { shown.now ≡ shown_of line.now }
     ensures { result ≡ is_bad_statement line.now }
 {
     match line {
-        Form::Statement { text, .. } => is_refused(text.as_str()),
+        Form::Statement { .. } => shown.is_none(),
         _ => false,
     }
 }

@@ -5,20 +5,21 @@ ghost use Rattle.std.specs.List.{list_all};
 ghost use Rattle.pfs_script.specs.declared.forms.Form.{Form};
 ghost use Rattle.pfs_script.specs.Forms.{HasItsKind};
 ghost use Rattle.pfs_script.specs.Headings.{head_of};
-ghost use Rattle.pfs_script.specs.Next.{next};
+ghost use Rattle.pfs_script.specs.Finds.{shown_of};
 ghost use Rattle.pfs_script.specs.Places.{Knows, KnowsFinds};
 ghost use Rattle.pfs_script.specs.Scripts.{parts_of, open_reason, IsScript};
 ghost use Rattle.pfs_script.specs.declared.reasons.Extent.TheVariants.{Whole, Built};
-ghost use Rattle.pfs_script.specs.Readings.{Reads, Gives};
+ghost use Rattle.pfs_script.specs.Readings.{SaysNext, Reads, Gives};
 
 use crate::building::phases;
-use crate::finds::Finds;
+use crate::finds::{Finds, shown_of};
 use crate::forms::{Form, parse_line};
 use crate::heading::Heading;
 use crate::places::{Place, start};
 use crate::reasons::{Extent, Reason};
 use crate::scripts::Script;
 use crate::words::is_clean;
+use pfs_text::Text;
 use std::alloc::Global;
 
 /// Why bytes were not read as a script.
@@ -28,6 +29,13 @@ pub enum ScriptFault {
     Bad { line: u64, reason: Reason },
     /// Memory ran out.
     NoMemory,
+}
+
+/// A line, with the digest text of its statement.
+#[derive(Drop)]
+pub struct Line<'a> {
+    pub form: Form<'a>,
+    pub shown: Option<Text>,
 }
 
 /// The lines of a text, and what they fix.
@@ -82,26 +90,34 @@ fn read_script(alloc: Global, extent: Extent, bytes: &[u8]) -> Result<Script, Sc
     Ok(Script { setting, phases })
 }
 
-/// What the line says, where it may follow the lines so far; else its least reason.
+/// What the line says, where it may follow the lines so far, which are so many; else its least reason.
 #[tactic(auto, unfolding(crate::specs::Next::next))]
 fn read_line<'a>(
+    alloc: Global,
     place: &Place,
     extent: Extent,
     heading: &Heading,
     finds: &Finds,
+    count: usize,
     bytes: &'a [u8],
-) -> Result<Form<'a>, Reason>
+) -> Result<Line<'a>, ScriptFault>
+    requires { count < 2 ^ 63 }
     ensures says { (before : List Form) → Knows place.now before → heading.now ≡ head_of before
-        → KnowsFinds finds.now before → result ≡ next extent before bytes.now }
-    ensures kind { IfOk result HasItsKind }
+        → KnowsFinds finds.now before → SaysNext extent before count bytes.now result }
+    ensures kind { IfOk result (λ line. HasItsKind line.form) }
+    ensures shown { IfOk result (λ line. line.shown ≡ shown_of line.form) }
 {
-    let line = match parse_line(bytes) {
-        Ok(line) => line,
-        Err(reason) => return Err(reason),
+    let form = match parse_line(bytes) {
+        Ok(form) => form,
+        Err(reason) => return Err(bad(count, reason)),
     };
-    match place.fault(extent, heading, finds, &line) {
-        Some(reason) => Err(reason),
-        None => Ok(line),
+    let shown = match shown_of(alloc, &form) {
+        Ok(shown) => shown,
+        Err(_) => return Err(ScriptFault::NoMemory),
+    };
+    match place.fault(extent, heading, finds, &form, &shown) {
+        Some(reason) => Err(bad(count, reason)),
+        None => Ok(Line { form, shown }),
     }
 }
 
@@ -159,20 +175,22 @@ fn read_lines(alloc: Global, extent: Extent, bytes: &[u8]) -> Result<Reading, Sc
     let mut finds = Finds::none(alloc);
     let mut rest = bytes;
     while let Some((line, after)) = split_line(rest) {
-        let line = match read_line(&place, extent, &heading, &finds, line) {
+        let count = lines.len();
+        let line = match read_line(alloc, &place, extent, &heading, &finds, count, line) {
             Ok(line) => line,
-            Err(reason) => return Err(bad(lines.len(), reason)),
+            Err(fault) => return Err(fault),
         };
-        match finds.note(alloc, heading.most_digests(), &line) {
+        let Line { form, shown } = line;
+        match finds.note(alloc, heading.most_digests(), &form, shown) {
             Ok(()) => {}
             Err(_) => return Err(ScriptFault::NoMemory),
         }
-        match heading.pass(alloc, &line) {
+        match heading.pass(alloc, &form) {
             Ok(()) => {}
             Err(_) => return Err(ScriptFault::NoMemory),
         }
-        place.pass(&line);
-        match lines.push(line) {
+        place.pass(&form);
+        match lines.push(form) {
             Ok(()) => {}
             Err(_) => return Err(ScriptFault::NoMemory),
         }
