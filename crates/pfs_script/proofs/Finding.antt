@@ -23,7 +23,9 @@ use Rattle.pfs_script.specs.Scripts.{IsSetting}
 use Rattle.pfs_script.specs.Sensing.{sense}
 use Rattle.pfs_script.specs.Next.{is_table_too_many}
 use Rattle.pfs_script.specs.Places.{KnowsFinds}
+use Rattle.pfs_script.specs.Readings.{loud}
 use Rattle.pfs_script.proofs.PassLemmas.{limits_push}
+use Rattle.pfs_script.proofs.Silence.{phases_loud, names_loud}
 
 pub tables_push : (before : List Form) (line : Form) → tables_of (before ++ line ∷ []) ≡ with_table (tables_of before) line
 unfolding tables_of
@@ -148,15 +150,16 @@ sense_is head named finds lines h same n k =
     ∙ (ap (λ (tables : List TableName). sense_with (resolved (head_of lines)) (names_of lines) tables finds.digests) k.tables
     ∙ ap (λ (digests : List DigestText). sense_with (resolved (head_of lines)) (names_of lines) (tables_of lines) digests) k.digests))
 
-pub phases_as : (head named : Head) (finds : Finds) (lines items : List Form) → head ≡ head_of lines → ((name : List ℕ) → resolved named name ≡ resolved head name) → named.names ≡ names_of lines → KnowsFinds finds lines → items ≡ lines
+pub phases_as : (head named : Head) (finds : Finds) (lines items : List Form) → head ≡ head_of lines → ((name : List ℕ) → resolved named name ≡ resolved head name) → named.names ≡ names_of lines → KnowsFinds finds lines → items ≡ loud lines
     → phases_of (sense named finds) items ≡ phases_of (sense_of lines) lines
 phases_as head named finds lines items h same n k e =
-    ap (λ (one : Sense). phases_of one items) (sense_is head named finds lines h same n k) ∙ ap (λ (all : List Form). phases_of (sense_of lines) all) e
+    ap (λ (one : Sense). phases_of one items) (sense_is head named finds lines h same n k)
+    ∙ (ap (λ (all : List Form). phases_of (sense_of lines) all) e ∙ phases_loud (sense_of lines) lines)
 
 -- the names of users and hosts are behind those that the reader has found
-pub names_as : (head : Head) (lines items : List Form) → head ≡ head_of lines → items ≡ lines → fold with_session head.names items ≡ names_of lines
+pub names_as : (head : Head) (lines items : List Form) → head ≡ head_of lines → items ≡ loud lines → fold with_session head.names items ≡ names_of lines
 unfolding names_of
-names_as head lines items h e = ap (λ (one : Head). fold with_session one.names items) h ∙ ap (λ (all : List Form). fold with_session (head_of lines).names all) e
+names_as head lines items h e = ap (λ (one : Head). fold with_session one.names items) h ∙ (ap (λ (all : List Form). fold with_session (head_of lines).names all) e ∙ names_loud (head_of lines).names lines)
 
 few_not : (most number : ℕ) → number ≤ most → nat_lt most number ≡ false
 few_not most number h = grind (arith, nat_tests, h)
@@ -177,7 +180,7 @@ few_found head finds lines h k =
     omega (arith, most, found, few_digests (limits_of lines).digests lines)
 
 -- the setting of what was found, with the names of users and hosts behind those of classes
-pub setting_as : (head named : Head) (finds : Finds) (lines items : List Form) (setting : Setting) → head ≡ head_of lines → KnowsFinds finds lines → named ≡ head_named head (fold with_session head.names items) → items ≡ lines
+pub setting_as : (head named : Head) (finds : Finds) (lines items : List Form) (setting : Setting) → head ≡ head_of lines → KnowsFinds finds lines → named ≡ head_named head (fold with_session head.names items) → items ≡ loud lines
     → setting.names ≡ named.names → setting.classes ≡ named.classes → setting.tables ≡ finds.tables → setting.digests ≡ finds.digests → setting.limits ≡ named.limits → setting.consumers ≡ named.consumers → IsSetting lines setting
 setting_as head named finds lines items setting h k n e names classes tables digests limits consumers = record {
   names = names ∙ (ap (λ (one : Head). one.names) n ∙ names_as head lines items h e);

@@ -33,6 +33,7 @@ pub mod SessionNaming
 pub mod SessionNesting
 pub mod SetLemmas
 pub mod Shown
+pub mod Silence
 pub mod Splits
 pub mod Steps
 pub mod Taking

@@ -1,6 +1,6 @@
 //! The whole script: one pass over the bytes, line by line.
 
-ghost use Rattle.std.specs.Prelude.{◌≡◌, ◌+◌, ◌<◌, ◌^◌, List, [], ◌∷◌, ◌++◌, length, ◌==◌, position, MatchOption, IfOk};
+ghost use Rattle.std.specs.Prelude.{◌≡◌, ◌+◌, ◌<◌, ◌^◌, List, [], ◌∷◌, ◌++◌, length, ◌==◌, position, MatchOption, IfOk, OnOk};
 ghost use Rattle.std.specs.List.{list_all};
 ghost use Rattle.pfs_script.specs.declared.forms.Form.{Form};
 ghost use Rattle.pfs_script.specs.Forms.{HasItsKind};
@@ -9,7 +9,7 @@ ghost use Rattle.pfs_script.specs.Finds.{shown_of};
 ghost use Rattle.pfs_script.specs.Places.{Knows, KnowsFinds};
 ghost use Rattle.pfs_script.specs.Scripts.{parts_of, open_reason, IsScript};
 ghost use Rattle.pfs_script.specs.declared.reasons.Extent.TheVariants.{Whole, Built};
-ghost use Rattle.pfs_script.specs.Readings.{SaysNext, Reads, Gives};
+ghost use Rattle.pfs_script.specs.Readings.{loud, SaysNext, Reads, Gives};
 
 use crate::building::phases;
 use crate::finds::{Finds, shown_of};
@@ -19,6 +19,7 @@ use crate::places::{Place, start};
 use crate::reasons::{Extent, Reason};
 use crate::scripts::Script;
 use crate::words::is_clean;
+use pfs_classes::NoMemory;
 use pfs_text::Text;
 use std::alloc::Global;
 
@@ -31,6 +32,17 @@ pub enum ScriptFault {
     NoMemory,
 }
 
+impl From<NoMemory> for ScriptFault {
+    ghost use Rattle.std.specs.Prelude.{◌≡◌};
+    ghost use Rattle.pfs_script.specs.declared.reading.ScriptFault.TheVariants.{NoMemory as ran_out};
+
+    ghost from_gives = { λ _ fault. fault ≡ ran_out };
+
+    fn from(_: NoMemory) -> ScriptFault {
+        ScriptFault::NoMemory
+    }
+}
+
 /// A line, with the digest text of its statement.
 #[derive(Drop)]
 pub struct Line<'a> {
@@ -38,7 +50,7 @@ pub struct Line<'a> {
     pub shown: Option<Text>,
 }
 
-/// The lines of a text, and what they fix.
+/// The lines of a text that say something, and what all of them fix.
 #[derive(Drop)]
 pub struct Reading<'a> {
     pub lines: Vec<Form<'a>>,
@@ -162,11 +174,23 @@ fn bad(count: usize, reason: Reason) -> ScriptFault
     }
 }
 
+// Keeps a line, unless it says nothing.
+fn keep<'a>(lines: &mut Vec<Form<'a>>, line: Form<'a>) -> Result<(), NoMemory>
+    ensures { OnOk result (lines.new.items ≡ lines.old.items ++ loud (line.entry ∷ [])) }
+{
+    match line {
+        Form::Silent => {}
+        line => lines.push(line)?,
+    }
+    Ok(())
+}
+
 /// All lines, in one pass.
 fn read_lines(alloc: Global, extent: Extent, bytes: &[u8]) -> Result<Reading, ScriptFault>
     ensures { Reads extent bytes.now result }
 {
     let mut lines = Vec::new(alloc);
+    let mut count = 0;
     let mut place = start();
     let mut heading = match Heading::begin(alloc) {
         Ok(heading) => heading,
@@ -175,32 +199,24 @@ fn read_lines(alloc: Global, extent: Extent, bytes: &[u8]) -> Result<Reading, Sc
     let mut finds = Finds::none(alloc);
     let mut rest = bytes;
     while let Some((line, after)) = split_line(rest) {
-        let count = lines.len();
-        let line = match read_line(alloc, &place, extent, &heading, &finds, count, line) {
+        let Line { form, shown } = match read_line(
+            alloc, &place, extent, &heading, &finds, count, line,
+        ) {
             Ok(line) => line,
             Err(fault) => return Err(fault),
         };
-        let Line { form, shown } = line;
-        match finds.note(alloc, heading.most_digests(), &form, shown) {
-            Ok(()) => {}
-            Err(_) => return Err(ScriptFault::NoMemory),
-        }
-        match heading.pass(alloc, &form) {
-            Ok(()) => {}
-            Err(_) => return Err(ScriptFault::NoMemory),
-        }
+        finds.note(alloc, heading.most_digests(), &form, shown)?;
+        heading.pass(alloc, &form)?;
         place.pass(&form);
-        match lines.push(form) {
-            Ok(()) => {}
-            Err(_) => return Err(ScriptFault::NoMemory),
-        }
+        keep(&mut lines, form)?;
+        count += 1;
         rest = after;
     }
     if !rest.is_empty() {
-        return Err(bad(lines.len(), open_reason(rest)));
+        return Err(bad(count, open_reason(rest)));
     }
     if place.course.is_in_repeat() {
-        return Err(bad(lines.len(), Reason::OutOfPlace));
+        return Err(bad(count, Reason::OutOfPlace));
     }
     Ok(Reading {
         lines,

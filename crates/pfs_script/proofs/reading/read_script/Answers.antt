@@ -15,7 +15,7 @@ fault_given extent text NoMemory h = tt
 
 pub into_setting-setting-requires-clause-few_digests : goal.into_setting-setting-requires-clause-few_digests
 into_setting-setting-requires-clause-few_digests c =
-    few_named c.in-Ok.reading.heading c.name_sessions.new.self c.in-Ok.reading.finds c.in-Ok.reading.lines.items _ c.in-Ok.ensures.1 c.in-Ok.ensures.2 c.in-Ok-name_sessions.ensures.names
+    few_named c.in-Ok.reading.heading c.name_sessions.new.self c.in-Ok.reading.finds c.in-Ok.ensures.0 _ c.in-Ok.ensures.3 c.in-Ok.ensures.4 c.in-Ok-name_sessions.ensures.names
 
 pub returns-in-Err : goal.returns-in-Err
 returns-in-Err c = fault_given c.args.extent c.args.bytes.now c.in-Err.fault c.in-Err.ensures
@@ -26,23 +26,23 @@ invariant_of-result c =
     record {
       given = ∣ (
         c.args.bytes.now,
-        is_whole c.args.extent c.args.bytes.now _ _ (script_made c.args.extent c.args.bytes.now c.in-Ok.reading.lines.items _ _ (found_text c.args.extent c.args.bytes.now c.in-Ok.reading.lines.items c.in-Ok.ensures.0)
-            (setting_as c.in-Ok.reading.heading c.name_sessions.new.self c.in-Ok.reading.finds c.in-Ok.reading.lines.items _ c.into_setting-setting.result c.in-Ok.ensures.1 c.in-Ok.ensures.2 c.in-Ok-name_sessions.ensures.names c.as_slice.ensures.value
+        is_whole c.args.extent c.args.bytes.now _ _ (script_made c.args.extent c.args.bytes.now c.in-Ok.ensures.0 _ _ (found_text c.args.extent c.args.bytes.now c.in-Ok.ensures.0 c.in-Ok.ensures.1)
+            (setting_as c.in-Ok.reading.heading c.name_sessions.new.self c.in-Ok.reading.finds c.in-Ok.ensures.0 _ c.into_setting-setting.result c.in-Ok.ensures.3 c.in-Ok.ensures.4 c.in-Ok-name_sessions.ensures.names (c.as_slice.ensures.value ∙ c.in-Ok.ensures.2)
             made.names made.classes made.tables made.digests made.limits made.consumers)
             (c.in-Ok-phases.ensures
-            ∙ phases_as c.in-Ok.reading.heading c.name_sessions.new.self c.in-Ok.reading.finds c.in-Ok.reading.lines.items _ c.in-Ok.ensures.1 c.in-Ok-name_sessions.ensures.same
-            (ap (λ (head : Head). head.names) c.in-Ok-name_sessions.ensures.names ∙ names_as c.in-Ok.reading.heading c.in-Ok.reading.lines.items _ c.in-Ok.ensures.1 c.as_slice.ensures.value)
-            c.in-Ok.ensures.2 c.as_slice-2.ensures.value)),
+            ∙ phases_as c.in-Ok.reading.heading c.name_sessions.new.self c.in-Ok.reading.finds c.in-Ok.ensures.0 _ c.in-Ok.ensures.3 c.in-Ok-name_sessions.ensures.same
+            (ap (λ (head : Head). head.names) c.in-Ok-name_sessions.ensures.names ∙ names_as c.in-Ok.reading.heading c.in-Ok.ensures.0 _ c.in-Ok.ensures.3 (c.as_slice.ensures.value ∙ c.in-Ok.ensures.2))
+            c.in-Ok.ensures.4 (c.as_slice-2.ensures.value ∙ c.in-Ok.ensures.2))),
       ) ∣₁;
     }
 
 pub returns : goal.returns
 returns c =
     let made = c.into_setting-setting.ensures in
-    script_made c.args.extent c.args.bytes.now c.in-Ok.reading.lines.items _ _ (found_text c.args.extent c.args.bytes.now c.in-Ok.reading.lines.items c.in-Ok.ensures.0)
-    (setting_as c.in-Ok.reading.heading c.name_sessions.new.self c.in-Ok.reading.finds c.in-Ok.reading.lines.items _ c.into_setting-setting.result c.in-Ok.ensures.1 c.in-Ok.ensures.2 c.in-Ok-name_sessions.ensures.names c.as_slice.ensures.value
+    script_made c.args.extent c.args.bytes.now c.in-Ok.ensures.0 _ _ (found_text c.args.extent c.args.bytes.now c.in-Ok.ensures.0 c.in-Ok.ensures.1)
+    (setting_as c.in-Ok.reading.heading c.name_sessions.new.self c.in-Ok.reading.finds c.in-Ok.ensures.0 _ c.into_setting-setting.result c.in-Ok.ensures.3 c.in-Ok.ensures.4 c.in-Ok-name_sessions.ensures.names (c.as_slice.ensures.value ∙ c.in-Ok.ensures.2)
     made.names made.classes made.tables made.digests made.limits made.consumers)
     (c.in-Ok-phases.ensures
-    ∙ phases_as c.in-Ok.reading.heading c.name_sessions.new.self c.in-Ok.reading.finds c.in-Ok.reading.lines.items _ c.in-Ok.ensures.1 c.in-Ok-name_sessions.ensures.same
-    (ap (λ (head : Head). head.names) c.in-Ok-name_sessions.ensures.names ∙ names_as c.in-Ok.reading.heading c.in-Ok.reading.lines.items _ c.in-Ok.ensures.1 c.as_slice.ensures.value)
-    c.in-Ok.ensures.2 c.as_slice-2.ensures.value)
+    ∙ phases_as c.in-Ok.reading.heading c.name_sessions.new.self c.in-Ok.reading.finds c.in-Ok.ensures.0 _ c.in-Ok.ensures.3 c.in-Ok-name_sessions.ensures.same
+    (ap (λ (head : Head). head.names) c.in-Ok-name_sessions.ensures.names ∙ names_as c.in-Ok.reading.heading c.in-Ok.ensures.0 _ c.in-Ok.ensures.3 (c.as_slice.ensures.value ∙ c.in-Ok.ensures.2))
+    c.in-Ok.ensures.4 (c.as_slice-2.ensures.value ∙ c.in-Ok.ensures.2))
