@@ -65,11 +65,10 @@ impl TableList {
     }
 }
 
-/// A digest text, with the 32 bytes of its SHA-256.
+/// A digest text. Its SHA-256 is taken where it is shown.
 #[derive(Debug, Drop)]
 pub struct DigestText {
     pub text: Text,
-    pub hash: [u8; 32],
 }
 
 /// The digest texts of a script by place, from 0.

@@ -24,7 +24,7 @@ use Rattle.pfs_script.specs.declared.blocks.Phase.{Phase}
 use Rattle.pfs_script.specs.declared.reasons.Extent.TheVariants.{Built}
 use Rattle.pfs_script.specs.Sessions.{is_phase, ends_block}
 use Rattle.pfs_script.specs.Headings.{named_limit, set_limit, limits_behind, limits_of, resolved, head_of}
-use Rattle.pfs_script.specs.Finds.{table_number, tables_of, hashed, digest_place, add_digest, with_digest, digests_of}
+use Rattle.pfs_script.specs.Finds.{table_number, tables_of, of_text, digest_place, add_digest, with_digest, digests_of}
 use Rattle.pfs_script.specs.SessionNames.{names_of, connect_of}
 use Rattle.pfs_script.specs.Blocks.{sense_of, with_front, statement_numbers, block_line, block_lines, block_behind, blocks_of, phases_of}
 use Rattle.pfs_script.specs.Built.{is_built_limit, is_built, IsBuiltLine}
@@ -79,13 +79,13 @@ empty_text (byte ∷ text) h = absurd (grind (arith, nat_tests, h))
 
 -- there is no digest text, or the one of the empty text
 abbrev IsFew : List DigestText → Type 0
-IsFew digests = (digests ≡ []) ⊎ (digests ≡ hashed [] ∷ [])
+IsFew digests = (digests ≡ []) ⊎ (digests ≡ of_text [] ∷ [])
 
-empty_added : (digests : List DigestText) → IsFew digests → add_digest 64 digests (Ok []) ≡ hashed [] ∷ []
+empty_added : (digests : List DigestText) → IsFew digests → add_digest 64 digests (Ok []) ≡ of_text [] ∷ []
 empty_added digests (inl e) = rw e refl
 empty_added digests (inr e) = rw e refl
 
-statement_added : (digests : List DigestText) (class text : List ℕ) → (length text == 0) ≡ true → IsFew digests → with_digest 64 digests (form.Statement class text) ≡ hashed [] ∷ []
+statement_added : (digests : List DigestText) (class text : List ℕ) → (length text == 0) ≡ true → IsFew digests → with_digest 64 digests (form.Statement class text) ≡ of_text [] ∷ []
 statement_added digests class text h few = rw (empty_text text h, empty_shown) (empty_added digests few)
 
 few_more : (digests : List DigestText) (line : Form) → is_built line ≡ true → IsFew digests → IsFew (with_digest 64 digests line)
@@ -97,11 +97,11 @@ few_along digests [] b few = few
 few_along digests (line ∷ lines) b few = few_along (with_digest 64 digests line) lines b.1 (few_more digests line b.0 few)
 
 -- and stays so
-stays_more : (line : Form) → is_built line ≡ true → with_digest 64 (hashed [] ∷ []) line ≡ hashed [] ∷ []
-stays_more (form.Statement class text) h = statement_added (hashed [] ∷ []) class text h (inr refl)
+stays_more : (line : Form) → is_built line ≡ true → with_digest 64 (of_text [] ∷ []) line ≡ of_text [] ∷ []
+stays_more (form.Statement class text) h = statement_added (of_text [] ∷ []) class text h (inr refl)
 stays_more line h = refl
 
-stays : (lines : List Form) → AreBuilt lines → fold (with_digest 64) (hashed [] ∷ []) lines ≡ hashed [] ∷ []
+stays : (lines : List Form) → AreBuilt lines → fold (with_digest 64) (of_text [] ∷ []) lines ≡ of_text [] ∷ []
 stays [] b = refl
 stays (line ∷ lines) b = ap (λ (digests : List DigestText). fold (with_digest 64) digests lines) (stays_more line b.0) ∙ stays lines b.1
 
@@ -113,7 +113,7 @@ built_last : (before lines : List Form) → AreBuilt (before ++ lines) → AreBu
 built_last [] lines b = b
 built_last (line ∷ before) lines b = built_last before lines b.1
 
-with_statement : (before lines : List Form) (class text : List ℕ) → AreBuilt (before ++ form.Statement class text ∷ lines) → fold (with_digest 64) [] (before ++ form.Statement class text ∷ lines) ≡ hashed [] ∷ []
+with_statement : (before lines : List Form) (class text : List ℕ) → AreBuilt (before ++ form.Statement class text ∷ lines) → fold (with_digest 64) [] (before ++ form.Statement class text ∷ lines) ≡ of_text [] ∷ []
 with_statement before lines class text b =
     let rest = built_last before (form.Statement class text ∷ lines) b in
     let few = few_along [] before (built_first before (form.Statement class text ∷ lines) b) (inl refl) in
@@ -121,7 +121,7 @@ with_statement before lines class text b =
     ∙ (ap (λ (digests : List DigestText). fold (with_digest 64) digests lines) (statement_added (fold (with_digest 64) [] before) class text rest.0 few)
     ∙ stays lines rest.1)
 
-empty_place : digest_place (hashed [] ∷ []) [] ≡ Some 0
+empty_place : digest_place (of_text [] ∷ []) [] ≡ Some 0
 empty_place = rw empty_shown refl
 
 abbrev AreBuiltLines : List BlockLine → Type 0
@@ -132,7 +132,7 @@ module _ (all : List Form) (built : AreBuilt all) where
   unfolding digests_of
   few_texts = rw (most_digests all built) (few_along [] all built (inl refl))
 
-  statement_texts : (before lines : List Form) (class text : List ℕ) → all ≡ before ++ form.Statement class text ∷ lines → digests_of (limits_of all).digests all ≡ hashed [] ∷ []
+  statement_texts : (before lines : List Form) (class text : List ℕ) → all ≡ before ++ form.Statement class text ∷ lines → digests_of (limits_of all).digests all ≡ of_text [] ∷ []
   unfolding digests_of
   statement_texts before lines class text e =
       rw (most_digests all built) (ap (λ (lines : List Form). fold (with_digest 64) [] lines) e ∙ with_statement before lines class text (subst AreBuilt e built))
@@ -227,6 +227,6 @@ unfolding IsScript
 script_built text setting phases s = rw s.3 (phases_built s.0 (are_built [] s.1.0 s.0 s.1.2) [] s.0 refl (are_built [] s.1.0 s.0 s.1.2))
 
 -- and its digest texts
-pub texts_built : (text : List ℕ) (setting : Setting) (phases : List Phase) → IsScript Built text setting phases → (setting.digests ≡ []) ⊎ (setting.digests ≡ hashed [] ∷ [])
+pub texts_built : (text : List ℕ) (setting : Setting) (phases : List Phase) → IsScript Built text setting phases → (setting.digests ≡ []) ⊎ (setting.digests ≡ of_text [] ∷ [])
 unfolding IsScript
 texts_built text setting phases s = rw s.2.digests (few_texts s.0 (are_built [] s.1.0 s.0 s.1.2))

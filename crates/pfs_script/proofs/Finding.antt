@@ -16,7 +16,7 @@ use Rattle.pfs_script.specs.declared.forms.Form.{Form}
 use Rattle.pfs_script.specs.declared.forms.Form.TheVariants as form
 use Rattle.pfs_rows.specs.declared.limits.Limits.{Limits}
 use Rattle.pfs_script.specs.Headings.{Head, head_of, resolved, limits_behind, limits_of, is_before_limits, StandsIn}
-use Rattle.pfs_script.specs.Finds.{has_text, hashed, add_digest, with_digest, with_table, tables_of, digests_of}
+use Rattle.pfs_script.specs.Finds.{has_text, of_text, add_digest, with_digest, with_table, tables_of, digests_of}
 use Rattle.pfs_script.specs.Blocks.{Sense, sense_of, phases_of}
 use Rattle.pfs_script.specs.SessionNames.{with_session, names_of, head_named}
 use Rattle.pfs_script.specs.Scripts.{IsSetting}
@@ -106,7 +106,7 @@ few_by most digests one false true e few = let low : length digests < most = gri
 few_by most digests one false false e few = few
 
 few_added : (most : ℕ) (digests : List DigestText) (shown : Result (List ℕ) LexFault) → length digests ≤ most → length (add_digest most digests shown) ≤ most
-few_added most digests (Ok shown) few = few_by most digests (hashed shown) (is_some (position (has_text shown) digests)) (nat_lt (length digests) most) refl few
+few_added most digests (Ok shown) few = few_by most digests (of_text shown) (is_some (position (has_text shown) digests)) (nat_lt (length digests) most) refl few
 few_added most digests (Err fault) few = few
 
 few_step : (most : ℕ) (digests : List DigestText) (line : Form) → length digests ≤ most → length (with_digest most digests line) ≤ most

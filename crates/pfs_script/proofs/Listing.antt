@@ -8,7 +8,6 @@ use Rattle.std.proofs.lemmas.Bool.Decides.{nat_tests}
 use Rattle.std.proofs.lemmas.List.{append-nil, append_assoc, map-append, length-map}
 use Rattle.std.proofs.lemmas.Option.{slice_get-map}
 use Rattle.std.proofs.lemmas.Slice.Eq.{bytes_eq-Decides}
-use Rattle.sha2.specs.Sha256.{sha256}
 use Rattle.pfs_lexer.specs.declared.tokens.LexFault.{LexFault}
 use Rattle.pfs_digest.specs.Digest.{digest_text_of}
 use Rattle.pfs_classes.specs.declared.classes.ClassRef.{ClassRef}
@@ -18,7 +17,7 @@ use Rattle.pfs_script.specs.declared.blocks.BlockLine.TheVariants as said
 use Rattle.pfs_script.specs.declared.forms.Form.{Form}
 use Rattle.pfs_script.specs.declared.forms.Form.TheVariants as form
 use Rattle.pfs_script.specs.Headings.{head_of, limits_of, resolved}
-use Rattle.pfs_script.specs.Finds.{is_table, table_number, with_table, tables_of, has_text, hashed, place_of, digest_place, add_digest, with_digest, digests_of}
+use Rattle.pfs_script.specs.Finds.{is_table, table_number, with_table, tables_of, has_text, of_text, place_of, digest_place, add_digest, with_digest, digests_of}
 use Rattle.pfs_script.specs.Blocks.{sense_of, block_line}
 use Rattle.pfs_script.specs.Appearances.{IsFirstAt, AreInOrder, table_named, shown_text, text_named, AreTables, texts_of, AreDigests}
 use Rattle.pfs_script.proofs.AppearanceLemmas.{contains_at, at_contains, position_hit, position_miss, Kept, kept_none, kept_same, kept_more}
@@ -114,7 +113,7 @@ same_text shown digest e = (bytes_eq-Decides digest.text shown).0 e
 
 text_hit : (digests : List DigestText) (shown : List ℕ) (place : ℕ) → position (has_text shown) digests ≡ Some place → slice_get (texts_of digests) place ≡ Some shown
 text_hit digests shown place e =
-    let found = position_hit (has_text shown) digests place (hashed shown) e in
+    let found = position_hit (has_text shown) digests place (of_text shown) e in
     slice_get-map (λ (digest : DigestText). digest.text) digests place
     ∙ (ap (option_map (λ (digest : DigestText). digest.text)) found.1 ∙ ap Some (same_text shown found.0 found.2))
 
@@ -146,12 +145,12 @@ unfilled : (most : ℕ) (digests : List DigestText) → nat_lt (length digests) 
 unfilled most digests e full = let n = length-map digests (λ (digest : DigestText). digest.text) in grind (arith, nat_tests, e)
 
 digest_by : (most : ℕ) (named : List (Option (List ℕ))) (digests : List DigestText) (shown : List ℕ) (found : Option ℕ) (room : Bool) → position (has_text shown) digests ≡ found → nat_lt (length digests) most ≡ room
-    → Kept (Filled most) named (texts_of digests) → Kept (Filled most) (named ++ Some shown ∷ []) (texts_of (cond (is_some found) digests (cond room (digests ++ hashed shown ∷ []) digests)))
+    → Kept (Filled most) named (texts_of digests) → Kept (Filled most) (named ++ Some shown ∷ []) (texts_of (cond (is_some found) digests (cond room (digests ++ of_text shown ∷ []) digests)))
 digest_by most named digests shown (Some place) room e f k =
     kept_same (Filled most) named (texts_of digests) (Some shown) k
     (λ value is. let same : shown ≡ value = cc in inl (contains_at (texts_of digests) place value (text_hit digests shown place e ∙ ap Some same)))
 digest_by most named digests shown None true e f k =
-    subst (λ texts. Kept (Filled most) (named ++ Some shown ∷ []) texts) (sym (map-append (λ (digest : DigestText). digest.text) digests (hashed shown ∷ [])))
+    subst (λ texts. Kept (Filled most) (named ++ Some shown ∷ []) texts) (sym (map-append (λ (digest : DigestText). digest.text) digests (of_text shown ∷ [])))
     (kept_more (Filled most) named (texts_of digests) shown k (text_absent digests shown e) (unfilled most digests f))
 digest_by most named digests shown None false e f k = kept_same (Filled most) named (texts_of digests) (Some shown) k (λ value is. inr (filled most digests f))
 
@@ -174,37 +173,6 @@ digests_kept most named digests (line ∷ lines) k =
 digests_all : (most : ℕ) (lines : List Form) → Kept (Filled most) (map text_named lines) (texts_of (digests_of most lines))
 unfolding digests_of
 digests_all most lines = digests_kept most [] [] lines (kept_none (Filled most))
-
--- each has its SHA-256
-abbrev AreHashed : List DigestText → Type 0
-AreHashed digests = (place : ℕ) (digest : DigestText) → slice_get digests place ≡ Some digest → digest.hash ≡ sha256 digest.text
-
-hashed_more : (digests : List DigestText) (shown : List ℕ) → AreHashed digests → AreHashed (digests ++ hashed shown ∷ [])
-hashed_more [] shown all zero digest at = let same : hashed shown ≡ digest = cc in subst (λ (one : DigestText). one.hash ≡ sha256 one.text) same refl
-hashed_more [] shown all (suc place) digest at = cc
-hashed_more (first ∷ digests) shown all zero digest at = all 0 digest at
-hashed_more (first ∷ digests) shown all (suc place) digest at = hashed_more digests shown (λ k one e. all (suc k) one e) place digest at
-
-hashed_by : (digests : List DigestText) (shown : List ℕ) (found room : Bool) → AreHashed digests → AreHashed (cond found digests (cond room (digests ++ hashed shown ∷ []) digests))
-hashed_by digests shown true room all = all
-hashed_by digests shown false true all = hashed_more digests shown all
-hashed_by digests shown false false all = all
-
-hashed_added : (most : ℕ) (digests : List DigestText) (shown : Result (List ℕ) LexFault) → AreHashed digests → AreHashed (add_digest most digests shown)
-hashed_added most digests (Ok shown) all = hashed_by digests shown (is_some (position (has_text shown) digests)) (nat_lt (length digests) most) all
-hashed_added most digests (Err fault) all = all
-
-hashed_step : (most : ℕ) (digests : List DigestText) (line : Form) → AreHashed digests → AreHashed (with_digest most digests line)
-hashed_step most digests (form.Statement class text) all = hashed_added most digests (digest_text_of text) all
-hashed_step most digests _ all = all
-
-hashed_fold : (most : ℕ) (digests : List DigestText) (lines : List Form) → AreHashed digests → AreHashed (fold (with_digest most) digests lines)
-hashed_fold most digests [] all = all
-hashed_fold most digests (line ∷ lines) all = hashed_fold most (with_digest most digests line) lines (hashed_step most digests line all)
-
-hashed_all : (most : ℕ) (lines : List Form) → AreHashed (digests_of most lines)
-unfolding digests_of
-hashed_all most lines = hashed_fold most [] lines (λ place digest at. cc)
 
 found_place : (digests : List DigestText) (shown : List ℕ) (found : Option ℕ) → position (has_text shown) digests ≡ found
     → MatchOption found (¬ Contains (texts_of digests) shown) (λ place. slice_get (texts_of digests) place ≡ Some shown)
@@ -238,7 +206,6 @@ are_digests lines =
       listed = kept.listed;
       few = few_digests most lines;
       first = first_digests most lines;
-      hashed = hashed_all most lines;
       given = λ class text shown ref e r. (
         digest_place (digests_of most lines) text,
         statement_line lines class text ref r,

@@ -9,7 +9,7 @@ use Rattle.std.proofs.lemmas.Bool.{false≢true}
 use Rattle.pfs_classes.specs.declared.setting.TableName.{TableName}
 use Rattle.pfs_script.specs.declared.forms.Form.{Form}
 use Rattle.pfs_script.specs.declared.forms.Form.TheVariants as form
-use Rattle.pfs_script.specs.Finds.{tables_of, hashed, add_digest}
+use Rattle.pfs_script.specs.Finds.{tables_of, of_text, add_digest}
 use Rattle.pfs_script.specs.Appearances.{IsFirstAt, AreInOrder, table_named}
 
 abbrev table : List ℕ → TableName
@@ -44,7 +44,7 @@ not_by_name : ¬ AreInOrder (map table_named three_waits) (table (codes "a") ∷
 not_by_name in_order = let wrong = (in_order.order (table (codes "a")) (table (codes "b")) 0 1 2 0 refl refl first_a first_b).0 in let lt : 2 < 0 = wrong (omega arith) in omega arith
 
 -- with room for one, the second text has no place
-one_room : add_digest 1 (add_digest 1 (add_digest 1 [] (Ok (codes "SELECT ?"))) (Ok (codes "COMMIT"))) (Ok (codes "SELECT ?")) ≡ hashed (codes "SELECT ?") ∷ []
+one_room : add_digest 1 (add_digest 1 (add_digest 1 [] (Ok (codes "SELECT ?"))) (Ok (codes "COMMIT"))) (Ok (codes "SELECT ?")) ≡ of_text (codes "SELECT ?") ∷ []
 one_room = refl
 
 -- a name is interned once, whoever bears it, and behind those that are there

@@ -2,7 +2,6 @@
 use Rattle.std.specs.Prelude.{ℕ, [], ◌∷◌, ◌++◌, ◌≡◌, ◌≤◌, ◌<◌, ◌↔◌, ◌⊎◌, List, Option, Some, None, Result, Ok, Err, length, map, slice_get, Contains}
 use Rattle.std.specs.List.{flat_map}
 use Rattle.std.specs.Option.{MatchOption}
-use Rattle.sha2.specs.Sha256.{sha256}
 use Rattle.pfs_lexer.specs.declared.tokens.LexFault.{LexFault}
 use Rattle.pfs_digest.specs.Digest.{digest_text_of}
 use Rattle.pfs_classes.specs.declared.classes.ClassRef.{ClassRef}
@@ -60,7 +59,7 @@ abbrev pub texts_of : List DigestText → List (List ℕ)
 texts_of digests = map (λ (digest : DigestText). digest.text) digests
 
 -- the digest texts are those that the lines' statements have, the first so many that the limit allows, in the order of
--- their first appearance, each with its SHA-256; a statement is given the place of its text, and none where its text isn't among them
+-- their first appearance; a statement is given the place of its text, and none where its text isn't among them
 pub record AreDigests (lines : List Form) (digests : List DigestText) : Type 0 where
   pub listed : AreInOrder (map text_named lines) (texts_of digests)
   pub few : length digests ≤ (limits_of lines).digests
@@ -69,8 +68,6 @@ pub record AreDigests (lines : List Form) (digests : List DigestText) : Type 0 w
       → Contains (texts_of digests) text
       ⊎ ((length digests ≡ (limits_of lines).digests) × ((other : List ℕ) (at : ℕ) → Contains (texts_of digests) other
       → IsFirstAt (map text_named lines) other at → at < place))
-  pub hashed : (place : ℕ) (digest : DigestText) → slice_get digests place ≡ Some digest
-      → digest.hash ≡ sha256 digest.text
   pub given : (class text shown : List ℕ) (ref : ClassRef) → digest_text_of text ≡ Ok shown
       → resolved (head_of lines) class ≡ Some ref → (digest : Option ℕ)
       × (block_line (sense_of lines) (form.Statement class text) ≡ Some (said.Statement ref digest))

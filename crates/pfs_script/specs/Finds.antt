@@ -3,7 +3,6 @@ use Rattle.std.specs.Prelude.{ℕ, ◌&&◌, Bool, true, false, nat_lt, if◌the
 use Rattle.std.specs.List.{list_any, fold}
 use Rattle.std.specs.Result.{result_ok}
 use Rattle.std.specs.Str.{bytes_eq}
-use Rattle.sha2.specs.Sha256.{sha256}
 use Rattle.pfs_lexer.specs.declared.tokens.LexFault.{LexFault}
 use Rattle.pfs_lexer.specs.declared.tokens.Token.{Token}
 use Rattle.pfs_lexer.specs.Items.{items_of}
@@ -54,14 +53,15 @@ place_of digests (Err fault) = None
 abbrev pub digest_place : List DigestText → List ℕ → Option ℕ
 digest_place digests text = place_of digests (digest_text_of text)
 
-abbrev pub hashed : List ℕ → DigestText
-hashed shown = record { text = shown; hash = sha256 shown }
+-- what is kept of a digest text
+abbrev pub of_text : List ℕ → DigestText
+of_text shown = record { text = shown }
 
 -- with a digest text at the next place, where it is new and there are fewer than so many
 abbrev pub add_digest : ℕ → List DigestText → Result (List ℕ) LexFault → List DigestText
 add_digest most digests (Ok shown) =
     if is_some (position (has_text shown) digests) then digests
-    else (if nat_lt (length digests) most then digests ++ hashed shown ∷ [] else digests)
+    else (if nat_lt (length digests) most then digests ++ of_text shown ∷ [] else digests)
 add_digest most digests (Err fault) = digests
 
 -- the digest texts with that of one more line

@@ -2,7 +2,6 @@
 
 ghost use Rattle.std.specs.Prelude.{◌≡◌, ◌++◌, ◌∷◌, [], false, nat_lt, length, is_some, position, OnOk, IfOk, Ok, Result, List, ℕ};
 ghost use Rattle.std.specs.Result.{result_ok};
-ghost use Rattle.sha2.specs.Sha256.{sha256};
 ghost use Rattle.pfs_script.specs.Finds.{shown_of, is_table, table_number, with_table, has_text, place_of, digest_place, add_digest, with_digest};
 ghost use Rattle.pfs_lexer.specs.declared.tokens.LexFault.{LexFault};
 ghost use Rattle.pfs_script.specs.declared.forms.Form.{Form};
@@ -10,7 +9,7 @@ ghost use Rattle.pfs_script.specs.declared.forms.Form.TheVariants as form;
 
 use crate::forms::Form;
 use pfs_classes::{DigestList, DigestText, NoMemory, TableList, TableName};
-use pfs_digest::{DigestFault, digest, digest_text};
+use pfs_digest::{DigestFault, digest_text};
 use pfs_text::Text;
 use std::alloc::{AllocError, Global};
 
@@ -161,7 +160,6 @@ impl Finds {
         if text_place(digests, shown.as_bytes()).is_some() || digests.len() as u64 >= most {
             return Ok(());
         }
-        let hash = digest(shown.as_bytes());
-        self.digests.push(DigestText { text: shown, hash })
+        self.digests.push(DigestText { text: shown })
     }
 }

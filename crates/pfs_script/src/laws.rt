@@ -9,7 +9,7 @@ ghost use Rattle.pfs_script.specs.Headings.{is_known, resolved, head_of, limits_
 ghost use Rattle.pfs_script.specs.Marks.{Mark, mark_of, copies};
 ghost use Rattle.pfs_script.specs.Brackets.{open_in, closed_at, kinds_of, ended_by, opened_by, Follows};
 ghost use Rattle.pfs_script.specs.Scripts.{IsExact, IsScript};
-ghost use Rattle.pfs_script.specs.Finds.{tables_of, digests_of, hashed};
+ghost use Rattle.pfs_script.specs.Finds.{tables_of, digests_of, of_text};
 ghost use Rattle.pfs_classes.specs.declared.setting.Setting.{Setting};
 ghost use Rattle.pfs_script.specs.declared.blocks.Block.{Block};
 ghost use Rattle.pfs_script.specs.declared.blocks.Phase.{Phase};
@@ -74,8 +74,8 @@ pub fn tables()
 {}
 
 /// The digest texts of lines are those that their statements have, none twice, in the order of their
-/// first appearance, as many as the limit allows, each with its SHA-256. A statement is given the place
-/// of its text, and none exactly where its text isn't among them.
+/// first appearance, as many as the limit allows. A statement is given the place of its text, and none
+/// exactly where its text isn't among them.
 pub fn digests()
     ensures { (lines : List Form) → AreDigests lines (digests_of (limits_of lines).digests lines) }
 {}
@@ -100,5 +100,5 @@ pub fn built()
     ensures lines { (text : List ℕ) (setting : Setting) (phases : List Phase) → IsScript Built text setting phases
         → All (λ (phase : Phase). All (λ (block : Block). All IsBuiltLine block.lines) phase.blocks) phases }
     ensures digests { (text : List ℕ) (setting : Setting) (phases : List Phase) → IsScript Built text setting phases
-        → (setting.digests ≡ []) ⊎ (setting.digests ≡ hashed [] ∷ []) }
+        → (setting.digests ≡ []) ⊎ (setting.digests ≡ of_text [] ∷ []) }
 {}

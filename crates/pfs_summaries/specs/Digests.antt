@@ -2,6 +2,7 @@
 use Rattle.std.specs.Prelude.{ℕ, ◌+◌, ◌==◌, if◌then◌else◌, List, [], ◌∷◌, ◌++◌, slice_get, Option, Some, None}
 use Rattle.std.specs.List.{flat_map, range_with_len}
 use Rattle.hex.specs.Hex.{encode_lower}
+use Rattle.sha2.specs.Sha256.{sha256}
 use Rattle.pfs_rows.specs.declared.table.Reading.{Reading}
 use Rattle.pfs_classes.specs.declared.setting.Setting.{Setting}
 use Rattle.pfs_classes.specs.declared.setting.DigestText.{DigestText}
@@ -12,9 +13,9 @@ use Rattle.pfs_summaries.specs.declared.numbers.Numbers.TheVariants as numbers
 use Rattle.pfs_summaries.specs.Contents.{contents_of, info_at}
 use Rattle.pfs_summaries.specs.RowValues.{values_of}
 
--- a row's schema, which is NULL, its digest in hexadecimal digits, and its text
+-- a row's schema, which is NULL, the SHA-256 of its digest text in hexadecimal digits, and the text
 abbrev pub digest_heading : DigestText → List RowValue
-digest_heading digest = value.Null ∷ value.Text (encode_lower digest.hash) ∷ value.Text digest.text ∷ []
+digest_heading digest = value.Null ∷ value.Text (encode_lower (sha256 digest.text)) ∷ value.Text digest.text ∷ []
 
 -- the row of the texts without a place has no digest and no text
 abbrev pub null_heading : List RowValue

@@ -2,6 +2,7 @@
 
 ghost use Rattle.std.specs.Prelude.{◌≡◌, ◌<◌, ◌+◌, ◌++◌, ◌∷◌, [], IfOk, OnOk, Some, slice_get, string_bytes};
 ghost use Rattle.hex.specs.Hex.{encode_lower};
+ghost use Rattle.sha2.specs.Sha256.{sha256};
 ghost use Rattle.pfs_summaries.specs.declared.numbers.Numbers.TheVariants as numbers;
 ghost use Rattle.pfs_stat.specs.Stat.{stat_of_words};
 ghost use Rattle.pfs_summaries.specs.RowValues.{values_of};
@@ -14,6 +15,7 @@ use crate::contents::{contents_of, info_at};
 use crate::heads::put_value;
 use crate::numbers::Numbers;
 use pfs_classes::{DigestText, Setting};
+use pfs_digest::digest;
 use pfs_infos::Content;
 use pfs_rows::Reading;
 use pfs_stat::Stat;
@@ -37,11 +39,12 @@ fn null_heading(alloc: Global) -> Result<Vec<RowValue>, NoMemory>
     Ok(values)
 }
 
-// A hash in hexadecimal digits.
-fn hash_text(alloc: Global, hash: &[u8]) -> Result<Text, NoMemory>
-    ensures { IfOk result (λ text. text ≡ encode_lower hash.now) }
+// The SHA-256 of a digest text, in hexadecimal digits.
+fn hash_text(alloc: Global, digest_text: &[u8]) -> Result<Text, NoMemory>
+    ensures { IfOk result (λ text. text ≡ encode_lower (sha256 digest_text.now)) }
 {
-    let digits = hex::encode(alloc, hash)?;
+    let hash = digest(digest_text);
+    let digits = hex::encode(alloc, hash.as_slice())?;
     Text::from_slice(alloc, digits.as_bytes())
 }
 
@@ -49,7 +52,7 @@ fn hash_text(alloc: Global, hash: &[u8]) -> Result<Text, NoMemory>
 fn digest_heading(alloc: Global, digest: &DigestText) -> Result<Vec<RowValue>, NoMemory>
     ensures { IfOk result (λ values. values.items ≡ digest_heading digest.now) }
 {
-    let hash = hash_text(alloc, &digest.hash)?;
+    let hash = hash_text(alloc, digest.text.as_bytes())?;
     let text = digest.text.clone()?;
     let mut values = Vec::new(alloc);
     put_value(&mut values, RowValue::Null)?;

@@ -88,10 +88,7 @@ fn lists_tables_and_digests(rt: HostRuntime) -> Result<(), Fail> {
     assert_eq!(rt; tables.as_slice().len(), 1);
     let text = Text::from_slice(alloc, b"SELECT ?")?;
     let mut digests = DigestList::new(Vec::new(alloc));
-    digests.push(DigestText {
-        text,
-        hash: [0; 32],
-    })?;
+    digests.push(DigestText { text })?;
     assert_eq!(rt; digests.as_slice().len(), 1);
     Ok(())
 }

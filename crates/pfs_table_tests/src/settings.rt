@@ -23,8 +23,7 @@ pub(crate) fn setting(alloc: Global, texts: &[&str], tables: TableList) -> Resul
     let limits = Limits::opening();
     let classes = Classes::builtin(alloc, &mut names, &limits)?;
     let text = Text::from_slice(alloc, b"SELECT ?")?;
-    let hash = [171; 32];
     let mut digests = DigestList::new(Vec::new(alloc));
-    digests.push(DigestText { text, hash })?;
+    digests.push(DigestText { text })?;
     Ok(Setting::new(names, classes, tables, digests, limits, 28_888))
 }

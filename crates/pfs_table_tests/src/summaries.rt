@@ -271,7 +271,7 @@ fn digests(rt: HostRuntime) -> Result<(), Fail> {
     }
     assert_eq!(rt;
         shown.as_slice(),
-        b"NULL NULL NULL 2 0 0 0 0 0 0 0 0 0 0 \nNULL abababababababababababababababababababababababababababababababab SELECT ? 2 0 0 0 0 0 0 0 0 0 0 \n".as_slice()
+        b"NULL NULL NULL 2 0 0 0 0 0 0 0 0 0 0 \nNULL 66cbb3a40d4bbd150b75825ad291a6545399f3098fc1079e4d8b5bb061a6a481 SELECT ? 2 0 0 0 0 0 0 0 0 0 0 \n".as_slice()
     );
     Ok(())
 }

@@ -162,7 +162,7 @@ const TWO_STAGES: &[u8] =
     b"1 2 3 stage/sql/init 5 65 60 1 STATEMENT \n1 4 4 stage/sql/executing 65 105 40 1 STATEMENT \n";
 
 const ONE_STATEMENT: &[u8] =
-    b"1 1 4 statement/sql/select 0 105 105 NULL NULL 0 0 0 0 0 0 abababababababababababababababababababababababababababababababab \n";
+    b"1 1 4 statement/sql/select 0 105 105 NULL NULL 0 0 0 0 0 0 66cbb3a40d4bbd150b75825ad291a6545399f3098fc1079e4d8b5bb061a6a481 \n";
 
 fn history(kind: TableKind) -> Table {
     Table::Events(kind, EventTable::History)

@@ -2,6 +2,7 @@
 use Rattle.std.specs.Prelude.{ℕ, ◌+◌, ◌-◌, ◌/◌, ◌%◌, ◌^◌, Bool, ◌&&◌, ◌==◌, not, nat_le, if◌then◌else◌, List, [], ◌∷◌, ◌++◌, Option, Some, None, option_and_then, slice_get, slice_index, codes}
 use Rattle.std.specs.Option.{option_map}
 use Rattle.hex.specs.Hex.{encode_lower}
+use Rattle.sha2.specs.Sha256.{sha256}
 use Rattle.pfs_event.specs.declared.event.Event.{Event}
 use Rattle.pfs_rows.specs.declared.table.TableKind.{TableKind}
 use Rattle.pfs_rows.specs.declared.table.TableKind.TheVariants.{Waits, Stages, Statements, Transactions}
@@ -133,9 +134,9 @@ unfoldable pub object_of : Setting → ℕ → Option (List RowValue)
 object_of setting link = if link == 0 then Some (Null ∷ Null ∷ [])
     else option_map table_values (slice_get setting.tables (link - 1))
 
--- the digest of a statement in lower-case hexadecimal digits, or nothing where it has none
+-- the SHA-256 of a statement's digest text in lower-case hexadecimal digits, or nothing where it has none
 abbrev pub digest_values : DigestText → List RowValue
-digest_values digest = Text (encode_lower digest.hash) ∷ []
+digest_values digest = Text (encode_lower (sha256 digest.text)) ∷ []
 
 unfoldable pub digest_of : Setting → ℕ → Option (List RowValue)
 digest_of setting link = if link == 0 then Some (Null ∷ [])

@@ -12,6 +12,7 @@ ghost use Rattle.pfs_tables.specs.Plain.{event_row as spec_event_row, event_key 
 use crate::NoMemory;
 use crate::orders::{Keyed, RowKey, number_key};
 use pfs_classes::{Class, ClassId, Classes, Setting, TRANSACTION};
+use pfs_digest::digest;
 use pfs_event::Event;
 use pfs_names::{NameId, Names};
 use pfs_rows::{EventTable, TableKind};
@@ -139,7 +140,7 @@ fn object_of(alloc: Global, setting: &Setting, link: u64) -> Result<Option<Row>,
     }
 }
 
-// The digest of a statement, or nothing where it has none. None where the setting has no such place.
+// The SHA-256 of a statement's digest text, or nothing where it has none. None where the setting has no such place.
 #[tactic(auto, unfolding(crate::specs::Events::digest_of))]
 fn digest_of(alloc: Global, setting: &Setting, link: u64) -> Result<Option<Row>, NoMemory>
     ensures { IfOk result (λ row. row ≡ spec.digest_of setting.now link) }
@@ -149,8 +150,9 @@ fn digest_of(alloc: Global, setting: &Setting, link: u64) -> Result<Option<Row>,
         return Ok(Some(Row::new(none)));
     }
     match setting.digests.as_slice().get(link as usize - 1) {
-        Some(digest) => {
-            let digits = hex::encode(alloc, digest.hash.as_slice())?;
+        Some(shown) => {
+            let hash = digest(shown.text.as_bytes());
+            let digits = hex::encode(alloc, hash.as_slice())?;
             let value = text_value(alloc, digits.as_bytes())?;
             let values = vec![in alloc; value]?;
             Ok(Some(Row::new(values)))
