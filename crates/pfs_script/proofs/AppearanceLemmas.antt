@@ -38,7 +38,7 @@ push_new (first ∷ xs) y = push_new xs y
 pub position_hit : {X : Type 0} (p : X → Bool) (xs : List X) (i : ℕ) (d : X) → position p xs ≡ Some i → (x : X) × (slice_get xs i ≡ Some x) × (p x ≡ true)
 position_hit p xs i d e = let found = position-Some p xs i d e in (get_or xs i d, slice_get-get_or xs i d found.0, found.1)
 
-miss_by : {X : Type 0} (p : X → Bool) (xs : List X) (here : Bool) → nat_lt (position_or_len p xs) (length xs) ≡ here → cond here (Some (position_or_len p xs)) None ≡ None → length xs ≤ position_or_len p xs
+pub miss_by : {X : Type 0} (p : X → Bool) (xs : List X) (here : Bool) → nat_lt (position_or_len p xs) (length xs) ≡ here → cond here (Some (position_or_len p xs)) None ≡ None → length xs ≤ position_or_len p xs
 miss_by p xs true e none = cc
 miss_by p xs false e none = grind (arith, nat_tests, e)
 

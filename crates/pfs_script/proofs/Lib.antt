@@ -32,6 +32,7 @@ pub mod RegisterLemmas
 pub mod SessionNaming
 pub mod SessionNesting
 pub mod SetLemmas
+pub mod Placing
 pub mod Shown
 pub mod Silence
 pub mod Splits

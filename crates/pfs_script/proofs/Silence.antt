@@ -6,6 +6,7 @@ use Rattle.pfs_script.specs.declared.blocks.Block.{Block}
 use Rattle.pfs_script.specs.declared.blocks.BlockLine.{BlockLine}
 use Rattle.pfs_script.specs.declared.blocks.Phase.{Phase}
 use Rattle.pfs_script.specs.declared.finds.Finds.{Finds}
+use Rattle.pfs_script.specs.declared.finds.PlacedLine.{PlacedLine}
 use Rattle.pfs_script.specs.declared.forms.Form.{Form}
 use Rattle.pfs_script.specs.declared.forms.Form.TheVariants as form
 use Rattle.pfs_script.specs.declared.places.Place.{Place}
@@ -56,5 +57,5 @@ pub push_count : (before : List Form) (line : Form) → length (before ++ line �
 push_count [] line = refl
 push_count (first ∷ before) line = omega (arith, push_count before line)
 
-pub few_count : (place : Place) (heading : Head) (finds : Finds) (count : ℕ) (kept before : List Form) → IsBehind place heading finds count kept before → count ≤ 200000
+pub few_count : (place : Place) (heading : Head) (finds : Finds) (count : ℕ) (kept : List PlacedLine) (before : List Form) → IsBehind place heading finds count kept before → count ≤ 200000
 few_count place heading finds count kept before b = omega (arith, b.count, length_counted before, b.place.totals.lines.total, b.place.totals.few_lines)

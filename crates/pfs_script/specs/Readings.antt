@@ -1,16 +1,18 @@
 -- What the reader answers of a line, and of a text.
-use Rattle.std.specs.Prelude.{ℕ, ◌≡◌, ◌+◌, Bool, true, false, List, length, Result, Ok, Err}
+use Rattle.std.specs.Prelude.{ℕ, ◌≡◌, ◌+◌, Bool, true, false, List, length, map, Result, Ok, Err}
 use Rattle.std.specs.List.{filter}
 use Rattle.pfs_script.specs.declared.reading.ScriptFault.{ScriptFault}
 use Rattle.pfs_script.specs.declared.reading.ScriptFault.TheVariants.{Bad, NoMemory}
 use Rattle.pfs_script.specs.declared.reading.Line.{Line}
 use Rattle.pfs_script.specs.declared.reading.Reading.{Reading}
 use Rattle.pfs_script.specs.declared.finds.Finds.{Finds}
+use Rattle.pfs_script.specs.declared.finds.PlacedLine.{PlacedLine}
 use Rattle.pfs_script.specs.declared.forms.Form.{Form}
 use Rattle.pfs_script.specs.declared.forms.Form.TheVariants as form
 use Rattle.pfs_script.specs.declared.places.Place.{Place}
 use Rattle.pfs_script.specs.declared.reasons.Extent.{Extent}
 use Rattle.pfs_script.specs.declared.scripts.Script.{Script}
+use Rattle.pfs_script.specs.Finds.{placed}
 use Rattle.pfs_script.specs.Headings.{Head, head_of}
 use Rattle.pfs_script.specs.Next.{next}
 use Rattle.pfs_script.specs.Places.{Knows, KnowsFinds}
@@ -25,11 +27,13 @@ is_loud _ = true
 abbrev pub loud : List Form → List Form
 loud lines = filter is_loud lines
 
--- the reader keeps this behind these lines: so many lines, those that say something, and what all of them amount to
-pub record IsBehind (at : Place) (heading : Head) (found : Finds) (number : ℕ) (lines before : List Form) : Type 0
+-- the reader keeps this behind these lines: how many they are, those that say something, each beside the place of its
+-- digest text, and what all of them amount to
+pub record IsBehind (at : Place) (heading : Head) (found : Finds) (number : ℕ) (lines : List PlacedLine)
+    (before : List Form) : Type 0
   where
     pub count : number ≡ length before
-    pub kept : lines ≡ loud before
+    pub kept : lines ≡ map (placed found.digests) (loud before)
     pub place : Knows at before
     pub head : heading ≡ head_of before
     pub finds : KnowsFinds found before
@@ -44,7 +48,8 @@ SaysNext extent before count bytes (Err NoMemory) = Unit {0}
 -- the answer is what the text's lines say and fix, or their first fault
 abbrev pub Reads : Extent → List ℕ → Result Reading ScriptFault → Type 0
 Reads extent text (Ok reading) =
-    (lines : List Form) × (script_of extent text ≡ Ok lines) × (reading.lines.items ≡ loud lines)
+    (lines : List Form) × (script_of extent text ≡ Ok lines)
+    × (reading.lines.items ≡ map (placed reading.finds.digests) (loud lines))
     × (reading.heading ≡ head_of lines) × KnowsFinds reading.finds lines
 Reads extent text (Err (Bad number reason)) = script_of extent text ≡ Err (record { number = number; reason = reason })
 Reads extent text (Err NoMemory) = Unit {0}

@@ -1,8 +1,9 @@
 //! The phases and blocks that a script's lines make.
 
-ghost use Rattle.std.specs.Prelude.{◌≡◌, IfOk, OnOk, List, ◌++◌, ◌∷◌, [], option_map, option_and_then};
+ghost use Rattle.std.specs.Prelude.{◌≡◌, IfOk, OnOk, List, ◌++◌, ◌∷◌, [], map, option_map, option_and_then};
 ghost use Rattle.pfs_script.specs.declared.blocks.BlockLine.TheVariants as said;
 ghost use Rattle.pfs_script.specs.declared.finds.Finds.{Finds};
+ghost use Rattle.pfs_script.specs.Finds.{place_in, placed};
 ghost use Rattle.pfs_script.specs.Sensing.{sense, IsPlain};
 ghost use Rattle.pfs_script.specs.declared.forms.Form.{Form};
 ghost use Rattle.pfs_script.specs.Sessions.{is_phase, ends_block};
@@ -15,21 +16,22 @@ ghost use Rattle.pfs_script.specs.declared.blocks.Phase.{Phase};
 use crate::blocks::{
     Block, BlockLine, BlockLineList, BlockList, Connect, Phase, PhaseList, StatementNumbers,
 };
-use crate::finds::{Finds, digest_place, table_number};
+use crate::finds::{Finds, PlacedLine, table_number};
 use crate::forms::{Form, Numbers};
 use crate::heading::Heading;
 use pfs_classes::{ClassRef, NoMemory};
 use pfs_text::Text;
 use std::alloc::Global;
 
-/// The phases of the lines, in order.
+/// The phases of the lines, in order, where each stands beside the place of its digest text.
 pub fn phases(
     alloc: Global,
     heading: &Heading,
     finds: &Finds,
-    lines: &[Form],
+    lines: &[PlacedLine],
 ) -> Result<PhaseList, NoMemory>
-    ensures { IfOk result (λ phases. phases ≡ phases_of (sense heading.now finds.now) lines.now) }
+    ensures { IfOk result (λ phases. (forms : List Form) → lines.now ≡ map (placed finds.now.digests) forms
+        → phases ≡ phases_of (sense heading.now finds.now) forms) }
 {
     let mut phases = Vec::new(alloc);
     for at in 0..lines.len() {
@@ -38,7 +40,7 @@ pub fn phases(
             heading,
             finds,
             &mut phases,
-            &lines[at],
+            &lines[at].form,
             &lines[at + 1..],
         )?;
     }
@@ -52,11 +54,11 @@ fn add_phase(
     finds: &Finds,
     phases: &mut Vec<Phase>,
     line: &Form,
-    behind: &[Form],
+    behind: &[PlacedLine],
 ) -> Result<(), NoMemory>
-    ensures { OnOk result ((more : List Phase)
-        → phases.new.items ++ more ≡ phases.old.items
-        ++ with_phase (is_phase line.now) (blocks_of (sense heading.now finds.now) behind.now) more) }
+    ensures { OnOk result ((more : List Phase) (forms : List Form)
+        → behind.now ≡ map (placed finds.now.digests) forms → phases.new.items ++ more ≡ phases.old.items
+        ++ with_phase (is_phase line.now) (blocks_of (sense heading.now finds.now) forms) more) }
 {
     if is_phase(line) {
         let blocks = blocks(alloc, heading, finds, behind)?;
@@ -70,13 +72,14 @@ fn blocks(
     alloc: Global,
     heading: &Heading,
     finds: &Finds,
-    lines: &[Form],
+    lines: &[PlacedLine],
 ) -> Result<BlockList, NoMemory>
-    ensures { IfOk result (λ blocks. blocks ≡ blocks_of (sense heading.now finds.now) lines.now) }
+    ensures { IfOk result (λ blocks. (forms : List Form) → lines.now ≡ map (placed finds.now.digests) forms
+        → blocks ≡ blocks_of (sense heading.now finds.now) forms) }
 {
     let mut blocks = Vec::new(alloc);
     for at in 0..lines.len() {
-        let line = &lines[at];
+        let line = &lines[at].form;
         if is_phase(line) {
             break;
         }
@@ -92,11 +95,11 @@ fn add_block(
     finds: &Finds,
     blocks: &mut Vec<Block>,
     line: &Form,
-    behind: &[Form],
+    behind: &[PlacedLine],
 ) -> Result<(), NoMemory>
-    ensures { OnOk result ((more : List Block)
-        → blocks.new.items ++ more ≡ blocks.old.items
-        ++ with_front (block_behind (sense heading.now finds.now) behind.now line.now) more) }
+    ensures { OnOk result ((more : List Block) (forms : List Form)
+        → behind.now ≡ map (placed finds.now.digests) forms → blocks.new.items ++ more ≡ blocks.old.items
+        ++ with_front (block_behind (sense heading.now finds.now) forms line.now) more) }
 {
     match line {
         Form::Connect {
@@ -152,13 +155,14 @@ fn block_lines(
     alloc: Global,
     heading: &Heading,
     finds: &Finds,
-    lines: &[Form],
+    lines: &[PlacedLine],
 ) -> Result<BlockLineList, NoMemory>
-    ensures { IfOk result (λ said. said ≡ block_lines (sense heading.now finds.now) lines.now) }
+    ensures { IfOk result (λ said. (forms : List Form) → lines.now ≡ map (placed finds.now.digests) forms
+        → said ≡ block_lines (sense heading.now finds.now) forms) }
 {
     let mut said = Vec::new(alloc);
     for line in lines {
-        if ends_block(line) {
+        if ends_block(&line.form) {
             break;
         }
         add_line(alloc, heading, finds, &mut said, line)?;
@@ -172,11 +176,11 @@ fn add_line(
     heading: &Heading,
     finds: &Finds,
     said: &mut Vec<BlockLine>,
-    line: &Form,
+    line: &PlacedLine,
 ) -> Result<(), NoMemory>
-    ensures { OnOk result ((more : List BlockLine)
+    ensures { OnOk result ((more : List BlockLine) → line.now.place ≡ place_in finds.now.digests line.now.form
         → said.new.items ++ more ≡ said.old.items
-        ++ with_front (block_line (sense heading.now finds.now) line.now) more) }
+        ++ with_front (block_line (sense heading.now finds.now) line.now.form) more) }
 {
     if let Some(line) = block_line(alloc, heading, finds, line)? {
         said.push(line)?;
@@ -189,16 +193,14 @@ fn block_line(
     alloc: Global,
     heading: &Heading,
     finds: &Finds,
-    line: &Form,
+    line: &PlacedLine,
 ) -> Result<Option<BlockLine>, NoMemory>
-    ensures { IfOk result (λ said. said ≡ block_line (sense heading.now finds.now) line.now) }
+    ensures { IfOk result (λ said. line.now.place ≡ place_in finds.now.digests line.now.form
+        → said ≡ block_line (sense heading.now finds.now) line.now.form) }
 {
-    let said = match line {
+    let said = match &line.form {
         Form::Sql { text } => Some(BlockLine::Sql(Text::from_slice(alloc, text.bytes())?)),
-        Form::Statement { class, text } => {
-            let place = digest_place(alloc, finds.digests.as_slice(), text.as_str())?;
-            statement(heading.find(class.bytes()), place)
-        }
+        Form::Statement { class, .. } => statement(heading.find(class.bytes()), line.place),
         Form::TableWait {
             class,
             schema,
@@ -207,7 +209,7 @@ fn block_line(
             let table = table_number(finds.tables.as_slice(), schema.bytes(), name.bytes());
             table_wait(heading.find(class.bytes()), table)
         }
-        _ => plain_line(heading, line),
+        form => plain_line(heading, form),
     };
     Ok(said)
 }

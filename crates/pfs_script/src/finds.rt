@@ -2,7 +2,7 @@
 
 ghost use Rattle.std.specs.Prelude.{◌≡◌, ◌++◌, ◌∷◌, [], false, nat_lt, length, is_some, position, OnOk, IfOk, Ok, Result, List, ℕ};
 ghost use Rattle.std.specs.Result.{result_ok};
-ghost use Rattle.pfs_script.specs.Finds.{shown_of, is_table, table_number, with_table, has_text, place_of, digest_place, add_digest, with_digest};
+ghost use Rattle.pfs_script.specs.Finds.{shown_of, place_in, is_table, table_number, with_table, has_text, place_of, digest_place, add_digest, with_digest};
 ghost use Rattle.pfs_lexer.specs.declared.tokens.LexFault.{LexFault};
 ghost use Rattle.pfs_script.specs.declared.forms.Form.{Form};
 ghost use Rattle.pfs_script.specs.declared.forms.Form.TheVariants as form;
@@ -21,6 +21,14 @@ const MOST_TABLES: usize = 64;
 pub struct Finds {
     pub tables: TableList,
     pub digests: DigestList,
+}
+
+/// A line that is kept, with the place of its statement's digest text, from 0; None where that text has no
+/// place, and for any other line.
+#[derive(Drop)]
+pub struct PlacedLine<'a> {
+    pub form: Form<'a>,
+    pub place: Option<usize>,
 }
 
 /// The digest text of a line's statement: None where the lexer refuses its text, and for any other line.
@@ -64,21 +72,6 @@ fn text_place(digests: &[DigestText], shown: &[u8]) -> Option<usize>
     digests.iter().position(|digest| has_text(shown, digest))
 }
 
-/// The place of a statement's digest text among these.
-pub fn digest_place(
-    alloc: Global,
-    digests: &[DigestText],
-    text: &str,
-) -> Result<Option<usize>, NoMemory>
-    ensures { IfOk result (λ place. place ≡ digest_place digests.now text.now) }
-{
-    match digest_text(alloc, text) {
-        Ok(shown) => Ok(text_place(digests, shown.as_bytes())),
-        Err(DigestFault::Lex(_)) => Ok(None),
-        Err(DigestFault::NoMemory) => Err(AllocError),
-    }
-}
-
 impl Finds {
     /// No tables and no digest texts. It takes no memory.
     pub fn none(alloc: Global) -> Finds
@@ -106,24 +99,29 @@ impl Finds {
         }
     }
 
-    /// Takes one more line with its statement's digest text, where so many digest texts are kept at most.
+    /// Takes one more line with its statement's digest text, where so many digest texts are kept at most, and
+    /// gives that text's place; None where it has none, and for any other line.
     pub fn note(
         &mut self,
         alloc: Global,
         most: u64,
         line: &Form,
         shown: Option<Text>,
-    ) -> Result<(), NoMemory>
+    ) -> Result<Option<usize>, NoMemory>
         requires { shown ≡ shown_of line.now }
         ensures tables { OnOk result (self.new.tables ≡ with_table self.old.tables line.now) }
         ensures digests { OnOk result (self.new.digests ≡ with_digest most self.old.digests line.now) }
+        ensures place { IfOk result (λ place. place ≡ place_in self.new.digests line.now) }
     {
         match line {
             Form::TableWait { schema, name, .. } => {
-                self.add_table(alloc, schema.bytes(), name.bytes())
+                match self.add_table(alloc, schema.bytes(), name.bytes()) {
+                    Ok(()) => Ok(None),
+                    Err(fault) => Err(fault),
+                }
             }
             Form::Statement { .. } => self.add_statement(most, shown),
-            _ => Ok(()),
+            _ => Ok(None),
         }
     }
 
@@ -141,25 +139,33 @@ impl Finds {
     }
 
     // The digest text of a statement, which has none where the lexer refuses it.
-    fn add_statement(&mut self, most: u64, shown: Option<Text>) -> Result<(), NoMemory>
+    fn add_statement(&mut self, most: u64, shown: Option<Text>) -> Result<Option<usize>, NoMemory>
         ensures tables { self.new.tables ≡ self.old.tables }
         ensures digests { OnOk result ((due : Result (List ℕ) LexFault) → shown ≡ result_ok due
             → self.new.digests ≡ add_digest most self.old.digests due) }
+        ensures place { IfOk result (λ place. (due : Result (List ℕ) LexFault) → shown ≡ result_ok due
+            → place ≡ place_of self.new.digests due) }
     {
         match shown {
             Some(shown) => self.add_digest(most, shown),
-            None => Ok(()),
+            None => Ok(None),
         }
     }
 
-    fn add_digest(&mut self, most: u64, shown: Text) -> Result<(), NoMemory>
+    fn add_digest(&mut self, most: u64, shown: Text) -> Result<Option<usize>, NoMemory>
         ensures tables { self.new.tables ≡ self.old.tables }
         ensures digests { OnOk result (self.new.digests ≡ add_digest most self.old.digests (Ok shown)) }
+        ensures place { IfOk result (λ place. place ≡ position (has_text shown) self.new.digests) }
     {
         let digests = self.digests.as_slice();
-        if text_place(digests, shown.as_bytes()).is_some() || digests.len() as u64 >= most {
-            return Ok(());
+        let next = digests.len();
+        if let Some(place) = text_place(digests, shown.as_bytes()) {
+            return Ok(Some(place));
         }
-        self.digests.push(DigestText { text: shown })
+        if next as u64 >= most {
+            return Ok(None);
+        }
+        self.digests.push(DigestText { text: shown })?;
+        Ok(Some(next))
     }
 }

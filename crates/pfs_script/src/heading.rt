@@ -1,6 +1,6 @@
 //! What the lines before the first phase make: names, classes, limits and opening flags.
 
-ghost use Rattle.std.specs.Prelude.{◌≡◌, ◌<◌, ◌≤◌, ◌++◌, ◌∷◌, [], length, false, List, ℕ, Contains, None, Some, slice_get, MatchOption, IfOk, OnOk, OnErr, is_some};
+ghost use Rattle.std.specs.Prelude.{◌≡◌, ◌<◌, ◌≤◌, ◌++◌, ◌∷◌, [], length, false, List, ℕ, Contains, None, Some, slice_get, MatchOption, IfOk, OnOk, OnErr, is_some, map};
 ghost use Rattle.std.specs.Str.{IsUtf8};
 ghost use Rattle.pfs_rows.specs.Limits.{AreInRange};
 ghost use Rattle.pfs_classes.specs.Kinds.{Fits, is_fixed};
@@ -8,10 +8,12 @@ ghost use Rattle.pfs_classes.specs.Registry.{is_given, registered, text_of};
 ghost use Rattle.pfs_classes.specs.Settings.{ComesFrom};
 ghost use Rattle.std.specs.List.{fold};
 ghost use Rattle.pfs_names.specs.Interning.{id_of, interned};
+ghost use Rattle.pfs_script.specs.Finds.{form_of};
 ghost use Rattle.pfs_script.specs.SessionNames.{with_session, head_named};
 ghost use Rattle.pfs_script.specs.declared.forms.Form.{Form};
 ghost use Rattle.pfs_script.specs.Headings.{named_limit, named_consumer, set_consumer, naming_under, naming_in, with_class, with_flags_like, head_with, head_of, is_known, resolved, MayCome, StandsIn, IsAllowed, limited};
 
+use crate::finds::PlacedLine;
 use crate::forms::{Form, Number};
 use crate::likes::set_like;
 use pfs_classes::laws::{more_names, one_kind};
@@ -144,12 +146,13 @@ impl Heading {
 
     /// Interns the users and hosts of these lines behind the names that are there, in their order. What
     /// stands for a class stays.
-    pub fn name_sessions(&mut self, lines: &[Form]) -> Result<(), NoMemory>
-        ensures names { OnOk result (self.new ≡ head_named self.old (fold with_session self.old.names lines.now)) }
+    pub fn name_sessions(&mut self, lines: &[PlacedLine]) -> Result<(), NoMemory>
+        ensures names { OnOk result (self.new
+            ≡ head_named self.old (fold with_session self.old.names (map form_of lines.now))) }
         ensures same { OnOk result ((name : List ℕ) → resolved self.new name ≡ resolved self.old name) }
     {
         for line in lines {
-            self.name_session(line)?;
+            self.name_session(&line.form)?;
         }
         Ok(())
     }

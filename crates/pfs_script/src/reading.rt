@@ -1,18 +1,19 @@
 //! The whole script: one pass over the bytes, line by line.
 
-ghost use Rattle.std.specs.Prelude.{◌≡◌, ◌+◌, ◌<◌, ◌^◌, List, [], ◌∷◌, ◌++◌, length, ◌==◌, position, MatchOption, IfOk, OnOk};
+ghost use Rattle.std.specs.Prelude.{◌≡◌, ◌+◌, ◌<◌, ◌^◌, List, [], ◌∷◌, ◌++◌, length, map, ◌==◌, position, MatchOption, IfOk, OnOk};
 ghost use Rattle.std.specs.List.{list_all};
 ghost use Rattle.pfs_script.specs.declared.forms.Form.{Form};
 ghost use Rattle.pfs_script.specs.Forms.{HasItsKind};
 ghost use Rattle.pfs_script.specs.Headings.{head_of};
-ghost use Rattle.pfs_script.specs.Finds.{shown_of};
+ghost use Rattle.pfs_classes.specs.declared.setting.DigestText.{DigestText};
+ghost use Rattle.pfs_script.specs.Finds.{shown_of, place_in, placed};
 ghost use Rattle.pfs_script.specs.Places.{Knows, KnowsFinds};
 ghost use Rattle.pfs_script.specs.Scripts.{parts_of, open_reason, IsScript};
 ghost use Rattle.pfs_script.specs.declared.reasons.Extent.TheVariants.{Whole, Built};
 ghost use Rattle.pfs_script.specs.Readings.{loud, SaysNext, Reads, Gives};
 
 use crate::building::phases;
-use crate::finds::{Finds, shown_of};
+use crate::finds::{Finds, PlacedLine, shown_of};
 use crate::forms::{Form, parse_line};
 use crate::heading::Heading;
 use crate::places::{Place, start};
@@ -53,7 +54,7 @@ pub struct Line<'a> {
 /// The lines of a text that say something, and what all of them fix.
 #[derive(Drop)]
 pub struct Reading<'a> {
-    pub lines: Vec<Form<'a>>,
+    pub lines: Vec<PlacedLine<'a>>,
     pub heading: Heading,
     pub finds: Finds,
 }
@@ -174,13 +175,18 @@ fn bad(count: usize, reason: Reason) -> ScriptFault
     }
 }
 
-// Keeps a line, unless it says nothing.
-fn keep<'a>(lines: &mut Vec<Form<'a>>, line: Form<'a>) -> Result<(), NoMemory>
-    ensures { OnOk result (lines.new.items ≡ lines.old.items ++ loud (line.entry ∷ [])) }
+// Keeps a line with the place of its digest text, unless it says nothing.
+fn keep<'a>(
+    lines: &mut Vec<PlacedLine<'a>>,
+    form: Form<'a>,
+    place: Option<usize>,
+) -> Result<(), NoMemory>
+    ensures { OnOk result ((digests : List DigestText) → place ≡ place_in digests form.entry
+        → lines.new.items ≡ lines.old.items ++ map (placed digests) (loud (form.entry ∷ []))) }
 {
-    match line {
+    match form {
         Form::Silent => {}
-        line => lines.push(line)?,
+        form => lines.push(PlacedLine { form, place })?,
     }
     Ok(())
 }
@@ -205,10 +211,10 @@ fn read_lines(alloc: Global, extent: Extent, bytes: &[u8]) -> Result<Reading, Sc
             Ok(line) => line,
             Err(fault) => return Err(fault),
         };
-        finds.note(alloc, heading.most_digests(), &form, shown)?;
+        let digest = finds.note(alloc, heading.most_digests(), &form, shown)?;
         heading.pass(alloc, &form)?;
         place.pass(&form);
-        keep(&mut lines, form)?;
+        keep(&mut lines, form, digest)?;
         count += 1;
         rest = after;
     }

@@ -2,10 +2,10 @@ use Rattle.pfs_script.specs.Headings.{Head}
 use Rattle.std.proofs.Common.{◌≡◌, ◌∙◌, ◌++◌, ◌∷◌, ◌+◌, [], List, ap, refl, ◌<◌, length, sym, arith}
 use Rattle.std.proofs.lemmas.Bool.Decides.{nat_tests}
 use Rattle.pfs_script.specs.declared.forms.Form.{Form}
-use Rattle.pfs_script.specs.Readings.{loud}
 use Rattle.pfs_script.proofs.Splits.{some_parts}
 use Rattle.pfs_script.proofs.Steps.{says_line, next_bad, says_all, says_undone, says_open}
-use Rattle.pfs_script.proofs.Silence.{few_count, push_count, loud_push}
+use Rattle.pfs_script.proofs.Placing.{kept_more}
+use Rattle.pfs_script.proofs.Silence.{few_count, push_count}
 use Rattle.pfs_script.proofs.Faultless.{passes}
 use Rattle.pfs_script.proofs.Finding.{finds_more, none_finds}
 use Rattle.pfs_script.proofs.Taking.{may_come, stands_in, next_none}
@@ -52,12 +52,14 @@ loop-line-preserved c =
     let knows = c.pass-in-Some.ensures c.args.extent v.0 v.2.place none in
     let p = passes c.args.extent v.0 form none in
     let head = c.in_ok-pass.ensures v.0 (stands_in c.args.extent v.0 form p) v.2.head in
-    let finds = finds_more c.loop-line.finds c.note.new.self v.0 form v.2.finds (stands_in c.args.extent v.0 form p) p.tables c.most_digests.result (c.most_digests.ensures ∙ ap (λ (head : Head). head.limits.digests) v.2.head) c.in_ok-note.ensures.tables c.in_ok-note.ensures.digests in (
+    let most = c.most_digests.ensures ∙ ap (λ (head : Head). head.limits.digests) v.2.head in
+    let finds = finds_more c.loop-line.finds c.note.new.self v.0 form v.2.finds (stands_in c.args.extent v.0 form p) p.tables c.most_digests.result most c.in_ok-digest.ensures.tables c.in_ok-digest.ensures.digests in
+    let kept = c.in_ok-keep.ensures c.note.new.self.digests c.in_ok-digest.ensures.place in (
       v.0 ++ form ∷ [],
       sym more ∙ i,
       record {
         count = ap (λ n. n + 1) v.2.count ∙ sym (push_count v.0 form);
-        kept = c.in_ok-keep.ensures ∙ (ap (λ (kept : List Form). kept ++ loud (form ∷ [])) v.2.kept ∙ sym (loud_push v.0 form));
+        kept = kept_more c.loop-line.finds c.note.new.self v.0 form c.loop-line.lines.items c.keep.new.lines.items c.most_digests.result v.2.finds most c.in_ok-digest.ensures.digests v.2.kept kept;
         place = knows;
         head = head;
         finds = finds;
