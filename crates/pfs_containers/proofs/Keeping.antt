@@ -109,7 +109,7 @@ emptied_all P (suc n) (None ∷ xs) all = emptied_all P n xs all
 emptied_all P (suc n) (Some x ∷ xs) all = (all.0, emptied_all P n xs all.1)
 
 -- the same with the numbers of places as they are afterwards
-seats_moved : (a u h b v g : ℕ) (xs : List (Option Connection)) → b ≡ a → v ≡ u → g ≡ h → AllEntries (HasPlaces a u h) xs → AllEntries (HasPlaces b v g) xs
+pub seats_moved : (a u h b v g : ℕ) (xs : List (Option Connection)) → b ≡ a → v ≡ u → g ≡ h → AllEntries (HasPlaces a u h) xs → AllEntries (HasPlaces b v g) xs
 seats_moved a u h b v g xs p q r all =
     subst (λ z. AllEntries (HasPlaces z v g) xs) (sym p) (subst (λ z. AllEntries (HasPlaces a z g) xs) (sym q) (subst (λ z. AllEntries (HasPlaces a u z) xs) (sym r) all))
 

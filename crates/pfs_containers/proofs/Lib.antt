@@ -4,3 +4,5 @@ pub mod Keeping
 pub mod Counting
 pub mod Sharing
 pub mod Totals
+pub mod Freeing
+pub mod Truncating

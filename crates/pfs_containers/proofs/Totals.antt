@@ -34,11 +34,11 @@ currents_read n zero counts (total ∷ totals) l = let same : n ≡ n + 0 = omeg
 currents_read n (suc k) counts (total ∷ totals) l =
     let same : suc n + k ≡ n + suc k = omega arith in currents_read (suc n) k counts totals (omega (arith, l)) ∙ ap counts same
 
-len_kept_totals : (n : ℕ) (used : ℕ → Bool) (totals : List ℕ) → length (totals_kept_from n used totals) ≡ length totals
+pub len_kept_totals : (n : ℕ) (used : ℕ → Bool) (totals : List ℕ) → length (totals_kept_from n used totals) ≡ length totals
 len_kept_totals n used [] = refl
 len_kept_totals n used (total ∷ totals) = ap suc (len_kept_totals (suc n) used totals)
 
-len_currents : (n : ℕ) (counts : ℕ → ℕ) (totals : List ℕ) → length (currents_from n counts totals) ≡ length totals
+pub len_currents : (n : ℕ) (counts : ℕ → ℕ) (totals : List ℕ) → length (currents_from n counts totals) ≡ length totals
 len_currents n counts [] = refl
 len_currents n counts (total ∷ totals) = ap suc (len_currents (suc n) counts totals)
 
@@ -50,7 +50,7 @@ kept_at which xs place total h = at (in_use which xs place) refl
     at true e = h
     at false e = omega (arith, unused which xs place e)
 
-within_kept : (which : Connection → Option ℕ) (xs : List (Option Connection)) (totals : List ℕ) → AreWithin which xs totals
+pub within_kept : (which : Connection → Option ℕ) (xs : List (Option Connection)) (totals : List ℕ) → AreWithin which xs totals
     → AreWithin which xs (totals_kept_from 0 (in_use which xs) totals)
 within_kept which xs totals within place = elim (cases_lt place (length totals)) [
   | inl l ↦ let same : 0 + place ≡ place = omega arith in
@@ -62,7 +62,7 @@ within_kept which xs totals within place = elim (cases_lt place (length totals))
   | inr l ↦ omega (arith, within place, past_read place totals l)
 ]
 
-within_currents : (which : Connection → Option ℕ) (xs : List (Option Connection)) (totals : List ℕ) → AreWithin which xs totals
+pub within_currents : (which : Connection → Option ℕ) (xs : List (Option Connection)) (totals : List ℕ) → AreWithin which xs totals
     → AreWithin which xs (currents_from 0 (current which xs) totals)
 within_currents which xs totals within place = elim (cases_lt place (length totals)) [
   | inl l ↦ let same : 0 + place ≡ place = omega arith in
@@ -70,11 +70,11 @@ within_currents which xs totals within place = elim (cases_lt place (length tota
   | inr l ↦ omega (arith, within place, past_read place totals l)
 ]
 
-len_kept : {X : Type 0} (n : ℕ) (used : ℕ → Bool) (xs : List (Option X)) → length (kept_from n used xs) ≡ length xs
+pub len_kept : {X : Type 0} (n : ℕ) (used : ℕ → Bool) (xs : List (Option X)) → length (kept_from n used xs) ≡ length xs
 len_kept n used [] = refl
 len_kept n used (x ∷ xs) = ap suc (len_kept (suc n) used xs)
 
-kept_all : {X : Type 0} (P : X → Type 0) (n : ℕ) (used : ℕ → Bool) (xs : List (Option X)) → AllEntries P xs → AllEntries P (kept_from n used xs)
+pub kept_all : {X : Type 0} (P : X → Type 0) (n : ℕ) (used : ℕ → Bool) (xs : List (Option X)) → AllEntries P xs → AllEntries P (kept_from n used xs)
 kept_all P n used [] all = tt
 kept_all P n used (None ∷ xs) all = free (used n) (kept_all P (suc n) used xs all)
   where

@@ -7,7 +7,7 @@ use Rattle.pfs_containers.specs.declared.containers.Connection.{Connection}
 use Rattle.pfs_containers.specs.declared.containers.Lost.{Lost}
 use Rattle.pfs_containers.specs.declared.containers.Seated.{Seated}
 use Rattle.pfs_containers.specs.Connections.{State}
-use Rattle.pfs_containers.specs.Administration.{Containers, Found, lowest_free, session_of, lost_by, advanced, current, Connect, Quit}
+use Rattle.pfs_containers.specs.Administration.{Containers, Found, lowest_free, session_of, lost_by, Table, advanced, current, Connect, Quit, Truncate}
 
 pub record Kept : Type 0 where
   pub now : Containers
@@ -46,6 +46,10 @@ with_connect k number user host = record {
 
 abbrev pub with_quit : Kept → ℕ → Kept
 with_quit k number = record k { now = advanced k.now (Quit number) }
+
+-- a table is truncated
+abbrev pub with_truncation : Kept → Table → Kept
+with_truncation k table = record k { now = advanced k.now (Truncate table) }
 
 -- the slot that a connect takes, and the session as it stands there
 abbrev pub seat_by : Containers → ℕ → ℕ → ℕ → Option ℕ → Option Seated

@@ -5,11 +5,12 @@ ghost use Rattle.std.specs.List.{slice_index_or};
 ghost use Rattle.std.specs.Option.{ForSome};
 ghost use Rattle.pfs_rows.specs.Limits.{AreInRange};
 ghost use Rattle.pfs_containers.specs.Infos.{thread_info_of, account_info_at, user_info_at, host_info_at};
-ghost use Rattle.pfs_containers.specs.Administration.{found_where, lowest_free, session_of, lost_by, missing, added_from};
-ghost use Rattle.pfs_containers.specs.Kept.{opening, with_connect, with_quit, seat_of, seated, as_found, lost_in, with_lost, HasPlaces, IsInRange, AreUpTo};
+ghost use Rattle.pfs_containers.specs.Connections.{in_use};
+ghost use Rattle.pfs_containers.specs.Administration.{found_where, lowest_free, session_of, lost_by, missing, added_from, totals_kept_from, currents_from, current, Accounts, Users, Hosts};
+ghost use Rattle.pfs_containers.specs.Kept.{opening, with_connect, with_quit, with_truncation, seat_of, seated, as_found, lost_in, with_lost, HasPlaces, IsInRange, AreUpTo};
 
 use crate::NoMemory;
-use crate::places::add_one;
+use crate::places::{Upper, add_one};
 use crate::state::Places;
 use pfs_infos::{AccountInfo, NameInfo, ThreadInfo};
 use pfs_names::NameId;
@@ -181,6 +182,33 @@ impl Containers {
         self.places.quit(number)
     }
 
+    /// Truncates `accounts`: those without a connection are freed, and TOTAL_CONNECTIONS of the others becomes
+    /// CURRENT_CONNECTIONS. Threads, users and hosts stay.
+    pub fn truncate_accounts(&mut self)
+        ensures { self.new ≡ with_truncation self.old Accounts }
+    {
+        self.totals.count_accounts(&self.places);
+        self.places.free_accounts();
+    }
+
+    /// Truncates `users`: accounts and users without a connection are freed, and TOTAL_CONNECTIONS of the other users
+    /// becomes CURRENT_CONNECTIONS. That of the other accounts stays.
+    pub fn truncate_users(&mut self)
+        ensures { self.new ≡ with_truncation self.old Users }
+    {
+        self.totals.count_users(&self.places);
+        self.places.free_users();
+    }
+
+    /// Truncates `hosts`: accounts and hosts without a connection are freed, and TOTAL_CONNECTIONS of the other hosts
+    /// becomes CURRENT_CONNECTIONS. That of the other accounts stays.
+    pub fn truncate_hosts(&mut self)
+        ensures { self.new ≡ with_truncation self.old Hosts }
+    {
+        self.totals.count_hosts(&self.places);
+        self.places.free_hosts();
+    }
+
     /// What an account's info row says; none where the place is free or isn't there.
     pub fn account_info(&self, place: u64) -> Option<AccountInfo>
         ensures info { result ≡ account_info_at self.now.now place }
@@ -263,6 +291,40 @@ impl Totals {
         add_one(self.accounts.as_mut_slice(), connection.account);
         add_one(self.users.as_mut_slice(), connection.user);
         add_one(self.hosts.as_mut_slice(), connection.host);
+    }
+
+    // The connections of each account now.
+    fn count_accounts(&mut self, places: &Places)
+        ensures accounts { self.new.accounts.items
+            ≡ currents_from 0 (current (λ x. x.account) places.now.threads) self.old.accounts.items }
+        ensures users { self.new.users.items ≡ self.old.users.items }
+        ensures hosts { self.new.hosts.items ≡ self.old.hosts.items }
+    {
+        places.count_anew(Upper::Account, self.accounts.as_mut_slice());
+    }
+
+    // Those of each user now, and nothing for an account that no session has.
+    fn count_users(&mut self, places: &Places)
+        ensures accounts { self.new.accounts.items
+            ≡ totals_kept_from 0 (in_use (λ x. x.account) places.now.threads) self.old.accounts.items }
+        ensures users { self.new.users.items
+            ≡ currents_from 0 (current (λ x. x.user) places.now.threads) self.old.users.items }
+        ensures hosts { self.new.hosts.items ≡ self.old.hosts.items }
+    {
+        places.forget_accounts(self.accounts.as_mut_slice());
+        places.count_anew(Upper::User, self.users.as_mut_slice());
+    }
+
+    // Those of each host now, and nothing for an account that no session has.
+    fn count_hosts(&mut self, places: &Places)
+        ensures accounts { self.new.accounts.items
+            ≡ totals_kept_from 0 (in_use (λ x. x.account) places.now.threads) self.old.accounts.items }
+        ensures users { self.new.users.items ≡ self.old.users.items }
+        ensures hosts { self.new.hosts.items
+            ≡ currents_from 0 (current (λ x. x.host) places.now.threads) self.old.hosts.items }
+    {
+        places.forget_accounts(self.accounts.as_mut_slice());
+        places.count_anew(Upper::Host, self.hosts.as_mut_slice());
     }
 }
 

@@ -1,9 +1,9 @@
 //! Lists of places, each free or taken by an entry.
 
-ghost use Rattle.std.specs.Prelude.{◌≡◌, ◌<◌, ◌≤◌, ◌+◌, ◌^◌, ◌==◌, ℕ, Bool, Option, Some, None, length, IfSome, is_none};
+ghost use Rattle.std.specs.Prelude.{◌≡◌, ◌<◌, ◌≤◌, ◌+◌, ◌^◌, ◌==◌, ℕ, Bool, Option, Some, None, length, IfSome, is_none, cond};
 ghost use Rattle.std.specs.List.{position};
-ghost use Rattle.pfs_containers.specs.Connections.{fill, has_by};
-ghost use Rattle.pfs_containers.specs.Administration.{lowest_free, added_from, is_account, named_place, found_where, current};
+ghost use Rattle.pfs_containers.specs.Connections.{fill, has_by, in_use, kept_if, kept_from};
+ghost use Rattle.pfs_containers.specs.Administration.{lowest_free, added_from, is_account, named_place, found_where, current, totals_kept_from, currents_from};
 ghost use Rattle.pfs_containers.specs.Kept.{AreUpTo, is_met, as_found};
 ghost use Rattle.pfs_containers.specs.Uppers.{upper_of};
 
@@ -180,5 +180,57 @@ fn upper_of(connection: &Connection, which: Upper) -> Option<u64>
         Upper::Account => connection.account,
         Upper::User => connection.user,
         Upper::Host => connection.host,
+    }
+}
+
+/// Whether some session has a place.
+pub(crate) fn is_used(threads: &[Option<Connection>], which: Upper, place: u64) -> bool
+    ensures { result ≡ in_use (upper_of which) threads.now place }
+{
+    current(threads, which, place) > 0
+}
+
+/// Frees each place that no session has.
+pub(crate) fn free_unused<T: Copy>(
+    places: &mut [Option<T>],
+    threads: &[Option<Connection>],
+    which: Upper,
+)
+    ensures { places.new ≡ kept_from 0 (in_use (upper_of which) threads.now) places.old }
+{
+    for place in 0..places.len() {
+        let used = is_used(threads, which, place as u64);
+        places[place] = kept(used, places[place]);
+    }
+}
+
+fn kept<T: Copy>(used: bool, entry: Option<T>) -> Option<T>
+    ensures { result ≡ kept_if used entry }
+{
+    if used { entry } else { None }
+}
+
+/// Counts nothing at each place that no session has.
+pub(crate) fn forget_unused(totals: &mut [u64], threads: &[Option<Connection>], which: Upper)
+    ensures { totals.new ≡ totals_kept_from 0 (in_use (upper_of which) threads.now) totals.old }
+{
+    for place in 0..totals.len() {
+        let used = is_used(threads, which, place as u64);
+        totals[place] = kept_total(used, totals[place]);
+    }
+}
+
+fn kept_total(used: bool, total: u64) -> u64
+    ensures { result ≡ cond used total 0 }
+{
+    if used { total } else { 0 }
+}
+
+/// Counts at each place the sessions that have it now.
+pub(crate) fn count_anew(totals: &mut [u64], threads: &[Option<Connection>], which: Upper)
+    ensures { totals.new ≡ currents_from 0 (current (upper_of which) threads.now) totals.old }
+{
+    for place in 0..totals.len() {
+        totals[place] = current(threads, which, place as u64);
     }
 }

@@ -3,13 +3,17 @@
 ghost use Rattle.std.specs.Prelude.{◌≡◌, ◌<◌, ◌≤◌, ◌==◌, IfOk, IfSome, None, length};
 ghost use Rattle.std.specs.List.{slice_index_or};
 ghost use Rattle.std.specs.Option.{option_map};
-ghost use Rattle.pfs_containers.specs.Connections.{State, Connects, Quits, stepped, entry_of};
-ghost use Rattle.pfs_containers.specs.Administration.{session_of, quit_line, found_where, lowest_free, is_account, current};
+ghost use Rattle.pfs_containers.specs.Connections.{State, Connects, Quits, FreesAccounts, FreesUsers, FreesHosts, stepped, entry_of, in_use};
+ghost use Rattle.pfs_containers.specs.Administration.{session_of, quit_line, found_where, lowest_free, is_account, current, totals_kept_from, currents_from};
 ghost use Rattle.pfs_containers.specs.Kept.{opening_places, as_found, seated, IsSeated, IsInRange, HasPlaces, HasUppers};
+ghost use Rattle.pfs_containers.specs.Uppers.{upper_of};
 
 use crate::NoMemory;
 use crate::containers::{Account, Connection, Seated};
-use crate::places::{Upper, current, fill, find_account, find_session, lowest_free, name_place};
+use crate::places::{
+    Upper, count_anew, current, fill, find_account, find_session, forget_unused, free_unused,
+    lowest_free, name_place,
+};
 use pfs_names::NameId;
 use pfs_rows::Limits;
 use std::alloc::Global;
@@ -184,6 +188,55 @@ impl Places {
             }
             None => None,
         }
+    }
+
+    /// Frees the accounts that no session has.
+    pub(crate) fn free_accounts(&mut self)
+        ensures { self.new ≡ stepped self.old FreesAccounts }
+    {
+        free_unused(
+            self.accounts.as_mut_slice(),
+            self.threads.as_slice(),
+            Upper::Account,
+        );
+    }
+
+    /// Frees the accounts and the users that no session has.
+    pub(crate) fn free_users(&mut self)
+        ensures { self.new ≡ stepped self.old FreesUsers }
+    {
+        self.free_accounts();
+        free_unused(
+            self.users.as_mut_slice(),
+            self.threads.as_slice(),
+            Upper::User,
+        );
+    }
+
+    /// Frees the accounts and the hosts that no session has.
+    pub(crate) fn free_hosts(&mut self)
+        ensures { self.new ≡ stepped self.old FreesHosts }
+    {
+        self.free_accounts();
+        free_unused(
+            self.hosts.as_mut_slice(),
+            self.threads.as_slice(),
+            Upper::Host,
+        );
+    }
+
+    /// Counts nothing for the accounts that no session has.
+    pub(crate) fn forget_accounts(&self, totals: &mut [u64])
+        ensures { totals.new ≡ totals_kept_from 0 (in_use (λ x. x.account) self.now.threads) totals.old }
+    {
+        forget_unused(totals, self.threads.as_slice(), Upper::Account);
+    }
+
+    /// Counts at each place the sessions that have it now.
+    pub(crate) fn count_anew(&self, which: Upper, totals: &mut [u64])
+        ensures { totals.new ≡ currents_from 0 (current (upper_of which) self.now.threads) totals.old }
+    {
+        count_anew(totals, self.threads.as_slice(), which);
     }
 }
 

@@ -1,0 +1,8 @@
+use Rattle.std.proofs.Common.{rules, subst}
+use Rattle.pfs_containers.specs.Administration.{Users}
+use Rattle.pfs_containers.specs.Kept.{AreCounted}
+use Rattle.pfs_containers.proofs.Truncating.{truncation_counts}
+use Rattle.pfs_containers.proofs.containers.Containers.truncate_users.Goals as goal
+
+pub invariant_of-self : goal.invariant_of-self
+invariant_of-self c = subst AreCounted (search rules) (truncation_counts _ Users c.self.invariant)
