@@ -310,6 +310,10 @@ pub account_in_range : (s : State) (place : ℕ) (x : Account) → AreWell s →
 account_in_range s place x well is =
     uppers_in_range s x well (subst (λ z. IfSome z (HasUppers (length s.users) (length s.hosts))) is (entry_has _ s.accounts place well.accounts))
 
+pub session_in_range : (s : State) (place : ℕ) (x : Connection) → AreWell s → slice_index_or s.threads place None ≡ Some x → HasPlaces 32 32 32 x
+session_in_range s place x well is =
+    seat_in_range s x well (subst (λ z. IfSome z (IsSeated s)) is (entry_has (IsSeated s) s.threads place well.connections))
+
 -- a session that is found has its slot and its places below 32
 found_there : (s : State) (number : ℕ) (slot : ℕ) (x : Connection) → AreWell s → as_found (Some (slot, x)) ≡ found_where (λ y. y.number == number) s.threads
     → IsThere (IsSeated s) (length s.threads) (record { place = slot; entry = x })

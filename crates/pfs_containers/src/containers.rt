@@ -7,7 +7,7 @@ ghost use Rattle.pfs_rows.specs.Limits.{AreInRange};
 ghost use Rattle.pfs_containers.specs.Infos.{thread_info_of, account_info_at, user_info_at, host_info_at};
 ghost use Rattle.pfs_containers.specs.Connections.{in_use};
 ghost use Rattle.pfs_containers.specs.Administration.{found_where, lowest_free, session_of, lost_by, missing, added_from, totals_kept_from, currents_from, current, Accounts, Users, Hosts};
-ghost use Rattle.pfs_containers.specs.Kept.{opening, with_connect, with_quit, with_truncation, seat_of, seated, as_found, lost_in, with_lost, HasPlaces, IsInRange, AreUpTo};
+ghost use Rattle.pfs_containers.specs.Kept.{opening, with_connect, with_quit, with_truncation, seat_of, seated, as_found, lost_in, with_lost, HasPlaces, HasUppers, IsInRange, AreUpTo};
 
 use crate::NoMemory;
 use crate::places::{Upper, add_one};
@@ -250,6 +250,36 @@ impl Containers {
             current,
             total,
         })
+    }
+
+    /// The session in a slot, if there is one.
+    pub fn session(&self, slot: u64) -> Option<Connection>
+        ensures entry { result ≡ slice_index_or self.now.now.places.threads slot None }
+        ensures few { IfSome result (λ x. HasPlaces 32 32 32 x) }
+    {
+        self.places.session(slot)
+    }
+
+    /// The account at a place, if there is one.
+    pub fn account(&self, place: u64) -> Option<Account>
+        ensures entry { result ≡ slice_index_or self.now.now.places.accounts place None }
+        ensures few { IfSome result (λ x. HasUppers 32 32 x) }
+    {
+        self.places.account_in(place)
+    }
+
+    /// The name of the user at a place, if there is one.
+    pub fn user(&self, place: u64) -> Option<NameId>
+        ensures { result ≡ slice_index_or self.now.now.places.users place None }
+    {
+        self.places.user(place)
+    }
+
+    /// The name of the host at a place, if there is one.
+    pub fn host(&self, place: u64) -> Option<NameId>
+        ensures { result ≡ slice_index_or self.now.now.places.hosts place None }
+    {
+        self.places.host(place)
     }
 
     /// What was lost so far.

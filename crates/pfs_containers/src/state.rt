@@ -174,6 +174,48 @@ impl Places {
         }
     }
 
+    /// The session in a slot.
+    pub(crate) fn session(&self, slot: u64) -> Option<Connection>
+        ensures entry { result ≡ slice_index_or self.now.threads slot None }
+        ensures few { IfSome result (λ x. HasPlaces 32 32 32 x) }
+    {
+        match self.threads.get(slot as usize) {
+            Some(Some(session)) => Some(*session),
+            _ => None,
+        }
+    }
+
+    /// The account at a place.
+    pub(crate) fn account_in(&self, place: u64) -> Option<Account>
+        ensures entry { result ≡ slice_index_or self.now.accounts place None }
+        ensures few { IfSome result (λ x. HasUppers 32 32 x) }
+    {
+        match self.accounts.get(place as usize) {
+            Some(Some(account)) => Some(*account),
+            _ => None,
+        }
+    }
+
+    /// The name of the user at a place.
+    pub(crate) fn user(&self, place: u64) -> Option<NameId>
+        ensures { result ≡ slice_index_or self.now.users place None }
+    {
+        match self.users.get(place as usize) {
+            Some(Some(name)) => Some(*name),
+            _ => None,
+        }
+    }
+
+    /// The name of the host at a place.
+    pub(crate) fn host(&self, place: u64) -> Option<NameId>
+        ensures { result ≡ slice_index_or self.now.hosts place None }
+    {
+        match self.hosts.get(place as usize) {
+            Some(Some(name)) => Some(*name),
+            _ => None,
+        }
+    }
+
     /// Frees the lowest slot of a session.
     pub(crate) fn quit(&mut self, number: u64) -> Option<Seated>
         ensures step { self.new

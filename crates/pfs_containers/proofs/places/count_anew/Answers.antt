@@ -1,5 +1,4 @@
-use Rattle.std.proofs.Common.{ℕ, ◌≡◌, List, cond, slice_index_or, ap, ◌∙◌, arith}
-use Rattle.pfs_containers.specs.Connections.{in_use, kept_if}
+use Rattle.std.proofs.Common.{arith}
 use Rattle.pfs_containers.specs.Administration.{current}
 use Rattle.pfs_containers.specs.Uppers.{upper_of}
 use Rattle.pfs_containers.proofs.Freeing.{changed_none, step_is, end_is, all_current}

@@ -1,5 +1,4 @@
-use Rattle.std.proofs.Common.{◌≡◌, cond, length}
-use Rattle.pfs_containers.specs.Connections.{in_use, kept_if}
+use Rattle.std.proofs.Common.{◌≡◌}
 use Rattle.pfs_containers.specs.Administration.{current}
 use Rattle.pfs_containers.specs.Uppers.{upper_of}
 use Rattle.pfs_containers.proofs.Freeing.{changed}

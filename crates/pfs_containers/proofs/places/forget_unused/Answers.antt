@@ -1,6 +1,5 @@
-use Rattle.std.proofs.Common.{ℕ, ◌≡◌, List, cond, slice_index_or, ap, ◌∙◌, arith}
-use Rattle.pfs_containers.specs.Connections.{in_use, kept_if}
-use Rattle.pfs_containers.specs.Administration.{current}
+use Rattle.std.proofs.Common.{cond, slice_index_or, ap, ◌∙◌, arith}
+use Rattle.pfs_containers.specs.Connections.{in_use}
 use Rattle.pfs_containers.specs.Uppers.{upper_of}
 use Rattle.pfs_containers.proofs.Freeing.{changed_none, step_is, end_is, all_totals_kept}
 use Rattle.pfs_containers.proofs.places.forget_unused.Goals as goal

@@ -1,6 +1,5 @@
-use Rattle.std.proofs.Common.{◌≡◌, cond, length}
-use Rattle.pfs_containers.specs.Connections.{in_use, kept_if}
-use Rattle.pfs_containers.specs.Administration.{current}
+use Rattle.std.proofs.Common.{◌≡◌, cond}
+use Rattle.pfs_containers.specs.Connections.{in_use}
 use Rattle.pfs_containers.specs.Uppers.{upper_of}
 use Rattle.pfs_containers.proofs.Freeing.{changed}
 use Rattle.pfs_containers.proofs.places.forget_unused.Given as goal
