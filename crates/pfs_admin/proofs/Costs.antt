@@ -33,7 +33,7 @@ pub early_wider : (most : ℕ) (words : List Word) → AreEarly most words → A
 early_wider most [] are = tt
 early_wider most (w ∷ ws) are = (omega (arith, are.0), early_wider most ws are.1)
 
-early_set : (most at : ℕ) (word : Word) (words : List Word) → word.version ≤ most → AreEarly most words → AreEarly most (slice_set words at word)
+pub early_set : (most at : ℕ) (word : Word) (words : List Word) → word.version ≤ most → AreEarly most words → AreEarly most (slice_set words at word)
 early_set most at word [] le are = are
 early_set most zero word (w ∷ ws) le are = (le, are.1)
 early_set most (suc at) word (w ∷ ws) le are = (are.0, early_set most at word ws le are.1)
@@ -54,7 +54,7 @@ len_set at word [] = refl
 len_set zero word (w ∷ ws) = refl
 len_set (suc at) word (w ∷ ws) = ap suc (len_set at word ws)
 
-len_if : (b : Bool) (at flags : ℕ) (words : List Word)
+pub len_if : (b : Bool) (at flags : ℕ) (words : List Word)
     → length (if b then words else slice_set words at (set_word (word_at words at) flags)) ≡ length words
 len_if true at flags words = refl
 len_if false at flags words = len_set at (set_word (word_at words at) flags) words
@@ -72,4 +72,5 @@ state_keeps s kept flags seat words is le same = record {
   connects_few = omega (arith, le, is.connects_few);
   cells_small = is.cells_small;
   cells_few = is.cells_few;
+  kinds_are = is.kinds_are;
 }

@@ -36,6 +36,7 @@ record IsStep (s next : State) : Type 0 where
   early : AreEarly s.actions s.words → AreEarly (s.actions + 1) next.words
   names : next.names ≡ s.names
   cells : next.cells ≡ s.cells
+  kinds : next.kinds ≡ s.kinds
 
 is_step : (s : State) (session : ℕ) (change : Change) → IsStep s (stepped s session change)
 is_step s session (Connect user host) = record {
@@ -43,24 +44,27 @@ is_step s session (Connect user host) = record {
   early = λ e. early_by s.actions (thread_flags s user host) s.words (seat_at s session user host) e;
   names = refl;
   cells = refl;
+  kinds = refl;
 }
 is_step s session Quit = record {
   count = refl;
   early = λ e. early_by s.actions 0 s.words (seat_in s session) e;
   names = refl;
   cells = refl;
+  kinds = refl;
 }
-is_step s session Show = record { count = refl; early = λ e. early_wider s.actions s.words e; names = refl; cells = refl }
+is_step s session Show = record { count = refl; early = λ e. early_wider s.actions s.words e; names = refl; cells = refl; kinds = refl }
 
 record IsAfter (n : ℕ) (s last : State) : Type 0 where
   count : last.actions ≡ s.actions + n
   early : AreEarly last.actions last.words
   names : last.names ≡ s.names
   cells : last.cells ≡ s.cells
+  kinds : last.kinds ≡ s.kinds
 
 is_after : (change : Label → Change) (s : State) (labels : List Label) → AreEarly s.actions s.words → IsAfter (length labels) s (state_from change s labels)
 unfolding state_from
-is_after change s [] e = record { count = omega arith; early = e; names = refl; cells = refl }
+is_after change s [] e = record { count = omega arith; early = e; names = refl; cells = refl; kinds = refl }
 is_after change s (l ∷ labels) e =
     let step : IsStep s (stepped s l.session (change l)) = is_step s l.session (change l) in
     let early : AreEarly (stepped s l.session (change l)).actions (stepped s l.session (change l)).words =
@@ -72,6 +76,7 @@ is_after change s (l ∷ labels) e =
       early = rest.early;
       names = rest.names ∙ step.names;
       cells = rest.cells ∙ step.cells;
+      kinds = rest.kinds ∙ step.kinds;
     }
 
 after_opening : (setting : Setting) (change : Label → Change) (labels : List Label) → IsAfter (length labels) (opened setting) (state_of setting change labels)
@@ -85,8 +90,11 @@ count_law setting change labels s is =
 
 pub fixed_law : FixedLaw
 fixed_law setting change labels s is =
-    let after : IsAfter (length labels) (opened setting) (state_of setting change labels) = after_opening setting change labels in
-    (ap (λ (z : State). z.names) is ∙ after.names, ap (λ (z : State). z.cells) is ∙ after.cells)
+    let after : IsAfter (length labels) (opened setting) (state_of setting change labels) = after_opening setting change labels in (
+      ap (λ (z : State). z.names) is ∙ after.names,
+      ap (λ (z : State). z.cells) is ∙ after.cells,
+      ap (λ (z : State). z.kinds) is ∙ after.kinds,
+    )
 
 -- an action that changes nothing keeps what always holds
 pub note_keeps : (s : State) → IsState s → IsState (noted s)
@@ -96,4 +104,5 @@ note_keeps s is = record {
   connects_few = omega (arith, is.connects_few);
   cells_small = is.cells_small;
   cells_few = is.cells_few;
+  kinds_are = is.kinds_are;
 }

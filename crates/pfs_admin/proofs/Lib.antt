@@ -5,3 +5,10 @@ pub mod Opened
 pub mod Folding
 pub mod Rows
 pub mod Examples
+pub mod Truncated
+pub mod Celling
+pub mod Placing
+pub mod Levelling
+pub mod Setting
+pub mod Leftover
+pub mod Charging

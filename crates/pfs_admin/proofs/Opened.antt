@@ -1,15 +1,16 @@
 -- What always holds, at first.
-use Rattle.std.proofs.Common.{ℕ, zero, suc, ◌≡◌, ◌<◌, ◌≤◌, ◌+◌, List, [], ◌∷◌, ◌++◌, length, map, All, refl, ap, ◌∙◌, arith}
+use Rattle.std.proofs.Common.{ℕ, zero, suc, ◌≡◌, ◌<◌, ◌≤◌, ◌+◌, List, [], ◌∷◌, ◌++◌, length, map, All, Some, None, refl, ap, ◌∙◌, arith}
 use Rattle.std.specs.List.{range_with_len}
 use Rattle.std.proofs.lemmas.List.FromFn.{length-map-range_with_len}
 use Rattle.pfs_classes.specs.declared.setting.Setting.{Setting}
 use Rattle.pfs_matching.specs.declared.object_rows.ObjectRow.{ObjectRow}
 use Rattle.pfs_matching.specs.ObjectRules.{opening_objects}
 use Rattle.pfs_levels.specs.Plain.{word}
-use Rattle.pfs_admin.specs.States.{AreEarly, IsState}
+use Rattle.pfs_admin.specs.Laws.{NoRowLaw}
+use Rattle.pfs_admin.specs.States.{AreEarly, AreKindCells, IsState}
 use Rattle.pfs_admin.specs.Opening.{word_flags, opening_flags, opened}
 
-all_cons : {X : Type 0} (P : X → Type 0) (x : X) (xs : List X) → P x → All P xs → All P (x ∷ xs)
+pub all_cons : {X : Type 0} (P : X → Type 0) (x : X) (xs : List X) → P x → All P xs → All P (x ∷ xs)
 all_cons P x xs p all zero d l = p
 all_cons P x xs p all (suc k) d l = all k d (omega (arith, l))
 
@@ -39,11 +40,17 @@ pub flags_count : (setting : Setting) (objects : List ObjectRow) → length (ope
 unfolding opening_flags
 flags_count setting objects = length-map-range_with_len (word_flags setting objects) 0 160
 
-pub opened_holds : (setting : Setting) → All (λ cell. cell < 64) (opened setting).cells → length (opened setting).cells ≤ 64 → IsState (opened setting)
-opened_holds setting small few = record {
+pub opened_holds : (setting : Setting) → All (λ cell. cell < 64) (opened setting).cells → length (opened setting).cells ≤ 64 → AreKindCells (opened setting).kinds → IsState (opened setting)
+opened_holds setting small few kinds = record {
   words_wide = len_words (opening_flags setting opening_objects) ∙ flags_count setting opening_objects;
   words_early = early_words (opening_flags setting opening_objects);
   connects_few = omega arith;
   cells_small = small;
   cells_few = few;
+  kinds_are = kinds;
 }
+
+-- without any row of `setup_objects` a table is off
+pub none_on : NoRowLaw
+none_on None = refl
+none_on (Some table) = refl

@@ -1,7 +1,8 @@
 -- Laws of the fold, and of the rows that an action names.
-use Rattle.std.specs.Prelude.{ℕ, ◌≡◌, List, length, map, Some}
+use Rattle.std.specs.Prelude.{ℕ, ◌≡◌, List, [], length, map, Option, Some}
 use Rattle.pfs_board.specs.declared.view.Label.{Label}
 use Rattle.pfs_classes.specs.declared.setting.Setting.{Setting}
+use Rattle.pfs_classes.specs.declared.setting.TableName.{TableName}
 use Rattle.pfs_containers.specs.declared.containers.Seated.{Seated}
 use Rattle.pfs_containers.specs.Administration.{Containers}
 use Rattle.pfs_containers.specs.Kept.{IsInRange}
@@ -10,7 +11,7 @@ use Rattle.pfs_levels.specs.Flushes.{Ascends, from_of}
 use Rattle.pfs_admin.specs.declared.changes.Change.{Change}
 use Rattle.pfs_admin.specs.Asks.{connect_work, quit_work}
 use Rattle.pfs_admin.specs.Fold.{stepped, StandsFor, Follows}
-use Rattle.pfs_admin.specs.Opening.{cells_of}
+use Rattle.pfs_admin.specs.Opening.{cells_of, kinds_of, table_flags}
 use Rattle.pfs_admin.specs.States.{State, AreEarly}
 use Rattle.pfs_admin.specs.Works.{Sign, Releases, Tags}
 
@@ -24,7 +25,8 @@ CountLaw = (setting : Setting) → (change : Label → Change) → (labels : Lis
 
 abbrev pub FixedLaw : Type 0
 FixedLaw = (setting : Setting) → (change : Label → Change) → (labels : List Label) → (s : State)
-    → StandsFor setting change labels s → (s.names ≡ setting.names) × (s.cells ≡ cells_of setting.classes)
+    → StandsFor setting change labels s
+    → (s.names ≡ setting.names) × (s.cells ≡ cells_of setting.classes) × (s.kinds ≡ kinds_of setting.classes)
 
 -- the info row that a sign releases or writes
 abbrev pub row_of : Sign → ℕ
@@ -41,3 +43,7 @@ abbrev pub QuitRows : Type 0
 QuitRows = (words : List Word) → (cells : List ℕ) → (after : Containers) → (seat : Seated) → IsInRange seat
     → Ascends 0 64 cells → Ascends 129 2177 (map from_of (quit_work words cells after (Some seat)).moves)
     × Ascends 1 129 (map row_of (quit_work words cells after (Some seat)).signs)
+
+-- without any row of `setup_objects` no table is instrumented, whatever its name
+abbrev pub NoRowLaw : Type 0
+NoRowLaw = (table : Option TableName) → table_flags [] table ≡ 0

@@ -5,3 +5,5 @@ pub mod Opening
 pub mod Fold
 pub mod Laws
 pub mod Examples
+pub mod Truncations
+pub mod Truncated

@@ -1,5 +1,5 @@
 -- How the switch words and the administration are at first.
-use Rattle.std.specs.Prelude.{ℕ, ◌-◌, ◌==◌, nat_lt, if◌then◌else◌, List, [], ◌∷◌, ◌++◌, map, length, Option, Some, None, slice_get}
+use Rattle.std.specs.Prelude.{ℕ, ◌-◌, ◌==◌, nat_lt, if◌then◌else◌, List, [], ◌∷◌, ◌++◌, map, filter, length, Option, Some, None, slice_get}
 use Rattle.std.specs.List.{range_with_len}
 use Rattle.pfs_classes.specs.declared.classes.Class.{Class}
 use Rattle.pfs_classes.specs.declared.setting.Setting.{Setting}
@@ -10,7 +10,10 @@ use Rattle.pfs_matching.specs.declared.object_rows.ObjectRow.{ObjectRow}
 use Rattle.pfs_matching.specs.ActorRules.{opening_actors}
 use Rattle.pfs_matching.specs.ObjectRules.{table_flags as decided_flags, opening_objects}
 use Rattle.pfs_levels.specs.Plain.{word}
-use Rattle.pfs_admin.specs.States.{State, flags_of}
+use Rattle.pfs_readsets.specs.Places.{is_kind_cell}
+use Rattle.pfs_rows.specs.declared.table.TableKind.{TableKind}
+use Rattle.pfs_rows.specs.declared.table.TableKind.TheVariants.{Waits, Stages, Statements, Transactions}
+use Rattle.pfs_admin.specs.States.{State, KindCells, flags_of}
 
 -- of a class that is registered, ENABLED and TIMED
 abbrev pub class_flags : Option Class → ℕ
@@ -37,6 +40,18 @@ opening_flags setting objects = map (word_flags setting objects) (range_with_len
 abbrev pub cells_of : Registry → List ℕ
 cells_of r = range_with_len 0 (length r.classes) ++ 62 ∷ 63 ∷ []
 
+-- those of the classes of each kind
+unfoldable pub cells_of_kind : Registry → TableKind → List ℕ
+cells_of_kind r kind = filter (is_kind_cell r.classes kind) (range_with_len 0 64)
+
+unfoldable pub kinds_of : Registry → KindCells
+kinds_of r = record {
+  waits = cells_of_kind r Waits;
+  stages = cells_of_kind r Stages;
+  statements = cells_of_kind r Statements;
+  transactions = cells_of_kind r Transactions;
+}
+
 abbrev pub opened : Setting → State
 opened setting = record {
   kept = opening setting.limits;
@@ -45,5 +60,6 @@ opened setting = record {
   objects = opening_objects;
   names = setting.names;
   cells = cells_of setting.classes;
+  kinds = kinds_of setting.classes;
   actions = 0;
 }

@@ -8,10 +8,25 @@ use Rattle.pfs_matching.specs.declared.actor_rows.ActorRow.{ActorRow}
 use Rattle.pfs_matching.specs.declared.object_rows.ObjectRow.{ObjectRow}
 use Rattle.pfs_matching.specs.ActorRules.{actor_flags}
 use Rattle.pfs_levels.specs.declared.answers.Word.{Word}
+use Rattle.pfs_rows.specs.declared.table.TableKind.{TableKind}
+use Rattle.pfs_rows.specs.declared.table.TableKind.TheVariants.{Waits, Stages, Statements, Transactions}
 use Rattle.pfs_admin.specs.Works.{flagged}
 
+-- the cells of the registered classes of each kind of event, ascending
+pub record KindCells : Type 0 where
+  pub waits : List ℕ
+  pub stages : List ℕ
+  pub statements : List ℕ
+  pub transactions : List ℕ
+
+abbrev pub kind_cells : KindCells → TableKind → List ℕ
+kind_cells k Waits = k.waits
+kind_cells k Stages = k.stages
+kind_cells k Statements = k.statements
+kind_cells k Transactions = k.transactions
+
 -- who is connected where; the switch words; the rows of setup_actors and setup_objects. The names by id and the cells
--- of the registered classes, ascending, never change. And how many actions there were.
+-- of the registered classes, all and by their kinds, ascending, never change. And how many actions there were.
 pub record State : Type 0 where
   pub kept : Kept
   pub words : List Word
@@ -19,6 +34,7 @@ pub record State : Type 0 where
   pub objects : List ObjectRow
   pub names : List (List ℕ)
   pub cells : List ℕ
+  pub kinds : KindCells
   pub actions : ℕ
 
 abbrev pub flags_of : Bool × Bool → ℕ
@@ -65,6 +81,12 @@ abbrev pub AreEarly : ℕ → List Word → Type 0
 AreEarly most [] = Unit {0}
 AreEarly most (word ∷ words) = (word.version ≤ most) × AreEarly most words
 
+-- the cells of each kind are below 64; a class is of one kind, and `transaction` has two cells
+pub record AreKindCells (k : KindCells) : Type 0 where
+  pub small : (kind : TableKind) → All (λ cell. cell < 64) (kind_cells k kind)
+  pub few : (kind : TableKind) → length (kind_cells k kind) ≤ 64
+  pub few_together : length k.waits + (length k.stages + (length k.statements + length k.transactions)) ≤ 66
+
 -- what always holds
 pub record IsState (s : State) : Type 0 where
   pub words_wide : length s.words ≡ 160
@@ -72,3 +94,4 @@ pub record IsState (s : State) : Type 0 where
   pub connects_few : s.kept.connects ≤ s.actions
   pub cells_small : All (λ cell. cell < 64) s.cells
   pub cells_few : length s.cells ≤ 64
+  pub kinds_are : AreKindCells s.kinds

@@ -7,11 +7,15 @@ ghost use Rattle.pfs_admin.specs.States.{thread_flags, connected, has_quit, note
 ghost use Rattle.pfs_admin.specs.declared.changes.Change.TheVariants.{Connect, Quit, Show};
 ghost use Rattle.pfs_admin.specs.Fold.{Follows};
 ghost use Rattle.pfs_admin.specs.Opening.{opened};
+ghost use Rattle.pfs_admin.specs.Truncations.{actors_behind, objects_behind, has_truncated, truncation_cost, work_of_truncation};
 ghost use Rattle.pfs_admin.specs.Asks.{work_of_connect, work_of_quit, connect_entry, placed_of};
 
 use crate::NoMemory;
+use crate::cells::CellsByKind;
+use crate::charges::{flags_cost, moves_cost, signs_cost};
 use crate::opening::{both_flags, cells_of, opening_flags, texts_of, words_of};
 use crate::threads::{write_connect, write_quit};
+use crate::truncations::{Truncation, write_truncation};
 use pfs_classes::Setting;
 use pfs_containers::{Containers, Lost, Seated};
 use pfs_event::Entry;
@@ -32,8 +36,8 @@ pub struct Placed {
 }
 
 /// The administration: who is connected where, the switch words as they stand, the rows of `setup_actors` and
-/// `setup_objects`, and how many actions there were. Its caller changes it inside row 0 alone; `connect` and `quit` are
-/// one action each.
+/// `setup_objects`, and how many actions there were. Its caller changes it inside row 0 alone; `connect`, `quit` and
+/// `truncate` are one action each.
 #[derive(Drop)]
 pub struct Admin {
     containers: Containers,
@@ -42,6 +46,7 @@ pub struct Admin {
     objects: Objects,
     names: Vec<Text>,
     cells: Vec<u64>,
+    kinds: CellsByKind,
     actions: u64,
 }
 
@@ -57,6 +62,7 @@ impl Model for Admin {
       objects = s.objects;
       names = s.names.items;
       cells = s.cells.items;
+      kinds = s.kinds;
       actions = s.actions;
     } };
 
@@ -67,6 +73,7 @@ impl Model for Admin {
       objects = s.objects;
       names = s.names.items;
       cells = s.cells.items;
+      kinds = s.kinds;
       actions = s.actions;
     }) };
 }
@@ -85,6 +92,7 @@ impl Admin {
             objects,
             names: texts_of(alloc, &setting.names)?,
             cells: cells_of(alloc, &setting.classes)?,
+            kinds: CellsByKind::open(alloc, &setting.classes)?,
             actions: 0,
         })
     }
@@ -162,6 +170,46 @@ impl Admin {
         );
     }
 
+    /// Truncates a table, an action: a summary's numbers move up, level by level; those below `accounts`, `users` or
+    /// `hosts` do in all kinds, and what has no connection is freed; a setup table loses its rows. The log gets each
+    /// take and its gifts, the info rows that are written or released, and the words that change; the action's `act`
+    /// entry is the caller's. Which levels move and what is freed is MySQL's rule, the order our own.
+    pub fn truncate<H: Hold>(&mut self, rows: &mut H, what: Truncation, log: &mut Log)
+        requires few { self.old.actions < 2 ^ 47 }
+        requires alone { (r : ℕ) → 0 < r → H.hand rows.old r ≡ None }
+        requires lent { H.words rows.old ≡ Some self.old.words }
+        requires spare { truncation_cost self.old what ≤ H.left rows.old }
+        requires room { truncation_cost self.old what ≤ log.old.room }
+        ensures step { self.new ≡ has_truncated self.old what }
+        ensures worked { Worked (work_of_truncation self.old what) self.old.words [] log.old log.new
+            (H.reached rows.old) (H.reached rows.new) }
+        ensures lent { H.words rows.new ≡ Some self.new.words }
+        ensures leaves { Leaves (truncation_cost self.old what) (truncation_cost self.old what) (H.hand rows.old)
+            (H.hand rows.new) (H.left rows.old) (H.left rows.new) (H.draws rows.old) (H.draws rows.new)
+            (H.name rows.old) (H.name rows.new) log.old log.new }
+    {
+        write_truncation(
+            rows,
+            &mut self.containers,
+            self.words.as_mut_slice(),
+            &self.kinds,
+            what,
+            log,
+        );
+        remove_rows(&mut self.actors, &mut self.objects, what);
+        self.actions += 1;
+    }
+
+    /// The most publications and entries of a truncation as things stand: each move with what it may give, an info row
+    /// for each place of its tables where something stands, and for `setup_objects` the 64 words of the tables.
+    pub fn truncation_cost(&self, what: Truncation) -> u64
+        ensures cost { result ≡ truncation_cost self.now what }
+        ensures few { result ≤ 20_000 }
+    {
+        let moves = moves_cost(&self.containers, &self.kinds, what);
+        moves + signs_cost(&self.containers, what) + flags_cost(what)
+    }
+
     /// How many actions there were.
     pub fn actions(&self) -> u64
         ensures { result ≡ self.now.actions }
@@ -211,6 +259,19 @@ impl Admin {
         let host = self.names[host.0 as usize].as_bytes();
         let (enabled, history) = self.actors.decide(user, host);
         both_flags(enabled, history)
+    }
+}
+
+// Removes the rows of a setup table that is truncated.
+fn remove_rows(actors: &mut Actors, objects: &mut Objects, what: Truncation)
+    ensures actors { actors.new ≡ actors_behind what actors.old }
+    ensures objects { objects.new ≡ objects_behind what objects.old }
+{
+    match what {
+        Truncation::SetupActors => actors.truncate(),
+        Truncation::SetupObjects => objects.truncate(),
+        Truncation::Summary(_, _) | Truncation::Accounts | Truncation::Users | Truncation::Hosts =>
+            {}
     }
 }
 

@@ -1,7 +1,8 @@
 //! Laws of the definitions.
 
 ghost use Rattle.pfs_admin.specs.Examples.{WorkedFold};
-ghost use Rattle.pfs_admin.specs.Laws.{StepLaw, CountLaw, FixedLaw, ConnectRows, QuitRows};
+ghost use Rattle.pfs_admin.specs.Truncated.{WorkedTruncations};
+ghost use Rattle.pfs_admin.specs.Laws.{StepLaw, CountLaw, FixedLaw, NoRowLaw, ConnectRows, QuitRows};
 
 /// An administration that stands for a list of labels stands for that list and one label more once the step of that
 /// label's session and change was made.
@@ -15,7 +16,7 @@ pub fn actions_are_counted()
     ensures { CountLaw }
 {}
 
-/// No action changes the names or the cells of the classes.
+/// No action changes the names or the cells of the classes, all or by their kinds.
 pub fn names_and_cells_stay()
     ensures { FixedLaw }
 {}
@@ -34,4 +35,15 @@ pub fn rows_of_a_quit_ascend()
 /// Two sessions of one account connect, and the first one ends: what the fold gives, number by number.
 pub fn two_sessions_worked()
     ensures { WorkedFold }
+{}
+
+/// Without any row of `setup_objects` no table is instrumented, so a truncation turns the words of all tables off.
+pub fn without_rows_no_table_is_on()
+    ensures { NoRowLaw }
+{}
+
+/// Truncations while two sessions of one account are connected, and behind their ends: what each asks for and leaves,
+/// number by number.
+pub fn truncations_worked()
+    ensures { WorkedTruncations }
 {}

@@ -2,19 +2,26 @@
 #![tactic(auto)]
 
 mod admin;
+mod cells;
 mod changes;
+mod charges;
+mod emptying;
 pub mod laws;
 mod naming;
 mod opening;
+mod remaining;
 mod signs;
+mod summaries;
 mod tags;
 mod threads;
+mod truncations;
 
 pub use admin::{Admin, Placed};
 pub use changes::{Change, Reply};
 pub use naming::Named;
 pub use opening::opening_flags;
 pub use pfs_containers::Lost;
+pub use truncations::Truncation;
 
 /// Memory ran out.
 pub type NoMemory = std::alloc::AllocError;

@@ -47,6 +47,7 @@ nobody = record {
   objects = [];
   names = [];
   cells = [];
+  kinds = record { waits = []; stages = []; statements = []; transactions = [] };
   actions = 0;
 }
 

@@ -7,8 +7,8 @@ use Rattle.std.proofs.lemmas.List.Elements.{Contains-append_left, Contains-push}
 use Rattle.pfs_admin.specs.Asks.{work_of_connect, work_of_quit, connect_entry, placed_of}
 use Rattle.pfs_admin.specs.Fold.{state_from, state_of}
 use Rattle.pfs_admin.specs.Laws.{row_of}
-use Rattle.pfs_admin.specs.Opening.{opening_flags, cells_of, opened}
-use Rattle.pfs_admin.specs.States.{seat_at, connected, has_quit}
+use Rattle.pfs_admin.specs.Opening.{opening_flags, cells_of, cells_of_kind, kinds_of, opened}
+use Rattle.pfs_admin.specs.States.{KindCells, seat_at, connected, has_quit}
 use Rattle.pfs_admin.specs.States.{State as Administration}
 use Rattle.pfs_admin.specs.Works.{Sign, Releases, Tags, Made, Work, signs_calls, signs_entries, flagging_calls, flagging_entries}
 use Rattle.pfs_admin.specs.declared.changes.Change.{Change}
@@ -147,6 +147,10 @@ label session line = record { session = session; line = line }
 abbrev pub change : Label → Change
 change l = if l.line == 1 then (if l.session == 1 then Connect 0 1 else Connect 1 0) else Quit
 
+-- the three classes are of waits
+abbrev pub cells_by_kind : KindCells
+cells_by_kind = record { waits = 0 ∷ 1 ∷ 2 ∷ []; stages = []; statements = []; transactions = 62 ∷ 63 ∷ [] }
+
 -- the administration before each of the three actions
 abbrev pub opening : Administration
 opening = record {
@@ -156,6 +160,7 @@ opening = record {
   objects = opening_objects;
   names = names;
   cells = 0 ∷ 1 ∷ 2 ∷ 62 ∷ 63 ∷ [];
+  kinds = cells_by_kind;
   actions = 0;
 }
 
@@ -169,11 +174,16 @@ cells_are : cells_of setting.classes ≡ 0 ∷ 1 ∷ 2 ∷ 62 ∷ 63 ∷ []
 unfolding setting registered
 cells_are = refl
 
+kinds_are : kinds_of setting.classes ≡ cells_by_kind
+unfolding setting registered kinds_of cells_of_kind
+kinds_are = refl
+
 opened_is : opened setting ≡ opening
 unfolding setting
 opened_is =
-    ap (λ (z : List ℕ). record { kept = nobody limits; words = map (word 0) z; actors = opening_actors; objects = opening_objects; names = names; cells = cells_of setting.classes; actions = 0 }) flags_are
-    ∙ ap (λ (z : List ℕ). record { kept = nobody limits; words = map (word 0) flags; actors = opening_actors; objects = opening_objects; names = names; cells = z; actions = 0 }) cells_are
+    ap (λ (z : List ℕ). record { kept = nobody limits; words = map (word 0) z; actors = opening_actors; objects = opening_objects; names = names; cells = cells_of setting.classes; kinds = kinds_of setting.classes; actions = 0 }) flags_are
+    ∙ (ap (λ (z : List ℕ). record { kept = nobody limits; words = map (word 0) flags; actors = opening_actors; objects = opening_objects; names = names; cells = z; kinds = kinds_of setting.classes; actions = 0 }) cells_are
+    ∙ ap (λ (z : KindCells). record { kept = nobody limits; words = map (word 0) flags; actors = opening_actors; objects = opening_objects; names = names; cells = 0 ∷ 1 ∷ 2 ∷ 62 ∷ 63 ∷ []; kinds = z; actions = 0 }) kinds_are)
 
 first_fold : opening ≡ state_of setting change []
 unfolding state_from

@@ -1,7 +1,8 @@
 use Rattle.std.proofs.Common.{rules, subst}
 use Rattle.pfs_admin.specs.States.{IsState}
+use Rattle.pfs_admin.proofs.Celling.{kinds_fit}
 use Rattle.pfs_admin.proofs.Opened.{opened_holds}
 use Rattle.pfs_admin.proofs.admin.Admin.open.Goals as goal
 
 pub invariant_of-result : goal.invariant_of-result
-invariant_of-result c = subst IsState (search rules) (opened_holds c.args.setting.now (search rules) (search rules))
+invariant_of-result c = subst IsState (search rules) (opened_holds c.args.setting.now (search rules) (search rules) (kinds_fit c.args.setting.now.classes))

@@ -1,0 +1,27 @@
+-- The truncations of two sessions compute.
+use Rattle.std.proofs.Common.{refl}
+use Rattle.pfs_admin.specs.Truncated.{WorkedTruncations}
+use Rattle.pfs_admin.specs.Truncations.{level_asks, level_signs}
+
+pub worked : WorkedTruncations
+unfolding level_asks level_signs
+worked = record {
+  by_account = refl;
+  by_thread = refl;
+  global = refl;
+  kept = refl;
+  count = refl;
+  stays = refl;
+  total_before = refl;
+  total = refl;
+  still = refl;
+  freed = refl;
+  moved = refl;
+  gone = refl;
+  users_stay = refl;
+  users = refl;
+  hosts_stay = refl;
+  user_alone = refl;
+  account_total = refl;
+  actors = refl;
+}

@@ -1,0 +1,10 @@
+use Rattle.pfs_levels.specs.Moves.{Moved, Stays, cost}
+use Rattle.pfs_admin.specs.Truncations.{up_to, asks_at}
+use Rattle.pfs_admin.proofs.emptying.empty_level.Given as goal
+
+abbrev pub invariant-loop-place : goal.invariant-loop-place
+invariant-loop-place g l =
+    record {
+      moved : Moved (up_to (asks_at l.containers.now.places l.cells l.level) l.place) l.fn.log l.log (g.H.Rows.reached l.fn.rows) (g.H.Rows.reached l.rows);
+      stays : Stays (cost (up_to (asks_at l.containers.now.places l.cells l.level) l.place)) (g.H.Rows.hand l.fn.rows) (g.H.Rows.hand l.rows) (g.H.Rows.left l.fn.rows) (g.H.Rows.left l.rows) (g.H.Rows.draws l.fn.rows) (g.H.Rows.draws l.rows) (g.H.Rows.words l.fn.rows) (g.H.Rows.words l.rows) (g.H.Rows.name l.fn.rows) (g.H.Rows.name l.rows) l.fn.log l.log;
+    }

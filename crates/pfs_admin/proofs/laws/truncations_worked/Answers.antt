@@ -1,0 +1,5 @@
+use Rattle.pfs_admin.proofs.Truncated.{worked}
+use Rattle.pfs_admin.proofs.laws.truncations_worked.Goals as goal
+
+pub returns : goal.returns
+returns c = worked

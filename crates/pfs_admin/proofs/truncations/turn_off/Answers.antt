@@ -1,0 +1,45 @@
+use Rattle.std.proofs.Common.{◌+◌, List, length, ap, sym, subst, ◌∙◌, arith}
+use Rattle.pfs_levels.specs.declared.answers.Word.{Word}
+use Rattle.pfs_levels.specs.Moves.{Did}
+use Rattle.pfs_admin.specs.Works.{flagging, flagged, flagging_calls, flagging_entries, word_at}
+use Rattle.pfs_admin.proofs.Setting.{off_past, off_wide, off_next, off_whole, flags_whole, off_more, early_same}
+use Rattle.pfs_admin.proofs.truncations.turn_off.Goals as goal
+
+pub flag-requires-clause-wide : goal.flag-requires-clause-wide
+flag-requires-clause-wide g c =
+    ap length c.loop-table.invariant.mine ∙ (off_wide c.args.words.now c.loop-table.table ∙ c.requires.wide)
+
+pub flag-requires-clause-early : goal.flag-requires-clause-early
+flag-requires-clause-early g c =
+    let at = 96 + c.loop-table.table in
+    early_same c.loop-table.words c.args.words.now at
+    (ap (λ (z : List Word). word_at z at) c.loop-table.invariant.mine ∙ off_past c.args.words.now c.loop-table.table at (omega arith)) (c.requires.early at)
+
+pub loop-table-preserved : goal.loop-table-preserved
+loop-table-preserved g c =
+    let words = c.args.words.now in
+    let i = c.loop-table.table in
+    record {
+      did = off_more words i c.args.log.now c.loop-table.log c.flag.new.log _ _ _ c.loop-table.invariant.did
+          (subst (λ z. Did (flagging_calls z (flagging z (96 + i) 0)) (flagging_entries z (flagging z (96 + i) 0)) c.loop-table.log c.flag.new.log (g.H.Rows.reached c.loop-table.rows) (g.H.Rows.reached c.flag.new.rows)) c.loop-table.invariant.mine c.flag.ensures.did);
+      mine = c.flag.ensures.mine ∙ (ap (λ (z : List Word). flagged z (96 + i) 0) c.loop-table.invariant.mine ∙ sym (off_next words i));
+      lent = c.flag.ensures.lent;
+      leaves = record {
+        hand = λ r. c.flag.ensures.leaves.hand r ∙ c.loop-table.invariant.leaves.hand r;
+        left = omega (arith, c.flag.ensures.leaves.left, c.loop-table.invariant.leaves.left);
+        draws = c.flag.ensures.leaves.draws ∙ c.loop-table.invariant.leaves.draws;
+        name = c.flag.ensures.leaves.name ∙ c.loop-table.invariant.leaves.name;
+        room = omega (arith, c.flag.ensures.leaves.room, c.loop-table.invariant.leaves.room);
+      };
+    }
+
+pub returns-clause-did : goal.returns-clause-did
+returns-clause-did g c =
+    subst (λ z. Did (flagging_calls c.args.words.now z) (flagging_entries c.args.words.now z) c.args.log.now c.loop-table.log (g.H.Rows.reached c.args.rows.now) (g.H.Rows.reached c.loop-table.rows))
+    (flags_whole c.args.words.now c.loop-table.table (omega arith)) c.loop-table.invariant.did
+
+pub returns-clause-mine : goal.returns-clause-mine
+returns-clause-mine g c = c.loop-table.invariant.mine ∙ off_whole c.args.words.now c.loop-table.table (omega arith)
+
+pub flag-requires-clause-room : goal.flag-requires-clause-room
+flag-requires-clause-room g c = omega (arith, c.loop-table.invariant.leaves.room, c.requires.room)

@@ -1,0 +1,47 @@
+use Rattle.std.proofs.Common.{◌≡◌, subst, ◌∙◌, arith}
+use Rattle.pfs_containers.specs.Kept.{Kept}
+use Rattle.pfs_admin.specs.Truncations.{is_there, kept_behind, signs_most, truncation_signs, was_by}
+use Rattle.pfs_admin.specs.Works.{Signed}
+use Rattle.pfs_admin.proofs.Leftover.{signs_same, most_same}
+use Rattle.pfs_admin.proofs.Signing.{worked_all}
+use Rattle.pfs_admin.proofs.truncations.write_truncation.Goals as goal
+
+pub move_truncated-requires-clause-spare : goal.move_truncated-requires-clause-spare
+move_truncated-requires-clause-spare g c = omega (arith, c.requires.spare)
+
+pub move_truncated-requires-clause-room : goal.move_truncated-requires-clause-room
+move_truncated-requires-clause-room g c = omega (arith, c.requires.room)
+
+pub sign_truncated-requires-clause-spare : goal.sign_truncated-requires-clause-spare
+sign_truncated-requires-clause-spare g c =
+    omega (arith, most_same c.args.containers.now.now.places c.of-before.result c.args.what c.of-before.ensures, c.requires.spare, c.move_truncated.ensures.stays.left)
+
+pub sign_truncated-requires-clause-room : goal.sign_truncated-requires-clause-room
+sign_truncated-requires-clause-room g c =
+    omega (arith, most_same c.args.containers.now.now.places c.of-before.result c.args.what c.of-before.ensures, c.requires.room, c.move_truncated.ensures.stays.room)
+
+pub set_truncated-requires-clause-room : goal.set_truncated-requires-clause-room
+set_truncated-requires-clause-room g c =
+    omega (arith, most_same c.args.containers.now.now.places c.of-before.result c.args.what c.of-before.ensures, c.requires.room, c.move_truncated.ensures.stays.room, c.sign_truncated.ensures.stays.room)
+
+pub returns-clause-worked : goal.returns-clause-worked
+returns-clause-worked g c =
+    let behind : c.free_truncated.new.containers ≡ kept_behind c.args.containers.now c.args.what = c.free_truncated.ensures in
+    let signed : Signed (truncation_signs (was_by c.of-before.result) (kept_behind c.args.containers.now c.args.what).now c.args.what) c.move_truncated.new.log c.sign_truncated.new.log (g.H.Rows.reached c.move_truncated.new.rows) (g.H.Rows.reached c.sign_truncated.new.rows) =
+    subst (λ (z : Kept). Signed (truncation_signs (was_by c.of-before.result) z.now c.args.what) c.move_truncated.new.log c.sign_truncated.new.log (g.H.Rows.reached c.move_truncated.new.rows) (g.H.Rows.reached c.sign_truncated.new.rows)) behind c.sign_truncated.ensures.signed in
+    worked_all _ _ _ _ _ _ _ _ _ _ _ _ c.move_truncated.ensures.moved
+    (subst (λ z. Signed z c.move_truncated.new.log c.sign_truncated.new.log (g.H.Rows.reached c.move_truncated.new.rows) (g.H.Rows.reached c.sign_truncated.new.rows))
+    (signs_same c.args.containers.now.now.places c.of-before.result (kept_behind c.args.containers.now c.args.what).now c.args.what c.of-before.ensures) signed)
+    c.set_truncated.ensures.did
+
+pub returns-clause-leaves : goal.returns-clause-leaves
+returns-clause-leaves g c =
+    let most : signs_most (was_by c.of-before.result) c.args.what ≡ signs_most (is_there c.args.containers.now.now.places) c.args.what =
+    most_same c.args.containers.now.now.places c.of-before.result c.args.what c.of-before.ensures in
+    record {
+      hand = λ r. c.set_truncated.ensures.leaves.hand r ∙ (c.sign_truncated.ensures.stays.hand r ∙ c.move_truncated.ensures.stays.hand r);
+      left = omega (arith, most, c.move_truncated.ensures.stays.left, c.sign_truncated.ensures.stays.left, c.set_truncated.ensures.leaves.left);
+      draws = c.set_truncated.ensures.leaves.draws ∙ (c.sign_truncated.ensures.stays.draws ∙ c.move_truncated.ensures.stays.draws);
+      name = c.set_truncated.ensures.leaves.name ∙ (c.sign_truncated.ensures.stays.name ∙ c.move_truncated.ensures.stays.name);
+      room = omega (arith, most, c.move_truncated.ensures.stays.room, c.sign_truncated.ensures.stays.room, c.set_truncated.ensures.leaves.room);
+    }

@@ -1,0 +1,53 @@
+-- Truncations of two sessions of one account, worked, while both are there and behind their ends.
+use Rattle.std.specs.Prelude.{◌≡◌, [], ◌∷◌, map, Some, None}
+use Rattle.pfs_rows.specs.declared.table.TableKind.TheVariants.{Waits, Transactions}
+use Rattle.pfs_rows.specs.declared.table.SummaryTable.TheVariants.{ByThread, ByAccount, Global}
+use Rattle.pfs_levels.specs.Moves.{ask}
+use Rattle.pfs_admin.specs.declared.truncations.Truncation.TheVariants.{Summary, Accounts, Users, SetupActors}
+use Rattle.pfs_admin.specs.Examples.{start}
+use Rattle.pfs_admin.specs.Laws.{row_of}
+use Rattle.pfs_admin.specs.States.{State, connected, has_quit}
+use Rattle.pfs_admin.specs.Truncations.{work_of_truncation, has_truncated}
+use Rattle.pfs_admin.specs.Works.{Releases}
+
+-- sessions 1 and 2 are connected; session 1 has ended; both have
+abbrev pub both : State
+both = connected (connected start 1 0 1) 2 0 1
+
+abbrev pub one : State
+one = has_quit both 1
+
+abbrev pub none : State
+none = has_quit one 2
+
+-- by account the cells of both threads go to their account, which goes to its user and its host; the summary of
+-- transactions moves the two cells of that kind, thread by thread
+pub record WorkedTruncations : Type 0 where
+  pub by_account : (work_of_truncation both (Summary Waits ByAccount)).moves
+      ≡ ask 129 (2177 ∷ []) ∷ ask 193 (2177 ∷ []) ∷ ask 2177 (4225 ∷ 6273 ∷ []) ∷ []
+  pub by_thread : (work_of_truncation both (Summary Transactions ByThread)).moves
+      ≡ ask 191 (2239 ∷ []) ∷ ask 192 (2240 ∷ []) ∷ ask 255 (2239 ∷ []) ∷ ask 256 (2240 ∷ []) ∷ []
+  -- the global one drops the user's, and takes the host's and the global cell last
+  pub global : (work_of_truncation none (Summary Waits Global)).moves
+      ≡ ask 2177 (4225 ∷ 6273 ∷ []) ∷ ask 4225 [] ∷ ask 6273 (8321 ∷ []) ∷ ask 8321 [] ∷ []
+  -- a summary leaves who is connected where, and counts as one action
+  pub kept : (has_truncated both (Summary Waits ByAccount)).kept ≡ both.kept
+  pub count : (has_truncated both (Summary Waits ByAccount)).actions ≡ 3
+  -- an account with a connection remains: it is written, and has had as many connections as it has now
+  pub stays : map row_of (work_of_truncation one Accounts).signs ≡ 33 ∷ []
+  pub total_before : one.kept.now.account_totals ≡ 2 ∷ []
+  pub total : (has_truncated one Accounts).kept.now.account_totals ≡ 1 ∷ []
+  pub still : (has_truncated one Accounts).kept.now.places ≡ one.kept.now.places
+  -- one without a connection is freed, once its cells of all kinds have moved up
+  pub freed : (work_of_truncation none Accounts).signs ≡ Releases 33 ∷ []
+  pub moved : (work_of_truncation none Accounts).moves
+      ≡ ask 2177 (4225 ∷ 6273 ∷ []) ∷ ask 2239 (4287 ∷ 6335 ∷ []) ∷ ask 2240 (4288 ∷ 6336 ∷ []) ∷ []
+  pub gone : (has_truncated none Accounts).kept.now.places.accounts ≡ None ∷ []
+  pub users_stay : (has_truncated none Accounts).kept.now.places.users ≡ Some 0 ∷ []
+  -- `users` frees the account and the user, and leaves the host
+  pub users : (work_of_truncation none Users).signs ≡ Releases 33 ∷ Releases 65 ∷ []
+  pub hosts_stay : (has_truncated none Users).kept.now.places.hosts ≡ Some 1 ∷ []
+  -- while a session is there, the account that remains isn't written, and the user is
+  pub user_alone : map row_of (work_of_truncation one Users).signs ≡ 65 ∷ []
+  pub account_total : (has_truncated one Users).kept.now.account_totals ≡ 2 ∷ []
+  pub actors : (has_truncated both SetupActors).actors ≡ []
