@@ -1,0 +1,19 @@
+//! Laws of the places.
+
+ghost use Rattle.pfs_rings.specs.Rings.{WithinLaw, ApartLaw};
+ghost use Rattle.pfs_rings.specs.Worked.{WorkedPlaces};
+
+/// The places of a thread are 56 rows side by side, and those of two threads share none.
+pub fn rows_of_a_thread()
+    ensures { WithinLaw }
+{}
+
+/// No row is two places.
+pub fn one_place()
+    ensures { ApartLaw }
+{}
+
+/// Places of two threads and of the long history, number by number.
+pub fn places_worked()
+    ensures { WorkedPlaces }
+{}
