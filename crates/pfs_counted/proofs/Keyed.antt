@@ -27,12 +27,20 @@ use Rattle.pfs_rows.specs.declared.table.TableKind.{TableKind}
 use Rattle.pfs_summaries.specs.Cells.{key_of, is_number}
 use Rattle.pfs_summaries.specs.Contents.{infos_of, thread_at, account_at}
 use Rattle.pfs_summaries.specs.Heads.{places_of}
-use Rattle.pfs_counted.specs.Keys.{is_key_of, key_at}
+use Rattle.pfs_counted.specs.Keys.{is_key_of}
 use Rattle.pfs_counted.proofs.Passed.{picked, picked_nothing, picked_listed, picked_only}
 use Rattle.pfs_counted.proofs.Read.{IsShown}
 use Rattle.pfs_counted.proofs.Tallies.{wanted_thread, wanted_account, wanted_user, wanted_host, wanted_global, key_rows}
 use Rattle.pfs_counted.proofs.Told.{AreBack, ArePlaces, AreTold, thread_stands, thread_is, account_stands, account_is, user_stands, host_stands}
 use Rattle.pfs_tagged.proofs.Sifting.{eq_of}
+
+-- whose rows stand at a place: of the session, account, user or host that is there
+abbrev pub key_at : SummaryTable → State → ℕ → Option Key
+key_at ByThread s place = option_map (λ (x : Connection). KeyThread x.number place) (entry_at s.threads place)
+key_at ByAccount s place = option_map (λ (e : Account). KeyAccount e.user_name e.host_name) (entry_at s.accounts place)
+key_at ByUser s place = option_map KeyUser (entry_at s.users place)
+key_at ByHost s place = option_map KeyHost (entry_at s.hosts place)
+key_at Global s place = Some KeyAll
 
 -- the rows of a cell
 abbrev pub rows_at : ℕ → CellRows

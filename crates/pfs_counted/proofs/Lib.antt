@@ -13,3 +13,4 @@ pub mod Names
 pub mod Seated
 pub mod Freed
 pub mod Runs
+pub mod Worked

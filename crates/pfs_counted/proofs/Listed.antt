@@ -30,9 +30,9 @@ use Rattle.pfs_summaries.specs.declared.numbers.Numbers.TheVariants.{Times, Stat
 use Rattle.pfs_summaries.specs.declared.tallies.Tally.{Tally}
 use Rattle.pfs_values.specs.declared.RowValue.{RowValue}
 use Rattle.pfs_values.specs.declared.RowValue.TheVariants.{Number, Text}
-use Rattle.pfs_counted.specs.Keys.{heading_of_key, key_at}
+use Rattle.pfs_counted.specs.Keys.{heading_of_key}
 use Rattle.pfs_counted.specs.Summed.{class_numbers, summary_row, HasRow, AreSummed}
-use Rattle.pfs_counted.proofs.Keyed.{table_of}
+use Rattle.pfs_counted.proofs.Keyed.{key_at, table_of}
 use Rattle.pfs_counted.proofs.Containing.{first, later, contains_map, map_contains, contains_filter, filter_contains, each_contained, filter_mapped, map_agrees, map_map}
 
 abbrev Keyed : Type 0

@@ -35,10 +35,10 @@ use Rattle.pfs_summaries.specs.Cells.{tally_of, reads_key_cell, hides_rows, is_h
 use Rattle.pfs_summaries.specs.Contents.{whole_of, is_busy, found_busy, infos_of}
 use Rattle.pfs_summaries.specs.Heads.{account_head, user_head, host_head, head_of, places_of, heading_of}
 use Rattle.pfs_summaries.specs.declared.heads.Head.{Head}
-use Rattle.pfs_counted.specs.Keys.{is_key_of, heading_of_key, key_at}
+use Rattle.pfs_counted.specs.Keys.{is_key_of, heading_of_key}
 use Rattle.pfs_counted.specs.Summed.{HasRow}
 use Rattle.pfs_counted.proofs.ClassCells.{few_ids, same_numbers, zero_numbers, never_skipped}
-use Rattle.pfs_counted.proofs.Keyed.{AreAlone, rows_at, rows_are, table_of}
+use Rattle.pfs_counted.proofs.Keyed.{key_at, AreAlone, rows_at, rows_are, table_of}
 use Rattle.pfs_counted.proofs.Listed.{ArePlaced}
 use Rattle.pfs_counted.proofs.Read.{IsShown, shows}
 use Rattle.pfs_counted.proofs.Tallies.{tally_is}

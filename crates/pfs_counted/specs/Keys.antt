@@ -1,11 +1,7 @@
 -- Whose rows a summary has, and what they begin with.
-use Rattle.std.specs.Prelude.{ℕ, Bool, true, false, List, [], ◌∷◌, Option, Some}
-use Rattle.std.specs.Option.{option_map}
+use Rattle.std.specs.Prelude.{ℕ, Bool, true, false, List, [], ◌∷◌}
 use Rattle.pfs_classes.specs.Registry.{text_of}
 use Rattle.pfs_conservation.specs.Tables.{Key, KeyThread, KeyAccount, KeyUser, KeyHost, KeyAll}
-use Rattle.pfs_containers.specs.Connections.{State, entry_at}
-use Rattle.pfs_containers.specs.declared.containers.Account.{Account}
-use Rattle.pfs_containers.specs.declared.containers.Connection.{Connection}
 use Rattle.pfs_rows.specs.declared.table.SummaryTable.{SummaryTable}
 use Rattle.pfs_rows.specs.declared.table.SummaryTable.TheVariants.{ByThread, ByAccount, ByUser, ByHost, Global}
 use Rattle.pfs_values.specs.declared.RowValue.{RowValue}
@@ -27,11 +23,3 @@ heading_of_key names (KeyAccount user host) = value.Text (text_of names user) �
 heading_of_key names (KeyUser user) = value.Text (text_of names user) ∷ []
 heading_of_key names (KeyHost host) = value.Text (text_of names host) ∷ []
 heading_of_key names KeyAll = []
-
--- whose rows stand at a place: of the session, account, user or host that is there
-abbrev pub key_at : SummaryTable → State → ℕ → Option Key
-key_at ByThread s place = option_map (λ (x : Connection). KeyThread x.number place) (entry_at s.threads place)
-key_at ByAccount s place = option_map (λ (e : Account). KeyAccount e.user_name e.host_name) (entry_at s.accounts place)
-key_at ByUser s place = option_map KeyUser (entry_at s.users place)
-key_at ByHost s place = option_map KeyHost (entry_at s.hosts place)
-key_at Global s place = Some KeyAll

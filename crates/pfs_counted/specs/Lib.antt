@@ -3,3 +3,4 @@ pub mod Summed
 pub mod Named
 pub mod Counted
 pub mod Laws
+pub mod Worked

@@ -1,6 +1,7 @@
 //! Laws of the definitions.
 
 ghost use Rattle.pfs_counted.specs.Laws.{CountedLaw};
+ghost use Rattle.pfs_counted.specs.Worked.{WorkedSummaries};
 
 /// Under the end of each phase of a run of any script, each summary shows just the events that count there: a row for
 /// each key and class by which something counts, with their number, sums, least and greatest, and no other row.
@@ -19,3 +20,8 @@ pub fn counted()
     pfs_summaries::laws::rows();
     pfs_tagged::laws::summed();
 }
+
+/// Two small summaries, by user and by thread: their rows, who has none, and lists of rows that they are not.
+pub fn worked()
+    ensures { WorkedSummaries }
+{}
