@@ -35,7 +35,7 @@ Discarded =
     → IsDiscarded (stats measures) journals shown global
 
 -- For the printed lines of one kind that keep their rules: what the rows of a key show after the last action is the
--- merge of the events that lead to the key and that no covering action took since they were added.
+-- merge of the events that lead to the key, but for those with a covering action at or after their removal.
 abbrev pub Reported : Type 0
 Reported =
     (measures : ℕ → Measure) → ((event : ℕ) → Fits (stat_of (measures event)))

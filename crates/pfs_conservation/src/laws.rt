@@ -18,7 +18,8 @@ pub fn discarded()
 
 /// Of the printed changes of one kind's rows, by any number of sessions, that keep the rules of chains, actions,
 /// moves and floors: what the rows of a key show after the last action is the merge of the events that lead to the
-/// key and that no covering action took since they were added.
+/// key, but for those where a covering action has the number of the first take of their row behind their addition, or
+/// a later one.
 pub fn reported()
     ensures { Reported }
 {

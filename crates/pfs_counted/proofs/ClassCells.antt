@@ -54,7 +54,7 @@ transaction_kind setting = at (table_kind setting.classes.transaction.kind) refl
   at Statements q = absurd (not_other Statements q (λ e. absurd (cc)))
 
 -- what stands at an id is a registered class, or `transaction`
-class_cases : (setting : Setting) (kind : TableKind) (id : ℕ) → (kind ≡ Transactions → ⊥) → is_class_of kind (class_at setting.classes id) ≡ true → is_class_of kind (slice_get setting.classes.classes id) ≡ true
+pub class_cases : (setting : Setting) (kind : TableKind) (id : ℕ) → (kind ≡ Transactions → ⊥) → is_class_of kind (class_at setting.classes id) ≡ true → is_class_of kind (slice_get setting.classes.classes id) ≡ true
 class_cases setting kind id n h = at (id == 62) refl where
   at : (b : Bool) → (id == 62) ≡ b → is_class_of kind (slice_get setting.classes.classes id) ≡ true
   at false q = ap (λ (b : Bool). is_class_of kind (if b then Some setting.classes.transaction else slice_get setting.classes.classes id)) (sym q) ∙ h

@@ -12,5 +12,13 @@ pub mod Phase
 pub mod Names
 pub mod Seated
 pub mod Freed
+pub mod Takings
+pub mod Removed
+pub mod Covered
+pub mod Numbered
+pub mod Plain
 pub mod Runs
+pub mod Extremes
+pub mod Numbers
 pub mod Worked
+pub mod WorkedCounts

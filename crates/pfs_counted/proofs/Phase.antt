@@ -45,12 +45,13 @@ use Rattle.pfs_summaries.specs.declared.tallies.Tally.{Tally}
 use Rattle.pfs_tagged.proofs.Folding.{fold_places, length_as}
 use Rattle.pfs_tagged.proofs.Staying.{fold_well}
 use Rattle.pfs_tagged.specs.Acts.{actions_of, labels_so_far, places_behind}
-use Rattle.pfs_tagged.specs.Board.{limits_of}
+use Rattle.pfs_tagged.specs.Board.{cells_of, limits_of}
 use Rattle.pfs_tagged.specs.Laws.{SummedLaw}
 use Rattle.pfs_tagged.specs.Premises.{AreKept, IsOrderly, AreInRange}
 use Rattle.pfs_tagged.specs.Runs.{Run, IsKeyOf, actions_to, entries_to, counted_to, events_to, stands_to}
 use Rattle.pfs_values.specs.declared.RowValue.{RowValue}
-use Rattle.pfs_counted.specs.Counted.{AreCounted}
+use Rattle.pfs_counted.specs.Counted.{past_to, AreCounted}
+use Rattle.pfs_counted.specs.Counts.{counted_at}
 use Rattle.pfs_counted.specs.Keys.{is_key_of}
 use Rattle.pfs_counted.specs.Named.{rows_named}
 use Rattle.pfs_counted.specs.Summed.{AreSummed}
@@ -80,6 +81,7 @@ opened_apart setting = record {
 
 module _ (run : Run) (kept : AreKept run) (orderly : IsOrderly run) (in_range : AreInRange run.facts) (few : (kind : TableKind) (phase : ℕ) → length (events_to run kind phase) < 2 ^ 64) (sums : SummedLaw)
     (back : AreBack) (places : ArePlaces) (listed : AreListed) (differ : (a b : Table) → table_name a ≡ table_name b → a ≡ b) (phase : ℕ)
+    (plainly : (kind : TableKind) (key : Key) → IsKeyOf run key → (cell : ℕ) → cells_of run.setting kind cell ≡ true → counted_to run kind phase key (cell ∷ []) ≡ counted_at (past_to run phase) kind key cell)
     (told : AreTold (shown_row run.content (entries_to run phase)) (containers_behind run.setting run.change run.labels (entries_to run phase)))
     (whole : (row : ℕ) → 129 ≤ row → row < 8385 → is_free_after (entries_to run phase) row ≡ false) (named : AreNamed (length run.setting.names) (places_behind run.setting (actions_to run phase)))
     (seated : (slot : ℕ) (x : Connection) → entry_at (places_behind run.setting (actions_to run phase)).threads slot ≡ Some x → slot_in run.blocks x.number ≡ Some slot) where
@@ -117,12 +119,12 @@ module _ (run : Run) (kept : AreKept run) (orderly : IsOrderly run) (in_range : 
 
   -- what a key shows of a cell is what counts there
   merged : (kind : TableKind) (which : SummaryTable) (key : Key) → is_key_of which key ≡ true → IsKeyOf run key → (cell : ℕ) → cell < 64 → has_cell (scope_of run.setting) (Summary kind which) cell ≡ true
-      → merge_all (map (stands_to run phase) (shown_cell key (rows_at cell) containers.places)) ≡ counted_to run kind phase key (cell ∷ [])
+      → merge_all (map (stands_to run phase) (shown_cell key (rows_at cell) containers.places)) ≡ counted_at (past_to run phase) kind key cell
   merged kind which key of_table asked cell low is_cell =
       fold_mapped (stands_to run phase) zero_of (shown_cell key (rows_at cell) containers.places)
       ∙ (ap (λ (s : State). fold (λ sum row. merge_of sum (stands_to run phase row)) zero_of (shown_cell key (rows_at cell) s)) places_are
       ∙ (ap (λ (l : List ℕ). fold (λ sum row. merge_of sum (stands_to run phase row)) zero_of l) (sym (append-nil (shown_cell key (rows_at cell) behind)))
-      ∙ sums run kind phase kept orderly in_range (few kind phase) key asked (cell ∷ []) (is_cell, tt) once)) where
+      ∙ (sums run kind phase kept orderly in_range (few kind phase) key asked (cell ∷ []) (is_cell, tt) once ∙ plainly kind key asked cell is_cell))) where
         once : (other : ℕ) → count_by (λ c. c == other) (cell ∷ []) ≤ 1
         once other = at (cell == other) refl where
           at : (b : Bool) → (cell == other) ≡ b → count_by (λ c. c == other) (cell ∷ []) ≤ 1
@@ -145,12 +147,12 @@ module _ (run : Run) (kept : AreKept run) (orderly : IsOrderly run) (in_range : 
     versions : ℕ → ℕ
     versions word = word_version (entries_to run phase) word
 
-    on : IsSummaryRead run.setting kind which final.reads → AreSummed run.setting kind which (IsKeyOf run) (λ key cell. counted_to run kind report.number key (cell ∷ [])) (rows_named (table_name (Summary kind which)) report.tables)
+    on : IsSummaryRead run.setting kind which final.reads → AreSummed run.setting kind which (IsKeyOf run) (counted_at (past_to run report.number) kind) (rows_named (table_name (Summary kind which)) report.tables)
     on r =
-        subst (λ n. AreSummed run.setting kind which (IsKeyOf run) (λ key cell. counted_to run kind n key (cell ∷ [])) (rows_named (table_name (Summary kind which)) report.tables)) (sym number)
-        (subst (AreSummed run.setting kind which (IsKeyOf run) (λ key cell. counted_to run kind phase key (cell ∷ []))) (sym rows_are)
-        (summed run.setting kind which (IsKeyOf run) (λ key cell. counted_to run kind phase key (cell ∷ [])) containers.places (infos_of r.read.readings) (tally_of which (infos_of r.read.readings) r.read.readings)
-        (placed back places (shown_row run.content (entries_to run phase)) (word_version (entries_to run phase)) (λ word. flags word (word_version (entries_to run phase) word)) run.setting kind r.read.readings containers told (IsKeyOf run) settled never_busy (stands_to run phase) seen_whole (λ key cell. counted_to run kind phase key (cell ∷ [])) (merged kind) which shown)
+        subst (λ n. AreSummed run.setting kind which (IsKeyOf run) (counted_at (past_to run n) kind) (rows_named (table_name (Summary kind which)) report.tables)) (sym number)
+        (subst (AreSummed run.setting kind which (IsKeyOf run) (counted_at (past_to run phase) kind)) (sym rows_are)
+        (summed run.setting kind which (IsKeyOf run) (counted_at (past_to run phase) kind) containers.places (infos_of r.read.readings) (tally_of which (infos_of r.read.readings) r.read.readings)
+        (placed back places (shown_row run.content (entries_to run phase)) (word_version (entries_to run phase)) (λ word. flags word (word_version (entries_to run phase) word)) run.setting kind r.read.readings containers told (IsKeyOf run) settled never_busy (stands_to run phase) seen_whole (counted_at (past_to run phase) kind) (merged kind) which shown)
         (listed.given run.setting kind which (infos_of r.read.readings) (tally_of which (infos_of r.read.readings) r.read.readings)) (listed.ascending run.setting kind which (infos_of r.read.readings) (tally_of which (infos_of r.read.readings) r.read.readings)))) where
           is_read : IsRead run.setting run.content flags (entries_to run phase) r.read
           is_read = All-contains (IsRead run.setting run.content flags (entries_to run phase)) final.reads r.read final.each r.among
@@ -171,4 +173,4 @@ module _ (run : Run) (kept : AreKept run) (orderly : IsOrderly run) (in_range : 
           rows_are =
               ap (rows_named (table_name (Summary kind which))) final.tables
               ∙ (r.rows
-              ∙ ap (filter (is_shown (Summary kind which))) (rows_shown run.setting kind which r.read.readings (never_hidden back places (shown_row run.content (entries_to run phase)) (word_version (entries_to run phase)) (λ word. flags word (word_version (entries_to run phase) word)) run.setting kind r.read.readings containers told (IsKeyOf run) settled never_busy (stands_to run phase) seen_whole (λ key cell. counted_to run kind phase key (cell ∷ [])) which shown)))
+              ∙ ap (filter (is_shown (Summary kind which))) (rows_shown run.setting kind which r.read.readings (never_hidden back places (shown_row run.content (entries_to run phase)) (word_version (entries_to run phase)) (λ word. flags word (word_version (entries_to run phase) word)) run.setting kind r.read.readings containers told (IsKeyOf run) settled never_busy (stands_to run phase) seen_whole (counted_at (past_to run phase) kind) which shown)))

@@ -1,20 +1,37 @@
 -- That the summaries of any run of a script show what counts there.
-use Rattle.std.specs.Prelude.{ℕ, List}
+use Rattle.std.specs.Prelude.{ℕ, ◌≡◌, ◌<◌, ◌^◌, true, List, [], ◌∷◌, length}
 use Rattle.pfs_classes.specs.declared.setting.Setting.{Setting}
+use Rattle.pfs_conservation.specs.Tables.{Key}
 use Rattle.pfs_journal.specs.declared.report.ReportParts.{ReportParts}
-use Rattle.pfs_model.specs.Asked.{Answer}
+use Rattle.pfs_model.specs.Asked.{Answer, Replied}
 use Rattle.pfs_orderly.specs.Orderly.{run_of}
+use Rattle.pfs_rows.specs.declared.table.TableKind.{TableKind}
 use Rattle.pfs_runs.specs.Runs.{IsRun, IsPlainRun, AreFinal}
 use Rattle.pfs_script.specs.declared.blocks.Phase.{Phase}
 use Rattle.pfs_script.specs.declared.reasons.Extent.TheVariants.{Whole}
 use Rattle.pfs_script.specs.Scripts.{IsScript}
-use Rattle.pfs_counted.specs.Counted.{AreCounted}
+use Rattle.pfs_tagged.specs.Board.{cells_of}
+use Rattle.pfs_tagged.specs.Premises.{AreKept, IsOrderly}
+use Rattle.pfs_tagged.specs.Runs.{Run, IsKeyOf, events_to, counted_to}
+use Rattle.pfs_counted.specs.Counted.{past_to, AreCounted}
+use Rattle.pfs_counted.specs.Counts.{counted_at}
 
--- under the end of each phase of a run, whatever the answers are
+-- what counts by the numbers that conservation gives to events is what counts by the entries
+abbrev pub PlainLaw : Type 0
+PlainLaw = (run : Run) (kind : TableKind) (phase : ℕ) → AreKept run → IsOrderly run
+    → length (events_to run kind phase) < 2 ^ 64 → (key : Key) → IsKeyOf run key
+    → (cell : ℕ) → cells_of run.setting kind cell ≡ true
+    → counted_to run kind phase key (cell ∷ []) ≡ counted_at (past_to run phase) kind key cell
+
+-- what counts goes by no answer of a line, so these do as well as any
+abbrev pub unanswered : ℕ → Answer
+unanswered action = Replied 0
+
+-- under the end of each phase of a run
 abbrev pub AllAreCounted : (setting : Setting) (phases : List Phase) (report : ReportParts)
     → IsRun setting phases report → Type 0
-AllAreCounted setting phases report run = (answers : ℕ → Answer)
-    → AreFinal (AreCounted (run_of setting phases report run answers)) report.phases
+AllAreCounted setting phases report run =
+    AreFinal (AreCounted (run_of setting phases report run unanswered)) report.phases
 
 abbrev pub CountedLaw : Type 0
 CountedLaw = (text : List ℕ) (setting : Setting) (phases : List Phase) (report : ReportParts)

@@ -1,6 +1,10 @@
 pub mod Keys
 pub mod Summed
 pub mod Named
+pub mod Counts
 pub mod Counted
 pub mod Laws
+pub mod Extremes
+pub mod Numbers
 pub mod Worked
+pub mod WorkedCounts

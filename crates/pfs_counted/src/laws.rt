@@ -1,10 +1,14 @@
 //! Laws of the definitions.
 
-ghost use Rattle.pfs_counted.specs.Laws.{CountedLaw};
+ghost use Rattle.pfs_counted.specs.Laws.{CountedLaw, PlainLaw};
+ghost use Rattle.pfs_counted.specs.Numbers.{NumbersLaw};
 ghost use Rattle.pfs_counted.specs.Worked.{WorkedSummaries};
+ghost use Rattle.pfs_counted.specs.WorkedCounts.{WorkedCounts};
 
 /// Under the end of each phase of a run of any script, each summary shows just the events that count there: a row for
-/// each key and class by which something counts, with their number, sums, least and greatest, and no other row.
+/// each key and class by which something counts, with their number, sums, least and greatest, and no other row. An
+/// event that has ended counts where it was let through, leads to the key, and no action that covers the key has the
+/// number of the one that took its row first, or a later one.
 pub fn counted()
     ensures { CountedLaw }
 {
@@ -19,9 +23,35 @@ pub fn counted()
     pfs_rows::laws::table_names_differ();
     pfs_summaries::laws::rows();
     pfs_tagged::laws::summed();
+    plain();
+}
+
+/// What counts by the numbers that conservation gives to events, and by the chains of rows, is what counts by the
+/// entries of journals: for each key of a run that keeps the rules and is orderly, and each cell of the kind.
+pub fn plain()
+    ensures { PlainLaw }
+{
+    pfs_rows::laws::rows();
+    pfs_tagged::laws::acted();
+    pfs_tagged::laws::added();
+}
+
+/// The count of a row is the number of the events that count there, so it has a row just where there are some. Its
+/// least and its greatest are waits of timed ones, between which all their waits lie; both are 0 where none was timed,
+/// after MySQL.
+pub fn numbers()
+    ensures { NumbersLaw }
+{
+    pfs_ranged::laws::few();
+    pfs_ranged::laws::in_range();
 }
 
 /// Two small summaries, by user and by thread: their rows, who has none, and lists of rows that they are not.
 pub fn worked()
     ensures { WorkedSummaries }
+{}
+
+/// Which waits of two sessions count by each key, before and behind a quit and a TRUNCATE by host.
+pub fn worked_counts()
+    ensures { WorkedCounts }
 {}

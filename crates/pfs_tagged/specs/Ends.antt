@@ -17,7 +17,8 @@ use Rattle.pfs_model.specs.declared.lines.Opened.{Opened}
 use Rattle.pfs_stat.specs.declared.Measure.{Measure}
 
 -- The number of a session's event by its position among the session's starts: 2^session * (2 * index + 1), so no two
--- events of a run have one number.
+-- events of a run have one number. Only conservation goes by it: what is said of a report names events by session and
+-- position.
 abbrev pub event_number : ℕ → ℕ → ℕ
 event_number zero index = 2 * index + 1
 event_number (suc session) index = 2 * event_number session index

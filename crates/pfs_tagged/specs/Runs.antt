@@ -90,8 +90,8 @@ IsKeyOf run (KeyUser user) = Unit {0}
 IsKeyOf run (KeyHost host) = Unit {0}
 IsKeyOf run KeyAll = Unit {0}
 
--- an event of these cells counts for a key where it leads to the key, and no action that covers the key took it since
--- it was added
+-- an event of these cells counts for a key where it leads to the key, and no action that covers the key has the number
+-- of the event's removal, which is the first take of its row behind its addition, or a later one
 abbrev pub counts_to : Run → TableKind → ℕ → Key → List ℕ → ℕ → Bool
 counts_to run kind phase key cells event =
     leads_at key cells (whose_to run phase event)

@@ -35,8 +35,8 @@ pub fn added()
     pfs_rows::laws::rows();
 }
 
-/// What the rows of a key show under a phase's end is the merge of the events that lead to the key and that no covering
-/// action took since they were added.
+/// What the rows of a key show under a phase's end is the merge of the events that lead to the key, but for those where
+/// a covering action has the number of the first take of their row behind their addition, or a later one.
 pub fn summed()
     ensures { SummedLaw }
 {
