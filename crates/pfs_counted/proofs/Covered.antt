@@ -1,12 +1,12 @@
 -- What covers an event by the actions' states is what covers it by the actions alone, and it leads where it did.
-use Rattle.std.proofs.Common.{◌≡◌, refl, ℕ, zero, suc, ◌+◌, ◌<◌, ◌≤◌, ◌==◌, ◌&&◌, ◌||◌, not, ◌⊎◌, inl, inr, Bool, true, false, cond, nat_lt, nat_le, List, [], ◌∷◌, ◌++◌, Option, Some, None, is_some, count_by, sym, ap, subst, ◌∙◌, arith}
+use Rattle.std.proofs.Common.{◌≡◌, refl, ℕ, zero, suc, ◌+◌, ◌≤◌, ◌==◌, ◌&&◌, ◌||◌, not, ◌⊎◌, inl, inr, Bool, true, false, cond, nat_lt, nat_le, List, [], ◌∷◌, ◌++◌, Option, Some, None, is_some, count_by, sym, ap, subst, ◌∙◌, arith}
 use Rattle.std.proofs.lemmas.List.Sums.{sum_by-cons}
 use Rattle.pfs_conservation.specs.Actions.{moved_by, moves_of}
-use Rattle.pfs_conservation.specs.Chains.{Change, Added, Taken, Given}
+use Rattle.pfs_conservation.specs.Chains.{Change, Taken, Given}
 use Rattle.pfs_conservation.specs.Conservation.{counts_after}
 use Rattle.pfs_conservation.specs.Lines.{Kind, Adds, Takes, Gives, Tagged, as_change, change_of, Stands}
 use Rattle.pfs_conservation.specs.Moves.{Move}
-use Rattle.pfs_conservation.specs.Prints.{Print, gives_of, prints_of, prints_all, is_move, printed_by}
+use Rattle.pfs_conservation.specs.Prints.{Print, gives_of, prints_all, is_move, printed_by}
 use Rattle.pfs_conservation.specs.Tables.{Key, KeyThread, KeyAccount, KeyUser, KeyHost, KeyAll, is_of, is_all, leads_key, leads_at, those_to}
 use Rattle.pfs_conservation.specs.Tenures.{Owner}
 use Rattle.pfs_model.specs.Places.{Placed}

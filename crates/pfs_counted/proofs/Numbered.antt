@@ -1,13 +1,13 @@
 -- Merging events by their numbers is merging the events.
-use Rattle.std.proofs.Common.{◌≡◌, refl, ℕ, zero, suc, ◌+◌, ◌<◌, ◌≤◌, ◌==◌, ◌&&◌, ◌⊎◌, inl, inr, Bool, true, false, cond, List, [], ◌∷◌, map, filter, fold, Option, Some, None, sym, ap, subst, ◌∙◌, arith}
+use Rattle.std.proofs.Common.{◌≡◌, refl, ℕ, ◌+◌, ◌≤◌, ◌==◌, ◌&&◌, inl, inr, Bool, true, false, cond, List, [], ◌∷◌, map, filter, fold, Some, sym, ap, ◌∙◌, arith}
 use Rattle.pfs_conservation.specs.Chains.{Sums, with_event}
 use Rattle.pfs_model.specs.Actions.{IsAmong}
-use Rattle.pfs_model.specs.Chains.{Each, times}
+use Rattle.pfs_model.specs.Chains.{Each}
 use Rattle.pfs_stat.specs.Stat.{merge_of}
 use Rattle.pfs_stat.specs.declared.Stat.{Stat}
 use Rattle.pfs_tagged.specs.Ends.{Ended, number_of, of_number}
-use Rattle.pfs_tagged.proofs.Indexing.{is_number, times_ended}
-use Rattle.pfs_tagged.proofs.Sifting.{eq_of, bit_yes}
+use Rattle.pfs_tagged.proofs.Indexing.{times_ended}
+use Rattle.pfs_tagged.proofs.Sifting.{bit_yes}
 
 self : (n : ℕ) → (n == n) ≡ true
 self n = grind arith

@@ -1,10 +1,9 @@
 -- The numbers of rows are those of the events that count there.
-use Rattle.std.proofs.Common.{◌≡◌, refl, ℕ, ◌+◌, ◌%◌, ◌^◌, ◌<◌, ◌≤◌, ◌==◌, ◌&&◌, Bool, true, false, cond, List, [], ◌∷◌, ◌++◌, length, map, filter, sym, ap, subst, ◌∙◌, arith}
+use Rattle.std.proofs.Common.{◌≡◌, refl, ℕ, ◌+◌, ◌%◌, ◌^◌, ◌<◌, ◌≤◌, ◌==◌, ◌&&◌, Bool, true, false, cond, List, [], ◌∷◌, ◌++◌, length, map, filter, sym, ap, ◌∙◌, arith}
 use Rattle.std.specs.Prelude.{◌↔◌}
 use Rattle.pfs_classes.specs.Registry.{class_at}
 use Rattle.pfs_conservation.specs.Tables.{Key}
 use Rattle.pfs_event.specs.Verdicts.{is_let_through}
-use Rattle.pfs_model.specs.Contents.{amount_of}
 use Rattle.pfs_orderly.specs.Orderly.{run_of}
 use Rattle.pfs_ranged.specs.Ranged.{FewLaw, InRangeLaw}
 use Rattle.pfs_readsets.specs.Places.{is_class_of}

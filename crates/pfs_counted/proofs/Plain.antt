@@ -1,5 +1,5 @@
 -- What counts by conservation's numbers of events is what counts by the journals.
-use Rattle.std.proofs.Common.{◌≡◌, refl, ℕ, ◌<◌, ◌≤◌, ◌==◌, ◌&&◌, ◌||◌, not, inl, inr, Bool, true, false, List, [], ◌∷◌, length, Option, Some, None, IfSome, is_some, count_by, sym, ap, subst, ◌∙◌, arith}
+use Rattle.std.proofs.Common.{◌≡◌, refl, ℕ, ◌<◌, ◌≤◌, ◌==◌, ◌&&◌, not, inl, inr, Bool, true, false, List, [], ◌∷◌, length, Option, Some, None, IfSome, is_some, count_by, sym, ap, subst, ◌∙◌, arith}
 use Rattle.std.specs.Prelude.{nat_le}
 use Rattle.pfs_conservation.specs.Administration.{Action, line_of, numbered, state_before}
 use Rattle.pfs_conservation.specs.Chains.{Taken}
@@ -10,22 +10,21 @@ use Rattle.pfs_conservation.specs.Prints.{AreActed}
 use Rattle.pfs_conservation.specs.Removals.{removal}
 use Rattle.pfs_conservation.specs.Seats.{Seat, opened_by, holder_of, takes_by}
 use Rattle.pfs_containers.specs.Connections.{State}
-use Rattle.pfs_conservation.specs.Tables.{Key, KeyThread, KeyAccount, KeyUser, KeyHost, KeyAll, is_all, leads_key, leads_at, home_at, covers_at, covers_to}
+use Rattle.pfs_conservation.specs.Tables.{Key, KeyThread, KeyAccount, KeyUser, KeyHost, KeyAll, leads_at, home_at, covers_at, covers_to}
 use Rattle.pfs_event.specs.Verdicts.{is_let_through}
 use Rattle.pfs_event.specs.declared.verdict.Verdict.{Verdict}
 use Rattle.pfs_event.specs.declared.verdict.Verdict.TheVariants.{Attributed}
 use Rattle.pfs_model.specs.Actions.{IsAmong}
 use Rattle.pfs_model.specs.Asks.{cell_row}
-use Rattle.pfs_model.specs.Chains.{Each, times}
+use Rattle.pfs_model.specs.Chains.{times}
 use Rattle.pfs_model.specs.Contents.{amount_of}
 use Rattle.pfs_model.specs.Places.{Placed, places}
 use Rattle.pfs_model.specs.Shapes.{counted_slot}
-use Rattle.pfs_model.specs.Summaries.{some_action, stays_counted}
+use Rattle.pfs_model.specs.Summaries.{stays_counted}
 use Rattle.pfs_rows.specs.Tables.{kind_number}
 use Rattle.pfs_rows.specs.declared.table.TableKind.{TableKind}
 use Rattle.pfs_runs.specs.Rules.{slot_in}
 use Rattle.pfs_stat.specs.Stat.{zero_of, stat_of}
-use Rattle.pfs_stat.specs.declared.Stat.{Stat}
 use Rattle.pfs_tagged.proofs.Acted.{each_chosen, each_map}
 use Rattle.pfs_tagged.proofs.AddedCounts.{numbers_count, each_among}
 use Rattle.pfs_tagged.proofs.AddedRows.{AreNone, IsLowEnded, home_kind, home_is}
@@ -36,8 +35,8 @@ use Rattle.pfs_tagged.proofs.Lasting.{HasLast, EndsLast, all_lasting, ends_lasti
 use Rattle.pfs_tagged.proofs.Seating.{AreBack, AreFound}
 use Rattle.pfs_tagged.proofs.Sifting.{eq_of, both_of, bit_yes}
 use Rattle.pfs_tagged.specs.Acts.{moves_at, names_by}
-use Rattle.pfs_tagged.specs.Board.{cells_of, board, limits_of, is_kind_row, kind_rows, row_in, seat_in}
-use Rattle.pfs_tagged.specs.Ends.{Ended, number_of, all_ended, of_number, counts_in, measure_if, session_of, whose_by, whose_if}
+use Rattle.pfs_tagged.specs.Board.{cells_of, board, limits_of, is_kind_row, kind_rows, seat_in}
+use Rattle.pfs_tagged.specs.Ends.{Ended, number_of, all_ended, of_number, counts_in, measure_if, whose_by, whose_if}
 use Rattle.pfs_tagged.specs.Laws.{ActedLaw, AddedLaw}
 use Rattle.pfs_tagged.specs.Premises.{AreKept, IsOrderly}
 use Rattle.pfs_tagged.specs.Runs.{Run, given_in, entries_to, actions_to, rows_by, lines_to, events_to, sums_to, whose_to, counts_to, counted_to, IsKeyOf}

@@ -2,7 +2,7 @@
 use Rattle.std.proofs.Common.{◌≡◌, refl, ℕ, zero, suc, ◌+◌, ◌<◌, ◌≤◌, ◌==◌, ◌&&◌, ◌⊎◌, inl, inr, Bool, true, false, cond, nat_lt, List, [], ◌∷◌, ◌++◌, length, map, filter, count_by, Option, Some, None, sym, ap, subst, ◌∙◌, arith}
 use Rattle.std.proofs.lemmas.List.Sums.{sum_by-cons}
 use Rattle.pfs_conservation.specs.Chains.{Change, Added, Taken, Given}
-use Rattle.pfs_conservation.specs.Lines.{Kind, Adds, Takes, Gives, Tagged, as_change, change_of, standing, changes_of, chain_from, chain_of, Stands, Within, Adding, times_in, times_added}
+use Rattle.pfs_conservation.specs.Lines.{Kind, Adds, Takes, Gives, Tagged, as_change, change_of, standing, changes_of, chain_from, chain_of, Stands, Within, times_in, times_added}
 use Rattle.pfs_conservation.specs.Lines.{IsAmong as IsChange}
 use Rattle.pfs_conservation.specs.Removals.{first_take, following, counts_event, removal}
 use Rattle.pfs_event.specs.declared.entry.Entry.{Entry}
@@ -16,7 +16,7 @@ use Rattle.pfs_tagged.specs.Ends.{event_number, Ended, number_of}
 use Rattle.pfs_tagged.specs.Tagged.{lines_at, all_lines, lines_on}
 use Rattle.pfs_tagged.proofs.Indexing.{number_is}
 use Rattle.pfs_tagged.proofs.Sifting.{eq_of, both_of, sifted, bit_yes, bit_no}
-use Rattle.pfs_counted.specs.Counts.{own_row, is_addition_of, removal_behind, removal_in}
+use Rattle.pfs_counted.specs.Counts.{own_row, removal_behind, removal_in}
 use Rattle.pfs_counted.proofs.Takings.{Takes as Takings, IsLeast, least, takes_stand, stands_takes, kept_on, stands_among, among_stands, one_stands, in_range, IsFirst, first_is, which}
 
 count_cons : (n x : ℕ) (xs : List ℕ) → count_by (λ y. y == n) (x ∷ xs) ≡ cond (x == n) 1 0 + count_by (λ y. y == n) xs

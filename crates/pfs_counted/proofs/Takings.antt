@@ -7,7 +7,7 @@ use Rattle.pfs_conservation.specs.Removals.{first_take}
 use Rattle.pfs_event.specs.declared.entry.Entry.{Entry}
 use Rattle.pfs_event.specs.declared.entry.Entry.TheVariants as says
 use Rattle.pfs_model.specs.Places.{Placed}
-use Rattle.pfs_model.specs.Summaries.{Taking, taking_at, takings_of, lower_of, first_taking, action_of}
+use Rattle.pfs_model.specs.Summaries.{Taking, taking_at, takings_of, lower_of, first_taking}
 use Rattle.pfs_tagged.specs.Tagged.{lines_at, all_lines, lines_on}
 use Rattle.pfs_tagged.proofs.Sifting.{eq_of, both_of}
 

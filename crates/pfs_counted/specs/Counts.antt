@@ -1,5 +1,5 @@
 -- Which events count in a summary row, by the journals alone, and what they add up to.
-use Rattle.std.specs.Prelude.{ℕ, ◌==◌, Bool, true, ◌&&◌, ◌||◌, List, [], ◌∷◌, length, map, filter, Option, Some, None, is_some}
+use Rattle.std.specs.Prelude.{ℕ, ◌==◌, Bool, true, ◌&&◌, ◌||◌, List, [], ◌∷◌, length, map, filter, Option, None, is_some}
 use Rattle.pfs_conservation.specs.Administration.{Action, numbered}
 use Rattle.pfs_conservation.specs.Tables.{Key, KeyThread, is_all, leads_key, covers_key}
 use Rattle.pfs_event.specs.Verdicts.{is_let_through}

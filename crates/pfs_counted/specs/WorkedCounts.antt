@@ -9,10 +9,8 @@ use Rattle.pfs_event.specs.declared.entry.Entry.TheVariants as says
 use Rattle.pfs_event.specs.declared.kind.EventKind.TheVariants as kinds
 use Rattle.pfs_event.specs.declared.verdict.Verdict.{Verdict}
 use Rattle.pfs_event.specs.declared.verdict.Verdict.TheVariants.{Attributed, Aside, OffClass}
-use Rattle.pfs_model.specs.Contents.{Facts, Given}
+use Rattle.pfs_model.specs.Contents.{Facts}
 use Rattle.pfs_model.specs.Places.{Block, places}
-use Rattle.pfs_model.specs.Summaries.{Names}
-use Rattle.pfs_model.specs.declared.lines.Line.{Line}
 use Rattle.pfs_model.specs.declared.lines.Line.TheVariants as lines
 use Rattle.pfs_model.specs.declared.lines.Subject.{Subject}
 use Rattle.pfs_rows.specs.declared.table.TableKind.TheVariants.{Waits}
