@@ -4,7 +4,7 @@ ghost use Rattle.std.specs.Prelude.{◌≡◌, ◌+◌, ◌<◌, ◌^◌, if◌t
 ghost use Rattle.pfs_runs.specs.Finals.{is_lost_nested, is_lost_locker};
 ghost use Rattle.pfs_ends.specs.Counts as spec;
 
-use pfs_event::{Entry, Verdict};
+use pfs_event::{Entry, KeptEntry, Verdict};
 
 /// How many statements, and how many waits, were lost for too many were open.
 #[derive(Clone, Copy, Debug, PartialEq, Eq)]
@@ -40,18 +40,18 @@ fn lost_by(verdict: Verdict) -> LostEvents
 }
 
 // What is lost by an entry.
-fn lost_at(entry: &Entry) -> LostEvents
+fn lost_at(entry: &KeptEntry) -> LostEvents
     ensures statements { result.statements ≡ spec.lost_statements (entry.now ∷ []) }
     ensures waits { result.waits ≡ spec.lost_waits (entry.now ∷ []) }
 {
-    match entry {
-        Entry::Start { verdict, .. } => lost_by(*verdict),
+    match entry.entry() {
+        Entry::Start { verdict, .. } => lost_by(verdict),
         _ => LostEvents::NONE,
     }
 }
 
 /// What was lost so far, with what these entries say was lost. It goes over them once.
-pub fn count_lost(entries: &[Entry], so_far: LostEvents) -> LostEvents
+pub fn count_lost(entries: &[KeptEntry], so_far: LostEvents) -> LostEvents
     requires statements { so_far.statements + length entries.now < 2 ^ 64 }
     requires waits { so_far.waits + length entries.now < 2 ^ 64 }
     ensures statements { result.statements ≡ so_far.statements + spec.lost_statements entries.now }

@@ -5,6 +5,7 @@ ghost use Rattle.pfs_admin.specs.Opening.{opened};
 ghost use Rattle.pfs_session.specs.Settles.{owed_by_state};
 
 use crate::admin;
+use crate::levels::said;
 use pfs_admin::Admin;
 use pfs_classes::Setting;
 use pfs_event::{Entry, EventKind, Verdict};
@@ -244,7 +245,8 @@ const HELD: Entry = Entry::Held {
 #[test]
 fn a_wait_is_counted(rt: HostRuntime) -> Result<(), Fail> {
     let ran = record_waits(rt.alloc(), 0, &[120])?;
-    let entries = ran.log.entries();
+    let list = said(rt.alloc(), ran.log.entries())?;
+    let entries = list.as_slice();
     assert_eq!(rt; entries.len(), 9);
     assert_eq!(rt; &entries[..6], connected().as_slice());
     assert_eq!(rt; &entries[6..8], waited(1).as_slice());
@@ -260,7 +262,8 @@ fn a_wait_is_counted(rt: HostRuntime) -> Result<(), Fail> {
 #[test]
 fn what_is_held_is_added_with_the_next(rt: HostRuntime) -> Result<(), Fail> {
     let ran = record_waits(rt.alloc(), 2, &[5, 7, 9])?;
-    let entries = ran.log.entries();
+    let list = said(rt.alloc(), ran.log.entries())?;
+    let entries = list.as_slice();
     assert_eq!(rt; entries.len(), 15);
     assert_eq!(rt; &entries[6..8], waited(1).as_slice());
     assert_eq!(rt; entries[8], HELD);
@@ -279,7 +282,8 @@ fn what_is_held_is_added_with_the_next(rt: HostRuntime) -> Result<(), Fail> {
 #[test]
 fn what_is_held_is_settled_at_a_pause(rt: HostRuntime) -> Result<(), Fail> {
     let ran = record_waits(rt.alloc(), 1, &[5])?;
-    let entries = ran.log.entries();
+    let list = said(rt.alloc(), ran.log.entries())?;
+    let entries = list.as_slice();
     assert_eq!(rt; entries.len(), 11);
     assert_eq!(rt; &entries[8..], [HELD, Entry::Settle, ADDED].as_slice());
     let stat = ran.stat;

@@ -23,22 +23,26 @@ step test xs i d first now one within was is =
       few = omega (arith, was, is, started_one test (get_or xs i d), started_few test (take i xs), length-take-le i xs (omega arith));
     }
 
+-- the entry that is looked at stands there
+here : (test : Verdict → Bool) (one : ℕ) (entry there : Entry) → one ≡ started test (entry ∷ []) → entry ≡ there → one ≡ started test (there ∷ [])
+here test one entry there is same = is ∙ ap (λ (e : Entry). started test (e ∷ [])) same
+
 pub overflow_add-statements : goal.overflow_add-statements
 overflow_add-statements c =
-    let s = step is_lost_nested c.args.entries.now c.loop-entry.entry-index _ c.args.so_far.statements c.loop-entry.statements c.lost_at-lost.result.statements c.loop-entry-test.true
-    c.loop-entry.invariant.statements c.lost_at-lost.ensures.statements in
+    let s = step is_lost_nested c.args.entries.now c.loop-entry.entry-index c.entry-item.result c.args.so_far.statements c.loop-entry.statements c.lost_at-lost.result.statements c.loop-entry-test.true
+    c.loop-entry.invariant.statements (here is_lost_nested _ _ _ c.lost_at-lost.ensures.statements c.entry-item.is) in
     omega (arith, s.few)
 
 pub overflow_add-waits : goal.overflow_add-waits
 overflow_add-waits c =
-    let s = step is_lost_locker c.args.entries.now c.loop-entry.entry-index _ c.args.so_far.waits c.loop-entry.waits c.lost_at-lost.result.waits c.loop-entry-test.true
-    c.loop-entry.invariant.waits c.lost_at-lost.ensures.waits in
+    let s = step is_lost_locker c.args.entries.now c.loop-entry.entry-index c.entry-item.result c.args.so_far.waits c.loop-entry.waits c.lost_at-lost.result.waits c.loop-entry-test.true
+    c.loop-entry.invariant.waits (here is_lost_locker _ _ _ c.lost_at-lost.ensures.waits c.entry-item.is) in
     omega (arith, s.few)
 
 pub loop-entry-preserved : goal.loop-entry-preserved
 loop-entry-preserved c = record {
-  statements = (step is_lost_nested c.args.entries.now c.loop-entry.entry-index _ c.args.so_far.statements c.loop-entry.statements c.lost_at-lost.result.statements c.loop-entry-test.true
-      c.loop-entry.invariant.statements c.lost_at-lost.ensures.statements).more;
-  waits = (step is_lost_locker c.args.entries.now c.loop-entry.entry-index _ c.args.so_far.waits c.loop-entry.waits c.lost_at-lost.result.waits c.loop-entry-test.true
-      c.loop-entry.invariant.waits c.lost_at-lost.ensures.waits).more;
+  statements = (step is_lost_nested c.args.entries.now c.loop-entry.entry-index c.entry-item.result c.args.so_far.statements c.loop-entry.statements c.lost_at-lost.result.statements c.loop-entry-test.true
+      c.loop-entry.invariant.statements (here is_lost_nested _ _ _ c.lost_at-lost.ensures.statements c.entry-item.is)).more;
+  waits = (step is_lost_locker c.args.entries.now c.loop-entry.entry-index c.entry-item.result c.args.so_far.waits c.loop-entry.waits c.lost_at-lost.result.waits c.loop-entry-test.true
+      c.loop-entry.invariant.waits (here is_lost_locker _ _ _ c.lost_at-lost.ensures.waits c.entry-item.is)).more;
 }
