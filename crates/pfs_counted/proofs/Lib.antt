@@ -16,7 +16,7 @@ pub mod Takings
 pub mod Removed
 pub mod Covered
 pub mod Numbered
-pub mod Plain
+pub mod Agreed
 pub mod Runs
 pub mod Extremes
 pub mod Numbers

@@ -81,7 +81,7 @@ opened_apart setting = record {
 
 module _ (run : Run) (kept : AreKept run) (orderly : IsOrderly run) (in_range : AreInRange run.facts) (few : (kind : TableKind) (phase : ℕ) → length (events_to run kind phase) < 2 ^ 64) (sums : SummedLaw)
     (back : AreBack) (places : ArePlaces) (listed : AreListed) (differ : (a b : Table) → table_name a ≡ table_name b → a ≡ b) (phase : ℕ)
-    (plainly : (kind : TableKind) (key : Key) → IsKeyOf run key → (cell : ℕ) → cells_of run.setting kind cell ≡ true → counted_to run kind phase key (cell ∷ []) ≡ counted_at (past_to run phase) kind key cell)
+    (agreed : (kind : TableKind) (key : Key) → IsKeyOf run key → (cell : ℕ) → cells_of run.setting kind cell ≡ true → counted_to run kind phase key (cell ∷ []) ≡ counted_at (past_to run phase) kind key cell)
     (told : AreTold (shown_row run.content (entries_to run phase)) (containers_behind run.setting run.change run.labels (entries_to run phase)))
     (whole : (row : ℕ) → 129 ≤ row → row < 8385 → is_free_after (entries_to run phase) row ≡ false) (named : AreNamed (length run.setting.names) (places_behind run.setting (actions_to run phase)))
     (seated : (slot : ℕ) (x : Connection) → entry_at (places_behind run.setting (actions_to run phase)).threads slot ≡ Some x → slot_in run.blocks x.number ≡ Some slot) where
@@ -124,7 +124,7 @@ module _ (run : Run) (kept : AreKept run) (orderly : IsOrderly run) (in_range : 
       fold_mapped (stands_to run phase) zero_of (shown_cell key (rows_at cell) containers.places)
       ∙ (ap (λ (s : State). fold (λ sum row. merge_of sum (stands_to run phase row)) zero_of (shown_cell key (rows_at cell) s)) places_are
       ∙ (ap (λ (l : List ℕ). fold (λ sum row. merge_of sum (stands_to run phase row)) zero_of l) (sym (append-nil (shown_cell key (rows_at cell) behind)))
-      ∙ (sums run kind phase kept orderly in_range (few kind phase) key asked (cell ∷ []) (is_cell, tt) once ∙ plainly kind key asked cell is_cell))) where
+      ∙ (sums run kind phase kept orderly in_range (few kind phase) key asked (cell ∷ []) (is_cell, tt) once ∙ agreed kind key asked cell is_cell))) where
         once : (other : ℕ) → count_by (λ c. c == other) (cell ∷ []) ≤ 1
         once other = at (cell == other) refl where
           at : (b : Bool) → (cell == other) ≡ b → count_by (λ c. c == other) (cell ∷ []) ≤ 1

@@ -17,8 +17,8 @@ use Rattle.pfs_counted.specs.Counted.{past_to, AreCounted}
 use Rattle.pfs_counted.specs.Counts.{counted_at}
 
 -- what counts by the numbers that conservation gives to events is what counts by the entries
-abbrev pub PlainLaw : Type 0
-PlainLaw = (run : Run) (kind : TableKind) (phase : ℕ) → AreKept run → IsOrderly run
+abbrev pub AgreedLaw : Type 0
+AgreedLaw = (run : Run) (kind : TableKind) (phase : ℕ) → AreKept run → IsOrderly run
     → length (events_to run kind phase) < 2 ^ 64 → (key : Key) → IsKeyOf run key
     → (cell : ℕ) → cells_of run.setting kind cell ≡ true
     → counted_to run kind phase key (cell ∷ []) ≡ counted_at (past_to run phase) kind key cell

@@ -1,6 +1,6 @@
 //! Laws of the definitions.
 
-ghost use Rattle.pfs_counted.specs.Laws.{CountedLaw, PlainLaw};
+ghost use Rattle.pfs_counted.specs.Laws.{CountedLaw, AgreedLaw};
 ghost use Rattle.pfs_counted.specs.Numbers.{NumbersLaw};
 ghost use Rattle.pfs_counted.specs.Worked.{WorkedSummaries};
 ghost use Rattle.pfs_counted.specs.WorkedCounts.{WorkedCounts};
@@ -23,13 +23,13 @@ pub fn counted()
     pfs_rows::laws::table_names_differ();
     pfs_summaries::laws::rows();
     pfs_tagged::laws::summed();
-    plain();
+    agreed();
 }
 
 /// What counts by the numbers that conservation gives to events, and by the chains of rows, is what counts by the
 /// entries of journals: for each key of a run that keeps the rules and is orderly, and each cell of the kind.
-pub fn plain()
-    ensures { PlainLaw }
+pub fn agreed()
+    ensures { AgreedLaw }
 {
     pfs_rows::laws::rows();
     pfs_tagged::laws::acted();

@@ -43,7 +43,7 @@ use Rattle.pfs_tagged.specs.Runs.{Run, given_in, entries_to, actions_to, rows_by
 use Rattle.pfs_tagged.specs.Tagged.{all_lines}
 use Rattle.pfs_counted.specs.Counted.{past_to}
 use Rattle.pfs_counted.specs.Counts.{own_slot, own_row, removal_in, leads_to, stays_in, counts_at, counted_at}
-use Rattle.pfs_counted.specs.Laws.{PlainLaw}
+use Rattle.pfs_counted.specs.Laws.{AgreedLaw}
 use Rattle.pfs_counted.proofs.Covered.{counts_stays, some_here, takes_it, leads_same}
 use Rattle.pfs_counted.proofs.Numbered.{IsSame, each_self, found_self, merged_same}
 use Rattle.pfs_counted.proofs.Removed.{removed, removal_stands}
@@ -212,12 +212,12 @@ module _ (back : AreBack) (found : AreFound) (none : AreNone) (run : Run) (kind 
     same_amount : (sums_to run phase).of_event (number_of one) ≡ amount_of (given_in run) one.session one.event
     same_amount = ap (λ o. stat_of (measure_if (given_in run) o)) found_one
 
-  plain : counted_to run kind phase key (cell ∷ []) ≡ counted_at (past_to run phase) kind key cell
-  plain =
+  agreed : counted_to run kind phase key (cell ∷ []) ≡ counted_at (past_to run phase) kind key cell
+  agreed =
       merged_same (sums_to run phase) (λ a b. refl) (λ one. amount_of (given_in run) one.session one.event) (counts_in is_cell) (counts_to run kind phase key (cell ∷ [])) (counts_at (past_to run phase) kind key cell) ends
       (each_self (IsSame (sums_to run phase) (λ a b. refl) (λ one. amount_of (given_in run) one.session one.event) (counts_in is_cell) (counts_to run kind phase key (cell ∷ [])) (counts_at (past_to run phase) kind key cell)) ends
       (λ one m. record { same = same_count one m; adds = λ q. same_amount one m })) zero_of
 
-pub plain_law : AreBack → AreFound → AreNone → ActedLaw → AddedLaw → PlainLaw
-plain_law back found none acted added run kind phase kept orderly few key is cell low =
-    plain back found none run kind phase kept orderly (acted run kind phase kept) (added run kind phase kept orderly few) key is cell low
+pub agreed_law : AreBack → AreFound → AreNone → ActedLaw → AddedLaw → AgreedLaw
+agreed_law back found none acted added run kind phase kept orderly few key is cell low =
+    agreed back found none run kind phase kept orderly (acted run kind phase kept) (added run kind phase kept orderly few) key is cell low
