@@ -52,24 +52,24 @@ first_phase =
     }
     ∷ []
 
-abbrev pub second_phase : List Block
-second_phase =
-    record {
-      phase = 2;
-      session = 1;
-      lines = lines.Quit ∷ [];
-      parts = (says.Act 3 ∷ says.Take 135 2 ∷ says.Give 2183 1 135 ∷ []) ∷ [];
-    }
-    ∷ record {
-      phase = 2;
-      session = 2;
-      lines = lines.Start wait ∷ lines.End ∷ lines.Change ∷ lines.Start wait ∷ lines.End ∷ [];
-      parts =
-          starts 3 Attributed ∷ ends 3 199 2
-          ∷ (says.Act 4 ∷ says.Take 199 3 ∷ says.Give 4231 1 199 ∷ says.Give 8327 2 199 ∷ says.Reply 0 ∷ [])
-          ∷ starts 4 Attributed ∷ ends 4 199 4 ∷ [];
-    }
-    ∷ []
+abbrev pub quitting : Block
+quitting = record {
+  phase = 2;
+  session = 1;
+  lines = lines.Quit ∷ [];
+  parts = (says.Act 3 ∷ says.Take 135 2 ∷ says.Give 2183 1 135 ∷ []) ∷ [];
+}
+
+abbrev pub emptying : Block
+emptying = record {
+  phase = 2;
+  session = 2;
+  lines = lines.Start wait ∷ lines.End ∷ lines.Change ∷ lines.Start wait ∷ lines.End ∷ [];
+  parts =
+      starts 3 Attributed ∷ ends 3 199 2
+      ∷ (says.Act 4 ∷ says.Take 199 3 ∷ says.Give 4231 1 199 ∷ says.Give 8327 2 199 ∷ says.Reply 0 ∷ [])
+      ∷ starts 4 Attributed ∷ ends 4 199 4 ∷ [];
+}
 
 -- the events last 100 times the session and the position among its starts
 abbrev pub facts : ℕ → ℕ → Facts
@@ -95,9 +95,12 @@ past actions blocks = record {
 abbrev pub before : Past
 before = past (Connect 1 24 31 ∷ Connect 2 24 32 ∷ []) first_phase
 
+abbrev pub quit : Past
+quit = past (Connect 1 24 31 ∷ Connect 2 24 32 ∷ Quit 1 ∷ []) (first_phase ++ quitting ∷ [])
+
 abbrev pub behind : Past
 behind = past (Connect 1 24 31 ∷ Connect 2 24 32 ∷ Quit 1 ∷ Truncate (Summary 0 ByHost) ∷ [])
-    (first_phase ++ second_phase)
+    (first_phase ++ quitting ∷ emptying ∷ [])
 
 -- the session of each event and its position among the session's starts
 abbrev pub events_of : Past → Key → ℕ → List (ℕ × ℕ)
@@ -116,6 +119,10 @@ pub record WorkedCounts : Type 0 where
   pub all : events_of before KeyAll 6 ≡ (1, 0) ∷ (2, 0) ∷ (2, 1) ∷ []
   pub other_cell : events_of before KeyAll 7 ≡ []
   pub other_user : events_of before (KeyUser 25) 6 ≡ []
+  -- behind the quit the first session's counts no more by thread, and by its names still
+  pub left_thread : events_of quit (KeyThread 1 0) 6 ≡ []
+  pub left_account : events_of quit (KeyAccount 24 31) 6 ≡ (1, 0) ∷ []
+  pub stayed_thread : events_of quit (KeyThread 2 1) 6 ≡ (2, 0) ∷ []
   -- then the quit and the TRUNCATE took both rows: by thread just the last wait counts, which was added later
   pub quit_thread : events_of behind (KeyThread 1 0) 6 ≡ []
   pub emptied_thread : events_of behind (KeyThread 2 1) 6 ≡ (2, 4) ∷ []
