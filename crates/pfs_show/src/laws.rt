@@ -1,0 +1,14 @@
+//! Laws of the rows.
+
+ghost use Rattle.pfs_show.specs.Rows.{FitsLaw};
+ghost use Rattle.pfs_show.specs.Worked.{WorkedRows};
+
+/// Each row has a value for each column of its table, of the column's kind.
+pub fn rows_fit()
+    ensures { FitsLaw }
+{}
+
+/// The rows of an opening, and one that was added.
+pub fn rows_worked()
+    ensures { WorkedRows }
+{}
