@@ -36,11 +36,12 @@ thread_of (Current thread kind depth) = Some thread
 thread_of (History thread kind place) = Some thread
 thread_of (Long kind) = None
 
--- the places of a thread stand side by side, 56 of them, and no two are the same row
+-- the places of a thread lie among 56 rows of its own
 abbrev pub WithinLaw : Type 0
 WithinLaw = (ring : Ring) (row thread : ℕ) → IsRing ring → row_of ring ≡ Some row → thread_of ring ≡ Some thread
     → (8450 + 56 * thread ≤ row) × (row < 8450 + 56 * (thread + 1))
 
+-- no row is two places of threads
 abbrev pub ApartLaw : Type 0
 ApartLaw = (one other : Ring) (row : ℕ) → IsRing one → IsRing other → row_of one ≡ Some row → row_of other ≡ Some row
     → one ≡ other

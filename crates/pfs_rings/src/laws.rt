@@ -3,12 +3,12 @@
 ghost use Rattle.pfs_rings.specs.Rings.{WithinLaw, ApartLaw};
 ghost use Rattle.pfs_rings.specs.Worked.{WorkedPlaces};
 
-/// The places of a thread are 56 rows side by side, and those of two threads share none.
+/// The places of a thread lie among 56 rows of its own.
 pub fn rows_of_a_thread()
     ensures { WithinLaw }
 {}
 
-/// No row is two places.
+/// No row is two places of threads.
 pub fn one_place()
     ensures { ApartLaw }
 {}

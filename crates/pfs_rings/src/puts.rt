@@ -72,9 +72,9 @@ impl Put {
 }
 
 /// Puts an event to its place by one call of the store; in the long history to the place of the kind's next ticket,
-/// which is drawn first. Busy comes only where another actor had the row in hand, and Late exactly where the place of
-/// the long history holds the greater ticket given; then nothing was written, and the event is dropped. That is
-/// MySQL's choice for a place that is being written; the tickets are our own. The event's own ticket is no matter.
+/// which is drawn first. Busy and Late are the store's answers: the row is in another actor's hands, or the place of
+/// the long history holds the greater ticket given. Then nothing was written, and the event is dropped: that a put never
+/// waits is our own rule, as the tickets are. The event's own ticket is no matter.
 pub fn put_event<R: Rows>(rows: &mut R, ring: Ring, event: &Event) -> Put
     requires ring { IsRing ring }
     requires alone { (r : ℕ) → 0 < r → R.hand rows.old r ≡ None }

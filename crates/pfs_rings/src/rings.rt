@@ -15,7 +15,7 @@ const HISTORY: u64 = 16;
 
 const HISTORY_PLACES: u64 = 10;
 
-/// Where an event is written. How many places a kind has is MySQL's default; their order is our own.
+/// Where an event is written. The rings are MySQL's; how many places each has, and their order, is our own.
 #[derive(Clone, Copy, Debug, PartialEq, Eq)]
 pub enum Ring {
     /// A thread's current place of a kind; for a wait or a statement that of its depth, which is how many let-through
