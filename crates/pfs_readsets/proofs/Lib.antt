@@ -1,4 +1,5 @@
 pub mod Agreeing
+mod Ends
 pub mod Examples
 pub mod Members
 pub mod Passing

@@ -4,7 +4,7 @@ ghost use Rattle.std.specs.Prelude.{◌≡◌, ◌<◌, ◌≤◌, ◌+◌, ℕ,
 
 use crate::Target;
 use crate::places::{
-    CELLS, cells_of, has_accounts, has_hosts, has_long, has_ring, has_threads, has_users,
+    CELLS, cells_of, end_of, has_accounts, has_hosts, has_long, has_ring, has_threads, has_users,
     is_digest, is_global,
 };
 use pfs_classes::Setting;
@@ -152,7 +152,8 @@ impl ReadSet {
     fn next_row(&self) -> Option<u64>
         ensures { FirstPassing (own_rows self.now) self.now.row (14242 - self.now.row) result }
     {
-        for row in self.row..ROWS {
+        laws::rows();
+        for row in self.row..end_of(self.table) {
             if self.reads_row(row) {
                 return Some(row);
             }
