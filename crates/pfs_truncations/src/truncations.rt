@@ -1,0 +1,34 @@
+//! The tables that are truncated.
+
+ghost use Rattle.std.specs.Prelude.{◌≡◌};
+ghost use Rattle.pfs_truncations.specs.Texts.{table_of};
+
+use pfs_rows::{SummaryTable, Table, TableKind};
+
+/// A table that is truncated.
+#[derive(Clone, Copy, Debug, PartialEq, Eq)]
+pub enum Truncation {
+    /// One of a kind's five summaries.
+    Summary(TableKind, SummaryTable),
+    Accounts,
+    Users,
+    Hosts,
+    SetupActors,
+    SetupObjects,
+}
+
+impl Truncation {
+    /// The table.
+    pub fn table(self) -> Table
+        ensures { result ≡ table_of self }
+    {
+        match self {
+            Truncation::Summary(kind, table) => Table::Summary(kind, table),
+            Truncation::Accounts => Table::Accounts,
+            Truncation::Users => Table::Users,
+            Truncation::Hosts => Table::Hosts,
+            Truncation::SetupActors => Table::SetupActors,
+            Truncation::SetupObjects => Table::SetupObjects,
+        }
+    }
+}
