@@ -1,6 +1,6 @@
-//! Connects and ends of sessions, each an action of its own, over any store that begins actions.
+//! Connects, truncations and ends of sessions, each an action of its own, over any store that begins actions.
 #![tactic(auto)]
 
 mod actions;
 
-pub use actions::{connect, quit};
+pub use actions::{connect, quit, truncate};

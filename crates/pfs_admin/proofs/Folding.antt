@@ -3,13 +3,14 @@ use Rattle.std.proofs.Common.{ℕ, ◌≡◌, ◌+◌, List, [], ◌∷◌, ◌+
 use Rattle.pfs_board.specs.declared.view.Label.{Label}
 use Rattle.pfs_classes.specs.declared.setting.Setting.{Setting}
 use Rattle.pfs_admin.specs.declared.changes.Change.{Change}
-use Rattle.pfs_admin.specs.declared.changes.Change.TheVariants.{Connect, Quit, Show}
+use Rattle.pfs_admin.specs.declared.changes.Change.TheVariants.{Connect, Quit, Truncate, Show}
 use Rattle.pfs_admin.specs.Fold.{stepped, state_from, state_of, Follows}
 use Rattle.pfs_admin.specs.Laws.{StepLaw, CountLaw, FixedLaw}
 use Rattle.pfs_admin.specs.Opening.{opened}
 use Rattle.pfs_admin.specs.States.{State, AreEarly, IsState, thread_flags, seat_at, seat_in, noted}
 use Rattle.pfs_admin.proofs.Costs.{early_by, early_wider}
 use Rattle.pfs_admin.proofs.Opened.{opened_early}
+use Rattle.pfs_admin.proofs.Setting.{early_behind}
 
 then_one : (change : Label → Change) (s : State) (labels : List Label) (label : Label)
     → state_from change s (labels ++ label ∷ []) ≡ stepped (state_from change s labels) label.session (change label)
@@ -49,6 +50,13 @@ is_step s session (Connect user host) = record {
 is_step s session Quit = record {
   count = refl;
   early = λ e. early_by s.actions 0 s.words (seat_in s session) e;
+  names = refl;
+  cells = refl;
+  kinds = refl;
+}
+is_step s session (Truncate what) = record {
+  count = refl;
+  early = λ e. early_behind what s.actions s.words e;
   names = refl;
   cells = refl;
   kinds = refl;

@@ -5,8 +5,8 @@ use Rattle.pfs_containers.specs.Administration.{Containers}
 use Rattle.pfs_levels.specs.declared.places.Level.{Level}
 use Rattle.pfs_levels.specs.declared.places.Level.TheVariants as levels
 use Rattle.pfs_admin.specs.declared.remaining.Standing.{Standing}
-use Rattle.pfs_admin.specs.declared.truncations.Truncation.{Truncation}
-use Rattle.pfs_admin.specs.declared.truncations.Truncation.TheVariants.{Summary, Accounts, Users, Hosts, SetupActors, SetupObjects}
+use Rattle.pfs_truncations.specs.declared.truncations.Truncation.{Truncation}
+use Rattle.pfs_truncations.specs.declared.truncations.Truncation.TheVariants.{Summary, Accounts, Users, Hosts, SetupActors, SetupObjects}
 use Rattle.pfs_admin.specs.Truncations.{up_to, count_up_to, standing, sign_at, place_sign, first_row, content_at, level_signs, truncation_signs, signs_most, is_there, was_by, IsStanding}
 
 pub count_next : (test : ℕ → Bool) (n : ℕ) → count_up_to test (n + 1) ≡ count_up_to test n + cond (test n) 1 0

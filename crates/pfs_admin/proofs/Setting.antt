@@ -12,8 +12,8 @@ use Rattle.pfs_containers.specs.Kept.{Kept}
 use Rattle.pfs_matching.specs.declared.actor_rows.ActorRow.{ActorRow}
 use Rattle.pfs_matching.specs.declared.object_rows.ObjectRow.{ObjectRow}
 use Rattle.pfs_admin.specs.States.{State, AreEarly, IsState}
-use Rattle.pfs_admin.specs.declared.truncations.Truncation.{Truncation}
-use Rattle.pfs_admin.specs.declared.truncations.Truncation.TheVariants.{Summary, Accounts, Users, Hosts, SetupActors, SetupObjects}
+use Rattle.pfs_truncations.specs.declared.truncations.Truncation.{Truncation}
+use Rattle.pfs_truncations.specs.declared.truncations.Truncation.TheVariants.{Summary, Accounts, Users, Hosts, SetupActors, SetupObjects}
 use Rattle.pfs_admin.specs.Truncations.{words_behind, up_to, off_at, off_up_to, off_flags, off_words}
 use Rattle.pfs_admin.specs.Works.{Flagging, flagging, flagged, flagging_calls, flagging_entries, word_at, set_word, Leaves}
 use Rattle.pfs_admin.proofs.Costs.{len_if, early_at, early_set, early_wider}

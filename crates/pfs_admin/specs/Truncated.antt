@@ -1,9 +1,9 @@
 -- Truncations of two sessions of one account, worked, while both are there and behind their ends.
 use Rattle.std.specs.Prelude.{◌≡◌, [], ◌∷◌, map, Some, None}
 use Rattle.pfs_rows.specs.declared.table.TableKind.TheVariants.{Waits, Transactions}
-use Rattle.pfs_rows.specs.declared.table.SummaryTable.TheVariants.{ByThread, ByAccount, Global}
+use Rattle.pfs_rows.specs.declared.table.SummaryTable.TheVariants.{ByThread, ByAccount, ByUser, ByHost, Global}
 use Rattle.pfs_levels.specs.Moves.{ask}
-use Rattle.pfs_admin.specs.declared.truncations.Truncation.TheVariants.{Summary, Accounts, Users, SetupActors}
+use Rattle.pfs_truncations.specs.declared.truncations.Truncation.TheVariants.{Summary, Accounts, Users, Hosts, SetupActors}
 use Rattle.pfs_admin.specs.Examples.{start}
 use Rattle.pfs_admin.specs.Laws.{row_of}
 use Rattle.pfs_admin.specs.States.{State, connected, has_quit}
@@ -27,6 +27,12 @@ pub record WorkedTruncations : Type 0 where
       ≡ ask 129 (2177 ∷ []) ∷ ask 193 (2177 ∷ []) ∷ ask 2177 (4225 ∷ 6273 ∷ []) ∷ []
   pub by_thread : (work_of_truncation both (Summary Transactions ByThread)).moves
       ≡ ask 191 (2239 ∷ []) ∷ ask 192 (2240 ∷ []) ∷ ask 255 (2239 ∷ []) ∷ ask 256 (2240 ∷ []) ∷ []
+  -- by user the account's cell goes on to its host, and the user's is dropped; by host the host's goes on to the
+  -- global one, and the user's stays as it is
+  pub by_user : (work_of_truncation one (Summary Waits ByUser)).moves
+      ≡ ask 193 (2177 ∷ []) ∷ ask 2177 (4225 ∷ 6273 ∷ []) ∷ ask 4225 [] ∷ []
+  pub by_host : (work_of_truncation one (Summary Waits ByHost)).moves
+      ≡ ask 193 (2177 ∷ []) ∷ ask 2177 (4225 ∷ 6273 ∷ []) ∷ ask 6273 (8321 ∷ []) ∷ []
   -- the global one drops the user's, and takes the host's and the global cell last
   pub global : (work_of_truncation none (Summary Waits Global)).moves
       ≡ ask 2177 (4225 ∷ 6273 ∷ []) ∷ ask 4225 [] ∷ ask 6273 (8321 ∷ []) ∷ ask 8321 [] ∷ []
@@ -47,6 +53,14 @@ pub record WorkedTruncations : Type 0 where
   -- `users` frees the account and the user, and leaves the host
   pub users : (work_of_truncation none Users).signs ≡ Releases 33 ∷ Releases 65 ∷ []
   pub hosts_stay : (has_truncated none Users).kept.now.places.hosts ≡ Some 1 ∷ []
+  -- `hosts` frees the account and the host, and leaves the user
+  pub hosts : (work_of_truncation none Hosts).signs ≡ Releases 33 ∷ Releases 97 ∷ []
+  pub host_gone : (has_truncated none Hosts).kept.now.places.hosts ≡ None ∷ []
+  pub user_left : (has_truncated none Hosts).kept.now.places.users ≡ Some 0 ∷ []
+  -- a host with a connection remains: it is written, and has had as many connections as it has now
+  pub host_alone : map row_of (work_of_truncation one Hosts).signs ≡ 97 ∷ []
+  pub host_total_before : one.kept.now.host_totals ≡ 2 ∷ []
+  pub host_total : (has_truncated one Hosts).kept.now.host_totals ≡ 1 ∷ []
   -- while a session is there, the account that remains isn't written, and the user is
   pub user_alone : map row_of (work_of_truncation one Users).signs ≡ 65 ∷ []
   pub account_total : (has_truncated one Users).kept.now.account_totals ≡ 2 ∷ []

@@ -1,6 +1,6 @@
 -- What a TRUNCATE asks for, and the state behind it. A summary's numbers move up level by level until its own rows are
 -- zero; `accounts`, `users` and `hosts` move those of all kinds, and free what has no connection; the setup tables lose
--- their rows. These rules are MySQL's; the order within an action is our own.
+-- their rows. These rules are our own, after MySQL's, and so is the order within an action.
 use Rattle.std.specs.Prelude.{ℕ, zero, suc, ◌≡◌, ◌<◌, ◌+◌, cond, Bool, true, false, List, [], ◌∷◌, ◌++◌, map, Option, Some, None, is_some}
 use Rattle.std.specs.List.{slice_index_or}
 use Rattle.std.specs.Option.{option_map}
@@ -29,8 +29,8 @@ use Rattle.pfs_levels.specs.Flushes.{asks_of}
 use Rattle.pfs_levels.specs.Moves.{Ask, ask, cost}
 use Rattle.pfs_admin.specs.declared.remaining.Standing.{Standing}
 use Rattle.pfs_admin.specs.declared.summaries.Reach.{Reach}
-use Rattle.pfs_admin.specs.declared.truncations.Truncation.{Truncation}
-use Rattle.pfs_admin.specs.declared.truncations.Truncation.TheVariants.{Summary, Accounts, Users, Hosts, SetupActors, SetupObjects}
+use Rattle.pfs_truncations.specs.declared.truncations.Truncation.{Truncation}
+use Rattle.pfs_truncations.specs.declared.truncations.Truncation.TheVariants.{Summary, Accounts, Users, Hosts, SetupActors, SetupObjects}
 use Rattle.pfs_admin.specs.States.{State, KindCells, kind_cells}
 use Rattle.pfs_admin.specs.Works.{Sign, Releases, Tags, Work, Flagging, flagging, flagged}
 

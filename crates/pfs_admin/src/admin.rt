@@ -4,7 +4,7 @@ ghost use Rattle.std.specs.Prelude.{◌≡◌, ◌<◌, ◌≤◌, ◌+◌, ◌*
 ghost use Rattle.pfs_containers.specs.Kept.{lost_in};
 ghost use Rattle.pfs_admin.specs.Works.{Worked, Leaves};
 ghost use Rattle.pfs_admin.specs.States.{thread_flags, connected, has_quit, noted, seat_at, seat_in, name_text};
-ghost use Rattle.pfs_admin.specs.declared.changes.Change.TheVariants.{Connect, Quit, Show};
+ghost use Rattle.pfs_admin.specs.declared.changes.Change.TheVariants.{Connect, Quit, Truncate, Show};
 ghost use Rattle.pfs_admin.specs.Fold.{Follows};
 ghost use Rattle.pfs_admin.specs.Opening.{opened};
 ghost use Rattle.pfs_admin.specs.Truncations.{actors_behind, objects_behind, has_truncated, truncation_cost, work_of_truncation};
@@ -15,7 +15,7 @@ use crate::cells::CellsByKind;
 use crate::charges::{flags_cost, moves_cost, signs_cost};
 use crate::opening::{both_flags, cells_of, opening_flags, texts_of, words_of};
 use crate::threads::{write_connect, write_quit};
-use crate::truncations::{Truncation, write_truncation};
+use crate::truncations::write_truncation;
 use pfs_classes::Setting;
 use pfs_containers::{Containers, Lost, Seated};
 use pfs_event::Entry;
@@ -23,6 +23,7 @@ use pfs_levels::{Hold, Log, Word};
 use pfs_matching::{Actors, Objects};
 use pfs_names::NameId;
 use pfs_text::Text;
+use pfs_truncations::Truncation;
 use std::alloc::Global;
 use std::marker::Model;
 
@@ -173,7 +174,8 @@ impl Admin {
     /// Truncates a table, an action: a summary's numbers move up, level by level; those below `accounts`, `users` or
     /// `hosts` do in all kinds, and what has no connection is freed; a setup table loses its rows. The log gets each
     /// take and its gifts, the info rows that are written or released, and the words that change; the action's `act`
-    /// entry is the caller's. Which levels move and what is freed is MySQL's rule, the order our own.
+    /// entry is the caller's. Which levels move, what is freed and the order are our own rules, after
+    /// MySQL's.
     pub fn truncate<H: Hold>(&mut self, rows: &mut H, what: Truncation, log: &mut Log)
         requires few { self.old.actions < 2 ^ 47 }
         requires alone { (r : ℕ) → 0 < r → H.hand rows.old r ≡ None }
@@ -181,6 +183,7 @@ impl Admin {
         requires spare { truncation_cost self.old what ≤ H.left rows.old }
         requires room { truncation_cost self.old what ≤ log.old.room }
         ensures step { self.new ≡ has_truncated self.old what }
+        ensures stands { (session : ℕ) → Follows session (Truncate what) self.old self.new }
         ensures worked { Worked (work_of_truncation self.old what) self.old.words [] log.old log.new
             (H.reached rows.old) (H.reached rows.new) }
         ensures lent { H.words rows.new ≡ Some self.new.words }
@@ -201,10 +204,11 @@ impl Admin {
     }
 
     /// The most publications and entries of a truncation as things stand: each move with what it may give, an info row
-    /// for each place of its tables where something stands, and for `setup_objects` the 64 words of the tables.
+    /// for each place of its tables where something stands, and for `setup_objects` the 64 words of the tables. With the
+    /// 194 entries of what its session settles first, its action and its answer it stays within 20,000.
     pub fn truncation_cost(&self, what: Truncation) -> u64
         ensures cost { result ≡ truncation_cost self.now what }
-        ensures few { result ≤ 20_000 }
+        ensures few { result ≤ 19_202 }
     {
         let moves = moves_cost(&self.containers, &self.kinds, what);
         moves + signs_cost(&self.containers, what) + flags_cost(what)

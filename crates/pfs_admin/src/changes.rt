@@ -1,6 +1,7 @@
 //! What an action changes, and what it answers.
 
 use pfs_names::NameId;
+use pfs_truncations::Truncation;
 
 /// What an action changes.
 #[derive(Clone, Copy, Debug, PartialEq, Eq)]
@@ -9,6 +10,8 @@ pub enum Change {
     Connect { user: NameId, host: NameId },
     /// The session ends a connection.
     Quit,
+    /// A table is truncated.
+    Truncate(Truncation),
     /// Nothing: the rows of `setup_actors` or `setup_objects` are read.
     Show,
 }

@@ -9,12 +9,12 @@ ghost use Rattle.pfs_admin.specs.Truncations.{all_asks, cleared, emptied, flags_
 use crate::cells::CellsByKind;
 use crate::emptying::source_at;
 use crate::summaries::Reach;
-use crate::truncations::Truncation;
 use pfs_containers::Containers;
 use pfs_levels::{Level, Source};
 use pfs_rows::{SummaryTable, TableKind};
+use pfs_truncations::Truncation;
 
-/// The takes of a truncation's moves, and what they may give.
+/// The takes of a truncation's moves, and what they may give: at most 289 for each of 66 cells in all kinds.
 pub(crate) fn moves_cost(containers: &Containers, cells: &CellsByKind, what: Truncation) -> u64
     requires { AreKindCells cells.now }
     ensures cost { result ≡ cost (truncation_asks cells.now containers.now.now.places what) }
@@ -98,7 +98,8 @@ fn kind_cost(
     reach_cost(containers, Reach::of(table), list)
 }
 
-// The levels of a summary.
+// The levels of a summary. For each cell a place of a thread or an account, of which there are 32 each, costs its take
+// and two gifts, one of a host a take and a gift, one of a user and the global row a take alone: 289 at most.
 fn reach_cost(containers: &Containers, reach: Reach, cells: &[u64]) -> u64
     requires { length cells.now ≤ 64 }
     ensures cost { result ≡ cost (reach_asks containers.now.now.places reach cells.now) }

@@ -21,7 +21,7 @@ pub use changes::{Change, Reply};
 pub use naming::Named;
 pub use opening::opening_flags;
 pub use pfs_containers::Lost;
-pub use truncations::Truncation;
+pub use pfs_truncations::Truncation;
 
 /// Memory ran out.
 pub type NoMemory = std::alloc::AllocError;

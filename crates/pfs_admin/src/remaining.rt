@@ -3,15 +3,15 @@
 ghost use Rattle.std.specs.Prelude.{◌≡◌, ◌<◌, ◌≤◌, ◌+◌, ◌++◌, cond, true, false, [], ℕ, Option, Some, None};
 ghost use Rattle.pfs_levels.specs.declared.places.Level.TheVariants as levels;
 ghost use Rattle.pfs_levels.specs.Moves.{IsAway, Stays};
-ghost use Rattle.pfs_admin.specs.declared.truncations.Truncation.TheVariants.{Users, Hosts};
+ghost use Rattle.pfs_truncations.specs.declared.truncations.Truncation.TheVariants.{Users, Hosts};
 ghost use Rattle.pfs_admin.specs.Works.{Signed};
 ghost use Rattle.pfs_admin.specs.Truncations.{content_at, first_row, flag_at, is_there, level_signs, place_sign, signs_most, standing, truncation_signs, was_by, IsStanding};
 
 use crate::emptying::source_at;
 use crate::signs::{release, tag};
-use crate::truncations::Truncation;
 use pfs_containers::Containers;
 use pfs_levels::{Content, Hold, Level, Log};
+use pfs_truncations::Truncation;
 
 const PLACES: usize = 32;
 

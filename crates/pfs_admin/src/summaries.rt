@@ -8,10 +8,10 @@ ghost use Rattle.pfs_admin.specs.Truncations.{cleared, emptied, reach_of, lower_
 
 use crate::cells::CellsByKind;
 use crate::emptying::{empty_level, empty_level_if};
-use crate::truncations::Truncation;
 use pfs_containers::Containers;
 use pfs_levels::{Hold, Level, Log, clear};
 use pfs_rows::{Place, SummaryTable, TableKind, row_of};
+use pfs_truncations::Truncation;
 
 /// Moves what a truncation moves: a summary its own kind, by its own level; `accounts`, `users` and `hosts` all kinds,
 /// by theirs; a setup table nothing. The log gets each take and its gifts.
@@ -54,7 +54,7 @@ pub(crate) struct Reach {
 }
 
 impl Reach {
-    /// The levels of a summary: the rules are MySQL's.
+    /// The levels of a summary: the rules are our own, after MySQL's.
     pub(crate) fn of(table: SummaryTable) -> Reach
         ensures { result ≡ reach_of table }
     {

@@ -1,4 +1,4 @@
-//! The tables that can be truncated, and what a truncation writes.
+//! What a truncation writes.
 
 ghost use Rattle.std.specs.Prelude.{◌≡◌, ◌<◌, ◌≤◌, ◌+◌, ◌^◌, [], ℕ, Option, Some, None, length};
 ghost use Rattle.pfs_levels.specs.Moves.{Did};
@@ -12,19 +12,7 @@ use crate::signs::flag;
 use crate::summaries::move_truncated;
 use pfs_containers::Containers;
 use pfs_levels::{Hold, Log, Word};
-use pfs_rows::{SummaryTable, TableKind};
-
-/// A table that is truncated.
-#[derive(Clone, Copy, Debug, PartialEq, Eq)]
-pub enum Truncation {
-    /// One of a kind's five summaries.
-    Summary(TableKind, SummaryTable),
-    Accounts,
-    Users,
-    Hosts,
-    SetupActors,
-    SetupObjects,
-}
+use pfs_truncations::Truncation;
 
 /// Makes the moves of a truncation, frees what it frees, and writes the info rows and the words behind it.
 pub(crate) fn write_truncation<H: Hold>(

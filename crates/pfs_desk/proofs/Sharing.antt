@@ -3,10 +3,11 @@ use Rattle.std.proofs.Common.{ℕ, zero, suc, ◌≡◌, ◌+◌, ◌==◌, ◌<
 use Rattle.std.proofs.lemmas.List.{take_all, length-append}
 use Rattle.atomic_table.specs.Seated.{TableId}
 use Rattle.pfs_admin.specs.declared.changes.Change.{Change as Action}
-use Rattle.pfs_admin.specs.declared.changes.Change.TheVariants.{Connect, Quit, Show}
+use Rattle.pfs_admin.specs.declared.changes.Change.TheVariants.{Connect, Quit, Truncate, Show}
 use Rattle.pfs_admin.specs.Fold.{stepped, state_of}
 use Rattle.pfs_admin.specs.Opening.{opening_flags}
 use Rattle.pfs_admin.specs.States.{State, words_by, thread_flags, seat_at, seat_in}
+use Rattle.pfs_admin.specs.Truncations.{off_up_to, off_words, words_behind}
 use Rattle.pfs_admin.specs.Works.{word_at, set_word}
 use Rattle.pfs_admin.proofs.Costs.{early_at}
 use Rattle.pfs_admin.proofs.Folding.{step_law, count_law}
@@ -40,6 +41,8 @@ use Rattle.pfs_switches.specs.Closing.{IsTold}
 use Rattle.pfs_switches.specs.Known.{Known}
 use Rattle.pfs_switches.specs.Knowledge.{met}
 use Rattle.pfs_switches.specs.Opening.{opening_words}
+use Rattle.pfs_truncations.specs.declared.truncations.Truncation.{Truncation}
+use Rattle.pfs_truncations.specs.declared.truncations.Truncation.TheVariants.{Summary, Accounts, Users, Hosts, SetupActors, SetupObjects}
 use Rattle.pfs_desk.specs.Desks.{IsDesk}
 use Rattle.pfs_desk.specs.Following.{version_after}
 use Rattle.pfs_desk.specs.Laws.{SharedLaw}
@@ -63,9 +66,28 @@ rise_by : (flags q : ℕ) (words : List Word) (seat : Option Seated) → (word_a
 rise_by flags q words None = omega arith
 rise_by flags q words (Some seat) = rise_if ((word_at words (1 + seat.slot)).flags == flags) (1 + seat.slot) q flags words
 
+rise_off : (q n : ℕ) (words : List Word) → (word_at words q).version ≤ (word_at (off_up_to words n) q).version
+rise_off q zero words = omega arith
+rise_off q (suc n) words =
+    let step : (word_at (off_up_to words n) q).version ≤ (word_at (off_up_to words (suc n)) q).version = rise_if ((word_at (off_up_to words n) (96 + n)).flags == 0) (96 + n) q 0 (off_up_to words n) in
+    omega (arith, rise_off q n words, step)
+
+rise_all_off : (q : ℕ) (words : List Word) → (word_at words q).version ≤ (word_at (off_words words) q).version
+unfolding off_words
+rise_all_off q words = rise_off q 64 words
+
+rise_behind : (q : ℕ) (words : List Word) (what : Truncation) → (word_at words q).version ≤ (word_at (words_behind what words) q).version
+rise_behind q words (Summary kind table) = omega arith
+rise_behind q words Accounts = omega arith
+rise_behind q words Users = omega arith
+rise_behind q words Hosts = omega arith
+rise_behind q words SetupActors = omega arith
+rise_behind q words SetupObjects = rise_all_off q words
+
 rise_step : (s : State) (session q : ℕ) (action : Action) → (word_at s.words q).version ≤ (word_at (stepped s session action).words q).version
 rise_step s session q (Connect user host) = rise_by (thread_flags s user host) q s.words (seat_at s session user host)
 rise_step s session q Quit = rise_by 0 q s.words (seat_in s session)
+rise_step s session q (Truncate what) = rise_behind q s.words what
 rise_step s session q Show = omega arith
 
 module _ (setting : Setting) (change : Label → Action) where

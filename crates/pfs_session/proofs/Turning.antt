@@ -6,6 +6,8 @@ use Rattle.pfs_admin.proofs.Signing.{worked_behind}
 use Rattle.pfs_admin.specs.Asks.{work_of_connect, work_of_quit, connect_entry, placed_of}
 use Rattle.pfs_admin.specs.States.{State as Administration}
 use Rattle.pfs_admin.specs.States.{connected, has_quit, seat_at}
+use Rattle.pfs_admin.specs.Truncations.{work_of_truncation, has_truncated}
+use Rattle.pfs_truncations.specs.declared.truncations.Truncation.{Truncation}
 use Rattle.pfs_admin.specs.Works.{Work, Worked, signs_calls, signs_entries, flagging_calls, flagging_entries}
 use Rattle.pfs_admin.specs.declared.admin.Placed.{Placed}
 use Rattle.pfs_containers.specs.Kept.{lost_in}
@@ -29,7 +31,7 @@ use Rattle.pfs_session.specs.Ends.{EndsIn, EndsThrough, EndsSilently, Finished, 
 use Rattle.pfs_session.specs.Settles.{PaysAll, owed_in, owed_by_state}
 use Rattle.pfs_session.specs.Starts.{Starts, IsLoaded, IsOpened, load_calls, start_entry, started, verdict_seen, verdict_in, is_timed_by}
 use Rattle.pfs_session.specs.States.{State, Book, count_open, one_if, IsKept, AreAround, AreSeated, AreSilent, AreHeldFor, no_place, nothing_held}
-use Rattle.pfs_session.specs.Turns.{StartsEvent, EndsEvent, SettlesHeld, Connects, Quits, Played, Works, stage_ends, stage_steps}
+use Rattle.pfs_session.specs.Turns.{StartsEvent, EndsEvent, SettlesHeld, Connects, Quits, Truncates, Truncated, Played, Works, stage_ends, stage_steps}
 use Rattle.pfs_session.specs.declared.events.Numbers.{Numbers}
 use Rattle.pfs_session.specs.declared.setup.Setup.{Setup}
 use Rattle.pfs_session.proofs.Playing.{played_one, played_then}
@@ -211,6 +213,25 @@ quit_played old new mid admin after number action lost was now a m w step n l st
     (state ∙ placed_same s _ _ _ _ _ _ refl (n ∙ ap (λ (z : Administration). z.actions) step) (l ∙ ap (λ (z : Administration). lost_in z.kept.now) step))
     all.did
 
+pub truncation_played : (old new : Book) (mid last : Journal) (admin after : Administration) (what : Truncation) (number action : ℕ) (lost : Lost) (was now : Opening → List Call → Type 0)
+    → action ≡ admin.actions + 1 → mid.entries ≡ old.journal.entries ++ says.Act action ∷ []
+    → Worked (work_of_truncation admin what) admin.words [] mid last was now → new.journal.entries ≡ last.entries ++ says.Reply 0 ∷ []
+    → after ≡ has_truncated admin what → number ≡ after.actions → lost ≡ lost_in after.kept.now
+    → new.state ≡ placed_at old.state old.state.place number lost → Played (Truncates admin what ∷ []) old new was now
+truncation_played old new mid last admin after what number action lost was now a m w reply step n l state =
+    let s : State = old.state in
+    let at : Administration = has_truncated admin what in
+    let end : State = placed_at s s.place at.actions (lost_in at.kept.now) in
+    let all = worked_behind (work_of_truncation admin what) admin.words (says.Act (admin.actions + 1)) old.journal mid last was now
+    (m ∙ ap (λ z. old.journal.entries ++ says.Act z ∷ []) a) w in
+    played_one (Truncates admin what) _ _ end old new was now
+    (record { changes = _; works = works_of _ _ _ _ _ _ _ all; entries_are = refl; after_is = refl })
+    (state ∙ placed_same s _ _ _ _ _ _ refl (n ∙ ap (λ (z : Administration). z.actions) step) (l ∙ ap (λ (z : Administration). lost_in z.kept.now) step))
+    (record {
+      entries_are = reply ∙ (ap (λ z. z ++ says.Reply 0 ∷ []) all.did.entries_are ∙ append_assoc old.journal.entries _ (says.Reply 0 ∷ []));
+      goes = all.did.goes;
+    })
+
 -- the same of a session that is known by another name
 pub connect_from : (at old new : Book) (admin after : Administration) (user host : ℕ) (placed : Placed) (number : ℕ) (lost : Lost) (was now : Opening → List Call → Type 0)
     → at ≡ old → Worked (work_of_connect admin at.state.number user host) admin.words (connect_entry (admin.actions + 1) (seat_at admin at.state.number user host) ∷ [])
@@ -228,6 +249,15 @@ pub quit_from : (at old new : Book) (mid : Journal) (admin after : Administratio
     → new.state ≡ placed_at at.state no_place number lost → Played (Quits admin ∷ []) old new was now
 quit_from at old new mid admin after number action lost was now e a m w step n l state =
     subst (λ b. Played (Quits admin ∷ []) b new was now) e (quit_played at new mid admin after number action lost was now a m w step n l state)
+
+pub truncation_from : (at old new : Book) (mid last : Journal) (admin after : Administration) (what : Truncation) (number action : ℕ) (lost : Lost) (was now : Opening → List Call → Type 0)
+    → at ≡ old → action ≡ admin.actions + 1 → mid.entries ≡ at.journal.entries ++ says.Act action ∷ []
+    → Worked (work_of_truncation admin what) admin.words [] mid last was now → new.journal.entries ≡ last.entries ++ says.Reply 0 ∷ []
+    → after ≡ has_truncated admin what → number ≡ after.actions → lost ≡ lost_in after.kept.now
+    → new.state ≡ placed_at at.state at.state.place number lost → Played (Truncates admin what ∷ []) old new was now
+truncation_from at old new mid last admin after what number action lost was now e a m w reply step n l state =
+    subst (λ b. Played (Truncates admin what ∷ []) b new was now) e
+    (truncation_played at new mid last admin after what number action lost was now a m w reply step n l state)
 
 pub settle_from : (at old new : Book) (held there : List (Option Stat)) (was now : Opening → List Call → Type 0) → at ≡ old
     → AreHeldFor at.state.place.thread at.state.held → held ≡ at.state.held

@@ -4,6 +4,8 @@ use Rattle.std.specs.Prelude.{ℕ, ◌≡◌, ◌<◌, ◌+◌, ◌%◌, ◌^◌
 use Rattle.pfs_admin.specs.Asks.{work_of_connect, work_of_quit, connect_entry, placed_of}
 use Rattle.pfs_admin.specs.States.{connected, has_quit, seat_at}
 use Rattle.pfs_admin.specs.States.{State as Administration}
+use Rattle.pfs_admin.specs.Truncations.{work_of_truncation, has_truncated}
+use Rattle.pfs_truncations.specs.declared.truncations.Truncation.{Truncation}
 use Rattle.pfs_admin.specs.Works.{Work, Made, signs_of, signs_calls, signs_entries, flagging_calls, flagging_entries}
 use Rattle.pfs_containers.specs.Kept.{lost_in}
 use Rattle.pfs_event.specs.declared.entry.Entry.{Entry}
@@ -30,6 +32,7 @@ pub data Step : Type 0 where
   SettlesHeld : Step
   Connects : Administration → ℕ → ℕ → Step  -- as this user from this host
   Quits : Administration → Step
+  Truncates : Administration → Truncation → Step
 
 -- an administration's work was done behind these entries, by one who knew the words so
 pub record Works (work : Work) (words : List Word) (head : List Entry) (calls : List Call) (entries : List Entry) :
@@ -49,6 +52,14 @@ acted s after = record s {
   last = Some (record { number = after.actions; lost = lost_in after.kept.now });
 }
 
+-- a table is truncated, and behind all that this changes the answer stands, which is 0
+pub record Truncated (s : State) (admin : Administration) (what : Truncation) (calls : List Call) (entries : List Entry)
+    (after : State) : Type 0 where
+  pub changes : List Entry
+  pub works : Works (work_of_truncation admin what) admin.words (says.Act (admin.actions + 1) ∷ []) calls changes
+  pub entries_are : entries ≡ changes ++ says.Reply 0 ∷ []
+  pub after_is : after ≡ acted s (has_truncated admin what)
+
 -- what a step asks for: its calls, newest first, its entries in order, and the session after it
 abbrev pub Does : State → Step → List Call → List Entry → State → Type 0
 Does s (StartsEvent subject) calls entries after = Starts s subject calls entries after
@@ -65,6 +76,7 @@ Does s (Connects admin user host) calls entries after =
 Does s (Quits admin) calls entries after =
     Works (work_of_quit admin s.number) admin.words (says.Act (admin.actions + 1) ∷ []) calls entries
     × (after ≡ record (acted s (has_quit admin s.number)) { place = no_place })
+Does s (Truncates admin what) calls entries after = Truncated s admin what calls entries after
 
 -- a stage ends where the innermost open event is one; another starts where one is given
 abbrev pub stage_ends : List Open → List Step

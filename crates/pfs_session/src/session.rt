@@ -3,6 +3,7 @@
 ghost use Rattle.std.specs.Prelude.{◌≡◌, ◌<◌, ◌≤◌, ◌+◌, ◌%◌, ◌^◌, ◌∷◌, ◌&&◌, [], ℕ, length, Some, None, IfOk, IfSome, OnOk, OnErr, IsSome, false};
 ghost use Rattle.pfs_admin.specs.Asks.{placed_of};
 ghost use Rattle.pfs_admin.specs.States.{connected, has_quit, seat_at};
+ghost use Rattle.pfs_admin.specs.Truncations.{has_truncated, truncation_cost};
 ghost use Rattle.pfs_admin.specs.Works.{Leaves};
 ghost use Rattle.pfs_event.specs.Nesting.{MayStart};
 ghost use Rattle.pfs_event.specs.Verdicts.{is_let_through};
@@ -12,7 +13,7 @@ ghost use Rattle.pfs_session.specs.Leaving.{HasStarted, HasStaged};
 ghost use Rattle.pfs_session.specs.Settles.{owed_by_state, settle_cost};
 ghost use Rattle.pfs_session.specs.Starts.{started, if_through};
 ghost use Rattle.pfs_session.specs.States.{fresh, around, one_if, no_place, nothing_held, without_stage};
-ghost use Rattle.pfs_session.specs.Turns.{Played, Does, StartsEvent, EndsEvent, Spends, SettlesHeld, Connects, Quits, StageMayStart, stage_steps, stage_ends};
+ghost use Rattle.pfs_session.specs.Turns.{Played, Does, StartsEvent, EndsEvent, Spends, SettlesHeld, Connects, Quits, Truncates, StageMayStart, stage_steps, stage_ends};
 
 use crate::NoMemory;
 use crate::adding::bring;
@@ -20,7 +21,7 @@ use crate::events::{Numbers, amount_of, cell_number, is_statement, is_wait};
 use crate::opening::opened;
 use crate::paying::{clear, settle_all};
 use crate::setup::{if_through, is_timed, judge, load, load_word, start_entry};
-use pfs_admin::{Admin, Lost, Placed};
+use pfs_admin::{Admin, Lost, Placed, Reply, Truncation};
 use pfs_event::{Entry, EventKind, Nest, Open, Verdict};
 use pfs_levels::{Added, Hold, Label, Log, Rows};
 use pfs_model::Subject;
@@ -497,6 +498,45 @@ impl Session {
             number: admin.actions(),
             lost: admin.lost(),
         });
+    }
+
+    /// Truncates a table, an action: what the session holds is settled first. The log gets the settling, the action, what
+    /// `Admin::truncate` gives it, and the answer: a truncation changes no rows, as MySQL counts them.
+    pub fn truncate<H: Hold>(&mut self, rows: &mut H, admin: &mut Admin, what: Truncation) -> Reply
+        requires early { self.old.state.actions + 1 < 2 ^ 64 }
+        requires few { admin.old.actions < 2 ^ 47 }
+        requires alone { (r : ℕ) → 0 < r → H.hand rows.old r ≡ None }
+        requires lent { H.words rows.old ≡ Some admin.old.words }
+        requires spare { length (owed_by_state self.old.state) + truncation_cost admin.old what ≤ H.left rows.old }
+        requires room { settle_cost (owed_by_state self.old.state) + (truncation_cost admin.old what + 2)
+            ≤ self.old.journal.room }
+        ensures played { Played (SettlesHeld ∷ Truncates admin.old what ∷ []) self.old self.new (H.reached rows.old)
+            (H.reached rows.new) }
+        ensures admin { admin.new ≡ has_truncated admin.old what }
+        ensures rest { self.new.state ≡ record self.old.state {
+          held = nothing_held;
+          actions = self.old.state.actions + 1;
+          last = self.new.state.last;
+        } }
+        ensures reply { result ≡ Reply.Changed 0 }
+        ensures leaves { Leaves (length (owed_by_state self.old.state) + truncation_cost admin.old what)
+            (settle_cost (owed_by_state self.old.state) + (truncation_cost admin.old what + 2)) (H.hand rows.old)
+            (H.hand rows.new) (H.left rows.old) (H.left rows.new) (H.draws rows.old) (H.draws rows.new)
+            (H.name rows.old) (H.name rows.new) self.old.journal self.new.journal }
+        ensures lent { H.words rows.new ≡ Some admin.new.words }
+    {
+        self.settle(rows);
+        self.log.push(Entry::Act {
+            action: admin.actions() + 1,
+        });
+        admin.truncate(rows, what, &mut self.log);
+        self.log.push(Entry::Reply { number: 0 });
+        self.actions += 1;
+        self.last = Some(LastAction {
+            number: admin.actions(),
+            lost: admin.lost(),
+        });
+        Reply::Changed(0)
     }
 
     /// Adds all that is held, each amount to its row, in the order of the rows, and holds nothing any more.

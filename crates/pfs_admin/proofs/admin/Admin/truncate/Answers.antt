@@ -1,9 +1,11 @@
 use Rattle.std.proofs.Common.{rules, ◌<◌, ◌+◌, ◌^◌, ap, subst, ◌∙◌, arith}
+use Rattle.std.proofs.lemmas.Grind.{common_steps}
 use Rattle.pfs_containers.proofs.Filling.{whole_is}
 use Rattle.pfs_containers.specs.Kept.{Kept}
 use Rattle.pfs_admin.specs.Works.{word_at}
 use Rattle.pfs_admin.specs.Truncations.{words_behind}
 use Rattle.pfs_admin.proofs.Costs.{early_at}
+use Rattle.pfs_admin.proofs.Folding.{follows}
 use Rattle.pfs_admin.proofs.Setting.{wide_behind, truncated_keeps}
 use Rattle.pfs_admin.proofs.admin.Admin.truncate.Goals as goal
 
@@ -20,3 +22,6 @@ invariant_of-self g c =
     truncated_keeps _ c.args.what _ _ _ _ c.self.invariant (ap (λ (z : Kept). z.connects) c.write_truncation.ensures.kept)
     (whole_is c.self.inside.words.len c.write_truncation.new.words words (words_behind c.args.what words) (search rules)
     (wide_behind c.args.what words ∙ search rules))
+
+pub returns-clause-stands : goal.returns-clause-stands
+returns-clause-stands g c = λ session. follows session _ _ _ (grind (arith, common_steps))
