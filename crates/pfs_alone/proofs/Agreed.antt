@@ -44,6 +44,7 @@ adds subject context before (says.Give row version from) q = record { rows = ref
 adds subject context before (says.Tag row version) q = record { rows = refl; words = refl; numbers = refl }
 adds subject context before (says.Free row version) q = record { rows = refl; words = refl; numbers = refl }
 adds subject context before (says.Set word version flags) q = record { rows = refl; words = refl; numbers = refl }
+adds subject context before (says.Reply number) q = record { rows = refl; words = refl; numbers = refl }
 adds subject context before _ q = absurd q
 
 -- the parts of an agreement
@@ -74,6 +75,7 @@ meets subject context before earlier (says.Give row version from) b q n = record
 meets subject context before earlier (says.Tag row version) b q n = record { rows = (one_more version row _ _ b.rows n.0, tt); words = tt; numbers = tt; loaded = tt; others = tt }
 meets subject context before earlier (says.Free row version) b q n = record { rows = tt; words = tt; numbers = tt; loaded = tt; others = n.0 ∙ ap (last_of row) b.rows }
 meets subject context before earlier (says.Set word version flags) b q n = record { rows = tt; words = (one_more version word _ _ b.words n.0, tt); numbers = tt; loaded = tt; others = tt }
+meets subject context before earlier (says.Reply number) b q n = record { rows = tt; words = tt; numbers = tt; loaded = tt; others = tt }
 meets subject context before earlier _ b q n = absurd q
 
 more_before : (before : List Note) (earlier : List Placed) (p : Placed) → IsBefore before earlier → IsQuiet p.entry

@@ -32,7 +32,7 @@ pub entries_then : (subject : Option Subject) (context : Context) (xs ys : List 
 entries_then subject context [] ys = refl
 entries_then subject context (x ∷ xs) ys = entries_then subject (noted subject context x) xs ys
 
--- a row is added to, left, given to, written or released, or a word is set
+-- a row is added to, left, given to, written or released, a word is set, or a change is answered
 abbrev pub IsInner : Entry → Type 0
 IsInner (says.Add row version) = Unit {0}
 IsInner (says.Take row version) = Unit {0}
@@ -40,6 +40,7 @@ IsInner (says.Give row version from) = Unit {0}
 IsInner (says.Tag row version) = Unit {0}
 IsInner (says.Free row version) = Unit {0}
 IsInner (says.Set word version flags) = Unit {0}
+IsInner (says.Reply number) = Unit {0}
 IsInner entry = ⊥
 
 abbrev pub AreInner : List Entry → Type 0
@@ -57,6 +58,7 @@ inner_slot subject context (says.Give row version from) i = refl
 inner_slot subject context (says.Tag row version) i = refl
 inner_slot subject context (says.Free row version) i = refl
 inner_slot subject context (says.Set word version flags) i = refl
+inner_slot subject context (says.Reply number) i = refl
 inner_slot subject context _ i = absurd i
 
 pub inner_slots : (subject : Option Subject) (context : Context) (es : List Entry) → AreInner es → (after_entries subject context es).slot ≡ context.slot
@@ -119,6 +121,11 @@ flags_same words [] = same_none
 flags_same words (f ∷ fs) =
     same_then (says.Set f.word ((word_at words f.word).version + 1) f.flags ∷ []) (flagging_entries words fs) (Sets f.word f.flags ((word_at words f.word).version + 1) ∷ []) (flagging_calls words fs)
     (flag_same f.word ((word_at words f.word).version + 1) f.flags) (flags_same words fs)
+
+-- an answer tells nothing
+pub reply_same : (number : ℕ) → IsSame (says.Reply number ∷ []) []
+unfolding all_told
+reply_same number = record { inner = (tt, tt); same = λ subject context. refl }
 
 pub paid_same : (ps : List Paid) → IsSame (paid_entries ps) (paid_calls ps)
 paid_same [] = same_none

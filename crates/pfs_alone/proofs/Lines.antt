@@ -12,7 +12,7 @@ use Rattle.pfs_model.specs.Shapes.{is_stage}
 use Rattle.pfs_session.specs.Ends.{no_numbers}
 use Rattle.pfs_session.specs.States.{State, fresh}
 use Rattle.pfs_session.specs.Turns.{Step, StartsEvent, EndsEvent, Turn, AreTurns, state_after, steps_of, turns_entries, stage_ends}
-use Rattle.pfs_parts.specs.Deeds.{Deed, Connecting, Starting, Staging, StageEnding, Ending, Spending, Quitting, Closing, Part, IsPart, steps_for, line_of, part_entries}
+use Rattle.pfs_parts.specs.Deeds.{Deed, Connecting, Starting, Staging, StageEnding, Ending, Spending, Quitting, Truncating, Closing, Part, IsPart, steps_for, line_of, part_entries}
 use Rattle.pfs_parts.proofs.Stinting.{own_places, own_is, IfOwn, AreOwn, own_stints}
 use Rattle.pfs_parts.specs.Shaped.{AreParts, lines_of, entries_of, state_behind, over_behind}
 use Rattle.pfs_parts.specs.Stints.{Stint, IsStint, parts_by, resumed}
@@ -68,6 +68,7 @@ deed_of s StageEnding = of_then None (stage_ends s.opened.events) [] (stage_of N
 deed_of s (Ending numbers) = of_then None (stage_ends s.opened.events) (EndsEvent numbers ∷ []) (stage_of None s.opened.events) (tt, tt)
 deed_of s (Spending time) = (tt, tt)
 deed_of s (Quitting admin) = (tt, (tt, tt))
+deed_of s (Truncating admin what) = (tt, (tt, tt))
 deed_of s Closing = (tt, tt)
 
 part_told : (context : Context) (s : State) (p : Part) → Sits context s → IsPart s p

@@ -17,13 +17,13 @@ use Rattle.pfs_session.specs.Ends.{EndsIn, EndsThrough, added_entry, still_held,
 use Rattle.pfs_session.specs.Settles.{Settles, Paid, owed_in, owed_by, owed_by_state, paid_calls, paid_entries, settle_head}
 use Rattle.pfs_session.specs.Starts.{start_entry}
 use Rattle.pfs_session.specs.States.{State, Owed, nothing_held, held_row, held_at}
-use Rattle.pfs_session.specs.Turns.{Step, StartsEvent, EndsEvent, Spends, SettlesHeld, Connects, Quits, Does}
+use Rattle.pfs_session.specs.Turns.{Step, StartsEvent, EndsEvent, Spends, SettlesHeld, Connects, Quits, Truncates, Does}
 use Rattle.pfs_session.specs.declared.events.Numbers.{Numbers}
 use Rattle.pfs_session.specs.declared.setup.Setup.{Setup}
 use Rattle.pfs_stat.specs.declared.Stat.{Stat}
 use Rattle.pfs_session.proofs.Owed.{nothing_owed}
 use Rattle.pfs_alone.proofs.Inner.{IsInner, AreInner}
-use Rattle.pfs_alone.proofs.Steps.{IsActed, acted}
+use Rattle.pfs_alone.proofs.Steps.{IsActed, acted, truncated_acted}
 
 -- an addition was counted
 abbrev pub IsAdded : Call → Type 0
@@ -81,6 +81,7 @@ IsQuiet (says.Give row version from) = Unit {0}
 IsQuiet (says.Tag row version) = Unit {0}
 IsQuiet (says.Free row version) = Unit {0}
 IsQuiet (says.Set word version flags) = Unit {0}
+IsQuiet (says.Reply number) = Unit {0}
 IsQuiet entry = ⊥
 
 abbrev pub AreQuiet : List Entry → Type 0
@@ -98,6 +99,7 @@ inner_quiet (says.Give row version from) i = tt
 inner_quiet (says.Tag row version) i = tt
 inner_quiet (says.Free row version) i = tt
 inner_quiet (says.Set word version flags) i = tt
+inner_quiet (says.Reply number) i = tt
 inner_quiet _ i = absurd i
 
 inner_quiets : (es : List Entry) → AreInner es → AreQuiet es
@@ -194,4 +196,8 @@ does_quiet s (Connects admin user host) calls entries after h added d = record {
 does_quiet s (Quits admin) calls entries after h added d = record {
   quiet = acted_quiet (says.Act (admin.actions + 1)) calls entries tt (acted (work_of_quit admin s.number) admin.words (says.Act (admin.actions + 1)) calls entries d.0);
   held = ap (λ (z : State). z.held) d.1 ∙ h;
+}
+does_quiet s (Truncates admin what) calls entries after h added d = record {
+  quiet = acted_quiet (says.Act (admin.actions + 1)) calls entries tt (truncated_acted s admin what calls entries after d);
+  held = ap (λ (z : State). z.held) d.after_is ∙ h;
 }

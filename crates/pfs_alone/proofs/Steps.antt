@@ -5,6 +5,9 @@ use Rattle.std.specs.Option.{option_map}
 use Rattle.std.proofs.lemmas.List.{append_assoc, append-nil}
 use Rattle.pfs_admin.specs.Asks.{work_of_connect, work_of_quit, connect_entry, placed_of}
 use Rattle.pfs_admin.specs.States.{seat_at}
+use Rattle.pfs_admin.specs.States.{State as Administration}
+use Rattle.pfs_admin.specs.Truncations.{work_of_truncation}
+use Rattle.pfs_truncations.specs.declared.truncations.Truncation.{Truncation}
 use Rattle.pfs_admin.specs.Works.{Work, signs_calls, signs_entries, flagging_calls, flagging_entries}
 use Rattle.pfs_containers.specs.declared.containers.Seated.{Seated}
 use Rattle.pfs_event.specs.declared.entry.Entry.{Entry}
@@ -24,13 +27,13 @@ use Rattle.pfs_session.specs.Ends.{EndsIn, EndsSilently, added_entry}
 use Rattle.pfs_session.specs.Settles.{Paid, paid_calls, paid_entries, settle_head}
 use Rattle.pfs_session.specs.Starts.{Starts, start_entry, load_calls, table_calls, IsLoaded, versions_in, version_of}
 use Rattle.pfs_session.specs.States.{State, Owed}
-use Rattle.pfs_session.specs.Turns.{Step, StartsEvent, EndsEvent, Spends, SettlesHeld, Connects, Quits, Does, Works}
+use Rattle.pfs_session.specs.Turns.{Step, StartsEvent, EndsEvent, Spends, SettlesHeld, Connects, Quits, Truncates, Truncated, Does, Works}
 use Rattle.pfs_session.specs.declared.events.Numbers.{Numbers}
 use Rattle.pfs_session.specs.declared.setup.Setup.{Setup}
 use Rattle.pfs_stat.specs.declared.Stat.{Stat}
 use Rattle.pfs_alone.specs.Notes.{Note, Saw, Acted, saw_all, notes_at, notes_in, told, all_told}
 use Rattle.pfs_alone.specs.Told.{Sits, head_of}
-use Rattle.pfs_alone.proofs.Inner.{inner_slots, IsSame, same_then, moves_same, signs_same, flags_same, paid_same}
+use Rattle.pfs_alone.proofs.Inner.{inner_slots, IsSame, same_then, reply_same, moves_same, signs_same, flags_same, paid_same}
 
 -- a step that starts an event starts what its line says
 abbrev pub IsOf : Option Subject → Step → Type 0
@@ -40,6 +43,7 @@ IsOf subject (Spends time) = Unit {0}
 IsOf subject SettlesHeld = Unit {0}
 IsOf subject (Connects admin user host) = Unit {0}
 IsOf subject (Quits admin) = Unit {0}
+IsOf subject (Truncates admin what) = Unit {0}
 
 pub record IsTold (subject : Option Subject) (context : Context) (head : List Note) (calls : List Call) (entries : List Entry) (after : State) : Type 0 where
   pub same : notes_in subject context entries ≡ head ++ all_told calls
@@ -181,6 +185,16 @@ acted work words head calls entries w = record {
       (same_then _ _ _ _ (moves_same w.moves) (same_then _ _ _ _ (signs_same w.made) (flags_same words work.flags)));
 }
 
+pub truncated_acted : (s : State) (admin : Administration) (what : Truncation) (calls : List Call) (entries : List Entry) (after : State)
+    → Truncated s admin what calls entries after → IsActed (says.Act (admin.actions + 1)) calls entries
+truncated_acted s admin what calls entries after d =
+    let a = acted (work_of_truncation admin what) admin.words (says.Act (admin.actions + 1)) calls d.changes d.works in
+    record {
+      rest = a.rest ++ says.Reply 0 ∷ [];
+      entries_are = d.entries_are ∙ ap (λ z. z ++ says.Reply 0 ∷ []) a.entries_are;
+      same = same_then a.rest (says.Reply 0 ∷ []) calls [] a.same (reply_same 0);
+    }
+
 connect_notes : (subject : Option Subject) (context : Context) (action : ℕ) (seat : Option Seated) → notes_at subject context (connect_entry action seat) ≡ Acted action ∷ []
 connect_notes subject context action None = refl
 connect_notes subject context action (Some seat) = refl
@@ -216,3 +230,6 @@ does_told subject context s (Quits admin) calls entries after is sits d =
     (λ thread q. absurd (nowhere after.place.thread thread (ap (λ (z : State). z.place.thread) d.1) q)) where
       nowhere : (a : Option ℕ) (thread : ℕ) → a ≡ None → a ≡ Some thread → ⊥
       nowhere a thread e f = absurd (cc)
+does_told subject context s (Truncates admin what) calls entries after is sits d =
+    acted_told subject context (admin.actions + 1) (says.Act (admin.actions + 1)) calls entries after refl (truncated_acted s admin what calls entries after d)
+    (λ thread q. sits thread (sym (ap (λ (z : State). z.place.thread) d.after_is) ∙ q))

@@ -8,8 +8,8 @@ use Rattle.pfs_levels.specs.Calls.{Call, Enters, Leaves}
 use Rattle.pfs_model.specs.Shapes.{is_stage}
 use Rattle.pfs_session.specs.Ends.{no_numbers}
 use Rattle.pfs_session.specs.States.{State, nothing_held}
-use Rattle.pfs_session.specs.Turns.{Step, StartsEvent, EndsEvent, SettlesHeld, Connects, Quits, Does, Turn, AreTurns, state_after, steps_of, turns_calls, turns_entries, stage_ends}
-use Rattle.pfs_parts.specs.Deeds.{Deed, Connecting, Starting, Staging, StageEnding, Ending, Spending, Quitting, Closing, IsPart, steps_for, part_entries, action_of}
+use Rattle.pfs_session.specs.Turns.{Step, StartsEvent, EndsEvent, SettlesHeld, Connects, Quits, Truncates, Does, Turn, AreTurns, state_after, steps_of, turns_calls, turns_entries, stage_ends}
+use Rattle.pfs_parts.specs.Deeds.{Deed, Connecting, Starting, Staging, StageEnding, Ending, Spending, Quitting, Truncating, Closing, IsPart, steps_for, part_entries, action_of}
 use Rattle.pfs_parts.proofs.Inverting.{OneTurn, one_turn, TwoTurns, two_turns}
 use Rattle.pfs_alone.specs.Notes.{Acted, all_told}
 use Rattle.pfs_alone.specs.Told.{head_of, turns_notes}
@@ -98,6 +98,7 @@ deed_notes : (s : State) (deed : Deed) (turns : List Turn) (label : Label) (labe
     → turns_notes turns ≡ all_told (around label labels (action_of deed) (turns_calls turns))
 deed_notes s (Connecting admin user host) turns label labels h are steps e = connect_notes s turns (Connects admin user host) (admin.actions + 1) label labels refl e.0 steps
 deed_notes s (Quitting admin) turns label labels h are steps e = quit_notes s turns (Quits admin) (admin.actions + 1) label labels h are refl e.0 steps
+deed_notes s (Truncating admin what) turns label labels h are steps e = quit_notes s turns (Truncates admin what) (admin.actions + 1) label labels h are refl e.0 steps
 deed_notes s (Starting subject) turns label labels h are steps e = still_notes turns (subst AreStill (sym steps) (refl, tt))
 deed_notes s (Staging subject) turns label labels h are steps e =
     still_notes turns (subst AreStill (sym steps) (still_then (stage_ends s.opened.events) (StartsEvent subject ∷ []) (stage_still s.opened.events) (refl, tt)))

@@ -13,7 +13,7 @@ use Rattle.pfs_model.specs.Places.{Placed, placed_lines, by_session, places}
 use Rattle.pfs_model.specs.Setups.{loads_at}
 use Rattle.pfs_model.specs.declared.changes.Change.{Change}
 use Rattle.pfs_model.specs.declared.lines.Subject.{Subject}
-use Rattle.pfs_session.specs.Turns.{Step, StartsEvent, EndsEvent, Spends, SettlesHeld, Connects, Quits, Turn, turns_calls}
+use Rattle.pfs_session.specs.Turns.{Step, StartsEvent, EndsEvent, Spends, SettlesHeld, Connects, Quits, Truncates, Turn, turns_calls}
 use Rattle.pfs_parts.specs.Deeds.{Part, part_calls, parts_calls}
 use Rattle.pfs_parts.specs.Shaped.{lines_of, entries_of}
 use Rattle.pfs_parts.specs.Stints.{blocks_of, parts_by}
@@ -152,6 +152,7 @@ head_weighs : (w : Note → ℕ) → ((number : ℕ) → w (Acted number) ≡ 0)
 unfolding total
 head_weighs w none (Connects admin user host) = omega (arith, none (admin.actions + 1))
 head_weighs w none (Quits admin) = omega (arith, none (admin.actions + 1))
+head_weighs w none (Truncates admin what) = omega (arith, none (admin.actions + 1))
 head_weighs w none (StartsEvent subject) = refl
 head_weighs w none (EndsEvent numbers) = refl
 head_weighs w none (Spends time) = refl

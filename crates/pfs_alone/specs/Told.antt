@@ -7,7 +7,7 @@ use Rattle.pfs_parts.specs.Deeds.{Part}
 use Rattle.pfs_parts.specs.Shaped.{AreParts, lines_of, entries_of, state_behind}
 use Rattle.pfs_parts.specs.Stints.{Stint, AreStints, blocks_of, parts_by}
 use Rattle.pfs_session.specs.States.{State}
-use Rattle.pfs_session.specs.Turns.{Step, StartsEvent, EndsEvent, Spends, SettlesHeld, Connects, Quits, Turn}
+use Rattle.pfs_session.specs.Turns.{Step, StartsEvent, EndsEvent, Spends, SettlesHeld, Connects, Quits, Truncates, Turn}
 use Rattle.pfs_alone.specs.Notes.{Note, Acted, notes_of, all_told}
 
 -- a session that has a slot is in that of its journal
@@ -18,6 +18,7 @@ Sits context s = (thread : ℕ) → s.place.thread ≡ Some thread → context.s
 abbrev pub head_of : Step → List Note
 head_of (Connects admin user host) = Acted (admin.actions + 1) ∷ []
 head_of (Quits admin) = Acted (admin.actions + 1) ∷ []
+head_of (Truncates admin what) = Acted (admin.actions + 1) ∷ []
 head_of (StartsEvent subject) = []
 head_of (EndsEvent numbers) = []
 head_of (Spends time) = []

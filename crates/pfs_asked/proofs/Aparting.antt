@@ -1,11 +1,12 @@
 -- No action takes a row twice.
 use Rattle.std.proofs.Common.{ℕ, ◌≡◌, ◌≤◌, ◌+◌, ◌==◌, ◌<◌, Bool, true, false, cond, List, [], ◌∷◌, ◌++◌, map, Option, Some, None, ne_eqb, eq-eqb, refl, ap, sym, ◌∙◌, subst, arith}
 use Rattle.std.specs.Prelude.{◌&&◌, nat_lt, IfSome}
-use Rattle.std.proofs.lemmas.Bool.{false≢true, ltb-true, ltb-false}
+use Rattle.std.proofs.lemmas.Bool.{false≢true, eqb-true, ltb-true, ltb-false}
 use Rattle.std.proofs.lemmas.List.{append_assoc, append-nil, map-append}
 use Rattle.pfs_admin.proofs.Rows.{quit_rows}
 use Rattle.pfs_admin.specs.Asks.{connect_entry, connect_work, quit_work, work_of_connect, work_of_quit}
 use Rattle.pfs_admin.specs.States.{seat_at, seat_in, has_quit, connected, thread_flags}
+use Rattle.pfs_admin.specs.Truncations.{work_of_truncation}
 use Rattle.pfs_admin.specs.Works.{Sign, Releases, Tags, Made, Flagging, Work, signs_entries, made_entries, sign_entry, flagging_entries}
 use Rattle.pfs_containers.specs.Kept.{IsInRange}
 use Rattle.pfs_containers.specs.declared.containers.Seated.{Seated}
@@ -17,17 +18,17 @@ use Rattle.pfs_levels.specs.declared.answers.Word.{Word}
 use Rattle.pfs_model.specs.Chains.{Each, times}
 use Rattle.pfs_parts.proofs.Journaling.{turns_number}
 use Rattle.pfs_parts.proofs.Inverting.{OneTurn, TwoTurns, one_turn, two_turns}
-use Rattle.pfs_parts.specs.Deeds.{Deed, Connecting, Starting, Staging, StageEnding, Ending, Spending, Quitting, Closing, Part, part_entries, steps_for}
+use Rattle.pfs_parts.specs.Deeds.{Deed, Connecting, Starting, Staging, StageEnding, Ending, Spending, Quitting, Truncating, Closing, Part, part_entries, steps_for}
 use Rattle.pfs_parts.specs.Shaped.{AreParts}
 use Rattle.pfs_parts.specs.Stints.{Stint}
 use Rattle.pfs_session.specs.States.{State}
-use Rattle.pfs_session.specs.Turns.{Step, Connects, Quits, SettlesHeld, Does, Turn, AreTurns, state_after, steps_of, turns_entries}
+use Rattle.pfs_session.specs.Turns.{Step, Connects, Quits, Truncates, SettlesHeld, Does, Turn, AreTurns, state_after, steps_of, turns_entries}
 use Rattle.pfs_asked.proofs.Bits.{each_then, is_calm, AreCalm}
 use Rattle.pfs_asked.proofs.Calming.{AreIdleSteps, does_calm, turns_calm, deed_idle}
 use Rattle.pfs_asked.proofs.Parting.{work_entries}
 use Rattle.pfs_asked.specs.Asking.{number_of, work_of}
 use Rattle.pfs_asked.specs.Runs.{numbers_of, all_numbers}
-use Rattle.pfs_asked.specs.Takes.{Taken, taken_at, taken_in, taken_by, all_taken, is_of, AreApart, AreSeated, IsSeated, IsSeatedStint, ApartLaw}
+use Rattle.pfs_asked.specs.Takes.{Taken, taken_at, taken_in, taken_by, all_taken, is_of, AreApart, AreOnce, AreSeated, IsSeated, IsSeatedStint, ApartLaw}
 
 abbrev row_in : Taken → ℕ
 row_in taken = taken.row
@@ -117,6 +118,7 @@ idle_rows action s deed turns are steps none =
       no_moves : (deed : Deed) → number_of deed ≡ 0 → [] ≡ map from_of (work_of s.number deed).moves
       no_moves (Connecting admin user host) e = absurd (omega (arith, e))
       no_moves (Quitting admin) e = absurd (omega (arith, e))
+      no_moves (Truncating admin what) e = absurd (omega (arith, e))
       no_moves (Starting subject) e = refl
       no_moves (Staging subject) e = refl
       no_moves StageEnding e = refl
@@ -154,6 +156,23 @@ part_rows action s (Quitting admin) turns are steps =
     ∙ (ap (λ z. map row_in (z ++ taken_in action u.entries)) (none_taken action t.entries (calms_none t.entries (does_calm s SettlesHeld t.calls t.entries t.after refl settles)))
     ∙ (ap (λ z. map row_in (taken_in action z)) w.entries_are
     ∙ (work_taken action work w.moves w.made admin.words w.are_moves ∙ ap (λ z. map from_of (work_of_quit admin z).moves) same))))
+part_rows action s (Truncating admin what) turns are steps =
+    let two : TwoTurns turns SettlesHeld (Truncates admin what) = two_turns turns SettlesHeld (Truncates admin what) steps in
+    let t : Turn = two.first in
+    let u : Turn = two.second in
+    let ours : AreTurns s (u ∷ t ∷ []) = subst (AreTurns s) two.is are in
+    let settles = does_at s t SettlesHeld two.first_is ours.1.0 in
+    let d = does_at t.after u (Truncates admin what) two.second_is ours.0 in
+    let w = d.works in
+    let work : Work = work_of_truncation admin what in
+    let rest : List Entry = work_entries w.moves w.made admin.words work in
+    ap (λ z. map row_in (taken_in action (turns_entries z))) two.is
+    ∙ (ap (map row_in) (taken_then action t.entries u.entries)
+    ∙ (ap (λ z. map row_in (z ++ taken_in action u.entries)) (none_taken action t.entries (calms_none t.entries (does_calm s SettlesHeld t.calls t.entries t.after refl settles)))
+    ∙ (ap (λ z. map row_in (taken_in action z)) (d.entries_are ∙ ap (λ z. z ++ says.Reply 0 ∷ []) w.entries_are)
+    ∙ (ap (map row_in) (taken_then action rest (says.Reply 0 ∷ []))
+    ∙ (ap (map row_in) (append-nil (taken_in action rest))
+    ∙ work_taken action work w.moves w.made admin.words w.are_moves)))))
 part_rows action s (Starting subject) turns are steps = idle_rows action s (Starting subject) turns are steps refl
 part_rows action s (Staging subject) turns are steps = idle_rows action s (Staging subject) turns are steps refl
 part_rows action s StageEnding turns are steps = idle_rows action s StageEnding turns are steps refl
@@ -161,22 +180,40 @@ part_rows action s (Ending numbers) turns are steps = idle_rows action s (Ending
 part_rows action s (Spending time) turns are steps = idle_rows action s (Spending time) turns are steps refl
 part_rows action s Closing turns are steps = idle_rows action s Closing turns are steps refl
 
--- they ascend
-rows_ascend : (session : ℕ) (deed : Deed) → IsSeated session deed → Ascends 129 2177 (map from_of (work_of session deed).moves)
-rows_ascend session (Connecting admin user host) is = by_seat (seat_at admin session user host) where
-  by_seat : (seat : Option Seated) → Ascends 129 2177 (map from_of (connect_work admin.words (thread_flags admin user host) (connected admin session user host).kept.now seat).moves)
-  by_seat None = tt
-  by_seat (Some seat) = tt
-rows_ascend session (Quitting admin) is = by_seat (seat_in admin session) is.1 where
-  by_seat : (seat : Option Seated) → IfSome seat IsInRange → Ascends 129 2177 (map from_of (quit_work admin.words admin.cells (has_quit admin session).kept.now seat).moves)
-  by_seat None h = tt
-  by_seat (Some seat) h = (quit_rows admin.words admin.cells (has_quit admin session).kept.now seat h is.0).0
-rows_ascend session (Starting subject) is = tt
-rows_ascend session (Staging subject) is = tt
-rows_ascend session StageEnding is = tt
-rows_ascend session (Ending numbers) is = tt
-rows_ascend session (Spending time) is = tt
-rows_ascend session Closing is = tt
+-- a list that ascends has no number twice
+none_below : (low limit row : ℕ) (rows : List ℕ) → row < low → Ascends low limit rows → times (λ n. n == row) rows ≡ 0
+none_below low limit row [] l a = refl
+none_below low limit row (x ∷ xs) l a =
+    let rest : times (λ n. n == row) xs ≡ 0 = none_below (x + 1) limit row xs (omega (arith, l, a.0)) a.1.1 in
+    at (x == row) (ne_eqb x row (λ q. absurd (omega (arith, q, l, a.0)))) rest where
+      at : (b : Bool) → b ≡ false → times (λ n. n == row) xs ≡ 0 → (cond b 1 0 + times (λ n. n == row) xs) ≡ 0
+      at true e r = absurd (false≢true (sym e))
+      at false e r = omega (arith, r)
+
+ascends_once : (low limit : ℕ) (rows : List ℕ) → Ascends low limit rows → AreOnce rows
+ascends_once low limit [] a row = omega arith
+ascends_once low limit (x ∷ xs) a row = at (x == row) refl (ascends_once (x + 1) limit xs a.1.1 row) where
+  at : (b : Bool) → (x == row) ≡ b → times (λ n. n == row) xs ≤ 1 → (cond b 1 0 + times (λ n. n == row) xs) ≤ 1
+  at true e rest = omega (arith, none_below (x + 1) limit row xs (omega (arith, eqb-true x row e)) a.1.1)
+  at false e rest = omega (arith, rest)
+
+-- no row stands there twice
+rows_once : (session : ℕ) (deed : Deed) → IsSeated session deed → AreOnce (map from_of (work_of session deed).moves)
+rows_once session (Connecting admin user host) is = by_seat (seat_at admin session user host) where
+  by_seat : (seat : Option Seated) → AreOnce (map from_of (connect_work admin.words (thread_flags admin user host) (connected admin session user host).kept.now seat).moves)
+  by_seat None = λ row. omega arith
+  by_seat (Some seat) = λ row. omega arith
+rows_once session (Quitting admin) is = by_seat (seat_in admin session) is.1 where
+  by_seat : (seat : Option Seated) → IfSome seat IsInRange → AreOnce (map from_of (quit_work admin.words admin.cells (has_quit admin session).kept.now seat).moves)
+  by_seat None h = λ row. omega arith
+  by_seat (Some seat) h = ascends_once 129 2177 _ (quit_rows admin.words admin.cells (has_quit admin session).kept.now seat h is.0).0
+rows_once session (Truncating admin what) is = is.0
+rows_once session (Starting subject) is = λ row. omega arith
+rows_once session (Staging subject) is = λ row. omega arith
+rows_once session StageEnding is = λ row. omega arith
+rows_once session (Ending numbers) is = λ row. omega arith
+rows_once session (Spending time) is = λ row. omega arith
+rows_once session Closing is = λ row. omega arith
 
 -- takes of these rows, all of one action
 all_own : (action : ℕ) (es : List Entry) → Each (λ taken. taken.action ≡ action) (taken_in action es)
@@ -188,16 +225,28 @@ and_false : (b : Bool) → (b && false) ≡ false
 and_false true = refl
 and_false false = refl
 
-above : (low limit row : ℕ) (taken : Taken) (ts : List Taken) → taken.row ≡ row → row < low → Ascends low limit (map row_in ts) → Each (λ other. is_of other.action other.row taken ≡ false) ts
-above low limit row taken [] e l a = tt
-above low limit row taken (t ∷ ts) e l a = (
-  ap (λ b. (taken.action == t.action) && b) (ne_eqb taken.row t.row (λ q. absurd (omega (arith, q, e, l, a.0)))) ∙ and_false (taken.action == t.action),
-  above (t.row + 1) limit row taken ts e (omega (arith, l, a.0)) a.1.1,
-)
+-- one row among others: the others are not it
+rest_no_row : (row : ℕ) (rows : List ℕ) → (times (λ n. n == row) (row ∷ rows)) ≤ 1 → times (λ n. n == row) rows ≡ 0
+rest_no_row row rows few = at (row == row) (eq-eqb row row refl) few where
+  at : (b : Bool) → b ≡ true → (cond b 1 0 + times (λ n. n == row) rows) ≤ 1 → times (λ n. n == row) rows ≡ 0
+  at true e h = omega (arith, h)
+  at false e h = absurd (false≢true e)
 
-ascends_apart : (low limit : ℕ) (ts : List Taken) → Ascends low limit (map row_in ts) → AreApart ts
-ascends_apart low limit [] a = tt
-ascends_apart low limit (t ∷ ts) a = (above (t.row + 1) limit t.row t ts refl (omega arith) a.1.1, ascends_apart (t.row + 1) limit ts a.1.1)
+others_apart : (taken : Taken) (ts : List Taken) → times (λ n. n == taken.row) (map row_in ts) ≡ 0 → Each (λ other. is_of other.action other.row taken ≡ false) ts
+others_apart taken [] none = tt
+others_apart taken (t ∷ ts) none = (at (t.row == taken.row) refl none, others_apart taken ts (omega (arith, none))) where
+  at : (b : Bool) → (t.row == taken.row) ≡ b → (cond b 1 0 + times (λ n. n == taken.row) (map row_in ts)) ≡ 0 → is_of t.action t.row taken ≡ false
+  at true e h = absurd (omega (arith, h))
+  at false e h =
+      ap (λ b. (taken.action == t.action) && b) (ne_eqb taken.row t.row (λ q. absurd (false≢true (sym e ∙ eq-eqb t.row taken.row (sym q)))))
+      ∙ and_false (taken.action == t.action)
+
+once_apart : (ts : List Taken) → AreOnce (map row_in ts) → AreApart ts
+once_apart [] few = tt
+once_apart (t ∷ ts) few =
+    (others_apart t ts (rest_no_row t.row (map row_in ts) (few t.row)), once_apart ts (λ row. less row (few row))) where
+      less : (row : ℕ) → (cond (t.row == row) 1 0 + times (λ n. n == row) (map row_in ts)) ≤ 1 → times (λ n. n == row) (map row_in ts) ≤ 1
+      less row h = omega (arith, h)
 
 -- takes of two actions
 abbrev Away : ℕ → List Taken → Type 0
@@ -270,12 +319,12 @@ parts_apart number s [] ns ts same are seated u r = r
 parts_apart number s (p ∷ ps) ns ts same are seated u r =
     let a : ℕ = number_of p.deed in
     let own : List Taken = taken_in a (part_entries p) in
-    let rows : Ascends 129 2177 (map row_in own) =
-    subst (Ascends 129 2177) (sym (part_rows a s p.deed p.turns are.0.are_turns are.0.steps_are ∙ ap (λ z. map from_of (work_of z p.deed).moves) same)) (rows_ascend number p.deed seated.0) in
+    let rows : AreOnce (map row_in own) =
+    subst AreOnce (sym (part_rows a s p.deed p.turns are.0.are_turns are.0.steps_are ∙ ap (λ z. map from_of (work_of z p.deed).moves) same)) (rows_once number p.deed seated.0) in
     let none : a ≡ 0 → own ≡ [] = λ e. none_taken a (turns_entries p.turns)
     (calms_none (turns_entries p.turns) (turns_calm s p.turns are.0.are_turns (subst AreIdleSteps (sym are.0.steps_are) (deed_idle s p.deed e)))) in
     subst (IsApart (a ∷ (numbers_of ps ++ ns))) (sym (append_assoc own (taken_by ps) ts))
-    (part_more a own (numbers_of ps ++ ns) (taken_by ps ++ ts) (all_own a (part_entries p)) (ascends_apart 129 2177 own rows) none u
+    (part_more a own (numbers_of ps ++ ns) (taken_by ps ++ ts) (all_own a (part_entries p)) (once_apart own rows) none u
     (parts_apart number (state_after s p.turns) ps ns ts (turns_number s p.turns are.0.are_turns ∙ same) are.1 seated.1 (tail_unique a (numbers_of ps ++ ns) u) r))
 
 stints_apart : (stints : List Stint) → Each IsSeatedStint stints → IsUnique (all_numbers stints) → IsApart (all_numbers stints) (all_taken stints)

@@ -5,7 +5,7 @@ use Rattle.std.proofs.lemmas.List.{append_assoc}
 use Rattle.pfs_event.specs.declared.entry.Entry.{Entry}
 use Rattle.pfs_event.specs.declared.entry.Entry.TheVariants as says
 use Rattle.pfs_model.specs.Actions.{is_acted}
-use Rattle.pfs_model.specs.Asked.{Answer, AreAnswered, Did, IsAnswered, did, of_action}
+use Rattle.pfs_model.specs.Asked.{AreAnswered, Did, IsAnswered, did, of_action}
 use Rattle.pfs_model.specs.Chains.{Each, each_of}
 use Rattle.pfs_model.specs.Contents.{Given, IsFoundAsCounted, AreFoundAsCounted}
 use Rattle.pfs_model.specs.Contexts.{Context, noted, after_entries, subject_of}
@@ -13,7 +13,7 @@ use Rattle.pfs_model.specs.Places.{Placed, placed_part}
 use Rattle.pfs_model.specs.declared.lines.Line.{Line}
 use Rattle.pfs_model.specs.declared.lines.Subject.{Subject}
 use Rattle.pfs_asked.proofs.Deeds.{dids}
-use Rattle.pfs_asked.specs.Asking.{Orders}
+use Rattle.pfs_asked.specs.Asking.{Orders, no_rows}
 use Rattle.pfs_asked.specs.Done.{IsMade, AreMade}
 
 pub each_then : {A : Type 0} (P : A → Type 0) (xs ys : List A) → Each P xs → Each P ys → Each P (xs ++ ys)
@@ -51,7 +51,7 @@ all_keep subject context (e ∷ es) a = all_keep subject (noted subject context 
 pub record Fact (orders : Orders) (given : Given) (content : ℕ → ℕ → List ℕ) (place : Placed) : Type 0 where
   pub found : IsFoundAsCounted content orders.counted place.context.action place.entry
   pub made : IsMade given content place place.entry
-  pub answered : (answers : ℕ → Answer) → IsAnswered orders.rooms answers place place.entry
+  pub answered : IsAnswered orders.rooms no_rows place place.entry
 
 pub all_found : (orders : Orders) (given : Given) (content : ℕ → ℕ → List ℕ) (ps : List Placed) → Each (Fact orders given content) ps → AreFoundAsCounted content orders.counted ps
 all_found orders given content [] a = tt
@@ -61,10 +61,10 @@ pub all_made : (orders : Orders) (given : Given) (content : ℕ → ℕ → List
 all_made orders given content [] a = tt
 all_made orders given content (p ∷ ps) a = (a.0.made, all_made orders given content ps a.1)
 
-pub all_answered : (orders : Orders) (given : Given) (content : ℕ → ℕ → List ℕ) (answers : ℕ → Answer) (ps : List Placed) → Each (Fact orders given content) ps
-    → AreAnswered orders.rooms answers ps
-all_answered orders given content answers [] a = tt
-all_answered orders given content answers (p ∷ ps) a = (a.0.answered answers, all_answered orders given content answers ps a.1)
+pub all_answered : (orders : Orders) (given : Given) (content : ℕ → ℕ → List ℕ) (ps : List Placed) → Each (Fact orders given content) ps
+    → AreAnswered orders.rooms no_rows ps
+all_answered orders given content [] a = tt
+all_answered orders given content (p ∷ ps) a = (a.0.answered, all_answered orders given content ps a.1)
 
 -- what is chosen of two lists, and what they give
 pub each_of_then : (xs ys : List Placed) → each_of did (xs ++ ys) ≡ each_of did xs ++ each_of did ys
@@ -138,11 +138,11 @@ calm_keeps subject context _ q = absurd (false≢true q)
 
 calm_fact : (orders : Orders) (given : Given) (content : ℕ → ℕ → List ℕ) (phase session : ℕ) (line : Line) (context : Context) (e : Entry) → is_calm e ≡ true
     → Fact orders given content (record { phase = phase; session = session; line = line; context = context; entry = e })
-calm_fact orders given content phase session line context (says.Start _ _ _ _ _ _) q = record { found = tt; made = tt; answered = λ a. tt }
-calm_fact orders given content phase session line context (says.End _ _ _ _) q = record { found = tt; made = tt; answered = λ a. tt }
-calm_fact orders given content phase session line context (says.Add _ _) q = record { found = tt; made = tt; answered = λ a. tt }
-calm_fact orders given content phase session line context (says.Held _ _ _) q = record { found = tt; made = tt; answered = λ a. tt }
-calm_fact orders given content phase session line context says.Settle q = record { found = tt; made = tt; answered = λ a. tt }
+calm_fact orders given content phase session line context (says.Start _ _ _ _ _ _) q = record { found = tt; made = tt; answered = tt }
+calm_fact orders given content phase session line context (says.End _ _ _ _) q = record { found = tt; made = tt; answered = tt }
+calm_fact orders given content phase session line context (says.Add _ _) q = record { found = tt; made = tt; answered = tt }
+calm_fact orders given content phase session line context (says.Held _ _ _) q = record { found = tt; made = tt; answered = tt }
+calm_fact orders given content phase session line context says.Settle q = record { found = tt; made = tt; answered = tt }
 calm_fact orders given content phase session line context _ q = absurd (false≢true q)
 
 calm_still : (phase session : ℕ) (line : Line) (context : Context) (es : List Entry) → AreCalm es → AreStill (placed_part phase session line context es)

@@ -10,12 +10,12 @@ use Rattle.pfs_levels.specs.Calls.{Call}
 use Rattle.pfs_levels.specs.declared.answers.Added.{Added}
 use Rattle.pfs_levels.specs.declared.answers.Added.TheVariants.{Counted, Held}
 use Rattle.pfs_model.specs.Shapes.{is_stage}
-use Rattle.pfs_parts.specs.Deeds.{Deed, Connecting, Starting, Staging, StageEnding, Ending, Spending, Quitting, Closing, steps_for}
+use Rattle.pfs_parts.specs.Deeds.{Deed, Connecting, Starting, Staging, StageEnding, Ending, Spending, Quitting, Truncating, Closing, steps_for}
 use Rattle.pfs_session.specs.Ends.{Ends, EndsIn, added_entry, no_numbers}
 use Rattle.pfs_session.specs.Settles.{Paid, paid_entries, pay_entries, settle_head}
 use Rattle.pfs_session.specs.Starts.{start_entry}
 use Rattle.pfs_session.specs.States.{State, Owed}
-use Rattle.pfs_session.specs.Turns.{Step, StartsEvent, EndsEvent, Spends, SettlesHeld, Connects, Quits, Does, Turn, AreTurns, state_after, steps_of, turns_entries, stage_ends}
+use Rattle.pfs_session.specs.Turns.{Step, StartsEvent, EndsEvent, Spends, SettlesHeld, Connects, Quits, Truncates, Does, Turn, AreTurns, state_after, steps_of, turns_entries, stage_ends}
 use Rattle.pfs_session.specs.declared.events.Numbers.{Numbers}
 use Rattle.pfs_session.specs.declared.setup.Setup.{Setup}
 use Rattle.pfs_asked.proofs.Bits.{is_calm, AreCalm, calm_then}
@@ -47,6 +47,7 @@ ends_calm s numbers calls entries after e = by_case s.place.thread (is_let_throu
 abbrev pub is_idle : Step → Bool
 is_idle (Connects admin user host) = false
 is_idle (Quits admin) = false
+is_idle (Truncates admin what) = false
 is_idle _ = true
 
 pub does_calm : (s : State) (step : Step) (calls : List Call) (entries : List Entry) (after : State) → is_idle step ≡ true → Does s step calls entries after → AreCalm entries
@@ -56,6 +57,7 @@ does_calm s (Spends time) calls entries after i d = subst AreCalm (sym d.1) tt
 does_calm s SettlesHeld calls entries after i d = subst AreCalm (sym d.entries_are) (settle_calm _ d.paid)
 does_calm s (Connects admin user host) calls entries after i d = absurd (false≢true i)
 does_calm s (Quits admin) calls entries after i d = absurd (false≢true i)
+does_calm s (Truncates admin what) calls entries after i d = absurd (false≢true i)
 
 abbrev pub AreIdleSteps : List Step → Type 0
 AreIdleSteps [] = Unit {0}
@@ -94,4 +96,5 @@ deed_idle s StageEnding e = idle_then (stage_ends s.opened.events) [] (stage_idl
 deed_idle s (Ending numbers) e = idle_then (stage_ends s.opened.events) (EndsEvent numbers ∷ []) (stage_idle s.opened.events) (refl, tt)
 deed_idle s (Spending time) e = (refl, tt)
 deed_idle s (Quitting admin) e = absurd (omega (arith, e))
+deed_idle s (Truncating admin what) e = absurd (omega (arith, e))
 deed_idle s Closing e = (refl, tt)

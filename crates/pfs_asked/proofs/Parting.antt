@@ -1,9 +1,12 @@
 -- What a part of a session's journal says was done is what its line asks for.
 use Rattle.std.proofs.Common.{ℕ, ◌≡◌, ◌+◌, ◌==◌, ◌<◌, Bool, true, false, cond, List, [], ◌∷◌, ◌++◌, Option, Some, None, ne_eqb, refl, ap, sym, ◌∙◌, subst, arith}
 use Rattle.std.proofs.lemmas.Bool.{eqb-true}
+use Rattle.std.proofs.lemmas.List.{append-nil}
 use Rattle.pfs_admin.specs.Asks.{connect_entry, placed_of, work_of_connect, work_of_quit}
 use Rattle.pfs_admin.specs.States.{seat_at}
 use Rattle.pfs_admin.specs.States.{State as Administration}
+use Rattle.pfs_admin.specs.Truncations.{work_of_truncation}
+use Rattle.pfs_truncations.specs.declared.truncations.Truncation.{Truncation}
 use Rattle.pfs_admin.specs.Works.{Work, Made, signs_of, signs_calls, signs_entries, flagging_calls, flagging_entries}
 use Rattle.pfs_containers.specs.declared.containers.Seated.{Seated}
 use Rattle.pfs_event.specs.declared.entry.Entry.{Entry}
@@ -20,9 +23,9 @@ use Rattle.pfs_model.specs.declared.lines.Line.TheVariants as lines
 use Rattle.pfs_model.specs.declared.lines.Subject.{Subject}
 use Rattle.pfs_parts.proofs.Inverting.{OneTurn, TwoTurns, one_turn, two_turns}
 use Rattle.pfs_parts.specs.Amounts.{ContentsAgree}
-use Rattle.pfs_parts.specs.Deeds.{Deed, Connecting, Starting, Staging, StageEnding, Ending, Spending, Quitting, Closing, Part, IsPart, line_of, part_calls, part_entries, steps_for}
+use Rattle.pfs_parts.specs.Deeds.{Deed, Connecting, Starting, Staging, StageEnding, Ending, Spending, Quitting, Truncating, Closing, Part, IsPart, line_of, part_calls, part_entries, steps_for}
 use Rattle.pfs_session.specs.States.{State}
-use Rattle.pfs_session.specs.Turns.{Step, Connects, Quits, SettlesHeld, Does, Turn, AreTurns, steps_of, turns_calls, turns_entries}
+use Rattle.pfs_session.specs.Turns.{Step, Connects, Quits, Truncates, SettlesHeld, Does, Turn, AreTurns, steps_of, turns_calls, turns_entries}
 use Rattle.pfs_asked.proofs.Bits.{each_then, placed_then, AreActed, acted_then, all_keep, acted_at, Fact, IsBit, bit_then, still_bit, calm_bit, calm_idle, all_of, each_placed, all_found, all_made, all_answered}
 use Rattle.pfs_asked.proofs.Calming.{AreIdleSteps, does_calm, turns_calm, deed_idle}
 use Rattle.pfs_asked.proofs.Deeds.{dids, dids_then, signs_done, sets_done}
@@ -88,8 +91,8 @@ connect_at subject context action (Some seat) = refl
 connect_fact : (orders : Orders) (given : Given) (content : ℕ → ℕ → List ℕ) (phase session : ℕ) (line : Line) (context : Context) (action : ℕ) (seat : Option Seated)
     → orders.rooms action ≡ rooms_of (placed_of seat)
     → Fact orders given content (record { phase = phase; session = session; line = line; context = context; entry = connect_entry action seat })
-connect_fact orders given content phase session line context action None e = record { found = tt; made = tt; answered = λ a. e }
-connect_fact orders given content phase session line context action (Some seat) e = record { found = tt; made = tt; answered = λ a. e }
+connect_fact orders given content phase session line context action None e = record { found = tt; made = tt; answered = e }
+connect_fact orders given content phase session line context action (Some seat) e = record { found = tt; made = tt; answered = e }
 
 does_at : (s : State) (t : Turn) (step : Step) → t.step ≡ step → Does s t.step t.calls t.entries t.after → Does s step t.calls t.entries t.after
 does_at s t step e d = subst (λ z. Does s z t.calls t.entries t.after) e d
@@ -159,7 +162,7 @@ quit_paid orders given content phase session context s admin turns are steps cal
     let mid : Context = after_entries None now t.entries in
     let place : Placed = record { phase = phase; session = session; line = lines.Quit; context = mid; entry = head } in
     let settled = calm_bit orders given content phase session lines.Quit now t.entries (does_calm s SettlesHeld t.calls t.entries t.after refl settles) in
-    let first : IsBit orders given content (λ n. []) (place ∷ []) = still_bit orders given content (place ∷ []) (refl, tt) (record { found = tt; made = tt; answered = λ a. tt }, tt) in
+    let first : IsBit orders given content (λ n. []) (place ∷ []) = still_bit orders given content (place ∷ []) (refl, tt) (record { found = tt; made = tt; answered = tt }, tt) in
     let then = work_bit orders given content phase session lines.Quit action work admin.words w.moves w.made (noted None mid head) refl w.are_moves w.signs_are made counts.1 words asks in
     let both = bit_then orders given content (λ n. []) (owes orders action) (place ∷ []) _ first then in
     let whole = bit_then orders given content (λ n. []) (owes orders action) _ _ settled both in
@@ -169,6 +172,52 @@ quit_paid orders given content phase session context s admin turns are steps cal
     let paid : Q parts = record { done = λ n p. whole.done n; idle = λ e. absurd (omega (arith, e)); facts = whole.facts } in
     let joined : P (t.entries ++ (head ∷ rest)) = subst Q (sym (placed_then phase session lines.Quit now t.entries (head ∷ rest))) paid in
     subst (λ z. P (turns_entries z)) (sym two.is) (subst (λ z. P (t.entries ++ z)) (sym w.entries_are) joined)
+
+truncation_paid : (orders : Orders) (given : Given) (content : ℕ → ℕ → List ℕ) (phase session : ℕ) (context : Context) (s : State) (admin : Administration) (what : Truncation) (turns : List Turn)
+    → AreTurns s turns → steps_of turns ≡ SettlesHeld ∷ Truncates admin what ∷ [] → ContentsAgree content (turns_calls turns)
+    → AreOrders orders given content s.number (record { deed = Truncating admin what; turns = turns })
+    → IsPaid orders given content (Truncating admin what) (placed_part phase session lines.Change (turned context) (turns_entries turns))
+truncation_paid orders given content phase session context s admin what turns are steps calls o =
+    let action : ℕ = admin.actions + 1 in
+    let two : TwoTurns turns SettlesHeld (Truncates admin what) = two_turns turns SettlesHeld (Truncates admin what) steps in
+    let t : Turn = two.first in
+    let u : Turn = two.second in
+    let now : Context = turned context in
+    let ours : AreTurns s (u ∷ t ∷ []) = subst (AreTurns s) two.is are in
+    let settles = does_at s t SettlesHeld two.first_is ours.1.0 in
+    let d = does_at t.after u (Truncates admin what) two.second_is ours.0 in
+    let w = d.works in
+    let work : Work = work_of_truncation admin what in
+    let head : Entry = says.Act action in
+    let reply : Entry = says.Reply 0 in
+    let rest : List Entry = work_entries w.moves w.made admin.words work in
+    let is : u.entries ≡ head ∷ (rest ++ reply ∷ []) = d.entries_are ∙ ap (λ z. z ++ reply ∷ []) w.entries_are in
+    let own : ContentsAgree content u.calls = contents_front content u.calls (t.calls ++ []) (subst (λ z. ContentsAgree content (turns_calls z)) two.is calls) in
+    let made = subst (ContentsAgree content) w.calls_are own in
+    let all : AreCounted content orders.counted action (t.entries ++ u.entries) = subst (λ z. AreCounted content orders.counted action (turns_entries z)) two.is o.counted in
+    let counts : AreCounted content orders.counted action (head ∷ (rest ++ reply ∷ [])) =
+    subst (AreCounted content orders.counted action) is (counted_back content orders.counted action t.entries u.entries all) in
+    let mid : Context = after_entries None now t.entries in
+    let begun : Context = noted None mid head in
+    let place : Placed = record { phase = phase; session = session; line = lines.Change; context = mid; entry = head } in
+    let last : Placed = record { phase = phase; session = session; line = lines.Change; context = after_entries None begun rest; entry = reply } in
+    let settled = calm_bit orders given content phase session lines.Change now t.entries (does_calm s SettlesHeld t.calls t.entries t.after refl settles) in
+    let first : IsBit orders given content (λ n. []) (place ∷ []) = still_bit orders given content (place ∷ []) (refl, tt) (record { found = tt; made = tt; answered = tt }, tt) in
+    let answer : IsBit orders given content (λ n. []) (last ∷ []) = still_bit orders given content (last ∷ []) (refl, tt) (record { found = tt; made = tt; answered = refl }, tt) in
+    let then = work_bit orders given content phase session lines.Change action work admin.words w.moves w.made begun refl w.are_moves w.signs_are made
+    (counted_front content orders.counted action rest (reply ∷ []) counts.1) o.words o.asked in
+    let done = bit_then orders given content (owes orders action) (λ n. []) (placed_part phase session lines.Change begun rest) (last ∷ []) then answer in
+    let both = bit_then orders given content (λ n. []) _ (place ∷ []) _ first done in
+    let whole = bit_then orders given content (λ n. []) _ _ _ settled both in
+    let P : List Entry → Type 0 = λ z. IsPaid orders given content (Truncating admin what) (placed_part phase session lines.Change now z) in
+    let Q : List Placed → Type 0 = λ z. IsPaid orders given content (Truncating admin what) z in
+    let parts : List Placed = placed_part phase session lines.Change now t.entries ++ (place ∷ (placed_part phase session lines.Change begun rest ++ last ∷ [])) in
+    let paid : Q parts = record { done = λ n p. whole.done n ∙ append-nil (owes orders action n); idle = λ e. absurd (omega (arith, e)); facts = whole.facts } in
+    let are_parts : placed_part phase session lines.Change now (t.entries ++ (head ∷ (rest ++ reply ∷ []))) ≡ parts =
+    placed_then phase session lines.Change now t.entries (head ∷ (rest ++ reply ∷ []))
+    ∙ ap (λ z. placed_part phase session lines.Change now t.entries ++ (place ∷ z)) (placed_then phase session lines.Change begun rest (reply ∷ [])) in
+    let joined : P (t.entries ++ (head ∷ (rest ++ reply ∷ []))) = subst Q (sym are_parts) paid in
+    subst (λ z. P (turns_entries z)) (sym two.is) (subst (λ z. P (t.entries ++ z)) (sym is) joined)
 
 none_due : (orders : Orders) (number : ℕ) → 0 < number → [] ≡ owes orders 0 number
 none_due orders number p = ap (λ b. cond b (asked_of (orders.counted number) (orders.asked number)) []) (sym (ne_eqb 0 number (λ e. absurd (omega (arith, e, p)))))
@@ -190,6 +239,7 @@ by_deed : (orders : Orders) (given : Given) (content : ℕ → ℕ → List ℕ)
     → IsPaid orders given content deed (placed_part phase session (line_of deed) (turned context) (turns_entries turns))
 by_deed orders given content phase session context s (Connecting admin user host) turns are steps calls o = connect_paid orders given content phase session context s admin user host turns are steps calls (o (omega arith))
 by_deed orders given content phase session context s (Quitting admin) turns are steps calls o = quit_paid orders given content phase session context s admin turns are steps calls (o (omega arith))
+by_deed orders given content phase session context s (Truncating admin what) turns are steps calls o = truncation_paid orders given content phase session context s admin what turns are steps calls (o (omega arith))
 by_deed orders given content phase session context s (Starting subject) turns are steps calls o = idle_paid orders given content phase session context s (Starting subject) turns refl are steps
 by_deed orders given content phase session context s (Staging subject) turns are steps calls o = idle_paid orders given content phase session context s (Staging subject) turns refl are steps
 by_deed orders given content phase session context s StageEnding turns are steps calls o = idle_paid orders given content phase session context s StageEnding turns refl are steps
@@ -209,7 +259,7 @@ done = λ orders given content s p phase session context part calls o.
     record {
       done = r.done;
       idle = r.idle;
-      answered = λ answers. all_answered orders given content answers places r.facts;
+      answered = all_answered orders given content places r.facts;
       found = all_found orders given content places r.facts;
       made = all_made orders given content places r.facts;
     }

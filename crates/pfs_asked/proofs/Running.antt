@@ -39,7 +39,7 @@ asked_where : (orders : Orders) (given : Given) (content : ℕ → ℕ → List 
     → IsAsked orders given content all
 asked_where orders given content numbers all paid actions = record {
   done = λ number p. paid.done number p ∙ once orders numbers number (actions number p);
-  answered = λ answers. all_answered orders given content answers all paid.facts;
+  answered = all_answered orders given content all paid.facts;
   found = all_found orders given content all paid.facts;
   made = all_made orders given content all paid.facts;
 }
@@ -51,7 +51,7 @@ lines = λ orders given content phase session context s parts are calls told.
     record {
       done = λ number p e. paid.done number p ∙ owed_once orders number (numbers_of parts) e;
       none = λ number p e. paid.done number p ∙ owed_none orders number (numbers_of parts) e;
-      answered = λ answers. all_answered orders given content answers all paid.facts;
+      answered = all_answered orders given content all paid.facts;
       found = all_found orders given content all paid.facts;
       made = all_made orders given content all paid.facts;
     })

@@ -14,7 +14,7 @@ use Rattle.pfs_model.specs.Asked.{Rooms}
 use Rattle.pfs_model.specs.Chains.{Each, times}
 use Rattle.pfs_model.specs.Contents.{Given}
 use Rattle.pfs_parts.specs.Amounts.{AllContentsAgree}
-use Rattle.pfs_parts.specs.Deeds.{Deed, Connecting, Starting, Staging, StageEnding, Ending, Spending, Quitting, Closing, Part}
+use Rattle.pfs_parts.specs.Deeds.{Deed, Connecting, Starting, Staging, StageEnding, Ending, Spending, Quitting, Truncating, Closing, Part}
 use Rattle.pfs_parts.specs.Stints.{Stint}
 use Rattle.pfs_asked.proofs.Aparting.{apart}
 use Rattle.pfs_asked.proofs.Running.{run}
@@ -118,6 +118,7 @@ signs_ascend session (Quitting admin) is = by_seat (seat_in admin session) is.1 
   by_seat : (seat : Option Seated) → IfSome seat IsInRange → Ascends 1 129 (map row_of (quit_work admin.words admin.cells (has_quit admin session).kept.now seat).signs)
   by_seat None h = tt
   by_seat (Some seat) h = (quit_rows admin.words admin.cells (has_quit admin session).kept.now seat h is.0).1
+signs_ascend session (Truncating admin what) is = is.1
 signs_ascend session (Starting subject) is = tt
 signs_ascend session (Staging subject) is = tt
 signs_ascend session StageEnding is = tt
@@ -128,6 +129,7 @@ signs_ascend session Closing is = tt
 deed_rooms : (rooms : ℕ → Rooms) (session : ℕ) (deed : Deed) → rooms (number_of deed) ≡ rooms_for session deed → AreRooms rooms session deed
 deed_rooms rooms session (Connecting admin user host) e = e
 deed_rooms rooms session (Quitting admin) e = tt
+deed_rooms rooms session (Truncating admin what) e = tt
 deed_rooms rooms session (Starting subject) e = tt
 deed_rooms rooms session (Staging subject) e = tt
 deed_rooms rooms session StageEnding e = tt

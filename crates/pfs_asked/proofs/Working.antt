@@ -81,7 +81,7 @@ gifts_facts orders given content phase session line amount from (g ∷ gs) conte
     let put : content g.to g.version ≡ merged g.there amount = own.0 in
     let makes : content g.to g.version ≡ words_of (merge_of (stat_of_words (content g.to g.before)) (stat_of_words (content from (context.source_version - 1)))) =
     put ∙ (ap (λ z. words_of (merge_of (stat_of_words z) amount)) there ∙ ap (λ z. words_of (merge_of (stat_of_words (content g.to g.before)) z)) (sym is)) in (
-      record { found = tt; made = (source, (g.before, next.0, makes)); answered = λ a. tt },
+      record { found = tt; made = (source, (g.before, next.0, makes)); answered = tt },
       gifts_facts orders given content phase session line amount from gs context source is next.1 (contents_front content (gift_calls amount gs) _ calls),
     )
 
@@ -99,7 +99,7 @@ move_facts orders given content phase session line action a m context at is call
     let here : stat_of_words (content m.from (m.version - 1)) ≡ amount = ap (λ z. stat_of_words (content m.from z)) (one_less m.version m.before is.next) ∙ ap stat_of_words (sym was) in
     let counted : IsFoundAsCounted content orders.counted context.action (says.Take m.from m.version) =
     subst (λ z. IsFoundAsCounted content orders.counted z (says.Take m.from m.version)) (sym at) counts.0 in (
-      record { found = counted; made = (m.before, is.next, zeros); answered = λ a. tt },
+      record { found = counted; made = (m.before, is.next, zeros); answered = tt },
       gifts_facts orders given content phase session line amount m.from m.gifts (noted (subject_of line) context (says.Take m.from m.version)) refl here is.gifts_are
           (contents_front content (gift_calls amount m.gifts) (empty_calls m.from m.before m.version m.found) calls),
     )
@@ -142,11 +142,11 @@ moves_are orders given content phase session line action asks (m ∷ ms) context
 sign_fact : (orders : Orders) (given : Given) (content : ℕ → ℕ → List ℕ) (phase session : ℕ) (line : Line) (action : ℕ) (sign : Sign) (version : ℕ) (found : List ℕ) (context : Context)
     → context.action ≡ action → AreWords (given.info_words action) (sign ∷ []) → ContentsAgree content (sign_calls sign version found)
     → Fact orders given content (record { phase = phase; session = session; line = line; context = context; entry = sign_entry sign version })
-sign_fact orders given content phase session line action (Releases row) version found context at words calls = record { found = tt; made = tt; answered = λ a. tt }
+sign_fact orders given content phase session line action (Releases row) version found context at words calls = record { found = tt; made = tt; answered = tt }
 sign_fact orders given content phase session line action (Tags row put) version found context at words calls = record {
   found = tt;
   made = (version, refl, calls.0 ∙ (sym words.0 ∙ ap (λ z. given.info_words z row) (sym at)));
-  answered = λ a. tt;
+  answered = tt;
 }
 
 pub signs_facts : (orders : Orders) (given : Given) (content : ℕ → ℕ → List ℕ) (phase session : ℕ) (line : Line) (action : ℕ) (ms : List Made) (context : Context)
@@ -167,4 +167,4 @@ pub sets_facts : (orders : Orders) (given : Given) (content : ℕ → ℕ → Li
     → Each (Fact orders given content) (placed_part phase session line context (flagging_entries words fs))
 sets_facts orders given content phase session line words [] context = tt
 sets_facts orders given content phase session line words (f ∷ fs) context =
-    (record { found = tt; made = tt; answered = λ a. tt }, sets_facts orders given content phase session line words fs _)
+    (record { found = tt; made = tt; answered = tt }, sets_facts orders given content phase session line words fs _)

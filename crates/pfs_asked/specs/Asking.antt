@@ -2,14 +2,15 @@
 use Rattle.std.specs.Prelude.{ℕ, ◌≡◌, ◌+◌, Bool, List, [], ◌∷◌, Option, Some, None}
 use Rattle.pfs_admin.specs.Asks.{work_of_connect, work_of_quit, placed_of}
 use Rattle.pfs_admin.specs.States.{seat_at}
+use Rattle.pfs_admin.specs.Truncations.{work_of_truncation}
 use Rattle.pfs_admin.specs.Works.{Sign, Releases, Tags, Flagging, Work, no_work}
 use Rattle.pfs_admin.specs.declared.admin.Placed.{Placed as Found}
 use Rattle.pfs_event.specs.declared.entry.Entry.{Entry}
 use Rattle.pfs_levels.specs.Moves.{Ask}
-use Rattle.pfs_model.specs.Asked.{Asked, Move, Frees, Rooms}
+use Rattle.pfs_model.specs.Asked.{Answer, Replied, Asked, Move, Frees, Rooms}
 use Rattle.pfs_model.specs.Asked.{Sign as Signing, Tags as Tagging, Flagging as Setting}
 use Rattle.pfs_model.specs.Contents.{Given, IsFoundAsCounted}
-use Rattle.pfs_parts.specs.Deeds.{Deed, Connecting, Starting, Staging, StageEnding, Ending, Spending, Quitting, Closing, Part, action_of, part_entries}
+use Rattle.pfs_parts.specs.Deeds.{Deed, Connecting, Starting, Staging, StageEnding, Ending, Spending, Quitting, Truncating, Closing, Part, action_of, part_entries}
 
 abbrev pub moves_asked : List Ask → List Move
 moves_asked [] = []
@@ -35,6 +36,7 @@ asked_by work = record {
 abbrev pub work_of : ℕ → Deed → Work
 work_of session (Connecting admin user host) = work_of_connect admin session user host
 work_of session (Quitting admin) = work_of_quit admin session
+work_of session (Truncating admin what) = work_of_truncation admin what
 work_of session (Starting subject) = no_work
 work_of session (Staging subject) = no_work
 work_of session StageEnding = no_work
@@ -61,6 +63,10 @@ rooms_of found = record {
   host = found.host;
 }
 
+-- a truncation changes no rows, as MySQL counts them; no other change is answered yet
+abbrev pub no_rows : ℕ → Answer
+no_rows action = Replied 0
+
 -- what is said of each action, by its number: what it asks for, where a connect finds room, and whether its take of a
 -- row found something counted
 pub record Orders : Type 0 where
@@ -73,6 +79,7 @@ abbrev pub AreRooms : (ℕ → Rooms) → ℕ → Deed → Type 0
 AreRooms rooms session (Connecting admin user host) =
     rooms (admin.actions + 1) ≡ rooms_of (placed_of (seat_at admin session user host))
 AreRooms rooms session (Quitting admin) = Unit {0}
+AreRooms rooms session (Truncating admin what) = Unit {0}
 AreRooms rooms session (Starting subject) = Unit {0}
 AreRooms rooms session (Staging subject) = Unit {0}
 AreRooms rooms session StageEnding = Unit {0}

@@ -2,7 +2,7 @@
 use Rattle.std.specs.Prelude.{ℕ, ◌≡◌, ◌<◌, ◌==◌, cond, List, [], ◌∷◌}
 use Rattle.pfs_event.specs.declared.entry.Entry.{Entry}
 use Rattle.pfs_event.specs.declared.entry.Entry.TheVariants as says
-use Rattle.pfs_model.specs.Asked.{Answer, AreAnswered, asked_of, of_action}
+use Rattle.pfs_model.specs.Asked.{AreAnswered, asked_of, of_action}
 use Rattle.pfs_model.specs.Asked.{did as did_by}
 use Rattle.pfs_model.specs.Chains.{Each, each_of}
 use Rattle.pfs_model.specs.Contents.{Given, IsContent, AreFoundAsCounted}
@@ -11,7 +11,7 @@ use Rattle.pfs_model.specs.Places.{Placed, placed_part}
 use Rattle.pfs_parts.specs.Amounts.{ContentsAgree}
 use Rattle.pfs_parts.specs.Deeds.{Part, IsPart, line_of, part_calls, part_entries}
 use Rattle.pfs_session.specs.States.{State}
-use Rattle.pfs_asked.specs.Asking.{Orders, AreOrders, number_of}
+use Rattle.pfs_asked.specs.Asking.{Orders, AreOrders, no_rows, number_of}
 
 -- but for an addition, a change makes its row's content of the one before: a take, a give, a tag
 abbrev pub IsMade : Given → (ℕ → ℕ → List ℕ) → Placed → Entry → Type 0
@@ -33,7 +33,7 @@ pub record IsDone (orders : Orders) (given : Given) (content : ℕ → ℕ → L
   pub done : (number : ℕ) → 0 < number → each_of did_by (of_action number placed)
       ≡ cond (number_of p.deed == number) (asked_of (orders.counted number) (orders.asked number)) []
   pub idle : number_of p.deed ≡ 0 → AreIdle placed
-  pub answered : (answers : ℕ → Answer) → AreAnswered orders.rooms answers placed
+  pub answered : AreAnswered orders.rooms no_rows placed
   pub found : AreFoundAsCounted content orders.counted placed
   pub made : AreMade given content placed
 

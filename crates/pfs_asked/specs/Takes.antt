@@ -1,13 +1,15 @@
 -- Whether a take found something counted, as a function of its action's number and its row: there is one, since no
 -- action takes a row twice.
-use Rattle.std.specs.Prelude.{ℕ, ◌<◌, ◌≤◌, IfSome, ◌≡◌, ◌-◌, ◌==◌, ◌&&◌, not, Bool, false, if◌then◌else◌, List, [], ◌∷◌, ◌++◌}
+use Rattle.std.specs.Prelude.{ℕ, ◌<◌, ◌≤◌, IfSome, ◌≡◌, ◌-◌, ◌==◌, ◌&&◌, not, Bool, false, if◌then◌else◌, List, [], ◌∷◌, ◌++◌, map}
+use Rattle.pfs_admin.specs.Laws.{row_of}
 use Rattle.pfs_admin.specs.States.{seat_at, seat_in}
+use Rattle.pfs_admin.specs.Truncations.{work_of_truncation}
 use Rattle.pfs_containers.specs.Kept.{IsInRange}
 use Rattle.pfs_event.specs.declared.entry.Entry.{Entry}
 use Rattle.pfs_event.specs.declared.entry.Entry.TheVariants as says
-use Rattle.pfs_levels.specs.Flushes.{Ascends}
+use Rattle.pfs_levels.specs.Flushes.{Ascends, from_of}
 use Rattle.pfs_model.specs.Chains.{Each, times}
-use Rattle.pfs_parts.specs.Deeds.{Deed, Connecting, Starting, Staging, StageEnding, Ending, Spending, Quitting, Closing, Part, part_entries}
+use Rattle.pfs_parts.specs.Deeds.{Deed, Connecting, Starting, Staging, StageEnding, Ending, Spending, Quitting, Truncating, Closing, Part, part_entries}
 use Rattle.pfs_parts.specs.Stints.{Stint, IsDoneBy, along}
 use Rattle.pfs_stat.specs.Stat.{stat_of_words}
 use Rattle.pfs_asked.specs.Asking.{AreCounted, number_of}
@@ -62,9 +64,16 @@ abbrev pub CountedLaw : Type 0
 CountedLaw = (content : ℕ → ℕ → List ℕ) (stints : List Stint) → AreApart (all_taken stints)
     → AllCounted content (counted_by content (all_taken stints)) stints
 
--- a session's places are in range, and the cells that a quit moves ascend
+-- no number stands there twice
+abbrev pub AreOnce : List ℕ → Type 0
+AreOnce numbers = (number : ℕ) → times (λ n. n == number) numbers ≤ 1
+
+-- a session's places are in range, and the cells that a quit moves ascend; a truncation takes no row twice, and the
+-- info rows that it releases or writes ascend
 abbrev pub IsSeated : ℕ → Deed → Type 0
 IsSeated session (Quitting admin) = Ascends 0 64 admin.cells × IfSome (seat_in admin session) IsInRange
+IsSeated session (Truncating admin what) = AreOnce (map from_of (work_of_truncation admin what).moves)
+    × Ascends 1 129 (map row_of (work_of_truncation admin what).signs)
 IsSeated session (Connecting admin user host) = IfSome (seat_at admin session user host) IsInRange
 IsSeated session (Starting subject) = Unit {0}
 IsSeated session (Staging subject) = Unit {0}

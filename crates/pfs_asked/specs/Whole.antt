@@ -8,7 +8,7 @@ use Rattle.pfs_model.specs.Chains.{Each, times}
 use Rattle.pfs_model.specs.Contents.{Given}
 use Rattle.pfs_model.specs.Places.{places}
 use Rattle.pfs_parts.specs.Amounts.{AllContentsAgree}
-use Rattle.pfs_parts.specs.Deeds.{Deed, Connecting, Starting, Staging, StageEnding, Ending, Spending, Quitting, Closing, Part}
+use Rattle.pfs_parts.specs.Deeds.{Deed, Connecting, Starting, Staging, StageEnding, Ending, Spending, Quitting, Truncating, Closing, Part}
 use Rattle.pfs_parts.specs.Stints.{Stint, blocks_of}
 use Rattle.pfs_asked.specs.Asking.{Orders, number_of, asked_of_deed, rooms_of, work_of}
 use Rattle.pfs_asked.specs.Runs.{all_numbers, nothing_asked, IsAsked}
@@ -39,6 +39,7 @@ no_rooms = record { thread = None; account = None; user = None; host = None }
 abbrev pub rooms_for : ℕ → Deed → Rooms
 rooms_for session (Connecting admin user host) = rooms_of (placed_of (seat_at admin session user host))
 rooms_for session (Quitting admin) = no_rooms
+rooms_for session (Truncating admin what) = no_rooms
 rooms_for session (Starting subject) = no_rooms
 rooms_for session (Staging subject) = no_rooms
 rooms_for session StageEnding = no_rooms

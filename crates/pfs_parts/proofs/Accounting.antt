@@ -4,6 +4,8 @@ use Rattle.std.specs.Prelude.{IfSome}
 use Rattle.std.proofs.lemmas.Bool.{true≢false}
 use Rattle.std.proofs.lemmas.List.{append-nil}
 use Rattle.pfs_admin.specs.Asks.{connect_entry, placed_of, work_of_connect, work_of_quit}
+use Rattle.pfs_admin.specs.Truncations.{work_of_truncation, has_truncated}
+use Rattle.pfs_truncations.specs.declared.truncations.Truncation.{Truncation}
 use Rattle.pfs_admin.specs.States.{seat_at, connected, has_quit}
 use Rattle.pfs_admin.specs.States.{State as Administration}
 use Rattle.pfs_admin.specs.Works.{signs_entries, flagging_entries}
@@ -22,11 +24,11 @@ use Rattle.pfs_model.specs.declared.lines.Subject.{Subject}
 use Rattle.pfs_session.specs.Ends.{Ends, no_numbers}
 use Rattle.pfs_session.specs.Settles.{owed_in, owed_by_state}
 use Rattle.pfs_session.specs.States.{State, no_place, nothing_held}
-use Rattle.pfs_session.specs.Turns.{Step, StartsEvent, EndsEvent, Spends, SettlesHeld, Connects, Quits, Does, Turn, AreTurns, state_after, steps_of, turns_calls, turns_entries, stage_ends, acted}
+use Rattle.pfs_session.specs.Turns.{Step, StartsEvent, EndsEvent, Spends, SettlesHeld, Connects, Quits, Truncates, Does, Turn, AreTurns, state_after, steps_of, turns_calls, turns_entries, stage_ends, acted}
 use Rattle.pfs_session.specs.declared.events.Numbers.{Numbers}
 use Rattle.pfs_stat.specs.Stat.{MergeIsMonoid}
 use Rattle.pfs_stat.specs.declared.Stat.{Stat}
-use Rattle.pfs_parts.proofs.Acting.{work_quiet}
+use Rattle.pfs_parts.proofs.Acting.{work_quiet, is_quiet, all_then}
 use Rattle.pfs_parts.proofs.Bringing.{AddedBy, Accounts, brings_as, brings_then, turned_sums, start_brings, end_brings, quiet_added, quiet_context, quiet_then, connect_quiet, connect_added, quiet_once, connect_once}
 use Rattle.pfs_parts.proofs.Ended.{EndIs, end_is}
 use Rattle.pfs_parts.proofs.Inverting.{OneTurn, TwoTurns, no_turns, one_turn, two_turns}
@@ -37,7 +39,7 @@ use Rattle.pfs_parts.proofs.Settling.{settle_brings, acted_sums, is_seated}
 use Rattle.pfs_parts.proofs.Written.{turned_agrees, does_at, ends_by, has_stage}
 use Rattle.pfs_parts.specs.Agreeing.{Agrees, Stands}
 use Rattle.pfs_parts.specs.Amounts.{Clocked, stepped, all_stepped, StepFacts, AreFacts, AllFacts, AllPlaced, IsPlaced, ContentsAgree, AllContentsAgree, AreAdded, Sums, sum_of, owed_to, IsAccounted, AmountsLaw, SumsLaw}
-use Rattle.pfs_parts.specs.Deeds.{Deed, Connecting, Starting, Staging, StageEnding, Ending, Spending, Quitting, Closing, Part, MayDo, is_over, line_of, steps_for}
+use Rattle.pfs_parts.specs.Deeds.{Deed, Connecting, Starting, Staging, StageEnding, Ending, Spending, Quitting, Truncating, Closing, Part, MayDo, is_over, line_of, steps_for}
 use Rattle.pfs_parts.specs.Shaped.{AreParts, MayDoAll, AllLoadsAgree}
 
 ascend_state : (slot : Option ℕ) (s : State) → IfSome slot (λ n. n < 32) → Ascend (owed_in slot s.held)
@@ -167,6 +169,23 @@ module _ (m : MergeIsMonoid) (flags : ℕ → ℕ → ℕ) (slots : ℕ → Opti
         sums = acted_sums m flags slots facts session content k context (after_entries None context (head ∷ rest)) s next a free q refl refl refl tt;
       })
 
+  of_truncation : (admin : Administration) (what : Truncation) (k : Clocked) (context : Context) (s : State) → Rests k context s → s.held ≡ nothing_held
+      → (calls : List Call) (entries : List Entry) (after : State) → OfStep None k context s (Truncates admin what) calls entries after
+  of_truncation admin what k context s a free calls entries after d f c =
+      let w = d.works in
+      let work = work_of_truncation admin what in
+      let head : Entry = says.Act (admin.actions + 1) in
+      let rest : List Entry = moves_entries w.moves ++ (signs_entries w.made ++ flagging_entries admin.words work.flags) in
+      let whole : List Entry = (head ∷ rest) ++ says.Reply 0 ∷ [] in
+      let quiet = all_then true is_quiet (head ∷ rest) (says.Reply 0 ∷ []) (refl, work_quiet w.moves w.made admin.words work.flags) (refl, tt) in
+      let next : State = acted s (has_truncated admin what) in
+      let q = quiet_context context whole quiet in
+      brings_as m flags slots facts session content None context entries whole _ after next (d.entries_are ∙ ap (λ z. z ++ says.Reply 0 ∷ []) w.entries_are) d.after_is (record {
+        added = quiet_added (amount_by flags slots facts session) content context whole quiet;
+        once = quiet_once context whole quiet;
+        sums = acted_sums m flags slots facts session content k context (after_entries None context whole) s next a free q refl refl refl a.seat;
+      })
+
   -- the session behind an end agrees with what the end wrote
   mid_agrees : (line : Line) (context : Context) (s mid : State) (numbers : Numbers) (calls : List Call) (entries : List Entry) → Agrees flags context s
       → Ends s numbers calls entries mid → Agrees flags (after_entries (subject_of line) context entries) mid
@@ -211,6 +230,10 @@ module _ (m : MergeIsMonoid) (flags : ℕ → ℕ → ℕ) (slots : ℕ → Opti
       two_line None k context s turns SettlesHeld (Quits admin) steps
       (of_settle None k context s (turned_sums m flags slots facts session content k context s r) (ascend_state s.place.thread s a.low))
       (λ calls entries mid d now. of_quit admin k (after_entries None (turned context) entries) mid now (ap (λ (z : State). z.held) d.after_is))
+  by_deed false k context s (Truncating admin what) turns a r may placed steps =
+      two_line None k context s turns SettlesHeld (Truncates admin what) steps
+      (of_settle None k context s (turned_sums m flags slots facts session content k context s r) (ascend_state s.place.thread s a.low))
+      (λ calls entries mid d now. of_truncation admin what k (after_entries None (turned context) entries) mid now (ap (λ (z : State). z.held) d.after_is))
   by_deed false k context s Closing turns a r may placed steps =
       one_line None k context s turns SettlesHeld steps
       (of_settle None k context s (turned_sums m flags slots facts session content k context s r) (ascend_state s.place.thread s a.low))
@@ -221,6 +244,7 @@ module _ (m : MergeIsMonoid) (flags : ℕ → ℕ → ℕ) (slots : ℕ → Opti
   by_deed true k context s (Ending numbers) turns a r may placed steps = absurd (true≢false may)
   by_deed true k context s (Spending time) turns a r may placed steps = absurd (true≢false may)
   by_deed true k context s (Quitting admin) turns a r may placed steps = absurd (true≢false may.0)
+  by_deed true k context s (Truncating admin what) turns a r may placed steps = absurd (true≢false may)
   by_deed true k context s Closing turns a r may placed steps =
       one_line None k context s turns SettlesHeld steps
       (of_settle None k context s (turned_sums m flags slots facts session content k context s r) (subst (λ z. Ascend (owed_in z s.held)) (sym a.nowhere) tt))

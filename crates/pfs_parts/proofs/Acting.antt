@@ -13,12 +13,12 @@ use Rattle.pfs_levels.specs.declared.answers.Word.{Word}
 use Rattle.pfs_model.specs.Asks.{fits, is_move, is_sign, is_set}
 use Rattle.pfs_model.specs.Contexts.{Context, noted, after_entries}
 use Rattle.pfs_model.specs.Cuts.{cut, behind}
-use Rattle.pfs_model.specs.Shapes.{changes, many}
+use Rattle.pfs_model.specs.Shapes.{changes, many, one}
 use Rattle.pfs_model.specs.declared.lines.Subject.{Subject}
 use Rattle.pfs_model.specs.declared.shapes.Ask.{Ask}
 use Rattle.pfs_model.specs.declared.shapes.Ask.TheVariants as asks
 use Rattle.pfs_model.specs.declared.shapes.Item.{Item}
-use Rattle.pfs_parts.proofs.Cutting.{cut_nothing}
+use Rattle.pfs_parts.proofs.Cutting.{cut_nothing, cut_one}
 use Rattle.pfs_parts.proofs.Pieces.{is_plain}
 use Rattle.pfs_parts.proofs.Settled.{ArePlain, Kept}
 
@@ -27,7 +27,7 @@ abbrev pub AreAll : Bool → (Entry → Bool) → List Entry → Type 0
 AreAll b test [] = Unit {0}
 AreAll b test (e ∷ es) = (test e ≡ b) × AreAll b test es
 
-all_then : (b : Bool) (test : Entry → Bool) (es fs : List Entry) → AreAll b test es → AreAll b test fs → AreAll b test (es ++ fs)
+pub all_then : (b : Bool) (test : Entry → Bool) (es fs : List Entry) → AreAll b test es → AreAll b test fs → AreAll b test (es ++ fs)
 all_then b test [] fs p q = q
 all_then b test (e ∷ es) fs p q = (p.0, all_then b test es fs p.1 q)
 
@@ -90,6 +90,18 @@ work_shaped moves made words fs =
     cut_changes (moves_entries moves) (signs_entries made) (flagging_entries words fs) (moves_move moves) (signs_sign made) (signs_no_move made)
     (sets_set words fs) (sets_no_move words fs) (sets_no_sign words fs)
 
+-- and in front of the entry of an answer
+pub answered_shaped : (moves : List Move) (made : List Made) (words : List Word) (fs : List Flagging) (number : ℕ)
+    → cut (changes ++ one asks.Answer ∷ []) (moves_entries moves ++ (signs_entries made ++ (flagging_entries words fs ++ says.Reply number ∷ []))) ≡ Ok []
+answered_shaped moves made words fs number =
+    let answer : List Entry = says.Reply number ∷ [] in
+    let sets : List Entry = flagging_entries words fs in
+    cut_many asks.Move _ (moves_entries moves) (signs_entries made ++ (sets ++ answer)) (moves_move moves)
+    (all_then false is_move (signs_entries made) (sets ++ answer) (signs_no_move made) (all_then false is_move sets answer (sets_no_move words fs) (refl, tt)))
+    ∙ (cut_many asks.Sign _ (signs_entries made) (sets ++ answer) (signs_sign made) (all_then false is_sign sets answer (sets_no_sign words fs) (refl, tt))
+    ∙ (cut_many asks.Set (one asks.Answer ∷ []) sets answer (sets_set words fs) (refl, tt)
+    ∙ (cut_one asks.Answer [] (says.Reply number) [] refl ∙ cut_nothing [])))
+
 -- entries that leave what a journal tells of slot, open events, held rows and numbers
 abbrev pub is_quiet : Entry → Bool
 is_quiet (says.Take _ _) = true
@@ -98,6 +110,7 @@ is_quiet (says.Tag _ _) = true
 is_quiet (says.Free _ _) = true
 is_quiet (says.Set _ _ _) = true
 is_quiet (says.Act _) = true
+is_quiet (says.Reply _) = true
 is_quiet _ = false
 
 quiet_plain : (e : Entry) → is_quiet e ≡ true → is_plain e ≡ true
@@ -107,6 +120,7 @@ quiet_plain (says.Tag _ _) q = refl
 quiet_plain (says.Free _ _) q = refl
 quiet_plain (says.Set _ _ _) q = refl
 quiet_plain (says.Act _) q = refl
+quiet_plain (says.Reply _) q = refl
 quiet_plain _ q = absurd (false≢true q)
 
 pub quiet_plains : (es : List Entry) → AreAll true is_quiet es → ArePlain es
@@ -123,6 +137,7 @@ quiet_noted None context (says.Tag row version) q = same_context context
 quiet_noted None context (says.Free row version) q = same_context context
 quiet_noted None context (says.Set word version flags) q = same_context context
 quiet_noted None context (says.Act action) q = record { untouched = record { slot = refl; opened = refl; drawn = refl }; held = refl }
+quiet_noted None context (says.Reply number) q = record { untouched = record { slot = refl; opened = refl; drawn = refl }; held = refl }
 quiet_noted None context _ q = absurd (false≢true q)
 quiet_noted (Some subject) context (says.Take row version) q = record { untouched = record { slot = refl; opened = refl; drawn = refl }; held = refl }
 quiet_noted (Some subject) context (says.Give row version from) q = same_context context
@@ -130,6 +145,7 @@ quiet_noted (Some subject) context (says.Tag row version) q = same_context conte
 quiet_noted (Some subject) context (says.Free row version) q = same_context context
 quiet_noted (Some subject) context (says.Set word version flags) q = same_context context
 quiet_noted (Some subject) context (says.Act action) q = record { untouched = record { slot = refl; opened = refl; drawn = refl }; held = refl }
+quiet_noted (Some subject) context (says.Reply number) q = record { untouched = record { slot = refl; opened = refl; drawn = refl }; held = refl }
 quiet_noted (Some subject) context _ q = absurd (false≢true q)
 
 pub kept_then : (a b c : Context) → Kept a b → Kept b c → Kept a c

@@ -109,6 +109,7 @@ quiet_noted context (says.Tag row version) q = record { begun = refl; opened = r
 quiet_noted context (says.Free row version) q = record { begun = refl; opened = refl; waiting = refl }
 quiet_noted context (says.Set word version flags) q = record { begun = refl; opened = refl; waiting = refl }
 quiet_noted context (says.Act action) q = record { begun = refl; opened = refl; waiting = refl }
+quiet_noted context (says.Reply number) q = record { begun = refl; opened = refl; waiting = refl }
 quiet_noted context _ q = absurd (false≢true q)
 
 pub quiet_then : (a b c : Context) → Quiet a b → Quiet b c → Quiet a c
@@ -130,6 +131,7 @@ quiet_nothing context (says.Tag row version) q = (refl, refl)
 quiet_nothing context (says.Free row version) q = (refl, refl)
 quiet_nothing context (says.Set word version flags) q = (refl, refl)
 quiet_nothing context (says.Act action) q = (refl, refl)
+quiet_nothing context (says.Reply number) q = (refl, refl)
 quiet_nothing context _ q = absurd (false≢true q)
 
 pub quiet_once : (context : Context) (es : List Entry) → AreAll true is_quiet es → OnceBy None context es

@@ -2,8 +2,10 @@
 use Rattle.std.proofs.Common.{ℕ, ◌≡◌, ◌<◌, ◌+◌, Bool, true, false, List, [], ◌∷◌, ◌++◌, Option, Some, None, map, refl, ap, sym, ◌∙◌, subst}
 use Rattle.std.specs.Prelude.{Ok, IfSome, if◌then◌else◌}
 use Rattle.std.proofs.lemmas.Bool.{false≢true}
-use Rattle.std.proofs.lemmas.List.{append-nil}
+use Rattle.std.proofs.lemmas.List.{append-nil, append_assoc}
 use Rattle.pfs_admin.specs.Asks.{connect_entry, placed_of, work_of_connect, work_of_quit}
+use Rattle.pfs_admin.specs.Truncations.{work_of_truncation, has_truncated}
+use Rattle.pfs_truncations.specs.declared.truncations.Truncation.{Truncation}
 use Rattle.pfs_admin.specs.States.{seat_at, connected}
 use Rattle.pfs_admin.specs.States.{State as Administration}
 use Rattle.pfs_admin.specs.Works.{signs_entries, flagging_entries}
@@ -25,9 +27,9 @@ use Rattle.pfs_model.specs.declared.shapes.Ask.TheVariants as asks
 use Rattle.pfs_session.specs.Ends.{Ends, EndsIn, no_numbers}
 use Rattle.pfs_session.specs.Settles.{Settles, owed_in, owed_by_state, settle_head, paid_entries}
 use Rattle.pfs_session.specs.States.{State, nothing_held}
-use Rattle.pfs_session.specs.Turns.{Step, StartsEvent, EndsEvent, Spends, SettlesHeld, Connects, Quits, Does, Turn, AreTurns, state_after, steps_of, turns_calls, turns_entries, stage_ends, stage_steps, acted}
+use Rattle.pfs_session.specs.Turns.{Step, StartsEvent, EndsEvent, Spends, SettlesHeld, Connects, Quits, Truncates, Does, Turn, AreTurns, state_after, steps_of, turns_calls, turns_entries, stage_ends, stage_steps, acted}
 use Rattle.pfs_session.specs.declared.events.Numbers.{Numbers}
-use Rattle.pfs_parts.proofs.Acting.{connected_context, connect_fits, connect_plain, quiet_context, quiet_plains, work_quiet, work_shaped}
+use Rattle.pfs_parts.proofs.Acting.{connected_context, connect_fits, connect_plain, quiet_context, quiet_plains, work_quiet, work_shaped, all_then, is_quiet, answered_shaped}
 use Rattle.pfs_parts.proofs.Cutting.{cut_one, cut_nothing}
 use Rattle.pfs_parts.proofs.Ended.{EndIs, end_is, ending_closed}
 use Rattle.pfs_parts.proofs.Inverting.{OneTurn, TwoTurns, no_turns, one_turn, two_turns}
@@ -369,6 +371,50 @@ quit_line flags context s admin turns a empty are steps =
       piece = subst E (sym w.entries_are) (piece_then flags s.stack lines.Quit (turned context) e.behind behind t.entries (head ∷ rest) e.piece
           (piece_plains flags s.stack lines.Quit e.behind (head ∷ rest) (refl, quiet_plains rest quiet)));
       stands = over;
+    })
+
+pub truncation_line : (flags : ℕ → ℕ → ℕ) (context : Context) (s : State) (admin : Administration) (what : Truncation) (turns : List Turn) → Agrees flags context s → AreTurns s turns
+    → steps_of turns ≡ SettlesHeld ∷ Truncates admin what ∷ [] → IsLine flags s.stack false context lines.Change (turns_entries turns) (state_after s turns)
+truncation_line flags context s admin what turns a are steps =
+    let o : TwoTurns turns SettlesHeld (Truncates admin what) = two_turns turns SettlesHeld (Truncates admin what) steps in
+    let t : Turn = o.first in
+    let u : Turn = o.second in
+    let P : List Turn → Type 0 = λ z. IsLine flags s.stack false context lines.Change (turns_entries z) (state_after s z) in
+    let ours : AreTurns s (u ∷ t ∷ []) = subst (AreTurns s) o.is are in
+    let e : SettleIs flags s.stack lines.Change (turned context) t.entries t.after =
+    settle_is flags lines.Change (turned context) s t.after t.calls t.entries (turned_agrees flags context s a) (does_at s t SettlesHeld o.first_is ours.1.0) in
+    let d = does_at t.after u (Truncates admin what) o.second_is ours.0 in
+    let w = d.works in
+    let work = work_of_truncation admin what in
+    let head : Entry = says.Act (admin.actions + 1) in
+    let rest : List Entry = moves_entries w.moves ++ (signs_entries w.made ++ flagging_entries admin.words work.flags) in
+    let answer : List Entry = says.Reply 0 ∷ [] in
+    let whole : List Entry = head ∷ (rest ++ answer) in
+    let quiet = all_then true is_quiet (head ∷ rest) answer (refl, work_quiet w.moves w.made admin.words work.flags) (refl, tt) in
+    let behind : Context = after_entries None e.behind whole in
+    let k = quiet_context None e.behind whole quiet in
+    let E : List Entry → Type 0 = λ z. IsPiece flags s.stack lines.Change (turned context) (t.entries ++ z) behind in
+    let is : u.entries ≡ whole = d.entries_are ∙ ap (λ z. z ++ answer) w.entries_are in
+    let joined : rest ++ answer ≡ moves_entries w.moves ++ (signs_entries w.made ++ (flagging_entries admin.words work.flags ++ answer)) =
+    append_assoc (moves_entries w.moves) (signs_entries w.made ++ flagging_entries admin.words work.flags) answer
+    ∙ ap (λ z. moves_entries w.moves ++ z) (append_assoc (signs_entries w.made) (flagging_entries admin.words work.flags) answer) in
+    let stands : Agrees flags behind (acted t.after (has_truncated admin what)) = record {
+      slot = k.untouched.slot ∙ e.agrees.slot;
+      opened = subst (λ z. AreAlike flags t.after.place.thread z t.after.opened.events) (sym k.untouched.opened) e.agrees.opened;
+      held = k.held ∙ e.agrees.held;
+      drawn = k.untouched.drawn ∙ e.agrees.drawn;
+      wide = e.agrees.wide;
+      low = e.agrees.low;
+    } in
+    subst P (sym o.is) (record {
+      shaped = ap (λ z. cut (settling context.held ++ one asks.Act ∷ (changes ++ one asks.Answer ∷ [])) (t.entries ++ z)) is
+          ∙ cut_both (settling context.held) (one asks.Act ∷ (changes ++ one asks.Answer ∷ [])) t.entries whole (settling_closed context.held) refl e.shaped
+          (cut_one asks.Act (changes ++ one asks.Answer ∷ []) head (rest ++ answer) refl
+          ∙ (ap (cut (changes ++ one asks.Answer ∷ [])) joined ∙ answered_shaped w.moves w.made admin.words work.flags 0));
+      behind = behind;
+      piece = subst E (sym is) (piece_then flags s.stack lines.Change (turned context) e.behind behind t.entries whole e.piece
+          (piece_plains flags s.stack lines.Change e.behind whole (quiet_plains whole quiet)));
+      stands = subst (λ z. Agrees flags behind z) (sym d.after_is) stands;
     })
 
 pub close_line : (flags : ℕ → ℕ → ℕ) (context : Context) (s : State) (turns : List Turn) → Agrees flags context s → AreTurns s turns

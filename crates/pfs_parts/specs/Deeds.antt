@@ -3,13 +3,14 @@ use Rattle.std.specs.Prelude.{ℕ, ◌≡◌, ◌⊎◌, ◌<◌, Bool, true, fa
 use Rattle.pfs_admin.specs.Asks.{placed_of}
 use Rattle.pfs_admin.specs.States.{seat_at}
 use Rattle.pfs_admin.specs.States.{State as Administration}
+use Rattle.pfs_truncations.specs.declared.truncations.Truncation.{Truncation}
 use Rattle.pfs_event.specs.declared.entry.Entry.{Entry}
 use Rattle.pfs_levels.specs.Calls.{Call}
 use Rattle.pfs_model.specs.declared.lines.Line.{Line}
 use Rattle.pfs_model.specs.declared.lines.Line.TheVariants as lines
 use Rattle.pfs_model.specs.declared.lines.Subject.{Subject}
 use Rattle.pfs_session.specs.States.{State, nothing_held}
-use Rattle.pfs_session.specs.Turns.{Step, StartsEvent, EndsEvent, Spends, SettlesHeld, Connects, Quits, Turn, AreTurns, steps_of, turns_calls, turns_entries, stage_ends, stage_steps}
+use Rattle.pfs_session.specs.Turns.{Step, StartsEvent, EndsEvent, Spends, SettlesHeld, Connects, Quits, Truncates, Turn, AreTurns, steps_of, turns_calls, turns_entries, stage_ends, stage_steps}
 use Rattle.pfs_session.specs.declared.events.Numbers.{Numbers}
 
 -- a line with what its session is told: of an action the administration as it stands before it, of an end a statement's
@@ -22,6 +23,7 @@ pub data Deed : Type 0 where
   Ending : Numbers → Deed
   Spending : ℕ → Deed
   Quitting : Administration → Deed
+  Truncating : Administration → Truncation → Deed
   Closing : Deed
 
 -- the line as a journal goes by it
@@ -33,12 +35,14 @@ line_of StageEnding = lines.StageEnd
 line_of (Ending numbers) = lines.End
 line_of (Spending time) = lines.Spend
 line_of (Quitting admin) = lines.Quit
+line_of (Truncating admin what) = lines.Change
 line_of Closing = lines.Close
 
 -- the number of its action, by the administration; None of a line that is none
 abbrev pub action_of : Deed → Option ℕ
 action_of (Connecting admin user host) = Some (admin.actions + 1)
 action_of (Quitting admin) = Some (admin.actions + 1)
+action_of (Truncating admin what) = Some (admin.actions + 1)
 action_of (Starting subject) = None
 action_of (Staging subject) = None
 action_of StageEnding = None
@@ -47,7 +51,7 @@ action_of (Spending time) = None
 action_of Closing = None
 
 -- the steps that a session does at it: a stage that is open ends before another starts, and before its statement ends;
--- what is held is settled before the session ends and at the end of its block
+-- what is held is settled before an action, and at the end of its block
 abbrev pub steps_for : State → Deed → List Step
 steps_for s (Connecting admin user host) = Connects admin user host ∷ []
 steps_for s (Starting subject) = StartsEvent subject ∷ []
@@ -56,6 +60,7 @@ steps_for s StageEnding = stage_steps s.opened.events None
 steps_for s (Ending numbers) = stage_ends s.opened.events ++ EndsEvent numbers ∷ []
 steps_for s (Spending time) = Spends time ∷ []
 steps_for s (Quitting admin) = SettlesHeld ∷ Quits admin ∷ []
+steps_for s (Truncating admin what) = SettlesHeld ∷ Truncates admin what ∷ []
 steps_for s Closing = SettlesHeld ∷ []
 
 -- what a line did: its steps with their calls and entries
@@ -93,11 +98,13 @@ MayDo over s StageEnding = over ≡ false
 MayDo over s (Ending numbers) = over ≡ false
 MayDo over s (Spending time) = over ≡ false
 MayDo over s (Quitting admin) = (over ≡ false) × (s.opened.events ≡ [])
+MayDo over s (Truncating admin what) = over ≡ false
 MayDo over s Closing = Unit {0}
 
 -- a session is over once it has ended
 abbrev pub is_over : Bool → Deed → Bool
 is_over over (Quitting admin) = true
+is_over over (Truncating admin what) = over
 is_over over (Connecting admin user host) = over
 is_over over (Starting subject) = over
 is_over over (Staging subject) = over
