@@ -11,17 +11,18 @@ use Rattle.pfs_levels.specs.Calls.{Call}
 use Rattle.pfs_model.specs.Shapes.{is_stage}
 use Rattle.pfs_parts.proofs.Journaling.{parts_number, turns_number}
 use Rattle.pfs_parts.proofs.Stinting.{state_more}
-use Rattle.pfs_parts.specs.Deeds.{Deed, Connecting, Starting, Staging, StageEnding, Ending, Spending, Quitting, Closing, Part, IsPart, action_of, steps_for}
+use Rattle.pfs_parts.specs.Deeds.{Deed, Connecting, Starting, Staging, StageEnding, Ending, Spending, Quitting, Truncating, Closing, Part, IsPart, action_of, steps_for}
 use Rattle.pfs_parts.specs.Shaped.{AreParts, state_behind}
 use Rattle.pfs_parts.specs.Stints.{Stint, resumed, state_by, AreStintsBehind}
 use Rattle.pfs_session.specs.Ends.{Ends, EndsIn, no_numbers}
 use Rattle.pfs_session.specs.States.{State, fresh}
-use Rattle.pfs_session.specs.Turns.{Step, StartsEvent, EndsEvent, Spends, SettlesHeld, Connects, Quits, Does, Turn, AreTurns, state_after, steps_of, stage_ends}
+use Rattle.pfs_session.specs.Turns.{Step, StartsEvent, EndsEvent, Spends, SettlesHeld, Connects, Quits, Truncates, Does, Turn, AreTurns, state_after, steps_of, stage_ends}
 use Rattle.pfs_session.specs.declared.events.Numbers.{Numbers}
 
 abbrev pub acts_at : Step → ℕ
 acts_at (Connects admin user host) = 1
 acts_at (Quits admin) = 1
+acts_at (Truncates admin what) = 1
 acts_at (StartsEvent subject) = 0
 acts_at (EndsEvent numbers) = 0
 acts_at (Spends time) = 0
@@ -61,6 +62,7 @@ does_actions s (Spends time) calls entries after d = none_more _ _ (ap (λ (z : 
 does_actions s SettlesHeld calls entries after d = none_more _ _ (ap (λ (z : State). z.actions) d.after_is)
 does_actions s (Connects admin user host) calls entries after d = ap (λ (z : State). z.actions) d.1
 does_actions s (Quits admin) calls entries after d = ap (λ (z : State). z.actions) d.1
+does_actions s (Truncates admin what) calls entries after d = ap (λ (z : State). z.actions) d.after_is
 
 turns_actions : (s : State) (turns : List Turn) → AreTurns s turns → (state_after s turns).actions ≡ s.actions + acts_in (steps_of turns)
 turns_actions s [] are = omega arith
@@ -80,6 +82,7 @@ stage_none (what ∷ events) = by_test (is_stage what.kind) where
 steps_act : (s : State) (deed : Deed) → acts_in (steps_for s deed) ≡ one_of (action_of deed)
 steps_act s (Connecting admin user host) = refl
 steps_act s (Quitting admin) = refl
+steps_act s (Truncating admin what) = refl
 steps_act s (Starting subject) = refl
 steps_act s (Staging subject) = acts_then (stage_ends s.opened.events) (StartsEvent subject ∷ []) ∙ ap (λ z. z + 0) (stage_none s.opened.events)
 steps_act s StageEnding = acts_then (stage_ends s.opened.events) [] ∙ ap (λ z. z + 0) (stage_none s.opened.events)

@@ -5,7 +5,7 @@ use Rattle.std.proofs.lemmas.List.{append_assoc}
 use Rattle.pfs_admin.specs.Fold.{state_of}
 use Rattle.pfs_admin.specs.States.{State}
 use Rattle.pfs_admin.specs.declared.changes.Change.{Change}
-use Rattle.pfs_admin.specs.declared.changes.Change.TheVariants.{Connect, Quit}
+use Rattle.pfs_admin.specs.declared.changes.Change.TheVariants.{Connect, Quit, Truncate}
 use Rattle.pfs_alone.specs.Spells.{Doing, Spell, parts_in, stints_of}
 use Rattle.pfs_asked.specs.Asking.{number_of, work_of}
 use Rattle.pfs_asked.specs.Whole.{Acting, actings_of, all_actings}
@@ -13,7 +13,7 @@ use Rattle.pfs_asked.specs.Whole.{rooms_for as rooms_of_deed}
 use Rattle.pfs_board.specs.declared.view.Label.{Label}
 use Rattle.pfs_classes.specs.declared.setting.Setting.{Setting}
 use Rattle.pfs_model.specs.Chains.{Each}
-use Rattle.pfs_parts.specs.Deeds.{Deed, Connecting, Starting, Staging, StageEnding, Ending, Spending, Quitting, Closing, action_of}
+use Rattle.pfs_parts.specs.Deeds.{Deed, Connecting, Starting, Staging, StageEnding, Ending, Spending, Quitting, Truncating, Closing, action_of}
 use Rattle.pfs_runs.specs.Labels.{before_action, work_for, rooms_for, work_of_label, rooms_of_label, label_at, work_at, rooms_at}
 use Rattle.pfs_ruled.specs.Folded.{FoldsTo, DoingsFolded, AreFolded}
 use Rattle.pfs_ruled.proofs.Counted.{AreLined, AllLined, more_made, one_of}
@@ -99,6 +99,10 @@ known setting change all session made label labels (Connecting admin user host) 
 known setting change all session made label labels (Quitting admin) f l a = record {
   work = sym (by_label (work_of_label change) work_for setting change all labels label session made (admin.actions + 1) admin Quit (λ s one. refl) l.0 l.1 a f.0 f.1);
   rooms = sym (by_label (rooms_of_label change) rooms_for setting change all labels label session made (admin.actions + 1) admin Quit (λ s one. refl) l.0 l.1 a f.0 f.1);
+}
+known setting change all session made label labels (Truncating admin what) f l a = record {
+  work = sym (by_label (work_of_label change) work_for setting change all labels label session made (admin.actions + 1) admin (Truncate what) (λ s one. refl) l.0 l.1 a f.0 f.1);
+  rooms = sym (by_label (rooms_of_label change) rooms_for setting change all labels label session made (admin.actions + 1) admin (Truncate what) (λ s one. refl) l.0 l.1 a f.0 f.1);
 }
 known setting change all session made label labels (Starting subject) f l a = record { work = refl; rooms = refl }
 known setting change all session made label labels (Staging subject) f l a = record { work = refl; rooms = refl }

@@ -22,7 +22,7 @@ use Rattle.pfs_model.specs.Setups.{loads_at}
 use Rattle.pfs_model.specs.Shapes.{is_stage}
 use Rattle.pfs_model.specs.declared.changes.Change.{Change}
 use Rattle.pfs_model.specs.declared.lines.Subject.{Subject}
-use Rattle.pfs_parts.specs.Deeds.{Deed, Connecting, Starting, Staging, StageEnding, Ending, Spending, Quitting, Closing, Part, IsPart, action_of, part_calls, steps_for}
+use Rattle.pfs_parts.specs.Deeds.{Deed, Connecting, Starting, Staging, StageEnding, Ending, Spending, Quitting, Truncating, Closing, Part, IsPart, action_of, part_calls, steps_for}
 use Rattle.pfs_parts.specs.Shaped.{AreParts}
 use Rattle.pfs_parts.specs.Stints.{Stint, AreStints, AreDone, blocks_of, parts_by}
 use Rattle.pfs_session.specs.Ends.{no_numbers}
@@ -95,6 +95,7 @@ stage_heads (what ∷ events) rest = by_test (is_stage what.kind) where
 deed_heads : (s : State) (deed : Deed) → heads (steps_for s deed) ≡ act_by (action_of deed)
 deed_heads s (Connecting admin user host) = refl
 deed_heads s (Quitting admin) = refl
+deed_heads s (Truncating admin what) = refl
 deed_heads s (Starting subject) = refl
 deed_heads s (Staging subject) = stage_heads s.opened.events (StartsEvent subject ∷ [])
 deed_heads s StageEnding = stage_heads s.opened.events []

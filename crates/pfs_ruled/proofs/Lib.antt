@@ -5,6 +5,8 @@ pub mod Finding
 pub mod Knowing
 pub mod Orders
 pub mod Classes
+pub mod Truncating
+pub mod CellKinds
 pub mod Seating
 pub mod Agreeing
 pub mod Placing

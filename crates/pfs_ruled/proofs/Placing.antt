@@ -5,7 +5,7 @@ use Rattle.std.proofs.lemmas.Bool.{eqb-true}
 use Rattle.pfs_admin.specs.Asks.{work_of_connect, work_of_quit, connect_entry, placed_of}
 use Rattle.pfs_admin.specs.States.{seat_at}
 use Rattle.pfs_alone.proofs.Inner.{entries_then, inner_slots, paid_same}
-use Rattle.pfs_alone.proofs.Steps.{IsActed, acted}
+use Rattle.pfs_alone.proofs.Steps.{IsActed, acted, truncated_acted}
 use Rattle.pfs_alone.specs.Spells.{Doing, Spell, parts_in, stints_of}
 use Rattle.pfs_board.specs.declared.view.Label.{Label}
 use Rattle.pfs_containers.specs.declared.containers.Seated.{Seated}
@@ -23,14 +23,14 @@ use Rattle.pfs_model.specs.Shapes.{is_stage}
 use Rattle.pfs_model.specs.declared.lines.Subject.{Subject}
 use Rattle.pfs_parts.proofs.Journaling.{turns_number}
 use Rattle.pfs_parts.specs.Amounts.{IsPlaced, AllPlaced}
-use Rattle.pfs_parts.specs.Deeds.{Deed, Connecting, Starting, Staging, StageEnding, Ending, Spending, Quitting, Closing, Part, line_of, part_entries, action_of, steps_for}
+use Rattle.pfs_parts.specs.Deeds.{Deed, Connecting, Starting, Staging, StageEnding, Ending, Spending, Quitting, Truncating, Closing, Part, line_of, part_entries, action_of, steps_for}
 use Rattle.pfs_parts.specs.Shaped.{AreParts, lines_of, entries_of}
 use Rattle.pfs_parts.specs.Stints.{Stint, blocks_of, parts_by, AreDone}
 use Rattle.pfs_session.specs.Ends.{Ends, EndsIn, added_entry, no_numbers}
 use Rattle.pfs_session.specs.Settles.{Paid, paid_entries, settle_head}
 use Rattle.pfs_session.specs.Starts.{start_entry}
 use Rattle.pfs_session.specs.States.{State, Owed}
-use Rattle.pfs_session.specs.Turns.{Step, StartsEvent, EndsEvent, Spends, SettlesHeld, Connects, Quits, Does, Turn, AreTurns, state_after, steps_of, turns_entries, stage_ends}
+use Rattle.pfs_session.specs.Turns.{Step, StartsEvent, EndsEvent, Spends, SettlesHeld, Connects, Quits, Truncates, Does, Turn, AreTurns, state_after, steps_of, turns_entries, stage_ends}
 use Rattle.pfs_session.specs.declared.events.Numbers.{Numbers}
 use Rattle.pfs_session.specs.declared.setup.Setup.{Setup}
 use Rattle.pfs_ruled.specs.Folded.{ConnectsFirst, DoingsConnectFirst, AllConnectFirst}
@@ -40,6 +40,7 @@ use Rattle.pfs_ruled.proofs.Counted.{AreLined, AllLined, more_made, one_of, acti
 abbrev slot_by : ℕ → Option ℕ → Step → Option ℕ
 slot_by number slot (Connects admin user host) = (placed_of (seat_at admin number user host)).thread
 slot_by number slot (Quits admin) = slot
+slot_by number slot (Truncates admin what) = slot
 slot_by number slot (StartsEvent subject) = slot
 slot_by number slot (EndsEvent numbers) = slot
 slot_by number slot (Spends time) = slot
@@ -96,6 +97,8 @@ does_slot subject context s (Connects admin user host) calls entries after d =
     (acted (work_of_connect admin s.number user host) admin.words (connect_entry (admin.actions + 1) (seat_at admin s.number user host)) calls entries d.0)
 does_slot subject context s (Quits admin) calls entries after d =
     acted_slot subject context (says.Act (admin.actions + 1)) calls entries context.slot refl (acted (work_of_quit admin s.number) admin.words (says.Act (admin.actions + 1)) calls entries d.0)
+does_slot subject context s (Truncates admin what) calls entries after d =
+    acted_slot subject context (says.Act (admin.actions + 1)) calls entries context.slot refl (truncated_acted s admin what calls entries after d)
 
 turns_slot : (subject : Option Subject) (context : Context) (s : State) (turns : List Turn) → AreTurns s turns → (after_entries subject context (turns_entries turns)).slot ≡ slots_by s.number context.slot (steps_of turns)
 turns_slot subject context s [] are = refl
@@ -110,6 +113,7 @@ turns_slot subject context s (t ∷ ts) are =
 abbrev pub slot_behind : ℕ → Option ℕ → Deed → Option ℕ
 slot_behind number slot (Connecting admin user host) = (placed_of (seat_at admin number user host)).thread
 slot_behind number slot (Quitting admin) = slot
+slot_behind number slot (Truncating admin what) = slot
 slot_behind number slot (Starting subject) = slot
 slot_behind number slot (Staging subject) = slot
 slot_behind number slot StageEnding = slot
@@ -131,6 +135,7 @@ stage_slots number slot (what ∷ events) rest = by_test (is_stage what.kind) wh
 deed_slot : (s : State) (slot : Option ℕ) (deed : Deed) → slots_by s.number slot (steps_for s deed) ≡ slot_behind s.number slot deed
 deed_slot s slot (Connecting admin user host) = refl
 deed_slot s slot (Quitting admin) = refl
+deed_slot s slot (Truncating admin what) = refl
 deed_slot s slot (Starting subject) = refl
 deed_slot s slot (Staging subject) = stage_slots s.number slot s.opened.events (StartsEvent subject ∷ [])
 deed_slot s slot StageEnding = stage_slots s.number slot s.opened.events []
@@ -226,6 +231,7 @@ no_connect session made label labels (Connecting admin user host) slot any up l 
     let line : label.line ≡ made + 1 = ap (λ (z : Label). z.line) l.1 in
     absurd (omega (arith, line, f, up))
 no_connect session made label labels (Quitting admin) slot any up l f = (refl, tt)
+no_connect session made label labels (Truncating admin what) slot any up l f = (refl, tt)
 no_connect session made label labels (Starting subject) slot any up l f = (refl, tt)
 no_connect session made label labels (Staging subject) slot any up l f = (refl, tt)
 no_connect session made label labels StageEnding slot any up l f = (refl, tt)
@@ -255,6 +261,9 @@ placed_by session slot (d ∷ ds) l f = by_deed d.part.deed l.1 f.0 (λ m. place
       let s : IsSettled session (placed_of (seat_at admin session user host)).thread ds = settled session 1 (placed_of (seat_at admin session user host)).thread ds (omega arith) l f.1 in
       (sym s.same, s.placed (slots_behind session (placed_of (seat_at admin session user host)).thread (parts_in ds)))
   by_deed (Quitting admin) l c rest =
+      let s : IsSettled session slot ds = settled session 1 slot ds (omega arith) l f.1 in
+      (tt, s.placed (slots_behind session slot (parts_in ds)))
+  by_deed (Truncating admin what) l c rest =
       let s : IsSettled session slot ds = settled session 1 slot ds (omega arith) l f.1 in
       (tt, s.placed (slots_behind session slot (parts_in ds)))
   by_deed (Starting subject) l c rest = quiet (Starting subject) (rest l) (λ any. tt)

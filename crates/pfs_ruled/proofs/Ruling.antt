@@ -14,7 +14,6 @@ use Rattle.pfs_board.specs.declared.view.Label.{Label}
 use Rattle.pfs_classes.specs.declared.setting.Setting.{Setting}
 use Rattle.pfs_levels.specs.Plain.{AllAnswer, ops_of}
 use Rattle.pfs_matching.specs.ObjectRules.{opening_objects}
-use Rattle.pfs_model.specs.Asked.{Answer}
 use Rattle.pfs_model.specs.Chains.{Each}
 use Rattle.pfs_model.specs.Contents.{Given}
 use Rattle.pfs_model.specs.Contexts.{fresh as empty}
@@ -96,8 +95,8 @@ ruled m = λ setting change facts depths spells are answers folded first given_f
     let has : HaveLabels setting change spells = have_labels setting change setting.limits.statement_stack depths flags spells are answers folded in
     let t : AreTogether flags spells = together flags setting.limits.statement_stack depths spells are answers in
     let a : IsAlone setting.limits.statement_stack flags stints = alone flags setting.limits.statement_stack depths spells are answers in
-    let by_answers : (answers : ℕ → Answer) → AreRules (terms_of setting change facts answers labels) (counted_by content (all_taken stints)) content (journals_of spells) = λ told.
-    (let terms : Terms = terms_of setting change facts told labels in
+    let rules : AreRules (terms_of setting change facts labels) (counted_by content (all_taken stints)) content (journals_of spells) =
+    (let terms : Terms = terms_of setting change facts labels in
     let given : Given = given_by terms (journals_of spells) in
     let asked = is_asked setting change given flags spells refl has folded answers in
     let each = contents_agree flags spells answers in
@@ -110,7 +109,7 @@ ruled m = λ setting change facts depths spells are answers folded first given_f
       caused = caused all t.quiet;
       judged = a.judged;
       numbered = a.numbered;
-      answered = asked.answered told;
+      answered = asked.answered;
       done = asked.done;
       found = asked.found;
       contents = record {
@@ -120,6 +119,6 @@ ruled m = λ setting change facts depths spells are answers folded first given_f
     }) in
     record {
       labelled = subst (λ z. AreLabels z all) (sym has.now) (labelled setting.limits.statement_stack depths spells are.stints has.are_done has.lined has.among t.same);
-      rules = by_answers;
+      rules = rules;
       plain = a.plain;
     })

@@ -1,5 +1,5 @@
 -- In each state of the fold the places of a session are in range, and the cells of the classes ascend.
-use Rattle.std.proofs.Common.{ℕ, zero, suc, ◌≡◌, ◌+◌, ◌<◌, ◌≤◌, ◌==◌, List, [], ◌∷◌, ◌++◌, length, Option, Some, None, refl, sym, subst, arith}
+use Rattle.std.proofs.Common.{ℕ, zero, suc, ◌≡◌, ◌+◌, ◌<◌, ◌≤◌, ◌==◌, List, [], ◌∷◌, ◌++◌, map, length, Option, Some, None, refl, sym, subst, arith}
 use Rattle.std.specs.List.{range_with_len}
 use Rattle.std.specs.Prelude.{IfSome}
 use Rattle.pfs_admin.proofs.Folding.{fixed_law}
@@ -7,22 +7,29 @@ use Rattle.pfs_admin.specs.Fold.{stepped, state_from, state_of}
 use Rattle.pfs_admin.specs.Opening.{cells_of, opened}
 use Rattle.pfs_admin.specs.States.{State, seat_at, seat_in}
 use Rattle.pfs_admin.specs.declared.changes.Change.{Change}
-use Rattle.pfs_admin.specs.declared.changes.Change.TheVariants.{Connect, Quit, Show}
+use Rattle.pfs_admin.specs.declared.changes.Change.TheVariants.{Connect, Quit, Truncate, Show}
 use Rattle.pfs_alone.specs.Spells.{Doing, Spell, parts_in, stints_of}
-use Rattle.pfs_asked.specs.Takes.{IsSeated, AreSeated, IsSeatedStint}
+use Rattle.pfs_asked.specs.Takes.{IsSeated, AreOnce, AreSeated, IsSeatedStint}
 use Rattle.pfs_board.specs.declared.view.Label.{Label}
 use Rattle.pfs_classes.specs.declared.setting.Setting.{Setting}
 use Rattle.pfs_containers.proofs.Keeping.{free_inside, session_has, seat_keeps, quit_keeps, opens_well, seat_in_range, quit_in_range}
-use Rattle.pfs_containers.specs.Administration.{Containers, Found, found_where, lowest_free, session_of, quit_line, connect_at}
-use Rattle.pfs_containers.specs.Connections.{stepped as places_after}
+use Rattle.pfs_containers.specs.Administration.{Containers, Found, advanced, found_where, lowest_free, session_of, quit_line, connect_at}
+use Rattle.pfs_containers.proofs.Truncating.{accounts_freed, users_freed, hosts_freed}
+use Rattle.pfs_containers.specs.Connections.{in_use, FreesAccounts, stepped as places_after}
 use Rattle.pfs_containers.specs.Kept.{AreWell, IsInRange, seat_by, seated}
 use Rattle.pfs_containers.specs.declared.containers.Connection.{Connection}
-use Rattle.pfs_levels.specs.Flushes.{Ascends}
+use Rattle.pfs_levels.specs.Flushes.{Ascends, from_of}
 use Rattle.pfs_model.specs.Chains.{Each}
-use Rattle.pfs_parts.specs.Deeds.{Deed, Connecting, Starting, Staging, StageEnding, Ending, Spending, Quitting, Closing}
+use Rattle.pfs_parts.specs.Deeds.{Deed, Connecting, Starting, Staging, StageEnding, Ending, Spending, Quitting, Truncating, Closing}
 use Rattle.pfs_parts.specs.Stints.{AreDone}
 use Rattle.pfs_ruled.specs.Folded.{FoldsTo, DoingsFolded, AreFolded}
+use Rattle.pfs_admin.specs.Laws.{row_of}
+use Rattle.pfs_admin.specs.Truncations.{action_of, work_of_truncation}
+use Rattle.pfs_truncations.specs.declared.truncations.Truncation.{Truncation}
+use Rattle.pfs_truncations.specs.declared.truncations.Truncation.TheVariants.{Summary, Accounts, Users, Hosts, SetupActors, SetupObjects}
+use Rattle.pfs_ruled.proofs.CellKinds.{fold_kinds}
 use Rattle.pfs_ruled.proofs.Classes.{few_classes}
+use Rattle.pfs_ruled.proofs.Truncating.{rows_of_truncation}
 
 -- no place that isn't there
 connect_well : (c : Containers) (number user host : ℕ) → AreWell c.places → AreWell (connect_at c number user host (lowest_free c.places.threads)).places
@@ -37,9 +44,22 @@ quit_well c number well = by_found (found_where (λ x. x.number == number) c.pla
   by_found None = well
   by_found (Some found) = quit_keeps c.places found.place well
 
+truncation_well : (c : Containers) (what : Truncation) → AreWell c.places → AreWell (advanced c (action_of what)).places
+truncation_well c (Summary kind table) well = well
+truncation_well c Accounts well = accounts_freed c.places (in_use (λ x. x.account) c.places.threads) _ refl well
+truncation_well c Users well =
+    users_freed (places_after c.places FreesAccounts) (in_use (λ x. x.user) c.places.threads) _ refl
+    (accounts_freed c.places (in_use (λ x. x.account) c.places.threads) _ refl well)
+truncation_well c Hosts well =
+    hosts_freed (places_after c.places FreesAccounts) (in_use (λ x. x.host) c.places.threads) _ refl
+    (accounts_freed c.places (in_use (λ x. x.account) c.places.threads) _ refl well)
+truncation_well c SetupActors well = well
+truncation_well c SetupObjects well = well
+
 step_well : (s : State) (session : ℕ) (what : Change) → AreWell s.kept.now.places → AreWell (stepped s session what).kept.now.places
 step_well s session (Connect user host) well = connect_well s.kept.now session user host well
 step_well s session Quit well = quit_well s.kept.now session well
+step_well s session (Truncate what) well = truncation_well s.kept.now what well
 step_well s session Show well = well
 
 from_well : (change : Label → Change) (s : State) (labels : List Label) → AreWell s.kept.now.places → AreWell (state_from change s labels).kept.now.places
@@ -47,7 +67,7 @@ unfolding state_from
 from_well change s [] well = well
 from_well change s (label ∷ labels) well = from_well change (stepped s label.session (change label)) labels (step_well s label.session (change label) well)
 
-fold_well : (setting : Setting) (change : Label → Change) (labels : List Label) → AreWell (state_of setting change labels).kept.now.places
+pub fold_well : (setting : Setting) (change : Label → Change) (labels : List Label) → AreWell (state_of setting change labels).kept.now.places
 fold_well setting change labels =
     from_well change (opened setting) labels (opens_well setting.limits setting.in_range.thread_instances setting.in_range.accounts setting.in_range.users setting.in_range.hosts)
 
@@ -84,6 +104,9 @@ deed_seated setting change session label labels (Connecting admin user host) f =
     subst (λ (s : State). IfSome (seat_at s session user host) IsInRange) (sym f.0) (seat_at_in (state_of setting change labels).kept.now session user host (fold_well setting change labels))
 deed_seated setting change session label labels (Quitting admin) f =
     subst (λ (s : State). Ascends 0 64 s.cells × IfSome (seat_in s session) IsInRange) (sym f.0) (fold_cells setting change labels, seat_in_in (state_of setting change labels).kept.now session (fold_well setting change labels))
+deed_seated setting change session label labels (Truncating admin what) f =
+    subst (λ (s : State). AreOnce (map from_of (work_of_truncation s what).moves) × Ascends 1 129 (map row_of (work_of_truncation s what).signs)) (sym f.0)
+    (rows_of_truncation (state_of setting change labels) what (fold_kinds setting change labels))
 deed_seated setting change session label labels (Starting subject) f = tt
 deed_seated setting change session label labels (Staging subject) f = tt
 deed_seated setting change session label labels StageEnding f = tt

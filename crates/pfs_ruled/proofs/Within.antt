@@ -1,6 +1,7 @@
 -- The calls of a session's steps neither begin nor end an action.
 use Rattle.std.proofs.Common.{ℕ, ◌≡◌, Bool, true, false, List, [], ◌∷◌, ◌++◌, Option, Some, None, refl, ap, sym, ◌∙◌, subst}
 use Rattle.pfs_admin.specs.Asks.{work_of_connect, work_of_quit}
+use Rattle.pfs_admin.specs.Truncations.{work_of_truncation}
 use Rattle.pfs_admin.specs.Works.{Sign, Releases, Tags, Made, Flagging, signs_calls, made_calls, flagging_calls, Work}
 use Rattle.pfs_alone.specs.Notes.{Note, Wrote, Freed, Switched, Saw, Acted, told, all_told}
 use Rattle.pfs_alone.proofs.Nexts.{acts}
@@ -16,7 +17,7 @@ use Rattle.pfs_session.specs.Ends.{Ends, EndsIn}
 use Rattle.pfs_session.specs.Settles.{Paid, paid_calls, pay_calls}
 use Rattle.pfs_session.specs.Starts.{load_calls, table_calls}
 use Rattle.pfs_session.specs.States.{State}
-use Rattle.pfs_session.specs.Turns.{Step, StartsEvent, EndsEvent, Spends, SettlesHeld, Connects, Quits, Does, Works, Turn, AreTurns, state_after, turns_calls}
+use Rattle.pfs_session.specs.Turns.{Step, StartsEvent, EndsEvent, Spends, SettlesHeld, Connects, Quits, Truncates, Does, Works, Turn, AreTurns, state_after, turns_calls}
 use Rattle.pfs_session.specs.declared.events.Numbers.{Numbers}
 use Rattle.pfs_session.specs.declared.setup.Setup.{Setup}
 use Rattle.pfs_stat.specs.declared.Stat.{Stat}
@@ -99,6 +100,7 @@ does_within s (Spends time) calls entries after d = subst AreWithin (sym d.0) tt
 does_within s SettlesHeld calls entries after d = subst AreWithin (sym d.calls_are) (paid_within d.paid)
 does_within s (Connects admin user host) calls entries after d = works_within (work_of_connect admin s.number user host) admin.words _ calls entries d.0
 does_within s (Quits admin) calls entries after d = works_within (work_of_quit admin s.number) admin.words _ calls entries d.0
+does_within s (Truncates admin what) calls entries after d = works_within (work_of_truncation admin what) admin.words _ calls d.changes d.works
 
 abbrev pub TurnsWithin : List Turn → Type 0
 TurnsWithin [] = Unit {0}

@@ -2,11 +2,11 @@
 use Rattle.std.specs.Prelude.{◌≡◌, List, [], ◌∷◌}
 use Rattle.pfs_admin.specs.Fold.{state_of}
 use Rattle.pfs_admin.specs.declared.changes.Change.{Change}
-use Rattle.pfs_admin.specs.declared.changes.Change.TheVariants.{Connect, Quit}
+use Rattle.pfs_admin.specs.declared.changes.Change.TheVariants.{Connect, Quit, Truncate}
 use Rattle.pfs_alone.specs.Spells.{Doing, Spell}
 use Rattle.pfs_board.specs.declared.view.Label.{Label}
 use Rattle.pfs_classes.specs.declared.setting.Setting.{Setting}
-use Rattle.pfs_parts.specs.Deeds.{Deed, Connecting, Starting, Staging, StageEnding, Ending, Spending, Quitting, Closing}
+use Rattle.pfs_parts.specs.Deeds.{Deed, Connecting, Starting, Staging, StageEnding, Ending, Spending, Quitting, Truncating, Closing}
 
 -- an action that entered with this label, behind those, names the administration that they make, and its change is
 -- that of its label
@@ -15,6 +15,8 @@ FoldsTo setting change label labels (Connecting admin user host) =
     (admin ≡ state_of setting change labels) × (change label ≡ Connect user host)
 FoldsTo setting change label labels (Quitting admin) =
     (admin ≡ state_of setting change labels) × (change label ≡ Quit)
+FoldsTo setting change label labels (Truncating admin what) =
+    (admin ≡ state_of setting change labels) × (change label ≡ Truncate what)
 FoldsTo setting change label labels (Starting subject) = Unit {0}
 FoldsTo setting change label labels (Staging subject) = Unit {0}
 FoldsTo setting change label labels StageEnding = Unit {0}
@@ -38,6 +40,7 @@ AreFolded setting change (spell ∷ spells) =
 abbrev pub ConnectsFirst : Label → Deed → Type 0
 ConnectsFirst label (Connecting admin user host) = label.line ≡ 1
 ConnectsFirst label (Quitting admin) = Unit {0}
+ConnectsFirst label (Truncating admin what) = Unit {0}
 ConnectsFirst label (Starting subject) = Unit {0}
 ConnectsFirst label (Staging subject) = Unit {0}
 ConnectsFirst label StageEnding = Unit {0}

@@ -8,7 +8,6 @@ use Rattle.pfs_board.specs.declared.view.Label.{Label}
 use Rattle.pfs_classes.specs.declared.setting.Setting.{Setting}
 use Rattle.pfs_levels.specs.Plain.{AllAnswer, ops_of, content_at, labels_after}
 use Rattle.pfs_matching.specs.ObjectRules.{opening_objects}
-use Rattle.pfs_model.specs.Asked.{Answer}
 use Rattle.pfs_model.specs.Contents.{Facts}
 use Rattle.pfs_model.specs.Places.{Placed, Block, places}
 use Rattle.pfs_model.specs.Plain.{IsPlain}
@@ -32,12 +31,12 @@ labels_of spells = labels_after (calls_of spells)
 abbrev pub contents_of : List Spell → ℕ → ℕ → List ℕ
 contents_of spells = content_at (ops_of (calls_of spells))
 
--- the labels are those of the printed actions; the journals keep the rules of a run, whatever is said of answers, since
--- nobody asks; and each line agrees with those before it
+-- the labels are those of the printed actions; the journals keep the rules of a run; and each line agrees with those
+-- before it
 pub record IsRuled (setting : Setting) (change : Label → Change) (facts : ℕ → ℕ → Facts) (spells : List Spell) : Type 0
   where
     pub labelled : AreLabels (labels_of spells) (entries_of spells)
-    pub rules : (answers : ℕ → Answer) → AreRules (terms_of setting change facts answers (labels_of spells))
+    pub rules : AreRules (terms_of setting change facts (labels_of spells))
         (counted_by (contents_of spells) (all_taken (stints_of spells))) (contents_of spells) (journals_of spells)
     pub plain : IsPlain (entries_of spells)
 

@@ -4,16 +4,17 @@ use Rattle.pfs_admin.specs.Asks.{work_of_connect, work_of_quit, placed_of}
 use Rattle.pfs_admin.specs.Fold.{state_of}
 use Rattle.pfs_admin.specs.Opening.{opening_flags}
 use Rattle.pfs_admin.specs.States.{State, seat_at}
+use Rattle.pfs_admin.specs.Truncations.{work_of_truncation}
 use Rattle.pfs_admin.specs.Works.{Work, no_work}
 use Rattle.pfs_admin.specs.declared.changes.Change.{Change}
-use Rattle.pfs_admin.specs.declared.changes.Change.TheVariants.{Connect, Quit, Show}
-use Rattle.pfs_asked.specs.Asking.{asked_by, rooms_of}
+use Rattle.pfs_admin.specs.declared.changes.Change.TheVariants.{Connect, Quit, Truncate, Show}
+use Rattle.pfs_asked.specs.Asking.{asked_by, no_rows, rooms_of}
 use Rattle.pfs_asked.specs.Whole.{no_rooms, signed_words}
 use Rattle.pfs_board.specs.declared.view.Label.{Label}
 use Rattle.pfs_classes.specs.declared.setting.Setting.{Setting}
 use Rattle.pfs_matching.specs.ObjectRules.{opening_objects}
 use Rattle.pfs_model.specs.Actions.{numbers_by}
-use Rattle.pfs_model.specs.Asked.{Answer, Asked, Rooms}
+use Rattle.pfs_model.specs.Asked.{Asked, Rooms}
 use Rattle.pfs_model.specs.Chains.{action_change, each_of}
 use Rattle.pfs_model.specs.Contents.{Facts}
 use Rattle.pfs_model.specs.Places.{Placed}
@@ -36,12 +37,14 @@ before_action setting change labels number = state_of setting change (take (numb
 abbrev pub work_for : State → ℕ → Change → Work
 work_for s session (Connect user host) = work_of_connect s session user host
 work_for s session Quit = work_of_quit s session
+work_for s session (Truncate what) = work_of_truncation s what
 work_for s session Show = no_work
 
 -- where a change finds room
 abbrev pub rooms_for : State → ℕ → Change → Rooms
 rooms_for s session (Connect user host) = rooms_of (placed_of (seat_at s session user host))
 rooms_for s session Quit = no_rooms
+rooms_for s session (Truncate what) = no_rooms
 rooms_for s session Show = no_rooms
 
 abbrev pub work_of_label : (Label → Change) → State → Option Label → Work
@@ -73,14 +76,14 @@ abbrev pub words_at : Setting → (Label → Change) → List Label → ℕ → 
 words_at setting change labels number row = signed_words (work_at setting change labels number).signs row
 
 -- what the rules of a run go by: the setting's limit of statements and its opening flags, the actions as the fold has
--- them, their answers, and the facts of the events
-abbrev pub terms_of : Setting → (Label → Change) → (ℕ → ℕ → Facts) → (ℕ → Answer) → List Label → Terms
-terms_of setting change facts answers labels = record {
+-- them, what changes answer, and the facts of the events
+abbrev pub terms_of : Setting → (Label → Change) → (ℕ → ℕ → Facts) → List Label → Terms
+terms_of setting change facts labels = record {
   stack = setting.limits.statement_stack;
   opening = λ word. slice_index_or (opening_flags setting opening_objects) word 0;
   asked = asked_at setting change labels;
   rooms = rooms_at setting change labels;
-  answers = answers;
+  answers = no_rows;
   info_words = words_at setting change labels;
   facts = facts;
 }

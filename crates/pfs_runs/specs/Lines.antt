@@ -21,6 +21,8 @@ use Rattle.pfs_script.specs.declared.blocks.Phase.{Phase}
 use Rattle.pfs_script.specs.Events.{blocks_for, events_for, Event, plain_subject}
 use Rattle.pfs_script.specs.Events.{Subject as Said}
 use Rattle.pfs_script.specs.Marks.{written_out}
+use Rattle.pfs_truncations.specs.Texts.{truncation_of}
+use Rattle.pfs_truncations.specs.declared.truncations.Truncation.{Truncation}
 
 -- the id of a class that isn't lost
 abbrev pub class_in : ClassRef → Option ℕ
@@ -79,8 +81,13 @@ transaction_on access = subject_in (record {
 abbrev pub stage_on : ClassRef → Subject
 stage_on class = subject_in (plain_subject kinds.Stage class)
 
--- a line of a block, repeats written out. No SQL runs yet, and the lines that begin and end a repeat stand nowhere
--- among lines that are written out: these ask for nothing
+-- a TRUNCATE is a change; no other SQL runs yet, and asks for nothing
+abbrev pub sql_line : Option Truncation → Line
+sql_line None = told.Spend
+sql_line (Some what) = told.Change
+
+-- a line of a block, repeats written out. The lines that begin and end a repeat stand nowhere among lines that are
+-- written out: these ask for nothing
 abbrev pub line_in : BlockLine → Line
 line_in (said.Wait class) = told.Start (wait_on class None)
 line_in (said.TableWait class table) = told.Start (wait_on class (Some table))
@@ -92,7 +99,7 @@ line_in (said.Spend time) = told.Spend
 line_in said.End = told.End
 line_in (said.EndStatement numbers) = told.End
 line_in said.Quit = told.Quit
-line_in (said.Sql text) = told.Spend
+line_in (said.Sql text) = sql_line (truncation_of text)
 line_in (said.Repeat times) = told.Spend
 line_in said.Done = told.Spend
 
@@ -105,13 +112,18 @@ connect_lines (Some names) = told.Connect ∷ []
 abbrev pub lines_in : Block → List Line
 lines_in block = connect_lines block.connect ++ (map line_in (written_out block.lines) ++ told.Close ∷ [])
 
--- the administration lines of a block: its connect, and a quit
+-- the administration lines of a block: its connect, its truncations and a quit
 abbrev pub connect_changes : Option Connect → List Change
 connect_changes None = []
 connect_changes (Some names) = changes.Connect names.user names.host ∷ []
 
+abbrev pub sql_changes : Option Truncation → List Change
+sql_changes None = []
+sql_changes (Some what) = changes.Truncate what ∷ []
+
 abbrev pub changes_on : BlockLine → List Change
 changes_on said.Quit = changes.Quit ∷ []
+changes_on (said.Sql text) = sql_changes (truncation_of text)
 changes_on _ = []
 
 abbrev pub changes_in : Block → List Change

@@ -5,7 +5,6 @@ use Rattle.pfs_classes.specs.declared.setting.Setting.{Setting}
 use Rattle.pfs_journal.specs.declared.blocks.BlockReport.{BlockReport}
 use Rattle.pfs_journal.specs.declared.report.PhaseParts.{PhaseParts}
 use Rattle.pfs_journal.specs.declared.report.ReportParts.{ReportParts}
-use Rattle.pfs_model.specs.Asked.{Answer}
 use Rattle.pfs_model.specs.Journals.{joined}
 use Rattle.pfs_model.specs.Places.{Block, Placed, places, up_to_phase}
 use Rattle.pfs_model.specs.Plain.{IsPlain}
@@ -57,7 +56,7 @@ AreFinal final (report ∷ reports) = final report × AreFinal final reports
 -- The report's phases and blocks are the script's; its journals keep the rules of a run, by the actions that the
 -- script's lines ask for and the facts that it says of their events; and under each phase's end stands what the
 -- journals so far make of rows, words and counters. Its format is the one of a report in part: rings, digests and SQL
--- are not in it yet. No line has an answer either, so the answers may be any.
+-- but for truncations are not in it yet.
 pub record IsRun (setting : Setting) (phases : List Phase) (report : ReportParts) : Type 0 where
   pub format : report.format ≡ 0
   pub blocks : List (List Block)
@@ -66,11 +65,11 @@ pub record IsRun (setting : Setting) (phases : List Phase) (report : ReportParts
   pub content : ℕ → ℕ → List ℕ
   pub phases_are : ArePhasesOf 1 phases report.phases blocks
   pub labelled : AreLabels labels (places (all_blocks blocks))
-  pub rules : (answers : ℕ → Answer) → AreRules (terms_of setting (change_in phases) (facts_in phases) answers labels)
+  pub rules : AreRules (terms_of setting (change_in phases) (facts_in phases) labels)
       counted content (all_blocks blocks)
   pub brought : AreBroughtOnce (places (all_blocks blocks))
-  pub finals : (answers : ℕ → Answer) → AreFinal (λ (phase : PhaseParts). IsFinal setting (change_in phases) labels
-      content (flags_by (terms_of setting (change_in phases) (facts_in phases) answers labels)
+  pub finals : AreFinal (λ (phase : PhaseParts). IsFinal setting (change_in phases) labels
+      content (flags_by (terms_of setting (change_in phases) (facts_in phases) labels)
       (places (all_blocks blocks))) (up_to_phase phase.number (places (all_blocks blocks))) phase) report.phases
 
 -- and a plain one, where each line goes by those before it

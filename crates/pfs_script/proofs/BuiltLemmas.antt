@@ -1,4 +1,4 @@
--- Of what the engine runs no line is a command, and each statement has the empty digest text, at the first place.
+-- Of what the engine runs each command is a truncation, and each statement has the empty digest text, at the first place.
 use Rattle.std.proofs.Common.{ℕ, ◌≡◌, ◌==◌, Bool, true, false, List, [], ◌∷◌, ◌++◌, length, Option, Some, None, Ok, refl, ap, sym, ◌∙◌, subst, append_assoc, ◌⊎◌, inl, inr, arith}
 use Rattle.std.specs.Prelude.{option_map, option_and_then}
 use Rattle.std.specs.List.{fold, All}
@@ -175,7 +175,7 @@ module _ (all : List Form) (built : AreBuilt all) where
   line_front before (form.EndStatement numbers) lines more e h rest = built_more (said.EndStatement (statement_numbers numbers)) more tt rest
   line_front before (form.Repeat (Some times)) lines more e h rest = built_more (said.Repeat times) more tt rest
   line_front before (form.Repeat None) lines more e h rest = rest
-  line_front before (form.Sql text) lines more e h rest = cc
+  line_front before (form.Sql text) lines more e h rest = built_more (said.Sql text) more h rest
   line_front before form.Quit lines more e h rest = built_more said.Quit more tt rest
   line_front before form.Done lines more e h rest = built_more said.Done more tt rest
   line_front before line lines more e h rest = rest

@@ -3,6 +3,7 @@ use Rattle.std.proofs.Common.{ℕ, ◌≡◌, true, false, List, [], ◌∷◌, 
 use Rattle.std.specs.Prelude.{codes}
 use Rattle.pfs_classes.specs.declared.kind.Kind.TheVariants.{File}
 use Rattle.pfs_classes.specs.declared.classes.ClassRef.TheVariants as refs
+use Rattle.pfs_truncations.specs.Texts.{truncation_of, name_in}
 use Rattle.pfs_script.specs.declared.forms.Form.{Form}
 use Rattle.pfs_script.specs.declared.forms.Form.TheVariants as form
 use Rattle.pfs_script.specs.declared.reasons.Reason.TheVariants.{OutOfPlace, BadSession, BadNesting, TooLong, NotBuilt}
@@ -74,10 +75,24 @@ early_quit = refl
 
 -- what isn't built is told before its place
 not_built : fault_of Built [] (form.Sql (codes "SELECT 1")) ≡ Some NotBuilt
-unfolding fault_of
+unfolding fault_of truncation_of name_in
 not_built = refl
 
--- and so is a statement with a text, and the limit of digest texts
+-- so is a truncation that is spelled otherwise, and one of a table that isn't truncated
+long_not_built : fault_of Built [] (form.Sql (codes "TRUNCATE TABLE accounts")) ≡ Some NotBuilt
+unfolding fault_of truncation_of name_in
+long_not_built = refl
+
+threads_not_built : fault_of Built [] (form.Sql (codes "TRUNCATE threads")) ≡ Some NotBuilt
+unfolding fault_of truncation_of name_in
+threads_not_built = refl
+
+-- a truncation is built
+truncation_built : fault_of Built (form.Phase ∷ connect 7 ∷ []) (form.Sql (codes "TRUNCATE accounts")) ≡ None
+unfolding fault_of least_reason truncation_of name_in lines_in session_now kinds_open brackets_from counted tables_of begins_with command_of
+truncation_built = refl
+
+-- a statement with a text isn't, nor is the limit of digest texts
 text_not_built : fault_of Built [] (form.Statement (codes "statement/sql/select") (codes "SELECT 1")) ≡ Some NotBuilt
 unfolding fault_of
 text_not_built = refl

@@ -1,5 +1,5 @@
 -- A line that says nothing makes no phase, no block and no name, so that it needn't be kept.
-use Rattle.std.proofs.Common.{ℕ, ◌≡◌, ◌≤◌, ◌+◌, Bool, List, Option, [], ◌∷◌, ◌++◌, length, cond, refl, ap, sym, ◌∙◌, arith}
+use Rattle.std.proofs.Common.{ℕ, ◌≡◌, ◌≤◌, ◌+◌, List, Option, [], ◌∷◌, ◌++◌, length, cond, refl, ap, ◌∙◌, arith}
 use Rattle.std.specs.Prelude.{fold}
 use Rattle.std.proofs.lemmas.List.Elements.{filter-append}
 use Rattle.pfs_script.specs.declared.blocks.Block.{Block}
@@ -14,7 +14,6 @@ use Rattle.pfs_script.specs.Sessions.{is_phase, ends_block}
 use Rattle.pfs_script.specs.SessionNames.{with_session}
 use Rattle.pfs_script.specs.Blocks.{Sense, with_front, block_line, block_lines, block_with, block_behind, blocks_of, with_phase, phases_of}
 use Rattle.pfs_script.specs.Headings.{Head}
-use Rattle.pfs_script.specs.Places.{KnowsTotals}
 use Rattle.pfs_script.specs.Readings.{is_loud, loud, IsBehind}
 use Rattle.pfs_script.proofs.Writing.{length_counted}
 

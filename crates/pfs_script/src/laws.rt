@@ -94,8 +94,8 @@ pub fn events()
     ensures { (number : ℕ) (phases : List Phase) → AreEvents (lines_for number phases) (events_for number phases) }
 {}
 
-/// A script that the engine runs has no command, and no statement of it has a text. So it has at most
-/// one digest text, the empty one, and each statement has its place, the first.
+/// Each command of a script that the engine runs is a truncation, and no statement of it has a text. So it has
+/// at most one digest text, the empty one, and each statement has its place, the first.
 pub fn built()
     ensures lines { (text : List ℕ) (setting : Setting) (phases : List Phase) → IsScript Built text setting phases
         → All (λ (phase : Phase). All (λ (block : Block). All IsBuiltLine block.lines) phase.blocks) phases }

@@ -18,6 +18,7 @@ use crate::reasons::{Extent, Reason};
 use crate::totals::{Totals, no_lines};
 use pfs_rows::Limit;
 use pfs_text::Text;
+use pfs_truncations::truncation_of;
 
 /// What the lines so far amount to, as far as the next line depends on it.
 #[derive(Clone, Copy)]
@@ -174,7 +175,7 @@ fn is_built(line: &Form) -> bool
     match line {
         Form::Limit { name, .. } => is_built_limit(find_limit(name.bytes())),
         Form::Statement { text, .. } => text.as_str().is_empty(),
-        Form::Sql { .. } => false,
+        Form::Sql { text } => truncation_of(text.bytes()).is_some(),
         _ => true,
     }
 }

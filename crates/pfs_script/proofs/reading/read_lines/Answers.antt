@@ -1,7 +1,6 @@
 use Rattle.pfs_script.specs.Headings.{Head}
-use Rattle.std.proofs.Common.{◌≡◌, ◌∙◌, ◌++◌, ◌∷◌, ◌+◌, [], List, ap, refl, ◌<◌, length, sym, arith}
+use Rattle.std.proofs.Common.{◌≡◌, ◌∙◌, ◌++◌, ◌∷◌, ◌+◌, [], ap, refl, ◌<◌, length, sym, arith}
 use Rattle.std.proofs.lemmas.Bool.Decides.{nat_tests}
-use Rattle.pfs_script.specs.declared.forms.Form.{Form}
 use Rattle.pfs_script.proofs.Splits.{some_parts}
 use Rattle.pfs_script.proofs.Steps.{says_line, next_bad, says_all, says_undone, says_open}
 use Rattle.pfs_script.proofs.Placing.{kept_more}

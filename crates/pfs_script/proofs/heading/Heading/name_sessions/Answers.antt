@@ -1,4 +1,4 @@
-use Rattle.std.proofs.Common.{◌≡◌, ◌≤◌, ◌∙◌, map, length, arith}
+use Rattle.std.proofs.Common.{◌≤◌, ◌∙◌, map, length, arith}
 use Rattle.std.proofs.lemmas.List.{length-map}
 use Rattle.pfs_script.specs.Finds.{form_of}
 use Rattle.pfs_script.proofs.Placing.{form_at}
