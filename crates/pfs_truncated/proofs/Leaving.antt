@@ -1,0 +1,15 @@
+-- Truncations of summaries and of the setup tables.
+use Rattle.std.proofs.Common.{refl}
+use Rattle.pfs_truncated.specs.Laws.{LeftLaw}
+use Rattle.pfs_truncated.proofs.Tables.{off_words_all, off_words_below}
+
+pub left_law : LeftLaw
+left_law s = record {
+  summary = λ kind table. refl;
+  setup_actors = refl;
+  new_sessions = λ user host. refl;
+  setup_objects = refl;
+  table_words = λ table l. off_words_all s.words table l;
+  other_words = λ at l. off_words_below s.words at l;
+  one_more = λ what. refl;
+}
