@@ -10,12 +10,12 @@ use Rattle.pfs_conservation.specs.Administration.{Action, numbered}
 use Rattle.pfs_conservation.specs.Seats.{Numbering, holder_of, takes_by, opened_by}
 use Rattle.pfs_conservation.specs.Lines.{Tagged, chain_of, AreChained}
 use Rattle.pfs_conservation.specs.Prints.{AreActed}
-use Rattle.pfs_conservation.specs.Laws.{stats, Reported}
+use Rattle.pfs_conservation.specs.Laws.{stats, Reported, ReportedDiscarded}
 use Rattle.pfs_conservation.proofs.Acting.{of_order}
 use Rattle.pfs_conservation.proofs.Conserving.{merges, sized}
 use Rattle.pfs_conservation.proofs.Tabled.{Base, acts_rising, nexts_once}
 use Rattle.pfs_conservation.proofs.Printing.{Alike, GiveOnce, acted_chained}
-use Rattle.pfs_conservation.proofs.Ledger.{opened_sound, opened_small, report_conserved}
+use Rattle.pfs_conservation.proofs.Ledger.{opened_sound, opened_small, report_conserved, report_discarded}
 
 module _ (n : Numbering) (opening : State) (rows : List ℕ) (base : Base n opening rows) (actions : List Action) (kind : ℕ) where
   abbrev holder : ℕ → ℕ → Option Owner
@@ -52,3 +52,9 @@ reported_stats m measures fits n good rows listing limits l actions kind events 
     let base : Base n (opened_by limits) rows = record { good = good; sound = opened_sound limits; small = opened_small limits l; listing = listing } in
     report_conserved n (opened_by limits) rows base actions kind (stats measures) (merges m measures fits) (λ stat. stat.count) (sized m measures fits)
     events lines whose (lines_chained n (opened_by limits) rows base actions kind (λ action row. nat_lt 0 (found_by (stats measures) (chain_of lines) 4 action row).count) lines acted) added key cells lows once slots
+
+pub reported_discarded_stats : MergeIsMonoid → ReportedDiscarded
+reported_discarded_stats m measures fits n good rows listing limits l actions kind events lines whose acted added cell low =
+    let base : Base n (opened_by limits) rows = record { good = good; sound = opened_sound limits; small = opened_small limits l; listing = listing } in
+    report_discarded n (opened_by limits) rows base actions kind (stats measures) (merges m measures fits) (λ stat. stat.count) (sized m measures fits)
+    events lines whose (lines_chained n (opened_by limits) rows base actions kind (λ action row. nat_lt 0 (found_by (stats measures) (chain_of lines) 4 action row).count) lines acted) added cell low

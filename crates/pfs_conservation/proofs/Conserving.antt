@@ -6,7 +6,7 @@ use Rattle.pfs_conservation.specs.Removals.{counts_event, removal, first_from, A
 use Rattle.pfs_conservation.specs.Journeys.{first_from_one, leaves_after, Journey, left, came_from, came}
 use Rattle.pfs_conservation.specs.Moves.{Move, goes_to, touches, moved, AreMoved}
 use Rattle.pfs_conservation.specs.Ways.{Step, before_by, leave_by, Leads}
-use Rattle.pfs_conservation.specs.Conservation.{first_moving, counts_after, AtMost, Follows, Nested, NestedFrom, last_of, last_moving, waits, Shows, Journals, IsEvent, AreKept, IsSummary, counts_in, IsConserved, IsDiscarded, takes_of}
+use Rattle.pfs_conservation.specs.Conservation.{first_moving, counts_after, AtMost, Follows, Nested, NestedFrom, last_of, last_moving, waits, Shows, Journals, IsEvent, AreKept, IsSummary, counts_in, IsConserved, IsShownOrTaken, IsDiscarded, takes_of}
 use Rattle.pfs_conservation.specs.Laws.{stats, Conserved, Discarded}
 use Rattle.pfs_stat.specs.declared.Stat.{Stat}
 use Rattle.pfs_stat.specs.declared.Measure.{Measure}
@@ -198,6 +198,10 @@ both_bits : (leads counts : Bool) (n : ℕ) → (leads ≡ true → n ≡ cond c
 both_bits true counts n h = h refl
 both_bits false counts n h = refl
 
+sum_zero : (ts : List ℕ) → sum_of (λ t. leaves t None) ts ≡ 0
+sum_zero [] = refl
+sum_zero (t ∷ ts) = omega (arith, sum_zero ts)
+
 filter_all : (es : List ℕ) → filter (λ e. true) es ≡ es
 filter_all [] = refl
 filter_all (e ∷ es) = ap (λ xs. e ∷ xs) (filter_all es)
@@ -290,17 +294,22 @@ module _ {A : Type 0} (s : Sums A) (m : Merges s) (size : A → ℕ) (z : Sized 
           (removal_takes (counts_event e) t (j.chains (j.home e)) (sym (home_leaves j.chains e (j.home e) (j.steps e) (k.placed e is).leads) ∙ (ap (leave_by j.chains e (j.home e) (j.steps e)) (sym (same row (j.home e) q)) ∙ h)))
       at false q = came_by (before_by (j.steps e) row) (sym (way_leaves j.chains e (j.home e) (j.steps e) (k.placed e is).leads row q) ∙ h)
 
-  -- every event is shown by the global row or was found by one take of its cell
-  pub discarded : (shown covers : List ℕ) (path : ℕ → List ℕ) (global : ℕ) → IsSummary j shown covers path (λ e. true) → ((e : ℕ) → IsEvent j e → last_of (j.home e) (path e) ≡ global) → IsDiscarded s j shown global
+  -- the events that lead to a summary are shown or were found by one take of the row that their ways end in, where the
+  -- ways of others never come there
+  pub shown_or_taken : (shown covers : List ℕ) (path : ℕ → List ℕ) (leads : ℕ → Bool) (global : ℕ) → IsSummary j shown covers path leads
+      → ((e : ℕ) → IsEvent j e → leads e ≡ true → last_of (j.home e) (path e) ≡ global)
+      → ((e : ℕ) → IsEvent j e → leads e ≡ false → leave_by j.chains e (j.home e) (j.steps e) global ≡ None)
+      → IsShownOrTaken s j shown global leads
   unfolding AllLeave
-  discarded shown covers path global summary ends =
+  shown_or_taken shown covers path leads global summary ends away =
       ap (λ x. fold (λ sum t. s.merge sum (j.found t global)) (fold (λ sum row. s.merge sum (content s j.found (j.chains row))) x shown) (takes_of (j.chains global))) (sym (total_none s m j.events))
       ∙ (ap (λ x. fold (λ sum t. s.merge sum (j.found t global)) x (takes_of (j.chains global)))
       (rows_total s m j.events (λ row. content s j.found (j.chains row)) (λ e row. content (token e) (found_by (token e) j.chains j.height) (j.chains row)) shown (λ e. 0) (λ row. content_natural s m j.events j.chains j.level rises k.once j.found k.finds j.height row (k.flat row)))
       ∙ (rows_total s m j.events (λ t. j.found t global) (λ e t. found_by (token e) j.chains (suc j.height) t global) (takes_of (j.chains global)) (λ e. 0 + shown_of e)
       (λ t. natural s m j.events j.chains j.level rises k.once j.found k.finds (suc j.height) t global (omega (arith, k.flat global)))
-      ∙ (same_in s m (λ e. (0 + shown_of e) + found_of e) (λ e. 1) j.events (λ e is. omega (arith, each e is))
-      ∙ all_once)))
+      ∙ (same_in s m (λ e. (0 + shown_of e) + found_of e) (λ e. cond (leads e) 1 0) j.events (λ e is. omega (arith, each e is))
+      ∙ sym (total_counted s m leads j.events s.nothing (record { same = m.nothing_twice })
+      ∙ before_settled s m (total s (λ e. cond (leads e) 1 0) j.events) (settled_total s m (λ e. cond (leads e) 1 0) j.events)))))
     where
       shown_of : ℕ → ℕ
       shown_of e = sum_of (λ row. content (token e) (found_by (token e) j.chains j.height) (j.chains row)) shown
@@ -308,18 +317,33 @@ module _ {A : Type 0} (s : Sums A) (m : Merges s) (size : A → ℕ) (z : Sized 
       found_of : ℕ → ℕ
       found_of e = sum_of (λ t. found_by (token e) j.chains (suc j.height) t global) (takes_of (j.chains global))
 
-      each : (e : ℕ) → IsEvent j e → shown_of e + found_of e ≡ 1
-      each e is =
-          let shown_is : shown_of e ≡ stays (leave_by j.chains e (j.home e) (j.steps e) global) =
-          shown_standing shown covers (path e) true e is (summary.shows e is) ∙ ap (λ r. stays (leave_by j.chains e (j.home e) (j.steps e) r)) (ends e is) in
-          let found_is : found_of e ≡ sum_of (λ t. leaves t (leave_by j.chains e (j.home e) (j.steps e) global)) (takes_of (j.chains global)) =
-          sum_alike (λ t. found_by (token e) j.chains (suc j.height) t global) (λ t. leaves t (leave_by j.chains e (j.home e) (j.steps e) global)) (takes_of (j.chains global)) (λ t. leaves_at e j.chains j.level rises ascends (λ action row. nat_lt 0 (size (j.found action row)) ≡ true) (j.home e) (before_by (j.steps e)) (leave_by j.chains e (j.home e) (j.steps e)) (trip e is) (suc j.height) (all_leave (suc j.height) e is) t global (omega (arith, k.flat global))) in
-          omega (arith, shown_is, found_is, leaves_once (j.chains global) (leave_by j.chains e (j.home e) (j.steps e) global) (ascends global) (λ t h. leaves_taken e is global t h))
+      each : (e : ℕ) → IsEvent j e → shown_of e + found_of e ≡ cond (leads e) 1 0
+      each e is = at (leads e) refl
+        where
+          found_is : found_of e ≡ sum_of (λ t. leaves t (leave_by j.chains e (j.home e) (j.steps e) global)) (takes_of (j.chains global))
+          found_is = sum_alike (λ t. found_by (token e) j.chains (suc j.height) t global) (λ t. leaves t (leave_by j.chains e (j.home e) (j.steps e) global)) (takes_of (j.chains global)) (λ t. leaves_at e j.chains j.level rises ascends (λ action row. nat_lt 0 (size (j.found action row)) ≡ true) (j.home e) (before_by (j.steps e)) (leave_by j.chains e (j.home e) (j.steps e)) (trip e is) (suc j.height) (all_leave (suc j.height) e is) t global (omega (arith, k.flat global)))
 
-      all_once : total s (λ e. 1) j.events ≡ fold (with_event s) s.nothing j.events
-      all_once =
-          sym (total_counted s m (λ e. true) j.events s.nothing (record { same = m.nothing_twice }) ∙ before_settled s m (total s (λ e. 1) j.events) (settled_total s m (λ e. 1) j.events))
-          ∙ ap (λ es. fold (with_event s) s.nothing es) (filter_all j.events)
+          shown_is : shown_of e ≡ cond (leads e) (stays (leave_by j.chains e (j.home e) (j.steps e) (last_of (j.home e) (path e)))) 0
+          shown_is = shown_standing shown covers (path e) (leads e) e is (summary.shows e is)
+
+          at : (b : Bool) → leads e ≡ b → shown_of e + found_of e ≡ cond (leads e) 1 0
+          at true q =
+              let here : shown_of e ≡ stays (leave_by j.chains e (j.home e) (j.steps e) global) =
+              shown_is ∙ (ap (λ (b : Bool). cond b (stays (leave_by j.chains e (j.home e) (j.steps e) (last_of (j.home e) (path e)))) 0) q ∙ ap (λ r. stays (leave_by j.chains e (j.home e) (j.steps e) r)) (ends e is q)) in
+              omega (arith, here, found_is, bit_yes (leads e) q, leaves_once (j.chains global) (leave_by j.chains e (j.home e) (j.steps e) global) (ascends global) (λ t h. leaves_taken e is global t h))
+          at false q =
+              let here : shown_of e ≡ 0 = shown_is ∙ ap (λ (b : Bool). cond b (stays (leave_by j.chains e (j.home e) (j.steps e) (last_of (j.home e) (path e)))) 0) q in
+              let none : sum_of (λ t. leaves t (leave_by j.chains e (j.home e) (j.steps e) global)) (takes_of (j.chains global)) ≡ 0 =
+              ap (λ (o : Option ℕ). sum_of (λ t. leaves t o) (takes_of (j.chains global))) (away e is q) ∙ sum_zero (takes_of (j.chains global)) in
+              omega (arith, here, found_is, none, bit_no (leads e) q)
+
+  -- every event is shown by the global row or was found by one take of its cell
+  pub discarded : (shown covers : List ℕ) (path : ℕ → List ℕ) (global : ℕ) → IsSummary j shown covers path (λ e. true) → ((e : ℕ) → IsEvent j e → last_of (j.home e) (path e) ≡ global) → IsDiscarded s j shown global
+  discarded shown covers path global summary ends =
+      shown_or_taken shown covers path (λ e. true) global summary (λ e is q. ends e is) (λ e is q. absurd (differ q)) ∙ ap (λ es. fold (with_event s) s.nothing es) (filter_all j.events)
+    where
+      differ : true ≡ false → ⊥
+      differ q = cc
 
 zero_fits : Fits zero_of
 zero_fits = record { count = omega arith; sum = omega arith; min = omega arith; max = omega arith; lock = omega arith; errors = omega arith; warnings = omega arith; affected = omega arith; sent = omega arith; examined = omega arith }

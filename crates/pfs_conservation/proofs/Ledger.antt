@@ -5,7 +5,7 @@ use Rattle.pfs_conservation.specs.Chains.{Sums, found_by, Finds, Below}
 use Rattle.pfs_conservation.specs.Removals.{Ascends}
 use Rattle.pfs_conservation.specs.Journeys.{times_counted}
 use Rattle.pfs_conservation.specs.Moves.{Move, AreMoved}
-use Rattle.pfs_conservation.specs.Conservation.{IsConserved, IsDiscarded}
+use Rattle.pfs_conservation.specs.Conservation.{IsConserved, IsShownOrTaken}
 use Rattle.pfs_conservation.specs.Actions.{moves_to}
 use Rattle.pfs_conservation.specs.Folds.{entry_at, Session, Entry, Place, Thread, Account, User, Host, Global, Elsewhere, State}
 use Rattle.pfs_conservation.specs.Administration.{Action, numbered, state_after}
@@ -79,11 +79,11 @@ module _ (n : Numbering) (opening : State) (rows : List ℕ) (base : Base n open
       (record { few = added.few; flat = flat; moved = are_moved; finds = finds; once = λ row. once_chain events lines row 1 (changes_of lines row) added.once }) key cells lows once slots
 
   -- what the global key shows and what the takes of the global cell found, put together, is every event of the cell
-  pub lines_discarded : (cell : ℕ) → n.is_cell cell ≡ true → ((event : ℕ) → 1 ≤ count_by (λ e. event == e) events → home_cell (whose event) ≡ cell)
-      → IsDiscarded s (journals_of n opening actions kind rows events (chain_of lines) found whose) (shown_in n KeyAll (cell ∷ []) (state_after opening (numbered actions) (length actions))) (n.row cell Global)
-  lines_discarded cell low ours =
+  pub lines_discarded : (cell : ℕ) → n.is_cell cell ≡ true
+      → IsShownOrTaken s (journals_of n opening actions kind rows events (chain_of lines) found whose) (shown_in n KeyAll (cell ∷ []) (state_after opening (numbered actions) (length actions))) (n.row cell Global) (λ event. home_cell (whose event) == cell)
+  lines_discarded cell low =
       all_discarded n opening rows base actions kind events (chain_of lines) found whose are_of s m size z
-      (record { few = added.few; flat = flat; moved = are_moved; finds = finds; once = λ row. once_chain events lines row 1 (changes_of lines row) added.once }) cell low ours
+      (record { few = added.few; flat = flat; moved = are_moved; finds = finds; once = λ row. once_chain events lines row 1 (changes_of lines row) added.once }) cell low
 
 -- what the takes found follows from the lines
 module _ (n : Numbering) (opening : State) (rows : List ℕ) (base : Base n opening rows) (actions : List Action) (kind : ℕ) {A : Type 0} (s : Sums A) (m : Merges s) (size : A → ℕ) (z : Sized s size)
@@ -113,6 +113,12 @@ module _ (n : Numbering) (opening : State) (rows : List ℕ) (base : Base n open
       → IsConserved s (journals_of n opening actions kind rows events (chain_of lines) (found_by s (chain_of lines) 4) whose) (shown_in n key cells (state_after opening (numbered actions) (length actions))) (covers_to kind key opening (numbered actions) (length actions)) (λ event. leads_at key cells (whose event))
   report_conserved =
       lines_conserved n opening rows base actions kind s m size z events lines (found_by s (chain_of lines) 4) whose chained
+      (record { is = λ action row. found_is s (chain_of lines) (λ r. place_level (n.seat r).place) below 4 action row (low (n.seat row).place) }) added
+
+  pub report_discarded : (cell : ℕ) → n.is_cell cell ≡ true
+      → IsShownOrTaken s (journals_of n opening actions kind rows events (chain_of lines) (found_by s (chain_of lines) 4) whose) (shown_in n KeyAll (cell ∷ []) (state_after opening (numbered actions) (length actions))) (n.row cell Global) (λ event. home_cell (whose event) == cell)
+  report_discarded =
+      lines_discarded n opening rows base actions kind s m size z events lines (found_by s (chain_of lines) 4) whose chained
       (record { is = λ action row. found_is s (chain_of lines) (λ r. place_level (n.seat r).place) below 4 action row (low (n.seat row).place) }) added
 
 entry_free : {X : Type 0} (n t : ℕ) (x : X) → entry_at (all_free n) t ≡ Some x → ⊥

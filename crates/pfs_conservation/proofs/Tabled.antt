@@ -4,8 +4,9 @@ use Rattle.std.specs.Prelude.{nat_lt}
 use Rattle.pfs_conservation.specs.Chains.{Change, Sums}
 use Rattle.pfs_conservation.specs.Removals.{removal, counts_event, Ascends}
 use Rattle.pfs_conservation.specs.Moves.{AreMoved, InOrder, goes_to}
-use Rattle.pfs_conservation.specs.Ways.{before_by, Leads, StepsClimb}
-use Rattle.pfs_conservation.specs.Conservation.{Journals, IsConserved, IsDiscarded, Shows, Follows, last_of}
+use Rattle.pfs_conservation.specs.Journeys.{first_from_one}
+use Rattle.pfs_conservation.specs.Ways.{Step, before_by, leave_by, Leads, StepsClimb}
+use Rattle.pfs_conservation.specs.Conservation.{Journals, IsConserved, IsShownOrTaken, Shows, Follows, last_of}
 use Rattle.pfs_conservation.specs.Tenures.{Owner, Keeps, IsTenant, HasTenants, IsTable}
 use Rattle.pfs_conservation.specs.Actions.{moves_to, Acts}
 use Rattle.pfs_conservation.specs.Folds.{Line, Connects, Quits, Truncates, FreesAccounts, FreesUsers, FreesHosts, Others, Level, level_takes, Place, Thread, Account, User, Host, Global, Elsewhere, Session, Entry, State, entry_at, line_takes, CellRows, ups, thread_ups, thread_owner, account_owner, user_owner, host_owner, global_owner, owner_of, holder_in}
@@ -16,7 +17,7 @@ use Rattle.pfs_conservation.specs.Facts.{IsListing, IsOf, journals_of, AreOf, Ha
 use Rattle.pfs_conservation.proofs.Totals.{Merges, bit_yes}
 use Rattle.pfs_conservation.proofs.Tokens.{count_cons}
 use Rattle.pfs_conservation.proofs.Moving.{follows_ascends}
-use Rattle.pfs_conservation.proofs.Conserving.{Sized, moving_from, discarded}
+use Rattle.pfs_conservation.proofs.Conserving.{Sized, moving_from, shown_or_taken}
 use Rattle.pfs_conservation.proofs.Tenants.{removal_first, tenants_placed, table_is}
 use Rattle.pfs_conservation.proofs.Acting.{keeps, to_order}
 use Rattle.pfs_conservation.proofs.Whole.{Stores, whole}
@@ -33,6 +34,16 @@ pub record Base (n : Numbering) (opening : State) (rows : List ℕ) : Type 0 whe
   pub sound : Sound opening
   pub small : IsSmall opening
   pub listing : IsListing n rows
+
+-- an event leaves no row that its way doesn't come to
+leave_none : (chains : ℕ → List Change) (event home : ℕ) (steps : List Step) (row : ℕ) → (row == home) ≡ false → before_by steps row ≡ None → leave_by chains event home steps row ≡ None
+leave_none chains event home [] row away none = ap (λ (b : Bool). cond b (removal event (chains home)) None) away
+leave_none chains event home (step ∷ steps) row away none = at (step.to == row) none (leave_none chains event home steps row away)
+  where
+    at : (b : Bool) → cond b (Some step.from) (before_by steps row) ≡ None → (before_by steps row ≡ None → leave_by chains event home steps row ≡ None)
+        → cond b (first_from_one (leave_by chains event home steps step.from) (chains step.to)) (leave_by chains event home steps row) ≡ None
+    at true none ih = absurd (cc)
+    at false none ih = ih none
 
 small_before : (opening : State) → IsSmall opening → (action : ℕ → Action) (number : ℕ) → IsSmall (state_before opening action number)
 small_before opening k action zero = k
@@ -442,23 +453,38 @@ module _ (n : Numbering) (opening : State) (rows : List ℕ) (base : Base n open
         (covers_to kind key opening (numbered actions) (length actions)) (λ event. path_at n key (whose event)) (λ event. leads_at key cells (whose event))
         (table (λ action row. nat_lt 0 (size (found action row))) st.moved key cells lows once slots)
 
-    -- and what the takes of the global cell found besides is every event
-    ends_global : (cell event : ℕ) (w : Whose) → home_cell w ≡ cell → last_of (home_at n w) (path_at n KeyAll w) ≡ n.row cell Global
-    ends_global cell event (OfSession c slot x connect quit) q = ap (λ k. last_of (n.row k (Thread slot)) (path_at n KeyAll (OfSession k slot x connect quit))) q ∙ all (map_row (rows_of n cell).account x.account) (map_row (rows_of n cell).host x.host)
+    -- and what the takes of the global cell found besides is every event of the cell
+    ends_global : (cell : ℕ) (w : Whose) → home_cell w ≡ cell → last_of (home_at n w) (path_at n KeyAll w) ≡ n.row cell Global
+    ends_global cell (OfSession c slot x connect quit) q = ap (λ k. last_of (n.row k (Thread slot)) (path_at n KeyAll (OfSession k slot x connect quit))) q ∙ all (map_row (rows_of n cell).account x.account) (map_row (rows_of n cell).host x.host)
       where
         all : (account host : Option ℕ) → last_of (n.row cell (Thread slot)) (path_in (shown_by KeyAll) account (map_row (rows_of n cell).user x.user) host (n.row cell Global)) ≡ n.row cell Global
         all None None = refl
         all None (Some h) = refl
         all (Some a) None = refl
         all (Some a) (Some h) = refl
-    ends_global cell event (Aside c) q = ap (λ k. n.row k Global) q
+    ends_global cell (Aside c) q = ap (λ k. n.row k Global) q
 
-    leads_all_of : (cell : ℕ) (w : Whose) → home_cell w ≡ cell → leads_at KeyAll (cell ∷ []) w ≡ true
-    leads_all_of cell (OfSession c slot x connect quit) q = ap (λ b. b && true) (is_one cell c q)
+    is_one : (cell c : ℕ) → is_of (cell ∷ []) c ≡ (c == cell)
+    is_one cell c = at (cell == c) refl
       where
-        is_one : (cell c : ℕ) → c ≡ cell → is_of (cell ∷ []) c ≡ true
-        is_one cell c q = ap (λ k. is_of (cell ∷ []) k) q ∙ ap (λ b. nat_lt 0 (0 + cond {A = ℕ} b 1 0)) (self cell)
-    leads_all_of cell (Aside c) q = ap (λ b. b && true) (ap (λ k. is_of (cell ∷ []) k) q ∙ ap (λ b. nat_lt 0 (0 + cond {A = ℕ} b 1 0)) (self cell))
+        turned : (a b : ℕ) → (b == a) ≡ (a == b)
+        turned a b = grind arith
+
+        at : (b : Bool) → (cell == c) ≡ b → nat_lt 0 (0 + cond {A = ℕ} (cell == c) 1 0) ≡ (c == cell)
+        at true q = ap (λ b. nat_lt 0 (0 + cond {A = ℕ} b 1 0)) q ∙ sym (turned cell c ∙ q)
+        at false q = ap (λ b. nat_lt 0 (0 + cond {A = ℕ} b 1 0)) q ∙ sym (turned cell c ∙ q)
+
+    leads_one : (cell : ℕ) (w : Whose) → leads_at KeyAll (cell ∷ []) w ≡ (home_cell w == cell)
+    leads_one cell (OfSession c slot x connect quit) = and_true (is_of (cell ∷ []) c) ∙ is_one cell c
+      where
+        and_true : (b : Bool) → (b && true) ≡ b
+        and_true true = refl
+        and_true false = refl
+    leads_one cell (Aside c) = and_true (is_of (cell ∷ []) c) ∙ is_one cell c
+      where
+        and_true : (b : Bool) → (b && true) ≡ b
+        and_true true = refl
+        and_true false = refl
 
     one_cell : (cell c : ℕ) → count_by (λ x. x == c) (cell ∷ []) ≤ 1
     one_cell cell c = at (cell == c) (count_cons (λ x. x == c) cell [])
@@ -471,21 +497,49 @@ module _ (n : Numbering) (opening : State) (rows : List ℕ) (base : Base n open
     all_slots (OfSession c slot x connect quit) = λ number at q l. absurd (cc)
     all_slots (Aside c) = tt
 
+    -- whoever holds a global row, it belongs to the global key
+    belongs_here : (cell : ℕ) → n.is_cell cell ≡ true → (o : Owner) → belongs_to n KeyAll (cell ∷ []) (n.row cell Global) o ≡ true
+    belongs_here cell low o =
+        ap (λ (z : Seat). is_of (cell ∷ []) z.cell && (shows_at KeyAll z.place && matches KeyAll o)) (base.good.seats cell Global low tt)
+        ∙ ap (λ b. b && true) (is_one cell cell ∙ self cell)
+
+    -- the way of an event of another cell never comes to this global row
+    never_comes : (cell : ℕ) → n.is_cell cell ≡ true → IsTable (journals_of n opening actions kind rows events chains found whose) (holder_of n opening (numbered actions)) (takes_by n opening (numbered actions) kind) (λ event. own_by n (whose event)) (λ event. connect_of (whose event)) (suc (length actions)) (belongs_to n KeyAll (cell ∷ [])) (shown_in n KeyAll (cell ∷ []) (state_after opening (numbered actions) (length actions))) (covers_to kind KeyAll opening (numbered actions) (length actions)) (λ event. path_at n KeyAll (whose event)) (λ event. leads_at KeyAll (cell ∷ []) (whose event))
+        → (event : ℕ) → 1 ≤ count_by (λ e. event == e) events → leads_at KeyAll (cell ∷ []) (whose event) ≡ false
+        → leave_by chains event (home_at n (whose event)) (steps_at n (whose event)) (n.row cell Global) ≡ None
+    never_comes cell low t event is other = leave_none chains event (home_at n (whose event)) (steps_at n (whose event)) (n.row cell Global) (away (n.row cell Global == home_at n (whose event)) refl) (unstepped (before_by (steps_at n (whose event)) (n.row cell Global)) refl)
+      where
+        none : (k : ℕ) → cond (leads_at KeyAll (cell ∷ []) (whose event)) k 0 ≡ 0
+        none k = ap (λ (b : Bool). cond b k 0) other
+
+        away : (b : Bool) → (n.row cell Global == home_at n (whose event)) ≡ b → (n.row cell Global == home_at n (whose event)) ≡ false
+        away false q = q
+        away true q = absurd
+            (let mine : belongs_to n KeyAll (cell ∷ []) (home_at n (whose event)) (own_by n (whose event) (home_at n (whose event))) ≡ true =
+            subst (λ r. belongs_to n KeyAll (cell ∷ []) r (own_by n (whose event) (home_at n (whose event))) ≡ true) (same (n.row cell Global) (home_at n (whose event)) q) (belongs_here cell low (own_by n (whose event) (home_at n (whose event)))) in
+            omega (arith, bit_yes (belongs_to n KeyAll (cell ∷ []) (home_at n (whose event)) (own_by n (whose event) (home_at n (whose event)))) mine, t.mine_home event is, none (count_by (λ r. r == home_at n (whose event)) (home_at n (whose event) ∷ path_at n KeyAll (whose event)))))
+
+        unstepped : (o : Option ℕ) → before_by (steps_at n (whose event)) (n.row cell Global) ≡ o → before_by (steps_at n (whose event)) (n.row cell Global) ≡ None
+        unstepped None q = q
+        unstepped (Some from) q = absurd
+            (omega (arith, bit_yes (belongs_to n KeyAll (cell ∷ []) (n.row cell Global) (own_by n (whose event) (n.row cell Global))) (belongs_here cell low (own_by n (whose event) (n.row cell Global))), t.mine event is (n.row cell Global) from q, none (count_by (λ r. r == n.row cell Global) (home_at n (whose event) ∷ path_at n KeyAll (whose event)))))
+
     pub all_discarded : (s : Sums A) (m : Merges s) (size : A → ℕ) (z : Sized s size) → Stores s size (journals_of n opening actions kind rows events chains found whose)
-        → (cell : ℕ) → n.is_cell cell ≡ true → ((event : ℕ) → 1 ≤ count_by (λ e. event == e) events → home_cell (whose event) ≡ cell)
-        → IsDiscarded s (journals_of n opening actions kind rows events chains found whose) (shown_in n KeyAll (cell ∷ []) (state_after opening (numbered actions) (length actions))) (n.row cell Global)
-    all_discarded s m size z st cell low ours =
-        let kept : ℕ → ℕ → Bool = λ action row. nat_lt 0 (size (found action row)) in
+        → (cell : ℕ) → n.is_cell cell ≡ true
+        → IsShownOrTaken s (journals_of n opening actions kind rows events chains found whose) (shown_in n KeyAll (cell ∷ []) (state_after opening (numbered actions) (length actions))) (n.row cell Global) (λ event. home_cell (whose event) == cell)
+    all_discarded s m size z st cell low =
         let has : HasTenants (journals_of n opening actions kind rows events chains found whose) (holder_of n opening (numbered actions)) (takes_by n opening (numbered actions) kind) (λ event. own_by n (whose event)) (λ event. connect_of (whose event)) (λ event. quit_of (whose event)) = tenants (λ action row. nat_lt 0 (size (found action row))) st.moved in
         let up : (row : ℕ) → Ascends 0 (chains row) = ascends (λ action row. nat_lt 0 (size (found action row))) st.moved in
-        discarded s m size z (journals_of n opening actions kind rows events chains found whose)
+        let t : IsTable (journals_of n opening actions kind rows events chains found whose) (holder_of n opening (numbered actions)) (takes_by n opening (numbered actions) kind) (λ event. own_by n (whose event)) (λ event. connect_of (whose event)) (suc (length actions)) (belongs_to n KeyAll (cell ∷ [])) (shown_in n KeyAll (cell ∷ []) (state_after opening (numbered actions) (length actions))) (covers_to kind KeyAll opening (numbered actions) (length actions)) (λ event. path_at n KeyAll (whose event)) (λ event. leads_at KeyAll (cell ∷ []) (whose event)) =
+        table (λ action row. nat_lt 0 (size (found action row))) st.moved KeyAll (cell ∷ []) (low, tt) (one_cell cell) (λ event is. all_slots (whose event)) in
+        shown_or_taken s m size z (journals_of n opening actions kind rows events chains found whose)
         (record { few = st.few; flat = st.flat; order = order_all; moved = st.moved; finds = st.finds; once = st.once; placed = tenants_placed (journals_of n opening actions kind rows events chains found whose) (λ action row. nat_lt 0 (size (found action row))) st.moved up (holder_of n opening (numbered actions)) (takes_by n opening (numbered actions) kind) (λ event. own_by n (whose event)) (λ event. connect_of (whose event)) (λ event. quit_of (whose event)) has })
-        (shown_in n KeyAll (cell ∷ []) (state_after opening (numbered actions) (length actions))) (covers_to kind KeyAll opening (numbered actions) (length actions)) (λ event. path_at n KeyAll (whose event)) (n.row cell Global)
+        (shown_in n KeyAll (cell ∷ []) (state_after opening (numbered actions) (length actions))) (covers_to kind KeyAll opening (numbered actions) (length actions)) (λ event. path_at n KeyAll (whose event)) (λ event. home_cell (whose event) == cell) (n.row cell Global)
         (record {
           shows = λ event is. subst (λ b. Shows chains (moves_to (holder_of n opening (numbered actions)) (takes_by n opening (numbered actions) kind) rows (length actions)) event (home_at n (whose event)) (steps_at n (whose event)) (shown_in n KeyAll (cell ∷ []) (state_after opening (numbered actions) (length actions))) (covers_to kind KeyAll opening (numbered actions) (length actions)) (path_at n KeyAll (whose event)) b)
-              (leads_all_of cell (whose event) (ours event is))
+              (leads_one cell (whose event))
               ((table_is (journals_of n opening actions kind rows events chains found whose) (λ action row. nat_lt 0 (size (found action row))) st.moved up (holder_of n opening (numbered actions)) (takes_by n opening (numbered actions) kind) (λ event. own_by n (whose event)) (λ event. connect_of (whose event)) (λ event. quit_of (whose event)) has (suc (length actions)) (belongs_to n KeyAll (cell ∷ []))
-              (shown_in n KeyAll (cell ∷ []) (state_after opening (numbered actions) (length actions))) (covers_to kind KeyAll opening (numbered actions) (length actions)) (λ event. path_at n KeyAll (whose event)) (λ event. leads_at KeyAll (cell ∷ []) (whose event))
-              (table (λ action row. nat_lt 0 (size (found action row))) st.moved KeyAll (cell ∷ []) (low, tt) (one_cell cell) (λ event is. all_slots (whose event)))).shows event is);
+              (shown_in n KeyAll (cell ∷ []) (state_after opening (numbered actions) (length actions))) (covers_to kind KeyAll opening (numbered actions) (length actions)) (λ event. path_at n KeyAll (whose event)) (λ event. leads_at KeyAll (cell ∷ []) (whose event)) t).shows event is);
         })
-        (λ event is. ends_global cell event (whose event) (ours event is))
+        (λ event is q. ends_global cell (whose event) (same (home_cell (whose event)) cell q))
+        (λ event is q. never_comes cell low t event is (leads_one cell (whose event) ∙ q))

@@ -124,6 +124,15 @@ takes_of [] = []
 takes_of (Taken action ∷ changes) = action ∷ takes_of changes
 takes_of (change ∷ changes) = takes_of changes
 
+-- what the rows shown hold and what the takes of one row found, put together, are the events that lead there, put
+-- together
+abbrev pub IsShownOrTaken : {A : Type 0} → Sums A → Journals A → List ℕ → ℕ → (ℕ → Bool) → Type 0
+IsShownOrTaken sums j shown global leads =
+    fold (λ sum action. sums.merge sum (j.found action global))
+    (fold (λ sum row. sums.merge sum (content sums j.found (j.chains row))) sums.nothing shown)
+    (takes_of (j.chains global))
+    ≡ fold (with_event sums) sums.nothing (filter leads j.events)
+
 -- what the global row shows and what the takes of its cell found, put together, are all events, put together
 abbrev pub IsDiscarded : {A : Type 0} → Sums A → Journals A → List ℕ → ℕ → Type 0
 IsDiscarded sums j shown global =

@@ -1,5 +1,5 @@
 -- The administration's fold, as far as places go: who holds a row of one cell, and what an action takes.
-use Rattle.std.specs.Prelude.{◌≡◌, ℕ, zero, suc, ◌==◌, ◌||◌, cond, Bool, true, false, List, [], ◌∷◌, ◌++◌, Option, Some, None, unwrap_or, is_some}
+use Rattle.std.specs.Prelude.{◌≡◌, ℕ, ◌==◌, Bool, true, false, List, [], ◌∷◌, ◌++◌, Option, Some, None, is_some}
 use Rattle.pfs_conservation.specs.Tenures.{Owner}
 pub use Rattle.pfs_containers.specs.declared.containers.Connection.{Connection as Session}
 pub use Rattle.pfs_containers.specs.declared.containers.Account.{Account as Entry}

@@ -1,6 +1,6 @@
 //! What holds of all journals.
 
-ghost use Rattle.pfs_conservation.specs.Laws.{Conserved, Discarded, Reported};
+ghost use Rattle.pfs_conservation.specs.Laws.{Conserved, Discarded, Reported, ReportedDiscarded};
 
 /// Whatever the interleaving, what a summary row shows is the merge of the events that count there.
 pub fn conserved()
@@ -22,6 +22,15 @@ pub fn discarded()
 /// a later one.
 pub fn reported()
     ensures { Reported }
+{
+    pfs_stat::laws::merge();
+}
+
+/// Of the same printed changes: what the rows of the global key show of a cell after the last action, and what the
+/// takes of the cell's global row found, are together the events of the cell. So each is shown or was discarded by just
+/// one take.
+pub fn reported_discarded()
+    ensures { ReportedDiscarded }
 {
     pfs_stat::laws::merge();
 }

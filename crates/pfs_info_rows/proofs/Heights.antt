@@ -20,6 +20,7 @@ use Rattle.pfs_model.specs.declared.lines.Subject.{Subject}
 use Rattle.pfs_tagged.proofs.AddedWalk.{Comes, then_told, Follow, all_followed}
 use Rattle.pfs_tagged.proofs.Feeding.{is_feed, is_source, in_reach}
 use Rattle.pfs_tagged.proofs.Offering.{AreFedPlaces, all_fed}
+use Rattle.pfs_info_rows.proofs.Raising.{each_join}
 use Rattle.pfs_info_rows.proofs.Settling.{FromHeld, settled_rows, Settles, all_settling}
 
 -- an addition is to a row above the info rows
@@ -98,10 +99,6 @@ paid_all [] [] h p = tt
 paid_all [] (e ∷ es) h p = absurd p
 paid_all (due ∷ dues) [] h p = absurd p
 paid_all (due ∷ dues) (e ∷ es) h p = (paid_high due e h.0 p.0, paid_all dues es h.1 p.1)
-
-each_join : {A : Type 0} (P : A → Type 0) (xs ys : List A) → Each P xs → Each P ys → Each P (xs ++ ys)
-each_join P [] ys a b = b
-each_join P (x ∷ xs) ys a b = (a.0, each_join P xs ys a.1 b)
 
 high_if : (asked : Bool) (due : Due) → IsHighAdd due → Each IsHighAdd (due_if asked due)
 high_if true due h = (h, tt)

@@ -3,21 +3,25 @@ use Rattle.std.proofs.Common.{◌≡◌, refl, ℕ, zero, suc, ◌≤◌, ◌==�
 use Rattle.pfs_admin.specs.Fold.{stepped, state_from, state_of}
 use Rattle.pfs_admin.specs.Opening.{opened}
 use Rattle.pfs_admin.specs.States.{State}
+use Rattle.pfs_admin.specs.Truncations.{action_of}
 use Rattle.pfs_admin.specs.declared.changes.Change.{Change}
 use Rattle.pfs_admin.specs.declared.changes.Change.TheVariants as changes
 use Rattle.pfs_board.specs.declared.view.Label.{Label}
 use Rattle.pfs_classes.specs.declared.setting.Setting.{Setting}
 use Rattle.pfs_containers.proofs.Keeping.{len_fill_at, len_fill}
-use Rattle.pfs_containers.specs.Administration.{Containers, Found, found_where, lowest_free, connect_at, session_of, quit_line}
-use Rattle.pfs_containers.specs.Connections.{entry_of, emptied_at}
+use Rattle.pfs_containers.proofs.Totals.{len_kept}
+use Rattle.pfs_containers.specs.Administration.{Containers, Found, advanced, found_where, lowest_free, connect_at, session_of, quit_line}
+use Rattle.pfs_containers.specs.Connections.{entry_of, emptied_at, in_use}
 use Rattle.pfs_containers.specs.Connections.{State as Places, stepped as places_after}
 use Rattle.pfs_containers.specs.declared.containers.Account.{Account}
 use Rattle.pfs_containers.specs.declared.containers.Connection.{Connection}
 use Rattle.pfs_model.specs.Chains.{action_change, each_of}
 use Rattle.pfs_rows.specs.declared.limits.Limits.{Limits}
 use Rattle.pfs_tagged.specs.Runs.{entries_to}
+use Rattle.pfs_truncations.specs.declared.truncations.Truncation.{Truncation}
+use Rattle.pfs_truncations.specs.declared.truncations.Truncation.TheVariants.{Summary, Accounts, Users, Hosts, SetupActors, SetupObjects}
 use Rattle.pfs_info_rows.specs.Laws.{containers_to, LimitsLaw}
-use Rattle.pfs_info_rows.proofs.Signing.{thread_none, account_none, user_none, host_none}
+use Rattle.pfs_info_rows.proofs.Stepping.{thread_none, account_none, user_none, host_none}
 
 -- so many places there are
 record AreMany (limits : Limits) (s : Places) : Type 0 where
@@ -55,9 +59,33 @@ quit_many limits s m (Some found) = record {
   hosts = m.hosts;
 }
 
+truncate_many : (limits : Limits) (c : Containers) (what : Truncation) → AreMany limits c.places → AreMany limits (advanced c (action_of what)).places
+truncate_many limits c (Summary kind table) m = m
+truncate_many limits c Accounts m = record {
+  threads = m.threads;
+  accounts = len_kept 0 (in_use (λ x. x.account) c.places.threads) c.places.accounts ∙ m.accounts;
+  users = m.users;
+  hosts = m.hosts;
+}
+truncate_many limits c Users m = record {
+  threads = m.threads;
+  accounts = len_kept 0 (in_use (λ x. x.account) c.places.threads) c.places.accounts ∙ m.accounts;
+  users = len_kept 0 (in_use (λ x. x.user) c.places.threads) c.places.users ∙ m.users;
+  hosts = m.hosts;
+}
+truncate_many limits c Hosts m = record {
+  threads = m.threads;
+  accounts = len_kept 0 (in_use (λ x. x.account) c.places.threads) c.places.accounts ∙ m.accounts;
+  users = m.users;
+  hosts = len_kept 0 (in_use (λ x. x.host) c.places.threads) c.places.hosts ∙ m.hosts;
+}
+truncate_many limits c SetupActors m = m
+truncate_many limits c SetupObjects m = m
+
 step_many : (limits : Limits) (s : State) (session : ℕ) (what : Change) → AreMany limits s.kept.now.places → AreMany limits (stepped s session what).kept.now.places
 step_many limits s session (changes.Connect user host) m = connect_many limits s.kept.now session user host m (lowest_free s.kept.now.places.threads)
 step_many limits s session changes.Quit m = quit_many limits s.kept.now.places m (found_where (λ x. x.number == session) s.kept.now.places.threads)
+step_many limits s session (changes.Truncate what) m = truncate_many limits s.kept.now what m
 step_many limits s session changes.Show m = m
 
 from_many : (limits : Limits) (change : Label → Change) (s : State) (labels : List Label) → AreMany limits s.kept.now.places → AreMany limits (state_from change s labels).kept.now.places

@@ -1,6 +1,5 @@
 -- What the actions of a run sign: no row twice, and what is to be said of each row behind an action goes by its signs.
 use Rattle.std.proofs.Common.{◌≡◌, refl, ℕ, zero, suc, ◌+◌, ◌-◌, ◌<◌, ◌≤◌, ◌==◌, Bool, true, false, cond, List, [], ◌∷◌, length, map, take, replicate, Option, Some, None, slice_index_or, sym, ap, subst, ◌∙◌, arith}
-use Rattle.std.specs.Option.{option_map}
 use Rattle.std.specs.Prelude.{slice_get, IfSome}
 use Rattle.pfs_admin.proofs.Rows.{connect_rows, quit_rows}
 use Rattle.pfs_admin.specs.Asks.{connect_work, quit_work}
@@ -8,25 +7,24 @@ use Rattle.pfs_admin.specs.Fold.{stepped, state_from, state_of}
 use Rattle.pfs_admin.specs.Laws.{row_of}
 use Rattle.pfs_admin.specs.Opening.{opened}
 use Rattle.pfs_admin.specs.States.{State, seat_at, seat_in, thread_flags, connected, has_quit}
+use Rattle.pfs_admin.specs.Truncations.{is_there, has_truncated}
 use Rattle.pfs_admin.specs.Works.{Sign}
 use Rattle.pfs_admin.specs.declared.changes.Change.{Change}
 use Rattle.pfs_admin.specs.declared.changes.Change.TheVariants as changes
 use Rattle.pfs_board.specs.declared.view.Label.{Label}
 use Rattle.pfs_classes.specs.declared.setting.Setting.{Setting}
 use Rattle.pfs_containers.specs.Administration.{Containers}
-use Rattle.pfs_containers.specs.Infos.{thread_info_of, account_info_of, user_info_of, host_info_of}
 use Rattle.pfs_containers.specs.Kept.{AreWell, IsInRange}
-use Rattle.pfs_containers.specs.declared.containers.Account.{Account}
-use Rattle.pfs_containers.specs.declared.containers.Connection.{Connection}
 use Rattle.pfs_containers.specs.declared.containers.Seated.{Seated}
-use Rattle.pfs_infos.specs.Infos.{thread_words, account_words, name_words}
 use Rattle.pfs_levels.specs.Flushes.{Ascends}
 use Rattle.pfs_model.specs.Chains.{times}
 use Rattle.pfs_runs.specs.Labels.{work_for, work_of_label, work_at, label_at}
 use Rattle.pfs_tagged.proofs.Staying.{fold_well, seat_at_in, seat_in_in}
 use Rattle.pfs_info_rows.specs.Said.{thread_said, account_said, user_said, host_said}
 use Rattle.pfs_info_rows.proofs.Naming.{signs_at}
-use Rattle.pfs_info_rows.proofs.Stepping.{AreSaid, unsigned, connect_said, quit_said}
+use Rattle.pfs_info_rows.proofs.Emptying.{truncation_once}
+use Rattle.pfs_info_rows.proofs.Stepping.{AreSaid, unsigned, thread_none, account_none, user_none, host_none, connect_said, quit_said}
+use Rattle.pfs_info_rows.proofs.Truncating.{truncation_said}
 
 -- rows that ascend are each signed once
 past_none : (row low limit : ℕ) (signs : List Sign) → row < low → Ascends low limit (map row_of signs) → times (signs_at row) signs ≡ 0
@@ -57,6 +55,7 @@ once_for row s session changes.Quit well = on (seat_in s session) (seat_in_in s 
   on : (o : Option Seated) → IfSome o IsInRange → times (signs_at row) (quit_work s.words s.cells (has_quit s session).kept.now o).signs ≤ 1
   on None r = omega arith
   on (Some seat) r = once_at row 1 129 (quit_work s.words s.cells (has_quit s session).kept.now (Some seat)).signs (quit_rows s.words [] (has_quit s session).kept.now seat r tt).1
+once_for row s session (changes.Truncate what) well = truncation_once row (is_there s.kept.now.places) (has_truncated s what).kept.now what
 once_for row s session changes.Show well = omega arith
 
 pub signed_once : (setting : Setting) (change : Label → Change) (labels : List Label) (row number : ℕ) → times (signs_at row) (work_at setting change labels number).signs ≤ 1
@@ -69,6 +68,7 @@ signed_once setting change labels row number = on (label_at labels number) where
 said_for : (s : State) (session : ℕ) (what : Change) → AreWell s.kept.now.places → AreSaid s.kept.now (work_for s session what).signs (stepped s session what).kept.now
 said_for s session (changes.Connect user host) well = connect_said s session user host (seat_at_in s session user host well)
 said_for s session changes.Quit well = quit_said s session (seat_in_in s session well)
+said_for s session (changes.Truncate what) well = truncation_said s what
 said_for s session changes.Show well = unsigned s.kept.now
 
 from_next : (change : Label → Change) (s : State) (labels : List Label) (k : ℕ) (label : Label) → slice_get labels k ≡ Some label
@@ -115,19 +115,6 @@ pub record AreUnsaid (c : Containers) : Type 0 where
   pub accounts : (q : ℕ) → account_said c q ≡ None
   pub users : (q : ℕ) → user_said c q ≡ None
   pub hosts : (q : ℕ) → host_said c q ≡ None
-
--- a place that is free says nothing
-pub thread_none : (c : Containers) (q : ℕ) → slice_index_or c.places.threads q None ≡ None → thread_said c q ≡ None
-thread_none c q e = ap (λ (o : Option Connection). option_map (λ (x : Connection). thread_words (thread_info_of x)) o) e
-
-pub account_none : (c : Containers) (q : ℕ) → slice_index_or c.places.accounts q None ≡ None → account_said c q ≡ None
-account_none c q e = ap (λ (o : Option Account). option_map account_words (option_map (account_info_of c q) o)) e
-
-pub user_none : (c : Containers) (q : ℕ) → slice_index_or c.places.users q None ≡ None → user_said c q ≡ None
-user_none c q e = ap (λ (o : Option ℕ). option_map name_words (option_map (user_info_of c q) o)) e
-
-pub host_none : (c : Containers) (q : ℕ) → slice_index_or c.places.hosts q None ≡ None → host_said c q ≡ None
-host_none c q e = ap (λ (o : Option ℕ). option_map name_words (option_map (host_info_of c q) o)) e
 
 pub opening_unsaid : (setting : Setting) (change : Label → Change) (labels : List Label) → AreUnsaid (behind setting change labels 0)
 unfolding state_from

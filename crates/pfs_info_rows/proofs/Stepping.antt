@@ -19,6 +19,19 @@ use Rattle.pfs_info_rows.specs.Said.{thread_said, account_said, user_said, host_
 use Rattle.pfs_info_rows.proofs.Levels.{read_at, level_said, connect_empty, connect_same, quit_empty, quit_same}
 use Rattle.pfs_info_rows.proofs.News.{news, news_miss, news_none, misses_then, apart, level_tags, level_misses, level_news}
 
+-- a place that is free says nothing
+pub thread_none : (c : Containers) (q : ℕ) → slice_index_or c.places.threads q None ≡ None → thread_said c q ≡ None
+thread_none c q e = ap (λ (o : Option Connection). option_map (λ (x : Connection). thread_words (thread_info_of x)) o) e
+
+pub account_none : (c : Containers) (q : ℕ) → slice_index_or c.places.accounts q None ≡ None → account_said c q ≡ None
+account_none c q e = ap (λ (o : Option Account). option_map account_words (option_map (account_info_of c q) o)) e
+
+pub user_none : (c : Containers) (q : ℕ) → slice_index_or c.places.users q None ≡ None → user_said c q ≡ None
+user_none c q e = ap (λ (o : Option ℕ). option_map name_words (option_map (user_info_of c q) o)) e
+
+pub host_none : (c : Containers) (q : ℕ) → slice_index_or c.places.hosts q None ≡ None → host_said c q ≡ None
+host_none c q e = ap (λ (o : Option ℕ). option_map name_words (option_map (host_info_of c q) o)) e
+
 -- what the levels say of a place
 abbrev pub account_make : Account → ℕ → ℕ → List ℕ
 account_make account now all = account_words (record {
@@ -33,28 +46,28 @@ account_make account now all = account_words (record {
 abbrev pub name_make : ℕ → ℕ → ℕ → List ℕ
 name_make name now all = name_words (record { name = name; current = now; total = all })
 
-abbrev of_account : Connection → Option ℕ
+abbrev pub of_account : Connection → Option ℕ
 of_account x = x.account
 
-abbrev of_user : Connection → Option ℕ
+abbrev pub of_user : Connection → Option ℕ
 of_user x = x.user
 
-abbrev of_host : Connection → Option ℕ
+abbrev pub of_host : Connection → Option ℕ
 of_host x = x.host
 
-account_is : (c : Containers) (place : ℕ) → account_said c place ≡ level_said of_account account_make c.places.accounts c.places.threads c.account_totals place
+pub account_is : (c : Containers) (place : ℕ) → account_said c place ≡ level_said of_account account_make c.places.accounts c.places.threads c.account_totals place
 account_is c place = on (slice_index_or c.places.accounts place None) where
   on : (o : Option Account) → option_map account_words (option_map (account_info_of c place) o) ≡ option_map (λ (account : Account). account_words (account_info_of c place account)) o
   on None = refl
   on (Some account) = refl
 
-user_is : (c : Containers) (place : ℕ) → user_said c place ≡ level_said of_user name_make c.places.users c.places.threads c.user_totals place
+pub user_is : (c : Containers) (place : ℕ) → user_said c place ≡ level_said of_user name_make c.places.users c.places.threads c.user_totals place
 user_is c place = on (slice_index_or c.places.users place None) where
   on : (o : Option ℕ) → option_map name_words (option_map (user_info_of c place) o) ≡ option_map (λ name. name_words (user_info_of c place name)) o
   on None = refl
   on (Some name) = refl
 
-host_is : (c : Containers) (place : ℕ) → host_said c place ≡ level_said of_host name_make c.places.hosts c.places.threads c.host_totals place
+pub host_is : (c : Containers) (place : ℕ) → host_said c place ≡ level_said of_host name_make c.places.hosts c.places.threads c.host_totals place
 host_is c place = on (slice_index_or c.places.hosts place None) where
   on : (o : Option ℕ) → option_map name_words (option_map (host_info_of c place) o) ≡ option_map (λ name. name_words (host_info_of c place name)) o
   on None = refl

@@ -12,18 +12,14 @@ use Rattle.pfs_model.specs.Contents.{Given, content_after, IsContent, AllContent
 use Rattle.pfs_model.specs.Floors.{AreFlooredBehind, NamingsKeep, namings_of}
 use Rattle.pfs_model.specs.Places.{Placed, chosen, places, up_to_phase}
 use Rattle.pfs_rows.specs.declared.table.Seen.TheVariants.{Whole, Free}
-use Rattle.pfs_rows.specs.declared.table.TableKind.TheVariants.{Waits}
 use Rattle.pfs_runs.specs.Finals.{row_version}
 use Rattle.pfs_runs.specs.Labels.{work_at, words_at, asked_at}
 use Rattle.pfs_tagged.proofs.Acted.{each_map, each_both, each_chosen}
 use Rattle.pfs_tagged.proofs.Falling.{chosen_deed}
 use Rattle.pfs_tagged.proofs.Fronts.{early_did}
-use Rattle.pfs_tagged.proofs.Going.{IsWay, asked_ways}
 use Rattle.pfs_tagged.proofs.Saying.{IsSaid, HasNumber, all_said, said_to, said_range}
-use Rattle.pfs_tagged.proofs.Seating.{AreBack, AreFound}
 use Rattle.pfs_tagged.proofs.Tagging.{each_did}
 use Rattle.pfs_tagged.proofs.Writing.{IsHigh, all_high}
-use Rattle.pfs_tagged.specs.Board.{cells_of, is_kind_row}
 use Rattle.pfs_tagged.specs.Premises.{AreKept}
 use Rattle.pfs_tagged.specs.Runs.{Run, given_in, entries_to}
 use Rattle.pfs_info_rows.specs.Laws.{IsTold, AreTold, ToldLaw}
@@ -32,6 +28,7 @@ use Rattle.pfs_info_rows.proofs.Heights.{IsHighFeed, all_added}
 use Rattle.pfs_info_rows.proofs.Lasting.{version_of, IsKnown, AreSigned, Says, says_last}
 use Rattle.pfs_info_rows.proofs.Naming.{names, asked_count, asked_among, IsAbove}
 use Rattle.pfs_info_rows.proofs.News.{news}
+use Rattle.pfs_info_rows.proofs.Raising.{IsRaised, asked_raised}
 use Rattle.pfs_info_rows.proofs.Signing.{behind, signed_once, said_next, opening_unsaid}
 use Rattle.pfs_info_rows.proofs.Tracing.{SaysWords, SaysHad}
 
@@ -88,7 +85,7 @@ made_words given content (p ∷ ps) h = (by p.entry refl h.0, made_words given c
   by (says.Tag row version) is (before, v, c) = c ∙ ap (λ z. content_after given content p p.context (content row before) z) is
   by _ is c = tt
 
-module _ (back : AreBack) (found : AreFound) (run : Run) (phase : ℕ) (kept : AreKept run) where
+module _ (run : Run) (phase : ℕ) (kept : AreKept run) where
   abbrev all : List Placed
   all = places run.blocks
 
@@ -97,9 +94,6 @@ module _ (back : AreBack) (found : AreFound) (run : Run) (phase : ℕ) (kept : A
 
   abbrev count : ℕ
   count = length (each_of action_change so_far)
-
-  abbrev test : ℕ → Bool
-  test = is_kind_row (cells_of run.setting Waits)
 
   abbrev words : ℕ → ℕ → List ℕ
   words = words_at run.setting run.change run.labels
@@ -129,11 +123,11 @@ module _ (back : AreBack) (found : AreFound) (run : Run) (phase : ℕ) (kept : A
       (λ p h a. range_to phase p h.0 h.1 a) (each_chosen (HasNumber all) (λ (p : Placed). nat_le p.phase phase) all said)
 
   -- info rows are changed by tags alone
-  ways : Each (λ (p : Placed). 0 < p.context.action → Each (IsWay test) (did p.entry)) all
-  ways = each_did (IsWay test) all (λ action l. subst (Each (IsWay test)) (sym (kept.rules.done action l)) (asked_ways back found run.setting run.change run.labels Waits action (run.counted action)))
+  ways : Each (λ (p : Placed). 0 < p.context.action → Each IsRaised (did p.entry)) all
+  ways = each_did IsRaised all (λ action l. subst (Each IsRaised) (sym (kept.rules.done action l)) (asked_raised run.setting run.change run.labels action (run.counted action)))
 
   abbrev Feeds : Placed → Type 0
-  Feeds p = IsHighFeed p.entry × (0 < p.context.action → Each (IsWay test) (did p.entry))
+  Feeds p = IsHighFeed p.entry × (0 < p.context.action → Each IsRaised (did p.entry))
 
   above_all : Each (λ (p : Placed). IsAbove p.entry) all
   above_all =
@@ -141,13 +135,13 @@ module _ (back : AreBack) (found : AreFound) (run : Run) (phase : ℕ) (kept : A
       (λ p h. by p.entry p.context.action (first p h.0) h.1.0 h.1.1.0 h.1.1.1)
       (each_both (HasNumber all) (λ (p : Placed). IsHigh p.entry × Feeds p) all said
       (each_both (λ (p : Placed). IsHigh p.entry) Feeds all (all_high run.flags run.blocks kept.rules.shaped kept.brought)
-      (each_both (λ (p : Placed). IsHighFeed p.entry) (λ (p : Placed). 0 < p.context.action → Each (IsWay test) (did p.entry)) all (all_added run.flags run.blocks kept.rules.shaped kept.brought) ways))) where
-        by : (e : Entry) (action : ℕ) → (is_acted e ≡ true → 0 < action) → IsHigh e → IsHighFeed e → (0 < action → Each (IsWay test) (did e)) → IsAbove e
+      (each_both (λ (p : Placed). IsHighFeed p.entry) (λ (p : Placed). 0 < p.context.action → Each IsRaised (did p.entry)) all (all_added run.flags run.blocks kept.rules.shaped kept.brought) ways))) where
+        by : (e : Entry) (action : ℕ) → (is_acted e ≡ true → 0 < action) → IsHigh e → IsHighFeed e → (0 < action → Each IsRaised (did e)) → IsAbove e
         by (says.Add row version) action f h g w = g
         by (says.Ring row version) action f h g w = let l : 8450 ≤ row = h in omega (arith, l)
         by (says.Long row version ticket) action f h g w = let l : 8450 ≤ row = h in omega (arith, l)
-        by (says.Take row version) action f h g w = (w (f refl)).0.0
-        by (says.Give row version from) action f h g w = let l : 2177 ≤ row = (w (f refl)).0.0 in omega (arith, l)
+        by (says.Take row version) action f h g w = (w (f refl)).0
+        by (says.Give row version from) action f h g w = (w (f refl)).0
         by _ action f h g w = tt
 
   -- releases name versions that were
@@ -221,5 +215,5 @@ module _ (back : AreBack) (found : AreFound) (run : Run) (phase : ℕ) (kept : A
         (λ k h. (said_next run.setting run.change run.labels k (omega (arith, h, few))).hosts q l);
   }
 
-pub told_law : AreBack → AreFound → ToldLaw
-told_law back found run phase kept = told back found run phase kept
+pub told_law : ToldLaw
+told_law run phase kept = told run phase kept

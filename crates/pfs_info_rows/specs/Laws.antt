@@ -1,12 +1,19 @@
 -- What info rows show under a phase's end of a run is who is connected where behind the actions up to there.
-use Rattle.std.specs.Prelude.{ℕ, ◌≡◌, ◌+◌, ◌*◌, ◌<◌, ◌≤◌, List, Option, Some, None, is_none}
-use Rattle.pfs_containers.specs.Administration.{Containers}
-use Rattle.pfs_model.specs.Chains.{is_free_after}
+use Rattle.std.specs.Prelude.{ℕ, ◌≡◌, ◌+◌, ◌*◌, ◌<◌, ◌≤◌, Bool, true, false, List, length, take, drop, Option, Some, None, is_none}
+use Rattle.pfs_admin.specs.declared.changes.Change.{Change}
+use Rattle.pfs_admin.specs.declared.changes.Change.TheVariants as changes
+use Rattle.pfs_board.specs.declared.view.Label.{Label}
+use Rattle.pfs_admin.specs.Truncations.{action_of}
+use Rattle.pfs_containers.specs.Administration.{Containers, advanced}
+use Rattle.pfs_containers.specs.Connections.{in_use}
+use Rattle.pfs_model.specs.Chains.{Each, action_change, each_of, is_free_after}
 use Rattle.pfs_rows.specs.declared.table.Seen.{Seen}
 use Rattle.pfs_rows.specs.declared.table.Seen.TheVariants.{Whole, Free}
 use Rattle.pfs_runs.specs.Finals.{containers_behind, row_version, shown_row}
 use Rattle.pfs_tagged.specs.Premises.{AreKept}
 use Rattle.pfs_tagged.specs.Runs.{Run, entries_to}
+use Rattle.pfs_truncations.specs.declared.truncations.Truncation.{Truncation}
+use Rattle.pfs_truncations.specs.declared.truncations.Truncation.TheVariants.{Accounts, Users, Hosts}
 use Rattle.pfs_info_rows.specs.Said.{thread_said, account_said, user_said, host_said}
 
 -- who is connected where behind the actions up to a phase's end
@@ -47,14 +54,51 @@ pub record AreWithinLimits (run : Run) (phase : ℕ) : Type 0 where
 abbrev pub LimitsLaw : Type 0
 LimitsLaw = (run : Run) (phase : ℕ) → AreWithinLimits run phase
 
--- an account, a user or a host that has come stays: a place that is free under a later phase's end was free before
+-- the actions that may free accounts, users and hosts: truncations of their table, and of users or hosts for accounts
+abbrev pub frees_accounts : Change → Bool
+frees_accounts (changes.Truncate Accounts) = true
+frees_accounts (changes.Truncate Users) = true
+frees_accounts (changes.Truncate Hosts) = true
+frees_accounts _ = false
+
+abbrev pub frees_users : Change → Bool
+frees_users (changes.Truncate Users) = true
+frees_users _ = false
+
+abbrev pub frees_hosts : Change → Bool
+frees_hosts (changes.Truncate Hosts) = true
+frees_hosts _ = false
+
+-- the actions behind a phase's end, up to that of a later phase
+abbrev pub labels_between : Run → ℕ → ℕ → List Label
+labels_between run phase later = drop (length (each_of action_change (entries_to run phase)))
+    (take (length (each_of action_change (entries_to run later))) run.labels)
+
+-- none of these is between
+abbrev pub NoneFrees : (Change → Bool) → Run → ℕ → ℕ → Type 0
+NoneFrees frees run phase later = Each (λ label. frees (run.change label) ≡ false) (labels_between run phase later)
+
+-- An account, a user or a host that has come stays until a truncation frees it: a place that is free under a later
+-- phase's end was free before, where no action between may free it.
 pub record AreRemaining (run : Run) (phase later : ℕ) : Type 0 where
-  pub accounts : (place : ℕ) → account_said (containers_to run later) place ≡ None
-      → account_said (containers_to run phase) place ≡ None
-  pub users : (place : ℕ) → user_said (containers_to run later) place ≡ None
-      → user_said (containers_to run phase) place ≡ None
-  pub hosts : (place : ℕ) → host_said (containers_to run later) place ≡ None
-      → host_said (containers_to run phase) place ≡ None
+  pub accounts : NoneFrees frees_accounts run phase later → (place : ℕ)
+      → account_said (containers_to run later) place ≡ None → account_said (containers_to run phase) place ≡ None
+  pub users : NoneFrees frees_users run phase later → (place : ℕ)
+      → user_said (containers_to run later) place ≡ None → user_said (containers_to run phase) place ≡ None
+  pub hosts : NoneFrees frees_hosts run phase later → (place : ℕ)
+      → host_said (containers_to run later) place ≡ None → host_said (containers_to run phase) place ≡ None
+
+-- a truncation frees no place that the session of some slot has
+pub record AreHeld (before after : Containers) : Type 0 where
+  pub accounts : (place : ℕ) → in_use (λ x. x.account) before.places.threads place ≡ true
+      → account_said after place ≡ None → account_said before place ≡ None
+  pub users : (place : ℕ) → in_use (λ x. x.user) before.places.threads place ≡ true
+      → user_said after place ≡ None → user_said before place ≡ None
+  pub hosts : (place : ℕ) → in_use (λ x. x.host) before.places.threads place ≡ true
+      → host_said after place ≡ None → host_said before place ≡ None
+
+abbrev pub HeldLaw : Type 0
+HeldLaw = (c : Containers) (what : Truncation) → AreHeld c (advanced c (action_of what))
 
 abbrev pub RemainingLaw : Type 0
 RemainingLaw = (run : Run) (phase later : ℕ) → phase ≤ later → AreRemaining run phase later

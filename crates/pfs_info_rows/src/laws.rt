@@ -1,24 +1,27 @@
 //! Laws of the definitions.
 
-ghost use Rattle.pfs_info_rows.specs.Laws.{LimitsLaw, RemainingLaw, ToldLaw};
+ghost use Rattle.pfs_info_rows.specs.Laws.{HeldLaw, LimitsLaw, RemainingLaw, ToldLaw};
 ghost use Rattle.pfs_info_rows.specs.Worked.{WorkedInfos};
 
 /// Under a phase's end of a run that keeps the rules, an info row is FREE just where nobody stands at its place behind
 /// the actions so far, and else its content says what stands there.
 pub fn told()
     ensures { ToldLaw }
-{
-    pfs_rows::laws::rows();
-}
+{}
 
 /// No place at or past its limit is in use.
 pub fn within_limits()
     ensures { LimitsLaw }
 {}
 
-/// An account, a user or a host that has come stays.
+/// An account, a user or a host that has come stays until a truncation frees it.
 pub fn remaining()
     ensures { RemainingLaw }
+{}
+
+/// A truncation frees no account, user or host that a session has.
+pub fn held()
+    ensures { HeldLaw }
 {}
 
 /// What the info rows of a worked run are to say, phase by phase.

@@ -46,7 +46,7 @@ use Rattle.pfs_tagged.proofs.AddedThreads.{stays_there, quits_slot}
 use Rattle.pfs_tagged.proofs.AddedTold.{rooms_told, IsTold, IsOwn, IsFirstConnect}
 use Rattle.pfs_tagged.proofs.Adding.{IsAddedBy, AreQuitAbove, counted_some}
 use Rattle.pfs_tagged.proofs.Counting.{that_self, chain_one, chain_range}
-use Rattle.pfs_tagged.proofs.Folding.{numbered_at, front_get}
+use Rattle.pfs_tagged.proofs.Folding.{numbered_at, front_get, truncation_connects}
 use Rattle.pfs_tagged.proofs.Offering.{home_row}
 use Rattle.pfs_tagged.proofs.Saying.{zero_rows, HasNumber}
 use Rattle.pfs_tagged.proofs.Seating.{AreBack, AreFound, seat_at}
@@ -103,6 +103,7 @@ above_among number c (x ∷ cs) a (inr m) = above_among number c cs a.1 m
 quit_change : (line : Line) (what : Change) → is_quit line ≡ true → IsChangeOf line what → what ≡ changes.Quit
 quit_change lines.Quit changes.Quit q h = refl
 quit_change lines.Quit (changes.Connect user host) q h = absurd h
+quit_change lines.Quit (changes.Truncate what) q h = absurd h
 quit_change lines.Quit changes.Show q h = absurd h
 quit_change _ what q h = absurd (cc)
 
@@ -158,6 +159,7 @@ module _ (back : AreBack) (found : AreFound) (none : AreNone) (run : Run) (kind 
       connects : (s : ℕ) (what : Change) → action_for s what ≡ Connect session user host → (what ≡ changes.Connect user host) × (s ≡ session)
       connects s (changes.Connect u h) e = (cc, cc)
       connects s changes.Quit e = absurd (cc)
+      connects s (changes.Truncate what) e = absurd (truncation_connects what session user host e)
       connects s changes.Show e = absurd (cc)
 
       same : (n : ℕ) → ◌≡◌ {A = List Numbered} (change_at 0 n ∷ []) (change_at 0 k ∷ []) → n ≡ k

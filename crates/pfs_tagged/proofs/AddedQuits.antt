@@ -20,7 +20,7 @@ use Rattle.pfs_tagged.specs.Ends.{given_by, connects_at, quits_at, first_of, is_
 use Rattle.pfs_tagged.specs.Premises.{IsChangeOf, IsLabelOf, IsActionOf, AreLastBehind}
 use Rattle.pfs_tagged.proofs.AddedFloor.{place_among}
 use Rattle.pfs_tagged.proofs.AddedTold.{IsFirstConnect}
-use Rattle.pfs_tagged.proofs.Folding.{numbered_at, numbered_past, front_get, front_length, length_as}
+use Rattle.pfs_tagged.proofs.Folding.{truncation_quits, numbered_at, numbered_past, front_get, front_length, length_as}
 use Rattle.pfs_tagged.proofs.Saying.{zero_rows}
 use Rattle.pfs_tagged.proofs.Sifting.{eq_of, both_of, bit_yes}
 
@@ -185,6 +185,7 @@ module _ (change : Label → Change) (labels : List Label) (all ps : List Placed
       quits : (s : ℕ) (what : Change) → action_for s what ≡ Quit session → (what ≡ changes.Quit) × (s ≡ session)
       quits s (changes.Connect user host) e = absurd (cc)
       quits s changes.Quit e = (refl, cc)
+      quits s (changes.Truncate what) e = absurd (truncation_quits what session e)
       quits s changes.Show e = absurd (cc)
 
       own : (p.session == session) ≡ true

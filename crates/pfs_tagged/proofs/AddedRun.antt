@@ -1,6 +1,7 @@
 -- What is known of the entries of a run up to a phase's end.
 use Rattle.std.proofs.Common.{◌≡◌, refl, ℕ, zero, suc, ◌+◌, ◌-◌, ◌<◌, ◌≤◌, ◌==◌, Bool, true, false, cond, nat_le, List, [], ◌∷◌, ◌++◌, length, Some, None, sym, ap, subst, ◌∙◌, inl, inr, arith}
 use Rattle.std.specs.Prelude.{slice_get}
+use Rattle.pfs_asked.specs.Asking.{no_rows}
 use Rattle.pfs_conservation.specs.Lines.{times_added}
 use Rattle.pfs_event.specs.declared.entry.Entry.{Entry}
 use Rattle.pfs_event.specs.declared.entry.Entry.TheVariants as says
@@ -147,15 +148,15 @@ module _ (run : Run) (kept : AreKept run) (orderly : IsOrderly run) (phase : ℕ
   pub run_follow : (session : ℕ) → Follow session fresh (entries_to run phase)
   run_follow session = subst (Follow session fresh) (sym front.same) (all_followed session (blocks_to phase run.blocks)).follow
 
-  run_answered : AreAnswered (rooms_at run.setting run.change run.labels) run.answers (entries_to run phase)
-  run_answered = answered_front (rooms_at run.setting run.change run.labels) run.answers (entries_to run phase) front.rest (subst (AreAnswered (rooms_at run.setting run.change run.labels) run.answers) split kept.rules.answered)
+  run_answered : AreAnswered (rooms_at run.setting run.change run.labels) no_rows (entries_to run phase)
+  run_answered = answered_front (rooms_at run.setting run.change run.labels) no_rows (entries_to run phase) front.rest (subst (AreAnswered (rooms_at run.setting run.change run.labels) no_rows) split kept.rules.answered)
 
   -- cells and slots are low
   run_low : Each IsLowEnded (all_ended (entries_to run phase))
   run_low = ended_low (entries_to run phase) (all_low (entries_to run phase) run_follow
       (both_each (λ (p : Placed). IsSmall p.line) (λ (p : Placed). IsLowEntry p.entry) (entries_to run phase)
       (each_front_of (λ (p : Placed). IsSmall p.line) (entries_to run phase) front.rest (subst (Each (λ (p : Placed). IsSmall p.line)) split (all_lines_of IsSmall run.blocks orderly.small)))
-      (low_entries (rooms_at run.setting run.change run.labels) run.answers (entries_to run phase) slots run_answered))) where
+      (low_entries (rooms_at run.setting run.change run.labels) no_rows (entries_to run phase) slots run_answered))) where
         slots : (number slot : ℕ) → (rooms_at run.setting run.change run.labels number).thread ≡ Some slot → slot < 32
         slots number slot q =
             let l : slot < run.setting.limits.thread_instances = slot_low run.setting run.change run.labels number slot q in
@@ -175,7 +176,7 @@ module _ (run : Run) (kept : AreKept run) (orderly : IsOrderly run) (phase : ℕ
 
   pub run_own : (session : ℕ) → Each (λ (p : Placed). (p.session == session) ≡ true → IsOwn session (rooms_at run.setting run.change run.labels) (entries_to run phase) p) (entries_to run phase)
   run_own session =
-      all_told session (rooms_at run.setting run.change run.labels) run.answers (entries_to run phase)
+      all_told session (rooms_at run.setting run.change run.labels) no_rows (entries_to run phase)
       (rising_front (numbers_by session (entries_to run phase)) (numbers_by session front.rest) (subst AreRising (ap (numbers_by session) split ∙ numbers_then session (entries_to run phase) front.rest) (kept.rules.joint.ordered.rising session)))
       (λ action more e. (run_number session action more e).0)
       (run_follow session)

@@ -89,6 +89,7 @@ module _ (setting : Setting) (change : Label → Change) (labels : List Label) w
       let s : length (state_after (opened_by (limits_of setting)) (numbered (actions_of change labels)) k).threads ≡ length (opened_by (limits_of setting)).threads = slots_stay (opened_by (limits_of setting)) (numbered (actions_of change labels)) k in
       omega (arith, t, p, s)
   for_change k label changes.Quit slot l q = absurd (cc)
+  for_change k label (changes.Truncate what) slot l q = absurd (cc)
   for_change k label changes.Show slot l q = absurd (cc)
 
   pub slot_low : (number slot : ℕ) → (rooms_at setting change labels number).thread ≡ Some slot → slot < setting.limits.thread_instances
@@ -176,4 +177,5 @@ module _ (setting : Setting) (change : Label → Change) (labels : List Label) w
       stands = connected_there m k label user host slot (omega (arith, l)) w e q rooms (sym (ap (rooms_for (state_of setting change (take k labels)) label.session) q) ∙ r) t;
     }
     by changes.Quit q r = absurd (let z : None ≡ Some slot = ap (λ (z : Rooms). z.thread) (sym (ap (rooms_for (state_of setting change (take k labels)) label.session) q) ∙ r) ∙ t in cc)
+    by (changes.Truncate what) q r = absurd (let z : None ≡ Some slot = ap (λ (z : Rooms). z.thread) (sym (ap (rooms_for (state_of setting change (take k labels)) label.session) q) ∙ r) ∙ t in cc)
     by changes.Show q r = absurd (let z : None ≡ Some slot = ap (λ (z : Rooms). z.thread) (sym (ap (rooms_for (state_of setting change (take k labels)) label.session) q) ∙ r) ∙ t in cc)

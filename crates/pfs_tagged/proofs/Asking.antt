@@ -9,9 +9,10 @@ use Rattle.pfs_levels.specs.Moves.{Ask}
 use Rattle.pfs_containers.specs.Administration.{Containers}
 use Rattle.pfs_containers.specs.declared.containers.Seated.{Seated}
 use Rattle.pfs_admin.specs.Fold.{state_of}
-use Rattle.pfs_admin.specs.Opening.{cells_of as class_cells}
+use Rattle.pfs_admin.specs.Opening.{cells_of as class_cells, kinds_of}
 use Rattle.pfs_admin.specs.States.{seat_in, seat_at, thread_flags, connected, has_quit}
 use Rattle.pfs_admin.specs.States.{State as Admin}
+use Rattle.pfs_admin.specs.Truncations.{truncation_asks}
 use Rattle.pfs_admin.specs.declared.changes.Change.{Change}
 use Rattle.pfs_admin.specs.declared.changes.Change.TheVariants as changes
 use Rattle.pfs_asked.specs.Asking.{moves_asked}
@@ -38,7 +39,8 @@ use Rattle.pfs_tagged.proofs.Folding.{fold_places, numbered_at, front_get, front
 use Rattle.pfs_tagged.proofs.Printing.{moves_as, moves_on, AllAlike}
 use Rattle.pfs_tagged.proofs.Quitting.{IsThere, found_there, ups_are, takes_slot, kind_past, moved_cells, asked_cells, all_alike, cells_from, of_list, cells_all}
 use Rattle.pfs_tagged.proofs.Seating.{AreBack, AreFound, seat_at as seat_is, thread_kind, other_slot, cell_moves, none_of_all, slot_of_all}
-use Rattle.pfs_tagged.proofs.Staying.{fold_well, seat_in_in, fold_cells}
+use Rattle.pfs_tagged.proofs.Staying.{fold_well, seat_in_in, fold_cells, fold_kinds}
+use Rattle.pfs_tagged.proofs.Truncating.{truncation_same, truncation_alike}
 
 -- a connect takes nothing
 connect_idle : (s : State) (kind number user host : ℕ) (place : Place) → line_takes (line_of kind s (Connect number user host)) place ≡ false
@@ -153,16 +155,20 @@ module _ (back : AreBack) (found : AreFound) (setting : Setting) (kind : TableKi
   none_asked : (asks : List Ask) → asks ≡ [] → ((place : Place) → line_takes (line_of (kind_number kind) before (actions action)) place ≡ false) → moves_on test (asked asks) ≡ all_moves
   none_asked asks e h = ap (λ z. moves_on test (asked z)) e ∙ sym (idle back found is_cell opening actions (kind_number kind) action h)
 
-  pub asks_for : (s : Admin) (session : ℕ) (what : Change) → AreWell s.kept.now.places → s.cells ≡ class_cells setting.classes → s.kept.now.places ≡ state_before opening actions action
+  pub asks_for : (s : Admin) (session : ℕ) (what : Change) → AreWell s.kept.now.places → s.cells ≡ class_cells setting.classes → s.kinds ≡ kinds_of setting.classes → s.kept.now.places ≡ state_before opening actions action
       → actions action ≡ action_for session what
       → moves_on (is_kind_row (cells_of setting kind)) (moves_as action (moves_asked (work_for s session what).moves))
       ≡ moves_of (holder_of (board (cells_of setting kind)) opening actions) (takes_by (board (cells_of setting kind)) opening actions (kind_number kind)) action (kind_rows (cells_of setting kind))
-  asks_for s session (changes.Connect user host) well cells places e =
+  asks_for s session (changes.Connect user host) well cells kinds places e =
       none_asked _ (connect_moves s.words (thread_flags s user host) (connected s session user host).kept.now (seat_at s session user host))
       (λ place. ap (λ a. line_takes (line_of (kind_number kind) before a) place) e ∙ connect_idle before (kind_number kind) session user host place)
-  asks_for s session changes.Show well cells places e =
+  asks_for s session (changes.Truncate what) well cells kinds places e =
+      ap (λ z. moves_on test (asked (truncation_asks z s.kept.now.places what))) kinds
+      ∙ (ap (λ z. moves_on test (asked (truncation_asks (kinds_of setting.classes) z what))) places
+      ∙ truncation_same back setting kind opening actions action (subst AreWell places well) what e)
+  asks_for s session changes.Show well cells kinds places e =
       none_asked [] refl (λ place. ap (λ a. line_takes (line_of (kind_number kind) before a) place) e)
-  asks_for s session changes.Quit well cells places e = on (found_where (λ x. x.number == session) s.kept.now.places.threads) refl (seat_in_in s session well) where
+  asks_for s session changes.Quit well cells kinds places e = on (found_where (λ x. x.number == session) s.kept.now.places.threads) refl (seat_in_in s session well) where
     line : line_of (kind_number kind) before (actions action) ≡ quit_line (found_where (λ x. x.number == session) s.kept.now.places.threads)
     line = ap (λ a. line_of (kind_number kind) before a) e ∙ ap (λ (z : State). quit_line (found_where (λ x. x.number == session) z.threads)) (sym places)
 
@@ -176,11 +182,13 @@ module _ (back : AreBack) (found : AreFound) (setting : Setting) (kind : TableKi
           there = found_there (λ x. x.number == session) s.kept.now.places.threads f q
 
   -- and all rows of what is asked are of one kind
-  pub alike_for : (s : Admin) (session : ℕ) (what : Change) → AreWell s.kept.now.places → s.cells ≡ class_cells setting.classes
+  pub alike_for : (s : Admin) (session : ℕ) (what : Change) → AreWell s.kept.now.places → s.cells ≡ class_cells setting.classes → s.kinds ≡ kinds_of setting.classes
       → AllAlike (is_kind_row (cells_of setting kind)) (moves_as action (moves_asked (work_for s session what).moves))
-  alike_for s session (changes.Connect user host) well cells = subst (λ z. AllAlike test (asked z)) (sym (connect_moves s.words (thread_flags s user host) (connected s session user host).kept.now (seat_at s session user host))) tt
-  alike_for s session changes.Show well cells = tt
-  alike_for s session changes.Quit well cells = on (seat_in s session) (seat_in_in s session well) where
+  alike_for s session (changes.Connect user host) well cells kinds = subst (λ z. AllAlike test (asked z)) (sym (connect_moves s.words (thread_flags s user host) (connected s session user host).kept.now (seat_at s session user host))) tt
+  alike_for s session (changes.Truncate what) well cells kinds =
+      subst (λ z. AllAlike test (asked (truncation_asks z s.kept.now.places what))) (sym kinds) (truncation_alike back setting kind action s.kept.now.places well what)
+  alike_for s session changes.Show well cells kinds = tt
+  alike_for s session changes.Quit well cells kinds = on (seat_in s session) (seat_in_in s session well) where
     on : (o : Option Seated) → IfSome o IsInRange → AllAlike test (asked (quit_work s.words s.cells (has_quit s session).kept.now o).moves)
     on None r = tt
     on (Some seat) r = subst (λ z. AllAlike test (asked (asks_of z (of.Thread (record { place = seat.slot; account = seat.connection.account; user = seat.connection.user; host = seat.connection.host }))))) (sym cells)
@@ -210,7 +218,7 @@ module _ (back : AreBack) (found : AreFound) (setting : Setting) (change : Label
     on (label, q) =
         ap (λ z. moves_on (is_kind_row (cells_of setting kind)) (moves_as (suc k) z)) (moves_by k label q)
         ∙ asks_for back found setting kind (opened_by (limits_of setting)) (numbered (actions_of change (take n labels))) (suc k) (state_of setting change (take k labels)) label.session (change label)
-        (fold_well setting change (take k labels)) (fold_cells setting change (take k labels))
+        (fold_well setting change (take k labels)) (fold_cells setting change (take k labels)) (fold_kinds setting change (take k labels))
         (ap (λ z. (state_of setting change z).kept.now.places) (sym (front_front labels n k (omega (arith, l)))) ∙ fold_places setting change (take n labels) k (let e : length (take n labels) ≡ n = front_length labels n few in omega (arith, e, l)))
         (numbered_at change (take n labels) k label (front_get labels n k l ∙ q))
 
@@ -220,7 +228,7 @@ module _ (back : AreBack) (found : AreFound) (setting : Setting) (change : Label
     on (label, q) =
         subst (λ z. AllAlike (is_kind_row (cells_of setting kind)) (moves_as (suc k) z)) (sym (moves_by k label q))
         (alike_for back found setting kind (opened_by (limits_of setting)) (numbered []) (suc k) (state_of setting change (take k labels)) label.session (change label)
-        (fold_well setting change (take k labels)) (fold_cells setting change (take k labels)))
+        (fold_well setting change (take k labels)) (fold_cells setting change (take k labels)) (fold_kinds setting change (take k labels)))
 
   -- and a number of no action moves nothing
   pub none_are : (actions : List Action) (action : ℕ) → numbered actions action ≡ Other → moves_at setting kind actions action ≡ []

@@ -1,5 +1,5 @@
 -- What each line of a kind makes of its row, by the contents that stand in the rows.
-use Rattle.std.proofs.Common.{◌≡◌, refl, ℕ, ◌+◌, ◌-◌, ◌<◌, ◌≤◌, ◌==◌, Bool, true, not, List, [], ◌∷◌, ◌++◌, map, fold, Some, sym, ap, ◌∙◌, arith}
+use Rattle.std.proofs.Common.{◌≡◌, refl, ℕ, suc, ◌+◌, ◌-◌, ◌≤◌, ◌==◌, Bool, true, not, List, [], ◌∷◌, ◌++◌, map, fold, Some, sym, ap, ◌∙◌, arith}
 use Rattle.pfs_conservation.specs.Chains.{with_event}
 use Rattle.pfs_conservation.specs.Laws.{stats}
 use Rattle.pfs_conservation.specs.Lines.{Kind, Adds, Takes, Gives, Tagged}
@@ -18,6 +18,7 @@ use Rattle.pfs_stat.specs.declared.Measure.{Measure}
 use Rattle.pfs_stat.specs.declared.Stat.{Stat}
 use Rattle.pfs_tagged.specs.Ends.{event_number, Ended, all_ended, of_number, measure_if, measures_in}
 use Rattle.pfs_tagged.specs.Tagged.{lines_at, all_lines}
+use Rattle.pfs_tagged.proofs.Climbing.{row_level}
 use Rattle.pfs_tagged.proofs.Going.{IsWay}
 use Rattle.pfs_tagged.proofs.Indexing.{times_ended}
 use Rattle.pfs_tagged.proofs.Telling.{IsTaken, HasSource, IsEnded, ended_found}
@@ -40,9 +41,9 @@ module _ (words : WordsAgree) (given : Given) (content : ℕ → ℕ → List �
   -- and so of each line
   abbrev pub IsBody : ℕ → ℕ → ℕ → ℕ → Kind → Type 0
   IsBody action row version before (Adds events) = stands row version ≡ fold (with_event (stats (measures_in given all))) (stands row before) events
-  IsBody action row version before Takes = (row < 2177) × (stands row version ≡ zero_of) × (counted action row ≡ not ((stands row before).count == 0))
+  IsBody action row version before Takes = (stands row version ≡ zero_of) × (counted action row ≡ not ((stands row before).count == 0))
   IsBody action row version before (Gives from) =
-      (2177 ≤ row) × (from < 2177) × (test row ≡ test from)
+      (suc (row_level from) ≤ row_level row) × (test row ≡ test from)
       × ((at : ℕ) × IsTaken all action from at × (stands row version ≡ merge_of (stands row before) (stands from (at - 1))))
 
   abbrev pub IsBased : Tagged → Type 0
@@ -84,7 +85,6 @@ module _ (words : WordsAgree) (given : Given) (content : ℕ → ℕ → List �
           before,
           v,
           (
-            (w refl).0.1,
             ap stat_of_words (c ∙ ap (content_after given content p p.context (content row before)) q) ∙ words zero_of,
             f ∙ ap (λ b. not ((stands row b).count == 0)) (minus version before v),
           ),
@@ -100,7 +100,6 @@ module _ (words : WordsAgree) (given : Given) (content : ℕ → ℕ → List �
           (
             (w refl).0.0,
             (w refl).0.1,
-            (w refl).0.2,
             (
               p.context.source_version,
               k.source from s,

@@ -32,6 +32,7 @@ use Rattle.pfs_tagged.proofs.AddedFronts.{blocks_to, fronts}
 use Rattle.pfs_tagged.proofs.AddedWalk.{Follow, all_followed}
 use Rattle.pfs_tagged.proofs.Based.{IsKnown, IsBody, IsBased, lines_based}
 use Rattle.pfs_tagged.proofs.Beginning.{IsFresh, all_fresh}
+use Rattle.pfs_tagged.proofs.Climbing.{row_level, level_most}
 use Rattle.pfs_tagged.proofs.Counting.{IsCells, AreCells, changes_counted}
 use Rattle.pfs_tagged.proofs.Going.{IsWay, asked_ways}
 use Rattle.pfs_tagged.proofs.Indexing.{times_ended, ends_once}
@@ -111,7 +112,7 @@ stood_at P (line ∷ lines) row version change h (inl s) = (line, s.1, eq_of lin
 stood_at P (line ∷ lines) row version change h (inr s) = stood_at P lines row version change h.1 s
 
 -- a take stands as a line
-taken_line : (test : ℕ → Bool) (ps : List Placed) (action row version : ℕ) → test row ≡ true → IsTaken ps action row version → Stands (lines_on test (all_lines ps)) row version (Taken action)
+pub taken_line : (test : ℕ → Bool) (ps : List Placed) (action row version : ℕ) → test row ≡ true → IsTaken ps action row version → Stands (lines_on test (all_lines ps)) row version (Taken action)
 taken_line test [] action row version t s = absurd s
 taken_line test (p ∷ ps) action row version t (inl (a, e)) = subst (λ x. Stands (lines_on test (lines_at p x ++ all_lines ps)) row version (Taken action)) (sym e) (on (test row) t) where
   eq_self : (n : ℕ) → (n == n) ≡ true
@@ -232,18 +233,6 @@ module _ (back : AreBack) (found : AreFound) (none : AreNone) (words : WordsAgre
         both : (r : ℕ) → 129 ≤ r → r < 8450 → (nat_le 129 r && nat_lt r 8450) ≡ true
         both r l h = grind arith
 
-  -- a row of a thread is given nothing, so that it goes by no take
-  low_made : (takes : ℕ → ℕ → Stat) (line : Tagged) → Based line → line.row < 2177 → IsMade sums stands takes line
-  low_made takes line (before, v, b) l = (before, v, by line.kind b) where
-    by : (kind : Kind) → IsBody words (given_in run) run.content run.counted test so_far line.action line.row line.version before kind
-        → stands line.row line.version ≡ changed sums takes (stands line.row before) (as_change line.action kind)
-    by (Adds events) b = b
-    by Takes b = b.1
-    by (Gives from) b = let h : 2177 ≤ line.row = b.0 in absurd (omega (arith, h, l))
-
-  lows_made : (takes : ℕ → ℕ → Stat) (row : ℕ) → row < 2177 → Each (λ (line : Tagged). line.row ≡ row → IsMade sums stands takes line) lines
-  lows_made takes row l = each_map (λ (line : Tagged). (test line.row ≡ true) × Based line) (λ (line : Tagged). line.row ≡ row → IsMade sums stands takes line) lines (λ line b e. low_made takes line b.1 (omega (arith, e, l))) based
-
   -- no action takes a row twice
   taken_once : (action row : ℕ) → times (is_take action row) lines ≤ 1
   taken_once action row =
@@ -256,16 +245,17 @@ module _ (back : AreBack) (found : AreFound) (none : AreNone) (words : WordsAgre
       (takes_by (board (cells_of run.setting kind)) (opened_by (limits_of run.setting)) (numbered (actions_to run phase)) (kind_number kind)) action row (cells_of run.setting kind) in
       omega (arith, a, e, b, c)
 
-  -- so a take of a thread's row found what stood there before
-  found_at : (takes : ℕ → ℕ → Stat) (action row version : ℕ) → test row ≡ true → row < 2177 → Stands lines row version (Taken action)
-      → found_in sums takes sums.nothing action (chain_of lines row) ≡ stands row (version - 1)
-  found_at takes action row version t low s = on (stood_at (λ (line : Tagged). (1 ≤ line.version) × (line.version ≤ changes_of lines line.row)) lines row version (Taken action) ranged s) where
-    ranged : Each (λ (line : Tagged). (1 ≤ line.version) × (line.version ≤ changes_of lines line.row)) lines
-    ranged = ranges lines (acted back found none run kind phase kept).within where
-      ranges : (some : List Tagged) → Within lines some → Each (λ (line : Tagged). (1 ≤ line.version) × (line.version ≤ changes_of lines line.row)) some
-      ranges [] w = tt
-      ranges (line ∷ some) w = ((w.0, w.1), ranges some w.2)
+  -- versions are from 1 to the number of changes of their rows
+  pub lines_ranged : Each (λ (line : Tagged). (1 ≤ line.version) × (line.version ≤ changes_of (lines_to run kind phase) line.row)) (lines_to run kind phase)
+  lines_ranged = ranges lines (acted back found none run kind phase kept).within where
+    ranges : (some : List Tagged) → Within lines some → Each (λ (line : Tagged). (1 ≤ line.version) × (line.version ≤ changes_of lines line.row)) some
+    ranges [] w = tt
+    ranges (line ∷ some) w = ((w.0, w.1), ranges some w.2)
 
+  -- a take finds what stood there before, if what takes found makes each line of its row
+  found_at : (takes : ℕ → ℕ → Stat) (action row version : ℕ) → test row ≡ true → Each (λ (line : Tagged). line.row ≡ row → IsMade sums stands takes line) lines
+      → Stands lines row version (Taken action) → found_in sums takes sums.nothing action (chain_of lines row) ≡ stands row (version - 1)
+  found_at takes action row version t made s = on (stood_at (λ (line : Tagged). (1 ≤ line.version) × (line.version ≤ changes_of lines line.row)) lines row version (Taken action) lines_ranged s) where
     on : (line : Tagged) × (change_of line ≡ Taken action) × (line.row ≡ row) × (line.version ≡ version) × ((1 ≤ line.version) × (line.version ≤ changes_of lines line.row))
         → found_in sums takes sums.nothing action (chain_of lines row) ≡ stands row (version - 1)
     on (line, c, r, v, (l, h)) = at version s v where
@@ -275,7 +265,7 @@ module _ (back : AreBack) (found : AreFound) (none : AreNone) (words : WordsAgre
       at : (version : ℕ) → Stands lines row version (Taken action) → line.version ≡ version → found_in sums takes sums.nothing action (chain_of lines row) ≡ stands row (version - 1)
       at zero s v = absurd (omega (arith, l, v))
       at (suc before) s v =
-          found_stands sums stands takes lines row (changes_of lines row) (lows_made takes row low) (one row t) (opens row t) action before (omega (arith, h, v, count))
+          found_stands sums stands takes lines row (changes_of lines row) made (one row t) (opens row t) action before (omega (arith, h, v, count))
           (stands_alone lines row (suc before) (Taken action) s (once back found none run kind phase kept row (suc before)))
           (λ earlier e.
           let two : times (is_take_at action row (suc earlier)) lines + times (is_take_at action row (suc before)) lines ≤ times (is_take action row) lines = two_takes action row (suc earlier) (suc before) lines (omega (arith, e)) in
@@ -286,15 +276,35 @@ module _ (back : AreBack) (found : AreFound) (none : AreNone) (words : WordsAgre
             minus : (b : ℕ) → b ≡ suc b - 1
             minus b = omega arith
 
+  -- what the takes of the levels below a row found makes each of its lines
+  abbrev MadeTo : ℕ → Type 0
+  MadeTo depth = (line : Tagged) → test line.row ≡ true → Based line → row_level line.row ≤ depth → IsMade sums stands (found_by sums (chain_of lines) depth) line
+
+  all_made : (depth : ℕ) → MadeTo depth → (row : ℕ) → row_level row ≤ depth → Each (λ (line : Tagged). line.row ≡ row → IsMade sums stands (found_by sums (chain_of lines) depth) line) lines
+  all_made depth h row l =
+      each_map (λ (line : Tagged). (test line.row ≡ true) × Based line) (λ (line : Tagged). line.row ≡ row → IsMade sums stands (found_by sums (chain_of lines) depth) line) lines
+      (λ line b e. h line b.0 b.1 (let r : row_level line.row ≡ row_level row = ap row_level e in omega (arith, r, l))) based
+
+  -- by the levels, the lowest first: a give's take was of a lower row
+  made_to : (depth : ℕ) → MadeTo depth
+  made_to zero line t (before, v, b) l = (before, v, by line.kind b) where
+    by : (what : Kind) → IsBody words (given_in run) run.content run.counted test so_far line.action line.row line.version before what
+        → stands line.row line.version ≡ changed sums (found_by sums (chain_of lines) 0) (stands line.row before) (as_change line.action what)
+    by (Adds events) b = b
+    by Takes b = b.0
+    by (Gives from) b = let h : suc (row_level from) ≤ row_level line.row = b.0 in absurd (omega (arith, h, l))
+  made_to (suc depth) line t (before, v, b) l = (before, v, by line.kind b (made_to depth)) where
+    by : (what : Kind) → IsBody words (given_in run) run.content run.counted test so_far line.action line.row line.version before what → MadeTo depth
+        → stands line.row line.version ≡ changed sums (found_by sums (chain_of lines) (suc depth)) (stands line.row before) (as_change line.action what)
+    by (Adds events) b ih = b
+    by Takes b ih = b.0
+    by (Gives from) (high, same, (at, s, e)) ih =
+        e ∙ ap (sums.merge (stands line.row before))
+        (sym (found_at (found_by sums (chain_of lines) depth) line.action from at (sym same ∙ t) (all_made depth ih from (omega (arith, high, l))) (taken_line test so_far line.action from at (sym same ∙ t) s)))
+
   -- each line makes its row's content of the one before, by what takes found
   made : (line : Tagged) → test line.row ≡ true → Based line → IsMade sums stands (found_to run kind phase) line
-  made line t (before, v, b) = (before, v, by line.kind b) where
-    by : (what : Kind) → IsBody words (given_in run) run.content run.counted test so_far line.action line.row line.version before what
-        → stands line.row line.version ≡ changed sums (found_to run kind phase) (stands line.row before) (as_change line.action what)
-    by (Adds events) b = b
-    by Takes b = b.1
-    by (Gives from) (high, low, same, (at, s, e)) =
-        e ∙ ap (sums.merge (stands line.row before)) (sym (found_at (found_by sums (chain_of lines) 3) line.action from at (sym same ∙ t) low (taken_line test so_far line.action from at (sym same ∙ t) s)))
+  made line t b = made_to 4 line t b (let l : row_level line.row ≤ 3 = level_most line.row in omega (arith, l))
 
   pub contented : (row : ℕ) → is_kind_row (cells_of run.setting kind) row ≡ true → content (sums_to run phase) (found_to run kind phase) (chain_of (lines_to run kind phase) row) ≡ stands_to run phase row
   contented row t =
@@ -302,6 +312,10 @@ module _ (back : AreBack) (found : AreFound) (none : AreNone) (words : WordsAgre
       (each_map (λ (line : Tagged). (test line.row ≡ true) × Based line) (λ (line : Tagged). line.row ≡ row → IsMade sums stands (found_to run kind phase) line) lines (λ line b e. made line b.0 b.1) based)
       (one row t) (opens row t) (changes_of lines row) (omega arith)
       ∙ ap (stands row) (count_is row t)
+
+  -- a take found what stood one version before it
+  pub found_stood : (action row version : ℕ) → is_kind_row (cells_of run.setting kind) row ≡ true → Stands (lines_to run kind phase) row version (Taken action) → found_to run kind phase action row ≡ stat_of_words (run.content row (version - 1))
+  found_stood action row version t s = found_at (found_by sums (chain_of lines) 3) action row version t (all_made 3 (made_to 3) row (level_most row)) s
 
   pub counted_found : (action row version : ℕ) → Stands (lines_to run kind phase) row version (Taken action) → run.counted action row ≡ kept_to run kind phase action row
   counted_found action row version s = on (stood_at (λ (line : Tagged). (test line.row ≡ true) × Based line) lines row version (Taken action) based s) where
@@ -313,12 +327,11 @@ module _ (back : AreBack) (found : AreFound) (none : AreNone) (words : WordsAgre
       by : (what : Kind) → as_change line.action what ≡ Taken action → IsBody words (given_in run) run.content run.counted test so_far line.action line.row line.version before what → run.counted action row ≡ kept_to run kind phase action row
       by (Adds events) c b = absurd (cc)
       by (Gives from) c b = absurd (cc)
-      by Takes c (low, m, f) =
+      by Takes c (m, f) =
           let a : line.action ≡ action = number line.action action c in
           let t2 : test row ≡ true = ap test (sym r) ∙ t in
-          let l : row < 2177 = omega (arith, low, r) in
           let e : version - 1 ≡ before = omega (arith, v, n) in
-          let k : found_to run kind phase action row ≡ stands row (version - 1) = found_at (found_by sums (chain_of lines) 3) action row version t2 l s in
+          let k : found_to run kind phase action row ≡ stands row (version - 1) = found_stood action row version t2 s in
           (ap (λ z. run.counted z row) (sym a) ∙ ap (run.counted line.action) (sym r))
           ∙ (f ∙ (ap (λ (z : ℕ). not ((stands z before).count == 0)) r
           ∙ (zero_count (stands row before).count ∙ ap (λ (x : Stat). nat_lt 0 x.count) (ap (stands row) (sym e) ∙ sym k))))

@@ -1,19 +1,23 @@
 -- The administration's fold of labels is that of the actions, as far as places go.
-use Rattle.std.proofs.Common.{◌≡◌, refl, ℕ, zero, suc, ◌<◌, ◌≤◌, List, [], ◌∷◌, length, map, take, replicate, Option, Some, None, sym, ap, ◌∙◌, arith}
+use Rattle.std.proofs.Common.{◌≡◌, refl, ℕ, zero, suc, ◌<◌, ◌≤◌, ◌==◌, Bool, true, false, cond, List, [], ◌∷◌, length, map, take, replicate, Option, Some, None, sym, ap, ◌∙◌, arith}
 use Rattle.std.specs.Prelude.{slice_get}
 use Rattle.pfs_admin.specs.Fold.{stepped, state_from, state_of}
 use Rattle.pfs_admin.specs.Opening.{opened}
 use Rattle.pfs_admin.specs.States.{State as Admin}
+use Rattle.pfs_admin.specs.Truncations.{action_of, level_of}
 use Rattle.pfs_admin.specs.declared.changes.Change.{Change}
 use Rattle.pfs_admin.specs.declared.changes.Change.TheVariants as changes
 use Rattle.pfs_board.specs.declared.view.Label.{Label}
 use Rattle.pfs_classes.specs.declared.setting.Setting.{Setting}
-use Rattle.pfs_conservation.specs.Administration.{Action, Other, numbered, line_of, state_after}
-use Rattle.pfs_conservation.specs.Folds.{State}
+use Rattle.pfs_conservation.specs.Administration.{Action, Connect, Quit, Other, numbered, line_of, state_after}
+use Rattle.pfs_conservation.specs.Folds.{State, Truncates, Others}
 use Rattle.pfs_conservation.specs.Folds.{stepped as then_places}
 use Rattle.pfs_conservation.specs.Seats.{all_free, opened_by}
-use Rattle.pfs_containers.specs.Administration.{Containers, connect_at, lowest_free}
+use Rattle.pfs_containers.specs.Administration.{Containers, advanced, connect_at, lowest_free}
+use Rattle.pfs_rows.specs.Tables.{kind_number}
 use Rattle.pfs_rows.specs.declared.limits.Limits.{Limits}
+use Rattle.pfs_truncations.specs.declared.truncations.Truncation.{Truncation}
+use Rattle.pfs_truncations.specs.declared.truncations.Truncation.TheVariants.{Summary, Accounts, Users, Hosts, SetupActors, SetupObjects}
 use Rattle.pfs_tagged.specs.Acts.{action_for, actions_of}
 use Rattle.pfs_tagged.specs.Board.{limits_of}
 
@@ -36,10 +40,39 @@ connect_places : (c : Containers) (number user host : ℕ) (slot : Option ℕ) �
 connect_places c number user host None q = rw q refl
 connect_places c number user host (Some slot) q = rw q refl
 
+truncation_places : (c : Containers) (what : Truncation) → (advanced c (action_of what)).places ≡ then_places c.places (line_of 0 c.places (action_of what))
+truncation_places c (Summary kind table) = at (kind_number kind == 0) where
+  at : (b : Bool) → c.places ≡ then_places c.places (cond b (Truncates (level_of table)) Others)
+  at true = refl
+  at false = refl
+truncation_places c Accounts = refl
+truncation_places c Users = refl
+truncation_places c Hosts = refl
+truncation_places c SetupActors = refl
+truncation_places c SetupObjects = refl
+
+-- a truncation connects nobody, and nobody quits by it
+pub truncation_connects : (what : Truncation) (number user host : ℕ) → action_of what ≡ Connect number user host → ⊥
+truncation_connects (Summary kind table) number user host e = cc
+truncation_connects Accounts number user host e = cc
+truncation_connects Users number user host e = cc
+truncation_connects Hosts number user host e = cc
+truncation_connects SetupActors number user host e = cc
+truncation_connects SetupObjects number user host e = cc
+
+pub truncation_quits : (what : Truncation) (number : ℕ) → action_of what ≡ Quit number → ⊥
+truncation_quits (Summary kind table) number e = cc
+truncation_quits Accounts number e = cc
+truncation_quits Users number e = cc
+truncation_quits Hosts number e = cc
+truncation_quits SetupActors number e = cc
+truncation_quits SetupObjects number e = cc
+
 step_places : (s : Admin) (session : ℕ) (what : Change) → (stepped s session what).kept.now.places ≡ then_places s.kept.now.places (line_of 0 s.kept.now.places (action_for session what))
 step_places s session (changes.Connect user host) =
     connect_places s.kept.now session user host (lowest_free s.kept.now.places.threads) refl
 step_places s session changes.Quit = refl
+step_places s session (changes.Truncate what) = truncation_places s.kept.now what
 step_places s session changes.Show = refl
 
 -- after one action more, in front

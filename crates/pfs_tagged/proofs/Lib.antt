@@ -13,6 +13,9 @@ pub mod Seating
 pub mod Quitting
 pub mod Staying
 pub mod Ranging
+pub mod Emptying
+pub mod Climbing
+pub mod Truncating
 pub mod Asking
 pub mod Tagging
 pub mod Acted
@@ -49,3 +52,6 @@ pub mod Contented
 pub mod Boarding
 pub mod Lasting
 pub mod Summed
+mod Discarding
+mod Discarded
+mod Cleared

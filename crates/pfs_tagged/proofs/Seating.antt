@@ -84,7 +84,7 @@ other_slot back found is_cell slot row h out = on (found row h) where
   on (spot, is, e) = same spot is e (by spot is e)
 
 module _ (is_cell : ℕ → Bool) (holder : ℕ → ℕ → Option Owner) (takes : ℕ → ℕ → Bool) (action : ℕ) where
-  moves_then : (xs ys : List ℕ) → moves_of holder takes action (xs ++ ys) ≡ moves_of holder takes action xs ++ moves_of holder takes action ys
+  pub moves_then : (xs ys : List ℕ) → moves_of holder takes action (xs ++ ys) ≡ moves_of holder takes action xs ++ moves_of holder takes action ys
   moves_then [] ys = refl
   moves_then (x ∷ xs) ys = on (cond (takes action x) (moved_by (holder action x) action x) []) (moves_then xs ys) where
     on : (zs : List Move) → moves_of holder takes action (xs ++ ys) ≡ moves_of holder takes action xs ++ moves_of holder takes action ys → zs ++ moves_of holder takes action (xs ++ ys) ≡ (zs ++ moves_of holder takes action xs) ++ moves_of holder takes action ys
@@ -99,7 +99,7 @@ module _ (is_cell : ℕ → Bool) (holder : ℕ → ℕ → Option Owner) (takes
     at true ih = ap (λ z. cond z (moved_by (holder action row) action row) [] ++ moves_of holder takes action (kind_rows_from is_cell (suc row) more)) (h row (omega arith) (omega arith)) ∙ ih
     at false ih = ih
 
-  rows_then : (row m n : ℕ) → kind_rows_from is_cell row (m + n) ≡ kind_rows_from is_cell row m ++ kind_rows_from is_cell (row + m) n
+  pub rows_then : (row m n : ℕ) → kind_rows_from is_cell row (m + n) ≡ kind_rows_from is_cell row m ++ kind_rows_from is_cell (row + m) n
   rows_then row zero n = ap (λ k. kind_rows_from is_cell row k) (left n) ∙ ap (λ r. kind_rows_from is_cell r n) (plus row) where
     plus : (a : ℕ) → a ≡ a + 0
     plus a = omega arith

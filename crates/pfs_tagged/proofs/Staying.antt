@@ -3,17 +3,21 @@ use Rattle.std.proofs.Common.{ℕ, ◌≡◌, ◌<◌, ◌==◌, List, [], ◌�
 use Rattle.std.specs.Prelude.{IfSome}
 use Rattle.pfs_admin.proofs.Folding.{fixed_law}
 use Rattle.pfs_admin.specs.Fold.{stepped, state_from, state_of}
-use Rattle.pfs_admin.specs.Opening.{cells_of, opened}
+use Rattle.pfs_admin.specs.Opening.{cells_of, kinds_of, opened}
 use Rattle.pfs_admin.specs.States.{State, seat_at, seat_in}
+use Rattle.pfs_admin.specs.Truncations.{action_of}
 use Rattle.pfs_admin.specs.declared.changes.Change.{Change}
-use Rattle.pfs_admin.specs.declared.changes.Change.TheVariants.{Connect, Quit, Show}
+use Rattle.pfs_admin.specs.declared.changes.Change.TheVariants.{Connect, Quit, Truncate, Show}
 use Rattle.pfs_board.specs.declared.view.Label.{Label}
 use Rattle.pfs_classes.specs.declared.setting.Setting.{Setting}
 use Rattle.pfs_containers.proofs.Keeping.{free_inside, session_has, seat_keeps, quit_keeps, opens_well, seat_in_range, quit_in_range}
-use Rattle.pfs_containers.specs.Administration.{Containers, Found, found_where, lowest_free, session_of, quit_line, connect_at}
-use Rattle.pfs_containers.specs.Connections.{stepped as places_after}
+use Rattle.pfs_containers.proofs.Truncating.{accounts_freed, users_freed, hosts_freed}
+use Rattle.pfs_containers.specs.Administration.{Containers, Found, advanced, found_where, lowest_free, session_of, quit_line, connect_at}
+use Rattle.pfs_containers.specs.Connections.{in_use, FreesAccounts, stepped as places_after}
 use Rattle.pfs_containers.specs.Kept.{AreWell, IsInRange, seat_by, seated}
 use Rattle.pfs_containers.specs.declared.containers.Connection.{Connection}
+use Rattle.pfs_truncations.specs.declared.truncations.Truncation.{Truncation}
+use Rattle.pfs_truncations.specs.declared.truncations.Truncation.TheVariants.{Summary, Accounts, Users, Hosts, SetupActors, SetupObjects}
 
 -- no place that isn't there
 connect_well : (c : Containers) (number user host : ℕ) → AreWell c.places → AreWell (connect_at c number user host (lowest_free c.places.threads)).places
@@ -28,9 +32,22 @@ quit_well c number well = by_found (found_where (λ x. x.number == number) c.pla
   by_found None = well
   by_found (Some found) = quit_keeps c.places found.place well
 
+truncation_well : (c : Containers) (what : Truncation) → AreWell c.places → AreWell (advanced c (action_of what)).places
+truncation_well c (Summary kind table) well = well
+truncation_well c Accounts well = accounts_freed c.places (in_use (λ x. x.account) c.places.threads) _ refl well
+truncation_well c Users well =
+    users_freed (places_after c.places FreesAccounts) (in_use (λ x. x.user) c.places.threads) _ refl
+    (accounts_freed c.places (in_use (λ x. x.account) c.places.threads) _ refl well)
+truncation_well c Hosts well =
+    hosts_freed (places_after c.places FreesAccounts) (in_use (λ x. x.host) c.places.threads) _ refl
+    (accounts_freed c.places (in_use (λ x. x.account) c.places.threads) _ refl well)
+truncation_well c SetupActors well = well
+truncation_well c SetupObjects well = well
+
 step_well : (s : State) (session : ℕ) (what : Change) → AreWell s.kept.now.places → AreWell (stepped s session what).kept.now.places
 step_well s session (Connect user host) well = connect_well s.kept.now session user host well
 step_well s session Quit well = quit_well s.kept.now session well
+step_well s session (Truncate what) well = truncation_well s.kept.now what well
 step_well s session Show well = well
 
 from_well : (change : Label → Change) (s : State) (labels : List Label) → AreWell s.kept.now.places → AreWell (state_from change s labels).kept.now.places
@@ -61,3 +78,6 @@ seat_in_in s number well = by_found (found_where (λ x. x.number == number) s.ke
 -- the cells
 pub fold_cells : (setting : Setting) (change : Label → Change) (labels : List Label) → (state_of setting change labels).cells ≡ cells_of setting.classes
 fold_cells setting change labels = (fixed_law setting change labels (state_of setting change labels) refl).1
+
+pub fold_kinds : (setting : Setting) (change : Label → Change) (labels : List Label) → (state_of setting change labels).kinds ≡ kinds_of setting.classes
+fold_kinds setting change labels = (fixed_law setting change labels (state_of setting change labels) refl).2

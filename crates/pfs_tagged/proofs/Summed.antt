@@ -76,7 +76,7 @@ printed_agree kept other action (line ∷ lines) h = at (is_move line.kind && (l
   at false r = r
 
 -- each line stands
-lines_stand : (all lines : List Tagged) → ((row version : ℕ) (change : Change) → Stands lines row version change → Stands all row version change)
+pub lines_stand : (all lines : List Tagged) → ((row version : ℕ) (change : Change) → Stands lines row version change → Stands all row version change)
     → Each (λ (line : Tagged). Stands all line.row line.version (change_of line)) lines
 lines_stand all [] h = tt
 lines_stand all (line ∷ lines) h = (h line.row line.version (change_of line) (inl (own line.row line.version, refl)), lines_stand all lines (λ row version change s. h row version change (inr s))) where
@@ -84,7 +84,7 @@ lines_stand all (line ∷ lines) h = (h line.row line.version (change_of line) (
   own a b = grind arith
 
 -- what merges the same merges alike
-fold_same : (f g : ℕ → Stat) (here : Stat) (rows : List ℕ) → Each (λ row. f row ≡ g row) rows → fold (λ sum row. merge_of sum (f row)) here rows ≡ fold (λ sum row. merge_of sum (g row)) here rows
+pub fold_same : (f g : ℕ → Stat) (here : Stat) (rows : List ℕ) → Each (λ row. f row ≡ g row) rows → fold (λ sum row. merge_of sum (f row)) here rows ≡ fold (λ sum row. merge_of sum (g row)) here rows
 fold_same f g here [] h = refl
 fold_same f g here (row ∷ rows) h = ap (λ x. fold (λ sum row. merge_of sum (f row)) (merge_of here x) rows) h.0 ∙ fold_same f g (merge_of here (g row)) rows h.1
 
@@ -124,7 +124,7 @@ module _ (back : AreBack) (found : AreFound) (none : AreNone) (words : WordsAgre
   lines = lines_to run kind phase
 
   -- an event's numbers fit
-  fitting : AreInRange run.facts → (event : ℕ) → Fits (stat_of (measures_in (given_in run) so_far event))
+  pub fitting : AreInRange run.facts → (event : ℕ) → Fits (stat_of (measures_in (given_in run) so_far event))
   fitting range event = on (of_number event (all_ended so_far)) where
     timed : (b : Bool) (f : Facts) → IsInRange (measure_of false f) → IsInRange (measure_of b f)
     timed b f r = record { wait = r.wait; lock = r.lock; errors = r.errors; warnings = r.warnings; affected = r.affected; sent = r.sent; examined = r.examined }
@@ -142,7 +142,7 @@ module _ (back : AreBack) (found : AreFound) (none : AreNone) (words : WordsAgre
         by (Taken action) row version s = counted_found back found none words run kind phase kept action row version s
         by (Given action from) row version s = tt
 
-  acted_by : AreActed (kept_to run kind phase) (moves_at run.setting kind (actions_to run phase)) (length (actions_to run phase)) lines
+  pub acted_by : AreActed (kept_to run kind phase) (moves_at run.setting kind (actions_to run phase)) (length (actions_to run phase)) lines
   acted_by =
       let a : AreActed run.counted (moves_at run.setting kind (actions_to run phase)) (length (actions_to run phase)) lines = acted back found none run kind phase kept in
       record {
@@ -186,18 +186,18 @@ module _ (back : AreBack) (found : AreFound) (none : AreNone) (words : WordsAgre
     on None e = tt
     on (Some one) e = by one (numbered_in run.blocks event (all_ended so_far) one ends e) (counted_slot one.context.slot one.event.verdict) refl
 
-  limits : AreLimits (limits_of run.setting)
+  pub limits : AreLimits (limits_of run.setting)
   limits = record { threads = run.setting.in_range.thread_instances; accounts = run.setting.in_range.accounts; users = run.setting.in_range.users; hosts = run.setting.in_range.hosts }
 
   -- the rows that a key shows are of the kind
-  well : AreWell (places_behind run.setting (actions_to run phase))
+  pub well : AreWell (places_behind run.setting (actions_to run phase))
   well =
       let labels = labels_so_far run.labels so_far in
       subst AreWell
       (fold_places run.setting run.change labels (length labels) (omega arith) ∙ ap (state_after (opened_by (limits_of run.setting)) (numbered (actions_of run.change labels))) (sym (length_as _ labels)))
       (fold_well run.setting run.change (take (length labels) labels))
 
-  shown_here : (key : Key) (s : State) → AreWell s → (cells : List ℕ) → AreLow (board is_cell) cells → Each (λ row. test row ≡ true) (shown_in (board is_cell) key cells s)
+  pub shown_here : (key : Key) (s : State) → AreWell s → (cells : List ℕ) → AreLow (board is_cell) cells → Each (λ row. test row ≡ true) (shown_in (board is_cell) key cells s)
   shown_here key s w [] l = tt
   shown_here key s w (cell ∷ cells) l =
       each_join Here (shown_cell key (rows_of (board is_cell) cell) s) (shown_in (board is_cell) key cells s)

@@ -2,6 +2,7 @@
 use Rattle.std.specs.Prelude.{ℕ, List, length, map, take}
 use Rattle.pfs_admin.specs.declared.changes.Change.{Change}
 use Rattle.pfs_admin.specs.declared.changes.Change.TheVariants as changes
+use Rattle.pfs_admin.specs.Truncations.{action_of}
 use Rattle.pfs_board.specs.declared.view.Label.{Label}
 use Rattle.pfs_classes.specs.declared.setting.Setting.{Setting}
 use Rattle.pfs_conservation.specs.Actions.{moves_of}
@@ -24,6 +25,7 @@ labels_so_far labels so_far = take (length (each_of action_change so_far)) label
 abbrev pub action_for : ℕ → Change → Action
 action_for session (changes.Connect user host) = Connect session user host
 action_for session changes.Quit = Quit session
+action_for session (changes.Truncate what) = action_of what
 action_for session changes.Show = Other
 
 -- the actions of these labels
@@ -34,6 +36,7 @@ actions_of change labels = map (λ (label : Label). action_for label.session (ch
 abbrev pub names_in : Change → Names
 names_in (changes.Connect user host) = record { user = user; host = host }
 names_in changes.Quit = record { user = 0; host = 0 }
+names_in (changes.Truncate what) = record { user = 0; host = 0 }
 names_in changes.Show = record { user = 0; host = 0 }
 
 abbrev pub names_by : (Label → Change) → ℕ → Names

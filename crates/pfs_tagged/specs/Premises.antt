@@ -25,14 +25,18 @@ pub record AreKept (run : Run) : Type 0 where
   pub labelled : AreLabels run.labels (places run.blocks)
   pub brought : AreBrought run.flags (places run.blocks)
 
--- a connect's line connects, a quit's quits, and no other line does
+-- a connect's line connects, a quit's quits, and an SQL text's truncates, as no other line does; a change that only
+-- shows may stand at any line but a connect and a quit
 abbrev pub IsChangeOf : Line → Change → Type 0
 IsChangeOf lines.Connect (changes.Connect user host) = Unit {0}
 IsChangeOf lines.Connect changes.Quit = ⊥
+IsChangeOf lines.Connect (changes.Truncate what) = ⊥
 IsChangeOf lines.Connect changes.Show = ⊥
 IsChangeOf lines.Quit changes.Quit = Unit {0}
 IsChangeOf lines.Quit (changes.Connect user host) = ⊥
+IsChangeOf lines.Quit (changes.Truncate what) = ⊥
 IsChangeOf lines.Quit changes.Show = ⊥
+IsChangeOf lines.Change (changes.Truncate what) = Unit {0}
 IsChangeOf line changes.Show = Unit {0}
 IsChangeOf line change = ⊥
 

@@ -1,17 +1,20 @@
 -- What is said of a run, and what conservation goes by up to a phase's end.
-use Rattle.std.specs.Prelude.{ℕ, ◌≡◌, ◌&&◌, nat_lt, Bool, List, length, fold, filter, Some}
+use Rattle.std.specs.Prelude.{ℕ, ◌≡◌, ◌-◌, ◌==◌, ◌&&◌, nat_lt, cond, Bool, List, [], ◌∷◌, length, fold, filter, Some}
 use Rattle.pfs_admin.specs.declared.changes.Change.{Change}
 use Rattle.pfs_board.specs.declared.view.Label.{Label}
 use Rattle.pfs_classes.specs.declared.setting.Setting.{Setting}
-use Rattle.pfs_conservation.specs.Administration.{Action, numbered}
+use Rattle.pfs_conservation.specs.Administration.{Summary, Action, Truncate, numbered}
 use Rattle.pfs_conservation.specs.Chains.{Sums, with_event, found_by}
 use Rattle.pfs_conservation.specs.Conservation.{counts_after}
+use Rattle.pfs_conservation.specs.Folds.{ByAll}
 use Rattle.pfs_conservation.specs.Laws.{stats}
 use Rattle.pfs_conservation.specs.Lines.{Tagged, chain_of}
 use Rattle.pfs_conservation.specs.Removals.{removal}
 use Rattle.pfs_conservation.specs.Seats.{Numbering, opened_by}
 use Rattle.pfs_conservation.specs.Tables.{Key, KeyThread, KeyAccount, KeyUser, KeyHost, KeyAll, Whose, home_at, leads_at, covers_to}
-use Rattle.pfs_model.specs.Asked.{Answer}
+use Rattle.pfs_event.specs.declared.entry.Entry.{Entry}
+use Rattle.pfs_event.specs.declared.entry.Entry.TheVariants as says
+use Rattle.pfs_model.specs.Chains.{each_of}
 use Rattle.pfs_model.specs.Contents.{Facts, Given}
 use Rattle.pfs_model.specs.Places.{Block, Placed, places, up_to_phase}
 use Rattle.pfs_rows.specs.Tables.{kind_number}
@@ -26,22 +29,21 @@ use Rattle.pfs_tagged.specs.Board.{cells_of, board, limits_of}
 use Rattle.pfs_tagged.specs.Ends.{events_in, measures_in, whose_in}
 use Rattle.pfs_tagged.specs.Tagged.{lines_in}
 
--- A run: its setting; the change of each label, and the labels of its actions; the script's facts of the events, and
--- the answers; which takes found something counted, and the contents of rows at their versions; its blocks; and the
--- flags by which events are put into rings and rows of digests.
+-- A run: its setting; the change of each label, and the labels of its actions; the script's facts of the events; which
+-- takes found something counted, and the contents of rows at their versions; its blocks; and the flags by which events
+-- are put into rings and rows of digests.
 pub record Run : Type 0 where
   pub setting : Setting
   pub change : Label → Change
   pub labels : List Label
   pub facts : ℕ → ℕ → Facts
-  pub answers : ℕ → Answer
   pub counted : ℕ → ℕ → Bool
   pub content : ℕ → ℕ → List ℕ
   pub blocks : List Block
   pub flags : ℕ → ℕ → ℕ
 
 abbrev pub terms_by : Run → Terms
-terms_by run = terms_of run.setting run.change run.facts run.answers run.labels
+terms_by run = terms_of run.setting run.change run.facts run.labels
 
 abbrev pub given_in : Run → Given
 given_in run = given_by (terms_by run) run.blocks
@@ -81,6 +83,21 @@ kept_to run kind phase action row = nat_lt 0 (found_to run kind phase action row
 -- what stands in a row under the phase's end
 abbrev pub stands_to : Run → ℕ → ℕ → Stat
 stands_to run phase row = stat_of_words (run.content row (row_version (entries_to run phase) row))
+
+-- what the printed takes of a row found: what stood there one version before each
+abbrev pub found_at : (ℕ → ℕ → List ℕ) → ℕ → Entry → List Stat
+found_at content row (says.Take taken version) =
+    cond (taken == row) (stat_of_words (content row (version - 1)) ∷ []) []
+found_at content row entry = []
+
+abbrev pub found_takes : Run → ℕ → ℕ → List Stat
+found_takes run phase row = each_of (found_at run.content row) (entries_to run phase)
+
+-- a take of the row is of a TRUNCATE of the kind's global summary
+abbrev pub IsCleared : Run → TableKind → ℕ → ℕ → Placed → Entry → Type 0
+IsCleared run kind phase row place (says.Take taken version) = taken ≡ row
+    → numbered (actions_to run phase) place.context.action ≡ Truncate (Summary (kind_number kind) ByAll)
+IsCleared run kind phase row place entry = Unit {0}
 
 -- the slot of a thread's key is the one that its session's connect printed
 abbrev pub IsKeyOf : Run → Key → Type 0

@@ -1,6 +1,6 @@
 //! Laws of the definitions.
 
-ghost use Rattle.pfs_tagged.specs.Laws.{ActedLaw, AddedLaw, ContentLaw, FoundLaw, SummedLaw};
+ghost use Rattle.pfs_tagged.specs.Laws.{ActedLaw, AddedLaw, ContentLaw, FoundLaw, SummedLaw, DiscardedLaw, ClearedLaw};
 ghost use Rattle.pfs_tagged.specs.Worked.{WorkedTags};
 
 /// The lines of a kind keep the rules of acted lines: their versions are those of chains and rise along a session, the
@@ -44,6 +44,25 @@ pub fn summed()
     pfs_rows::laws::rows();
     pfs_stat::laws::merge();
     pfs_stat::laws::words();
+}
+
+/// What the rows of the global key show of a cell under a phase's end, and what the printed takes of the cell's global
+/// row found, are together the events of the cell that were let through and have ended: each is shown or was discarded
+/// by just one take of that row.
+pub fn discarded()
+    ensures { DiscardedLaw }
+{
+    pfs_conservation::laws::reported_discarded();
+    pfs_rows::laws::rows();
+    pfs_stat::laws::merge();
+    pfs_stat::laws::words();
+}
+
+/// Each printed take of a cell's global row is by a TRUNCATE of the kind's global summary, so no other action discards.
+pub fn cleared()
+    ensures { ClearedLaw }
+{
+    pfs_rows::laws::rows();
 }
 
 /// The lines of a worked run: its waits and its statement, the actions of its sessions, whose the events are, and what

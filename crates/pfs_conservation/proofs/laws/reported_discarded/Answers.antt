@@ -1,0 +1,5 @@
+use Rattle.pfs_conservation.proofs.Acted.{reported_discarded_stats}
+use Rattle.pfs_conservation.proofs.laws.reported_discarded.Goals as goal
+
+pub returns : goal.returns
+returns c = reported_discarded_stats c.merge.ensures
