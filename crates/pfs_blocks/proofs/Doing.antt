@@ -1,6 +1,6 @@
 -- Deeds one after another.
-use Rattle.std.proofs.Common.{ℕ, ◌≡◌, Bool, true, false, List, [], ◌∷◌, ◌++◌, Option, Some, None, refl, ap, sym, ◌∙◌, subst}
-use Rattle.pfs_actions.specs.Done.{HasDone, HasActed}
+use Rattle.std.proofs.Common.{◌≡◌, Bool, false, List, [], ◌∷◌, ◌++◌, refl, ap, sym, ◌∙◌, subst}
+use Rattle.pfs_actions.specs.Done.{HasActed}
 use Rattle.pfs_actions.proofs.Joining.{nothing, then}
 use Rattle.pfs_levels.specs.Calls.{Call, Opening}
 use Rattle.pfs_parts.specs.Deeds.{Deed, Part, MayDo, is_over}

@@ -2,11 +2,10 @@
 use Rattle.std.proofs.Common.{ℕ, ◌≡◌, Bool, true, false, List, [], ◌∷◌, ◌++◌, Option, Some, None, refl, ap, sym, ◌∙◌, subst, append_assoc}
 use Rattle.std.proofs.lemmas.List.{append-nil, same_from_push}
 use Rattle.pfs_event.specs.declared.kind.EventKind.{EventKind}
-use Rattle.pfs_play.specs.Errands.{MayPlay, is_quit, kinds_after}
+use Rattle.pfs_play.specs.Errands.{kinds_after}
 use Rattle.pfs_play.specs.Repeats.{AllMayPlay}
-use Rattle.pfs_play.proofs.Writing.{written_plain, written_begin, may_plain, may_begin}
 use Rattle.pfs_script.specs.Brackets.{kinds_behind}
-use Rattle.pfs_script.specs.Marks.{Repeated, mark_of, is_done, repeats_of, copies, written_from, written_out}
+use Rattle.pfs_script.specs.Marks.{Repeated, mark_of, copies, written_from, written_out}
 use Rattle.pfs_script.specs.declared.blocks.BlockLine.{BlockLine}
 use Rattle.pfs_script.specs.declared.blocks.BlockLine.TheVariants as said
 use Rattle.pfs_playable.specs.Playable.{end_of}

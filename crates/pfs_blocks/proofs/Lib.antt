@@ -3,4 +3,3 @@ mod Doing
 pub mod Ending
 mod Lines
 pub mod WrittenKinds
-mod Width

@@ -1,14 +1,13 @@
 -- What a session does at a block of a script.
-use Rattle.std.specs.Prelude.{ℕ, ◌≡◌, ◌≤◌, ◌<◌, ◌+◌, ◌^◌, Bool, true, false, List, [], ◌∷◌, ◌++◌, length, map, Option, Some, None, IfSome}
+use Rattle.std.specs.Prelude.{ℕ, ◌≡◌, ◌<◌, Bool, true, false, List, [], ◌++◌, length, None}
 use Rattle.pfs_actions.specs.Done.{HasDone}
 use Rattle.pfs_admin.specs.States.{State as Administration}
-use Rattle.pfs_course.specs.Course.{connected_by, deeds_in, deeds_of, ended_by}
+use Rattle.pfs_course.specs.Course.{connected_by, deeds_along, deeds_in, deeds_of, ended_by}
 use Rattle.pfs_event.specs.declared.kind.EventKind.{EventKind}
-use Rattle.pfs_facts.specs.Deeds.{deed_on}
 use Rattle.pfs_levels.specs.Calls.{Call, Opening}
 use Rattle.pfs_parts.specs.Deeds.{Deed, Part}
 use Rattle.pfs_parts.specs.Shaped.{MayDoAll, over_behind}
-use Rattle.pfs_play.specs.Errands.{kinds_after}
+use Rattle.pfs_play.specs.Errands.{admin_after, kinds_after}
 use Rattle.pfs_play.specs.Repeats.{AllMayPlay}
 use Rattle.pfs_playable.specs.Playable.{end_of}
 use Rattle.pfs_script.specs.declared.blocks.Block.{Block}
@@ -30,15 +29,16 @@ pub record HasDeeds (deeds : List Deed) (over : Bool) (old new : Book) (was now 
 pub record HasEnded (lines : List BlockLine) (admin after : Administration) (old new : Book) (was now : Opening
     → List Call → Type 0) : Type 0 where
   pub over : Bool
-  pub did : HasDeeds (map (deed_on admin) (written_out lines)) over old new was now
-  pub after_is : after ≡ ended_by admin old.state.number over
+  pub did : HasDeeds (deeds_along admin (written_out lines)) over old new was now
+  pub after_is : after ≡ ended_by (admin_after admin (written_out lines)) old.state.number over
 
 -- and it did a whole block
 pub record HasPlayed (block : Block) (admin after : Administration) (old new : Book) (was now : Opening → List Call
     → Type 0) : Type 0 where
   pub over : Bool
   pub did : HasDeeds (deeds_of admin old.state.number block.connect (written_out block.lines)) over old new was now
-  pub after_is : after ≡ ended_by (connected_by admin old.state.number block.connect) old.state.number over
+  pub after_is : after ≡ ended_by
+      (admin_after (connected_by admin old.state.number block.connect) (written_out block.lines)) old.state.number over
 
 -- a session that may connect with these names: it has had no action, and has nothing open
 pub record MayConnect (s : State) (admin : Administration) (names : Connect) : Type 0 where

@@ -3,7 +3,7 @@
 ghost use Rattle.std.specs.Prelude.{◌≡◌, ◌<◌, ◌≤◌, ◌+◌, ◌*◌, ◌^◌, ◌++◌, ◌∷◌, ℕ, List, [], Bool, true, false, None, Some, IfSome, MatchOption, length, map};
 ghost use Rattle.pfs_admin.specs.Works.{Leaves};
 ghost use Rattle.pfs_facts.specs.Steps.{kinds_at};
-ghost use Rattle.pfs_play.specs.Errands.{StagesLie, kinds_after, cost_on};
+ghost use Rattle.pfs_play.specs.Errands.{StagesLie, actions_on, cost_on, kinds_after};
 ghost use Rattle.pfs_script.specs.Marks.{written_out};
 ghost use Rattle.pfs_script.specs.declared.blocks.BlockLine.{BlockLine as Line};
 ghost use Rattle.pfs_script.specs.declared.blocks.BlockLine.TheVariants as said;
@@ -79,11 +79,11 @@ fn play_and_quit<A: Acts>(
     requires lie { StagesLie (kinds_at session.old.state) }
     requires wide { length session.old.state.held ≡ 193 }
     requires early { session.old.state.drawn + length (written_out body.now) < 2 ^ 64 }
-    requires rare { session.old.state.actions + 1 < 2 ^ 64 }
-    requires few { admin.old.actions < 2 ^ 47 }
+    requires rare { session.old.state.actions + actions_on (written_out body.now) + 1 < 2 ^ 64 }
+    requires few { admin.old.actions + actions_on (written_out body.now) < 2 ^ 47 }
     requires idle { (r : ℕ) → A.hand rows.old r ≡ None }
     requires lent { A.words rows.old ≡ Some admin.old.words }
-    requires spare { 2 * length (written_out body.now) + 390 ≤ A.left rows.old }
+    requires spare { 2 * length (written_out body.now) + 20192 * actions_on (written_out body.now) + 390 ≤ A.left rows.old }
     requires room { cost_on (written_out body.now) + 392 ≤ session.old.journal.room }
     ensures did { HasEnded (body.now ++ said.Quit ∷ []) admin.old admin.new session.old session.new
         (A.reached rows.old) (A.reached rows.new) }
@@ -91,15 +91,16 @@ fn play_and_quit<A: Acts>(
     ensures drawn { session.new.state.drawn ≤ session.old.state.drawn + length (written_out body.now) }
     ensures number { session.new.state.number ≡ session.old.state.number }
     ensures depth { session.new.state.opened.depth ≡ session.old.state.opened.depth }
-    ensures actions { session.new.state.actions ≤ session.old.state.actions + 1 }
-    ensures counted { admin.new.actions ≤ admin.old.actions + 1 }
+    ensures actions { session.new.state.actions ≤ session.old.state.actions + actions_on (written_out body.now) + 1 }
+    ensures counted { admin.new.actions ≤ admin.old.actions + actions_on (written_out body.now) + 1 }
     ensures wide { length session.new.state.held ≡ 193 }
-    ensures leaves { Leaves (2 * length (written_out body.now) + 390) (cost_on (written_out body.now) + 392)
+    ensures leaves { Leaves (2 * length (written_out body.now) + 20192 * actions_on (written_out body.now) + 390)
+        (cost_on (written_out body.now) + 392)
         (A.hand rows.old) (A.hand rows.new) (A.left rows.old) (A.left rows.new) (A.draws rows.old)
         (A.draws rows.new) (A.name rows.old) (A.name rows.new) session.old.journal session.new.journal }
     ensures lent { A.words rows.new ≡ Some admin.new.words }
 {
-    play_written(session, rows, body);
+    play_written(session, rows, admin, body);
     quit(session, rows, admin);
 }
 
@@ -109,11 +110,11 @@ fn play_to_end<A: Acts>(session: &mut Session, rows: &mut A, admin: &mut Admin, 
     requires lie { StagesLie (kinds_at session.old.state) }
     requires wide { length session.old.state.held ≡ 193 }
     requires early { session.old.state.drawn + length (written_out lines.now) < 2 ^ 64 }
-    requires rare { session.old.state.actions + 1 < 2 ^ 64 }
-    requires few { admin.old.actions < 2 ^ 47 }
+    requires rare { session.old.state.actions + actions_on (written_out lines.now) + 1 < 2 ^ 64 }
+    requires few { admin.old.actions + actions_on (written_out lines.now) < 2 ^ 47 }
     requires idle { (r : ℕ) → A.hand rows.old r ≡ None }
     requires lent { A.words rows.old ≡ Some admin.old.words }
-    requires spare { 2 * length (written_out lines.now) + 390 ≤ A.left rows.old }
+    requires spare { 2 * length (written_out lines.now) + 20192 * actions_on (written_out lines.now) + 390 ≤ A.left rows.old }
     requires room { cost_on (written_out lines.now) + 392 ≤ session.old.journal.room }
     ensures did { HasEnded lines.now admin.old admin.new session.old session.new (A.reached rows.old)
         (A.reached rows.new) }
@@ -122,17 +123,18 @@ fn play_to_end<A: Acts>(session: &mut Session, rows: &mut A, admin: &mut Admin, 
     ensures drawn { session.new.state.drawn ≤ session.old.state.drawn + length (written_out lines.now) }
     ensures number { session.new.state.number ≡ session.old.state.number }
     ensures depth { session.new.state.opened.depth ≡ session.old.state.opened.depth }
-    ensures actions { session.new.state.actions ≤ session.old.state.actions + 1 }
-    ensures counted { admin.new.actions ≤ admin.old.actions + 1 }
+    ensures actions { session.new.state.actions ≤ session.old.state.actions + actions_on (written_out lines.now) + 1 }
+    ensures counted { admin.new.actions ≤ admin.old.actions + actions_on (written_out lines.now) + 1 }
     ensures wide { length session.new.state.held ≡ 193 }
-    ensures leaves { Leaves (2 * length (written_out lines.now) + 390) (cost_on (written_out lines.now) + 392)
+    ensures leaves { Leaves (2 * length (written_out lines.now) + 20192 * actions_on (written_out lines.now) + 390)
+        (cost_on (written_out lines.now) + 392)
         (A.hand rows.old) (A.hand rows.new) (A.left rows.old) (A.left rows.new) (A.draws rows.old)
         (A.draws rows.new) (A.name rows.old) (A.name rows.new) session.old.journal session.new.journal }
     ensures lent { A.words rows.new ≡ Some admin.new.words }
 {
     match before_quit(lines) {
         Some(body) => play_and_quit(session, rows, admin, body),
-        None => play_written(session, rows, lines),
+        None => play_written(session, rows, admin, lines),
     }
 }
 
@@ -149,11 +151,11 @@ pub fn play_block<A: Acts>(
     requires lie { StagesLie (kinds_at session.state) }
     requires free { session.state.held ≡ nothing_held }
     requires early { session.state.drawn + length (written_out block.now.lines) < 2 ^ 64 }
-    requires rare { session.state.actions + 2 < 2 ^ 64 }
-    requires few { admin.old.actions + 1 < 2 ^ 47 }
+    requires rare { session.state.actions + actions_on (written_out block.now.lines) + 2 < 2 ^ 64 }
+    requires few { admin.old.actions + actions_on (written_out block.now.lines) + 1 < 2 ^ 47 }
     requires idle { (r : ℕ) → A.hand rows.old r ≡ None }
     requires lent { A.words rows.old ≡ Some admin.old.words }
-    requires spare { 2 * length (written_out block.now.lines) + 588 ≤ A.left rows.old }
+    requires spare { 2 * length (written_out block.now.lines) + 20192 * actions_on (written_out block.now.lines) + 588 ≤ A.left rows.old }
     requires room { cost_on (written_out block.now.lines) + 592 ≤ session.journal.room }
     ensures did { length admin.old.kept.now.places.threads ≤ 32
         → HasPlayed block.now admin.old admin.new session result (A.reached rows.old) (A.reached rows.new) }
@@ -163,9 +165,9 @@ pub fn play_block<A: Acts>(
     ensures drawn { result.state.drawn ≤ session.state.drawn + length (written_out block.now.lines) }
     ensures number { result.state.number ≡ session.state.number }
     ensures depth { result.state.opened.depth ≡ session.state.opened.depth }
-    ensures actions { result.state.actions ≤ session.state.actions + 2 }
-    ensures counted { admin.new.actions ≤ admin.old.actions + 2 }
-    ensures leaves { Leaves (2 * length (written_out block.now.lines) + 588)
+    ensures actions { result.state.actions ≤ session.state.actions + actions_on (written_out block.now.lines) + 2 }
+    ensures counted { admin.new.actions ≤ admin.old.actions + actions_on (written_out block.now.lines) + 2 }
+    ensures leaves { Leaves (2 * length (written_out block.now.lines) + 20192 * actions_on (written_out block.now.lines) + 588)
         (cost_on (written_out block.now.lines) + 592) (A.hand rows.old) (A.hand rows.new) (A.left rows.old)
         (A.left rows.new) (A.draws rows.old) (A.draws rows.new) (A.name rows.old) (A.name rows.new) session.journal
         result.journal }

@@ -165,8 +165,8 @@ over_is : (admin : Administration) (one : PhasedBlock) (has : HasQuietLines one.
     → deeds_in ps ≡ deeds_of admin one.block.session one.block.connect (has.quiet ++ end_of has.quits) → over_behind false ps ≡ has.quits
 over_is admin one has ps deeds =
     let session : ℕ = one.block.session in
-    let led : IsLed 0 admin session one.block.connect has.quits (point_behind session (point_of 0 admin) (deeds_in ps)) =
-    subst (λ z. IsLed 0 admin session one.block.connect has.quits (point_behind session (point_of 0 admin) z)) (sym deeds) (block_leads session 0 admin one.block.connect has.quiet has.quits has.are_quiet) in
+    let led : IsLed 0 admin session one.block.connect (has.quiet ++ end_of has.quits) has.quits (point_behind session (point_of 0 admin) (deeds_in ps)) =
+    subst (λ z. IsLed 0 admin session one.block.connect (has.quiet ++ end_of has.quits) has.quits (point_behind session (point_of 0 admin) z)) (sym deeds) (block_leads session 0 admin one.block.connect has.quiet has.quits has.are_quiet) in
     over_there session (point_of 0 admin) ps ∙ led.over_is
 
 still_none : (setting : Setting) (change : Label → Change) (depths : ℕ → ℕ) (done : List PhasedBlock) (spells : List Spell) (admin : Administration) (one : PhasedBlock) (doings : List Doing) (ahead : List PhasedBlock)

@@ -4,6 +4,7 @@ use Rattle.std.proofs.lemmas.List.{append-nil}
 use Rattle.pfs_admin.specs.Asks.{connect_entry, work_of_connect, work_of_quit}
 use Rattle.pfs_admin.specs.States.{seat_at}
 use Rattle.pfs_admin.specs.States.{State as Administration}
+use Rattle.pfs_admin.specs.Truncations.{work_of_truncation}
 use Rattle.pfs_admin.specs.Works.{Work, signs_entries, flagging_entries}
 use Rattle.pfs_event.specs.Verdicts.{is_let_through}
 use Rattle.pfs_event.specs.declared.entry.Entry.{Entry}
@@ -28,14 +29,15 @@ use Rattle.pfs_parts.proofs.Pieces.{is_plain}
 use Rattle.pfs_parts.proofs.Settled.{ArePlain, settle_plain}
 use Rattle.pfs_parts.proofs.Written.{turned_agrees, does_at, has_stage, ends_by}
 use Rattle.pfs_parts.specs.Agreeing.{AreAlike, Agrees, Stands}
-use Rattle.pfs_parts.specs.Deeds.{Deed, Connecting, Starting, Staging, StageEnding, Ending, Spending, Quitting, Closing, Part, IsPart, MayDo, line_of, steps_for, part_entries}
+use Rattle.pfs_parts.specs.Deeds.{Deed, Connecting, Starting, Staging, StageEnding, Ending, Spending, Quitting, Truncating, Closing, Part, IsPart, MayDo, line_of, steps_for, part_entries}
 use Rattle.pfs_session.specs.Ends.{Ends, EndsIn, added_entry, cell_in, no_numbers}
 use Rattle.pfs_session.specs.Settles.{Settles, Paid, owed_by, owed_by_state, settle_head, paid_entries}
 use Rattle.pfs_session.specs.Starts.{Starts, start_entry, verdict_in}
 use Rattle.pfs_session.specs.States.{State, Owed}
-use Rattle.pfs_session.specs.Turns.{StartsEvent, EndsEvent, Spends, SettlesHeld, Connects, Quits, Works, Turn, AreTurns, steps_of, turns_entries, stage_ends}
+use Rattle.pfs_session.specs.Turns.{StartsEvent, EndsEvent, Spends, SettlesHeld, Connects, Quits, Truncates, Truncated, Works, Turn, AreTurns, steps_of, turns_entries, stage_ends}
 use Rattle.pfs_session.specs.declared.events.Numbers.{Numbers}
 use Rattle.pfs_session.specs.declared.setup.Setup.{Setup}
+use Rattle.pfs_truncations.specs.declared.truncations.Truncation.{Truncation}
 use Rattle.pfs_course.proofs.Dues.{own_dues, PaidAt, front_of, AllPaid, front_then, paid_then}
 
 -- entries that bring what is due, and begin a line or an event where there are some
@@ -71,6 +73,20 @@ works_bring : (subject : Option Subject) (context : Context) (work : Work) (word
 works_bring subject context work words head calls entries is plain w =
     subst (Brings subject context) (sym w.entries_are)
     (plain_brings subject context head (moves_entries w.moves ++ (signs_entries w.made ++ flagging_entries words work.flags)) is plain (quiet_plains _ (work_quiet w.moves w.made words work.flags)))
+
+-- a truncation's answer stands behind what it changes
+plain_more : (es : List Entry) (e : Entry) → ArePlain es → is_plain e ≡ true → ArePlain (es ++ e ∷ [])
+plain_more [] e are one = (one, tt)
+plain_more (x ∷ xs) e are one = (are.0, plain_more xs e are.1 one)
+
+truncated_bring : (subject : Option Subject) (context : Context) (s : State) (admin : Administration) (what : Truncation) (calls : List Call) (entries : List Entry) (after : State) → Truncated s admin what calls entries after
+    → Brings subject context entries
+truncated_bring subject context s admin what calls entries after d =
+    let w = d.works in
+    let changes : List Entry = moves_entries w.moves ++ (signs_entries w.made ++ flagging_entries admin.words (work_of_truncation admin what).flags) in
+    subst (Brings subject context) (sym (d.entries_are ∙ ap (λ (z : List Entry). z ++ says.Reply 0 ∷ []) w.entries_are))
+    (plain_brings subject context (says.Act (admin.actions + 1)) (changes ++ says.Reply 0 ∷ []) refl refl
+    (plain_more changes (says.Reply 0) (quiet_plains _ (work_quiet w.moves w.made admin.words (work_of_truncation admin what).flags)) refl))
 
 -- settling
 not_none : {A : Type 0} (xs : List A) (x : A) → xs ++ x ∷ [] ≡ [] → ⊥
@@ -204,6 +220,17 @@ module _ (flags : ℕ → ℕ → ℕ) (line : Line) (context : Context) (s : St
       (brings_then (subject_of line) context t.entries u.entries (settles_bring (subject_of line) context s t.calls t.entries t.after settles)
       (works_bring (subject_of line) _ (work_of_quit admin t.after.number) admin.words (says.Act (admin.actions + 1)) u.calls u.entries refl refl d.0))
 
+  by_truncate : (admin : Administration) (what : Truncation) → steps_of turns ≡ SettlesHeld ∷ Truncates admin what ∷ [] → Done
+  by_truncate admin what e =
+      let o : TwoTurns turns SettlesHeld (Truncates admin what) = two_turns turns SettlesHeld (Truncates admin what) e in
+      let t : Turn = o.first in
+      let u : Turn = o.second in
+      let ours : AreTurns s (u ∷ t ∷ []) = subst (AreTurns s) o.is are in
+      let settles : Settles s t.calls t.entries t.after = does_at s t SettlesHeld o.first_is ours.1.0 in
+      subst (λ z. Brings (subject_of line) context (turns_entries z)) (sym o.is)
+      (brings_then (subject_of line) context t.entries u.entries (settles_bring (subject_of line) context s t.calls t.entries t.after settles)
+      (truncated_bring (subject_of line) _ t.after admin what u.calls u.entries u.after (does_at t.after u (Truncates admin what) o.second_is ours.0)))
+
   by_end_start : (numbers : Numbers) (what : Subject) → Agrees flags context s → steps_of turns ≡ EndsEvent numbers ∷ StartsEvent what ∷ [] → Done
   by_end_start numbers what a e =
       let o : TwoTurns turns (EndsEvent numbers) (StartsEvent what) = two_turns turns (EndsEvent numbers) (StartsEvent what) e in
@@ -257,6 +284,7 @@ deed_brings flags over context s turns (Ending numbers) stands may are steps =
     by_ending flags (line_of (Ending numbers)) (turned context) s turns are numbers (has_stage s.opened.events) refl (agrees_at flags over context s may stands) steps
 deed_brings flags over context s turns (Spending time) stands may are steps = by_spend flags (line_of (Spending time)) (turned context) s turns are time steps
 deed_brings flags over context s turns (Quitting admin) stands may are steps = by_quit flags (line_of (Quitting admin)) (turned context) s turns are admin steps
+deed_brings flags over context s turns (Truncating admin what) stands may are steps = by_truncate flags (line_of (Truncating admin what)) (turned context) s turns are admin what steps
 deed_brings flags over context s turns Closing stands may are steps = by_settle flags (line_of Closing) (turned context) s turns are steps
 
 pub part_brings : (flags : ℕ → ℕ → ℕ) (over : Bool) (context : Context) (s : State) (p : Part) → Stands flags over context s → MayDo over s p.deed → IsPart s p

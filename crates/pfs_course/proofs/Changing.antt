@@ -13,7 +13,7 @@ use Rattle.pfs_script.specs.declared.blocks.Phase.{Phase}
 use Rattle.pfs_script.specs.Events.{blocks_for}
 use Rattle.pfs_course.specs.Course.{PhasedBlock, phased, numbered, own_blocks, own_changes}
 use Rattle.pfs_course.proofs.Naming.{AreAsked, asked_there, asked_by}
-use Rattle.pfs_course.proofs.QuietLines.{HasQuietLines, no_changes}
+use Rattle.pfs_course.proofs.QuietLines.{HasQuietLines}
 
 pub own_then : (session : ℕ) (xs ys : List PhasedBlock) → own_blocks session (xs ++ ys) ≡ own_blocks session xs ++ own_blocks session ys
 own_then session [] ys = refl
@@ -46,11 +46,8 @@ own_numbered session number (phase ∷ phases) =
     ∙ sym (filter-append (is_own session) phase.blocks (flat_map (λ (one : Phase). one.blocks) phases))))
 
 -- the changes of a block
-pub block_changes : (block : Block) (has : HasQuietLines block.lines) → changes_in block ≡ asked_by block.connect has.quits
-block_changes block has =
-    ap (λ z. connect_changes block.connect ++ flat_map changes_on z) has.written
-    ∙ ap (λ z. connect_changes block.connect ++ z)
-    (flat_map-append changes_on has.quiet (end_of has.quits) ∙ ap (λ z. z ++ flat_map changes_on (end_of has.quits)) (no_changes has.quiet has.are_quiet))
+pub block_changes : (block : Block) (has : HasQuietLines block.lines) → changes_in block ≡ asked_by block.connect (has.quiet ++ end_of has.quits)
+block_changes block has = ap (λ z. connect_changes block.connect ++ flat_map changes_on z) has.written
 
 here_then : (session : ℕ) (done rest : List PhasedBlock) (one : PhasedBlock) → one.block.session ≡ session → own_blocks session (done ++ one ∷ rest) ≡ own_blocks session done ++ one.block ∷ own_blocks session rest
 here_then session done rest one e =
@@ -59,7 +56,7 @@ here_then session done rest one e =
 
 -- and those of the session
 pub asked_here : (phases : List Phase) (done rest : List PhasedBlock) (one : PhasedBlock) (has : HasQuietLines one.block.lines) → numbered 1 phases ≡ done ++ one ∷ rest
-    → AreAsked (change_in phases) one.block.session (length (own_changes one.block.session done)) (asked_by one.block.connect has.quits)
+    → AreAsked (change_in phases) one.block.session (length (own_changes one.block.session done)) (asked_by one.block.connect (has.quiet ++ end_of has.quits))
 asked_here phases done rest one has e =
     let session : ℕ = one.block.session in
     let all : List Change = flat_map changes_in (blocks_for session phases) in
@@ -67,7 +64,7 @@ asked_here phases done rest one has e =
     let after : List Change = own_changes session rest in
     let blocks : blocks_for session phases ≡ own_blocks session done ++ one.block ∷ own_blocks session rest =
     sym (own_numbered session 1 phases) ∙ (ap (own_blocks session) e ∙ here_then session done rest one refl) in
-    let split : all ≡ before ++ (asked_by one.block.connect has.quits ++ after) =
+    let split : all ≡ before ++ (asked_by one.block.connect (has.quiet ++ end_of has.quits) ++ after) =
     ap (flat_map changes_in) blocks
     ∙ (flat_map-append changes_in (own_blocks session done) (one.block ∷ own_blocks session rest) ∙ ap (λ z. before ++ (z ++ after)) (block_changes one.block has)) in
-    asked_there (change_in phases) session all (λ line. refl) (length before) before (asked_by one.block.connect has.quits) after split refl
+    asked_there (change_in phases) session all (λ line. refl) (length before) before (asked_by one.block.connect (has.quiet ++ end_of has.quits)) after split refl

@@ -1,11 +1,12 @@
 -- The parts of a session do the script's lines of it, one after another.
-use Rattle.std.proofs.Common.{ℕ, ◌≡◌, ◌==◌, Bool, true, false, cond, List, [], ◌∷◌, ◌++◌, map, Option, Some, None, refl, sym, subst}
+use Rattle.std.proofs.Common.{ℕ, ◌≡◌, ◌==◌, Bool, true, false, cond, List, [], ◌∷◌, ◌++◌, Option, Some, None, refl, ap, sym, subst}
 use Rattle.std.specs.List.{flat_map}
 use Rattle.pfs_admin.specs.States.{State as Administration}
 use Rattle.pfs_alone.specs.Spells.{Spell, parts_in, stints_of}
-use Rattle.pfs_facts.specs.Deeds.{deed_on, IsNext, AreDeeds}
-use Rattle.pfs_parts.specs.Deeds.{Deed, Connecting, Starting, Staging, StageEnding, Ending, Spending, Quitting, Closing, Part}
+use Rattle.pfs_facts.specs.Deeds.{deed_on, sql_deed, IsNext, AreDeeds}
+use Rattle.pfs_parts.specs.Deeds.{Deed, Connecting, Starting, Staging, StageEnding, Ending, Spending, Quitting, Truncating, Closing, Part}
 use Rattle.pfs_parts.specs.Stints.{parts_by}
+use Rattle.pfs_play.specs.Errands.{admin_behind, errand_on}
 use Rattle.pfs_script.specs.declared.blocks.Block.{Block}
 use Rattle.pfs_script.specs.declared.blocks.BlockLine.{BlockLine}
 use Rattle.pfs_script.specs.declared.blocks.BlockLine.TheVariants as said
@@ -13,7 +14,9 @@ use Rattle.pfs_script.specs.declared.blocks.Connect.{Connect}
 use Rattle.pfs_script.specs.declared.blocks.Phase.{Phase}
 use Rattle.pfs_script.specs.Events.{lines_for}
 use Rattle.pfs_script.specs.Marks.{written_out}
-use Rattle.pfs_course.specs.Course.{PhasedBlock, numbered, own_blocks, connected_by, deeds_of, deeds_in, IsSpellOf, AreSpellsOf}
+use Rattle.pfs_truncations.specs.Texts.{truncation_of}
+use Rattle.pfs_truncations.specs.declared.truncations.Truncation.{Truncation}
+use Rattle.pfs_course.specs.Course.{PhasedBlock, numbered, own_blocks, connected_by, deeds_along, deeds_of, deeds_in, IsSpellOf, AreSpellsOf}
 use Rattle.pfs_course.proofs.Changing.{own_numbered}
 
 -- deeds do lines as parts do
@@ -30,12 +33,14 @@ next_as [] StageEnding some other f n = absurd n
 next_as [] (Ending numbers) some other f n = absurd n
 next_as [] (Spending time) some other f n = absurd n
 next_as [] (Quitting admin) some other f n = absurd n
+next_as [] (Truncating admin what) some other f n = absurd n
 next_as (line ∷ lines) (Starting subject) some other f n = (n.0, f lines n.1)
 next_as (line ∷ lines) (Staging subject) some other f n = (n.0, f lines n.1)
 next_as (line ∷ lines) StageEnding some other f n = (n.0, f lines n.1)
 next_as (line ∷ lines) (Ending numbers) some other f n = (n.0, f lines n.1)
 next_as (line ∷ lines) (Spending time) some other f n = (n.0, f lines n.1)
 next_as (line ∷ lines) (Quitting admin) some other f n = (n.0, f lines n.1)
+next_as (line ∷ lines) (Truncating admin what) some other f n = (n.0, f lines n.1)
 
 next_then : (lines more : List BlockLine) (deed : Deed) (some other : List BlockLine → Type 0) → ((rest : List BlockLine) → some rest → other (rest ++ more)) → IsNext lines deed some
     → IsNext (lines ++ more) deed other
@@ -47,12 +52,14 @@ next_then [] more StageEnding some other f n = absurd n
 next_then [] more (Ending numbers) some other f n = absurd n
 next_then [] more (Spending time) some other f n = absurd n
 next_then [] more (Quitting admin) some other f n = absurd n
+next_then [] more (Truncating admin what) some other f n = absurd n
 next_then (line ∷ lines) more (Starting subject) some other f n = (n.0, f lines n.1)
 next_then (line ∷ lines) more (Staging subject) some other f n = (n.0, f lines n.1)
 next_then (line ∷ lines) more StageEnding some other f n = (n.0, f lines n.1)
 next_then (line ∷ lines) more (Ending numbers) some other f n = (n.0, f lines n.1)
 next_then (line ∷ lines) more (Spending time) some other f n = (n.0, f lines n.1)
 next_then (line ∷ lines) more (Quitting admin) some other f n = (n.0, f lines n.1)
+next_then (line ∷ lines) more (Truncating admin what) some other f n = (n.0, f lines n.1)
 
 parts_do : (lines : List BlockLine) (ps : List Part) → Do lines (deeds_in ps) → AreDeeds lines ps
 parts_do lines [] d = d
@@ -63,13 +70,20 @@ deeds_then lines more [] qs a b = subst (λ z. AreDeeds (z ++ more) qs) (sym a) 
 deeds_then lines more (p ∷ ps) qs a b = next_then lines more p.deed (λ rest. AreDeeds rest ps) (λ rest. AreDeeds rest (ps ++ qs)) (λ rest d. deeds_then rest more ps qs d b) a
 
 -- those of a block
+sql_next : (admin : Administration) (text : List ℕ) (lines : List BlockLine) (rest : List BlockLine → Type 0) (what : Option Truncation) → truncation_of text ≡ what → rest lines → IsNext (said.Sql text ∷ lines) (sql_deed admin what) rest
+sql_next admin text lines rest None e r = (record { admin = admin; is = ap (sql_deed admin) (sym e) }, r)
+sql_next admin text lines rest (Some what) e r = (record { admin = admin; is = ap (sql_deed admin) (sym e) }, r)
+
 line_next : (admin : Administration) (line : BlockLine) (lines : List BlockLine) (rest : List BlockLine → Type 0) → rest lines → IsNext (line ∷ lines) (deed_on admin line) rest
 line_next admin said.Quit lines rest r = (record { admin = admin; is = refl }, r)
+line_next admin (said.Sql text) lines rest r = sql_next admin text lines rest (truncation_of text) refl r
 line_next admin _ lines rest r = (record { admin = admin; is = refl }, r)
 
-body_do : (admin : Administration) (lines : List BlockLine) → Do lines (map (deed_on admin) lines ++ Closing ∷ [])
+body_do : (admin : Administration) (lines : List BlockLine) → Do lines (deeds_along admin lines ++ Closing ∷ [])
 body_do admin [] = refl
-body_do admin (line ∷ lines) = line_next admin line lines (λ rest. Do rest (map (deed_on admin) lines ++ Closing ∷ [])) (body_do admin lines)
+body_do admin (line ∷ lines) =
+    let next : Administration = admin_behind admin (errand_on line) in
+    line_next admin line lines (λ rest. Do rest (deeds_along next lines ++ Closing ∷ [])) (body_do next lines)
 
 block_do : (admin : Administration) (session : ℕ) (connect : Option Connect) (lines : List BlockLine) → Do lines (deeds_of admin session connect lines)
 block_do admin session None lines = body_do admin lines

@@ -49,9 +49,11 @@ unfolding written_from
 quitting_deeds admin = refl
 
 waiting_behind : (admin : Administration) → behind_block admin waiting false ≡ connected admin 1 0 1
+unfolding written_from
 waiting_behind admin = refl
 
 quitting_behind : (admin : Administration) → behind_block admin quitting true ≡ has_quit admin 1
+unfolding written_from
 quitting_behind admin = refl
 
 -- what is told of three spells: one wrote an entry, the others nothing

@@ -8,13 +8,14 @@ use Rattle.pfs_admin.proofs.Folding.{step_law, count_law}
 use Rattle.pfs_admin.specs.Fold.{state_of}
 use Rattle.pfs_admin.specs.States.{connected, has_quit}
 use Rattle.pfs_admin.specs.States.{State as Administration}
+use Rattle.pfs_admin.specs.Truncations.{has_truncated}
 use Rattle.pfs_admin.specs.declared.changes.Change.{Change}
-use Rattle.pfs_admin.specs.declared.changes.Change.TheVariants.{Connect, Quit}
+use Rattle.pfs_admin.specs.declared.changes.Change.TheVariants.{Connect, Quit, Truncate}
 use Rattle.pfs_alone.specs.Spells.{Doing, Spell, parts_in, label_of, IsEntered, AreEntered}
 use Rattle.pfs_board.specs.declared.view.Label.{Label}
 use Rattle.pfs_classes.specs.declared.setting.Setting.{Setting}
 use Rattle.pfs_parts.proofs.Journaling.{turns_number}
-use Rattle.pfs_parts.specs.Deeds.{Deed, Connecting, Starting, Staging, StageEnding, Ending, Spending, Quitting, Closing, Part, action_of, is_over}
+use Rattle.pfs_parts.specs.Deeds.{Deed, Connecting, Starting, Staging, StageEnding, Ending, Spending, Quitting, Truncating, Closing, Part, action_of, is_over}
 use Rattle.pfs_parts.specs.Shaped.{AreParts, state_behind, over_behind}
 use Rattle.pfs_ruled.specs.Folded.{FoldsTo, DoingsFolded, ConnectsFirst, DoingsConnectFirst}
 use Rattle.pfs_ruled.proofs.Entering.{label_by, labels_in, all_labels, AreBehind, AllBehind}
@@ -32,6 +33,7 @@ pub record Point : Type 0 where
 abbrev pub admin_by : ℕ → Administration → Deed → Administration
 admin_by session admin (Connecting at user host) = connected admin session user host
 admin_by session admin (Quitting at) = has_quit admin session
+admin_by session admin (Truncating at what) = has_truncated admin what
 admin_by session admin (Starting subject) = admin
 admin_by session admin (Staging subject) = admin
 admin_by session admin StageEnding = admin
@@ -55,6 +57,7 @@ abbrev pub Names : (Label → Change) → ℕ → Point → Deed → Type 0
 Names change session point (Connecting admin user host) =
     (admin ≡ point.admin) × (change (record { session = session; line = point.made + 1 }) ≡ Connect user host) × (point.made ≡ 0)
 Names change session point (Quitting admin) = (admin ≡ point.admin) × (change (record { session = session; line = point.made + 1 }) ≡ Quit)
+Names change session point (Truncating admin what) = (admin ≡ point.admin) × (change (record { session = session; line = point.made + 1 }) ≡ Truncate what)
 Names change session point (Starting subject) = Unit {0}
 Names change session point (Staging subject) = Unit {0}
 Names change session point StageEnding = Unit {0}
@@ -105,6 +108,15 @@ follows_one setting change session point labels s label own (Quitting at) number
       entered = (counts setting change labels own at point.admin behind stands names.0, labelled);
       first = tt;
       admin_is = (step_law session Quit point.admin).stands setting change labels label (ap (λ (l : Label). l.session) is) asked stands;
+    }
+follows_one setting change session point labels s label own (Truncating at what) number actions labelled behind stands names =
+    let is : label ≡ record { session = session; line = point.made + 1 } = label_is session point.made s label number actions labelled in
+    let asked : change label ≡ Truncate what = ap change is ∙ names.1 in
+    record {
+      folded = (names.0 ∙ (stands ∙ ap (λ z. state_of setting change z) (sym behind)), asked);
+      entered = (counts setting change labels own at point.admin behind stands names.0, labelled);
+      first = tt;
+      admin_is = (step_law session (Truncate what) point.admin).stands setting change labels label (ap (λ (l : Label). l.session) is) asked stands;
     }
 follows_one setting change session point labels s label own (Starting subject) number actions labelled behind stands names =
     record { folded = tt; entered = tt; first = tt; admin_is = quiet_follows setting change labels point.admin stands }

@@ -2,7 +2,7 @@
 use Rattle.std.proofs.Common.{ℕ, ◌≡◌, ◌+◌, List, [], ◌∷◌, ◌++◌, map, Option, Some, None, refl, ap, sym, ◌∙◌, subst}
 use Rattle.pfs_admin.specs.States.{State as Administration}
 use Rattle.pfs_alone.specs.Spells.{Spell, parts_in, stints_of}
-use Rattle.pfs_facts.specs.Deeds.{deed_on}
+use Rattle.pfs_facts.specs.Deeds.{deed_on, sql_deed}
 use Rattle.pfs_journal.specs.declared.blocks.BlockReport.{BlockReport}
 use Rattle.pfs_journal.specs.declared.report.PhaseParts.{PhaseParts}
 use Rattle.pfs_model.specs.Places.{Block}
@@ -12,7 +12,8 @@ use Rattle.pfs_parts.specs.Shaped.{lines_of}
 use Rattle.pfs_parts.specs.Stints.{Stint, block_of, blocks_of}
 use Rattle.pfs_ruled.proofs.Fronts.{stints_then}
 use Rattle.pfs_ruled.specs.Ruled.{journals_of}
-use Rattle.pfs_runs.specs.Lines.{line_in, connect_lines, lines_in}
+use Rattle.pfs_play.specs.Errands.{admin_behind, errand_on}
+use Rattle.pfs_runs.specs.Lines.{line_in, connect_lines, lines_in, sql_line}
 use Rattle.pfs_runs.specs.Runs.{AreBlocksOf, ArePhasesOf, all_blocks}
 use Rattle.pfs_script.specs.declared.blocks.Block.{Block as Said}
 use Rattle.pfs_script.specs.declared.blocks.BlockLine.{BlockLine}
@@ -20,7 +21,9 @@ use Rattle.pfs_script.specs.declared.blocks.BlockLine.TheVariants as said
 use Rattle.pfs_script.specs.declared.blocks.Connect.{Connect}
 use Rattle.pfs_script.specs.declared.blocks.Phase.{Phase}
 use Rattle.pfs_script.specs.Marks.{written_out}
-use Rattle.pfs_course.specs.Course.{PhasedBlock, phased, numbered, connected_by, deeds_of, deeds_in, IsSpellOf, AreSpellsOf}
+use Rattle.pfs_truncations.specs.Texts.{truncation_of}
+use Rattle.pfs_truncations.specs.declared.truncations.Truncation.{Truncation}
+use Rattle.pfs_course.specs.Course.{PhasedBlock, phased, numbered, connected_by, deeds_along, deeds_of, deeds_in, IsSpellOf, AreSpellsOf}
 use Rattle.pfs_course.specs.Told.{AreTold, ArePhasesTold}
 
 blocks_then : (xs ys : List Stint) → blocks_of (xs ++ ys) ≡ blocks_of xs ++ blocks_of ys
@@ -35,13 +38,20 @@ parts_lines : (ps : List Part) → lines_of ps ≡ map line_of (deeds_in ps)
 parts_lines [] = refl
 parts_lines (p ∷ ps) = ap (λ z. line_of p.deed ∷ z) (parts_lines ps)
 
+sql_told : (admin : Administration) (what : Option Truncation) → line_of (sql_deed admin what) ≡ sql_line what
+sql_told admin None = refl
+sql_told admin (Some what) = refl
+
 deed_line : (admin : Administration) (line : BlockLine) → line_of (deed_on admin line) ≡ line_in line
 deed_line admin said.Quit = refl
+deed_line admin (said.Sql text) = sql_told admin (truncation_of text)
 deed_line admin _ = refl
 
-body_lines : (admin : Administration) (lines : List BlockLine) → map line_of (map (deed_on admin) lines ++ Closing ∷ []) ≡ map line_in lines ++ told.Close ∷ []
+body_lines : (admin : Administration) (lines : List BlockLine) → map line_of (deeds_along admin lines ++ Closing ∷ []) ≡ map line_in lines ++ told.Close ∷ []
 body_lines admin [] = refl
-body_lines admin (line ∷ lines) = ap (λ z. z ∷ map line_of (map (deed_on admin) lines ++ Closing ∷ [])) (deed_line admin line) ∙ ap (λ z. line_in line ∷ z) (body_lines admin lines)
+body_lines admin (line ∷ lines) =
+    let next : Administration = admin_behind admin (errand_on line) in
+    ap (λ z. z ∷ map line_of (deeds_along next lines ++ Closing ∷ [])) (deed_line admin line) ∙ ap (λ z. line_in line ∷ z) (body_lines next lines)
 
 deeds_lines : (admin : Administration) (session : ℕ) (connect : Option Connect) (lines : List BlockLine)
     → map line_of (deeds_of admin session connect lines) ≡ connect_lines connect ++ (map line_in lines ++ told.Close ∷ [])

@@ -21,11 +21,13 @@ use Rattle.pfs_parts.proofs.Stinting.{state_more, over_more, done}
 use Rattle.pfs_parts.specs.Deeds.{Part}
 use Rattle.pfs_parts.specs.Shaped.{MayDoAll, state_behind, over_behind}
 use Rattle.pfs_parts.specs.Stints.{Stint, resumed, state_by, over_by, IsDoneBy, AreDone}
+use Rattle.pfs_play.specs.Errands.{admin_after}
 use Rattle.pfs_playable.specs.Playable.{end_of}
 use Rattle.pfs_ruled.proofs.Appending.{spell_folded, spell_first}
 use Rattle.pfs_ruled.proofs.Entering.{labels_in, all_labels, AreAllEntered, entered}
 use Rattle.pfs_ruled.specs.Ruled.{labels_of}
 use Rattle.pfs_runs.specs.Lines.{changes_in, change_in}
+use Rattle.pfs_script.specs.Marks.{written_out}
 use Rattle.pfs_script.specs.declared.blocks.Connect.{Connect}
 use Rattle.pfs_script.specs.declared.blocks.Phase.{Phase}
 use Rattle.pfs_session.specs.States.{State, fresh}
@@ -144,8 +146,8 @@ walked setting phases depths dones spells admin one doings c n p answer =
     let named : AllName change session start (deeds_in parts) =
     subst (AllName change session start) (sym deeds)
     (block_names change session made admin one.block.connect has.quiet has.quits has.are_quiet (asked_here phases dones n.rest one has n.all) (first_made session dones one.block.connect n.first)) in
-    let led : IsLed made admin session one.block.connect has.quits (point_behind session start (deeds_in parts)) =
-    subst (λ z. IsLed made admin session one.block.connect has.quits (point_behind session start z)) (sym deeds) (block_leads session made admin one.block.connect has.quiet has.quits has.are_quiet) in
+    let led : IsLed made admin session one.block.connect (has.quiet ++ end_of has.quits) has.quits (point_behind session start (deeds_in parts)) =
+    subst (λ z. IsLed made admin session one.block.connect (has.quiet ++ end_of has.quits) has.quits (point_behind session start z)) (sym deeds) (block_leads session made admin one.block.connect has.quiet has.quits has.are_quiet) in
     let are_done : AreDone (stints_of spells) = done setting.limits.statement_stack depths (stints_of spells) c.are_spells.stints in
     let before : AreAllEntered spells = entered flags spells are_done c.answer in
     let now : AreAllEntered (spells ++ spell ∷ []) =
@@ -156,7 +158,9 @@ walked setting phases depths dones spells admin one doings c n p answer =
       labels_are = sym (now.labels ∙ labels_more spells spell);
       follow = all_follow setting change session start (all_labels spells) s doings (c.numbers session) (c.counted session) p.are_parts p.labelled (last_behind [] spells spell now.behind)
           (c.admin_is ∙ ap (λ z. state_of setting change z) before.labels) named;
-      admin_is = led.admin_is ∙ ap (λ b. ended_by (connected_by admin session one.block.connect) session b) (sym (over_there session start parts ∙ led.over_is));
+      admin_is = led.admin_is
+          ∙ (ap (λ z. ended_by (admin_after (connected_by admin session one.block.connect) z) session has.quits) (sym has.written)
+          ∙ ap (λ b. ended_by (admin_after (connected_by admin session one.block.connect) (written_out one.block.lines)) session b) (sym (over_there session start parts ∙ led.over_is)));
       made_is = led.made_is ∙ (ap (λ z. made + length z) (sym (block_changes one.block has)) ∙ sym (length-append (own_changes session dones) (changes_in one.block)));
     }
 

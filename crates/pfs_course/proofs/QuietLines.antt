@@ -1,13 +1,11 @@
 -- The lines of a block, but for a quit at their end, end no session, also with each repeat written out.
 use Rattle.std.proofs.Common.{ℕ, zero, suc, ◌≡◌, ◌+◌, ◌≤◌, Bool, true, false, List, [], ◌∷◌, ◌++◌, length, Option, Some, None, refl, ap, sym, ◌∙◌, arith}
-use Rattle.std.specs.List.{flat_map}
 use Rattle.std.proofs.lemmas.List.{append_assoc, append-nil}
 use Rattle.pfs_event.specs.declared.kind.EventKind.{EventKind}
 use Rattle.pfs_model.specs.Chains.{Each}
 use Rattle.pfs_play.specs.Errands.{is_quit}
 use Rattle.pfs_play.specs.Repeats.{AllMayPlay}
 use Rattle.pfs_playable.specs.Playable.{end_of, lines_among, kinds_before, HasBody}
-use Rattle.pfs_runs.specs.Lines.{changes_on}
 use Rattle.pfs_script.specs.declared.blocks.Block.{Block}
 use Rattle.pfs_script.specs.declared.blocks.BlockLine.{BlockLine}
 use Rattle.pfs_script.specs.declared.blocks.BlockLine.TheVariants as said
@@ -87,12 +85,3 @@ quiet_lines before after block has =
 pub quits_same : (before after : List Phase) (block : Block) (has : HasBody before after block) → (quiet_lines before after block has).quits ≡ has.quits
 unfolding quiet_lines
 quits_same before after block has = refl
-
--- they have no administration line
-no_change : (line : BlockLine) → is_quit line ≡ false → changes_on line ≡ []
-no_change said.Quit q = cc
-no_change _ q = refl
-
-pub no_changes : (lines : List BlockLine) → AreQuiet lines → flat_map changes_on lines ≡ []
-no_changes [] q = refl
-no_changes (line ∷ lines) q = ap (λ z. z ++ flat_map changes_on lines) (no_change line q.0) ∙ no_changes lines q.1

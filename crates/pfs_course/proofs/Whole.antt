@@ -44,7 +44,7 @@ whole ruled session_law = λ setting phases report depths spells admin c told fo
       journals = h.all;
       phases_are = h.are;
       labelled = subst (λ z. AreLabels (labels_of spells) (places z)) same is.labelled;
-      rules = λ answers. subst (AreRules (terms_of setting change (facts_in phases) answers (labels_of spells)) (counted_by (contents_of spells) (all_taken stints)) (contents_of spells)) same (is.rules answers);
+      rules = subst (AreRules (terms_of setting change (facts_in phases) (labels_of spells)) (counted_by (contents_of spells) (all_taken stints)) (contents_of spells)) same is.rules;
       brought = subst (λ z. AreBroughtOnce (places z)) same once;
       plain = subst (λ z. IsPlain (places z)) same is.plain;
     })
@@ -61,7 +61,7 @@ run_of = λ setting phases report spells r finals. record {
     labelled = r.labelled;
     rules = r.rules;
     brought = r.brought;
-    finals = λ answers. subst (λ z. AreFinal (IsFinalBy setting phases spells answers (places z)) report.phases) (sym r.journals) (finals answers);
+    finals = subst (λ z. AreFinal (IsFinalBy setting phases spells (places z)) report.phases) (sym r.journals) finals;
   };
   plain = r.plain;
 }

@@ -1,5 +1,5 @@
 -- The course of a run: what sessions did at the blocks of a script, one after another.
-use Rattle.std.specs.Prelude.{ℕ, ◌≡◌, ◌+◌, ◌==◌, Bool, true, false, cond, List, [], ◌∷◌, ◌++◌, length, map, Option, Some, None}
+use Rattle.std.specs.Prelude.{ℕ, ◌≡◌, ◌+◌, ◌==◌, Bool, true, false, cond, List, [], ◌∷◌, ◌++◌, length, Option, Some, None}
 use Rattle.std.specs.List.{flat_map}
 use Rattle.pfs_admin.specs.Fold.{state_of}
 use Rattle.pfs_admin.specs.Opening.{opening_flags}
@@ -14,6 +14,7 @@ use Rattle.pfs_levels.specs.Plain.{AllAnswer}
 use Rattle.pfs_matching.specs.ObjectRules.{opening_objects}
 use Rattle.pfs_parts.specs.Deeds.{Deed, Connecting, Closing, Part}
 use Rattle.pfs_parts.specs.Stints.{state_by, over_by}
+use Rattle.pfs_play.specs.Errands.{admin_after, admin_behind, errand_on}
 use Rattle.pfs_ruled.specs.Folded.{AreFolded, AllConnectFirst}
 use Rattle.pfs_ruled.specs.Ruled.{labels_of}
 use Rattle.pfs_runs.specs.Lines.{changes_in}
@@ -34,10 +35,15 @@ abbrev pub connected_by : Administration → ℕ → Option Connect → Administ
 connected_by admin number None = admin
 connected_by admin number (Some names) = connected admin number names.user names.host
 
+-- the deeds of lines, one after another, each before the administration that those before it leave
+abbrev pub deeds_along : Administration → List BlockLine → List Deed
+deeds_along admin [] = []
+deeds_along admin (line ∷ lines) = deed_on admin line ∷ deeds_along (admin_behind admin (errand_on line)) lines
+
 -- the deeds of a block: its connect, its lines, and its end
 abbrev pub deeds_of : Administration → ℕ → Option Connect → List BlockLine → List Deed
 deeds_of admin number connect lines =
-    connecting admin connect ++ (map (deed_on (connected_by admin number connect)) lines ++ Closing ∷ [])
+    connecting admin connect ++ (deeds_along (connected_by admin number connect) lines ++ Closing ∷ [])
 
 abbrev pub deeds_in : List Part → List Deed
 deeds_in [] = []
@@ -73,7 +79,8 @@ ended_by admin number true = has_quit admin number
 
 -- the administration behind the actions of a block, at which its session ended or didn't
 abbrev pub behind_block : Administration → Block → Bool → Administration
-behind_block admin block over = ended_by (connected_by admin block.session block.connect) block.session over
+behind_block admin block over =
+    ended_by (admin_after (connected_by admin block.session block.connect) (written_out block.lines)) block.session over
 
 -- a session as these spells left it, and whether it is over
 abbrev pub session_at : Setting → (ℕ → ℕ) → List Spell → ℕ → State

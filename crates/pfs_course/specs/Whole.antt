@@ -7,7 +7,6 @@ use Rattle.pfs_asked.specs.Takes.{all_taken, counted_by}
 use Rattle.pfs_classes.specs.declared.setting.Setting.{Setting}
 use Rattle.pfs_journal.specs.declared.report.PhaseParts.{PhaseParts}
 use Rattle.pfs_journal.specs.declared.report.ReportParts.{ReportParts}
-use Rattle.pfs_model.specs.Asked.{Answer}
 use Rattle.pfs_model.specs.Places.{Block, Placed, places, up_to_phase}
 use Rattle.pfs_model.specs.Plain.{IsPlain}
 use Rattle.pfs_ruled.specs.Ruled.{journals_of, entries_of, labels_of, contents_of}
@@ -29,8 +28,7 @@ pub record IsRunButFinals (setting : Setting) (phases : List Phase) (report : Re
   pub journals : all_blocks blocks ≡ journals_of spells
   pub phases_are : ArePhasesOf 1 phases report.phases blocks
   pub labelled : AreLabels (labels_of spells) (places (all_blocks blocks))
-  pub rules : (answers : ℕ → Answer)
-      → AreRules (terms_of setting (change_in phases) (facts_in phases) answers (labels_of spells))
+  pub rules : AreRules (terms_of setting (change_in phases) (facts_in phases) (labels_of spells))
       (counted_by (contents_of spells) (all_taken (stints_of spells))) (contents_of spells) (all_blocks blocks)
   pub brought : AreBroughtOnce (places (all_blocks blocks))
   pub plain : IsPlain (places (all_blocks blocks))
@@ -41,15 +39,15 @@ WholeLaw = (setting : Setting) (phases : List Phase) (report : ReportParts) (dep
     → ArePhasesTold 1 phases report.phases spells → report.format ≡ 0 → IsRunButFinals setting phases report spells
 
 -- what stands under the end of a phase is what these entries make of it
-abbrev pub IsFinalBy : Setting → List Phase → List Spell → (ℕ → Answer) → List Placed → PhaseParts → Type 0
-IsFinalBy setting phases spells answers all phase =
+abbrev pub IsFinalBy : Setting → List Phase → List Spell → List Placed → PhaseParts → Type 0
+IsFinalBy setting phases spells all phase =
     IsFinal setting (change_in phases) (labels_of spells) (contents_of spells)
-    (flags_by (terms_of setting (change_in phases) (facts_in phases) answers (labels_of spells)) all)
+    (flags_by (terms_of setting (change_in phases) (facts_in phases) (labels_of spells)) all)
     (up_to_phase phase.number all) phase
 
 -- with that it is a plain run
 abbrev pub RunLaw : Type 0
 RunLaw = (setting : Setting) (phases : List Phase) (report : ReportParts) (spells : List Spell)
     → IsRunButFinals setting phases report spells
-    → ((answers : ℕ → Answer) → AreFinal (IsFinalBy setting phases spells answers (entries_of spells)) report.phases)
+    → AreFinal (IsFinalBy setting phases spells (entries_of spells)) report.phases
     → IsPlainRun setting phases report

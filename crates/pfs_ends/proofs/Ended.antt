@@ -8,26 +8,25 @@ use Rattle.pfs_classes.specs.declared.setting.Setting.{Setting}
 use Rattle.pfs_journal.specs.declared.report.PhaseParts.{PhaseParts}
 use Rattle.pfs_levels.specs.Plain.{AllAnswer}
 use Rattle.pfs_matching.specs.ObjectRules.{opening_objects}
-use Rattle.pfs_model.specs.Asked.{Answer}
 use Rattle.pfs_model.specs.Contents.{Facts}
 use Rattle.pfs_runs.specs.Runs.{AreFinal}
 use Rattle.pfs_ends.proofs.Ending.{ends}
 use Rattle.pfs_ends.specs.Ends.{HasEnded, IsFinalOf, AllEndLaw}
 
-pub one_ended : (setting : Setting) (change : Label → Change) (facts : ℕ → ℕ → Facts) (answers : ℕ → Answer) (depths : ℕ → ℕ) (spells : List Spell) (report : PhaseParts)
+pub one_ended : (setting : Setting) (change : Label → Change) (facts : ℕ → ℕ → Facts) (depths : ℕ → ℕ) (spells : List Spell) (report : PhaseParts)
     → AreSpells setting.limits.statement_stack depths spells → AllAnswer (opening_flags setting opening_objects) (calls_of spells) → HasEnded setting change spells report
-    → IsFinalOf setting change facts answers spells report
-one_ended setting change facts answers depths spells report are answer h =
-    subst (λ z. IsFinalOf setting change facts answers z report) (sym h.parted)
-    (ends setting change facts answers depths h.first h.later h.calls report (subst (AreSpells setting.limits.statement_stack depths) h.parted are)
+    → IsFinalOf setting change facts spells report
+one_ended setting change facts depths spells report are answer h =
+    subst (λ z. IsFinalOf setting change facts z report) (sym h.parted)
+    (ends setting change facts depths h.first h.later h.calls report (subst (AreSpells setting.limits.statement_stack depths) h.parted are)
     (subst (λ z. AllAnswer (opening_flags setting opening_objects) (calls_of z)) h.parted answer) h.low h.high h.ended)
 
-each_ended : (setting : Setting) (change : Label → Change) (facts : ℕ → ℕ → Facts) (answers : ℕ → Answer) (depths : ℕ → ℕ) (spells : List Spell) (reports : List PhaseParts)
+each_ended : (setting : Setting) (change : Label → Change) (facts : ℕ → ℕ → Facts) (depths : ℕ → ℕ) (spells : List Spell) (reports : List PhaseParts)
     → AreSpells setting.limits.statement_stack depths spells → AllAnswer (opening_flags setting opening_objects) (calls_of spells) → AreFinal (HasEnded setting change spells) reports
-    → AreFinal (IsFinalOf setting change facts answers spells) reports
-each_ended setting change facts answers depths spells [] are answer h = tt
-each_ended setting change facts answers depths spells (r ∷ rs) are answer h =
-    (one_ended setting change facts answers depths spells r are answer h.0, each_ended setting change facts answers depths spells rs are answer h.1)
+    → AreFinal (IsFinalOf setting change facts spells) reports
+each_ended setting change facts depths spells [] are answer h = tt
+each_ended setting change facts depths spells (r ∷ rs) are answer h =
+    (one_ended setting change facts depths spells r are answer h.0, each_ended setting change facts depths spells rs are answer h.1)
 
 pub all_end : AllEndLaw
-all_end = λ setting change facts answers depths spells reports are answer h. each_ended setting change facts answers depths spells reports are answer h
+all_end = λ setting change facts depths spells reports are answer h. each_ended setting change facts depths spells reports are answer h

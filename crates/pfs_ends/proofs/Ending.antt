@@ -129,7 +129,7 @@ each_read setting content flags all printed (r ∷ rs) whole shown =
     (each_read setting content flags all printed rs (All-tail P r rs whole) parts.1)
 
 pub ends : EndsLaw
-ends = λ setting change facts answers depths first later calls report are answer low high end.
+ends = λ setting change facts depths first later calls report are answer low high end.
     let flags : List ℕ = opening_flags setting opening_objects in
     let every : List Spell = first ++ later in
     let all : List Placed = entries_of every in

@@ -5,7 +5,6 @@ use Rattle.pfs_alone.specs.Spells.{Spell, calls_of}
 use Rattle.pfs_board.specs.declared.view.Label.{Label}
 use Rattle.pfs_classes.specs.declared.setting.Setting.{Setting}
 use Rattle.pfs_journal.specs.declared.report.PhaseParts.{PhaseParts}
-use Rattle.pfs_model.specs.Asked.{Answer}
 use Rattle.pfs_model.specs.Chains.{Each}
 use Rattle.pfs_model.specs.Contents.{Facts}
 use Rattle.pfs_readsets.proofs.Agreeing.{RowsArePlaces}
@@ -15,21 +14,21 @@ use Rattle.pfs_ends.proofs.Readable.{report_behind, numbered, can_end}
 use Rattle.pfs_ends.specs.Ends.{HasEnded, IsFinalOf, CanEndLaw}
 
 pub can_always_end : RowsArePlaces → CanEndLaw
-can_always_end places = λ setting change facts answers depths spells number are answer low.
+can_always_end places = λ setting change facts depths spells number are answer low.
     let report : PhaseParts = report_behind setting change spells number in
     let is : report.number ≡ number = numbered setting change spells number in
     let up_to : Each (λ spell. spell.phase ≤ report.number) spells = subst (λ z. Each (λ (spell : Spell). spell.phase ≤ z) spells) (sym is) low in
     let end : HasEnded setting change spells report = ended_now setting change spells (calls_of spells) report up_to (can_end places setting change spells number answer) in
-    (report, is, end, one_ended setting change facts answers depths spells report are answer end)
+    (report, is, end, one_ended setting change facts depths spells report are answer end)
 
 -- before any session did anything, in any setting
-record IsFirst (setting : Setting) (change : Label → Change) (facts : ℕ → ℕ → Facts) (answers : ℕ → Answer) : Type 0 where
+record IsFirst (setting : Setting) (change : Label → Change) (facts : ℕ → ℕ → Facts) : Type 0 where
   report : PhaseParts
   number : report.number ≡ 1
   ended : HasEnded setting change [] report
-  final : IsFinalOf setting change facts answers [] report
+  final : IsFinalOf setting change facts [] report
 
-first : RowsArePlaces → (setting : Setting) (change : Label → Change) (facts : ℕ → ℕ → Facts) (answers : ℕ → Answer) → IsFirst setting change facts answers
-first places setting change facts answers =
-    let r = can_always_end places setting change facts answers (λ session. 0) [] 1 (record { stints = tt; entered = tt }) tt tt in
+first : RowsArePlaces → (setting : Setting) (change : Label → Change) (facts : ℕ → ℕ → Facts) → IsFirst setting change facts
+first places setting change facts =
+    let r = can_always_end places setting change facts (λ session. 0) [] 1 (record { stints = tt; entered = tt }) tt tt in
     record { report = r.0; number = r.1; ended = r.2; final = r.3 }

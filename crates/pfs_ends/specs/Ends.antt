@@ -15,7 +15,6 @@ use Rattle.pfs_levels.specs.Calls.{Call}
 use Rattle.pfs_levels.specs.Joint.{sets_of}
 use Rattle.pfs_levels.specs.Plain.{AllAnswer, ops_of}
 use Rattle.pfs_matching.specs.ObjectRules.{opening_objects}
-use Rattle.pfs_model.specs.Asked.{Answer}
 use Rattle.pfs_model.specs.Chains.{Each}
 use Rattle.pfs_model.specs.Contents.{Facts}
 use Rattle.pfs_model.specs.Places.{up_to_phase}
@@ -47,20 +46,20 @@ pub record IsEnd (setting : Setting) (change : Label → Change) (spells : List 
       ≡ flat_map (lost_row setting.classes (lost_behind admin.kept.now (entries_of spells))) counters
 
 -- by what all spells of a run make of rows, words and containers, the report is final of its phase
-abbrev pub IsFinalOf : Setting → (Label → Change) → (ℕ → ℕ → Facts) → (ℕ → Answer) → List Spell → PhaseParts → Type 0
-IsFinalOf setting change facts answers spells report =
+abbrev pub IsFinalOf : Setting → (Label → Change) → (ℕ → ℕ → Facts) → List Spell → PhaseParts → Type 0
+IsFinalOf setting change facts spells report =
     IsFinal setting change (labels_of spells) (contents_of spells)
-    (flags_by (terms_of setting change facts answers (labels_of spells)) (entries_of spells))
+    (flags_by (terms_of setting change facts (labels_of spells)) (entries_of spells))
     (up_to_phase report.number (entries_of spells)) report
 
 -- of the spells up to a phase and those behind it
 abbrev pub EndsLaw : Type 0
-EndsLaw = (setting : Setting) (change : Label → Change) (facts : ℕ → ℕ → Facts) (answers : ℕ → Answer)
+EndsLaw = (setting : Setting) (change : Label → Change) (facts : ℕ → ℕ → Facts)
     (depths : ℕ → ℕ) (first later : List Spell) (calls : List Call) (report : PhaseParts)
     → AreSpells setting.limits.statement_stack depths (first ++ later)
     → AllAnswer (opening_flags setting opening_objects) (calls_of (first ++ later))
     → Each (λ spell. spell.phase ≤ report.number) first → Each (λ spell. report.number < spell.phase) later
-    → IsEnd setting change first calls report → IsFinalOf setting change facts answers (first ++ later) report
+    → IsEnd setting change first calls report → IsFinalOf setting change facts (first ++ later) report
 
 -- a phase ended behind the first of these spells, those up to it
 pub record HasEnded (setting : Setting) (change : Label → Change) (spells : List Spell) (report : PhaseParts) : Type 0
@@ -75,18 +74,18 @@ pub record HasEnded (setting : Setting) (change : Label → Change) (spells : Li
 
 -- so of all phases that ended
 abbrev pub AllEndLaw : Type 0
-AllEndLaw = (setting : Setting) (change : Label → Change) (facts : ℕ → ℕ → Facts) (answers : ℕ → Answer)
+AllEndLaw = (setting : Setting) (change : Label → Change) (facts : ℕ → ℕ → Facts)
     (depths : ℕ → ℕ) (spells : List Spell) (reports : List PhaseParts)
     → AreSpells setting.limits.statement_stack depths spells
     → AllAnswer (opening_flags setting opening_objects) (calls_of spells)
     → AreFinal (HasEnded setting change spells) reports
-    → AreFinal (IsFinalOf setting change facts answers spells) reports
+    → AreFinal (IsFinalOf setting change facts spells) reports
 
 -- whatever sessions did up to a phase, it can end there, since any plain store can be read, and then it is final
 abbrev pub CanEndLaw : Type 0
-CanEndLaw = (setting : Setting) (change : Label → Change) (facts : ℕ → ℕ → Facts) (answers : ℕ → Answer)
+CanEndLaw = (setting : Setting) (change : Label → Change) (facts : ℕ → ℕ → Facts)
     (depths : ℕ → ℕ) (spells : List Spell) (number : ℕ) → AreSpells setting.limits.statement_stack depths spells
     → AllAnswer (opening_flags setting opening_objects) (calls_of spells)
     → Each (λ spell. spell.phase ≤ number) spells
     → (report : PhaseParts) × (report.number ≡ number) × HasEnded setting change spells report
-    × IsFinalOf setting change facts answers spells report
+    × IsFinalOf setting change facts spells report

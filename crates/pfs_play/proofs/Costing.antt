@@ -1,15 +1,21 @@
 -- What lines take.
-use Rattle.std.proofs.Common.{ℕ, zero, suc, ◌≡◌, ◌<◌, ◌≤◌, ◌+◌, ◌*◌, List, [], ◌∷◌, ◌++◌, length, take, drop, Some, None, refl, ap, sym, ◌∙◌, subst, arith}
+use Rattle.std.proofs.Common.{ℕ, zero, suc, ◌≡◌, ◌<◌, ◌≤◌, ◌+◌, ◌*◌, List, [], ◌∷◌, ◌++◌, length, take, drop, Option, Some, None, ap, sym, ◌∙◌, subst, arith}
 use Rattle.std.specs.List.{position}
 use Rattle.std.proofs.lemmas.List.{length-append}
 use Rattle.pfs_script.specs.declared.blocks.BlockLine.{BlockLine}
 use Rattle.pfs_script.specs.declared.blocks.BlockLine.TheVariants as said
 use Rattle.pfs_script.specs.Marks.{copies, is_done, repeats_of, written_out}
-use Rattle.pfs_play.specs.Errands.{cost_of, cost_on, errand_on}
+use Rattle.pfs_truncations.specs.Texts.{truncation_of}
+use Rattle.pfs_truncations.specs.declared.truncations.Truncation.{Truncation}
+use Rattle.pfs_play.specs.Errands.{actions_of, actions_on, cost_of, cost_on, errand_on, sql_errand}
 use Rattle.pfs_play.specs.Repeats.{repeated}
-use Rattle.pfs_play.proofs.Writing.{place, found, not_found, written_round, written_open, written_begin, written_plain, begins, nothing_behind, cost_then, cost_copies, length_copies}
+use Rattle.pfs_play.proofs.Writing.{place, found, not_found, written_round, written_open, written_begin, begins, cost_then, cost_copies, length_copies}
 
-one_cost : (line : BlockLine) → cost_of (errand_on line) ≤ 5
+sql_cost : (what : Option Truncation) → cost_of (sql_errand what) ≤ 5 + 20191 * actions_of (sql_errand what)
+sql_cost None = omega arith
+sql_cost (Some what) = omega arith
+
+one_cost : (line : BlockLine) → cost_of (errand_on line) ≤ 5 + 20191 * actions_of (errand_on line)
 one_cost (said.Wait class) = omega arith
 one_cost (said.TableWait class table) = omega arith
 one_cost (said.Statement class digest) = omega arith
@@ -17,14 +23,38 @@ one_cost (said.Transaction access) = omega arith
 one_cost (said.Stage class) = omega arith
 one_cost said.StageEnd = omega arith
 one_cost (said.Spend time) = omega arith
-one_cost (said.Sql text) = omega arith
+one_cost (said.Sql text) = sql_cost (truncation_of text)
 one_cost said.Quit = omega arith
 one_cost said.End = omega arith
 one_cost (said.EndStatement numbers) = omega arith
 one_cost (said.Repeat times) = omega arith
 one_cost said.Done = omega arith
 
-pub costs_few : (lines : List BlockLine) → cost_on lines ≤ 5 * length lines
+sql_once : (what : Option Truncation) → actions_of (sql_errand what) ≤ 1
+sql_once None = omega arith
+sql_once (Some what) = omega arith
+
+one_once : (line : BlockLine) → actions_of (errand_on line) ≤ 1
+one_once (said.Wait class) = omega arith
+one_once (said.TableWait class table) = omega arith
+one_once (said.Statement class digest) = omega arith
+one_once (said.Transaction access) = omega arith
+one_once (said.Stage class) = omega arith
+one_once said.StageEnd = omega arith
+one_once (said.Spend time) = omega arith
+one_once (said.Sql text) = sql_once (truncation_of text)
+one_once said.Quit = omega arith
+one_once said.End = omega arith
+one_once (said.EndStatement numbers) = omega arith
+one_once (said.Repeat times) = omega arith
+one_once said.Done = omega arith
+
+-- no line is more than one action
+pub once_each : (lines : List BlockLine) → actions_on lines ≤ length lines
+once_each [] = omega arith
+once_each (line ∷ lines) = omega (arith, one_once line, once_each lines)
+
+pub costs_few : (lines : List BlockLine) → cost_on lines ≤ 5 * length lines + 20191 * actions_on lines
 costs_few [] = omega arith
 costs_few (line ∷ lines) = omega (arith, one_cost line, costs_few lines)
 
@@ -54,9 +84,13 @@ open_cost times lines is = written_open times lines (not_found lines is)
 pub begin_written : (line : BlockLine) (others : List BlockLine) (times : ℕ) → repeats_of line ≡ Some times → written_out (line ∷ others) ≡ repeated times others
 begin_written line others times is = ap (λ (l : BlockLine). written_out (l ∷ others)) (begins line times is) ∙ written_begin times others
 
-pub rounds_fit : (times entries count : ℕ) → entries ≤ 5 * count → times * entries ≤ 5 * (times * count)
+pub rounds_fit : (times entries count : ℕ) → entries ≤ 20196 * count → times * entries ≤ 20196 * (times * count)
 rounds_fit zero entries count few = omega arith
 rounds_fit (suc times) entries count few = let less = rounds_fit times entries count few in omega (arith, few, less)
+
+pub few_each : (times count : ℕ) → 0 < times → times * count ≤ 200000 → count ≤ 200000
+few_each zero count some few = absurd (omega (arith, some))
+few_each (suc times) count some few = omega (arith, few)
 
 -- the lines behind the first one
 pub behind_first : (lines : List BlockLine) (first : BlockLine) (others : List BlockLine) (count : ℕ) → lines ≡ first ∷ others → drop (1 + count) lines ≡ drop count others

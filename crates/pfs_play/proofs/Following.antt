@@ -1,17 +1,15 @@
 -- Lines one after another: one line more, and what its kinds leave.
-use Rattle.std.proofs.Common.{ℕ, ◌≡◌, ◌⊎◌, inl, inr, Bool, true, false, List, [], ◌∷◌, ◌++◌, Option, Some, None, refl, ap, sym, ◌∙◌, subst, append_assoc}
-use Rattle.std.proofs.lemmas.List.{append-nil}
+use Rattle.std.proofs.Common.{ℕ, ◌≡◌, ◌⊎◌, inl, inr, Bool, true, false, List, [], ◌∷◌, ◌++◌, Option, Some, None, refl, ap, sym, ◌∙◌, subst}
+use Rattle.pfs_actions.proofs.Joining.{nothing, then}
+use Rattle.pfs_actions.specs.Done.{HasActed}
 use Rattle.pfs_admin.specs.States.{State as Administration}
 use Rattle.pfs_classes.specs.declared.classes.ClassRef.{ClassRef}
 use Rattle.pfs_classes.specs.declared.classes.ClassRef.TheVariants as refs
-use Rattle.pfs_event.specs.declared.entry.Entry.{Entry}
 use Rattle.pfs_event.specs.declared.kind.EventKind.{EventKind}
 use Rattle.pfs_event.specs.declared.kind.EventKind.TheVariants.{Wait, Stage, Statement, Transaction}
 use Rattle.pfs_levels.specs.Calls.{Call, Opening}
-use Rattle.pfs_levels.proofs.Moving.{did_as, did_none, did_then}
-use Rattle.pfs_model.specs.Journals.{joined}
-use Rattle.pfs_parts.specs.Deeds.{Deed, Part, IsPart, MayDo, is_over, part_calls, part_entries, parts_calls}
-use Rattle.pfs_parts.specs.Shaped.{AreParts, MayDoAll, entries_of, state_behind, over_behind}
+use Rattle.pfs_parts.specs.Deeds.{Deed, Part, MayDo, is_over}
+use Rattle.pfs_parts.specs.Shaped.{MayDoAll, state_behind, over_behind}
 use Rattle.pfs_runs.specs.Lines.{class_in, cell_in}
 use Rattle.pfs_script.specs.declared.blocks.Access.{Access}
 use Rattle.pfs_script.specs.declared.blocks.Access.TheVariants.{ReadWrite, ReadOnly}
@@ -21,37 +19,18 @@ use Rattle.pfs_script.specs.Brackets.{kinds_behind, may_stand}
 use Rattle.pfs_script.specs.Marks.{Mark, Opens, Ends, EndsStage, Passes, mark_of}
 use Rattle.pfs_session.specs.States.{State, Book}
 use Rattle.pfs_session.specs.Turns.{state_after}
-use Rattle.pfs_facts.specs.Deeds.{deed_on}
+use Rattle.pfs_facts.specs.Deeds.{deed_on, sql_deed}
 use Rattle.pfs_facts.specs.Steps.{kinds_at}
 use Rattle.pfs_facts.proofs.OpenKinds.{kinds_part}
-use Rattle.pfs_play.specs.Errands.{deed_of, errand_on, is_quit, HasRun, HavePlayed, AreOf, StagesLie}
+use Rattle.pfs_truncations.specs.Texts.{truncation_of}
+use Rattle.pfs_truncations.specs.declared.truncations.Truncation.{Truncation}
+use Rattle.pfs_play.specs.Errands.{admin_after, admin_behind, deed_of, errand_on, sql_errand, is_quit, HavePlayed, AreOf, StagesLie}
 
--- an administration of nobody, for what holds whatever the administration
-abbrev nobody : Administration
-nobody = record {
-  kept = record {
-    now = record {
-      places = record { threads = []; accounts = []; users = []; hosts = [] };
-      lost_threads = 0;
-      lost_accounts = 0;
-      lost_users = 0;
-      lost_hosts = 0;
-      account_totals = [];
-      user_totals = [];
-      host_totals = [];
-    };
-    connects = 0;
-  };
-  words = [];
-  actors = [];
-  objects = [];
-  names = [];
-  cells = [];
-  kinds = record { waits = []; stages = []; statements = []; transactions = [] };
-  actions = 0;
-}
+sql_same : (admin : Administration) (what : Option Truncation) → deed_of admin (sql_errand what) ≡ sql_deed admin what
+sql_same admin None = refl
+sql_same admin (Some what) = refl
 
-errand_deed : (admin : Administration) (line : BlockLine) → deed_of admin (errand_on line) ≡ deed_on admin line
+pub errand_deed : (admin : Administration) (line : BlockLine) → deed_of admin (errand_on line) ≡ deed_on admin line
 errand_deed admin (said.Wait class) = refl
 errand_deed admin (said.TableWait class table) = refl
 errand_deed admin (said.Statement class digest) = refl
@@ -62,7 +41,7 @@ errand_deed admin (said.Spend time) = refl
 errand_deed admin said.End = refl
 errand_deed admin (said.EndStatement numbers) = refl
 errand_deed admin said.Quit = refl
-errand_deed admin (said.Sql text) = refl
+errand_deed admin (said.Sql text) = sql_same admin (truncation_of text)
 errand_deed admin (said.Repeat times) = refl
 errand_deed admin said.Done = refl
 
@@ -73,6 +52,10 @@ cell_fits (Some ReadWrite) (refs.Class other) id q = inl (cc)
 cell_fits None (refs.Class other) id q = inl (cc)
 cell_fits (Some ReadWrite) (refs.Lost kind) id q = cc
 cell_fits None (refs.Lost kind) id q = cc
+
+sql_may : (s : State) (admin : Administration) (what : Option Truncation) → MayDo false s (sql_deed admin what)
+sql_may s admin None = refl
+sql_may s admin (Some what) = refl
 
 may_do : (s : State) (admin : Administration) (line : BlockLine) → is_quit line ≡ false → MayDo false s (deed_on admin line)
 may_do s admin (said.Wait class) quits = (refl, record { cell = cell_fits None class })
@@ -85,9 +68,13 @@ may_do s admin (said.Spend time) quits = refl
 may_do s admin said.End quits = refl
 may_do s admin (said.EndStatement numbers) quits = refl
 may_do s admin said.Quit quits = cc
-may_do s admin (said.Sql text) quits = refl
+may_do s admin (said.Sql text) quits = sql_may s admin (truncation_of text)
 may_do s admin (said.Repeat times) quits = refl
 may_do s admin said.Done quits = refl
+
+sql_goes : (admin : Administration) (what : Option Truncation) → is_over false (sql_deed admin what) ≡ false
+sql_goes admin None = refl
+sql_goes admin (Some what) = refl
 
 goes_on : (admin : Administration) (line : BlockLine) → is_quit line ≡ false → is_over false (deed_on admin line) ≡ false
 goes_on admin (said.Wait class) quits = refl
@@ -100,20 +87,16 @@ goes_on admin (said.Spend time) quits = refl
 goes_on admin said.End quits = refl
 goes_on admin (said.EndStatement numbers) quits = refl
 goes_on admin said.Quit quits = cc
-goes_on admin (said.Sql text) quits = refl
+goes_on admin (said.Sql text) quits = sql_goes admin (truncation_of text)
 goes_on admin (said.Repeat times) quits = refl
 goes_on admin said.Done quits = refl
 
 -- lists with one more
-of_more : (lines : List BlockLine) (line : BlockLine) (parts : List Part) (p : Part) → AreOf lines parts → ((admin : Administration) → p.deed ≡ deed_on admin line) → AreOf (lines ++ line ∷ []) (parts ++ p ∷ [])
-of_more [] line [] p are one = (one, tt)
-of_more [] line (x ∷ xs) p are one = absurd are
-of_more (l ∷ ls) line [] p are one = absurd are
-of_more (l ∷ ls) line (x ∷ xs) p are one = (are.0, of_more ls line xs p are.1 one)
-
-parts_more : (s : State) (parts : List Part) (p : Part) → AreParts s parts → IsPart (state_behind s parts) p → AreParts s (parts ++ p ∷ [])
-parts_more s [] p are one = (one, tt)
-parts_more s (x ∷ xs) p are one = (are.0, parts_more (state_after s x.turns) xs p are.1 one)
+of_more : (admin : Administration) (lines : List BlockLine) (line : BlockLine) (parts : List Part) (p : Part) → AreOf admin lines parts → p.deed ≡ deed_on (admin_after admin lines) line → AreOf admin (lines ++ line ∷ []) (parts ++ p ∷ [])
+of_more admin [] line [] p are one = (one, tt)
+of_more admin [] line (x ∷ xs) p are one = absurd are
+of_more admin (l ∷ ls) line [] p are one = absurd are
+of_more admin (l ∷ ls) line (x ∷ xs) p are one = (are.0, of_more (admin_behind admin (errand_on l)) ls line xs p are.1 one)
 
 may_more : (over : Bool) (s : State) (parts : List Part) (p : Part) → MayDoAll over s parts → MayDo (over_behind over parts) (state_behind s parts) p.deed → MayDoAll over s (parts ++ p ∷ [])
 may_more over s [] p may one = (one, tt)
@@ -123,60 +106,32 @@ over_more : (over : Bool) (parts : List Part) (p : Part) → over_behind over (p
 over_more over [] p = refl
 over_more over (x ∷ xs) p = over_more (is_over over x.deed) xs p
 
-state_more : (s : State) (parts : List Part) (p : Part) → state_behind s (parts ++ p ∷ []) ≡ state_after (state_behind s parts) p.turns
-state_more s [] p = refl
-state_more s (x ∷ xs) p = state_more (state_after s x.turns) xs p
-
-calls_more : (parts : List Part) (p : Part) → parts_calls (parts ++ p ∷ []) ≡ part_calls p ++ parts_calls parts
-calls_more [] p = sym (append-nil (part_calls p))
-calls_more (x ∷ xs) p = ap (λ (z : List Call). z ++ part_calls x) (calls_more xs p) ∙ append_assoc (part_calls p) (parts_calls xs) (part_calls x)
-
-entries_more : (parts : List Part) (p : Part) → joined (entries_of (parts ++ p ∷ [])) ≡ joined (entries_of parts) ++ part_entries p
-unfolding joined
-entries_more [] p = append-nil (part_entries p)
-entries_more (x ∷ xs) p = ap (λ (z : List Entry). part_entries x ++ z) (entries_more xs p) ∙ sym (append_assoc (part_entries x) (joined (entries_of xs)) (part_entries p))
-
-none_joined : joined [] ≡ []
-unfolding joined
-none_joined = refl
-
 -- nothing was played
-pub played_nothing : (book : Book) (was : Opening → List Call → Type 0) → HavePlayed [] book book was was
-played_nothing book was = record {
-  parts = [];
-  are_of = tt;
-  are_parts = tt;
-  may = tt;
-  goes_on = refl;
-  state = refl;
-  did = did_as [] [] [] (joined []) book.journal book.journal was was refl (sym none_joined) (did_none book.journal was);
-}
+pub played_nothing : (admin : Administration) (book : Book) (was : Opening → List Call → Type 0) → HavePlayed [] admin book book was was
+played_nothing admin book was = record { parts = []; are_of = tt; may = tt; goes_on = refl; done = nothing book was }
 
 -- one line more
-pub played_more : (lines : List BlockLine) (line : BlockLine) (old at new : Book) (was mid now : Opening → List Call → Type 0) → is_quit line ≡ false → HavePlayed lines old at was mid → HasRun (errand_on line) at new mid now
-    → HavePlayed (lines ++ line ∷ []) old new was now
-played_more lines line old at new was mid now quits before run =
+pub played_more : (lines : List BlockLine) (line : BlockLine) (admin : Administration) (old at new : Book) (was mid now : Opening → List Call → Type 0) → is_quit line ≡ false → HavePlayed lines admin old at was mid
+    → HasActed (deed_of (admin_after admin lines) (errand_on line)) at new mid now → HavePlayed (lines ++ line ∷ []) admin old new was now
+played_more lines line admin old at new was mid now quits before run =
     let p : Part = run.part in
     let ps : List Part = before.parts in
-    let deed_is : (admin : Administration) → p.deed ≡ deed_on admin line = λ admin. run.deed admin ∙ errand_deed admin line in
-    let is_part : IsPart (state_behind old.state ps) p = subst (λ (s : State). IsPart s p) before.state run.is_part in
+    let after : Administration = admin_after admin lines in
+    let deed_is : p.deed ≡ deed_on after line = run.deed_is ∙ errand_deed after line in
     let may : MayDo (over_behind false ps) (state_behind old.state ps) p.deed =
-    subst (λ (b : Bool). MayDo b (state_behind old.state ps) p.deed) (sym before.goes_on)
-    (subst (MayDo false (state_behind old.state ps)) (sym (deed_is nobody)) (may_do (state_behind old.state ps) nobody line quits)) in
+    subst (λ (b : Bool). MayDo b (state_behind old.state ps) p.deed) (sym before.goes_on) (subst (MayDo false (state_behind old.state ps)) (sym deed_is) (may_do (state_behind old.state ps) after line quits)) in
     record {
       parts = ps ++ p ∷ [];
-      are_of = of_more lines line ps p before.are_of deed_is;
-      are_parts = parts_more old.state ps p before.are_parts is_part;
+      are_of = of_more admin lines line ps p before.are_of deed_is;
       may = may_more false old.state ps p before.may may;
-      goes_on = over_more false ps p ∙ (ap (λ (b : Bool). is_over b p.deed) before.goes_on ∙ (ap (λ (d : Deed). is_over false d) (deed_is nobody) ∙ goes_on nobody line quits));
-      state = run.state ∙ (ap (λ (s : State). state_after s p.turns) before.state ∙ sym (state_more old.state ps p));
-      did = did_as _ _ _ _ old.journal new.journal was now (sym (calls_more ps p)) (sym (entries_more ps p))
-          (did_then (parts_calls ps) (part_calls p) (joined (entries_of ps)) (part_entries p) old.journal at.journal new.journal was mid now before.did run.did);
+      goes_on = over_more false ps p ∙ (ap (λ (b : Bool). is_over b p.deed) before.goes_on ∙ (ap (λ (d : Deed). is_over false d) deed_is ∙ goes_on after line quits));
+      done = then ps (p ∷ []) old at new was mid now before.done run.done;
     }
 
 -- the kinds that are open behind a line
-pub run_kinds : (line : BlockLine) (old new : Book) (was now : Opening → List Call → Type 0) → HasRun (errand_on line) old new was now → kinds_at new.state ≡ kinds_behind (mark_of line) (kinds_at old.state)
-run_kinds line old new was now run = ap kinds_at run.state ∙ kinds_part old.state nobody line run.part run.is_part (run.deed nobody ∙ errand_deed nobody line)
+pub run_kinds : (admin : Administration) (line : BlockLine) (old new : Book) (was now : Opening → List Call → Type 0) → HasActed (deed_of admin (errand_on line)) old new was now
+    → kinds_at new.state ≡ kinds_behind (mark_of line) (kinds_at old.state)
+run_kinds admin line old new was now run = ap kinds_at run.done.state ∙ kinds_part old.state admin line run.part run.done.are_parts.0 (run.deed_is ∙ errand_deed admin line)
 
 -- a statement still lies around each stage
 lies_less : (kind : EventKind) (kinds : List EventKind) → StagesLie (kind ∷ kinds) → StagesLie kinds

@@ -3,3 +3,4 @@ pub mod Following
 pub mod Repeating
 pub mod Writing
 pub mod Costing
+pub mod Width

@@ -2,17 +2,21 @@
 use Rattle.std.proofs.Common.{ℕ, suc, ◌≡◌, ◌≤◌, ◌<◌, true, List, [], ◌∷◌, ◌++◌, length, drop, Option, Some, None, refl, ap, sym, ◌∙◌, subst, lit<, arith}
 use Rattle.std.specs.Prelude.{is_some, IfSome}
 use Rattle.std.proofs.lemmas.List.{append-nil}
+use Rattle.pfs_actions.specs.Done.{HasActed}
 use Rattle.pfs_admin.specs.States.{State as Administration}
+use Rattle.pfs_alone.specs.Spells.{Doing, around, doings_calls, label_of}
 use Rattle.pfs_classes.specs.declared.classes.ClassRef.{ClassRef}
 use Rattle.pfs_classes.specs.declared.classes.ClassRef.TheVariants as refs
+use Rattle.pfs_event.specs.declared.entry.Entry.{Entry}
 use Rattle.pfs_event.specs.Nesting.{OpenEvents, innermost_of, kind_of}
 use Rattle.pfs_event.specs.Order.{may_start}
 use Rattle.pfs_event.specs.declared.kind.EventKind.{EventKind}
 use Rattle.pfs_event.specs.declared.kind.EventKind.TheVariants.{Wait, Stage, Statement, Transaction}
 use Rattle.pfs_event.specs.declared.open.Open.{Open}
 use Rattle.pfs_levels.specs.Calls.{Call, Opening}
+use Rattle.pfs_model.specs.Journals.{joined}
 use Rattle.pfs_model.specs.declared.lines.Subject.{Subject}
-use Rattle.pfs_parts.specs.Deeds.{Deed, steps_for}
+use Rattle.pfs_parts.specs.Deeds.{Deed, Ending, Part, Spending, Staging, StageEnding, action_of, part_calls, part_entries, steps_for}
 use Rattle.pfs_runs.specs.Lines.{class_in}
 use Rattle.pfs_script.specs.declared.blocks.BlockLine.{BlockLine}
 use Rattle.pfs_script.specs.declared.blocks.BlockLine.TheVariants as said
@@ -25,34 +29,57 @@ use Rattle.pfs_session.specs.Turns.{Step, EndsEvent, Spends, Does, Played, stage
 use Rattle.pfs_session.specs.declared.events.Numbers.{Numbers}
 use Rattle.pfs_session.proofs.Playing.{played_one, played_then}
 use Rattle.pfs_facts.specs.Steps.{kinds_in}
-use Rattle.pfs_play.specs.declared.errands.Errand.{Errand}
 use Rattle.pfs_play.specs.declared.errands.Errand.TheVariants as ask
-use Rattle.pfs_play.specs.Errands.{deed_of, errand_on, MayBegin, MayRun, MayPlay, HasRun, StagesLie}
+use Rattle.pfs_truncations.specs.Texts.{truncation_of}
+use Rattle.pfs_truncations.specs.declared.truncations.Truncation.{Truncation}
+use Rattle.pfs_play.specs.Errands.{deed_of, errand_on, sql_errand, MayBegin, MayRun, MayPlay, StagesLie}
 
--- steps that are those of an errand's deed
-pub ran : (errand : Errand) (deed : Deed) (steps : List Step) (old new : Book) (was now : Opening → List Call → Type 0) → ((admin : Administration) → deed ≡ deed_of admin errand) → steps ≡ steps_for old.state deed
-    → Played steps old new was now → HasRun errand old new was now
-ran errand deed steps old new was now deeds same p = record {
-  part = record { deed = deed; turns = p.turns };
-  deed = deeds;
-  is_part = record { are_turns = p.are_turns; steps_are = p.steps_are ∙ same };
-  state = p.state_is;
-  did = p.did;
-}
+joined_one : (entries : List Entry) → joined (entries ∷ []) ≡ entries
+unfolding joined
+joined_one entries = append-nil entries
 
-pub stage_ran : (subject : Option Subject) (old new : Book) (was now : Opening → List Call → Type 0) → Played (stage_steps old.state.opened.events subject) old new was now → HasRun (ask.Stage subject) old new was now
-stage_ran (Some subject) old new was now p = ran (ask.Stage (Some subject)) _ _ old new was now (λ admin. refl) refl p
-stage_ran None old new was now p = ran (ask.Stage None) _ _ old new was now (λ admin. refl) refl p
+-- a line with no label of its own
+abbrev doing : Part → Doing
+doing p = record { part = p; label = record { session = 0; line = 0 }; labels = [] }
+
+one_doing : (p : Part) → action_of p.deed ≡ None → doings_calls (doing p ∷ []) ≡ part_calls p
+one_doing p plain = ap (λ (n : Option ℕ). around (doing p).label (doing p).labels n (part_calls p)) plain
+
+-- steps that are those of a deed which is no action
+pub ran : (deed : Deed) (steps : List Step) (old new : Book) (was now : Opening → List Call → Type 0) → action_of deed ≡ None → steps ≡ steps_for old.state deed
+    → Played steps old new was now → HasActed deed old new was now
+ran deed steps old new was now plain same p =
+    let its : Part = record { deed = deed; turns = p.turns } in
+    record {
+      part = its;
+      deed_is = refl;
+      done = record {
+        are_parts = (record { are_turns = p.are_turns; steps_are = p.steps_are ∙ same }, tt);
+        state = p.state_is;
+        entries_are = p.did.entries_are ∙ ap (λ (z : List Entry). old.journal.entries ++ z) (sym (joined_one (part_entries its)));
+        leads = λ start calls h. record {
+          doings = doing its ∷ [];
+          parts_are = refl;
+          labelled = (subst (λ (n : Option ℕ). IfSome n (λ k. (doing its).label ≡ label_of old.state)) (sym plain) tt, tt);
+          reached = subst (λ (z : List Call). now start (z ++ calls)) (sym (one_doing its plain)) (p.did.goes start calls h);
+        };
+      };
+    }
+
+pub stage_ran : (admin : Administration) (subject : Option Subject) (old new : Book) (was now : Opening → List Call → Type 0) → Played (stage_steps old.state.opened.events subject) old new was now
+    → HasActed (deed_of admin (ask.Stage subject)) old new was now
+stage_ran admin (Some subject) old new was now p = ran (Staging subject) _ old new was now refl refl p
+stage_ran admin None old new was now p = ran StageEnding _ old new was now refl refl p
 
 pub end_ran : (numbers : Numbers) (old at new : Book) (was mid now : Opening → List Call → Type 0) → Played (stage_steps old.state.opened.events None) old at was mid → Played (EndsEvent numbers ∷ []) at new mid now
-    → HasRun (ask.End numbers) old new was now
+    → HasActed (Ending numbers) old new was now
 end_ran numbers old at new was mid now p q =
-    ran (ask.End numbers) _ _ old new was now (λ admin. refl) (ap (λ (z : List Step). z ++ EndsEvent numbers ∷ []) (append-nil (stage_ends old.state.opened.events)))
+    ran (Ending numbers) _ old new was now refl (ap (λ (z : List Step). z ++ EndsEvent numbers ∷ []) (append-nil (stage_ends old.state.opened.events)))
     (played_then (stage_steps old.state.opened.events None) (EndsEvent numbers ∷ []) old at new was mid now p q)
 
-pub spend_ran : (time : ℕ) (old new : Book) (was : Opening → List Call → Type 0) → Does old.state (Spends time) [] [] new.state → new.journal ≡ old.journal → HasRun (ask.Spend time) old new was was
+pub spend_ran : (time : ℕ) (old new : Book) (was : Opening → List Call → Type 0) → Does old.state (Spends time) [] [] new.state → new.journal ≡ old.journal → HasActed (Spending time) old new was was
 spend_ran time old new was does same =
-    ran (ask.Spend time) _ _ old new was was (λ admin. refl) refl
+    ran (Spending time) _ old new was was refl refl
     (played_one (Spends time) [] [] new.state old new was was does refl (record { entries_are = ap (λ j. j.entries) same ∙ sym (append-nil old.journal.entries); goes = λ start calls h. h }))
 
 pub stage_depth : (subject : Option Subject) (old new : OpenEvents) → HasStaged subject old new → new.depth ≡ old.depth
@@ -109,6 +136,10 @@ some_open (what ∷ events) lie stands = at what.kind events refl lie
     at Statement events e lie = rw e (omega arith)
     at Transaction events e lie = rw e (omega arith)
 
+sql_may_run : (nest : OpenEvents) (what : Option Truncation) → MayRun (sql_errand what) nest
+sql_may_run nest None = tt
+sql_may_run nest (Some what) = tt
+
 pub may_run : (nest : OpenEvents) (line : BlockLine) → StagesLie (kinds_in nest.events) → MayPlay 62 nest.depth (kinds_in nest.events) line → MayRun (errand_on line) nest
 may_run nest (said.Wait class) lie may = begins nest _ may.stands (omega (arith, may.shallow, kinds_long nest.events)) (known_class class may.known) tt
 may_run nest (said.TableWait class table) lie may = begins nest _ may.stands (omega (arith, may.shallow, kinds_long nest.events)) (known_class class may.known) may.table
@@ -122,6 +153,6 @@ may_run nest (said.Spend time) lie may = tt
 may_run nest said.End lie may = some_open nest.events lie may.stands
 may_run nest (said.EndStatement numbers) lie may = some_open nest.events lie may.stands
 may_run nest said.Quit lie may = let quits = may.quits in cc
-may_run nest (said.Sql text) lie may = tt
+may_run nest (said.Sql text) lie may = sql_may_run nest (truncation_of text)
 may_run nest (said.Repeat times) lie may = tt
 may_run nest said.Done lie may = tt

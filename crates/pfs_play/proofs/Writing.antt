@@ -5,16 +5,17 @@ use Rattle.std.proofs.lemmas.Bool.Decides.{nat_tests}
 use Rattle.std.proofs.lemmas.Grind.{common_steps}
 use Rattle.std.proofs.lemmas.List.{append-nil, length-append, drop_all}
 use Rattle.pfs_event.specs.declared.kind.EventKind.{EventKind}
+use Rattle.pfs_admin.specs.States.{State as Administration}
 use Rattle.pfs_levels.specs.Calls.{Call, Opening}
 use Rattle.pfs_script.specs.declared.blocks.BlockLine.{BlockLine}
 use Rattle.pfs_script.specs.declared.blocks.BlockLine.TheVariants as said
 use Rattle.pfs_script.specs.Brackets.{kinds_behind}
 use Rattle.pfs_script.specs.Marks.{Repeated, mark_of, is_done, repeats_of, copies, written_from, written_out}
-use Rattle.pfs_play.specs.Errands.{CanPlay, HavePlayed, MayPlay, cost_on, cost_of, errand_on, kinds_after}
+use Rattle.pfs_play.specs.Errands.{CanPlay, HavePlayed, MayPlay, actions_of, actions_on, admin_after, cost_on, cost_of, errand_on, kinds_after}
 use Rattle.pfs_session.specs.States.{Book}
 use Rattle.pfs_play.specs.Repeats.{AllMayPlay, HaveGone, repeated}
 use Rattle.pfs_play.proofs.Following.{played_nothing}
-use Rattle.pfs_play.proofs.Repeating.{played_both}
+use Rattle.pfs_play.proofs.Repeating.{after_then, played_both}
 
 abbrev pub place : List BlockLine → ℕ
 place lines = position_or_len is_done lines
@@ -256,7 +257,11 @@ pub can_open : (classes depth : ℕ) (start : List EventKind) (lines : List Bloc
 can_open classes depth start [] kinds most may = tt
 can_open classes depth start (line ∷ rest) kinds most may = can_by classes depth kinds start line rest (is_done line) refl (λ k. can_open classes depth start rest k) most may
 
--- how many lines, what they cost, and the kinds behind them
+-- how many lines and actions, what they cost, and the kinds behind them
+pub actions_then : (xs ys : List BlockLine) → actions_on (xs ++ ys) ≡ actions_on xs + actions_on ys
+actions_then [] ys = omega arith
+actions_then (x ∷ xs) ys = ap (λ n. actions_of (errand_on x) + n) (actions_then xs ys) ∙ omega arith
+
 pub cost_then : (xs ys : List BlockLine) → cost_on (xs ++ ys) ≡ cost_on xs + cost_on ys
 cost_then [] ys = omega arith
 cost_then (x ∷ xs) ys = ap (λ n. cost_of (errand_on x) + n) (cost_then xs ys) ∙ omega arith
@@ -278,6 +283,11 @@ unfolding copies
 cost_copies zero lines = omega arith
 cost_copies (suc times) lines = cost_then lines (copies times lines) ∙ (ap (λ n. cost_on lines + n) (cost_copies times lines) ∙ omega arith)
 
+pub actions_copies : (times : ℕ) (lines : List BlockLine) → actions_on (copies times lines) ≡ times * actions_on lines
+unfolding copies
+actions_copies zero lines = omega arith
+actions_copies (suc times) lines = actions_then lines (copies times lines) ∙ (ap (λ n. actions_on lines + n) (actions_copies times lines) ∙ omega arith)
+
 pub kinds_copies : (kinds : List EventKind) (times : ℕ) (lines : List BlockLine) → kinds_after kinds lines ≡ kinds → kinds_after kinds (copies times lines) ≡ kinds
 unfolding copies
 kinds_copies kinds zero lines back = refl
@@ -291,6 +301,7 @@ pub record Rounds (classes depth : ℕ) (kinds : List EventKind) (times end : �
   pub others : AllMayPlay classes depth kinds None (drop (end + 1) lines)
   pub written : repeated times lines ≡ copies times (take end lines) ++ written_out (drop (end + 1) lines)
   pub lengths : length (repeated times lines) ≡ times * length (take end lines) + length (written_out (drop (end + 1) lines))
+  pub actions : actions_on (repeated times lines) ≡ times * actions_on (take end lines) + actions_on (written_out (drop (end + 1) lines))
   pub costs : cost_on (repeated times lines) ≡ times * cost_on (take end lines) + cost_on (written_out (drop (end + 1) lines))
   pub kinds_behind_it : kinds_after kinds (repeated times lines) ≡ kinds_after kinds (written_out (drop (end + 1) lines))
 
@@ -309,6 +320,7 @@ rounds_at classes depth kinds times end lines is may =
       others = round.others;
       written = written;
       lengths = ap length written ∙ (length-append (copies times body) others ∙ ap (λ n. n + length others) (length_copies times body));
+      actions = ap actions_on written ∙ (actions_then (copies times body) others ∙ ap (λ n. n + actions_on others) (actions_copies times body));
       costs = ap cost_on written ∙ (cost_then (copies times body) others ∙ ap (λ n. n + cost_on others) (cost_copies times body));
       kinds_behind_it = ap (kinds_after kinds) written ∙ (kinds_then kinds (copies times body) others ∙ ap (λ (k : List EventKind). kinds_after k others) (kinds_copies kinds times body round.back));
     })
@@ -351,6 +363,7 @@ pub record Played (classes depth : ℕ) (kinds : List EventKind) (lines rest : L
   pub others : AllMayPlay classes depth (kinds_after kinds (take 1 lines)) None (drop 1 lines)
   pub written : written_out lines ≡ take 1 lines ++ written_out (drop 1 lines)
   pub lengths : length (written_out lines) ≡ length (take 1 lines) + length (written_out (drop 1 lines))
+  pub actions : actions_on (written_out lines) ≡ actions_on (take 1 lines) + actions_on (written_out (drop 1 lines))
   pub costs : cost_on (written_out lines) ≡ cost_on (take 1 lines) + cost_on (written_out (drop 1 lines))
   pub count : 1 ≤ length lines
 
@@ -364,6 +377,7 @@ played classes depth kinds lines line rest are is may =
       others = both.1;
       written = written;
       lengths = ap length written ∙ omega arith;
+      actions = ap actions_on written ∙ omega arith;
       costs = ap cost_on written ∙ omega arith;
       count = omega arith;
     })
@@ -376,26 +390,42 @@ pub drop_both : (at n : ℕ) (lines : List BlockLine) → drop n (drop at lines)
 drop_both at n lines = grind (arith, common_steps)
 
 -- one front behind another
-pub gone_both : (whole mid rest : List BlockLine) (old at new : Book) (was then now : Opening → List Call → Type 0) → HaveGone whole mid old at was then → HaveGone mid rest at new then now → HaveGone whole rest old new was now
-gone_both whole mid rest old at new was then now p q = record {
-  first = p.first ++ q.first;
-  are = p.are ∙ (ap (λ (l : List BlockLine). p.first ++ l) q.are ∙ sym (append_assoc p.first q.first rest));
-  played = played_both p.first q.first old at new was then now p.played q.played;
-}
+pub gone_both : (whole mid rest : List BlockLine) (admin between after : Administration) (old at new : Book) (was then now : Opening → List Call → Type 0) → HaveGone whole mid admin between old at was then
+    → HaveGone mid rest between after at new then now → HaveGone whole rest admin after old new was now
+gone_both whole mid rest admin between after old at new was then now p q =
+    let more : HavePlayed q.first (admin_after admin p.first) at new then now = subst (λ (a : Administration). HavePlayed q.first a at new then now) p.after_is q.played in
+    record {
+      first = p.first ++ q.first;
+      are = p.are ∙ (ap (λ (l : List BlockLine). p.first ++ l) q.are ∙ sym (append_assoc p.first q.first rest));
+      played = played_both p.first q.first admin old at new was then now p.played more;
+      after_is = q.after_is ∙ (ap (λ (a : Administration). admin_after a q.first) p.after_is ∙ sym (after_then admin p.first q.first));
+    }
 
-pub gone_less : (whole rest : List BlockLine) (old new : Book) (was now : Opening → List Call → Type 0) → HaveGone whole rest old new was now → (length rest ≤ length whole) × (cost_on rest ≤ cost_on whole)
-gone_less whole rest old new was now p =
+-- no more lines are left than there were
+pub record IsLess (whole rest : List BlockLine) : Type 0 where
+  pub lines : length rest ≤ length whole
+  pub costs : cost_on rest ≤ cost_on whole
+  pub actions : actions_on rest ≤ actions_on whole
+
+pub gone_less : (whole rest : List BlockLine) (admin after : Administration) (old new : Book) (was now : Opening → List Call → Type 0) → HaveGone whole rest admin after old new was now → IsLess whole rest
+gone_less whole rest admin after old new was now p =
     let n : length whole ≡ length p.first + length rest = ap length p.are ∙ length-append p.first rest in
     let m : cost_on whole ≡ cost_on p.first + cost_on rest = ap cost_on p.are ∙ cost_then p.first rest in
-    (omega (arith, n), omega (arith, m))
+    let k : actions_on whole ≡ actions_on p.first + actions_on rest = ap actions_on p.are ∙ actions_then p.first rest in
+    record { lines = omega (arith, n); costs = omega (arith, m); actions = omega (arith, k) }
 
 pub at_the_end : (at : ℕ) (lines : List BlockLine) → length lines ≤ at → written_out (drop at lines) ≡ []
 at_the_end at lines most = ap written_out (drop_all at lines most) ∙ written_none
 
-pub gone_nowhere : (whole : List BlockLine) (old : Book) (was : Opening → List Call → Type 0) → HaveGone whole whole old old was was
-gone_nowhere whole old was = record { first = []; are = refl; played = played_nothing old was }
+pub gone_nowhere : (whole : List BlockLine) (admin : Administration) (old : Book) (was : Opening → List Call → Type 0) → HaveGone whole whole admin admin old old was was
+gone_nowhere whole admin old was = record { first = []; are = refl; played = played_nothing admin old was; after_is = refl }
 
 -- all were played where nothing is left
-pub gone_whole : (whole rest : List BlockLine) (old new : Book) (was now : Opening → List Call → Type 0) → rest ≡ [] → HaveGone whole rest old new was now → HavePlayed whole old new was now
-gone_whole whole rest old new was now none p =
-    subst (λ (l : List BlockLine). HavePlayed l old new was now) (sym (p.are ∙ (ap (λ (l : List BlockLine). p.first ++ l) none ∙ append-nil p.first))) p.played
+pub gone_all : (whole rest first : List BlockLine) → rest ≡ [] → whole ≡ first ++ rest → first ≡ whole
+gone_all whole rest first none are = sym (are ∙ (ap (λ (l : List BlockLine). first ++ l) none ∙ append-nil first))
+
+pub gone_whole : (whole rest : List BlockLine) (admin after : Administration) (old new : Book) (was now : Opening → List Call → Type 0) → rest ≡ [] → HaveGone whole rest admin after old new was now → HavePlayed whole admin old new was now
+gone_whole whole rest admin after old new was now none p = subst (λ (l : List BlockLine). HavePlayed l admin old new was now) (gone_all whole rest p.first none p.are) p.played
+
+pub gone_after : (whole rest : List BlockLine) (admin after : Administration) (old new : Book) (was now : Opening → List Call → Type 0) → rest ≡ [] → HaveGone whole rest admin after old new was now → after ≡ admin_after admin whole
+gone_after whole rest admin after old new was now none p = p.after_is ∙ ap (admin_after admin) (gone_all whole rest p.first none p.are)

@@ -1,15 +1,15 @@
 -- What lines of a script ask their session to do, and what it does.
-use Rattle.std.specs.Prelude.{ℕ, ◌≡◌, ◌<◌, ◌+◌, Bool, true, false, List, [], ◌∷◌, length, Some, None, IfSome}
+use Rattle.std.specs.Prelude.{ℕ, ◌≡◌, ◌<◌, ◌+◌, Bool, true, false, List, [], ◌∷◌, length, Option, Some, None, IfSome}
+use Rattle.pfs_actions.specs.Done.{HasDone}
 use Rattle.pfs_admin.specs.States.{State as Administration}
+use Rattle.pfs_admin.specs.Truncations.{has_truncated}
 use Rattle.pfs_event.specs.Nesting.{OpenEvents, MayStart}
 use Rattle.pfs_event.specs.declared.kind.EventKind.{EventKind}
 use Rattle.pfs_event.specs.declared.kind.EventKind.TheVariants.{Wait, Stage, Statement, Transaction}
 use Rattle.pfs_levels.specs.Calls.{Call, Opening}
-use Rattle.pfs_levels.specs.Moves.{Did}
-use Rattle.pfs_model.specs.Journals.{joined}
 use Rattle.pfs_model.specs.declared.lines.Subject.{Subject}
-use Rattle.pfs_parts.specs.Deeds.{Deed, Starting, Staging, StageEnding, Ending, Spending, Quitting, Part, IsPart, part_calls, part_entries, parts_calls}
-use Rattle.pfs_parts.specs.Shaped.{AreParts, MayDoAll, entries_of, state_behind, over_behind}
+use Rattle.pfs_parts.specs.Deeds.{Deed, Starting, Staging, StageEnding, Ending, Spending, Quitting, Truncating, Part}
+use Rattle.pfs_parts.specs.Shaped.{MayDoAll, over_behind}
 use Rattle.pfs_script.specs.declared.blocks.BlockLine.{BlockLine}
 use Rattle.pfs_script.specs.declared.blocks.BlockLine.TheVariants as said
 use Rattle.pfs_script.specs.Brackets.{kinds_behind, may_stand}
@@ -21,11 +21,18 @@ use Rattle.pfs_session.specs.Ends.{no_numbers}
 use Rattle.pfs_runs.specs.Lines.{wait_on, statement_on, transaction_on, stage_on}
 use Rattle.pfs_facts.specs.Deeds.{deed_on}
 use Rattle.pfs_facts.specs.Steps.{numbers_in}
+use Rattle.pfs_truncations.specs.Texts.{truncation_of}
+use Rattle.pfs_truncations.specs.declared.truncations.Truncation.{Truncation}
 use Rattle.pfs_play.specs.declared.errands.Errand.{Errand}
 use Rattle.pfs_play.specs.declared.errands.Errand.TheVariants as ask
 
--- what a line asks its session to do. No SQL runs yet, and no line that begins or ends a repeat stands among lines that
--- are written out: these let no time pass
+-- a TRUNCATE is an action; no other SQL runs yet: there no time passes
+abbrev pub sql_errand : Option Truncation → Errand
+sql_errand None = ask.Spend 0
+sql_errand (Some what) = ask.Truncate what
+
+-- what a line asks its session to do. No line that begins or ends a repeat stands among lines that are written out:
+-- these let no time pass
 abbrev pub errand_on : BlockLine → Errand
 errand_on (said.Wait class) = ask.Start (wait_on class None)
 errand_on (said.TableWait class table) = ask.Start (wait_on class (Some table))
@@ -37,21 +44,49 @@ errand_on (said.Spend time) = ask.Spend time
 errand_on said.End = ask.End no_numbers
 errand_on (said.EndStatement numbers) = ask.End (numbers_in numbers)
 errand_on said.Quit = ask.Quit
-errand_on (said.Sql text) = ask.Spend 0
+errand_on (said.Sql text) = sql_errand (truncation_of text)
 errand_on (said.Repeat times) = ask.Spend 0
 errand_on said.Done = ask.Spend 0
 
--- how many entries it writes at most, where it isn't the session's end
+-- how many entries it writes at most, where it isn't the session's end: for a truncation 194 to settle what is held,
+-- 20,000 for what it changes, its action and its answer
 abbrev pub cost_of : Errand → ℕ
 cost_of (ask.Start subject) = 1
 cost_of (ask.Stage subject) = 3
 cost_of (ask.End numbers) = 5
 cost_of (ask.Spend time) = 0
 cost_of ask.Quit = 0
+cost_of (ask.Truncate what) = 20196
 
 abbrev pub cost_on : List BlockLine → ℕ
 cost_on [] = 0
 cost_on (line ∷ lines) = cost_of (errand_on line) + cost_on lines
+
+-- how many actions it is, where it isn't the session's end
+abbrev pub actions_of : Errand → ℕ
+actions_of (ask.Start subject) = 0
+actions_of (ask.Stage subject) = 0
+actions_of (ask.End numbers) = 0
+actions_of (ask.Spend time) = 0
+actions_of ask.Quit = 0
+actions_of (ask.Truncate what) = 1
+
+abbrev pub actions_on : List BlockLine → ℕ
+actions_on [] = 0
+actions_on (line ∷ lines) = actions_of (errand_on line) + actions_on lines
+
+-- the administration behind it, where it isn't the session's end: each action is one step
+abbrev pub admin_behind : Administration → Errand → Administration
+admin_behind admin (ask.Start subject) = admin
+admin_behind admin (ask.Stage subject) = admin
+admin_behind admin (ask.End numbers) = admin
+admin_behind admin (ask.Spend time) = admin
+admin_behind admin ask.Quit = admin
+admin_behind admin (ask.Truncate what) = has_truncated admin what
+
+abbrev pub admin_after : Administration → List BlockLine → Administration
+admin_after admin [] = admin
+admin_after admin (line ∷ lines) = admin_after (admin_behind admin (errand_on line)) lines
 
 -- the deed that an errand is to its session, before this administration
 abbrev pub deed_of : Administration → Errand → Deed
@@ -61,6 +96,7 @@ deed_of admin (ask.Stage None) = StageEnding
 deed_of admin (ask.End numbers) = Ending numbers
 deed_of admin (ask.Spend time) = Spending time
 deed_of admin ask.Quit = Quitting admin
+deed_of admin (ask.Truncate what) = Truncating admin what
 
 -- what a start asks of its session
 pub record MayBegin (nest : OpenEvents) (subject : Subject) : Type 0 where
@@ -76,14 +112,7 @@ MayRun (ask.Stage subject) nest = StageMayStart (record nest { events = without_
 MayRun (ask.End numbers) nest = 0 < length (without_stage nest.events)
 MayRun (ask.Spend time) nest = Unit {0}
 MayRun ask.Quit nest = ⊥
-
--- a session ran an errand, and did nothing else: its part, with its calls of the store and its entries
-pub record HasRun (errand : Errand) (old new : Book) (was now : Opening → List Call → Type 0) : Type 0 where
-  pub part : Part
-  pub deed : (admin : Administration) → part.deed ≡ deed_of admin errand
-  pub is_part : IsPart old.state part
-  pub state : new.state ≡ state_behind old.state (part ∷ [])
-  pub did : Did (part_calls part) (part_entries part) old.journal new.journal was now
+MayRun (ask.Truncate what) nest = Unit {0}
 
 -- a statement lies around each stage
 abbrev pub StagesLie : List EventKind → Type 0
@@ -125,19 +154,18 @@ abbrev pub kinds_after : List EventKind → List BlockLine → List EventKind
 kinds_after kinds [] = kinds
 kinds_after kinds (line ∷ lines) = kinds_after (kinds_behind (mark_of line) kinds) lines
 
--- each part is the line's, whatever the administration
-abbrev pub AreOf : List BlockLine → List Part → Type 0
-AreOf [] [] = Unit {0}
-AreOf (line ∷ lines) (p ∷ ps) = ((admin : Administration) → p.deed ≡ deed_on admin line) × AreOf lines ps
-AreOf _ _ = ⊥
+-- each part is the line's, before the administration that the lines before it leave
+abbrev pub AreOf : Administration → List BlockLine → List Part → Type 0
+AreOf admin [] [] = Unit {0}
+AreOf admin (line ∷ lines) (p ∷ ps) =
+    (p.deed ≡ deed_on admin line) × AreOf (admin_behind admin (errand_on line)) lines ps
+AreOf _ _ _ = ⊥
 
--- a session did these lines, one after another, and nothing else
-pub record HavePlayed (lines : List BlockLine) (old new : Book) (was now : Opening → List Call → Type 0) : Type 0
-  where
-    pub parts : List Part
-    pub are_of : AreOf lines parts
-    pub are_parts : AreParts old.state parts
-    pub may : MayDoAll false old.state parts
-    pub goes_on : over_behind false parts ≡ false
-    pub state : new.state ≡ state_behind old.state parts
-    pub did : Did (parts_calls parts) (joined (entries_of parts)) old.journal new.journal was now
+-- a session did these lines, one after another, the first before this administration, and nothing else
+pub record HavePlayed (lines : List BlockLine) (admin : Administration) (old new : Book) (was now : Opening
+    → List Call → Type 0) : Type 0 where
+  pub parts : List Part
+  pub are_of : AreOf admin lines parts
+  pub may : MayDoAll false old.state parts
+  pub goes_on : over_behind false parts ≡ false
+  pub done : HasDone parts old new was now

@@ -1,5 +1,6 @@
 -- The lines of a block with their repeats, as they may be played.
 use Rattle.std.specs.Prelude.{ℕ, ◌≡◌, List, [], ◌∷◌, ◌++◌, Option, Some, None}
+use Rattle.pfs_admin.specs.States.{State as Administration}
 use Rattle.pfs_event.specs.declared.kind.EventKind.{EventKind}
 use Rattle.pfs_script.specs.declared.blocks.BlockLine.{BlockLine}
 use Rattle.pfs_script.specs.declared.blocks.BlockLine.TheVariants as said
@@ -8,7 +9,7 @@ use Rattle.pfs_script.specs.Marks.{mark_of}
 use Rattle.pfs_levels.specs.Calls.{Call, Opening}
 use Rattle.pfs_script.specs.Marks.{written_from}
 use Rattle.pfs_session.specs.States.{Book}
-use Rattle.pfs_play.specs.Errands.{HavePlayed, MayPlay}
+use Rattle.pfs_play.specs.Errands.{HavePlayed, MayPlay, admin_after}
 
 -- Where events of these kinds are open, each line may be played where it stands; the lines of a repeat, that began where
 -- events of those kinds were open, stand once, and at its end events of the same kinds are open again.
@@ -20,12 +21,13 @@ AllMayPlay classes depth kinds (Some start) (said.Done ∷ rest) =
 AllMayPlay classes depth kinds start (line ∷ rest) =
     MayPlay classes depth kinds line × AllMayPlay classes depth (kinds_behind (mark_of line) kinds) start rest
 
--- of lines that are written out, those before the others were played
-pub record HaveGone (whole rest : List BlockLine) (old new : Book) (was now : Opening → List Call → Type 0) : Type 0
-  where
-    pub first : List BlockLine
-    pub are : whole ≡ first ++ rest
-    pub played : HavePlayed first old new was now
+-- of lines that are written out, those before the others were played, from the one administration to the other
+pub record HaveGone (whole rest : List BlockLine) (admin after : Administration) (old new : Book) (was now : Opening
+    → List Call → Type 0) : Type 0 where
+  pub first : List BlockLine
+  pub are : whole ≡ first ++ rest
+  pub played : HavePlayed first admin old new was now
+  pub after_is : after ≡ admin_after admin first
 
 -- the lines of a repeat, from here on, written out
 abbrev pub repeated : ℕ → List BlockLine → List BlockLine

@@ -2,11 +2,13 @@
 
 ghost use Rattle.std.specs.Prelude.{◌≡◌, ◌<◌, ◌≤◌, ◌+◌, ◌*◌, ◌∷◌, [], length, drop};
 ghost use Rattle.pfs_script.specs.Marks.{written_out};
-ghost use Rattle.pfs_play.specs.Errands.{cost_of, cost_on, errand_on};
+ghost use Rattle.pfs_truncations.specs.Texts.{truncation_of};
+ghost use Rattle.pfs_play.specs.Errands.{actions_on, cost_of, cost_on, errand_on, sql_errand};
 ghost use Rattle.pfs_play.specs.Repeats.{repeated};
 
 use crate::repeats::{done_in, times_of};
 use pfs_script::BlockLine;
+use pfs_truncations::truncation_of;
 
 // So many lines, and the entries that they take.
 #[derive(Clone, Copy)]
@@ -19,7 +21,7 @@ struct Cost {
 pub fn written_cost(lines: &[BlockLine]) -> u64
     requires short { length (written_out lines.now) ≤ 200000 }
     ensures cost { result ≡ cost_on (written_out lines.now) }
-    ensures small { result ≤ 1000000 }
+    ensures small { result ≤ 5 * length (written_out lines.now) + 20191 * actions_on (written_out lines.now) }
 {
     let mut entries = 0;
     let mut at = 0;
@@ -86,8 +88,11 @@ fn rounds_cost(body: &[BlockLine], times: u64) -> u64
     requires short { times * length body.now ≤ 200000 }
     ensures { result ≡ times * cost_on body.now }
 {
-    // Of empty rounds there may be up to 2^64 - 1.
+    // Of empty rounds there may be up to 2^64 - 1, and of lines that run no time any number.
     if body.is_empty() {
+        return 0;
+    }
+    if times == 0 {
         return 0;
     }
     let mut entries = 0;
@@ -99,7 +104,8 @@ fn rounds_cost(body: &[BlockLine], times: u64) -> u64
 
 // A line that is written out.
 fn line_cost(line: &BlockLine) -> u64
-    ensures { result ≡ cost_of (errand_on line.now) }
+    ensures cost { result ≡ cost_of (errand_on line.now) }
+    ensures few { result ≤ 20196 }
 {
     match line {
         BlockLine::Wait(_)
@@ -108,10 +114,18 @@ fn line_cost(line: &BlockLine) -> u64
         | BlockLine::Transaction(_) => 1,
         BlockLine::Stage(_) | BlockLine::StageEnd => 3,
         BlockLine::End | BlockLine::EndStatement(_) => 5,
-        BlockLine::Spend(_)
-        | BlockLine::Sql(_)
-        | BlockLine::Quit
-        | BlockLine::Repeat(_)
-        | BlockLine::Done => 0,
+        BlockLine::Sql(text) => sql_cost(text.as_bytes()),
+        BlockLine::Spend(_) | BlockLine::Quit | BlockLine::Repeat(_) | BlockLine::Done => 0,
+    }
+}
+
+// One SQL command.
+fn sql_cost(text: &[u8]) -> u64
+    ensures cost { result ≡ cost_of (sql_errand (truncation_of text.now)) }
+    ensures few { result ≤ 20196 }
+{
+    match truncation_of(text) {
+        Some(_) => 20_196,
+        None => 0,
     }
 }

@@ -5,13 +5,15 @@ ghost use Rattle.pfs_admin.specs.States.{State};
 ghost use Rattle.pfs_runs.specs.Lines.{class_in, cell_in, wait_on, statement_on, transaction_on, stage_on};
 ghost use Rattle.pfs_facts.specs.Deeds.{deed_on};
 ghost use Rattle.pfs_facts.specs.Steps.{numbers_in};
-ghost use Rattle.pfs_play.specs.Errands.{deed_of, errand_on, cost_of};
+ghost use Rattle.pfs_truncations.specs.Texts.{truncation_of};
+ghost use Rattle.pfs_play.specs.Errands.{deed_of, errand_on, sql_errand};
 
 use pfs_classes::{ClassId, ClassRef};
 use pfs_event::EventKind;
 use pfs_model::Subject;
 use pfs_script::{Access, BlockLine, StatementNumbers};
 use pfs_session::Numbers;
+use pfs_truncations::{Truncation, truncation_of};
 
 /// The id of the class of transactions.
 const TRANSACTION: u64 = 62;
@@ -32,6 +34,8 @@ pub enum Errand {
     Spend(u64),
     /// The session ends, an action.
     Quit,
+    /// A table is truncated, an action.
+    Truncate(Truncation),
 }
 
 fn class_in(class: ClassRef) -> Option<u64>
@@ -117,8 +121,18 @@ fn numbers_in(numbers: &StatementNumbers) -> Numbers
     }
 }
 
-/// What a line asks its session to do. No SQL runs yet, and no line that begins or ends a repeat stands among lines
-/// that are written out: these let no time pass.
+// A TRUNCATE is an action; no other SQL runs yet: there no time passes.
+fn sql_errand(what: Option<Truncation>) -> Errand
+    ensures { result ≡ sql_errand what }
+{
+    match what {
+        Some(what) => Errand::Truncate(what),
+        None => Errand::Spend(0),
+    }
+}
+
+/// What a line asks its session to do. No line that begins or ends a repeat stands among lines that are written out:
+/// these let no time pass.
 pub fn errand_of(line: &BlockLine) -> Errand
     ensures asks { result ≡ errand_on line.now }
     ensures deed { (admin : State) → deed_of admin result ≡ deed_on admin line.now }
@@ -134,6 +148,7 @@ pub fn errand_of(line: &BlockLine) -> Errand
         BlockLine::End => Errand::End(Numbers::NONE),
         BlockLine::EndStatement(numbers) => Errand::End(numbers_in(numbers)),
         BlockLine::Quit => Errand::Quit,
-        BlockLine::Sql(_) | BlockLine::Repeat(_) | BlockLine::Done => Errand::Spend(0),
+        BlockLine::Sql(text) => sql_errand(truncation_of(text.as_bytes())),
+        BlockLine::Repeat(_) | BlockLine::Done => Errand::Spend(0),
     }
 }

@@ -1,35 +1,53 @@
 //! Running one errand of a session.
 
-ghost use Rattle.std.specs.Prelude.{◌≡◌, ◌<◌, ◌≤◌, ◌+◌, ◌^◌, ℕ, None, length};
+ghost use Rattle.std.specs.Prelude.{◌≡◌, ◌<◌, ◌≤◌, ◌+◌, ◌*◌, ◌^◌, ℕ, None, Some, length};
+ghost use Rattle.pfs_actions.specs.Done.{HasActed};
+ghost use Rattle.pfs_admin.specs.Truncations.{has_truncated};
 ghost use Rattle.pfs_admin.specs.Works.{Leaves};
+ghost use Rattle.pfs_parts.specs.Deeds.{Ending, Truncating};
 ghost use Rattle.pfs_session.specs.Settles.{owed_by_state};
-ghost use Rattle.pfs_play.specs.Errands.{HasRun, MayRun, cost_of};
+ghost use Rattle.pfs_session.specs.States.{nothing_held};
+ghost use Rattle.pfs_play.specs.Errands.{MayRun, actions_of, admin_behind, cost_of, deed_of};
 
 use crate::errands::Errand;
-use pfs_levels::Rows;
+use pfs_actions::truncate;
+use pfs_admin::Admin;
+use pfs_levels::{Acts, Rows};
 use pfs_session::{Numbers, Session};
+use pfs_truncations::Truncation;
 
 /// Runs an errand of a session that isn't its end.
-pub fn play<R: Rows>(session: &mut Session, rows: &mut R, errand: &Errand)
+pub fn play<A: Acts>(session: &mut Session, rows: &mut A, admin: &mut Admin, errand: &Errand)
     requires may { MayRun errand.now session.old.state.opened }
     requires early { session.old.state.drawn + 1 < 2 ^ 64 }
-    requires alone { (r : ℕ) → 0 < r → R.hand rows.old r ≡ None }
-    requires spare { 2 ≤ R.left rows.old }
+    requires rare { session.old.state.actions + actions_of errand.now < 2 ^ 64 }
+    requires wide { length session.old.state.held ≡ 193 }
+    requires few { admin.old.actions + actions_of errand.now ≤ 2 ^ 47 }
+    requires idle { (r : ℕ) → A.hand rows.old r ≡ None }
+    requires lent { A.words rows.old ≡ Some admin.old.words }
+    requires spare { 2 + 20192 * actions_of errand.now ≤ A.left rows.old }
     requires room { cost_of errand.now ≤ session.old.journal.room }
-    ensures run { HasRun errand.now session.old session.new (R.reached rows.old) (R.reached rows.new) }
+    ensures run { HasActed (deed_of admin.old errand.now) session.old session.new (A.reached rows.old)
+        (A.reached rows.new) }
+    ensures admin { admin.new ≡ admin_behind admin.old errand.now }
     ensures drawn { session.new.state.drawn ≤ session.old.state.drawn + 1 }
+    ensures actions { session.new.state.actions ≡ session.old.state.actions + actions_of errand.now }
     ensures rest { session.new.state ≡ record session.old.state {
       clock = session.new.state.clock;
       drawn = session.new.state.drawn;
       opened = session.new.state.opened;
       held = session.new.state.held;
+      actions = session.new.state.actions;
+      last = session.new.state.last;
     } }
+    ensures last { actions_of errand.now ≡ 0 → session.new.state.last ≡ session.old.state.last }
     ensures depth { session.new.state.opened.depth ≡ session.old.state.opened.depth }
+    ensures wide { length session.new.state.held ≡ 193 }
     ensures owed { length (owed_by_state session.new.state) ≤ length (owed_by_state session.old.state) + 2 }
-    ensures leaves { Leaves 2 (cost_of errand.now) (R.hand rows.old) (R.hand rows.new) (R.left rows.old) (R.left rows.new)
-        (R.draws rows.old) (R.draws rows.new) (R.name rows.old) (R.name rows.new) session.old.journal
-        session.new.journal }
-    ensures words { R.words rows.new ≡ R.words rows.old }
+    ensures leaves { Leaves (2 + 20192 * actions_of errand.now) (cost_of errand.now) (A.hand rows.old)
+        (A.hand rows.new) (A.left rows.old) (A.left rows.new) (A.draws rows.old) (A.draws rows.new)
+        (A.name rows.old) (A.name rows.new) session.old.journal session.new.journal }
+    ensures lent { A.words rows.new ≡ Some admin.new.words }
 {
     match errand {
         Errand::Start(subject) => {
@@ -40,6 +58,7 @@ pub fn play<R: Rows>(session: &mut Session, rows: &mut R, errand: &Errand)
         }
         Errand::End(numbers) => end(session, rows, numbers),
         Errand::Spend(time) => session.spend(*time),
+        Errand::Truncate(what) => truncate_table(session, rows, admin, *what),
         Errand::Quit => unreachable!(),
     }
 }
@@ -51,7 +70,7 @@ fn end<R: Rows>(session: &mut Session, rows: &mut R, numbers: &Numbers)
     requires alone { (r : ℕ) → 0 < r → R.hand rows.old r ≡ None }
     requires spare { 2 ≤ R.left rows.old }
     requires room { 5 ≤ session.old.journal.room }
-    ensures run { HasRun (Errand.End numbers.now) session.old session.new (R.reached rows.old) (R.reached rows.new) }
+    ensures run { HasActed (Ending numbers.now) session.old session.new (R.reached rows.old) (R.reached rows.new) }
     ensures drawn { session.new.state.drawn ≤ session.old.state.drawn + 1 }
     ensures rest { session.new.state ≡ record session.old.state {
       clock = session.new.state.clock;
@@ -68,4 +87,32 @@ fn end<R: Rows>(session: &mut Session, rows: &mut R, numbers: &Numbers)
 {
     session.stage(rows, &None);
     session.end(rows, numbers);
+}
+
+// Truncates a table. Whatever is held and whatever stands in the tables, it takes no more than this.
+fn truncate_table<A: Acts>(session: &mut Session, rows: &mut A, admin: &mut Admin, what: Truncation)
+    requires rare { session.old.state.actions + 1 < 2 ^ 64 }
+    requires wide { length session.old.state.held ≡ 193 }
+    requires few { admin.old.actions < 2 ^ 47 }
+    requires idle { (r : ℕ) → A.hand rows.old r ≡ None }
+    requires lent { A.words rows.old ≡ Some admin.old.words }
+    requires spare { 20194 ≤ A.left rows.old }
+    requires room { 20196 ≤ session.old.journal.room }
+    ensures run { HasActed (Truncating admin.old what) session.old session.new (A.reached rows.old)
+        (A.reached rows.new) }
+    ensures admin { admin.new ≡ has_truncated admin.old what }
+    ensures rest { session.new.state ≡ record session.old.state {
+      held = nothing_held;
+      actions = session.old.state.actions + 1;
+      last = session.new.state.last;
+    } }
+    ensures owed { length (owed_by_state session.new.state) ≤ length (owed_by_state session.old.state) }
+    ensures leaves { Leaves 20194 20196 (A.hand rows.old) (A.hand rows.new) (A.left rows.old) (A.left rows.new)
+        (A.draws rows.old) (A.draws rows.new) (A.name rows.old) (A.name rows.new) session.old.journal
+        session.new.journal }
+    ensures lent { A.words rows.new ≡ Some admin.new.words }
+{
+    // The most that it may come to is asked for the law that comes with it.
+    let _ = admin.truncation_cost(what);
+    truncate(session, rows, admin, what);
 }

@@ -6,40 +6,58 @@ ghost use Rattle.pfs_admin.specs.Works.{Leaves};
 ghost use Rattle.pfs_facts.specs.Steps.{kinds_at};
 ghost use Rattle.pfs_script.specs.Marks.{copies, is_done, repeats_of, written_out};
 ghost use Rattle.pfs_play.specs.Repeats.{AllMayPlay, HaveGone, repeated};
-ghost use Rattle.pfs_play.specs.Errands.{CanPlay, HavePlayed, StagesLie, kinds_after, cost_on};
+ghost use Rattle.pfs_play.specs.Errands.{CanPlay, HavePlayed, StagesLie, actions_on, admin_after, cost_on, kinds_after};
 
 use crate::errands::errand_of;
 use crate::lines::play_lines;
 use crate::playing::play;
-use pfs_levels::Rows;
+use pfs_admin::Admin;
+use pfs_levels::Acts;
 use pfs_script::BlockLine;
 use pfs_session::Session;
 
 /// Plays the lines of a repeat so many times, each time as they stand: none of them ends the session, and at their end
 /// events of the same kinds are open as at their beginning.
-pub fn play_times<R: Rows>(session: &mut Session, rows: &mut R, body: &[BlockLine], times: u64)
+pub fn play_times<A: Acts>(
+    session: &mut Session,
+    rows: &mut A,
+    admin: &mut Admin,
+    body: &[BlockLine],
+    times: u64,
+)
     requires can { CanPlay 62 session.old.state.opened.depth (kinds_at session.old.state) body.now }
     requires same { kinds_after (kinds_at session.old.state) body.now ≡ kinds_at session.old.state }
     requires lie { StagesLie (kinds_at session.old.state) }
     requires early { session.old.state.drawn + times * length body.now < 2 ^ 64 }
-    requires alone { (r : ℕ) → 0 < r → R.hand rows.old r ≡ None }
-    requires spare { 2 * (times * length body.now) ≤ R.left rows.old }
+    requires rare { session.old.state.actions + times * actions_on body.now < 2 ^ 64 }
+    requires wide { length session.old.state.held ≡ 193 }
+    requires few { admin.old.actions + times * actions_on body.now ≤ 2 ^ 47 }
+    requires idle { (r : ℕ) → A.hand rows.old r ≡ None }
+    requires lent { A.words rows.old ≡ Some admin.old.words }
+    requires spare { 2 * (times * length body.now) + 20192 * (times * actions_on body.now) ≤ A.left rows.old }
     requires room { times * cost_on body.now ≤ session.old.journal.room }
-    ensures played { HavePlayed (copies times body.now) session.old session.new (R.reached rows.old)
-        (R.reached rows.new) }
+    ensures played { HavePlayed (copies times body.now) admin.old session.old session.new (A.reached rows.old)
+        (A.reached rows.new) }
+    ensures admin { admin.new ≡ admin_after admin.old (copies times body.now) }
     ensures kinds { kinds_at session.new.state ≡ kinds_at session.old.state }
     ensures drawn { session.new.state.drawn ≤ session.old.state.drawn + times * length body.now }
+    ensures counted { admin.new.actions ≡ admin.old.actions + times * actions_on body.now }
+    ensures actions { session.new.state.actions ≡ session.old.state.actions + times * actions_on body.now }
     ensures rest { session.new.state ≡ record session.old.state {
       clock = session.new.state.clock;
       drawn = session.new.state.drawn;
       opened = session.new.state.opened;
       held = session.new.state.held;
+      actions = session.new.state.actions;
+      last = session.new.state.last;
     } }
+    ensures last { times * actions_on body.now ≡ 0 → session.new.state.last ≡ session.old.state.last }
     ensures depth { session.new.state.opened.depth ≡ session.old.state.opened.depth }
-    ensures leaves { Leaves (2 * (times * length body.now)) (times * cost_on body.now) (R.hand rows.old)
-        (R.hand rows.new) (R.left rows.old) (R.left rows.new) (R.draws rows.old) (R.draws rows.new)
-        (R.name rows.old) (R.name rows.new) session.old.journal session.new.journal }
-    ensures words { R.words rows.new ≡ R.words rows.old }
+    ensures wide { length session.new.state.held ≡ 193 }
+    ensures leaves { Leaves (2 * (times * length body.now) + 20192 * (times * actions_on body.now))
+        (times * cost_on body.now) (A.hand rows.old) (A.hand rows.new) (A.left rows.old) (A.left rows.new)
+        (A.draws rows.old) (A.draws rows.new) (A.name rows.old) (A.name rows.new) session.old.journal session.new.journal }
+    ensures lent { A.words rows.new ≡ Some admin.new.words }
 {
     // Empty rounds change nothing, and there may be up to 2^64 - 1 of them.
     if body.is_empty() {
@@ -47,7 +65,7 @@ pub fn play_times<R: Rows>(session: &mut Session, rows: &mut R, body: &[BlockLin
     }
     for round in 0..times {
         let _ = round;
-        play_lines(session, rows, body);
+        play_lines(session, rows, admin, body);
     }
 }
 
@@ -76,9 +94,10 @@ pub(crate) fn done_in(lines: &[BlockLine]) -> Option<usize>
 
 // Plays the lines behind the beginning of a repeat, up to its end, so many times; once where it has no end. So many of
 // the lines it took.
-fn play_repeat<R: Rows>(
+fn play_repeat<A: Acts>(
     session: &mut Session,
-    rows: &mut R,
+    rows: &mut A,
+    admin: &mut Admin,
     lines: &[BlockLine],
     times: u64,
 ) -> usize
@@ -86,12 +105,17 @@ fn play_repeat<R: Rows>(
         (Some (kinds_at session.old.state)) lines.now }
     requires lie { StagesLie (kinds_at session.old.state) }
     requires early { session.old.state.drawn + length (repeated times lines.now) < 2 ^ 64 }
-    requires alone { (r : ℕ) → 0 < r → R.hand rows.old r ≡ None }
-    requires spare { 2 * length (repeated times lines.now) ≤ R.left rows.old }
+    requires rare { session.old.state.actions + actions_on (repeated times lines.now) < 2 ^ 64 }
+    requires wide { length session.old.state.held ≡ 193 }
+    requires few { admin.old.actions + actions_on (repeated times lines.now) ≤ 2 ^ 47 }
+    requires idle { (r : ℕ) → A.hand rows.old r ≡ None }
+    requires lent { A.words rows.old ≡ Some admin.old.words }
+    requires spare { 2 * length (repeated times lines.now) + 20192 * actions_on (repeated times lines.now)
+        ≤ A.left rows.old }
     requires room { cost_on (repeated times lines.now) ≤ session.old.journal.room }
     ensures count { result ≤ length lines.now }
-    ensures gone { HaveGone (repeated times lines.now) (written_out (drop result lines.now)) session.old session.new
-        (R.reached rows.old) (R.reached rows.new) }
+    ensures gone { HaveGone (repeated times lines.now) (written_out (drop result lines.now)) admin.old admin.new
+        session.old session.new (A.reached rows.old) (A.reached rows.new) }
     ensures may { AllMayPlay 62 session.old.state.opened.depth (kinds_at session.new.state) None
         (drop result lines.now) }
     ensures kinds { kinds_after (kinds_at session.new.state) (written_out (drop result lines.now))
@@ -99,43 +123,61 @@ fn play_repeat<R: Rows>(
     ensures lie { StagesLie (kinds_at session.new.state) }
     ensures drawn { session.new.state.drawn + length (written_out (drop result lines.now))
         ≤ session.old.state.drawn + length (repeated times lines.now) }
+    ensures actions { session.new.state.actions + actions_on (written_out (drop result lines.now))
+        ≡ session.old.state.actions + actions_on (repeated times lines.now) }
+    ensures counted { admin.new.actions + actions_on (written_out (drop result lines.now))
+        ≡ admin.old.actions + actions_on (repeated times lines.now) }
     ensures rest { session.new.state ≡ record session.old.state {
       clock = session.new.state.clock;
       drawn = session.new.state.drawn;
       opened = session.new.state.opened;
       held = session.new.state.held;
+      actions = session.new.state.actions;
+      last = session.new.state.last;
     } }
+    ensures last { actions_on (repeated times lines.now) ≡ 0 → session.new.state.last ≡ session.old.state.last }
     ensures depth { session.new.state.opened.depth ≡ session.old.state.opened.depth }
-    ensures leaves { Leaves (2 * (length (repeated times lines.now) - length (written_out (drop result lines.now))))
-        (cost_on (repeated times lines.now) - cost_on (written_out (drop result lines.now))) (R.hand rows.old)
-        (R.hand rows.new) (R.left rows.old) (R.left rows.new) (R.draws rows.old) (R.draws rows.new)
-        (R.name rows.old) (R.name rows.new) session.old.journal session.new.journal }
-    ensures words { R.words rows.new ≡ R.words rows.old }
+    ensures wide { length session.new.state.held ≡ 193 }
+    ensures leaves { Leaves (2 * (length (repeated times lines.now) - length (written_out (drop result lines.now)))
+        + 20192 * (actions_on (repeated times lines.now) - actions_on (written_out (drop result lines.now))))
+        (cost_on (repeated times lines.now) - cost_on (written_out (drop result lines.now))) (A.hand rows.old)
+        (A.hand rows.new) (A.left rows.old) (A.left rows.new) (A.draws rows.old) (A.draws rows.new)
+        (A.name rows.old) (A.name rows.new) session.old.journal session.new.journal }
+    ensures lent { A.words rows.new ≡ Some admin.new.words }
 {
     match done_in(lines) {
         Some(end) => {
-            play_times(session, rows, &lines[..end], times);
+            play_times(session, rows, admin, &lines[..end], times);
             end + 1
         }
         None => {
-            play_lines(session, rows, lines);
+            play_lines(session, rows, admin, lines);
             lines.len()
         }
     }
 }
 
 // Plays the line that stands first, or the repeat that it begins. So many of the lines it took.
-fn play_next<R: Rows>(session: &mut Session, rows: &mut R, lines: &[BlockLine]) -> usize
+fn play_next<A: Acts>(
+    session: &mut Session,
+    rows: &mut A,
+    admin: &mut Admin,
+    lines: &[BlockLine],
+) -> usize
     requires some { 0 < length lines.now }
     requires may { AllMayPlay 62 session.old.state.opened.depth (kinds_at session.old.state) None lines.now }
     requires lie { StagesLie (kinds_at session.old.state) }
     requires early { session.old.state.drawn + length (written_out lines.now) < 2 ^ 64 }
-    requires alone { (r : ℕ) → 0 < r → R.hand rows.old r ≡ None }
-    requires spare { 2 * length (written_out lines.now) ≤ R.left rows.old }
+    requires rare { session.old.state.actions + actions_on (written_out lines.now) < 2 ^ 64 }
+    requires wide { length session.old.state.held ≡ 193 }
+    requires few { admin.old.actions + actions_on (written_out lines.now) ≤ 2 ^ 47 }
+    requires idle { (r : ℕ) → A.hand rows.old r ≡ None }
+    requires lent { A.words rows.old ≡ Some admin.old.words }
+    requires spare { 2 * length (written_out lines.now) + 20192 * actions_on (written_out lines.now) ≤ A.left rows.old }
     requires room { cost_on (written_out lines.now) ≤ session.old.journal.room }
     ensures count { (0 < result) × (result ≤ length lines.now) }
-    ensures gone { HaveGone (written_out lines.now) (written_out (drop result lines.now)) session.old session.new
-        (R.reached rows.old) (R.reached rows.new) }
+    ensures gone { HaveGone (written_out lines.now) (written_out (drop result lines.now)) admin.old admin.new
+        session.old session.new (A.reached rows.old) (A.reached rows.new) }
     ensures may { AllMayPlay 62 session.old.state.opened.depth (kinds_at session.new.state) None
         (drop result lines.now) }
     ensures kinds { kinds_after (kinds_at session.new.state) (written_out (drop result lines.now))
@@ -143,26 +185,35 @@ fn play_next<R: Rows>(session: &mut Session, rows: &mut R, lines: &[BlockLine]) 
     ensures lie { StagesLie (kinds_at session.new.state) }
     ensures drawn { session.new.state.drawn + length (written_out (drop result lines.now))
         ≤ session.old.state.drawn + length (written_out lines.now) }
+    ensures actions { session.new.state.actions + actions_on (written_out (drop result lines.now))
+        ≡ session.old.state.actions + actions_on (written_out lines.now) }
+    ensures counted { admin.new.actions + actions_on (written_out (drop result lines.now))
+        ≡ admin.old.actions + actions_on (written_out lines.now) }
     ensures rest { session.new.state ≡ record session.old.state {
       clock = session.new.state.clock;
       drawn = session.new.state.drawn;
       opened = session.new.state.opened;
       held = session.new.state.held;
+      actions = session.new.state.actions;
+      last = session.new.state.last;
     } }
+    ensures last { actions_on (written_out lines.now) ≡ 0 → session.new.state.last ≡ session.old.state.last }
     ensures depth { session.new.state.opened.depth ≡ session.old.state.opened.depth }
-    ensures leaves { Leaves (2 * (length (written_out lines.now) - length (written_out (drop result lines.now))))
-        (cost_on (written_out lines.now) - cost_on (written_out (drop result lines.now))) (R.hand rows.old)
-        (R.hand rows.new) (R.left rows.old) (R.left rows.new) (R.draws rows.old) (R.draws rows.new)
-        (R.name rows.old) (R.name rows.new) session.old.journal session.new.journal }
-    ensures words { R.words rows.new ≡ R.words rows.old }
+    ensures wide { length session.new.state.held ≡ 193 }
+    ensures leaves { Leaves (2 * (length (written_out lines.now) - length (written_out (drop result lines.now)))
+        + 20192 * (actions_on (written_out lines.now) - actions_on (written_out (drop result lines.now))))
+        (cost_on (written_out lines.now) - cost_on (written_out (drop result lines.now))) (A.hand rows.old)
+        (A.hand rows.new) (A.left rows.old) (A.left rows.new) (A.draws rows.old) (A.draws rows.new)
+        (A.name rows.old) (A.name rows.new) session.old.journal session.new.journal }
+    ensures lent { A.words rows.new ≡ Some admin.new.words }
 {
     let Some((first, others)) = lines.split_first() else {
         return 0;
     };
     match times_of(first) {
-        Some(times) => 1 + play_repeat(session, rows, others, times),
+        Some(times) => 1 + play_repeat(session, rows, admin, others, times),
         None => {
-            play_lines(session, rows, &lines[..1]);
+            play_lines(session, rows, admin, &lines[..1]);
             1
         }
     }
@@ -170,32 +221,48 @@ fn play_next<R: Rows>(session: &mut Session, rows: &mut R, lines: &[BlockLine]) 
 
 /// Plays the lines of a block, each repeat so many times as it says; one that isn't done runs once. None of them ends
 /// the session.
-pub fn play_written<R: Rows>(session: &mut Session, rows: &mut R, lines: &[BlockLine])
+pub fn play_written<A: Acts>(
+    session: &mut Session,
+    rows: &mut A,
+    admin: &mut Admin,
+    lines: &[BlockLine],
+)
     requires may { AllMayPlay 62 session.old.state.opened.depth (kinds_at session.old.state) None lines.now }
     requires lie { StagesLie (kinds_at session.old.state) }
     requires early { session.old.state.drawn + length (written_out lines.now) < 2 ^ 64 }
-    requires alone { (r : ℕ) → 0 < r → R.hand rows.old r ≡ None }
-    requires spare { 2 * length (written_out lines.now) ≤ R.left rows.old }
+    requires rare { session.old.state.actions + actions_on (written_out lines.now) < 2 ^ 64 }
+    requires wide { length session.old.state.held ≡ 193 }
+    requires few { admin.old.actions + actions_on (written_out lines.now) ≤ 2 ^ 47 }
+    requires idle { (r : ℕ) → A.hand rows.old r ≡ None }
+    requires lent { A.words rows.old ≡ Some admin.old.words }
+    requires spare { 2 * length (written_out lines.now) + 20192 * actions_on (written_out lines.now) ≤ A.left rows.old }
     requires room { cost_on (written_out lines.now) ≤ session.old.journal.room }
-    ensures played { HavePlayed (written_out lines.now) session.old session.new (R.reached rows.old)
-        (R.reached rows.new) }
+    ensures played { HavePlayed (written_out lines.now) admin.old session.old session.new (A.reached rows.old)
+        (A.reached rows.new) }
+    ensures admin { admin.new ≡ admin_after admin.old (written_out lines.now) }
     ensures kinds { kinds_at session.new.state ≡ kinds_after (kinds_at session.old.state) (written_out lines.now) }
     ensures lie { StagesLie (kinds_at session.new.state) }
     ensures drawn { session.new.state.drawn ≤ session.old.state.drawn + length (written_out lines.now) }
+    ensures counted { admin.new.actions ≡ admin.old.actions + actions_on (written_out lines.now) }
+    ensures actions { session.new.state.actions ≡ session.old.state.actions + actions_on (written_out lines.now) }
     ensures rest { session.new.state ≡ record session.old.state {
       clock = session.new.state.clock;
       drawn = session.new.state.drawn;
       opened = session.new.state.opened;
       held = session.new.state.held;
+      actions = session.new.state.actions;
+      last = session.new.state.last;
     } }
+    ensures last { actions_on (written_out lines.now) ≡ 0 → session.new.state.last ≡ session.old.state.last }
     ensures depth { session.new.state.opened.depth ≡ session.old.state.opened.depth }
-    ensures leaves { Leaves (2 * length (written_out lines.now)) (cost_on (written_out lines.now)) (R.hand rows.old)
-        (R.hand rows.new) (R.left rows.old) (R.left rows.new) (R.draws rows.old) (R.draws rows.new)
-        (R.name rows.old) (R.name rows.new) session.old.journal session.new.journal }
-    ensures words { R.words rows.new ≡ R.words rows.old }
+    ensures wide { length session.new.state.held ≡ 193 }
+    ensures leaves { Leaves (2 * length (written_out lines.now) + 20192 * actions_on (written_out lines.now))
+        (cost_on (written_out lines.now)) (A.hand rows.old) (A.hand rows.new) (A.left rows.old) (A.left rows.new)
+        (A.draws rows.old) (A.draws rows.new) (A.name rows.old) (A.name rows.new) session.old.journal session.new.journal }
+    ensures lent { A.words rows.new ≡ Some admin.new.words }
 {
     let mut at = 0;
     while at < lines.len() {
-        at += play_next(session, rows, &lines[at..]);
+        at += play_next(session, rows, admin, &lines[at..]);
     }
 }

@@ -10,6 +10,7 @@ mod PhaseSplits
 mod PhaseSessions
 mod OwnLines
 mod Totals
+mod Truncating
 mod Blocks
 mod Phases
 pub mod Examples

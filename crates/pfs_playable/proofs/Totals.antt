@@ -26,11 +26,11 @@ use Rattle.pfs_playable.proofs.OwnBlocks.{none_block, connected, resumed}
 
 -- what stands in front of a line that is no repeat, and of one that ends none
 
-abbrev NoRepeat : Option BlockLine → Type 0
+abbrev pub NoRepeat : Option BlockLine → Type 0
 NoRepeat (Some (said.Repeat times)) = ⊥
 NoRepeat _ = Unit {0}
 
-abbrev NoDone : Option BlockLine → Type 0
+abbrev pub NoDone : Option BlockLine → Type 0
 NoDone (Some said.Done) = ⊥
 NoDone _ = Unit {0}
 
@@ -47,11 +47,11 @@ rounds times body until =
     unwrap_or (option_map (λ (more : List Form). (times - 1) * (body + length more)) until) 0
 
 -- the lines of a repeat so far, with this one or without
-abbrev with_one : Option BlockLine → List BlockLine → List BlockLine
+abbrev pub with_one : Option BlockLine → List BlockLine → List BlockLine
 with_one None body = body
 with_one (Some line) body = body ++ line ∷ []
 
-front_some : (one : Option BlockLine) (loop : Repeated) (rest : List BlockLine) → NoDone one
+pub front_some : (one : Option BlockLine) (loop : Repeated) (rest : List BlockLine) → NoDone one
     → written_from (Some loop) (with_front one rest)
     ≡ written_from (Some (record { times = loop.times; body = with_one one loop.body })) rest
 unfolding written_from
@@ -76,7 +76,7 @@ copied (suc (suc times)) body =
     rw (length-append body (copies (suc times) body))
     (copy_more times (length body) (length (copies (suc times) body)) rest)
 
-times_more : (times a b : ℕ) → a ≤ b → times * a ≤ times * b
+pub times_more : (times a b : ℕ) → a ≤ b → times * a ≤ times * b
 times_more times a b h = grind (arith, h)
 
 rounds_more : (times body longer : ℕ) (line : Form) (until : Option (List Form)) → longer ≤ body + 1
@@ -103,7 +103,7 @@ again_rounds times lines None e = rw e refl
 again_rounds times lines (Some more) e =
     rw e (rw (sum_ones more) (ap (λ n. (times - 1) * n) (nothing_added (length more))))
 
-until_other : (line : Form) (lines : List Form) → is_done line ≡ false
+pub until_other : (line : Form) (lines : List Form) → is_done line ≡ false
     → until_done (line ∷ lines) ≡ option_map (λ more. line ∷ more) (until_done lines)
 until_other line lines d = rw d refl
 
@@ -120,12 +120,12 @@ none_table number None = (tt, tt)
 none_table None (Some one) = (tt, tt)
 none_table (Some number) (Some one) = (tt, tt)
 
-begins : (times : ℕ) (rest : List BlockLine) → written_from None (said.Repeat times ∷ rest)
+pub begins : (times : ℕ) (rest : List BlockLine) → written_from None (said.Repeat times ∷ rest)
     ≡ written_from (Some (record { times = times; body = [] })) rest
 unfolding written_from
 begins times rest = refl
 
-ends : (loop : Repeated) (rest : List BlockLine) → written_from (Some loop) (said.Done ∷ rest)
+pub ends : (loop : Repeated) (rest : List BlockLine) → written_from (Some loop) (said.Done ∷ rest)
     ≡ copies loop.times loop.body ++ written_from None rest
 unfolding written_from
 ends loop rest = refl
@@ -184,7 +184,7 @@ module _ (sense : Sense) where
   abbrev Short : Option Repeated → List Form → Type 0
   Short loop lines = written loop lines + ahead lines ≤ most_of loop lines
 
-  plain : (line : Form) → ((times : ℕ) → line ≡ form.Repeat (Some times) → ⊥) → NoRepeat (block_line sense line)
+  pub plain : (line : Form) → ((times : ℕ) → line ≡ form.Repeat (Some times) → ⊥) → NoRepeat (block_line sense line)
   plain (form.Wait class) h = (none_class said.Wait (sense.class class) (λ one. (tt, tt))).0
   plain (form.TableWait class schema name) h =
       (none_table (table_number sense.tables schema name) (sense.class class)).0
@@ -197,7 +197,7 @@ module _ (sense : Sense) where
   plain (form.Repeat None) h = tt
   plain _ h = tt
 
-  no_done : (line : Form) → is_done line ≡ false → NoDone (block_line sense line)
+  pub no_done : (line : Form) → is_done line ≡ false → NoDone (block_line sense line)
   no_done (form.Wait class) h = (none_class said.Wait (sense.class class) (λ one. (tt, tt))).1
   no_done (form.TableWait class schema name) h =
       (none_table (table_number sense.tables schema name) (sense.class class)).1

@@ -13,7 +13,7 @@ use Rattle.pfs_script.specs.Events.{blocks_for, lines_for}
 use Rattle.pfs_script.specs.Marks.{mark_of, written_out}
 use Rattle.pfs_script.specs.Runnable.{AreDistinct}
 use Rattle.pfs_script.specs.Scripts.{IsScript}
-use Rattle.pfs_play.specs.Errands.{kinds_after}
+use Rattle.pfs_play.specs.Errands.{actions_on, kinds_after}
 use Rattle.pfs_play.specs.Repeats.{AllMayPlay}
 
 -- the kinds of the events that lines leave open, from the innermost on
@@ -34,6 +34,13 @@ written_among blocks = sum_by (λ (block : Block). length (written_out block.lin
 
 abbrev pub written_in : List Phase → ℕ
 written_in phases = sum_by (λ (phase : Phase). written_among phase.blocks) phases
+
+-- how many actions these are beside connects and quits: a truncation is one
+abbrev pub actions_among : List Block → ℕ
+actions_among blocks = sum_by (λ (block : Block). actions_on (written_out block.lines)) blocks
+
+abbrev pub actions_in : List Phase → ℕ
+actions_in phases = sum_by (λ (phase : Phase). actions_among phase.blocks) phases
 
 abbrev pub end_of : Bool → List BlockLine
 end_of true = said.Quit ∷ []
@@ -84,6 +91,11 @@ PlayableLaw = (text : List ℕ) (setting : Setting) (phases before : List Phase)
 abbrev pub TotalLaw : Type 0
 TotalLaw = (text : List ℕ) (setting : Setting) (phases : List Phase) → IsScript Whole text setting phases
     → written_in phases ≤ 200000
+
+-- and truncate at most 250 times, each of the weight of 20,000 lines
+abbrev pub ActionsLaw : Type 0
+ActionsLaw = (text : List ℕ) (setting : Setting) (phases : List Phase) → IsScript Whole text setting phases
+    → actions_in phases ≤ 250
 
 -- each block is begun by a line, so there are as few
 abbrev pub FewLaw : Type 0

@@ -1,7 +1,7 @@
 //! Laws of the definitions.
 
 ghost use Rattle.pfs_playable.specs.Examples.{WorkedPhases};
-ghost use Rattle.pfs_playable.specs.Playable.{FewLaw, LinesLaw, NamedLaw, PlayableLaw, TotalLaw};
+ghost use Rattle.pfs_playable.specs.Playable.{ActionsLaw, FewLaw, LinesLaw, NamedLaw, PlayableLaw, TotalLaw};
 
 /// The blocks of each phase of any script may be played, behind the phases before it.
 pub fn playable()
@@ -11,6 +11,11 @@ pub fn playable()
 /// With each repeat written out the blocks of any script have at most 200,000 lines together.
 pub fn total()
     ensures { TotalLaw }
+{}
+
+/// With each repeat written out the blocks of any script truncate at most 250 times together.
+pub fn actions()
+    ensures { ActionsLaw }
 {}
 
 /// Any script has at most 200,000 blocks.

@@ -1,4 +1,4 @@
--- No entry of a journal asks for an answer, since no line of its session does.
+-- No entry of a journal tells how many rows an answer has, since no line of its session asks for rows.
 use Rattle.std.proofs.Common.{ℕ, ◌≡◌, Bool, true, false, ◌&&◌, cond, List, [], ◌∷◌, ◌++◌, map, Option, None, Result, Ok, Err, refl, sym, ap, ◌∙◌, subst}
 use Rattle.std.specs.List.{filter_map, cons_option}
 use Rattle.std.proofs.lemmas.Bool.{and_parts}
@@ -24,7 +24,7 @@ use Rattle.pfs_model.specs.declared.shapes.Ask.TheVariants as asks
 use Rattle.pfs_model.specs.declared.shapes.Item.{Item}
 use Rattle.pfs_model.specs.declared.shapes.Often.{Often}
 use Rattle.pfs_model.specs.declared.shapes.Often.TheVariants.{One, Maybe, Many}
-use Rattle.pfs_parts.specs.Deeds.{Connecting, Starting, Staging, StageEnding, Ending, Spending, Quitting, Closing, Deed, Part, line_of, part_entries}
+use Rattle.pfs_parts.specs.Deeds.{Connecting, Starting, Staging, StageEnding, Ending, Spending, Quitting, Truncating, Closing, Deed, Part, line_of, part_entries}
 use Rattle.pfs_parts.specs.Shaped.{entries_of, lines_of}
 use Rattle.pfs_parts.specs.Stints.{blocks_of}
 use Rattle.pfs_reportable.specs.Reportable.{BlocksLaw, IsAnswerless}
@@ -144,6 +144,7 @@ deed_other context StageEnding = stage_other context.slot context.opened
 deed_other context (Ending numbers) = both_other context.slot context.opened
 deed_other context (Spending time) = refl
 deed_other context (Quitting admin) = other_append (settling context.held) _ (settling_other context.held) refl
+deed_other context (Truncating admin what) = other_append (settling context.held) _ (settling_other context.held) refl
 deed_other context Closing = settling_other context.held
 
 -- ---- the journals

@@ -24,7 +24,7 @@ TablesLaw = (setting : Setting) (reads : List TableRead) → All IsText setting.
     → map (λ (read : TableRead). read.table) reads ≡ final_order
     → All IsTable (flat_map (table_report setting) reads)
 
--- the journal of a spell goes with no answers
+-- the journal of a spell goes with no answers of rows
 abbrev pub IsAnswerless : Spell → Type 0
 IsAnswerless spell = AreAnswered (joined (entries_of (parts_in spell.doings))) []
 

@@ -12,7 +12,7 @@ pub fn tables()
     ensures { TablesLaw }
 {}
 
-/// No entry of sessions that run one after another asks for an answer.
+/// No entry of sessions that run one after another tells how many rows an answer has.
 pub fn blocks()
     ensures { BlocksLaw }
 {

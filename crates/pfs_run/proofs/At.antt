@@ -10,6 +10,7 @@ use Rattle.pfs_journal.specs.declared.blocks.BlockReport.{BlockReport}
 use Rattle.pfs_journal.specs.declared.report.PhaseParts.{PhaseParts}
 use Rattle.pfs_levels.specs.Calls.{Call, Opening}
 use Rattle.pfs_levels.specs.declared.answers.Word.{Word}
+use Rattle.pfs_play.specs.Errands.{actions_on}
 use Rattle.pfs_ruled.specs.Ruled.{labels_of}
 use Rattle.pfs_runs.specs.Lines.{change_in}
 use Rattle.pfs_script.specs.Marks.{written_out}
@@ -34,13 +35,13 @@ module _ (setting : Setting) (phases before : List Phase) (first : List Block) (
       (along.seated block.session here.playable.low here.playable.high) goes
 
   pub slots_at : length admin.kept.now.places.threads ≤ 32
-  slots_at = subst (λ (a : Administration). length a.kept.now.places.threads ≤ 32) (sym along.course.admin_is) (few_slots setting (change_in phases) (labels_of spells) along.limits)
+  slots_at = subst (λ (a : Administration). length a.kept.now.places.threads ≤ 32) (sym along.course.admin_is) (few_slots setting (change_in phases) (labels_of spells))
 
-  pub spare_at : 2 * length (written_out block.lines) + 588 ≤ left
-  spare_at = omega (arith, along.spare, here.few, here.playable.short)
+  pub spare_at : 2 * length (written_out block.lines) + 20192 * actions_on (written_out block.lines) + 588 ≤ left
+  spare_at = omega (arith, along.spare, here.few, here.playable.short, here.rare)
 
-  pub actions_at : admin.actions + 1 < 2 ^ 47
-  actions_at = omega (arith, along.acted, here.few)
+  pub actions_at : admin.actions + actions_on (written_out block.lines) + 1 < 2 ^ 47
+  actions_at = omega (arith, along.acted, here.few, here.rare)
 
   pub statements_at : (n : ℕ) → n < 2 ^ 63 → lost.statements + n < 2 ^ 64
   statements_at n less = omega (arith, along.few_statements, here.few, less)

@@ -1,10 +1,10 @@
 -- Each line of a session starts one event at most, so a block says of few that they were lost.
-use Rattle.std.proofs.Common.{ℕ, suc, ◌≡◌, ◌≤◌, ◌+◌, Bool, true, false, List, [], ◌∷◌, ◌++◌, length, map, Option, Some, None, refl, ap, sym, ◌∙◌, subst, length-append, arith}
-use Rattle.std.proofs.lemmas.List.{length-map}
+use Rattle.std.proofs.Common.{ℕ, suc, ◌≡◌, ◌≤◌, ◌+◌, Bool, true, false, List, [], ◌∷◌, ◌++◌, length, Option, Some, None, refl, ap, sym, ◌∙◌, subst, length-append, arith}
 use Rattle.pfs_admin.specs.Asks.{work_of_connect, work_of_quit}
 use Rattle.pfs_admin.specs.States.{State as Administration, seat_at}
+use Rattle.pfs_admin.specs.Truncations.{work_of_truncation}
 use Rattle.pfs_admin.specs.Works.{Work, flagging_entries, signs_entries}
-use Rattle.pfs_course.specs.Course.{connected_by, connecting, deeds_in, deeds_of}
+use Rattle.pfs_course.specs.Course.{connected_by, connecting, deeds_along, deeds_in, deeds_of}
 use Rattle.pfs_ends.specs.Counts.{started}
 use Rattle.pfs_ends.proofs.Started.{started_one, started_then}
 use Rattle.pfs_event.specs.Verdicts.{is_let_through}
@@ -12,7 +12,6 @@ use Rattle.pfs_event.specs.declared.entry.Entry.{Entry}
 use Rattle.pfs_event.specs.declared.entry.Entry.TheVariants as says
 use Rattle.pfs_event.specs.declared.open.Open.{Open}
 use Rattle.pfs_event.specs.declared.verdict.Verdict.{Verdict}
-use Rattle.pfs_facts.specs.Deeds.{deed_on}
 use Rattle.pfs_levels.specs.Calls.{Call}
 use Rattle.pfs_levels.specs.Moves.{moves_entries}
 use Rattle.pfs_levels.specs.declared.answers.Added.{Added}
@@ -23,14 +22,15 @@ use Rattle.pfs_parts.proofs.Acting.{connect_plain, quiet_plains, work_quiet}
 use Rattle.pfs_parts.proofs.Pieces.{is_plain}
 use Rattle.pfs_parts.proofs.Settled.{ArePlain, settle_plain}
 use Rattle.pfs_parts.proofs.Written.{ends_by, has_stage}
-use Rattle.pfs_parts.specs.Deeds.{Deed, Connecting, Starting, Staging, StageEnding, Ending, Spending, Quitting, Closing, Part, part_entries, steps_for}
+use Rattle.pfs_parts.specs.Deeds.{Deed, Connecting, Starting, Staging, StageEnding, Ending, Spending, Quitting, Truncating, Closing, Part, part_entries, steps_for}
 use Rattle.pfs_parts.specs.Shaped.{AreParts, entries_of}
+use Rattle.pfs_play.specs.Errands.{admin_behind, errand_on}
 use Rattle.pfs_script.specs.declared.blocks.BlockLine.{BlockLine}
 use Rattle.pfs_script.specs.declared.blocks.Connect.{Connect}
 use Rattle.pfs_session.specs.Ends.{EndsIn, added_entry}
 use Rattle.pfs_session.specs.Settles.{owed_by_state}
 use Rattle.pfs_session.specs.States.{State}
-use Rattle.pfs_session.specs.Turns.{Step, StartsEvent, EndsEvent, Spends, SettlesHeld, Connects, Quits, Does, Works, Turn, AreTurns, state_after, stage_ends, steps_of, turns_entries}
+use Rattle.pfs_session.specs.Turns.{Step, StartsEvent, EndsEvent, Spends, SettlesHeld, Connects, Quits, Truncates, Does, Works, Turn, AreTurns, state_after, stage_ends, steps_of, turns_entries}
 use Rattle.pfs_session.specs.declared.events.Numbers.{Numbers}
 
 -- entries that start no event say of none that it was lost
@@ -54,6 +54,7 @@ starts_in (Spends time) = 0
 starts_in SettlesHeld = 0
 starts_in (Connects admin user host) = 0
 starts_in (Quits admin) = 0
+starts_in (Truncates admin what) = 0
 
 abbrev starts_of : List Step → ℕ
 starts_of [] = 0
@@ -85,6 +86,12 @@ step_few test s after SettlesHeld calls entries d = let e = ap (started test) d.
 step_few test s after (Connects admin user host) calls entries d =
     let e = works_none test (work_of_connect admin s.number user host) admin.words _ calls entries (connect_plain (admin.actions + 1) (seat_at admin s.number user host)) d.0 in omega (arith, e)
 step_few test s after (Quits admin) calls entries d = let e = works_none test (work_of_quit admin s.number) admin.words _ calls entries refl d.0 in omega (arith, e)
+step_few test s after (Truncates admin what) calls entries d =
+    let changes = works_none test (work_of_truncation admin what) admin.words _ calls d.changes refl d.works in
+    let both = started_then test d.changes (says.Reply 0 ∷ []) in
+    let answer = plain_one test (says.Reply 0) refl in
+    let e = ap (started test) d.entries_are in
+    omega (arith, changes, both, answer, e)
 
 turns_few : (test : Verdict → Bool) (s : State) (turns : List Turn) → AreTurns s turns → started test (turns_entries turns) ≤ starts_of (steps_of turns)
 turns_few test s [] are = omega arith
@@ -109,6 +116,7 @@ deed_few s StageEnding = omega (arith, starts_then (stage_ends s.opened.events) 
 deed_few s (Ending numbers) = omega (arith, starts_then (stage_ends s.opened.events) (EndsEvent numbers ∷ []), stage_none s.opened.events)
 deed_few s (Spending time) = omega arith
 deed_few s (Quitting admin) = omega arith
+deed_few s (Truncating admin what) = omega arith
 deed_few s Closing = omega arith
 
 parts_few : (test : Verdict → Bool) (s : State) (parts : List Part) → AreParts s parts → started test (joined (entries_of parts)) ≤ length parts
@@ -128,12 +136,16 @@ connect_few : (admin : Administration) (names : Option Connect) → length (conn
 connect_few admin None = omega arith
 connect_few admin (Some names) = omega arith
 
+along_length : (admin : Administration) (lines : List BlockLine) → length (deeds_along admin lines) ≡ length lines
+along_length admin [] = refl
+along_length admin (line ∷ lines) = ap suc (along_length (admin_behind admin (errand_on line)) lines)
+
 pub block_few : (test : Verdict → Bool) (s : State) (parts : List Part) (admin : Administration) (number : ℕ) (names : Option Connect) (lines : List BlockLine) → AreParts s parts → deeds_in parts ≡ deeds_of admin number names lines → length lines ≤ 200000
     → started test (joined (entries_of parts)) ≤ 200002
 block_few test s parts admin number names lines are deeds short =
     let count = ap length deeds in
-    let rest : List Deed = map (deed_on (connected_by admin number names)) lines in
+    let rest : List Deed = deeds_along (connected_by admin number names) lines in
     let sum = length-append (connecting admin names) (rest ++ Closing ∷ []) in
     let more = length-append rest (Closing ∷ []) in
-    let same = length-map lines (deed_on (connected_by admin number names)) in
+    let same = along_length (connected_by admin number names) lines in
     omega (arith, count, sum, more, same, deeds_length parts, connect_few admin names, short, parts_few test s parts are)

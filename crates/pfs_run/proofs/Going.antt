@@ -28,7 +28,7 @@ use Rattle.pfs_levels.specs.Calls.{Call, Opening}
 use Rattle.pfs_levels.specs.declared.answers.Word.{Word}
 use Rattle.pfs_model.specs.Chains.{each_of, times}
 use Rattle.pfs_parts.specs.Shaped.{over_behind}
-use Rattle.pfs_play.specs.Errands.{StagesLie, kinds_after}
+use Rattle.pfs_play.specs.Errands.{StagesLie, actions_on, kinds_after}
 use Rattle.pfs_play.specs.Repeats.{AllMayPlay}
 use Rattle.pfs_play.proofs.Writing.{kinds_then}
 use Rattle.pfs_playable.specs.Playable.{HasBody, end_of, kinds_before, kinds_left, lines_among}
@@ -112,8 +112,8 @@ pub next_along : (setting : Setting) (phases before : List Phase) (first : List 
     → IsDone setting phases before first block others after (along.earlier ++ along.current) admin new_admin book paused along.start along.calls now
     → waiting.state ≡ paused.state → waiting.journal.entries ≡ [] → paused.state.held ≡ nothing_held
     → kinds_at paused.state ≡ kinds_after (kinds_at book.state) (written_out block.lines) → StagesLie (kinds_at paused.state) → paused.state.drawn ≤ book.state.drawn + length (written_out block.lines)
-    → paused.state.opened.depth ≡ book.state.opened.depth → paused.state.actions ≤ book.state.actions + 2
-    → ((r : ℕ) → hand_new r ≡ hand_old r) → left_old ≤ left_new + (2 * length (written_out block.lines) + 588) → words_new ≡ Some new_admin.words → new_admin.actions ≤ admin.actions + 2
+    → paused.state.opened.depth ≡ book.state.opened.depth → paused.state.actions ≤ book.state.actions + actions_on (written_out block.lines) + 2
+    → ((r : ℕ) → hand_new r ≡ hand_old r) → left_old ≤ left_new + (2 * length (written_out block.lines) + 20192 * actions_on (written_out block.lines) + 588) → words_new ≡ Some new_admin.words → new_admin.actions ≤ admin.actions + actions_on (written_out block.lines) + 2
     → new_seats ≡ slice_set (slice_set seats (block.session - 1) None) (block.session - 1) (Some waiting)
     → new_lost.statements ≡ lost.statements + lost_statements paused.journal.entries → new_lost.waits ≡ lost.waits + lost_waits paused.journal.entries
     → report.session ≡ block.session → report.entries ≡ paused.journal.entries → report.answers ≡ [] → new_told ≡ told ++ report ∷ []
@@ -156,8 +156,8 @@ next_along setting phases before first block others after was now hand_old hand_
       alike = subst (λ (ss : List Spell). LeadAlike (doings_calls done.doings ++ along.calls) (calls_of ss)) all (leads_more spells spell along.calls along.alike);
       idle = λ row. hand row ∙ along.idle row;
       lent = words;
-      spare = omega (arith, count, short, left, along.spare);
-      acted = omega (arith, count, counted, along.acted);
+      spare = omega (arith, count, short, here.rare, left, along.spare);
+      acted = omega (arith, count, here.rare, counted, along.acted);
       wide = ap length seats_are ∙ (length-set (slice_set seats (block.session - 1) None) (block.session - 1) (Some waiting) ∙ (length-set seats (block.session - 1) None ∙ along.wide));
       seated = subst (λ (ss : List Spell). (session : ℕ) → 1 ≤ session → session ≤ 64 → Sits setting phases (done_before before (first ++ block ∷ [])) ss session (seat_of new_seats session)) all sits;
       statements = subst (λ (ss : List Spell). new_lost.statements ≡ times is_lost_nested (each_of verdict_at (entries_of ss))) all (statements_more spells spell paused.journal.entries lost.statements new_lost.statements done.entries along.statements statements);

@@ -8,8 +8,10 @@ use Rattle.pfs_course.specs.Ahead.{IsReached, block_at, done_before}
 use Rattle.pfs_course.specs.Course.{PhasedBlock, numbered, own_blocks, phased}
 use Rattle.pfs_course.proofs.Ahead.{block_here, none_earlier, reached}
 use Rattle.pfs_course.proofs.Changing.{own_numbered, own_then}
-use Rattle.pfs_playable.specs.Playable.{FewLaw, IsNamed, IsPlayable, IsPlayableBlock, NamedLaw, PlayableLaw, blocks_in, lines_among}
+use Rattle.pfs_play.specs.Errands.{actions_on}
+use Rattle.pfs_playable.specs.Playable.{ActionsLaw, FewLaw, IsNamed, IsPlayable, IsPlayableBlock, NamedLaw, PlayableLaw, actions_among, actions_in, blocks_in, lines_among}
 use Rattle.pfs_script.specs.Events.{blocks_for}
+use Rattle.pfs_script.specs.Marks.{written_out}
 use Rattle.pfs_script.specs.Scripts.{IsScript}
 use Rattle.pfs_script.specs.declared.blocks.Block.{Block}
 use Rattle.pfs_script.specs.declared.blocks.Phase.{Phase}
@@ -22,6 +24,7 @@ pub record IsHere (setting : Setting) (phases before : List Phase) (first : List
   pub own : own_blocks block.session (done_before before first) ≡ blocks_for block.session before
   pub named : IsNamed setting block
   pub few : length (done_before before first) < 200000
+  pub rare : actions_on (written_out block.lines) ≤ 250
   pub depth : lines_among (blocks_for block.session before) + length block.lines ≤ depth_of phases block.session
 
 phased_length : (phase : ℕ) (blocks : List Block) → length (phased phase blocks) ≡ length blocks
@@ -41,6 +44,16 @@ with_itself block same is = ap (λ b. cond b (block ∷ []) []) is
 lines_of_more : (xs : List Block) (block : Block) (ys : List Block) → lines_among (xs ++ block ∷ ys) ≡ lines_among xs + (length block.lines + lines_among ys)
 lines_of_more xs block ys = sum_by-append (λ (block : Block). length block.lines) xs (block ∷ ys) ∙ ap (λ n. lines_among xs + n) (sum_by-cons (λ (block : Block). length block.lines) block ys)
 
+-- a block truncates no more often than all blocks of its script together
+actions_here : (before after : List Phase) (first others : List Block) (block : Block) → actions_on (written_out block.lines) ≤ actions_in (before ++ record { blocks = first ++ block ∷ others } ∷ after)
+actions_here before after first others block =
+    let here : Phase = record { blocks = first ++ block ∷ others } in
+    let all : actions_in (before ++ here ∷ after) ≡ actions_in before + actions_in (here ∷ after) = sum_by-append (λ (phase : Phase). actions_among phase.blocks) before (here ∷ after) in
+    let now : actions_in (here ∷ after) ≡ actions_among (first ++ block ∷ others) + actions_in after = sum_by-cons (λ (phase : Phase). actions_among phase.blocks) here after in
+    let both : actions_among (first ++ block ∷ others) ≡ actions_among first + actions_among (block ∷ others) = sum_by-append (λ (block : Block). actions_on (written_out block.lines)) first (block ∷ others) in
+    let own : actions_among (block ∷ others) ≡ actions_on (written_out block.lines) + actions_among others = sum_by-cons (λ (block : Block). actions_on (written_out block.lines)) block others in
+    omega (arith, all, now, both, own)
+
 -- of what holds of each of a list
 at_seam : {A : Type 0} (P : A → Type 0) (xs : List A) (x : A) (ys all : List A) → all ≡ xs ++ x ∷ ys → All P all → P x
 at_seam P xs x ys all is h =
@@ -49,9 +62,9 @@ at_seam P xs x ys all is h =
       within : (n m l : ℕ) → l ≡ n + suc m → n < l
       within n m l e = omega (arith, e)
 
-pub is_here : PlayableLaw → FewLaw → NamedLaw → (text : List ℕ) (setting : Setting) (phases before : List Phase) (first : List Block) (block : Block) (others : List Block) (after : List Phase) → IsScript Whole text setting phases
+pub is_here : PlayableLaw → FewLaw → NamedLaw → ActionsLaw → (text : List ℕ) (setting : Setting) (phases before : List Phase) (first : List Block) (block : Block) (others : List Block) (after : List Phase) → IsScript Whole text setting phases
     → phases ≡ before ++ record { blocks = first ++ block ∷ others } ∷ after → IsHere setting phases before first block others after
-is_here playable few named text setting phases before first block others after script is =
+is_here playable few named actions text setting phases before first block others after script is =
     let phase : Phase = record { blocks = first ++ block ∷ others } in
     let may : IsPlayable before phase after = playable text setting phases before phase after script is in
     let at : IsReached phases before first block others after = reached phases before phase after first block others is refl may in
@@ -69,11 +82,14 @@ is_here playable few named text setting phases before first block others after s
     ∙ ap (λ z. own_blocks session done ++ (z ++ own_blocks session rest)) (with_itself block (block.session == session) (eq-eqb block.session session refl)))) in
     let lines = ap lines_among mine ∙ lines_of_more (own_blocks session done) block (own_blocks session rest) in
     let before_lines = ap lines_among own in
+    let truncated = actions text setting phases script in
+    let truncates = ap actions_in is in
     record {
       playable = block_here before phase after first block others refl may;
       reached = at;
       own = own;
       named = at_seam (IsNamed setting) first block others phase.blocks refl (at_seam (λ (phase : Phase). All (IsNamed setting) phase.blocks) before phase after phases is (named text setting phases script));
       few = omega (arith, count, length-append done (block_at before block ∷ rest), numbered_length 1 phases, many);
+      rare = omega (arith, truncated, truncates, actions_here before after first others block);
       depth = omega (arith, lines, before_lines);
     }

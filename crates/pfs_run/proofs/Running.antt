@@ -86,4 +86,4 @@ run_is whole run all_end setting phases report reached hand left words admin sea
     let but : IsRunButFinals setting phases report spells =
     whole setting phases report (depth_of phases) spells admin course (subst (λ z. ArePhasesTold 1 phases z spells) (sym is) a.phases_told) format in
     run setting phases report spells but
-    (λ answers. all_end setting change (facts_in phases) answers (depth_of phases) spells report.phases course.are_spells course.answer finals)
+    (all_end setting change (facts_in phases) (depth_of phases) spells report.phases course.are_spells course.answer finals)

@@ -24,7 +24,7 @@ use Rattle.pfs_model.specs.Journals.{joined}
 use Rattle.pfs_parts.specs.Deeds.{Part}
 use Rattle.pfs_parts.specs.Shaped.{AreParts, MayDoAll, entries_of, over_behind, state_behind}
 use Rattle.pfs_parts.specs.Stints.{resumed}
-use Rattle.pfs_play.specs.Errands.{StagesLie, kinds_after}
+use Rattle.pfs_play.specs.Errands.{StagesLie, actions_on, admin_after, kinds_after}
 use Rattle.pfs_playable.specs.Playable.{kinds_left}
 use Rattle.pfs_ruled.proofs.Quiet.{LeadAlike, answers_more}
 use Rattle.pfs_runs.specs.Lines.{change_in}
@@ -83,7 +83,7 @@ is_done setting phases before first block others after spells admin new_admin bo
     record {
       doings = doings;
       more = more;
-      admin_is = played.after_is ∙ (ap (λ n. ended_by (connected_by admin n block.connect) n played.over) numbers ∙ ap (λ b. behind_block admin block b) over);
+      admin_is = played.after_is ∙ (ap (λ n. ended_by (admin_after (connected_by admin n block.connect) (written_out block.lines)) n played.over) numbers ∙ ap (λ b. behind_block admin block b) over);
       state = did.done.state ∙ (ap (λ (s : State). state_behind s ps) is ∙ ap (λ (z : List Part). state_behind at z) (sym parts));
       entries = text ∙ ap (λ (z : List Part). joined (entries_of z)) (sym parts);
       led = way.reached;
@@ -136,7 +136,7 @@ pub own_waits : (setting : Setting) (phases before : List Phase) (first : List B
     → IsOneMore setting (change_in phases) (depth_of phases) (done_before before first) spells admin (block_at before block) doings
     → paused.state ≡ state_behind (session_at setting (depth_of phases) spells block.session) (parts_in doings) → waiting.state ≡ paused.state → waiting.journal.entries ≡ [] → paused.state.held ≡ nothing_held
     → kinds_at paused.state ≡ kinds_after (kinds_at book.state) (written_out block.lines) → StagesLie (kinds_at paused.state) → paused.state.drawn ≤ book.state.drawn + length (written_out block.lines)
-    → paused.state.opened.depth ≡ book.state.opened.depth → paused.state.actions ≤ book.state.actions + 2 → kinds_after (kinds_at book.state) (written_out block.lines) ≡ kinds_left (lines_at block.session (done_before before first) ++ written_out block.lines)
+    → paused.state.opened.depth ≡ book.state.opened.depth → paused.state.actions ≤ book.state.actions + actions_on (written_out block.lines) + 2 → kinds_after (kinds_at book.state) (written_out block.lines) ≡ kinds_left (lines_at block.session (done_before before first) ++ written_out block.lines)
     → IsWaiting setting phases (done_before before (first ++ block ∷ [])) (spells ++ spell_at (block_at before block) doings ∷ []) block.session waiting
 own_waits setting phases before first block others after spells admin doings book paused waiting here ready more state same entries free kinds lie drawn depth actions left =
     let own : (block.session == block.session) ≡ true = eq-eqb block.session block.session refl in
@@ -154,5 +154,5 @@ own_waits setting phases before first block others after spells admin doings boo
       kinds = ap (λ (s : State). kinds_at s) same ∙ (kinds ∙ (left ∙ ap kinds_left (sym (lines_more block.session before first block own))));
       lie = subst (λ (s : State). StagesLie (kinds_at s)) (sym same) lie;
       drawn = omega (arith, count, short, drawn_same, drawn, ready.drawn);
-      actions = omega (arith, count, actions_same, actions, ready.actions);
+      actions = omega (arith, count, here.rare, actions_same, actions, ready.actions);
     }

@@ -95,6 +95,7 @@ impl Runner {
     {
         pfs_playable::laws::playable();
         pfs_playable::laws::few();
+        pfs_playable::laws::actions();
         pfs_playable::laws::lines();
         pfs_playable::laws::named();
         let mut session = take_seat(self.alloc, setting, phases, &mut self.seats, block.session)?;

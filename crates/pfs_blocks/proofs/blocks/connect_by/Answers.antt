@@ -1,6 +1,6 @@
-use Rattle.std.proofs.Common.{◌≡◌, false, List, [], Option, Some, None, IfSome, refl, sym, subst, ap}
+use Rattle.std.proofs.Common.{false, Option, IfSome, sym, subst}
 use Rattle.pfs_actions.proofs.Acting.{may_connect}
-use Rattle.pfs_parts.specs.Deeds.{Deed, Connecting}
+use Rattle.pfs_parts.specs.Deeds.{Connecting}
 use Rattle.pfs_script.specs.declared.blocks.Connect.{Connect}
 use Rattle.pfs_course.specs.Course.{connecting}
 use Rattle.pfs_blocks.specs.Played.{HasDeeds, MayConnect}

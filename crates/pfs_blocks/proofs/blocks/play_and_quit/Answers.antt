@@ -1,11 +1,13 @@
-use Rattle.std.proofs.Common.{◌≡◌, ◌≤◌, ◌∙◌, ◌++◌, ℕ, true, List, [], ◌∷◌, ap, refl, sym, length, arith}
+use Rattle.std.proofs.Common.{◌∙◌, ◌++◌, true, [], ◌∷◌, ap, refl, subst, sym, length, arith}
 use Rattle.pfs_admin.specs.States.{State as Administration, has_quit}
 use Rattle.pfs_facts.specs.Steps.{kinds_at}
 use Rattle.pfs_script.specs.declared.blocks.BlockLine.TheVariants as said
 use Rattle.pfs_session.specs.States.{State}
-use Rattle.pfs_blocks.proofs.Closing.{no_events, quit_deeds}
+use Rattle.pfs_actions.specs.Done.{HasActed}
+use Rattle.pfs_parts.specs.Deeds.{Quitting}
+use Rattle.pfs_blocks.proofs.Closing.{no_events, quit_admin, quit_deeds}
 use Rattle.pfs_blocks.proofs.Ending.{ends_so}
-use Rattle.pfs_blocks.proofs.Width.{none_wide, owed_fits, parts_wide, settling_fits}
+use Rattle.pfs_play.proofs.Width.{none_wide, owed_fits, settling_fits}
 use Rattle.pfs_blocks.proofs.blocks.play_and_quit.Goals as goal
 
 pub play_written-requires-clause-may : goal.play_written-requires-clause-may
@@ -17,24 +19,22 @@ quit-requires-clause-closed g c =
     (c.play_written.ensures.kinds ∙ (ends_so c.args.session.now.state.opened.depth (kinds_at c.args.session.now.state) (c.args.body.now ++ said.Quit ∷ []) c.args.body.now c.requires.may refl).1)
 
 pub quit-requires-clause-early : goal.quit-requires-clause-early
-quit-requires-clause-early g c = let e = ap (λ (s : State). s.actions) c.play_written.ensures.rest in omega (arith, e, c.requires.rare)
+quit-requires-clause-early g c = omega (arith, c.play_written.ensures.actions, c.requires.rare)
+
+pub quit-requires-clause-few : goal.quit-requires-clause-few
+quit-requires-clause-few g c = omega (arith, c.play_written.ensures.counted, c.requires.few)
 
 pub quit-requires-clause-idle : goal.quit-requires-clause-idle
 quit-requires-clause-idle g c = λ r. c.play_written.ensures.leaves.hand r ∙ c.requires.idle r
 
-pub quit-requires-clause-lent : goal.quit-requires-clause-lent
-quit-requires-clause-lent g c = c.play_written.ensures.words ∙ c.requires.lent
-
 pub quit-requires-clause-spare : goal.quit-requires-clause-spare
 quit-requires-clause-spare g c =
-    let p = c.play_written.ensures.played in
-    let wide : length c.play_written.new.session.state.held ≡ 193 = ap (λ (s : State). length s.held) p.state ∙ parts_wide c.args.session.now.state p.parts p.are_parts c.requires.wide in
+    let wide = c.play_written.ensures.wide in
     omega (arith, owed_fits c.play_written.new.session.state wide, c.play_written.ensures.leaves.left, c.requires.spare)
 
 pub quit-requires-clause-room : goal.quit-requires-clause-room
 quit-requires-clause-room g c =
-    let p = c.play_written.ensures.played in
-    let wide : length c.play_written.new.session.state.held ≡ 193 = ap (λ (s : State). length s.held) p.state ∙ parts_wide c.args.session.now.state p.parts p.are_parts c.requires.wide in
+    let wide = c.play_written.ensures.wide in
     omega (arith, settling_fits c.play_written.new.session.state wide, c.play_written.ensures.leaves.room, c.requires.room)
 
 pub returns-clause-did : goal.returns-clause-did
@@ -44,8 +44,11 @@ returns-clause-did g c =
     record {
       over = true;
       did = quit_deeds c.args.admin.now c.args.body.now c.args.session.now c.play_written.new.session c.quit.new.session (g.A.Rows.reached c.args.rows.now) (g.A.Rows.reached c.play_written.new.rows) (g.A.Rows.reached c.quit.new.rows)
-          c.play_written.ensures.played c.quit.ensures.acted closed;
-      after_is = c.quit.ensures.admin ∙ ap (λ n. has_quit c.args.admin.now n) (ap (λ (s : State). s.number) c.play_written.ensures.rest);
+          c.play_written.ensures.played
+          (subst (λ (a : Administration). HasActed (Quitting a) c.play_written.new.session c.quit.new.session (g.A.Rows.reached c.play_written.new.rows) (g.A.Rows.reached c.quit.new.rows)) c.play_written.ensures.admin c.quit.ensures.acted) closed;
+      after_is = c.quit.ensures.admin
+          ∙ (ap (λ n. has_quit c.play_written.new.admin n) (ap (λ (s : State). s.number) c.play_written.ensures.rest)
+          ∙ ap (λ (a : Administration). has_quit a c.args.session.now.state.number) (c.play_written.ensures.admin ∙ sym (quit_admin c.args.admin.now c.args.body.now)));
     }
 
 pub returns-clause-kinds : goal.returns-clause-kinds
@@ -65,19 +68,19 @@ returns-clause-depth g c = ap (λ (s : State). s.opened.depth) c.quit.ensures.re
 pub returns-clause-actions : goal.returns-clause-actions
 returns-clause-actions g c =
     let e = ap (λ (s : State). s.actions) c.quit.ensures.rest in
-    let f = ap (λ (s : State). s.actions) c.play_written.ensures.rest in
-    omega (arith, e, f)
+    omega (arith, e, c.play_written.ensures.actions)
 
 pub returns-clause-counted : goal.returns-clause-counted
-returns-clause-counted g c = let e = ap (λ (s : Administration). s.actions) c.quit.ensures.admin in omega (arith, e)
+returns-clause-counted g c =
+    let e = ap (λ (s : Administration). s.actions) c.quit.ensures.admin in
+    omega (arith, e, c.play_written.ensures.counted)
 
 pub returns-clause-wide : goal.returns-clause-wide
 returns-clause-wide g c = ap (λ (s : State). length s.held) c.quit.ensures.rest ∙ none_wide
 
 pub returns-clause-leaves : goal.returns-clause-leaves
 returns-clause-leaves g c =
-    let p = c.play_written.ensures.played in
-    let wide : length c.play_written.new.session.state.held ≡ 193 = ap (λ (s : State). length s.held) p.state ∙ parts_wide c.args.session.now.state p.parts p.are_parts c.requires.wide in
+    let wide = c.play_written.ensures.wide in
     record {
       hand = λ r. c.quit.ensures.leaves.hand r ∙ c.play_written.ensures.leaves.hand r;
       left = omega (arith, owed_fits c.play_written.new.session.state wide, c.play_written.ensures.leaves.left, c.quit.ensures.leaves.left);

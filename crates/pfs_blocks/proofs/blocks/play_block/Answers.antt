@@ -1,17 +1,16 @@
-use Rattle.std.proofs.Common.{◌≡◌, ◌≤◌, ◌∙◌, ◌++◌, ℕ, false, List, [], ◌∷◌, ap, refl, sym, subst, length, map, arith}
+use Rattle.std.proofs.Common.{◌≡◌, ◌∙◌, ℕ, List, ap, sym, subst, length, arith}
 use Rattle.pfs_admin.specs.States.{State as Administration}
 use Rattle.pfs_event.specs.declared.kind.EventKind.{EventKind}
 use Rattle.pfs_event.specs.Nesting.{OpenEvents}
-use Rattle.pfs_facts.specs.Deeds.{deed_on}
 use Rattle.pfs_facts.specs.Steps.{kinds_at, kinds_in}
-use Rattle.pfs_play.specs.Errands.{StagesLie, cost_on, kinds_after}
+use Rattle.pfs_play.specs.Errands.{StagesLie, actions_on, admin_after, cost_on, kinds_after}
 use Rattle.pfs_script.specs.declared.blocks.BlockLine.{BlockLine}
 use Rattle.pfs_script.specs.Marks.{written_out}
 use Rattle.pfs_session.specs.States.{State}
-use Rattle.pfs_course.specs.Course.{connected_by, ended_by}
+use Rattle.pfs_course.specs.Course.{connected_by, deeds_along, ended_by}
 use Rattle.pfs_blocks.specs.Played.{HasDeeds, MayEnd}
 use Rattle.pfs_blocks.proofs.Closing.{block_deeds}
-use Rattle.pfs_blocks.proofs.Width.{none_wide, owed_fits, settling_fits}
+use Rattle.pfs_play.proofs.Width.{none_wide, owed_fits, settling_fits}
 use Rattle.pfs_blocks.proofs.blocks.play_block.Goals as goal
 
 pub play_to_end-requires-clause-may : goal.play_to_end-requires-clause-may
@@ -32,10 +31,14 @@ play_to_end-requires-clause-early g c =
     omega (arith, e, n, c.requires.early)
 
 pub play_to_end-requires-clause-rare : goal.play_to_end-requires-clause-rare
-play_to_end-requires-clause-rare g c = omega (arith, c.connect_by.ensures.actions, c.requires.rare)
+play_to_end-requires-clause-rare g c =
+    let k = ap (λ (l : List BlockLine). actions_on (written_out l)) c.as_slice.ensures in
+    omega (arith, k, c.connect_by.ensures.actions, c.requires.rare)
 
 pub play_to_end-requires-clause-few : goal.play_to_end-requires-clause-few
-play_to_end-requires-clause-few g c = omega (arith, c.connect_by.ensures.counted, c.requires.few)
+play_to_end-requires-clause-few g c =
+    let k = ap (λ (l : List BlockLine). actions_on (written_out l)) c.as_slice.ensures in
+    omega (arith, k, c.connect_by.ensures.counted, c.requires.few)
 
 pub play_to_end-requires-clause-idle : goal.play_to_end-requires-clause-idle
 play_to_end-requires-clause-idle g c = λ r. c.connect_by.ensures.leaves.hand r ∙ c.requires.idle r
@@ -43,7 +46,8 @@ play_to_end-requires-clause-idle g c = λ r. c.connect_by.ensures.leaves.hand r 
 pub play_to_end-requires-clause-spare : goal.play_to_end-requires-clause-spare
 play_to_end-requires-clause-spare g c =
     let n = ap (λ (l : List BlockLine). length (written_out l)) c.as_slice.ensures in
-    omega (arith, n, c.connect_by.ensures.leaves.left, c.requires.spare)
+    let k = ap (λ (l : List BlockLine). actions_on (written_out l)) c.as_slice.ensures in
+    omega (arith, n, k, c.connect_by.ensures.leaves.left, c.requires.spare)
 
 pub play_to_end-requires-clause-room : goal.play_to_end-requires-clause-room
 play_to_end-requires-clause-room g c =
@@ -56,7 +60,8 @@ pause-requires-clause-alone g c = λ r some. c.play_to_end.ensures.leaves.hand r
 pub pause-requires-clause-spare : goal.pause-requires-clause-spare
 pause-requires-clause-spare g c =
     let n = ap (λ (l : List BlockLine). length (written_out l)) c.as_slice.ensures in
-    omega (arith, n, owed_fits c.play_to_end.new.session.state c.play_to_end.ensures.wide, c.connect_by.ensures.leaves.left, c.play_to_end.ensures.leaves.left, c.requires.spare)
+    let k = ap (λ (l : List BlockLine). actions_on (written_out l)) c.as_slice.ensures in
+    omega (arith, n, k, owed_fits c.play_to_end.new.session.state c.play_to_end.ensures.wide, c.connect_by.ensures.leaves.left, c.play_to_end.ensures.leaves.left, c.requires.spare)
 
 pub pause-requires-clause-room : goal.pause-requires-clause-room
 pause-requires-clause-room g c =
@@ -72,15 +77,18 @@ returns-clause-did g c few =
     let admin : Administration = c.args.admin.now in
     let number : ℕ = c.args.session.state.number in
     let numbers : c.connect_by.new.session.state.number ≡ c.args.session.state.number = ap (λ (s : State). s.number) c.connect_by.ensures.rest in
-    let its : HasDeeds (map (deed_on c.connect_by.new.admin) (written_out c.args.block.now.lines)) p.over c.connect_by.new.session c.play_to_end.new.session (g.A.Rows.reached c.connect_by.new.rows) (g.A.Rows.reached c.play_to_end.new.rows) =
-    subst (λ (l : List BlockLine). HasDeeds (map (deed_on c.connect_by.new.admin) (written_out l)) p.over c.connect_by.new.session c.play_to_end.new.session (g.A.Rows.reached c.connect_by.new.rows) (g.A.Rows.reached c.play_to_end.new.rows)) c.as_slice.ensures p.did in
-    let lines : HasDeeds (map (deed_on (connected_by admin number c.args.block.now.connect)) (written_out c.args.block.now.lines)) p.over c.connect_by.new.session c.play_to_end.new.session (g.A.Rows.reached c.connect_by.new.rows) (g.A.Rows.reached c.play_to_end.new.rows) =
-    subst (λ (a : Administration). HasDeeds (map (deed_on a) (written_out c.args.block.now.lines)) p.over c.connect_by.new.session c.play_to_end.new.session (g.A.Rows.reached c.connect_by.new.rows) (g.A.Rows.reached c.play_to_end.new.rows)) c.connect_by.ensures.admin its in
+    let its : HasDeeds (deeds_along c.connect_by.new.admin (written_out c.args.block.now.lines)) p.over c.connect_by.new.session c.play_to_end.new.session (g.A.Rows.reached c.connect_by.new.rows) (g.A.Rows.reached c.play_to_end.new.rows) =
+    subst (λ (l : List BlockLine). HasDeeds (deeds_along c.connect_by.new.admin (written_out l)) p.over c.connect_by.new.session c.play_to_end.new.session (g.A.Rows.reached c.connect_by.new.rows) (g.A.Rows.reached c.play_to_end.new.rows)) c.as_slice.ensures p.did in
+    let lines : HasDeeds (deeds_along (connected_by admin number c.args.block.now.connect) (written_out c.args.block.now.lines)) p.over c.connect_by.new.session c.play_to_end.new.session (g.A.Rows.reached c.connect_by.new.rows) (g.A.Rows.reached c.play_to_end.new.rows) =
+    subst (λ (a : Administration). HasDeeds (deeds_along a (written_out c.args.block.now.lines)) p.over c.connect_by.new.session c.play_to_end.new.session (g.A.Rows.reached c.connect_by.new.rows) (g.A.Rows.reached c.play_to_end.new.rows)) c.connect_by.ensures.admin its in
     record {
       over = p.over;
       did = block_deeds admin number c.args.block.now.connect c.args.block.now.lines p.over c.args.session c.connect_by.new.session c.play_to_end.new.session c.pause.result (g.A.Rows.reached c.args.rows.now) (g.A.Rows.reached c.connect_by.new.rows)
           (g.A.Rows.reached c.play_to_end.new.rows) (g.A.Rows.reached c.pause.new.rows) (c.connect_by.ensures.did few) lines c.pause.ensures.played;
-      after_is = p.after_is ∙ (ap (λ (a : Administration). ended_by a c.connect_by.new.session.state.number p.over) c.connect_by.ensures.admin ∙ ap (λ n. ended_by (connected_by admin number c.args.block.now.connect) n p.over) numbers);
+      after_is = p.after_is
+          ∙ (ap (λ (l : List BlockLine). ended_by (admin_after c.connect_by.new.admin (written_out l)) c.connect_by.new.session.state.number p.over) c.as_slice.ensures
+          ∙ (ap (λ (a : Administration). ended_by (admin_after a (written_out c.args.block.now.lines)) c.connect_by.new.session.state.number p.over) c.connect_by.ensures.admin
+          ∙ ap (λ n. ended_by (admin_after (connected_by admin number c.args.block.now.connect) (written_out c.args.block.now.lines)) n p.over) numbers));
     }
 
 pub returns-clause-kinds : goal.returns-clause-kinds
@@ -110,18 +118,22 @@ returns-clause-depth g c = ap (λ (s : State). s.opened.depth) c.pause.ensures.s
 pub returns-clause-actions : goal.returns-clause-actions
 returns-clause-actions g c =
     let e = ap (λ (s : State). s.actions) c.pause.ensures.state in
-    omega (arith, e, c.connect_by.ensures.actions, c.play_to_end.ensures.actions)
+    let k = ap (λ (l : List BlockLine). actions_on (written_out l)) c.as_slice.ensures in
+    omega (arith, e, k, c.connect_by.ensures.actions, c.play_to_end.ensures.actions)
 
 pub returns-clause-counted : goal.returns-clause-counted
-returns-clause-counted g c = omega (arith, c.connect_by.ensures.counted, c.play_to_end.ensures.counted)
+returns-clause-counted g c =
+    let k = ap (λ (l : List BlockLine). actions_on (written_out l)) c.as_slice.ensures in
+    omega (arith, k, c.connect_by.ensures.counted, c.play_to_end.ensures.counted)
 
 pub returns-clause-leaves : goal.returns-clause-leaves
 returns-clause-leaves g c =
     let n = ap (λ (l : List BlockLine). length (written_out l)) c.as_slice.ensures in
     let m = ap (λ (l : List BlockLine). cost_on (written_out l)) c.as_slice.ensures in
+    let k = ap (λ (l : List BlockLine). actions_on (written_out l)) c.as_slice.ensures in
     record {
       hand = λ r. c.pause.ensures.leaves.hand r ∙ (c.play_to_end.ensures.leaves.hand r ∙ c.connect_by.ensures.leaves.hand r);
-      left = omega (arith, n, owed_fits c.play_to_end.new.session.state c.play_to_end.ensures.wide, c.connect_by.ensures.leaves.left, c.play_to_end.ensures.leaves.left, c.pause.ensures.leaves.left);
+      left = omega (arith, n, k, owed_fits c.play_to_end.new.session.state c.play_to_end.ensures.wide, c.connect_by.ensures.leaves.left, c.play_to_end.ensures.leaves.left, c.pause.ensures.leaves.left);
       draws = c.pause.ensures.leaves.draws ∙ (c.play_to_end.ensures.leaves.draws ∙ c.connect_by.ensures.leaves.draws);
       name = c.pause.ensures.leaves.name ∙ (c.play_to_end.ensures.leaves.name ∙ c.connect_by.ensures.leaves.name);
       room = omega (arith, m, settling_fits c.play_to_end.new.session.state c.play_to_end.ensures.wide, c.connect_by.ensures.leaves.room, c.play_to_end.ensures.leaves.room, c.pause.ensures.leaves.room);

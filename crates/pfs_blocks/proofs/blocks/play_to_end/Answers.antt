@@ -1,15 +1,13 @@
-use Rattle.std.proofs.Common.{◌≡◌, ◌≤◌, ◌∙◌, ◌++◌, ℕ, false, List, [], ◌∷◌, ap, refl, sym, subst, length, arith}
+use Rattle.std.proofs.Common.{◌∙◌, false, List, ap, sym, subst, length, arith}
 use Rattle.pfs_facts.specs.Steps.{kinds_at}
-use Rattle.pfs_play.specs.Errands.{cost_on, kinds_after}
+use Rattle.pfs_play.specs.Errands.{actions_on, cost_on, kinds_after}
 use Rattle.pfs_script.specs.declared.blocks.BlockLine.{BlockLine}
-use Rattle.pfs_script.specs.declared.blocks.BlockLine.TheVariants as said
 use Rattle.pfs_script.specs.Marks.{written_out}
 use Rattle.pfs_session.specs.States.{State}
 use Rattle.pfs_blocks.specs.Played.{HasEnded, MayEnd}
-use Rattle.pfs_blocks.proofs.Closing.{none_lie, quit_cost, quit_kinds, quit_length}
+use Rattle.pfs_blocks.proofs.Closing.{none_lie, quit_actions, quit_cost, quit_kinds, quit_length}
 use Rattle.pfs_blocks.proofs.Ending.{ends_so, goes_on}
 use Rattle.pfs_blocks.proofs.Lines.{played_deeds}
-use Rattle.pfs_blocks.proofs.Width.{parts_wide}
 use Rattle.pfs_blocks.proofs.blocks.play_to_end.Goals as goal
 
 pub play_and_quit-requires-clause-may : goal.play_and_quit-requires-clause-may
@@ -23,12 +21,29 @@ play_and_quit-requires-clause-early g c =
 pub play_and_quit-requires-clause-spare : goal.play_and_quit-requires-clause-spare
 play_and_quit-requires-clause-spare g c =
     let n = ap (λ (l : List BlockLine). length (written_out l)) c.in-Some.ensures in
-    omega (arith, n, quit_length c.in-Some.body.now, c.requires.spare)
+    let k = ap (λ (l : List BlockLine). actions_on (written_out l)) c.in-Some.ensures in
+    omega (arith, n, k, quit_actions c.in-Some.body.now, quit_length c.in-Some.body.now, c.requires.spare)
 
 pub play_and_quit-requires-clause-room : goal.play_and_quit-requires-clause-room
 play_and_quit-requires-clause-room g c =
     let n = ap (λ (l : List BlockLine). cost_on (written_out l)) c.in-Some.ensures in
     omega (arith, n, quit_cost c.in-Some.body.now, c.requires.room)
+
+pub play_and_quit-requires-clause-rare : goal.play_and_quit-requires-clause-rare
+play_and_quit-requires-clause-rare g c =
+    let k = ap (λ (l : List BlockLine). actions_on (written_out l)) c.in-Some.ensures in
+    omega (arith, k, quit_actions c.in-Some.body.now, c.requires.rare)
+
+pub play_and_quit-requires-clause-few : goal.play_and_quit-requires-clause-few
+play_and_quit-requires-clause-few g c =
+    let k = ap (λ (l : List BlockLine). actions_on (written_out l)) c.in-Some.ensures in
+    omega (arith, k, quit_actions c.in-Some.body.now, c.requires.few)
+
+pub play_written-requires-clause-rare : goal.play_written-requires-clause-rare
+play_written-requires-clause-rare g c = omega (arith, c.requires.rare)
+
+pub play_written-requires-clause-few : goal.play_written-requires-clause-few
+play_written-requires-clause-few g c = omega (arith, c.requires.few)
 
 pub play_written-requires-clause-may : goal.play_written-requires-clause-may
 play_written-requires-clause-may g c = goes_on c.args.session.now.state.opened.depth (kinds_at c.args.session.now.state) c.args.lines.now c.requires.may c.in-None.ensures
@@ -56,31 +71,40 @@ pub returns-in-Some-clause-leaves : goal.returns-in-Some-clause-leaves
 returns-in-Some-clause-leaves g c =
     let n = ap (λ (l : List BlockLine). length (written_out l)) c.in-Some.ensures in
     let m = ap (λ (l : List BlockLine). cost_on (written_out l)) c.in-Some.ensures in
+    let k = ap (λ (l : List BlockLine). actions_on (written_out l)) c.in-Some.ensures in
     record {
       hand = c.play_and_quit.ensures.leaves.hand;
-      left = omega (arith, n, quit_length c.in-Some.body.now, c.play_and_quit.ensures.leaves.left);
+      left = omega (arith, n, k, quit_actions c.in-Some.body.now, quit_length c.in-Some.body.now, c.play_and_quit.ensures.leaves.left);
       draws = c.play_and_quit.ensures.leaves.draws;
       name = c.play_and_quit.ensures.leaves.name;
       room = omega (arith, m, quit_cost c.in-Some.body.now, c.play_and_quit.ensures.leaves.room);
     }
 
+pub returns-in-Some-clause-actions : goal.returns-in-Some-clause-actions
+returns-in-Some-clause-actions g c =
+    let k = ap (λ (l : List BlockLine). actions_on (written_out l)) c.in-Some.ensures in
+    omega (arith, k, quit_actions c.in-Some.body.now, c.play_and_quit.ensures.actions)
+
+pub returns-in-Some-clause-counted : goal.returns-in-Some-clause-counted
+returns-in-Some-clause-counted g c =
+    let k = ap (λ (l : List BlockLine). actions_on (written_out l)) c.in-Some.ensures in
+    omega (arith, k, quit_actions c.in-Some.body.now, c.play_and_quit.ensures.counted)
+
 pub returns-in-None-clause-did : goal.returns-in-None-clause-did
 returns-in-None-clause-did g c = record {
   over = false;
   did = played_deeds c.args.admin.now (written_out c.args.lines.now) c.args.session.now c.play_written.new.session (g.A.Rows.reached c.args.rows.now) (g.A.Rows.reached c.play_written.new.rows) c.play_written.ensures.played;
-  after_is = refl;
+  after_is = c.play_written.ensures.admin;
 }
 
 pub returns-in-None-clause-number : goal.returns-in-None-clause-number
 returns-in-None-clause-number g c = ap (λ (s : State). s.number) c.play_written.ensures.rest
 
 pub returns-in-None-clause-actions : goal.returns-in-None-clause-actions
-returns-in-None-clause-actions g c = let e = ap (λ (s : State). s.actions) c.play_written.ensures.rest in omega (arith, e)
+returns-in-None-clause-actions g c = omega (arith, c.play_written.ensures.actions)
 
-pub returns-in-None-clause-wide : goal.returns-in-None-clause-wide
-returns-in-None-clause-wide g c =
-    let p = c.play_written.ensures.played in
-    ap (λ (s : State). length s.held) p.state ∙ parts_wide c.args.session.now.state p.parts p.are_parts c.requires.wide
+pub returns-in-None-clause-counted : goal.returns-in-None-clause-counted
+returns-in-None-clause-counted g c = omega (arith, c.play_written.ensures.counted)
 
 pub returns-in-None-clause-leaves : goal.returns-in-None-clause-leaves
 returns-in-None-clause-leaves g c = record {
@@ -90,6 +114,3 @@ returns-in-None-clause-leaves g c = record {
   name = c.play_written.ensures.leaves.name;
   room = omega (arith, c.play_written.ensures.leaves.room);
 }
-
-pub returns-in-None-clause-lent : goal.returns-in-None-clause-lent
-returns-in-None-clause-lent g c = c.play_written.ensures.words ∙ c.requires.lent

@@ -1,7 +1,7 @@
-use Rattle.std.proofs.Common.{◌≡◌, ◌+◌, ◌∷◌, ◌∙◌, List, Some, None, ap, sym, length, drop, arith}
+use Rattle.std.proofs.Common.{◌≡◌, ◌∷◌, ◌∙◌, List, ap, sym, length, drop, arith}
 use Rattle.pfs_script.specs.declared.blocks.BlockLine.{BlockLine}
 use Rattle.pfs_script.specs.Marks.{written_out}
-use Rattle.pfs_play.specs.Errands.{cost_of, cost_on, errand_on}
+use Rattle.pfs_play.specs.Errands.{cost_on}
 use Rattle.pfs_play.specs.Repeats.{repeated}
 use Rattle.pfs_play.proofs.Costing.{begin_written, behind_first}
 use Rattle.pfs_play.proofs.Writing.{written_plain}
@@ -36,7 +36,7 @@ returns-in-None-clause-cost c =
     ap written_out c.in-Some.ensures.cases.0 ∙ written_plain c.in-Some.first.now c.in-Some.others.now (sym c.times_of.ensures ∙ c.in-None.is) in
     let behind = ap (λ (l : List BlockLine). cost_on (written_out (drop 1 l))) c.in-Some.ensures.cases.0 in
     let n = ap cost_on w in
-    omega (arith, n, behind, c.line_cost.ensures)
+    omega (arith, n, behind, c.line_cost.ensures.cost)
 
 pub returns-in-None-clause-shorter : goal.returns-in-None-clause-shorter
 returns-in-None-clause-shorter c =

@@ -1,4 +1,4 @@
-use Rattle.std.proofs.Common.{◌≡◌, ◌+◌, ◌*◌, ◌∙◌, List, ap, sym, length, take, drop, arith}
+use Rattle.std.proofs.Common.{◌+◌, ◌∙◌, ap, sym, length, drop, arith}
 use Rattle.pfs_script.specs.Marks.{written_out}
 use Rattle.pfs_play.specs.Errands.{cost_on}
 use Rattle.pfs_play.proofs.Costing.{round_cost, open_cost}

@@ -5,5 +5,5 @@ use Rattle.pfs_play.proofs.costs.rounds_cost.Given as goal
 abbrev pub invariant-loop-line : goal.invariant-loop-line
 invariant-loop-line l = record {
   cost : cost_on l.body ≡ l.entries + cost_on (drop l.line-index l.body);
-  few : l.entries ≤ 5 * l.line-index;
+  few : l.entries ≤ 20196 * l.line-index;
 }

@@ -1,9 +1,9 @@
-use Rattle.std.proofs.Common.{◌≡◌, ◌+◌, ◌-◌, ◌∙◌, ℕ, List, refl, ap, sym, length, take, drop, arith}
+use Rattle.std.proofs.Common.{◌≡◌, ◌+◌, ◌-◌, ◌∙◌, ℕ, List, ap, length, take, drop, arith}
 use Rattle.std.proofs.lemmas.List.{length-drop}
 use Rattle.pfs_script.specs.declared.blocks.BlockLine.{BlockLine}
 use Rattle.pfs_script.specs.Marks.{written_out}
 use Rattle.pfs_play.specs.Errands.{cost_on}
-use Rattle.pfs_play.proofs.Costing.{costs_few}
+use Rattle.pfs_play.proofs.Costing.{costs_few, once_each}
 use Rattle.pfs_play.proofs.Writing.{to_the_end, drop_both, at_the_end}
 use Rattle.pfs_play.proofs.costs.written_cost.Goals as goal
 
@@ -11,7 +11,7 @@ pub overflow_add-entries : goal.overflow_add-entries
 overflow_add-entries c =
     let lines : List BlockLine = c.args.lines.now in
     let here = ap (λ (l : List BlockLine). cost_on (written_out l)) (to_the_end c.loop-at.at lines) in
-    omega (arith, here, c.loop-at.invariant.cost, c.next_cost-next.ensures.cost, costs_few (written_out lines), c.requires.short)
+    omega (arith, here, c.loop-at.invariant.cost, c.next_cost-next.ensures.cost, costs_few (written_out lines), once_each (written_out lines), c.requires.short)
 
 pub loop-at-preserved : goal.loop-at-preserved
 loop-at-preserved c =
@@ -33,10 +33,14 @@ loop-at-preserved c =
       count = omega (arith, before.count, shorter, left_over, few);
       cost = omega (arith, before.cost, cost_here, cost_there, now.cost);
       shorter = omega (arith, before.shorter, size_here, size_there, now.shorter);
-      small = omega (arith, before.cost, cost_here, now.cost, costs_few (written_out lines), c.requires.short);
     }
 
 pub returns-clause-cost : goal.returns-clause-cost
 returns-clause-cost c =
     let none = ap cost_on (at_the_end c.loop-at.at c.args.lines.now (omega (arith, c.loop-at-test.false))) in
     omega (arith, none, c.loop-at.invariant.cost)
+
+pub returns-clause-small : goal.returns-clause-small
+returns-clause-small c =
+    let none = ap cost_on (at_the_end c.loop-at.at c.args.lines.now (omega (arith, c.loop-at-test.false))) in
+    omega (arith, none, c.loop-at.invariant.cost, costs_few (written_out c.args.lines.now))

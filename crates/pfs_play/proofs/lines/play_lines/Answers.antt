@@ -1,6 +1,8 @@
 use Rattle.std.proofs.Common.{◌≡◌, ◌<◌, ◌+◌, ◌++◌, ◌∷◌, [], List, ℕ, refl, ap, sym, ◌∙◌, subst, take, drop, suc, length, get_or, arith}
 use Rattle.std.proofs.Math.Seq.{drop-cons}
 use Rattle.std.proofs.lemmas.List.{take_more}
+use Rattle.pfs_actions.specs.Done.{HasActed}
+use Rattle.pfs_admin.specs.States.{State as Administration}
 use Rattle.pfs_event.specs.declared.kind.EventKind.{EventKind}
 use Rattle.pfs_facts.specs.Steps.{kinds_at}
 use Rattle.pfs_script.specs.declared.blocks.BlockLine.{BlockLine}
@@ -8,9 +10,10 @@ use Rattle.pfs_script.specs.Brackets.{kinds_behind}
 use Rattle.pfs_script.specs.Marks.{mark_of}
 use Rattle.pfs_session.specs.States.{State}
 use Rattle.pfs_play.specs.declared.errands.Errand.{Errand}
-use Rattle.pfs_play.specs.Errands.{CanPlay, MayRun, HasRun, HavePlayed, StagesLie, kinds_after, cost_on, cost_of, errand_on}
+use Rattle.pfs_play.specs.Errands.{CanPlay, MayRun, HavePlayed, StagesLie, actions_of, actions_on, admin_after, admin_behind, cost_of, cost_on, deed_of, errand_on, kinds_after}
 use Rattle.pfs_play.proofs.Running.{may_run}
 use Rattle.pfs_play.proofs.Following.{played_nothing, played_more, run_kinds, still_lies}
+use Rattle.pfs_play.proofs.Repeating.{after_then, one_counted}
 use Rattle.pfs_play.proofs.lines.play_lines.Goals as goal
 
 -- the line at a place, and those behind it
@@ -24,18 +27,24 @@ fronts lines i line lt is = take_more lines i line lt ∙ ap (λ (l : BlockLine)
 
 pub loop-line-init : goal.loop-line-init
 loop-line-init g c = record {
-  played = played_nothing c.args.session.now (g.R.Rows.reached c.args.rows.now);
+  played = played_nothing c.args.admin.now c.args.session.now (g.A.Rows.reached c.args.rows.now);
+  admin = refl;
   can = c.requires.can;
   kinds = refl;
   lie = c.requires.lie;
   drawn = omega arith;
+  few = omega arith;
+  actions = refl;
+  counted = refl;
   rest = refl;
+  last = λ none. refl;
+  wide = c.requires.wide;
   depth = refl;
   hand = λ r. refl;
   left = omega arith;
   draws = refl;
   name = refl;
-  words = refl;
+  lent = c.requires.lent;
   room = omega arith;
 }
 
@@ -48,6 +57,54 @@ play-requires-clause-may g c =
     subst (CanPlay 62 c.loop-line.session.state.opened.depth (kinds_at c.loop-line.session.state)) split c.loop-line.invariant.can in
     subst (λ (errand : Errand). MayRun errand c.loop-line.session.state.opened) (sym c.errand_of.ensures.asks) (may_run c.loop-line.session.state.opened line c.loop-line.invariant.lie can.0)
 
+pub play-requires-clause-rare : goal.play-requires-clause-rare
+play-requires-clause-rare g c =
+    let line = c.line-item.result in
+    let i = c.loop-line.line-index in
+    let lines = c.args.lines.now in
+    let split = splits lines i line c.loop-line-test.true c.line-item.is in
+    let acts = ap actions_of c.errand_of.ensures.asks in
+    let cost = ap cost_of c.errand_of.ensures.asks in
+    let left_acts : actions_on (drop i lines) ≡ actions_of (errand_on line) + actions_on (drop (i + 1) lines) = ap actions_on split in
+    let left_cost : cost_on (drop i lines) ≡ cost_of (errand_on line) + cost_on (drop (i + 1) lines) = ap cost_on split in
+    omega (arith, acts, left_acts, c.loop-line.invariant.actions, c.requires.rare)
+
+pub play-requires-clause-few : goal.play-requires-clause-few
+play-requires-clause-few g c =
+    let line = c.line-item.result in
+    let i = c.loop-line.line-index in
+    let lines = c.args.lines.now in
+    let split = splits lines i line c.loop-line-test.true c.line-item.is in
+    let acts = ap actions_of c.errand_of.ensures.asks in
+    let cost = ap cost_of c.errand_of.ensures.asks in
+    let left_acts : actions_on (drop i lines) ≡ actions_of (errand_on line) + actions_on (drop (i + 1) lines) = ap actions_on split in
+    let left_cost : cost_on (drop i lines) ≡ cost_of (errand_on line) + cost_on (drop (i + 1) lines) = ap cost_on split in
+    omega (arith, acts, left_acts, c.loop-line.invariant.counted, c.requires.few)
+
+pub play-requires-clause-spare : goal.play-requires-clause-spare
+play-requires-clause-spare g c =
+    let line = c.line-item.result in
+    let i = c.loop-line.line-index in
+    let lines = c.args.lines.now in
+    let split = splits lines i line c.loop-line-test.true c.line-item.is in
+    let acts = ap actions_of c.errand_of.ensures.asks in
+    let cost = ap cost_of c.errand_of.ensures.asks in
+    let left_acts : actions_on (drop i lines) ≡ actions_of (errand_on line) + actions_on (drop (i + 1) lines) = ap actions_on split in
+    let left_cost : cost_on (drop i lines) ≡ cost_of (errand_on line) + cost_on (drop (i + 1) lines) = ap cost_on split in
+    omega (arith, acts, left_acts, c.loop-line.invariant.left, c.loop-line-test.true, c.requires.spare)
+
+pub play-requires-clause-room : goal.play-requires-clause-room
+play-requires-clause-room g c =
+    let line = c.line-item.result in
+    let i = c.loop-line.line-index in
+    let lines = c.args.lines.now in
+    let split = splits lines i line c.loop-line-test.true c.line-item.is in
+    let acts = ap actions_of c.errand_of.ensures.asks in
+    let cost = ap cost_of c.errand_of.ensures.asks in
+    let left_acts : actions_on (drop i lines) ≡ actions_of (errand_on line) + actions_on (drop (i + 1) lines) = ap actions_on split in
+    let left_cost : cost_on (drop i lines) ≡ cost_of (errand_on line) + cost_on (drop (i + 1) lines) = ap cost_on split in
+    omega (arith, cost, left_cost, c.loop-line.invariant.room, c.requires.room)
+
 pub loop-line-preserved : goal.loop-line-preserved
 loop-line-preserved g c =
     let line = c.line-item.result in
@@ -55,28 +112,44 @@ loop-line-preserved g c =
     let lines = c.args.lines.now in
     let at = c.loop-line.session in
     let new = c.play.new.session in
+    let admin : Administration = c.args.admin.now in
     let before = c.loop-line.invariant in
+    let now = c.play.ensures in
     let split = splits lines i line c.loop-line-test.true c.line-item.is in
+    let front = fronts lines i line c.loop-line-test.true c.line-item.is in
     let can : CanPlay 62 at.state.opened.depth (kinds_at at.state) (line ∷ drop (i + 1) lines) = subst (CanPlay 62 at.state.opened.depth (kinds_at at.state)) split before.can in
-    let run : HasRun (errand_on line) at new (g.R.Rows.reached c.loop-line.rows) (g.R.Rows.reached c.play.new.rows) =
-    subst (λ (errand : Errand). HasRun errand at new (g.R.Rows.reached c.loop-line.rows) (g.R.Rows.reached c.play.new.rows)) c.errand_of.ensures.asks c.play.ensures.run in
-    let kinds : kinds_at new.state ≡ kinds_behind (mark_of line) (kinds_at at.state) = run_kinds line at new (g.R.Rows.reached c.loop-line.rows) (g.R.Rows.reached c.play.new.rows) run in
+    let run_here : HasActed (deed_of c.loop-line.admin (errand_on line)) at new (g.A.Rows.reached c.loop-line.rows) (g.A.Rows.reached c.play.new.rows) =
+    subst (λ (errand : Errand). HasActed (deed_of c.loop-line.admin errand) at new (g.A.Rows.reached c.loop-line.rows) (g.A.Rows.reached c.play.new.rows)) c.errand_of.ensures.asks now.run in
+    let run : HasActed (deed_of (admin_after admin (take i lines)) (errand_on line)) at new (g.A.Rows.reached c.loop-line.rows) (g.A.Rows.reached c.play.new.rows) =
+    subst (λ (a : Administration). HasActed (deed_of a (errand_on line)) at new (g.A.Rows.reached c.loop-line.rows) (g.A.Rows.reached c.play.new.rows)) before.admin run_here in
+    let kinds : kinds_at new.state ≡ kinds_behind (mark_of line) (kinds_at at.state) = run_kinds c.loop-line.admin line at new (g.A.Rows.reached c.loop-line.rows) (g.A.Rows.reached c.play.new.rows) run_here in
+    let acts : actions_of c.errand_of.result ≡ actions_of (errand_on line) = ap actions_of c.errand_of.ensures.asks in
     let cost : cost_of c.errand_of.result ≡ cost_of (errand_on line) = ap cost_of c.errand_of.ensures.asks in
+    let left_acts : actions_on (drop i lines) ≡ actions_of (errand_on line) + actions_on (drop (i + 1) lines) = ap actions_on split in
     let left_cost : cost_on (drop i lines) ≡ cost_of (errand_on line) + cost_on (drop (i + 1) lines) = ap cost_on split in
+    let behind : c.play.new.admin ≡ admin_behind (admin_after admin (take i lines)) (errand_on line) =
+    now.admin ∙ (ap (admin_behind c.loop-line.admin) c.errand_of.ensures.asks ∙ ap (λ (a : Administration). admin_behind a (errand_on line)) before.admin) in
+    let stepped : c.play.new.admin.actions ≡ c.loop-line.admin.actions + actions_of c.errand_of.result = ap (λ (a : Administration). a.actions) now.admin ∙ one_counted c.loop-line.admin c.errand_of.result in
     record {
-      played = subst (λ (z : List BlockLine). HavePlayed z c.args.session.now new (g.R.Rows.reached c.args.rows.now) (g.R.Rows.reached c.play.new.rows)) (sym (fronts lines i line c.loop-line-test.true c.line-item.is))
-          (played_more (take i lines) line c.args.session.now at new (g.R.Rows.reached c.args.rows.now) (g.R.Rows.reached c.loop-line.rows) (g.R.Rows.reached c.play.new.rows) can.0.quits before.played run);
+      played = subst (λ (z : List BlockLine). HavePlayed z admin c.args.session.now new (g.A.Rows.reached c.args.rows.now) (g.A.Rows.reached c.play.new.rows)) (sym front)
+          (played_more (take i lines) line admin c.args.session.now at new (g.A.Rows.reached c.args.rows.now) (g.A.Rows.reached c.loop-line.rows) (g.A.Rows.reached c.play.new.rows) can.0.quits before.played run);
+      admin = behind ∙ (sym (after_then admin (take i lines) (line ∷ [])) ∙ ap (admin_after admin) (sym front));
       can = subst (λ (k : List EventKind). CanPlay 62 new.state.opened.depth k (drop (i + 1) lines)) (sym kinds)
-          (subst (λ d. CanPlay 62 d (kinds_behind (mark_of line) (kinds_at at.state)) (drop (i + 1) lines)) (sym c.play.ensures.depth) can.1);
+          (subst (λ d. CanPlay 62 d (kinds_behind (mark_of line) (kinds_at at.state)) (drop (i + 1) lines)) (sym now.depth) can.1);
       kinds = ap (λ (k : List EventKind). kinds_after k (drop (i + 1) lines)) kinds ∙ (sym (ap (kinds_after (kinds_at at.state)) split) ∙ before.kinds);
       lie = subst StagesLie (sym kinds) (still_lies (mark_of line) (kinds_at at.state) before.lie can.0.stands);
-      drawn = omega (arith, before.drawn, c.play.ensures.drawn);
-      rest = c.play.ensures.rest ∙ ap (λ (s : State). record s { clock = new.state.clock; drawn = new.state.drawn; opened = new.state.opened; held = new.state.held }) before.rest;
-      depth = c.play.ensures.depth ∙ before.depth;
-      hand = λ r. c.play.ensures.leaves.hand r ∙ before.hand r;
-      left = omega (arith, before.left, c.play.ensures.leaves.left);
-      draws = c.play.ensures.leaves.draws ∙ before.draws;
-      name = c.play.ensures.leaves.name ∙ before.name;
-      words = c.play.ensures.words ∙ before.words;
-      room = omega (arith, before.room, c.play.ensures.leaves.room, cost, left_cost);
+      drawn = omega (arith, before.drawn, now.drawn);
+      few = omega (arith, before.few, left_acts);
+      actions = omega (arith, before.actions, now.actions, acts, left_acts);
+      counted = omega (arith, before.counted, stepped, acts, left_acts);
+      rest = now.rest ∙ ap (λ (s : State). record s { clock = new.state.clock; drawn = new.state.drawn; opened = new.state.opened; held = new.state.held; actions = new.state.actions; last = new.state.last }) before.rest;
+      last = λ none. now.last (omega (arith, none, before.few, acts, left_acts)) ∙ before.last none;
+      wide = now.wide;
+      depth = now.depth ∙ before.depth;
+      hand = λ r. now.leaves.hand r ∙ before.hand r;
+      left = omega (arith, before.left, now.leaves.left, acts, left_acts);
+      draws = now.leaves.draws ∙ before.draws;
+      name = now.leaves.name ∙ before.name;
+      lent = now.lent;
+      room = omega (arith, before.room, now.leaves.room, cost, left_cost);
     }

@@ -1,21 +1,27 @@
-use Rattle.std.proofs.Common.{◌≡◌, ◌≤◌, ◌+◌, ◌*◌, ℕ, take, drop}
+use Rattle.std.proofs.Common.{◌≡◌, ◌≤◌, ◌+◌, ◌*◌, ℕ, Some, length, take, drop}
 use Rattle.pfs_facts.specs.Steps.{kinds_at}
-use Rattle.pfs_play.specs.Errands.{CanPlay, HavePlayed, StagesLie, kinds_after, cost_on}
+use Rattle.pfs_play.specs.Errands.{CanPlay, HavePlayed, StagesLie, actions_on, admin_after, cost_on, kinds_after}
 use Rattle.pfs_play.proofs.lines.play_lines.Given as goal
 
 abbrev pub invariant-loop-line : goal.invariant-loop-line
 invariant-loop-line g l = record {
-  played : HavePlayed (take l.line-index l.lines) l.fn.session l.session (g.R.Rows.reached l.fn.rows) (g.R.Rows.reached l.rows);
+  played : HavePlayed (take l.line-index l.lines) l.fn.admin l.fn.session l.session (g.A.Rows.reached l.fn.rows) (g.A.Rows.reached l.rows);
+  admin : l.admin ≡ admin_after l.fn.admin (take l.line-index l.lines);
   can : CanPlay 62 l.session.state.opened.depth (kinds_at l.session.state) (drop l.line-index l.lines);
   kinds : kinds_after (kinds_at l.session.state) (drop l.line-index l.lines) ≡ kinds_after (kinds_at l.fn.session.state) l.lines;
   lie : StagesLie (kinds_at l.session.state);
   drawn : l.session.state.drawn ≤ l.fn.session.state.drawn + l.line-index;
-  rest : l.session.state ≡ record l.fn.session.state { clock = l.session.state.clock; drawn = l.session.state.drawn; opened = l.session.state.opened; held = l.session.state.held };
+  few : actions_on (drop l.line-index l.lines) ≤ actions_on l.lines;
+  actions : l.session.state.actions + actions_on (drop l.line-index l.lines) ≡ l.fn.session.state.actions + actions_on l.lines;
+  counted : l.admin.actions + actions_on (drop l.line-index l.lines) ≡ l.fn.admin.actions + actions_on l.lines;
+  rest : l.session.state ≡ record l.fn.session.state { clock = l.session.state.clock; drawn = l.session.state.drawn; opened = l.session.state.opened; held = l.session.state.held; actions = l.session.state.actions; last = l.session.state.last };
+  last : actions_on l.lines ≡ 0 → l.session.state.last ≡ l.fn.session.state.last;
+  wide : length l.session.state.held ≡ 193;
   depth : l.session.state.opened.depth ≡ l.fn.session.state.opened.depth;
-  hand : (r : ℕ) → g.R.Rows.hand l.rows r ≡ g.R.Rows.hand l.fn.rows r;
-  left : g.R.Rows.left l.fn.rows ≤ g.R.Rows.left l.rows + 2 * l.line-index;
-  draws : g.R.Rows.draws l.rows ≡ g.R.Rows.draws l.fn.rows;
-  name : g.R.Rows.name l.rows ≡ g.R.Rows.name l.fn.rows;
-  words : g.R.Rows.words l.rows ≡ g.R.Rows.words l.fn.rows;
+  hand : (r : ℕ) → g.A.Rows.hand l.rows r ≡ g.A.Rows.hand l.fn.rows r;
+  left : g.A.Rows.left l.fn.rows + 20192 * actions_on (drop l.line-index l.lines) ≤ g.A.Rows.left l.rows + (2 * l.line-index + 20192 * actions_on l.lines);
+  draws : g.A.Rows.draws l.rows ≡ g.A.Rows.draws l.fn.rows;
+  name : g.A.Rows.name l.rows ≡ g.A.Rows.name l.fn.rows;
+  lent : g.A.Rows.words l.rows ≡ Some l.admin.words;
   room : l.fn.session.journal.room + cost_on (drop l.line-index l.lines) ≤ l.session.journal.room + cost_on l.lines;
 }

@@ -1,24 +1,49 @@
-use Rattle.std.proofs.Common.{refl, sym, subst}
+use Rattle.std.proofs.Common.{◌∙◌, ap, length, refl, sym, subst}
+use Rattle.pfs_actions.specs.Done.{HasActed}
+use Rattle.pfs_parts.specs.Deeds.{Ending, Starting}
+use Rattle.pfs_session.specs.States.{State}
 use Rattle.pfs_play.specs.declared.errands.Errand.{Errand}
 use Rattle.pfs_play.specs.declared.errands.Errand.TheVariants as ask
-use Rattle.pfs_play.specs.Errands.{HasRun}
+use Rattle.pfs_play.specs.Errands.{deed_of}
 use Rattle.pfs_play.proofs.Running.{ran, stage_ran, spend_ran, stage_depth}
+use Rattle.pfs_play.proofs.Width.{acted_wide, none_wide}
 use Rattle.pfs_play.proofs.playing.play.Goals as goal
 
 pub returns-in-Start-clause-run : goal.returns-in-Start-clause-run
 returns-in-Start-clause-run g c =
-    subst (λ (errand : Errand). HasRun errand c.args.session.now c.start.new.self (g.R.Rows.reached c.args.rows.now) (g.R.Rows.reached c.start.new.rows)) (sym c.in-Start.is)
-    (ran (ask.Start c.in-Start.subject) _ _ c.args.session.now c.start.new.self _ _ (λ admin. refl) refl c.start.ensures.played)
+    subst (λ (errand : Errand). HasActed (deed_of c.args.admin.now errand) c.args.session.now c.start.new.self (g.A.Rows.reached c.args.rows.now) (g.A.Rows.reached c.start.new.rows)) (sym c.in-Start.is)
+    (ran (Starting c.in-Start.subject) _ c.args.session.now c.start.new.self _ _ refl refl c.start.ensures.played)
 
 pub returns-in-Stage-clause-run : goal.returns-in-Stage-clause-run
 returns-in-Stage-clause-run g c =
-    subst (λ (errand : Errand). HasRun errand c.args.session.now c.stage.new.self (g.R.Rows.reached c.args.rows.now) (g.R.Rows.reached c.stage.new.rows)) (sym c.in-Stage.is)
-    (stage_ran c.in-Stage.subject c.args.session.now c.stage.new.self _ _ c.stage.ensures.played)
+    subst (λ (errand : Errand). HasActed (deed_of c.args.admin.now errand) c.args.session.now c.stage.new.self (g.A.Rows.reached c.args.rows.now) (g.A.Rows.reached c.stage.new.rows)) (sym c.in-Stage.is)
+    (stage_ran c.args.admin.now c.in-Stage.subject c.args.session.now c.stage.new.self _ _ c.stage.ensures.played)
 
 pub returns-in-Stage-clause-depth : goal.returns-in-Stage-clause-depth
 returns-in-Stage-clause-depth g c = stage_depth c.in-Stage.subject c.args.session.now.state.opened c.stage.new.self.state.opened c.stage.ensures.opened
 
+pub returns-in-Stage-clause-wide : goal.returns-in-Stage-clause-wide
+returns-in-Stage-clause-wide g c =
+    acted_wide (deed_of c.args.admin.now (ask.Stage c.in-Stage.subject)) c.args.session.now c.stage.new.self (g.A.Rows.reached c.args.rows.now) (g.A.Rows.reached c.stage.new.rows)
+    (stage_ran c.args.admin.now c.in-Stage.subject c.args.session.now c.stage.new.self _ _ c.stage.ensures.played) c.requires.wide
+
+pub returns-in-End-clause-run : goal.returns-in-End-clause-run
+returns-in-End-clause-run g c =
+    subst (λ (errand : Errand). HasActed (deed_of c.args.admin.now errand) c.args.session.now c.end.new.session (g.A.Rows.reached c.args.rows.now) (g.A.Rows.reached c.end.new.rows)) (sym c.in-End.is) c.end.ensures.run
+
+pub returns-in-End-clause-wide : goal.returns-in-End-clause-wide
+returns-in-End-clause-wide g c =
+    acted_wide (Ending c.in-End.numbers) c.args.session.now c.end.new.session (g.A.Rows.reached c.args.rows.now) (g.A.Rows.reached c.end.new.rows) c.end.ensures.run c.requires.wide
+
 pub returns-in-Spend-clause-run : goal.returns-in-Spend-clause-run
 returns-in-Spend-clause-run g c =
-    subst (λ (errand : Errand). HasRun errand c.args.session.now c.spend.new.self (g.R.Rows.reached c.args.rows.now) (g.R.Rows.reached c.args.rows.now)) (sym c.in-Spend.is)
+    subst (λ (errand : Errand). HasActed (deed_of c.args.admin.now errand) c.args.session.now c.spend.new.self (g.A.Rows.reached c.args.rows.now) (g.A.Rows.reached c.args.rows.now)) (sym c.in-Spend.is)
     (spend_ran c.in-Spend.time c.args.session.now c.spend.new.self _ c.spend.ensures.does c.spend.ensures.journal)
+
+pub returns-in-Truncate-clause-run : goal.returns-in-Truncate-clause-run
+returns-in-Truncate-clause-run g c =
+    subst (λ (errand : Errand). HasActed (deed_of c.args.admin.now errand) c.args.session.now c.truncate_table.new.session (g.A.Rows.reached c.args.rows.now) (g.A.Rows.reached c.truncate_table.new.rows)) (sym c.in-Truncate.is)
+    c.truncate_table.ensures.run
+
+pub returns-in-Truncate-clause-wide : goal.returns-in-Truncate-clause-wide
+returns-in-Truncate-clause-wide g c = ap (λ (s : State). length s.held) c.truncate_table.ensures.rest ∙ none_wide

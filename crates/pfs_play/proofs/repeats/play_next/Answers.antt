@@ -3,7 +3,7 @@ use Rattle.pfs_event.specs.declared.kind.EventKind.{EventKind}
 use Rattle.pfs_facts.specs.Steps.{kinds_at}
 use Rattle.pfs_script.specs.declared.blocks.BlockLine.{BlockLine}
 use Rattle.pfs_script.specs.Marks.{written_out}
-use Rattle.pfs_play.specs.Errands.{kinds_after, cost_on}
+use Rattle.pfs_play.specs.Errands.{actions_on, cost_on, kinds_after}
 use Rattle.pfs_play.specs.Repeats.{AllMayPlay}
 use Rattle.pfs_play.proofs.Writing.{begun, played, kinds_then}
 use Rattle.pfs_play.proofs.repeats.play_next.Goals as goal
@@ -21,7 +21,8 @@ pub play_repeat-requires-clause-spare : goal.play_repeat-requires-clause-spare
 play_repeat-requires-clause-spare g c =
     let b = begun 62 c.args.session.now.state.opened.depth (kinds_at c.args.session.now.state) c.in-Some-times_of.times c.args.lines.now c.in-Some.first.now c.in-Some.others.now c.in-Some.ensures.cases.0 (sym c.times_of.ensures ∙ c.in-Some-times_of.is) c.requires.may in
     let w = ap length b.written in
-    omega (arith, w, c.requires.spare)
+    let k = ap actions_on b.written in
+    omega (arith, w, k, c.requires.spare)
 
 pub play_repeat-requires-clause-room : goal.play_repeat-requires-clause-room
 play_repeat-requires-clause-room g c =
@@ -40,7 +41,7 @@ play_lines-requires-clause-early g c =
 pub play_lines-requires-clause-spare : goal.play_lines-requires-clause-spare
 play_lines-requires-clause-spare g c =
     let p = played 62 c.args.session.now.state.opened.depth (kinds_at c.args.session.now.state) c.args.lines.now c.in-Some.first.now c.in-Some.others.now c.in-Some.ensures.cases.0 (sym c.times_of.ensures ∙ c.in-None.is) c.requires.may in
-    omega (arith, p.lengths, c.requires.spare)
+    omega (arith, p.lengths, p.actions, c.requires.spare)
 
 pub play_lines-requires-clause-room : goal.play_lines-requires-clause-room
 play_lines-requires-clause-room g c =
@@ -55,6 +56,7 @@ returns-in-Some-times_of-clause-gone g c =
       first = gone.first;
       are = b.written ∙ (gone.are ∙ ap (λ (l : List BlockLine). gone.first ++ written_out l) (sym (b.behind c.play_repeat.result)));
       played = gone.played;
+      after_is = gone.after_is;
     }
 
 pub returns-in-Some-times_of-clause-kinds : goal.returns-in-Some-times_of-clause-kinds
@@ -77,9 +79,11 @@ returns-in-Some-times_of-clause-leaves g c =
     let n = ap (λ (l : List BlockLine). length (written_out l)) (b.behind c.play_repeat.result) in
     let v = ap cost_on b.written in
     let m = ap (λ (l : List BlockLine). cost_on (written_out l)) (b.behind c.play_repeat.result) in
+    let k = ap actions_on b.written in
+    let z = ap (λ (l : List BlockLine). actions_on (written_out l)) (b.behind c.play_repeat.result) in
     record {
       hand = c.play_repeat.ensures.leaves.hand;
-      left = omega (arith, w, n, c.play_repeat.ensures.leaves.left);
+      left = omega (arith, w, n, k, z, c.play_repeat.ensures.leaves.left);
       draws = c.play_repeat.ensures.leaves.draws;
       name = c.play_repeat.ensures.leaves.name;
       room = omega (arith, v, m, c.play_repeat.ensures.leaves.room);
@@ -88,7 +92,7 @@ returns-in-Some-times_of-clause-leaves g c =
 pub returns-in-None-clause-gone : goal.returns-in-None-clause-gone
 returns-in-None-clause-gone g c =
     let p = played 62 c.args.session.now.state.opened.depth (kinds_at c.args.session.now.state) c.args.lines.now c.in-Some.first.now c.in-Some.others.now c.in-Some.ensures.cases.0 (sym c.times_of.ensures ∙ c.in-None.is) c.requires.may in
-    record { first = take 1 c.args.lines.now; are = p.written; played = c.play_lines.ensures.played }
+    record { first = take 1 c.args.lines.now; are = p.written; played = c.play_lines.ensures.played; after_is = c.play_lines.ensures.admin }
 
 pub returns-in-None-clause-may : goal.returns-in-None-clause-may
 returns-in-None-clause-may g c =
@@ -111,8 +115,65 @@ returns-in-None-clause-leaves g c =
     let p = played 62 c.args.session.now.state.opened.depth (kinds_at c.args.session.now.state) c.args.lines.now c.in-Some.first.now c.in-Some.others.now c.in-Some.ensures.cases.0 (sym c.times_of.ensures ∙ c.in-None.is) c.requires.may in
     record {
       hand = c.play_lines.ensures.leaves.hand;
-      left = omega (arith, p.lengths, c.play_lines.ensures.leaves.left);
+      left = omega (arith, p.lengths, p.actions, c.play_lines.ensures.leaves.left);
       draws = c.play_lines.ensures.leaves.draws;
       name = c.play_lines.ensures.leaves.name;
       room = omega (arith, p.costs, c.play_lines.ensures.leaves.room);
     }
+
+pub play_repeat-requires-clause-rare : goal.play_repeat-requires-clause-rare
+play_repeat-requires-clause-rare g c =
+    let b = begun 62 c.args.session.now.state.opened.depth (kinds_at c.args.session.now.state) c.in-Some-times_of.times c.args.lines.now c.in-Some.first.now c.in-Some.others.now c.in-Some.ensures.cases.0 (sym c.times_of.ensures ∙ c.in-Some-times_of.is) c.requires.may in
+    let k = ap actions_on b.written in
+    omega (arith, k, c.requires.rare)
+
+pub play_lines-requires-clause-rare : goal.play_lines-requires-clause-rare
+play_lines-requires-clause-rare g c =
+    let p = played 62 c.args.session.now.state.opened.depth (kinds_at c.args.session.now.state) c.args.lines.now c.in-Some.first.now c.in-Some.others.now c.in-Some.ensures.cases.0 (sym c.times_of.ensures ∙ c.in-None.is) c.requires.may in
+    omega (arith, p.actions, c.requires.rare)
+
+pub play_repeat-requires-clause-few : goal.play_repeat-requires-clause-few
+play_repeat-requires-clause-few g c =
+    let b = begun 62 c.args.session.now.state.opened.depth (kinds_at c.args.session.now.state) c.in-Some-times_of.times c.args.lines.now c.in-Some.first.now c.in-Some.others.now c.in-Some.ensures.cases.0 (sym c.times_of.ensures ∙ c.in-Some-times_of.is) c.requires.may in
+    let k = ap actions_on b.written in
+    omega (arith, k, c.requires.few)
+
+pub play_lines-requires-clause-few : goal.play_lines-requires-clause-few
+play_lines-requires-clause-few g c =
+    let p = played 62 c.args.session.now.state.opened.depth (kinds_at c.args.session.now.state) c.args.lines.now c.in-Some.first.now c.in-Some.others.now c.in-Some.ensures.cases.0 (sym c.times_of.ensures ∙ c.in-None.is) c.requires.may in
+    omega (arith, p.actions, c.requires.few)
+
+pub returns-in-Some-times_of-clause-actions : goal.returns-in-Some-times_of-clause-actions
+returns-in-Some-times_of-clause-actions g c =
+    let b = begun 62 c.args.session.now.state.opened.depth (kinds_at c.args.session.now.state) c.in-Some-times_of.times c.args.lines.now c.in-Some.first.now c.in-Some.others.now c.in-Some.ensures.cases.0 (sym c.times_of.ensures ∙ c.in-Some-times_of.is) c.requires.may in
+    let k = ap actions_on b.written in
+    let z = ap (λ (l : List BlockLine). actions_on (written_out l)) (b.behind c.play_repeat.result) in
+    omega (arith, k, z, c.play_repeat.ensures.actions)
+
+pub returns-in-None-clause-actions : goal.returns-in-None-clause-actions
+returns-in-None-clause-actions g c =
+    let p = played 62 c.args.session.now.state.opened.depth (kinds_at c.args.session.now.state) c.args.lines.now c.in-Some.first.now c.in-Some.others.now c.in-Some.ensures.cases.0 (sym c.times_of.ensures ∙ c.in-None.is) c.requires.may in
+    omega (arith, p.actions, c.play_lines.ensures.actions)
+
+pub returns-in-Some-times_of-clause-counted : goal.returns-in-Some-times_of-clause-counted
+returns-in-Some-times_of-clause-counted g c =
+    let b = begun 62 c.args.session.now.state.opened.depth (kinds_at c.args.session.now.state) c.in-Some-times_of.times c.args.lines.now c.in-Some.first.now c.in-Some.others.now c.in-Some.ensures.cases.0 (sym c.times_of.ensures ∙ c.in-Some-times_of.is) c.requires.may in
+    let k = ap actions_on b.written in
+    let z = ap (λ (l : List BlockLine). actions_on (written_out l)) (b.behind c.play_repeat.result) in
+    omega (arith, k, z, c.play_repeat.ensures.counted)
+
+pub returns-in-None-clause-counted : goal.returns-in-None-clause-counted
+returns-in-None-clause-counted g c =
+    let p = played 62 c.args.session.now.state.opened.depth (kinds_at c.args.session.now.state) c.args.lines.now c.in-Some.first.now c.in-Some.others.now c.in-Some.ensures.cases.0 (sym c.times_of.ensures ∙ c.in-None.is) c.requires.may in
+    omega (arith, p.actions, c.play_lines.ensures.counted)
+
+pub returns-in-Some-times_of-clause-last : goal.returns-in-Some-times_of-clause-last
+returns-in-Some-times_of-clause-last g c free =
+    let b = begun 62 c.args.session.now.state.opened.depth (kinds_at c.args.session.now.state) c.in-Some-times_of.times c.args.lines.now c.in-Some.first.now c.in-Some.others.now c.in-Some.ensures.cases.0 (sym c.times_of.ensures ∙ c.in-Some-times_of.is) c.requires.may in
+    let k = ap actions_on b.written in
+    c.play_repeat.ensures.last (omega (arith, k, free))
+
+pub returns-in-None-clause-last : goal.returns-in-None-clause-last
+returns-in-None-clause-last g c free =
+    let p = played 62 c.args.session.now.state.opened.depth (kinds_at c.args.session.now.state) c.args.lines.now c.in-Some.first.now c.in-Some.others.now c.in-Some.ensures.cases.0 (sym c.times_of.ensures ∙ c.in-None.is) c.requires.may in
+    c.play_lines.ensures.last (omega (arith, p.actions, free))

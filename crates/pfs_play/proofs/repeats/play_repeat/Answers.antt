@@ -4,7 +4,7 @@ use Rattle.pfs_event.specs.declared.kind.EventKind.{EventKind}
 use Rattle.pfs_facts.specs.Steps.{kinds_at}
 use Rattle.pfs_script.specs.declared.blocks.BlockLine.{BlockLine}
 use Rattle.pfs_script.specs.Marks.{copies, written_out}
-use Rattle.pfs_play.specs.Errands.{kinds_after, cost_on}
+use Rattle.pfs_play.specs.Errands.{actions_on, cost_on, kinds_after}
 use Rattle.pfs_play.specs.Repeats.{AllMayPlay, repeated}
 use Rattle.pfs_play.proofs.Writing.{rounds_at, not_found, written_open, can_open, nothing_behind, may_behind}
 use Rattle.pfs_play.proofs.repeats.play_repeat.Goals as goal
@@ -23,7 +23,7 @@ play_times-requires-clause-early g c =
 pub play_times-requires-clause-spare : goal.play_times-requires-clause-spare
 play_times-requires-clause-spare g c =
     let r = rounds_at 62 c.args.session.now.state.opened.depth (kinds_at c.args.session.now.state) c.args.times c.in-Some.end c.args.lines.now (sym c.done_in.ensures ∙ c.in-Some.is) c.requires.may in
-    omega (arith, r.lengths, c.requires.spare)
+    omega (arith, r.lengths, r.actions, c.requires.spare)
 
 pub play_times-requires-clause-room : goal.play_times-requires-clause-room
 play_times-requires-clause-room g c =
@@ -41,7 +41,8 @@ play_lines-requires-clause-early g c =
 pub play_lines-requires-clause-spare : goal.play_lines-requires-clause-spare
 play_lines-requires-clause-spare g c =
     let w = ap length (written_open c.args.times c.args.lines.now (not_found c.args.lines.now (sym c.done_in.ensures ∙ c.in-None.is))) in
-    omega (arith, w, c.requires.spare)
+    let k = ap actions_on (written_open c.args.times c.args.lines.now (not_found c.args.lines.now (sym c.done_in.ensures ∙ c.in-None.is))) in
+    omega (arith, w, k, c.requires.spare)
 
 pub play_lines-requires-clause-room : goal.play_lines-requires-clause-room
 play_lines-requires-clause-room g c =
@@ -54,7 +55,7 @@ returns-in-Some-clause-count g c = (rounds_at 62 c.args.session.now.state.opened
 pub returns-in-Some-clause-gone : goal.returns-in-Some-clause-gone
 returns-in-Some-clause-gone g c =
     let r = rounds_at 62 c.args.session.now.state.opened.depth (kinds_at c.args.session.now.state) c.args.times c.in-Some.end c.args.lines.now (sym c.done_in.ensures ∙ c.in-Some.is) c.requires.may in
-    record { first = copies c.args.times (take c.in-Some.end c.args.lines.now); are = r.written; played = c.play_times.ensures.played }
+    record { first = copies c.args.times (take c.in-Some.end c.args.lines.now); are = r.written; played = c.play_times.ensures.played; after_is = c.play_times.ensures.admin }
 
 pub returns-in-Some-clause-may : goal.returns-in-Some-clause-may
 returns-in-Some-clause-may g c =
@@ -76,7 +77,7 @@ returns-in-Some-clause-leaves g c =
     let r = rounds_at 62 c.args.session.now.state.opened.depth (kinds_at c.args.session.now.state) c.args.times c.in-Some.end c.args.lines.now (sym c.done_in.ensures ∙ c.in-Some.is) c.requires.may in
     record {
       hand = c.play_times.ensures.leaves.hand;
-      left = omega (arith, r.lengths, c.play_times.ensures.leaves.left);
+      left = omega (arith, r.lengths, r.actions, c.play_times.ensures.leaves.left);
       draws = c.play_times.ensures.leaves.draws;
       name = c.play_times.ensures.leaves.name;
       room = omega (arith, r.costs, c.play_times.ensures.leaves.room);
@@ -86,7 +87,7 @@ pub returns-in-None-clause-gone : goal.returns-in-None-clause-gone
 returns-in-None-clause-gone g c =
     let lines : List BlockLine = c.args.lines.now in
     let written : repeated c.args.times lines ≡ lines = written_open c.args.times lines (not_found lines (sym c.done_in.ensures ∙ c.in-None.is)) in
-    record { first = lines; are = written ∙ (sym (append-nil lines) ∙ ap (λ (r : List BlockLine). lines ++ r) (sym (nothing_behind lines))); played = c.play_lines.ensures.played }
+    record { first = lines; are = written ∙ (sym (append-nil lines) ∙ ap (λ (r : List BlockLine). lines ++ r) (sym (nothing_behind lines))); played = c.play_lines.ensures.played; after_is = c.play_lines.ensures.admin }
 
 pub returns-in-None-clause-may : goal.returns-in-None-clause-may
 returns-in-None-clause-may g c = may_behind 62 c.args.session.now.state.opened.depth (kinds_at c.play_lines.new.session.state) c.args.lines.now
@@ -112,10 +113,77 @@ returns-in-None-clause-leaves g c =
     let n = ap length (nothing_behind lines) in
     let v = ap cost_on written in
     let m = ap cost_on (nothing_behind lines) in
+    let k = ap actions_on written in
+    let z = ap actions_on (nothing_behind lines) in
     record {
       hand = c.play_lines.ensures.leaves.hand;
-      left = omega (arith, w, n, c.play_lines.ensures.leaves.left);
+      left = omega (arith, w, n, k, z, c.play_lines.ensures.leaves.left);
       draws = c.play_lines.ensures.leaves.draws;
       name = c.play_lines.ensures.leaves.name;
       room = omega (arith, v, m, c.play_lines.ensures.leaves.room);
     }
+
+pub play_times-requires-clause-rare : goal.play_times-requires-clause-rare
+play_times-requires-clause-rare g c =
+    let r = rounds_at 62 c.args.session.now.state.opened.depth (kinds_at c.args.session.now.state) c.args.times c.in-Some.end c.args.lines.now (sym c.done_in.ensures ∙ c.in-Some.is) c.requires.may in
+    omega (arith, r.actions, c.requires.rare)
+
+pub play_lines-requires-clause-rare : goal.play_lines-requires-clause-rare
+play_lines-requires-clause-rare g c =
+    let w = ap length (written_open c.args.times c.args.lines.now (not_found c.args.lines.now (sym c.done_in.ensures ∙ c.in-None.is))) in
+    let k = ap actions_on (written_open c.args.times c.args.lines.now (not_found c.args.lines.now (sym c.done_in.ensures ∙ c.in-None.is))) in
+    let n = ap length (nothing_behind c.args.lines.now) in
+    let z = ap actions_on (nothing_behind c.args.lines.now) in
+    omega (arith, k, c.requires.rare)
+
+pub play_times-requires-clause-few : goal.play_times-requires-clause-few
+play_times-requires-clause-few g c =
+    let r = rounds_at 62 c.args.session.now.state.opened.depth (kinds_at c.args.session.now.state) c.args.times c.in-Some.end c.args.lines.now (sym c.done_in.ensures ∙ c.in-Some.is) c.requires.may in
+    omega (arith, r.actions, c.requires.few)
+
+pub play_lines-requires-clause-few : goal.play_lines-requires-clause-few
+play_lines-requires-clause-few g c =
+    let w = ap length (written_open c.args.times c.args.lines.now (not_found c.args.lines.now (sym c.done_in.ensures ∙ c.in-None.is))) in
+    let k = ap actions_on (written_open c.args.times c.args.lines.now (not_found c.args.lines.now (sym c.done_in.ensures ∙ c.in-None.is))) in
+    let n = ap length (nothing_behind c.args.lines.now) in
+    let z = ap actions_on (nothing_behind c.args.lines.now) in
+    omega (arith, k, c.requires.few)
+
+pub returns-in-Some-clause-actions : goal.returns-in-Some-clause-actions
+returns-in-Some-clause-actions g c =
+    let r = rounds_at 62 c.args.session.now.state.opened.depth (kinds_at c.args.session.now.state) c.args.times c.in-Some.end c.args.lines.now (sym c.done_in.ensures ∙ c.in-Some.is) c.requires.may in
+    omega (arith, r.actions, c.play_times.ensures.actions)
+
+pub returns-in-Some-clause-counted : goal.returns-in-Some-clause-counted
+returns-in-Some-clause-counted g c =
+    let r = rounds_at 62 c.args.session.now.state.opened.depth (kinds_at c.args.session.now.state) c.args.times c.in-Some.end c.args.lines.now (sym c.done_in.ensures ∙ c.in-Some.is) c.requires.may in
+    omega (arith, r.actions, c.play_times.ensures.counted)
+
+pub returns-in-None-clause-actions : goal.returns-in-None-clause-actions
+returns-in-None-clause-actions g c =
+    let w = ap length (written_open c.args.times c.args.lines.now (not_found c.args.lines.now (sym c.done_in.ensures ∙ c.in-None.is))) in
+    let k = ap actions_on (written_open c.args.times c.args.lines.now (not_found c.args.lines.now (sym c.done_in.ensures ∙ c.in-None.is))) in
+    let n = ap length (nothing_behind c.args.lines.now) in
+    let z = ap actions_on (nothing_behind c.args.lines.now) in
+    omega (arith, k, z, c.play_lines.ensures.actions)
+
+pub returns-in-None-clause-counted : goal.returns-in-None-clause-counted
+returns-in-None-clause-counted g c =
+    let w = ap length (written_open c.args.times c.args.lines.now (not_found c.args.lines.now (sym c.done_in.ensures ∙ c.in-None.is))) in
+    let k = ap actions_on (written_open c.args.times c.args.lines.now (not_found c.args.lines.now (sym c.done_in.ensures ∙ c.in-None.is))) in
+    let n = ap length (nothing_behind c.args.lines.now) in
+    let z = ap actions_on (nothing_behind c.args.lines.now) in
+    omega (arith, k, z, c.play_lines.ensures.counted)
+
+pub returns-in-Some-clause-last : goal.returns-in-Some-clause-last
+returns-in-Some-clause-last g c free =
+    let r = rounds_at 62 c.args.session.now.state.opened.depth (kinds_at c.args.session.now.state) c.args.times c.in-Some.end c.args.lines.now (sym c.done_in.ensures ∙ c.in-Some.is) c.requires.may in
+    c.play_times.ensures.last (omega (arith, r.actions, free))
+
+pub returns-in-None-clause-last : goal.returns-in-None-clause-last
+returns-in-None-clause-last g c free =
+    let w = ap length (written_open c.args.times c.args.lines.now (not_found c.args.lines.now (sym c.done_in.ensures ∙ c.in-None.is))) in
+    let k = ap actions_on (written_open c.args.times c.args.lines.now (not_found c.args.lines.now (sym c.done_in.ensures ∙ c.in-None.is))) in
+    let n = ap length (nothing_behind c.args.lines.now) in
+    let z = ap actions_on (nothing_behind c.args.lines.now) in
+    c.play_lines.ensures.last (omega (arith, k, free))

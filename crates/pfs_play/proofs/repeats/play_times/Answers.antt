@@ -1,34 +1,57 @@
-use Rattle.std.proofs.Common.{◌≡◌, ◌∙◌, List, [], refl, ap, sym, subst, length, arith}
+use Rattle.std.proofs.Common.{◌≡◌, ◌*◌, ◌∙◌, List, [], refl, ap, sym, subst, length, arith}
 use Rattle.std.proofs.lemmas.Bool.{eqb-true}
 use Rattle.std.proofs.lemmas.List.{nil_from_length}
+use Rattle.pfs_admin.specs.States.{State as Administration}
 use Rattle.pfs_script.specs.declared.blocks.BlockLine.{BlockLine}
 use Rattle.pfs_script.specs.Marks.{copies}
 use Rattle.pfs_session.specs.States.{State}
-use Rattle.pfs_play.specs.Errands.{HavePlayed, kinds_after}
+use Rattle.pfs_play.specs.Errands.{HavePlayed, actions_on, admin_after, kinds_after}
 use Rattle.pfs_play.proofs.Following.{played_nothing}
-use Rattle.pfs_play.proofs.Repeating.{copies_of_none, copies_more, no_copies, played_both}
+use Rattle.pfs_play.proofs.Repeating.{after_then, copies_of_none, copies_more, no_copies, played_both}
 use Rattle.pfs_play.proofs.repeats.play_times.Goals as goal
 
 pub returns-then-is_empty-clause-played : goal.returns-then-is_empty-clause-played
 returns-then-is_empty-clause-played g c =
     let none : c.args.body.now ≡ [] = nil_from_length c.args.body.now (eqb-true (length c.args.body.now) 0 (sym c.is_empty.ensures ∙ c.if-is_empty.true)) in
-    subst (λ (lines : List BlockLine). HavePlayed lines c.args.session.now c.args.session.now (g.R.Rows.reached c.args.rows.now) (g.R.Rows.reached c.args.rows.now))
-    (sym (copies_of_none c.args.times c.args.body.now none)) (played_nothing c.args.session.now (g.R.Rows.reached c.args.rows.now))
+    subst (λ (lines : List BlockLine). HavePlayed lines c.args.admin.now c.args.session.now c.args.session.now (g.A.Rows.reached c.args.rows.now) (g.A.Rows.reached c.args.rows.now))
+    (sym (copies_of_none c.args.times c.args.body.now none)) (played_nothing c.args.admin.now c.args.session.now (g.A.Rows.reached c.args.rows.now))
+
+pub returns-then-is_empty-clause-admin : goal.returns-then-is_empty-clause-admin
+returns-then-is_empty-clause-admin g c =
+    let none : c.args.body.now ≡ [] = nil_from_length c.args.body.now (eqb-true (length c.args.body.now) 0 (sym c.is_empty.ensures ∙ c.if-is_empty.true)) in
+    sym (ap (admin_after c.args.admin.now) (copies_of_none c.args.times c.args.body.now none))
+
+pub returns-then-is_empty-clause-counted : goal.returns-then-is_empty-clause-counted
+returns-then-is_empty-clause-counted g c =
+    let none : c.args.body.now ≡ [] = nil_from_length c.args.body.now (eqb-true (length c.args.body.now) 0 (sym c.is_empty.ensures ∙ c.if-is_empty.true)) in
+    let free : c.args.times * actions_on c.args.body.now ≡ 0 = ap (λ (l : List BlockLine). c.args.times * actions_on l) none ∙ omega arith in
+    omega (arith, free)
+
+pub returns-then-is_empty-clause-actions : goal.returns-then-is_empty-clause-actions
+returns-then-is_empty-clause-actions g c =
+    let none : c.args.body.now ≡ [] = nil_from_length c.args.body.now (eqb-true (length c.args.body.now) 0 (sym c.is_empty.ensures ∙ c.if-is_empty.true)) in
+    let free : c.args.times * actions_on c.args.body.now ≡ 0 = ap (λ (l : List BlockLine). c.args.times * actions_on l) none ∙ omega arith in
+    omega (arith, free)
 
 pub loop-round-init : goal.loop-round-init
 loop-round-init g c = record {
-  played = subst (λ (lines : List BlockLine). HavePlayed lines c.args.session.now c.args.session.now (g.R.Rows.reached c.args.rows.now) (g.R.Rows.reached c.args.rows.now)) (sym (no_copies c.args.body.now))
-      (played_nothing c.args.session.now (g.R.Rows.reached c.args.rows.now));
+  played = subst (λ (lines : List BlockLine). HavePlayed lines c.args.admin.now c.args.session.now c.args.session.now (g.A.Rows.reached c.args.rows.now) (g.A.Rows.reached c.args.rows.now)) (sym (no_copies c.args.body.now))
+      (played_nothing c.args.admin.now c.args.session.now (g.A.Rows.reached c.args.rows.now));
+  admin = sym (ap (admin_after c.args.admin.now) (no_copies c.args.body.now));
   kinds = refl;
   lie = c.requires.lie;
   drawn = omega arith;
+  actions = omega arith;
+  counted = omega arith;
   rest = refl;
+  last = λ none. refl;
+  wide = c.requires.wide;
   depth = refl;
   hand = λ r. refl;
   left = omega arith;
   draws = refl;
   name = refl;
-  words = refl;
+  lent = c.requires.lent;
   room = omega arith;
 }
 
@@ -37,20 +60,26 @@ loop-round-preserved g c =
     let body = c.args.body.now in
     let round = c.loop-round.round in
     let new = c.play_lines.new.session in
+    let admin : Administration = c.args.admin.now in
     let before = c.loop-round.invariant in
     record {
-      played = subst (λ (lines : List BlockLine). HavePlayed lines c.args.session.now new (g.R.Rows.reached c.args.rows.now) (g.R.Rows.reached c.play_lines.new.rows)) (sym (copies_more round body))
-          (played_both (copies round body) body c.args.session.now c.loop-round.session new (g.R.Rows.reached c.args.rows.now) (g.R.Rows.reached c.loop-round.rows) (g.R.Rows.reached c.play_lines.new.rows) before.played
-          c.play_lines.ensures.played);
+      played = subst (λ (lines : List BlockLine). HavePlayed lines admin c.args.session.now new (g.A.Rows.reached c.args.rows.now) (g.A.Rows.reached c.play_lines.new.rows)) (sym (copies_more round body))
+          (played_both (copies round body) body admin c.args.session.now c.loop-round.session new (g.A.Rows.reached c.args.rows.now) (g.A.Rows.reached c.loop-round.rows) (g.A.Rows.reached c.play_lines.new.rows) before.played
+          (subst (λ (a : Administration). HavePlayed body a c.loop-round.session new (g.A.Rows.reached c.loop-round.rows) (g.A.Rows.reached c.play_lines.new.rows)) before.admin c.play_lines.ensures.played));
+      admin = c.play_lines.ensures.admin ∙ (ap (λ (a : Administration). admin_after a body) before.admin ∙ (sym (after_then admin (copies round body) body) ∙ ap (admin_after admin) (sym (copies_more round body))));
       kinds = c.play_lines.ensures.kinds ∙ (ap (λ k. kinds_after k body) before.kinds ∙ c.requires.same);
       lie = c.play_lines.ensures.lie;
       drawn = omega (arith, before.drawn, c.play_lines.ensures.drawn);
-      rest = c.play_lines.ensures.rest ∙ ap (λ (s : State). record s { clock = new.state.clock; drawn = new.state.drawn; opened = new.state.opened; held = new.state.held }) before.rest;
+      actions = omega (arith, before.actions, c.play_lines.ensures.actions);
+      counted = omega (arith, before.counted, c.play_lines.ensures.counted);
+      rest = c.play_lines.ensures.rest ∙ ap (λ (s : State). record s { clock = new.state.clock; drawn = new.state.drawn; opened = new.state.opened; held = new.state.held; actions = new.state.actions; last = new.state.last }) before.rest;
+      last = λ none. c.play_lines.ensures.last (omega (arith, none)) ∙ before.last (omega (arith, none));
+      wide = c.play_lines.ensures.wide;
       depth = c.play_lines.ensures.depth ∙ before.depth;
       hand = λ r. c.play_lines.ensures.leaves.hand r ∙ before.hand r;
       left = omega (arith, before.left, c.play_lines.ensures.leaves.left);
       draws = c.play_lines.ensures.leaves.draws ∙ before.draws;
       name = c.play_lines.ensures.leaves.name ∙ before.name;
-      words = c.play_lines.ensures.words ∙ before.words;
+      lent = c.play_lines.ensures.lent;
       room = omega (arith, before.room, c.play_lines.ensures.leaves.room);
     }

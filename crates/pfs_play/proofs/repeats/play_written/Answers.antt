@@ -4,26 +4,30 @@ use Rattle.pfs_script.specs.declared.blocks.BlockLine.{BlockLine}
 use Rattle.pfs_script.specs.Marks.{written_out}
 use Rattle.pfs_session.specs.States.{State}
 use Rattle.pfs_facts.specs.Steps.{kinds_at}
-use Rattle.pfs_play.specs.Errands.{kinds_after, cost_on}
+use Rattle.pfs_play.specs.Errands.{actions_on, cost_on, kinds_after}
 use Rattle.pfs_play.specs.Repeats.{AllMayPlay, HaveGone}
-use Rattle.pfs_play.proofs.Writing.{to_the_end, drop_both, gone_both, gone_less, gone_nowhere, gone_whole, at_the_end}
+use Rattle.pfs_play.proofs.Writing.{to_the_end, drop_both, gone_after, gone_both, gone_less, gone_nowhere, gone_whole, at_the_end}
 use Rattle.pfs_play.proofs.repeats.play_written.Goals as goal
 
 pub loop-at-init : goal.loop-at-init
 loop-at-init g c = record {
   count = omega arith;
   may = c.requires.may;
-  gone = gone_nowhere (written_out c.args.lines.now) c.args.session.now (g.R.Rows.reached c.args.rows.now);
+  gone = gone_nowhere (written_out c.args.lines.now) c.args.admin.now c.args.session.now (g.A.Rows.reached c.args.rows.now);
   kinds = refl;
   lie = c.requires.lie;
   drawn = omega arith;
+  actions = refl;
+  counted = refl;
   rest = refl;
+  last = λ none. refl;
+  wide = c.requires.wide;
   depth = refl;
   hand = λ r. refl;
   left = omega arith;
   draws = refl;
   name = refl;
-  words = refl;
+  lent = c.requires.lent;
   room = omega arith;
 }
 
@@ -35,22 +39,31 @@ play_next-at-requires-clause-early g c =
     let e = ap (λ (l : List BlockLine). length (written_out l)) (to_the_end c.loop-at.at c.args.lines.now) in
     omega (arith, e, c.loop-at.invariant.drawn, c.requires.early)
 
-pub play_next-at-requires-clause-alone : goal.play_next-at-requires-clause-alone
-play_next-at-requires-clause-alone g c = λ r some. c.loop-at.invariant.hand r ∙ c.requires.alone r some
+pub play_next-at-requires-clause-rare : goal.play_next-at-requires-clause-rare
+play_next-at-requires-clause-rare g c =
+    let e = ap (λ (l : List BlockLine). actions_on (written_out l)) (to_the_end c.loop-at.at c.args.lines.now) in
+    omega (arith, e, c.loop-at.invariant.actions, c.requires.rare)
+
+pub play_next-at-requires-clause-few : goal.play_next-at-requires-clause-few
+play_next-at-requires-clause-few g c =
+    let e = ap (λ (l : List BlockLine). actions_on (written_out l)) (to_the_end c.loop-at.at c.args.lines.now) in
+    omega (arith, e, c.loop-at.invariant.counted, c.requires.few)
+
+pub play_next-at-requires-clause-idle : goal.play_next-at-requires-clause-idle
+play_next-at-requires-clause-idle g c = λ r. c.loop-at.invariant.hand r ∙ c.requires.idle r
 
 pub play_next-at-requires-clause-spare : goal.play_next-at-requires-clause-spare
 play_next-at-requires-clause-spare g c =
     let e = ap (λ (l : List BlockLine). length (written_out l)) (to_the_end c.loop-at.at c.args.lines.now) in
-    let less = gone_less (written_out c.args.lines.now) (written_out (drop c.loop-at.at c.args.lines.now)) c.args.session.now c.loop-at.session (g.R.Rows.reached c.args.rows.now) (g.R.Rows.reached c.loop-at.rows) c.loop-at.invariant.gone in
-    let short = less.0 in
-    omega (arith, e, short, c.loop-at.invariant.left, c.requires.spare)
+    let less = gone_less (written_out c.args.lines.now) (written_out (drop c.loop-at.at c.args.lines.now)) c.args.admin.now c.loop-at.admin c.args.session.now c.loop-at.session (g.A.Rows.reached c.args.rows.now) (g.A.Rows.reached c.loop-at.rows) c.loop-at.invariant.gone in
+    let k = ap (λ (l : List BlockLine). actions_on (written_out l)) (to_the_end c.loop-at.at c.args.lines.now) in
+    omega (arith, e, k, less.lines, less.actions, c.loop-at.invariant.left, c.requires.spare)
 
 pub play_next-at-requires-clause-room : goal.play_next-at-requires-clause-room
 play_next-at-requires-clause-room g c =
     let e = ap (λ (l : List BlockLine). cost_on (written_out l)) (to_the_end c.loop-at.at c.args.lines.now) in
-    let less = gone_less (written_out c.args.lines.now) (written_out (drop c.loop-at.at c.args.lines.now)) c.args.session.now c.loop-at.session (g.R.Rows.reached c.args.rows.now) (g.R.Rows.reached c.loop-at.rows) c.loop-at.invariant.gone in
-    let short = less.1 in
-    omega (arith, e, short, c.loop-at.invariant.room, c.requires.room)
+    let less = gone_less (written_out c.args.lines.now) (written_out (drop c.loop-at.at c.args.lines.now)) c.args.admin.now c.loop-at.admin c.args.session.now c.loop-at.session (g.A.Rows.reached c.args.rows.now) (g.A.Rows.reached c.loop-at.rows) c.loop-at.invariant.gone in
+    omega (arith, e, less.costs, c.loop-at.invariant.room, c.requires.room)
 
 pub loop-at-preserved : goal.loop-at-preserved
 loop-at-preserved g c =
@@ -65,42 +78,44 @@ loop-at-preserved g c =
     let rest : List BlockLine = written_out (drop (at + n) lines) in
     let here : take (length lines - at) (drop at lines) ≡ drop at lines = to_the_end at lines in
     let there : drop n (take (length lines - at) (drop at lines)) ≡ drop (at + n) lines = ap (λ (l : List BlockLine). drop n l) here ∙ drop_both at n lines in
-    let one : HaveGone mid rest c.loop-at.session new (g.R.Rows.reached c.loop-at.rows) (g.R.Rows.reached c.play_next-at.new.rows) =
-    subst (λ (l : List BlockLine). HaveGone mid (written_out l) c.loop-at.session new (g.R.Rows.reached c.loop-at.rows) (g.R.Rows.reached c.play_next-at.new.rows)) there
-    (subst (λ (l : List BlockLine). HaveGone (written_out l) (written_out (drop n (take (length lines - at) (drop at lines)))) c.loop-at.session new (g.R.Rows.reached c.loop-at.rows) (g.R.Rows.reached c.play_next-at.new.rows)) here now.gone) in
-    let less = gone_less whole mid c.args.session.now c.loop-at.session (g.R.Rows.reached c.args.rows.now) (g.R.Rows.reached c.loop-at.rows) before.gone in
-    let short = less.0 in
-    let cheap = less.1 in
-    let less_one = gone_less mid rest c.loop-at.session new (g.R.Rows.reached c.loop-at.rows) (g.R.Rows.reached c.play_next-at.new.rows) one in
-    let short_one = less_one.0 in
-    let cheap_one = less_one.1 in
+    let one : HaveGone mid rest c.loop-at.admin c.play_next-at.new.admin c.loop-at.session new (g.A.Rows.reached c.loop-at.rows) (g.A.Rows.reached c.play_next-at.new.rows) =
+    subst (λ (l : List BlockLine). HaveGone mid (written_out l) c.loop-at.admin c.play_next-at.new.admin c.loop-at.session new (g.A.Rows.reached c.loop-at.rows) (g.A.Rows.reached c.play_next-at.new.rows)) there
+    (subst (λ (l : List BlockLine). HaveGone (written_out l) (written_out (drop n (take (length lines - at) (drop at lines)))) c.loop-at.admin c.play_next-at.new.admin c.loop-at.session new (g.A.Rows.reached c.loop-at.rows) (g.A.Rows.reached c.play_next-at.new.rows)) here now.gone) in
+    let less = gone_less whole mid c.args.admin.now c.loop-at.admin c.args.session.now c.loop-at.session (g.A.Rows.reached c.args.rows.now) (g.A.Rows.reached c.loop-at.rows) before.gone in
+    let less_one = gone_less mid rest c.loop-at.admin c.play_next-at.new.admin c.loop-at.session new (g.A.Rows.reached c.loop-at.rows) (g.A.Rows.reached c.play_next-at.new.rows) one in
     let size_here = ap (λ (l : List BlockLine). length (written_out l)) here in
     let size_there = ap (λ (l : List BlockLine). length (written_out l)) there in
     let cost_here = ap (λ (l : List BlockLine). cost_on (written_out l)) here in
     let cost_there = ap (λ (l : List BlockLine). cost_on (written_out l)) there in
+    let acts_here = ap (λ (l : List BlockLine). actions_on (written_out l)) here in
+    let acts_there = ap (λ (l : List BlockLine). actions_on (written_out l)) there in
     let shorter = ap (λ (l : List BlockLine). length l) here in
     let left_over : length (drop at lines) ≡ length lines - at = length-drop at lines in
     let few = now.count.1 in
     record {
       count = omega (arith, before.count, shorter, left_over, few);
       may = subst (λ (l : List BlockLine). AllMayPlay 62 new.state.opened.depth (kinds_at new.state) None l) there (subst (λ d. AllMayPlay 62 d (kinds_at new.state) None (drop n (take (length lines - at) (drop at lines)))) (sym now.depth) now.may);
-      gone = gone_both whole mid rest c.args.session.now c.loop-at.session new (g.R.Rows.reached c.args.rows.now) (g.R.Rows.reached c.loop-at.rows) (g.R.Rows.reached c.play_next-at.new.rows) before.gone one;
+      gone = gone_both whole mid rest c.args.admin.now c.loop-at.admin c.play_next-at.new.admin c.args.session.now c.loop-at.session new (g.A.Rows.reached c.args.rows.now) (g.A.Rows.reached c.loop-at.rows) (g.A.Rows.reached c.play_next-at.new.rows) before.gone one;
       kinds = ap (λ (l : List BlockLine). kinds_after (kinds_at new.state) (written_out l)) (sym there) ∙ (now.kinds ∙ (ap (λ (l : List BlockLine). kinds_after (kinds_at c.loop-at.session.state) (written_out l)) here ∙ before.kinds));
       lie = now.lie;
       drawn = omega (arith, size_here, size_there, before.drawn, now.drawn);
-      rest = now.rest ∙ ap (λ (s : State). record s { clock = new.state.clock; drawn = new.state.drawn; opened = new.state.opened; held = new.state.held }) before.rest;
+      actions = omega (arith, acts_here, acts_there, before.actions, now.actions);
+      counted = omega (arith, acts_here, acts_there, before.counted, now.counted);
+      rest = now.rest ∙ ap (λ (s : State). record s { clock = new.state.clock; drawn = new.state.drawn; opened = new.state.opened; held = new.state.held; actions = new.state.actions; last = new.state.last }) before.rest;
+      last = λ free. now.last (omega (arith, acts_here, less.actions, free)) ∙ before.last free;
+      wide = now.wide;
       depth = now.depth ∙ before.depth;
       hand = λ r. now.leaves.hand r ∙ before.hand r;
-      left = omega (arith, size_here, size_there, short, short_one, before.left, now.leaves.left);
+      left = omega (arith, size_here, size_there, acts_here, acts_there, less.lines, less_one.lines, less.actions, less_one.actions, before.left, now.leaves.left);
       draws = now.leaves.draws ∙ before.draws;
       name = now.leaves.name ∙ before.name;
-      words = now.words ∙ before.words;
-      room = omega (arith, cost_here, cost_there, cheap, cheap_one, before.room, now.leaves.room);
+      lent = now.lent;
+      room = omega (arith, cost_here, cost_there, less.costs, less_one.costs, before.room, now.leaves.room);
     }
 
 pub returns-clause-played : goal.returns-clause-played
 returns-clause-played g c =
-    gone_whole (written_out c.args.lines.now) (written_out (drop c.loop-at.at c.args.lines.now)) c.args.session.now c.loop-at.session (g.R.Rows.reached c.args.rows.now) (g.R.Rows.reached c.loop-at.rows)
+    gone_whole (written_out c.args.lines.now) (written_out (drop c.loop-at.at c.args.lines.now)) c.args.admin.now c.loop-at.admin c.args.session.now c.loop-at.session (g.A.Rows.reached c.args.rows.now) (g.A.Rows.reached c.loop-at.rows)
     (at_the_end c.loop-at.at c.args.lines.now (omega (arith, c.loop-at-test.false))) c.loop-at.invariant.gone
 
 pub returns-clause-kinds : goal.returns-clause-kinds
@@ -115,10 +130,26 @@ pub returns-clause-leaves : goal.returns-clause-leaves
 returns-clause-leaves g c =
     let none = ap length (at_the_end c.loop-at.at c.args.lines.now (omega (arith, c.loop-at-test.false))) in
     let free = ap cost_on (at_the_end c.loop-at.at c.args.lines.now (omega (arith, c.loop-at-test.false))) in
+    let quiet = ap actions_on (at_the_end c.loop-at.at c.args.lines.now (omega (arith, c.loop-at-test.false))) in
     record {
       hand = c.loop-at.invariant.hand;
-      left = omega (arith, none, c.loop-at.invariant.left);
+      left = omega (arith, none, quiet, c.loop-at.invariant.left);
       draws = c.loop-at.invariant.draws;
       name = c.loop-at.invariant.name;
       room = omega (arith, free, c.loop-at.invariant.room);
     }
+
+pub returns-clause-admin : goal.returns-clause-admin
+returns-clause-admin g c =
+    gone_after (written_out c.args.lines.now) (written_out (drop c.loop-at.at c.args.lines.now)) c.args.admin.now c.loop-at.admin c.args.session.now c.loop-at.session (g.A.Rows.reached c.args.rows.now) (g.A.Rows.reached c.loop-at.rows)
+    (at_the_end c.loop-at.at c.args.lines.now (omega (arith, c.loop-at-test.false))) c.loop-at.invariant.gone
+
+pub returns-clause-actions : goal.returns-clause-actions
+returns-clause-actions g c =
+    let none = ap actions_on (at_the_end c.loop-at.at c.args.lines.now (omega (arith, c.loop-at-test.false))) in
+    omega (arith, none, c.loop-at.invariant.actions)
+
+pub returns-clause-counted : goal.returns-clause-counted
+returns-clause-counted g c =
+    let none = ap actions_on (at_the_end c.loop-at.at c.args.lines.now (omega (arith, c.loop-at-test.false))) in
+    omega (arith, none, c.loop-at.invariant.counted)

@@ -5,7 +5,7 @@ use Rattle.pfs_ends.specs.Counts.{lost_statements, lost_waits}
 use Rattle.pfs_facts.specs.Steps.{kinds_at}
 use Rattle.pfs_journal.specs.declared.blocks.BlockReport.{BlockReport}
 use Rattle.pfs_levels.specs.Journal.{Journal}
-use Rattle.pfs_play.specs.Errands.{StagesLie}
+use Rattle.pfs_play.specs.Errands.{StagesLie, actions_on}
 use Rattle.pfs_script.specs.Marks.{written_out}
 use Rattle.pfs_script.specs.declared.blocks.BlockLine.{BlockLine}
 use Rattle.pfs_session.specs.States.{State, Book}
@@ -19,13 +19,13 @@ use Rattle.pfs_run.proofs.runner.Runner.play.Goals as goal
 pub take_seat-requires-clause-low : goal.take_seat-requires-clause-low
 take_seat-requires-clause-low c =
     let h = c.requires.here in
-    let here = is_here c.playable.ensures c.few.ensures c.named.ensures c.requires.script.0 c.args.setting.now c.args.phases.now h.0 h.1 c.args.block.now h.2 h.3 c.requires.script.1 h.4 in
+    let here = is_here c.playable.ensures c.few.ensures c.named.ensures c.actions.ensures c.requires.script.0 c.args.setting.now c.args.phases.now h.0 h.1 c.args.block.now h.2 h.3 c.requires.script.1 h.4 in
     here.playable.low
 
 pub take_seat-requires-clause-high : goal.take_seat-requires-clause-high
 take_seat-requires-clause-high c =
     let h = c.requires.here in
-    let here = is_here c.playable.ensures c.few.ensures c.named.ensures c.requires.script.0 c.args.setting.now c.args.phases.now h.0 h.1 c.args.block.now h.2 h.3 c.requires.script.1 h.4 in
+    let here = is_here c.playable.ensures c.few.ensures c.named.ensures c.actions.ensures c.requires.script.0 c.args.setting.now c.args.phases.now h.0 h.1 c.args.block.now h.2 h.3 c.requires.script.1 h.4 in
     here.playable.high
 
 pub take_seat-requires-clause-few : goal.take_seat-requires-clause-few
@@ -35,90 +35,98 @@ take_seat-requires-clause-few c =
 pub written_cost-requires : goal.written_cost-requires
 written_cost-requires c =
     let h = c.requires.here in
-    let here = is_here c.playable.ensures c.few.ensures c.named.ensures c.requires.script.0 c.args.setting.now c.args.phases.now h.0 h.1 c.args.block.now h.2 h.3 c.requires.script.1 h.4 in
+    let here = is_here c.playable.ensures c.few.ensures c.named.ensures c.actions.ensures c.requires.script.0 c.args.setting.now c.args.phases.now h.0 h.1 c.args.block.now h.2 h.3 c.requires.script.1 h.4 in
     record { short = subst (λ (l : List BlockLine). length (written_out l) ≤ 200000) (sym c.as_slice.ensures) here.playable.short }
+
+pub overflow_add-written_cost : goal.overflow_add-written_cost
+overflow_add-written_cost c =
+    let h = c.requires.here in
+    let here = is_here c.playable.ensures c.few.ensures c.named.ensures c.actions.ensures c.requires.script.0 c.args.setting.now c.args.phases.now h.0 h.1 c.args.block.now h.2 h.3 c.requires.script.1 h.4 in
+    let short = subst (λ (l : List BlockLine). length (written_out l) ≤ 200000) (sym c.as_slice.ensures) here.playable.short in
+    let rare = subst (λ (l : List BlockLine). actions_on (written_out l) ≤ 250) (sym c.as_slice.ensures) here.rare in
+    omega (arith, c.written_cost.ensures.small, short, rare)
 
 pub play_block-paused-requires-clause-connects : goal.play_block-paused-requires-clause-connects
 play_block-paused-requires-clause-connects c =
     let h = c.requires.here in
-    let here = is_here c.playable.ensures c.few.ensures c.named.ensures c.requires.script.0 c.args.setting.now c.args.phases.now h.0 h.1 c.args.block.now h.2 h.3 c.requires.script.1 h.4 in
+    let here = is_here c.playable.ensures c.few.ensures c.named.ensures c.actions.ensures c.requires.script.0 c.args.setting.now c.args.phases.now h.0 h.1 c.args.block.now h.2 h.3 c.requires.script.1 h.4 in
     let is = ready_at c.args.setting.now c.args.phases.now h.0 h.1 c.args.block.now h.2 h.3 _ _ _ _ c.args.self.now.admin c.args.self.now.seats.items c.args.self.now.lost _ _ h.5 here c.in_ok-session.session c.in_ok-session.ensures.session in
     subst (λ (s : State). IfSome c.args.block.now.connect (λ names. MayConnect s c.args.self.now.admin names)) (sym c.reserve.ensures.state) is.connects
 
 pub play_block-paused-requires-clause-may : goal.play_block-paused-requires-clause-may
 play_block-paused-requires-clause-may c =
     let h = c.requires.here in
-    let here = is_here c.playable.ensures c.few.ensures c.named.ensures c.requires.script.0 c.args.setting.now c.args.phases.now h.0 h.1 c.args.block.now h.2 h.3 c.requires.script.1 h.4 in
+    let here = is_here c.playable.ensures c.few.ensures c.named.ensures c.actions.ensures c.requires.script.0 c.args.setting.now c.args.phases.now h.0 h.1 c.args.block.now h.2 h.3 c.requires.script.1 h.4 in
     let is = ready_at c.args.setting.now c.args.phases.now h.0 h.1 c.args.block.now h.2 h.3 _ _ _ _ c.args.self.now.admin c.args.self.now.seats.items c.args.self.now.lost _ _ h.5 here c.in_ok-session.session c.in_ok-session.ensures.session in
     subst (λ (s : State). MayEnd s.opened.depth (kinds_at s) c.args.block.now.lines) (sym c.reserve.ensures.state) is.may
 
 pub play_block-paused-requires-clause-lie : goal.play_block-paused-requires-clause-lie
 play_block-paused-requires-clause-lie c =
     let h = c.requires.here in
-    let here = is_here c.playable.ensures c.few.ensures c.named.ensures c.requires.script.0 c.args.setting.now c.args.phases.now h.0 h.1 c.args.block.now h.2 h.3 c.requires.script.1 h.4 in
+    let here = is_here c.playable.ensures c.few.ensures c.named.ensures c.actions.ensures c.requires.script.0 c.args.setting.now c.args.phases.now h.0 h.1 c.args.block.now h.2 h.3 c.requires.script.1 h.4 in
     let is = ready_at c.args.setting.now c.args.phases.now h.0 h.1 c.args.block.now h.2 h.3 _ _ _ _ c.args.self.now.admin c.args.self.now.seats.items c.args.self.now.lost _ _ h.5 here c.in_ok-session.session c.in_ok-session.ensures.session in
     subst (λ (s : State). StagesLie (kinds_at s)) (sym c.reserve.ensures.state) is.lie
 
 pub play_block-paused-requires-clause-free : goal.play_block-paused-requires-clause-free
 play_block-paused-requires-clause-free c =
     let h = c.requires.here in
-    let here = is_here c.playable.ensures c.few.ensures c.named.ensures c.requires.script.0 c.args.setting.now c.args.phases.now h.0 h.1 c.args.block.now h.2 h.3 c.requires.script.1 h.4 in
+    let here = is_here c.playable.ensures c.few.ensures c.named.ensures c.actions.ensures c.requires.script.0 c.args.setting.now c.args.phases.now h.0 h.1 c.args.block.now h.2 h.3 c.requires.script.1 h.4 in
     let is = ready_at c.args.setting.now c.args.phases.now h.0 h.1 c.args.block.now h.2 h.3 _ _ _ _ c.args.self.now.admin c.args.self.now.seats.items c.args.self.now.lost _ _ h.5 here c.in_ok-session.session c.in_ok-session.ensures.session in
     ap (λ (s : State). s.held) c.reserve.ensures.state ∙ is.free
 
 pub play_block-paused-requires-clause-early : goal.play_block-paused-requires-clause-early
 play_block-paused-requires-clause-early c =
     let h = c.requires.here in
-    let here = is_here c.playable.ensures c.few.ensures c.named.ensures c.requires.script.0 c.args.setting.now c.args.phases.now h.0 h.1 c.args.block.now h.2 h.3 c.requires.script.1 h.4 in
+    let here = is_here c.playable.ensures c.few.ensures c.named.ensures c.actions.ensures c.requires.script.0 c.args.setting.now c.args.phases.now h.0 h.1 c.args.block.now h.2 h.3 c.requires.script.1 h.4 in
     let is = ready_at c.args.setting.now c.args.phases.now h.0 h.1 c.args.block.now h.2 h.3 _ _ _ _ c.args.self.now.admin c.args.self.now.seats.items c.args.self.now.lost _ _ h.5 here c.in_ok-session.session c.in_ok-session.ensures.session in
     let same = ap (λ (s : State). s.drawn) c.reserve.ensures.state in omega (arith, same, is.drawn, here.few, here.playable.short)
 
 pub play_block-paused-requires-clause-rare : goal.play_block-paused-requires-clause-rare
 play_block-paused-requires-clause-rare c =
     let h = c.requires.here in
-    let here = is_here c.playable.ensures c.few.ensures c.named.ensures c.requires.script.0 c.args.setting.now c.args.phases.now h.0 h.1 c.args.block.now h.2 h.3 c.requires.script.1 h.4 in
+    let here = is_here c.playable.ensures c.few.ensures c.named.ensures c.actions.ensures c.requires.script.0 c.args.setting.now c.args.phases.now h.0 h.1 c.args.block.now h.2 h.3 c.requires.script.1 h.4 in
     let is = ready_at c.args.setting.now c.args.phases.now h.0 h.1 c.args.block.now h.2 h.3 _ _ _ _ c.args.self.now.admin c.args.self.now.seats.items c.args.self.now.lost _ _ h.5 here c.in_ok-session.session c.in_ok-session.ensures.session in
-    let same = ap (λ (s : State). s.actions) c.reserve.ensures.state in omega (arith, same, is.actions, here.few)
+    let same = ap (λ (s : State). s.actions) c.reserve.ensures.state in omega (arith, same, is.actions, here.few, here.rare)
 
 pub play_block-paused-requires-clause-few : goal.play_block-paused-requires-clause-few
 play_block-paused-requires-clause-few c =
     let h = c.requires.here in
-    let here = is_here c.playable.ensures c.few.ensures c.named.ensures c.requires.script.0 c.args.setting.now c.args.phases.now h.0 h.1 c.args.block.now h.2 h.3 c.requires.script.1 h.4 in
+    let here = is_here c.playable.ensures c.few.ensures c.named.ensures c.actions.ensures c.requires.script.0 c.args.setting.now c.args.phases.now h.0 h.1 c.args.block.now h.2 h.3 c.requires.script.1 h.4 in
     actions_at c.args.setting.now c.args.phases.now h.0 h.1 c.args.block.now h.2 h.3 _ _ _ _ c.args.self.now.admin c.args.self.now.seats.items c.args.self.now.lost _ _ h.5 here
 
 pub play_block-paused-requires-clause-spare : goal.play_block-paused-requires-clause-spare
 play_block-paused-requires-clause-spare c =
     let h = c.requires.here in
-    let here = is_here c.playable.ensures c.few.ensures c.named.ensures c.requires.script.0 c.args.setting.now c.args.phases.now h.0 h.1 c.args.block.now h.2 h.3 c.requires.script.1 h.4 in
+    let here = is_here c.playable.ensures c.few.ensures c.named.ensures c.actions.ensures c.requires.script.0 c.args.setting.now c.args.phases.now h.0 h.1 c.args.block.now h.2 h.3 c.requires.script.1 h.4 in
     spare_at c.args.setting.now c.args.phases.now h.0 h.1 c.args.block.now h.2 h.3 _ _ _ _ c.args.self.now.admin c.args.self.now.seats.items c.args.self.now.lost _ _ h.5 here
 
 pub keep_seat-requires-clause-low : goal.keep_seat-requires-clause-low
 keep_seat-requires-clause-low c =
     let h = c.requires.here in
-    let here = is_here c.playable.ensures c.few.ensures c.named.ensures c.requires.script.0 c.args.setting.now c.args.phases.now h.0 h.1 c.args.block.now h.2 h.3 c.requires.script.1 h.4 in
+    let here = is_here c.playable.ensures c.few.ensures c.named.ensures c.actions.ensures c.requires.script.0 c.args.setting.now c.args.phases.now h.0 h.1 c.args.block.now h.2 h.3 c.requires.script.1 h.4 in
     here.playable.low
 
 pub keep_seat-requires-clause-high : goal.keep_seat-requires-clause-high
 keep_seat-requires-clause-high c =
     let h = c.requires.here in
-    let here = is_here c.playable.ensures c.few.ensures c.named.ensures c.requires.script.0 c.args.setting.now c.args.phases.now h.0 h.1 c.args.block.now h.2 h.3 c.requires.script.1 h.4 in
+    let here = is_here c.playable.ensures c.few.ensures c.named.ensures c.actions.ensures c.requires.script.0 c.args.setting.now c.args.phases.now h.0 h.1 c.args.block.now h.2 h.3 c.requires.script.1 h.4 in
     here.playable.high
 
 pub count_lost-self-requires-clause-statements : goal.count_lost-self-requires-clause-statements
 count_lost-self-requires-clause-statements c =
     let h = c.requires.here in
-    let here = is_here c.playable.ensures c.few.ensures c.named.ensures c.requires.script.0 c.args.setting.now c.args.phases.now h.0 h.1 c.args.block.now h.2 h.3 c.requires.script.1 h.4 in
+    let here = is_here c.playable.ensures c.few.ensures c.named.ensures c.actions.ensures c.requires.script.0 c.args.setting.now c.args.phases.now h.0 h.1 c.args.block.now h.2 h.3 c.requires.script.1 h.4 in
     statements_at c.args.setting.now c.args.phases.now h.0 h.1 c.args.block.now h.2 h.3 _ _ _ _ c.args.self.now.admin c.args.self.now.seats.items c.args.self.now.lost _ _ h.5 here (length c.as_slice-2.result.now) (omega (arith, c.as_slice-2.ensures.len))
 
 pub count_lost-self-requires-clause-waits : goal.count_lost-self-requires-clause-waits
 count_lost-self-requires-clause-waits c =
     let h = c.requires.here in
-    let here = is_here c.playable.ensures c.few.ensures c.named.ensures c.requires.script.0 c.args.setting.now c.args.phases.now h.0 h.1 c.args.block.now h.2 h.3 c.requires.script.1 h.4 in
+    let here = is_here c.playable.ensures c.few.ensures c.named.ensures c.actions.ensures c.requires.script.0 c.args.setting.now c.args.phases.now h.0 h.1 c.args.block.now h.2 h.3 c.requires.script.1 h.4 in
     waits_at c.args.setting.now c.args.phases.now h.0 h.1 c.args.block.now h.2 h.3 _ _ _ _ c.args.self.now.admin c.args.self.now.seats.items c.args.self.now.lost _ _ h.5 here (length c.as_slice-2.result.now) (omega (arith, c.as_slice-2.ensures.len))
 
 pub returns : goal.returns
 returns c before first others after is along =
-    let here = is_here c.playable.ensures c.few.ensures c.named.ensures c.requires.script.0 c.args.setting.now c.args.phases.now before first c.args.block.now others after c.requires.script.1 is in
+    let here = is_here c.playable.ensures c.few.ensures c.named.ensures c.actions.ensures c.requires.script.0 c.args.setting.now c.args.phases.now before first c.args.block.now others after c.requires.script.1 is in
     let taken = ready_at c.args.setting.now c.args.phases.now before first c.args.block.now others after _ _ _ _ c.args.self.now.admin c.args.self.now.seats.items c.args.self.now.lost _ _ along here c.in_ok-session.session c.in_ok-session.ensures.session in
     let empty : c.reserve.new.self.journal.entries ≡ c.in_ok-session.session.journal.entries = ap (λ (j : Journal). j.entries) c.in_ok-reserve.ensures.ok in
     let begun = ready_same c.args.setting.now c.args.phases.now _ (along.earlier ++ along.current) c.args.self.now.admin c.args.block.now c.in_ok-session.session c.reserve.new.self c.reserve.ensures.state empty taken in

@@ -1,16 +1,17 @@
 -- A session holds back an amount for each of 193 cells at most, so that is all it ever owes.
-use Rattle.std.proofs.Common.{ℕ, ◌≡◌, ◌<◌, ◌≤◌, ◌+◌, Bool, true, false, List, [], ◌∷◌, ◌++◌, Option, Some, None, length, slice_set, replicate, refl, ap, sym, ◌∙◌, subst, arith}
-use Rattle.std.proofs.lemmas.List.{length-set, length-replicate}
+use Rattle.std.proofs.Common.{ℕ, ◌≡◌, ◌≤◌, ◌+◌, Bool, true, false, List, [], ◌∷◌, Option, Some, None, length, refl, ap, ◌∙◌, arith}
+use Rattle.std.proofs.lemmas.List.{length-set}
+use Rattle.pfs_actions.specs.Done.{HasActed}
 use Rattle.pfs_event.specs.Verdicts.{is_let_through}
 use Rattle.pfs_event.specs.declared.entry.Entry.{Entry}
 use Rattle.pfs_event.specs.declared.open.Open.{Open}
-use Rattle.pfs_levels.specs.Calls.{Call}
-use Rattle.pfs_parts.specs.Deeds.{Part}
+use Rattle.pfs_levels.specs.Calls.{Call, Opening}
+use Rattle.pfs_parts.specs.Deeds.{Deed, Part}
 use Rattle.pfs_parts.specs.Shaped.{AreParts, state_behind}
 use Rattle.pfs_session.specs.Ends.{EndsIn}
 use Rattle.pfs_session.specs.Settles.{owed_from, owed_in, owed_by_state, settle_cost}
-use Rattle.pfs_session.specs.States.{State, Owed, nothing_held}
-use Rattle.pfs_session.specs.Turns.{Step, StartsEvent, EndsEvent, Spends, SettlesHeld, Connects, Quits, Does, Turn, AreTurns, state_after}
+use Rattle.pfs_session.specs.States.{State, Book, Owed, nothing_held}
+use Rattle.pfs_session.specs.Turns.{Step, StartsEvent, EndsEvent, Spends, SettlesHeld, Connects, Quits, Truncates, Does, Turn, AreTurns, state_after}
 use Rattle.pfs_session.specs.declared.events.Numbers.{Numbers}
 use Rattle.pfs_stat.specs.declared.Stat.{Stat}
 
@@ -33,6 +34,7 @@ step_wide s after (Spends time) calls entries d wide = ap width d.2 ∙ wide
 step_wide s after SettlesHeld calls entries d wide = ap width d.after_is ∙ none_wide
 step_wide s after (Connects admin user host) calls entries d wide = ap width d.1 ∙ wide
 step_wide s after (Quits admin) calls entries d wide = ap width d.1 ∙ wide
+step_wide s after (Truncates admin what) calls entries d wide = ap width d.after_is ∙ wide
 
 turns_wide : (s : State) (turns : List Turn) → AreTurns s turns → width s ≡ 193 → width (state_after s turns) ≡ 193
 turns_wide s [] are wide = wide
@@ -61,3 +63,7 @@ cost_fits (one ∷ others) few = omega (arith, few)
 
 pub settling_fits : (s : State) → width s ≡ 193 → settle_cost (owed_by_state s) ≤ 194
 settling_fits s wide = cost_fits (owed_by_state s) (owed_fits s wide)
+
+-- so it is behind what it did in one part
+pub acted_wide : (deed : Deed) (old new : Book) (was now : Opening → List Call → Type 0) → HasActed deed old new was now → width old.state ≡ 193 → width new.state ≡ 193
+acted_wide deed old new was now run wide = ap width run.done.state ∙ parts_wide old.state (run.part ∷ []) run.done.are_parts wide
