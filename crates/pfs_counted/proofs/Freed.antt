@@ -1,10 +1,12 @@
--- Rows of cells are never FREE: nothing but the info of a slot is released.
-use Rattle.std.proofs.Common.{◌⊎◌, inl, inr, ◌≡◌, ℕ, ◌+◌, ◌-◌, ◌<◌, ◌≤◌, ◌==◌, ◌&&◌, Bool, true, false, cond, nat_lt, nat_le, List, [], ◌∷◌, ◌++◌, length, take, Option, Some, None, refl, sym, ap, subst, ◌∙◌, arith, append-nil}
+-- Rows of cells are never FREE: nothing but info rows is released.
+use Rattle.std.proofs.Common.{◌⊎◌, inl, inr, ◌≡◌, ℕ, ◌+◌, ◌-◌, ◌<◌, ◌≤◌, ◌==◌, ◌&&◌, Bool, true, false, cond, nat_lt, nat_le, List, [], ◌∷◌, ◌++◌, length, map, take, Option, Some, None, refl, sym, ap, subst, ◌∙◌, arith, append-nil}
 use Rattle.std.specs.Prelude.{IfSome, ◌||◌}
 use Rattle.pfs_admin.specs.Asks.{account_tag, user_tag, host_tag, upper_tags, tag_of, connect_work, quit_work}
 use Rattle.pfs_admin.specs.Fold.{state_of}
+use Rattle.pfs_admin.specs.Laws.{row_of}
 use Rattle.pfs_admin.specs.States.{State as Admin, seat_at, seat_in, connected, has_quit, thread_flags}
-use Rattle.pfs_admin.specs.Works.{Sign as Said, Work}
+use Rattle.pfs_admin.specs.Truncations.{is_there, kept_behind, work_of_truncation}
+use Rattle.pfs_admin.specs.Works.{Releases, Sign as Said, Tags, Work}
 use Rattle.pfs_admin.specs.declared.changes.Change.{Change}
 use Rattle.pfs_admin.specs.declared.changes.Change.TheVariants as changes
 use Rattle.pfs_asked.specs.Asking.{asked_by, moves_asked, signs_asked, sets_asked}
@@ -15,11 +17,13 @@ use Rattle.pfs_containers.specs.declared.containers.Connection.{Connection}
 use Rattle.pfs_containers.specs.declared.containers.Seated.{Seated}
 use Rattle.pfs_event.specs.declared.entry.Entry.{Entry}
 use Rattle.pfs_event.specs.declared.entry.Entry.TheVariants as says
+use Rattle.pfs_levels.specs.Flushes.{Ascends}
 use Rattle.pfs_model.specs.Actions.{IsAmong, is_acted}
 use Rattle.pfs_model.specs.Asked.{Move, Sign, Frees, Flagging, Did, Freed, did, given_to, moved_by, signed_by, flagged_by, asked_of, of_action}
 use Rattle.pfs_model.specs.Asked.{Tags as Tagging}
 use Rattle.pfs_model.specs.Chains.{Each, change_at, times, row_change, release_of, each_of, is_of, is_that, is_free_after, opens_free}
 use Rattle.pfs_model.specs.Places.{Placed, places, up_to_phase}
+use Rattle.pfs_ruled.proofs.Truncating.{signs_ascend}
 use Rattle.pfs_runs.specs.Labels.{label_at, work_at, work_for, work_of_label}
 use Rattle.pfs_tagged.proofs.AddedFloor.{place_among}
 use Rattle.pfs_tagged.proofs.Saying.{HasNumber, IsSaid, all_said, said_to, said_range}
@@ -27,6 +31,7 @@ use Rattle.pfs_tagged.proofs.Sifting.{eq_of}
 use Rattle.pfs_tagged.proofs.Staying.{fold_well, seat_in_in}
 use Rattle.pfs_tagged.specs.Premises.{AreKept}
 use Rattle.pfs_tagged.specs.Runs.{Run, entries_to}
+use Rattle.pfs_truncations.specs.declared.truncations.Truncation.{Truncation}
 
 -- ---- what actions release
 
@@ -69,10 +74,22 @@ quit_frees s number row None low m = absurd m
 quit_frees s number row (Some seat) low (inl e) = let f : 1 + seat.slot ≡ row = cc in let l : seat.slot < 32 = low.slot in omega (arith, f, l)
 quit_frees s number row (Some seat) low (inr m) = absurd (upper_frees (has_quit s number).kept.now seat.connection row m)
 
+-- rows that ascend below a limit lie below it
+ascending_frees : (low row : ℕ) (signs : List Said) → Ascends low 129 (map row_of signs) → IsAmong (Frees row) (signs_asked signs) → row < 129
+ascending_frees low row [] a m = absurd m
+ascending_frees low row (Releases x ∷ signs) a (inl e) = let f : x ≡ row = cc in let l : x < 129 = a.1.0 in omega (arith, f, l)
+ascending_frees low row (Releases x ∷ signs) a (inr m) = ascending_frees (x + 1) row signs a.1.1 m
+ascending_frees low row (Tags x content ∷ signs) a (inl e) = absurd (cc)
+ascending_frees low row (Tags x content ∷ signs) a (inr m) = ascending_frees (x + 1) row signs a.1.1 m
+
+truncation_frees : (s : Admin) (what : Truncation) (row : ℕ) → IsAmong (Frees row) (signs_asked (work_of_truncation s what).signs) → row < 129
+truncation_frees s what row m = ascending_frees 1 row (work_of_truncation s what).signs (signs_ascend (is_there s.kept.now.places) (kept_behind s.kept what).now what) m
+
 work_frees : (setting : _) (change : Label → Change) (labels : List Label) (session row : ℕ) (what : Change) → IsAmong (Frees row) (signs_asked (work_for (state_of setting change labels) session what).signs) → row < 129
 work_frees setting change labels session row (changes.Connect user host) m = connect_frees (state_of setting change labels) session user host row (seat_at (state_of setting change labels) session user host) m
 work_frees setting change labels session row changes.Quit m =
     quit_frees (state_of setting change labels) session row (seat_in (state_of setting change labels) session) (seat_in_in (state_of setting change labels) session (fold_well setting change labels)) m
+work_frees setting change labels session row (changes.Truncate what) m = truncation_frees (state_of setting change labels) what row m
 work_frees setting change labels session row changes.Show m = absurd m
 
 asked_frees : (setting : _) (change : Label → Change) (labels : List Label) (number row : ℕ) → IsAmong (Frees row) (signs_asked (work_at setting change labels number).signs) → row < 129

@@ -4,6 +4,7 @@ use Rattle.std.specs.Prelude.{All, IfSome}
 use Rattle.std.specs.List.{flat_map, slice_index_or}
 use Rattle.std.proofs.lemmas.List.Concat.{flat_map-cons}
 use Rattle.std.proofs.lemmas.List.Elements.{All-nil, All-cons, All-head, All-tail, All-append, All-filter}
+use Rattle.pfs_admin.specs.Truncations.{action_of}
 use Rattle.pfs_admin.specs.declared.changes.Change.{Change}
 use Rattle.pfs_admin.specs.declared.changes.Change.TheVariants as changes
 use Rattle.pfs_board.specs.declared.view.Label.{Label}
@@ -13,7 +14,7 @@ use Rattle.pfs_conservation.proofs.Folding.{kept_was}
 use Rattle.pfs_conservation.specs.Administration.{Action, Connect, Quit, Truncate, Other, Summary, Accounts, Users, Hosts, Found, connect_line, quit_line, found_where, is_account, line_of, lowest_free, numbered, session_by, session_of, state_after}
 use Rattle.pfs_conservation.specs.Folds.{Entry, Session, State, Connects, Truncates, Others, entry_at, entry_of, in_use, stepped}
 use Rattle.pfs_playable.specs.Playable.{IsNamed}
-use Rattle.pfs_runs.specs.Lines.{connect_changes, changes_on, changes_in, change_in}
+use Rattle.pfs_runs.specs.Lines.{connect_changes, changes_on, sql_changes, changes_in, change_in}
 use Rattle.pfs_script.specs.Events.{blocks_for}
 use Rattle.pfs_script.specs.Marks.{written_out}
 use Rattle.pfs_script.specs.declared.blocks.Block.{Block}
@@ -22,6 +23,9 @@ use Rattle.pfs_script.specs.declared.blocks.BlockLine.TheVariants as said
 use Rattle.pfs_script.specs.declared.blocks.Connect.{Connect as Names}
 use Rattle.pfs_script.specs.declared.blocks.Phase.{Phase}
 use Rattle.pfs_tagged.specs.Acts.{action_for, actions_of}
+use Rattle.pfs_truncations.specs.Texts.{truncation_of}
+use Rattle.pfs_truncations.specs.declared.truncations.Truncation.{Truncation}
+use Rattle.pfs_truncations.specs.declared.truncations.Truncation.TheVariants as truncates
 use Rattle.pfs_counted.proofs.Standing.{AreNamed}
 
 -- a connect with names below so many
@@ -32,6 +36,7 @@ IsNamedAction count action = Unit {0}
 abbrev IsNamedChange : ℕ → Change → Type 0
 IsNamedChange count (changes.Connect user host) = (user < count) × (host < count)
 IsNamedChange count changes.Quit = Unit {0}
+IsNamedChange count (changes.Truncate what) = Unit {0}
 IsNamedChange count changes.Show = Unit {0}
 
 -- ---- along the fold
@@ -97,9 +102,18 @@ state_named count opening named action each (suc n) =
 
 -- ---- the actions of a script
 
+truncation_named : (count : ℕ) (what : Truncation) → IsNamedAction count (action_of what)
+truncation_named count (truncates.Summary kind table) = tt
+truncation_named count truncates.Accounts = tt
+truncation_named count truncates.Users = tt
+truncation_named count truncates.Hosts = tt
+truncation_named count truncates.SetupActors = tt
+truncation_named count truncates.SetupObjects = tt
+
 action_named : (count session : ℕ) (what : Change) → IsNamedChange count what → IsNamedAction count (action_for session what)
 action_named count session (changes.Connect user host) h = h
 action_named count session changes.Quit h = tt
+action_named count session (changes.Truncate what) h = truncation_named count what
 action_named count session changes.Show h = tt
 
 numbered_named : (count : ℕ) (change : Label → Change) → ((label : Label) → IsNamedChange count (change label)) → (labels : List Label) (k : ℕ) → IsNamedAction count (numbered (actions_of change labels) k)
@@ -118,8 +132,13 @@ at_or P [] i d h last = last
 at_or P (x ∷ xs) zero d h last = All-head P x xs h
 at_or P (x ∷ xs) (suc i) d h last = at_or P xs i d (All-tail P x xs h) last
 
+sql_named : (count : ℕ) (what : Option Truncation) → All (IsNamedChange count) (sql_changes what)
+sql_named count None = All-nil (IsNamedChange count)
+sql_named count (Some what) = All-cons (IsNamedChange count) (changes.Truncate what) [] tt (All-nil (IsNamedChange count))
+
 line_named : (count : ℕ) (line : BlockLine) → All (IsNamedChange count) (changes_on line)
 line_named count said.Quit = All-cons (IsNamedChange count) changes.Quit [] tt (All-nil (IsNamedChange count))
+line_named count (said.Sql text) = sql_named count (truncation_of text)
 line_named count _ = All-nil (IsNamedChange count)
 
 lines_named : (count : ℕ) (lines : List BlockLine) → All (λ line. All (IsNamedChange count) (changes_on line)) lines

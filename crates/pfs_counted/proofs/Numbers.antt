@@ -18,7 +18,6 @@ use Rattle.pfs_tagged.specs.Premises.{AreInRange}
 use Rattle.pfs_tagged.specs.Runs.{Run, entries_to, events_to}
 use Rattle.pfs_counted.specs.Counted.{past_to}
 use Rattle.pfs_counted.specs.Counts.{Past, leads_to, stays_in, counts_at, counted_events, counted_at}
-use Rattle.pfs_counted.specs.Laws.{unanswered}
 use Rattle.pfs_counted.specs.Numbers.{class_events, row_numbers, AreNumbers, NumbersLaw}
 use Rattle.pfs_counted.proofs.ClassCells.{class_cases}
 use Rattle.pfs_counted.proofs.Extremes.{count_is, one_extremes, both_extremes}
@@ -104,4 +103,4 @@ numbers_of_run run phase Transactions key id range few is = record { count = cou
 
 pub numbers_law : FewLaw → InRangeLaw → NumbersLaw
 numbers_law few in_range text setting phases report script run phase kind key id is =
-    numbers_of_run (run_of setting phases report run unanswered) phase kind key id (in_range text setting phases script) (few text setting phases report script run unanswered kind phase) is
+    numbers_of_run (run_of setting phases report run) phase kind key id (in_range text setting phases script) (few text setting phases report script run kind phase) is

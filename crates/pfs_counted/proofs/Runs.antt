@@ -28,7 +28,7 @@ use Rattle.pfs_tagged.specs.Laws.{SummedLaw}
 use Rattle.pfs_tagged.specs.Premises.{AreKept, IsOrderly}
 use Rattle.pfs_tagged.specs.Runs.{Run, actions_to, entries_to}
 use Rattle.pfs_counted.specs.Counted.{AreCounted}
-use Rattle.pfs_counted.specs.Laws.{AgreedLaw, unanswered, CountedLaw}
+use Rattle.pfs_counted.specs.Laws.{AgreedLaw, CountedLaw}
 use Rattle.pfs_counted.proofs.Freed.{never_free}
 use Rattle.pfs_counted.proofs.Names.{script_named}
 use Rattle.pfs_counted.proofs.Phase.{AreListed, counted}
@@ -81,18 +81,18 @@ final_then P Q (report ∷ reports) h f = (h report f.0, final_then P Q reports 
 
 pub counted_law : KeptLaw → OrderlyLaw → NamedLaw → FewLaw → InRangeLaw → SummedLaw → AgreedLaw → ToldLaw → AreBack → ArePlaces → AreListed → ((a b : Table) → table_name a ≡ table_name b → a ≡ b) → CountedLaw
 counted_law kept orderly named few in_range sums agreed told back board listed differ text setting phases report script run =
-    final_then _ _ report.phases one (run.finals unanswered) where
-      is_kept : AreKept (run_of setting phases report run unanswered)
-      is_kept = kept setting phases report run unanswered
+    final_then _ _ report.phases one run.finals where
+      is_kept : AreKept (run_of setting phases report run)
+      is_kept = kept setting phases report run
 
-      is_orderly : IsOrderly (run_of setting phases report run unanswered)
-      is_orderly = orderly text setting phases report script run unanswered
+      is_orderly : IsOrderly (run_of setting phases report run)
+      is_orderly = orderly text setting phases report script run
 
-      one : (part : PhaseParts) → IsFinal (run_of setting phases report run unanswered).setting (run_of setting phases report run unanswered).change run.labels run.content (flags_by (terms_of setting (change_in phases) (facts_in phases) unanswered run.labels) (places (all_blocks run.blocks))) (entries_to (run_of setting phases report run unanswered) part.number) part
-          → AreCounted (run_of setting phases report run unanswered) part
+      one : (part : PhaseParts) → IsFinal (run_of setting phases report run).setting (run_of setting phases report run).change run.labels run.content (flags_by (terms_of setting (change_in phases) (facts_in phases) run.labels) (places (all_blocks run.blocks))) (entries_to (run_of setting phases report run) part.number) part
+          → AreCounted (run_of setting phases report run) part
       one part final =
-          counted (run_of setting phases report run unanswered) is_kept is_orderly (in_range text setting phases script) (λ kind phase. few text setting phases report script run unanswered kind phase) sums back board listed differ part.number
-          (λ kind. agreed (run_of setting phases report run unanswered) kind part.number is_kept is_orderly (few text setting phases report script run unanswered kind part.number))
-          (info_told (run_of setting phases report run unanswered) part.number (told (run_of setting phases report run unanswered) part.number is_kept)) (never_free (run_of setting phases report run unanswered) part.number is_kept)
-          (script_named setting phases (named text setting phases script) (opened_by (limits_of setting)) (opened_named setting) (labels_so_far run.labels (entries_to (run_of setting phases report run unanswered) part.number)) (length (actions_to (run_of setting phases report run unanswered) part.number)))
-          (seated (run_of setting phases report run unanswered) part.number is_kept is_orderly) (flags_by (terms_of setting (change_in phases) (facts_in phases) unanswered run.labels) (places (all_blocks run.blocks))) part refl final
+          counted (run_of setting phases report run) is_kept is_orderly (in_range text setting phases script) (λ kind phase. few text setting phases report script run kind phase) sums back board listed differ part.number
+          (λ kind. agreed (run_of setting phases report run) kind part.number is_kept is_orderly (few text setting phases report script run kind part.number))
+          (info_told (run_of setting phases report run) part.number (told (run_of setting phases report run) part.number is_kept)) (never_free (run_of setting phases report run) part.number is_kept)
+          (script_named setting phases (named text setting phases script) (opened_by (limits_of setting)) (opened_named setting) (labels_so_far run.labels (entries_to (run_of setting phases report run) part.number)) (length (actions_to (run_of setting phases report run) part.number)))
+          (seated (run_of setting phases report run) part.number is_kept is_orderly) (flags_by (terms_of setting (change_in phases) (facts_in phases) run.labels) (places (all_blocks run.blocks))) part refl final

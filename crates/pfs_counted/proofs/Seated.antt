@@ -4,7 +4,7 @@ use Rattle.pfs_admin.specs.Asks.{placed_of}
 use Rattle.pfs_admin.specs.Fold.{state_of}
 use Rattle.pfs_admin.specs.declared.changes.Change.{Change}
 use Rattle.pfs_admin.specs.declared.changes.Change.TheVariants as changes
-use Rattle.pfs_asked.specs.Asking.{rooms_of}
+use Rattle.pfs_asked.specs.Asking.{no_rows, rooms_of}
 use Rattle.pfs_board.specs.declared.view.Label.{Label}
 use Rattle.pfs_conservation.proofs.Connecting.{fill_was}
 use Rattle.pfs_conservation.specs.Administration.{Action, Connect, Quit, Truncate, Other, Summary, Accounts, Users, Hosts, Found, connect_line, quit_line, found_where, line_of, lowest_free, numbered, session_by, session_of, state_after, is_account}
@@ -31,7 +31,7 @@ use Rattle.pfs_tagged.proofs.AddedFloor.{place_among}
 use Rattle.pfs_tagged.proofs.AddedQuits.{AreActing, IsActed, acted_of}
 use Rattle.pfs_tagged.proofs.AddedRun.{run_acting}
 use Rattle.pfs_tagged.proofs.AddedWalk.{Comes, Follow, then_told, told_to, all_followed}
-use Rattle.pfs_tagged.proofs.Folding.{fold_places, front_front, front_length, length_as}
+use Rattle.pfs_tagged.proofs.Folding.{truncation_connects, fold_places, front_front, front_length, length_as}
 use Rattle.pfs_tagged.proofs.Lasting.{lasting}
 use Rattle.pfs_tagged.specs.Acts.{action_for, places_behind}
 use Rattle.pfs_tagged.specs.Board.{limits_of}
@@ -159,6 +159,7 @@ room_is c number user host slot (Some other) q = q
 action_names : (session number user host : ℕ) (what : Change) → action_for session what ≡ Connect number user host → (session ≡ number) × (what ≡ changes.Connect user host)
 action_names session number user host (changes.Connect u h) e = (cc, (let a : u ≡ user = cc in let b : h ≡ host = cc in cc))
 action_names session number user host changes.Quit e = absurd (cc)
+action_names session number user host (changes.Truncate what) e = absurd (truncation_connects what number user host e)
 action_names session number user host changes.Show e = absurd (cc)
 
 connects_line : (line : Line) (user host : ℕ) → IsChangeOf line (changes.Connect user host) → is_connecting line ≡ true
@@ -237,6 +238,6 @@ seated run phase kept orderly slot x h = on (connected (opened_by (limits_of run
       by (says.Connect n thread account user host) f g =
           let printed : slot_in run.blocks x.number ≡ thread = subst (Prints (slot_in run.blocks x.number)) f (place_among (λ (p : Placed). (p.session == x.number) ≡ true → Prints (slot_in run.blocks x.number) p.entry) p (places run.blocks) among (slot_printed run.blocks orderly.first x.number) own) in
           let answered : rooms_at run.setting run.change run.labels n ≡ record { thread = thread; account = account; user = user; host = host }
-          = subst (IsAnswered (rooms_at run.setting run.change run.labels) run.answers p) f (place_among (λ (p : Placed). IsAnswered (rooms_at run.setting run.change run.labels) run.answers p p.entry) p (places run.blocks) among (each_answered (rooms_at run.setting run.change run.labels) run.answers (places run.blocks) kept.rules.answered)) in
+          = subst (IsAnswered (rooms_at run.setting run.change run.labels) no_rows p) f (place_among (λ (p : Placed). IsAnswered (rooms_at run.setting run.change run.labels) no_rows p p.entry) p (places run.blocks) among (each_answered (rooms_at run.setting run.change run.labels) no_rows (places run.blocks) kept.rules.answered)) in
           printed ∙ (sym (ap (λ (r : Rooms). r.thread) answered) ∙ (ap (λ k. (rooms_at run.setting run.change run.labels k).thread) (same n g) ∙ rooms_are))
       by _ f g = absurd (cc)

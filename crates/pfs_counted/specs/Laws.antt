@@ -3,7 +3,6 @@ use Rattle.std.specs.Prelude.{ℕ, ◌≡◌, ◌<◌, ◌^◌, true, List, [], 
 use Rattle.pfs_classes.specs.declared.setting.Setting.{Setting}
 use Rattle.pfs_conservation.specs.Tables.{Key}
 use Rattle.pfs_journal.specs.declared.report.ReportParts.{ReportParts}
-use Rattle.pfs_model.specs.Asked.{Answer, Replied}
 use Rattle.pfs_orderly.specs.Orderly.{run_of}
 use Rattle.pfs_rows.specs.declared.table.TableKind.{TableKind}
 use Rattle.pfs_runs.specs.Runs.{IsRun, IsPlainRun, AreFinal}
@@ -23,15 +22,10 @@ AgreedLaw = (run : Run) (kind : TableKind) (phase : ℕ) → AreKept run → IsO
     → (cell : ℕ) → cells_of run.setting kind cell ≡ true
     → counted_to run kind phase key (cell ∷ []) ≡ counted_at (past_to run phase) kind key cell
 
--- what counts goes by no answer of a line, so these do as well as any
-abbrev pub unanswered : ℕ → Answer
-unanswered action = Replied 0
-
 -- under the end of each phase of a run
 abbrev pub AllAreCounted : (setting : Setting) (phases : List Phase) (report : ReportParts)
     → IsRun setting phases report → Type 0
-AllAreCounted setting phases report run =
-    AreFinal (AreCounted (run_of setting phases report run unanswered)) report.phases
+AllAreCounted setting phases report run = AreFinal (AreCounted (run_of setting phases report run)) report.phases
 
 abbrev pub CountedLaw : Type 0
 CountedLaw = (text : List ℕ) (setting : Setting) (phases : List Phase) (report : ReportParts)

@@ -21,7 +21,6 @@ use Rattle.pfs_tagged.specs.Ends.{Ended}
 use Rattle.pfs_counted.specs.Counted.{past_to}
 use Rattle.pfs_counted.specs.Counts.{Past, counted_events, counted_at}
 use Rattle.pfs_counted.specs.Extremes.{timed_waits, AreExtremes}
-use Rattle.pfs_counted.specs.Laws.{unanswered}
 use Rattle.pfs_counted.specs.Summed.{class_numbers}
 
 -- the events that count for a key and a class: those of `transaction` in both its cells
@@ -56,4 +55,4 @@ abbrev pub NumbersLaw : Type 0
 NumbersLaw = (text : List ℕ) (setting : Setting) (phases : List Phase) (report : ReportParts)
     → IsScript Whole text setting phases → (run : IsRun setting phases report) → (phase : ℕ) (kind : TableKind)
     (key : Key) (id : ℕ) → is_class_of kind (class_at setting.classes id) ≡ true
-    → AreNumbers (past_to (run_of setting phases report run unanswered) phase) kind key id
+    → AreNumbers (past_to (run_of setting phases report run) phase) kind key id

@@ -11,7 +11,7 @@ use Rattle.pfs_model.specs.Places.{Block}
 use Rattle.pfs_model.specs.declared.lines.Line.{Line}
 use Rattle.pfs_model.specs.declared.lines.Line.TheVariants as told
 use Rattle.pfs_playable.specs.Playable.{IsPlayable, PlayableLaw}
-use Rattle.pfs_runs.specs.Lines.{lines_in, line_in}
+use Rattle.pfs_runs.specs.Lines.{lines_in, line_in, sql_line}
 use Rattle.pfs_runs.specs.Runs.{AreBlocksOf, ArePhasesOf, all_blocks}
 use Rattle.pfs_script.specs.declared.blocks.Block.{Block as Said}
 use Rattle.pfs_script.specs.declared.blocks.BlockLine.{BlockLine}
@@ -19,10 +19,16 @@ use Rattle.pfs_script.specs.declared.blocks.BlockLine.TheVariants as said
 use Rattle.pfs_script.specs.declared.blocks.Connect.{Connect}
 use Rattle.pfs_script.specs.declared.blocks.Phase.{Phase}
 use Rattle.pfs_script.specs.Marks.{written_out}
+use Rattle.pfs_truncations.specs.Texts.{truncation_of}
+use Rattle.pfs_truncations.specs.declared.truncations.Truncation.{Truncation}
 use Rattle.pfs_orderly.specs.Begun.{is_connect, AreUnconnected, NoneOf, Begins, AreBegunBehind}
 use Rattle.pfs_orderly.specs.Orderly.{FirstLaw}
 use Rattle.pfs_orderly.proofs.Closing.{each_then}
 use Rattle.pfs_orderly.proofs.Begun.{begun_law}
+
+sql_plain : (what : Option Truncation) → is_connect (sql_line what) ≡ false
+sql_plain None = refl
+sql_plain (Some what) = refl
 
 line_plain : (line : BlockLine) → is_connect (line_in line) ≡ false
 line_plain (said.Wait class) = refl
@@ -35,7 +41,7 @@ line_plain (said.Spend time) = refl
 line_plain said.End = refl
 line_plain (said.EndStatement numbers) = refl
 line_plain said.Quit = refl
-line_plain (said.Sql text) = refl
+line_plain (said.Sql text) = sql_plain (truncation_of text)
 line_plain (said.Repeat times) = refl
 line_plain said.Done = refl
 
@@ -102,6 +108,6 @@ module _ (reached : ReachedLaw) (whole : List Phase) where
   phases_begun playable before (phase ∷ phases) number (report ∷ reports) [] earlier w are covers = absurd are
 
 pub first_law : PlayableLaw → ReachedLaw → FirstLaw
-first_law playable reached text setting phases report script run answers =
-    begun_law (all_blocks run.blocks) (run.rules answers).shaped
+first_law playable reached text setting phases report script run =
+    begun_law (all_blocks run.blocks) run.rules.shaped
     (phases_begun reached phases (λ before phase after w. playable text setting phases before phase after script w) [] phases 1 report.phases run.blocks [] refl run.phases_are (λ session none. tt))

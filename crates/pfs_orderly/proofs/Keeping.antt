@@ -2,5 +2,5 @@
 use Rattle.pfs_orderly.specs.Orderly.{KeptLaw}
 
 pub kept_law : KeptLaw
-kept_law setting phases report run answers =
-    record { rules = run.rules answers; labelled = run.labelled; brought = run.brought }
+kept_law setting phases report run =
+    record { rules = run.rules; labelled = run.labelled; brought = run.brought }

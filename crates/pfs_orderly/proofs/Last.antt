@@ -12,7 +12,7 @@ use Rattle.pfs_model.specs.declared.lines.Line.TheVariants as told
 use Rattle.pfs_play.specs.Errands.{is_quit as ends}
 use Rattle.pfs_play.specs.Repeats.{AllMayPlay}
 use Rattle.pfs_playable.specs.Playable.{PlayableLaw, IsPlayable, IsPlayableBlock, HasBody, end_of, kinds_before, lines_among}
-use Rattle.pfs_runs.specs.Lines.{lines_in, line_in, connect_lines}
+use Rattle.pfs_runs.specs.Lines.{lines_in, line_in, connect_lines, sql_line}
 use Rattle.pfs_runs.specs.Runs.{AreBlocksOf, ArePhasesOf, all_blocks}
 use Rattle.pfs_script.specs.declared.blocks.Block.{Block as Said}
 use Rattle.pfs_script.specs.declared.blocks.BlockLine.{BlockLine}
@@ -25,6 +25,8 @@ use Rattle.pfs_script.specs.Marks.{mark_of, Repeated, copies, written_from, writ
 use Rattle.pfs_script.specs.Runnable.{AreDistinct}
 use Rattle.pfs_tagged.specs.Ends.{is_quit}
 use Rattle.pfs_tagged.proofs.Sifting.{eq_of}
+use Rattle.pfs_truncations.specs.Texts.{truncation_of}
+use Rattle.pfs_truncations.specs.declared.truncations.Truncation.{Truncation}
 use Rattle.pfs_orderly.specs.Begun.{NoneOf}
 use Rattle.pfs_orderly.specs.Orderly.{LastLaw}
 use Rattle.pfs_orderly.specs.Quits.{Quits, AreQuit}
@@ -38,8 +40,13 @@ Stays line = is_quit (line_in line) ≡ false
 abbrev Stay : List BlockLine → Type 0
 Stay lines = Each Stays lines
 
+sql_stays : (what : Option Truncation) → is_quit (sql_line what) ≡ false
+sql_stays None = refl
+sql_stays (Some what) = refl
+
 stays : (line : BlockLine) → ends line ≡ false → Stays line
 stays said.Quit q = absurd (cc)
+stays (said.Sql text) q = sql_stays (truncation_of text)
 stays _ q = refl
 
 may_stay : (depth : ℕ) (kinds : List EventKind) (start : Option (List EventKind)) (lines : List BlockLine)
@@ -245,7 +252,7 @@ phases_quit whole playable before (phase ∷ phases) number [] all e are = absur
 phases_quit whole playable before (phase ∷ phases) number (report ∷ reports) [] e are = absurd are
 
 pub last_law : PlayableLaw → LastLaw
-last_law playable text setting phases report script run answers =
-    quit_law (all_blocks run.blocks) (run.rules answers).shaped
+last_law playable text setting phases report script run =
+    quit_law (all_blocks run.blocks) run.rules.shaped
     (phases_quit phases (λ before phase after e. playable text setting phases before phase after script e) [] phases 1
     report.phases run.blocks refl run.phases_are)

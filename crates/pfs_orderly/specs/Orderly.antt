@@ -2,7 +2,6 @@
 use Rattle.std.specs.Prelude.{ℕ, List, []}
 use Rattle.pfs_classes.specs.declared.setting.Setting.{Setting}
 use Rattle.pfs_journal.specs.declared.report.ReportParts.{ReportParts}
-use Rattle.pfs_model.specs.Asked.{Answer}
 use Rattle.pfs_model.specs.Places.{places}
 use Rattle.pfs_runs.specs.Lines.{change_in, facts_in}
 use Rattle.pfs_runs.specs.Runs.{IsRun, all_blocks}
@@ -14,13 +13,12 @@ use Rattle.pfs_tagged.specs.Runs.{Run}
 
 -- the run of a report: the changes and the facts are the script's, and no flags ask for rings and rows of digests
 abbrev pub run_of : (setting : Setting) (phases : List Phase) (report : ReportParts)
-    → IsRun setting phases report → (ℕ → Answer) → Run
-run_of setting phases report run answers = record {
+    → IsRun setting phases report → Run
+run_of setting phases report run = record {
   setting = setting;
   change = change_in phases;
   labels = run.labels;
   facts = facts_in phases;
-  answers = answers;
   counted = run.counted;
   content = run.content;
   blocks = all_blocks run.blocks;
@@ -30,7 +28,7 @@ run_of setting phases report run answers = record {
 -- it keeps the rules, has its labels, and brings each event as its flags ask
 abbrev pub KeptLaw : Type 0
 KeptLaw = (setting : Setting) (phases : List Phase) (report : ReportParts) (run : IsRun setting phases report)
-    → (answers : ℕ → Answer) → AreKept (run_of setting phases report run answers)
+    → AreKept (run_of setting phases report run)
 
 -- the last line of each block is the block's end
 abbrev pub ClosedLaw : Type 0
@@ -42,29 +40,30 @@ abbrev pub SmallLaw : Type 0
 SmallLaw = (text : List ℕ) (setting : Setting) (phases : List Phase) (report : ReportParts)
     → IsScript Whole text setting phases → (run : IsRun setting phases report) → AreSmall (all_blocks run.blocks)
 
--- a session's connect is its first entry, so it connects once; the rules hold whatever the answers are
+-- a session's connect is its first entry, so it connects once
 abbrev pub FirstLaw : Type 0
 FirstLaw = (text : List ℕ) (setting : Setting) (phases : List Phase) (report : ReportParts)
-    → IsScript Whole text setting phases → (run : IsRun setting phases report) → (answers : ℕ → Answer)
+    → IsScript Whole text setting phases → (run : IsRun setting phases report)
     → AreFirstBehind [] (places (all_blocks run.blocks))
 
--- behind a session's quit is nothing but what the quit does; the rules hold whatever the answers are
+-- behind a session's quit is nothing but what the quit does
 abbrev pub LastLaw : Type 0
 LastLaw = (text : List ℕ) (setting : Setting) (phases : List Phase) (report : ReportParts)
-    → IsScript Whole text setting phases → (run : IsRun setting phases report) → (answers : ℕ → Answer)
+    → IsScript Whole text setting phases → (run : IsRun setting phases report)
     → AreLastBehind [] (places (all_blocks run.blocks))
 
--- an action does what its line does: that of a connect's connects, that of a quit's quits
+-- an action does what its line does: that of a connect's connects, that of a quit's quits, that of a TRUNCATE's
+-- truncates
 abbrev pub HasActions : Run → Type 0
 HasActions run = AreActionsOf run.change run.labels (places run.blocks)
 
 -- by the labels that tell whose line each action is, and the changes that the script says of them
 abbrev pub ActionsLaw : Type 0
 ActionsLaw = (setting : Setting) (phases : List Phase) (report : ReportParts) (run : IsRun setting phases report)
-    → (answers : ℕ → Answer) → HasActions (run_of setting phases report run answers)
+    → HasActions (run_of setting phases report run)
 
 -- so a run of a script meets all that conservation asks of its order
 abbrev pub OrderlyLaw : Type 0
 OrderlyLaw = (text : List ℕ) (setting : Setting) (phases : List Phase) (report : ReportParts)
-    → IsScript Whole text setting phases → (run : IsRun setting phases report) → (answers : ℕ → Answer)
-    → IsOrderly (run_of setting phases report run answers)
+    → IsScript Whole text setting phases → (run : IsRun setting phases report)
+    → IsOrderly (run_of setting phases report run)

@@ -69,14 +69,14 @@ large : 1200001 < 2 ^ 64
 large = lit< tt
 
 pub few : TotalLaw → FewBlocks → FewLaw
-few total blocks text setting phases report s run answers kind phase =
+few total blocks text setting phases report s run kind phase =
     let all : List Placed = places (all_blocks run.blocks) in
     let test = counts_in (cells_of setting kind) in
     let ended : List Ended = all_ended (up_to_phase phase all) in
     let a = length-map (filter test ended) number_of in
     let b = kept_few test ended in
     let c = chosen_few (λ (place : Placed). nat_le place.phase phase) all in
-    let d = all_few (all_blocks run.blocks) (run.rules answers).shaped in
+    let d = all_few (all_blocks run.blocks) run.rules.shaped in
     let e = phases_few 1 phases report.phases run.blocks run.phases_are in
     let f = total text setting phases s in
     let g = blocks text setting phases s in

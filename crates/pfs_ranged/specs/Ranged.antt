@@ -2,7 +2,6 @@
 use Rattle.std.specs.Prelude.{ℕ, ◌<◌, ◌^◌, List, length}
 use Rattle.pfs_classes.specs.declared.setting.Setting.{Setting}
 use Rattle.pfs_journal.specs.declared.report.ReportParts.{ReportParts}
-use Rattle.pfs_model.specs.Asked.{Answer}
 use Rattle.pfs_orderly.specs.Orderly.{run_of}
 use Rattle.pfs_rows.specs.declared.table.TableKind.{TableKind}
 use Rattle.pfs_runs.specs.Lines.{facts_in}
@@ -21,6 +20,5 @@ InRangeLaw = (text : List ℕ) (setting : Setting) (phases : List Phase) → IsS
 -- a run of a script has fewer than 2^64 events of each kind up to each phase's end
 abbrev pub FewLaw : Type 0
 FewLaw = (text : List ℕ) (setting : Setting) (phases : List Phase) (report : ReportParts)
-    → IsScript Whole text setting phases → (run : IsRun setting phases report) → (answers : ℕ → Answer)
-    → (kind : TableKind) (phase : ℕ)
-    → length (events_to (run_of setting phases report run answers) kind phase) < 2 ^ 64
+    → IsScript Whole text setting phases → (run : IsRun setting phases report) → (kind : TableKind) (phase : ℕ)
+    → length (events_to (run_of setting phases report run) kind phase) < 2 ^ 64

@@ -1,10 +1,10 @@
 use Rattle.pfs_orderly.proofs.laws.orderly.Goals as goal
 
 pub returns : goal.returns
-returns c text setting phases report script run answers = record {
-  actions = c.actions.ensures setting phases report run answers;
-  first = c.first.ensures text setting phases report script run answers;
-  last = c.last.ensures text setting phases report script run answers;
+returns c text setting phases report script run = record {
+  actions = c.actions.ensures setting phases report run;
+  first = c.first.ensures text setting phases report script run;
+  last = c.last.ensures text setting phases report script run;
   closed = c.closed.ensures setting phases report run;
   small = c.small.ensures text setting phases report script run;
 }
