@@ -259,7 +259,7 @@ fn the_heaviest_repeats(rt: HostRuntime) {
 
 #[test]
 fn forms_that_are_not_built(rt: HostRuntime) {
-    let cases: [(&[u8], u64, u64); 11] = [
+    let cases: [(&[u8], u64, u64); 19] = [
         (b"phase\nphase\n", 0, 0),
         (b"limit users 99\n", 1, 8),
         (b"limit digests 9\n", 1, 13),
@@ -268,6 +268,30 @@ fn forms_that_are_not_built(rt: HostRuntime) {
         (b"start statement/sql/select SELECT 1\n", 1, 13),
         (b"start wait/io/table/sql/handler a.b\n", 1, 4),
         (b"sql SELECT\n", 1, 13),
+        (b"sql TRUNCATE accounts\n", 1, 4),
+        (b"sql truncate accounts\n", 1, 13),
+        (b"sql TRUNCATE threads\n", 1, 13),
+        (b"sql TRUNCATE accounts \n", 1, 13),
+        (
+            b"phase\nsession 1 u h\nsql TRUNCATE TABLE performance_schema.accounts\n",
+            3,
+            13,
+        ),
+        (
+            b"phase\nsession 1 u h\nsql TRUNCATE accounts\nrepeat 2\nsql TRUNCATE setup_actors\ndone\nquit\n",
+            0,
+            0,
+        ),
+        (
+            b"phase\nsession 1 u h\nrepeat 249\nsql TRUNCATE hosts\ndone\n",
+            0,
+            0,
+        ),
+        (
+            b"phase\nsession 1 u h\nrepeat 250\nsql TRUNCATE hosts\ndone\n",
+            5,
+            12,
+        ),
         (b"quit\n", 1, 4),
         (b"session 99\n", 1, 4),
         (b"phase\nsession 1 u h\nrepeat 2\nquit\n", 4, 4),
