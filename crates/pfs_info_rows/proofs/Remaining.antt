@@ -1,4 +1,5 @@
--- An account, a user or a host that has come stays until a truncation frees it, whoever connects or quits.
+-- A place of an account, a user or a host that is in use stays so until a truncation frees it, whoever connects or
+-- quits.
 use Rattle.std.proofs.Common.{◌≡◌, refl, ℕ, zero, suc, ◌+◌, ◌≤◌, ◌==◌, Bool, true, false, cond, nat_le, List, [], ◌∷◌, ◌++◌, length, take, drop, Option, Some, None, slice_index_or, sym, ap, ◌∙◌, arith}
 use Rattle.std.specs.Option.{option_map}
 use Rattle.pfs_admin.specs.Fold.{stepped, state_from}

@@ -78,8 +78,8 @@ labels_between run phase later = drop (length (each_of action_change (entries_to
 abbrev pub NoneFrees : (Change → Bool) → Run → ℕ → ℕ → Type 0
 NoneFrees frees run phase later = Each (λ label. frees (run.change label) ≡ false) (labels_between run phase later)
 
--- An account, a user or a host that has come stays until a truncation frees it: a place that is free under a later
--- phase's end was free before, where no action between may free it.
+-- A place of an account, a user or a host that is in use stays so until a truncation frees it: one that is free under
+-- a later phase's end was free before, where no action between may free it.
 pub record AreRemaining (run : Run) (phase later : ℕ) : Type 0 where
   pub accounts : NoneFrees frees_accounts run phase later → (place : ℕ)
       → account_said (containers_to run later) place ≡ None → account_said (containers_to run phase) place ≡ None

@@ -14,7 +14,7 @@ pub fn within_limits()
     ensures { LimitsLaw }
 {}
 
-/// An account, a user or a host that has come stays until a truncation frees it.
+/// A place of an account, a user or a host that is in use stays so until a truncation frees it.
 pub fn remaining()
     ensures { RemainingLaw }
 {}

@@ -52,8 +52,8 @@ LastLaw = (text : List ℕ) (setting : Setting) (phases : List Phase) (report : 
     → IsScript Whole text setting phases → (run : IsRun setting phases report)
     → AreLastBehind [] (places (all_blocks run.blocks))
 
--- an action does what its line does: that of a connect's connects, that of a quit's quits, that of a TRUNCATE's
--- truncates
+-- an action does what its line does: that of a connect's connects, that of a quit's quits, and that of no other line
+-- than an SQL line's truncates
 abbrev pub HasActions : Run → Type 0
 HasActions run = AreActionsOf run.change run.labels (places run.blocks)
 

@@ -47,8 +47,7 @@ pub fn summed()
 }
 
 /// What the rows of the global key show of a cell under a phase's end, and what the printed takes of the cell's global
-/// row found, are together the events of the cell that were let through and have ended: each is shown or was discarded
-/// by just one take of that row.
+/// row found, are together the merge of the events of the cell that were let through and have ended.
 pub fn discarded()
     ensures { DiscardedLaw }
 {

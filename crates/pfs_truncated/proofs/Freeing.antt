@@ -61,6 +61,10 @@ kept_read n (suc place) used (x ∷ xs) =
     let same : suc n + place ≡ n + suc place = omega arith in
     kept_read (suc n) place used xs ∙ ap (λ z. kept_if (used z) (entry_at xs place)) same
 
+kept_length : {X : Type 0} (n : ℕ) (used : ℕ → Bool) (xs : List (Option X)) → length (kept_from n used xs) ≡ length xs
+kept_length n used [] = refl
+kept_length n used (x ∷ xs) = ap suc (kept_length (suc n) used xs)
+
 zero_kept : (b : Bool) → ◌≡◌ {A = ℕ} 0 (cond b 0 0)
 zero_kept true = refl
 zero_kept false = refl
@@ -85,6 +89,7 @@ plus place = omega arith
 -- so a level is freed where no session is, and its totals are counted anew or on
 pub are_freed : (X : Type 0) (which : Connection → Option ℕ) (threads : List (Option Connection)) (xs : List (Option X)) → AreFreed X which threads xs (kept_from 0 (in_use which threads) xs)
 are_freed X which threads xs = record {
+  places = kept_length 0 (in_use which threads) xs;
   stays = λ place h. read place true (has_used which threads place h);
   freed = λ place h. read place false (unused which threads place h);
 } where

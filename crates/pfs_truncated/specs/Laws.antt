@@ -32,9 +32,10 @@ pub record HasSession (which : Connection → Option ℕ) (threads : List (Optio
 abbrev pub HasNoSession : (Connection → Option ℕ) → List (Option Connection) → ℕ → Type 0
 HasNoSession which threads place = HasSession which threads place → ⊥
 
--- what stands at a place that a session has stays, and any other place is free
+-- there are as many places as before; what stands at one that a session has stays, and any other is free
 pub record AreFreed (X : Type 0) (which : Connection → Option ℕ) (threads : List (Option Connection))
     (before after : List (Option X)) : Type 0 where
+  pub places : length after ≡ length before
   pub stays : (place : ℕ) → HasSession which threads place → entry_at after place ≡ entry_at before place
   pub freed : (place : ℕ) → HasNoSession which threads place → entry_at after place ≡ None
 
