@@ -11,7 +11,7 @@ use Rattle.pfs_levels.specs.declared.answers.Added.{Added}
 use Rattle.pfs_levels.specs.declared.answers.Added.TheVariants.{Counted, Held}
 use Rattle.pfs_model.specs.Shapes.{is_stage}
 use Rattle.pfs_parts.specs.Deeds.{Deed, Connecting, Starting, Staging, StageEnding, Ending, Spending, Quitting, Truncating, Closing, steps_for}
-use Rattle.pfs_session.specs.Ends.{Ends, EndsIn, added_entry, no_numbers}
+use Rattle.pfs_session.specs.Ends.{Ends, EndsIn, DigestsIn, added_entry, no_numbers}
 use Rattle.pfs_session.specs.Settles.{Paid, paid_entries, pay_entries, settle_head}
 use Rattle.pfs_session.specs.Starts.{start_entry}
 use Rattle.pfs_session.specs.States.{State, Owed}
@@ -37,12 +37,20 @@ settle_calm : (owed : List Owed) (ps : List Paid) → AreCalm (settle_head owed 
 settle_calm [] ps = paid_calm ps
 settle_calm (o ∷ os) ps = (refl, paid_calm ps)
 
+digests_calm : (b : Bool) (s : State) (slot : ℕ) (what : Open) (numbers : Numbers) (calls : List Call) (entries : List Entry) (after : State)
+    → DigestsIn b s slot what numbers calls entries after → AreCalm entries
+digests_calm false s slot what numbers calls entries after d = subst AreCalm (sym d.entries_are) tt
+digests_calm true s slot what numbers calls entries after d = subst AreCalm (sym d.entries_are) (added_calm d.answer, tt)
+
 ends_calm : (s : State) (numbers : Numbers) (calls : List Call) (entries : List Entry) (after : State) → Ends s numbers calls entries after → AreCalm entries
 ends_calm s numbers calls entries after e = by_case s.place.thread (is_let_through e.what.verdict) e.ends where
   by_case : (slot : Option ℕ) (b : Bool) → EndsIn s slot b e.what e.others numbers calls entries after → AreCalm entries
   by_case slot false x = subst AreCalm (sym x.entries_are) (refl, tt)
   by_case None true x = absurd x
-  by_case (Some slot) true x = subst AreCalm (sym x.entries_are) (refl, (added_calm x.answer, tt))
+  by_case (Some slot) true x =
+      subst AreCalm (sym x.entries_are)
+      (calm_then x.counted_entries x.digested_entries (subst AreCalm (sym x.counts.entries_are) (refl, (added_calm x.counts.answer, tt)))
+      (digests_calm e.what.digested x.between slot e.what numbers x.digested_calls x.digested_entries after x.digests))
 
 abbrev pub is_idle : Step → Bool
 is_idle (Connects admin user host) = false

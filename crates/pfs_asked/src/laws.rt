@@ -34,7 +34,8 @@ pub fn counted()
     ensures { CountedLaw }
 {}
 
-/// No action takes a row twice, where no number is that of two and the places of each session are in range.
+/// No action takes a row twice, where no number is that of two, the places of each session are in range and no
+/// truncation asks for a row twice.
 pub fn apart()
     ensures { ApartLaw }
 {}

@@ -132,7 +132,8 @@ pub(crate) fn is_digest(table: Table) -> bool
     matches!(table, Table::DigestSummary)
 }
 
-// Behind the last row that the table may read: behind the cells of the last level that it reads.
+// Behind the last row that the table may read. Of a summary of levels that is behind the cells of the last level
+// that it reads.
 pub(crate) fn end_of(table: Table) -> u64
     ensures { result ≡ end_of table }
 {
