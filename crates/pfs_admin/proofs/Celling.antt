@@ -8,6 +8,7 @@ use Rattle.pfs_classes.specs.declared.classes.Class.{Class}
 use Rattle.pfs_classes.specs.declared.kind.Kind.{Kind}
 use Rattle.pfs_classes.specs.declared.kind.Kind.TheVariants as kinds
 use Rattle.pfs_classes.specs.Registry.{Registry}
+use Rattle.pfs_classes.specs.declared.setting.Setting.{Setting}
 use Rattle.pfs_readsets.specs.Places.{is_class_of, is_kind_cell}
 use Rattle.pfs_rows.specs.declared.table.TableKind.{TableKind}
 use Rattle.pfs_rows.specs.declared.table.TableKind.TheVariants.{Waits, Stages, Statements, Transactions}
@@ -98,21 +99,26 @@ few_kind r kind =
     let all : length (range_with_len 0 64) ≡ 64 = length-range_with_len 0 64 in
     omega (arith, few_chosen (is_kind_cell r.classes kind) (range_with_len 0 64), all)
 
-pub kinds_fit : (r : Registry) → AreKindCells (kinds_of r)
+-- the digest texts of a setting are as many as its limit allows
+places_fit : (setting : Setting) → length setting.digests ≤ 64
+places_fit setting = omega (arith, setting.few_digests, setting.in_range.digests)
+
+pub kinds_fit : (setting : Setting) → AreKindCells (kinds_of setting)
 unfolding kinds_of cells_of_kind
-kinds_fit r = record {
+kinds_fit setting = record {
   small = by_small;
   few = by_few;
-  few_together = omega (arith, three_kinds r.classes (range_with_len 0 64), two_transactions r, length-range_with_len 0 64);
+  few_together = omega (arith, three_kinds setting.classes.classes (range_with_len 0 64), two_transactions setting.classes, length-range_with_len 0 64);
+  digests_few = places_fit setting;
 } where
-  by_small : (kind : TableKind) → All (λ cell. cell < 64) (kind_cells (kinds_of r) kind)
-  by_small Waits = small_kind r Waits
-  by_small Stages = small_kind r Stages
-  by_small Statements = small_kind r Statements
-  by_small Transactions = small_kind r Transactions
+  by_small : (kind : TableKind) → All (λ cell. cell < 64) (kind_cells (kinds_of setting) kind)
+  by_small Waits = small_kind setting.classes Waits
+  by_small Stages = small_kind setting.classes Stages
+  by_small Statements = small_kind setting.classes Statements
+  by_small Transactions = small_kind setting.classes Transactions
 
-  by_few : (kind : TableKind) → length (kind_cells (kinds_of r) kind) ≤ 64
-  by_few Waits = few_kind r Waits
-  by_few Stages = few_kind r Stages
-  by_few Statements = few_kind r Statements
-  by_few Transactions = few_kind r Transactions
+  by_few : (kind : TableKind) → length (kind_cells (kinds_of setting) kind) ≤ 64
+  by_few Waits = few_kind setting.classes Waits
+  by_few Stages = few_kind setting.classes Stages
+  by_few Statements = few_kind setting.classes Statements
+  by_few Transactions = few_kind setting.classes Transactions

@@ -13,13 +13,13 @@ use Rattle.pfs_levels.specs.declared.places.Level.TheVariants as levels
 use Rattle.pfs_levels.specs.Flushes.{ask_of, asks_of, beyond, upper}
 use Rattle.pfs_levels.specs.Moves.{Ask, ask, cost}
 use Rattle.pfs_levels.proofs.Flushing.{cost_then}
-use Rattle.pfs_rows.specs.declared.place.Place.TheVariants.{GlobalCell}
+use Rattle.pfs_rows.specs.declared.place.Place.TheVariants.{DigestNull, GlobalCell}
 use Rattle.pfs_rows.specs.declared.table.SummaryTable.{SummaryTable}
 use Rattle.pfs_rows.specs.Rows.{row_number}
 use Rattle.pfs_admin.specs.declared.summaries.Reach.{Reach}
 use Rattle.pfs_admin.proofs.Celling.{one_most}
 use Rattle.pfs_admin.specs.States.{KindCells}
-use Rattle.pfs_admin.specs.Truncations.{up_to, count_up_to, thread_source, account_source, user_source, host_source, place_asks, asks_at, level_asks, emptied, cleared, lower_asks, upper_asks, reach_asks, summary_asks, all_asks}
+use Rattle.pfs_admin.specs.Truncations.{up_to, count_up_to, thread_source, account_source, user_source, host_source, place_asks, asks_at, level_asks, emptied, cleared, digest_ask, digest_asks, lower_asks, upper_asks, reach_asks, summary_asks, all_asks}
 
 -- each cell costs as much
 pub cells_cost : (source : Source) (each : ℕ) (cells : List ℕ) → ((cell : ℕ) → each ≡ 1 + length (ask_of source cell).to)
@@ -158,3 +158,12 @@ level_most s cells levels.Host = omega (arith, level_few s cells levels.Host)
 pub cleared_cost : (due : Bool) (cells : List ℕ) → due ≡ true → length cells ≡ cost (cleared due cells)
 cleared_cost true cells e = sym (clear_few cells)
 cleared_cost false cells e = absurd (cc)
+
+-- each row of a digest costs its take
+digests_up : (n : ℕ) → cost (up_to digest_ask n) ≡ n
+digests_up zero = refl
+digests_up (suc n) = omega (arith, cost_then (up_to digest_ask n) (digest_ask n), digests_up n)
+
+pub digests_cost : (places : ℕ) → places + 1 ≡ cost (digest_asks places)
+unfolding digest_asks
+digests_cost places = sym (digests_up (places + 1))

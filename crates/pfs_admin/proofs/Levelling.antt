@@ -10,7 +10,7 @@ use Rattle.pfs_rows.specs.declared.place.Place.TheVariants.{GlobalCell}
 use Rattle.pfs_rows.specs.Rows.{row_number}
 use Rattle.pfs_levels.proofs.Flushing.{cost_then, stays_more}
 use Rattle.pfs_levels.proofs.Moving.{moved_none}
-use Rattle.pfs_admin.specs.Truncations.{up_to, asks_at, level_asks}
+use Rattle.pfs_admin.specs.Truncations.{up_to, asks_at, level_asks, digest_ask, digest_asks}
 
 pub up_next : {X : Type 0} (f : ℕ → List X) (n : ℕ) → up_to f (n + 1) ≡ up_to f n ++ f n
 up_next f n = let next : n + 1 ≡ suc n = omega arith in ap (up_to f) next
@@ -62,3 +62,12 @@ stays_both xs ys h0 h1 h2 l0 l1 l2 d0 d1 d2 w0 w1 w2 n0 n1 n2 old at new p q =
 -- a global cell that is cleared
 abbrev pub clearing : ℕ → Ask
 clearing cell = ask (row_number (GlobalCell cell)) []
+
+-- the rows of the first places of digests, and of all
+pub digests_front : (places n : ℕ) → n ≤ places + 1 → cost (up_to digest_ask n) ≤ cost (digest_asks places)
+unfolding digest_asks
+digests_front places n l = up_fits digest_ask n (places + 1) l
+
+pub digests_whole : (places n : ℕ) → n ≡ places + 1 → up_to digest_ask n ≡ digest_asks places
+unfolding digest_asks
+digests_whole places n e = ap (up_to digest_ask) e

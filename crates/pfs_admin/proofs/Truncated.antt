@@ -1,10 +1,10 @@
 -- The truncations of two sessions compute.
 use Rattle.std.proofs.Common.{refl}
 use Rattle.pfs_admin.specs.Truncated.{WorkedTruncations}
-use Rattle.pfs_admin.specs.Truncations.{level_asks, level_signs}
+use Rattle.pfs_admin.specs.Truncations.{level_asks, level_signs, digest_asks}
 
 pub worked : WorkedTruncations
-unfolding level_asks level_signs
+unfolding level_asks level_signs digest_asks
 worked = record {
   by_account = refl;
   by_thread = refl;
@@ -32,4 +32,6 @@ worked = record {
   user_alone = refl;
   account_total = refl;
   actors = refl;
+  digests = refl;
+  digests_kept = refl;
 }

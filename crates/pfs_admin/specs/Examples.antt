@@ -41,7 +41,7 @@ nobody = record {
   connects = 0;
 }
 
--- the consumers and two threads, names u and h, and one class of waits beside `transaction`
+-- the consumers and two threads, names u and h, one class of waits beside `transaction`, and two digest texts
 abbrev pub start : State
 start = record {
   kept = nobody;
@@ -50,7 +50,7 @@ start = record {
   objects = [];
   names = codes "u" ∷ codes "h" ∷ [];
   cells = 0 ∷ 62 ∷ 63 ∷ [];
-  kinds = record { waits = 0 ∷ []; stages = []; statements = []; transactions = 62 ∷ 63 ∷ [] };
+  kinds = record { waits = 0 ∷ []; stages = []; statements = []; transactions = 62 ∷ 63 ∷ []; digests = 2 };
   actions = 0;
 }
 

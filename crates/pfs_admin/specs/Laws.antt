@@ -26,7 +26,7 @@ CountLaw = (setting : Setting) → (change : Label → Change) → (labels : Lis
 abbrev pub FixedLaw : Type 0
 FixedLaw = (setting : Setting) → (change : Label → Change) → (labels : List Label) → (s : State)
     → StandsFor setting change labels s
-    → (s.names ≡ setting.names) × (s.cells ≡ cells_of setting.classes) × (s.kinds ≡ kinds_of setting.classes)
+    → (s.names ≡ setting.names) × (s.cells ≡ cells_of setting.classes) × (s.kinds ≡ kinds_of setting)
 
 -- the info row that a sign releases or writes
 abbrev pub row_of : Sign → ℕ

@@ -40,16 +40,18 @@ opening_flags setting objects = map (word_flags setting objects) (range_with_len
 abbrev pub cells_of : Registry → List ℕ
 cells_of r = range_with_len 0 (length r.classes) ++ 62 ∷ 63 ∷ []
 
--- those of the classes of each kind
+-- those of the classes of a kind
 unfoldable pub cells_of_kind : Registry → TableKind → List ℕ
 cells_of_kind r kind = filter (is_kind_cell r.classes kind) (range_with_len 0 64)
 
-unfoldable pub kinds_of : Registry → KindCells
-kinds_of r = record {
-  waits = cells_of_kind r Waits;
-  stages = cells_of_kind r Stages;
-  statements = cells_of_kind r Statements;
-  transactions = cells_of_kind r Transactions;
+-- and of each kind, with the number of the setting's digest texts
+unfoldable pub kinds_of : Setting → KindCells
+kinds_of setting = record {
+  waits = cells_of_kind setting.classes Waits;
+  stages = cells_of_kind setting.classes Stages;
+  statements = cells_of_kind setting.classes Statements;
+  transactions = cells_of_kind setting.classes Transactions;
+  digests = length setting.digests;
 }
 
 abbrev pub opened : Setting → State
@@ -60,6 +62,6 @@ opened setting = record {
   objects = opening_objects;
   names = setting.names;
   cells = cells_of setting.classes;
-  kinds = kinds_of setting.classes;
+  kinds = kinds_of setting;
   actions = 0;
 }

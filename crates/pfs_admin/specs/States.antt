@@ -12,12 +12,13 @@ use Rattle.pfs_rows.specs.declared.table.TableKind.{TableKind}
 use Rattle.pfs_rows.specs.declared.table.TableKind.TheVariants.{Waits, Stages, Statements, Transactions}
 use Rattle.pfs_admin.specs.Works.{flagged}
 
--- the cells of the registered classes of each kind of event, ascending
+-- the cells of the registered classes of each kind of event, ascending; and how many digest texts have a place
 pub record KindCells : Type 0 where
   pub waits : List ℕ
   pub stages : List ℕ
   pub statements : List ℕ
   pub transactions : List ℕ
+  pub digests : ℕ
 
 abbrev pub kind_cells : KindCells → TableKind → List ℕ
 kind_cells k Waits = k.waits
@@ -26,7 +27,8 @@ kind_cells k Statements = k.statements
 kind_cells k Transactions = k.transactions
 
 -- who is connected where; the switch words; the rows of setup_actors and setup_objects. The names by id and the cells
--- of the registered classes, all and by their kinds, ascending, never change. And how many actions there were.
+-- of the registered classes, all and by their kinds, ascending, never change, nor does how many digests have a place.
+-- And how many actions there were.
 pub record State : Type 0 where
   pub kept : Kept
   pub words : List Word
@@ -81,11 +83,13 @@ abbrev pub AreEarly : ℕ → List Word → Type 0
 AreEarly most [] = Unit {0}
 AreEarly most (word ∷ words) = (word.version ≤ most) × AreEarly most words
 
--- the cells of each kind are below 64; a class is of one kind, and `transaction` has two cells
+-- the cells of each kind are below 64; a class is of one kind, and `transaction` has two cells; digests have 64 places
+-- at most
 pub record AreKindCells (k : KindCells) : Type 0 where
   pub small : (kind : TableKind) → All (λ cell. cell < 64) (kind_cells k kind)
   pub few : (kind : TableKind) → length (kind_cells k kind) ≤ 64
   pub few_together : length k.waits + (length k.stages + (length k.statements + length k.transactions)) ≤ 66
+  pub digests_few : k.digests ≤ 64
 
 -- what always holds
 pub record IsState (s : State) : Type 0 where

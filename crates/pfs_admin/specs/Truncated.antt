@@ -3,7 +3,7 @@ use Rattle.std.specs.Prelude.{◌≡◌, [], ◌∷◌, map, Some, None}
 use Rattle.pfs_rows.specs.declared.table.TableKind.TheVariants.{Waits, Transactions}
 use Rattle.pfs_rows.specs.declared.table.SummaryTable.TheVariants.{ByThread, ByAccount, ByUser, ByHost, Global}
 use Rattle.pfs_levels.specs.Moves.{ask}
-use Rattle.pfs_truncations.specs.declared.truncations.Truncation.TheVariants.{Summary, Accounts, Users, Hosts, SetupActors}
+use Rattle.pfs_truncations.specs.declared.truncations.Truncation.TheVariants.{Summary, DigestSummary, Accounts, Users, Hosts, SetupActors}
 use Rattle.pfs_admin.specs.Examples.{start}
 use Rattle.pfs_admin.specs.Laws.{row_of}
 use Rattle.pfs_admin.specs.States.{State, connected, has_quit}
@@ -65,3 +65,6 @@ pub record WorkedTruncations : Type 0 where
   pub user_alone : map row_of (work_of_truncation one Users).signs ≡ 65 ∷ []
   pub account_total : (has_truncated one Users).kept.now.account_totals ≡ 2 ∷ []
   pub actors : (has_truncated both SetupActors).actors ≡ []
+  -- the row of the digests without a place is cleared first, then that of each place
+  pub digests : (work_of_truncation both DigestSummary).moves ≡ ask 8385 [] ∷ ask 8386 [] ∷ ask 8387 [] ∷ []
+  pub digests_kept : (has_truncated both DigestSummary).kept ≡ both.kept

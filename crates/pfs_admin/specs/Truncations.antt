@@ -1,10 +1,11 @@
 -- What a TRUNCATE asks for, and the state behind it. A summary's numbers move up level by level until its own rows are
--- zero; `accounts`, `users` and `hosts` move those of all kinds, and free what has no connection; the setup tables lose
--- their rows. These rules are our own, after MySQL's, and so is the order within an action.
+-- zero; those of digests go nowhere; `accounts`, `users` and `hosts` move those of all kinds, and free what has no
+-- connection; the setup tables lose their rows. These rules are our own, after MySQL's, and so is the order within an
+-- action.
 use Rattle.std.specs.Prelude.{ℕ, zero, suc, ◌≡◌, ◌<◌, ◌+◌, cond, Bool, true, false, List, [], ◌∷◌, ◌++◌, map, Option, Some, None, is_some}
 use Rattle.std.specs.List.{slice_index_or}
 use Rattle.std.specs.Option.{option_map}
-use Rattle.pfs_rows.specs.declared.place.Place.TheVariants.{GlobalCell}
+use Rattle.pfs_rows.specs.declared.place.Place.TheVariants.{DigestNull, GlobalCell}
 use Rattle.pfs_rows.specs.declared.table.SummaryTable.{SummaryTable}
 use Rattle.pfs_rows.specs.declared.table.SummaryTable.TheVariants as tables
 use Rattle.pfs_rows.specs.Rows.{row_number}
@@ -30,7 +31,7 @@ use Rattle.pfs_levels.specs.Moves.{Ask, ask, cost}
 use Rattle.pfs_admin.specs.declared.remaining.Standing.{Standing}
 use Rattle.pfs_admin.specs.declared.summaries.Reach.{Reach}
 use Rattle.pfs_truncations.specs.declared.truncations.Truncation.{Truncation}
-use Rattle.pfs_truncations.specs.declared.truncations.Truncation.TheVariants.{Summary, Accounts, Users, Hosts, SetupActors, SetupObjects}
+use Rattle.pfs_truncations.specs.declared.truncations.Truncation.TheVariants.{Summary, DigestSummary, Accounts, Users, Hosts, SetupActors, SetupObjects}
 use Rattle.pfs_admin.specs.States.{State, KindCells, kind_cells}
 use Rattle.pfs_admin.specs.Works.{Sign, Releases, Tags, Work, Flagging, flagging, flagged}
 
@@ -113,9 +114,18 @@ all_asks kinds s table = summary_asks s table kinds.waits
     ++ (summary_asks s table kinds.stages
     ++ (summary_asks s table kinds.statements ++ summary_asks s table kinds.transactions))
 
+-- the rows of digests are cleared: that of the texts without a place, then one for each place, ascending. What stood
+-- there goes nowhere
+abbrev pub digest_ask : ℕ → List Ask
+digest_ask at = ask (row_number DigestNull + at) [] ∷ []
+
+unfoldable pub digest_asks : ℕ → List Ask
+digest_asks places = up_to digest_ask (places + 1)
+
 -- a summary moves its own kind, by its own level; `accounts`, `users` and `hosts` move all kinds, by theirs
 abbrev pub truncation_asks : KindCells → places.State → Truncation → List Ask
 truncation_asks kinds s (Summary kind table) = summary_asks s table (kind_cells kinds kind)
+truncation_asks kinds s DigestSummary = digest_asks kinds.digests
 truncation_asks kinds s Accounts = all_asks kinds s tables.ByAccount
 truncation_asks kinds s Users = all_asks kinds s tables.ByUser
 truncation_asks kinds s Hosts = all_asks kinds s tables.ByHost
@@ -161,6 +171,7 @@ truncation_signs was after Users = level_signs false (was levels.Account) after 
 truncation_signs was after Hosts = level_signs false (was levels.Account) after levels.Account
     ++ level_signs true (was levels.Host) after levels.Host
 truncation_signs was after (Summary kind table) = []
+truncation_signs was after DigestSummary = []
 truncation_signs was after SetupActors = []
 truncation_signs was after SetupObjects = []
 
@@ -182,6 +193,7 @@ off_words words = off_up_to words 64
 -- no other table changes a word
 abbrev pub truncation_flags : List Word → Truncation → List Flagging
 truncation_flags words (Summary kind table) = []
+truncation_flags words DigestSummary = []
 truncation_flags words Accounts = []
 truncation_flags words Users = []
 truncation_flags words Hosts = []
@@ -190,6 +202,7 @@ truncation_flags words SetupObjects = off_flags words
 
 abbrev pub words_behind : Truncation → List Word → List Word
 words_behind (Summary kind table) words = words
+words_behind DigestSummary words = words
 words_behind Accounts words = words
 words_behind Users words = words
 words_behind Hosts words = words
@@ -199,6 +212,7 @@ words_behind SetupObjects words = off_words words
 -- all rows of a setup table are removed
 abbrev pub actors_behind : Truncation → List ActorRow → List ActorRow
 actors_behind (Summary kind table) actors = actors
+actors_behind DigestSummary actors = actors
 actors_behind Accounts actors = actors
 actors_behind Users actors = actors
 actors_behind Hosts actors = actors
@@ -207,13 +221,14 @@ actors_behind SetupObjects actors = actors
 
 abbrev pub objects_behind : Truncation → List ObjectRow → List ObjectRow
 objects_behind (Summary kind table) objects = objects
+objects_behind DigestSummary objects = objects
 objects_behind Accounts objects = objects
 objects_behind Users objects = objects
 objects_behind Hosts objects = objects
 objects_behind SetupActors objects = objects
 objects_behind SetupObjects objects = []
 
--- what a truncation is in the containers' fold, where its conservation is proved
+-- what a truncation is in the containers' fold, where its conservation is proved; no container has rows of digests
 abbrev pub level_of : SummaryTable → places.Level
 level_of tables.ByThread = ByThread
 level_of tables.ByAccount = ByAccount
@@ -223,6 +238,7 @@ level_of tables.Global = ByAll
 
 abbrev pub action_of : Truncation → Action
 action_of (Summary kind table) = Truncate (fold.Summary (kind_number kind) (level_of table))
+action_of DigestSummary = Other
 action_of Accounts = Truncate fold.Accounts
 action_of Users = Truncate fold.Users
 action_of Hosts = Truncate fold.Hosts
@@ -265,6 +281,7 @@ standing was = count_up_to was 32
 -- the most info rows that it writes or releases: one for each place of its tables where something stands
 abbrev pub signs_most : (Level → ℕ → Bool) → Truncation → ℕ
 signs_most was (Summary kind table) = 0
+signs_most was DigestSummary = 0
 signs_most was Accounts = standing (was levels.Account)
 signs_most was Users = standing (was levels.Account) + standing (was levels.User)
 signs_most was Hosts = standing (was levels.Account) + standing (was levels.Host)
@@ -274,6 +291,7 @@ signs_most was SetupObjects = 0
 -- and the most words that it sets
 abbrev pub flags_most : Truncation → ℕ
 flags_most (Summary kind table) = 0
+flags_most DigestSummary = 0
 flags_most Accounts = 0
 flags_most Users = 0
 flags_most Hosts = 0

@@ -93,7 +93,7 @@ impl Admin {
             objects,
             names: texts_of(alloc, &setting.names)?,
             cells: cells_of(alloc, &setting.classes)?,
-            kinds: CellsByKind::open(alloc, &setting.classes)?,
+            kinds: CellsByKind::open(alloc, setting)?,
             actions: 0,
         })
     }
@@ -171,11 +171,11 @@ impl Admin {
         );
     }
 
-    /// Truncates a table, an action: a summary's numbers move up, level by level; those below `accounts`, `users` or
-    /// `hosts` do in all kinds, and what has no connection is freed; a setup table loses its rows. The log gets each
-    /// take and its gifts, the info rows that are written or released, and the words that change; the action's `act`
-    /// entry is the caller's. Which levels move, what is freed and the order are our own rules, after
-    /// MySQL's.
+    /// Truncates a table, an action: a summary's numbers move up, level by level, but those of digests go nowhere;
+    /// those below `accounts`, `users` or `hosts` move up in all kinds, and what has no connection is freed; a setup
+    /// table loses its rows. The log gets each take and its gifts, the info rows that are written or released, and the
+    /// words that change; the action's `act` entry is the caller's. Which levels move, what is freed and the order are
+    /// our own rules, after MySQL's.
     pub fn truncate<H: Hold>(&mut self, rows: &mut H, what: Truncation, log: &mut Log)
         requires few { self.old.actions < 2 ^ 47 }
         requires alone { (r : ℕ) → 0 < r → H.hand rows.old r ≡ None }
@@ -274,8 +274,11 @@ fn remove_rows(actors: &mut Actors, objects: &mut Objects, what: Truncation)
     match what {
         Truncation::SetupActors => actors.truncate(),
         Truncation::SetupObjects => objects.truncate(),
-        Truncation::Summary(_, _) | Truncation::Accounts | Truncation::Users | Truncation::Hosts =>
-            {}
+        Truncation::Summary(_, _)
+        | Truncation::DigestSummary
+        | Truncation::Accounts
+        | Truncation::Users
+        | Truncation::Hosts => {}
     }
 }
 

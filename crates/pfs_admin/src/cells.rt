@@ -1,23 +1,24 @@
-//! The cells of the registered classes, by their kinds.
+//! The cells of the registered classes, by their kinds, and how many digests have a place.
 
 ghost use Rattle.std.specs.Prelude.{◌≡◌, ◌++◌, ◌∷◌, [], cond, IfOk, OnOk};
 ghost use Rattle.pfs_admin.specs.States.{kind_cells};
 ghost use Rattle.pfs_admin.specs.Opening.{cells_of_kind, kinds_of};
 
 use crate::NoMemory;
-use pfs_classes::Classes;
+use pfs_classes::{Classes, Setting};
 use pfs_readsets::is_kind_cell;
 use pfs_rows::TableKind;
 use std::alloc::Global;
 use std::marker::Model;
 
-/// The cells of each kind, ascending.
+/// The cells of each kind, ascending, and how many digests have a place.
 #[derive(Drop)]
 pub(crate) struct CellsByKind {
     waits: Vec<u64>,
     stages: Vec<u64>,
     statements: Vec<u64>,
     transactions: Vec<u64>,
+    digests: u64,
 }
 
 impl Model for CellsByKind {
@@ -30,24 +31,34 @@ impl Model for CellsByKind {
       stages = s.stages.items;
       statements = s.statements.items;
       transactions = s.transactions.items;
+      digests = s.digests;
     } };
 }
 
 impl CellsByKind {
-    /// The cells of the registered classes.
+    /// The cells of the registered classes, and the number of the digest texts.
     #[tactic(auto, unfolding(crate::specs::Opening::kinds_of))]
-    pub(crate) fn open(alloc: Global, classes: &Classes) -> Result<CellsByKind, NoMemory>
-        ensures { IfOk result (λ cells. cells ≡ kinds_of classes.now) }
+    pub(crate) fn open(alloc: Global, setting: &Setting) -> Result<CellsByKind, NoMemory>
+        ensures { IfOk result (λ cells. cells ≡ kinds_of setting.now) }
     {
+        let classes = &setting.classes;
         Ok(CellsByKind {
             waits: cells_of_kind(alloc, classes, TableKind::Waits)?,
             stages: cells_of_kind(alloc, classes, TableKind::Stages)?,
             statements: cells_of_kind(alloc, classes, TableKind::Statements)?,
             transactions: cells_of_kind(alloc, classes, TableKind::Transactions)?,
+            digests: setting.digests.as_slice().len() as u64,
         })
     }
 
-    /// Those of a kind.
+    /// How many digests have a place.
+    pub(crate) fn digests(&self) -> u64
+        ensures { result ≡ self.now.digests }
+    {
+        self.digests
+    }
+
+    /// The cells of a kind.
     pub(crate) fn of_kind(&self, kind: TableKind) -> &[u64]
         ensures { result.now ≡ kind_cells self.now kind }
     {

@@ -4,7 +4,7 @@ ghost use Rattle.std.specs.Prelude.{◌≡◌, ◌≤◌, ◌+◌, ◌*◌, ℕ,
 ghost use Rattle.pfs_levels.specs.Flushes.{ask_of, beyond};
 ghost use Rattle.pfs_levels.specs.Moves.{cost};
 ghost use Rattle.pfs_admin.specs.States.{AreKindCells, kind_cells};
-ghost use Rattle.pfs_admin.specs.Truncations.{all_asks, cleared, emptied, flags_most, is_there, level_asks, place_asks, reach_asks, signs_most, standing, summary_asks, truncation_asks};
+ghost use Rattle.pfs_admin.specs.Truncations.{all_asks, cleared, digest_asks, emptied, flags_most, is_there, level_asks, place_asks, reach_asks, signs_most, standing, summary_asks, truncation_asks};
 
 use crate::cells::CellsByKind;
 use crate::emptying::source_at;
@@ -22,6 +22,7 @@ pub(crate) fn moves_cost(containers: &Containers, cells: &CellsByKind, what: Tru
 {
     match what {
         Truncation::Summary(kind, table) => kind_cost(containers, table, cells, kind),
+        Truncation::DigestSummary => digests_cost(cells.digests()),
         Truncation::Accounts => all_cost(containers, SummaryTable::ByAccount, cells),
         Truncation::Users => all_cost(containers, SummaryTable::ByUser, cells),
         Truncation::Hosts => all_cost(containers, SummaryTable::ByHost, cells),
@@ -38,7 +39,10 @@ pub(crate) fn signs_cost(containers: &Containers, what: Truncation) -> u64
         Truncation::Accounts => count(containers, Level::Account),
         Truncation::Users => count(containers, Level::Account) + count(containers, Level::User),
         Truncation::Hosts => count(containers, Level::Account) + count(containers, Level::Host),
-        Truncation::Summary(_, _) | Truncation::SetupActors | Truncation::SetupObjects => 0,
+        Truncation::Summary(_, _)
+        | Truncation::DigestSummary
+        | Truncation::SetupActors
+        | Truncation::SetupObjects => 0,
     }
 }
 
@@ -50,11 +54,22 @@ pub(crate) fn flags_cost(what: Truncation) -> u64
     match what {
         Truncation::SetupObjects => 64,
         Truncation::Summary(_, _)
+        | Truncation::DigestSummary
         | Truncation::Accounts
         | Truncation::Users
         | Truncation::Hosts
         | Truncation::SetupActors => 0,
     }
+}
+
+// The rows of so many places of digests, and that of the texts without one.
+#[tactic(auto, using(crate::proofs::Charging::digests_cost))]
+fn digests_cost(places: u64) -> u64
+    requires { places ≤ 64 }
+    ensures cost { result ≡ cost (digest_asks places) }
+    ensures few { result ≤ 65 }
+{
+    places + 1
 }
 
 // How many places of a level something stands at.

@@ -78,7 +78,10 @@ pub(crate) fn sign_truncated<H: Hold>(
         }
         Truncation::Users => sign_users(rows, containers, before, log),
         Truncation::Hosts => sign_hosts(rows, containers, before, log),
-        Truncation::Summary(_, _) | Truncation::SetupActors | Truncation::SetupObjects => {}
+        Truncation::Summary(_, _)
+        | Truncation::DigestSummary
+        | Truncation::SetupActors
+        | Truncation::SetupObjects => {}
     }
 }
 

@@ -1,10 +1,10 @@
-//! The levels of a summary, of one kind or of all.
+//! The levels of a summary, of one kind or of all, and the rows of digests.
 
 ghost use Rattle.std.specs.Prelude.{true, ◌≡◌, ◌<◌, ◌≤◌, ◌++◌, ◌∷◌, [], ℕ, All, Option, None};
 ghost use Rattle.pfs_levels.specs.declared.places.Level.TheVariants as levels;
 ghost use Rattle.pfs_levels.specs.Moves.{Moved, Stays, cost};
 ghost use Rattle.pfs_admin.specs.States.{AreKindCells, kind_cells};
-ghost use Rattle.pfs_admin.specs.Truncations.{cleared, emptied, reach_of, lower_asks, upper_asks, reach_asks, summary_asks, all_asks, truncation_asks};
+ghost use Rattle.pfs_admin.specs.Truncations.{cleared, digest_asks, emptied, reach_of, lower_asks, upper_asks, reach_asks, summary_asks, all_asks, truncation_asks};
 
 use crate::cells::CellsByKind;
 use crate::emptying::{empty_level, empty_level_if};
@@ -13,8 +13,8 @@ use pfs_levels::{Hold, Level, Log, clear};
 use pfs_rows::{Place, SummaryTable, TableKind, row_of};
 use pfs_truncations::Truncation;
 
-/// Moves what a truncation moves: a summary its own kind, by its own level; `accounts`, `users` and `hosts` all kinds,
-/// by theirs; a setup table nothing. The log gets each take and its gifts.
+/// Moves what a truncation moves: a summary its own kind, by its own level; that of digests their rows, nowhere;
+/// `accounts`, `users` and `hosts` all kinds, by theirs; a setup table nothing. The log gets each take and its gifts.
 #[tactic(auto, using(crate::proofs::Levelling::moved_nothing, crate::proofs::Levelling::stays_nothing))]
 pub(crate) fn move_truncated<H: Hold>(
     rows: &mut H,
@@ -37,6 +37,7 @@ pub(crate) fn move_truncated<H: Hold>(
         Truncation::Summary(kind, table) => {
             empty_kind(rows, containers, table, cells, kind, log);
         }
+        Truncation::DigestSummary => clear_digests(rows, cells.digests(), log),
         Truncation::Accounts => empty_all(rows, containers, SummaryTable::ByAccount, cells, log),
         Truncation::Users => empty_all(rows, containers, SummaryTable::ByUser, cells, log),
         Truncation::Hosts => empty_all(rows, containers, SummaryTable::ByHost, cells, log),
@@ -256,5 +257,21 @@ fn clear_global<H: Hold>(rows: &mut H, cells: &[u64], log: &mut Log)
 {
     for cell in cells {
         clear(rows, row_of(Place::GlobalCell(*cell)), log);
+    }
+}
+
+// Leaves the rows of digests as zero: that of the texts without a place, then those of so many places.
+fn clear_digests<H: Hold>(rows: &mut H, places: u64, log: &mut Log)
+    requires alone { (r : ℕ) → 0 < r → H.hand rows.old r ≡ None }
+    requires places { places ≤ 64 }
+    requires spare { cost (digest_asks places) ≤ H.left rows.old }
+    requires room { cost (digest_asks places) ≤ log.old.room }
+    ensures moved { Moved (digest_asks places) log.old log.new (H.reached rows.old) (H.reached rows.new) }
+    ensures stays { Stays (cost (digest_asks places)) (H.hand rows.old) (H.hand rows.new) (H.left rows.old)
+        (H.left rows.new) (H.draws rows.old) (H.draws rows.new) (H.words rows.old) (H.words rows.new)
+        (H.name rows.old) (H.name rows.new) log.old log.new }
+{
+    for at in 0..places + 1 {
+        clear(rows, row_of(Place::DigestNull) + at, log);
     }
 }

@@ -16,7 +16,7 @@ use Rattle.pfs_rows.specs.declared.table.TableKind.TheVariants.{Waits, Stages, S
 use Rattle.pfs_truncations.specs.Texts.{FoundLaw, TextLaw, truncation_of, text_of, name_in, named, table_of}
 use Rattle.pfs_truncations.specs.declared.texts.TheConstants.{TRUNCATIONS}
 use Rattle.pfs_truncations.specs.declared.truncations.Truncation.{Truncation}
-use Rattle.pfs_truncations.specs.declared.truncations.Truncation.TheVariants.{Summary, Accounts, Users, Hosts, SetupActors, SetupObjects}
+use Rattle.pfs_truncations.specs.declared.truncations.Truncation.TheVariants.{Summary, DigestSummary, Accounts, Users, Hosts, SetupActors, SetupObjects}
 
 pub found : FoundLaw
 unfolding truncation_of name_in
@@ -40,6 +40,7 @@ found (Summary Transactions ByAccount) = refl
 found (Summary Transactions ByUser) = refl
 found (Summary Transactions ByHost) = refl
 found (Summary Transactions Global) = refl
+found DigestSummary = refl
 found Accounts = refl
 found Users = refl
 found Hosts = refl

@@ -7,10 +7,11 @@ use Rattle.pfs_rows.specs.declared.table.Table.TheVariants as tables
 use Rattle.pfs_rows.specs.Tables.{table_name}
 use Rattle.pfs_truncations.specs.declared.texts.TheConstants.{TRUNCATIONS}
 use Rattle.pfs_truncations.specs.declared.truncations.Truncation.{Truncation}
-use Rattle.pfs_truncations.specs.declared.truncations.Truncation.TheVariants.{Summary, Accounts, Users, Hosts, SetupActors, SetupObjects}
+use Rattle.pfs_truncations.specs.declared.truncations.Truncation.TheVariants.{Summary, DigestSummary, Accounts, Users, Hosts, SetupActors, SetupObjects}
 
 abbrev pub table_of : Truncation → Table
 table_of (Summary kind table) = tables.Summary kind table
+table_of DigestSummary = tables.DigestSummary
 table_of Accounts = tables.Accounts
 table_of Users = tables.Users
 table_of Hosts = tables.Hosts

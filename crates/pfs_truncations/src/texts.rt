@@ -12,8 +12,9 @@ use pfs_rows::{SummaryTable, TableKind};
 
 const FRONT: &[u8] = b"TRUNCATE ";
 
-/// All of them: the summaries in the order of their kinds, then the tables of connections and of the setup.
-pub const TRUNCATIONS: [Truncation; 25] = [
+/// All of them: the summaries in the order of their kinds and that of digests, then the tables of connections and of the
+/// setup.
+pub const TRUNCATIONS: [Truncation; 26] = [
     Truncation::Summary(TableKind::Waits, SummaryTable::ByThread),
     Truncation::Summary(TableKind::Waits, SummaryTable::ByAccount),
     Truncation::Summary(TableKind::Waits, SummaryTable::ByUser),
@@ -34,6 +35,7 @@ pub const TRUNCATIONS: [Truncation; 25] = [
     Truncation::Summary(TableKind::Transactions, SummaryTable::ByUser),
     Truncation::Summary(TableKind::Transactions, SummaryTable::ByHost),
     Truncation::Summary(TableKind::Transactions, SummaryTable::Global),
+    Truncation::DigestSummary,
     Truncation::Accounts,
     Truncation::Users,
     Truncation::Hosts,

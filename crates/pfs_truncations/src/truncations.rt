@@ -10,6 +10,8 @@ use pfs_rows::{SummaryTable, Table, TableKind};
 pub enum Truncation {
     /// One of a kind's five summaries.
     Summary(TableKind, SummaryTable),
+    /// The summary of statements by their digests.
+    DigestSummary,
     Accounts,
     Users,
     Hosts,
@@ -24,6 +26,7 @@ impl Truncation {
     {
         match self {
             Truncation::Summary(kind, table) => Table::Summary(kind, table),
+            Truncation::DigestSummary => Table::DigestSummary,
             Truncation::Accounts => Table::Accounts,
             Truncation::Users => Table::Users,
             Truncation::Hosts => Table::Hosts,

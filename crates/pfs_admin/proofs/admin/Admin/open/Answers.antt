@@ -5,4 +5,4 @@ use Rattle.pfs_admin.proofs.Opened.{opened_holds}
 use Rattle.pfs_admin.proofs.admin.Admin.open.Goals as goal
 
 pub invariant_of-result : goal.invariant_of-result
-invariant_of-result c = subst IsState (search rules) (opened_holds c.args.setting.now (search rules) (search rules) (kinds_fit c.args.setting.now.classes))
+invariant_of-result c = subst IsState (search rules) (opened_holds c.args.setting.now (search rules) (search rules) (kinds_fit c.args.setting.now))
