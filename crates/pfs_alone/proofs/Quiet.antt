@@ -13,7 +13,7 @@ use Rattle.pfs_levels.specs.Calls.{Call, Adds, Rings, Reads, Loads, Draws, Takes
 use Rattle.pfs_levels.specs.Plain.{AllAnswer}
 use Rattle.pfs_levels.specs.declared.answers.Added.{Added}
 use Rattle.pfs_levels.specs.declared.answers.Added.TheVariants.{Counted, Held}
-use Rattle.pfs_session.specs.Ends.{EndsIn, EndsThrough, added_entry, still_held, cell_number, with_held, amount_of}
+use Rattle.pfs_session.specs.Ends.{EndsIn, EndsThrough, EndsCounted, DigestsIn, added_entry, still_held, cell_number, digest_number, with_held, amount_of}
 use Rattle.pfs_session.specs.Settles.{Settles, Paid, owed_in, owed_by, owed_by_state, paid_calls, paid_entries, settle_head}
 use Rattle.pfs_session.specs.Starts.{start_entry}
 use Rattle.pfs_session.specs.States.{State, Owed, nothing_held, held_row, held_at}
@@ -133,9 +133,9 @@ counted_none : (row : ℕ) (amount : Stat) (answer : Added) → IsAdded (Adds ro
 counted_none row amount (Counted r v) a = refl
 counted_none row amount (Held r v w) a = absurd a
 
-through_quiet : (s : State) (slot : ℕ) (what : Open) (others : List Open) (numbers : Numbers) (calls : List Call) (entries : List Entry) (after : State) → s.held ≡ nothing_held → AreAdded calls
-    → EndsThrough s slot what others numbers calls entries after → IsQuietStep entries after
-through_quiet s slot what others numbers calls entries after h added e =
+counted_quiet : (s : State) (slot : ℕ) (what : Open) (others : List Open) (numbers : Numbers) (calls : List Call) (entries : List Entry) (after : State) → s.held ≡ nothing_held → AreAdded calls
+    → EndsCounted s slot what others numbers calls entries after → IsQuietStep entries after
+counted_quiet s slot what others numbers calls entries after h added e =
     let row = held_row slot (cell_number what) in
     let amount = with_held (held_at s.held (cell_number what)) (amount_of what s.clock numbers) in
     let one = (subst AreAdded e.calls_are added).0 in
@@ -143,6 +143,28 @@ through_quiet s slot what others numbers calls entries after h added e =
       quiet = (tt, (added_quiet row amount e.answer one, tt));
       held = ap (λ z. slice_set s.held (cell_number what) z) (counted_none row amount e.answer one) ∙ (ap (λ z. slice_set z (cell_number what) None) h ∙ set_same nobody 193 (cell_number what));
     })
+
+digest_quiet : (b : Bool) (s : State) (slot : ℕ) (what : Open) (numbers : Numbers) (calls : List Call) (entries : List Entry) (after : State) → s.held ≡ nothing_held → AreAdded calls
+    → DigestsIn b s slot what numbers calls entries after → IsQuietStep entries after
+digest_quiet false s slot what numbers calls entries after h added d = quiet_as entries _ after _ d.entries_are d.after_is (record { quiet = tt; held = h })
+digest_quiet true s slot what numbers calls entries after h added d =
+    let row = held_row slot (digest_number what) in
+    let amount = with_held (held_at s.held (digest_number what)) (amount_of what s.clock numbers) in
+    let one = (subst AreAdded d.calls_are added).0 in
+    quiet_as entries _ after _ d.entries_are d.after_is (record {
+      quiet = (added_quiet row amount d.answer one, tt);
+      held = ap (λ z. slice_set s.held (digest_number what) z) (counted_none row amount d.answer one) ∙ (ap (λ z. slice_set z (digest_number what) None) h ∙ set_same nobody 193 (digest_number what));
+    })
+
+through_quiet : (s : State) (slot : ℕ) (what : Open) (others : List Open) (numbers : Numbers) (calls : List Call) (entries : List Entry) (after : State) → s.held ≡ nothing_held → AreAdded calls
+    → EndsThrough s slot what others numbers calls entries after → IsQuietStep entries after
+through_quiet s slot what others numbers calls entries after h added e =
+    let both = subst AreAdded e.calls_are added in
+    let first : IsQuietStep e.counted_entries e.between =
+    counted_quiet s slot what others numbers e.counted_calls e.counted_entries e.between h (added_back e.digested_calls e.counted_calls both) e.counts in
+    let second : IsQuietStep e.digested_entries after =
+    digest_quiet what.digested e.between slot what numbers e.digested_calls e.digested_entries after first.held (added_front e.digested_calls e.counted_calls both) e.digests in
+    record { quiet = subst AreQuiet (sym e.entries_are) (quiet_then e.counted_entries e.digested_entries first.quiet second.quiet); held = second.held }
 
 ends_quiet : (s : State) (slot : Option ℕ) (b : Bool) (what : Open) (others : List Open) (numbers : Numbers) (calls : List Call) (entries : List Entry) (after : State) → s.held ≡ nothing_held → AreAdded calls
     → EndsIn s slot b what others numbers calls entries after → IsQuietStep entries after

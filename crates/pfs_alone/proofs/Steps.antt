@@ -23,17 +23,17 @@ use Rattle.pfs_levels.specs.declared.answers.Word.{Word}
 use Rattle.pfs_model.specs.declared.lines.Subject.{Subject}
 use Rattle.pfs_model.specs.Contexts.{Context, noted, after_entries}
 use Rattle.pfs_model.specs.Setups.{thread_word, class_word, table_word, word_named}
-use Rattle.pfs_session.specs.Ends.{EndsIn, EndsSilently, added_entry}
+use Rattle.pfs_session.specs.Ends.{EndsIn, EndsThrough, EndsCounted, EndsSilently, DigestsIn, added_entry, amount_of, digest_number, with_held}
 use Rattle.pfs_session.specs.Settles.{Paid, paid_calls, paid_entries, settle_head}
 use Rattle.pfs_session.specs.Starts.{Starts, start_entry, load_calls, table_calls, IsLoaded, versions_in, version_of}
-use Rattle.pfs_session.specs.States.{State, Owed}
+use Rattle.pfs_session.specs.States.{State, Owed, held_at, held_row}
 use Rattle.pfs_session.specs.Turns.{Step, StartsEvent, EndsEvent, Spends, SettlesHeld, Connects, Quits, Truncates, Truncated, Does, Works}
 use Rattle.pfs_session.specs.declared.events.Numbers.{Numbers}
 use Rattle.pfs_session.specs.declared.setup.Setup.{Setup}
 use Rattle.pfs_stat.specs.declared.Stat.{Stat}
 use Rattle.pfs_alone.specs.Notes.{Note, Saw, Acted, saw_all, notes_at, notes_in, told, all_told}
 use Rattle.pfs_alone.specs.Told.{Sits, head_of}
-use Rattle.pfs_alone.proofs.Inner.{inner_slots, IsSame, same_then, reply_same, moves_same, signs_same, flags_same, paid_same}
+use Rattle.pfs_alone.proofs.Inner.{told_then, notes_then, entries_then, inner_slots, IsSame, same_then, reply_same, moves_same, signs_same, flags_same, paid_same}
 
 -- a step that starts an event starts what its line says
 abbrev pub IsOf : Option Subject → Step → Type 0
@@ -148,15 +148,47 @@ silent_told subject context s others calls entries after sits e = told_as subjec
   sits = λ thread p. sits thread p;
 })
 
-ends_in_told : (subject : Option Subject) (context : Context) (s : State) (slot : Option ℕ) (b : Bool) (what : Open) (others : List Open) (numbers : Numbers) (calls : List Call) (entries : List Entry) (after : State)
-    → s.place.thread ≡ slot → Sits context s → EndsIn s slot b what others numbers calls entries after → IsTold subject context [] calls entries after
-ends_in_told subject context s slot false what others numbers calls entries after p sits e = silent_told subject context s others calls entries after sits e
-ends_in_told subject context s None true what others numbers calls entries after p sits e = absurd e
-ends_in_told subject context s (Some slot) true what others numbers calls entries after p sits e =
+-- an event that is counted
+counted_told : (subject : Option Subject) (context : Context) (s : State) (slot : ℕ) (what : Open) (others : List Open) (numbers : Numbers) (calls : List Call) (entries : List Entry) (after : State)
+    → s.place.thread ≡ Some slot → Sits context s → EndsCounted s slot what others numbers calls entries after → IsTold subject context [] calls entries after
+counted_told subject context s slot what others numbers calls entries after p sits e =
     told_as subject context [] calls _ entries _ after _ e.calls_are e.entries_are e.after_is (record {
       same = end_loads subject context slot (Some what.event.number) (Some s.drawn) e.consumers.version e.thread.version e.consumers.flags e.thread.flags _ _ e.answer (sits slot p);
       sits = λ thread q. added_slot subject (noted subject context (says.End (Some what.event.number) (Some s.drawn) (Some e.consumers.version) (Some e.thread.version))) e.answer ∙ sits thread q;
     })
+
+-- and its addition to its digest's row
+digest_told : (subject : Option Subject) (context : Context) (b : Bool) (s : State) (slot : ℕ) (what : Open) (numbers : Numbers) (calls : List Call) (entries : List Entry) (after : State)
+    → Sits context s → DigestsIn b s slot what numbers calls entries after → IsTold subject context [] calls entries after
+unfolding all_told
+digest_told subject context false s slot what numbers calls entries after sits d = told_as subject context [] calls _ entries _ after _ d.calls_are d.entries_are d.after_is (record {
+  same = refl;
+  sits = λ thread q. sits thread q;
+})
+digest_told subject context true s slot what numbers calls entries after sits d = told_as subject context [] calls _ entries _ after _ d.calls_are d.entries_are d.after_is (record {
+  same = added_same subject context (held_row slot (digest_number what)) (with_held (held_at s.held (digest_number what)) (amount_of what s.clock numbers)) d.answer;
+  sits = λ thread q. added_slot subject context d.answer ∙ sits thread q;
+})
+
+through_told : (subject : Option Subject) (context : Context) (s : State) (slot : ℕ) (what : Open) (others : List Open) (numbers : Numbers) (calls : List Call) (entries : List Entry) (after : State)
+    → s.place.thread ≡ Some slot → Sits context s → EndsThrough s slot what others numbers calls entries after → IsTold subject context [] calls entries after
+through_told subject context s slot what others numbers calls entries after p sits e =
+    let first : IsTold subject context [] e.counted_calls e.counted_entries e.between =
+    counted_told subject context s slot what others numbers e.counted_calls e.counted_entries e.between p sits e.counts in
+    let mid : Context = after_entries subject context e.counted_entries in
+    let second : IsTold subject mid [] e.digested_calls e.digested_entries after =
+    digest_told subject mid what.digested e.between slot what numbers e.digested_calls e.digested_entries after first.sits e.digests in
+    told_as subject context [] calls (e.digested_calls ++ e.counted_calls) entries (e.counted_entries ++ e.digested_entries) after after e.calls_are e.entries_are refl (record {
+      same = notes_then subject context e.counted_entries e.digested_entries
+          ∙ (ap (λ z. z ++ notes_in subject mid e.digested_entries) first.same ∙ (ap (λ z. all_told e.counted_calls ++ z) second.same ∙ sym (told_then e.digested_calls e.counted_calls)));
+      sits = λ thread q. ap (λ (c : Context). c.slot) (entries_then subject context e.counted_entries e.digested_entries) ∙ second.sits thread q;
+    })
+
+ends_in_told : (subject : Option Subject) (context : Context) (s : State) (slot : Option ℕ) (b : Bool) (what : Open) (others : List Open) (numbers : Numbers) (calls : List Call) (entries : List Entry) (after : State)
+    → s.place.thread ≡ slot → Sits context s → EndsIn s slot b what others numbers calls entries after → IsTold subject context [] calls entries after
+ends_in_told subject context s slot false what others numbers calls entries after p sits e = silent_told subject context s others calls entries after sits e
+ends_in_told subject context s None true what others numbers calls entries after p sits e = absurd e
+ends_in_told subject context s (Some slot) true what others numbers calls entries after p sits e = through_told subject context s slot what others numbers calls entries after p sits e
 
 -- settling
 settle_told : (subject : Option Subject) (context : Context) (s a : State) (owed : List Owed) (ps : List Paid) → Sits context s → a.place.thread ≡ s.place.thread

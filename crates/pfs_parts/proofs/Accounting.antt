@@ -149,7 +149,7 @@ module _ (m : MergeIsMonoid) (flags : ℕ → ℕ → ℕ) (slots : ℕ → Opti
       let q = quiet_then context mid (after_entries None mid rest) (connect_quiet context (admin.actions + 1) seat) (quiet_context mid rest quiet) in
       brings_as m flags slots facts session content None context entries (head ∷ rest) _ after next w.entries_are d.1 (record {
         added = (connect_added (amount_by flags slots facts session) content context (admin.actions + 1) seat, quiet_added (amount_by flags slots facts session) content mid rest quiet);
-        once = once_then None context (head ∷ []) rest (connect_once context (admin.actions + 1) seat) (quiet_once mid rest quiet);
+        once = once_then flags None context (head ∷ []) rest (connect_once flags context (admin.actions + 1) seat) (quiet_once flags mid rest quiet);
         sums = acted_sums m flags slots facts session content k context (after_entries None mid rest) s next a free q refl refl refl (is_seated (slots session) (placed_of seat).thread placed);
       })
 
@@ -165,7 +165,7 @@ module _ (m : MergeIsMonoid) (flags : ℕ → ℕ → ℕ) (slots : ℕ → Opti
       let q = quiet_context context (head ∷ rest) (refl, quiet) in
       brings_as m flags slots facts session content None context entries (head ∷ rest) _ after next w.entries_are d.1 (record {
         added = quiet_added (amount_by flags slots facts session) content context (head ∷ rest) (refl, quiet);
-        once = quiet_once context (head ∷ rest) (refl, quiet);
+        once = quiet_once flags context (head ∷ rest) (refl, quiet);
         sums = acted_sums m flags slots facts session content k context (after_entries None context (head ∷ rest)) s next a free q refl refl refl tt;
       })
 
@@ -182,7 +182,7 @@ module _ (m : MergeIsMonoid) (flags : ℕ → ℕ → ℕ) (slots : ℕ → Opti
       let q = quiet_context context whole quiet in
       brings_as m flags slots facts session content None context entries whole _ after next (d.entries_are ∙ ap (λ z. z ++ says.Reply 0 ∷ []) w.entries_are) d.after_is (record {
         added = quiet_added (amount_by flags slots facts session) content context whole quiet;
-        once = quiet_once context whole quiet;
+        once = quiet_once flags context whole quiet;
         sums = acted_sums m flags slots facts session content k context (after_entries None context whole) s next a free q refl refl refl a.seat;
       })
 
@@ -277,7 +277,7 @@ accounted m = λ flags slots facts session content over k context s parts stands
           (subst (λ z. AllPlaced (slots session) z ps) (sym (turns_number s p.turns are.0.are_turns)) placed.1) given.1 contents.1 in
           record {
             added = λ phase. added_more _ content _ _ (at_places (amount_by flags slots facts session) content phase session line (turned context) (turns_entries p.turns) b.added) (r.added phase);
-            once = λ phase. once_lines phase session line (turned context) (turns_entries p.turns) _ _ b.once (r.once phase);
+            once = λ phase. once_lines flags phase session line (turned context) (turns_entries p.turns) _ _ b.once (r.once phase);
             sums = r.sums;
           }
 

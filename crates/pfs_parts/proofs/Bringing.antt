@@ -2,6 +2,7 @@
 use Rattle.std.proofs.Common.{ℕ, ◌≡◌, ◌<◌, ◌+◌, ◌-◌, ◌%◌, ◌^◌, Bool, true, false, List, [], ◌∷◌, ◌++◌, Option, Some, None, length, map, drop, slice_set, refl, ap, sym, ◌∙◌, subst}
 use Rattle.std.specs.Prelude.{if◌then◌else◌, ◌==◌, IfSome}
 use Rattle.std.proofs.lemmas.Bool.{eqb-true, false≢true}
+use Rattle.std.proofs.lemmas.List.{append-nil, length-set}
 use Rattle.pfs_admin.specs.Asks.{connect_entry}
 use Rattle.pfs_containers.specs.declared.containers.Seated.{Seated}
 use Rattle.pfs_event.specs.Verdicts.{is_let_through}
@@ -14,10 +15,10 @@ use Rattle.pfs_levels.specs.declared.answers.Added.{Added}
 use Rattle.pfs_levels.specs.declared.answers.Added.TheVariants.{Counted, Held}
 use Rattle.pfs_model.specs.Contents.{Facts, amount_by}
 use Rattle.pfs_model.specs.Contexts.{Context, Waiting, noted, turned, after_entries, brought, held_for, held_else, own_event, own_wait, first_of}
-use Rattle.pfs_model.specs.Setups.{is_timed}
+use Rattle.pfs_model.specs.Setups.{is_timed, is_digested}
 use Rattle.pfs_model.specs.declared.lines.Opened.{Opened}
 use Rattle.pfs_model.specs.declared.lines.Subject.{Subject}
-use Rattle.pfs_session.specs.Ends.{Ends, EndsIn, EndsThrough, EndsSilently, cell_number, added_entry, still_held, with_held, amount_of}
+use Rattle.pfs_session.specs.Ends.{Ends, EndsIn, EndsThrough, EndsSilently, DigestsIn, cell_number, digest_number, added_entry, still_held, with_held, amount_of}
 use Rattle.pfs_session.specs.Settles.{owed_in, owed_by_state}
 use Rattle.pfs_session.specs.Starts.{Starts, started, verdict_in, if_through}
 use Rattle.pfs_session.specs.States.{State, held_row, held_at}
@@ -26,9 +27,9 @@ use Rattle.pfs_session.specs.declared.events.Numbers.{Numbers}
 use Rattle.pfs_stat.specs.Stat.{stat_of, MergeIsMonoid}
 use Rattle.pfs_stat.specs.declared.Stat.{Stat}
 use Rattle.pfs_parts.proofs.Acting.{AreAll, is_quiet}
-use Rattle.pfs_parts.proofs.Ended.{Innermost, innermost_of, cell_fits, counted_cell, summary_row}
-use Rattle.pfs_parts.proofs.Once.{OnceBy, once_then, once_plain, once_added, once_held}
-use Rattle.pfs_model.specs.Asks.{cell_row}
+use Rattle.pfs_parts.proofs.Ended.{Innermost, innermost_of, cell_fits, counted_cell, summary_row, digest_fits, digest_of_number}
+use Rattle.pfs_parts.proofs.Once.{OnceBy, IsShared, shared_added, shared_held, once_then, once_plain, once_ended, once_digested}
+use Rattle.pfs_model.specs.Asks.{cell_row, digest_row}
 use Rattle.pfs_model.specs.Shapes.{counted_slot}
 use Rattle.pfs_session.specs.Ends.{cell_in}
 use Rattle.pfs_parts.proofs.Owing.{owed_cell, owed_same, owed_other, wait_same, wait_other, else_same, else_other}
@@ -36,7 +37,7 @@ use Rattle.pfs_parts.proofs.Pieces.{entries_then}
 use Rattle.pfs_parts.proofs.Starting.{consumers_in, thread_in, class_in, table_in, start_as}
 use Rattle.pfs_parts.proofs.Summing.{is_added, same_measure}
 use Rattle.pfs_parts.specs.Agreeing.{AreAlike, Agrees, IsCounted}
-use Rattle.pfs_parts.specs.Amounts.{Going, Clocked, stepped, IsMeasured, EndFacts, StepFacts, sum_of, owed_to, going_of, HaveStarted, Sums, ContentAgrees, ContentsAgree, IsAdded, in_row, counted_first, counted_at, brought_at}
+use Rattle.pfs_parts.specs.Amounts.{Going, Clocked, stepped, IsMeasured, EndFacts, StepFacts, sum_of, owed_to, going_of, HaveStarted, Sums, ContentAgrees, ContentsAgree, IsAdded, in_row, in_digest_row, counted_first, counted_at, brought_at}
 
 -- each addition among these entries brings what the entries before it say
 abbrev pub AddedBy : (Opened → Stat) → (ℕ → ℕ → List ℕ) → Option Subject → Context → List Entry → Type 0
@@ -52,7 +53,7 @@ added_then amounts content subject context (e ∷ es) fs a b = (a.0, added_then 
 pub record Accounts (flags : ℕ → ℕ → ℕ) (slots : ℕ → Option ℕ) (facts : ℕ → ℕ → Facts) (session : ℕ) (content : ℕ → ℕ → List ℕ) (subject : Option Subject) (context : Context)
     (entries : List Entry) (k : Clocked) (after : State) : Type 0 where
   pub added : AddedBy (amount_by flags slots facts session) content subject context entries
-  pub once : OnceBy subject context entries
+  pub once : OnceBy flags subject context entries
   pub sums : Sums flags slots facts session k (after_entries subject context entries) after
 
 -- what entries change of events and of what waits
@@ -81,11 +82,12 @@ add_noted (Some subject) context row version = record { same = record { begun = 
 
 record HoldsTo (row : ℕ) (old new : Context) : Type 0 where
   pub same : Same old new
+  pub ended : new.ended ≡ old.ended
   pub waiting : new.waiting ≡ own_wait row old.ended ++ old.waiting
 
 held_noted : (subject : Option Subject) (context : Context) (row first second : ℕ) → HoldsTo row context (noted subject context (says.Held row first second))
-held_noted None context row first second = record { same = record { begun = refl; opened = refl }; waiting = refl }
-held_noted (Some subject) context row first second = record { same = record { begun = refl; opened = refl }; waiting = refl }
+held_noted None context row first second = record { same = record { begun = refl; opened = refl }; ended = refl; waiting = refl }
+held_noted (Some subject) context row first second = record { same = record { begun = refl; opened = refl }; ended = refl; waiting = refl }
 
 pub record SettlesTo (old new : Context) : Type 0 where
   pub same : Same old new
@@ -124,25 +126,25 @@ quiet_one amounts content context (says.Add row version) q = absurd (false≢tru
 quiet_one amounts content context _ q = tt
 
 -- and neither count nor bring an event
-quiet_nothing : (context : Context) (e : Entry) → is_quiet e ≡ true → (counted_at context e ≡ []) × (brought_at context e ≡ [])
-quiet_nothing context (says.Take row version) q = (refl, refl)
-quiet_nothing context (says.Give row version from) q = (refl, refl)
-quiet_nothing context (says.Tag row version) q = (refl, refl)
-quiet_nothing context (says.Free row version) q = (refl, refl)
-quiet_nothing context (says.Set word version flags) q = (refl, refl)
-quiet_nothing context (says.Act action) q = (refl, refl)
-quiet_nothing context (says.Reply number) q = (refl, refl)
-quiet_nothing context _ q = absurd (false≢true q)
+quiet_nothing : (flags : ℕ → ℕ → ℕ) (context : Context) (e : Entry) → is_quiet e ≡ true → (counted_at flags context e ≡ []) × (brought_at context e ≡ [])
+quiet_nothing flags context (says.Take row version) q = (refl, refl)
+quiet_nothing flags context (says.Give row version from) q = (refl, refl)
+quiet_nothing flags context (says.Tag row version) q = (refl, refl)
+quiet_nothing flags context (says.Free row version) q = (refl, refl)
+quiet_nothing flags context (says.Set word version bits) q = (refl, refl)
+quiet_nothing flags context (says.Act action) q = (refl, refl)
+quiet_nothing flags context (says.Reply number) q = (refl, refl)
+quiet_nothing flags context _ q = absurd (false≢true q)
 
-pub quiet_once : (context : Context) (es : List Entry) → AreAll true is_quiet es → OnceBy None context es
-quiet_once context [] q = λ h. refl
-quiet_once context (e ∷ es) q =
-    let n = quiet_nothing context e q.0 in
-    once_then None context (e ∷ []) es (once_plain None context e n.0 n.1 (quiet_noted context e q.0).waiting) (quiet_once (noted None context e) es q.1)
+pub quiet_once : (flags : ℕ → ℕ → ℕ) (context : Context) (es : List Entry) → AreAll true is_quiet es → OnceBy flags None context es
+quiet_once flags context [] q = λ h. refl
+quiet_once flags context (e ∷ es) q =
+    let n = quiet_nothing flags context e q.0 in
+    once_then flags None context (e ∷ []) es (once_plain flags None context e n.0 n.1 (quiet_noted context e q.0).waiting) (quiet_once flags (noted None context e) es q.1)
 
-pub connect_once : (context : Context) (action : ℕ) (seat : Option Seated) → OnceBy None context (connect_entry action seat ∷ [])
-connect_once context action None = once_plain None context (connect_entry action None) refl refl refl
-connect_once context action (Some seat) = once_plain None context (connect_entry action (Some seat)) refl refl refl
+pub connect_once : (flags : ℕ → ℕ → ℕ) (context : Context) (action : ℕ) (seat : Option Seated) → OnceBy flags None context (connect_entry action seat ∷ [])
+connect_once flags context action None = once_plain flags None context (connect_entry action None) refl refl refl
+connect_once flags context action (Some seat) = once_plain flags None context (connect_entry action (Some seat)) refl refl refl
 
 pub quiet_added : (amounts : Opened → Stat) (content : ℕ → ℕ → List ℕ) (context : Context) (es : List Entry) → AreAll true is_quiet es → AddedBy amounts content None context es
 quiet_added amounts content context [] q = tt
@@ -168,12 +170,35 @@ starts_drop : (facts : ℕ → Facts) (gs : List Going) → HaveStarted facts gs
 starts_drop facts [] h = tt
 starts_drop facts (g ∷ gs) h = h.1
 
-counted_none : (slot : Option ℕ) (event : Opened) (others : List Opened) → is_let_through event.verdict ≡ false → counted_first slot (event ∷ others) ≡ []
-counted_none slot event others e = ap (λ b. if b then in_row (cell_row (counted_slot slot event.verdict) event.subject.cell) event ∷ [] else []) e
+counted_none : (flags : ℕ → ℕ → ℕ) (slot : Option ℕ) (event : Opened) (others : List Opened) → is_let_through event.verdict ≡ false → counted_first flags slot (event ∷ others) ≡ []
+counted_none flags slot event others e =
+    ap (λ b. if b then in_row (cell_row (counted_slot slot event.verdict) event.subject.cell) event ∷ in_digest_row (is_digested flags slot event) event else []) e
 
-counted_one : (slot : Option ℕ) (event : Opened) (others : List Opened) → is_let_through event.verdict ≡ true
-    → counted_first slot (event ∷ others) ≡ in_row (cell_row (counted_slot slot event.verdict) event.subject.cell) event ∷ []
-counted_one slot event others e = ap (λ b. if b then in_row (cell_row (counted_slot slot event.verdict) event.subject.cell) event ∷ [] else []) e
+counted_some : (flags : ℕ → ℕ → ℕ) (slot : Option ℕ) (event : Opened) (others : List Opened) (digested : Bool) → is_let_through event.verdict ≡ true → is_digested flags slot event ≡ digested
+    → counted_first flags slot (event ∷ others) ≡ in_row (cell_row (counted_slot slot event.verdict) event.subject.cell) event ∷ in_digest_row digested event
+counted_some flags slot event others digested e d =
+    ap (λ b. if b then in_row (cell_row (counted_slot slot event.verdict) event.subject.cell) event ∷ in_digest_row (is_digested flags slot event) event else []) e
+    ∙ ap (λ b. in_row (cell_row (counted_slot slot event.verdict) event.subject.cell) event ∷ in_digest_row b event) d
+
+front_calls : (content : ℕ → ℕ → List ℕ) (xs ys : List Call) → ContentsAgree content (xs ++ ys) → ContentsAgree content xs
+front_calls content [] ys c = tt
+front_calls content (x ∷ xs) ys c = (c.0, front_calls content xs ys c.1)
+
+back_calls : (content : ℕ → ℕ → List ℕ) (xs ys : List Call) → ContentsAgree content (xs ++ ys) → ContentsAgree content ys
+back_calls content [] ys c = c
+back_calls content (x ∷ xs) ys c = back_calls content xs ys c.1
+
+same_then : (a b c : Context) → Same a b → Same b c → Same a c
+same_then a b c p q = record { begun = q.begun ∙ p.begun; opened = q.opened ∙ p.opened }
+
+-- an addition that was tried of the event that has just ended: what it brings, and what is held behind it
+record Tried (amounts : Opened → Stat) (content : ℕ → ℕ → List ℕ) (subject : Option Subject) (context : Context) (answer : Added) (row : ℕ) (event : Opened) (thread : Option ℕ)
+    (held : List (Option Stat)) : Type 0 where
+  pub added : IsAdded amounts content context (added_entry answer)
+  pub shared : IsShared subject context (added_entry answer) row event
+  pub same : Same context (noted subject context (added_entry answer))
+  pub ended : (noted subject context (added_entry answer)).ended ≡ context.ended
+  pub owed : (q : ℕ) → owed_to q (owed_in thread held) ≡ sum_of (map amounts (held_for q (noted subject context (added_entry answer)).waiting))
 
 module _ (m : MergeIsMonoid) (flags : ℕ → ℕ → ℕ) (slots : ℕ → Option ℕ) (facts : ℕ → ℕ → Facts) (session : ℕ) (content : ℕ → ℕ → List ℕ) where
   abbrev amounts : Opened → Stat
@@ -194,7 +219,7 @@ module _ (m : MergeIsMonoid) (flags : ℕ → ℕ → ℕ) (slots : ℕ → Opti
       → Brings subject (after_entries subject context es) fs k after → Brings subject context (es ++ fs) k after
   brings_then subject context es fs j k s after a b = record {
     added = added_then amounts content subject context es fs a.added b.added;
-    once = once_then subject context es fs a.once b.once;
+    once = once_then flags subject context es fs a.once b.once;
     sums = subst (λ z. Stands' k z after) (sym (entries_then subject context es fs)) b.sums;
   }
 
@@ -216,7 +241,7 @@ module _ (m : MergeIsMonoid) (flags : ℕ → ℕ → ℕ) (slots : ℕ → Opti
         held = a.held;
         seat = a.seat;
       } in
-      brings_as (Some subject) context entries (entry ∷ []) _ after (started s st.what) same st.after_is (record { added = (tt, tt); once = once_plain (Some subject) context entry refl refl refl; sums = sums })
+      brings_as (Some subject) context entries (entry ∷ []) _ after (started s st.what) same st.after_is (record { added = (tt, tt); once = once_plain flags (Some subject) context entry refl refl refl; sums = sums })
 
   -- the events that go on, behind an end
   went_on : (k : Clocked) (context behind : Context) (s : State) (what : Open) (others : List Open) (event : Opened) (rest : List Opened) → Stands' k context s
@@ -241,7 +266,7 @@ module _ (m : MergeIsMonoid) (flags : ℕ → ℕ → ℕ) (slots : ℕ → Opti
       } in
       brings_as subject context entries (End ∷ []) _ after _ x.entries_are x.after_is (record {
         added = (tt, tt);
-        once = once_plain subject context End (ap (counted_first context.slot) o ∙ counted_none context.slot event rest silent) refl d.waiting;
+        once = once_plain flags subject context End (ap (counted_first flags context.slot) o ∙ counted_none flags context.slot event rest silent) refl d.waiting;
         sums = sums;
       })
 
@@ -271,36 +296,69 @@ module _ (m : MergeIsMonoid) (flags : ℕ → ℕ → ℕ) (slots : ℕ → Opti
     by_test false e =
         at ∙ (owed_other row slot cell s.held one e ∙ (ap (λ z. owed_to row (owed_in z s.held)) (sym seat) ∙ (held row ∙ ap (λ z. sum_of (map amounts z)) (sym (others row e)))))
 
+  tried : (subject : Option Subject) (context : Context) (s : State) (slot cell : ℕ) (event : Opened) (amount : Stat) (answer : Added) → s.place.thread ≡ Some slot → slot < 32
+      → cell < length s.held → context.ended ≡ Some event → amounts event ≡ amount
+      → ((q : ℕ) → owed_to q (owed_by_state s) ≡ sum_of (map amounts (held_for q context.waiting))) → row_in answer ≡ held_row slot cell
+      → ContentAgrees content (Adds (held_row slot cell) (with_held (held_at s.held cell) amount) answer)
+      → Tried amounts content subject context answer (held_row slot cell) event s.place.thread (slice_set s.held cell (still_held (with_held (held_at s.held cell) amount) answer))
+  tried subject context s slot cell event amount answer seat low fits ended own held row_is agree =
+      by_answer answer row_is agree (ap (λ z. Some (with_held z (amounts event))) waits ∙ ap (λ z. Some (with_held (held_at s.held cell) z)) own) where
+        waits : sum_of (map amounts (held_for (held_row slot cell) context.waiting)) ≡ held_at s.held cell
+        waits = sym (held (held_row slot cell)) ∙ (ap (λ z. owed_to (held_row slot cell) (owed_in z s.held)) seat ∙ owed_cell slot cell s.held low fits)
+
+        by_answer : (answer : Added) → row_in answer ≡ held_row slot cell → ContentAgrees content (Adds (held_row slot cell) (with_held (held_at s.held cell) amount) answer)
+            → sum_of (map amounts (event ∷ held_for (held_row slot cell) context.waiting)) ≡ Some (with_held (held_at s.held cell) amount)
+            → Tried amounts content subject context answer (held_row slot cell) event s.place.thread (slice_set s.held cell (still_held (with_held (held_at s.held cell) amount) answer))
+        by_answer (Counted r version) r_is agree all =
+            let row : ℕ = held_row slot cell in
+            let t : AddsTo r context (noted subject context (says.Add r version)) = add_noted subject context r version in
+            let brings : brought context r ≡ event ∷ held_for row context.waiting =
+            ap (λ z. own_event z ++ held_for r context.waiting) ended ∙ ap (λ z. event ∷ held_for z context.waiting) r_is in
+            let left : (noted subject context (says.Add r version)).waiting ≡ held_else row context.waiting = t.waiting ∙ ap (λ z. held_else z context.waiting) r_is in
+            record {
+              added = is_added m amounts content context r version agree.0 (with_held (held_at s.held cell) amount) agree.1 agree.2 (ap (λ z. sum_of (map amounts z)) brings ∙ all);
+              shared = shared_added subject context r version row event r_is ended t.waiting;
+              same = t.same;
+              ended = t.ended;
+              owed = held_behind s slot cell None context.waiting (noted subject context (says.Add r version)).waiting seat low fits held
+                  (ap (λ z. sum_of (map amounts (held_for row z))) left ∙ ap (λ z. sum_of (map amounts z)) (else_same row context.waiting))
+                  (λ q o. ap (held_for q) left ∙ else_other q row context.waiting o);
+            }
+        by_answer (Held r first second) r_is agree all =
+            let row : ℕ = held_row slot cell in
+            let t : HoldsTo r context (noted subject context (says.Held r first second)) = held_noted subject context r first second in
+            let left : (noted subject context (says.Held r first second)).waiting ≡ record { row = row; event = event } ∷ context.waiting =
+            t.waiting ∙ (ap (λ z. own_wait r z ++ context.waiting) ended ∙ ap (λ z. own_wait z (Some event) ++ context.waiting) r_is) in
+            record {
+              added = tt;
+              shared = shared_held subject context r first second row event r_is ended t.waiting;
+              same = t.same;
+              ended = t.ended;
+              owed = held_behind s slot cell (Some (with_held (held_at s.held cell) amount)) context.waiting (noted subject context (says.Held r first second)).waiting seat low fits held
+                  (ap (λ z. sum_of (map amounts (held_for row z))) left ∙ (ap (λ z. sum_of (map amounts z)) (wait_same row event context.waiting) ∙ all))
+                  (λ q o. ap (held_for q) left ∙ wait_other q row event context.waiting o);
+            }
+
   through_brings : (subject : Option Subject) (k : Clocked) (context : Context) (s after : State) (slot : ℕ) (what : Open) (others : List Open) (numbers : Numbers) (calls : List Call)
       (entries : List Entry) → Agrees flags context s → Stands' k context s → s.place.thread ≡ Some slot → s.opened.events ≡ what ∷ others
       → (i : Innermost flags s.place.thread context.opened what others) → is_let_through what.verdict ≡ true → StepFacts (facts session) k (EndsEvent numbers)
       → EndsThrough s slot what others numbers calls entries after → ContentsAgree content calls → Brings subject context entries (stepped k (EndsEvent numbers)) after
   through_brings subject k context s after slot what others numbers calls entries agrees a seat e i through f x c =
-      let agree = subst (ContentsAgree content) x.calls_are c in
-      brings_as subject context entries (End ∷ added_entry x.answer ∷ []) _ after _ x.entries_are x.after_is (by_answer x.answer x.row_is agree.0) where
-        cell : ℕ
-        cell = cell_number what
-
-        row : ℕ
-        row = held_row slot cell
-
-        sum : Stat
-        sum = with_held (held_at s.held cell) (amount_of what s.clock numbers)
-
+      by_digest what.digested refl x.digests where
         End : Entry
-        End = says.End (Some what.event.number) (Some s.drawn) (Some x.consumers.version) (Some x.thread.version)
+        End = says.End (Some what.event.number) (Some s.drawn) (Some x.counts.consumers.version) (Some x.counts.thread.version)
 
         mid : Context
         mid = noted subject context End
 
+        next : Context
+        next = noted subject mid (added_entry x.counts.answer)
+
         d : EndsTo context mid
-        d = end_noted subject context (Some what.event.number) (Some s.drawn) (Some x.consumers.version) (Some x.thread.version)
+        d = end_noted subject context (Some what.event.number) (Some s.drawn) (Some x.counts.consumers.version) (Some x.counts.thread.version)
 
         low : slot < 32
         low = subst (λ z. IfSome z (λ n. n < 32)) seat agrees.low
-
-        fits : cell < length s.held
-        fits = cell_fits what s.held agrees.wide
 
         gone : k.going ≡ going i.event.index what.kind what.event.start ∷ going_of i.rest others
         gone = a.going ∙ (ap (λ z. going_of z s.opened.events) i.is ∙ ap (going_of (i.event ∷ i.rest)) e)
@@ -310,62 +368,73 @@ module _ (m : MergeIsMonoid) (flags : ℕ → ℕ → ℕ) (slots : ℕ → Opti
             let counted : IsCounted flags s.place.thread true i.event what = subst (λ b. IsCounted flags s.place.thread b i.event what) through i.alike.counted in
             own_amount s slot what i.event numbers k.clock seat a.seat counted.1 a.clock (subst (EndFacts (facts session) k.clock numbers) gone f)
 
-        all : sum_of (map amounts (i.event ∷ held_for row context.waiting)) ≡ Some sum
-        all =
-            let waits : sum_of (map amounts (held_for row context.waiting)) ≡ held_at s.held cell =
-            sym (a.held row) ∙ (ap (λ z. owed_to row (owed_in z s.held)) seat ∙ owed_cell slot cell s.held low fits) in
-            ap (λ z. Some (with_held z (amounts i.event))) waits ∙ ap (λ z. Some (with_held (held_at s.held cell) z)) own
-
-        counted : counted_at context End ≡ in_row row i.event ∷ []
-        counted =
-            let cell_is : i.event.subject.cell ≡ cell_in what = counted_cell flags s.place.thread i.event what through i.alike.counted in
-            let place : cell_row (counted_slot context.slot i.event.verdict) i.event.subject.cell ≡ row =
-            ap (λ z. cell_row (counted_slot z i.event.verdict) i.event.subject.cell) (agrees.slot ∙ seat) ∙ sym (summary_row slot what i.event.verdict i.event.subject.cell i.alike.verdict cell_is through) in
-            ap (counted_first context.slot) i.is ∙ (counted_one context.slot i.event i.rest (ap is_let_through i.alike.verdict ∙ through) ∙ ap (λ z. in_row z i.event ∷ []) place)
-
         ended : mid.ended ≡ Some i.event
         ended = d.ended ∙ ap first_of i.is
 
-        next : Option Stat → State
-        next one = record s { opened = record s.opened { events = others }; held = slice_set s.held cell one }
+        -- the calls of the cell's addition, which are the older ones
+        older : ContentsAgree content x.counted_calls
+        older = back_calls content x.digested_calls x.counted_calls (subst (ContentsAgree content) x.calls_are c)
 
-        behind : (last : Context) (one : Option Stat) → Same mid last → sum_of (map amounts (held_for row last.waiting)) ≡ one
-            → ((q : ℕ) → (row == q) ≡ false → held_for q last.waiting ≡ held_for q context.waiting) → Stands' (stepped k (EndsEvent numbers)) last (next one)
-        behind last one same here there = record {
-          clock = a.clock;
+        first : Tried amounts content subject mid x.counts.answer (held_row slot (cell_number what)) i.event s.place.thread (slice_set s.held (cell_number what) (still_held (with_held (held_at s.held (cell_number what)) (amount_of what s.clock numbers)) x.counts.answer))
+        first =
+            tried subject mid s slot (cell_number what) i.event (amount_of what s.clock numbers) x.counts.answer seat low (cell_fits what s.held agrees.wide) ended own
+            (λ q. a.held q ∙ ap (λ z. sum_of (map amounts (held_for q z))) (sym d.waiting)) x.counts.row_is (subst (ContentsAgree content) x.counts.calls_are older).0
+
+        -- the session behind both, or behind the first
+        behind : (last : Context) (left : State) → Same mid last → left.clock ≡ s.clock → left.opened.events ≡ others → left.place ≡ s.place
+            → ((q : ℕ) → owed_to q (owed_by_state left) ≡ sum_of (map amounts (held_for q last.waiting))) → Stands' (stepped k (EndsEvent numbers)) last left
+        behind last left same clock opened place held = record {
+          clock = a.clock ∙ sym clock;
           begun = a.begun ∙ sym (same.begun ∙ d.begun);
-          going = went_on k context last s what others i.event i.rest a i.is e (same.opened ∙ d.opened);
+          going = went_on k context last s what others i.event i.rest a i.is e (same.opened ∙ d.opened) ∙ ap (going_of last.opened) (sym opened);
           starts = starts_drop (facts session) k.going a.starts;
-          held = held_behind s slot cell one context.waiting last.waiting seat low fits a.held here there;
-          seat = a.seat;
+          held = held;
+          seat = subst (λ p. IfSome p.thread (λ n. slots session ≡ Some n)) (sym place) a.seat;
         }
 
-        by_answer : (answer : Added) → row_in answer ≡ row → ContentAgrees content (Adds row sum answer)
-            → Brings subject context (End ∷ added_entry answer ∷ []) (stepped k (EndsEvent numbers)) (next (still_held sum answer))
-        by_answer (Counted r version) r_is agree =
-            let t : AddsTo r mid (noted subject mid (says.Add r version)) = add_noted subject mid r version in
-            let brings : brought mid r ≡ i.event ∷ held_for row context.waiting =
-            ap (λ z. own_event z ++ held_for r mid.waiting) ended ∙ (ap (λ z. i.event ∷ held_for r z) d.waiting ∙ ap (λ z. i.event ∷ held_for z context.waiting) r_is) in
-            let left : (noted subject mid (says.Add r version)).waiting ≡ held_else row context.waiting =
-            t.waiting ∙ (ap (held_else r) d.waiting ∙ ap (λ z. held_else z context.waiting) r_is) in
-            record {
-              added = (tt, (is_added m amounts content mid r version agree.0 sum agree.1 agree.2 (ap (λ z. sum_of (map amounts z)) brings ∙ all), tt));
-              once = once_added subject context End r version row i.event counted refl r_is brings left;
-              sums = behind (noted subject mid (says.Add r version)) None t.same
-                  (ap (λ z. sum_of (map amounts (held_for row z))) left ∙ ap (λ z. sum_of (map amounts z)) (else_same row context.waiting))
-                  (λ q o. ap (held_for q) left ∙ else_other q row context.waiting o);
-            }
-        by_answer (Held r first second) r_is agree =
-            let t : HoldsTo r mid (noted subject mid (says.Held r first second)) = held_noted subject mid r first second in
-            let left : (noted subject mid (says.Held r first second)).waiting ≡ record { row = row; event = i.event } ∷ context.waiting =
-            t.waiting ∙ (ap (λ z. own_wait r z ++ mid.waiting) ended ∙ (ap (λ z. own_wait r (Some i.event) ++ z) d.waiting ∙ ap (λ z. own_wait z (Some i.event) ++ context.waiting) r_is)) in
-            record {
-              added = (tt, (tt, tt));
-              once = once_held subject context End r first second row i.event counted refl left;
-              sums = behind (noted subject mid (says.Held r first second)) (Some sum) t.same
-                  (ap (λ z. sum_of (map amounts (held_for row z))) left ∙ (ap (λ z. sum_of (map amounts z)) (wait_same row i.event context.waiting) ∙ all))
-                  (λ q o. ap (held_for q) left ∙ wait_other q row i.event context.waiting o);
-            }
+        between_owed : (q : ℕ) → owed_to q (owed_by_state x.between) ≡ sum_of (map amounts (held_for q next.waiting))
+        between_owed q = ap (λ (z : State). owed_to q (owed_by_state z)) x.counts.after_is ∙ first.owed q
+
+        -- what the end counts
+        counted : (digested : Bool) → what.digested ≡ digested → counted_at flags context End ≡ in_row (held_row slot (cell_number what)) i.event ∷ in_digest_row digested i.event
+        counted digested q =
+            let cell_is : i.event.subject.cell ≡ cell_in what = counted_cell flags s.place.thread i.event what through i.alike.counted in
+            let place : cell_row (counted_slot context.slot i.event.verdict) i.event.subject.cell ≡ held_row slot (cell_number what) =
+            ap (λ z. cell_row (counted_slot z i.event.verdict) i.event.subject.cell) (agrees.slot ∙ seat) ∙ sym (summary_row slot what i.event.verdict i.event.subject.cell i.alike.verdict cell_is through) in
+            ap (counted_first flags context.slot) i.is
+            ∙ (counted_some flags context.slot i.event i.rest digested (ap is_let_through i.alike.verdict ∙ through) (ap (λ z. is_digested flags z i.event) agrees.slot ∙ i.alike.digested ∙ q)
+            ∙ ap (λ z. in_row z i.event ∷ in_digest_row digested i.event) place)
+
+        by_digest : (b : Bool) → what.digested ≡ b → DigestsIn b x.between slot what numbers x.digested_calls x.digested_entries after
+            → Brings subject context entries (stepped k (EndsEvent numbers)) after
+        by_digest false q y =
+            let same : entries ≡ End ∷ added_entry x.counts.answer ∷ [] = x.entries_are ∙ (ap (λ z. x.counted_entries ++ z) y.entries_are ∙ (append-nil x.counted_entries ∙ x.counts.entries_are)) in
+            brings_as subject context entries (End ∷ added_entry x.counts.answer ∷ []) _ after x.between same y.after_is (record {
+              added = (tt, (first.added, tt));
+              once = once_ended flags subject context End x.counts.answer (held_row slot (cell_number what)) i.event (counted false q) refl d.waiting first.shared;
+              sums = behind next x.between first.same (ap (λ (z : State). z.clock) x.counts.after_is) (ap (λ (z : State). z.opened.events) x.counts.after_is)
+                  (ap (λ (z : State). z.place) x.counts.after_is) between_owed;
+            })
+        by_digest true q y =
+            let between : x.between.place.thread ≡ Some slot = ap (λ (z : State). z.place.thread) x.counts.after_is ∙ seat in
+            let clock : x.between.clock ≡ s.clock = ap (λ (z : State). z.clock) x.counts.after_is in
+            let wide : length x.between.held ≡ 193 = ap (λ (z : State). length z.held) x.counts.after_is ∙ (length-set s.held (cell_number what) _ ∙ agrees.wide) in
+            let at : digest_row i.event.subject.digest ≡ held_row slot (digest_number what) = sym (digest_of_number slot what (digest_row i.event.subject.digest) (i.alike.digest q)) in
+            let newer : ContentsAgree content x.digested_calls = front_calls content x.digested_calls x.counted_calls (subst (ContentsAgree content) x.calls_are c) in
+            let second : Tried amounts content subject next y.answer (held_row slot (digest_number what)) i.event x.between.place.thread
+            (slice_set x.between.held (digest_number what) (still_held (with_held (held_at x.between.held (digest_number what)) (amount_of what x.between.clock numbers)) y.answer)) =
+            tried subject next x.between slot (digest_number what) i.event (amount_of what x.between.clock numbers) y.answer between low (digest_fits what x.between.held wide)
+            (first.ended ∙ ended) (own ∙ ap (λ z. amount_of what z numbers) (sym clock)) between_owed y.row_is (subst (ContentsAgree content) y.calls_are newer).0 in
+            let same : entries ≡ End ∷ added_entry x.counts.answer ∷ added_entry y.answer ∷ [] =
+            x.entries_are ∙ (ap (λ z. x.counted_entries ++ z) y.entries_are ∙ ap (λ z. z ++ added_entry y.answer ∷ []) x.counts.entries_are) in
+            let left : State = record x.between { held = slice_set x.between.held (digest_number what) (still_held (with_held (held_at x.between.held (digest_number what)) (amount_of what x.between.clock numbers)) y.answer) } in
+            brings_as subject context entries (End ∷ added_entry x.counts.answer ∷ added_entry y.answer ∷ []) _ after left same y.after_is (record {
+              added = (tt, (first.added, (second.added, tt)));
+              once = once_digested flags subject context End x.counts.answer y.answer (held_row slot (cell_number what)) (held_row slot (digest_number what)) i.event
+                  (counted true q ∙ ap (λ z. in_row (held_row slot (cell_number what)) i.event ∷ in_row z i.event ∷ []) at) refl d.waiting first.shared second.shared;
+              sums = behind (noted subject next (added_entry y.answer)) left (same_then mid next (noted subject next (added_entry y.answer)) first.same second.same) clock
+                  (ap (λ (z : State). z.opened.events) x.counts.after_is) (ap (λ (z : State). z.place) x.counts.after_is) second.owed;
+            })
 
   pub end_brings : (subject : Option Subject) (k : Clocked) (context : Context) (s after : State) (numbers : Numbers) (calls : List Call) (entries : List Entry) → Agrees flags context s
       → Stands' k context s → Ends s numbers calls entries after → StepFacts (facts session) k (EndsEvent numbers) → ContentsAgree content calls

@@ -14,7 +14,13 @@ pub cut_one : (ask : Ask) (items : List Item) (entry : Entry) (entries : List En
 unfolding cut
 cut_one ask items entry entries f = ap (λ b. then_cut (if b then Ok entries else Err (entry ∷ entries)) (cut items)) f
 
--- what is merely allowed isn't there
+-- what is merely allowed is there
+pub cut_maybe : (ask : Ask) (items : List Item) (entry : Entry) (entries : List Entry) → fits ask entry ≡ true
+    → cut (maybe ask ∷ items) (entry ∷ entries) ≡ cut items entries
+unfolding cut
+cut_maybe ask items entry entries f = ap (λ b. then_cut (if b then Ok entries else Ok (entry ∷ entries)) (cut items)) f
+
+-- or isn't
 pub cut_maybe_end : (ask : Ask) (items : List Item) → cut (maybe ask ∷ items) [] ≡ cut items []
 unfolding cut
 cut_maybe_end ask items = refl

@@ -5,7 +5,7 @@ use Rattle.std.specs.Ordering.{nat_cmp}
 use Rattle.std.specs.BTreeMap.{is_at}
 use Rattle.std.specs.BTreeSet.{insert_key}
 use Rattle.std.specs.Set.{remove_key}
-use Rattle.std.proofs.lemmas.List.{length-set}
+use Rattle.std.proofs.lemmas.List.{append-nil, length-set}
 use Rattle.std.proofs.lemmas.Bool.{lt-ltb, le-ltb, false≢true}
 use Rattle.pfs_event.specs.Verdicts.{is_let_through}
 use Rattle.pfs_event.specs.declared.entry.Entry.{Entry}
@@ -18,22 +18,22 @@ use Rattle.pfs_event.specs.declared.verdict.Verdict.TheVariants.{Aside, Attribut
 use Rattle.pfs_levels.specs.Calls.{Call, row_in}
 use Rattle.pfs_levels.specs.declared.answers.Added.{Added}
 use Rattle.pfs_levels.specs.declared.answers.Added.TheVariants.{Counted, Held}
-use Rattle.pfs_model.specs.Asks.{cell_row, is_summary, both_loaded}
+use Rattle.pfs_model.specs.Asks.{cell_row, digest_row, is_digest, is_summary, both_loaded}
 use Rattle.pfs_model.specs.Contexts.{Context, subject_of, noted, with_row, without_row}
 use Rattle.pfs_model.specs.Cuts.{cut, are_closed, is_headed}
 use Rattle.pfs_model.specs.Numbers.{IsNumbered, ending_id, end_event_id}
 use Rattle.pfs_model.specs.Shapes.{ending, counting, counted_slot, digest_of, puts}
-use Rattle.pfs_model.specs.Setups.{is_attributed}
+use Rattle.pfs_model.specs.Setups.{is_attributed, is_digested, is_statement}
 use Rattle.pfs_model.specs.declared.lines.Line.{Line}
 use Rattle.pfs_model.specs.declared.lines.Opened.{Opened}
 use Rattle.pfs_model.specs.declared.lines.Subject.{Subject}
 use Rattle.pfs_model.specs.declared.shapes.Ask.TheVariants as asks
 use Rattle.pfs_stat.specs.declared.Stat.{Stat}
-use Rattle.pfs_session.specs.Ends.{Ends, EndsIn, EndsThrough, EndsSilently, cell_in, cell_number, added_entry, still_held, with_held, amount_of}
+use Rattle.pfs_session.specs.Ends.{Ends, EndsIn, EndsThrough, EndsCounted, EndsSilently, AddsTo, DigestsIn, cell_in, cell_number, digest_number, added_entry, still_held, with_held, amount_of}
 use Rattle.pfs_session.specs.Settles.{owed_in}
 use Rattle.pfs_session.specs.States.{State, held_row, held_at}
 use Rattle.pfs_session.specs.declared.events.Numbers.{Numbers}
-use Rattle.pfs_parts.proofs.Cutting.{cut_one, cut_maybe_end, cut_nothing}
+use Rattle.pfs_parts.proofs.Cutting.{cut_one, cut_maybe, cut_maybe_end, cut_nothing}
 use Rattle.pfs_parts.proofs.Held.{rows, rows_held, rows_freed}
 use Rattle.pfs_parts.proofs.Pieces.{IsPiece, piece_one, piece_plain, piece_then, judged_end, is_plain}
 use Rattle.pfs_parts.specs.Agreeing.{IsAlike, IsCounted, AreAlike, Agrees, row_owed}
@@ -99,15 +99,36 @@ shaped_silent slot event silent =
       never true = refl
       never false = refl
 
-pub shaped_through : (slot : ℕ) (event : Opened) (what : Open) (answer : Added) (number last consumers thread : ℕ) → event.verdict ≡ what.verdict
+-- behind the addition stands what the kind of the event allows
+pub shaped_through : (slot : ℕ) (event : Opened) (what : Open) (answer : Added) (more : List Entry) (number last consumers thread : ℕ) → event.verdict ≡ what.verdict
     → event.subject.cell ≡ cell_in what → is_let_through what.verdict ≡ true → row_in answer ≡ held_row slot (cell_number what)
-    → cut (ending (Some slot) event) (says.End (Some number) (Some last) (Some consumers) (Some thread) ∷ added_entry answer ∷ []) ≡ Ok []
-shaped_through slot event what answer number last consumers thread v c through e =
+    → cut (digest_of event.subject.kind ++ puts) more ≡ Ok []
+    → cut (ending (Some slot) event) (says.End (Some number) (Some last) (Some consumers) (Some thread) ∷ added_entry answer ∷ more) ≡ Ok []
+shaped_through slot event what answer more number last consumers thread v c through e rest =
     let own : is_let_through event.verdict ≡ true = ap is_let_through v ∙ through in
     cut_one (asks.End (is_some (Some slot) && is_let_through event.verdict)) _ _ _ (ap (λ b. both_loaded (true && b) (Some consumers) (Some thread)) own)
-    ∙ (ap (λ b. cut (counting (Some slot) event b) (added_entry answer ∷ [])) own
-    ∙ (cut_one (asks.Summary (counted_slot (Some slot) event.verdict) event.subject.cell) _ (added_entry answer) []
-    (summary_fits slot what event answer v c through e) ∙ nothing_more event.subject.kind))
+    ∙ (ap (λ b. cut (counting (Some slot) event b) (added_entry answer ∷ more)) own
+    ∙ (cut_one (asks.Summary (counted_slot (Some slot) event.verdict) event.subject.cell) _ (added_entry answer) more
+    (summary_fits slot what event answer v c through e) ∙ rest))
+
+-- a statement may be added to its digest's row
+added_digest : (answer : Added) → is_digest (added_entry answer) ≡ true
+added_digest (Counted row version) = refl
+added_digest (Held row first second) = refl
+
+digest_more : (kind : EventKind) (answer : Added) → is_statement kind ≡ true → cut (digest_of kind ++ puts) (added_entry answer ∷ []) ≡ Ok []
+digest_more kinds.Statement answer t = cut_maybe asks.Digest puts (added_entry answer) [] (added_digest answer) ∙ puts_end
+digest_more kinds.Wait answer t = absurd (false≢true t)
+digest_more kinds.Stage answer t = absurd (false≢true t)
+digest_more kinds.Transaction answer t = absurd (false≢true t)
+
+first_of_three : (a b c : Bool) → (a && b && c) ≡ true → a ≡ true
+first_of_three true b c t = refl
+first_of_three false b c t = absurd (false≢true t)
+
+-- only a statement is digested
+statement_of : (flags : ℕ → ℕ → ℕ) (slot : Option ℕ) (event : Opened) → is_digested flags slot event ≡ true → is_statement event.subject.kind ≡ true
+statement_of flags slot event t = first_of_three (is_statement event.subject.kind) _ _ t
 
 -- an end by itself
 pub record EndIs (flags : ℕ → ℕ → ℕ) (stack : ℕ) (line : Line) (context : Context) (entries : List Entry) (after : State) : Type 0 where
@@ -230,10 +251,46 @@ counted_cell flags slot event what through c =
     let d : IsCounted flags slot true event what = subst (λ b. IsCounted flags slot b event what) through c in
     d.0
 
-end_through : (flags : ℕ → ℕ → ℕ) (line : Line) (context : Context) (s after : State) (slot : ℕ) (what : Open) (others : List Open) (numbers : Numbers) (calls : List Call)
-    (entries : List Entry) → Agrees flags context s → s.place.thread ≡ Some slot → Innermost flags s.place.thread context.opened what others → is_let_through what.verdict ≡ true
-    → EndsThrough s slot what others numbers calls entries after → EndIs flags s.stack line context entries after
-end_through flags line context s after slot what others numbers calls entries a seat i through e =
+-- the number of a digest's row is one of those for which a session may hold something
+pub digest_fits : (what : Open) (held : List (Option Stat)) → length held ≡ 193 → digest_number what < length held
+digest_fits what held wide = omega (arith, what.event.link_fits, wide)
+
+-- and its row is that of the digest
+pub digest_of_number : (slot : ℕ) (what : Open) (row : ℕ) → row ≡ 8385 + what.event.link → held_row slot (digest_number what) ≡ row
+digest_of_number slot what row e =
+    ap (λ b. if b then 129 + 64 * slot + (128 + what.event.link) else 8257 + (128 + what.event.link)) (le-ltb (128 + what.event.link) 64 (omega arith))
+    ∙ omega (arith, e)
+
+-- a session stands behind an addition that was tried as its journal tells
+pub adds_agrees : (flags : ℕ → ℕ → ℕ) (subject : Option Subject) (context : Context) (s : State) (slot cell : ℕ) (amount : Stat) (answer : Added) → Agrees flags context s
+    → s.place.thread ≡ Some slot → cell < length s.held → row_in answer ≡ held_row slot cell
+    → Agrees flags (noted subject context (added_entry answer)) (record s { held = slice_set s.held cell (still_held amount answer) })
+adds_agrees flags subject context s slot cell amount answer a seat fits row =
+    let d : AddedTo subject context answer = added_to subject context answer in
+    let low : slot < 32 = subst (λ z. IfSome z (λ k. k < 32)) seat a.low in
+    let held : List (Option Stat) = slice_set s.held cell (still_held amount answer) in
+    let before : context.held ≡ rows slot 0 s.held = a.held ∙ ap (λ z. map row_owed (owed_in z s.held)) seat in
+    record {
+      slot = d.slot ∙ a.slot;
+      opened = subst (λ z. AreAlike flags s.place.thread z s.opened.events) (sym d.opened) a.opened;
+      held = d.held ∙ (rows_still slot cell s.held amount answer context.held low fits row before ∙ sym (ap (λ z. map row_owed (owed_in z held)) seat));
+      drawn = d.drawn ∙ a.drawn;
+      wide = wide_set s.held cell (still_held amount answer) ∙ a.wide;
+      low = a.low;
+    }
+
+-- what stands behind an end and the addition to the cell's row
+record CountedIs (flags : ℕ → ℕ → ℕ) (stack : ℕ) (line : Line) (context : Context) (others : List Opened) (entries : List Entry) (after : State) : Type 0 where
+  pub behind : Context
+  pub piece : IsPiece flags stack line context entries behind
+  pub behind_opened : behind.opened ≡ others
+  pub behind_slot : behind.slot ≡ context.slot
+  pub agrees : Agrees flags behind after
+
+end_counted : (flags : ℕ → ℕ → ℕ) (line : Line) (context : Context) (s after : State) (slot : ℕ) (what : Open) (others : List Open) (numbers : Numbers) (calls : List Call)
+    (entries : List Entry) → Agrees flags context s → s.place.thread ≡ Some slot → (i : Innermost flags s.place.thread context.opened what others) → is_let_through what.verdict ≡ true
+    → EndsCounted s slot what others numbers calls entries after → CountedIs flags s.stack line context i.rest entries after
+end_counted flags line context s after slot what others numbers calls entries a seat i through e =
     let subject : Option Subject = subject_of line in
     let own : is_let_through i.event.verdict ≡ true = ap is_let_through i.alike.verdict ∙ through in
     let n : Option ℕ = Some what.event.number in
@@ -246,29 +303,17 @@ end_through flags line context s after slot what others numbers calls entries a 
     let d : AddedTo subject mid e.answer = added_to subject mid e.answer in
     let number : n ≡ i.event.number = sym (i.alike.number ∙ ap (λ b. if b then Some what.event.number else None) through) in
     let last : l ≡ cond (is_let_through i.event.verdict) (Some context.drawn) None = ap (λ z. Some z) (sym a.drawn) ∙ sym (ap (λ b. cond b (Some context.drawn) None) own) in
-    let low : slot < 32 = subst (λ z. IfSome z (λ k. k < 32)) seat a.low in
     let amount : Stat = with_held (held_at s.held (cell_number what)) (amount_of what s.clock numbers) in
-    let held : List (Option Stat) = slice_set s.held (cell_number what) (still_held amount e.answer) in
-    let next : State = record s { opened = record s.opened { events = others }; held = held } in
-    let before : mid.held ≡ rows slot 0 s.held = m.held ∙ (a.held ∙ ap (λ z. map row_owed (owed_in z s.held)) seat) in
-    let S : Option ℕ → Type 0 = λ z. cut (ending z i.event) entries ≡ Ok [] in
-    let stands : Agrees flags (noted subject mid (added_entry e.answer)) next = record {
-      slot = d.slot ∙ (m.slot ∙ a.slot);
-      opened = subst (λ z. AreAlike flags s.place.thread z others) (sym (d.opened ∙ (m.opened ∙ ap (drop 1) i.is))) i.rest_alike;
-      held = d.held ∙ (rows_still slot (cell_number what) s.held amount e.answer mid.held low (cell_fits what s.held a.wide) e.row_is before
-          ∙ sym (ap (λ z. map row_owed (owed_in z held)) seat));
-      drawn = d.drawn ∙ (m.drawn ∙ a.drawn);
-      wide = wide_set s.held (cell_number what) (still_held amount e.answer) ∙ a.wide;
+    let closed : State = record s { opened = record s.opened { events = others } } in
+    let stands : Agrees flags mid closed = record {
+      slot = m.slot ∙ a.slot;
+      opened = subst (λ z. AreAlike flags s.place.thread z others) (sym (m.opened ∙ ap (drop 1) i.is)) i.rest_alike;
+      held = m.held ∙ a.held;
+      drawn = m.drawn ∙ a.drawn;
+      wide = a.wide;
       low = a.low;
     } in
     record {
-      event = i.event;
-      others = i.rest;
-      opened_is = i.is;
-      shaped = subst S (sym (a.slot ∙ seat)) (ap (cut (ending (Some slot) i.event)) e.entries_are
-          ∙ shaped_through slot i.event what e.answer what.event.number s.drawn e.consumers.version e.thread.version i.alike.verdict
-          (counted_cell flags s.place.thread i.event what through i.alike.counted) through e.row_is);
-      headed = ap is_headed e.entries_are;
       behind = noted subject mid (added_entry e.answer);
       piece = subst (λ z. IsPiece flags s.stack line context z (noted subject mid (added_entry e.answer))) (sym e.entries_are)
           (piece_then flags s.stack line context mid (noted subject mid (added_entry e.answer)) (End ∷ []) (added_entry e.answer ∷ [])
@@ -276,8 +321,69 @@ end_through flags line context s after slot what others numbers calls entries a 
           (piece_plain flags s.stack line mid (added_entry e.answer) (plain_added e.answer)));
       behind_opened = d.opened ∙ (m.opened ∙ ap (drop 1) i.is);
       behind_slot = d.slot ∙ m.slot;
-      agrees = subst (λ z. Agrees flags (noted subject mid (added_entry e.answer)) z) (sym e.after_is) stands;
+      agrees = subst (λ z. Agrees flags (noted subject mid (added_entry e.answer)) z) (sym e.after_is)
+          (adds_agrees flags subject mid closed slot (cell_number what) amount e.answer stands seat (cell_fits what s.held a.wide) e.row_is);
     }
+
+-- an end that is counted, and behind it a digested statement's addition to the row of its digest
+end_through : (flags : ℕ → ℕ → ℕ) (line : Line) (context : Context) (s after : State) (slot : ℕ) (what : Open) (others : List Open) (numbers : Numbers) (calls : List Call)
+    (entries : List Entry) → Agrees flags context s → s.place.thread ≡ Some slot → Innermost flags s.place.thread context.opened what others → is_let_through what.verdict ≡ true
+    → EndsThrough s slot what others numbers calls entries after → EndIs flags s.stack line context entries after
+end_through flags line context s after slot what others numbers calls entries a seat i through e = by_digest what.digested refl e.digests where
+  first : CountedIs flags s.stack line context i.rest e.counted_entries e.between
+  first = end_counted flags line context s e.between slot what others numbers e.counted_calls e.counted_entries a seat i through e.counts
+
+  -- the entries, and their shape
+  shape_of : (more : List Entry) → e.digested_entries ≡ more → cut (digest_of i.event.subject.kind ++ puts) more ≡ Ok [] → cut (ending context.slot i.event) entries ≡ Ok []
+  shape_of more m rest =
+      let whole : entries ≡ says.End (Some what.event.number) (Some s.drawn) (Some e.counts.consumers.version) (Some e.counts.thread.version) ∷ added_entry e.counts.answer ∷ more =
+      e.entries_are ∙ (ap (λ z. z ++ e.digested_entries) e.counts.entries_are
+      ∙ ap (λ z. says.End (Some what.event.number) (Some s.drawn) (Some e.counts.consumers.version) (Some e.counts.thread.version) ∷ added_entry e.counts.answer ∷ z) m) in
+      ap (λ z. cut (ending z i.event) entries) (a.slot ∙ seat)
+      ∙ (ap (cut (ending (Some slot) i.event)) whole
+      ∙ shaped_through slot i.event what e.counts.answer more what.event.number s.drawn e.counts.consumers.version e.counts.thread.version i.alike.verdict
+      (counted_cell flags s.place.thread i.event what through i.alike.counted) through e.counts.row_is rest)
+
+  head_of : is_headed entries ≡ true
+  head_of = ap is_headed (e.entries_are ∙ ap (λ z. z ++ e.digested_entries) e.counts.entries_are)
+
+  by_digest : (b : Bool) → what.digested ≡ b → DigestsIn b e.between slot what numbers e.digested_calls e.digested_entries after → EndIs flags s.stack line context entries after
+  by_digest false q d =
+      let same : entries ≡ e.counted_entries = e.entries_are ∙ (ap (λ z. e.counted_entries ++ z) d.entries_are ∙ append-nil e.counted_entries) in
+      record {
+        event = i.event;
+        others = i.rest;
+        opened_is = i.is;
+        shaped = shape_of [] d.entries_are (nothing_more i.event.subject.kind);
+        headed = head_of;
+        behind = first.behind;
+        piece = subst (λ z. IsPiece flags s.stack line context z first.behind) (sym same) first.piece;
+        behind_opened = first.behind_opened;
+        behind_slot = first.behind_slot;
+        agrees = subst (Agrees flags first.behind) (sym d.after_is) first.agrees;
+      }
+  by_digest true q d =
+      let subject : Option Subject = subject_of line in
+      let added : AddedTo subject first.behind d.answer = added_to subject first.behind d.answer in
+      let last : Context = noted subject first.behind (added_entry d.answer) in
+      let between : e.between.place.thread ≡ Some slot = ap (λ (z : State). z.place.thread) e.counts.after_is ∙ seat in
+      let sum : Stat = with_held (held_at e.between.held (digest_number what)) (amount_of what e.between.clock numbers) in
+      record {
+        event = i.event;
+        others = i.rest;
+        opened_is = i.is;
+        shaped = shape_of (added_entry d.answer ∷ []) d.entries_are
+            (digest_more i.event.subject.kind d.answer (statement_of flags s.place.thread i.event (i.alike.digested ∙ q)));
+        headed = head_of;
+        behind = last;
+        piece = subst (λ z. IsPiece flags s.stack line context z last) (sym (e.entries_are ∙ ap (λ z. e.counted_entries ++ z) d.entries_are))
+            (piece_then flags s.stack line context first.behind last e.counted_entries (added_entry d.answer ∷ []) first.piece
+            (piece_plain flags s.stack line first.behind (added_entry d.answer) (plain_added d.answer)));
+        behind_opened = added.opened ∙ first.behind_opened;
+        behind_slot = added.slot ∙ first.behind_slot;
+        agrees = subst (Agrees flags last) (sym d.after_is)
+            (adds_agrees flags subject first.behind e.between slot (digest_number what) sum d.answer first.agrees between (digest_fits what e.between.held first.agrees.wide) d.row_is);
+      }
 
 -- an end, of whatever event
 pub end_is : (flags : ℕ → ℕ → ℕ) (line : Line) (context : Context) (s after : State) (numbers : Numbers) (calls : List Call) (entries : List Entry)

@@ -22,6 +22,7 @@ use Rattle.pfs_session.specs.Turns.{EndsEvent, Spends}
 use Rattle.pfs_stat.specs.Stat.{MergeIsMonoid, stat_of, merge_of, words_of, stat_of_words}
 use Rattle.pfs_stat.specs.declared.Stat.{Stat}
 use Rattle.pfs_parts.proofs.Accounting.{accounted}
+use Rattle.pfs_session.proofs.Ending.{ends_undigested}
 use Rattle.pfs_session.proofs.Owed.{nothing_owed}
 use Rattle.pfs_parts.specs.Agreeing.{Agrees, row_owed}
 use Rattle.pfs_parts.specs.Amounts.{Clocked, owed_to, Sums, AllFacts, AllContentsAgree, IsAccounted}
@@ -185,8 +186,8 @@ agrees : Agrees flags told first
 agrees = record {
   slot = refl;
   opened = (
-    record { kind = refl; verdict = refl; number = refl; counted = (refl, refl) },
-    (record { kind = refl; verdict = refl; number = refl; counted = (refl, refl) }, tt),
+    record { kind = refl; verdict = refl; number = refl; counted = (refl, refl); digested = refl; digest = λ t. absurd (cc) },
+    (record { kind = refl; verdict = refl; number = refl; counted = (refl, refl); digested = refl; digest = λ t. absurd (cc) }, tt),
   );
   held = sym (ap (map row_owed) (nothing_owed (Some 3)));
   drawn = refl;
@@ -212,7 +213,8 @@ are_parts = (
         what = inner;
         others = outer ∷ [];
         innermost = refl;
-        ends = record { consumers = words; thread = words; answer = Held 326 7 9; row_is = refl; calls_are = refl; entries_are = refl; after_is = refl };
+        ends = ends_undigested first 3 inner (outer ∷ []) no_numbers _ _ second refl
+            (record { consumers = words; thread = words; answer = Held 326 7 9; row_is = refl; calls_are = refl; entries_are = refl; after_is = refl });
       },
       tt,
     );
@@ -227,7 +229,8 @@ are_parts = (
             what = outer;
             others = [];
             innermost = refl;
-            ends = record { consumers = words; thread = words; answer = Counted 326 12; row_is = refl; calls_are = refl; entries_are = refl; after_is = refl };
+            ends = ends_undigested third 3 outer [] no_numbers _ _ last refl
+                (record { consumers = words; thread = words; answer = Counted 326 12; row_is = refl; calls_are = refl; entries_are = refl; after_is = refl });
           },
           tt,
         );

@@ -9,6 +9,7 @@ use Rattle.pfs_session.specs.Ends.{Ends, EndsIn}
 use Rattle.pfs_session.specs.States.{State}
 use Rattle.pfs_session.specs.Turns.{Step, StartsEvent, EndsEvent, Spends, SettlesHeld, Connects, Quits, Truncates, Does, Turn, AreTurns, state_after, steps_of, turns_calls, turns_entries}
 use Rattle.pfs_session.specs.declared.events.Numbers.{Numbers}
+use Rattle.pfs_session.proofs.Ending.{through_leaves}
 use Rattle.pfs_parts.proofs.Pieces.{judged_then, numbered_then}
 use Rattle.pfs_parts.proofs.Written.{IsLine, written_by, starting_line, staging_line, stage_end_line, end_line, spend_line, connect_line, quit_line, truncation_line, close_line, over_line, ends_stack}
 use Rattle.pfs_parts.specs.Agreeing.{LoadsAgree, Stands}
@@ -62,7 +63,7 @@ ends_number s numbers calls entries after e = by_case s.place.thread (is_let_thr
   by_case : (slot : Option ℕ) (b : Bool) → EndsIn s slot b e.what e.others numbers calls entries after → after.number ≡ s.number
   by_case slot false x = ap (λ (z : State). z.number) x.after_is
   by_case None true x = absurd x
-  by_case (Some slot) true x = ap (λ (z : State). z.number) x.after_is
+  by_case (Some slot) true x = ap (λ (z : State). z.number) (through_leaves s slot e.what e.others numbers calls entries after x)
 
 does_number : (s : State) (step : Step) (calls : List Call) (entries : List Entry) (after : State) → Does s step calls entries after → after.number ≡ s.number
 does_number s (StartsEvent subject) calls entries after d = ap (λ (z : State). z.number) d.after_is

@@ -26,20 +26,20 @@ use Rattle.pfs_parts.specs.Agreeing.{row_owed}
 use Rattle.pfs_parts.specs.Amounts.{Clocked, sum_of, owed_to, going_of, Sums, ContentsAgree}
 
 -- entries that bring some of what was owed, so that this is left
-record PaidIs (amounts : Opened → Stat) (content : ℕ → ℕ → List ℕ) (subject : Option Subject) (context : Context) (entries : List Entry) (left : List Owed) : Type 0 where
+record PaidIs (flags : ℕ → ℕ → ℕ) (amounts : Opened → Stat) (content : ℕ → ℕ → List ℕ) (subject : Option Subject) (context : Context) (entries : List Entry) (left : List Owed) : Type 0 where
   pub added : AddedBy amounts content subject context entries
-  pub once : OnceBy subject context entries
+  pub once : OnceBy flags subject context entries
   pub ended : (after_entries subject context entries).ended ≡ None
   pub begun : (after_entries subject context entries).begun ≡ context.begun
   pub opened : (after_entries subject context entries).opened ≡ context.opened
   pub held : (row : ℕ) → owed_to row left ≡ sum_of (map amounts (held_for row (after_entries subject context entries).waiting))
 
 -- one row more
-one_paid : MergeIsMonoid → (amounts : Opened → Stat) (content : ℕ → ℕ → List ℕ) (subject : Option Subject) (context : Context) (one : Owed) (left : List Owed) (version : ℕ)
+one_paid : MergeIsMonoid → (flags : ℕ → ℕ → ℕ) (amounts : Opened → Stat) (content : ℕ → ℕ → List ℕ) (subject : Option Subject) (context : Context) (one : Owed) (left : List Owed) (version : ℕ)
     → context.ended ≡ None → Above one.row (map row_owed left) → content one.row (version + 1) ≡ merged (content one.row version) one.amount
     → ((row : ℕ) → owed_to row (one ∷ left) ≡ sum_of (map amounts (held_for row context.waiting)))
-    → PaidIs amounts content subject context (says.Add one.row (version + 1) ∷ []) left
-one_paid m amounts content subject context one left version ended above c held =
+    → PaidIs flags amounts content subject context (says.Add one.row (version + 1) ∷ []) left
+one_paid m flags amounts content subject context one left version ended above c held =
     let t : AddsTo one.row context (noted subject context (says.Add one.row (version + 1))) = add_noted subject context one.row (version + 1) in
     record {
       added = (
@@ -47,7 +47,7 @@ one_paid m amounts content subject context one left version ended above c held =
             (ap (λ z. sum_of (map amounts (own_event z ++ held_for one.row context.waiting))) ended ∙ (sym (held one.row) ∙ head_owed one left)),
         tt,
       );
-      once = once_settled subject context one.row (version + 1) ended t.waiting;
+      once = once_settled flags subject context one.row (version + 1) ended t.waiting;
       ended = t.ended ∙ ended;
       begun = t.same.begun;
       opened = t.same.opened;
@@ -61,25 +61,25 @@ one_paid m amounts content subject context one left version ended above c held =
       by_test row false e =
           sym (ap (λ b. if b then Some one.amount else owed_to row left) e) ∙ (held row ∙ ap (λ z. sum_of (map amounts z)) (sym (else_other row one.row context.waiting e)))
 
-all_paid : MergeIsMonoid → (amounts : Opened → Stat) (content : ℕ → ℕ → List ℕ) (subject : Option Subject) (context : Context) (ps : List Paid) (left : List Owed)
+all_paid : MergeIsMonoid → (flags : ℕ → ℕ → ℕ) (amounts : Opened → Stat) (content : ℕ → ℕ → List ℕ) (subject : Option Subject) (context : Context) (ps : List Paid) (left : List Owed)
     → context.ended ≡ None → Ascend (owed_by ps ++ left) → ContentsAgree content (paid_calls ps)
-    → ((row : ℕ) → owed_to row (owed_by ps ++ left) ≡ sum_of (map amounts (held_for row context.waiting))) → PaidIs amounts content subject context (paid_entries ps) left
-all_paid m amounts content subject context [] left ended up c held = record { added = tt; once = λ h. refl; ended = ended; begun = refl; opened = refl; held = held }
-all_paid m amounts content subject context (p ∷ ps) left ended up c held =
+    → ((row : ℕ) → owed_to row (owed_by ps ++ left) ≡ sum_of (map amounts (held_for row context.waiting))) → PaidIs flags amounts content subject context (paid_entries ps) left
+all_paid m flags amounts content subject context [] left ended up c held = record { added = tt; once = λ h. refl; ended = ended; begun = refl; opened = refl; held = held }
+all_paid m flags amounts content subject context (p ∷ ps) left ended up c held =
     let es : List Entry = paid_entries ps in
     let mid : Context = after_entries subject context es in
     let last : Entry = says.Add p.owed.row (p.version + 1) in
     let regrouped : (owed_by ps ++ p.owed ∷ []) ++ left ≡ owed_by ps ++ (p.owed ∷ left) = append_assoc (owed_by ps) (p.owed ∷ []) left in
     let up2 : Ascend (owed_by ps ++ (p.owed ∷ left)) = subst Ascend regrouped up in
-    let first : PaidIs amounts content subject context es (p.owed ∷ left) =
-    all_paid m amounts content subject context ps (p.owed ∷ left) ended up2 c.1.1 (λ row. sym (ap (owed_to row) regrouped) ∙ held row) in
+    let first : PaidIs flags amounts content subject context es (p.owed ∷ left) =
+    all_paid m flags amounts content subject context ps (p.owed ∷ left) ended up2 c.1.1 (λ row. sym (ap (owed_to row) regrouped) ∙ held row) in
     let made : content p.owed.row (p.version + 1) ≡ merged (content p.owed.row p.version) p.owed.amount = c.0 ∙ ap (λ z. merged z p.owed.amount) c.1.0 in
-    let second : PaidIs amounts content subject mid (last ∷ []) left =
-    one_paid m amounts content subject mid p.owed left p.version first.ended (ascend_back (owed_by ps) (p.owed ∷ left) up2).0 made first.held in
+    let second : PaidIs flags amounts content subject mid (last ∷ []) left =
+    one_paid m flags amounts content subject mid p.owed left p.version first.ended (ascend_back (owed_by ps) (p.owed ∷ left) up2).0 made first.held in
     let same : after_entries subject mid (last ∷ []) ≡ after_entries subject context (es ++ last ∷ []) = sym (entries_then subject context es (last ∷ [])) in
     record {
       added = added_then amounts content subject context es (last ∷ []) first.added second.added;
-      once = once_then subject context es (last ∷ []) first.once second.once;
+      once = once_then flags subject context es (last ∷ []) first.once second.once;
       ended = ap (λ (z : Context). z.ended) (sym same) ∙ second.ended;
       begun = ap (λ (z : Context). z.begun) (sym same) ∙ (second.begun ∙ first.begun);
       opened = ap (λ (z : Context). z.opened) (sym same) ∙ (second.opened ∙ first.opened);
@@ -87,26 +87,26 @@ all_paid m amounts content subject context (p ∷ ps) left ended up c held =
     }
 
 -- all that is owed, behind the entry that says so
-settled : MergeIsMonoid → (amounts : Opened → Stat) (content : ℕ → ℕ → List ℕ) (subject : Option Subject) (context : Context) (owed : List Owed) (ps : List Paid) → owed_by ps ≡ owed
+settled : MergeIsMonoid → (flags : ℕ → ℕ → ℕ) (amounts : Opened → Stat) (content : ℕ → ℕ → List ℕ) (subject : Option Subject) (context : Context) (owed : List Owed) (ps : List Paid) → owed_by ps ≡ owed
     → context.ended ≡ None → Ascend owed → ContentsAgree content (paid_calls ps) → ((row : ℕ) → owed_to row owed ≡ sum_of (map amounts (held_for row context.waiting)))
-    → PaidIs amounts content subject context (settle_head owed ++ paid_entries ps) []
-settled m amounts content subject context owed ps e ended up c held = by_owed owed refl where
+    → PaidIs flags amounts content subject context (settle_head owed ++ paid_entries ps) []
+settled m flags amounts content subject context owed ps e ended up c held = by_owed owed refl where
   whole : owed ≡ owed_by ps ++ []
   whole = sym e ∙ sym (append-nil (owed_by ps))
 
-  rest : (mid : Context) → mid.ended ≡ None → mid.waiting ≡ context.waiting → PaidIs amounts content subject mid (paid_entries ps) []
+  rest : (mid : Context) → mid.ended ≡ None → mid.waiting ≡ context.waiting → PaidIs flags amounts content subject mid (paid_entries ps) []
   rest mid none same =
-      all_paid m amounts content subject mid ps [] none (subst Ascend whole up) c
+      all_paid m flags amounts content subject mid ps [] none (subst Ascend whole up) c
       (λ row. sym (ap (owed_to row) whole) ∙ (held row ∙ ap (λ z. sum_of (map amounts (held_for row z))) (sym same)))
 
-  by_owed : (o : List Owed) → owed ≡ o → PaidIs amounts content subject context (settle_head o ++ paid_entries ps) []
+  by_owed : (o : List Owed) → owed ≡ o → PaidIs flags amounts content subject context (settle_head o ++ paid_entries ps) []
   by_owed [] q = rest context ended refl
   by_owed (x ∷ xs) q =
       let t : SettlesTo context (noted subject context says.Settle) = settle_noted subject context in
-      let r : PaidIs amounts content subject (noted subject context says.Settle) (paid_entries ps) [] = rest (noted subject context says.Settle) t.ended t.waiting in
+      let r : PaidIs flags amounts content subject (noted subject context says.Settle) (paid_entries ps) [] = rest (noted subject context says.Settle) t.ended t.waiting in
       record {
         added = (tt, r.added);
-        once = once_then subject context (says.Settle ∷ []) (paid_entries ps) (once_plain subject context says.Settle refl refl t.waiting) r.once;
+        once = once_then flags subject context (says.Settle ∷ []) (paid_entries ps) (once_plain flags subject context says.Settle refl refl t.waiting) r.once;
         ended = r.ended;
         begun = r.begun ∙ t.same.begun;
         opened = r.opened ∙ t.same.opened;
@@ -120,8 +120,8 @@ module _ (m : MergeIsMonoid) (flags : ℕ → ℕ → ℕ) (slots : ℕ → Opti
   settle_brings subject k context s after calls entries a ended up x c =
       let owed : List Owed = owed_by_state s in
       let whole : List Entry = settle_head owed ++ paid_entries x.paid in
-      let r : PaidIs (amount_by flags slots facts session) content subject context whole [] =
-      settled m (amount_by flags slots facts session) content subject context owed x.paid x.owed_are ended up (subst (ContentsAgree content) x.calls_are c) a.held in
+      let r : PaidIs flags (amount_by flags slots facts session) content subject context whole [] =
+      settled m flags (amount_by flags slots facts session) content subject context owed x.paid x.owed_are ended up (subst (ContentsAgree content) x.calls_are c) a.held in
       let next : State = record s { held = nothing_held } in
       let sums : Sums flags slots facts session k (after_entries subject context whole) next = record {
         clock = a.clock;

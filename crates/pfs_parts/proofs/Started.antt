@@ -13,11 +13,11 @@ use Rattle.pfs_model.specs.Numbers.{IsNumbered}
 use Rattle.pfs_model.specs.Setups.{IsJudged, verdict_of, seen_by, is_statement, is_wait}
 use Rattle.pfs_model.specs.Shapes.{starting}
 use Rattle.pfs_model.specs.declared.lines.Subject.{Subject}
-use Rattle.pfs_session.specs.Starts.{Starts, started, verdict_in, is_timed_by, if_through}
+use Rattle.pfs_session.specs.Starts.{Starts, started, verdict_in, is_timed_by, is_digested_by, if_through}
 use Rattle.pfs_session.specs.States.{State, count_open, one_if}
 use Rattle.pfs_session.specs.declared.setup.Setup.{Setup}
 use Rattle.pfs_parts.proofs.Alike.{same_count, one_cond}
-use Rattle.pfs_parts.proofs.Starting.{consumers_in, thread_in, class_in, table_in, start_as, start_shaped, start_judged, start_counted, event_of}
+use Rattle.pfs_parts.proofs.Starting.{consumers_in, thread_in, class_in, table_in, start_as, start_shaped, start_judged, start_counted, start_digested, start_row, event_of}
 use Rattle.pfs_parts.specs.Agreeing.{LoadsAgree, IsAlike, Agrees}
 use Rattle.pfs_parts.specs.Deeds.{IsSubject}
 
@@ -63,8 +63,10 @@ start_is flags context s subject calls entries after a is st loads =
       kind = sym st.opened.kind;
       verdict = sym st.opened.verdict_is;
       number = ap (λ z. if_through v z) (sym st.opened.number) ∙ ap (λ z. if_through z st.what.event.number) (sym st.opened.verdict_is);
-      counted = start_counted flags s.place.thread subject v context.begun n st.seen subject.class s.number s.drawn s.clock s.opened.events (is_timed_by subject st.seen) st.what
+      counted = start_counted flags s.place.thread subject v context.begun n st.seen subject.class s.number s.drawn s.clock s.opened.events (is_timed_by subject st.seen) (is_digested_by subject v st.seen) st.what
           s.stack (count_open is_statement s.opened.events) (count_open is_wait s.opened.events) refl is st.loaded agree refl refl st.opened;
+      digested = start_digested flags s.place.thread subject v context.begun n st.seen subject.class refl st.loaded agree ∙ sym st.opened.digested_is;
+      digest = start_row subject (is_digested_by subject v st.seen) st.what st.opened.digested_is st.opened.link;
     } in
     record {
       shaped = subst P (sym a.slot) (ap (λ z. cut (starting s.place.thread subject) z) st.entries_are

@@ -1,5 +1,5 @@
 -- A start, by what it loaded.
-use Rattle.std.proofs.Common.{ℕ, ◌≡◌, ◌&&◌, ◌||◌, Bool, true, false, List, [], ◌∷◌, ◌++◌, Option, Some, None, is_some, is_none, inl, inr, eq-eqb, refl, ap, sym, ◌∙◌, subst}
+use Rattle.std.proofs.Common.{ℕ, ◌≡◌, ◌&&◌, ◌||◌, Bool, true, false, List, [], ◌∷◌, ◌++◌, Option, Some, None, is_some, is_none, inl, inr, eq-eqb, refl, ap, sym, ◌∙◌, subst, ◌+◌, arith}
 use Rattle.std.specs.Option.{option_map}
 use Rattle.std.specs.Prelude.{Ok, ◌⊎◌, ◌==◌, if◌then◌else◌}
 use Rattle.std.proofs.lemmas.Bool.{true≢false, false≢true, eqb-true}
@@ -10,15 +10,18 @@ use Rattle.pfs_event.specs.declared.verdict.Verdict.{Verdict}
 use Rattle.pfs_event.specs.declared.verdict.Verdict.TheVariants.{LostThread, LostClass, OffGlobal, OffClass, OffTable, OffThread, LostNested, LostLocker, Aside, Attributed}
 use Rattle.pfs_levels.specs.Calls.{Loads}
 use Rattle.pfs_levels.specs.declared.answers.Word.{Word}
-use Rattle.pfs_model.specs.Asks.{is_start, verdict_fits, are_loaded}
+use Rattle.pfs_consumers.specs.Tree.{acts_of}
+use Rattle.pfs_consumers.specs.declared.Consumer.TheVariants.{StatementsDigest}
+use Rattle.pfs_model.specs.Asks.{is_start, verdict_fits, are_loaded, digest_row}
+use Rattle.pfs_model.specs.Contents.{plus_one}
 use Rattle.pfs_model.specs.Cuts.{cut}
-use Rattle.pfs_model.specs.Setups.{SeenSetup, verdict_by, verdict_of, seen_by, flags_seen, class_word, table_word, thread_word, is_timed, has_time, is_statement, is_wait, open_through}
+use Rattle.pfs_model.specs.Setups.{SeenSetup, verdict_by, verdict_of, seen_by, flags_seen, class_word, table_word, thread_word, is_timed, is_digested, has_time, is_statement, is_wait, open_through}
 use Rattle.pfs_model.specs.Shapes.{starting}
 use Rattle.pfs_model.specs.declared.lines.Opened.{Opened}
 use Rattle.pfs_model.specs.declared.lines.Subject.{Subject}
 use Rattle.pfs_model.specs.declared.shapes.Ask.TheVariants as asks
 use Rattle.pfs_session.specs.Ends.{cell_in}
-use Rattle.pfs_session.specs.Starts.{IsLoaded, IsOpened, IsClass, load_calls, setup_calls, table_calls, start_entry, verdict_seen, is_timed_by, flags_in, flags_of, if_through, versions_in, version_of}
+use Rattle.pfs_session.specs.Starts.{IsLoaded, IsOpened, IsClass, load_calls, setup_calls, table_calls, start_entry, verdict_seen, is_timed_by, is_digested_by, link_of, flags_in, flags_of, if_through, versions_in, version_of}
 use Rattle.pfs_session.specs.declared.setup.Setup.{Setup}
 use Rattle.pfs_parts.proofs.Cutting.{cut_one, cut_maybe_end, cut_nothing}
 use Rattle.pfs_parts.specs.Agreeing.{LoadsAgree, IsCounted}
@@ -235,12 +238,12 @@ cell_as cell class number only o n is = by_test (cell == 63) refl where
   by_test false t = elim is [ inl x ↦ x ∙ sym n ∙ sym (on_some only 63 number (o ∙ t)) | inr x ↦ absurd (true≢false (sym (eq-eqb cell 63 x) ∙ t)) ]
 
 pub start_counted : (flags : ℕ → ℕ → ℕ) (slot : Option ℕ) (subject : Subject) (verdict : Verdict) (index number : ℕ) (seen : Option Setup) (class : Option ℕ)
-    (session drawn clock : ℕ) (events : List Open) (timed : Bool) (what : Open) (stack statements waits : ℕ)
+    (session drawn clock : ℕ) (events : List Open) (timed digested : Bool) (what : Open) (stack statements waits : ℕ)
     → subject.class ≡ class → IsSubject subject → IsLoaded slot subject.class subject.table seen → LoadsAgree flags (load_calls slot subject.class subject.table seen)
     → verdict ≡ verdict_seen stack slot subject seen statements waits → timed ≡ is_timed_by subject seen
-    → IsOpened session drawn clock events subject verdict timed what
+    → IsOpened session drawn clock events subject verdict timed digested what
     → IsCounted flags slot (is_let_through what.verdict) (event_of subject verdict index number seen) what
-start_counted flags slot subject verdict index number seen class session drawn clock events timed what stack statements waits e is l agree v t o =
+start_counted flags slot subject verdict index number seen class session drawn clock events timed digested what stack statements waits e is l agree v t o =
     subst (λ z. IsCounted flags slot (is_let_through z) (event_of subject verdict index number seen) what) (sym (o.verdict_is ∙ v)) (counted slot seen class e l agree refl t) where
       counted : (slot : Option ℕ) (seen : Option Setup) (class : Option ℕ) → subject.class ≡ class → IsLoaded slot subject.class subject.table seen
           → LoadsAgree flags (load_calls slot subject.class subject.table seen) → slot ≡ slot → timed ≡ is_timed_by subject seen
@@ -259,3 +262,31 @@ start_counted flags slot subject verdict index number seen class session drawn c
                 → IsCounted flags (Some slot) b (event_of subject verdict index number (Some seen)) what
             both_if true p q = (p, q)
             both_if false p q = tt
+
+third_false : (a b c : Bool) → c ≡ false → (a && b && c) ≡ false
+third_false true true c e = e
+third_false true false c e = refl
+third_false false b c e = refl
+
+-- a statement is digested by what the printed versions give just where it is by what was loaded
+pub start_digested : (flags : ℕ → ℕ → ℕ) (slot : Option ℕ) (subject : Subject) (verdict : Verdict) (index number : ℕ) (seen : Option Setup) (class : Option ℕ) → subject.class ≡ class
+    → IsLoaded slot subject.class subject.table seen → LoadsAgree flags (load_calls slot subject.class subject.table seen)
+    → is_digested flags slot (event_of subject verdict index number seen) ≡ is_digested_by subject verdict seen
+start_digested flags slot subject verdict index number None class e l agree =
+    third_false (is_statement subject.kind) (is_let_through verdict) (acts_of 0 StatementsDigest) refl
+start_digested flags None subject verdict index number (Some seen) class e l agree = absurd (true≢false l.there)
+start_digested flags (Some slot) subject verdict index number (Some seen) None e l agree = absurd (true≢false (l.there ∙ ap is_some e))
+start_digested flags (Some slot) subject verdict index number (Some seen) (Some class) e l agree =
+    let w = words_told flags slot class subject.table seen l.table_is (subst (λ z. LoadsAgree flags (load_calls (Some slot) z subject.table (Some seen))) e agree) in
+    ap (λ z. is_statement subject.kind && is_let_through verdict && acts_of z StatementsDigest) w.1
+
+-- the row of a digest is as far behind that of the texts without a place as its link says
+row_by_link : (digest : Option ℕ) → digest_row digest ≡ 8385 + plus_one digest
+row_by_link None = omega arith
+row_by_link (Some digest) = omega arith
+
+pub start_row : (subject : Subject) (digested : Bool) (what : Open) → what.digested ≡ digested → what.event.link ≡ link_of digested subject → what.digested ≡ true
+    → digest_row subject.digest ≡ 8385 + what.event.link
+start_row subject digested what d l t =
+    let on : digested ≡ true = sym d ∙ t in
+    row_by_link subject.digest ∙ ap (λ z. 8385 + z) (sym (l ∙ ap (λ b. link_of b subject) on))

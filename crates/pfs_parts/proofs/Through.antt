@@ -67,7 +67,7 @@ resumed_sums flags slots facts session k context s a = record { clock = a.clock;
 record IsThrough (flags : ℕ → ℕ → ℕ) (slots : ℕ → Option ℕ) (facts : ℕ → ℕ → Facts) (content : ℕ → ℕ → List ℕ) (session : ℕ) (before : List Waiting) (all : List Placed) (over : Bool)
     (clocked : Clocked) (context : Context) (s : State) : Type 0 where
   pub added : AreAdded (amount_by flags slots facts session) content all
-  pub once : IsOnce before all context.waiting
+  pub once : IsOnce flags before all context.waiting
   pub stands : Stands flags over context s
   pub sums : Sums flags slots facts session clocked context s
 
@@ -119,7 +119,7 @@ through m flags slots facts content session (stint ∷ stints) over clocked cont
           let end : Context = told_by session now (blocks_of stints) in
           record {
             added = added_more (amount_by flags slots facts session) content here (own_places session now stints) (a.added stint.phase) r.added;
-            once = once_both here (own_places session now stints) context.waiting now.waiting end.waiting (a.once stint.phase) r.once;
+            once = once_both flags here (own_places session now stints) context.waiting now.waiting end.waiting (a.once stint.phase) r.once;
             stands = r.stands;
             sums = subst (λ z. Sums flags slots facts session z end (state_by session (resumed behind) stints)) (clock_then clocked ps qs) r.sums;
           }
@@ -137,9 +137,9 @@ whole m = λ flags slots facts content stack depths session stints are loads pla
     let t : IsThrough flags slots facts content session [] (own_places session empty stints) (over_by session false stints) clock behind left =
     through m flags slots facts content session stints false at_first empty s agrees starts (own_stints stack depths session [] 0 stints are) loads placed given contents in
     let same : all ≡ own_places session empty stints = own_is session [] empty stints refl in
-    let all_once : IsOnce [] all behind.waiting = subst (λ z. IsOnce [] z behind.waiting) (sym same) t.once in
-    let at_end : over_by session false stints ≡ true → IsOnce [] all [] = λ over.
+    let all_once : IsOnce flags [] all behind.waiting = subst (λ z. IsOnce flags [] z behind.waiting) (sym same) t.once in
+    let at_end : over_by session false stints ≡ true → IsOnce flags [] all [] = λ over.
     (let gone : IsOver behind left = subst (λ b. Stands flags b behind left) over t.stands in
     let none : behind.waiting ≡ [] = sums.nothing flags slots facts session clock behind left t.sums (ap (λ z. owed_in z left.held) gone.nowhere) in
-    subst (IsOnce [] all) none all_once) in
+    subst (IsOnce flags [] all) none all_once) in
     record { added = subst (AreAdded (amount_by flags slots facts session) content) (sym same) t.added; once = all_once; sums = t.sums; ended = at_end })

@@ -35,6 +35,7 @@ use Rattle.pfs_parts.proofs.Ended.{EndIs, end_is, ending_closed}
 use Rattle.pfs_parts.proofs.Inverting.{OneTurn, TwoTurns, no_turns, one_turn, two_turns}
 use Rattle.pfs_parts.proofs.Pieces.{IsPiece, piece_none, piece_one, piece_plain, piece_then, cut_both}
 use Rattle.pfs_parts.proofs.Settled.{SettleIs, settle_is, settling_closed, settled_context, settle_shaped, settle_plain, piece_plains}
+use Rattle.pfs_session.proofs.Ending.{through_leaves}
 use Rattle.pfs_session.proofs.Owed.{nothing_owed}
 use Rattle.pfs_parts.proofs.Started.{StartIs, start_is}
 use Rattle.pfs_parts.specs.Agreeing.{LoadsAgree, AreAlike, Agrees, IsOver, Stands, row_owed}
@@ -109,7 +110,7 @@ ends_stack s numbers calls entries after e = by_case s.place.thread (is_let_thro
   by_case : (slot : Option ℕ) (b : Bool) → EndsIn s slot b e.what e.others numbers calls entries after → after.stack ≡ s.stack
   by_case slot false x = ap (λ (z : State). z.stack) x.after_is
   by_case None true x = absurd x
-  by_case (Some slot) true x = ap (λ (z : State). z.stack) x.after_is
+  by_case (Some slot) true x = ap (λ (z : State). z.stack) (through_leaves s slot e.what e.others numbers calls entries after x)
 
 -- a line that ends an event and starts none
 ending_line : (flags : ℕ → ℕ → ℕ) (context : Context) (s : State) (line : Line) (numbers : Numbers) (turns : List Turn) → Agrees flags context s

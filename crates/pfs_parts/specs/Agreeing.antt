@@ -1,10 +1,11 @@
 -- That a session stands as its journal tells.
-use Rattle.std.specs.Prelude.{ℕ, ◌≡◌, ◌<◌, Bool, true, false, List, [], ◌∷◌, length, map, Option, None, IfSome}
+use Rattle.std.specs.Prelude.{ℕ, ◌≡◌, ◌<◌, ◌+◌, Bool, true, false, List, [], ◌∷◌, length, map, Option, None, IfSome}
 use Rattle.pfs_event.specs.Verdicts.{is_let_through}
 use Rattle.pfs_event.specs.declared.open.Open.{Open}
 use Rattle.pfs_levels.specs.Calls.{Call, Adds, Rings, Reads, Loads, Draws, Takes, Puts, Frees, Sets, Enters, Leaves, Meets}
+use Rattle.pfs_model.specs.Asks.{digest_row}
 use Rattle.pfs_model.specs.Contexts.{Context}
-use Rattle.pfs_model.specs.Setups.{is_timed}
+use Rattle.pfs_model.specs.Setups.{is_timed, is_digested}
 use Rattle.pfs_model.specs.declared.lines.Opened.{Opened}
 use Rattle.pfs_session.specs.Ends.{cell_in}
 use Rattle.pfs_session.specs.Settles.{owed_by_state}
@@ -36,12 +37,15 @@ IsCounted flags slot false event what = Unit {0}
 IsCounted flags slot true event what = (event.subject.cell ≡ cell_in what)
     × (is_timed flags slot event ≡ what.event.timed)
 
--- an open event is the one that a journal tells of
+-- an open event is the one that a journal tells of; of a digested statement it knows the row, behind that of the texts
+-- without a place
 pub record IsAlike (flags : ℕ → ℕ → ℕ) (slot : Option ℕ) (event : Opened) (what : Open) : Type 0 where
   pub kind : event.subject.kind ≡ what.kind
   pub verdict : event.verdict ≡ what.verdict
   pub number : event.number ≡ if_through what.verdict what.event.number
   pub counted : IsCounted flags slot (is_let_through what.verdict) event what
+  pub digested : is_digested flags slot event ≡ what.digested
+  pub digest : what.digested ≡ true → digest_row event.subject.digest ≡ 8385 + what.event.link
 
 abbrev pub AreAlike : (ℕ → ℕ → ℕ) → Option ℕ → List Opened → List Open → Type 0
 AreAlike flags slot [] [] = Unit {0}

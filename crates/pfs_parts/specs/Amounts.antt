@@ -13,10 +13,11 @@ use Rattle.pfs_levels.specs.declared.answers.Added.TheVariants.{Counted, Held}
 use Rattle.pfs_model.specs.Contents.{Facts, Given, amount_by, amount_of, IsNext, IsContent}
 use Rattle.pfs_model.specs.Contents.{merged as all_merged}
 use Rattle.pfs_levels.specs.Joint.{total, At, Setting, AllAgree}
-use Rattle.pfs_model.specs.Asks.{cell_row}
+use Rattle.pfs_model.specs.Asks.{cell_row, digest_row}
 use Rattle.pfs_model.specs.Contexts.{Context, Waiting, brought, held_for}
 use Rattle.pfs_model.specs.Contexts.{fresh as empty}
 use Rattle.pfs_model.specs.Places.{Placed, placed_lines, after_lines, told_by, by_session, places}
+use Rattle.pfs_model.specs.Setups.{is_digested}
 use Rattle.pfs_model.specs.Shapes.{counted_slot}
 use Rattle.pfs_model.specs.declared.lines.Opened.{Opened}
 use Rattle.pfs_session.specs.Ends.{numbers_for, with_held}
@@ -192,45 +193,52 @@ AreAdded amount content (place ∷ places) =
 abbrev pub in_row : ℕ → Opened → Waiting
 in_row row event = record { row = row; event = event }
 
--- the event that an end counts: the innermost open one, where it is let through, in its cell
-abbrev pub counted_first : Option ℕ → List Opened → List Waiting
-counted_first slot [] = []
-counted_first slot (event ∷ others) =
+-- a digested statement with the row of its digest
+abbrev pub in_digest_row : Bool → Opened → List Waiting
+in_digest_row false event = []
+in_digest_row true event = in_row (digest_row event.subject.digest) event ∷ []
+
+-- the event that an end counts: the innermost open one, where it is let through, in its cell, and a digested statement
+-- in the row of its digest too
+abbrev pub counted_first : (ℕ → ℕ → ℕ) → Option ℕ → List Opened → List Waiting
+counted_first flags slot [] = []
+counted_first flags slot (event ∷ others) =
     if is_let_through event.verdict
-    then in_row (cell_row (counted_slot slot event.verdict) event.subject.cell) event ∷ []
+    then in_row (cell_row (counted_slot slot event.verdict) event.subject.cell) event
+    ∷ in_digest_row (is_digested flags slot event) event
     else []
 
-abbrev pub counted_at : Context → Entry → List Waiting
-counted_at context (says.End event last consumers thread) = counted_first context.slot context.opened
-counted_at context entry = []
+abbrev pub counted_at : (ℕ → ℕ → ℕ) → Context → Entry → List Waiting
+counted_at flags context (says.End event last consumers thread) = counted_first flags context.slot context.opened
+counted_at flags context entry = []
 
 -- the events that an addition brings
 abbrev pub brought_at : Context → Entry → List Waiting
 brought_at context (says.Add row version) = map (in_row row) (brought context row)
 brought_at context entry = []
 
-abbrev pub counted_in : List Placed → List Waiting
-counted_in [] = []
-counted_in (place ∷ places) = counted_at place.context place.entry ++ counted_in places
+abbrev pub counted_in : (ℕ → ℕ → ℕ) → List Placed → List Waiting
+counted_in flags [] = []
+counted_in flags (place ∷ places) = counted_at flags place.context place.entry ++ counted_in flags places
 
 abbrev pub brought_in : List Placed → List Waiting
 brought_in [] = []
 brought_in (place ∷ places) = brought_at place.context place.entry ++ brought_in places
 
--- each event that ended and counts, or waited before, was brought or waits behind, just as often, each in its row
-abbrev pub IsOnce : List Waiting → List Placed → List Waiting → Type 0
-IsOnce before places behind = (weight : Waiting → ℕ)
-    → total weight (counted_in places) + total weight before
+-- each event that ended and counts, or waited before, was brought or waits behind, just as often, each in its rows
+abbrev pub IsOnce : (ℕ → ℕ → ℕ) → List Waiting → List Placed → List Waiting → Type 0
+IsOnce flags before places behind = (weight : Waiting → ℕ)
+    → total weight (counted_in flags places) + total weight before
     ≡ total weight (brought_in places) + total weight behind
 
 -- each addition of a session's journal brings its row exactly the events that the journal says; each event that ended
--- and counts was brought once to its row, or waits for it; and behind the journal the session holds for each row
--- exactly what waits for it
+-- and counts was brought once to each of its rows, or waits for it; and behind the journal the session holds for each
+-- row exactly what waits for it
 pub record IsAccounted (flags : ℕ → ℕ → ℕ) (slots : ℕ → Option ℕ) (facts : ℕ → ℕ → Facts) (session : ℕ)
     (content : ℕ → ℕ → List ℕ) (clocked : Clocked) (context : Context) (s : State) (parts : List Part) : Type 0 where
   pub added : (phase : ℕ) → AreAdded (amount_by flags slots facts session) content
       (placed_lines phase session context (lines_of parts) (entries_of parts))
-  pub once : (phase : ℕ) → IsOnce context.waiting
+  pub once : (phase : ℕ) → IsOnce flags context.waiting
       (placed_lines phase session context (lines_of parts) (entries_of parts))
       (after_lines context (lines_of parts) (entries_of parts)).waiting
   pub sums : Sums flags slots facts session (clock_behind clocked parts)
@@ -260,11 +268,11 @@ pub record SumsLaw : Type 0 where
 pub record IsWhole (flags : ℕ → ℕ → ℕ) (slots : ℕ → Option ℕ) (facts : ℕ → ℕ → Facts) (content : ℕ → ℕ → List ℕ)
     (s : State) (session : ℕ) (stints : List Stint) : Type 0 where
   pub added : AreAdded (amount_by flags slots facts session) content (by_session session (places (blocks_of stints)))
-  pub once : IsOnce [] (by_session session (places (blocks_of stints)))
+  pub once : IsOnce flags [] (by_session session (places (blocks_of stints)))
       (told_by session empty (blocks_of stints)).waiting
   pub sums : Sums flags slots facts session (clock_behind at_first (parts_by session stints))
       (told_by session empty (blocks_of stints)) (state_by session s stints)
-  pub ended : over_by session false stints ≡ true → IsOnce [] (by_session session (places (blocks_of stints))) []
+  pub ended : over_by session false stints ≡ true → IsOnce flags [] (by_session session (places (blocks_of stints))) []
 
 -- of each session among those that run
 abbrev pub WholeLaw : Type 0

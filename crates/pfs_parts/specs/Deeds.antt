@@ -51,7 +51,7 @@ action_of (Spending time) = None
 action_of Closing = None
 
 -- the steps that a session does at it: a stage that is open ends before another starts, and before its statement ends;
--- what is held is settled before an action, and at the end of its block
+-- what is held is settled before a quit and a truncation, and at the end of its block
 abbrev pub steps_for : State → Deed → List Step
 steps_for s (Connecting admin user host) = Connects admin user host ∷ []
 steps_for s (Starting subject) = StartsEvent subject ∷ []

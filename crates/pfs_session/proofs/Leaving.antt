@@ -37,10 +37,10 @@ end_leaves old mid new m n = n ∙ ap (λ (s : State). record s { held = new.hel
 pub end_leaves_alone : (old mid new : State) → mid ≡ without_innermost old → new ≡ mid → new ≡ record (without_innermost old) { held = new.held }
 end_leaves_alone old mid new m n = end_leaves old mid new m (n ∙ ap (λ (s : State). record mid { held = s.held }) (sym n))
 
-pub end_owes : (old mid new : State) → mid ≡ without_innermost old → length (owed_by_state new) ≤ length (owed_by_state mid) + 1
-    → length (owed_by_state new) ≤ length (owed_by_state old) + 1
-end_owes old mid new m le = subst (λ (s : State). length (owed_by_state new) ≤ length (owed_by_state s) + 1) m le
+pub end_owes : (old mid new : State) → mid ≡ without_innermost old → length (owed_by_state new) ≤ length (owed_by_state mid) + 2
+    → length (owed_by_state new) ≤ length (owed_by_state old) + 2
+end_owes old mid new m le = subst (λ (s : State). length (owed_by_state new) ≤ length (owed_by_state s) + 2) m le
 
 pub end_owes_alone : (old mid new : State) → mid ≡ without_innermost old → new ≡ mid
-    → length (owed_by_state new) ≤ length (owed_by_state old) + 1
+    → length (owed_by_state new) ≤ length (owed_by_state old) + 2
 end_owes_alone old mid new m n = omega (arith, ap (λ s. length (owed_by_state s)) n, ap (λ s. length (owed_by_state s)) m)

@@ -1,4 +1,5 @@
 pub mod Answering
+pub mod Ending
 pub mod Leaving
 pub mod Owed
 pub mod Playing

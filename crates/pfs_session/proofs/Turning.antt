@@ -18,21 +18,23 @@ use Rattle.pfs_event.specs.declared.entry.Entry.TheVariants as says
 use Rattle.pfs_event.specs.declared.kind.EventKind.{EventKind}
 use Rattle.pfs_event.specs.declared.open.Open.{Open}
 use Rattle.pfs_event.specs.declared.verdict.Verdict.{Verdict}
-use Rattle.pfs_levels.specs.Calls.{Call, Opening, Goes, Loads}
+use Rattle.pfs_levels.specs.Calls.{Call, Opening, Goes, Loads, Adds}
 use Rattle.pfs_levels.specs.Journal.{Journal}
 use Rattle.pfs_levels.specs.Moves.{Did, moves_calls, moves_entries}
+use Rattle.pfs_levels.proofs.Moving.{did_none, did_then}
 use Rattle.pfs_levels.specs.declared.answers.Added.{Added}
 use Rattle.pfs_levels.specs.declared.answers.Word.{Word}
 use Rattle.pfs_model.specs.Setups.{is_wait, is_statement}
 use Rattle.pfs_model.specs.declared.lines.Subject.{Subject}
 use Rattle.pfs_stat.specs.declared.Stat.{Stat}
 use Rattle.pfs_session.specs.Adding.{Brings}
-use Rattle.pfs_session.specs.Ends.{EndsIn, EndsThrough, EndsSilently, Finished, amount_of, cell_number, added_entry, without_innermost}
+use Rattle.pfs_session.specs.Ends.{EndsIn, EndsThrough, EndsCounted, EndsSilently, AddsTo, AddsNothing, DigestsIn, HasCounted, HasDigested, Finished, amount_of, cell_number, digest_number, added_entry, added_entries, with_held, without_innermost}
 use Rattle.pfs_session.specs.Settles.{PaysAll, owed_in, owed_by_state}
-use Rattle.pfs_session.specs.Starts.{Starts, IsLoaded, IsOpened, load_calls, start_entry, started, verdict_seen, verdict_in, is_timed_by}
-use Rattle.pfs_session.specs.States.{State, Book, count_open, one_if, IsKept, AreAround, AreSeated, AreSilent, AreHeldFor, no_place, nothing_held}
+use Rattle.pfs_session.specs.Starts.{Starts, IsLoaded, IsOpened, load_calls, start_entry, started, verdict_seen, verdict_in, is_timed_by, is_digested_by}
+use Rattle.pfs_session.specs.States.{State, Book, held_row, held_at, count_open, one_if, IsKept, AreAround, AreSeated, AreSilent, AreHeldFor, no_place, nothing_held}
 use Rattle.pfs_session.specs.Turns.{StartsEvent, EndsEvent, SettlesHeld, Connects, Quits, Truncates, Truncated, Played, Works, stage_ends, stage_steps}
 use Rattle.pfs_session.specs.declared.events.Numbers.{Numbers}
+use Rattle.pfs_session.specs.declared.session.Ended.{Ended}
 use Rattle.pfs_session.specs.declared.setup.Setup.{Setup}
 use Rattle.pfs_session.proofs.Playing.{played_one, played_then}
 
@@ -42,42 +44,43 @@ verdict_counts s subject seen statements waits a b =
     ap (λ z. verdict_seen s.stack s.place.thread subject seen z waits) a
     ∙ ap (λ z. verdict_seen s.stack s.place.thread subject seen (count_open is_statement s.opened.events) z) b
 
-pub start_played : (old new : Book) (entry : Entry) (subject : Subject) (seen : Option Setup) (verdict : Verdict) (timed : Bool) (what : Open) (statements waits : ℕ)
+pub start_played : (old new : Book) (entry : Entry) (subject : Subject) (seen : Option Setup) (verdict : Verdict) (timed digested : Bool) (what : Open) (statements waits : ℕ)
     (was now : Opening → List Call → Type 0)
     → IsLoaded old.state.place.thread subject.class subject.table seen → statements ≡ count_open is_statement old.state.opened.events
     → waits ≡ count_open is_wait old.state.opened.events → verdict ≡ verdict_seen old.state.stack old.state.place.thread subject seen statements waits
-    → timed ≡ is_timed_by subject seen
-    → IsOpened old.state.number old.state.drawn old.state.clock old.state.opened.events subject verdict timed what
+    → timed ≡ is_timed_by subject seen → digested ≡ is_digested_by subject verdict seen
+    → IsOpened old.state.number old.state.drawn old.state.clock old.state.opened.events subject verdict timed digested what
     → new.state ≡ started old.state what → entry ≡ start_entry verdict (old.state.drawn + 1) seen
     → new.journal.entries ≡ old.journal.entries ++ entry ∷ [] → Goes was now (load_calls old.state.place.thread subject.class subject.table seen)
     → Played (StartsEvent subject ∷ []) old new was now
-start_played old new entry subject seen verdict timed what statements waits was now loaded a b v t opened state e entries goes =
+start_played old new entry subject seen verdict timed digested what statements waits was now loaded a b v t d opened state e entries goes =
     let s : State = old.state in
     let same : verdict ≡ verdict_in s subject seen = v ∙ verdict_counts s subject seen statements waits a b in
-    let P : Verdict → Type 0 = λ z. IsOpened s.number s.drawn s.clock s.opened.events subject z timed what in
-    let Q : Bool → Type 0 = λ z. IsOpened s.number s.drawn s.clock s.opened.events subject (verdict_in s subject seen) z what in
+    let P : Verdict → Type 0 = λ z. IsOpened s.number s.drawn s.clock s.opened.events subject z timed digested what in
+    let Q : Bool → Type 0 = λ z. IsOpened s.number s.drawn s.clock s.opened.events subject (verdict_in s subject seen) z digested what in
+    let R : Bool → Type 0 = λ z. IsOpened s.number s.drawn s.clock s.opened.events subject (verdict_in s subject seen) (is_timed_by subject seen) z what in
     let turn : Starts s subject (load_calls s.place.thread subject.class subject.table seen) (entry ∷ []) (started s what) = record {
       seen = seen;
       what = what;
       loaded = loaded;
       calls_are = refl;
-      opened = subst Q t (subst P same opened);
+      opened = subst R (d ∙ ap (λ z. is_digested_by subject z seen) same) (subst Q t (subst P same opened));
       entries_are = ap (λ z. z ∷ []) (e ∙ ap (λ z. start_entry z (s.drawn + 1) seen) same);
       after_is = refl;
     } in
     played_one (StartsEvent subject) (load_calls s.place.thread subject.class subject.table seen) (entry ∷ []) (started s what) old new was now turn state
     (record { entries_are = entries; goes = goes })
 
--- an event that is out of the nest ends: two loads, its entry, and the addition
-pub finish_done : (old new : Book) (slot cell : ℕ) (consumers thread : Word) (answer : Added) (amount : Stat) (what : Open) (numbers : Numbers) (mid : Journal)
+-- an event that is out of the nest is counted: two loads, its entry, and the addition
+pub count_done : (old new : Book) (slot cell : ℕ) (consumers thread : Word) (answer : Added) (amount : Stat) (what : Open) (numbers : Numbers) (mid : Journal)
     (here there : List (Option Stat)) (was a b now : Opening → List Call → Type 0)
     → old.state.place.thread ≡ Some slot → Goes was a (Loads 0 consumers.version consumers.flags ∷ [])
     → Goes a b (Loads (1 + slot) thread.version thread.flags ∷ [])
     → mid.entries ≡ old.journal.entries ++ says.End (Some what.event.number) (Some old.state.drawn) (Some consumers.version) (Some thread.version) ∷ []
     → cell ≡ cell_number what → amount ≡ amount_of what old.state.clock numbers → here ≡ old.state.held
     → Brings slot cell amount here there answer mid new.journal b now
-    → new.state ≡ record old.state { held = there } → Finished old new what numbers answer was now
-finish_done old new slot cell consumers thread answer amount what numbers mid here there was a b now seat l0 l1 m c e h br state =
+    → new.state ≡ record old.state { held = there } → HasCounted old new what numbers answer was now
+count_done old new slot cell consumers thread answer amount what numbers mid here there was a b now seat l0 l1 m c e h br state =
     let End : Entry = says.End (Some what.event.number) (Some old.state.drawn) (Some consumers.version) (Some thread.version) in
     let P : ℕ → Type 0 = λ z. Brings slot z amount here there answer mid new.journal b now in
     let Q : Stat → Type 0 = λ z. Brings slot (cell_number what) z here there answer mid new.journal b now in
@@ -88,7 +91,7 @@ finish_done old new slot cell consumers thread answer amount what numbers mid he
       calls = _;
       entries = End ∷ added_entry answer ∷ [];
       slot_is = seat;
-      ends = record {
+      counts = record {
         consumers = consumers;
         thread = thread;
         answer = answer;
@@ -104,20 +107,97 @@ finish_done old new slot cell consumers thread answer amount what numbers mid he
       };
     }
 
-pub end_through : (old mid new : Book) (what : Open) (numbers : Numbers) (answer : Added) (was now : Opening → List Call → Type 0)
+-- it is added to its digest's row, where it is a digested statement
+pub digest_done : (old new : Book) (slot cell : ℕ) (answer : Added) (amount : Stat) (what : Open) (numbers : Numbers)
+    (here there : List (Option Stat)) (was now : Opening → List Call → Type 0)
+    → old.state.place.thread ≡ Some slot → what.digested ≡ true → cell ≡ digest_number what → amount ≡ amount_of what old.state.clock numbers
+    → here ≡ old.state.held → Brings slot cell amount here there answer old.journal new.journal was now
+    → new.state ≡ record old.state { held = there } → HasDigested old new what numbers (Some answer) was now
+digest_done old new slot cell answer amount what numbers here there was now seat digested c e h br state =
+    let P : ℕ → Type 0 = λ z. Brings slot z amount here there answer old.journal new.journal was now in
+    let Q : Stat → Type 0 = λ z. Brings slot (digest_number what) z here there answer old.journal new.journal was now in
+    let R : List (Option Stat) → Type 0 = λ z. Brings slot (digest_number what) (amount_of what old.state.clock numbers) z there answer old.journal new.journal was now in
+    let br2 = subst R h (subst Q e (subst P c br)) in
+    let calls : List Call = Adds (held_row slot (digest_number what)) (with_held (held_at old.state.held (digest_number what)) (amount_of what old.state.clock numbers)) answer ∷ [] in
+    let own : AddsTo old.state slot (digest_number what) (amount_of what old.state.clock numbers) calls (added_entry answer ∷ []) new.state = record {
+      answer = answer;
+      row_is = br2.row_is;
+      calls_are = refl;
+      entries_are = refl;
+      after_is = state ∙ ap (λ z. record old.state { held = z }) br2.held_is;
+    } in
+    let B : Bool → Type 0 = λ b. DigestsIn b old.state slot what numbers calls (added_entry answer ∷ []) new.state in
+    record { slot = slot; calls = calls; slot_is = seat; digests = subst B (sym digested) own; did = br2.did }
+
+pub digest_none : (old new : Book) (slot : ℕ) (what : Open) (numbers : Numbers) (was : Opening → List Call → Type 0)
+    → old.state.place.thread ≡ Some slot → what.digested ≡ false → new ≡ old → HasDigested old new what numbers None was was
+digest_none old new slot what numbers was seat digested same =
+    let B : Bool → Type 0 = λ b. DigestsIn b old.state slot what numbers [] [] new.state in
+    let own : AddsNothing old.state [] [] new.state = record { calls_are = refl; entries_are = refl; after_is = ap (λ (b : Book). b.state) same } in
+    record {
+      slot = slot;
+      calls = [];
+      slot_is = seat;
+      digests = subst B (sym digested) own;
+      did = subst (λ (b : Book). Did [] [] old.journal b.journal was was) (sym same) (did_none old.journal was);
+    }
+
+-- both, one behind the other
+pub finish_both : (old mid new : Book) (what : Open) (numbers : Numbers) (summary : Added) (digest : Option Added) (was at now : Opening → List Call → Type 0)
+    → HasCounted old mid what numbers summary was at → HasDigested mid new what numbers digest at now
+    → Finished old new what numbers (record { summary = summary; digest = digest }) was now
+finish_both old mid new what numbers summary digest was at now c d =
+    let place : mid.state.place.thread ≡ old.state.place.thread = ap (λ (m : State). m.place.thread) c.counts.after_is in
+    let slot : d.slot ≡ c.slot = same_slot (sym d.slot_is ∙ (place ∙ c.slot_is)) in
+    let S : ℕ → Type 0 = λ n. DigestsIn what.digested mid.state n what numbers d.calls (added_entries digest) new.state in
+    record {
+      slot = c.slot;
+      calls = d.calls ++ c.calls;
+      entries = c.entries ++ added_entries digest;
+      slot_is = c.slot_is;
+      ends = record {
+        between = mid.state;
+        counted_calls = c.calls;
+        counted_entries = c.entries;
+        digested_calls = d.calls;
+        digested_entries = added_entries digest;
+        counts = c.counts;
+        digests = subst S slot d.digests;
+        calls_are = refl;
+        entries_are = refl;
+      };
+      summary_is = c.answer_is;
+      digest_is = refl;
+      did = did_then c.calls d.calls c.entries (added_entries digest) old.journal mid.journal new.journal was at now c.did d.did;
+    } where
+      same_slot : {m n : ℕ} → Some m ≡ Some n → m ≡ n
+      same_slot {m} {n} e = grind (arith, e)
+
+pub end_through : (old mid new : Book) (what : Open) (numbers : Numbers) (answer : Ended) (was now : Opening → List Call → Type 0)
     → old.state.opened.events ≡ what ∷ mid.state.opened.events → mid.state ≡ without_innermost old.state → mid.journal ≡ old.journal
     → is_let_through what.verdict ≡ true → Finished mid new what numbers answer was now → Played (EndsEvent numbers ∷ []) old new was now
 end_through old mid new what numbers answer was now inner same journal through f =
     let P : State → Type 0 = λ m. EndsThrough m f.slot what mid.state.opened.events numbers f.calls f.entries new.state in
     let e = subst P same f.ends in
+    let counts : EndsCounted old.state f.slot what mid.state.opened.events numbers e.counted_calls e.counted_entries e.between = record {
+      consumers = e.counts.consumers;
+      thread = e.counts.thread;
+      answer = e.counts.answer;
+      row_is = e.counts.row_is;
+      calls_are = e.counts.calls_are;
+      entries_are = e.counts.entries_are;
+      after_is = e.counts.after_is;
+    } in
     let own : EndsThrough old.state f.slot what mid.state.opened.events numbers f.calls f.entries new.state = record {
-      consumers = e.consumers;
-      thread = e.thread;
-      answer = e.answer;
-      row_is = e.row_is;
+      between = e.between;
+      counted_calls = e.counted_calls;
+      counted_entries = e.counted_entries;
+      digested_calls = e.digested_calls;
+      digested_entries = e.digested_entries;
+      counts = counts;
+      digests = e.digests;
       calls_are = e.calls_are;
       entries_are = e.entries_are;
-      after_is = e.after_is;
     } in
     let seat : Some f.slot ≡ old.state.place.thread = sym f.slot_is ∙ ap (λ (m : State). m.place.thread) same in
     let Q : Option ℕ → Type 0 = λ o. EndsIn old.state o true what mid.state.opened.events numbers f.calls f.entries new.state in
@@ -268,17 +348,27 @@ settle_from at old new held there was now e seated h p none state =
     subst (λ b. Played (SettlesHeld ∷ []) b new was now) e
     (settle_played at new was now seated (subst P h p) (state ∙ ap (λ z. record at.state { held = z }) none))
 
-pub finish_from : (at old new : Book) (slot cell : ℕ) (consumers thread : Word) (answer : Added) (amount : Stat) (what : Open) (numbers : Numbers) (mid : Journal)
+pub count_from : (at old new : Book) (slot cell : ℕ) (consumers thread : Word) (answer : Added) (amount : Stat) (what : Open) (numbers : Numbers) (mid : Journal)
     (here there last : List (Option Stat)) (was a b now : Opening → List Call → Type 0)
     → at ≡ old → at.state.place.thread ≡ Some slot → Goes was a (Loads 0 consumers.version consumers.flags ∷ [])
     → Goes a b (Loads (1 + slot) thread.version thread.flags ∷ [])
     → mid.entries ≡ at.journal.entries ++ says.End (Some what.event.number) (Some at.state.drawn) (Some consumers.version) (Some thread.version) ∷ []
     → cell ≡ cell_number what → amount ≡ amount_of what at.state.clock numbers → here ≡ at.state.held
     → Brings slot cell amount here there answer mid new.journal b now
-    → last ≡ there → new.state ≡ record at.state { held = last } → Finished old new what numbers answer was now
-finish_from at old new slot cell consumers thread answer amount what numbers mid here there last was a b now same seat l0 l1 m c e h br is state =
-    subst (λ z. Finished z new what numbers answer was now) same
-    (finish_done at new slot cell consumers thread answer amount what numbers mid here there was a b now seat l0 l1 m c e h br
+    → last ≡ there → new.state ≡ record at.state { held = last } → HasCounted old new what numbers answer was now
+count_from at old new slot cell consumers thread answer amount what numbers mid here there last was a b now same seat l0 l1 m c e h br is state =
+    subst (λ z. HasCounted z new what numbers answer was now) same
+    (count_done at new slot cell consumers thread answer amount what numbers mid here there was a b now seat l0 l1 m c e h br
+    (state ∙ ap (λ z. record at.state { held = z }) is))
+
+pub digest_from : (at old new : Book) (slot cell : ℕ) (answer : Added) (amount : Stat) (what : Open) (numbers : Numbers)
+    (here there last : List (Option Stat)) (was now : Opening → List Call → Type 0)
+    → at ≡ old → at.state.place.thread ≡ Some slot → what.digested ≡ true → cell ≡ digest_number what → amount ≡ amount_of what at.state.clock numbers
+    → here ≡ at.state.held → Brings slot cell amount here there answer at.journal new.journal was now
+    → last ≡ there → new.state ≡ record at.state { held = last } → HasDigested old new what numbers (Some answer) was now
+digest_from at old new slot cell answer amount what numbers here there last was now same seat digested c e h br is state =
+    subst (λ z. HasDigested z new what numbers (Some answer) was now) same
+    (digest_done at new slot cell answer amount what numbers here there was now seat digested c e h br
     (state ∙ ap (λ z. record at.state { held = z }) is))
 
 one_small : (b : Bool) → one_if b ≤ 1

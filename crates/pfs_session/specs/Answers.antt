@@ -3,10 +3,10 @@ use Rattle.std.specs.Prelude.{ℕ, ◌≡◌, Bool, true, false, List, [], ◌�
 use Rattle.pfs_event.specs.declared.entry.Entry.{Entry}
 use Rattle.pfs_event.specs.declared.entry.Entry.TheVariants as says
 use Rattle.pfs_event.specs.declared.open.Open.{Open}
-use Rattle.pfs_levels.specs.declared.answers.Added.{Added}
 use Rattle.pfs_model.specs.Shapes.{is_stage}
 use Rattle.pfs_model.specs.declared.lines.Subject.{Subject}
-use Rattle.pfs_session.specs.Ends.{added_entry}
+use Rattle.pfs_session.specs.Ends.{added_entry, added_entries}
+use Rattle.pfs_session.specs.declared.session.Ended.{Ended}
 use Rattle.pfs_session.specs.declared.session.Started.{Started}
 
 -- one entry more stands there: a start of this event number and this verdict
@@ -17,18 +17,19 @@ pub record SaysStart (answer : Started) (before after : List Entry) : Type 0 whe
   pub table : Option ℕ
   pub entries_are : after ≡ before ++ says.Start answer.event answer.verdict consumers thread class table ∷ []
 
-abbrev pub added_entries : Option Added → List Entry
-added_entries None = []
-added_entries (Some added) = added_entry added ∷ []
+-- what became of the addition to the cell's row, and then of that to the digest's, where there was one
+abbrev pub ended_entries : Option Ended → List Entry
+ended_entries None = []
+ended_entries (Some ended) = added_entry ended.summary ∷ added_entries ended.digest
 
 -- an end stands there, with an event number just where something was added or held, and then what became of that
-pub record SaysEnd (answer : Option Added) (before after : List Entry) : Type 0 where
+pub record SaysEnd (answer : Option Ended) (before after : List Entry) : Type 0 where
   pub event : Option ℕ
   pub last : Option ℕ
   pub consumers : Option ℕ
   pub thread : Option ℕ
   pub through : is_some answer ≡ is_some event
-  pub entries_are : after ≡ before ++ says.End event last consumers thread ∷ added_entries answer
+  pub entries_are : after ≡ before ++ says.End event last consumers thread ∷ ended_entries answer
 
 -- the innermost open event is a stage
 abbrev pub is_in_stage : List Open → Bool
@@ -36,7 +37,7 @@ is_in_stage [] = false
 is_in_stage (what ∷ events) = is_stage what.kind
 
 -- where no stage ends, there is no answer and no entry
-abbrev pub SaysStageEnd : Bool → Option Added → List Entry → List Entry → Type 0
+abbrev pub SaysStageEnd : Bool → Option Ended → List Entry → List Entry → Type 0
 SaysStageEnd true answer before after = SaysEnd answer before after
 SaysStageEnd false answer before after = (answer ≡ None) × (after ≡ before)
 
@@ -47,7 +48,7 @@ SaysStageStart (Some subject) None before after = ⊥
 SaysStageStart (Some subject) (Some answer) before after = SaysStart answer before after
 
 -- the end stands before the start
-pub record SaysStage (events : List Open) (subject : Option Subject) (ended : Option Added) (begun : Option Started)
+pub record SaysStage (events : List Open) (subject : Option Subject) (ended : Option Ended) (begun : Option Started)
     (before after : List Entry) : Type 0 where
   pub between : List Entry
   pub end_is : SaysStageEnd (is_in_stage events) ended before between

@@ -1,5 +1,5 @@
 -- What an event's end loads and adds, and what a session holds back.
-use Rattle.std.specs.Prelude.{ℕ, ◌≡◌, ◌+◌, ◌-◌, ◌%◌, ◌^◌, Bool, true, false, if◌then◌else◌, List, [], ◌∷◌, Option, Some, None, slice_set}
+use Rattle.std.specs.Prelude.{ℕ, ◌≡◌, ◌+◌, ◌-◌, ◌%◌, ◌^◌, Bool, true, false, if◌then◌else◌, List, [], ◌∷◌, ◌++◌, Option, Some, None, slice_set}
 use Rattle.pfs_event.specs.Verdicts.{is_let_through}
 use Rattle.pfs_event.specs.declared.entry.Entry.{Entry}
 use Rattle.pfs_event.specs.declared.entry.Entry.TheVariants as says
@@ -16,6 +16,7 @@ use Rattle.pfs_stat.specs.Stat.{stat_of, merge_of}
 use Rattle.pfs_stat.specs.declared.Stat.{Stat}
 use Rattle.pfs_session.specs.States.{State, Book, held_row, held_at}
 use Rattle.pfs_session.specs.declared.events.Numbers.{Numbers}
+use Rattle.pfs_session.specs.declared.session.Ended.{Ended}
 
 abbrev pub no_numbers : Numbers
 no_numbers = record { lock = 0; errors = 0; warnings = 0; affected = 0; sent = 0; examined = 0 }
@@ -52,6 +53,10 @@ cell_in what = if what.event.read_only then 63 else what.event.class
 abbrev pub cell_number : Open → ℕ
 cell_number what = if is_attributed what.verdict then cell_in what else 64 + cell_in what
 
+-- the number of the row of a digested statement: that of the texts without a place, then one for each place
+abbrev pub digest_number : Open → ℕ
+digest_number what = 128 + what.event.link
+
 -- an amount behind what is held for its row
 abbrev pub with_held : Option Stat → Stat → Stat
 with_held None amount = amount
@@ -66,9 +71,35 @@ abbrev pub added_entry : Added → Entry
 added_entry (Counted row version) = says.Add row version
 added_entry (Held row first second) = says.Held row first second
 
--- the innermost event, which is let through, ends: the consumers' word and the thread's are loaded, and it is added,
--- with all that is held for its row, or held with it
-pub record EndsThrough (s : State) (slot : ℕ) (what : Open) (others : List Open) (numbers : Numbers)
+abbrev pub added_entries : Option Added → List Entry
+added_entries None = []
+added_entries (Some added) = added_entry added ∷ []
+
+-- an amount is added to a row, with all that is held for the row, or held with it
+pub record AddsTo (s : State) (slot cell : ℕ) (amount : Stat) (calls : List Call) (entries : List Entry)
+    (after : State) : Type 0 where
+  pub answer : Added
+  pub row_is : row_in answer ≡ held_row slot cell
+  pub calls_are : calls ≡ Adds (held_row slot cell) (with_held (held_at s.held cell) amount) answer ∷ []
+  pub entries_are : entries ≡ added_entry answer ∷ []
+  pub after_is : after ≡ record s {
+    held = slice_set s.held cell (still_held (with_held (held_at s.held cell) amount) answer);
+  }
+
+pub record AddsNothing (s : State) (calls : List Call) (entries : List Entry) (after : State) : Type 0 where
+  pub calls_are : calls ≡ []
+  pub entries_are : entries ≡ []
+  pub after_is : after ≡ s
+
+-- an ended event is added to its digest's row, where it is a digested statement
+abbrev pub DigestsIn : Bool → State → ℕ → Open → Numbers → List Call → List Entry → State → Type 0
+DigestsIn false s slot what numbers calls entries after = AddsNothing s calls entries after
+DigestsIn true s slot what numbers calls entries after =
+    AddsTo s slot (digest_number what) (amount_of what s.clock numbers) calls entries after
+
+-- the innermost event, which is let through, is counted: the consumers' word and the thread's are loaded, and it is
+-- added to its cell's row, with all that is held for that, or held with it
+pub record EndsCounted (s : State) (slot : ℕ) (what : Open) (others : List Open) (numbers : Numbers)
     (calls : List Call) (entries : List Entry) (after : State) : Type 0 where
   pub consumers : Word
   pub thread : Word
@@ -87,6 +118,19 @@ pub record EndsThrough (s : State) (slot : ℕ) (what : Open) (others : List Ope
         (with_held (held_at s.held (cell_number what)) (amount_of what s.clock numbers)) answer);
   }
 
+-- it ends: it is counted, and behind that added to its digest's row, where it is a digested statement
+pub record EndsThrough (s : State) (slot : ℕ) (what : Open) (others : List Open) (numbers : Numbers)
+    (calls : List Call) (entries : List Entry) (after : State) : Type 0 where
+  pub between : State
+  pub counted_calls : List Call
+  pub counted_entries : List Entry
+  pub digested_calls : List Call
+  pub digested_entries : List Entry
+  pub counts : EndsCounted s slot what others numbers counted_calls counted_entries between
+  pub digests : DigestsIn what.digested between slot what numbers digested_calls digested_entries after
+  pub calls_are : calls ≡ digested_calls ++ counted_calls
+  pub entries_are : entries ≡ counted_entries ++ digested_entries
+
 -- an event that isn't let through ends, and nothing is loaded or added
 pub record EndsSilently (s : State) (others : List Open) (calls : List Call) (entries : List Entry)
     (after : State) : Type 0 where
@@ -101,15 +145,36 @@ EndsIn s None true what others numbers calls entries after = ⊥
 EndsIn s (Some slot) true what others numbers calls entries after =
     EndsThrough s slot what others numbers calls entries after
 
--- an event that isn't among the open ones any more ended so
-pub record Finished (old new : Book) (what : Open) (numbers : Numbers) (answer : Added) (was now : Opening → List Call
+-- an event that isn't among the open ones any more was counted so
+pub record HasCounted (old new : Book) (what : Open) (numbers : Numbers) (answer : Added) (was now : Opening
+    → List Call → Type 0) : Type 0 where
+  pub slot : ℕ
+  pub calls : List Call
+  pub entries : List Entry
+  pub slot_is : old.state.place.thread ≡ Some slot
+  pub counts : EndsCounted old.state slot what old.state.opened.events numbers calls entries new.state
+  pub answer_is : counts.answer ≡ answer
+  pub did : Did calls entries old.journal new.journal was now
+
+-- and added to its digest's row so, where it is a digested statement
+pub record HasDigested (old new : Book) (what : Open) (numbers : Numbers) (answer : Option Added) (was now : Opening
+    → List Call → Type 0) : Type 0 where
+  pub slot : ℕ
+  pub calls : List Call
+  pub slot_is : old.state.place.thread ≡ Some slot
+  pub digests : DigestsIn what.digested old.state slot what numbers calls (added_entries answer) new.state
+  pub did : Did calls (added_entries answer) old.journal new.journal was now
+
+-- it ended so
+pub record Finished (old new : Book) (what : Open) (numbers : Numbers) (answer : Ended) (was now : Opening → List Call
     → Type 0) : Type 0 where
   pub slot : ℕ
   pub calls : List Call
   pub entries : List Entry
   pub slot_is : old.state.place.thread ≡ Some slot
   pub ends : EndsThrough old.state slot what old.state.opened.events numbers calls entries new.state
-  pub answer_is : ends.answer ≡ answer
+  pub summary_is : ends.counts.answer ≡ answer.summary
+  pub digest_is : ends.digested_entries ≡ added_entries answer.digest
   pub did : Did calls entries old.journal new.journal was now
 
 -- the open events without the innermost

@@ -1,6 +1,8 @@
 -- What an event's start loads, decides and opens.
-use Rattle.std.specs.Prelude.{ℕ, ◌≡◌, ◌+◌, ◌==◌, Bool, false, ◌&&◌, ◌||◌, if◌then◌else◌, List, [], ◌∷◌, ◌++◌, Option, Some, None, is_some, is_none}
+use Rattle.std.specs.Prelude.{ℕ, ◌≡◌, ◌+◌, ◌==◌, Bool, true, false, ◌&&◌, ◌||◌, if◌then◌else◌, List, [], ◌∷◌, ◌++◌, Option, Some, None, is_some, is_none}
 use Rattle.std.specs.Option.{option_map}
+use Rattle.pfs_consumers.specs.Tree.{acts_of}
+use Rattle.pfs_consumers.specs.declared.Consumer.TheVariants.{StatementsDigest}
 use Rattle.pfs_event.specs.Verdicts.{is_let_through}
 use Rattle.pfs_event.specs.declared.entry.Entry.{Entry}
 use Rattle.pfs_event.specs.declared.entry.Entry.TheVariants as says
@@ -9,6 +11,7 @@ use Rattle.pfs_event.specs.declared.verdict.Verdict.{Verdict}
 use Rattle.pfs_event.specs.declared.verdict.Verdict.TheVariants.{LostThread, LostClass}
 use Rattle.pfs_levels.specs.Calls.{Call, Loads}
 use Rattle.pfs_levels.specs.declared.answers.Word.{Word}
+use Rattle.pfs_model.specs.Contents.{plus_one}
 use Rattle.pfs_model.specs.Setups.{SeenSetup, verdict_by, has_time, is_wait, is_statement, thread_word, class_word, table_word}
 use Rattle.pfs_model.specs.declared.lines.Subject.{Subject}
 use Rattle.pfs_session.specs.Ends.{no_numbers}
@@ -75,18 +78,23 @@ is_timed_by subject None = false
 is_timed_by subject (Some seen) =
     has_time seen.class.flags && (is_none subject.table || has_time (flags_in seen.table))
 
--- one more than a table's number, 0 without one
-abbrev pub link_of : Option ℕ → ℕ
-link_of None = 0
-link_of (Some table) = table + 1
+-- a statement that is let through is digested where `statements_digest` acts by what was loaded
+abbrev pub is_digested_by : Subject → Verdict → Option Setup → Bool
+is_digested_by subject verdict None = false
+is_digested_by subject verdict (Some seen) =
+    is_statement subject.kind && is_let_through verdict && acts_of seen.consumers.flags StatementsDigest
+
+-- one more than the place of a digested statement's text, and of any other event than its table's number; 0 without one
+abbrev pub link_of : Bool → Subject → ℕ
+link_of true subject = plus_one subject.digest
+link_of false subject = plus_one subject.table
 
 -- the id of a class that isn't lost
 abbrev pub IsClass : Option ℕ → ℕ → Type 0
 IsClass None number = number ≡ 0
 IsClass (Some class) number = number ≡ class
 
--- what an end fills in, or a place that an event gets, is empty in an event that has just started; no statement is
--- digested yet
+-- what an end fills in, or a place that an event gets, is empty in an event that has just started
 pub record IsUnfilled (what : Open) : Type 0 where
   pub last : what.event.last ≡ 0
   pub duration : what.event.duration ≡ 0
@@ -99,19 +107,19 @@ pub record IsUnfilled (what : Open) : Type 0 where
     examined = what.event.examined;
   } ≡ no_numbers
   pub ticket : what.event.ticket ≡ 0
-  pub digested : what.digested ≡ false
   pub placed : what.placed ≡ false
 
 -- the open event that a start of a subject makes, with this verdict, in a session of this number that has drawn so many
--- event numbers, at this clock, where those events are open
+-- event numbers, at this clock, where those events are open; whether it is timed, and digested, is decided here
 pub record IsOpened (session drawn clock : ℕ) (events : List Open) (subject : Subject) (verdict : Verdict)
-    (timed : Bool) (what : Open) : Type 0 where
+    (timed digested : Bool) (what : Open) : Type 0 where
   pub kind : what.kind ≡ subject.kind
   pub verdict_is : what.verdict ≡ verdict
   pub session_is : what.event.session ≡ session
   pub number : what.event.number ≡ drawn + 1
   pub class : IsClass subject.class what.event.class
-  pub link : what.event.link ≡ link_of subject.table
+  pub digested_is : what.digested ≡ digested
+  pub link : what.event.link ≡ link_of digested subject
   pub lies_in : record { nesting = what.event.nesting; parent = what.event.parent } ≡ around events
   pub start : what.event.start ≡ clock
   pub timed_is : what.event.timed ≡ timed
@@ -149,6 +157,6 @@ pub record Starts (s : State) (subject : Subject) (calls : List Call) (entries :
     pub loaded : IsLoaded s.place.thread subject.class subject.table seen
     pub calls_are : calls ≡ load_calls s.place.thread subject.class subject.table seen
     pub opened : IsOpened s.number s.drawn s.clock s.opened.events subject (verdict_in s subject seen)
-        (is_timed_by subject seen) what
+        (is_timed_by subject seen) (is_digested_by subject (verdict_in s subject seen) seen) what
     pub entries_are : entries ≡ start_entry (verdict_in s subject seen) (s.drawn + 1) seen ∷ []
     pub after_is : after ≡ started s what

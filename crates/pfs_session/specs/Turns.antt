@@ -94,7 +94,8 @@ stage_steps events subject = stage_ends events ++ stage_starts subject
 abbrev pub StageMayStart : OpenEvents → Option Subject → Type 0
 StageMayStart nest None = Unit {0}
 StageMayStart nest (Some subject) = MayStart nest subject.kind × (length nest.events < nest.depth)
-    × IfSome subject.class (λ n. n < 63) × IfSome subject.table (λ n. n < 64) × (subject.kind ≡ Stage)
+    × IfSome subject.class (λ n. n < 63) × IfSome subject.table (λ n. n < 64)
+    × IfSome subject.digest (λ n. n < 64) × (subject.kind ≡ Stage)
 
 -- a step that was done
 pub record Turn : Type 0 where

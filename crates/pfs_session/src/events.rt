@@ -2,7 +2,7 @@
 
 ghost use Rattle.std.specs.Prelude.{◌≡◌, ◌<◌, ◌+◌, ◌≤◌, if◌then◌else◌};
 ghost use Rattle.pfs_model.specs.Setups.{is_statement, is_wait, is_attributed};
-ghost use Rattle.pfs_session.specs.Ends.{numbers_for, amount_of, cell_in, cell_number};
+ghost use Rattle.pfs_session.specs.Ends.{numbers_for, amount_of, cell_in, cell_number, digest_number};
 
 use pfs_event::{EventKind, Open, Verdict};
 use pfs_stat::{Measure, Stat, of_event};
@@ -12,6 +12,9 @@ pub(crate) const READ_ONLY_CELL: u64 = 63;
 
 /// How many cells a thread has, and how many there are globally.
 pub(crate) const CELLS: u64 = 64;
+
+// The number of the row of the digests without a place, behind those of the cells.
+const DIGESTS: u64 = 128;
 
 /// The six numbers that a script gives of a statement. Times are picoseconds.
 #[derive(Clone, Copy, Debug, PartialEq, Eq)]
@@ -92,4 +95,12 @@ pub(crate) fn cell_number(what: &Open) -> u64
         Verdict::Attributed => cell,
         _ => CELLS + cell,
     }
+}
+
+/// The number of the row of a digested statement: that of the texts without a place, or that of its text's.
+pub(crate) fn digest_number(what: &Open) -> u64
+    ensures number { result ≡ digest_number what.now }
+    ensures fits { result < 193 }
+{
+    DIGESTS + what.event.link
 }

@@ -9,7 +9,7 @@ mod session;
 mod setup;
 
 pub use events::Numbers;
-pub use session::{LastAction, Paused, Session, Started};
+pub use session::{Ended, LastAction, Paused, Session, Started};
 pub use setup::Setup;
 
 /// Memory ran out.

@@ -2,6 +2,7 @@
 
 ghost use Rattle.std.specs.Prelude.{◌≡◌, ◌<◌, ◌≤◌, ◌+◌, ◌^◌, IfSome, if◌then◌else◌};
 ghost use Rattle.pfs_event.specs.Kinds.{nesting_number};
+ghost use Rattle.pfs_model.specs.Contents.{plus_one};
 ghost use Rattle.pfs_event.specs.Verdicts.{is_let_through};
 ghost use Rattle.pfs_session.specs.States.{around, AreAround};
 ghost use Rattle.pfs_session.specs.Starts.{IsOpened, IsClass, link_of};
@@ -61,13 +62,27 @@ fn class_number(class: Option<u64>) -> u64
     class.unwrap_or(0)
 }
 
-fn link_of(table: Option<u64>) -> u64
-    requires { IfSome table (λ n. n < 64) }
-    ensures number { result ≡ link_of table }
+// What an event is linked to: a digested statement to its text's place, any other to its table, each counted from 1.
+fn link_of(digested: bool, subject: &Subject) -> u64
+    requires table { IfSome subject.now.table (λ n. n < 64) }
+    requires digest { IfSome subject.now.digest (λ n. n < 64) }
+    ensures number { result ≡ link_of digested subject.now }
     ensures fits { result ≤ 64 }
 {
-    match table {
-        Some(table) => table + 1,
+    if digested {
+        plus_one(subject.digest)
+    } else {
+        plus_one(subject.table)
+    }
+}
+
+fn plus_one(place: Option<u64>) -> u64
+    requires { IfSome place (λ n. n < 64) }
+    ensures number { result ≡ plus_one place }
+    ensures fits { result ≤ 64 }
+{
+    match place {
+        Some(place) => place + 1,
         None => 0,
     }
 }
@@ -81,12 +96,14 @@ pub(crate) fn opened(
     subject: &Subject,
     verdict: Verdict,
     timed: bool,
+    digested: bool,
 ) -> Open
     requires nested { AreAround nest.now.events }
     requires class { IfSome subject.now.class (λ n. n < 63) }
     requires table { IfSome subject.now.table (λ n. n < 64) }
+    requires digest { IfSome subject.now.digest (λ n. n < 64) }
     requires early { drawn + 1 < 2 ^ 64 }
-    ensures { IsOpened session drawn clock nest.now.events subject.now verdict timed result }
+    ensures { IsOpened session drawn clock nest.now.events subject.now verdict timed digested result }
 {
     let outer = around(nest);
     Open {
@@ -97,7 +114,7 @@ pub(crate) fn opened(
             number: drawn + 1,
             last: 0,
             class: class_number(subject.class),
-            link: link_of(subject.table),
+            link: link_of(digested, subject),
             nesting: outer.nesting,
             parent: outer.parent,
             start: clock,
@@ -112,7 +129,7 @@ pub(crate) fn opened(
             timed,
             read_only: subject.cell == READ_ONLY_CELL,
         },
-        digested: false,
+        digested,
         placed: false,
     }
 }

@@ -8,7 +8,7 @@ ghost use Rattle.pfs_admin.specs.Works.{Leaves};
 ghost use Rattle.pfs_event.specs.Nesting.{MayStart};
 ghost use Rattle.pfs_event.specs.Verdicts.{is_let_through};
 ghost use Rattle.pfs_session.specs.Answers.{SaysStart, SaysEnd, SaysStage, SaysStageEnd, is_in_stage};
-ghost use Rattle.pfs_session.specs.Ends.{Finished, outer_events, without_innermost};
+ghost use Rattle.pfs_session.specs.Ends.{Finished, HasCounted, HasDigested, outer_events, without_innermost};
 ghost use Rattle.pfs_session.specs.Leaving.{HasStarted, HasStaged};
 ghost use Rattle.pfs_session.specs.Settles.{owed_by_state, settle_cost};
 ghost use Rattle.pfs_session.specs.Starts.{started, if_through};
@@ -17,10 +17,10 @@ ghost use Rattle.pfs_session.specs.Turns.{Played, Does, StartsEvent, EndsEvent, 
 
 use crate::NoMemory;
 use crate::adding::bring;
-use crate::events::{Numbers, amount_of, cell_number, is_statement, is_wait};
+use crate::events::{Numbers, amount_of, cell_number, digest_number, is_statement, is_wait};
 use crate::opening::opened;
 use crate::paying::{clear, settle_all};
-use crate::setup::{if_through, is_timed, judge, load, load_word, start_entry};
+use crate::setup::{if_through, is_digested, is_timed, judge, load, load_word, start_entry};
 use pfs_admin::{Admin, Lost, Placed, Reply, Truncation};
 use pfs_event::{Entry, EventKind, Nest, Open, Verdict};
 use pfs_levels::{Added, Hold, Label, Log, Rows};
@@ -42,6 +42,14 @@ pub struct LastAction {
 pub struct Started {
     pub event: Option<u64>,
     pub verdict: Verdict,
+}
+
+/// What became of an event that was let through, at its end: of its addition to the row of its cell, and, of a digested
+/// statement, of that to the row of its digest.
+#[derive(Clone, Copy, Debug, PartialEq, Eq)]
+pub struct Ended {
+    pub summary: Added,
+    pub digest: Option<Added>,
 }
 
 /// A session with its journal of the phase. It takes memory as it is opened and by `reserve` alone.
@@ -173,12 +181,13 @@ impl Session {
 
     /// Starts an event. Its start loads the consumers' word, the thread's, the class's and, of an event of a table,
     /// the table's, in this order; nothing of a session without a slot and of a lost class. What it loads decides
-    /// whether and where the event counts. The log gets the start.
+    /// whether and where the event counts, and whether it is digested. The log gets the start.
     pub fn start<R: Rows>(&mut self, rows: &mut R, what: &Subject) -> Started
         requires may { MayStart self.old.state.opened what.now.kind }
         requires shallow { length self.old.state.opened.events < self.old.state.opened.depth }
         requires class { IfSome what.now.class (λ n. n < 63) }
         requires table { IfSome what.now.table (λ n. n < 64) }
+        requires digest { IfSome what.now.digest (λ n. n < 64) }
         requires early { self.old.state.drawn + 1 < 2 ^ 64 }
         requires room { 1 ≤ self.old.journal.room }
         ensures played { Played (StartsEvent what.now ∷ []) self.old self.new (R.reached rows.old)
@@ -205,6 +214,7 @@ impl Session {
             self.waits,
         );
         let timed = is_timed(what, &seen);
+        let digested = is_digested(what, verdict, &seen);
         let event = opened(
             self.number,
             self.drawn,
@@ -213,6 +223,7 @@ impl Session {
             what,
             verdict,
             timed,
+            digested,
         );
         self.log.push(start_entry(verdict, self.drawn + 1, &seen));
         self.begin(event)
@@ -251,13 +262,14 @@ impl Session {
 
     /// Ends the innermost open event, with a statement's numbers; of another event they say nothing. Of an event that
     /// is let through the consumers' word and the thread's are loaded, and it is added to its cell with all that is
-    /// held for it, or held with it where another actor has the cell in hand. The log gets the end and the addition.
-    /// Answers what became of the addition: none of an event that isn't let through.
-    pub fn end<R: Rows>(&mut self, rows: &mut R, numbers: &Numbers) -> Option<Added>
+    /// held for it, or held with it where another actor has the cell in hand; a digested statement is added to the row
+    /// of its digest in the same way. The log gets the end and the additions. Answers what became of these: none of an
+    /// event that isn't let through.
+    pub fn end<R: Rows>(&mut self, rows: &mut R, numbers: &Numbers) -> Option<Ended>
         requires open { 0 < length self.old.state.opened.events }
         requires alone { (r : ℕ) → 0 < r → R.hand rows.old r ≡ None }
-        requires spare { 1 ≤ R.left rows.old }
-        requires room { 2 ≤ self.old.journal.room }
+        requires spare { 2 ≤ R.left rows.old }
+        requires room { 3 ≤ self.old.journal.room }
         ensures played { Played (EndsEvent numbers.now ∷ []) self.old self.new (R.reached rows.old)
             (R.reached rows.new) }
         ensures answer { SaysEnd result self.old.journal.entries self.new.journal.entries }
@@ -265,8 +277,8 @@ impl Session {
           opened = record self.old.state.opened { events = outer_events self.old.state.opened.events };
           held = self.new.state.held;
         } }
-        ensures owed { length (owed_by_state self.new.state) ≤ length (owed_by_state self.old.state) + 1 }
-        ensures leaves { Leaves 1 2 (R.hand rows.old) (R.hand rows.new) (R.left rows.old) (R.left rows.new)
+        ensures owed { length (owed_by_state self.new.state) ≤ length (owed_by_state self.old.state) + 2 }
+        ensures leaves { Leaves 2 3 (R.hand rows.old) (R.hand rows.new) (R.left rows.old) (R.left rows.new)
             (R.draws rows.old) (R.draws rows.new) (R.name rows.old) (R.name rows.new) self.old.journal
             self.new.journal }
         ensures words { R.words rows.new ≡ R.words rows.old }
@@ -304,12 +316,32 @@ impl Session {
     }
 
     // Ends an event that is let through and no longer among those that are open.
-    fn finish<R: Rows>(&mut self, rows: &mut R, what: &Open, numbers: &Numbers) -> Added
+    fn finish<R: Rows>(&mut self, rows: &mut R, what: &Open, numbers: &Numbers) -> Ended
+        requires there { IsSome self.old.state.place.thread }
+        requires alone { (r : ℕ) → 0 < r → R.hand rows.old r ≡ None }
+        requires spare { 2 ≤ R.left rows.old }
+        requires room { 3 ≤ self.old.journal.room }
+        ensures finished { Finished self.old self.new what.now numbers.now result (R.reached rows.old)
+            (R.reached rows.new) }
+        ensures rest { self.new.state ≡ record self.old.state { held = self.new.state.held } }
+        ensures owed { length (owed_by_state self.new.state) ≤ length (owed_by_state self.old.state) + 2 }
+        ensures leaves { Leaves 2 3 (R.hand rows.old) (R.hand rows.new) (R.left rows.old) (R.left rows.new)
+            (R.draws rows.old) (R.draws rows.new) (R.name rows.old) (R.name rows.new) self.old.journal
+            self.new.journal }
+        ensures words { R.words rows.new ≡ R.words rows.old }
+    {
+        let summary = self.count(rows, what, numbers);
+        let digest = self.digest(rows, what, numbers);
+        Ended { summary, digest }
+    }
+
+    // Writes the end of an event, and adds it to the row of its cell.
+    fn count<R: Rows>(&mut self, rows: &mut R, what: &Open, numbers: &Numbers) -> Added
         requires there { IsSome self.old.state.place.thread }
         requires alone { (r : ℕ) → 0 < r → R.hand rows.old r ≡ None }
         requires spare { 1 ≤ R.left rows.old }
         requires room { 2 ≤ self.old.journal.room }
-        ensures finished { Finished self.old self.new what.now numbers.now result (R.reached rows.old)
+        ensures counted { HasCounted self.old self.new what.now numbers.now result (R.reached rows.old)
             (R.reached rows.new) }
         ensures rest { self.new.state ≡ record self.old.state { held = self.new.state.held } }
         ensures owed { length (owed_by_state self.new.state) ≤ length (owed_by_state self.old.state) + 1 }
@@ -341,20 +373,53 @@ impl Session {
         )
     }
 
+    // Adds an ended event to the row of its digest, where it is a digested statement.
+    fn digest<R: Rows>(&mut self, rows: &mut R, what: &Open, numbers: &Numbers) -> Option<Added>
+        requires there { IsSome self.old.state.place.thread }
+        requires alone { (r : ℕ) → 0 < r → R.hand rows.old r ≡ None }
+        requires spare { 1 ≤ R.left rows.old }
+        requires room { 1 ≤ self.old.journal.room }
+        ensures digested { HasDigested self.old self.new what.now numbers.now result (R.reached rows.old)
+            (R.reached rows.new) }
+        ensures rest { self.new.state ≡ record self.old.state { held = self.new.state.held } }
+        ensures owed { length (owed_by_state self.new.state) ≤ length (owed_by_state self.old.state) + 1 }
+        ensures leaves { Leaves 1 1 (R.hand rows.old) (R.hand rows.new) (R.left rows.old) (R.left rows.new)
+            (R.draws rows.old) (R.draws rows.new) (R.name rows.old) (R.name rows.new) self.old.journal
+            self.new.journal }
+        ensures words { R.words rows.new ≡ R.words rows.old }
+    {
+        let slot = match self.place.thread {
+            Some(slot) => slot,
+            None => unreachable!(),
+        };
+        if !what.digested {
+            return None;
+        }
+        let amount = amount_of(what, self.clock, numbers);
+        Some(bring(
+            rows,
+            slot,
+            digest_number(what),
+            amount,
+            self.held.as_mut_slice(),
+            &mut self.log,
+        ))
+    }
+
     /// Ends the open stage, where the innermost open event is one, and starts another, where one is given. What a
     /// start asks for holds of the events that are open then.
     pub fn stage<R: Rows>(
         &mut self,
         rows: &mut R,
         what: &Option<Subject>,
-    ) -> (Option<Added>, Option<Started>)
+    ) -> (Option<Ended>, Option<Started>)
         requires may { StageMayStart (record self.old.state.opened {
           events = without_stage self.old.state.opened.events;
         }) what.now }
         requires early { IfSome what.now (λ subject. self.old.state.drawn + 1 < 2 ^ 64) }
         requires alone { (r : ℕ) → 0 < r → R.hand rows.old r ≡ None }
-        requires spare { 1 ≤ R.left rows.old }
-        requires room { 3 ≤ self.old.journal.room }
+        requires spare { 2 ≤ R.left rows.old }
+        requires room { 4 ≤ self.old.journal.room }
         ensures played { Played (stage_steps self.old.state.opened.events what.now) self.old self.new
             (R.reached rows.old) (R.reached rows.new) }
         ensures answer { SaysStage self.old.state.opened.events what.now result.0 result.1
@@ -366,8 +431,8 @@ impl Session {
           opened = self.new.state.opened;
           held = self.new.state.held;
         } }
-        ensures owed { length (owed_by_state self.new.state) ≤ length (owed_by_state self.old.state) + 1 }
-        ensures leaves { Leaves 1 3 (R.hand rows.old) (R.hand rows.new) (R.left rows.old) (R.left rows.new)
+        ensures owed { length (owed_by_state self.new.state) ≤ length (owed_by_state self.old.state) + 2 }
+        ensures leaves { Leaves 2 4 (R.hand rows.old) (R.hand rows.new) (R.left rows.old) (R.left rows.new)
             (R.draws rows.old) (R.draws rows.new) (R.name rows.old) (R.name rows.new) self.old.journal
             self.new.journal }
         ensures words { R.words rows.new ≡ R.words rows.old }
@@ -383,10 +448,10 @@ impl Session {
     }
 
     // Ends the open stage, where the innermost open event is one.
-    fn end_stage<R: Rows>(&mut self, rows: &mut R) -> Option<Added>
+    fn end_stage<R: Rows>(&mut self, rows: &mut R) -> Option<Ended>
         requires alone { (r : ℕ) → 0 < r → R.hand rows.old r ≡ None }
-        requires spare { 1 ≤ R.left rows.old }
-        requires room { 2 ≤ self.old.journal.room }
+        requires spare { 2 ≤ R.left rows.old }
+        requires room { 3 ≤ self.old.journal.room }
         ensures played { Played (stage_ends self.old.state.opened.events) self.old self.new (R.reached rows.old)
             (R.reached rows.new) }
         ensures answer { SaysStageEnd (is_in_stage self.old.state.opened.events) result self.old.journal.entries
@@ -395,8 +460,8 @@ impl Session {
           opened = record self.old.state.opened { events = without_stage self.old.state.opened.events };
           held = self.new.state.held;
         } }
-        ensures owed { length (owed_by_state self.new.state) ≤ length (owed_by_state self.old.state) + 1 }
-        ensures leaves { Leaves 1 2 (R.hand rows.old) (R.hand rows.new) (R.left rows.old) (R.left rows.new)
+        ensures owed { length (owed_by_state self.new.state) ≤ length (owed_by_state self.old.state) + 2 }
+        ensures leaves { Leaves 2 3 (R.hand rows.old) (R.hand rows.new) (R.left rows.old) (R.left rows.new)
             (R.draws rows.old) (R.draws rows.new) (R.name rows.old) (R.name rows.new) self.old.journal
             self.new.journal }
         ensures words { R.words rows.new ≡ R.words rows.old }
@@ -500,8 +565,8 @@ impl Session {
         });
     }
 
-    /// Truncates a table, an action: what the session holds is settled first. The log gets the settling, the action, what
-    /// `Admin::truncate` gives it, and the answer: a truncation changes no rows, as MySQL counts them.
+    /// Truncates a table, an action: what the session holds is settled first. The log gets the settling, the action,
+    /// what `Admin::truncate` gives it, and the answer: a truncation changes no rows, as MySQL counts them.
     pub fn truncate<H: Hold>(&mut self, rows: &mut H, admin: &mut Admin, what: Truncation) -> Reply
         requires early { self.old.state.actions + 1 < 2 ^ 64 }
         requires few { admin.old.actions < 2 ^ 47 }

@@ -4,10 +4,10 @@ ghost use Rattle.std.specs.Prelude.{◌≡◌, ◌<◌, ◌∷◌, [], ℕ, Opti
 ghost use Rattle.std.specs.Option.{option_map};
 ghost use Rattle.pfs_levels.specs.Calls.{Goes, Loads};
 ghost use Rattle.pfs_model.specs.Setups.{is_enabled, has_time, verdict_by};
-ghost use Rattle.pfs_session.specs.Starts.{IsLoaded, load_calls, setup_calls, table_calls, flags_in, flags_of, verdict_seen, is_timed_by, if_through, start_entry, version_of};
+ghost use Rattle.pfs_session.specs.Starts.{IsLoaded, load_calls, setup_calls, table_calls, flags_in, flags_of, verdict_seen, is_timed_by, is_digested_by, if_through, start_entry, version_of};
 
 use crate::events::{is_statement, is_wait};
-use pfs_consumers::{Consumer, Flags};
+use pfs_consumers::{Consumer, Flags, acts};
 use pfs_event::{Entry, Verdict};
 use pfs_levels::{Rows, Word};
 use pfs_model::Subject;
@@ -166,6 +166,20 @@ pub(crate) fn is_timed(subject: &Subject, seen: &Option<Setup>) -> bool
         Some(seen) => {
             has_time(seen.class.flags)
                 && (subject.table.is_none() || has_time(flags_in(seen.table)))
+        }
+        None => false,
+    }
+}
+
+/// Whether an event is a digested statement: one that is let through, while `statements_digest` acts.
+pub(crate) fn is_digested(subject: &Subject, verdict: Verdict, seen: &Option<Setup>) -> bool
+    ensures { result ≡ is_digested_by subject.now verdict seen.now }
+{
+    match seen {
+        Some(seen) => {
+            is_statement(subject.kind)
+                && verdict.is_let_through()
+                && acts(Flags(seen.consumers.flags), Consumer::StatementsDigest)
         }
         None => false,
     }

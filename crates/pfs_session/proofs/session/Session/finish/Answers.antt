@@ -1,18 +1,7 @@
-use Rattle.std.proofs.Common.{rules, refl, ap}
-use Rattle.std.proofs.lemmas.List.{with_items_is}
-use Rattle.pfs_session.proofs.Turning.{finish_from}
-use Rattle.pfs_session.specs.States.{Book}
-use Rattle.pfs_session.proofs.Owed.{finish_owes}
+use Rattle.pfs_session.proofs.Turning.{finish_both}
 use Rattle.pfs_session.proofs.session.Session.finish.Goals as goal
 
 pub returns-clause-finished : goal.returns-clause-finished
 returns-clause-finished g c =
-    finish_from _ c.args.self.now _ c.in-Some.slot c.cell_number.result c.load_word-consumers.result c.load_word-thread.result c.bring.result c.amount_of-amount.result
-    c.args.what.now c.args.numbers.now c.push.new.self _ c.bring.new.held _ _ _ _ _ c.self.view_is c.in-Some.is c.load_word-consumers.ensures.goes
-    c.load_word-thread.ensures.goes (ap (λ j. j.entries) c.push.ensures) c.cell_number.ensures.number c.amount_of-amount.ensures c.as_mut_slice.ensures.value
-    c.bring.ensures.brings (with_items_is c.self.inside.held c.bring.new.held (search rules)) refl
-
-pub returns-clause-owed : goal.returns-clause-owed
-returns-clause-owed g c =
-    let last = with_items_is c.self.inside.held c.bring.new.held (search rules) in
-    finish_owes _ c.args.self.now.state _ _ _ _ _ (ap (λ (b : Book). b.state) c.self.view_is) c.as_mut_slice.ensures.value c.bring.ensures.brings.held_is last
+    finish_both c.args.self.now c.count-summary.new.self c.digest-digest.new.self c.args.what.now c.args.numbers.now c.count-summary.result c.digest-digest.result
+    _ _ _ c.count-summary.ensures.counted c.digest-digest.ensures.digested

@@ -15,9 +15,9 @@ pub returns-clause-played : goal.returns-clause-played
 returns-clause-played g c =
     let P : Book → Type 0 = λ b. Played (StartsEvent c.args.what.now ∷ []) b c.begin.new.self (g.R.Rows.reached c.args.rows.now) (g.R.Rows.reached c.load-seen.new.rows) in
     subst P c.self.view_is
-    (start_played _ c.begin.new.self c.start_entry.result c.args.what.now c.load-seen.result c.judge-verdict.result c.is_timed-timed.result c.opened-event.result
+    (start_played _ c.begin.new.self c.start_entry.result c.args.what.now c.load-seen.result c.judge-verdict.result c.is_timed-timed.result c.is_digested-digested.result c.opened-event.result
     c.self.inside.statements c.self.inside.waits _ _ c.load-seen.ensures.loaded c.self.invariant.statements_are c.self.invariant.waits_are c.judge-verdict.ensures
-    c.is_timed-timed.ensures c.opened-event.ensures c.begin.ensures.state c.start_entry.ensures
+    c.is_timed-timed.ensures c.is_digested-digested.ensures c.opened-event.ensures c.begin.ensures.state c.start_entry.ensures
     (ap (λ j. j.entries) (c.begin.ensures.journal ∙ c.push.ensures)) c.load-seen.ensures.goes)
 
 pub returns-clause-answer : goal.returns-clause-answer
