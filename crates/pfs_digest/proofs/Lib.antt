@@ -7,3 +7,4 @@ pub mod Joins
 pub mod Spelling
 pub mod StackSteps
 pub mod Searching
+pub mod Bytes

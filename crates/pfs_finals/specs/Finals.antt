@@ -19,7 +19,7 @@ use Rattle.pfs_tables.specs.Shown.{listed_rows}
 use Rattle.pfs_values.specs.declared.RowValue.{RowValue}
 use Rattle.pfs_values.specs.declared.RowValue.TheVariants.{Null, Number, Text}
 
--- the tables that a report may show, in its order: a kind's summaries stand together
+-- the tables that a report may show, in its order: a kind's summaries stand together, and that of digests is the last
 abbrev pub summaries_of : TableKind → List Table
 summaries_of kind =
     Summary kind ByThread ∷ Summary kind ByAccount ∷ Summary kind ByUser ∷ Summary kind ByHost ∷ Summary kind Global
@@ -28,7 +28,8 @@ summaries_of kind =
 abbrev pub final_order : List Table
 final_order =
     Threads ∷ Accounts ∷ Users ∷ Hosts ∷ []
-    ++ (summaries_of Waits ++ (summaries_of Stages ++ (summaries_of Statements ++ summaries_of Transactions)))
+    ++ (summaries_of Waits ++ (summaries_of Stages ++ (summaries_of Statements
+    ++ (summaries_of Transactions ++ DigestSummary ∷ []))))
 
 -- where a summary's rows have COUNT_STAR: behind whose row it is and the class's name
 abbrev pub count_place : SummaryTable → ℕ

@@ -16,7 +16,7 @@ use pfs_values::{Row, RowValue, Rowset};
 use std::alloc::Global;
 
 /// The tables that a report may show at a phase's end, in its order. The names are MySQL's, the order is our own.
-pub const FINAL_TABLES: [Table; 24] = [
+pub const FINAL_TABLES: [Table; 25] = [
     Table::Threads,
     Table::Accounts,
     Table::Users,
@@ -41,6 +41,7 @@ pub const FINAL_TABLES: [Table; 24] = [
     Table::Summary(TableKind::Transactions, SummaryTable::ByUser),
     Table::Summary(TableKind::Transactions, SummaryTable::ByHost),
     Table::Summary(TableKind::Transactions, SummaryTable::Global),
+    Table::DigestSummary,
 ];
 
 // Where a summary's rows have COUNT_STAR.

@@ -1,3 +1,4 @@
 pub mod Answerless
 pub mod Named
+pub mod Hexed
 pub mod Tabled

@@ -1,6 +1,6 @@
--- The names of a script have only bytes that its lines have.
-use Rattle.std.proofs.Common.{ℕ, ◌≡◌, ◌+◌, Bool, true, false, ◌&&◌, cond, List, [], ◌∷◌, ◌++◌, map, drop, Option, Some, None, Result, Ok, Err, refl, subst}
-use Rattle.std.specs.Prelude.{codes, option_map, option_and_then, position}
+-- The names of a script have only bytes that its lines have, and its digest texts those and printable ones.
+use Rattle.std.proofs.Common.{ℕ, ◌≡◌, ◌+◌, ◌==◌, Bool, true, false, ◌&&◌, ◌||◌, cond, nat_lt, List, [], ◌∷◌, ◌++◌, length, map, drop, Option, Some, None, Result, Ok, Err, refl, subst}
+use Rattle.std.specs.Prelude.{codes, is_some, option_map, option_and_then, position}
 use Rattle.std.specs.List.{All, fold, list_all, list_any, position_or_len}
 use Rattle.std.specs.Option.{IfSome}
 use Rattle.std.specs.Str.{bytes_eq}
@@ -10,9 +10,14 @@ use Rattle.pfs_classes.specs.Builtins.{Row, builtins, with_builtins, with_rows}
 use Rattle.pfs_classes.specs.declared.kind.Kind.{Kind}
 use Rattle.pfs_classes.specs.declared.kind.Kind.TheVariants.{Mutex, Rwlock, Cond, File, Socket, TableIo, TableLock, Stage as KindStage, Statement as KindStatement, Transaction as KindTransaction}
 use Rattle.pfs_classes.specs.Kinds.{kind_of}
+use Rattle.pfs_classes.specs.declared.setting.DigestText.{DigestText}
+use Rattle.pfs_digest.proofs.Bytes.{digest_plain, is_printable}
+use Rattle.pfs_digest.specs.Digest.{digest_text_of}
 use Rattle.pfs_journal.specs.Reports.{IsText, is_text_byte}
+use Rattle.pfs_lexer.specs.declared.tokens.LexFault.{LexFault}
 use Rattle.pfs_model.specs.Chains.{Each}
 use Rattle.pfs_names.specs.Interning.{interned}
+use Rattle.pfs_script.specs.Finds.{add_digest, digests_of, has_text, of_text, with_digest}
 use Rattle.pfs_script.specs.Forms.{class_kind_of, class_of, class_form, limit_of, limit_form, consumer_of, consumer_form, instrument_of, instrument_form, connect_of, connect_form, session_of, session_form, start_of_kind, start_class, transaction_form, table_wait_of, table_wait_form, start_of_kind_with, start_class_with, start_of, start_form, stage_of, stage_form, spend_form, end_form, sql_form, repeat_form, bare_form, block_form, long_form, form_of, words_form, or_bad_form, is_silent, form}
 use Rattle.pfs_script.specs.Headings.{Naming, head_of, limits_of, naming_behind, naming_of, naming_under, with_class}
 use Rattle.pfs_script.specs.Next.{fault_of, next, placed, unless_fault}
@@ -22,16 +27,17 @@ use Rattle.pfs_script.specs.SessionNames.{names_of, with_session}
 use Rattle.pfs_script.specs.Words.{is_script_byte, is_space, word_of, rest_of, schema_of, table_of, is_word, is_name, is_table_name, switch_of, switches_of}
 use Rattle.pfs_script.specs.declared.blocks.Access.TheVariants.{ReadWrite, ReadOnly}
 use Rattle.pfs_script.specs.declared.forms.Form.{Form}
-use Rattle.pfs_script.specs.declared.forms.Form.TheVariants.{Silent, Limit, Class, Consumer, Instrument, Phase, Connect, TableWait, Transaction, StageEnd, Spend, End, EndStatement, Sql, Quit, Repeat, Done}
+use Rattle.pfs_script.specs.declared.forms.Form.TheVariants.{Silent, Limit, Class, Consumer, Instrument, Phase, Connect, TableWait, Statement, Transaction, StageEnd, Spend, End, EndStatement, Sql, Quit, Repeat, Done}
 use Rattle.pfs_script.specs.declared.reasons.Extent.{Extent}
 use Rattle.pfs_script.specs.declared.reasons.Reason.{Reason}
 use Rattle.pfs_script.specs.declared.reasons.Reason.TheVariants.{BadByte}
-use Rattle.pfs_reportable.specs.Reportable.{NamesLaw}
+use Rattle.pfs_reportable.specs.Reportable.{NamesLaw, TextsLaw}
 
--- the names that a line gives are texts
+-- the names that a line gives, and its statement, are texts
 abbrev IsClean : Form → Type 0
 IsClean (Class name kind enabled timed) = IsText name
 IsClean (Connect session user host) = IsText user × IsText host
+IsClean (Statement class text) = IsText text
 IsClean _ = Unit {0}
 
 -- ---- parts of a text
@@ -118,7 +124,7 @@ start_kind_keeps class Socket = tt
 start_kind_keeps class TableIo = tt
 start_kind_keeps class TableLock = tt
 start_kind_keeps class KindStage = tt
-start_kind_keeps class KindStatement = tt
+start_kind_keeps class KindStatement = All-nil (λ b. is_text_byte b ≡ true)
 start_kind_keeps class KindTransaction = tt
 
 start_class_keeps : (class : List ℕ) → Keeps (start_class class)
@@ -133,31 +139,31 @@ table_wait_keeps : (class place : List ℕ) → Keeps (table_wait_form class pla
 unfolding table_wait_form
 table_wait_keeps class place = then_by (table_wait_of class (schema_of place)) (table_of place) (λ name. chosen (is_table_name (schema_of place) && is_table_name name) (TableWait class (schema_of place) name) tt)
 
-start_kind_with_keeps : (class more : List ℕ) (kind : Kind) → Keeps (start_of_kind_with class more kind)
-start_kind_with_keeps class more Mutex = tt
-start_kind_with_keeps class more Rwlock = tt
-start_kind_with_keeps class more Cond = tt
-start_kind_with_keeps class more File = tt
-start_kind_with_keeps class more Socket = tt
-start_kind_with_keeps class more TableIo = table_wait_keeps class more
-start_kind_with_keeps class more TableLock = table_wait_keeps class more
-start_kind_with_keeps class more KindStage = tt
-start_kind_with_keeps class more KindStatement = tt
-start_kind_with_keeps class more KindTransaction = tt
+start_kind_with_keeps : (class more : List ℕ) → IsText more → (kind : Kind) → Keeps (start_of_kind_with class more kind)
+start_kind_with_keeps class more text Mutex = tt
+start_kind_with_keeps class more text Rwlock = tt
+start_kind_with_keeps class more text Cond = tt
+start_kind_with_keeps class more text File = tt
+start_kind_with_keeps class more text Socket = tt
+start_kind_with_keeps class more text TableIo = table_wait_keeps class more
+start_kind_with_keeps class more text TableLock = table_wait_keeps class more
+start_kind_with_keeps class more text KindStage = tt
+start_kind_with_keeps class more text KindStatement = text
+start_kind_with_keeps class more text KindTransaction = tt
 
-start_class_with_keeps : (class more : List ℕ) → Keeps (start_class_with class more)
+start_class_with_keeps : (class more : List ℕ) → IsText more → Keeps (start_class_with class more)
 unfolding start_class_with
-start_class_with_keeps class more =
+start_class_with_keeps class more text =
     either (bytes_eq class (codes "transaction")) (transaction_form more) (option_and_then (start_of_kind_with class more) (kind_of class))
-    (transaction_keeps more) (then_by (start_of_kind_with class more) (kind_of class) (start_kind_with_keeps class more))
+    (transaction_keeps more) (then_by (start_of_kind_with class more) (kind_of class) (start_kind_with_keeps class more text))
 
-start_of_keeps : (class : List ℕ) (rest : Option (List ℕ)) → Keeps (start_of class rest)
-start_of_keeps class None = start_class_keeps class
-start_of_keeps class (Some more) = start_class_with_keeps class more
+start_of_keeps : (class : List ℕ) (rest : Option (List ℕ)) → IfSome rest IsText → Keeps (start_of class rest)
+start_of_keeps class None text = start_class_keeps class
+start_of_keeps class (Some more) text = start_class_with_keeps class more text
 
-start_keeps : (words : List ℕ) → Keeps (start_form words)
+start_keeps : (words : List ℕ) → IsText words → Keeps (start_form words)
 unfolding start_form
-start_keeps words = start_of_keeps (word_of words) (rest_of words)
+start_keeps words text = start_of_keeps (word_of words) (rest_of words) (rest_text words text)
 
 stage_kind_keeps : (class : List ℕ) (kind : Kind) → Keeps (stage_of class kind)
 stage_kind_keeps class Mutex = tt
@@ -216,7 +222,7 @@ long_keeps word words text =
     (either (bytes_eq word (codes "consumer")) (consumer_form words) _ (consumer_keeps words)
     (either (bytes_eq word (codes "instrument")) (instrument_form words) _ (instrument_keeps words)
     (either (bytes_eq word (codes "session")) (session_form words) _ (session_keeps words text)
-    (either (bytes_eq word (codes "start")) (start_form words) (block_form word words) (start_keeps words) (block_keeps word words))))))
+    (either (bytes_eq word (codes "start")) (start_form words) (block_form word words) (start_keeps words text) (block_keeps word words))))))
 
 form_of_keeps : (word : List ℕ) (rest : Option (List ℕ)) → IfSome rest IsText → Keeps (form_of word rest)
 form_of_keeps word None text = bare_keeps word
@@ -317,3 +323,39 @@ names_texts lines each = session_texts (head_of lines).names lines (head_texts l
 pub all_texts : NamesLaw
 unfolding IsScript
 all_texts = λ extent text setting phases is. All-same IsText setting.names (names_of is.0) is.2.names (names_texts is.0 (lines_clean extent [] is.1.0 is.0 is.1.2))
+
+-- ---- digest texts
+
+abbrev IsTextual : DigestText → Type 0
+IsTextual digest = IsText digest.text
+
+printable_text : (b : ℕ) → is_printable b ≡ true → is_text_byte b ≡ true
+printable_text b e = at (b == 9) (is_printable b) e where
+  at : (tab printable : Bool) → printable ≡ true → (tab || printable) ≡ true
+  at true printable e = refl
+  at false printable e = e
+
+added_textual : (most : ℕ) (digests : List DigestText) (text : List ℕ) (due : Result (List ℕ) LexFault) → IsText text → digest_text_of text ≡ due → All IsTextual digests → All IsTextual (add_digest most digests due)
+added_textual most digests text (Err fault) clean e all = all
+added_textual most digests text (Ok shown) clean e all = at (is_some (position (has_text shown) digests)) (nat_lt (length digests) most) where
+  at : (found room : Bool) → All IsTextual (cond found digests (cond room (digests ++ of_text shown ∷ []) digests))
+  at true room = all
+  at false true = All-push IsTextual digests (of_text shown) all (digest_plain is_text_byte printable_text text shown clean e)
+  at false false = all
+
+line_textual : (most : ℕ) (digests : List DigestText) (line : Form) → All IsTextual digests → IsClean line → All IsTextual (with_digest most digests line)
+line_textual most digests (Statement class text) all clean = added_textual most digests text (digest_text_of text) clean refl all
+line_textual most digests _ all clean = all
+
+lines_textual : (most : ℕ) (digests : List DigestText) (lines : List Form) → All IsTextual digests → Each IsClean lines → All IsTextual (fold (with_digest most) digests lines)
+lines_textual most digests [] all each = all
+lines_textual most digests (line ∷ lines) all each = lines_textual most (with_digest most digests line) lines (line_textual most digests line all each.0) each.1
+
+digests_textual : (most : ℕ) (lines : List Form) → Each IsClean lines → All IsTextual (digests_of most lines)
+unfolding digests_of
+digests_textual most lines each = lines_textual most [] lines (All-nil IsTextual) each
+
+pub all_digests : TextsLaw
+unfolding IsScript
+all_digests = λ extent text setting phases is.
+    All-same IsTextual setting.digests (digests_of (limits_of is.0).digests is.0) is.2.digests (digests_textual (limits_of is.0).digests is.0 (lines_clean extent [] is.1.0 is.0 is.1.2))

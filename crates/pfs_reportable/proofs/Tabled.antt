@@ -1,5 +1,5 @@
 -- The tables at a phase's end show numbers, names of the setting, and words of their own.
-use Rattle.std.proofs.Common.{ℕ, zero, suc, ◌≡◌, ◌≢◌, Bool, true, false, cond, List, [], ◌∷◌, ◌++◌, map, length, Option, Some, None, refl, sym, ap, subst}
+use Rattle.std.proofs.Common.{ℕ, zero, suc, ◌≡◌, ◌≢◌, ◌+◌, Bool, true, false, cond, List, [], ◌∷◌, ◌++◌, map, length, Option, Some, None, refl, sym, ap, subst}
 use Rattle.std.specs.Prelude.{◌==◌, codes, nat_lt, ◌&&◌, option_map, option_and_then, slice_get, unwrap_or}
 use Rattle.std.specs.List.{All, AllByRecursion, flat_map, list_all, list_any, range_with_len}
 use Rattle.std.specs.Option.{IfSome, option_to_list}
@@ -9,6 +9,7 @@ use Rattle.std.proofs.lemmas.Bool.{and_parts}
 use Rattle.std.proofs.lemmas.List.{map-append}
 use Rattle.std.proofs.lemmas.List.Elements.{All-cons, All-filter, All-from_recursion, All-head, All-nil, All-tail}
 use Rattle.pfs_classes.specs.declared.classes.Class.{Class}
+use Rattle.pfs_classes.specs.declared.setting.DigestText.{DigestText}
 use Rattle.pfs_classes.specs.declared.setting.Setting.{Setting}
 use Rattle.pfs_classes.specs.Registry.{class_at, text_of}
 use Rattle.pfs_finals.specs.Finals.{TableRead, final_order, is_shown, shown_rows, summaries_of, table_if, table_report}
@@ -26,14 +27,15 @@ use Rattle.pfs_rows.specs.declared.table.Seen.TheVariants as seens
 use Rattle.pfs_rows.specs.declared.table.SummaryTable.{SummaryTable}
 use Rattle.pfs_rows.specs.declared.table.SummaryTable.TheVariants.{ByThread, ByAccount, ByUser, ByHost, Global}
 use Rattle.pfs_rows.specs.declared.table.Table.{Table}
-use Rattle.pfs_rows.specs.declared.table.Table.TheVariants.{Threads, Accounts, Users, Hosts, Summary}
+use Rattle.pfs_rows.specs.declared.table.Table.TheVariants.{Threads, Accounts, Users, Hosts, Summary, DigestSummary}
 use Rattle.pfs_rows.specs.declared.table.TableKind.{TableKind}
 use Rattle.pfs_rows.specs.declared.table.TableKind.TheVariants.{Waits, Stages, Statements, Transactions}
 use Rattle.pfs_stat.specs.declared.Stat.{Stat}
-use Rattle.pfs_stat.specs.Stat.{merge_of}
+use Rattle.pfs_stat.specs.Stat.{merge_of, stat_of_words}
 use Rattle.pfs_summaries.proofs.Puts.{both, values_puts, weaker}
 use Rattle.pfs_summaries.specs.Cells.{is_hidden_by, tally_of}
-use Rattle.pfs_summaries.specs.Contents.{account_at, host_at, infos_of, thread_at, user_at}
+use Rattle.pfs_summaries.specs.Contents.{account_at, contents_of, host_at, info_at, infos_of, thread_at, user_at}
+use Rattle.pfs_summaries.specs.Digests.{counted_row, digest_heading, digest_row, digests_of, null_heading, place_row}
 use Rattle.pfs_summaries.specs.Heads.{account_head, head_of, host_head, places_of, row_cmp as summary_cmp, user_head}
 use Rattle.pfs_summaries.specs.RowValues.{sums_of, times_of, values_of as numbers_shown}
 use Rattle.pfs_summaries.specs.Summaries.{class_rows, class_text, head_rows, is_listed, key_at, numbers_of, ordered_rows, place_rows, row_values, summary_rows_of}
@@ -45,6 +47,7 @@ use Rattle.pfs_tables.specs.Orders.{Keyed, name_key, number_key, row_cmp}
 use Rattle.pfs_tables.specs.Plain.{account_row, account_values, flag_value, flags_at, may_show, name_row, name_values, on_place, plain_rows_of, rows_of, slot_row, thread_row, thread_values, word_rows, words_row}
 use Rattle.pfs_tables.specs.Shown.{listed_rows}
 use Rattle.pfs_values.specs.declared.RowValue.{RowValue}
+use Rattle.pfs_reportable.proofs.Hexed.{hash_text}
 use Rattle.pfs_reportable.specs.Reportable.{TablesLaw}
 
 -- ---- texts and names
@@ -277,6 +280,41 @@ summary_name Transactions ByUser = is_name (table_name (Summary Transactions ByU
 summary_name Transactions ByHost = is_name (table_name (Summary Transactions ByHost)) refl refl
 summary_name Transactions Global = is_name (table_name (Summary Transactions Global)) refl refl
 
+-- ---- the summary by digest
+
+module _ (setting : Setting) (texts : All (λ (digest : DigestText). IsText digest.text) setting.digests) where
+  counted_good : (heading : List RowValue) → IsLegible heading → (content : Option (List ℕ)) → AllByRecursion IsLegible (counted_row heading content)
+  counted_good heading good None = tt
+  counted_good heading good (Some words) = at ((stat_of_words words).count == 0) where
+    at : (b : Bool) → AllByRecursion IsLegible (cond b [] ((heading ++ numbers_shown (numbers.Statements (stat_of_words words))) ∷ []))
+    at true = tt
+    at false = (both IsValue heading (numbers_shown (numbers.Statements (stat_of_words words))) good (numbers_good (numbers.Statements (stat_of_words words))), tt)
+
+  found_digest : (digests : List DigestText) (i : ℕ) → All (λ (digest : DigestText). IsText digest.text) digests → IfSome (slice_get digests i) (λ (digest : DigestText). IsText digest.text)
+  found_digest [] i all = tt
+  found_digest (x ∷ xs) zero all = All-head (λ (digest : DigestText). IsText digest.text) x xs all
+  found_digest (x ∷ xs) (suc i) all = found_digest xs i (All-tail (λ (digest : DigestText). IsText digest.text) x xs all)
+
+  place_good : (digest : Option DigestText) → IfSome digest (λ (digest : DigestText). IsText digest.text) → (content : Option (List ℕ)) → AllByRecursion IsLegible (place_row digest content)
+  place_good None h content = tt
+  place_good (Some digest) h content = counted_good (digest_heading digest) (tt, (hash_text digest.text, (h, tt))) content
+
+  digest_good : (contents : List (Option (List ℕ))) (place : ℕ) → AllByRecursion IsLegible (digest_row setting.digests contents place)
+  unfolding digest_row
+  digest_good contents place = place_good (slice_get setting.digests place) (found_digest setting.digests place texts) (info_at contents (1 + place))
+
+  each_digest_good : (contents : List (Option (List ℕ))) (places : List ℕ) → AllByRecursion IsLegible (flat_map (digest_row setting.digests contents) places)
+  each_digest_good contents [] = tt
+  each_digest_good contents (place ∷ places) =
+      both IsLegible (digest_row setting.digests contents place) (flat_map (digest_row setting.digests contents) places) (digest_good contents place) (each_digest_good contents places)
+
+  digests_good : (readings : List Reading) → AllByRecursion IsLegible (digests_of setting readings)
+  unfolding digests_of
+  digests_good readings =
+      both IsLegible (counted_row null_heading (info_at (contents_of 8385 65 readings) 0)) (flat_map (digest_row setting.digests (contents_of 8385 65 readings)) (range_with_len 0 64))
+      (counted_good null_heading (tt, (tt, (tt, tt))) (info_at (contents_of 8385 65 readings) 0))
+      (each_digest_good (contents_of 8385 65 readings) (range_with_len 0 64))
+
 -- ---- the tables at a phase's end
 
 -- a table with such a name shows such rows, whatever is read of it
@@ -284,7 +322,7 @@ record IsGood (setting : Setting) (table : Table) : Type 0 where
   name : IsName (table_name table)
   rows : (readings : List Reading) → AllByRecursion IsLegible (listed_rows setting table readings)
 
-module _ (setting : Setting) (all : All IsText setting.names) where
+module _ (setting : Setting) (all : All IsText setting.names) (texts : All (λ (digest : DigestText). IsText digest.text) setting.digests) where
   one_good : (kind : TableKind) (which : SummaryTable) → IsGood setting (Summary kind which)
   one_good kind which = record { name = summary_name kind which; rows = summary_good setting all kind which }
 
@@ -303,6 +341,9 @@ module _ (setting : Setting) (all : All IsText setting.names) where
   hosts_good : IsGood setting Hosts
   hosts_good = record { name = is_name (table_name Hosts) refl refl; rows = plain_good setting all Hosts (hosts setting all) }
 
+  digest_summary_good : IsGood setting DigestSummary
+  digest_summary_good = record { name = is_name (table_name DigestSummary) refl refl; rows = digests_good setting texts }
+
   order_good : AllByRecursion (IsGood setting) final_order
   order_good = (
     threads_good,
@@ -312,9 +353,10 @@ module _ (setting : Setting) (all : All IsText setting.names) where
         users_good,
         (
           hosts_good,
-          both (IsGood setting) (summaries_of Waits) (summaries_of Stages ++ (summaries_of Statements ++ summaries_of Transactions)) (kind_good Waits)
-              (both (IsGood setting) (summaries_of Stages) (summaries_of Statements ++ summaries_of Transactions) (kind_good Stages)
-              (both (IsGood setting) (summaries_of Statements) (summaries_of Transactions) (kind_good Statements) (kind_good Transactions))),
+          both (IsGood setting) (summaries_of Waits) (summaries_of Stages ++ (summaries_of Statements ++ (summaries_of Transactions ++ DigestSummary ∷ []))) (kind_good Waits)
+              (both (IsGood setting) (summaries_of Stages) (summaries_of Statements ++ (summaries_of Transactions ++ DigestSummary ∷ [])) (kind_good Stages)
+              (both (IsGood setting) (summaries_of Statements) (summaries_of Transactions ++ DigestSummary ∷ []) (kind_good Statements)
+              (both (IsGood setting) (summaries_of Transactions) (DigestSummary ∷ []) (kind_good Transactions) (digest_summary_good, tt)))),
         ),
       ),
     ),
@@ -341,5 +383,5 @@ module _ (setting : Setting) (all : All IsText setting.names) where
   reads_good (read ∷ reads) good = both IsTable (table_report setting read) (flat_map (table_report setting) reads) (report_good read good.0) (reads_good reads good.1)
 
 pub all_tables : TablesLaw
-all_tables = λ setting reads all order.
-    All-from_recursion IsTable (flat_map (table_report setting) reads) (reads_good setting all reads (subst (AllByRecursion (IsGood setting)) (sym order) (order_good setting all)))
+all_tables = λ setting reads all texts order.
+    All-from_recursion IsTable (flat_map (table_report setting) reads) (reads_good setting all texts reads (subst (AllByRecursion (IsGood setting)) (sym order) (order_good setting all texts)))

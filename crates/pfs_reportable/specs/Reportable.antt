@@ -18,9 +18,15 @@ abbrev pub NamesLaw : Type 0
 NamesLaw = (extent : Extent) (text : List ℕ) (setting : Setting) (phases : List Phase)
     → IsScript extent text setting phases → All IsText setting.names
 
--- whatever was read of the tables at a phase's end, what they show under such names are tables of a report
+-- and so are its digest texts
+abbrev pub TextsLaw : Type 0
+TextsLaw = (extent : Extent) (text : List ℕ) (setting : Setting) (phases : List Phase)
+    → IsScript extent text setting phases → All (λ digest. IsText digest.text) setting.digests
+
+-- whatever was read of the tables at a phase's end, what they show under such names and texts are tables of a report
 abbrev pub TablesLaw : Type 0
 TablesLaw = (setting : Setting) (reads : List TableRead) → All IsText setting.names
+    → All (λ digest. IsText digest.text) setting.digests
     → map (λ (read : TableRead). read.table) reads ≡ final_order
     → All IsTable (flat_map (table_report setting) reads)
 

@@ -19,6 +19,7 @@ pub mod HeadLemmas
 pub mod NamedLemmas
 pub mod NameLemmas
 pub mod Listing
+pub mod TextPlaces
 pub mod ListingExamples
 pub mod NamingLemmas
 pub mod Nesting

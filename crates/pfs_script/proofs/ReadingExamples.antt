@@ -6,7 +6,7 @@ use Rattle.pfs_classes.specs.declared.classes.ClassRef.TheVariants as refs
 use Rattle.pfs_truncations.specs.Texts.{truncation_of, name_in}
 use Rattle.pfs_script.specs.declared.forms.Form.{Form}
 use Rattle.pfs_script.specs.declared.forms.Form.TheVariants as form
-use Rattle.pfs_script.specs.declared.reasons.Reason.TheVariants.{OutOfPlace, BadSession, BadNesting, TooLong, NotBuilt}
+use Rattle.pfs_script.specs.declared.reasons.Reason.TheVariants.{OutOfPlace, BadSession, UnknownName, BadNesting, TooLong, NotBuilt}
 use Rattle.pfs_script.specs.declared.blocks.BlockLine.TheVariants as said
 use Rattle.pfs_script.specs.Brackets.{closing_from, brackets_from}
 use Rattle.pfs_script.specs.Counts.{behind_last, ahead_of_last, counted}
@@ -92,16 +92,16 @@ truncation_built : fault_of Built (form.Phase ∷ connect 7 ∷ []) (form.Sql (c
 unfolding fault_of least_reason truncation_of name_in lines_in session_now kinds_open brackets_from counted tables_of begins_with command_of
 truncation_built = refl
 
--- a statement with a text isn't, nor is the limit of digest texts
-text_not_built : fault_of Built [] (form.Statement (codes "statement/sql/select") (codes "SELECT 1")) ≡ Some NotBuilt
-unfolding fault_of
-text_not_built = refl
+-- the limit of digest texts is, and a name of no limit is told as unknown
+digests_built : fault_of Built [] (form.Limit (codes "digests") (Some 8)) ≡ None
+unfolding fault_of least_reason named_limit lines_in session_now kinds_open brackets_from counted tables_of
+digests_built = refl
 
-limit_not_built : fault_of Built [] (form.Limit (codes "digests") (Some 8)) ≡ Some NotBuilt
-unfolding fault_of named_limit
-limit_not_built = refl
+limit_unknown : fault_of Built [] (form.Limit (codes "digest") (Some 8)) ≡ Some UnknownName
+unfolding fault_of least_reason named_limit lines_in session_now kinds_open brackets_from counted tables_of
+limit_unknown = refl
 
--- a later phase is, in which a session goes on and ends, and so is another limit
+-- a later phase is, in which a session goes on and ends
 phase_built : fault_of Built (form.Phase ∷ connect 7 ∷ []) form.Phase ≡ None
 unfolding fault_of least_reason behind_last lines_in session_now kinds_open brackets_from counted tables_of
 phase_built = refl

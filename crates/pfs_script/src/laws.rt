@@ -1,6 +1,6 @@
 //! What holds of all texts, lines and names, and of events as brackets.
 
-ghost use Rattle.std.specs.Prelude.{◌≡◌, ◌++◌, ◌∷◌, [], ◌⊎◌, List, ℕ, is_some, false, length, map, take, drop, Some, codes, ◌<◌};
+ghost use Rattle.std.specs.Prelude.{◌≡◌, ◌++◌, ◌∷◌, [], List, ℕ, is_some, false, length, map, take, drop, Some, codes, ◌<◌};
 ghost use Rattle.std.specs.List.{All};
 ghost use Rattle.std.specs.Str.{bytes_eq};
 ghost use Rattle.pfs_classes.specs.declared.classes.ClassRef.TheVariants as refs;
@@ -9,7 +9,7 @@ ghost use Rattle.pfs_script.specs.Headings.{is_known, resolved, head_of, limits_
 ghost use Rattle.pfs_script.specs.Marks.{Mark, mark_of, copies};
 ghost use Rattle.pfs_script.specs.Brackets.{open_in, closed_at, kinds_of, ended_by, opened_by, Follows};
 ghost use Rattle.pfs_script.specs.Scripts.{IsExact, IsScript};
-ghost use Rattle.pfs_script.specs.Finds.{tables_of, digests_of, of_text};
+ghost use Rattle.pfs_script.specs.Finds.{tables_of, digests_of};
 ghost use Rattle.pfs_classes.specs.declared.setting.Setting.{Setting};
 ghost use Rattle.pfs_script.specs.declared.blocks.Block.{Block};
 ghost use Rattle.pfs_script.specs.declared.blocks.Phase.{Phase};
@@ -94,11 +94,8 @@ pub fn events()
     ensures { (number : ℕ) (phases : List Phase) → AreEvents (lines_for number phases) (events_for number phases) }
 {}
 
-/// Each command of a script that the engine runs is a truncation, and no statement of it has a text. So it has
-/// at most one digest text, the empty one, and each statement has its place, the first.
+/// Each command of a script that the engine runs is a truncation.
 pub fn built()
-    ensures lines { (text : List ℕ) (setting : Setting) (phases : List Phase) → IsScript Built text setting phases
+    ensures { (text : List ℕ) (setting : Setting) (phases : List Phase) → IsScript Built text setting phases
         → All (λ (phase : Phase). All (λ (block : Block). All IsBuiltLine block.lines) phase.blocks) phases }
-    ensures digests { (text : List ℕ) (setting : Setting) (phases : List Phase) → IsScript Built text setting phases
-        → (setting.digests ≡ []) ⊎ (setting.digests ≡ of_text [] ∷ []) }
 {}

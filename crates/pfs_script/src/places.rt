@@ -3,7 +3,7 @@
 ghost use Rattle.std.specs.Prelude.{◌≡◌, ◌≤◌, List, ◌∷◌, ◌++◌, [], None};
 ghost use Rattle.pfs_script.specs.declared.forms.Form.{Form};
 ghost use Rattle.pfs_script.specs.Headings.{head_of};
-ghost use Rattle.pfs_script.specs.Built.{is_built, is_built_limit};
+ghost use Rattle.pfs_script.specs.Built.{is_built};
 ghost use Rattle.pfs_script.specs.declared.reasons.Extent.{Extent};
 ghost use Rattle.pfs_script.specs.Next.{has_bad_number, is_no_count, is_out_of_place, is_bad_number, is_unknown, is_event_class, is_bad_statement, is_table_too_many, is_let_in, fault_of, least_reason};
 ghost use Rattle.pfs_script.specs.Finds.{shown_of};
@@ -16,7 +16,6 @@ use crate::fronts::{Front, no_front};
 use crate::heading::{Heading, find_consumer, find_limit};
 use crate::reasons::{Extent, Reason};
 use crate::totals::{Totals, no_lines};
-use pfs_rows::Limit;
 use pfs_text::Text;
 use pfs_truncations::truncation_of;
 
@@ -173,20 +172,8 @@ fn is_built(line: &Form) -> bool
     ensures { result ≡ is_built line.now }
 {
     match line {
-        Form::Limit { name, .. } => is_built_limit(find_limit(name.bytes())),
-        Form::Statement { text, .. } => text.as_str().is_empty(),
         Form::Sql { text } => truncation_of(text.bytes()).is_some(),
         _ => true,
-    }
-}
-
-// Whether the limit is built: any but that of digest texts.
-fn is_built_limit(limit: Option<Limit>) -> bool
-    ensures { result ≡ is_built_limit limit }
-{
-    match limit {
-        Some(Limit::Digests) | None => false,
-        Some(_) => true,
     }
 }
 
