@@ -1,5 +1,6 @@
 pub mod Started
 pub mod Counting
+pub mod Unplaced
 pub mod Leading
 pub mod Ending
 pub mod Ended

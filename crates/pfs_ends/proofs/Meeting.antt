@@ -22,7 +22,7 @@ use Rattle.pfs_model.specs.Chains.{Each, times, each_of}
 use Rattle.pfs_reader.specs.Readings.{calls_of as calls_of_readings}
 use Rattle.pfs_ruled.proofs.Quiet.{LeadAlike}
 use Rattle.pfs_ruled.specs.Ruled.{entries_of, labels_of}
-use Rattle.pfs_runs.specs.Finals.{is_lost_nested, is_lost_locker, verdict_at, lost_behind}
+use Rattle.pfs_runs.specs.Finals.{is_digest_lost, is_lost_nested, is_lost_locker, verdict_at, lost_behind}
 use Rattle.pfs_runs.specs.Runs.{AreFinal}
 use Rattle.pfs_ends.specs.Ends.{IsEnd, HasEnded}
 
@@ -32,7 +32,7 @@ pub record AreCounted (containers : Containers) (spells : List Spell) (lost : Lo
   pub accounts : lost.accounts ≡ containers.lost_accounts
   pub users : lost.users ≡ containers.lost_users
   pub hosts : lost.hosts ≡ containers.lost_hosts
-  pub digests : lost.digests ≡ 0
+  pub digests : lost.digests ≡ times is_digest_lost (entries_of spells)
   pub statements : lost.statements ≡ times is_lost_nested (each_of verdict_at (entries_of spells))
   pub waits : lost.waits ≡ times is_lost_locker (each_of verdict_at (entries_of spells))
 
@@ -50,14 +50,15 @@ lost_of threads accounts users hosts digests statements waits = record {
 
 pub counted_is : (containers : Containers) (spells : List Spell) (lost : LostCounters) → AreCounted containers spells lost → lost ≡ lost_behind containers (entries_of spells)
 counted_is containers spells lost c =
+    let d : ℕ = times is_digest_lost (entries_of spells) in
     let n : ℕ = times is_lost_nested (each_of verdict_at (entries_of spells)) in
     ap (λ z. lost_of z lost.accounts lost.users lost.hosts lost.digests lost.statements lost.waits) c.threads
     ∙ (ap (λ z. lost_of containers.lost_threads z lost.users lost.hosts lost.digests lost.statements lost.waits) c.accounts
     ∙ (ap (λ z. lost_of containers.lost_threads containers.lost_accounts z lost.hosts lost.digests lost.statements lost.waits) c.users
     ∙ (ap (λ z. lost_of containers.lost_threads containers.lost_accounts containers.lost_users z lost.digests lost.statements lost.waits) c.hosts
     ∙ (ap (λ z. lost_of containers.lost_threads containers.lost_accounts containers.lost_users containers.lost_hosts z lost.statements lost.waits) c.digests
-    ∙ (ap (λ z. lost_of containers.lost_threads containers.lost_accounts containers.lost_users containers.lost_hosts 0 z lost.waits) c.statements
-    ∙ ap (λ z. lost_of containers.lost_threads containers.lost_accounts containers.lost_users containers.lost_hosts 0 n z) c.waits)))))
+    ∙ (ap (λ z. lost_of containers.lost_threads containers.lost_accounts containers.lost_users containers.lost_hosts d z lost.waits) c.statements
+    ∙ ap (λ z. lost_of containers.lost_threads containers.lost_accounts containers.lost_users containers.lost_hosts d n z) c.waits)))))
 
 -- the tables as they were made, and the counters
 pub end_of : (setting : Setting) (change : Label → Change) (spells : List Spell) (calls : List Call) (report : PhaseParts) (was now : Opening → List Call → Type 0) (admin : State)

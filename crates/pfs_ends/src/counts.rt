@@ -1,14 +1,19 @@
-//! How many events were lost for too many were open.
+//! How many events were lost for too many were open, and how many digests for there was no place for their texts.
 
-ghost use Rattle.std.specs.Prelude.{◌≡◌, ◌+◌, ◌<◌, ◌^◌, if◌then◌else◌, [], ◌∷◌, length};
-ghost use Rattle.pfs_runs.specs.Finals.{is_lost_nested, is_lost_locker};
+ghost use Rattle.std.specs.Prelude.{◌≡◌, ◌+◌, ◌<◌, ◌≤◌, ◌^◌, cond, if◌then◌else◌, false, [], ◌∷◌, length};
+ghost use Rattle.pfs_runs.specs.Finals.{is_lost_nested, is_lost_locker, is_unplaced};
 ghost use Rattle.pfs_ends.specs.Counts as spec;
 
 use pfs_event::{Entry, KeptEntry, Verdict};
 
-/// How many statements, and how many waits, were lost for too many were open.
+// The row of the digests without a place.
+const UNPLACED: u64 = 8_385;
+
+/// How many digests of statements were lost for there was no place, and how many statements and how many waits for too
+/// many were open.
 #[derive(Clone, Copy, Debug, PartialEq, Eq)]
 pub struct LostEvents {
+    pub digests: u64,
     pub statements: u64,
     pub waits: u64,
 }
@@ -16,22 +21,25 @@ pub struct LostEvents {
 impl LostEvents {
     /// Nothing was lost.
     pub const NONE: LostEvents = LostEvents {
+        digests: 0,
         statements: 0,
         waits: 0,
     };
 }
 
-// What is lost by an event with this verdict.
+// What is lost by an event with this verdict; its digest is counted where it ends.
 fn lost_by(verdict: Verdict) -> LostEvents
     ensures statements { result.statements ≡ (if is_lost_nested verdict then 1 else 0) }
     ensures waits { result.waits ≡ (if is_lost_locker verdict then 1 else 0) }
 {
     match verdict {
         Verdict::LostNested => LostEvents {
+            digests: 0,
             statements: 1,
             waits: 0,
         },
         Verdict::LostLocker => LostEvents {
+            digests: 0,
             statements: 0,
             waits: 1,
         },
@@ -50,13 +58,58 @@ fn lost_at(entry: &KeptEntry) -> LostEvents
     }
 }
 
-/// What was lost so far, with what these entries say was lost. It goes over them once.
+// Whether additions bring an event behind this entry, where they do before it or not.
+fn ends_behind(ends: bool, entry: &KeptEntry) -> bool
+    ensures is { result ≡ spec.ends_behind ends entry.now }
+{
+    match entry.entry() {
+        Entry::End { .. } => true,
+        Entry::Settle | Entry::Act { .. } | Entry::Connect { .. } => false,
+        _ => ends,
+    }
+}
+
+// How many statements an entry brings to the row of the digests without a place.
+fn unplaced_at(ends: bool, entry: &KeptEntry) -> u64
+    ensures is { result ≡ cond (is_unplaced ends entry.now) 1 0 }
+{
+    match entry.entry() {
+        Entry::Add { row, .. } | Entry::Held { row, .. } => {
+            if ends && row == UNPLACED { 1 } else { 0 }
+        }
+        _ => 0,
+    }
+}
+
+// How many digests these entries say were lost.
+fn count_digests(entries: &[KeptEntry]) -> u64
+    requires few { length entries.now < 2 ^ 64 }
+    ensures is { result ≡ spec.lost_digests entries.now }
+    ensures few { result ≤ length entries.now }
+{
+    let mut ends = false;
+    let mut digests = 0;
+    for entry in entries {
+        let unplaced = unplaced_at(ends, entry);
+        let behind = ends_behind(ends, entry);
+        digests += unplaced;
+        ends = behind;
+    }
+    digests
+}
+
+/// What was lost so far, with what these entries of a session, from the beginning of a block on, say was lost. It goes
+/// over them twice.
 pub fn count_lost(entries: &[KeptEntry], so_far: LostEvents) -> LostEvents
+    requires digests { so_far.digests + length entries.now < 2 ^ 64 }
     requires statements { so_far.statements + length entries.now < 2 ^ 64 }
     requires waits { so_far.waits + length entries.now < 2 ^ 64 }
+    ensures digests { result.digests ≡ so_far.digests + spec.lost_digests entries.now }
     ensures statements { result.statements ≡ so_far.statements + spec.lost_statements entries.now }
     ensures waits { result.waits ≡ so_far.waits + spec.lost_waits entries.now }
 {
+    let unplaced = count_digests(entries);
+    let digests = so_far.digests + unplaced;
     let mut statements = so_far.statements;
     let mut waits = so_far.waits;
     for entry in entries {
@@ -64,5 +117,9 @@ pub fn count_lost(entries: &[KeptEntry], so_far: LostEvents) -> LostEvents
         statements += lost.statements;
         waits += lost.waits;
     }
-    LostEvents { statements, waits }
+    LostEvents {
+        digests,
+        statements,
+        waits,
+    }
 }

@@ -8,6 +8,7 @@ use Rattle.pfs_event.specs.declared.kind.EventKind.TheVariants.{Wait, Stage, Sta
 use Rattle.pfs_event.specs.declared.open.Open.{Open}
 use Rattle.pfs_levels.specs.Calls.{Call}
 use Rattle.pfs_model.specs.Shapes.{is_stage}
+use Rattle.pfs_session.proofs.Ending.{through_leaves}
 use Rattle.pfs_session.specs.Ends.{EndsIn, no_numbers}
 use Rattle.pfs_session.specs.States.{State}
 use Rattle.pfs_session.specs.Turns.{Step, StartsEvent, EndsEvent, Spends, SettlesHeld, Connects, Quits, Truncates, Turn, Does, AreTurns, state_after, steps_of, stage_ends}
@@ -44,7 +45,7 @@ ended_in : (s : State) (slot : Option ℕ) (through : Bool) (what : Open) (other
     → EndsIn s slot through what others numbers calls entries after → after.opened.events ≡ others
 ended_in s slot false what others numbers calls entries after e = ap (λ (z : State). z.opened.events) e.after_is
 ended_in s None true what others numbers calls entries after e = absurd e
-ended_in s (Some slot) true what others numbers calls entries after e = ap (λ (z : State). z.opened.events) e.after_is
+ended_in s (Some slot) true what others numbers calls entries after e = ap (λ (z : State). z.opened.events) (through_leaves s slot what others numbers calls entries after e)
 
 pub kinds_does : (s : State) (step : Step) (calls : List Call) (entries : List Entry) (after : State) → Does s step calls entries after → kinds_at after ≡ kinds_stepped (kinds_at s) step
 kinds_does s (StartsEvent subject) calls entries after does =

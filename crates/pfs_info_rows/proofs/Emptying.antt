@@ -8,7 +8,7 @@ use Rattle.pfs_levels.specs.declared.places.Level.TheVariants as levels
 use Rattle.pfs_model.proofs.Growing.{times_append}
 use Rattle.pfs_model.specs.Chains.{times}
 use Rattle.pfs_truncations.specs.declared.truncations.Truncation.{Truncation}
-use Rattle.pfs_truncations.specs.declared.truncations.Truncation.TheVariants.{Summary, Accounts, Users, Hosts, SetupActors, SetupObjects}
+use Rattle.pfs_truncations.specs.declared.truncations.Truncation.TheVariants.{Summary, DigestSummary, Accounts, Users, Hosts, SetupActors, SetupObjects}
 use Rattle.pfs_info_rows.proofs.Naming.{signs_at}
 use Rattle.pfs_info_rows.proofs.News.{news, Misses, news_miss, news_none, misses_then, apart}
 
@@ -142,5 +142,6 @@ truncation_once row was after Hosts =
     two_once row (level_signs false (was levels.Account) after levels.Account) (level_signs true (was levels.Host) after levels.Host) (signs_once false (was levels.Account) after levels.Account row) (signs_once true (was levels.Host) after levels.Host row)
     (λ l. signs_miss false (was levels.Account) after levels.Account row (λ place h e. omega (arith, l, h, e)))
     (λ l. signs_miss true (was levels.Host) after levels.Host row (λ place h e. omega (arith, l, h, e)))
+truncation_once row was after DigestSummary = omega arith
 truncation_once row was after SetupActors = omega arith
 truncation_once row was after SetupObjects = omega arith

@@ -19,7 +19,7 @@ use Rattle.pfs_model.specs.Chains.{action_change, each_of}
 use Rattle.pfs_rows.specs.declared.limits.Limits.{Limits}
 use Rattle.pfs_tagged.specs.Runs.{entries_to}
 use Rattle.pfs_truncations.specs.declared.truncations.Truncation.{Truncation}
-use Rattle.pfs_truncations.specs.declared.truncations.Truncation.TheVariants.{Summary, Accounts, Users, Hosts, SetupActors, SetupObjects}
+use Rattle.pfs_truncations.specs.declared.truncations.Truncation.TheVariants.{Summary, DigestSummary, Accounts, Users, Hosts, SetupActors, SetupObjects}
 use Rattle.pfs_info_rows.specs.Laws.{containers_to, LimitsLaw}
 use Rattle.pfs_info_rows.proofs.Stepping.{thread_none, account_none, user_none, host_none}
 
@@ -79,6 +79,7 @@ truncate_many limits c Hosts m = record {
   users = m.users;
   hosts = len_kept 0 (in_use (λ x. x.host) c.places.threads) c.places.hosts ∙ m.hosts;
 }
+truncate_many limits c DigestSummary m = m
 truncate_many limits c SetupActors m = m
 truncate_many limits c SetupObjects m = m
 

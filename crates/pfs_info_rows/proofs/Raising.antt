@@ -3,7 +3,8 @@
 use Rattle.std.proofs.Common.{ℕ, ◌-◌, ◌≤◌, Bool, true, false, cond, List, [], ◌∷◌, ◌++◌, take, Option, Some, None, sym, subst, arith}
 use Rattle.pfs_admin.specs.Asks.{quit_work, up_of}
 use Rattle.pfs_admin.specs.Fold.{state_of}
-use Rattle.pfs_admin.specs.States.{State, kind_cells, seat_at, seat_in, thread_flags, connected, has_quit}
+use Rattle.pfs_admin.proofs.Celling.{kinds_fit}
+use Rattle.pfs_admin.specs.States.{KindCells, State, kind_cells, seat_at, seat_in, thread_flags, connected, has_quit}
 use Rattle.pfs_admin.specs.Truncations.{truncation_asks}
 use Rattle.pfs_admin.specs.declared.changes.Change.{Change}
 use Rattle.pfs_admin.specs.declared.changes.Change.TheVariants as changes
@@ -21,7 +22,7 @@ use Rattle.pfs_model.specs.Chains.{Each}
 use Rattle.pfs_runs.specs.Labels.{work_for, work_of_label, label_at, asked_at}
 use Rattle.pfs_tagged.proofs.Asking.{connect_moves}
 use Rattle.pfs_tagged.proofs.Climbing.{IsPlaced, IsAsking, each_truncation}
-use Rattle.pfs_tagged.proofs.Staying.{fold_well}
+use Rattle.pfs_tagged.proofs.Staying.{fold_kinds, fold_well}
 
 abbrev AreAbove : List ℕ → Type 0
 AreAbove rows = Each (λ row. 129 ≤ row) rows
@@ -65,16 +66,17 @@ asked_moved : (asks : List Ask) → Each IsRising asks → Each IsMoved (moves_a
 asked_moved [] h = tt
 asked_moved (a ∷ asks) h = (h.0, asked_moved asks h.1)
 
-moved_for : (s : State) (session : ℕ) (what : Change) → AreWell s.kept.now.places → Each IsMoved (moves_asked (work_for s session what).moves)
-moved_for s session (changes.Connect user host) well =
+moved_for : (s : State) (session : ℕ) (what : Change) → AreWell s.kept.now.places → s.kinds.digests ≤ 64 → Each IsMoved (moves_asked (work_for s session what).moves)
+moved_for s session (changes.Connect user host) well few =
     subst (λ z. Each IsMoved (moves_asked z)) (sym (connect_moves s.words (thread_flags s user host) (connected s session user host).kept.now (seat_at s session user host))) tt
-moved_for s session changes.Quit well = on (seat_in s session) where
+moved_for s session changes.Quit well few = on (seat_in s session) where
   on : (o : Option Seated) → Each IsMoved (moves_asked (quit_work s.words s.cells (has_quit s session).kept.now o).moves)
   on None = tt
   on (Some seat) = asked_moved (asks_of s.cells (of.Thread (up_of seat))) (slot_rising (up_of seat) s.cells)
-moved_for s session (changes.Truncate what) well =
-    asked_moved (truncation_asks s.kinds s.kept.now.places what) (each_truncation IsRising s.kinds s.kept.now.places what well (λ kind. all_rising (kind_cells s.kinds kind)))
-moved_for s session changes.Show well = tt
+moved_for s session (changes.Truncate what) well few =
+    asked_moved (truncation_asks s.kinds s.kept.now.places what)
+    (each_truncation IsRising s.kinds s.kept.now.places what well (λ kind. all_rising (kind_cells s.kinds kind)) few (λ at low. (omega arith, tt)))
+moved_for s session changes.Show well few = tt
 
 -- what was done
 abbrev pub IsRaised : Did → Type 0
@@ -114,7 +116,9 @@ module _ (setting : Setting) (change : Label → Change) (labels : List Label) (
   moves = on (label_at labels number) where
     on : (o : Option Label) → Each IsMoved (moves_asked (work_of_label change before o).moves)
     on None = tt
-    on (Some label) = moved_for before label.session (change label) (fold_well setting change (take (number - 1) labels))
+    on (Some label) =
+        moved_for before label.session (change label) (fold_well setting change (take (number - 1) labels))
+        (subst (λ (k : KindCells). k.digests ≤ 64) (sym (fold_kinds setting change (take (number - 1) labels))) (kinds_fit setting).digests_few)
 
   pub asked_raised : (counted : ℕ → Bool) → Each IsRaised (asked_of counted (asked_at setting change labels number))
   asked_raised counted =

@@ -19,7 +19,7 @@ use Rattle.pfs_infos.specs.Infos.{account_words, name_words}
 use Rattle.pfs_model.specs.Chains.{Each, action_change, each_of}
 use Rattle.pfs_model.specs.Places.{Placed, places, up_to_phase}
 use Rattle.pfs_truncations.specs.declared.truncations.Truncation.{Truncation}
-use Rattle.pfs_truncations.specs.declared.truncations.Truncation.TheVariants.{Summary, Accounts, Users, Hosts, SetupActors, SetupObjects}
+use Rattle.pfs_truncations.specs.declared.truncations.Truncation.TheVariants.{Summary, DigestSummary, Accounts, Users, Hosts, SetupActors, SetupObjects}
 use Rattle.pfs_info_rows.specs.Laws.{containers_to, frees_accounts, frees_users, frees_hosts, labels_between, AreHeld, HeldLaw, RemainingLaw}
 use Rattle.pfs_info_rows.specs.Said.{account_said, user_said, host_said}
 use Rattle.pfs_info_rows.proofs.Freeing.{used_stays}
@@ -65,6 +65,7 @@ truncate_before c (Summary kind table) = same _ _ _ c.places
 truncate_before c Accounts = record { accounts = λ h q e. absurd (cc); users = λ h q e. e; hosts = λ h q e. e }
 truncate_before c Users = record { accounts = λ h q e. absurd (cc); users = λ h q e. absurd (cc); hosts = λ h q e. e }
 truncate_before c Hosts = record { accounts = λ h q e. absurd (cc); users = λ h q e. e; hosts = λ h q e. absurd (cc) }
+truncate_before c DigestSummary = same _ _ _ c.places
 truncate_before c SetupActors = same _ _ _ c.places
 truncate_before c SetupObjects = same _ _ _ c.places
 
@@ -192,5 +193,6 @@ held_law c Hosts = record {
   users = λ q u e. e;
   hosts = λ q. host_held c (advanced c (action_of Hosts)) q refl;
 }
+held_law c DigestSummary = nothing_freed c
 held_law c SetupActors = nothing_freed c
 held_law c SetupObjects = nothing_freed c

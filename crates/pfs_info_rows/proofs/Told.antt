@@ -14,7 +14,7 @@ use Rattle.pfs_model.specs.Places.{Placed, chosen, places, up_to_phase}
 use Rattle.pfs_rows.specs.declared.table.Seen.TheVariants.{Whole, Free}
 use Rattle.pfs_runs.specs.Finals.{row_version}
 use Rattle.pfs_runs.specs.Labels.{work_at, words_at, asked_at}
-use Rattle.pfs_tagged.proofs.Acted.{each_map, each_both, each_chosen}
+use Rattle.pfs_tagged.proofs.Rowed.{each_map, each_both, each_chosen}
 use Rattle.pfs_tagged.proofs.Falling.{chosen_deed}
 use Rattle.pfs_tagged.proofs.Fronts.{early_did}
 use Rattle.pfs_tagged.proofs.Saying.{IsSaid, HasNumber, all_said, said_to, said_range}

@@ -10,7 +10,7 @@ use Rattle.pfs_containers.specs.Connections.{in_use, kept_from}
 use Rattle.pfs_levels.specs.declared.places.Level.{Level}
 use Rattle.pfs_levels.specs.declared.places.Level.TheVariants as levels
 use Rattle.pfs_truncations.specs.declared.truncations.Truncation.{Truncation}
-use Rattle.pfs_truncations.specs.declared.truncations.Truncation.TheVariants.{Summary, Accounts, Users, Hosts, SetupActors, SetupObjects}
+use Rattle.pfs_truncations.specs.declared.truncations.Truncation.TheVariants.{Summary, DigestSummary, Accounts, Users, Hosts, SetupActors, SetupObjects}
 use Rattle.pfs_info_rows.specs.Said.{thread_said, account_said, user_said, host_said}
 use Rattle.pfs_info_rows.proofs.Emptying.{news_front, signs_news, signs_miss}
 use Rattle.pfs_info_rows.proofs.Freeing.{free_stays, not_there, kept_same}
@@ -158,5 +158,6 @@ truncation_said s (Summary kind table) = unsigned s.kept.now
 truncation_said s Accounts = accounts_said s.kept.now
 truncation_said s Users = users_said s.kept.now
 truncation_said s Hosts = hosts_said s.kept.now
+truncation_said s DigestSummary = unsigned s.kept.now
 truncation_said s SetupActors = unsigned s.kept.now
 truncation_said s SetupObjects = unsigned s.kept.now

@@ -1,6 +1,7 @@
 pub mod Keeping
 pub mod Closing
 pub mod Small
+pub mod Texted
 pub mod Begun
 pub mod First
 pub mod Quitting

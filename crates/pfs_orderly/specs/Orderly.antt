@@ -1,17 +1,20 @@
 -- A run of a script as conservation speaks of runs, and what it meets of what conservation asks.
-use Rattle.std.specs.Prelude.{ℕ, List, []}
+use Rattle.std.specs.Prelude.{ℕ, List, [], length}
 use Rattle.pfs_classes.specs.declared.setting.Setting.{Setting}
 use Rattle.pfs_journal.specs.declared.report.ReportParts.{ReportParts}
 use Rattle.pfs_model.specs.Places.{places}
+use Rattle.pfs_runs.specs.Labels.{terms_of}
 use Rattle.pfs_runs.specs.Lines.{change_in, facts_in}
-use Rattle.pfs_runs.specs.Runs.{IsRun, all_blocks}
+use Rattle.pfs_runs.specs.Rules.{flags_by}
+use Rattle.pfs_runs.specs.Runs.{IsRun, all_blocks, ringless}
 use Rattle.pfs_script.specs.declared.blocks.Phase.{Phase}
 use Rattle.pfs_script.specs.declared.reasons.Extent.TheVariants.{Whole}
 use Rattle.pfs_script.specs.Scripts.{IsScript}
-use Rattle.pfs_tagged.specs.Premises.{AreActionsOf, AreKept, AreClosed, AreFirstBehind, AreLastBehind, AreSmall, IsOrderly}
+use Rattle.pfs_tagged.specs.Premises.{AreActionsOf, AreKept, AreClosed, AreFirstBehind, AreLastBehind, AreSmall, AreTexted, IsOrderly}
 use Rattle.pfs_tagged.specs.Runs.{Run}
 
--- the run of a report: the changes and the facts are the script's, and no flags ask for rings and rows of digests
+-- the run of a report: the changes and the facts are the script's, and the flags by which events are brought are those
+-- of the words, without the consumers of rings
 abbrev pub run_of : (setting : Setting) (phases : List Phase) (report : ReportParts)
     → IsRun setting phases report → Run
 run_of setting phases report run = record {
@@ -22,7 +25,8 @@ run_of setting phases report run = record {
   counted = run.counted;
   content = run.content;
   blocks = all_blocks run.blocks;
-  flags = λ word version. 0;
+  flags = ringless (flags_by (terms_of setting (change_in phases) (facts_in phases) run.labels)
+      (places (all_blocks run.blocks)));
 }
 
 -- it keeps the rules, has its labels, and brings each event as its flags ask
@@ -39,6 +43,12 @@ ClosedLaw = (setting : Setting) (phases : List Phase) (report : ReportParts) (ru
 abbrev pub SmallLaw : Type 0
 SmallLaw = (text : List ℕ) (setting : Setting) (phases : List Phase) (report : ReportParts)
     → IsScript Whole text setting phases → (run : IsRun setting phases report) → AreSmall (all_blocks run.blocks)
+
+-- a statement's digest text is one of the setting's, or has no place
+abbrev pub TextedLaw : Type 0
+TextedLaw = (text : List ℕ) (setting : Setting) (phases : List Phase) (report : ReportParts)
+    → IsScript Whole text setting phases → (run : IsRun setting phases report)
+    → AreTexted (length setting.digests) (all_blocks run.blocks)
 
 -- a session's connect is its first entry, so it connects once
 abbrev pub FirstLaw : Type 0

@@ -1,7 +1,7 @@
 //! Laws of the definitions.
 
 ghost use Rattle.pfs_orderly.specs.Begun.{BegunLaw};
-ghost use Rattle.pfs_orderly.specs.Orderly.{ActionsLaw, ClosedLaw, FirstLaw, KeptLaw, LastLaw, OrderlyLaw, SmallLaw};
+ghost use Rattle.pfs_orderly.specs.Orderly.{ActionsLaw, ClosedLaw, FirstLaw, KeptLaw, LastLaw, OrderlyLaw, SmallLaw, TextedLaw};
 ghost use Rattle.pfs_orderly.specs.Quits.{QuitLaw};
 
 /// A run of a script keeps the rules that conservation goes by.
@@ -19,6 +19,13 @@ pub fn small()
     ensures { SmallLaw }
 {
     pfs_playable::laws::playable();
+}
+
+/// A statement's digest text is one of the setting's, by its place, or has none.
+pub fn texted()
+    ensures { TextedLaw }
+{
+    pfs_playable::laws::texted();
 }
 
 /// Where sessions connect in their first block alone, as its first line, a session's connect is its first entry.
@@ -60,4 +67,5 @@ pub fn orderly()
     last();
     closed();
     small();
+    texted();
 }

@@ -102,7 +102,7 @@ cell_kinds classes cell n few one = at (nat_le 62 cell) refl where
         leb : (c : ℕ) → nat_le 62 c ≡ true → 62 ≤ c
         leb c h = leb-true 62 c h
 
-kinds_once : (setting : Setting) → AreKindsOnce (kinds_of setting.classes)
+kinds_once : (setting : Setting) → AreKindsOnce (kinds_of setting)
 unfolding kinds_of cells_of_kind
 kinds_once setting cell =
     let classes : List Class = setting.classes.classes in
@@ -115,4 +115,4 @@ kinds_once setting cell =
 
 pub fold_kinds : (setting : Setting) (change : Label → Change) (labels : List Label) → AreFit (state_of setting change labels).kinds
 fold_kinds setting change labels =
-    subst AreFit (sym (fixed_law setting change labels (state_of setting change labels) refl).2) (record { small = kinds_fit setting.classes; once = kinds_once setting })
+    subst AreFit (sym (fixed_law setting change labels (state_of setting change labels) refl).2) (record { small = kinds_fit setting; once = kinds_once setting })

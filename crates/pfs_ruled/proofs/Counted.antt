@@ -14,6 +14,7 @@ use Rattle.pfs_parts.proofs.Stinting.{state_more}
 use Rattle.pfs_parts.specs.Deeds.{Deed, Connecting, Starting, Staging, StageEnding, Ending, Spending, Quitting, Truncating, Closing, Part, IsPart, action_of, steps_for}
 use Rattle.pfs_parts.specs.Shaped.{AreParts, state_behind}
 use Rattle.pfs_parts.specs.Stints.{Stint, resumed, state_by, AreStintsBehind}
+use Rattle.pfs_session.proofs.Ending.{through_leaves}
 use Rattle.pfs_session.specs.Ends.{Ends, EndsIn, no_numbers}
 use Rattle.pfs_session.specs.States.{State, fresh}
 use Rattle.pfs_session.specs.Turns.{Step, StartsEvent, EndsEvent, Spends, SettlesHeld, Connects, Quits, Truncates, Does, Turn, AreTurns, state_after, steps_of, stage_ends}
@@ -50,7 +51,7 @@ ends_actions s numbers calls entries after e = by_case s.place.thread (is_let_th
   by_case : (slot : Option ℕ) (b : Bool) → EndsIn s slot b e.what e.others numbers calls entries after → after.actions ≡ s.actions
   by_case slot false x = ap (λ (z : State). z.actions) x.after_is
   by_case None true x = absurd x
-  by_case (Some slot) true x = ap (λ (z : State). z.actions) x.after_is
+  by_case (Some slot) true x = ap (λ (z : State). z.actions) (through_leaves s slot e.what e.others numbers calls entries after x)
 
 none_more : (x y : ℕ) → x ≡ y → x ≡ y + 0
 none_more x y e = omega (arith, e)

@@ -41,6 +41,7 @@ use Rattle.pfs_parts.specs.Deeds.{Deed, Connecting, Starting, Ending, Quitting, 
 use Rattle.pfs_parts.specs.Stints.{AreStints, parts_by, resumed}
 use Rattle.pfs_rows.specs.Limits.{AreInRange}
 use Rattle.pfs_rows.specs.declared.limits.Limits.{Limits}
+use Rattle.pfs_session.proofs.Ending.{ends_undigested}
 use Rattle.pfs_session.proofs.Owed.{nothing_owed}
 use Rattle.pfs_session.specs.Ends.{no_numbers, amount_of}
 use Rattle.pfs_session.specs.Settles.{owed_in, owed_by_state, settle_head}
@@ -149,7 +150,7 @@ change l = if l.line == 1 then (if l.session == 1 then Connect 0 1 else Connect 
 
 -- the three classes are of waits
 abbrev pub cells_by_kind : KindCells
-cells_by_kind = record { waits = 0 ∷ 1 ∷ 2 ∷ []; stages = []; statements = []; transactions = 62 ∷ 63 ∷ [] }
+cells_by_kind = record { waits = 0 ∷ 1 ∷ 2 ∷ []; stages = []; statements = []; transactions = 62 ∷ 63 ∷ []; digests = 0 }
 
 -- the administration before each of the three actions
 abbrev pub opening : Administration
@@ -174,15 +175,15 @@ cells_are : cells_of setting.classes ≡ 0 ∷ 1 ∷ 2 ∷ 62 ∷ 63 ∷ []
 unfolding setting registered
 cells_are = refl
 
-kinds_are : kinds_of setting.classes ≡ cells_by_kind
+kinds_are : kinds_of setting ≡ cells_by_kind
 unfolding setting registered kinds_of cells_of_kind
 kinds_are = refl
 
 opened_is : opened setting ≡ opening
 unfolding setting
 opened_is =
-    ap (λ (z : List ℕ). record { kept = nobody limits; words = map (word 0) z; actors = opening_actors; objects = opening_objects; names = names; cells = cells_of setting.classes; kinds = kinds_of setting.classes; actions = 0 }) flags_are
-    ∙ (ap (λ (z : List ℕ). record { kept = nobody limits; words = map (word 0) flags; actors = opening_actors; objects = opening_objects; names = names; cells = z; kinds = kinds_of setting.classes; actions = 0 }) cells_are
+    ap (λ (z : List ℕ). record { kept = nobody limits; words = map (word 0) z; actors = opening_actors; objects = opening_objects; names = names; cells = cells_of setting.classes; kinds = kinds_of setting; actions = 0 }) flags_are
+    ∙ (ap (λ (z : List ℕ). record { kept = nobody limits; words = map (word 0) flags; actors = opening_actors; objects = opening_objects; names = names; cells = z; kinds = kinds_of setting; actions = 0 }) cells_are
     ∙ ap (λ (z : KindCells). record { kept = nobody limits; words = map (word 0) flags; actors = opening_actors; objects = opening_objects; names = names; cells = 0 ∷ 1 ∷ 2 ∷ 62 ∷ 63 ∷ []; kinds = z; actions = 0 }) kinds_are)
 
 first_fold : opening ≡ state_of setting change []
@@ -361,7 +362,7 @@ wait_starts = record {
       what = open_wait;
       loaded = record { there = refl; table_is = refl };
       calls_are = refl;
-      opened = record { kind = refl; verdict_is = refl; session_is = refl; number = refl; class = refl; link = refl; lies_in = refl; start = refl; timed_is = refl; read_only = refl; unfilled = record { last = refl; duration = refl; numbers = refl; ticket = refl; digested = refl; placed = refl } };
+      opened = record { kind = refl; verdict_is = refl; session_is = refl; number = refl; class = refl; digested_is = refl; link = refl; lies_in = refl; start = refl; timed_is = refl; read_only = refl; unfilled = record { last = refl; duration = refl; numbers = refl; ticket = refl; placed = refl } };
       entries_are = refl;
       after_is = refl;
     },
@@ -377,7 +378,8 @@ wait_ends = record {
       what = open_wait;
       others = [];
       innermost = refl;
-      ends = record { consumers = word 0 12288; thread = word 1 3; answer = Counted 129 1; row_is = refl; calls_are = refl; entries_are = refl; after_is = refl };
+      ends = ends_undigested first_waits 0 open_wait [] no_numbers _ _ end_turn.after refl
+          (record { consumers = word 0 12288; thread = word 1 3; answer = Counted 129 1; row_is = refl; calls_are = refl; entries_are = refl; after_is = refl });
     },
     tt,
   );

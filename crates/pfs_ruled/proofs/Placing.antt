@@ -26,7 +26,7 @@ use Rattle.pfs_parts.specs.Amounts.{IsPlaced, AllPlaced}
 use Rattle.pfs_parts.specs.Deeds.{Deed, Connecting, Starting, Staging, StageEnding, Ending, Spending, Quitting, Truncating, Closing, Part, line_of, part_entries, action_of, steps_for}
 use Rattle.pfs_parts.specs.Shaped.{AreParts, lines_of, entries_of}
 use Rattle.pfs_parts.specs.Stints.{Stint, blocks_of, parts_by, AreDone}
-use Rattle.pfs_session.specs.Ends.{Ends, EndsIn, added_entry, no_numbers}
+use Rattle.pfs_session.specs.Ends.{Ends, EndsIn, EndsThrough, EndsCounted, DigestsIn, added_entry, no_numbers}
 use Rattle.pfs_session.specs.Settles.{Paid, paid_entries, settle_head}
 use Rattle.pfs_session.specs.Starts.{start_entry}
 use Rattle.pfs_session.specs.States.{State, Owed}
@@ -69,14 +69,31 @@ connect_slot subject context action (Some seat) = refl
 slot_as : (subject : Option Subject) (context : Context) (entries es : List Entry) (slot : Option ℕ) → entries ≡ es → (after_entries subject context es).slot ≡ slot → (after_entries subject context entries).slot ≡ slot
 slot_as subject context entries es slot e s = ap (λ z. (after_entries subject context z).slot) e ∙ s
 
+counted_slot : (subject : Option Subject) (context : Context) (s : State) (slot : ℕ) (what : Open) (others : List Open) (numbers : Numbers) (calls : List Call) (entries : List Entry) (after : State) → EndsCounted s slot what others numbers calls entries after
+    → (after_entries subject context entries).slot ≡ context.slot
+counted_slot subject context s slot what others numbers calls entries after x = slot_as subject context entries _ context.slot x.entries_are
+    (added_slot subject (noted subject context (says.End (Some what.event.number) (Some s.drawn) (Some x.consumers.version) (Some x.thread.version))) x.answer)
+
+digest_slot : (subject : Option Subject) (context : Context) (b : Bool) (s : State) (slot : ℕ) (what : Open) (numbers : Numbers) (calls : List Call) (entries : List Entry) (after : State) → DigestsIn b s slot what numbers calls entries after
+    → (after_entries subject context entries).slot ≡ context.slot
+digest_slot subject context false s slot what numbers calls entries after d = slot_as subject context entries _ context.slot d.entries_are refl
+digest_slot subject context true s slot what numbers calls entries after d = slot_as subject context entries _ context.slot d.entries_are (added_slot subject context d.answer)
+
+through_slot : (subject : Option Subject) (context : Context) (s : State) (slot : ℕ) (what : Open) (others : List Open) (numbers : Numbers) (calls : List Call) (entries : List Entry) (after : State)
+    → (x : EndsThrough s slot what others numbers calls entries after) → (after_entries subject context (x.counted_entries ++ x.digested_entries)).slot ≡ context.slot
+through_slot subject context s slot what others numbers calls entries after x =
+    let mid : Context = after_entries subject context x.counted_entries in
+    ap (λ (z : Context). z.slot) (entries_then subject context x.counted_entries x.digested_entries)
+    ∙ (digest_slot subject mid what.digested x.between slot what numbers x.digested_calls x.digested_entries after x.digests
+    ∙ counted_slot subject context s slot what others numbers x.counted_calls x.counted_entries x.between x.counts)
+
 ends_slot : (subject : Option Subject) (context : Context) (s : State) (numbers : Numbers) (calls : List Call) (entries : List Entry) (after : State) → Ends s numbers calls entries after
     → (after_entries subject context entries).slot ≡ context.slot
 ends_slot subject context s numbers calls entries after e = by_case s.place.thread (is_let_through e.what.verdict) e.ends where
   by_case : (slot : Option ℕ) (b : Bool) → EndsIn s slot b e.what e.others numbers calls entries after → (after_entries subject context entries).slot ≡ context.slot
   by_case slot false x = slot_as subject context entries _ context.slot x.entries_are refl
   by_case None true x = absurd x
-  by_case (Some slot) true x = slot_as subject context entries _ context.slot x.entries_are
-      (added_slot subject (noted subject context (says.End (Some e.what.event.number) (Some s.drawn) (Some x.consumers.version) (Some x.thread.version))) x.answer)
+  by_case (Some slot) true x = slot_as subject context entries _ context.slot x.entries_are (through_slot subject context s slot e.what e.others numbers calls entries after x)
 
 settle_slot : (subject : Option Subject) (context : Context) (owed : List Owed) (ps : List Paid) → (after_entries subject context (settle_head owed ++ paid_entries ps)).slot ≡ context.slot
 settle_slot subject context [] ps = inner_slots subject context (paid_entries ps) (paid_same ps).inner

@@ -26,7 +26,7 @@ use Rattle.pfs_ruled.specs.Folded.{FoldsTo, DoingsFolded, AreFolded}
 use Rattle.pfs_admin.specs.Laws.{row_of}
 use Rattle.pfs_admin.specs.Truncations.{action_of, work_of_truncation}
 use Rattle.pfs_truncations.specs.declared.truncations.Truncation.{Truncation}
-use Rattle.pfs_truncations.specs.declared.truncations.Truncation.TheVariants.{Summary, Accounts, Users, Hosts, SetupActors, SetupObjects}
+use Rattle.pfs_truncations.specs.declared.truncations.Truncation.TheVariants.{Summary, DigestSummary, Accounts, Users, Hosts, SetupActors, SetupObjects}
 use Rattle.pfs_ruled.proofs.CellKinds.{fold_kinds}
 use Rattle.pfs_ruled.proofs.Classes.{few_classes}
 use Rattle.pfs_ruled.proofs.Truncating.{rows_of_truncation}
@@ -53,6 +53,7 @@ truncation_well c Users well =
 truncation_well c Hosts well =
     hosts_freed (places_after c.places FreesAccounts) (in_use (λ x. x.host) c.places.threads) _ refl
     (accounts_freed c.places (in_use (λ x. x.account) c.places.threads) _ refl well)
+truncation_well c DigestSummary well = well
 truncation_well c SetupActors well = well
 truncation_well c SetupObjects well = well
 

@@ -8,7 +8,7 @@ use Rattle.std.proofs.lemmas.List.{map-append}
 use Rattle.std.proofs.lemmas.List.Elements.{All-head, All-tail}
 use Rattle.pfs_admin.specs.Laws.{row_of}
 use Rattle.pfs_admin.specs.States.{State, KindCells, kind_cells, AreKindCells}
-use Rattle.pfs_admin.specs.Truncations.{up_to, thread_source, account_source, user_source, host_source, source_at, place_asks, asks_at, level_asks, emptied, cleared, lower_asks, upper_asks, reach_asks, reach_of, summary_asks, all_asks, truncation_asks, first_row, content_at, place_sign, sign_at, level_signs, truncation_signs, is_there, kept_behind, work_of_truncation}
+use Rattle.pfs_admin.specs.Truncations.{up_to, thread_source, account_source, user_source, host_source, source_at, place_asks, asks_at, level_asks, emptied, cleared, lower_asks, upper_asks, reach_asks, reach_of, summary_asks, all_asks, truncation_asks, first_row, content_at, place_sign, sign_at, level_signs, truncation_signs, is_there, kept_behind, work_of_truncation, digest_ask, digest_asks}
 use Rattle.pfs_admin.specs.Works.{Sign}
 use Rattle.pfs_asked.specs.Takes.{AreOnce}
 use Rattle.pfs_containers.specs.Administration.{Containers}
@@ -27,7 +27,7 @@ use Rattle.pfs_rows.specs.declared.table.TableKind.TheVariants.{Waits, Stages, S
 use Rattle.pfs_rows.specs.declared.table.SummaryTable.{SummaryTable}
 use Rattle.pfs_rows.specs.declared.table.SummaryTable.TheVariants as tables
 use Rattle.pfs_truncations.specs.declared.truncations.Truncation.{Truncation}
-use Rattle.pfs_truncations.specs.declared.truncations.Truncation.TheVariants.{Summary, Accounts, Users, Hosts, SetupActors, SetupObjects}
+use Rattle.pfs_truncations.specs.declared.truncations.Truncation.TheVariants.{Summary, DigestSummary, Accounts, Users, Hosts, SetupActors, SetupObjects}
 
 abbrev count : ℕ → List ℕ → ℕ
 count row xs = times (λ n. n == row) xs
@@ -241,6 +241,39 @@ all_once s table k fit row =
     let whole : count row (map from_of waits ++ (map from_of stages ++ (map from_of statements ++ map from_of transactions))) ≤ 1 = omega (arith, a, b, c, d, e, f, g, fit.once (cell_of row)) in
     subst (λ z. count row z ≤ 1) (sym rows) whole
 
+-- rows of digests, each once
+abbrev one_if : Bool → ℕ
+one_if b = cond b 1 0
+
+digests_next : (row n : ℕ) → count row (map from_of (up_to digest_ask (suc n))) ≡ count row (map from_of (up_to digest_ask n)) + one_if ((8385 + n) == row)
+digests_next row n =
+    let one : count row ((8385 + n) ∷ []) ≡ one_if ((8385 + n) == row) = omega arith in
+    ap (count row) (map-append from_of (up_to digest_ask n) (digest_ask n))
+    ∙ (count_then row (map from_of (up_to digest_ask n)) ((8385 + n) ∷ []) ∙ ap (λ z. count row (map from_of (up_to digest_ask n)) + z) one)
+
+digests_past : (row n : ℕ) → 8385 + n ≤ row → count row (map from_of (up_to digest_ask n)) ≡ 0
+digests_past row zero l = refl
+digests_past row (suc n) l =
+    let off : one_if ((8385 + n) == row) ≡ 0 = ap one_if (ne_eqb (8385 + n) row (λ q. absurd (omega (arith, q, l)))) in
+    omega (arith, digests_next row n, off, digests_past row n (omega (arith, l)))
+
+digests_at : (row n : ℕ) (b : Bool) → ((8385 + n) == row) ≡ b → count row (map from_of (up_to digest_ask n)) ≤ 1
+    → count row (map from_of (up_to digest_ask (suc n))) ≤ 1
+digests_at row n true e few =
+    let on : one_if ((8385 + n) == row) ≡ 1 = ap one_if e in
+    omega (arith, digests_next row n, on, digests_past row n (omega (arith, eqb-true (8385 + n) row e)))
+digests_at row n false e few =
+    let off : one_if ((8385 + n) == row) ≡ 0 = ap one_if e in
+    omega (arith, digests_next row n, off, few)
+
+digests_once : (row n : ℕ) → count row (map from_of (up_to digest_ask n)) ≤ 1
+digests_once row zero = omega arith
+digests_once row (suc n) = digests_at row n ((8385 + n) == row) refl (digests_once row n)
+
+digest_takes : (row places : ℕ) → count row (map from_of (digest_asks places)) ≤ 1
+unfolding digest_asks
+digest_takes row places = digests_once row (places + 1)
+
 pub takes_once : (k : KindCells) (s : places.State) (what : Truncation) → AreFit k → AreOnce (map from_of (truncation_asks k s what))
 takes_once k s (Summary kind table) fit row =
     let a : count row (map from_of (summary_asks s table (kind_cells k kind))) ≤ count (cell_of row) (kind_cells k kind) = summary_few row s table (kind_cells k kind) (fit.small.small kind) in
@@ -248,6 +281,7 @@ takes_once k s (Summary kind table) fit row =
 takes_once k s Accounts fit row = all_once s tables.ByAccount k fit row
 takes_once k s Users fit row = all_once s tables.ByUser k fit row
 takes_once k s Hosts fit row = all_once s tables.ByHost k fit row
+takes_once k s DigestSummary fit row = digest_takes row k.digests
 takes_once k s SetupActors fit row = omega arith
 takes_once k s SetupObjects fit row = omega arith
 
@@ -297,6 +331,7 @@ signs_ascend was after Hosts =
     subst (Ascends 1 129) (sym (map-append row_of accounts hosts))
     (ascends_then 1 65 129 _ _ (omega arith) (wider 33 1 65 65 _ (omega arith) (omega arith) (signs_of_level false (was levels.Account) after levels.Account))
     (wider 97 65 129 129 _ (omega arith) (omega arith) (signs_of_level true (was levels.Host) after levels.Host)) (omega arith))
+signs_ascend was after DigestSummary = tt
 signs_ascend was after SetupActors = tt
 signs_ascend was after SetupObjects = tt
 

@@ -7,13 +7,14 @@ use Rattle.pfs_alone.specs.Notes.{Note, Wrote, Freed, Switched, Saw, Acted, told
 use Rattle.pfs_alone.proofs.Nexts.{acts}
 use Rattle.pfs_event.specs.Verdicts.{is_let_through}
 use Rattle.pfs_event.specs.declared.entry.Entry.{Entry}
+use Rattle.pfs_event.specs.declared.open.Open.{Open}
 use Rattle.pfs_levels.specs.Calls.{Call, Adds, Rings, Reads, Loads, Draws, Takes, Puts, Frees, Sets, Enters, Leaves, Meets, label_in}
 use Rattle.pfs_levels.specs.Moves.{Gift, Move, gift_calls, move_calls, moves_calls}
 use Rattle.pfs_levels.specs.Plain.{labels_after}
 use Rattle.pfs_levels.specs.declared.answers.Added.TheVariants.{Counted, Held}
 use Rattle.pfs_levels.specs.declared.answers.RingPut.TheVariants.{Done, Busy, Late}
 use Rattle.pfs_levels.specs.declared.answers.Word.{Word}
-use Rattle.pfs_session.specs.Ends.{Ends, EndsIn}
+use Rattle.pfs_session.specs.Ends.{Ends, EndsIn, EndsThrough, DigestsIn}
 use Rattle.pfs_session.specs.Settles.{Paid, paid_calls, pay_calls}
 use Rattle.pfs_session.specs.Starts.{load_calls, table_calls}
 use Rattle.pfs_session.specs.States.{State}
@@ -86,12 +87,22 @@ loads_within (Some slot) (Some class) table None = tt
 loads_within (Some slot) None table seen = tt
 loads_within None class table seen = tt
 
+digest_within : (b : Bool) (s : State) (slot : ℕ) (what : Open) (numbers : Numbers) (calls : List Call) (entries : List Entry) (after : State) → DigestsIn b s slot what numbers calls entries after → AreWithin calls
+digest_within false s slot what numbers calls entries after d = subst AreWithin (sym d.calls_are) tt
+digest_within true s slot what numbers calls entries after d = subst AreWithin (sym d.calls_are) (tt, tt)
+
+through_within : (s : State) (slot : ℕ) (what : Open) (others : List Open) (numbers : Numbers) (calls : List Call) (entries : List Entry) (after : State) → (x : EndsThrough s slot what others numbers calls entries after)
+    → AreWithin (x.digested_calls ++ x.counted_calls)
+through_within s slot what others numbers calls entries after x =
+    within_then x.digested_calls x.counted_calls (digest_within what.digested x.between slot what numbers x.digested_calls x.digested_entries after x.digests)
+    (subst AreWithin (sym x.counts.calls_are) (tt, (tt, (tt, tt))))
+
 ends_within : (s : State) (numbers : Numbers) (calls : List Call) (entries : List Entry) (after : State) → Ends s numbers calls entries after → AreWithin calls
 ends_within s numbers calls entries after e = by_case s.place.thread (is_let_through e.what.verdict) e.ends where
   by_case : (slot : Option ℕ) (b : Bool) → EndsIn s slot b e.what e.others numbers calls entries after → AreWithin calls
   by_case slot false x = subst AreWithin (sym x.calls_are) tt
   by_case None true x = absurd x
-  by_case (Some slot) true x = subst AreWithin (sym x.calls_are) (tt, (tt, (tt, tt)))
+  by_case (Some slot) true x = subst AreWithin (sym x.calls_are) (through_within s slot e.what e.others numbers calls entries after x)
 
 does_within : (s : State) (step : Step) (calls : List Call) (entries : List Entry) (after : State) → Does s step calls entries after → AreWithin calls
 does_within s (StartsEvent subject) calls entries after d = subst AreWithin (sym d.calls_are) (loads_within s.place.thread subject.class subject.table d.seen)

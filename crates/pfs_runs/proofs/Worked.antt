@@ -16,7 +16,7 @@ use Rattle.pfs_model.specs.declared.changes.Change.{Change as Numbered}
 use Rattle.pfs_rows.specs.declared.limits.Limits.{Limits}
 use Rattle.pfs_script.specs.Marks.{written_from}
 use Rattle.pfs_runs.specs.Finals.{lost_behind}
-use Rattle.pfs_runs.specs.Runs.{ArePhasesOf, AreBroughtOnce, all_blocks}
+use Rattle.pfs_runs.specs.Runs.{ArePhasesOf, AreBroughtToRows, all_blocks}
 use Rattle.pfs_runs.specs.Worked.{WorkedBlocks, WorkedEnds, limits, phases, reports, labels, all, lost, lost_by_phase, blocks as journals}
 
 phased : ArePhasesOf 1 phases reports journals
@@ -101,7 +101,7 @@ few_labels : length labels ≡ length (each_of action_change all)
 unfolding places_behind written_from
 few_labels = refl
 
-brought : AreBroughtOnce all
+brought : AreBroughtToRows (λ word version. 12288) all
 unfolding places_behind written_from
 brought = (
   tt,
@@ -258,6 +258,12 @@ blocks = record {
   shaped = shaped;
   labelled = record { few = few_labels; each = each_label };
   brought = brought;
+  asking = refl;
+  silent = refl;
+  lost_added = refl;
+  lost_held = refl;
+  lost_settled = refl;
+  not_lost = refl;
 }
 
 -- the containers behind the actions up to a phase's end, by the limits alone

@@ -1,6 +1,6 @@
 -- What stands under a phase's end: tables of what the rows and the switch words hold by the journals so far, and the
 -- counters of what was lost.
-use Rattle.std.specs.Prelude.{ℕ, ◌≡◌, ◌*◌, Bool, true, false, if◌then◌else◌, List, [], ◌∷◌, All, length, map, take}
+use Rattle.std.specs.Prelude.{ℕ, ◌≡◌, ◌*◌, ◌==◌, ◌&&◌, Bool, true, false, if◌then◌else◌, List, [], ◌∷◌, None, All, length, map, take}
 use Rattle.std.specs.List.{flat_map}
 use Rattle.pfs_admin.specs.Fold.{state_of}
 use Rattle.pfs_admin.specs.declared.changes.Change.{Change}
@@ -15,8 +15,11 @@ use Rattle.pfs_finals.specs.Counters.{counters, lost_row}
 use Rattle.pfs_finals.specs.Finals.{TableRead, final_order, table_report}
 use Rattle.pfs_finals.specs.declared.counters.LostCounters.{LostCounters}
 use Rattle.pfs_journal.specs.declared.report.PhaseParts.{PhaseParts}
+use Rattle.pfs_model.specs.Asks.{digest_row}
 use Rattle.pfs_model.specs.Chains.{times, row_change, word_change, action_change, each_of, is_of, is_free_after}
 use Rattle.pfs_model.specs.Places.{Placed}
+use Rattle.pfs_model.specs.declared.lines.Line.{Line}
+use Rattle.pfs_model.specs.declared.lines.Line.TheVariants as lines
 use Rattle.pfs_readsets.specs.Places.{scope_of}
 use Rattle.pfs_readsets.specs.ReadSets.{IsReadSet, target_of}
 use Rattle.pfs_readsets.specs.declared.target.Target.{Target}
@@ -63,15 +66,32 @@ abbrev pub verdict_at : Entry → List Verdict
 verdict_at (says.Start event verdict consumers thread class table) = verdict ∷ []
 verdict_at _ = []
 
--- what was lost by these entries: containers by the administration behind their actions, events by their verdicts. No
--- digest is counted yet
+-- the lines in which events end
+abbrev pub ends_events : Line → Bool
+ends_events (lines.Stage subject) = true
+ends_events lines.StageEnd = true
+ends_events lines.End = true
+ends_events _ = false
+
+-- an event is brought to the row of the digests without a place as it ends: counted there, or held for it. What is held
+-- and settled later, in another line, comes with no event
+abbrev pub is_unplaced : Bool → Entry → Bool
+is_unplaced ends (says.Add row version) = ends && (row == digest_row None)
+is_unplaced ends (says.Held row first second) = ends && (row == digest_row None)
+is_unplaced ends _ = false
+
+abbrev pub is_digest_lost : Placed → Bool
+is_digest_lost place = is_unplaced (ends_events place.line) place.entry
+
+-- what was lost by these entries: containers by the administration behind their actions, digests by the statements that
+-- were without a place, events by their verdicts
 abbrev pub lost_behind : Containers → List Placed → LostCounters
 lost_behind containers so_far = record {
   threads = containers.lost_threads;
   accounts = containers.lost_accounts;
   users = containers.lost_users;
   hosts = containers.lost_hosts;
-  digests = 0;
+  digests = times is_digest_lost so_far;
   statements = times is_lost_nested (each_of verdict_at so_far);
   waits = times is_lost_locker (each_of verdict_at so_far);
 }

@@ -1,7 +1,7 @@
 -- A run, worked: in the first phase the first session connects without room for its account, and two of its statements
 -- and one of its waits are lost; the second one finds no slot. In the second phase the second one has an empty block,
 -- and the first one quits. In the third phase another session takes the slot that was left.
-use Rattle.std.specs.Prelude.{ℕ, ◌≡◌, List, [], ◌∷◌, Some, None}
+use Rattle.std.specs.Prelude.{ℕ, ◌≡◌, true, false, List, [], ◌∷◌, Some, None}
 use Rattle.pfs_board.specs.declared.view.Label.{Label}
 use Rattle.pfs_classes.specs.declared.classes.ClassRef.TheVariants as refs
 use Rattle.pfs_classes.specs.declared.setting.Setting.{Setting}
@@ -20,10 +20,10 @@ use Rattle.pfs_rows.specs.declared.table.Seen.TheVariants.{Whole, Free}
 use Rattle.pfs_script.specs.declared.blocks.Block.{Block as Said}
 use Rattle.pfs_script.specs.declared.blocks.BlockLine.TheVariants as said
 use Rattle.pfs_script.specs.declared.blocks.Phase.{Phase}
-use Rattle.pfs_runs.specs.Finals.{lost_behind, containers_behind, reading_of}
+use Rattle.pfs_runs.specs.Finals.{lost_behind, containers_behind, is_unplaced, reading_of}
 use Rattle.pfs_runs.specs.Labels.{AreLabels}
 use Rattle.pfs_runs.specs.Lines.{lines_in, change_in}
-use Rattle.pfs_runs.specs.Runs.{ArePhasesOf, AreBroughtOnce, all_blocks}
+use Rattle.pfs_runs.specs.Runs.{ArePhasesOf, AreBroughtToRows, all_blocks, without_rings}
 
 -- one slot and no account, and one statement may be open
 abbrev pub limits : Limits
@@ -174,7 +174,9 @@ abbrev pub empty_report : ℕ → PhaseParts
 empty_report number = record { number = number; blocks = []; tables = []; lost = [] }
 
 -- The report's phases and blocks are the script's, and no other number of phases, nor a count from 0, is. Its journals
--- have the right shape, its labels are those of its actions, and each event is added once.
+-- have the right shape, its labels are those of its actions, and each event is added once where `statements_digest` is
+-- NO. Of the consumers' flags those of rings ask for nothing. A digest is lost where an end adds to the row of those
+-- without a place, or holds for it, and not where what is held is settled.
 pub record WorkedBlocks : Type 0 where
   pub phases_are : ArePhasesOf 1 phases reports blocks
   pub counted_from_one : ArePhasesOf 0 phases reports blocks → ⊥
@@ -182,7 +184,13 @@ pub record WorkedBlocks : Type 0 where
   pub none_missing : ArePhasesOf 1 phases [] [] → ⊥
   pub shaped : IsShaped (all_blocks blocks)
   pub labelled : AreLabels labels all
-  pub brought : AreBroughtOnce all
+  pub brought : AreBroughtToRows (λ word version. 12288) all
+  pub asking : without_rings 28888 ≡ 28672
+  pub silent : without_rings 216 ≡ 0
+  pub lost_added : is_unplaced true (says.Add 8385 1) ≡ true
+  pub lost_held : is_unplaced true (says.Held 8385 2 0) ≡ true
+  pub lost_settled : is_unplaced false (says.Add 8385 3) ≡ false
+  pub not_lost : is_unplaced true (says.Add 8386 1) ≡ false
 
 -- What stands under each phase's end, whatever the contents and the flags of the versions are: an info row that is
 -- in use, then free at its last version, then in use again; one that never was; a cell at its last version, and one

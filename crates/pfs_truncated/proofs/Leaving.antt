@@ -6,6 +6,7 @@ use Rattle.pfs_truncated.proofs.Tables.{off_words_all, off_words_below}
 pub left_law : LeftLaw
 left_law s = record {
   summary = λ kind table. refl;
+  digests = refl;
   setup_actors = refl;
   new_sessions = λ user host. refl;
   setup_objects = refl;

@@ -25,7 +25,7 @@ use Rattle.pfs_levels.specs.declared.answers.Word.{Word}
 use Rattle.pfs_matching.specs.declared.object_rows.ObjectRow.{ObjectRow}
 use Rattle.pfs_matching.specs.ObjectRules.{opening_objects}
 use Rattle.pfs_truncations.specs.declared.truncations.Truncation.{Truncation}
-use Rattle.pfs_truncations.specs.declared.truncations.Truncation.TheVariants.{Summary, Accounts, Users, Hosts, SetupActors, SetupObjects}
+use Rattle.pfs_truncations.specs.declared.truncations.Truncation.TheVariants.{Summary, DigestSummary, Accounts, Users, Hosts, SetupActors, SetupObjects}
 use Rattle.pfs_truncated.specs.Laws.{TableWordsLaw}
 
 -- a word that is set leaves any other
@@ -167,6 +167,7 @@ truncate_fits setting s (Summary kind table) fits = record { few = fits.few; wor
 truncate_fits setting s Accounts fits = record { few = fits.few; words = fits.words }
 truncate_fits setting s Users fits = record { few = fits.few; words = fits.words }
 truncate_fits setting s Hosts fits = record { few = fits.few; words = fits.words }
+truncate_fits setting s DigestSummary fits = record { few = fits.few; words = fits.words }
 truncate_fits setting s SetupActors fits = record { few = fits.few; words = fits.words }
 truncate_fits setting s SetupObjects fits = record {
   few = fits.few;

@@ -50,7 +50,7 @@ start = record {
   objects = opening_objects;
   names = codes "u" ∷ codes "v" ∷ codes "h" ∷ [];
   cells = 0 ∷ 62 ∷ 63 ∷ [];
-  kinds = record { waits = 0 ∷ []; stages = []; statements = []; transactions = 62 ∷ 63 ∷ [] };
+  kinds = record { waits = 0 ∷ []; stages = []; statements = []; transactions = 62 ∷ 63 ∷ []; digests = 1 };
   actions = 0;
 }
 

@@ -20,7 +20,7 @@ use Rattle.pfs_levels.specs.Flushes.{Ascends, from_of}
 use Rattle.pfs_rows.specs.declared.table.SummaryTable.{SummaryTable}
 use Rattle.pfs_rows.specs.declared.table.TableKind.{TableKind}
 use Rattle.pfs_truncations.specs.declared.truncations.Truncation.{Truncation}
-use Rattle.pfs_truncations.specs.declared.truncations.Truncation.TheVariants.{Summary, Accounts, Users, Hosts, SetupActors, SetupObjects}
+use Rattle.pfs_truncations.specs.declared.truncations.Truncation.TheVariants.{Summary, DigestSummary, Accounts, Users, Hosts, SetupActors, SetupObjects}
 
 -- the session of some slot has the place
 pub record HasSession (which : Connection → Option ℕ) (threads : List (Option Connection)) (place : ℕ) : Type 0 where
@@ -116,6 +116,7 @@ HostsLaw = (s : State) → HostsTruncated s.kept.now (has_truncated s Hosts).kep
 -- `setup_objects` all tables are off, and no other word is set
 pub record AreLeft (s : State) : Type 0 where
   pub summary : (kind : TableKind) → (table : SummaryTable) → has_truncated s (Summary kind table) ≡ noted s
+  pub digests : has_truncated s DigestSummary ≡ noted s
   pub setup_actors : has_truncated s SetupActors ≡ record (noted s) { actors = [] }
   pub new_sessions : (user host : ℕ) → thread_flags (has_truncated s SetupActors) user host ≡ 0
   pub setup_objects : has_truncated s SetupObjects

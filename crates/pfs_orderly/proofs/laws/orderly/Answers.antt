@@ -7,4 +7,5 @@ returns c text setting phases report script run = record {
   last = c.last.ensures text setting phases report script run;
   closed = c.closed.ensures setting phases report run;
   small = c.small.ensures text setting phases report script run;
+  texted = c.texted.ensures text setting phases report script run;
 }
