@@ -83,7 +83,8 @@ fn play_and_quit<A: Acts>(
     requires few { admin.old.actions + actions_on (written_out body.now) < 2 ^ 47 }
     requires idle { (r : ℕ) → A.hand rows.old r ≡ None }
     requires lent { A.words rows.old ≡ Some admin.old.words }
-    requires spare { 2 * length (written_out body.now) + 20192 * actions_on (written_out body.now) + 390 ≤ A.left rows.old }
+    requires spare { 4 * length (written_out body.now) + 20192 * actions_on (written_out body.now) + 390
+        ≤ A.left rows.old }
     requires room { cost_on (written_out body.now) + 392 ≤ session.old.journal.room }
     ensures did { HasEnded (body.now ++ said.Quit ∷ []) admin.old admin.new session.old session.new
         (A.reached rows.old) (A.reached rows.new) }
@@ -94,7 +95,7 @@ fn play_and_quit<A: Acts>(
     ensures actions { session.new.state.actions ≤ session.old.state.actions + actions_on (written_out body.now) + 1 }
     ensures counted { admin.new.actions ≤ admin.old.actions + actions_on (written_out body.now) + 1 }
     ensures wide { length session.new.state.held ≡ 193 }
-    ensures leaves { Leaves (2 * length (written_out body.now) + 20192 * actions_on (written_out body.now) + 390)
+    ensures leaves { Leaves (4 * length (written_out body.now) + 20192 * actions_on (written_out body.now) + 390)
         (cost_on (written_out body.now) + 392)
         (A.hand rows.old) (A.hand rows.new) (A.left rows.old) (A.left rows.new) (A.draws rows.old)
         (A.draws rows.new) (A.name rows.old) (A.name rows.new) session.old.journal session.new.journal }
@@ -114,7 +115,8 @@ fn play_to_end<A: Acts>(session: &mut Session, rows: &mut A, admin: &mut Admin, 
     requires few { admin.old.actions + actions_on (written_out lines.now) < 2 ^ 47 }
     requires idle { (r : ℕ) → A.hand rows.old r ≡ None }
     requires lent { A.words rows.old ≡ Some admin.old.words }
-    requires spare { 2 * length (written_out lines.now) + 20192 * actions_on (written_out lines.now) + 390 ≤ A.left rows.old }
+    requires spare { 4 * length (written_out lines.now) + 20192 * actions_on (written_out lines.now) + 390
+        ≤ A.left rows.old }
     requires room { cost_on (written_out lines.now) + 392 ≤ session.old.journal.room }
     ensures did { HasEnded lines.now admin.old admin.new session.old session.new (A.reached rows.old)
         (A.reached rows.new) }
@@ -126,7 +128,7 @@ fn play_to_end<A: Acts>(session: &mut Session, rows: &mut A, admin: &mut Admin, 
     ensures actions { session.new.state.actions ≤ session.old.state.actions + actions_on (written_out lines.now) + 1 }
     ensures counted { admin.new.actions ≤ admin.old.actions + actions_on (written_out lines.now) + 1 }
     ensures wide { length session.new.state.held ≡ 193 }
-    ensures leaves { Leaves (2 * length (written_out lines.now) + 20192 * actions_on (written_out lines.now) + 390)
+    ensures leaves { Leaves (4 * length (written_out lines.now) + 20192 * actions_on (written_out lines.now) + 390)
         (cost_on (written_out lines.now) + 392)
         (A.hand rows.old) (A.hand rows.new) (A.left rows.old) (A.left rows.new) (A.draws rows.old)
         (A.draws rows.new) (A.name rows.old) (A.name rows.new) session.old.journal session.new.journal }
@@ -155,7 +157,8 @@ pub fn play_block<A: Acts>(
     requires few { admin.old.actions + actions_on (written_out block.now.lines) + 1 < 2 ^ 47 }
     requires idle { (r : ℕ) → A.hand rows.old r ≡ None }
     requires lent { A.words rows.old ≡ Some admin.old.words }
-    requires spare { 2 * length (written_out block.now.lines) + 20192 * actions_on (written_out block.now.lines) + 588 ≤ A.left rows.old }
+    requires spare { 4 * length (written_out block.now.lines) + 20192 * actions_on (written_out block.now.lines) + 588
+        ≤ A.left rows.old }
     requires room { cost_on (written_out block.now.lines) + 592 ≤ session.journal.room }
     ensures did { length admin.old.kept.now.places.threads ≤ 32
         → HasPlayed block.now admin.old admin.new session result (A.reached rows.old) (A.reached rows.new) }
@@ -167,8 +170,8 @@ pub fn play_block<A: Acts>(
     ensures depth { result.state.opened.depth ≡ session.state.opened.depth }
     ensures actions { result.state.actions ≤ session.state.actions + actions_on (written_out block.now.lines) + 2 }
     ensures counted { admin.new.actions ≤ admin.old.actions + actions_on (written_out block.now.lines) + 2 }
-    ensures leaves { Leaves (2 * length (written_out block.now.lines) + 20192 * actions_on (written_out block.now.lines) + 588)
-        (cost_on (written_out block.now.lines) + 592) (A.hand rows.old) (A.hand rows.new) (A.left rows.old)
+    ensures leaves { Leaves (4 * length (written_out block.now.lines) + 20192 * actions_on (written_out block.now.lines)
+        + 588) (cost_on (written_out block.now.lines) + 592) (A.hand rows.old) (A.hand rows.new) (A.left rows.old)
         (A.left rows.new) (A.draws rows.old) (A.draws rows.new) (A.name rows.old) (A.name rows.new) session.journal
         result.journal }
     ensures lent { A.words rows.new ≡ Some admin.new.words }

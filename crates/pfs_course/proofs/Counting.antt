@@ -6,6 +6,7 @@ use Rattle.pfs_event.specs.declared.open.Open.{Open}
 use Rattle.pfs_levels.specs.Calls.{Call}
 use Rattle.pfs_model.specs.Shapes.{is_stage}
 use Rattle.pfs_parts.specs.Deeds.{Deed, Connecting, Starting, Staging, StageEnding, Ending, Spending, Quitting, Truncating, Closing, Part, IsPart, steps_for}
+use Rattle.pfs_session.proofs.Ending.{through_leaves}
 use Rattle.pfs_session.specs.Ends.{Ends, EndsIn, no_numbers}
 use Rattle.pfs_session.specs.States.{State}
 use Rattle.pfs_session.specs.Turns.{Step, StartsEvent, EndsEvent, Spends, SettlesHeld, Connects, Quits, Truncates, Does, Turn, AreTurns, state_after, steps_of, stage_ends}
@@ -45,7 +46,7 @@ ends_actions s numbers calls entries after e = by_case s.place.thread (is_let_th
   by_case : (slot : Option ℕ) (b : Bool) → EndsIn s slot b e.what e.others numbers calls entries after → after.actions ≡ s.actions
   by_case slot false x = ap (λ (z : State). z.actions) x.after_is
   by_case None true x = absurd x
-  by_case (Some slot) true x = ap (λ (z : State). z.actions) x.after_is
+  by_case (Some slot) true x = ap (λ (z : State). z.actions) (through_leaves s slot e.what e.others numbers calls entries after x)
 
 does_actions : (s : State) (step : Step) (calls : List Call) (entries : List Entry) (after : State) → Does s step calls entries after → after.actions ≡ made_at s.actions step
 does_actions s (StartsEvent subject) calls entries after d = ap (λ (z : State). z.actions) d.after_is

@@ -16,8 +16,8 @@ use Rattle.pfs_parts.specs.Stints.{Stint, parts_by}
 use Rattle.pfs_ruled.specs.Ruled.{RuledLaw, IsRuled, journals_of, entries_of, labels_of, contents_of}
 use Rattle.pfs_runs.specs.Labels.{AreLabels, terms_of}
 use Rattle.pfs_runs.specs.Lines.{change_in, facts_in}
-use Rattle.pfs_runs.specs.Rules.{AreRules}
-use Rattle.pfs_runs.specs.Runs.{AreBroughtOnce, AreFinal, all_blocks}
+use Rattle.pfs_runs.specs.Rules.{AreRules, flags_by}
+use Rattle.pfs_runs.specs.Runs.{AreBroughtToRows, AreFinal, all_blocks}
 use Rattle.pfs_script.proofs.EventLemmas.{session_events}
 use Rattle.pfs_script.specs.Events.{lines_for, events_for}
 use Rattle.pfs_course.specs.Whole.{WholeLaw, IsFinalBy, RunLaw}
@@ -35,7 +35,7 @@ whole ruled session_law = λ setting phases report depths spells admin c told fo
     session_law stack depths session stints (lines_for session phases) (events_for session phases) c.are_spells.stints (session_events session phases) (session_does session 1 phases spells c.blocks) in
     let is : IsRuled setting change (facts_in phases) spells = ruled setting change (facts_in phases) depths spells c.are_spells c.answer c.folded c.first facts in
     let t : AreTogether flags spells = together flags stack depths spells c.are_spells c.answer in
-    let once : AreBroughtOnce (entries_of spells) = brought (printed flags (entries_of spells)) stack depths stints c.are_spells.stints t.loads in
+    let once : AreBroughtToRows (flags_by (terms_of setting change (facts_in phases) (labels_of spells)) (entries_of spells)) (entries_of spells) = brought (printed flags (entries_of spells)) stack depths stints c.are_spells.stints t.loads in
     let h : HaveJournals 1 phases report.phases spells = have_journals 1 phases report.phases spells told c.blocks in
     let same : journals_of spells ≡ all_blocks h.blocks = sym h.all in
     record {
@@ -45,7 +45,7 @@ whole ruled session_law = λ setting phases report depths spells admin c told fo
       phases_are = h.are;
       labelled = subst (λ z. AreLabels (labels_of spells) (places z)) same is.labelled;
       rules = subst (AreRules (terms_of setting change (facts_in phases) (labels_of spells)) (counted_by (contents_of spells) (all_taken stints)) (contents_of spells)) same is.rules;
-      brought = subst (λ z. AreBroughtOnce (places z)) same once;
+      brought = subst (λ z. AreBroughtToRows (flags_by (terms_of setting change (facts_in phases) (labels_of spells)) (places z)) (places z)) same once;
       plain = subst (λ z. IsPlain (places z)) same is.plain;
     })
 

@@ -95,9 +95,9 @@ known_class : (class : ClassRef) → IsKnownClass 62 class → IfSome (class_in 
 known_class (refs.Class id) known = omega arith
 known_class (refs.Lost kind) known = tt
 
-begins : (nest : OpenEvents) (subject : Subject) → may_start subject.kind (innermost (kinds_in nest.events)) ≡ true → length nest.events < nest.depth → IfSome subject.class (λ n. n < 63) → IfSome subject.table (λ n. n < 64)
+begins : (nest : OpenEvents) (subject : Subject) → may_start subject.kind (innermost (kinds_in nest.events)) ≡ true → length nest.events < nest.depth → IfSome subject.class (λ n. n < 63) → IfSome subject.table (λ n. n < 64) → IfSome subject.digest (λ n. n < 64)
     → MayBegin nest subject
-begins nest subject order shallow class table = record { order = ap (λ (kind : Option EventKind). may_start subject.kind kind) (sym (inner nest.events)) ∙ order; shallow = shallow; class = class; table = table }
+begins nest subject order shallow class table digest = record { order = ap (λ (kind : Option EventKind). may_start subject.kind kind) (sym (inner nest.events)) ∙ order; shallow = shallow; class = class; table = table; digest = digest }
 
 -- the kinds of the events without an open stage
 stage_inner : (events : List Open) → innermost (drop (ended_by (Opens Stage) (kinds_in events)) (kinds_in events)) ≡ kind_of (innermost_of (without_stage events))
@@ -141,13 +141,13 @@ sql_may_run nest None = tt
 sql_may_run nest (Some what) = tt
 
 pub may_run : (nest : OpenEvents) (line : BlockLine) → StagesLie (kinds_in nest.events) → MayPlay 62 nest.depth (kinds_in nest.events) line → MayRun (errand_on line) nest
-may_run nest (said.Wait class) lie may = begins nest _ may.stands (omega (arith, may.shallow, kinds_long nest.events)) (known_class class may.known) tt
-may_run nest (said.TableWait class table) lie may = begins nest _ may.stands (omega (arith, may.shallow, kinds_long nest.events)) (known_class class may.known) may.table
-may_run nest (said.Statement class digest) lie may = begins nest _ may.stands (omega (arith, may.shallow, kinds_long nest.events)) (known_class class may.known) tt
-may_run nest (said.Transaction access) lie may = begins nest _ may.stands (omega (arith, may.shallow, kinds_long nest.events)) (lit< tt) tt
+may_run nest (said.Wait class) lie may = begins nest _ may.stands (omega (arith, may.shallow, kinds_long nest.events)) (known_class class may.known) tt tt
+may_run nest (said.TableWait class table) lie may = begins nest _ may.stands (omega (arith, may.shallow, kinds_long nest.events)) (known_class class may.known) may.table tt
+may_run nest (said.Statement class digest) lie may = begins nest _ may.stands (omega (arith, may.shallow, kinds_long nest.events)) (known_class class may.known) tt may.digest
+may_run nest (said.Transaction access) lie may = begins nest _ may.stands (omega (arith, may.shallow, kinds_long nest.events)) (lit< tt) tt tt
 may_run nest (said.Stage class) lie may =
     let below : length (without_stage nest.events) < nest.depth = omega (arith, may.shallow, kinds_long nest.events, fewer nest.events) in
-    (ap (λ (kind : Option EventKind). may_start Stage kind) (sym (stage_inner nest.events)) ∙ may.stands, below, known_class class may.known, tt, refl)
+    (ap (λ (kind : Option EventKind). may_start Stage kind) (sym (stage_inner nest.events)) ∙ may.stands, below, known_class class may.known, tt, tt, refl)
 may_run nest said.StageEnd lie may = tt
 may_run nest (said.Spend time) lie may = tt
 may_run nest said.End lie may = some_open nest.events lie may.stands

@@ -8,7 +8,7 @@ use Rattle.pfs_event.specs.declared.open.Open.{Open}
 use Rattle.pfs_levels.specs.Calls.{Call, Opening}
 use Rattle.pfs_parts.specs.Deeds.{Deed, Part}
 use Rattle.pfs_parts.specs.Shaped.{AreParts, state_behind}
-use Rattle.pfs_session.specs.Ends.{EndsIn}
+use Rattle.pfs_session.specs.Ends.{EndsIn, DigestsIn}
 use Rattle.pfs_session.specs.Settles.{owed_from, owed_in, owed_by_state, settle_cost}
 use Rattle.pfs_session.specs.States.{State, Book, Owed, nothing_held}
 use Rattle.pfs_session.specs.Turns.{Step, StartsEvent, EndsEvent, Spends, SettlesHeld, Connects, Quits, Truncates, Does, Turn, AreTurns, state_after}
@@ -21,11 +21,16 @@ width s = length s.held
 pub none_wide : length nothing_held ≡ 193
 none_wide = refl
 
+digest_in : (b : Bool) (s : State) (slot : ℕ) (what : Open) (numbers : Numbers) (calls : List Call) (entries : List Entry) (after : State) → DigestsIn b s slot what numbers calls entries after → width after ≡ width s
+digest_in false s slot what numbers calls entries after d = ap width d.after_is
+digest_in true s slot what numbers calls entries after d = ap width d.after_is ∙ length-set s.held _ _
+
 ends_in : (s after : State) (slot : Option ℕ) (through : Bool) (what : Open) (others : List Open) (numbers : Numbers) (calls : List Call) (entries : List Entry)
     → EndsIn s slot through what others numbers calls entries after → width after ≡ width s
 ends_in s after slot false what others numbers calls entries e = ap width e.after_is
 ends_in s after None true what others numbers calls entries e = absurd e
-ends_in s after (Some n) true what others numbers calls entries e = ap width e.after_is ∙ length-set s.held _ _
+ends_in s after (Some n) true what others numbers calls entries e =
+    digest_in what.digested e.between n what numbers e.digested_calls e.digested_entries after e.digests ∙ (ap width e.counts.after_is ∙ length-set s.held _ _)
 
 step_wide : (s after : State) (step : Step) (calls : List Call) (entries : List Entry) → Does s step calls entries after → width s ≡ 193 → width after ≡ 193
 step_wide s after (StartsEvent subject) calls entries d wide = ap width d.after_is ∙ wide

@@ -52,8 +52,8 @@ errand_on said.Done = ask.Spend 0
 -- 20,000 for what it changes, its action and its answer
 abbrev pub cost_of : Errand → ℕ
 cost_of (ask.Start subject) = 1
-cost_of (ask.Stage subject) = 3
-cost_of (ask.End numbers) = 5
+cost_of (ask.Stage subject) = 4
+cost_of (ask.End numbers) = 7
 cost_of (ask.Spend time) = 0
 cost_of ask.Quit = 0
 cost_of (ask.Truncate what) = 20196
@@ -104,6 +104,7 @@ pub record MayBegin (nest : OpenEvents) (subject : Subject) : Type 0 where
   pub shallow : length nest.events < nest.depth
   pub class : IfSome subject.class (λ n. n < 63)
   pub table : IfSome subject.table (λ n. n < 64)
+  pub digest : IfSome subject.digest (λ n. n < 64)
 
 -- what an errand asks of a session as it stands; an end is an action, and asked of an administration
 abbrev pub MayRun : Errand → OpenEvents → Type 0
@@ -135,12 +136,18 @@ abbrev pub IsKnownTable : BlockLine → Type 0
 IsKnownTable (said.TableWait class table) = table < 64
 IsKnownTable _ = Unit {0}
 
--- a line may be played where events of these kinds are open and so many may be: it doesn't end the session, its class
--- and its table are known, and it may stand there
+-- the place of the digest text that a line names
+abbrev pub IsKnownDigest : BlockLine → Type 0
+IsKnownDigest (said.Statement class digest) = IfSome digest (λ n. n < 64)
+IsKnownDigest _ = Unit {0}
+
+-- a line may be played where events of these kinds are open and so many may be: it doesn't end the session, its class,
+-- its table and the place of its digest text are known, and it may stand there
 pub record MayPlay (classes depth : ℕ) (kinds : List EventKind) (line : BlockLine) : Type 0 where
   pub quits : is_quit line ≡ false
   pub known : IsKnown classes line
   pub table : IsKnownTable line
+  pub digest : IsKnownDigest line
   pub stands : may_stand kinds (mark_of line) ≡ true
   pub shallow : length kinds < depth
 

@@ -21,7 +21,7 @@ struct Cost {
 pub fn written_cost(lines: &[BlockLine]) -> u64
     requires short { length (written_out lines.now) ≤ 200000 }
     ensures cost { result ≡ cost_on (written_out lines.now) }
-    ensures small { result ≤ 5 * length (written_out lines.now) + 20191 * actions_on (written_out lines.now) }
+    ensures small { result ≤ 7 * length (written_out lines.now) + 20189 * actions_on (written_out lines.now) }
 {
     let mut entries = 0;
     let mut at = 0;
@@ -112,8 +112,8 @@ fn line_cost(line: &BlockLine) -> u64
         | BlockLine::TableWait { .. }
         | BlockLine::Statement { .. }
         | BlockLine::Transaction(_) => 1,
-        BlockLine::Stage(_) | BlockLine::StageEnd => 3,
-        BlockLine::End | BlockLine::EndStatement(_) => 5,
+        BlockLine::Stage(_) | BlockLine::StageEnd => 4,
+        BlockLine::End | BlockLine::EndStatement(_) => 7,
         BlockLine::Sql(text) => sql_cost(text.as_bytes()),
         BlockLine::Spend(_) | BlockLine::Quit | BlockLine::Repeat(_) | BlockLine::Done => 0,
     }

@@ -27,7 +27,7 @@ pub fn play_lines<A: Acts>(
     requires few { admin.old.actions + actions_on lines.now ≤ 2 ^ 47 }
     requires idle { (r : ℕ) → A.hand rows.old r ≡ None }
     requires lent { A.words rows.old ≡ Some admin.old.words }
-    requires spare { 2 * length lines.now + 20192 * actions_on lines.now ≤ A.left rows.old }
+    requires spare { 4 * length lines.now + 20192 * actions_on lines.now ≤ A.left rows.old }
     requires room { cost_on lines.now ≤ session.old.journal.room }
     ensures played { HavePlayed lines.now admin.old session.old session.new (A.reached rows.old)
         (A.reached rows.new) }
@@ -48,7 +48,7 @@ pub fn play_lines<A: Acts>(
     ensures last { actions_on lines.now ≡ 0 → session.new.state.last ≡ session.old.state.last }
     ensures depth { session.new.state.opened.depth ≡ session.old.state.opened.depth }
     ensures wide { length session.new.state.held ≡ 193 }
-    ensures leaves { Leaves (2 * length lines.now + 20192 * actions_on lines.now) (cost_on lines.now)
+    ensures leaves { Leaves (4 * length lines.now + 20192 * actions_on lines.now) (cost_on lines.now)
         (A.hand rows.old) (A.hand rows.new) (A.left rows.old) (A.left rows.new) (A.draws rows.old)
         (A.draws rows.new) (A.name rows.old) (A.name rows.new) session.old.journal session.new.journal }
     ensures lent { A.words rows.new ≡ Some admin.new.words }

@@ -25,7 +25,7 @@ pub fn play<A: Acts>(session: &mut Session, rows: &mut A, admin: &mut Admin, err
     requires few { admin.old.actions + actions_of errand.now ≤ 2 ^ 47 }
     requires idle { (r : ℕ) → A.hand rows.old r ≡ None }
     requires lent { A.words rows.old ≡ Some admin.old.words }
-    requires spare { 2 + 20192 * actions_of errand.now ≤ A.left rows.old }
+    requires spare { 4 + 20192 * actions_of errand.now ≤ A.left rows.old }
     requires room { cost_of errand.now ≤ session.old.journal.room }
     ensures run { HasActed (deed_of admin.old errand.now) session.old session.new (A.reached rows.old)
         (A.reached rows.new) }
@@ -43,8 +43,8 @@ pub fn play<A: Acts>(session: &mut Session, rows: &mut A, admin: &mut Admin, err
     ensures last { actions_of errand.now ≡ 0 → session.new.state.last ≡ session.old.state.last }
     ensures depth { session.new.state.opened.depth ≡ session.old.state.opened.depth }
     ensures wide { length session.new.state.held ≡ 193 }
-    ensures owed { length (owed_by_state session.new.state) ≤ length (owed_by_state session.old.state) + 2 }
-    ensures leaves { Leaves (2 + 20192 * actions_of errand.now) (cost_of errand.now) (A.hand rows.old)
+    ensures owed { length (owed_by_state session.new.state) ≤ length (owed_by_state session.old.state) + 4 }
+    ensures leaves { Leaves (4 + 20192 * actions_of errand.now) (cost_of errand.now) (A.hand rows.old)
         (A.hand rows.new) (A.left rows.old) (A.left rows.new) (A.draws rows.old) (A.draws rows.new)
         (A.name rows.old) (A.name rows.new) session.old.journal session.new.journal }
     ensures lent { A.words rows.new ≡ Some admin.new.words }
@@ -68,8 +68,8 @@ fn end<R: Rows>(session: &mut Session, rows: &mut R, numbers: &Numbers)
     requires may { MayRun (Errand.End numbers.now) session.old.state.opened }
     requires early { session.old.state.drawn + 1 < 2 ^ 64 }
     requires alone { (r : ℕ) → 0 < r → R.hand rows.old r ≡ None }
-    requires spare { 2 ≤ R.left rows.old }
-    requires room { 5 ≤ session.old.journal.room }
+    requires spare { 4 ≤ R.left rows.old }
+    requires room { 7 ≤ session.old.journal.room }
     ensures run { HasActed (Ending numbers.now) session.old session.new (R.reached rows.old) (R.reached rows.new) }
     ensures drawn { session.new.state.drawn ≤ session.old.state.drawn + 1 }
     ensures rest { session.new.state ≡ record session.old.state {
@@ -79,8 +79,8 @@ fn end<R: Rows>(session: &mut Session, rows: &mut R, numbers: &Numbers)
       held = session.new.state.held;
     } }
     ensures depth { session.new.state.opened.depth ≡ session.old.state.opened.depth }
-    ensures owed { length (owed_by_state session.new.state) ≤ length (owed_by_state session.old.state) + 2 }
-    ensures leaves { Leaves 2 5 (R.hand rows.old) (R.hand rows.new) (R.left rows.old) (R.left rows.new)
+    ensures owed { length (owed_by_state session.new.state) ≤ length (owed_by_state session.old.state) + 4 }
+    ensures leaves { Leaves 4 7 (R.hand rows.old) (R.hand rows.new) (R.left rows.old) (R.left rows.new)
         (R.draws rows.old) (R.draws rows.new) (R.name rows.old) (R.name rows.new) session.old.journal
         session.new.journal }
     ensures words { R.words rows.new ≡ R.words rows.old }

@@ -34,7 +34,7 @@ pub fn play_times<A: Acts>(
     requires few { admin.old.actions + times * actions_on body.now ≤ 2 ^ 47 }
     requires idle { (r : ℕ) → A.hand rows.old r ≡ None }
     requires lent { A.words rows.old ≡ Some admin.old.words }
-    requires spare { 2 * (times * length body.now) + 20192 * (times * actions_on body.now) ≤ A.left rows.old }
+    requires spare { 4 * (times * length body.now) + 20192 * (times * actions_on body.now) ≤ A.left rows.old }
     requires room { times * cost_on body.now ≤ session.old.journal.room }
     ensures played { HavePlayed (copies times body.now) admin.old session.old session.new (A.reached rows.old)
         (A.reached rows.new) }
@@ -54,7 +54,7 @@ pub fn play_times<A: Acts>(
     ensures last { times * actions_on body.now ≡ 0 → session.new.state.last ≡ session.old.state.last }
     ensures depth { session.new.state.opened.depth ≡ session.old.state.opened.depth }
     ensures wide { length session.new.state.held ≡ 193 }
-    ensures leaves { Leaves (2 * (times * length body.now) + 20192 * (times * actions_on body.now))
+    ensures leaves { Leaves (4 * (times * length body.now) + 20192 * (times * actions_on body.now))
         (times * cost_on body.now) (A.hand rows.old) (A.hand rows.new) (A.left rows.old) (A.left rows.new)
         (A.draws rows.old) (A.draws rows.new) (A.name rows.old) (A.name rows.new) session.old.journal session.new.journal }
     ensures lent { A.words rows.new ≡ Some admin.new.words }
@@ -110,7 +110,7 @@ fn play_repeat<A: Acts>(
     requires few { admin.old.actions + actions_on (repeated times lines.now) ≤ 2 ^ 47 }
     requires idle { (r : ℕ) → A.hand rows.old r ≡ None }
     requires lent { A.words rows.old ≡ Some admin.old.words }
-    requires spare { 2 * length (repeated times lines.now) + 20192 * actions_on (repeated times lines.now)
+    requires spare { 4 * length (repeated times lines.now) + 20192 * actions_on (repeated times lines.now)
         ≤ A.left rows.old }
     requires room { cost_on (repeated times lines.now) ≤ session.old.journal.room }
     ensures count { result ≤ length lines.now }
@@ -138,7 +138,7 @@ fn play_repeat<A: Acts>(
     ensures last { actions_on (repeated times lines.now) ≡ 0 → session.new.state.last ≡ session.old.state.last }
     ensures depth { session.new.state.opened.depth ≡ session.old.state.opened.depth }
     ensures wide { length session.new.state.held ≡ 193 }
-    ensures leaves { Leaves (2 * (length (repeated times lines.now) - length (written_out (drop result lines.now)))
+    ensures leaves { Leaves (4 * (length (repeated times lines.now) - length (written_out (drop result lines.now)))
         + 20192 * (actions_on (repeated times lines.now) - actions_on (written_out (drop result lines.now))))
         (cost_on (repeated times lines.now) - cost_on (written_out (drop result lines.now))) (A.hand rows.old)
         (A.hand rows.new) (A.left rows.old) (A.left rows.new) (A.draws rows.old) (A.draws rows.new)
@@ -173,7 +173,7 @@ fn play_next<A: Acts>(
     requires few { admin.old.actions + actions_on (written_out lines.now) ≤ 2 ^ 47 }
     requires idle { (r : ℕ) → A.hand rows.old r ≡ None }
     requires lent { A.words rows.old ≡ Some admin.old.words }
-    requires spare { 2 * length (written_out lines.now) + 20192 * actions_on (written_out lines.now) ≤ A.left rows.old }
+    requires spare { 4 * length (written_out lines.now) + 20192 * actions_on (written_out lines.now) ≤ A.left rows.old }
     requires room { cost_on (written_out lines.now) ≤ session.old.journal.room }
     ensures count { (0 < result) × (result ≤ length lines.now) }
     ensures gone { HaveGone (written_out lines.now) (written_out (drop result lines.now)) admin.old admin.new
@@ -200,7 +200,7 @@ fn play_next<A: Acts>(
     ensures last { actions_on (written_out lines.now) ≡ 0 → session.new.state.last ≡ session.old.state.last }
     ensures depth { session.new.state.opened.depth ≡ session.old.state.opened.depth }
     ensures wide { length session.new.state.held ≡ 193 }
-    ensures leaves { Leaves (2 * (length (written_out lines.now) - length (written_out (drop result lines.now)))
+    ensures leaves { Leaves (4 * (length (written_out lines.now) - length (written_out (drop result lines.now)))
         + 20192 * (actions_on (written_out lines.now) - actions_on (written_out (drop result lines.now))))
         (cost_on (written_out lines.now) - cost_on (written_out (drop result lines.now))) (A.hand rows.old)
         (A.hand rows.new) (A.left rows.old) (A.left rows.new) (A.draws rows.old) (A.draws rows.new)
@@ -235,7 +235,7 @@ pub fn play_written<A: Acts>(
     requires few { admin.old.actions + actions_on (written_out lines.now) ≤ 2 ^ 47 }
     requires idle { (r : ℕ) → A.hand rows.old r ≡ None }
     requires lent { A.words rows.old ≡ Some admin.old.words }
-    requires spare { 2 * length (written_out lines.now) + 20192 * actions_on (written_out lines.now) ≤ A.left rows.old }
+    requires spare { 4 * length (written_out lines.now) + 20192 * actions_on (written_out lines.now) ≤ A.left rows.old }
     requires room { cost_on (written_out lines.now) ≤ session.old.journal.room }
     ensures played { HavePlayed (written_out lines.now) admin.old session.old session.new (A.reached rows.old)
         (A.reached rows.new) }
@@ -256,7 +256,7 @@ pub fn play_written<A: Acts>(
     ensures last { actions_on (written_out lines.now) ≡ 0 → session.new.state.last ≡ session.old.state.last }
     ensures depth { session.new.state.opened.depth ≡ session.old.state.opened.depth }
     ensures wide { length session.new.state.held ≡ 193 }
-    ensures leaves { Leaves (2 * length (written_out lines.now) + 20192 * actions_on (written_out lines.now))
+    ensures leaves { Leaves (4 * length (written_out lines.now) + 20192 * actions_on (written_out lines.now))
         (cost_on (written_out lines.now)) (A.hand rows.old) (A.hand rows.new) (A.left rows.old) (A.left rows.new)
         (A.draws rows.old) (A.draws rows.new) (A.name rows.old) (A.name rows.new) session.old.journal session.new.journal }
     ensures lent { A.words rows.new ≡ Some admin.new.words }

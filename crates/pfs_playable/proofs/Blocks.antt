@@ -168,7 +168,7 @@ behind_front : (before : List Form) (line : Form) (lines : List Form)
 behind_front [] line lines = refl
 behind_front (one ∷ before) line lines = behind_front before line lines
 
-all_none : {A : Type 0} (P : A → Type 0) → All P []
+pub all_none : {A : Type 0} (P : A → Type 0) → All P []
 all_none P k d h = absurd (omega (arith, h))
 
 module _ (all : List Form) where

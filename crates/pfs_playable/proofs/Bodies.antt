@@ -25,11 +25,12 @@ use Rattle.pfs_script.proofs.Turns.{open_more, now_same, lines_ends, lines_other
 use Rattle.pfs_script.proofs.Faultless.{Passes}
 use Rattle.pfs_script.proofs.BlockNesting.{Stand, event_other, kinds_along, along_more}
 use Rattle.pfs_script.proofs.ReferLemmas.{resolved_within}
-use Rattle.pfs_play.specs.Errands.{is_quit, IsKnownTable}
+use Rattle.pfs_play.specs.Errands.{is_quit, IsKnownTable, IsKnownDigest}
 use Rattle.pfs_playable.specs.Playable.{end_of}
 use Rattle.pfs_playable.proofs.Bools.{bool_cases, first_false, second_false, both_false, or_true, first_true, both_ways}
 use Rattle.pfs_playable.proofs.Bounds.{table_known}
 use Rattle.pfs_playable.proofs.ClassBounds.{few_classes}
+use Rattle.pfs_playable.proofs.DigestBounds.{digest_known}
 use Rattle.pfs_playable.proofs.OwnBlocks.{blocks_from, from_other, none_begun}
 
 -- a session that has quit has quit for good
@@ -167,9 +168,9 @@ module _ (sense : Sense) where
             ∙ nothing_said (before ++ line ∷ []) lines s.1 still here.1)
       ]
 
--- it isn't the session's end, and its class and table are known
+-- it isn't the session's end, and its class, its table and the place of its digest text are known
 abbrev IsSuch : BlockLine → Type 0
-IsSuch line = (is_quit line ≡ false) × IsKnown 62 line × IsKnownTable line
+IsSuch line = (is_quit line ≡ false) × IsKnown 62 line × IsKnownTable line × IsKnownDigest line
 
 abbrev pub AreSuch : List BlockLine → Type 0
 AreSuch [] = Unit {0}
@@ -202,30 +203,30 @@ module _ (all : List Form) (stands : Stand [] all) where
   such_table before class schema name more None number p e t h = h
   such_table before class schema name more (Some ref) None p e t h = h
   such_table before class schema name more (Some ref) (Some number) p e t h =
-      ((refl, class_known before class ref p e, table_known all schema name number stands t), h)
+      ((refl, class_known before class ref p e, table_known all schema name number stands t, tt), h)
 
   such_front : (before : List Form) (line : Form) (more : List BlockLine) → Passes Whole before line
       → sessions.is_quit line ≡ false → AreSuch more → AreSuch (with_front (block_line (sense_of all) line) more)
   such_front before (form.Wait class) more p q h =
-      such_class before class said.Wait more (resolved (head_of all) class) p.known refl (λ one k. (refl, k, tt)) h
+      such_class before class said.Wait more (resolved (head_of all) class) p.known refl (λ one k. (refl, k, tt, tt)) h
   such_front before (form.TableWait class schema name) more p q h =
       such_table before class schema name more (resolved (head_of all) class)
       (table_number (tables_of all) schema name) p.known refl refl h
   such_front before (form.Statement class text) more p q h =
       such_class before class (λ ref. said.Statement ref (digest_place (sense_of all).digests text)) more
-      (resolved (head_of all) class) p.known refl (λ one k. (refl, k, tt)) h
+      (resolved (head_of all) class) p.known refl (λ one k. (refl, k, tt, digest_known all text stands)) h
   such_front before (form.Stage class) more p q h =
-      such_class before class said.Stage more (resolved (head_of all) class) p.known refl (λ one k. (refl, k, tt)) h
-  such_front before (form.Transaction access) more p q h = ((refl, tt, tt), h)
-  such_front before form.StageEnd more p q h = ((refl, tt, tt), h)
-  such_front before (form.Spend (Some time)) more p q h = ((refl, tt, tt), h)
+      such_class before class said.Stage more (resolved (head_of all) class) p.known refl (λ one k. (refl, k, tt, tt)) h
+  such_front before (form.Transaction access) more p q h = ((refl, tt, tt, tt), h)
+  such_front before form.StageEnd more p q h = ((refl, tt, tt, tt), h)
+  such_front before (form.Spend (Some time)) more p q h = ((refl, tt, tt, tt), h)
   such_front before (form.Spend None) more p q h = h
-  such_front before form.End more p q h = ((refl, tt, tt), h)
-  such_front before (form.EndStatement numbers) more p q h = ((refl, tt, tt), h)
-  such_front before (form.Repeat (Some times)) more p q h = ((refl, tt, tt), h)
+  such_front before form.End more p q h = ((refl, tt, tt, tt), h)
+  such_front before (form.EndStatement numbers) more p q h = ((refl, tt, tt, tt), h)
+  such_front before (form.Repeat (Some times)) more p q h = ((refl, tt, tt, tt), h)
   such_front before (form.Repeat None) more p q h = h
-  such_front before (form.Sql text) more p q h = ((refl, tt, tt), h)
-  such_front before form.Done more p q h = ((refl, tt, tt), h)
+  such_front before (form.Sql text) more p q h = ((refl, tt, tt, tt), h)
+  such_front before form.Done more p q h = ((refl, tt, tt, tt), h)
   such_front before form.Quit more p q h = cc
   such_front before line more p q h = h
 

@@ -96,7 +96,7 @@ none_given = record {
   statement_classes = omega arith;
 }
 
-in_range : (lines : List Form) → Stand [] lines → AreInRange (limits_of lines)
+pub in_range : (lines : List Form) → Stand [] lines → AreInRange (limits_of lines)
 in_range lines s = ranges_behind [] lines s none_given
 
 -- the classes of a kind are no more than its limit

@@ -19,12 +19,12 @@ all_none P k d h = absurd (omega (arith, h))
 waits : (depth : ℕ) → 0 + 4 ≤ depth → AllMayPlay 62 depth [] None waiting.lines
 unfolding AllMayPlay
 waits depth h = (
-  record { quits = refl; known = tt; table = tt; stands = refl; shallow = omega (arith, h) },
+  record { quits = refl; known = tt; table = tt; digest = tt; stands = refl; shallow = omega (arith, h) },
   (
-    record { quits = refl; known = omega arith; table = tt; stands = refl; shallow = omega (arith, h) },
+    record { quits = refl; known = omega arith; table = tt; digest = tt; stands = refl; shallow = omega (arith, h) },
     (
-      record { quits = refl; known = tt; table = tt; stands = refl; shallow = omega (arith, h) },
-      (record { quits = refl; known = tt; table = tt; stands = refl; shallow = omega (arith, h) }, tt),
+      record { quits = refl; known = tt; table = tt; digest = tt; stands = refl; shallow = omega (arith, h) },
+      (record { quits = refl; known = tt; table = tt; digest = tt; stands = refl; shallow = omega (arith, h) }, tt),
     ),
   ),
 )
@@ -78,8 +78,8 @@ connecting_may = record {
 repeats : (depth : ℕ) → 0 + 4 ≤ depth → AllMayPlay 62 depth [] None repeating.lines
 unfolding AllMayPlay
 repeats depth h = (
-  record { quits = refl; known = omega arith; table = tt; stands = refl; shallow = omega (arith, h) },
-  (record { quits = refl; known = tt; table = tt; stands = refl; shallow = omega (arith, h) }, (refl, tt)),
+  record { quits = refl; known = omega arith; table = tt; digest = tt; stands = refl; shallow = omega (arith, h) },
+  (record { quits = refl; known = tt; table = tt; digest = tt; stands = refl; shallow = omega (arith, h) }, (refl, tt)),
 )
 
 repeating_may : IsPlayableBlock [] [] repeating

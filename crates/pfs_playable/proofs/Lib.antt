@@ -1,6 +1,7 @@
 mod Bools
 mod Bounds
 mod ClassBounds
+mod DigestBounds
 mod OwnBlocks
 mod Leaving
 mod Prefixes
@@ -12,5 +13,6 @@ mod OwnLines
 mod Totals
 mod Truncating
 mod Blocks
+mod Texted
 mod Phases
 pub mod Examples

@@ -1,4 +1,4 @@
--- Lines that nest, and whose classes and tables are known, may be played.
+-- Lines that nest, and whose classes, tables and places of digest texts are known, may be played.
 use Rattle.std.proofs.Common.{◌≡◌, Bool, true, false, refl, ℕ, ◌≤◌, ◌+◌, List, [], ◌∷◌, ◌++◌, Option, Some, None, length, arith}
 use Rattle.pfs_event.specs.declared.kind.EventKind.{EventKind}
 use Rattle.pfs_script.specs.declared.blocks.BlockLine.{BlockLine}
@@ -28,6 +28,7 @@ may_play depth kinds None (line ∷ body) more n such h = (
     quits = such.0.0;
     known = such.0.1;
     table = such.0.2;
+    digest = such.0.3;
     stands = n.0;
     shallow = omega (arith, h);
   },
@@ -39,6 +40,7 @@ may_play depth kinds (Some first) (line ∷ body) more n such h = (
     quits = such.0.0;
     known = such.0.1;
     table = such.0.2;
+    digest = such.0.3;
     stands = n.0;
     shallow = omega (arith, h);
   },

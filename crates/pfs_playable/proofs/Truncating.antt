@@ -26,7 +26,7 @@ use Rattle.pfs_script.proofs.Behind.{counted_none}
 use Rattle.pfs_script.proofs.BlockNesting.{Stand, stand_of}
 use Rattle.pfs_truncations.specs.Texts.{text_of, truncation_of}
 use Rattle.pfs_truncations.specs.declared.truncations.Truncation.{Truncation}
-use Rattle.pfs_truncations.specs.declared.truncations.Truncation.TheVariants.{Summary, Accounts, Users, Hosts, SetupActors, SetupObjects}
+use Rattle.pfs_truncations.specs.declared.truncations.Truncation.TheVariants.{Summary, DigestSummary, Accounts, Users, Hosts, SetupActors, SetupObjects}
 use Rattle.pfs_truncations.proofs.Finding.{text}
 use Rattle.pfs_playable.specs.Playable.{actions_among, actions_in, ActionsLaw}
 use Rattle.pfs_playable.proofs.Bodies.{first_said, stop_said, last_said}
@@ -68,6 +68,7 @@ weighs (Summary Transactions Global) = refl
 weighs Accounts = refl
 weighs Users = refl
 weighs Hosts = refl
+weighs DigestSummary = refl
 weighs SetupActors = refl
 weighs SetupObjects = refl
 

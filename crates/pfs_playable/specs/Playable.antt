@@ -115,3 +115,17 @@ IsNamed setting block =
 abbrev pub NamedLaw : Type 0
 NamedLaw = (text : List ℕ) (setting : Setting) (phases : List Phase) → IsScript Whole text setting phases
     → All (λ phase. All (IsNamed setting) phase.blocks) phases
+
+-- a statement's digest text is one of so many that have a place, or has none
+abbrev pub IsTextedLine : ℕ → BlockLine → Type 0
+IsTextedLine places (said.Statement class digest) = IfSome digest (λ place. place < places)
+IsTextedLine places _ = Unit {0}
+
+abbrev pub AreTextedLines : ℕ → List BlockLine → Type 0
+AreTextedLines places [] = Unit {0}
+AreTextedLines places (line ∷ lines) = IsTextedLine places line × AreTextedLines places lines
+
+-- the lines of a script name digest texts of the setting
+abbrev pub TextedLaw : Type 0
+TextedLaw = (text : List ℕ) (setting : Setting) (phases : List Phase) → IsScript Whole text setting phases
+    → All (λ phase. All (λ (block : Block). AreTextedLines (length setting.digests) block.lines) phase.blocks) phases

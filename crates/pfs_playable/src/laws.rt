@@ -1,7 +1,7 @@
 //! Laws of the definitions.
 
 ghost use Rattle.pfs_playable.specs.Examples.{WorkedPhases};
-ghost use Rattle.pfs_playable.specs.Playable.{ActionsLaw, FewLaw, LinesLaw, NamedLaw, PlayableLaw, TotalLaw};
+ghost use Rattle.pfs_playable.specs.Playable.{ActionsLaw, FewLaw, LinesLaw, NamedLaw, PlayableLaw, TotalLaw, TextedLaw};
 
 /// The blocks of each phase of any script may be played, behind the phases before it.
 pub fn playable()
@@ -31,6 +31,11 @@ pub fn lines()
 /// Where a block of any script connects its session, it gives names of the script's setting.
 pub fn named()
     ensures { NamedLaw }
+{}
+
+/// Each statement of any script has a digest text of the script's setting, by its place, or none.
+pub fn texted()
+    ensures { TextedLaw }
 {}
 
 /// A script of two sessions and two phases, worked, and what may not be played.

@@ -37,11 +37,14 @@ module _ (setting : Setting) (phases before : List Phase) (first : List Block) (
   pub slots_at : length admin.kept.now.places.threads ≤ 32
   slots_at = subst (λ (a : Administration). length a.kept.now.places.threads ≤ 32) (sym along.course.admin_is) (few_slots setting (change_in phases) (labels_of spells))
 
-  pub spare_at : 2 * length (written_out block.lines) + 20192 * actions_on (written_out block.lines) + 588 ≤ left
+  pub spare_at : 4 * length (written_out block.lines) + 20192 * actions_on (written_out block.lines) + 588 ≤ left
   spare_at = omega (arith, along.spare, here.few, here.playable.short, here.rare)
 
   pub actions_at : admin.actions + actions_on (written_out block.lines) + 1 < 2 ^ 47
   actions_at = omega (arith, along.acted, here.few, here.rare)
+
+  pub digests_at : (n : ℕ) → n < 2 ^ 63 → lost.digests + n < 2 ^ 64
+  digests_at n less = omega (arith, along.few_digests, here.few, less)
 
   pub statements_at : (n : ℕ) → n < 2 ^ 63 → lost.statements + n < 2 ^ 64
   statements_at n less = omega (arith, along.few_statements, here.few, less)

@@ -12,6 +12,7 @@ use Rattle.pfs_course.specs.Course.{IsCourse, numbered}
 use Rattle.pfs_course.specs.Steps.{IsBegun}
 use Rattle.pfs_course.specs.Told.{ArePhasesTold, AreTold}
 use Rattle.pfs_ends.proofs.Counting.{started_in}
+use Rattle.pfs_ends.proofs.Unplaced.{lost_in}
 use Rattle.pfs_ends.specs.Ends.{HasEnded}
 use Rattle.pfs_ends.specs.declared.counts.LostEvents.{LostEvents}
 use Rattle.pfs_journal.specs.Reports.{IsPhase}
@@ -46,8 +47,8 @@ pub begun : (setting : Setting) (phases : List Phase) (reached : Opening → Lis
     (admin : Administration) (seats : List (Option Book)) (lost : LostEvents) (ended : List PhaseParts) (told : List BlockReport) → AreInRange setting.limits
     → IsBegun setting (change_in phases) (depth_of phases) → ((start : Opening) → start.flags ≡ opening_flags setting opening_objects → reached start [])
     → ((row : ℕ) → hand row ≡ None) → left ≡ 2 ^ 47 → words ≡ Some (map (word 0) (opening_flags setting opening_objects)) → admin ≡ opened setting → seats ≡ replicate 64 None
-    → lost.statements ≡ 0 → lost.waits ≡ 0 → ended ≡ [] → told ≡ [] → IsAlong setting phases [] [] (numbered 1 phases) reached hand left words admin seats lost ended told
-begun setting phases reached hand left words admin seats lost ended told limits is leads idle all lent is_open empty statements waits none nothing =
+    → lost.digests ≡ 0 → lost.statements ≡ 0 → lost.waits ≡ 0 → ended ≡ [] → told ≡ [] → IsAlong setting phases [] [] (numbered 1 phases) reached hand left words admin seats lost ended told
+begun setting phases reached hand left words admin seats lost ended told limits is leads idle all lent is_open empty digests statements waits none nothing =
     let nowhere : Start = record {
       table = record { words = 0; slots = 0; views_name = 0; atom = 0; block = 0; offset = 0; slot_names = [] };
       number = 0;
@@ -77,8 +78,10 @@ begun setting phases reached hand left words admin seats lost ended told limits 
       acted = omega (arith, ap (λ (z : Administration). z.actions) is_open);
       wide = ap length empty ∙ length-replicate {A = Option Book} 64 None;
       seated = λ session low high. sits_empty setting phases session (seat_of seats session) (empty_seat session seats empty low high);
+      digests = digests ∙ sym (lost_in []);
       statements = statements ∙ sym (started_in is_lost_nested []);
       waits = waits ∙ sym (started_in is_lost_locker []);
+      few_digests = omega (arith, digests);
       few_statements = omega (arith, statements);
       few_waits = omega (arith, waits);
     }

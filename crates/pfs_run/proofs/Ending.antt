@@ -30,7 +30,7 @@ use Rattle.pfs_model.specs.Chains.{Each, each_of, times}
 use Rattle.pfs_reader.specs.Readings.{calls_of as calls_of_readings}
 use Rattle.pfs_ruled.proofs.Quiet.{LeadAlike}
 use Rattle.pfs_ruled.specs.Ruled.{entries_of}
-use Rattle.pfs_runs.specs.Finals.{is_lost_nested, is_lost_locker, verdict_at}
+use Rattle.pfs_runs.specs.Finals.{is_digest_lost, is_lost_nested, is_lost_locker, verdict_at}
 use Rattle.pfs_runs.specs.Lines.{change_in}
 use Rattle.pfs_runs.specs.Runs.{AreFinal}
 use Rattle.pfs_script.specs.declared.blocks.Block.{Block}
@@ -99,7 +99,7 @@ pub record IsEndOf (setting : Setting) (was now : Opening → List Call → Type
   pub accounts : counters_of.accounts ≡ admin.kept.now.lost_accounts
   pub users : counters_of.users ≡ admin.kept.now.lost_users
   pub hosts : counters_of.hosts ≡ admin.kept.now.lost_hosts
-  pub digests : counters_of.digests ≡ 0
+  pub digests : counters_of.digests ≡ lost.digests
   pub statements : counters_of.statements ≡ lost.statements
   pub waits : counters_of.waits ≡ lost.waits
   pub good : IsPhase report
@@ -133,7 +133,7 @@ phase_ended setting phases before first after was now hand_old hand_new left_old
       accounts = e.accounts;
       users = e.users;
       hosts = e.hosts;
-      digests = e.digests;
+      digests = e.digests ∙ a.digests;
       statements = e.statements ∙ a.statements;
       waits = e.waits ∙ a.waits;
     } in
@@ -169,8 +169,10 @@ phase_ended setting phases before first after was now hand_old hand_new left_old
       wide = a.wide;
       seated = λ session one many. subst (λ z. Sits setting phases (done_before all []) z session (seat_of seats session)) same
           (subst (λ z. Sits setting phases z spells session (seat_of seats session)) behind (a.seated session one many));
+      digests = subst (λ z. lost.digests ≡ times is_digest_lost (entries_of z)) same a.digests;
       statements = subst (λ z. lost.statements ≡ times is_lost_nested (each_of verdict_at (entries_of z))) same a.statements;
       waits = subst (λ z. lost.waits ≡ times is_lost_locker (each_of verdict_at (entries_of z))) same a.waits;
+      few_digests = subst (λ z. lost.digests ≤ 1200012 * length z) behind a.few_digests;
       few_statements = subst (λ z. lost.statements ≤ 200002 * length z) behind a.few_statements;
       few_waits = subst (λ z. lost.waits ≤ 200002 * length z) behind a.few_waits;
     } where

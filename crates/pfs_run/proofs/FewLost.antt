@@ -27,7 +27,7 @@ use Rattle.pfs_parts.specs.Shaped.{AreParts, entries_of}
 use Rattle.pfs_play.specs.Errands.{admin_behind, errand_on}
 use Rattle.pfs_script.specs.declared.blocks.BlockLine.{BlockLine}
 use Rattle.pfs_script.specs.declared.blocks.Connect.{Connect}
-use Rattle.pfs_session.specs.Ends.{EndsIn, added_entry}
+use Rattle.pfs_session.specs.Ends.{EndsIn, EndsCounted, EndsThrough, DigestsIn, added_entry}
 use Rattle.pfs_session.specs.Settles.{owed_by_state}
 use Rattle.pfs_session.specs.States.{State}
 use Rattle.pfs_session.specs.Turns.{Step, StartsEvent, EndsEvent, Spends, SettlesHeld, Connects, Quits, Truncates, Does, Works, Turn, AreTurns, state_after, stage_ends, steps_of, turns_entries}
@@ -68,11 +68,33 @@ added_none : (test : Verdict → Bool) (event last consumers thread : Option ℕ
 added_none test event last consumers thread (Counted row version) = refl
 added_none test event last consumers thread (Held row first second) = refl
 
+counted_none : (test : Verdict → Bool) (s : State) (slot : ℕ) (what : Open) (others : List Open) (numbers : Numbers) (calls : List Call) (entries : List Entry) (after : State) → EndsCounted s slot what others numbers calls entries after
+    → started test entries ≡ 0
+counted_none test s slot what others numbers calls entries after e =
+    ap (started test) e.entries_are ∙ added_none test (Some what.event.number) (Some s.drawn) (Some e.consumers.version) (Some e.thread.version) e.answer
+
+answer_none : (test : Verdict → Bool) (answer : Added) → started test (added_entry answer ∷ []) ≡ 0
+answer_none test (Counted row version) = refl
+answer_none test (Held row first second) = refl
+
+digest_none : (test : Verdict → Bool) (b : Bool) (s : State) (slot : ℕ) (what : Open) (numbers : Numbers) (calls : List Call) (entries : List Entry) (after : State) → DigestsIn b s slot what numbers calls entries after → started test entries ≡ 0
+digest_none test false s slot what numbers calls entries after d = ap (started test) d.entries_are
+digest_none test true s slot what numbers calls entries after d = ap (started test) d.entries_are ∙ answer_none test d.answer
+
+through_none : (test : Verdict → Bool) (s : State) (slot : ℕ) (what : Open) (others : List Open) (numbers : Numbers) (calls : List Call) (entries : List Entry) (after : State) → EndsThrough s slot what others numbers calls entries after
+    → started test entries ≡ 0
+through_none test s slot what others numbers calls entries after e =
+    let first = counted_none test s slot what others numbers e.counted_calls e.counted_entries e.between e.counts in
+    let second = digest_none test what.digested e.between slot what numbers e.digested_calls e.digested_entries after e.digests in
+    let both = started_then test e.counted_entries e.digested_entries in
+    let all = ap (started test) e.entries_are in
+    omega (arith, first, second, both, all)
+
 ends_none : (test : Verdict → Bool) (s after : State) (slot : Option ℕ) (through : Bool) (what : Open) (others : List Open) (numbers : Numbers) (calls : List Call) (entries : List Entry) → EndsIn s slot through what others numbers calls entries after
     → started test entries ≡ 0
 ends_none test s after slot false what others numbers calls entries e = ap (started test) e.entries_are
 ends_none test s after None true what others numbers calls entries e = absurd e
-ends_none test s after (Some n) true what others numbers calls entries e = ap (started test) e.entries_are ∙ added_none test (Some what.event.number) (Some s.drawn) (Some e.consumers.version) (Some e.thread.version) e.answer
+ends_none test s after (Some n) true what others numbers calls entries e = through_none test s n what others numbers calls entries after e
 
 works_none : (test : Verdict → Bool) (work : Work) (words : List Word) (head : Entry) (calls : List Call) (entries : List Entry) → is_plain head ≡ true → Works work words (head ∷ []) calls entries → started test entries ≡ 0
 works_none test work words head calls entries plain w =
@@ -140,12 +162,17 @@ along_length : (admin : Administration) (lines : List BlockLine) → length (dee
 along_length admin [] = refl
 along_length admin (line ∷ lines) = ap suc (along_length (admin_behind admin (errand_on line)) lines)
 
-pub block_few : (test : Verdict → Bool) (s : State) (parts : List Part) (admin : Administration) (number : ℕ) (names : Option Connect) (lines : List BlockLine) → AreParts s parts → deeds_in parts ≡ deeds_of admin number names lines → length lines ≤ 200000
-    → started test (joined (entries_of parts)) ≤ 200002
-block_few test s parts admin number names lines are deeds short =
+pub block_short : (parts : List Part) (admin : Administration) (number : ℕ) (names : Option Connect) (lines : List BlockLine) → deeds_in parts ≡ deeds_of admin number names lines → length lines ≤ 200000
+    → length parts ≤ 200002
+block_short parts admin number names lines deeds short =
     let count = ap length deeds in
     let rest : List Deed = deeds_along (connected_by admin number names) lines in
     let sum = length-append (connecting admin names) (rest ++ Closing ∷ []) in
     let more = length-append rest (Closing ∷ []) in
     let same = along_length (connected_by admin number names) lines in
-    omega (arith, count, sum, more, same, deeds_length parts, connect_few admin names, short, parts_few test s parts are)
+    omega (arith, count, sum, more, same, deeds_length parts, connect_few admin names, short)
+
+pub block_few : (test : Verdict → Bool) (s : State) (parts : List Part) (admin : Administration) (number : ℕ) (names : Option Connect) (lines : List BlockLine) → AreParts s parts → deeds_in parts ≡ deeds_of admin number names lines → length lines ≤ 200000
+    → started test (joined (entries_of parts)) ≤ 200002
+block_few test s parts admin number names lines are deeds short =
+    omega (arith, block_short parts admin number names lines deeds short, parts_few test s parts are)

@@ -9,15 +9,16 @@ use Rattle.pfs_blocks.proofs.Ending.{written_quit}
 use Rattle.pfs_blocks.proofs.WrittenKinds.{written_kinds}
 use Rattle.pfs_classes.specs.declared.setting.Setting.{Setting}
 use Rattle.pfs_course.specs.Ahead.{NoneIsOver, ahead_of, block_at, done_before}
-use Rattle.pfs_course.specs.Course.{IsCourse, PhasedBlock, behind_block}
+use Rattle.pfs_course.specs.Course.{IsCourse, PhasedBlock, behind_block, session_at}
 use Rattle.pfs_course.specs.Steps.{IsOneMore, spell_at}
 use Rattle.pfs_course.specs.Told.{AreTold}
 use Rattle.pfs_course.proofs.Ahead.{done_block}
 use Rattle.pfs_course.proofs.Telling.{told_more}
-use Rattle.pfs_ends.specs.Counts.{lost_statements, lost_waits}
+use Rattle.pfs_ends.specs.Counts.{lost_digests, lost_statements, lost_waits}
 use Rattle.pfs_ends.specs.Ends.{HasEnded}
 use Rattle.pfs_ends.specs.declared.counts.LostEvents.{LostEvents}
 use Rattle.pfs_ends.proofs.Counting.{statements_more, waits_more}
+use Rattle.pfs_ends.proofs.Unplaced.{digests_more}
 use Rattle.pfs_ends.proofs.Leading.{leads_more}
 use Rattle.pfs_ends.proofs.Meeting.{all_ended_more}
 use Rattle.pfs_event.specs.declared.kind.EventKind.{EventKind}
@@ -34,7 +35,7 @@ use Rattle.pfs_play.proofs.Writing.{kinds_then}
 use Rattle.pfs_playable.specs.Playable.{HasBody, end_of, kinds_before, kinds_left, lines_among}
 use Rattle.pfs_ruled.proofs.Quiet.{LeadAlike}
 use Rattle.pfs_ruled.specs.Ruled.{entries_of}
-use Rattle.pfs_runs.specs.Finals.{is_lost_nested, is_lost_locker, verdict_at}
+use Rattle.pfs_runs.specs.Finals.{is_digest_lost, is_lost_nested, is_lost_locker, verdict_at}
 use Rattle.pfs_runs.specs.Lines.{change_in}
 use Rattle.pfs_runs.specs.Runs.{AreFinal}
 use Rattle.pfs_script.specs.Events.{blocks_for, lines_for}
@@ -113,13 +114,13 @@ pub next_along : (setting : Setting) (phases before : List Phase) (first : List 
     → waiting.state ≡ paused.state → waiting.journal.entries ≡ [] → paused.state.held ≡ nothing_held
     → kinds_at paused.state ≡ kinds_after (kinds_at book.state) (written_out block.lines) → StagesLie (kinds_at paused.state) → paused.state.drawn ≤ book.state.drawn + length (written_out block.lines)
     → paused.state.opened.depth ≡ book.state.opened.depth → paused.state.actions ≤ book.state.actions + actions_on (written_out block.lines) + 2
-    → ((r : ℕ) → hand_new r ≡ hand_old r) → left_old ≤ left_new + (2 * length (written_out block.lines) + 20192 * actions_on (written_out block.lines) + 588) → words_new ≡ Some new_admin.words → new_admin.actions ≤ admin.actions + actions_on (written_out block.lines) + 2
+    → ((r : ℕ) → hand_new r ≡ hand_old r) → left_old ≤ left_new + (4 * length (written_out block.lines) + 20192 * actions_on (written_out block.lines) + 588) → words_new ≡ Some new_admin.words → new_admin.actions ≤ admin.actions + actions_on (written_out block.lines) + 2
     → new_seats ≡ slice_set (slice_set seats (block.session - 1) None) (block.session - 1) (Some waiting)
-    → new_lost.statements ≡ lost.statements + lost_statements paused.journal.entries → new_lost.waits ≡ lost.waits + lost_waits paused.journal.entries
+    → new_lost.digests ≡ lost.digests + lost_digests paused.journal.entries → new_lost.statements ≡ lost.statements + lost_statements paused.journal.entries → new_lost.waits ≡ lost.waits + lost_waits paused.journal.entries
     → report.session ≡ block.session → report.entries ≡ paused.journal.entries → report.answers ≡ [] → new_told ≡ told ++ report ∷ []
     → IsAlong setting phases before (first ++ block ∷ []) (ahead_of before others after) now hand_new left_new words_new new_admin new_seats new_lost ended new_told
 next_along setting phases before first block others after was now hand_old hand_new left_old left_new words_old words_new admin new_admin seats new_seats lost new_lost ended told new_told report book paused waiting
-    here along ready done same empty free kinds lie drawn depth actions hand left words counted seats_are statements waits reported entries answers told_is =
+    here along ready done same empty free kinds lie drawn depth actions hand left words counted seats_are digests statements waits reported entries answers told_is =
     let spells : List Spell = along.earlier ++ along.current in
     let spell : Spell = spell_at (block_at before block) done.doings in
     let all : spells ++ spell ∷ [] ≡ along.earlier ++ (along.current ++ spell ∷ []) = append_assoc along.earlier along.current (spell ∷ []) in
@@ -160,8 +161,10 @@ next_along setting phases before first block others after was now hand_old hand_
       acted = omega (arith, count, here.rare, counted, along.acted);
       wide = ap length seats_are ∙ (length-set (slice_set seats (block.session - 1) None) (block.session - 1) (Some waiting) ∙ (length-set seats (block.session - 1) None ∙ along.wide));
       seated = subst (λ (ss : List Spell). (session : ℕ) → 1 ≤ session → session ≤ 64 → Sits setting phases (done_before before (first ++ block ∷ [])) ss session (seat_of new_seats session)) all sits;
+      digests = subst (λ (ss : List Spell). new_lost.digests ≡ times is_digest_lost (entries_of ss)) all (digests_more spells spell (session_at setting (depth_of phases) spells block.session) paused.journal.entries lost.digests new_lost.digests done.are_parts done.entries along.digests digests);
       statements = subst (λ (ss : List Spell). new_lost.statements ≡ times is_lost_nested (each_of verdict_at (entries_of ss))) all (statements_more spells spell paused.journal.entries lost.statements new_lost.statements done.entries along.statements statements);
       waits = subst (λ (ss : List Spell). new_lost.waits ≡ times is_lost_locker (each_of verdict_at (entries_of ss))) all (waits_more spells spell paused.journal.entries lost.waits new_lost.waits done.entries along.waits waits);
+      few_digests = omega (arith, count, digests, done.digests, along.few_digests);
       few_statements = omega (arith, count, statements, done.statements, along.few_statements);
       few_waits = omega (arith, count, waits, done.waits, along.few_waits);
     }

@@ -2,6 +2,7 @@ pub mod At
 pub mod Beginning
 pub mod Ending
 pub mod FewLost
+pub mod FewDigests
 pub mod Going
 pub mod Here
 pub mod Lines

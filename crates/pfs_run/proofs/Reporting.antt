@@ -5,6 +5,7 @@ use Rattle.std.proofs.lemmas.List.Elements.{All-from_recursion, All-nil}
 use Rattle.pfs_admin.specs.Opening.{opening_flags}
 use Rattle.pfs_admin.specs.States.{State as Administration}
 use Rattle.pfs_alone.specs.Spells.{Spell}
+use Rattle.pfs_classes.specs.declared.setting.DigestText.{DigestText}
 use Rattle.pfs_classes.specs.declared.setting.Setting.{Setting}
 use Rattle.pfs_course.specs.Told.{AreTold, IsTold}
 use Rattle.pfs_ends.specs.declared.counts.LostEvents.{LostEvents}
@@ -50,5 +51,6 @@ blocks_good law setting phases before first after reached hand left words admin 
     (told_good (1 + length before) first a.current told a.blocks_told
     (each_behind IsAnswerless a.earlier a.current (law (opening_flags setting opening_objects) setting.limits.statement_stack (depth_of phases) (a.earlier ++ a.current) a.course.are_spells a.course.answer)))
 
-pub tables_good : TablesLaw → (setting : Setting) (tables : List TableReport) (was now : Opening → List Call → Type 0) → All IsText setting.names → AreTables setting tables was now → All IsTable tables
-tables_good law setting tables was now texts are = subst (All IsTable) (sym are.tables_are) (law setting are.reads texts are.order_is)
+pub tables_good : TablesLaw → (setting : Setting) (tables : List TableReport) (was now : Opening → List Call → Type 0) → All IsText setting.names
+    → All (λ (digest : DigestText). IsText digest.text) setting.digests → AreTables setting tables was now → All IsTable tables
+tables_good law setting tables was now names texts are = subst (All IsTable) (sym are.tables_are) (law setting are.reads names texts are.order_is)

@@ -14,7 +14,7 @@ use Rattle.pfs_course.specs.Steps.{IsOneMore, IsPlayed, spell_at}
 use Rattle.pfs_course.proofs.Ahead.{done_block}
 use Rattle.pfs_course.proofs.Changing.{own_more}
 use Rattle.pfs_course.proofs.More.{one_more}
-use Rattle.pfs_ends.specs.Counts.{lost_statements, lost_waits}
+use Rattle.pfs_ends.specs.Counts.{lost_digests, lost_statements, lost_waits}
 use Rattle.pfs_event.specs.declared.entry.Entry.{Entry}
 use Rattle.pfs_facts.specs.Steps.{kinds_at}
 use Rattle.pfs_levels.specs.Calls.{Call, Opening}
@@ -34,6 +34,7 @@ use Rattle.pfs_script.specs.declared.blocks.BlockLine.{BlockLine}
 use Rattle.pfs_script.specs.declared.blocks.Phase.{Phase}
 use Rattle.pfs_session.specs.States.{State, Book, nothing_held}
 use Rattle.pfs_run.specs.Along.{IsWaiting, Sits, depth_of, lines_at}
+use Rattle.pfs_run.proofs.FewDigests.{block_digests}
 use Rattle.pfs_run.proofs.FewLost.{block_few}
 use Rattle.pfs_run.proofs.Here.{IsHere}
 use Rattle.pfs_run.proofs.Ready.{IsReady}
@@ -48,6 +49,8 @@ pub record IsDone (setting : Setting) (phases before : List Phase) (first : List
   pub entries : paused.journal.entries ≡ joined (entries_of (parts_in doings))
   pub led : now start (doings_calls doings ++ calls)
   pub ahead : NoneIsOver (spells ++ spell_at (block_at before block) doings ∷ []) (ahead_of before others after)
+  pub are_parts : AreParts (session_at setting (depth_of phases) spells block.session) (parts_in doings)
+  pub digests : lost_digests paused.journal.entries ≤ 1200012
   pub statements : lost_statements paused.journal.entries ≤ 200002
   pub waits : lost_waits paused.journal.entries ≤ 200002
 
@@ -88,6 +91,8 @@ is_done setting phases before first block others after spells admin new_admin bo
       entries = text ∙ ap (λ (z : List Part). joined (entries_of z)) (sym parts);
       led = way.reached;
       ahead = here.reached.ahead setting (depth_of phases) spells admin doings none done more;
+      are_parts = done.are_parts;
+      digests = subst (λ (es : List Entry). lost_digests es ≤ 1200012) (sym text) (block_digests at ps admin number block.connect (written_out block.lines) are deeds short);
       statements = subst (λ (es : List Entry). lost_statements es ≤ 200002) (sym text) (block_few _ at ps admin number block.connect (written_out block.lines) are deeds short);
       waits = subst (λ (es : List Entry). lost_waits es ≤ 200002) (sym text) (block_few _ at ps admin number block.connect (written_out block.lines) are deeds short);
     }

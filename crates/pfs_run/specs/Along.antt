@@ -24,7 +24,7 @@ use Rattle.pfs_playable.specs.Playable.{kinds_left, lines_among}
 use Rattle.pfs_rows.specs.Limits.{AreInRange}
 use Rattle.pfs_ruled.proofs.Quiet.{LeadAlike}
 use Rattle.pfs_ruled.specs.Ruled.{entries_of}
-use Rattle.pfs_runs.specs.Finals.{is_lost_nested, is_lost_locker, verdict_at}
+use Rattle.pfs_runs.specs.Finals.{is_digest_lost, is_lost_nested, is_lost_locker, verdict_at}
 use Rattle.pfs_runs.specs.Lines.{change_in}
 use Rattle.pfs_runs.specs.Runs.{AreFinal}
 use Rattle.pfs_script.specs.Events.{blocks_for}
@@ -103,7 +103,9 @@ pub record IsAlong (setting : Setting) (phases before : List Phase) (first : Lis
   pub wide : length seats ≡ 64
   pub seated : (session : ℕ) → 1 ≤ session → session ≤ 64
       → Sits setting phases (done_before before first) (earlier ++ current) session (seat_of seats session)
+  pub digests : lost.digests ≡ times is_digest_lost (entries_of (earlier ++ current))
   pub statements : lost.statements ≡ times is_lost_nested (each_of verdict_at (entries_of (earlier ++ current)))
   pub waits : lost.waits ≡ times is_lost_locker (each_of verdict_at (entries_of (earlier ++ current)))
+  pub few_digests : lost.digests ≤ 1200012 * length (done_before before first)
   pub few_statements : lost.statements ≤ 200002 * length (done_before before first)
   pub few_waits : lost.waits ≤ 200002 * length (done_before before first)

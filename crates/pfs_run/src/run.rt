@@ -67,6 +67,7 @@ fn run_phase(
         runner.new.seats.items runner.new.lost runner.new.phases.items runner.new.blocks.items) }
 {
     pfs_reportable::laws::names();
+    pfs_reportable::laws::texts();
     for block in phase.blocks.as_slice() {
         match runner.play(setting, phases, block) {
             Ok(()) => {}

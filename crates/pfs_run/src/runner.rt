@@ -115,6 +115,7 @@ impl Runner {
     /// Ends the phase that stands behind those that ended: reads its tables and counters, and reports it.
     pub fn end_phase(&mut self, setting: &Setting) -> Result<(), NoMemory>
         requires named { All IsText setting.now.names }
+        requires texts { All (λ digest. IsText digest.text) setting.now.digests }
         requires here { (phases : List SaidPhase) × (before : List SaidPhase) × (first : List Said)
             × (after : List SaidPhase) × IsAlong setting.now phases before first (ahead_of before [] after)
             (⟦<PlainRows as Rows>⟧.reached self.old.rows) (⟦<PlainRows as Rows>⟧.hand self.old.rows)
@@ -148,13 +149,13 @@ impl Runner {
         Ok(())
     }
 
-    // What was lost so far. No digest is counted yet.
+    // What was lost so far.
     fn counters(&self) -> LostCounters
         ensures threads { result.threads ≡ self.now.admin.kept.now.lost_threads }
         ensures accounts { result.accounts ≡ self.now.admin.kept.now.lost_accounts }
         ensures users { result.users ≡ self.now.admin.kept.now.lost_users }
         ensures hosts { result.hosts ≡ self.now.admin.kept.now.lost_hosts }
-        ensures digests { result.digests ≡ 0 }
+        ensures digests { result.digests ≡ self.now.lost.digests }
         ensures statements { result.statements ≡ self.now.lost.statements }
         ensures waits { result.waits ≡ self.now.lost.waits }
     {
@@ -164,7 +165,7 @@ impl Runner {
             accounts: lost.accounts,
             users: lost.users,
             hosts: lost.hosts,
-            digests: 0,
+            digests: self.lost.digests,
             statements: self.lost.statements,
             waits: self.lost.waits,
         }

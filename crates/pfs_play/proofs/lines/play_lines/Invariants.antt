@@ -19,7 +19,7 @@ invariant-loop-line g l = record {
   wide : length l.session.state.held ≡ 193;
   depth : l.session.state.opened.depth ≡ l.fn.session.state.opened.depth;
   hand : (r : ℕ) → g.A.Rows.hand l.rows r ≡ g.A.Rows.hand l.fn.rows r;
-  left : g.A.Rows.left l.fn.rows + 20192 * actions_on (drop l.line-index l.lines) ≤ g.A.Rows.left l.rows + (2 * l.line-index + 20192 * actions_on l.lines);
+  left : g.A.Rows.left l.fn.rows + 20192 * actions_on (drop l.line-index l.lines) ≤ g.A.Rows.left l.rows + (4 * l.line-index + 20192 * actions_on l.lines);
   draws : g.A.Rows.draws l.rows ≡ g.A.Rows.draws l.fn.rows;
   name : g.A.Rows.name l.rows ≡ g.A.Rows.name l.fn.rows;
   lent : g.A.Rows.words l.rows ≡ Some l.admin.words;

@@ -18,7 +18,7 @@ invariant-loop-round g l = record {
   wide : length l.session.state.held ≡ 193;
   depth : l.session.state.opened.depth ≡ l.fn.session.state.opened.depth;
   hand : (r : ℕ) → g.A.Rows.hand l.rows r ≡ g.A.Rows.hand l.fn.rows r;
-  left : g.A.Rows.left l.fn.rows ≤ g.A.Rows.left l.rows + (2 * (l.round * length l.body) + 20192 * (l.round * actions_on l.body));
+  left : g.A.Rows.left l.fn.rows ≤ g.A.Rows.left l.rows + (4 * (l.round * length l.body) + 20192 * (l.round * actions_on l.body));
   draws : g.A.Rows.draws l.rows ≡ g.A.Rows.draws l.fn.rows;
   name : g.A.Rows.name l.rows ≡ g.A.Rows.name l.fn.rows;
   lent : g.A.Rows.words l.rows ≡ Some l.admin.words;

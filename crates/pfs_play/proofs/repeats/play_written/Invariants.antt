@@ -20,7 +20,7 @@ invariant-loop-at g l = record {
   wide : length l.session.state.held ≡ 193;
   depth : l.session.state.opened.depth ≡ l.fn.session.state.opened.depth;
   hand : (r : ℕ) → g.A.Rows.hand l.rows r ≡ g.A.Rows.hand l.fn.rows r;
-  left : g.A.Rows.left l.fn.rows ≤ g.A.Rows.left l.rows + (2 * (length (written_out l.lines) - length (written_out (drop l.at l.lines))) + 20192 * (actions_on (written_out l.lines) - actions_on (written_out (drop l.at l.lines))));
+  left : g.A.Rows.left l.fn.rows ≤ g.A.Rows.left l.rows + (4 * (length (written_out l.lines) - length (written_out (drop l.at l.lines))) + 20192 * (actions_on (written_out l.lines) - actions_on (written_out (drop l.at l.lines))));
   draws : g.A.Rows.draws l.rows ≡ g.A.Rows.draws l.fn.rows;
   name : g.A.Rows.name l.rows ≡ g.A.Rows.name l.fn.rows;
   lent : g.A.Rows.words l.rows ≡ Some l.admin.words;

@@ -45,6 +45,7 @@ end_phase-requires c =
     let p = past c.as_slice-block-items.result.now phase.blocks i c.as_slice-block-items.ensures c.loop-block-test.false in
     record {
       named = c.names.ensures Whole c.requires.script.0 c.args.setting.now c.args.phases.now c.requires.script.1;
+      texts = c.texts.ensures Whole c.requires.script.0 c.args.setting.now c.args.phases.now c.requires.script.1;
       here = (
         c.args.phases.now,
         h.0,

@@ -15,7 +15,7 @@ new-report-requires c =
     let told = c.new.ensures ∙ ap (λ z. z.items) c.replace-blocks.ensures.value in
     record {
       blocks = subst (All IsBlock) (sym told) (blocks_good c.blocks-2.ensures c.args.setting.now h.0 h.1 h.2 h.3 _ _ _ _ _ _ _ _ _ h.4);
-      tables = tables_good c.tables.ensures c.args.setting.now c.in_ok-tables.tables _ _ c.requires.named c.in_ok-tables.ensures.tables;
+      tables = tables_good c.tables.ensures c.args.setting.now c.in_ok-tables.tables _ _ c.requires.named c.requires.texts c.in_ok-tables.ensures.tables;
       lost = c.in_ok-lost.ensures.good;
     }
 
@@ -42,7 +42,7 @@ returns c =
       waits = c.counters.ensures.waits;
       good = record {
         blocks = subst (All IsBlock) (sym told) (blocks_good c.blocks-2.ensures c.args.setting.now phases before first after _ _ _ _ _ _ _ _ _ a);
-        tables = tables_good c.tables.ensures c.args.setting.now c.in_ok-tables.tables _ _ c.requires.named c.in_ok-tables.ensures.tables;
+        tables = tables_good c.tables.ensures c.args.setting.now c.in_ok-tables.tables _ _ c.requires.named c.requires.texts c.in_ok-tables.ensures.tables;
         lost = c.in_ok-lost.ensures.good;
       };
       lost_are = c.in_ok-lost.ensures.rows;

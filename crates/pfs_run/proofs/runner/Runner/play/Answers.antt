@@ -1,7 +1,7 @@
 use Rattle.std.proofs.Common.{◌≡◌, ◌≤◌, ◌+◌, ◌-◌, ◌++◌, List, Option, Some, IfSome, slice_set, length, ap, refl, sym, ◌∙◌, subst, arith}
 use Rattle.pfs_blocks.specs.Played.{MayConnect, MayEnd}
 use Rattle.pfs_event.specs.declared.entry.Entry.{Entry}
-use Rattle.pfs_ends.specs.Counts.{lost_statements, lost_waits}
+use Rattle.pfs_ends.specs.Counts.{lost_digests, lost_statements, lost_waits}
 use Rattle.pfs_facts.specs.Steps.{kinds_at}
 use Rattle.pfs_journal.specs.declared.blocks.BlockReport.{BlockReport}
 use Rattle.pfs_levels.specs.Journal.{Journal}
@@ -9,7 +9,7 @@ use Rattle.pfs_play.specs.Errands.{StagesLie, actions_on}
 use Rattle.pfs_script.specs.Marks.{written_out}
 use Rattle.pfs_script.specs.declared.blocks.BlockLine.{BlockLine}
 use Rattle.pfs_session.specs.States.{State, Book}
-use Rattle.pfs_run.proofs.At.{ready_at, slots_at, spare_at, actions_at, statements_at, waits_at}
+use Rattle.pfs_run.proofs.At.{ready_at, slots_at, spare_at, actions_at, digests_at, statements_at, waits_at}
 use Rattle.pfs_run.proofs.Going.{next_along}
 use Rattle.pfs_run.proofs.Here.{is_here}
 use Rattle.pfs_run.proofs.Ready.{ready_same}
@@ -112,6 +112,12 @@ keep_seat-requires-clause-high c =
     let here = is_here c.playable.ensures c.few.ensures c.named.ensures c.actions.ensures c.requires.script.0 c.args.setting.now c.args.phases.now h.0 h.1 c.args.block.now h.2 h.3 c.requires.script.1 h.4 in
     here.playable.high
 
+pub count_lost-self-requires-clause-digests : goal.count_lost-self-requires-clause-digests
+count_lost-self-requires-clause-digests c =
+    let h = c.requires.here in
+    let here = is_here c.playable.ensures c.few.ensures c.named.ensures c.actions.ensures c.requires.script.0 c.args.setting.now c.args.phases.now h.0 h.1 c.args.block.now h.2 h.3 c.requires.script.1 h.4 in
+    digests_at c.args.setting.now c.args.phases.now h.0 h.1 c.args.block.now h.2 h.3 _ _ _ _ c.args.self.now.admin c.args.self.now.seats.items c.args.self.now.lost _ _ h.5 here (length c.as_slice-2.result.now) (omega (arith, c.as_slice-2.ensures.len))
+
 pub count_lost-self-requires-clause-statements : goal.count_lost-self-requires-clause-statements
 count_lost-self-requires-clause-statements c =
     let h = c.requires.here in
@@ -140,5 +146,6 @@ returns c before first others after is along =
     (ap (λ (b : Book). b.state) c.take_log.ensures.rest) (ap (λ (b : Book). b.journal.entries) c.take_log.ensures.rest) c.play_block-paused.ensures.free c.play_block-paused.ensures.kinds c.play_block-paused.ensures.lie c.play_block-paused.ensures.drawn
     c.play_block-paused.ensures.depth c.play_block-paused.ensures.actions c.play_block-paused.ensures.leaves.hand c.play_block-paused.ensures.leaves.left c.play_block-paused.ensures.lent c.play_block-paused.ensures.counted
     (c.keep_seat.ensures ∙ ap (λ (z : List (Option Book)). slice_set z (c.args.block.now.session - 1) (Some c.take_log.new.self)) c.in_ok-session.ensures.seats)
+    (c.count_lost-self.ensures.digests ∙ ap (λ (es : List Entry). c.args.self.now.lost.digests + lost_digests es) text)
     (c.count_lost-self.ensures.statements ∙ ap (λ (es : List Entry). c.args.self.now.lost.statements + lost_statements es) text) (c.count_lost-self.ensures.waits ∙ ap (λ (es : List Entry). c.args.self.now.lost.waits + lost_waits es) text)
     refl (c.new.ensures ∙ (sym c.as_slice-2.ensures.value ∙ text)) (c.new-3.ensures ∙ c.new-2.ensures.items) c.in_ok-push.ensures.items
