@@ -1,5 +1,5 @@
 -- What counts by conservation's numbers of events is what counts by the journals.
-use Rattle.std.proofs.Common.{◌≡◌, refl, ℕ, ◌<◌, ◌≤◌, ◌==◌, ◌&&◌, not, inl, inr, Bool, true, false, List, [], ◌∷◌, length, Option, Some, None, IfSome, is_some, count_by, sym, ap, subst, ◌∙◌, arith}
+use Rattle.std.proofs.Common.{◌≡◌, refl, ℕ, ◌<◌, ◌≤◌, ◌==◌, ◌&&◌, not, Bool, true, false, List, [], ◌∷◌, length, Option, Some, None, IfSome, is_some, count_by, sym, ap, subst, ◌∙◌, arith}
 use Rattle.std.specs.Prelude.{nat_le}
 use Rattle.pfs_conservation.specs.Administration.{Action, line_of, numbered, state_before}
 use Rattle.pfs_conservation.specs.Chains.{Taken}
@@ -25,7 +25,7 @@ use Rattle.pfs_rows.specs.Tables.{kind_number}
 use Rattle.pfs_rows.specs.declared.table.TableKind.{TableKind}
 use Rattle.pfs_runs.specs.Rules.{slot_in}
 use Rattle.pfs_stat.specs.Stat.{zero_of, stat_of}
-use Rattle.pfs_tagged.proofs.Acted.{each_chosen, each_map}
+use Rattle.pfs_tagged.proofs.Rowed.{each_chosen, each_map}
 use Rattle.pfs_tagged.proofs.AddedCounts.{numbers_count, each_among}
 use Rattle.pfs_tagged.proofs.AddedRows.{AreNone, IsLowEnded, home_kind, home_is}
 use Rattle.pfs_tagged.proofs.AddedRun.{run_once, run_ended_low}
@@ -45,7 +45,7 @@ use Rattle.pfs_counted.specs.Counted.{past_to}
 use Rattle.pfs_counted.specs.Counts.{own_slot, own_row, removal_in, leads_to, stays_in, counts_at, counted_at}
 use Rattle.pfs_counted.specs.Laws.{AgreedLaw}
 use Rattle.pfs_counted.proofs.Covered.{counts_stays, some_here, takes_it, leads_same}
-use Rattle.pfs_counted.proofs.Numbered.{IsSame, each_self, found_self, merged_same}
+use Rattle.pfs_counted.proofs.Numbered.{IsSame, some_times, each_self, found_self, merged_same}
 use Rattle.pfs_counted.proofs.Removed.{removed, removal_stands}
 use Rattle.pfs_counted.proofs.Takings.{kept_on}
 
@@ -97,18 +97,11 @@ module _ (back : AreBack) (found : AreFound) (none : AreNone) (run : Run) (kind 
     passes : is_cell one.event.subject.cell ≡ true → is_kind_row is_cell (own_row one) ≡ true
     passes q = home_kind back is_cell one low_one ∙ q
 
-    some_times : (test : Ended → Bool) (xs : List Ended) → IsAmong one xs → test one ≡ true → 1 ≤ times (λ o. is_number (number_of one) o && test o) xs
-    some_times test [] m q = absurd m
-    some_times test (x ∷ xs) (inl e) q = omega (arith, bit_yes (is_number (number_of one) x && test x) (ap (λ (y : Ended). is_number (number_of one) y && test y) e ∙ both (number_of one) (test one) q)) where
-      both : (n : ℕ) (b : Bool) → b ≡ true → ((n == n) && b) ≡ true
-      both n b q = grind (arith, q)
-    some_times test (x ∷ xs) (inr m) q = let l : 1 ≤ times (λ o. is_number (number_of one) o && test o) xs = some_times test xs m q in omega (arith, l)
-
     added_once : counts_in is_cell one ≡ true → times_added (number_of one) (lines_to run kind phase) (own_row one) ≡ 1
     added_once q =
         added.counted (number_of one)
         (let c : count_by (λ y. number_of one == y) (events_to run kind phase) ≡ times (λ o. is_number (number_of one) o && counts_in is_cell o) ends = numbers_count (number_of one) (counts_in is_cell) ends in
-        let l : 1 ≤ times (λ o. is_number (number_of one) o && counts_in is_cell o) ends = some_times (counts_in is_cell) ends among q in
+        let l : 1 ≤ times (λ o. is_number (number_of one) o && counts_in is_cell o) ends = some_times one (counts_in is_cell) ends among q in
         omega (arith, c, l)) (own_row one)
         ∙ bit_yes (own_row one == home_at (rows_by run kind) (whose_to run phase (number_of one))) (eq_true (own_row one) (home_at (rows_by run kind) (whose_to run phase (number_of one))) (sym home)) where
           eq_true : (a b : ℕ) → a ≡ b → (a == b) ≡ true

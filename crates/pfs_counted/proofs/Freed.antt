@@ -1,4 +1,4 @@
--- Rows of cells are never FREE: nothing but info rows is released.
+-- Rows of cells and of digests are never FREE: nothing but info rows is released.
 use Rattle.std.proofs.Common.{◌⊎◌, inl, inr, ◌≡◌, ℕ, ◌+◌, ◌-◌, ◌<◌, ◌≤◌, ◌==◌, ◌&&◌, Bool, true, false, cond, nat_lt, nat_le, List, [], ◌∷◌, ◌++◌, length, map, take, Option, Some, None, refl, sym, ap, subst, ◌∙◌, arith, append-nil}
 use Rattle.std.specs.Prelude.{IfSome, ◌||◌}
 use Rattle.pfs_admin.specs.Asks.{account_tag, user_tag, host_tag, upper_tags, tag_of, connect_work, quit_work}
@@ -205,7 +205,7 @@ chosen_among phase p (x ∷ ps) m = at (nat_le x.phase phase) m (λ k. chosen_am
   at true (inr k) go = inr (go k)
   at false k go = inr (go k)
 
-pub never_free : (run : Run) (phase : ℕ) → AreKept run → (row : ℕ) → 129 ≤ row → row < 8385 → is_free_after (entries_to run phase) row ≡ false
+pub never_free : (run : Run) (phase : ℕ) → AreKept run → (row : ℕ) → 129 ≤ row → row < 8450 → is_free_after (entries_to run phase) row ≡ false
 never_free run phase kept row low high =
     ap (λ n. nat_lt 0 n || ((times (is_of row) (each_of row_change (entries_to run phase)) == 0) && opens_free row))
     (none_released row (times (is_of row) (each_of row_change (entries_to run phase))) (entries_to run phase) low (each_low (entries_to run phase) (places run.blocks) (λ p m. chosen_among phase p (places run.blocks) m) (low_frees run kept)))
@@ -214,5 +214,5 @@ never_free run phase kept row low high =
       off true b q = q
       off false b q = refl
 
-      closed : (row : ℕ) → 129 ≤ row → row < 8385 → opens_free row ≡ false
+      closed : (row : ℕ) → 129 ≤ row → row < 8450 → opens_free row ≡ false
       closed row l h = grind (arith, l, h)

@@ -18,7 +18,15 @@ pub mod Covered
 pub mod Numbered
 pub mod Agreed
 pub mod Runs
+pub mod Digested
+pub mod DigestTable
+pub mod DigestRuns
+pub mod Lined
+pub mod Unplaced
+pub mod LostDigests
 pub mod Extremes
 pub mod Numbers
+pub mod DigestNumbers
 pub mod Worked
 pub mod WorkedCounts
+pub mod WorkedDigests

@@ -40,7 +40,7 @@ Keyed = RowKey × List RowValue
 
 -- ---- a row shows how much it has counted
 
-count_first : (numbers : Numbers) → (rest : List RowValue) × (values_of numbers ≡ Number (count_of numbers) ∷ rest)
+pub count_first : (numbers : Numbers) → (rest : List RowValue) × (values_of numbers ≡ Number (count_of numbers) ∷ rest)
 unfolding values_of times_of sums_of
 count_first (Times stat) = (_, refl)
 count_first (Statements stat) = (_, refl)

@@ -107,6 +107,7 @@ truncation_named count (truncates.Summary kind table) = tt
 truncation_named count truncates.Accounts = tt
 truncation_named count truncates.Users = tt
 truncation_named count truncates.Hosts = tt
+truncation_named count truncates.DigestSummary = tt
 truncation_named count truncates.SetupActors = tt
 truncation_named count truncates.SetupObjects = tt
 

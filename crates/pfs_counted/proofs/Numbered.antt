@@ -2,11 +2,11 @@
 use Rattle.std.proofs.Common.{◌≡◌, refl, ℕ, ◌+◌, ◌≤◌, ◌==◌, ◌&&◌, inl, inr, Bool, true, false, cond, List, [], ◌∷◌, map, filter, fold, Some, sym, ap, ◌∙◌, arith}
 use Rattle.pfs_conservation.specs.Chains.{Sums, with_event}
 use Rattle.pfs_model.specs.Actions.{IsAmong}
-use Rattle.pfs_model.specs.Chains.{Each}
+use Rattle.pfs_model.specs.Chains.{Each, times}
 use Rattle.pfs_stat.specs.Stat.{merge_of}
 use Rattle.pfs_stat.specs.declared.Stat.{Stat}
 use Rattle.pfs_tagged.specs.Ends.{Ended, number_of, of_number}
-use Rattle.pfs_tagged.proofs.Indexing.{times_ended}
+use Rattle.pfs_tagged.proofs.Indexing.{is_number, times_ended}
 use Rattle.pfs_tagged.proofs.Sifting.{bit_yes}
 
 self : (n : ℕ) → (n == n) ≡ true
@@ -25,6 +25,14 @@ found_self one (x ∷ xs) (inr m) few = at (number_of x == number_of one) refl f
   at : (b : Bool) → (number_of x == number_of one) ≡ b → cond {A = ℕ} b 1 0 + times_ended (number_of one) xs ≤ 1 → (times_ended (number_of one) xs ≤ 1 → of_number (number_of one) xs ≡ Some one) → cond b (Some x) (of_number (number_of one) xs) ≡ Some one
   at true q few go = absurd (let l : 1 ≤ times_ended (number_of one) xs = among_times one xs m in omega (arith, l, few))
   at false q few go = go (omega (arith, few))
+
+-- an event that passes is one of its number that does
+pub some_times : (one : Ended) (test : Ended → Bool) (xs : List Ended) → IsAmong one xs → test one ≡ true → 1 ≤ times (λ o. is_number (number_of one) o && test o) xs
+some_times one test [] m q = absurd m
+some_times one test (x ∷ xs) (inl e) q = omega (arith, bit_yes (is_number (number_of one) x && test x) (ap (λ (y : Ended). is_number (number_of one) y && test y) e ∙ both (number_of one) (test one) q)) where
+  both : (n : ℕ) (b : Bool) → b ≡ true → ((n == n) && b) ≡ true
+  both n b q = grind (arith, q)
+some_times one test (x ∷ xs) (inr m) q = let l : 1 ≤ times (λ o. is_number (number_of one) o && test o) xs = some_times one test xs m q in omega (arith, l)
 
 pub each_self : (P : Ended → Type 0) (xs : List Ended) → ((one : Ended) → IsAmong one xs → P one) → Each P xs
 each_self P [] h = tt

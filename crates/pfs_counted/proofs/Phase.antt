@@ -5,7 +5,6 @@ use Rattle.std.specs.List.Sorted.{IsStrictlySortedBy}
 use Rattle.std.specs.Map.{keys_of}
 use Rattle.std.specs.Option.{option_map}
 use Rattle.std.proofs.lemmas.List.{take_all}
-use Rattle.std.proofs.lemmas.List.Elements.{All-contains, All-weaker}
 use Rattle.pfs_admin.specs.Fold.{state_of}
 use Rattle.pfs_board.specs.declared.view.Label.{Label}
 use Rattle.pfs_classes.specs.declared.setting.Setting.{Setting}
@@ -23,16 +22,12 @@ use Rattle.pfs_finals.specs.Finals.{is_shown}
 use Rattle.pfs_journal.specs.declared.report.PhaseParts.{PhaseParts}
 use Rattle.pfs_model.specs.Chains.{is_free_after}
 use Rattle.pfs_readsets.specs.Places.{scope_of, has_cell}
-use Rattle.pfs_readsets.specs.ReadSets.{IsReadSet, target_of}
-use Rattle.pfs_readsets.specs.declared.target.Target.{Target}
-use Rattle.pfs_readsets.specs.declared.target.Target.TheVariants.{Row, Word}
 use Rattle.pfs_rows.specs.Tables.{table_name}
 use Rattle.pfs_rows.specs.declared.table.Seen.TheVariants.{Whole, Free}
 use Rattle.pfs_rows.specs.declared.table.SummaryTable.{SummaryTable}
-use Rattle.pfs_rows.specs.declared.table.Table.{Table}
 use Rattle.pfs_rows.specs.declared.table.Table.TheVariants.{Summary}
 use Rattle.pfs_rows.specs.declared.table.TableKind.{TableKind}
-use Rattle.pfs_runs.specs.Finals.{IsRead, IsFinal, containers_behind, shown_row, reading_of, row_version, word_version}
+use Rattle.pfs_runs.specs.Finals.{IsFinal, containers_behind, shown_row, row_version, word_version}
 use Rattle.pfs_runs.specs.Rules.{slot_in}
 use Rattle.pfs_stat.specs.Stat.{zero_of, merge_of, merge_all, stat_of_words}
 use Rattle.pfs_stat.specs.declared.Stat.{Stat}
@@ -57,8 +52,8 @@ use Rattle.pfs_counted.specs.Named.{rows_named}
 use Rattle.pfs_counted.specs.Summed.{AreSummed}
 use Rattle.pfs_counted.proofs.Keyed.{rows_at}
 use Rattle.pfs_counted.proofs.Listed.{summed}
-use Rattle.pfs_counted.proofs.Read.{IsShown, shows}
-use Rattle.pfs_counted.proofs.Reported.{IsSummaryRead, summary_read, rows_shown}
+use Rattle.pfs_counted.proofs.Read.{IsShown}
+use Rattle.pfs_counted.proofs.Reported.{IsTableRead, AreApartNamed, summary_read, read_shows, rows_shown}
 use Rattle.pfs_counted.proofs.Standing.{AreNamed, AreSettled, never_hidden, none_stands, placed}
 use Rattle.pfs_counted.proofs.Told.{AreBack, ArePlaces, AreTold}
 
@@ -80,7 +75,7 @@ opened_apart setting = record {
 }
 
 module _ (run : Run) (kept : AreKept run) (orderly : IsOrderly run) (in_range : AreInRange run.facts) (few : (kind : TableKind) (phase : ℕ) → length (events_to run kind phase) < 2 ^ 64) (sums : SummedLaw)
-    (back : AreBack) (places : ArePlaces) (listed : AreListed) (differ : (a b : Table) → table_name a ≡ table_name b → a ≡ b) (phase : ℕ)
+    (back : AreBack) (places : ArePlaces) (listed : AreListed) (differ : AreApartNamed) (phase : ℕ)
     (agreed : (kind : TableKind) (key : Key) → IsKeyOf run key → (cell : ℕ) → cells_of run.setting kind cell ≡ true → counted_to run kind phase key (cell ∷ []) ≡ counted_at (past_to run phase) kind key cell)
     (told : AreTold (shown_row run.content (entries_to run phase)) (containers_behind run.setting run.change run.labels (entries_to run phase)))
     (whole : (row : ℕ) → 129 ≤ row → row < 8385 → is_free_after (entries_to run phase) row ≡ false) (named : AreNamed (length run.setting.names) (places_behind run.setting (actions_to run phase)))
@@ -144,29 +139,15 @@ module _ (run : Run) (kept : AreKept run) (orderly : IsOrderly run) (in_range : 
   -- under the phase's end
   pub counted : (flags : ℕ → ℕ → ℕ) (report : PhaseParts) → report.number ≡ phase → IsFinal run.setting run.change run.labels run.content flags (entries_to run phase) report → AreCounted run report
   counted flags report number final kind which = on (summary_read differ run.setting kind which final.reads final.order) where
-    versions : ℕ → ℕ
-    versions word = word_version (entries_to run phase) word
-
-    on : IsSummaryRead run.setting kind which final.reads → AreSummed run.setting kind which (IsKeyOf run) (counted_at (past_to run report.number) kind) (rows_named (table_name (Summary kind which)) report.tables)
+    on : IsTableRead run.setting (Summary kind which) final.reads → AreSummed run.setting kind which (IsKeyOf run) (counted_at (past_to run report.number) kind) (rows_named (table_name (Summary kind which)) report.tables)
     on r =
         subst (λ n. AreSummed run.setting kind which (IsKeyOf run) (counted_at (past_to run n) kind) (rows_named (table_name (Summary kind which)) report.tables)) (sym number)
         (subst (AreSummed run.setting kind which (IsKeyOf run) (counted_at (past_to run phase) kind)) (sym rows_are)
         (summed run.setting kind which (IsKeyOf run) (counted_at (past_to run phase) kind) containers.places (infos_of r.read.readings) (tally_of which (infos_of r.read.readings) r.read.readings)
         (placed back places (shown_row run.content (entries_to run phase)) (word_version (entries_to run phase)) (λ word. flags word (word_version (entries_to run phase) word)) run.setting kind r.read.readings containers told (IsKeyOf run) settled never_busy (stands_to run phase) seen_whole (counted_at (past_to run phase) kind) (merged kind) which shown)
         (listed.given run.setting kind which (infos_of r.read.readings) (tally_of which (infos_of r.read.readings) r.read.readings)) (listed.ascending run.setting kind which (infos_of r.read.readings) (tally_of which (infos_of r.read.readings) r.read.readings)))) where
-          is_read : IsRead run.setting run.content flags (entries_to run phase) r.read
-          is_read = All-contains (IsRead run.setting run.content flags (entries_to run phase)) final.reads r.read final.each r.among
-
-          same : (t : Target) → reading_of run.content flags (entries_to run phase) t ≡ shows (shown_row run.content (entries_to run phase)) (word_version (entries_to run phase)) (λ word. flags word (word_version (entries_to run phase) word)) t
-          same (Row row) = refl
-          same (Word word) = refl
-
           shown : IsShown (shown_row run.content (entries_to run phase)) (word_version (entries_to run phase)) (λ word. flags word (word_version (entries_to run phase) word)) (scope_of run.setting) (Summary kind which) r.read.readings
-          shown = record {
-            whole = subst (λ t. IsReadSet (scope_of run.setting) t r.read.readings) r.table is_read.whole;
-            shown = All-weaker (λ reading. reading ≡ reading_of run.content flags (entries_to run phase) (target_of reading)) (λ reading. reading ≡ shows (shown_row run.content (entries_to run phase)) (word_version (entries_to run phase)) (λ word. flags word (word_version (entries_to run phase) word)) (target_of reading))
-                (λ reading e. e ∙ same (target_of reading)) r.read.readings is_read.shown;
-          }
+          shown = read_shows run phase flags (Summary kind which) final.reads final.each r
 
           rows_are : rows_named (table_name (Summary kind which)) report.tables
               ≡ filter (is_shown (Summary kind which)) (map (λ (row : RowKey × List RowValue). row.1) (ordered_rows run.setting kind which (infos_of r.read.readings) (tally_of which (infos_of r.read.readings) r.read.readings)))

@@ -91,13 +91,19 @@ some_added n row (line ∷ lines) l = at (line.row == row) refl line.kind refl l
   at true q (Gives from) k l go = later (go (omega (arith, l)))
   at false q kind k l go = later (go (omega (arith, l)))
 
+-- rows of lines of which some add an event are of those that the lines were chosen by
+pub added_passes : (test : ℕ → Bool) (n row : ℕ) (lines : List Tagged) → 1 ≤ times_added n (lines_on test lines) row → test row ≡ true
+added_passes test n row lines l = on (some_added n row (lines_on test lines) l) where
+  on : IsAdded n row (lines_on test lines) → test row ≡ true
+  on a = (sifted test lines row a.version (Added a.events) a.stands).0
+
 -- ---- the additions of an event
 
 module _ (row session index : ℕ) where
   abbrev number : ℕ
   number = event_number session index
 
-  abbrev is_own : Addition → Bool
+  abbrev pub is_own : Addition → Bool
   is_own x = (x.row == row) && ((x.session == session) && (x.event.index == index))
 
   among_back : (xs ys : List Addition) (x : Addition) → IsAmong x ys → IsAmong x (xs ++ ys)
@@ -290,9 +296,10 @@ module _ (test : ℕ → Bool) (ps : List Placed) (row : ℕ) (passes : test row
           ∙ (ap (λ w. chain_from (lines_on test (all_lines ps)) row (suc w) k) e ∙ ap (chain_from (lines_on test (all_lines ps)) row (suc at)) (no_more e)))
       by (inr m) go = passed (standing (lines_on test (all_lines ps)) row v) (once v) (not_it m) ∙ go m (omega (arith, whole))
 
-  -- an event's removal, where it is added once to its row
-  pub removed : (one : Ended) → own_row one ≡ row → times_added (number_of one) (lines_on test (all_lines ps)) row ≡ 1 → removal (number_of one) (chain_of (lines_on test (all_lines ps)) row) ≡ removal_in ps one
-  removed one home times = on (some_added (number_of one) row (lines_on test (all_lines ps)) (omega (arith, times))) where
+  -- an event's removal from the row, where it is added to it once
+  pub removed_here : (one : Ended) → times_added (number_of one) (lines_on test (all_lines ps)) row ≡ 1
+      → removal (number_of one) (chain_of (lines_on test (all_lines ps)) row) ≡ removal_behind ps (filter (is_own row one.session one.event.index) (additions_of ps))
+  removed_here one times = on (some_added (number_of one) row (lines_on test (all_lines ps)) (omega (arith, times))) where
     Goal : List Addition → Type 0
     Goal xs = removal (number_of one) (chain_of (lines_on test (all_lines ps)) row) ≡ removal_behind ps xs
 
@@ -323,14 +330,19 @@ module _ (test : ℕ → Bool) (ps : List Placed) (row : ℕ) (passes : test row
             ∙ (same_first x.version r.0 (let e : suc x.version + r.0 ≡ 1 + changes_of (lines_on test (all_lines ps)) row = r.1 in omega (arith, e))
             ∙ ap (λ n. action_of (first_taking n x.version (takings_of ps))) (sym row_is))
 
-    on : IsAdded (number_of one) row (lines_on test (all_lines ps)) → removal (number_of one) (chain_of (lines_on test (all_lines ps)) row) ≡ removal_in ps one
-    on a = subst (λ r. Goal (filter (is_own r one.session one.event.index) (additions_of ps))) (sym home) (cases (filter (is_own row one.session one.event.index) (additions_of ps)) refl) where
+    on : IsAdded (number_of one) row (lines_on test (all_lines ps)) → Goal (filter (is_own row one.session one.event.index) (additions_of ps))
+    on a = cases (filter (is_own row one.session one.event.index) (additions_of ps)) refl where
       o : IsOwn row one.session one.event.index (additions_of ps)
       o = told row one.session one.event.index a.version a.events ps (sifted test (all_lines ps) row a.version (Added a.events) a.stands).1 a.some
 
       cases : (xs : List Addition) → filter (is_own row one.session one.event.index) (additions_of ps) ≡ xs → Goal xs
       cases [] e = absurd (none_passes row one.session one.event.index (additions_of ps) o.one o.among o.own e)
       cases (x ∷ xs) e = by x (first_passes row one.session one.event.index (additions_of ps) x xs e)
+
+  -- so it is from its own row
+  pub removed : (one : Ended) → own_row one ≡ row → times_added (number_of one) (lines_on test (all_lines ps)) row ≡ 1 → removal (number_of one) (chain_of (lines_on test (all_lines ps)) row) ≡ removal_in ps one
+  removed one home times =
+      removed_here one times ∙ ap (λ r. removal_behind ps (filter (is_own r one.session one.event.index) (additions_of ps))) (sym home)
 
 -- the take by which an event is removed stands
 pub removal_stands : (ps : List Placed) (one : Ended) (action : ℕ) → removal_in ps one ≡ Some action → (version : ℕ) × Stands (all_lines ps) (own_row one) version (Taken action)

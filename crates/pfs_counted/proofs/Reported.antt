@@ -1,28 +1,36 @@
 -- The rows of a summary in a report are those that its readings give.
-use Rattle.std.proofs.Common.{◌≡◌, ℕ, suc, ◌+◌, ◌==◌, Bool, true, false, cond, List, [], ◌∷◌, ◌++◌, length, map, refl, ap, ◌∙◌, arith}
-use Rattle.std.specs.Prelude.{Contains, if◌then◌else◌}
+use Rattle.std.proofs.Common.{◌≡◌, ℕ, suc, ◌+◌, ◌==◌, Bool, true, false, cond, List, [], ◌∷◌, ◌++◌, length, map, refl, ap, subst, ◌∙◌, arith}
+use Rattle.std.specs.Prelude.{All, Contains, if◌then◌else◌}
 use Rattle.std.specs.List.{flat_map, list_any}
 use Rattle.std.specs.Str.{bytes_eq}
 use Rattle.std.proofs.lemmas.List.Concat.{flat_map-cons}
+use Rattle.std.proofs.lemmas.List.Elements.{All-contains, All-weaker}
 use Rattle.std.proofs.lemmas.Slice.Eq.{bytes_eq-Decides}
 use Rattle.pfs_classes.specs.declared.setting.Setting.{Setting}
 use Rattle.pfs_finals.specs.Finals.{TableRead, final_order, shown_rows, table_if, table_report}
 use Rattle.pfs_journal.specs.declared.values.TableReport.{TableReport}
+use Rattle.pfs_readsets.specs.Places.{scope_of}
+use Rattle.pfs_readsets.specs.ReadSets.{IsReadSet, target_of}
+use Rattle.pfs_readsets.specs.declared.target.Target.{Target}
+use Rattle.pfs_readsets.specs.declared.target.Target.TheVariants.{Row, Word}
 use Rattle.pfs_rows.specs.Tables.{table_name}
 use Rattle.pfs_rows.specs.declared.table.SummaryTable.{SummaryTable}
 use Rattle.pfs_rows.specs.declared.table.SummaryTable.TheVariants.{ByThread, ByAccount, ByUser, ByHost, Global}
 use Rattle.pfs_rows.specs.declared.table.Table.{Table}
-use Rattle.pfs_rows.specs.declared.table.Table.TheVariants.{Summary}
+use Rattle.pfs_rows.specs.declared.table.Table.TheVariants.{Summary, DigestSummary}
 use Rattle.pfs_rows.specs.declared.table.TableKind.{TableKind}
 use Rattle.pfs_rows.specs.declared.table.TableKind.TheVariants.{Waits, Stages, Statements, Transactions}
 use Rattle.pfs_rows.specs.declared.table.Reading.{Reading}
+use Rattle.pfs_runs.specs.Finals.{IsRead, shown_row, reading_of, word_version}
 use Rattle.pfs_summaries.specs.Cells.{is_hidden_by, tally_of}
 use Rattle.pfs_summaries.specs.Contents.{infos_of}
 use Rattle.pfs_summaries.specs.Summaries.{ordered_rows, summary_rows_of}
 use Rattle.pfs_summaries.specs.declared.heads.RowKey.{RowKey}
+use Rattle.pfs_tagged.specs.Runs.{Run, entries_to}
 use Rattle.pfs_values.specs.declared.RowValue.{RowValue}
 use Rattle.pfs_counted.specs.Named.{rows_named}
 use Rattle.pfs_counted.proofs.Containing.{first, later}
+use Rattle.pfs_counted.proofs.Read.{IsShown, shows}
 
 -- how many of the tables have the name
 abbrev named_in : List ℕ → List Table → ℕ
@@ -109,24 +117,48 @@ found_read setting name (read ∷ reads) h = at (bytes_eq (table_name read.table
           ∙ (skipped name read.table (shown_rows setting read.table read.readings) (flat_map (table_report setting) reads) q ∙ f.rows);
     }
 
--- the reading of a summary in a report
-pub record IsSummaryRead (setting : Setting) (kind : TableKind) (which : SummaryTable) (reads : List TableRead) : Type 0 where
+-- the reading of a table in a report
+pub record IsTableRead (setting : Setting) (table : Table) (reads : List TableRead) : Type 0 where
   pub read : TableRead
   pub among : Contains reads read
-  pub table : read.table ≡ Summary kind which
-  pub rows : rows_named (table_name (Summary kind which)) (flat_map (table_report setting) reads) ≡ shown_rows setting (Summary kind which) read.readings
+  pub table_is : read.table ≡ table
+  pub rows : rows_named (table_name table) (flat_map (table_report setting) reads) ≡ shown_rows setting table read.readings
 
-pub summary_read : ((a b : Table) → table_name a ≡ table_name b → a ≡ b) → (setting : Setting) (kind : TableKind) (which : SummaryTable) (reads : List TableRead) → tables_in reads ≡ final_order → IsSummaryRead setting kind which reads
-summary_read differ setting kind which reads order = on (found_read setting (table_name (Summary kind which)) reads (ap (named_in (table_name (Summary kind which))) order ∙ named_once kind which)) where
-  on : IsFound setting (table_name (Summary kind which)) reads → IsSummaryRead setting kind which reads
+abbrev pub AreApartNamed : Type 0
+AreApartNamed = (a b : Table) → table_name a ≡ table_name b → a ≡ b
+
+read_of : AreApartNamed → (setting : Setting) (table : Table) (reads : List TableRead) → named_in (table_name table) final_order ≡ 1 → tables_in reads ≡ final_order → IsTableRead setting table reads
+read_of differ setting table reads once order = on (found_read setting (table_name table) reads (ap (named_in (table_name table)) order ∙ once)) where
+  on : IsFound setting (table_name table) reads → IsTableRead setting table reads
   on f =
-      let e : f.read.table ≡ Summary kind which = differ f.read.table (Summary kind which) ((bytes_eq-Decides (table_name f.read.table) (table_name (Summary kind which))).0 f.named) in
+      let e : f.read.table ≡ table = differ f.read.table table ((bytes_eq-Decides (table_name f.read.table) (table_name table)).0 f.named) in
       record {
         read = f.read;
         among = f.among;
-        table = e;
+        table_is = e;
         rows = f.rows ∙ ap (λ t. shown_rows setting t f.read.readings) e;
       }
+
+pub summary_read : AreApartNamed → (setting : Setting) (kind : TableKind) (which : SummaryTable) (reads : List TableRead) → tables_in reads ≡ final_order → IsTableRead setting (Summary kind which) reads
+summary_read differ setting kind which reads order = read_of differ setting (Summary kind which) reads (named_once kind which) order
+
+pub digest_read : AreApartNamed → (setting : Setting) (reads : List TableRead) → tables_in reads ≡ final_order → IsTableRead setting DigestSummary reads
+digest_read differ setting reads order = read_of differ setting DigestSummary reads refl order
+
+-- what was read of it is what stands under the phase's end
+pub read_shows : (run : Run) (phase : ℕ) (flags : ℕ → ℕ → ℕ) (table : Table) (reads : List TableRead) → All (IsRead run.setting run.content flags (entries_to run phase)) reads → (r : IsTableRead run.setting table reads)
+    → IsShown (shown_row run.content (entries_to run phase)) (word_version (entries_to run phase)) (λ word. flags word (word_version (entries_to run phase) word)) (scope_of run.setting) table r.read.readings
+read_shows run phase flags table reads each r = record {
+  whole = subst (λ t. IsReadSet (scope_of run.setting) t r.read.readings) r.table_is is_read.whole;
+  shown = All-weaker (λ reading. reading ≡ reading_of run.content flags (entries_to run phase) (target_of reading)) (λ reading. reading ≡ shows (shown_row run.content (entries_to run phase)) (word_version (entries_to run phase)) (λ word. flags word (word_version (entries_to run phase) word)) (target_of reading))
+      (λ reading e. e ∙ same (target_of reading)) r.read.readings is_read.shown;
+} where
+  is_read : IsRead run.setting run.content flags (entries_to run phase) r.read
+  is_read = All-contains (IsRead run.setting run.content flags (entries_to run phase)) reads r.read each r.among
+
+  same : (t : Target) → reading_of run.content flags (entries_to run phase) t ≡ shows (shown_row run.content (entries_to run phase)) (word_version (entries_to run phase)) (λ word. flags word (word_version (entries_to run phase) word)) t
+  same (Row row) = refl
+  same (Word word) = refl
 
 -- where no info hides it, a summary shows its rows in their order
 pub rows_shown : (setting : Setting) (kind : TableKind) (which : SummaryTable) (found : List Reading) → list_any (is_hidden_by which) found ≡ false

@@ -1,5 +1,5 @@
 -- Each phase's end of a run of a script.
-use Rattle.std.proofs.Common.{◌≡◌, ℕ, zero, suc, ◌+◌, List, [], ◌∷◌, length, Option, Some, None, refl, ap, ◌∙◌}
+use Rattle.std.proofs.Common.{◌≡◌, ℕ, zero, suc, ◌+◌, List, [], ◌∷◌, length, Option, Some, None, refl, ap, ◌∙◌, arith}
 use Rattle.std.specs.List.{slice_index_or}
 use Rattle.std.specs.Option.{option_map}
 use Rattle.pfs_classes.specs.declared.setting.Setting.{Setting}
@@ -75,7 +75,7 @@ opened_named setting = record {
   hosts = λ h name e. absurd (none_stands setting.limits.hosts h name e);
 }
 
-final_then : (P Q : PhaseParts → Type 0) (reports : List PhaseParts) → ((report : PhaseParts) → P report → Q report) → AreFinal P reports → AreFinal Q reports
+pub final_then : (P Q : PhaseParts → Type 0) (reports : List PhaseParts) → ((report : PhaseParts) → P report → Q report) → AreFinal P reports → AreFinal Q reports
 final_then P Q [] h f = tt
 final_then P Q (report ∷ reports) h f = (h report f.0, final_then P Q reports h f.1)
 
@@ -93,6 +93,6 @@ counted_law kept orderly named few in_range sums agreed told back board listed d
       one part final =
           counted (run_of setting phases report run) is_kept is_orderly (in_range text setting phases script) (λ kind phase. few text setting phases report script run kind phase) sums back board listed differ part.number
           (λ kind. agreed (run_of setting phases report run) kind part.number is_kept is_orderly (few text setting phases report script run kind part.number))
-          (info_told (run_of setting phases report run) part.number (told (run_of setting phases report run) part.number is_kept)) (never_free (run_of setting phases report run) part.number is_kept)
+          (info_told (run_of setting phases report run) part.number (told (run_of setting phases report run) part.number is_kept)) (λ row low high. never_free (run_of setting phases report run) part.number is_kept row low (omega (arith, high)))
           (script_named setting phases (named text setting phases script) (opened_by (limits_of setting)) (opened_named setting) (labels_so_far run.labels (entries_to (run_of setting phases report run) part.number)) (length (actions_to (run_of setting phases report run) part.number)))
           (seated (run_of setting phases report run) part.number is_kept is_orderly) (flags_by (terms_of setting (change_in phases) (facts_in phases) run.labels) (places (all_blocks run.blocks))) part refl final

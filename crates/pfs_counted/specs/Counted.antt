@@ -6,6 +6,7 @@ use Rattle.pfs_rows.specs.declared.table.SummaryTable.{SummaryTable}
 use Rattle.pfs_rows.specs.declared.table.Table.TheVariants.{Summary}
 use Rattle.pfs_rows.specs.declared.table.TableKind.{TableKind}
 use Rattle.pfs_tagged.specs.Acts.{names_by}
+use Rattle.pfs_tagged.specs.Digests.{clears_to}
 use Rattle.pfs_tagged.specs.Runs.{Run, IsKeyOf, actions_to, entries_to, given_in}
 use Rattle.pfs_counted.specs.Counts.{Past, counted_at}
 use Rattle.pfs_counted.specs.Named.{rows_named}
@@ -16,6 +17,7 @@ abbrev pub past_to : Run → ℕ → Past
 past_to run phase = record {
   names = names_by run.change;
   actions = actions_to run phase;
+  clears = clears_to run phase;
   entries = entries_to run phase;
   given = given_in run;
 }

@@ -14,11 +14,12 @@ use Rattle.pfs_stat.specs.Stat.{merge_all}
 use Rattle.pfs_stat.specs.declared.Stat.{Stat}
 use Rattle.pfs_tagged.specs.Ends.{Ended, all_ended, session_of}
 
--- What was told up to a phase's end: the ids of each session's names, the actions by their numbers, the entries of all
--- journals, and what the amounts of events go by.
+-- What was told up to a phase's end: the ids of each session's names, the actions by their numbers, which of these
+-- truncate the summary by digest, the entries of all journals, and what the amounts of events go by.
 pub record Past : Type 0 where
   pub names : ℕ → Names
   pub actions : List Action
+  pub clears : ℕ → Bool
   pub entries : List Placed
   pub given : Given
 

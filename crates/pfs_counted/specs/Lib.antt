@@ -3,8 +3,12 @@ pub mod Summed
 pub mod Named
 pub mod Counts
 pub mod Counted
+pub mod Digested
 pub mod Laws
 pub mod Extremes
 pub mod Numbers
+pub mod DigestNumbers
+pub mod LostDigests
 pub mod Worked
 pub mod WorkedCounts
+pub mod WorkedDigests

@@ -1,6 +1,6 @@
 -- Which events count for two sessions of one user, worked: the first has an account and quits; the second finds none,
 -- and its TRUNCATE of the waits by host takes its row between two of its waits.
-use Rattle.std.specs.Prelude.{ℕ, ◌≡◌, ◌+◌, ◌*◌, List, [], ◌∷◌, ◌++◌, map, Some, None}
+use Rattle.std.specs.Prelude.{ℕ, ◌≡◌, ◌+◌, ◌*◌, false, List, [], ◌∷◌, ◌++◌, map, Some, None}
 use Rattle.pfs_conservation.specs.Administration.{Action, Connect, Quit, Truncate, Summary}
 use Rattle.pfs_conservation.specs.Folds.{ByHost}
 use Rattle.pfs_conservation.specs.Tables.{Key, KeyThread, KeyAccount, KeyUser, KeyHost, KeyAll}
@@ -88,6 +88,7 @@ abbrev pub past : List Action → List Block → Past
 past actions blocks = record {
   names = λ session. record { user = 24; host = 30 + session };
   actions = actions;
+  clears = λ action. false;
   entries = places blocks;
   given = record { flags = λ word version. 3; slots = λ session. None; facts = facts; info_words = λ action row. [] };
 }

@@ -1,9 +1,13 @@
 //! Laws of the definitions.
 
+ghost use Rattle.pfs_counted.specs.DigestNumbers.{DigestNumbersLaw};
+ghost use Rattle.pfs_counted.specs.Digested.{DigestedLaw};
 ghost use Rattle.pfs_counted.specs.Laws.{CountedLaw, AgreedLaw};
+ghost use Rattle.pfs_counted.specs.LostDigests.{LostDigestsLaw};
 ghost use Rattle.pfs_counted.specs.Numbers.{NumbersLaw};
 ghost use Rattle.pfs_counted.specs.Worked.{WorkedSummaries};
 ghost use Rattle.pfs_counted.specs.WorkedCounts.{WorkedCounts};
+ghost use Rattle.pfs_counted.specs.WorkedDigests.{WorkedDigests};
 
 /// Under the end of each phase of a run of any script, each summary shows just the events that count there: a row for
 /// each key and class by which something counts, with their number, sums, least and greatest, and no other row. An
@@ -36,6 +40,43 @@ pub fn agreed()
     pfs_tagged::laws::added();
 }
 
+/// Under the end of each phase of a run of any script, the summary by digest shows just the statements that count
+/// there: first the row of the texts without a place, then one for each place, each with its digest, its digest text
+/// and their number, sums, least and greatest, and no row where nothing counts. A statement that has ended counts where
+/// it was digested, and no TRUNCATE of the summary has the number of the action that took its row first, or a later
+/// one.
+pub fn digested()
+    ensures { DigestedLaw }
+{
+    pfs_orderly::laws::kept();
+    pfs_orderly::laws::orderly();
+    pfs_ranged::laws::few_ended();
+    pfs_ranged::laws::in_range();
+    pfs_rows::laws::rows();
+    pfs_rows::laws::table_names_differ();
+    pfs_tagged::laws::digest_acted();
+    pfs_tagged::laws::digest_added();
+    pfs_tagged::laws::digest_summed();
+}
+
+/// Under the end of each phase of a run of any script, the counter of lost digests is the number of the digested
+/// statements that have ended and whose digest texts have no place; it is left out where there are none.
+pub fn lost_digests()
+    ensures { LostDigestsLaw }
+{
+    pfs_orderly::laws::kept();
+    pfs_orderly::laws::orderly();
+}
+
+/// The count of a digest's row is the number of the events that count there, so it has a row just where there are some;
+/// its least and its greatest are those of their waits.
+pub fn digest_numbers()
+    ensures { DigestNumbersLaw }
+{
+    pfs_ranged::laws::few_ended();
+    pfs_ranged::laws::in_range();
+}
+
 /// The count of a row is the number of the events that count there, so it has a row just where there are some. Its
 /// least and its greatest are waits of timed ones, between which all their waits lie; both are 0 where none was timed,
 /// after MySQL.
@@ -54,4 +95,10 @@ pub fn worked()
 /// Which waits of two sessions count by each key, before and behind a quit and a TRUNCATE by host.
 pub fn worked_counts()
     ensures { WorkedCounts }
+{}
+
+/// Which statements of a session count by digest, before and behind a TRUNCATE of the summary, and the rows that show
+/// it.
+pub fn worked_digests()
+    ensures { WorkedDigests }
 {}

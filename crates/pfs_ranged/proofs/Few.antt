@@ -16,6 +16,7 @@ use Rattle.pfs_script.specs.Marks.{written_out}
 use Rattle.pfs_playable.specs.Playable.{written_among, written_in, blocks_in, TotalLaw, FewLaw as FewBlocks}
 use Rattle.pfs_tagged.specs.Board.{cells_of}
 use Rattle.pfs_tagged.specs.Ends.{Ended, number_of, all_ended, counts_in}
+use Rattle.pfs_ranged.specs.Ended.{FewEndedLaw}
 use Rattle.pfs_ranged.specs.Ranged.{FewLaw}
 use Rattle.pfs_ranged.proofs.Ends.{lines_told, all_few, chosen_few, kept_few}
 
@@ -68,17 +69,22 @@ phases_few number (x ∷ xs) (y ∷ ys) [] are = absurd are
 large : 1200001 < 2 ^ 64
 large = lit< tt
 
-pub few : TotalLaw → FewBlocks → FewLaw
-few total blocks text setting phases report s run kind phase =
+pub few_ended : TotalLaw → FewBlocks → FewEndedLaw
+few_ended total blocks text setting phases report s run phase =
     let all : List Placed = places (all_blocks run.blocks) in
-    let test = counts_in (cells_of setting kind) in
-    let ended : List Ended = all_ended (up_to_phase phase all) in
-    let a = length-map (filter test ended) number_of in
-    let b = kept_few test ended in
     let c = chosen_few (λ (place : Placed). nat_le place.phase phase) all in
     let d = all_few (all_blocks run.blocks) run.rules.shaped in
     let e = phases_few 1 phases report.phases run.blocks run.phases_are in
     let f = total text setting phases s in
     let g = blocks text setting phases s in
     let h = large in
-    omega (arith, a, b, c, d, e, f, g, h)
+    omega (arith, c, d, e, f, g, h)
+
+pub few : FewEndedLaw → FewLaw
+few ended_few text setting phases report s run kind phase =
+    let test = counts_in (cells_of setting kind) in
+    let ended : List Ended = all_ended (up_to_phase phase (places (all_blocks run.blocks))) in
+    let a = length-map (filter test ended) number_of in
+    let b = kept_few test ended in
+    let c = ended_few text setting phases report s run phase in
+    omega (arith, a, b, c)

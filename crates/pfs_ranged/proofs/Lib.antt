@@ -1,5 +1,5 @@
 mod Forms
 mod Blocks
 mod Facts
-mod Ends
+pub mod Ends
 mod Few

@@ -1,5 +1,5 @@
--- The events of a kind, by their numbers: each ended once, and was added to a row of a cell just where it belongs.
-use Rattle.std.proofs.Common.{◌≡◌, refl, ℕ, ◌+◌, ◌<◌, ◌≤◌, ◌==◌, ◌&&◌, Bool, true, false, cond, List, [], ◌∷◌, map, filter, Some, count_by, sym, ap, subst, ◌∙◌, inl, inr, arith}
+-- Events by their numbers: each ended once, and was added to a row just where it belongs.
+use Rattle.std.proofs.Common.{◌≡◌, refl, ℕ, ◌+◌, ◌≤◌, ◌==◌, ◌&&◌, Bool, true, false, cond, List, [], ◌∷◌, map, filter, Some, count_by, sym, ap, subst, ◌∙◌, inl, inr, arith}
 use Rattle.std.proofs.lemmas.List.Sums.{sum_by-cons}
 use Rattle.pfs_conservation.specs.Lines.{times_added}
 use Rattle.pfs_model.specs.Actions.{IsAmong}
@@ -14,7 +14,7 @@ use Rattle.pfs_tagged.proofs.AddedHeld.{times_waiting, added_offered}
 use Rattle.pfs_tagged.proofs.AddedSettled.{all_settled}
 use Rattle.pfs_tagged.proofs.AddedWalk.{Comes, told_to, IsFollowed, all_followed}
 use Rattle.pfs_tagged.proofs.Indexing.{is_number, times_ended, ends_once}
-use Rattle.pfs_tagged.proofs.Offering.{comes_to, offered, all_near, all_fed, all_offered}
+use Rattle.pfs_tagged.proofs.Offering.{comes_to, comes_beside, offered, all_near, all_fed, all_offered}
 use Rattle.pfs_tagged.proofs.Sifting.{eq_of, bit_no}
 
 -- blocks with what is brought there
@@ -23,16 +23,17 @@ pub record AreWhole (flags : ℕ → ℕ → ℕ) (blocks : List Block) : Type 0
   pub closed : AreClosed blocks
   pub brought : AreBroughtBehind flags [] (places blocks)
 
--- a row of a cell is added just the events that come to it
-pub counts_are : (flags : ℕ → ℕ → ℕ) (blocks : List Block) → AreWhole flags blocks → (session index row : ℕ) → row < 8385
-    → times_added (event_number session index) (all_lines (places blocks)) row ≡ times (comes_to (event_number session index) row) (all_ended (places blocks))
-counts_are flags blocks w session index row low =
+-- a row is added just the events that come to it, by their cell or by their digest
+pub counts_are : (flags : ℕ → ℕ → ℕ) (blocks : List Block) → AreWhole flags blocks → (session index row : ℕ)
+    → times_added (event_number session index) (all_lines (places blocks)) row
+    ≡ times (comes_to (event_number session index) row) (all_ended (places blocks)) + times (comes_beside flags (event_number session index) row) (all_ended (places blocks))
+counts_are flags blocks w session index row =
     let f : IsFollowed session fresh (places blocks) (told_by session fresh blocks) = all_followed session blocks in
     let a : times_added (event_number session index) (all_lines (places blocks)) row + times_waiting index row (told_to session fresh (places blocks)).waiting ≡ offered session index row (places blocks) + 0
     = added_offered session index row fresh (places blocks) f.follow in
     let z : times_waiting index row (told_to session fresh (places blocks)).waiting ≡ 0 = ap (times_waiting index row) (empty (told_to session fresh (places blocks)) (told_by session fresh blocks) f.ends ∙ all_settled session blocks w.shaped w.closed) in
-    let o : offered session index row (places blocks) ≡ times (comes_to (event_number session index) row) (all_ended (places blocks))
-    = all_offered flags session index row low (places blocks) (all_near blocks w.shaped) (all_fed blocks w.shaped) w.brought in
+    let o : offered session index row (places blocks) ≡ times (comes_to (event_number session index) row) (all_ended (places blocks)) + times (comes_beside flags (event_number session index) row) (all_ended (places blocks))
+    = all_offered flags session index row (places blocks) (all_near blocks w.shaped) (all_fed blocks w.shaped) w.brought in
     omega (arith, a, z, o) where
       empty : (c d : Context) → Comes c d → c.waiting ≡ d.waiting
       empty c d (inl e) = sym (ap (λ (z : Context). z.waiting) e)
@@ -118,6 +119,23 @@ one_is n test (x ∷ xs) few some = at (number_of x == n) refl (test x) refl few
   }
   at true q false r few some go = absurd (let z : times (λ o. is_number n o && test o) xs ≤ times_ended n xs = times_and n test xs in omega (arith, z, few, some))
   at false q b r few some go = skip q (go (omega (arith, few)) (omega (arith, some)))
+
+-- an event that is among those that pass ended once
+pub one_of : (n : ℕ) (test : Ended → Bool) (xs : List Ended) → ((session index : ℕ) → times_ended (event_number session index) xs ≤ 1) → 1 ≤ count_by (λ y. n == y) (numbers_on test xs) → IsOne n test xs
+one_of n test xs once l = one_is n test xs (by (some xs many)) many where
+  many : 1 ≤ times (λ o. is_number n o && test o) xs
+  many = let c : count_by (λ y. n == y) (numbers_on test xs) ≡ times (λ o. is_number n o && test o) xs = numbers_count n test xs in omega (arith, c, l)
+
+  some : (xs : List Ended) → 1 ≤ times (λ o. is_number n o && test o) xs → (one : Ended) × (number_of one ≡ n)
+  some [] l = absurd (omega (arith, l))
+  some (x ∷ xs) l = at (number_of x == n) refl l (some xs) where
+    at : (b : Bool) → (number_of x == n) ≡ b → 1 ≤ cond {A = ℕ} (b && test x) 1 0 + times (λ o. is_number n o && test o) xs
+        → (1 ≤ times (λ o. is_number n o && test o) xs → (one : Ended) × (number_of one ≡ n)) → (one : Ended) × (number_of one ≡ n)
+    at true q l go = (x, eq_of (number_of x) n q)
+    at false q l go = go (omega (arith, l))
+
+  by : (one : Ended) × (number_of one ≡ n) → times_ended n xs ≤ 1
+  by (one, e) = subst (λ k. times_ended k xs ≤ 1) e (once one.session one.event.index)
 
 pub each_among : (P : Ended → Type 0) (one : Ended) (xs : List Ended) → IsAmong one xs → Each P xs → P one
 each_among P one [] m h = absurd m

@@ -65,6 +65,13 @@ low_counted : (slot : Option ℕ) (verdict : Verdict) → IsLowPlace slot → Is
 low_counted slot Attributed l = l
 low_counted slot _ l = tt
 
+-- so the row of its cell is none of a digest
+pub home_low : (one : Ended) → IsLowEnded one → home_row one < 8385
+home_low one l = by (counted_slot one.context.slot one.event.verdict) (low_counted one.context.slot one.event.verdict l.1) where
+  by : (o : Option ℕ) → IsLowPlace o → cell_row o one.event.subject.cell < 8385
+  by None h = (let c : one.event.subject.cell < 64 = l.0 in omega (arith, c))
+  by (Some slot) h = (let c : one.event.subject.cell < 64 = l.0 in omega (arith, h, c))
+
 pub home_kind : AreBack → (is_cell : ℕ → Bool) (one : Ended) → IsLowEnded one → is_kind_row is_cell (home_row one) ≡ is_cell one.event.subject.cell
 home_kind back is_cell one l = by (counted_slot one.context.slot one.event.verdict) (low_counted one.context.slot one.event.verdict l.1) where
   by : (o : Option ℕ) → IsLowPlace o → is_kind_row is_cell (cell_row o one.event.subject.cell) ≡ is_cell one.event.subject.cell

@@ -1,21 +1,25 @@
 -- What is known of the entries of a run up to a phase's end.
-use Rattle.std.proofs.Common.{◌≡◌, refl, ℕ, zero, suc, ◌+◌, ◌-◌, ◌<◌, ◌≤◌, ◌==◌, Bool, true, false, cond, nat_le, List, [], ◌∷◌, ◌++◌, length, Some, None, sym, ap, subst, ◌∙◌, inl, inr, arith}
-use Rattle.std.specs.Prelude.{slice_get}
+use Rattle.std.proofs.Common.{◌≡◌, refl, ℕ, zero, suc, ◌+◌, ◌-◌, ◌<◌, ◌≤◌, ◌==◌, Bool, true, false, cond, nat_le, List, [], ◌∷◌, ◌++◌, length, Option, Some, None, sym, ap, subst, ◌∙◌, inl, inr, arith}
+use Rattle.std.specs.Prelude.{slice_get, ◌&&◌, IfSome}
 use Rattle.pfs_asked.specs.Asking.{no_rows}
 use Rattle.pfs_conservation.specs.Lines.{times_added}
+use Rattle.pfs_event.specs.Verdicts.{is_let_through}
 use Rattle.pfs_event.specs.declared.entry.Entry.{Entry}
 use Rattle.pfs_event.specs.declared.entry.Entry.TheVariants as says
 use Rattle.pfs_model.specs.Actions.{IsAmong, numbers_by, AllAbove, AreRising}
 use Rattle.pfs_model.specs.Asked.{Rooms, Answer, IsAnswered, AreAnswered}
+use Rattle.pfs_model.specs.Asks.{digest_row}
 use Rattle.pfs_model.specs.Chains.{Each, times, change_at, action_change, each_of, is_of, is_that}
 use Rattle.pfs_model.specs.Contexts.{fresh}
 use Rattle.pfs_model.specs.Places.{Block, Placed, places}
 use Rattle.pfs_model.specs.Puts.{AreBroughtBehind}
+use Rattle.pfs_model.specs.Setups.{is_digested}
 use Rattle.pfs_model.specs.declared.changes.Change.{Change}
+use Rattle.pfs_model.specs.declared.lines.Subject.{Subject}
 use Rattle.pfs_model.proofs.Growing.{times_append}
 use Rattle.pfs_runs.specs.Labels.{label_at, rooms_at}
-use Rattle.pfs_tagged.specs.Ends.{event_number, Ended, ended_at, ended_first, all_ended}
-use Rattle.pfs_tagged.specs.Premises.{AreKept, IsOrderly, AreFirstBehind, AreLastBehind, IsActionOf, IsSmall, is_closed}
+use Rattle.pfs_tagged.specs.Ends.{event_number, Ended, number_of, ended_at, ended_first, all_ended}
+use Rattle.pfs_tagged.specs.Premises.{AreKept, IsOrderly, AreFirstBehind, AreLastBehind, IsActionOf, IsSmall, IsTexted, is_closed}
 use Rattle.pfs_tagged.specs.Runs.{Run, entries_to}
 use Rattle.pfs_tagged.specs.Tagged.{all_lines}
 use Rattle.pfs_tagged.proofs.AddedCounts.{AreWhole, counts_are, ended_once}
@@ -23,17 +27,18 @@ use Rattle.pfs_tagged.proofs.AddedFloor.{IsOver, all_over, each_chosen}
 use Rattle.pfs_tagged.proofs.AddedFronts.{blocks_to, IsFront, fronts, front_shaped, each_front}
 use Rattle.pfs_tagged.proofs.AddedIdle.{IsIdle, all_idle}
 use Rattle.pfs_tagged.proofs.AddedQuits.{AreActing}
-use Rattle.pfs_tagged.proofs.AddedRows.{IsLowEnded, IsLowEntry, all_lines_of, by_sessions, all_low, ended_low}
+use Rattle.pfs_tagged.proofs.AddedRows.{IsLowEnded, home_low, IsLowEntry, all_lines_of, by_sessions, all_low, ended_low}
 use Rattle.pfs_tagged.proofs.AddedSeat.{slot_low}
+use Rattle.pfs_tagged.proofs.AddedSubjects.{all_subjects, ended_subjects}
 use Rattle.pfs_tagged.proofs.AddedTold.{IsKnown, IsOwn, all_told}
 use Rattle.pfs_tagged.proofs.AddedWalk.{Follow, all_followed}
 use Rattle.pfs_tagged.proofs.Counting.{that_self, chain_range}
 use Rattle.pfs_tagged.proofs.Indexing.{times_ended}
 use Rattle.pfs_tagged.proofs.AddedConnects.{IsApart, all_apart}
-use Rattle.pfs_tagged.proofs.Offering.{comes_to, brought_front, AreNear, all_near}
+use Rattle.pfs_tagged.proofs.Offering.{home_row, comes_to, comes_beside, brought_front, AreNear, all_near}
 use Rattle.pfs_tagged.proofs.Saying.{HasNumber, all_said}
 use Rattle.pfs_tagged.proofs.Saying.{zero_rows}
-use Rattle.pfs_tagged.proofs.Sifting.{eq_of, bit_yes}
+use Rattle.pfs_tagged.proofs.Sifting.{eq_of, bit_no, bit_yes}
 
 -- what holds of all entries holds of the first of them
 answered_front : (rooms : ℕ → Rooms) (answers : ℕ → Answer) (xs ys : List Placed) → AreAnswered rooms answers (xs ++ ys) → AreAnswered rooms answers xs
@@ -119,6 +124,40 @@ known_ended rooms whole (p ∷ ps) h = each_join (λ (one : Ended). IsKnown one.
   by (says.End event last consumers thread) = first p.context.opened
   by _ = tt
 
+none : (a b c : Bool) → c ≡ false → (a && (b && c)) ≡ false
+none true true true q = absurd (cc)
+none true true false q = refl
+none true false c q = refl
+none false b c q = refl
+
+-- what comes by a digest comes to no row of a cell
+none_beside : (flags : ℕ → ℕ → ℕ) (number row : ℕ) → row < 8385 → (xs : List Ended) → times (comes_beside flags number row) xs ≡ 0
+none_beside flags number row low [] = refl
+none_beside flags number row low (x ∷ xs) =
+    let e : cond {A = ℕ} (comes_beside flags number row x) 1 0 ≡ 0 = bit_no (comes_beside flags number row x) (none (number_of x == number) (is_digested flags x.context.slot x.event) (digest_row x.event.subject.digest == row) (away x.event.subject.digest)) in
+    let ih : times (comes_beside flags number row) xs ≡ 0 = none_beside flags number row low xs in
+    omega (arith, e, ih) where
+      apart : (a : ℕ) → 8385 ≤ a → (a == row) ≡ false
+      apart a l = grind (arith, l, low)
+
+      away : (digest : Option ℕ) → (digest_row digest == row) ≡ false
+      away None = apart 8385 (omega arith)
+      away (Some digest) = apart (8386 + digest) (omega arith)
+
+-- and what comes by its cell to no row of a digest
+none_home : (number row : ℕ) → 8385 ≤ row → (xs : List Ended) → Each IsLowEnded xs → times (comes_to number row) xs ≡ 0
+none_home number row high [] h = refl
+none_home number row high (x ∷ xs) h =
+    let e : cond {A = ℕ} (comes_to number row x) 1 0 ≡ 0 = bit_no (comes_to number row x) (none (number_of x == number) (is_let_through x.event.verdict) (home_row x == row) (apart (home_row x) row (home_low x h.0) high)) in
+    let ih : times (comes_to number row) xs ≡ 0 = none_home number row high xs h.1 in
+    omega (arith, e, ih) where
+      apart : (a b : ℕ) → a < 8385 → 8385 ≤ b → (a == b) ≡ false
+      apart a b l m = grind (arith, l, m)
+
+-- a digest that has a place has one of so many
+abbrev pub HasText : ℕ → Subject → Type 0
+HasText places subject = IfSome subject.digest (λ place. place < places)
+
 own_move : (session : ℕ) (rooms : ℕ → Rooms) (whole : List Placed) (p : Placed) → p.session ≡ session → IsOwn session rooms whole p → IsOwn p.session rooms whole p
 own_move session rooms whole p e o = subst (λ s. IsOwn s rooms whole p) (sym e) o
 
@@ -137,10 +176,18 @@ module _ (run : Run) (kept : AreKept run) (orderly : IsOrderly run) (phase : ℕ
   split : places run.blocks ≡ entries_to run phase ++ front.rest
   split = front.all ∙ ap (λ z. z ++ front.rest) (sym front.same)
 
+  run_comes : (session index row : ℕ) → times_added (event_number session index) (all_lines (entries_to run phase)) row
+      ≡ times (comes_to (event_number session index) row) (all_ended (entries_to run phase)) + times (comes_beside run.flags (event_number session index) row) (all_ended (entries_to run phase))
+  run_comes session index row =
+      subst (λ ps. times_added (event_number session index) (all_lines ps) row ≡ times (comes_to (event_number session index) row) (all_ended ps) + times (comes_beside run.flags (event_number session index) row) (all_ended ps)) (sym front.same)
+      (counts_are run.flags (blocks_to phase run.blocks) whole session index row)
+
+  -- to the row of a cell events come by their cell alone
   pub run_counts : (session index row : ℕ) → row < 8385 → times_added (event_number session index) (all_lines (entries_to run phase)) row ≡ times (comes_to (event_number session index) row) (all_ended (entries_to run phase))
   run_counts session index row low =
-      subst (λ ps. times_added (event_number session index) (all_lines ps) row ≡ times (comes_to (event_number session index) row) (all_ended ps)) (sym front.same)
-      (counts_are run.flags (blocks_to phase run.blocks) whole session index row low)
+      let c : times_added (event_number session index) (all_lines (entries_to run phase)) row ≡ times (comes_to (event_number session index) row) (all_ended (entries_to run phase)) + times (comes_beside run.flags (event_number session index) row) (all_ended (entries_to run phase)) = run_comes session index row in
+      let z : times (comes_beside run.flags (event_number session index) row) (all_ended (entries_to run phase)) ≡ 0 = none_beside run.flags (event_number session index) row low (all_ended (entries_to run phase)) in
+      omega (arith, c, z)
 
   pub run_once : (session index : ℕ) → times_ended (event_number session index) (all_ended (entries_to run phase)) ≤ 1
   run_once session index = subst (λ ps. times_ended (event_number session index) (all_ended ps) ≤ 1) (sym front.same) (ended_once (blocks_to phase run.blocks) session index)
@@ -165,6 +212,21 @@ module _ (run : Run) (kept : AreKept run) (orderly : IsOrderly run) (phase : ℕ
 
   pub run_ended_low : Each IsLowEnded (all_ended (entries_to run phase))
   run_ended_low = run_low
+
+  -- and to that of a digest by their digest alone
+  pub run_digests : (session index row : ℕ) → 8385 ≤ row → times_added (event_number session index) (all_lines (entries_to run phase)) row ≡ times (comes_beside run.flags (event_number session index) row) (all_ended (entries_to run phase))
+  run_digests session index row high =
+      let c : times_added (event_number session index) (all_lines (entries_to run phase)) row ≡ times (comes_to (event_number session index) row) (all_ended (entries_to run phase)) + times (comes_beside run.flags (event_number session index) row) (all_ended (entries_to run phase)) = run_comes session index row in
+      let z : times (comes_to (event_number session index) row) (all_ended (entries_to run phase)) ≡ 0 = none_home (event_number session index) row high (all_ended (entries_to run phase)) run_low in
+      omega (arith, c, z)
+
+  -- a digest's place is one of the setting's
+  pub run_texted : Each (λ (one : Ended). HasText (length run.setting.digests) one.event.subject) (all_ended (entries_to run phase))
+  run_texted =
+      ended_subjects (HasText (length run.setting.digests)) (entries_to run phase)
+      (all_subjects (HasText (length run.setting.digests)) (entries_to run phase) run_follow
+      (each_front_of (λ (p : Placed). IsTexted (length run.setting.digests) p.line) (entries_to run phase) front.rest
+      (subst (Each (λ (p : Placed). IsTexted (length run.setting.digests) p.line)) split (all_lines_of (IsTexted (length run.setting.digests)) run.blocks orderly.texted))))
 
   pub run_number : (session action : ℕ) (more : List Change) → numbers_by session (entries_to run phase) ≡ change_at 0 action ∷ more → (1 ≤ action) × (action ≤ length (each_of action_change (entries_to run phase)))
   run_number session action more e =

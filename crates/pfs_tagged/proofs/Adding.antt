@@ -1,5 +1,5 @@
 -- Each event of a kind is added once, at its home, between its session's connect and quit.
-use Rattle.std.proofs.Common.{◌≡◌, refl, ℕ, suc, ◌+◌, ◌^◌, ◌<◌, ◌≤◌, ◌==◌, ◌&&◌, Bool, true, false, cond, List, [], ◌∷◌, length, Option, Some, None, count_by, sym, ap, subst, ◌∙◌, ◌⊎◌, inl, inr, arith}
+use Rattle.std.proofs.Common.{◌≡◌, refl, ℕ, suc, ◌^◌, ◌<◌, ◌≤◌, ◌==◌, ◌&&◌, Bool, true, false, cond, List, [], ◌∷◌, length, Option, Some, None, count_by, sym, ap, subst, ◌∙◌, ◌⊎◌, inl, inr, arith}
 use Rattle.pfs_board.specs.declared.view.Label.{Label}
 use Rattle.pfs_conservation.specs.Administration.{Quit, numbered, state_after}
 use Rattle.pfs_conservation.specs.Chains.{Change as Moved, Added}
@@ -28,7 +28,7 @@ use Rattle.pfs_tagged.specs.Ends.{event_number, Ended, number_of, all_ended, cou
 use Rattle.pfs_tagged.specs.Premises.{AreKept, IsOrderly}
 use Rattle.pfs_tagged.specs.Runs.{Run, entries_to, actions_to, rows_by, lines_to, events_to, whose_to}
 use Rattle.pfs_tagged.specs.Tagged.{brought_by, all_lines}
-use Rattle.pfs_tagged.proofs.AddedCounts.{numbers_count, IsOne, one_is, each_among}
+use Rattle.pfs_tagged.proofs.AddedCounts.{numbers_count, IsOne, one_is, one_of, each_among}
 use Rattle.pfs_tagged.proofs.AddedFloor.{move_known, stands_chosen, IsAddition, addition_is, IsOver, place_among}
 use Rattle.pfs_tagged.proofs.AddedHeld.{added_on, added_off, numbers_other}
 use Rattle.pfs_tagged.proofs.AddedIdle.{IsIdle}
@@ -40,7 +40,6 @@ use Rattle.pfs_tagged.proofs.AddedSeat.{IsSeated, seated_there}
 use Rattle.pfs_tagged.proofs.AddedTold.{rooms_told, IsTold, IsKnown, IsOwn, IsFirstConnect, IsBehindConnect}
 use Rattle.pfs_tagged.proofs.Feeding.{is_feed}
 use Rattle.pfs_tagged.proofs.Folding.{length_as, front_length}
-use Rattle.pfs_tagged.proofs.Indexing.{is_number, times_ended}
 use Rattle.pfs_tagged.proofs.Offering.{home_row, comes_to}
 use Rattle.pfs_tagged.proofs.Seating.{AreBack, AreFound}
 use Rattle.pfs_tagged.proofs.Sifting.{eq_of, both_of, sifted}
@@ -95,30 +94,8 @@ module _ (back : AreBack) (found : AreFound) (none : AreNone) (run : Run) (kind 
   abbrev Event : ℕ → Type 0
   Event event = IsOne event (counts_in (cells_of run.setting kind)) (all_ended (entries_to run phase))
 
-  parts : (a b : Ended) → a ≡ b → number_of a ≡ number_of b
-  parts a b e = ap number_of e
-
-  few_of : (event : ℕ) → 1 ≤ times (λ o. is_number event o && counts_in (cells_of run.setting kind) o) (all_ended (entries_to run phase)) → times_ended event (all_ended (entries_to run phase)) ≤ 1
-  few_of event l = on (all_ended (entries_to run phase)) refl l where
-    some : (xs : List Ended) → 1 ≤ times (λ o. is_number event o && counts_in (cells_of run.setting kind) o) xs → (one : Ended) × (number_of one ≡ event)
-    some [] l = absurd (omega (arith, l))
-    some (x ∷ xs) l = at (number_of x == event) refl l (some xs) where
-      at : (b : Bool) → (number_of x == event) ≡ b → 1 ≤ cond {A = ℕ} (b && counts_in (cells_of run.setting kind) x) 1 0 + times (λ o. is_number event o && counts_in (cells_of run.setting kind) o) xs
-          → (1 ≤ times (λ o. is_number event o && counts_in (cells_of run.setting kind) o) xs → (one : Ended) × (number_of one ≡ event)) → (one : Ended) × (number_of one ≡ event)
-      at true q l go = (x, eq_of (number_of x) event q)
-      at false q l go = go (omega (arith, l))
-
-    by : (one : Ended) × (number_of one ≡ event) → times_ended event (all_ended (entries_to run phase)) ≤ 1
-    by (one, e) = subst (λ n. times_ended n (all_ended (entries_to run phase)) ≤ 1) e (run_once run kept orderly phase one.session one.event.index)
-
-    on : (xs : List Ended) → all_ended (entries_to run phase) ≡ xs → 1 ≤ times (λ o. is_number event o && counts_in (cells_of run.setting kind) o) (all_ended (entries_to run phase)) → times_ended event (all_ended (entries_to run phase)) ≤ 1
-    on xs e l = by (some (all_ended (entries_to run phase)) l)
-
   pub event_of : (event : ℕ) → 1 ≤ count_by (λ y. event == y) (events_to run kind phase) → IsOne event (counts_in (cells_of run.setting kind)) (all_ended (entries_to run phase))
-  event_of event l =
-      let c : count_by (λ y. event == y) (events_to run kind phase) ≡ times (λ o. is_number event o && counts_in (cells_of run.setting kind) o) (all_ended (entries_to run phase)) = numbers_count event (counts_in (cells_of run.setting kind)) (all_ended (entries_to run phase)) in
-      let m : 1 ≤ times (λ o. is_number event o && counts_in (cells_of run.setting kind) o) (all_ended (entries_to run phase)) = (omega (arith, c, l)) in
-      one_is event (counts_in (cells_of run.setting kind)) (all_ended (entries_to run phase)) (few_of event m) m
+  event_of event l = one_of event (counts_in (cells_of run.setting kind)) (all_ended (entries_to run phase)) (run_once run kept orderly phase) l
 
   whose_is : (event : ℕ) (o : IsOne event (counts_in (cells_of run.setting kind)) (all_ended (entries_to run phase))) → whose_to run phase event ≡ whose_by (names_by run.change) (entries_to run phase) o.one
   whose_is event o = ap (whose_if (names_by run.change) (entries_to run phase)) o.found

@@ -155,7 +155,7 @@ module _ (back : AreBack) (found : AreFound) (setting : Setting) (kind : TableKi
   none_asked : (asks : List Ask) → asks ≡ [] → ((place : Place) → line_takes (line_of (kind_number kind) before (actions action)) place ≡ false) → moves_on test (asked asks) ≡ all_moves
   none_asked asks e h = ap (λ z. moves_on test (asked z)) e ∙ sym (idle back found is_cell opening actions (kind_number kind) action h)
 
-  pub asks_for : (s : Admin) (session : ℕ) (what : Change) → AreWell s.kept.now.places → s.cells ≡ class_cells setting.classes → s.kinds ≡ kinds_of setting.classes → s.kept.now.places ≡ state_before opening actions action
+  pub asks_for : (s : Admin) (session : ℕ) (what : Change) → AreWell s.kept.now.places → s.cells ≡ class_cells setting.classes → s.kinds ≡ kinds_of setting → s.kept.now.places ≡ state_before opening actions action
       → actions action ≡ action_for session what
       → moves_on (is_kind_row (cells_of setting kind)) (moves_as action (moves_asked (work_for s session what).moves))
       ≡ moves_of (holder_of (board (cells_of setting kind)) opening actions) (takes_by (board (cells_of setting kind)) opening actions (kind_number kind)) action (kind_rows (cells_of setting kind))
@@ -164,7 +164,7 @@ module _ (back : AreBack) (found : AreFound) (setting : Setting) (kind : TableKi
       (λ place. ap (λ a. line_takes (line_of (kind_number kind) before a) place) e ∙ connect_idle before (kind_number kind) session user host place)
   asks_for s session (changes.Truncate what) well cells kinds places e =
       ap (λ z. moves_on test (asked (truncation_asks z s.kept.now.places what))) kinds
-      ∙ (ap (λ z. moves_on test (asked (truncation_asks (kinds_of setting.classes) z what))) places
+      ∙ (ap (λ z. moves_on test (asked (truncation_asks (kinds_of setting) z what))) places
       ∙ truncation_same back setting kind opening actions action (subst AreWell places well) what e)
   asks_for s session changes.Show well cells kinds places e =
       none_asked [] refl (λ place. ap (λ a. line_takes (line_of (kind_number kind) before a) place) e)
@@ -182,7 +182,7 @@ module _ (back : AreBack) (found : AreFound) (setting : Setting) (kind : TableKi
           there = found_there (λ x. x.number == session) s.kept.now.places.threads f q
 
   -- and all rows of what is asked are of one kind
-  pub alike_for : (s : Admin) (session : ℕ) (what : Change) → AreWell s.kept.now.places → s.cells ≡ class_cells setting.classes → s.kinds ≡ kinds_of setting.classes
+  pub alike_for : (s : Admin) (session : ℕ) (what : Change) → AreWell s.kept.now.places → s.cells ≡ class_cells setting.classes → s.kinds ≡ kinds_of setting
       → AllAlike (is_kind_row (cells_of setting kind)) (moves_as action (moves_asked (work_for s session what).moves))
   alike_for s session (changes.Connect user host) well cells kinds = subst (λ z. AllAlike test (asked z)) (sym (connect_moves s.words (thread_flags s user host) (connected s session user host).kept.now (seat_at s session user host))) tt
   alike_for s session (changes.Truncate what) well cells kinds =

@@ -6,7 +6,7 @@ use Rattle.std.specs.Option.{option_map}
 use Rattle.std.specs.Prelude.{All, filter}
 use Rattle.std.proofs.lemmas.List.Elements.{All-head, All-tail}
 use Rattle.pfs_admin.specs.States.{KindCells, kind_cells}
-use Rattle.pfs_admin.specs.Truncations.{up_to, thread_source, account_source, user_source, host_source, place_asks, asks_at, level_asks, emptied, cleared, lower_asks, upper_asks, reach_of, summary_asks, all_asks, truncation_asks}
+use Rattle.pfs_admin.specs.Truncations.{up_to, thread_source, account_source, user_source, host_source, place_asks, asks_at, level_asks, emptied, cleared, lower_asks, upper_asks, reach_of, summary_asks, all_asks, digest_ask, digest_asks, truncation_asks}
 use Rattle.pfs_containers.proofs.Keeping.{session_in_range, account_in_range}
 use Rattle.pfs_containers.specs.Connections.{State}
 use Rattle.pfs_containers.specs.Kept.{AreWell, HasPlaces, HasUppers}
@@ -20,7 +20,7 @@ use Rattle.pfs_levels.specs.declared.places.Level.TheVariants as levels
 use Rattle.pfs_levels.specs.declared.places.Up.{Up}
 use Rattle.pfs_model.specs.Chains.{Each}
 use Rattle.pfs_rows.specs.Rows.{row_number}
-use Rattle.pfs_rows.specs.declared.place.Place.TheVariants.{GlobalCell}
+use Rattle.pfs_rows.specs.declared.place.Place.TheVariants.{DigestNull, GlobalCell}
 use Rattle.pfs_rows.specs.declared.table.SummaryTable.{SummaryTable}
 use Rattle.pfs_rows.specs.declared.table.SummaryTable.TheVariants as tables
 use Rattle.pfs_rows.specs.declared.table.TableKind.{TableKind}
@@ -30,7 +30,7 @@ use Rattle.pfs_tagged.proofs.Printing.{AreAlike}
 use Rattle.pfs_tagged.proofs.Quitting.{IsLow}
 use Rattle.pfs_tagged.proofs.Seating.{AreBack, thread_kind, account_kind, user_kind, host_kind, global_kind}
 use Rattle.pfs_truncations.specs.declared.truncations.Truncation.{Truncation}
-use Rattle.pfs_truncations.specs.declared.truncations.Truncation.TheVariants.{Summary, Accounts, Users, Hosts, SetupActors, SetupObjects}
+use Rattle.pfs_truncations.specs.declared.truncations.Truncation.TheVariants.{Summary, DigestSummary, Accounts, Users, Hosts, SetupActors, SetupObjects}
 
 -- places that are there
 pub record IsPlaced (up : Up) : Type 0 where
@@ -105,19 +105,30 @@ module _ (P : Ask → Type 0) where
       (join (emptied (reach_of table).users s cells levels.User) (emptied (reach_of table).hosts s cells levels.Host ++ cleared (reach_of table).global cells) (each_emptied (reach_of table).users s cells levels.User well k)
       (join (emptied (reach_of table).hosts s cells levels.Host) (cleared (reach_of table).global cells) (each_emptied (reach_of table).hosts s cells levels.Host well k) (each_cleared (reach_of table).global cells k)))
 
-  each_kinds : (kinds : KindCells) (s : State) (table : SummaryTable) → AreWell s → ((kind : TableKind) → Each (IsAsking P) (kind_cells kinds kind)) → Each P (all_asks kinds s table)
+  pub each_kinds : (kinds : KindCells) (s : State) (table : SummaryTable) → AreWell s → ((kind : TableKind) → Each (IsAsking P) (kind_cells kinds kind)) → Each P (all_asks kinds s table)
   each_kinds kinds s table well k =
       join (summary_asks s table kinds.waits) _ (each_summary s table kinds.waits well (k Waits))
       (join (summary_asks s table kinds.stages) _ (each_summary s table kinds.stages well (k Stages))
       (join (summary_asks s table kinds.statements) (summary_asks s table kinds.transactions) (each_summary s table kinds.statements well (k Statements)) (each_summary s table kinds.transactions well (k Transactions))))
 
-  pub each_truncation : (kinds : KindCells) (s : State) (what : Truncation) → AreWell s → ((kind : TableKind) → Each (IsAsking P) (kind_cells kinds kind)) → Each P (truncation_asks kinds s what)
-  each_truncation kinds s (Summary kind table) well k = each_summary s table (kind_cells kinds kind) well (k kind)
-  each_truncation kinds s Accounts well k = each_kinds kinds s tables.ByAccount well k
-  each_truncation kinds s Users well k = each_kinds kinds s tables.ByUser well k
-  each_truncation kinds s Hosts well k = each_kinds kinds s tables.ByHost well k
-  each_truncation kinds s SetupActors well k = tt
-  each_truncation kinds s SetupObjects well k = tt
+  -- rows of digests
+  digests_up : ((at : ℕ) → at ≤ 64 → P (ask (row_number DigestNull + at) [])) → (n : ℕ) → n ≤ 65 → Each P (up_to digest_ask n)
+  digests_up d zero l = tt
+  digests_up d (suc n) l = join (up_to digest_ask n) (digest_ask n) (digests_up d n (omega (arith, l))) (d n (omega (arith, l)), tt)
+
+  pub each_digests : ((at : ℕ) → at ≤ 64 → P (ask (row_number DigestNull + at) [])) → (places : ℕ) → places ≤ 64 → Each P (digest_asks places)
+  unfolding digest_asks
+  each_digests d places l = digests_up d (places + 1) (omega (arith, l))
+
+  pub each_truncation : (kinds : KindCells) (s : State) (what : Truncation) → AreWell s → ((kind : TableKind) → Each (IsAsking P) (kind_cells kinds kind))
+      → kinds.digests ≤ 64 → ((at : ℕ) → at ≤ 64 → P (ask (row_number DigestNull + at) [])) → Each P (truncation_asks kinds s what)
+  each_truncation kinds s (Summary kind table) well k few d = each_summary s table (kind_cells kinds kind) well (k kind)
+  each_truncation kinds s Accounts well k few d = each_kinds kinds s tables.ByAccount well k
+  each_truncation kinds s Users well k few d = each_kinds kinds s tables.ByUser well k
+  each_truncation kinds s Hosts well k few d = each_kinds kinds s tables.ByHost well k
+  each_truncation kinds s DigestSummary well k few d = each_digests d kinds.digests few
+  each_truncation kinds s SetupActors well k few d = tt
+  each_truncation kinds s SetupObjects well k few d = tt
 
 -- what holds of low cells
 pub low_each : (Q : ℕ → Type 0) → ((cell : ℕ) → cell < 64 → Q cell) → (cells : List ℕ) → All (λ cell. cell < 64) cells → Each Q cells

@@ -24,7 +24,7 @@ use Rattle.pfs_tagged.specs.Ends.{Ended, number_of, all_ended, counts_in, events
 use Rattle.pfs_tagged.specs.Laws.{AddedLaw, DiscardedLaw}
 use Rattle.pfs_tagged.specs.Premises.{AreKept, IsOrderly, AreInRange}
 use Rattle.pfs_tagged.specs.Runs.{Run, given_in, entries_to, actions_to, rows_by, lines_to, events_to, sums_to, whose_to, found_to, stands_to, found_takes}
-use Rattle.pfs_tagged.proofs.Acted.{each_map}
+use Rattle.pfs_tagged.proofs.Rowed.{each_map}
 use Rattle.pfs_tagged.proofs.AddedRun.{run_once}
 use Rattle.pfs_tagged.proofs.Boarding.{low_cell, board_good, board_listing, row_here}
 use Rattle.pfs_tagged.proofs.Contented.{contented, found_stood, lines_ranged}
@@ -138,7 +138,7 @@ module _ (back : AreBack) (found : AreFound) (none : AreNone) (words : WordsAgre
       (shown_in (rows_by run kind) KeyAll (cell ∷ []) (places_behind run.setting (actions_to run phase))) (λ r t. contented back found none words run kind phase kept r t)
       (shown_here back found none words monoid run kind phase kept KeyAll (places_behind run.setting (actions_to run phase)) (well back found none words monoid run kind phase kept) (cell ∷ []) (low, tt)))))
       ∙ (sym (takes_printed _)
-      ∙ (reported (measures_in (given_in run) so_far) (fitting back found none words monoid run kind phase kept range) (board is_cell) (board_good back found none is_cell (low_cell run.setting kind)) (kind_rows is_cell) (board_listing back found none is_cell (low_cell run.setting kind))
+      ∙ (reported (measures_in (given_in run) so_far) (fitting monoid run phase range) (board is_cell) (board_good back found none is_cell (low_cell run.setting kind)) (kind_rows is_cell) (board_listing back found none is_cell (low_cell run.setting kind))
       (limits_of run.setting) (limits back found none words monoid run kind phase kept) (actions_to run phase) (kind_number kind) (events_to run kind phase) lines (whose_to run phase) (acted_by back found none words monoid run kind phase kept) (added run kind phase kept orderly few) cell low
       ∙ ap (λ (events : List ℕ). fold (with_event (sums_to run phase)) zero_of events) own))
 

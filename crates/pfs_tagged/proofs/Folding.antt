@@ -17,7 +17,7 @@ use Rattle.pfs_containers.specs.Administration.{Containers, advanced, connect_at
 use Rattle.pfs_rows.specs.Tables.{kind_number}
 use Rattle.pfs_rows.specs.declared.limits.Limits.{Limits}
 use Rattle.pfs_truncations.specs.declared.truncations.Truncation.{Truncation}
-use Rattle.pfs_truncations.specs.declared.truncations.Truncation.TheVariants.{Summary, Accounts, Users, Hosts, SetupActors, SetupObjects}
+use Rattle.pfs_truncations.specs.declared.truncations.Truncation.TheVariants.{Summary, DigestSummary, Accounts, Users, Hosts, SetupActors, SetupObjects}
 use Rattle.pfs_tagged.specs.Acts.{action_for, actions_of}
 use Rattle.pfs_tagged.specs.Board.{limits_of}
 
@@ -48,6 +48,7 @@ truncation_places c (Summary kind table) = at (kind_number kind == 0) where
 truncation_places c Accounts = refl
 truncation_places c Users = refl
 truncation_places c Hosts = refl
+truncation_places c DigestSummary = refl
 truncation_places c SetupActors = refl
 truncation_places c SetupObjects = refl
 
@@ -57,6 +58,7 @@ truncation_connects (Summary kind table) number user host e = cc
 truncation_connects Accounts number user host e = cc
 truncation_connects Users number user host e = cc
 truncation_connects Hosts number user host e = cc
+truncation_connects DigestSummary number user host e = cc
 truncation_connects SetupActors number user host e = cc
 truncation_connects SetupObjects number user host e = cc
 
@@ -65,6 +67,7 @@ truncation_quits (Summary kind table) number e = cc
 truncation_quits Accounts number e = cc
 truncation_quits Users number e = cc
 truncation_quits Hosts number e = cc
+truncation_quits DigestSummary number e = cc
 truncation_quits SetupActors number e = cc
 truncation_quits SetupObjects number e = cc
 

@@ -1,5 +1,5 @@
 -- What an action gives goes from the rows that it takes to rows of higher levels, of the same kind.
-use Rattle.std.proofs.Common.{◌≡◌, ℕ, suc, ◌-◌, ◌<◌, ◌≤◌, Bool, true, false, cond, List, [], ◌∷◌, ◌++◌, take, Option, Some, None, sym, subst}
+use Rattle.std.proofs.Common.{◌≡◌, ℕ, suc, ◌+◌, ◌-◌, ◌<◌, ◌≤◌, Bool, true, false, cond, List, [], ◌∷◌, ◌++◌, take, Option, Some, None, sym, subst, arith}
 use Rattle.std.specs.Prelude.{IfSome}
 use Rattle.pfs_admin.specs.Asks.{quit_work}
 use Rattle.pfs_admin.specs.Fold.{state_of}
@@ -17,7 +17,9 @@ use Rattle.pfs_conservation.specs.Administration.{numbered}
 use Rattle.pfs_containers.specs.Kept.{AreWell, IsInRange}
 use Rattle.pfs_containers.specs.declared.containers.Seated.{Seated}
 use Rattle.pfs_levels.specs.Flushes.{asks_of}
-use Rattle.pfs_levels.specs.Moves.{Ask}
+use Rattle.pfs_levels.specs.Moves.{Ask, ask}
+use Rattle.pfs_rows.specs.Rows.{row_number}
+use Rattle.pfs_rows.specs.declared.place.Place.TheVariants.{DigestNull}
 use Rattle.pfs_levels.specs.declared.flushes.Source.TheVariants as of
 use Rattle.pfs_model.specs.Asked.{Did, Took, Gave, Move, Sign, Frees, Tags, Flagging, given_to, moved_by, signed_by, flagged_by, asked_of}
 use Rattle.pfs_model.specs.Chains.{Each}
@@ -43,13 +45,17 @@ slot_going : (slot : ℕ) (account user host : Option ℕ) (cells : List ℕ) �
 slot_going slot account user host [] p h = tt
 slot_going slot account user host (cell ∷ cells) p h = ((climbing cell h.0).thread (record { place = slot; account = account; user = user; host = host }) p, slot_going slot account user host cells p h.1)
 
-going_for : (setting : Setting) (s : State) (session : ℕ) (what : Change) → AreWell s.kept.now.places → s.cells ≡ class_cells setting.classes → s.kinds ≡ kinds_of setting.classes → Each IsGoing (moves_asked (work_for s session what).moves)
+-- a row of digests is cleared, so nothing goes from it
+digest_climbing : (at : ℕ) → IsClimbing (ask (row_number DigestNull + at) [])
+digest_climbing at = (omega arith, tt)
+
+going_for : (setting : Setting) (s : State) (session : ℕ) (what : Change) → AreWell s.kept.now.places → s.cells ≡ class_cells setting.classes → s.kinds ≡ kinds_of setting → Each IsGoing (moves_asked (work_for s session what).moves)
 going_for setting s session (changes.Connect user host) well cells kinds =
     subst (λ z. Each IsGoing (moves_asked z)) (sym (connect_moves s.words (thread_flags s user host) (connected s session user host).kept.now (seat_at s session user host))) tt
 going_for setting s session (changes.Truncate what) well cells kinds =
     subst (λ z. Each IsGoing (moves_asked (truncation_asks z s.kept.now.places what))) (sym kinds)
-    (asked_going (truncation_asks (kinds_of setting.classes) s.kept.now.places what)
-    (each_truncation IsClimbing (kinds_of setting.classes) s.kept.now.places what well (λ kind. low_each (IsAsking IsClimbing) climbing (kind_cells (kinds_of setting.classes) kind) ((kinds_fit setting.classes).small kind))))
+    (asked_going (truncation_asks (kinds_of setting) s.kept.now.places what)
+    (each_truncation IsClimbing (kinds_of setting) s.kept.now.places what well (λ kind. low_each (IsAsking IsClimbing) climbing (kind_cells (kinds_of setting) kind) ((kinds_fit setting).small kind)) (kinds_fit setting).digests_few (λ at low. digest_climbing at)))
 going_for setting s session changes.Show well cells kinds = tt
 going_for setting s session changes.Quit well cells kinds = on (seat_in s session) (seat_in_in s session well) where
   on : (o : Option Seated) → IfSome o IsInRange → Each IsGoing (moves_asked (quit_work s.words s.cells (has_quit s session).kept.now o).moves)
@@ -68,10 +74,7 @@ each_join : {A : Type 0} (P : A → Type 0) (xs ys : List A) → Each P xs → E
 each_join P [] ys a b = b
 each_join P (x ∷ xs) ys a b = (a.0, each_join P xs ys a.1 b)
 
-module _ (back : AreBack) (found : AreFound) (setting : Setting) (change : Label → Change) (labels : List Label) (kind : TableKind) (number : ℕ) where
-  abbrev test : ℕ → Bool
-  test = is_kind_row (cells_of setting kind)
-
+module _ (test : ℕ → Bool) (setting : Setting) (change : Label → Change) (labels : List Label) (number : ℕ) (alike : AllAlike test (moves_as number (asked_at setting change labels number).moves)) where
   abbrev before : State
   before = state_of setting change (take (number - 1) labels)
 
@@ -80,12 +83,6 @@ module _ (back : AreBack) (found : AreFound) (setting : Setting) (change : Label
     on : (o : Option Label) → Each IsGoing (moves_asked (work_of_label change before o).moves)
     on None = tt
     on (Some label) = going_for setting before label.session (change label) (fold_well setting change (take (number - 1) labels)) (fold_cells setting change (take (number - 1) labels)) (fold_kinds setting change (take (number - 1) labels))
-
-  alike : AllAlike test (moves_as number (asked_at setting change labels number).moves)
-  alike = on (label_at labels number) where
-    on : (o : Option Label) → AllAlike test (moves_as number (moves_asked (work_of_label change before o).moves))
-    on None = tt
-    on (Some label) = alike_for back found setting kind (opened_by (limits_of setting)) (numbered []) number before label.session (change label) (fold_well setting change (take (number - 1) labels)) (fold_cells setting change (take (number - 1) labels)) (fold_kinds setting change (take (number - 1) labels))
 
   signed_ways : (signs : List Sign) → Each (IsWay test) (signed_by signs)
   signed_ways [] = tt
@@ -107,7 +104,23 @@ module _ (back : AreBack) (found : AreFound) (setting : Setting) (change : Label
     given true = given_ways m.from m.to g.0.1 a.0
     given false = tt
 
-  pub asked_ways : (counted : ℕ → Bool) → Each (IsWay (is_kind_row (cells_of setting kind))) (asked_of counted (asked_at setting change labels number))
-  asked_ways counted =
+  pub ways_asked : (counted : ℕ → Bool) → Each (IsWay test) (asked_of counted (asked_at setting change labels number))
+  ways_asked counted =
       each_join (IsWay test) (moved_by counted (asked_at setting change labels number).moves) _ (moved_ways counted (asked_at setting change labels number).moves going alike)
       (each_join (IsWay test) (signed_by (asked_at setting change labels number).signs) _ (signed_ways (asked_at setting change labels number).signs) (flagged_ways (asked_at setting change labels number).sets))
+
+-- of a kind's rows
+pub asked_ways : AreBack → AreFound → (setting : Setting) (change : Label → Change) (labels : List Label) (kind : TableKind) (number : ℕ) (counted : ℕ → Bool)
+    → Each (IsWay (is_kind_row (cells_of setting kind))) (asked_of counted (asked_at setting change labels number))
+asked_ways back found setting change labels kind number counted = ways_asked (is_kind_row (cells_of setting kind)) setting change labels number alike counted where
+  test : ℕ → Bool
+  test = is_kind_row (cells_of setting kind)
+
+  before : State
+  before = state_of setting change (take (number - 1) labels)
+
+  alike : AllAlike (is_kind_row (cells_of setting kind)) (moves_as number (asked_at setting change labels number).moves)
+  alike = on (label_at labels number) where
+    on : (o : Option Label) → AllAlike test (moves_as number (moves_asked (work_of_label change before o).moves))
+    on None = tt
+    on (Some label) = alike_for back found setting kind (opened_by (limits_of setting)) (numbered []) number before label.session (change label) (fold_well setting change (take (number - 1) labels)) (fold_cells setting change (take (number - 1) labels)) (fold_kinds setting change (take (number - 1) labels))

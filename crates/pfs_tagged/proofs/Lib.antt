@@ -18,6 +18,7 @@ pub mod Climbing
 pub mod Truncating
 pub mod Asking
 pub mod Tagging
+pub mod Rowed
 pub mod Acted
 pub mod Beginning
 pub mod AddedWalk
@@ -29,6 +30,7 @@ pub mod AddedHeld
 pub mod AddedSettled
 pub mod AddedCounts
 pub mod AddedRows
+pub mod AddedSubjects
 pub mod AddedOnce
 pub mod AddedSeat
 pub mod AddedTold
@@ -48,10 +50,19 @@ pub mod Standing
 pub mod Taking
 pub mod Going
 pub mod Based
+pub mod Contenting
 pub mod Contented
 pub mod Boarding
 pub mod Lasting
 pub mod Summed
+mod Unordered
 mod Discarding
 mod Discarded
 mod Cleared
+pub mod DigestRows
+pub mod DigestAsking
+pub mod DigestActed
+pub mod DigestContent
+pub mod DigestAdded
+mod Clearing
+mod DigestSummed

@@ -1,5 +1,5 @@
--- Each event that ends is offered to its row once: behind its end, added or held.
-use Rattle.std.proofs.Common.{◌≡◌, refl, ℕ, ◌+◌, ◌<◌, ◌≤◌, ◌==◌, ◌&&◌, Bool, true, false, cond, List, [], ◌∷◌, ◌++◌, Option, Some, None, sym, ap, subst, ◌∙◌, arith}
+-- Each event that ends is offered to its row once, and to that of its digest: behind its end, added or held.
+use Rattle.std.proofs.Common.{◌≡◌, refl, ℕ, ◌+◌, ◌==◌, ◌&&◌, Bool, true, false, cond, List, [], ◌∷◌, ◌++◌, Option, Some, None, sym, ap, subst, ◌∙◌, arith}
 use Rattle.pfs_event.specs.Verdicts.{is_let_through}
 use Rattle.pfs_event.specs.declared.entry.Entry.{Entry}
 use Rattle.pfs_event.specs.declared.entry.Entry.TheVariants as says
@@ -141,6 +141,10 @@ home_row one = cell_row (counted_slot one.context.slot one.event.verdict) one.ev
 abbrev pub comes_to : ℕ → ℕ → Ended → Bool
 comes_to number row one = (number_of one == number) && (is_let_through one.event.verdict && (home_row one == row))
 
+-- and beside it the row of its digest, where it is digested
+abbrev pub comes_beside : (ℕ → ℕ → ℕ) → ℕ → ℕ → Ended → Bool
+comes_beside flags number row one = (number_of one == number) && (is_digested flags one.context.slot one.event && (digest_row one.event.subject.digest == row))
+
 -- how many additions to a row are due
 abbrev pub owes_to : ℕ → Due → Bool
 owes_to row (Adds at) = at == row
@@ -149,18 +153,18 @@ owes_to row due = false
 abbrev pub owed : ℕ → List Due → ℕ
 owed row dues = times (owes_to row) dues
 
-no_feed : (row : ℕ) (e : Entry) → is_feed e ≡ false → feeds_at row e ≡ false
+pub no_feed : (row : ℕ) (e : Entry) → is_feed e ≡ false → feeds_at row e ≡ false
 no_feed row (says.Add at version) f = absurd (cc)
 no_feed row (says.Held at first second) f = absurd (cc)
 no_feed row _ f = refl
 
-head_feeds : (row : ℕ) (e : Entry) → is_head e ≡ true → feeds_at row e ≡ false
+pub head_feeds : (row : ℕ) (e : Entry) → is_head e ≡ true → feeds_at row e ≡ false
 head_feeds row (says.Add at version) f = absurd (cc)
 head_feeds row (says.Held at first second) f = absurd (cc)
 head_feeds row _ f = refl
 
 -- what is paid is offered just where it is due
-paid_feeds : (row : ℕ) (due : Due) (e : Entry) → is_paid due e ≡ true → feeds_at row e ≡ owes_to row due
+pub paid_feeds : (row : ℕ) (due : Due) (e : Entry) → is_paid due e ≡ true → feeds_at row e ≡ owes_to row due
 paid_feeds row (Adds at) (says.Add r version) p = ap (λ n. n == row) (eq_of r at p)
 paid_feeds row (Adds at) (says.Held r first second) p = ap (λ n. n == row) (eq_of r at p)
 paid_feeds row (Adds at) _ p = absurd (cc)
@@ -184,28 +188,28 @@ kept_ended line c (says.Add row version) f = refl
 kept_ended line c (says.Take row version) f = refl
 kept_ended line c _ f = refl
 
-tail_ended : (p : Placed) (e : Entry) → is_head e ≡ false → ended_at p e ≡ []
+pub tail_ended : (p : Placed) (e : Entry) → is_head e ≡ false → ended_at p e ≡ []
 tail_ended p (says.End event last consumers thread) f = absurd (cc)
 tail_ended p _ f = refl
 
--- only the cell's row is owed, but for a digest's
+-- only the rows of its cell and of its digest are owed
 owed_none : (row : ℕ) (dues : List Due) → dues ≡ [] → owed row dues ≡ 0
 owed_none row dues e = ap (owed row) e
 
-owed_if : (row : ℕ) (asked : Bool) (due : Due) → owes_to row due ≡ false → owed row (due_if asked due) ≡ 0
+pub owed_if : (row : ℕ) (asked : Bool) (due : Due) → owes_to row due ≡ false → owed row (due_if asked due) ≡ 0
 owed_if row true due n = omega (arith, bit_no (owes_to row due) n)
 owed_if row false due n = refl
 
-owed_slot : (row : ℕ) (slot : Option ℕ) (dues : ℕ → List Due) → ((own : ℕ) → owed row (dues own) ≡ 0) → owed row (in_slot slot dues) ≡ 0
+pub owed_slot : (row : ℕ) (slot : Option ℕ) (dues : ℕ → List Due) → ((own : ℕ) → owed row (dues own) ≡ 0) → owed row (in_slot slot dues) ≡ 0
 owed_slot row None dues h = refl
 owed_slot row (Some own) dues h = h own
 
-owed_current : (flags : ℕ → ℕ → ℕ) (row : ℕ) (slot : Option ℕ) (event : Opened) (others : List Opened) → owed row (current_due flags slot event others) ≡ 0
+pub owed_current : (flags : ℕ → ℕ → ℕ) (row : ℕ) (slot : Option ℕ) (event : Opened) (others : List Opened) → owed row (current_due flags slot event others) ≡ 0
 owed_current flags row slot event others =
     owed_slot row slot (λ own. due_if (is_offered_current flags slot event) (Puts (place_of_start own event.subject.kind others)))
     (λ own. owed_if row (is_offered_current flags slot event) (Puts (place_of_start own event.subject.kind others)) refl)
 
-owed_histories : (flags : ℕ → ℕ → ℕ) (row : ℕ) (earlier : List Placed) (p : Placed) (event : Opened) (consumers thread : Option ℕ) → owed row (history_dues flags earlier p event consumers thread) ≡ 0
+pub owed_histories : (flags : ℕ → ℕ → ℕ) (row : ℕ) (earlier : List Placed) (p : Placed) (event : Opened) (consumers thread : Option ℕ) → owed row (history_dues flags earlier p event consumers thread) ≡ 0
 owed_histories flags row earlier p event consumers thread =
     owed_slot row p.context.slot _
     (λ own.
@@ -216,20 +220,33 @@ owed_histories flags row earlier p event consumers thread =
     = times_append (owes_to row) (due_if (is_offered_at_end history_consumer flags p.context.slot event consumers thread) (Puts (history_place earlier p.session own (ring_number event.subject.kind)))) (due_if (is_offered_at_end long_consumer flags p.context.slot event consumers thread) (PutsLong (ring_number event.subject.kind))) in
     omega (arith, a, b, j))
 
-digest_high : (digest : Option ℕ) → 8385 ≤ digest_row digest
-digest_high None = omega arith
-digest_high (Some digest) = omega arith
+owed_digest : (row at : ℕ) (asked : Bool) → owed row (due_if asked (Adds at)) ≡ cond {A = ℕ} (asked && (at == row)) 1 0
+owed_digest row at true = plus_zero (cond (at == row) 1 0) where
+  plus_zero : (n : ℕ) → n + 0 ≡ n
+  plus_zero n = omega arith
+owed_digest row at false = refl
 
-high_apart : (a row : ℕ) → 8385 ≤ a → row < 8385 → (a == row) ≡ false
-high_apart a row l h = grind arith
+-- what isn't let through isn't digested
+through_digested : (statement through acts : Bool) → through ≡ false → (statement && through && acts) ≡ false
+through_digested true true acts q = absurd (cc)
+through_digested true false acts q = refl
+through_digested false through acts q = refl
 
-module _ (flags : ℕ → ℕ → ℕ) (session index row : ℕ) (low : row < 8385) where
-  -- what an end owes
-  owed_end : (earlier : List Placed) (p : Placed) (event : Opened) (others : List Opened) (consumers thread : Option ℕ)
-      → owed row (dues_at_end flags earlier p (event ∷ others) consumers thread) ≡ cond {A = ℕ} (is_let_through event.verdict && (cell_row (counted_slot p.context.slot event.verdict) event.subject.cell == row)) 1 0
-  owed_end earlier p event others consumers thread = at (is_let_through event.verdict) where
+undigested : (flags : ℕ → ℕ → ℕ) (slot : Option ℕ) (event : Opened) → is_let_through event.verdict ≡ false → is_digested flags slot event ≡ false
+undigested flags slot event q = through_digested _ (is_let_through event.verdict) _ q
+
+module _ (flags : ℕ → ℕ → ℕ) (row : ℕ) where
+  -- what an end owes to a row
+  pub owed_end : (earlier : List Placed) (p : Placed) (event : Opened) (others : List Opened) (consumers thread : Option ℕ)
+      → owed row (dues_at_end flags earlier p (event ∷ others) consumers thread)
+      ≡ cond {A = ℕ} (is_let_through event.verdict && (cell_row (counted_slot p.context.slot event.verdict) event.subject.cell == row)) 1 0
+      + cond {A = ℕ} (is_digested flags p.context.slot event && (digest_row event.subject.digest == row)) 1 0
+  owed_end earlier p event others consumers thread = at (is_let_through event.verdict) refl where
     home : ℕ
     home = cell_row (counted_slot p.context.slot event.verdict) event.subject.cell
+
+    beside : Bool
+    beside = is_digested flags p.context.slot event && (digest_row event.subject.digest == row)
 
     xs : List Due
     xs = due_if (is_digested flags p.context.slot event) (Adds (digest_row event.subject.digest))
@@ -240,26 +257,30 @@ module _ (flags : ℕ → ℕ → ℕ) (session index row : ℕ) (low : row < 83
     zs : List Due
     zs = history_dues flags earlier p event consumers thread
 
-    rest : owed row (xs ++ (ys ++ zs)) ≡ 0
+    rest : owed row (xs ++ (ys ++ zs)) ≡ cond {A = ℕ} beside 1 0
     rest =
         let a : owed row (xs ++ (ys ++ zs)) ≡ owed row xs + owed row (ys ++ zs) = times_append (owes_to row) xs (ys ++ zs) in
         let b : owed row (ys ++ zs) ≡ owed row ys + owed row zs = times_append (owes_to row) ys zs in
-        let c : owed row xs ≡ 0 = owed_if row (is_digested flags p.context.slot event) (Adds (digest_row event.subject.digest)) (high_apart (digest_row event.subject.digest) row (digest_high event.subject.digest) low) in
+        let c : owed row xs ≡ cond {A = ℕ} beside 1 0 = owed_digest row (digest_row event.subject.digest) (is_digested flags p.context.slot event) in
         let d : owed row ys ≡ 0 = owed_current flags row p.context.slot event others in
         let e : owed row zs ≡ 0 = owed_histories flags row earlier p event consumers thread in
         omega (arith, a, b, c, d, e)
 
-    at : (b : Bool) → owed row (cond b (Adds home ∷ (xs ++ (ys ++ zs))) []) ≡ cond {A = ℕ} (b && (home == row)) 1 0
-    at true = (let r : owed row (xs ++ (ys ++ zs)) ≡ 0 = rest in omega (arith, r))
-    at false = refl
+    at : (b : Bool) → is_let_through event.verdict ≡ b → owed row (cond b (Adds home ∷ (xs ++ (ys ++ zs))) []) ≡ cond {A = ℕ} (b && (home == row)) 1 0 + cond {A = ℕ} beside 1 0
+    at true q = ap (λ n. cond {A = ℕ} (home == row) 1 0 + n) rest
+    at false q = sym (ap (λ b. 0 + cond {A = ℕ} (b && (digest_row event.subject.digest == row)) 1 0) (undigested flags p.context.slot event q))
+
+module _ (flags : ℕ → ℕ → ℕ) (session index row : ℕ) where
+  abbrev Arriving : List Ended → ℕ
+  Arriving ends = times (comes_to (event_number session index) row) ends + times (comes_beside flags (event_number session index) row) ends
 
   abbrev Arrivals : List Placed → ℕ
-  Arrivals ps = times (comes_to (event_number session index) row) (all_ended ps)
+  Arrivals ps = Arriving (all_ended ps)
 
   -- an end, with what is owed then
   arrives : (earlier : List Placed) (p : Placed) (opened : List Opened) (consumers thread : Option ℕ) (ps : List Placed)
       → cond ((p.session == session) && is_index index (first_of opened)) (owed row (dues_at_end flags earlier p opened consumers thread)) 0 + Arrivals ps
-      ≡ times (comes_to (event_number session index) row) (ended_first p opened ++ all_ended ps)
+      ≡ Arriving (ended_first p opened ++ all_ended ps)
   arrives earlier p [] consumers thread ps = none ((p.session == session) && false) where
     none : (b : Bool) → cond {A = ℕ} b 0 0 + Arrivals ps ≡ Arrivals ps
     none true = omega arith
@@ -268,16 +289,31 @@ module _ (flags : ℕ → ℕ → ℕ) (session index row : ℕ) (low : row < 83
     through : Bool
     through = is_let_through event.verdict && (cell_row (counted_slot p.context.slot event.verdict) event.subject.cell == row)
 
+    beside : Bool
+    beside = is_digested flags p.context.slot event && (digest_row event.subject.digest == row)
+
+    owes : ℕ
+    owes = owed row (dues_at_end flags earlier p (event ∷ others) consumers thread)
+
+    bit : (b c : Bool) → ((p.session == session) && (event.index == index)) ≡ b
+        → cond {A = ℕ} ((event_number p.session event.index == event_number session index) && c) 1 0 ≡ cond {A = ℕ} (b && c) 1 0
+    bit b c q = ap (λ z. cond {A = ℕ} (z && c) 1 0) (number_is p.session event.index session index ∙ q)
+
     at : (b : Bool) → ((p.session == session) && (event.index == index)) ≡ b
-        → cond ((p.session == session) && (event.index == index)) (owed row (dues_at_end flags earlier p (event ∷ others) consumers thread)) 0 + Arrivals ps
-        ≡ cond {A = ℕ} ((event_number p.session event.index == event_number session index) && through) 1 0 + Arrivals ps
+        → cond ((p.session == session) && (event.index == index)) owes 0 + Arrivals ps
+        ≡ (cond {A = ℕ} ((event_number p.session event.index == event_number session index) && through) 1 0 + times (comes_to (event_number session index) row) (all_ended ps))
+        + (cond {A = ℕ} ((event_number p.session event.index == event_number session index) && beside) 1 0 + times (comes_beside flags (event_number session index) row) (all_ended ps))
     at true q =
-        ap (λ z. cond z (owed row (dues_at_end flags earlier p (event ∷ others) consumers thread)) 0 + Arrivals ps) q
-        ∙ (ap (λ n. n + Arrivals ps) (owed_end earlier p event others consumers thread)
-        ∙ sym (ap (λ z. cond {A = ℕ} (z && through) 1 0 + Arrivals ps) (number_is p.session event.index session index ∙ q)))
+        let o : owes ≡ cond {A = ℕ} through 1 0 + cond {A = ℕ} beside 1 0 = owed_end flags row earlier p event others consumers thread in
+        let c : cond ((p.session == session) && (event.index == index)) owes 0 ≡ owes = ap (λ z. cond z owes 0) q in
+        let t : cond {A = ℕ} ((event_number p.session event.index == event_number session index) && through) 1 0 ≡ cond {A = ℕ} through 1 0 = bit true through q in
+        let d : cond {A = ℕ} ((event_number p.session event.index == event_number session index) && beside) 1 0 ≡ cond {A = ℕ} beside 1 0 = bit true beside q in
+        omega (arith, o, c, t, d)
     at false q =
-        ap (λ z. cond z (owed row (dues_at_end flags earlier p (event ∷ others) consumers thread)) 0 + Arrivals ps) q
-        ∙ sym (ap (λ z. cond {A = ℕ} (z && through) 1 0 + Arrivals ps) (number_is p.session event.index session index ∙ q))
+        let c : cond ((p.session == session) && (event.index == index)) owes 0 ≡ 0 = ap (λ z. cond z owes 0) q in
+        let t : cond {A = ℕ} ((event_number p.session event.index == event_number session index) && through) 1 0 ≡ 0 = bit false through q in
+        let d : cond {A = ℕ} ((event_number p.session event.index == event_number session index) && beside) 1 0 ≡ 0 = bit false beside q in
+        omega (arith, c, t, d)
 
   data Mode : Type 0 where
     Idle : Mode
@@ -339,10 +375,10 @@ module _ (flags : ℕ → ℕ → ℕ) (session index row : ℕ) (low : row < 83
         Go = (next : Mode) → IsIn next (in_reach hand p.entry) behind ps → offered session index row ps ≡ due_in next p.session behind + Arrivals ps
 
         Goal : Mode → Type 0
-        Goal mode = cond {A = ℕ} (offers session index row p) 1 0 + offered session index row ps ≡ due_in mode at d + times (comes_to (event_number session index) row) (ended_at p p.entry ++ all_ended ps)
+        Goal mode = cond {A = ℕ} (offers session index row p) 1 0 + offered session index row ps ≡ due_in mode at d + Arriving (ended_at p p.entry ++ all_ended ps)
 
         -- with which a line begins
-        first : (e : Entry) → p.entry ≡ e → is_head e ≡ true → Go → offered session index row ps ≡ times (comes_to (event_number session index) row) (ended_at p e ++ all_ended ps)
+        first : (e : Entry) → p.entry ≡ e → is_head e ≡ true → Go → offered session index row ps ≡ Arriving (ended_at p e ++ all_ended ps)
         first (says.End event last consumers thread) q h go =
             let dues : List Due = dues_at_end flags earlier p p.context.opened consumers thread in
             let e : behind.ended ≡ first_of p.context.opened = ap (λ z. (noted (subject_of p.line) p.context z).ended) q in
@@ -369,21 +405,21 @@ module _ (flags : ℕ → ℕ → ℕ) (session index row : ℕ) (low : row < 83
           zero_plus n = omega arith
         first _ q h go = absurd (cc)
 
-        still : is_head p.entry ≡ false → Arrivals ps ≡ times (comes_to (event_number session index) row) (ended_at p p.entry ++ all_ended ps)
-        still h = sym (ap (λ (z : List Ended). times (comes_to (event_number session index) row) (z ++ all_ended ps)) (tail_ended p p.entry h))
+        still : is_head p.entry ≡ false → Arrivals ps ≡ Arriving (ended_at p p.entry ++ all_ended ps)
+        still h = sym (ap (λ (z : List Ended). Arriving (z ++ all_ended ps)) (tail_ended p p.entry h))
 
         -- any other
         next : (mode : Mode) → is_head p.entry ≡ false → IsIn mode hand d (p ∷ ps) → Go → Goal mode
         next Idle h i go =
             let o : cond {A = ℕ} (offers session index row p) 1 0 ≡ 0 = bit_no (offers session index row p) (unfed p (no_feed row p.entry (f.0 i))) in
             let g : offered session index row ps ≡ 0 + Arrivals ps = go Idle (ap (λ z. cond z (is_source p.entry) hand) h ∙ i) in
-            let s : Arrivals ps ≡ times (comes_to (event_number session index) row) (ended_at p p.entry ++ all_ended ps) = still h in
+            let s : Arrivals ps ≡ Arriving (ended_at p p.entry ++ all_ended ps) = still h in
             omega (arith, o, g, s)
         next Settled h i go =
             let none : p.context.ended ≡ None = ap (λ (z : Context). z.ended) (n.0 h).1 ∙ i in
             let o : cond {A = ℕ} (offers session index row p) 1 0 ≡ 0 = bit_no (offers session index row p) (unended p none) in
             let g : offered session index row ps ≡ 0 + Arrivals ps = go Settled (kept_ended p.line p.context p.entry h ∙ none) in
-            let s : Arrivals ps ≡ times (comes_to (event_number session index) row) (ended_at p p.entry ++ all_ended ps) = still h in
+            let s : Arrivals ps ≡ Arriving (ended_at p p.entry ++ all_ended ps) = still h in
             omega (arith, o, g, s)
         next (Owing dues) h i go = pays dues (subst (λ z. ArePaid dues (cond z [] (p.entry ∷ behind_it ps))) h i) where
           pays : (dues : List Due) → ArePaid dues (p.entry ∷ behind_it ps) → Goal (Owing dues)
@@ -399,20 +435,20 @@ module _ (flags : ℕ → ℕ → ℕ) (session index row : ℕ) (low : row < 83
               let w : cond ((p.session == session) && is_index index p.context.ended) (cond {A = ℕ} (owes_to row due) 1 0 + owed row dues) 0 ≡ cond ((at == session) && is_index index d.ended) (cond {A = ℕ} (owes_to row due) 1 0 + owed row dues) 0
               = ap (λ z. cond ((z == session) && is_index index p.context.ended) (cond {A = ℕ} (owes_to row due) 1 0 + owed row dues) 0) (n.0 h).0
               ∙ ap (λ (z : Context). cond ((at == session) && is_index index z.ended) (cond {A = ℕ} (owes_to row due) 1 0 + owed row dues) 0) (n.0 h).1 in
-              let s : Arrivals ps ≡ times (comes_to (event_number session index) row) (ended_at p p.entry ++ all_ended ps) = still h in
+              let s : Arrivals ps ≡ Arriving (ended_at p p.entry ++ all_ended ps) = still h in
               omega (arith, g, k, o, j, w, s)
 
         on : (x : Bool) → is_head p.entry ≡ x → (mode : Mode) → IsIn mode hand d (p ∷ ps) → Go → Goal mode
         on true h mode i go =
             let z : due_in mode at d ≡ 0 = nothing_due mode hand at d (p ∷ ps) (ap (λ z. cond z [] (p.entry ∷ behind_it ps)) h) i in
             let o : cond {A = ℕ} (offers session index row p) 1 0 ≡ 0 = bit_no (offers session index row p) (unfed p (head_feeds row p.entry h)) in
-            let s : offered session index row ps ≡ times (comes_to (event_number session index) row) (ended_at p p.entry ++ all_ended ps) = first p.entry refl h go in
+            let s : offered session index row ps ≡ Arriving (ended_at p p.entry ++ all_ended ps) = first p.entry refl h go in
             omega (arith, z, o, s)
         on false h mode i go = next mode h i go
 
--- so a row of a cell is offered just the events that come to it
-pub all_offered : (flags : ℕ → ℕ → ℕ) (session index row : ℕ) → row < 8385 → (ps : List Placed) → AreNear ps → AreFedPlaces false ps → AreBroughtBehind flags [] ps
-    → offered session index row ps ≡ times (comes_to (event_number session index) row) (all_ended ps)
-all_offered flags session index row low ps n f b = walk_offered flags session index row low [] ps false Idle 0 fresh (n 0 fresh) f b refl ∙ zero_plus _ where
+-- so a row is offered just the events that come to it, by their cell or by their digest
+pub all_offered : (flags : ℕ → ℕ → ℕ) (session index row : ℕ) (ps : List Placed) → AreNear ps → AreFedPlaces false ps → AreBroughtBehind flags [] ps
+    → offered session index row ps ≡ times (comes_to (event_number session index) row) (all_ended ps) + times (comes_beside flags (event_number session index) row) (all_ended ps)
+all_offered flags session index row ps n f b = walk_offered flags session index row [] ps false Idle 0 fresh (n 0 fresh) f b refl ∙ zero_plus _ where
   zero_plus : (n : ℕ) → 0 + n ≡ n
   zero_plus n = omega arith

@@ -17,7 +17,7 @@ use Rattle.pfs_containers.specs.Connections.{in_use, FreesAccounts, stepped as p
 use Rattle.pfs_containers.specs.Kept.{AreWell, IsInRange, seat_by, seated}
 use Rattle.pfs_containers.specs.declared.containers.Connection.{Connection}
 use Rattle.pfs_truncations.specs.declared.truncations.Truncation.{Truncation}
-use Rattle.pfs_truncations.specs.declared.truncations.Truncation.TheVariants.{Summary, Accounts, Users, Hosts, SetupActors, SetupObjects}
+use Rattle.pfs_truncations.specs.declared.truncations.Truncation.TheVariants.{Summary, DigestSummary, Accounts, Users, Hosts, SetupActors, SetupObjects}
 
 -- no place that isn't there
 connect_well : (c : Containers) (number user host : ℕ) → AreWell c.places → AreWell (connect_at c number user host (lowest_free c.places.threads)).places
@@ -41,6 +41,7 @@ truncation_well c Users well =
 truncation_well c Hosts well =
     hosts_freed (places_after c.places FreesAccounts) (in_use (λ x. x.host) c.places.threads) _ refl
     (accounts_freed c.places (in_use (λ x. x.account) c.places.threads) _ refl well)
+truncation_well c DigestSummary well = well
 truncation_well c SetupActors well = well
 truncation_well c SetupObjects well = well
 
@@ -79,5 +80,5 @@ seat_in_in s number well = by_found (found_where (λ x. x.number == number) s.ke
 pub fold_cells : (setting : Setting) (change : Label → Change) (labels : List Label) → (state_of setting change labels).cells ≡ cells_of setting.classes
 fold_cells setting change labels = (fixed_law setting change labels (state_of setting change labels) refl).1
 
-pub fold_kinds : (setting : Setting) (change : Label → Change) (labels : List Label) → (state_of setting change labels).kinds ≡ kinds_of setting.classes
+pub fold_kinds : (setting : Setting) (change : Label → Change) (labels : List Label) → (state_of setting change labels).kinds ≡ kinds_of setting
 fold_kinds setting change labels = (fixed_law setting change labels (state_of setting change labels) refl).2

@@ -30,7 +30,8 @@ use Rattle.pfs_tagged.specs.Ends.{Ended, number_of, session_of, all_ended, of_nu
 use Rattle.pfs_tagged.specs.Laws.{AddedLaw, SummedLaw}
 use Rattle.pfs_tagged.specs.Premises.{AreKept, IsOrderly, AreInRange}
 use Rattle.pfs_tagged.specs.Runs.{Run, given_in, entries_to, actions_to, rows_by, lines_to, events_to, sums_to, whose_to, found_to, kept_to, stands_to, IsKeyOf}
-use Rattle.pfs_tagged.proofs.Acted.{acted, each_map, each_chosen}
+use Rattle.pfs_tagged.proofs.Acted.{acted}
+use Rattle.pfs_tagged.proofs.Rowed.{each_map, each_chosen}
 use Rattle.pfs_tagged.proofs.Boarding.{low_cell, board_good, board_listing, row_here}
 use Rattle.pfs_tagged.proofs.Contented.{contented, counted_found}
 use Rattle.pfs_tagged.proofs.Folding.{fold_places, length_as}
@@ -110,6 +111,16 @@ numbered_in blocks number (x ∷ all) one h e = at (number_of x == number) e (nu
   at true e go = subst (EndsLast blocks) (same e) h.0
   at false e go = go e
 
+-- an event's numbers fit
+pub fitting : MergeIsMonoid → (run : Run) (phase : ℕ) → AreInRange run.facts → (event : ℕ) → Fits (stat_of (measures_in (given_in run) (entries_to run phase) event))
+fitting monoid run phase range event = on (of_number event (all_ended (entries_to run phase))) where
+  timed : (b : Bool) (f : Facts) → IsInRange (measure_of false f) → IsInRange (measure_of b f)
+  timed b f r = record { wait = r.wait; lock = r.lock; errors = r.errors; warnings = r.warnings; affected = r.affected; sent = r.sent; examined = r.examined }
+
+  on : (o : Option Ended) → Fits (stat_of (measure_if (given_in run) o))
+  on None = monoid.event_fits no_measure (record { wait = omega arith; lock = omega arith; errors = omega arith; warnings = omega arith; affected = omega arith; sent = omega arith; examined = omega arith })
+  on (Some one) = monoid.event_fits _ (timed _ (run.facts one.session one.event.index) (range one.session one.event.index))
+
 module _ (back : AreBack) (found : AreFound) (none : AreNone) (words : WordsAgree) (monoid : MergeIsMonoid) (run : Run) (kind : TableKind) (phase : ℕ) (kept : AreKept run) where
   abbrev so_far : List Placed
   so_far = entries_to run phase
@@ -122,16 +133,6 @@ module _ (back : AreBack) (found : AreFound) (none : AreNone) (words : WordsAgre
 
   abbrev lines : List Tagged
   lines = lines_to run kind phase
-
-  -- an event's numbers fit
-  pub fitting : AreInRange run.facts → (event : ℕ) → Fits (stat_of (measures_in (given_in run) so_far event))
-  fitting range event = on (of_number event (all_ended so_far)) where
-    timed : (b : Bool) (f : Facts) → IsInRange (measure_of false f) → IsInRange (measure_of b f)
-    timed b f r = record { wait = r.wait; lock = r.lock; errors = r.errors; warnings = r.warnings; affected = r.affected; sent = r.sent; examined = r.examined }
-
-    on : (o : Option Ended) → Fits (stat_of (measure_if (given_in run) o))
-    on None = monoid.event_fits no_measure (record { wait = omega arith; lock = omega arith; errors = omega arith; warnings = omega arith; affected = omega arith; sent = omega arith; examined = omega arith })
-    on (Some one) = monoid.event_fits _ (timed _ (run.facts one.session one.event.index) (range one.session one.event.index))
 
   -- each action prints what it moves by what its takes found
   agreed : Each (λ (line : Tagged). IsAgreed run.counted (kept_to run kind phase) line.row (change_of line)) lines
@@ -233,7 +234,7 @@ module _ (back : AreBack) (found : AreFound) (none : AreNone) (words : WordsAgre
       (each_map (λ row. test row ≡ true) (λ row. content (sums_to run phase) (found_to run kind phase) (chain_of (lines_to run kind phase) row) ≡ stands_to run phase row)
       (shown_in (rows_by run kind) key cells (places_behind run.setting (actions_to run phase))) (λ row t. contented back found none words run kind phase kept row t)
       (shown_here key (places_behind run.setting (actions_to run phase)) well cells low)))
-      ∙ reported (measures_in (given_in run) so_far) (fitting range) (board is_cell) (board_good back found none is_cell (low_cell run.setting kind)) (kind_rows is_cell) (board_listing back found none is_cell (low_cell run.setting kind))
+      ∙ reported (measures_in (given_in run) so_far) (fitting monoid run phase range) (board is_cell) (board_good back found none is_cell (low_cell run.setting kind)) (kind_rows is_cell) (board_listing back found none is_cell (low_cell run.setting kind))
       (limits_of run.setting) limits (actions_to run phase) (kind_number kind) (events_to run kind phase) lines (whose_to run phase) acted_by (added run kind phase kept orderly few) key cells low once (λ event h. slots orderly key is event)
 
 pub summed_law : AreBack → AreFound → AreNone → WordsAgree → MergeIsMonoid → Reported → AddedLaw → SummedLaw

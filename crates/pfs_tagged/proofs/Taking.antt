@@ -105,7 +105,7 @@ takes_moved kept action row (m ∷ ms) =
         at false e = e
 
 module _ (holder : ℕ → ℕ → Option Owner) (takes : ℕ → ℕ → Bool) (action row : ℕ) where
-  moves_few : (rows : List ℕ) → times (λ (m : Move). m.from == row) (moves_of holder takes action rows) ≤ times (λ r. r == row) rows
+  pub moves_few : (rows : List ℕ) → times (λ (m : Move). m.from == row) (moves_of holder takes action rows) ≤ times (λ r. r == row) rows
   moves_few [] = omega arith
   moves_few (r ∷ rows) = at (takes action r) (holder action r) (moves_few rows) where
     at : (b : Bool) (o : Option Owner) → times (λ (m : Move). m.from == row) (moves_of holder takes action rows) ≤ times (λ r. r == row) rows

@@ -1,11 +1,11 @@
 -- A truncation asks, among the rows of a kind, just what the fold moves there.
-use Rattle.std.proofs.Common.{◌≡◌, refl, ℕ, ◌≤◌, ◌==◌, ◌&&◌, Bool, true, false, cond, nat_le, nat_lt, List, [], ◌∷◌, ◌++◌, length, Option, Some, None, sym, ap, ◌∙◌, arith}
+use Rattle.std.proofs.Common.{◌≡◌, refl, ℕ, zero, suc, ◌+◌, ◌<◌, ◌≤◌, ◌==◌, ◌&&◌, Bool, true, false, cond, nat_le, nat_lt, List, [], ◌∷◌, ◌++◌, length, Option, Some, None, sym, ap, ◌∙◌, arith}
 use Rattle.std.specs.Prelude.{slice_get}
 use Rattle.std.proofs.lemmas.Option.{slice_get_past}
 use Rattle.pfs_admin.proofs.Celling.{kinds_fit}
 use Rattle.pfs_admin.specs.Opening.{cells_of_kind, kinds_of}
 use Rattle.pfs_admin.specs.States.{kind_cells}
-use Rattle.pfs_admin.specs.Truncations.{reach_of, summary_asks, all_asks, truncation_asks, level_of, action_of}
+use Rattle.pfs_admin.specs.Truncations.{reach_of, summary_asks, all_asks, digest_asks, truncation_asks, level_of, action_of}
 use Rattle.pfs_asked.specs.Asking.{moves_asked}
 use Rattle.pfs_classes.specs.declared.classes.Class.{Class}
 use Rattle.pfs_classes.specs.declared.setting.Setting.{Setting}
@@ -18,20 +18,33 @@ use Rattle.pfs_containers.specs.Kept.{AreWell}
 use Rattle.pfs_levels.specs.Moves.{Ask}
 use Rattle.pfs_model.specs.Chains.{Each}
 use Rattle.pfs_readsets.specs.Places.{is_kind_cell, is_class_of, table_kind}
+use Rattle.pfs_rows.specs.Rows.{row_number}
 use Rattle.pfs_rows.specs.Tables.{kind_number}
+use Rattle.pfs_rows.specs.declared.place.Place.{Place as Spot}
+use Rattle.pfs_rows.specs.declared.place.Place.TheVariants.{DigestNull, Digest}
 use Rattle.pfs_rows.specs.declared.table.SummaryTable.{SummaryTable}
 use Rattle.pfs_rows.specs.declared.table.SummaryTable.TheVariants as tables
 use Rattle.pfs_rows.specs.declared.table.TableKind.{TableKind}
 use Rattle.pfs_rows.specs.declared.table.TableKind.TheVariants.{Waits, Stages, Statements, Transactions}
 use Rattle.pfs_ruled.proofs.Classes.{few_classes}
-use Rattle.pfs_tagged.specs.Board.{board, cells_of, seat_in as seat_of_row, is_kind_row, kind_rows}
-use Rattle.pfs_tagged.proofs.Climbing.{IsAsking, each_summary, each_truncation, low_each, asking_alike, asking_other, other_cells}
+use Rattle.pfs_tagged.specs.Board.{board, cells_of, seat_by, seat_in as seat_of_row, is_somewhere, is_kind_row, kind_rows}
+use Rattle.pfs_tagged.proofs.Climbing.{IsAsking, each_digests, each_summary, each_truncation, low_each, asking_alike, asking_other, other_cells}
 use Rattle.pfs_tagged.proofs.Emptying.{asked, asked_then, none_asked, Reaches, reach_same}
 use Rattle.pfs_tagged.proofs.Printing.{moves_as, moves_on, AreAlike, AllAlike}
 use Rattle.pfs_tagged.proofs.Seating.{AreBack, none_of_all}
 use Rattle.pfs_tagged.proofs.Sifting.{eq_of, both_of}
 use Rattle.pfs_truncations.specs.declared.truncations.Truncation.{Truncation}
-use Rattle.pfs_truncations.specs.declared.truncations.Truncation.TheVariants.{Summary, Accounts, Users, Hosts, SetupActors, SetupObjects}
+use Rattle.pfs_truncations.specs.declared.truncations.Truncation.TheVariants.{Summary, DigestSummary, Accounts, Users, Hosts, SetupActors, SetupObjects}
+
+-- no row of a digest is a cell's
+digest_apart : AreBack → (is_cell : ℕ → Bool) (at : ℕ) → at ≤ 64 → is_kind_row is_cell (row_number DigestNull + at) ≡ false
+digest_apart back is_cell zero l =
+    let e : row_number DigestNull + zero ≡ row_number DigestNull = omega arith in
+    ap (λ row. is_kind_row is_cell row) e ∙ ap (λ (o : Option Spot). is_somewhere (seat_by is_cell o).place) (back DigestNull tt)
+digest_apart back is_cell (suc digest) l =
+    let e : row_number DigestNull + suc digest ≡ row_number (Digest digest) = omega arith in
+    let low : digest < 64 = omega (arith, l) in
+    ap (λ row. is_kind_row is_cell row) e ∙ ap (λ (o : Option Spot). is_somewhere (seat_by is_cell o).place) (back (Digest digest) low)
 
 -- no cell is of two kinds
 class_apart : (o : Option Class) (other kind : TableKind) → (kind_number other == kind_number kind) ≡ false → is_class_of other o ≡ true → is_class_of kind o ≡ false
@@ -161,7 +174,7 @@ module _ (back : AreBack) (setting : Setting) (kind : TableKind) (opening : Stat
         (each_summary (λ (a : Ask). is_kind_row is_cell a.from ≡ false) before table (cells_of_kind setting.classes other) well (others other q))
 
   -- of all kinds
-  whole : (table : SummaryTable) → IsReach table → asked is_cell action (all_asks (kinds_of setting.classes) before table) ≡ all_moves
+  whole : (table : SummaryTable) → IsReach table → asked is_cell action (all_asks (kinds_of setting) before table) ≡ all_moves
   unfolding kinds_of
   whole table reaches =
       asked_then is_cell action (of Waits) (of Stages ++ (of Statements ++ of Transactions))
@@ -181,7 +194,7 @@ module _ (back : AreBack) (setting : Setting) (kind : TableKind) (opening : Stat
         each : (other : TableKind) → asked is_cell action (of other) ≡ got other
         each other = part table other (λ q. reaches)
 
-  kind_is : (other : TableKind) → kind_cells (kinds_of setting.classes) other ≡ cells_of_kind setting.classes other
+  kind_is : (other : TableKind) → kind_cells (kinds_of setting) other ≡ cells_of_kind setting.classes other
   unfolding kinds_of
   kind_is Waits = refl
   kind_is Stages = refl
@@ -206,7 +219,7 @@ module _ (back : AreBack) (setting : Setting) (kind : TableKind) (opening : Stat
     at false q p = p ∙ (ap (λ z. cond z all_moves []) q ∙ sym (idle (truncates false q)))
 
   pub truncation_same : (what : Truncation) → actions action ≡ action_of what
-      → moves_on (is_kind_row (cells_of setting kind)) (moves_as action (moves_asked (truncation_asks (kinds_of setting.classes) (state_before opening actions action) what)))
+      → moves_on (is_kind_row (cells_of setting kind)) (moves_as action (moves_asked (truncation_asks (kinds_of setting) (state_before opening actions action) what)))
       ≡ moves_of (holder_of (board (cells_of setting kind)) opening actions) (takes_by (board (cells_of setting kind)) opening actions (kind_number kind)) action (kind_rows (cells_of setting kind))
   truncation_same (Summary other table) e = ap (λ z. asked is_cell action (summary_asks before table z)) (kind_is other) ∙ summary_same other table e
   truncation_same Accounts e =
@@ -218,6 +231,10 @@ module _ (back : AreBack) (setting : Setting) (kind : TableKind) (opening : Stat
   truncation_same Hosts e =
       whole tables.ByHost (by_line FreesHosts tables.ByHost (ap (λ a. line_of (kind_number kind) before a) e)
       (record { thread = λ p. refl; account = λ p. refl; user = λ p. refl; host = λ p. refl; global = refl }))
+  truncation_same DigestSummary e =
+      none_asked is_cell action (digest_asks (kinds_of setting).digests)
+      (each_digests (λ (a : Ask). is_kind_row is_cell a.from ≡ false) (λ at l. digest_apart back is_cell at l) (kinds_of setting).digests (kinds_fit setting).digests_few)
+      ∙ sym (idle (ap (λ a. line_of (kind_number kind) before a) e))
   truncation_same SetupActors e = sym (idle (ap (λ a. line_of (kind_number kind) before a) e))
   truncation_same SetupObjects e = sym (idle (ap (λ a. line_of (kind_number kind) before a) e))
 
@@ -230,8 +247,8 @@ module _ (back : AreBack) (setting : Setting) (kind : TableKind) (action : ℕ) 
   moves_alike [] h = tt
   moves_alike (a ∷ asks) h = (h.0, moves_alike asks h.1)
 
-  pub truncation_alike : (what : Truncation) → AllAlike (is_kind_row (cells_of setting kind)) (moves_as action (moves_asked (truncation_asks (kinds_of setting.classes) places what)))
+  pub truncation_alike : (what : Truncation) → AllAlike (is_kind_row (cells_of setting kind)) (moves_as action (moves_asked (truncation_asks (kinds_of setting) places what)))
   truncation_alike what =
-      moves_alike (truncation_asks (kinds_of setting.classes) places what)
-      (each_truncation (λ (a : Ask). AreAlike test a.from a.to) (kinds_of setting.classes) places what well
-      (λ other. low_each (IsAsking (λ (a : Ask). AreAlike test a.from a.to)) (λ cell c. asking_alike back (cells_of setting kind) cell c) (kind_cells (kinds_of setting.classes) other) ((kinds_fit setting.classes).small other)))
+      moves_alike (truncation_asks (kinds_of setting) places what)
+      (each_truncation (λ (a : Ask). AreAlike test a.from a.to) (kinds_of setting) places what well
+      (λ other. low_each (IsAsking (λ (a : Ask). AreAlike test a.from a.to)) (λ cell c. asking_alike back (cells_of setting kind) cell c) (kind_cells (kinds_of setting) other) ((kinds_fit setting).small other)) (kinds_fit setting).digests_few (λ at low. tt))

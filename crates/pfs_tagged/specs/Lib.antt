@@ -5,4 +5,5 @@ pub mod Tagged
 pub mod Runs
 pub mod Premises
 pub mod Laws
+pub mod Digests
 pub mod Worked

@@ -1,5 +1,5 @@
 -- What conservation asks of a run: the rules, and of its script that sessions connect first and quit last.
-use Rattle.std.specs.Prelude.{ℕ, ◌≡◌, ◌<◌, Bool, true, false, List, [], ◌∷◌, IfSome, Option, Some, None}
+use Rattle.std.specs.Prelude.{ℕ, ◌≡◌, ◌<◌, Bool, true, false, List, [], ◌∷◌, length, IfSome, Option, Some, None}
 use Rattle.pfs_admin.specs.declared.changes.Change.{Change}
 use Rattle.pfs_admin.specs.declared.changes.Change.TheVariants as changes
 use Rattle.pfs_board.specs.declared.view.Label.{Label}
@@ -91,6 +91,13 @@ IsSmall line = IfSome (subject_of line) (λ subject. subject.cell < 64)
 abbrev pub AreSmall : List Block → Type 0
 AreSmall blocks = Each (λ (block : Block). Each IsSmall block.lines) blocks
 
+-- a statement's digest text has one of so many places, or none
+abbrev pub IsTexted : ℕ → Line → Type 0
+IsTexted places line = IfSome (subject_of line) (λ subject. IfSome subject.digest (λ place. place < places))
+
+abbrev pub AreTexted : ℕ → List Block → Type 0
+AreTexted places blocks = Each (λ (block : Block). Each (IsTexted places) block.lines) blocks
+
 -- what the script's rules give of a run
 pub record IsOrderly (run : Run) : Type 0 where
   pub actions : AreActionsOf run.change run.labels (places run.blocks)
@@ -98,6 +105,7 @@ pub record IsOrderly (run : Run) : Type 0 where
   pub last : AreLastBehind [] (places run.blocks)
   pub closed : AreClosed run.blocks
   pub small : AreSmall run.blocks
+  pub texted : AreTexted (length run.setting.digests) run.blocks
 
 -- the facts of each event are numbers of 64 bits
 abbrev pub AreInRange : (ℕ → ℕ → Facts) → Type 0

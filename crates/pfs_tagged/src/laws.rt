@@ -1,5 +1,6 @@
 //! Laws of the definitions.
 
+ghost use Rattle.pfs_tagged.specs.Digests.{DigestActedLaw, DigestAddedLaw, DigestContentLaw, DigestSummedLaw};
 ghost use Rattle.pfs_tagged.specs.Laws.{ActedLaw, AddedLaw, ContentLaw, FoundLaw, SummedLaw, DiscardedLaw, ClearedLaw};
 ghost use Rattle.pfs_tagged.specs.Worked.{WorkedTags};
 
@@ -62,6 +63,36 @@ pub fn cleared()
     ensures { ClearedLaw }
 {
     pfs_rows::laws::rows();
+}
+
+/// The lines of digests keep the rules of acted lines: each TRUNCATE of their table takes each of the setting's rows,
+/// that of the texts without a place first, and no other action takes one.
+pub fn digest_acted()
+    ensures { DigestActedLaw }
+{}
+
+/// Each statement that is digested is added once to the row of its digest, which is one of the setting's, and to no
+/// other row of a digest; no other event is.
+pub fn digest_added()
+    ensures { DigestAddedLaw }
+{}
+
+/// What the lines of digests make of a row, change after change, is what stands there under the phase's end.
+pub fn digest_content()
+    ensures { DigestContentLaw }
+{
+    pfs_stat::laws::words();
+}
+
+/// What a row of a digest shows under a phase's end is the merge of the digested statements that lead there, but for
+/// those where a TRUNCATE of the table has the number of the first take of the row behind their addition, or a later
+/// one.
+pub fn digest_summed()
+    ensures { DigestSummedLaw }
+{
+    pfs_conservation::laws::conserved();
+    pfs_stat::laws::merge();
+    pfs_stat::laws::words();
 }
 
 /// The lines of a worked run: its waits and its statement, the actions of its sessions, whose the events are, and what

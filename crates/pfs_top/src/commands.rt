@@ -117,6 +117,7 @@ fn report<K: Sink>(alloc: Global, sink: &mut K, script: &Script) -> Status
             // A report's parts tell that they can be spelled, and the summaries of a run show what counts there.
             let _ = report.parts();
             pfs_counted::laws::counted();
+            pfs_counted::laws::digested();
             status_after(write(alloc, &report, sink), Status::Done)
         }
         Err(_) => Status::NoMemory,

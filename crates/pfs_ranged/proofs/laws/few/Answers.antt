@@ -2,4 +2,4 @@ use Rattle.pfs_ranged.proofs.Few.{few}
 use Rattle.pfs_ranged.proofs.laws.few.Goals as goal
 
 pub returns : goal.returns
-returns c = few c.total.ensures c.few.ensures
+returns c = few c.few_ended.ensures
