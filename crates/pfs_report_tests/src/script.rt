@@ -262,10 +262,10 @@ fn forms_that_are_not_built(rt: HostRuntime) {
     let cases: [(&[u8], u64, u64); 19] = [
         (b"phase\nphase\n", 0, 0),
         (b"limit users 99\n", 1, 8),
-        (b"limit digests 9\n", 1, 13),
+        (b"limit digests 9\n", 0, 0),
         (b"phase\nsession 1 u h\nend\nquit\n", 3, 9),
-        (b"limit no_such 18446744073709551616\n", 1, 13),
-        (b"start statement/sql/select SELECT 1\n", 1, 13),
+        (b"limit no_such 18446744073709551616\n", 1, 5),
+        (b"start statement/sql/select SELECT 1\n", 1, 4),
         (b"start wait/io/table/sql/handler a.b\n", 1, 4),
         (b"sql SELECT\n", 1, 13),
         (b"sql TRUNCATE accounts\n", 1, 4),
