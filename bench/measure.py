@@ -56,8 +56,8 @@ def needed(stands_on):
     return found
 
 
-def built(folder, name, stands_on, main):
-    """A program of this text over these crates, built in the folder."""
+def built(folder, name, stands_on, main, proofs=None):
+    """A program of this text over these crates, built in the folder, with these files of its proofs."""
     crates = folder / "crates"
     (crates / name / "src").mkdir(parents=True)
     lines = needed(stands_on)
@@ -66,6 +66,10 @@ def built(folder, name, stands_on, main):
     (folder / "HANDLES").write_bytes((TOP / "HANDLES").read_bytes())
     (folder / "crates.txt").write_text("".join(lines.values()) + f"{name}: {stands_on}\n")
     (crates / name / "src/main.rt").write_text(main)
+    for of, text in (proofs or {}).items():
+        path = crates / name / "proofs" / f"{of}.antt"
+        path.parent.mkdir(parents=True, exist_ok=True)
+        path.write_text(text)
     made = subprocess.run(
         ["rt", "run"],
         cwd=crates / name,

@@ -26,14 +26,14 @@ begun setting change switches label labels calls admin pen outside keeps is =
     )
 
 -- calls that take, publish and release rows
-abbrev AreQuiet : List Call → Type 0
+abbrev pub AreQuiet : List Call → Type 0
 AreQuiet [] = Unit {0}
 AreQuiet (Takes row version found ∷ calls) = AreQuiet calls
 AreQuiet (Puts row content version ∷ calls) = AreQuiet calls
 AreQuiet (Frees row version ∷ calls) = AreQuiet calls
 AreQuiet (call ∷ calls) = ⊥
 
-quiet_both : (xs ys : List Call) → AreQuiet xs → AreQuiet ys → AreQuiet (xs ++ ys)
+pub quiet_both : (xs ys : List Call) → AreQuiet xs → AreQuiet ys → AreQuiet (xs ++ ys)
 quiet_both [] ys q r = r
 quiet_both (Takes row version found ∷ xs) ys q r = quiet_both xs ys q r
 quiet_both (Puts row content version ∷ xs) ys q r = quiet_both xs ys q r
@@ -44,7 +44,7 @@ sign_quiet : (sign : Sign) (version : ℕ) (found : List ℕ) → AreQuiet (sign
 sign_quiet (Releases row) version found = tt
 sign_quiet (Tags row content) version found = tt
 
-signs_quiet : (made : List Made) → AreQuiet (signs_calls made)
+pub signs_quiet : (made : List Made) → AreQuiet (signs_calls made)
 signs_quiet [] = tt
 signs_quiet (m ∷ made) = quiet_both (sign_calls m.sign m.version m.found) (signs_calls made) (sign_quiet m.sign m.version m.found) (signs_quiet made)
 
@@ -52,7 +52,7 @@ gifts_quiet : (amount : Stat) (gifts : List Gift) → AreQuiet (gift_calls amoun
 gifts_quiet amount [] = tt
 gifts_quiet amount (g ∷ gifts) = quiet_both (gift_calls amount gifts) _ (gifts_quiet amount gifts) tt
 
-moves_quiet : (moves : List Move) → AreQuiet (moves_calls moves)
+pub moves_quiet : (moves : List Move) → AreQuiet (moves_calls moves)
 moves_quiet [] = tt
 moves_quiet (m ∷ moves) = quiet_both (move_calls m) (moves_calls moves) (quiet_both (gift_calls (stat_of_words m.found) m.gifts) _ (gifts_quiet (stat_of_words m.found) m.gifts) tt) (moves_quiet moves)
 

@@ -6,5 +6,6 @@ pub mod Balance
 pub mod Knowing
 pub mod Sharing
 pub mod Keeping
+pub mod Acted
 pub mod Later
 pub mod Examples

@@ -42,7 +42,7 @@ use Rattle.pfs_switches.specs.Known.{Known}
 use Rattle.pfs_switches.specs.Knowledge.{met}
 use Rattle.pfs_switches.specs.Opening.{opening_words}
 use Rattle.pfs_truncations.specs.declared.truncations.Truncation.{Truncation}
-use Rattle.pfs_truncations.specs.declared.truncations.Truncation.TheVariants.{Summary, Accounts, Users, Hosts, SetupActors, SetupObjects}
+use Rattle.pfs_truncations.specs.declared.truncations.Truncation.TheVariants.{Summary, DigestSummary, Accounts, Users, Hosts, SetupActors, SetupObjects}
 use Rattle.pfs_desk.specs.Desks.{IsDesk}
 use Rattle.pfs_desk.specs.Following.{version_after}
 use Rattle.pfs_desk.specs.Laws.{SharedLaw}
@@ -81,6 +81,7 @@ rise_behind q words (Summary kind table) = omega arith
 rise_behind q words Accounts = omega arith
 rise_behind q words Users = omega arith
 rise_behind q words Hosts = omega arith
+rise_behind q words DigestSummary = omega arith
 rise_behind q words SetupActors = omega arith
 rise_behind q words SetupObjects = rise_all_off q words
 

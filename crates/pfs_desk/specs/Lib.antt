@@ -1,3 +1,4 @@
 pub mod Desks
 pub mod Following
 pub mod Laws
+pub mod Acted

@@ -1,14 +1,19 @@
-//! An action over a board.
+//! Actions over a board.
 
-ghost use Rattle.std.specs.Prelude.{◌≡◌, ◌<◌, ◌+◌, ◌∷◌, ℕ, List, None, length};
+ghost use Rattle.std.specs.Prelude.{◌≡◌, ◌<◌, ◌≤◌, ◌+◌, ◌∷◌, ℕ, List, None, length};
 ghost use Rattle.pfs_board.specs.declared.view.Label.{Label};
-ghost use Rattle.pfs_admin.specs.declared.changes.Change.TheVariants.{Show};
+ghost use Rattle.pfs_admin.specs.Asks.{placed_of, work_of_connect};
+ghost use Rattle.pfs_admin.specs.declared.changes.Change.TheVariants.{Connect, Show};
+ghost use Rattle.pfs_admin.specs.States.{State, seat_at};
 ghost use Rattle.pfs_levels.specs.Calls.{Call, Enters, Leaves, Opening};
+ghost use Rattle.pfs_desk.specs.Acted.{HasActed};
 
 use crate::desk::{Desk, Shared};
+use pfs_admin::Placed;
 use pfs_board::Label;
-use pfs_levels::Rows;
-use pfs_seats::BoardRows;
+use pfs_levels::{Log, Rows};
+use pfs_names::NameId;
+use pfs_seats::{BoardHold, BoardRows};
 use std::sync::Wait;
 
 /// An action that changes nothing, from its beginning to its end: its number. The board keeps a desk that stands for
@@ -34,4 +39,45 @@ pub fn empty_action<'a, R: Wait, N: Shared>(
     admin.note();
     rows.leave(Desk::new(admin, writer));
     number
+}
+
+/// A connect, from the beginning of its action to its end: the store again, and the places that the session got. In it
+/// the desk's writer is lent to a hold, and the board keeps a desk that stands for one label more. The log gets what
+/// `Admin::connect` gives it.
+pub fn connect<'a, R: Wait, N: Shared>(
+    rt: &R,
+    rows: BoardRows<'a, Desk<N>>,
+    label: Label,
+    user: NameId,
+    host: NameId,
+    log: &mut Log,
+) -> (BoardRows<'a, Desk<N>>, Placed)
+    requires named { N.change label ≡ Connect user host }
+    requires user { user < length N.setting.names }
+    requires host { host < length N.setting.names }
+    requires alone { (r : ℕ) → ⟦<BoardRows<'a, Desk<N>> as Rows>⟧.hand rows r ≡ None }
+    requires spare { 5 ≤ ⟦<BoardRows<'a, Desk<N>> as Rows>⟧.left rows }
+    requires room { 6 ≤ log.old.room }
+    requires begun { (start : Opening) × (calls : List Call)
+        × (⟦<BoardRows<'a, Desk<N>> as Rows>⟧.reached rows start calls) × (start.switches.table ≡ N.switches) }
+    ensures acted { (start : Opening) → (calls : List Call)
+        → ⟦<BoardRows<'a, Desk<N>> as Rows>⟧.reached rows.entry start calls → (more : List Call) × (admin : State)
+        × (⟦<BoardRows<'a, Desk<N>> as Rows>⟧.reached result.0 start more)
+        × HasActed N.setting N.change label (λ s. work_of_connect s label.session user host) admin calls more
+        × (result.1 ≡ placed_of (seat_at admin label.session user host)) }
+    ensures hand { (r : ℕ) → ⟦<BoardRows<'a, Desk<N>> as Rows>⟧.hand result.0 r ≡ None }
+    ensures left { ⟦<BoardRows<'a, Desk<N>> as Rows>⟧.left rows.entry
+        ≤ ⟦<BoardRows<'a, Desk<N>> as Rows>⟧.left result.0 + 5 }
+{
+    let mut rows = rows;
+    let (_, desk) = rows.enter(rt, label);
+    let (mut admin, writer) = desk.into_parts();
+    let mut hold = BoardHold::new(rt, rows, Some(writer));
+    let placed = admin.connect(&mut hold, label.session, user, host, log);
+    let (mut rows, lent) = hold.into_parts();
+    match lent {
+        Some(writer) => rows.leave(Desk::new(admin, writer)),
+        None => unreachable!(),
+    }
+    (rows, placed)
 }

@@ -5,7 +5,7 @@ mod actions;
 mod desk;
 pub mod laws;
 
-pub use actions::empty_action;
+pub use actions::{connect, empty_action};
 pub use desk::{Desk, Shared};
 
 /// Memory ran out.

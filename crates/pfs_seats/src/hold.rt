@@ -1,6 +1,6 @@
 //! What an actor does inside an action, and as it pauses.
 
-ghost use Rattle.std.specs.Prelude.{◌≡◌, ◌≤◌, ℕ, List, Option, Some, None, IfSome, IsSome, length, option_map};
+ghost use Rattle.std.specs.Prelude.{◌≡◌, ◌≤◌, [], ℕ, List, Option, Some, None, IfSome, IsSome, length, option_map};
 ghost use Rattle.std.proofs.Props.{props};
 ghost use Rattle.pfs_levels.specs.Calls.{Call, Opening, Goes};
 ghost use Rattle.pfs_board.specs.Knowledge.{corner};
@@ -19,34 +19,30 @@ use std::sync::Wait;
 #[derive(Drop)]
 pub struct BoardHold<'a, 'b, R: Wait, V: Kept> {
     rt: &'a R,
-    rows: &'a mut BoardRows<'b, V>,
+    rows: BoardRows<'b, V>,
     writer: Option<Writer>,
-    ghost same: { IfSome writer (λ w. w.switches ≡ rows.now.switches.now.id) } by { Prim.hlevel props },
+    ghost same: { IfSome writer (λ w. w.switches ≡ rows.switches.now.id) } by { Prim.hlevel props },
     ghost wide: { IfSome writer (λ w. 160 ≤ length w.view.seen) } by { Prim.hlevel props },
-    ghost inside: { IfSome writer (λ _. IsSome (in_hand (corner rows.now.seat.view 0).stage)) } by { Prim.hlevel props },
+    ghost inside: { IfSome writer (λ _. IsSome (in_hand (corner rows.seat.view 0).stage)) } by { Prim.hlevel props },
 }
 
 impl<'a, 'b, R: Wait, V: Kept> BoardHold<'a, 'b, R, V> {
-    /// A hold over an actor's store. It may set words where it is lent their writer, which only an action is. The
-    /// actor meets it here, as one call more, and has then seen each word at the version that the writer knows.
-    pub fn new(
-        rt: &'a R,
-        rows: &'a mut BoardRows<'b, V>,
-        writer: Option<Writer>,
-    ) -> BoardHold<'a, 'b, R, V>
+    /// A hold that an actor's store goes into. It may set words where it is lent their writer, which only an action is.
+    /// The actor meets it here, as one call more, and has then seen each word at the version that the writer knows.
+    pub fn new(rt: &'a R, rows: BoardRows<'b, V>, writer: Option<Writer>) -> BoardHold<'a, 'b, R, V>
         requires wide { IfSome writer (λ w. 160 ≤ length w.view.seen) }
-        requires inside { IfSome writer (λ _. IsSome (⟦<BoardRows<'b, V> as Rows>⟧.hand rows.old 0)) }
+        requires inside { IfSome writer (λ _. IsSome (⟦<BoardRows<'b, V> as Rows>⟧.hand rows 0)) }
         requires same { IfSome writer (λ w. (start : Opening) × (calls : List Call)
-            × (⟦<BoardRows<'b, V> as Rows>⟧.reached rows.old start calls) × (w.switches ≡ start.switches.table)) }
-        ensures call { Goes (⟦<BoardRows<'b, V> as Rows>⟧.reached rows.old) (⟦<BoardHold<'a, 'b, R, V> as Rows>⟧.reached result) (meeting writer) }
-        ensures left { ⟦<BoardHold<'a, 'b, R, V> as Rows>⟧.left result ≡ ⟦<BoardRows<'b, V> as Rows>⟧.left rows.old }
-        ensures draws { ⟦<BoardHold<'a, 'b, R, V> as Rows>⟧.draws result ≡ ⟦<BoardRows<'b, V> as Rows>⟧.draws rows.old }
-        ensures hand { (r : ℕ) → ⟦<BoardHold<'a, 'b, R, V> as Rows>⟧.hand result r ≡ ⟦<BoardRows<'b, V> as Rows>⟧.hand rows.old r }
+            × (⟦<BoardRows<'b, V> as Rows>⟧.reached rows start calls) × (w.switches ≡ start.switches.table)) }
+        ensures call { Goes (⟦<BoardRows<'b, V> as Rows>⟧.reached rows.entry) (⟦<BoardHold<'a, 'b, R, V> as Rows>⟧.reached result) (meeting writer) }
+        ensures left { ⟦<BoardHold<'a, 'b, R, V> as Rows>⟧.left result ≡ ⟦<BoardRows<'b, V> as Rows>⟧.left rows.entry }
+        ensures draws { ⟦<BoardHold<'a, 'b, R, V> as Rows>⟧.draws result ≡ ⟦<BoardRows<'b, V> as Rows>⟧.draws rows.entry }
+        ensures hand { (r : ℕ) → ⟦<BoardHold<'a, 'b, R, V> as Rows>⟧.hand result r ≡ ⟦<BoardRows<'b, V> as Rows>⟧.hand rows.entry r }
         ensures words { ⟦<BoardHold<'a, 'b, R, V> as Rows>⟧.words result ≡ option_map (λ w. words_of w.view) writer }
-        ensures name { ⟦<BoardHold<'a, 'b, R, V> as Rows>⟧.name result ≡ rows.entry.ghost_name }
     {
         match writer {
             Some(pen) => {
+                let mut rows = rows;
                 let pen = rows.met(pen);
                 BoardHold {
                     rt,
@@ -62,34 +58,37 @@ impl<'a, 'b, R: Wait, V: Kept> BoardHold<'a, 'b, R, V> {
         }
     }
 
-    /// Gives the writer back, where it was lent one.
-    pub fn into_writer(self) -> Option<Writer>
-        ensures words { option_map (λ w. words_of w.view) result ≡ ⟦<BoardHold<'a, 'b, R, V> as Rows>⟧.words self.entry }
-        ensures same { (start : Opening) → (calls : List Call) → ⟦<BoardHold<'a, 'b, R, V> as Rows>⟧.reached self.entry start calls → IfSome result (λ w. w.switches ≡ start.switches.table) }
-        ensures wide { IfSome result (λ w. 160 ≤ length w.view.seen) }
-        ensures rows { self.exit.1.0.now ≡ self.entry.rows.now }
+    /// Gives back the store, behind the hold's calls, and the writer, where it was lent one.
+    pub fn into_parts(self) -> (BoardRows<'b, V>, Option<Writer>)
+        ensures call { Goes (⟦<BoardHold<'a, 'b, R, V> as Rows>⟧.reached self.entry) (⟦<BoardRows<'b, V> as Rows>⟧.reached result.0) [] }
+        ensures left { ⟦<BoardRows<'b, V> as Rows>⟧.left result.0 ≡ ⟦<BoardHold<'a, 'b, R, V> as Rows>⟧.left self.entry }
+        ensures draws { ⟦<BoardRows<'b, V> as Rows>⟧.draws result.0 ≡ ⟦<BoardHold<'a, 'b, R, V> as Rows>⟧.draws self.entry }
+        ensures hand { (r : ℕ) → ⟦<BoardRows<'b, V> as Rows>⟧.hand result.0 r ≡ ⟦<BoardHold<'a, 'b, R, V> as Rows>⟧.hand self.entry r }
+        ensures words { option_map (λ w. words_of w.view) result.1 ≡ ⟦<BoardHold<'a, 'b, R, V> as Rows>⟧.words self.entry }
+        ensures same { (start : Opening) → (calls : List Call) → ⟦<BoardHold<'a, 'b, R, V> as Rows>⟧.reached self.entry start calls → IfSome result.1 (λ w. w.switches ≡ start.switches.table) }
+        ensures wide { IfSome result.1 (λ w. 160 ≤ length w.view.seen) }
     {
         let BoardHold {
             rt: _,
-            rows: _,
+            rows,
             writer,
         } = self;
-        writer
+        (rows, writer)
     }
 }
 
 impl<'a, 'b, R: Wait, V: Kept> Rows for BoardHold<'a, 'b, R, V> {
-    ghost reached = { λ s. ⟦<BoardRows<'b, V> as Rows>⟧.reached s.rows.now };
+    ghost reached = { λ s. ⟦<BoardRows<'b, V> as Rows>⟧.reached s.rows };
 
-    ghost left = { λ s. ⟦<BoardRows<'b, V> as Rows>⟧.left s.rows.now };
+    ghost left = { λ s. ⟦<BoardRows<'b, V> as Rows>⟧.left s.rows };
 
-    ghost draws = { λ s. ⟦<BoardRows<'b, V> as Rows>⟧.draws s.rows.now };
+    ghost draws = { λ s. ⟦<BoardRows<'b, V> as Rows>⟧.draws s.rows };
 
-    ghost hand = { λ s. ⟦<BoardRows<'b, V> as Rows>⟧.hand s.rows.now };
+    ghost hand = { λ s. ⟦<BoardRows<'b, V> as Rows>⟧.hand s.rows };
 
     ghost words = { λ s. option_map (λ w. words_of w.view) s.writer };
 
-    ghost name = { λ s. s.rows.ghost_name };
+    ghost name = { λ s. 0 };
 
     fn add_try(&mut self, row: u64, amount: &Stat) -> Added {
         self.rows.add_try(row, amount)

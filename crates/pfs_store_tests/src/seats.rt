@@ -217,7 +217,7 @@ fn a_row_in_another_hand_holds_an_addition_back(rt: HostRuntime) -> Result<(), N
         &mut reader,
         &mut drawer,
     );
-    let mut other = actor(
+    let other = actor(
         &board,
         &switches,
         &tickets,
@@ -225,7 +225,7 @@ fn a_row_in_another_hand_holds_an_addition_back(rt: HostRuntime) -> Result<(), N
         &mut reader,
         &mut drawer,
     );
-    let mut hold = BoardHold::new(&rt, &mut other, None);
+    let mut hold = BoardHold::new(&rt, other, None);
     let (version, content) = hold.take(CELL);
     assert_eq!(rt; version, 0);
     let back = count(&mut rows, &wait_of(5));

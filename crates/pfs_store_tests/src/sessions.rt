@@ -100,14 +100,14 @@ fn wait<R: Rows>(session: &mut Session, rows: &mut R, time: u64) -> Result<(), F
     requires closed { session.old.state.opened ≡ record { depth = 1; events = [] } }
     requires early { session.old.state.drawn + 1 < 2 ^ 64 }
     requires alone { (r : ℕ) → 0 < r → R.hand rows.old r ≡ None }
-    requires spare { 1 ≤ R.left rows.old }
-    requires room { 3 ≤ session.old.journal.room }
+    requires spare { 2 ≤ R.left rows.old }
+    requires room { 4 ≤ session.old.journal.room }
     ensures closed { session.new.state.opened ≡ record { depth = 1; events = [] } }
     ensures drawn { session.new.state.drawn ≤ session.old.state.drawn + 1 }
-    ensures owed { length (owed_by_state session.new.state) ≤ length (owed_by_state session.old.state) + 1 }
+    ensures owed { length (owed_by_state session.new.state) ≤ length (owed_by_state session.old.state) + 2 }
     ensures hand { (r : ℕ) → R.hand rows.new r ≡ R.hand rows.old r }
-    ensures left { R.left rows.old ≤ R.left rows.new + 1 }
-    ensures room { session.old.journal.room ≤ session.new.journal.room + 3 }
+    ensures left { R.left rows.old ≤ R.left rows.new + 2 }
+    ensures room { session.old.journal.room ≤ session.new.journal.room + 4 }
 {
     let binlog = Subject {
         kind: EventKind::Wait,
@@ -131,12 +131,12 @@ fn wait_often<R: Rows>(session: &mut Session, rows: &mut R, times: &[u64]) -> Re
     requires closed { session.old.state.opened ≡ record { depth = 1; events = [] } }
     requires early { session.old.state.drawn ≡ 0 }
     requires alone { (r : ℕ) → 0 < r → R.hand rows.old r ≡ None }
-    requires spare { 3 ≤ R.left rows.old }
-    requires room { 9 ≤ session.old.journal.room }
-    ensures owed { length (owed_by_state session.new.state) ≤ length (owed_by_state session.old.state) + 3 }
+    requires spare { 6 ≤ R.left rows.old }
+    requires room { 12 ≤ session.old.journal.room }
+    ensures owed { length (owed_by_state session.new.state) ≤ length (owed_by_state session.old.state) + 6 }
     ensures hand { (r : ℕ) → R.hand rows.new r ≡ R.hand rows.old r }
-    ensures left { R.left rows.old ≤ R.left rows.new + 3 }
-    ensures room { session.old.journal.room ≤ session.new.journal.room + 9 }
+    ensures left { R.left rows.old ≤ R.left rows.new + 6 }
+    ensures room { session.old.journal.room ≤ session.new.journal.room + 12 }
 {
     for time in times {
         wait(session, rows, *time)?;

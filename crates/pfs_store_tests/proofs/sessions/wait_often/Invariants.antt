@@ -6,8 +6,8 @@ abbrev pub invariant-loop-time : goal.invariant-loop-time
 invariant-loop-time g l = record {
   closed : l.session.state.opened ≡ record { depth = 1; events = [] };
   drawn : l.session.state.drawn ≤ l.time-index;
-  owed : length (owed_by_state l.session.state) ≤ length (owed_by_state l.fn.session.state) + l.time-index;
+  owed : length (owed_by_state l.session.state) ≤ length (owed_by_state l.fn.session.state) + 2 * l.time-index;
   hand : (r : ℕ) → g.R.Rows.hand l.rows r ≡ g.R.Rows.hand l.fn.rows r;
-  left : g.R.Rows.left l.fn.rows ≤ g.R.Rows.left l.rows + l.time-index;
-  room : l.fn.session.journal.room ≤ l.session.journal.room + 3 * l.time-index;
+  left : g.R.Rows.left l.fn.rows ≤ g.R.Rows.left l.rows + 2 * l.time-index;
+  room : l.fn.session.journal.room ≤ l.session.journal.room + 4 * l.time-index;
 }
