@@ -7,14 +7,15 @@ use Rattle.pfs_admin.specs.Asks.{connect_work, placed_of}
 use Rattle.pfs_admin.specs.Fold.{Follows}
 use Rattle.pfs_admin.specs.States.{State, words_by}
 use Rattle.pfs_admin.proofs.Folding.{fixed_law}
-use Rattle.pfs_admin.specs.Works.{Made, Work, Flagging, signs_calls, signs_of, word_at, set_word, flagging, flagged, flagging_calls}
+use Rattle.pfs_admin.specs.Works.{Made, Work, Flagging, signs_calls, signs_of, word_at, set_word, flagging, flagged, flagging_calls, flagging_entries, signs_entries}
 use Rattle.pfs_board.specs.declared.view.Label.{Label}
 use Rattle.pfs_classes.specs.declared.setting.Setting.{Setting}
 use Rattle.pfs_containers.specs.declared.containers.Seated.{Seated}
 use Rattle.pfs_containers.specs.Administration.{Containers}
 use Rattle.pfs_levels.specs.declared.answers.Word.{Word}
 use Rattle.pfs_levels.specs.Calls.{Call, Takes, Puts, Frees, Sets, Enters, Leaves, Meets, label_in}
-use Rattle.pfs_levels.specs.Moves.{Move, AreMoves, moves_calls}
+use Rattle.pfs_event.specs.declared.entry.Entry.{Entry}
+use Rattle.pfs_levels.specs.Moves.{Move, AreMoves, moves_calls, moves_entries}
 use Rattle.pfs_seats.specs.Pen.{words_from, words_of}
 use Rattle.pfs_seats.specs.Reached.{labels_in}
 use Rattle.pfs_seats.specs.Shared.{has_met}
@@ -137,10 +138,12 @@ ended setting change switches label labels next later words flags made moves see
     subst (λ ls. D ls (label_in (its_of words flags made moves ++ first))) (sym inside.labels) (subst (λ l. D labels l) (sym inside.label) then)
 
 pub acted : (setting : Setting) (change : Label → Change) (switches : TableId) (label : Label) (what : State → Work) (labels : List Label) (admin next : State) (pen later : Known) (calls : List Call) (moves : List Move) (made : List Made)
+    (head : State → List Entry) (before after : List Entry)
+    → after ≡ before ++ (head admin ++ (moves_entries moves ++ (signs_entries made ++ flagging_entries admin.words (what admin).flags)))
     → IsDesk setting change switches labels admin pen → IsDesk setting change switches (labels ++ label ∷ []) next later → AreMoves (what admin).moves moves → signs_of made ≡ (what admin).signs
     → SetsOne admin.words (what admin).flags next.words
-    → HasActed setting change label what admin calls (Leaves ∷ calls_of label labels pen.view.seen calls (its_of admin.words (what admin).flags made moves))
-acted setting change switches label what labels admin next pen later calls moves made is then are_moves are_signs one =
+    → HasActed setting change label what head admin calls (Leaves ∷ calls_of label labels pen.view.seen calls (its_of admin.words (what admin).flags made moves)) before after
+acted setting change switches label what labels admin next pen later calls moves made head before after written is then are_moves are_signs one =
     let its : List Call = its_of admin.words (what admin).flags made moves in
     let first : List Call = Meets pen.view.seen ∷ Enters label labels ∷ calls in
     record {
@@ -152,6 +155,7 @@ acted setting change switches label what labels admin next pen later calls moves
       are_moves = are_moves;
       signs_are = are_signs;
       calls_are = refl;
+      entries_are = written;
       keeps = λ outside keeps.
           let b = begun setting change switches label labels calls admin pen outside keeps is in
           let w = worked setting change first admin.words next.words (what admin).flags made moves one (desk_wide setting change switches labels admin pen is) refl b.0 b.1 in

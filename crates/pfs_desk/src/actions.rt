@@ -1,8 +1,8 @@
 //! Actions over a board.
 
-ghost use Rattle.std.specs.Prelude.{◌≡◌, ◌<◌, ◌≤◌, ◌+◌, ◌∷◌, ℕ, List, None, length};
+ghost use Rattle.std.specs.Prelude.{◌≡◌, ◌<◌, ◌≤◌, ◌+◌, ◌∷◌, [], ℕ, List, None, length};
 ghost use Rattle.pfs_board.specs.declared.view.Label.{Label};
-ghost use Rattle.pfs_admin.specs.Asks.{placed_of, work_of_connect};
+ghost use Rattle.pfs_admin.specs.Asks.{connect_entry, placed_of, work_of_connect};
 ghost use Rattle.pfs_admin.specs.declared.changes.Change.TheVariants.{Connect, Show};
 ghost use Rattle.pfs_admin.specs.States.{State, seat_at};
 ghost use Rattle.pfs_levels.specs.Calls.{Call, Enters, Leaves, Opening};
@@ -63,7 +63,9 @@ pub fn connect<'a, R: Wait, N: Shared>(
     ensures acted { (start : Opening) → (calls : List Call)
         → ⟦<BoardRows<'a, Desk<N>> as Rows>⟧.reached rows.entry start calls → (more : List Call) × (admin : State)
         × (⟦<BoardRows<'a, Desk<N>> as Rows>⟧.reached result.0 start more)
-        × HasActed N.setting N.change label (λ s. work_of_connect s label.session user host) admin calls more
+        × HasActed N.setting N.change label (λ s. work_of_connect s label.session user host)
+        (λ s. connect_entry (s.actions + 1) (seat_at s label.session user host) ∷ []) admin calls more
+        log.old.entries log.new.entries
         × (result.1 ≡ placed_of (seat_at admin label.session user host)) }
     ensures hand { (r : ℕ) → ⟦<BoardRows<'a, Desk<N>> as Rows>⟧.hand result.0 r ≡ None }
     ensures left { ⟦<BoardRows<'a, Desk<N>> as Rows>⟧.left rows.entry

@@ -1,7 +1,7 @@
-use Rattle.std.proofs.Common.{◌≡◌, ◌<◌, ◌∷◌, List, ap, sym, ◌∙◌, subst, arith}
+use Rattle.std.proofs.Common.{◌≡◌, ◌<◌, ◌+◌, ◌∷◌, [], List, ap, sym, ◌∙◌, subst, arith}
 use Rattle.std.specs.Prelude.{IfSome}
 use Rattle.atomic_table.specs.Seated.{TableId}
-use Rattle.pfs_admin.specs.Asks.{work_of_connect}
+use Rattle.pfs_admin.specs.Asks.{connect_entry, work_of_connect}
 use Rattle.pfs_admin.specs.declared.admin.Placed.{Placed}
 use Rattle.pfs_admin.specs.States.{State, connected, seat_at, thread_flags}
 use Rattle.pfs_levels.specs.declared.answers.Word.{Word}
@@ -71,6 +71,7 @@ returns-clause-acted g c = λ start calls reached.
       _,
       old,
       c.leave.ensures.call start _ (c.into_parts-rows.ensures.call start _ done),
-      acted g.N.Named.setting g.N.Named.change g.N.Shared.switches c.args.label (λ s. work_of_connect s c.args.label.session c.args.user c.args.host) entered.0 old _ _ _ calls worked.moves worked.made is then worked.are_moves worked.signs_are one,
+      acted g.N.Named.setting g.N.Named.change g.N.Shared.switches c.args.label (λ s. work_of_connect s c.args.label.session c.args.user c.args.host) entered.0 old _ _ _ calls worked.moves worked.made
+          (λ s. connect_entry (s.actions + 1) (seat_at s c.args.label.session c.args.user c.args.host) ∷ []) _ _ worked.did.entries_are is then worked.are_moves worked.signs_are one,
       c.connect-placed.ensures.placed,
     )
