@@ -7,7 +7,6 @@ use Rattle.std.proofs.lemmas.Bool.Decides.{nat_tests}
 use Rattle.std.proofs.lemmas.List.Sums.{fold_push}
 use Rattle.pfs_lexer.specs.declared.tokens.LexFault.{LexFault}
 use Rattle.pfs_digest.specs.Digest.{digest_text_of}
-use Rattle.pfs_classes.specs.declared.classes.ClassRef.{ClassRef}
 use Rattle.pfs_classes.specs.declared.setting.Setting.{Setting}
 use Rattle.pfs_classes.specs.declared.setting.TableName.{TableName}
 use Rattle.pfs_classes.specs.declared.setting.DigestText.{DigestText}
@@ -15,23 +14,22 @@ use Rattle.pfs_script.specs.declared.finds.Finds.{Finds}
 use Rattle.pfs_script.specs.declared.forms.Form.{Form}
 use Rattle.pfs_script.specs.declared.forms.Form.TheVariants as form
 use Rattle.pfs_rows.specs.declared.limits.Limits.{Limits}
-use Rattle.pfs_script.specs.Headings.{Head, head_of, resolved, limits_behind, limits_of, is_before_limits, StandsIn}
+use Rattle.pfs_script.specs.Headings.{Head, head_of, limits_behind, limits_of, is_before_limits, StandsIn}
 use Rattle.pfs_script.specs.Finds.{has_text, of_text, add_digest, with_digest, with_table, tables_of, digests_of}
-use Rattle.pfs_script.specs.Blocks.{Sense, sense_of, phases_of}
-use Rattle.pfs_script.specs.SessionNames.{with_session, names_of, head_named}
+use Rattle.pfs_script.specs.declared.drafts.Owner.{Owner}
+use Rattle.pfs_script.specs.Drafts.{with_owner}
+use Rattle.pfs_script.specs.SessionNames.{names_of, head_named}
 use Rattle.pfs_script.specs.Scripts.{IsSetting}
-use Rattle.pfs_script.specs.Sensing.{sense}
 use Rattle.pfs_script.specs.Next.{is_table_too_many}
 use Rattle.pfs_script.specs.Places.{KnowsFinds}
-use Rattle.pfs_script.specs.Readings.{loud}
+use Rattle.pfs_script.specs.Readings.{AreOwners}
 use Rattle.pfs_script.proofs.PassLemmas.{limits_push}
-use Rattle.pfs_script.proofs.Silence.{phases_loud, names_loud}
 
 pub tables_push : (before : List Form) (line : Form) → tables_of (before ++ line ∷ []) ≡ with_table (tables_of before) line
 unfolding tables_of
 tables_push before line = fold_push with_table [] before line
 
-digests_push : (most : ℕ) (before : List Form) (line : Form) → digests_of most (before ++ line ∷ []) ≡ with_digest most (digests_of most before) line
+pub digests_push : (most : ℕ) (before : List Form) (line : Form) → digests_of most (before ++ line ∷ []) ≡ with_digest most (digests_of most before) line
 unfolding digests_of
 digests_push most before line = fold_push (with_digest most) [] before line
 
@@ -134,33 +132,6 @@ pub too_many : (tables : List TableName) (one : TableName) (number : Option ℕ)
 too_many tables one (Some number) few = rw few (and_no (nat_le 64 (length tables)))
 too_many tables one None few = rw (table_length tables one) (grind (arith, nat_tests))
 
-abbrev sense_with : (List ℕ → Option ClassRef) → List (List ℕ) → List TableName → List DigestText → Sense
-sense_with class names tables digests = record { class = class; names = names; tables = tables; digests = digests }
-
--- the same classes for every name are the same
-same_classes : (f g : List ℕ → Option ClassRef) (names : List (List ℕ)) (tables : List TableName) (digests : List DigestText) → ((name : List ℕ) → f name ≡ g name) → sense_with f names tables digests ≡ sense_with g names tables digests
-same_classes f g names tables digests same = λ i. sense_with (λ name. same name i) names tables digests
-
--- what the reader has found stands for what it does under all lines, with the names of users and hosts behind it
-sense_is : (head named : Head) (finds : Finds) (lines : List Form) → head ≡ head_of lines → ((name : List ℕ) → resolved named name ≡ resolved head name) → named.names ≡ names_of lines → KnowsFinds finds lines
-    → sense named finds ≡ sense_of lines
-sense_is head named finds lines h same n k =
-    same_classes (resolved named) (resolved (head_of lines)) named.names finds.tables finds.digests (λ name. same name ∙ ap (λ (one : Head). resolved one name) h)
-    ∙ (ap (λ (names : List (List ℕ)). sense_with (resolved (head_of lines)) names finds.tables finds.digests) n
-    ∙ (ap (λ (tables : List TableName). sense_with (resolved (head_of lines)) (names_of lines) tables finds.digests) k.tables
-    ∙ ap (λ (digests : List DigestText). sense_with (resolved (head_of lines)) (names_of lines) (tables_of lines) digests) k.digests))
-
-pub phases_as : (head named : Head) (finds : Finds) (lines items : List Form) → head ≡ head_of lines → ((name : List ℕ) → resolved named name ≡ resolved head name) → named.names ≡ names_of lines → KnowsFinds finds lines → items ≡ loud lines
-    → phases_of (sense named finds) items ≡ phases_of (sense_of lines) lines
-phases_as head named finds lines items h same n k e =
-    ap (λ (one : Sense). phases_of one items) (sense_is head named finds lines h same n k)
-    ∙ (ap (λ (all : List Form). phases_of (sense_of lines) all) e ∙ phases_loud (sense_of lines) lines)
-
--- the names of users and hosts are behind those that the reader has found
-pub names_as : (head : Head) (lines items : List Form) → head ≡ head_of lines → items ≡ loud lines → fold with_session head.names items ≡ names_of lines
-unfolding names_of
-names_as head lines items h e = ap (λ (one : Head). fold with_session one.names items) h ∙ (ap (λ (all : List Form). fold with_session (head_of lines).names all) e ∙ names_loud (head_of lines).names lines)
-
 few_not : (most number : ℕ) → number ≤ most → nat_lt most number ≡ false
 few_not most number h = grind (arith, nat_tests, h)
 
@@ -179,21 +150,26 @@ few_found head finds lines h k =
     let found : length finds.digests ≡ length (digests_of (limits_of lines).digests lines) = ap (λ (digests : List DigestText). length digests) k.digests in
     omega (arith, most, found, few_digests (limits_of lines).digests lines)
 
--- the setting of what was found, with the names of users and hosts behind those of classes
-pub setting_as : (head named : Head) (finds : Finds) (lines items : List Form) (setting : Setting) → head ≡ head_of lines → KnowsFinds finds lines → named ≡ head_named head (fold with_session head.names items) → items ≡ loud lines
-    → setting.names ≡ named.names → setting.classes ≡ named.classes → setting.tables ≡ finds.tables → setting.digests ≡ finds.digests → setting.limits ≡ named.limits → setting.consumers ≡ named.consumers → IsSetting lines setting
-setting_as head named finds lines items setting h k n e names classes tables digests limits consumers = record {
-  names = names ∙ (ap (λ (one : Head). one.names) n ∙ names_as head lines items h e);
-  classes = classes ∙ (ap (λ (one : Head). one.classes) n ∙ ap (λ (one : Head). one.classes) h);
-  tables = tables ∙ k.tables;
-  digests = digests ∙ k.digests;
-  limits = limits ∙ (ap (λ (one : Head). one.limits) n ∙ ap (λ (one : Head). one.limits) h);
-  consumers = consumers ∙ (ap (λ (one : Head). one.consumers) n ∙ ap (λ (one : Head). one.consumers) h);
-}
-
 -- interning leaves the limit of digest texts
 pub few_named : (head named : Head) (finds : Finds) (lines : List Form) (names : List (List ℕ)) → head ≡ head_of lines → KnowsFinds finds lines → named ≡ head_named head names → length finds.digests ≤ named.limits.digests
 few_named head named finds lines names h k n =
     let few = few_found head finds lines h k in
     let same : named.limits.digests ≡ head.limits.digests = ap (λ (one : Head). one.limits.digests) n in
     omega arith
+
+-- the names behind those of classes are those of the owners
+pub names_as : (head : Head) (lines : List Form) (owners : List Owner) → head ≡ head_of lines → AreOwners owners lines → fold with_owner head.names owners ≡ names_of lines
+unfolding names_of
+names_as head lines owners h o = ap (λ (one : Head). fold with_owner one.names owners) h ∙ o (head_of lines).names
+
+-- the setting of what was found, with the names of users and hosts behind those of classes
+pub setting_as : (head named : Head) (finds : Finds) (lines : List Form) (owners : List Owner) (setting : Setting) → head ≡ head_of lines → KnowsFinds finds lines → named ≡ head_named head (fold with_owner head.names owners) → AreOwners owners lines
+    → setting.names ≡ named.names → setting.classes ≡ named.classes → setting.tables ≡ finds.tables → setting.digests ≡ finds.digests → setting.limits ≡ named.limits → setting.consumers ≡ named.consumers → IsSetting lines setting
+setting_as head named finds lines owners setting h k n o names classes tables digests limits consumers = record {
+  names = names ∙ (ap (λ (one : Head). one.names) n ∙ names_as head lines owners h o);
+  classes = classes ∙ (ap (λ (one : Head). one.classes) n ∙ ap (λ (one : Head). one.classes) h);
+  tables = tables ∙ k.tables;
+  digests = digests ∙ k.digests;
+  limits = limits ∙ (ap (λ (one : Head). one.limits) n ∙ ap (λ (one : Head). one.limits) h);
+  consumers = consumers ∙ (ap (λ (one : Head). one.consumers) n ∙ ap (λ (one : Head). one.consumers) h);
+}

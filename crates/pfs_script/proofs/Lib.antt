@@ -1,12 +1,13 @@
 pub mod AppearanceLemmas
 pub mod BaseLemmas
 pub mod Behind
-pub mod BlockLemmas
 pub mod BlockNesting
 pub mod BuiltLemmas
 pub mod CountLemmas
+pub mod Counting
 pub mod Clean
 pub mod Coursing
+pub mod Drafting
 pub mod EventExamples
 pub mod EventLemmas
 pub mod Exactness
@@ -16,6 +17,7 @@ pub mod FormExamples
 pub mod FormLemmas
 pub mod Fronting
 pub mod HeadLemmas
+pub mod Knowing
 pub mod NamedLemmas
 pub mod NameLemmas
 pub mod Listing
@@ -35,8 +37,9 @@ pub mod SessionNesting
 pub mod SetLemmas
 pub mod Placing
 pub mod Shown
-pub mod Silence
+pub mod Settling
 pub mod Splits
+pub mod Standing
 pub mod Steps
 pub mod Taking
 pub mod Totalling

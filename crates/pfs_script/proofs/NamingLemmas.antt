@@ -3,14 +3,15 @@ use Rattle.std.proofs.Common.{◌≡◌, ℕ, ◌+◌, ◌<◌, ◌≤◌, Bool,
 use Rattle.std.specs.Prelude.{nat_lt, fold}
 use Rattle.std.specs.Str.{bytes_eq, IsUtf8}
 use Rattle.std.proofs.lemmas.Bool.{le-ltb, eqb-true}
+use Rattle.std.proofs.lemmas.List.{drop_more}
 use Rattle.std.proofs.lemmas.List.Folds.{position_or_len_push}
 use Rattle.std.proofs.Math.ListN.{drop_of_length-le}
 use Rattle.pfs_names.specs.Interning.{AreNames, Interns, id_of}
 use Rattle.pfs_classes.specs.Settings.{ComesFrom}
 use Rattle.pfs_script.specs.Headings.{Head, IsSound, count_named, ref_of, resolved}
-use Rattle.pfs_script.specs.declared.forms.Form.{Form}
-use Rattle.pfs_script.specs.SessionNames.{with_session, head_named}
-use Rattle.pfs_script.proofs.BlockLemmas.{here}
+use Rattle.pfs_script.specs.declared.drafts.Owner.{Owner}
+use Rattle.pfs_script.specs.Drafts.{with_owner}
+use Rattle.pfs_script.specs.SessionNames.{head_named}
 use Rattle.pfs_script.proofs.CountLemmas.{ref-none}
 use Rattle.pfs_script.proofs.NameLemmas.{id_is}
 use Rattle.pfs_script.proofs.RegisterLemmas.{longer, more_room, utf8_after}
@@ -53,12 +54,12 @@ sound_named head after text sound so names utf8 come = record {
   utf8 = utf8_after head.names after text so utf8 sound.utf8;
 }
 
--- the names of line after line
-pub named_step : (head after : Head) (line : Form) (lines : List Form) (at : ℕ) (target : Head) → at < length lines → line ≡ get_or lines at line → after ≡ head_named head (with_session head.names line)
-    → head_named head (fold with_session head.names (drop at lines)) ≡ target → head_named after (fold with_session after.names (drop (at + 1) lines)) ≡ target
-named_step head after line lines at target within is made so =
-    ap (λ (one : Head). head_named one (fold with_session one.names (drop (at + 1) lines))) made
-    ∙ (sym (ap (λ (all : List Form). head_named head (fold with_session head.names all)) (here lines at line within is)) ∙ so)
+-- the names of owner after owner
+pub named_step : (head after : Head) (owners : List Owner) (at : ℕ) (any : Owner) (target : Head) → at < length owners → after ≡ head_named head (with_owner head.names (get_or owners at any))
+    → head_named head (fold with_owner head.names (drop at owners)) ≡ target → head_named after (fold with_owner after.names (drop (at + 1) owners)) ≡ target
+named_step head after owners at any target within made so =
+    ap (λ (one : Head). head_named one (fold with_owner one.names (drop (at + 1) owners))) made
+    ∙ (sym (ap (λ (all : List Owner). head_named head (fold with_owner head.names all)) (drop_more owners at any within)) ∙ so)
 
-pub named_end : (head : Head) (lines : List Form) (at : ℕ) (target : Head) → length lines ≤ at → head_named head (fold with_session head.names (drop at lines)) ≡ target → head ≡ target
-named_end head lines at target past so = sym (ap (λ (all : List Form). head_named head (fold with_session head.names all)) (drop_of_length-le lines past)) ∙ so
+pub named_end : (head : Head) (owners : List Owner) (at : ℕ) (target : Head) → length owners ≤ at → head_named head (fold with_owner head.names (drop at owners)) ≡ target → head ≡ target
+named_end head owners at target past so = sym (ap (λ (all : List Owner). head_named head (fold with_owner head.names all)) (drop_of_length-le owners past)) ∙ so

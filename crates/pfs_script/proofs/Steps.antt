@@ -9,7 +9,9 @@ use Rattle.pfs_script.specs.declared.reasons.Reason.TheVariants.{OutOfPlace}
 use Rattle.pfs_script.specs.Counts.{is_in_repeat}
 use Rattle.pfs_script.specs.Next.{next}
 use Rattle.pfs_script.specs.Scripts.{lines_from, script_of, open_reason}
-use Rattle.pfs_script.specs.Readings.{SaysNext, Reads}
+use Rattle.pfs_script.specs.declared.known.KnownLines.{KnownLines}
+use Rattle.pfs_script.specs.declared.reading.Reader.{Reader}
+use Rattle.pfs_script.specs.Readings.{Says, Reads}
 
 -- the next line says something: the pass goes on behind it
 pub says_line : (extent : Extent) (before : List Form) (bytes : List ℕ) (parts : List (List ℕ)) (line : Form) → 0 < length parts → next extent before bytes ≡ Ok line → lines_from extent before (bytes ∷ parts) ≡ lines_from extent (before ++ line ∷ []) parts
@@ -42,7 +44,8 @@ says_open extent before [] number m h = absurd (omega arith)
 says_open extent before (byte ∷ bytes) number m h = rw m refl
 
 -- the reader's answer at a faulty line is that of the text
-pub next_bad : (extent : Extent) (text : List ℕ) (before : List Form) (bytes : List ℕ) (parts : List (List ℕ)) (count : ℕ) (fault : ScriptFault) → count ≡ length before → 0 < length parts → SaysNext extent before count bytes (Err fault)
-    → lines_from extent before (bytes ∷ parts) ≡ script_of extent text → Reads extent text (Err fault)
-next_bad extent text before bytes parts count (Bad number reason) c h says i = sym i ∙ says_fault extent before bytes parts reason number (says.0 ∙ ap (λ n. n + 1) c) h says.1
-next_bad extent text before bytes parts count NoMemory c h says i = tt
+pub next_bad : (extent : Extent) (text : List ℕ) (old new : Reader) (known : KnownLines) (before : List Form) (bytes : List ℕ) (parts : List (List ℕ)) (fault : ScriptFault) → old.extent ≡ extent → 0 < length parts
+    → Says old new known before bytes (Err fault) → lines_from extent before (bytes ∷ parts) ≡ script_of extent text → Reads extent text (Err fault)
+next_bad extent text old new known before bytes parts (Bad number reason) same h says i =
+    sym i ∙ says_fault extent before bytes parts reason number says.0 h (ap (λ (one : Extent). next one before bytes) (sym same) ∙ says.1)
+next_bad extent text old new known before bytes parts NoMemory same h says i = tt

@@ -1,5 +1,5 @@
 -- What the engine runs is a script.
-use Rattle.std.proofs.Common.{ℕ, ◌≡◌, Bool, true, false, cond, List, [], ◌∷◌, ◌++◌, Option, Some, None, Result, Ok, Err, refl, ap}
+use Rattle.std.proofs.Common.{ℕ, ◌≡◌, Bool, true, false, cond, List, [], ◌∷◌, ◌++◌, Option, Some, None, Result, Ok, Err, ap}
 use Rattle.pfs_classes.specs.declared.setting.Setting.{Setting}
 use Rattle.pfs_script.specs.declared.blocks.Phase.{Phase}
 use Rattle.pfs_script.specs.declared.forms.Form.{Form}
@@ -12,6 +12,7 @@ use Rattle.pfs_script.specs.Blocks.{sense_of, phases_of}
 use Rattle.pfs_script.specs.Built.{is_built}
 use Rattle.pfs_script.specs.Next.{least_reason, fault_of, unless_fault, placed, next}
 use Rattle.pfs_script.specs.Scripts.{Begins, IsText, IsSetting, IsScript}
+use Rattle.pfs_script.proofs.Knowing.{next_says}
 use Rattle.pfs_script.proofs.Taking.{next_none}
 
 unless_same : (one line : Form) (fault : Option Reason) → unless_fault one fault ≡ Ok line → one ≡ line
@@ -26,10 +27,6 @@ next_form : (extent : Extent) (before : List Form) (bytes : List ℕ) (line : Fo
 unfolding next
 next_form extent before bytes line e = placed_form extent before (forms.form bytes) line e
 
-next_of : (extent : Extent) (before : List Form) (bytes : List ℕ) (line : Form) → forms.form bytes ≡ Ok line → fault_of extent before line ≡ None → next extent before bytes ≡ Ok line
-unfolding next
-next_of extent before bytes line f h = rw (f, h) refl
-
 fault_by : (built : Bool) (rest : Option Reason) → cond built rest (Some NotBuilt) ≡ None → rest ≡ None
 fault_by true rest h = h
 fault_by false rest h = cc
@@ -39,7 +36,7 @@ unfolding fault_of
 fault_whole before line h = fault_by (is_built line) (least_reason before line) h
 
 next_whole : (before : List Form) (bytes : List ℕ) (line : Form) → next Built before bytes ≡ Ok line → next Whole before bytes ≡ Ok line
-next_whole before bytes line e = next_of Whole before bytes line (next_form Built before bytes line e) (fault_whole before line (next_none Built before bytes line e))
+next_whole before bytes line e = next_says Whole before bytes line (next_form Built before bytes line e) (fault_whole before line (next_none Built before bytes line e))
 
 begins_whole : (before : List Form) (raws : List (List ℕ)) (lines : List Form) → Begins Built before raws lines → Begins Whole before raws lines
 begins_whole before [] [] b = tt

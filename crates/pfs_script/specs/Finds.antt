@@ -9,7 +9,6 @@ use Rattle.pfs_lexer.specs.Items.{items_of}
 use Rattle.pfs_digest.specs.Digest.{digest_text_of}
 use Rattle.pfs_classes.specs.declared.setting.TableName.{TableName}
 use Rattle.pfs_classes.specs.declared.setting.DigestText.{DigestText}
-use Rattle.pfs_script.specs.declared.finds.PlacedLine.{PlacedLine}
 use Rattle.pfs_script.specs.declared.forms.Form.{Form}
 use Rattle.pfs_script.specs.declared.forms.Form.TheVariants as form
 
@@ -53,18 +52,6 @@ place_of digests (Err fault) = None
 -- the place of a statement's digest text
 abbrev pub digest_place : List DigestText → List ℕ → Option ℕ
 digest_place digests text = place_of digests (digest_text_of text)
-
--- the place of the digest text of a line's statement; none for any other line
-abbrev pub place_in : List DigestText → Form → Option ℕ
-place_in digests (form.Statement class text) = digest_place digests text
-place_in digests _ = None
-
--- a line beside that place
-abbrev pub placed : List DigestText → Form → PlacedLine
-placed digests line = record { form = line; place = place_in digests line }
-
-abbrev pub form_of : PlacedLine → Form
-form_of line = line.form
 
 -- what is kept of a digest text
 abbrev pub of_text : List ℕ → DigestText

@@ -13,8 +13,10 @@ pub mod Next
 pub mod Places
 pub mod SessionNames
 pub mod Blocks
+pub mod Drafts
 pub mod Appearances
 pub mod Sensing
+pub mod Known
 pub mod Runnable
 pub mod Scripts
 pub mod Readings

@@ -1,10 +1,11 @@
 //! The tables and digest texts that lines bring in, in the order of their first appearance.
 
-ghost use Rattle.std.specs.Prelude.{◌≡◌, ◌++◌, ◌∷◌, [], false, nat_lt, length, is_some, position, OnOk, IfOk, Ok, Result, List, ℕ};
+ghost use Rattle.std.specs.Prelude.{◌≡◌, [], false, nat_lt, length, position, OnOk, IfOk, Ok, Some, Result, List, ℕ};
 ghost use Rattle.std.specs.Result.{result_ok};
-ghost use Rattle.pfs_script.specs.Finds.{shown_of, place_in, is_table, table_number, with_table, has_text, place_of, digest_place, add_digest, with_digest};
 ghost use Rattle.pfs_lexer.specs.declared.tokens.LexFault.{LexFault};
-ghost use Rattle.pfs_script.specs.declared.forms.Form.{Form};
+ghost use Rattle.pfs_script.specs.Finds.{shown_of, is_table, table_number, with_table, has_text, place_of, add_digest, with_digest};
+ghost use Rattle.pfs_script.specs.Next.{is_bad_statement};
+ghost use Rattle.pfs_script.specs.Sensing.{number_in, IsFound};
 ghost use Rattle.pfs_script.specs.declared.forms.Form.TheVariants as form;
 
 use crate::forms::Form;
@@ -23,12 +24,15 @@ pub struct Finds {
     pub digests: DigestList,
 }
 
-/// A line that is kept, with the place of its statement's digest text, from 0; None where that text has no
-/// place, and for any other line.
+/// What is known of a line's table or digest text before the line is taken.
 #[derive(Drop)]
-pub struct PlacedLine<'a> {
-    pub form: Form<'a>,
-    pub place: Option<usize>,
+pub enum Found {
+    /// The same line was taken before, and this is the number of its table or the place of its digest text;
+    /// None where it has neither.
+    Before(Option<usize>),
+    /// The line is new, and this is the digest text of its statement; None where the lexer refuses the text,
+    /// and for any other line.
+    Now(Option<Text>),
 }
 
 /// The digest text of a line's statement: None where the lexer refuses its text, and for any other line.
@@ -42,6 +46,17 @@ pub fn shown_of(alloc: Global, line: &Form) -> Result<Option<Text>, NoMemory>
             Err(DigestFault::NoMemory) => Err(AllocError),
         },
         _ => Ok(None),
+    }
+}
+
+/// Whether the lexer refuses the text of a line's statement, so that this, which is its digest text, is none.
+pub fn is_refused(line: &Form, shown: &Option<Text>) -> bool
+    requires { shown.now ≡ shown_of line.now }
+    ensures { result ≡ is_bad_statement line.now }
+{
+    match line {
+        Form::Statement { .. } => shown.is_none(),
+        _ => false,
     }
 }
 
@@ -99,9 +114,29 @@ impl Finds {
         }
     }
 
-    /// Takes one more line with its statement's digest text, where so many digest texts are kept at most, and
-    /// gives that text's place; None where it has none, and for any other line.
+    /// Takes one more line, of which this is known, where so many digest texts are kept at most. It gives the
+    /// number of a wait's table and the place of a statement's digest text; None where that has no place, and
+    /// for any other line.
     pub fn note(
+        &mut self,
+        alloc: Global,
+        most: u64,
+        line: &Form,
+        found: Found,
+    ) -> Result<Option<usize>, NoMemory>
+        requires { IsFound most self.old line.now found }
+        ensures tables { OnOk result (self.new.tables ≡ with_table self.old.tables line.now) }
+        ensures digests { OnOk result (self.new.digests ≡ with_digest most self.old.digests line.now) }
+        ensures number { IfOk result (λ number. number ≡ number_in self.new.tables self.new.digests line.now) }
+    {
+        match found {
+            Found::Before(number) => Ok(number),
+            Found::Now(shown) => self.add(alloc, most, line, shown),
+        }
+    }
+
+    // The same for a line that is new, whose statement has this digest text.
+    fn add(
         &mut self,
         alloc: Global,
         most: u64,
@@ -111,34 +146,37 @@ impl Finds {
         requires { shown ≡ shown_of line.now }
         ensures tables { OnOk result (self.new.tables ≡ with_table self.old.tables line.now) }
         ensures digests { OnOk result (self.new.digests ≡ with_digest most self.old.digests line.now) }
-        ensures place { IfOk result (λ place. place ≡ place_in self.new.digests line.now) }
+        ensures number { IfOk result (λ number. number ≡ number_in self.new.tables self.new.digests line.now) }
     {
         match line {
             Form::TableWait { schema, name, .. } => {
-                match self.add_table(alloc, schema.bytes(), name.bytes()) {
-                    Ok(()) => Ok(None),
-                    Err(fault) => Err(fault),
-                }
+                let number = self.add_table(alloc, schema.bytes(), name.bytes())?;
+                Ok(Some(number))
             }
             Form::Statement { .. } => self.add_statement(most, shown),
             _ => Ok(None),
         }
     }
 
-    fn add_table(&mut self, alloc: Global, schema: &[u8], name: &[u8]) -> Result<(), NoMemory>
+    // The number of a table, which may be new.
+    fn add_table(&mut self, alloc: Global, schema: &[u8], name: &[u8]) -> Result<usize, NoMemory>
         ensures tables { OnOk result (self.new.tables
             ≡ with_table self.old.tables (form.TableWait [] schema.now name.now)) }
         ensures digests { self.new.digests ≡ self.old.digests }
+        ensures number { IfOk result (λ number. table_number self.new.tables schema.now name.now ≡ Some number) }
     {
-        if table_number(self.tables.as_slice(), schema, name).is_some() {
-            return Ok(());
+        let tables = self.tables.as_slice();
+        let next = tables.len();
+        if let Some(number) = table_number(tables, schema, name) {
+            return Ok(number);
         }
         let schema = Text::from_slice(alloc, schema)?;
         let name = Text::from_slice(alloc, name)?;
-        self.tables.push(TableName { schema, name })
+        self.tables.push(TableName { schema, name })?;
+        Ok(next)
     }
 
-    // The digest text of a statement, which has none where the lexer refuses it.
+    // The place of the digest text of a statement, which has none where the lexer refuses it.
     fn add_statement(&mut self, most: u64, shown: Option<Text>) -> Result<Option<usize>, NoMemory>
         ensures tables { self.new.tables ≡ self.old.tables }
         ensures digests { OnOk result ((due : Result (List ℕ) LexFault) → shown ≡ result_ok due

@@ -8,12 +8,12 @@ ghost use Rattle.pfs_classes.specs.Registry.{is_given, registered, text_of};
 ghost use Rattle.pfs_classes.specs.Settings.{ComesFrom};
 ghost use Rattle.std.specs.List.{fold};
 ghost use Rattle.pfs_names.specs.Interning.{id_of, interned};
-ghost use Rattle.pfs_script.specs.Finds.{form_of};
-ghost use Rattle.pfs_script.specs.SessionNames.{with_session, head_named};
+ghost use Rattle.pfs_script.specs.SessionNames.{head_named};
+ghost use Rattle.pfs_script.specs.Drafts.{with_owner};
 ghost use Rattle.pfs_script.specs.declared.forms.Form.{Form};
 ghost use Rattle.pfs_script.specs.Headings.{named_limit, named_consumer, set_consumer, naming_under, naming_in, with_class, with_flags_like, head_with, head_of, is_known, resolved, MayCome, StandsIn, IsAllowed, limited};
 
-use crate::finds::PlacedLine;
+use crate::drafts::Owner;
 use crate::forms::{Form, Number};
 use crate::likes::set_like;
 use pfs_classes::laws::{more_names, one_kind};
@@ -144,15 +144,14 @@ impl Heading {
         )
     }
 
-    /// Interns the users and hosts of these lines behind the names that are there, in their order. What
+    /// Interns the users and hosts of these owners behind the names that are there, in their order. What
     /// stands for a class stays.
-    pub fn name_sessions(&mut self, lines: &[PlacedLine]) -> Result<(), NoMemory>
-        ensures names { OnOk result (self.new
-            ≡ head_named self.old (fold with_session self.old.names (map form_of lines.now))) }
+    pub fn name_owners(&mut self, owners: &[Owner]) -> Result<(), NoMemory>
+        ensures names { OnOk result (self.new ≡ head_named self.old (fold with_owner self.old.names owners.now)) }
         ensures same { OnOk result ((name : List ℕ) → resolved self.new name ≡ resolved self.old name) }
     {
-        for line in lines {
-            self.name_session(&line.form)?;
+        for owner in owners {
+            self.name_owner(owner)?;
         }
         Ok(())
     }
@@ -167,18 +166,13 @@ impl Heading {
         }
     }
 
-    // Interns the user and the host of one line.
-    fn name_session(&mut self, line: &Form) -> Result<(), NoMemory>
-        ensures names { OnOk result (self.new ≡ head_named self.old (with_session self.old.names line.now)) }
+    // Interns the user and the host of one owner.
+    fn name_owner(&mut self, owner: &Owner) -> Result<(), NoMemory>
+        ensures names { OnOk result (self.new ≡ head_named self.old (with_owner self.old.names owner.now)) }
         ensures same { OnOk result ((name : List ℕ) → resolved self.new name ≡ resolved self.old name) }
     {
-        match line {
-            Form::Connect { user, host, .. } => {
-                self.intern(user.as_str())?;
-                self.intern(host.as_str())
-            }
-            _ => Ok(()),
-        }
+        self.intern(owner.user)?;
+        self.intern(owner.host)
     }
 
     // Interns a name that needs stand for nothing.

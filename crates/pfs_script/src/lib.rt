@@ -4,14 +4,15 @@
 
 mod block_lines;
 pub mod blocks;
-mod building;
 mod commands;
 mod courses;
+mod drafts;
 mod finds;
 pub mod forms;
 mod fronts;
 mod heading;
 mod heading_lines;
+mod known;
 pub mod laws;
 mod likes;
 mod numerals;
@@ -19,6 +20,7 @@ mod open_kinds;
 mod places;
 mod reading;
 mod reasons;
+mod saying;
 mod scripts;
 mod starts;
 mod texts;

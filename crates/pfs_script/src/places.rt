@@ -1,12 +1,12 @@
 //! What the lines so far allow next.
 
-ghost use Rattle.std.specs.Prelude.{◌≡◌, ◌≤◌, List, ◌∷◌, ◌++◌, [], None};
+ghost use Rattle.std.specs.Prelude.{◌≡◌, ◌≤◌, List, ◌∷◌, ◌++◌, [], None, is_some};
 ghost use Rattle.pfs_script.specs.declared.forms.Form.{Form};
-ghost use Rattle.pfs_script.specs.Headings.{head_of};
+ghost use Rattle.pfs_script.specs.Headings.{head_of, resolved};
 ghost use Rattle.pfs_script.specs.Built.{is_built};
 ghost use Rattle.pfs_script.specs.declared.reasons.Extent.{Extent};
 ghost use Rattle.pfs_script.specs.Next.{has_bad_number, is_no_count, is_out_of_place, is_bad_number, is_unknown, is_event_class, is_bad_statement, is_table_too_many, is_let_in, fault_of, least_reason};
-ghost use Rattle.pfs_script.specs.Finds.{shown_of};
+ghost use Rattle.pfs_script.specs.Sensing.{class_in};
 ghost use Rattle.pfs_script.specs.Places.{Knows, KnowsFinds};
 
 use crate::courses::{Course, no_course};
@@ -16,7 +16,6 @@ use crate::fronts::{Front, no_front};
 use crate::heading::{Heading, find_consumer, find_limit};
 use crate::reasons::{Extent, Reason};
 use crate::totals::{Totals, no_lines};
-use pfs_text::Text;
 use pfs_truncations::truncation_of;
 
 /// What the lines so far amount to, as far as the next line depends on it.
@@ -39,8 +38,8 @@ pub fn start() -> Place
 }
 
 impl Place {
-    /// Why the line, whose statement has this digest text, may not stand behind the lines so far: the least
-    /// reason, or none. One that isn't let in is tested for nothing else.
+    /// Why the line, whose class may be there and whose text the lexer may have refused, may not stand
+    /// behind the lines so far: the least reason, or none. One that isn't let in is tested for nothing else.
     #[tactic(auto, unfolding(crate::specs::Next::fault_of))]
     pub fn fault(
         &self,
@@ -48,14 +47,16 @@ impl Place {
         heading: &Heading,
         finds: &Finds,
         line: &Form,
-        shown: &Option<Text>,
+        is_named: bool,
+        refused: bool,
     ) -> Option<Reason>
-        requires { shown.now ≡ shown_of line.now }
+        requires named { is_named ≡ is_some (class_in (resolved heading.now) line.now) }
+        requires refused { refused ≡ is_bad_statement line.now }
         ensures { (before : List Form) → Knows self.now before → heading.now ≡ head_of before
             → KnowsFinds finds.now before → result ≡ fault_of extent before line.now }
     {
         if is_let_in(extent, line) {
-            self.least_reason(heading, finds, line, shown)
+            self.least_reason(heading, finds, line, is_named, refused)
         } else {
             Some(Reason::NotBuilt)
         }
@@ -67,9 +68,11 @@ impl Place {
         heading: &Heading,
         finds: &Finds,
         line: &Form,
-        shown: &Option<Text>,
+        is_named: bool,
+        refused: bool,
     ) -> Option<Reason>
-        requires { shown.now ≡ shown_of line.now }
+        requires named { is_named ≡ is_some (class_in (resolved heading.now) line.now) }
+        requires refused { refused ≡ is_bad_statement line.now }
         ensures { (before : List Form) → Knows self.now before → heading.now ≡ head_of before
             → KnowsFinds finds.now before → result ≡ least_reason before line.now }
     {
@@ -79,13 +82,13 @@ impl Place {
             Some(Reason::BadNumber)
         } else if self.course.is_bad_session(line) {
             Some(Reason::BadSession)
-        } else if is_unknown(heading, line) {
+        } else if is_unknown(heading, line, is_named) {
             Some(Reason::UnknownName)
         } else if self.front.is_bad_limit(line) {
             Some(Reason::BadLimit)
         } else if self.course.is_bad_nesting(line) {
             Some(Reason::BadNesting)
-        } else if is_bad_statement(line, shown) {
+        } else if refused {
             Some(Reason::BadStatement)
         } else if self.totals.is_too_long(line) {
             Some(Reason::TooLong)
@@ -136,17 +139,6 @@ impl Place {
             | Form::Sql { .. } => self.course.has_no_block(),
             _ => false,
         }
-    }
-}
-
-// Whether the lexer refuses the statement's text, so that it has no digest text.
-fn is_bad_statement(line: &Form, shown: &Option<Text>) -> bool
-    requires { shown.now ≡ shown_of line.now }
-    ensures { result ≡ is_bad_statement line.now }
-{
-    match line {
-        Form::Statement { .. } => shown.is_none(),
-        _ => false,
     }
 }
 
@@ -215,24 +207,28 @@ fn is_no_count(times: Number) -> bool
 }
 
 // Whether the line names what isn't known, or gives a class a name or kind that it may not have.
-fn is_unknown(heading: &Heading, line: &Form) -> bool
+fn is_unknown(heading: &Heading, line: &Form, is_named: bool) -> bool
+    requires { is_named ≡ is_some (class_in (resolved heading.now) line.now) }
     ensures { (before : List Form) → heading.now ≡ head_of before → result ≡ is_unknown before line.now }
 {
     match line {
         Form::Limit { name, .. } => find_limit(name.bytes()).is_none(),
         Form::Class { name, kind, .. } => kind.is_fixed() || heading.is_known(name.bytes()),
         Form::Consumer { name, .. } => find_consumer(name.bytes()).is_none(),
-        Form::Wait { class } | Form::Stage { class } => !is_event_class(heading, class.bytes()),
-        Form::TableWait { class, .. } | Form::Statement { class, .. } => {
-            !is_event_class(heading, class.bytes())
+        Form::Wait { class: name } | Form::Stage { class: name } => {
+            !is_event_class(heading, name.bytes(), is_named)
+        }
+        Form::TableWait { class: name, .. } | Form::Statement { class: name, .. } => {
+            !is_event_class(heading, name.bytes(), is_named)
         }
         _ => false,
     }
 }
 
-// Whether a wait, a statement or a stage can have this class.
-fn is_event_class(heading: &Heading, class: &[u8]) -> bool
-    ensures { (before : List Form) → heading.now ≡ head_of before → result ≡ is_event_class before class.now }
+// Whether a wait, a statement or a stage can have the class of this name, which may stand for one.
+fn is_event_class(heading: &Heading, name: &[u8], is_named: bool) -> bool
+    requires { is_named ≡ is_some (resolved heading.now name.now) }
+    ensures { (before : List Form) → heading.now ≡ head_of before → result ≡ is_event_class before name.now }
 {
-    heading.is_known(class) && class != b"transaction".as_slice()
+    is_named && name != b"transaction".as_slice()
 }

@@ -1,27 +1,27 @@
 //! The whole script: one pass over the bytes, line by line.
 
-ghost use Rattle.std.specs.Prelude.{◌≡◌, ◌+◌, ◌<◌, ◌^◌, List, [], ◌∷◌, ◌++◌, length, map, ◌==◌, position, MatchOption, IfOk, OnOk};
-ghost use Rattle.std.specs.List.{list_all};
+ghost use Rattle.std.specs.Prelude.{◌≡◌, ◌+◌, ◌<◌, ◌^◌, List, [], ◌∷◌, length, ◌==◌, position, MatchOption, IfOk};
 ghost use Rattle.pfs_script.specs.declared.forms.Form.{Form};
 ghost use Rattle.pfs_script.specs.Forms.{HasItsKind};
-ghost use Rattle.pfs_script.specs.Headings.{head_of};
-ghost use Rattle.pfs_classes.specs.declared.setting.DigestText.{DigestText};
-ghost use Rattle.pfs_script.specs.Finds.{shown_of, place_in, placed};
-ghost use Rattle.pfs_script.specs.Places.{Knows, KnowsFinds};
+ghost use Rattle.pfs_script.specs.Headings.{resolved};
+ghost use Rattle.pfs_script.specs.Next.{is_bad_statement};
+ghost use Rattle.pfs_script.specs.Sensing.{class_in, IsFound};
+ghost use Rattle.pfs_script.specs.Known.{AreKnown};
 ghost use Rattle.pfs_script.specs.Scripts.{parts_of, open_reason, IsScript};
 ghost use Rattle.pfs_script.specs.declared.reasons.Extent.TheVariants.{Whole, Built};
-ghost use Rattle.pfs_script.specs.Readings.{loud, SaysNext, Reads, Gives};
+ghost use Rattle.pfs_script.specs.Readings.{IsBehind, Takes, Says, Reads, Gives};
 
-use crate::building::phases;
-use crate::finds::{Finds, PlacedLine, shown_of};
+use crate::drafts::Drafts;
+use crate::finds::{Finds, Found, is_refused, shown_of};
 use crate::forms::{Form, parse_line};
 use crate::heading::Heading;
+use crate::known::{KnownLine, KnownLines};
 use crate::places::{Place, start};
 use crate::reasons::{Extent, Reason};
+use crate::saying::block_line;
 use crate::scripts::Script;
 use crate::words::is_clean;
-use pfs_classes::NoMemory;
-use pfs_text::Text;
+use pfs_classes::{ClassRef, NoMemory};
 use std::alloc::Global;
 
 /// Why bytes were not read as a script.
@@ -44,19 +44,16 @@ impl From<NoMemory> for ScriptFault {
     }
 }
 
-/// A line, with the digest text of its statement.
+/// The lines so far: how many they are, what they make, and what all of them amount to.
 #[derive(Drop)]
-pub struct Line<'a> {
-    pub form: Form<'a>,
-    pub shown: Option<Text>,
-}
-
-/// The lines of a text that say something, and what all of them fix.
-#[derive(Drop)]
-pub struct Reading<'a> {
-    pub lines: Vec<PlacedLine<'a>>,
+pub struct Reader<'a> {
+    pub alloc: Global,
+    pub extent: Extent,
+    pub count: usize,
+    pub place: Place,
     pub heading: Heading,
     pub finds: Finds,
+    pub drafts: Drafts<'a>,
 }
 
 impl Script {
@@ -81,57 +78,134 @@ impl Script {
 fn read_script(alloc: Global, extent: Extent, bytes: &[u8]) -> Result<Script, ScriptFault>
     ensures { Gives extent bytes.now result }
 {
-    let reading = match read_lines(alloc, extent, bytes) {
-        Ok(reading) => reading,
+    let reader = match read_lines(alloc, extent, bytes) {
+        Ok(reader) => reader,
         Err(fault) => return Err(fault),
     };
-    let Reading {
-        lines,
+    let Reader {
         mut heading,
         finds,
-    } = reading;
-    match heading.name_sessions(lines.as_slice()) {
-        Ok(()) => {}
-        Err(_) => return Err(ScriptFault::NoMemory),
-    }
-    let phases = match phases(alloc, &heading, &finds, lines.as_slice()) {
-        Ok(phases) => phases,
-        Err(_) => return Err(ScriptFault::NoMemory),
-    };
+        drafts,
+        ..
+    } = reader;
+    heading.name_owners(drafts.owners.as_slice())?;
+    let phases = drafts.into_phases(alloc, &heading)?;
     let Finds { tables, digests } = finds;
     let setting = heading.into_setting(tables, digests);
     Ok(Script { setting, phases })
 }
 
-/// What the line says, where it may follow the lines so far, which are so many; else its least reason.
-#[tactic(auto, unfolding(crate::specs::Next::next))]
+impl<'a> Reader<'a> {
+    /// No line.
+    fn begin(alloc: Global, extent: Extent) -> Result<Reader<'a>, NoMemory>
+        ensures extent { IfOk result (λ reader. reader.extent ≡ extent) }
+        ensures behind { IfOk result (λ reader. IsBehind reader []) }
+    {
+        Ok(Reader {
+            alloc,
+            extent,
+            count: 0,
+            place: start(),
+            heading: Heading::begin(alloc)?,
+            finds: Finds::none(alloc),
+            drafts: Drafts::none(alloc),
+        })
+    }
+
+    /// What the class of the event stands for that the line starts; None where it isn't known.
+    fn class_of(&self, line: &Form) -> Option<ClassRef>
+        ensures { result ≡ class_in (resolved self.now.heading) line.now }
+    {
+        match line {
+            Form::Wait { class } | Form::Stage { class } => self.heading.find(class.bytes()),
+            Form::TableWait { class, .. } | Form::Statement { class, .. } => {
+                self.heading.find(class.bytes())
+            }
+            _ => None,
+        }
+    }
+
+    /// Takes one more line, whose class stands for this one and whose text the lexer may have refused, where it
+    /// may follow the lines so far. It gives the number of the line's table, or the place of its digest text.
+    fn take(
+        &mut self,
+        line: &Form<'a>,
+        class: Option<ClassRef>,
+        refused: bool,
+        found: Found,
+    ) -> Result<Option<usize>, ScriptFault>
+        requires behind { (before : List Form) × IsBehind self.old before }
+        requires kind { HasItsKind line.now }
+        requires class { class ≡ class_in (resolved self.old.heading) line.now }
+        requires refused { refused ≡ is_bad_statement line.now }
+        requires found { IsFound self.old.heading.limits.digests self.old.finds line.now found }
+        ensures extent { self.new.extent ≡ self.old.extent }
+        ensures took { (before : List Form) → IsBehind self.old before → Takes self.old self.new before line.now result }
+    {
+        let alloc = self.alloc;
+        let is_named = class.is_some();
+        let fault = self.place.fault(
+            self.extent,
+            &self.heading,
+            &self.finds,
+            line,
+            is_named,
+            refused,
+        );
+        if let Some(reason) = fault {
+            return Err(bad(self.count, reason));
+        }
+        let most = self.heading.most_digests();
+        let number = self.finds.note(alloc, most, line, found)?;
+        let said = block_line(alloc, line, class, number)?;
+        self.heading.pass(alloc, line)?;
+        self.place.pass(line);
+        self.drafts.pass(line, said)?;
+        self.count += 1;
+        Ok(number)
+    }
+}
+
+/// Reads one more line, which says something that may follow the lines so far; else its least reason.
 fn read_line<'a>(
-    alloc: Global,
-    place: &Place,
-    extent: Extent,
-    heading: &Heading,
-    finds: &Finds,
-    count: usize,
+    reader: &mut Reader<'a>,
+    known: &mut KnownLines<'a>,
     bytes: &'a [u8],
-) -> Result<Line<'a>, ScriptFault>
-    requires { count < 2 ^ 63 }
-    ensures says { (before : List Form) → Knows place.now before → heading.now ≡ head_of before
-        → KnowsFinds finds.now before → SaysNext extent before count bytes.now result }
-    ensures kind { IfOk result (λ line. HasItsKind line.form) }
-    ensures shown { IfOk result (λ line. line.shown ≡ shown_of line.form) }
+) -> Result<(), ScriptFault>
+    requires { (before : List Form) × IsBehind reader.old before
+        × AreKnown reader.old.heading reader.old.finds before known.old }
+    ensures extent { reader.new.extent ≡ reader.old.extent }
+    ensures says { (before : List Form) → IsBehind reader.old before
+        → AreKnown reader.old.heading reader.old.finds before known.old
+        → Says reader.old reader.new known.new before bytes.now result }
 {
+    if let Some(line) = known.find(bytes) {
+        let found = Found::Before(line.number);
+        return match reader.take(&line.form, line.class, false, found) {
+            Ok(_) => Ok(()),
+            Err(fault) => Err(fault),
+        };
+    }
     let form = match parse_line(bytes) {
         Ok(form) => form,
-        Err(reason) => return Err(bad(count, reason)),
+        Err(reason) => return Err(bad(reader.count, reason)),
     };
-    let shown = match shown_of(alloc, &form) {
-        Ok(shown) => shown,
-        Err(_) => return Err(ScriptFault::NoMemory),
+    let class = reader.class_of(&form);
+    let shown = shown_of(reader.alloc, &form)?;
+    let refused = is_refused(&form, &shown);
+    let number = match reader.take(&form, class, refused, Found::Now(shown)) {
+        Ok(number) => number,
+        Err(fault) => return Err(fault),
     };
-    match place.fault(extent, heading, finds, &form, &shown) {
-        Some(reason) => Err(bad(count, reason)),
-        None => Ok(Line { form, shown }),
+    if class.is_some() {
+        let line = KnownLine {
+            form,
+            class,
+            number,
+        };
+        known.keep(bytes, line)?;
     }
+    Ok(())
 }
 
 /// Where the first line feed is.
@@ -175,58 +249,25 @@ fn bad(count: usize, reason: Reason) -> ScriptFault
     }
 }
 
-// Keeps a line with the place of its digest text, unless it says nothing.
-fn keep<'a>(
-    lines: &mut Vec<PlacedLine<'a>>,
-    form: Form<'a>,
-    place: Option<usize>,
-) -> Result<(), NoMemory>
-    ensures { OnOk result ((digests : List DigestText) → place ≡ place_in digests form.entry
-        → lines.new.items ≡ lines.old.items ++ map (placed digests) (loud (form.entry ∷ []))) }
-{
-    match form {
-        Form::Silent => {}
-        form => lines.push(PlacedLine { form, place })?,
-    }
-    Ok(())
-}
-
 /// All lines, in one pass.
-fn read_lines(alloc: Global, extent: Extent, bytes: &[u8]) -> Result<Reading, ScriptFault>
+fn read_lines(alloc: Global, extent: Extent, bytes: &[u8]) -> Result<Reader, ScriptFault>
     ensures { Reads extent bytes.now result }
 {
-    let mut lines = Vec::new(alloc);
-    let mut count = 0;
-    let mut place = start();
-    let mut heading = match Heading::begin(alloc) {
-        Ok(heading) => heading,
-        Err(_) => return Err(ScriptFault::NoMemory),
-    };
-    let mut finds = Finds::none(alloc);
+    let mut reader = Reader::begin(alloc, extent)?;
+    let mut known = KnownLines::none(alloc);
     let mut rest = bytes;
     while let Some((line, after)) = split_line(rest) {
-        let Line { form, shown } = match read_line(
-            alloc, &place, extent, &heading, &finds, count, line,
-        ) {
-            Ok(line) => line,
+        match read_line(&mut reader, &mut known, line) {
+            Ok(()) => {}
             Err(fault) => return Err(fault),
-        };
-        let digest = finds.note(alloc, heading.most_digests(), &form, shown)?;
-        heading.pass(alloc, &form)?;
-        place.pass(&form);
-        keep(&mut lines, form, digest)?;
-        count += 1;
+        }
         rest = after;
     }
     if !rest.is_empty() {
-        return Err(bad(count, open_reason(rest)));
+        return Err(bad(reader.count, open_reason(rest)));
     }
-    if place.course.is_in_repeat() {
-        return Err(bad(count, Reason::OutOfPlace));
+    if reader.place.course.is_in_repeat() {
+        return Err(bad(reader.count, Reason::OutOfPlace));
     }
-    Ok(Reading {
-        lines,
-        heading,
-        finds,
-    })
+    Ok(reader)
 }

@@ -1,5 +1,5 @@
 use Rattle.pfs_script.proofs.Shown.{bad_is}
-use Rattle.pfs_script.proofs.places.is_bad_statement.Goals as goal
+use Rattle.pfs_script.proofs.finds.is_refused.Goals as goal
 
 pub returns-in-Statement : goal.returns-in-Statement
 returns-in-Statement c = bad_is c.args.line.now _ _ c.args.shown.now c.is_none.result c.in-Statement.is c.requires c.is_none.ensures
