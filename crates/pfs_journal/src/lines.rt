@@ -1,4 +1,4 @@
-//! The lines of a report, each built in a buffer that serves for all of them.
+//! The lines of a report, each built in a buffer that serves for many of them.
 
 ghost use Rattle.std.specs.Prelude.{◌≡◌, ◌≤◌, ◌+◌, ◌++◌, ◌∷◌, [], Some, OnOk, codes, drop, length};
 ghost use Rattle.std.specs.List.{All, flat_map};
@@ -17,8 +17,14 @@ use pfs_values::{Row, RowValue};
 /// The bytes of a space and the longest number.
 const FIELD: usize = 21;
 
-/// The bytes of four of them, and of a line's end.
-const NUMBERS: usize = 85;
+/// The most bytes of a word that begins an entry's line.
+const WORD: usize = 7;
+
+/// The most bytes of a verdict's name.
+const NAME: usize = 11;
+
+/// The bytes of the longest line of an entry, which is a start's.
+pub const ENTRY: usize = 124;
 
 /// Appends a text.
 fn put_text(line: &mut Vec<u8>, text: &[u8]) -> Result<(), NoMemory>
@@ -60,24 +66,30 @@ fn put_long_field(line: &mut Vec<u8>, number: u64) -> Result<(), NoMemory>
     line.extend_from_slice(&field[start - 1..])
 }
 
-/// Appends a space and a number, or `-` where there is none.
-fn put_optional(line: &mut Vec<u8>, number: Option<u64>) -> Result<(), NoMemory>
-    ensures text { OnOk result (line.new.items ≡ line.old.items ++ optional_text number) }
-    ensures fits { OnOk result (FitsField number) }
+/// Puts a space and a number before what stands in the buffer from a place on, and tells where they begin. Most numbers
+/// of a report have one digit.
+#[inline(always)]
+#[tactic(auto, unfolding(crate::specs::Spelling::field_text))]
+fn field_before(buffer: &mut [u8], end: usize, number: u64) -> usize
+    requires room { FIELD ≤ end }
+    requires within { end ≤ length buffer.old }
+    ensures text { drop result buffer.new ≡ field_text number ++ drop end buffer.old }
+    ensures low { end ≤ result + FIELD }
+    ensures high { result ≤ end }
 {
-    match number {
-        Some(number) => put_field(line, number),
-        None => {
-            line.push(b' ')?;
-            line.push(b'-')?;
-            Ok(())
-        }
+    if number < 10 {
+        buffer[end - 1] = b'0' + number as u8;
+        buffer[end - 2] = b' ';
+        end - 2
+    } else {
+        long_field_before(buffer, end, number)
     }
 }
 
-/// Puts a space and a number before what stands in the buffer from a place on, and tells where they begin.
+/// The same of any number.
+#[inline(never)]
 #[tactic(auto, unfolding(crate::specs::Spelling::field_text))]
-fn field_before(buffer: &mut [u8], end: usize, number: u64) -> usize
+fn long_field_before(buffer: &mut [u8], end: usize, number: u64) -> usize
     requires room { FIELD ≤ end }
     requires within { end ≤ length buffer.old }
     ensures text { drop result buffer.new ≡ field_text number ++ drop end buffer.old }
@@ -90,6 +102,7 @@ fn field_before(buffer: &mut [u8], end: usize, number: u64) -> usize
 }
 
 /// The same of a number, or `-` where there is none.
+#[inline(always)]
 fn optional_before(buffer: &mut [u8], end: usize, number: Option<u64>) -> usize
     requires room { FIELD ≤ end }
     requires within { end ≤ length buffer.old }
@@ -108,12 +121,27 @@ fn optional_before(buffer: &mut [u8], end: usize, number: Option<u64>) -> usize
     }
 }
 
-/// Appends what stands in the buffer from this place on.
-fn put_from(line: &mut Vec<u8>, buffer: &[u8], start: usize) -> Result<(), NoMemory>
-    requires { start ≤ length buffer.now }
-    ensures { OnOk result (line.new.items ≡ line.old.items ++ drop start buffer.now) }
+/// Puts a word before what stands in the buffer from a place on, and tells where it begins.
+#[inline(always)]
+fn word_before(buffer: &mut [u8], end: usize, word: &[u8]) -> usize
+    requires room { length word.now ≤ end }
+    requires within { end ≤ length buffer.old }
+    ensures text { drop result buffer.new ≡ word.now ++ drop end buffer.old }
+    ensures start { result + length word.now ≡ end }
 {
-    line.extend_from_slice(&buffer[start..])
+    let start = end - word.len();
+    buffer[start..end].copy_from_slice(word);
+    start
+}
+
+/// Puts a line's end at the end of the buffer, and tells where it stands.
+#[inline(always)]
+fn end_of_line(buffer: &mut [u8; ENTRY]) -> usize
+    ensures text { drop result buffer.new ≡ codes "\n" }
+    ensures place { result + 1 ≡ ENTRY }
+{
+    buffer[ENTRY - 1] = b'\n';
+    ENTRY - 1
 }
 
 /// Ends a line.
@@ -124,98 +152,6 @@ fn end_line(line: &mut Vec<u8>) -> Result<(), NoMemory>
     Ok(())
 }
 
-/// A line of a word alone.
-#[tactic(auto, unfolding(crate::specs::Spelling::numbers_text))]
-fn bare_line(line: &mut Vec<u8>, word: &[u8]) -> Result<(), NoMemory>
-    ensures text { OnOk result (line.new.items ≡ numbers_text word.now []) }
-    ensures fits { OnOk result (All FitsField []) }
-{
-    begin(line, word)?;
-    end_line(line)
-}
-
-/// What a start's line begins with: its word, number and verdict.
-fn begin_start(line: &mut Vec<u8>, event: Option<u64>, verdict: Verdict) -> Result<(), NoMemory>
-    ensures text { OnOk result (line.new.items ≡ codes "start" ++ optional_text event
-        ++ codes " " ++ verdict_name verdict) }
-    ensures fits { OnOk result (FitsField event) }
-{
-    begin(line, b"start")?;
-    put_optional(line, event)?;
-    line.push(b' ')?;
-    put_text(line, verdict.name().as_bytes())
-}
-
-/// The line of a start.
-#[tactic(auto, unfolding(crate::specs::Spelling::numbers_text))]
-fn start_line(
-    line: &mut Vec<u8>,
-    event: Option<u64>,
-    verdict: Verdict,
-    consumers: Option<u64>,
-    thread: Option<u64>,
-    class: Option<u64>,
-    table: Option<u64>,
-) -> Result<(), NoMemory>
-    ensures text { OnOk result
-        (line.new.items ≡ numbers_text (codes "start" ++ optional_text event ++ codes " " ++ verdict_name verdict)
-        (consumers ∷ thread ∷ class ∷ table ∷ [])) }
-    ensures fits { OnOk result (All FitsField (event ∷ consumers ∷ thread ∷ class ∷ table ∷ [])) }
-{
-    let mut buffer = [b'\n'; NUMBERS];
-    let end = optional_before(&mut buffer, NUMBERS - 1, table);
-    let end = optional_before(&mut buffer, end, class);
-    let end = optional_before(&mut buffer, end, thread);
-    let start = optional_before(&mut buffer, end, consumers);
-    begin_start(line, event, verdict)?;
-    put_from(line, &buffer, start)
-}
-
-/// The line of a connect.
-#[tactic(auto, unfolding(crate::specs::Spelling::numbers_text))]
-fn connect_line(
-    line: &mut Vec<u8>,
-    action: u64,
-    thread: Option<u64>,
-    account: Option<u64>,
-    user: Option<u64>,
-    host: Option<u64>,
-) -> Result<(), NoMemory>
-    ensures text { OnOk result (line.new.items
-        ≡ numbers_text (codes "connect") (Some action ∷ thread ∷ account ∷ user ∷ host ∷ [])) }
-    ensures fits { OnOk result (All FitsField (Some action ∷ thread ∷ account ∷ user ∷ host ∷ [])) }
-{
-    begin(line, b"connect")?;
-    put_optional(line, Some(action))?;
-    put_optional(line, thread)?;
-    put_optional(line, account)?;
-    put_optional(line, user)?;
-    put_optional(line, host)?;
-    end_line(line)
-}
-
-/// The line of an end.
-#[tactic(auto, unfolding(crate::specs::Spelling::numbers_text))]
-fn ended_line(
-    line: &mut Vec<u8>,
-    event: Option<u64>,
-    last: Option<u64>,
-    consumers: Option<u64>,
-    thread: Option<u64>,
-) -> Result<(), NoMemory>
-    ensures text { OnOk result (line.new.items
-        ≡ numbers_text (codes "end") (event ∷ last ∷ consumers ∷ thread ∷ [])) }
-    ensures fits { OnOk result (All FitsField (event ∷ last ∷ consumers ∷ thread ∷ [])) }
-{
-    let mut buffer = [b'\n'; NUMBERS];
-    let end = optional_before(&mut buffer, NUMBERS - 1, thread);
-    let end = optional_before(&mut buffer, end, consumers);
-    let end = optional_before(&mut buffer, end, last);
-    let start = optional_before(&mut buffer, end, event);
-    begin(line, b"end")?;
-    put_from(line, &buffer, start)
-}
-
 /// A line of a word and a number.
 #[tactic(auto, unfolding(crate::specs::Spelling::numbers_text))]
 pub fn one_line(line: &mut Vec<u8>, word: &[u8], first: u64) -> Result<(), NoMemory>
@@ -223,49 +159,171 @@ pub fn one_line(line: &mut Vec<u8>, word: &[u8], first: u64) -> Result<(), NoMem
     ensures fits { OnOk result (All FitsField (Some first ∷ [])) }
 {
     begin(line, word)?;
-    put_optional(line, Some(first))?;
+    put_field(line, first)?;
     end_line(line)
 }
 
-/// A line of a word and two numbers.
+/// Puts a line of a word alone at the end of the buffer, and tells where it begins.
 #[tactic(auto, unfolding(crate::specs::Spelling::numbers_text))]
-fn two_line(line: &mut Vec<u8>, word: &[u8], first: u64, second: u64) -> Result<(), NoMemory>
-    ensures text { OnOk result (line.new.items ≡ numbers_text word.now (Some first ∷ Some second ∷ [])) }
-    ensures fits { OnOk result (All FitsField (Some first ∷ Some second ∷ [])) }
+fn bare_before(buffer: &mut [u8; ENTRY], word: &[u8]) -> usize
+    requires { length word.now ≤ WORD }
+    ensures text { drop result buffer.new ≡ numbers_text word.now [] }
+    ensures within { result ≤ ENTRY }
+    ensures fits { All FitsField [] }
 {
-    let mut buffer = [b'\n'; NUMBERS];
-    let end = optional_before(&mut buffer, NUMBERS - 1, Some(second));
-    let start = optional_before(&mut buffer, end, Some(first));
-    begin(line, word)?;
-    put_from(line, &buffer, start)
+    let end = end_of_line(buffer);
+    word_before(buffer, end, word)
 }
 
-/// A line of a word and three numbers.
+/// The same of a word and a number.
 #[tactic(auto, unfolding(crate::specs::Spelling::numbers_text))]
-fn three_line(
-    line: &mut Vec<u8>,
-    word: &[u8],
-    first: u64,
-    second: u64,
-    third: u64,
-) -> Result<(), NoMemory>
-    ensures text { OnOk result (line.new.items
-        ≡ numbers_text word.now (Some first ∷ Some second ∷ Some third ∷ [])) }
-    ensures fits { OnOk result (All FitsField (Some first ∷ Some second ∷ Some third ∷ [])) }
+fn one_before(buffer: &mut [u8; ENTRY], word: &[u8], first: u64) -> usize
+    requires { length word.now ≤ WORD }
+    ensures text { drop result buffer.new ≡ numbers_text word.now (Some first ∷ []) }
+    ensures within { result ≤ ENTRY }
+    ensures fits { All FitsField (Some first ∷ []) }
 {
-    let mut buffer = [b'\n'; NUMBERS];
-    let end = optional_before(&mut buffer, NUMBERS - 1, Some(third));
-    let end = optional_before(&mut buffer, end, Some(second));
-    let start = optional_before(&mut buffer, end, Some(first));
-    begin(line, word)?;
-    put_from(line, &buffer, start)
+    let end = end_of_line(buffer);
+    let end = optional_before(buffer, end, Some(first));
+    word_before(buffer, end, word)
 }
 
-/// The line of an entry. Each form has a function of its own, since a function pays at its entry for all that it may
-/// keep.
-pub fn entry_line(line: &mut Vec<u8>, entry: &Entry) -> Result<(), NoMemory>
-    ensures text { OnOk result (line.new.items ≡ entry_text entry.now) }
-    ensures fits { OnOk result (All FitsField (entry_numbers entry.now)) }
+/// The same of a word and two numbers.
+#[inline(always)]
+#[tactic(auto, unfolding(crate::specs::Spelling::numbers_text))]
+fn two_before(buffer: &mut [u8; ENTRY], word: &[u8], first: u64, second: u64) -> usize
+    requires { length word.now ≤ WORD }
+    ensures text { drop result buffer.new ≡ numbers_text word.now (Some first ∷ Some second ∷ []) }
+    ensures within { result ≤ ENTRY }
+    ensures fits { All FitsField (Some first ∷ Some second ∷ []) }
+{
+    let end = end_of_line(buffer);
+    let end = optional_before(buffer, end, Some(second));
+    let end = optional_before(buffer, end, Some(first));
+    word_before(buffer, end, word)
+}
+
+/// The same of a word and three numbers.
+#[tactic(auto, unfolding(crate::specs::Spelling::numbers_text))]
+fn three_before(buffer: &mut [u8; ENTRY], word: &[u8], first: u64, second: u64, third: u64) -> usize
+    requires { length word.now ≤ WORD }
+    ensures text { drop result buffer.new
+        ≡ numbers_text word.now (Some first ∷ Some second ∷ Some third ∷ []) }
+    ensures within { result ≤ ENTRY }
+    ensures fits { All FitsField (Some first ∷ Some second ∷ Some third ∷ []) }
+{
+    let end = end_of_line(buffer);
+    let end = optional_before(buffer, end, Some(third));
+    let end = optional_before(buffer, end, Some(second));
+    let end = optional_before(buffer, end, Some(first));
+    word_before(buffer, end, word)
+}
+
+/// The name of a verdict.
+#[inline(always)]
+fn verdict_text(verdict: Verdict) -> &'static [u8]
+    ensures text { result.now ≡ verdict_name verdict }
+    ensures short { length result.now ≤ NAME }
+{
+    verdict.name().as_bytes()
+}
+
+/// Puts what a start's line begins with: its word, number and verdict.
+#[inline(always)]
+fn start_before(buffer: &mut [u8], end: usize, event: Option<u64>, verdict: Verdict) -> usize
+    requires room { 5 + FIELD + 1 + NAME ≤ end }
+    requires within { end ≤ length buffer.old }
+    ensures text { drop result buffer.new
+        ≡ (codes "start" ++ optional_text event ++ codes " " ++ verdict_name verdict) ++ drop end buffer.old }
+    ensures fits { FitsField event }
+    ensures high { result ≤ end }
+{
+    let end = word_before(buffer, end, verdict_text(verdict));
+    let end = word_before(buffer, end, b" ");
+    let end = optional_before(buffer, end, event);
+    word_before(buffer, end, b"start")
+}
+
+/// The line of a start.
+#[inline(always)]
+#[tactic(auto, unfolding(crate::specs::Spelling::numbers_text))]
+fn started_before(
+    buffer: &mut [u8; ENTRY],
+    event: Option<u64>,
+    verdict: Verdict,
+    consumers: Option<u64>,
+    thread: Option<u64>,
+    class: Option<u64>,
+    table: Option<u64>,
+) -> usize
+    ensures text { drop result buffer.new
+        ≡ numbers_text (codes "start" ++ optional_text event ++ codes " " ++ verdict_name verdict)
+        (consumers ∷ thread ∷ class ∷ table ∷ []) }
+    ensures within { result ≤ ENTRY }
+    ensures fits { All FitsField (event ∷ consumers ∷ thread ∷ class ∷ table ∷ []) }
+{
+    let end = end_of_line(buffer);
+    let end = optional_before(buffer, end, table);
+    let end = optional_before(buffer, end, class);
+    let end = optional_before(buffer, end, thread);
+    let end = optional_before(buffer, end, consumers);
+    start_before(buffer, end, event, verdict)
+}
+
+/// The line of a connect.
+#[tactic(auto, unfolding(crate::specs::Spelling::numbers_text))]
+fn connect_before(
+    buffer: &mut [u8; ENTRY],
+    action: u64,
+    thread: Option<u64>,
+    account: Option<u64>,
+    user: Option<u64>,
+    host: Option<u64>,
+) -> usize
+    ensures text { drop result buffer.new
+        ≡ numbers_text (codes "connect") (Some action ∷ thread ∷ account ∷ user ∷ host ∷ []) }
+    ensures within { result ≤ ENTRY }
+    ensures fits { All FitsField (Some action ∷ thread ∷ account ∷ user ∷ host ∷ []) }
+{
+    let end = end_of_line(buffer);
+    let end = optional_before(buffer, end, host);
+    let end = optional_before(buffer, end, user);
+    let end = optional_before(buffer, end, account);
+    let end = optional_before(buffer, end, thread);
+    let end = optional_before(buffer, end, Some(action));
+    word_before(buffer, end, b"connect")
+}
+
+/// The line of an end.
+#[inline(always)]
+#[tactic(auto, unfolding(crate::specs::Spelling::numbers_text))]
+fn ended_before(
+    buffer: &mut [u8; ENTRY],
+    event: Option<u64>,
+    last: Option<u64>,
+    consumers: Option<u64>,
+    thread: Option<u64>,
+) -> usize
+    ensures text { drop result buffer.new
+        ≡ numbers_text (codes "end") (event ∷ last ∷ consumers ∷ thread ∷ []) }
+    ensures within { result ≤ ENTRY }
+    ensures fits { All FitsField (event ∷ last ∷ consumers ∷ thread ∷ []) }
+{
+    let end = end_of_line(buffer);
+    let end = optional_before(buffer, end, thread);
+    let end = optional_before(buffer, end, consumers);
+    let end = optional_before(buffer, end, last);
+    let end = optional_before(buffer, end, event);
+    word_before(buffer, end, b"end")
+}
+
+/// Puts the line of an entry at the end of the buffer, and tells where it begins. It is made from its end to its front,
+/// so that no number needs its length beforehand.
+#[inline(always)]
+pub fn entry_before(buffer: &mut [u8; ENTRY], entry: &Entry) -> usize
+    ensures text { drop result buffer.new ≡ entry_text entry.now }
+    ensures within { result ≤ ENTRY }
+    ensures fits { All FitsField (entry_numbers entry.now) }
 {
     match entry {
         Entry::Connect {
@@ -274,7 +332,7 @@ pub fn entry_line(line: &mut Vec<u8>, entry: &Entry) -> Result<(), NoMemory>
             account,
             user,
             host,
-        } => connect_line(line, *action, *thread, *account, *user, *host),
+        } => connect_before(buffer, *action, *thread, *account, *user, *host),
         Entry::Start {
             event,
             verdict,
@@ -282,50 +340,62 @@ pub fn entry_line(line: &mut Vec<u8>, entry: &Entry) -> Result<(), NoMemory>
             thread,
             class,
             table,
-        } => start_line(line, *event, *verdict, *consumers, *thread, *class, *table),
+        } => started_before(
+            buffer, *event, *verdict, *consumers, *thread, *class, *table,
+        ),
         Entry::End {
             event,
             last,
             consumers,
             thread,
-        } => ended_line(line, *event, *last, *consumers, *thread),
-        Entry::Add { row, version } => two_line(line, b"add", *row, *version),
-        Entry::Held { row, first, second } => three_line(line, b"held", *row, *first, *second),
-        Entry::Ring { row, version } => two_line(line, b"ring", *row, *version),
+        } => ended_before(buffer, *event, *last, *consumers, *thread),
+        Entry::Add { row, version } => two_before(buffer, b"add", *row, *version),
+        Entry::Held { row, first, second } => three_before(buffer, b"held", *row, *first, *second),
+        Entry::Ring { row, version } => two_before(buffer, b"ring", *row, *version),
         Entry::Long {
             row,
             version,
             ticket,
-        } => three_line(line, b"long", *row, *version, *ticket),
-        Entry::Busy { row, first, second } => three_line(line, b"busy", *row, *first, *second),
+        } => three_before(buffer, b"long", *row, *version, *ticket),
+        Entry::Busy { row, first, second } => three_before(buffer, b"busy", *row, *first, *second),
         Entry::Late {
             row,
             ticket,
             greater,
-        } => three_line(line, b"late", *row, *ticket, *greater),
-        Entry::Settle => bare_line(line, b"settle"),
-        Entry::Act { action } => one_line(line, b"act", *action),
-        Entry::Take { row, version } => two_line(line, b"take", *row, *version),
+        } => three_before(buffer, b"late", *row, *ticket, *greater),
+        Entry::Settle => bare_before(buffer, b"settle"),
+        Entry::Act { action } => one_before(buffer, b"act", *action),
+        Entry::Take { row, version } => two_before(buffer, b"take", *row, *version),
         Entry::Give {
             row,
             version,
             source,
-        } => three_line(line, b"give", *row, *version, *source),
-        Entry::Tag { row, version } => two_line(line, b"tag", *row, *version),
-        Entry::Free { row, version } => two_line(line, b"free", *row, *version),
+        } => three_before(buffer, b"give", *row, *version, *source),
+        Entry::Tag { row, version } => two_before(buffer, b"tag", *row, *version),
+        Entry::Free { row, version } => two_before(buffer, b"free", *row, *version),
         Entry::Set {
             word,
             version,
             flags,
-        } => three_line(line, b"set", *word, *version, *flags),
-        Entry::Reply { number } => one_line(line, b"reply", *number),
-        Entry::Error { number } => one_line(line, b"error", *number),
-        Entry::Query => bare_line(line, b"query"),
-        Entry::Seen { row, version } => two_line(line, b"seen", *row, *version),
-        Entry::Vacant { row } => one_line(line, b"vacant", *row),
-        Entry::Saw { word, version } => two_line(line, b"saw", *word, *version),
-        Entry::Rows { number } => one_line(line, b"rows", *number),
+        } => three_before(buffer, b"set", *word, *version, *flags),
+        Entry::Reply { number } => one_before(buffer, b"reply", *number),
+        Entry::Error { number } => one_before(buffer, b"error", *number),
+        Entry::Query => bare_before(buffer, b"query"),
+        Entry::Seen { row, version } => two_before(buffer, b"seen", *row, *version),
+        Entry::Vacant { row } => one_before(buffer, b"vacant", *row),
+        Entry::Saw { word, version } => two_before(buffer, b"saw", *word, *version),
+        Entry::Rows { number } => one_before(buffer, b"rows", *number),
     }
+}
+
+/// The line of an entry.
+pub fn entry_line(line: &mut Vec<u8>, entry: &Entry) -> Result<(), NoMemory>
+    ensures text { OnOk result (line.new.items ≡ entry_text entry.now) }
+    ensures fits { OnOk result (All FitsField (entry_numbers entry.now)) }
+{
+    let mut buffer = [b'\n'; ENTRY];
+    let start = entry_before(&mut buffer, entry);
+    begin(line, &buffer[start..])
 }
 
 /// Appends a space and a quoted text.
@@ -396,6 +466,6 @@ pub fn lost_line(line: &mut Vec<u8>, lost: &LostReport) -> Result<(), NoMemory>
     ensures fits { OnOk result (FitsField (Some lost.now.number)) }
 {
     begin_lost(line, lost.name.as_bytes())?;
-    put_optional(line, Some(lost.number))?;
+    put_field(line, lost.number)?;
     end_line(line)
 }

@@ -7,7 +7,7 @@ ghost use Rattle.pfs_journal.specs.Spelling.{entry_text, is_answered, answered_t
 
 use crate::NoMemory;
 use crate::blocks::BlockReport;
-use crate::lines::{entry_line, lost_line, one_line, row_line, table_line};
+use crate::lines::{ENTRY, entry_before, lost_line, one_line, row_line, table_line};
 use crate::report::{PhaseParts, PhaseReport, Report};
 use crate::values::{LostReport, TableReport};
 use pfs_event::{Entry, KeptEntry};
@@ -19,7 +19,7 @@ use std::alloc::Global;
 trait Spelled {
     ghost text: { Self → List ℕ };
 
-    /// Offers the lines to a sink, one by one, each built in the buffer.
+    /// Offers the lines to a sink, one by one. Those that may be of any length are built in this buffer.
     fn put<K: Sink>(&self, line: &mut Vec<u8>, sink: &mut K) -> Result<(), WriteStop>
         ensures { Puts (K.written sink.old) (K.written sink.new) (K.faults sink.old) (K.faults sink.new)
             (text self.now) result };
@@ -54,12 +54,18 @@ fn offer<K: Sink>(sink: &mut K, line: &[u8], built: Result<(), NoMemory>) -> Res
     }
 }
 
-fn put_entry_line<K: Sink>(line: &mut Vec<u8>, sink: &mut K, entry: &Entry) -> Result<(), WriteStop>
+/// Offers the line of an entry, which is built in the buffer.
+#[inline(always)]
+fn put_entry_line<K: Sink>(
+    buffer: &mut [u8; ENTRY],
+    sink: &mut K,
+    entry: &Entry,
+) -> Result<(), WriteStop>
     ensures { Puts (K.written sink.old) (K.written sink.new) (K.faults sink.old) (K.faults sink.new)
         (entry_text entry.now) result }
 {
-    let built = entry_line(line, entry);
-    offer(sink, line, built)
+    let start = entry_before(buffer, entry);
+    write_all(sink, &buffer[start..])
 }
 
 impl Spelled for Row {
@@ -119,6 +125,7 @@ fn put_answer<K: Sink>(
 /// Offers an entry and the answer behind it, where the answers from this place on are left.
 #[tactic(auto, using(pfs_outside::proofs::Writes::puts_then, pfs_outside::proofs::Writes::puts_stop), unfolding(crate::specs::Spelling::answered_text))]
 fn put_entry<K: Sink>(
+    buffer: &mut [u8; ENTRY],
     line: &mut Vec<u8>,
     sink: &mut K,
     entry: &Entry,
@@ -128,7 +135,7 @@ fn put_entry<K: Sink>(
     ensures { Puts (K.written sink.old) (K.written sink.new) (K.faults sink.old) (K.faults sink.new)
         (answered_text entry.now (drop place answers.now)) result }
 {
-    put_entry_line(line, sink, entry)?;
+    put_entry_line(buffer, sink, entry)?;
     put_answer(line, sink, entry, answers, place)
 }
 
@@ -142,10 +149,11 @@ fn put_journal<K: Sink>(
     ensures { Puts (K.written sink.old) (K.written sink.new) (K.faults sink.old) (K.faults sink.new)
         (journal_text entries.now answers.now) result }
 {
+    let mut buffer = [b'\n'; ENTRY];
     let mut place = 0usize;
     for entry in entries {
         let said = entry.entry();
-        match put_entry(line, sink, &said, answers, place) {
+        match put_entry(&mut buffer, line, sink, &said, answers, place) {
             Ok(()) => {}
             Err(stop) => return Err(stop),
         }
@@ -294,7 +302,7 @@ fn put_first_line<K: Sink>(line: &mut Vec<u8>, sink: &mut K, format: u64) -> Res
     offer(sink, line, built)
 }
 
-/// Writes a report to a sink, line by line, each line built in one buffer. The rest of a line that
+/// Writes a report to a sink, line by line, each line built in a buffer. The rest of a line that
 /// was taken in part is offered again. On a refusal a front of the report was written.
 #[tactic(auto, using(pfs_outside::proofs::Writes::puts_then, pfs_outside::proofs::Writes::puts_stop), unfolding(crate::specs::Spelling::spelling))]
 pub fn write<K: Sink>(alloc: Global, report: &Report, sink: &mut K) -> Result<(), WriteStop>
