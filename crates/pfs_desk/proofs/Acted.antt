@@ -4,7 +4,7 @@ use Rattle.std.proofs.Common.{ℕ, zero, suc, ◌≡◌, ◌+◌, ◌<◌, true,
 use Rattle.atomic_table.specs.Seated.{TableId}
 use Rattle.pfs_admin.specs.declared.changes.Change.{Change}
 use Rattle.pfs_admin.specs.Asks.{connect_work, placed_of}
-use Rattle.pfs_admin.specs.Fold.{Follows}
+use Rattle.pfs_admin.specs.Fold.{Follows, StandsFor}
 use Rattle.pfs_admin.specs.States.{State, words_by}
 use Rattle.pfs_admin.proofs.Folding.{fixed_law}
 use Rattle.pfs_admin.specs.Works.{Made, Work, Flagging, signs_calls, signs_of, word_at, set_word, flagging, flagged, flagging_calls, flagging_entries, signs_entries}
@@ -38,7 +38,7 @@ pub record IsInside (calls more : List Call) : Type 0 where
   pub label : label_in more ≡ label_in calls
   pub labels : labels_in more ≡ labels_in calls
 
-quiet_inside : (xs calls : List Call) → AreQuiet xs → IsInside calls (xs ++ calls)
+pub quiet_inside : (xs calls : List Call) → AreQuiet xs → IsInside calls (xs ++ calls)
 quiet_inside [] calls q = record { label = refl; labels = refl }
 quiet_inside (Takes row version found ∷ xs) calls q = let i = quiet_inside xs calls q in record { label = i.label; labels = i.labels }
 quiet_inside (Puts row content version ∷ xs) calls q = let i = quiet_inside xs calls q in record { label = i.label; labels = i.labels }
@@ -73,14 +73,14 @@ desk_wide setting change switches labels admin pen is = ap (λ (ws : List Word).
 abbrev pub SetsOne : List Word → List Flagging → List Word → Type 0
 SetsOne words flags after = ((flags ≡ []) × (after ≡ words)) ⊎ ((at : ℕ) × (to : ℕ) × (at < 160) × (flags ≡ flagging words at to) × (after ≡ flagged words at to))
 
-no_flag : (words : List Word) (at : ℕ) → (flagging words at (word_at words at).flags ≡ []) × (flagged words at (word_at words at).flags ≡ words)
+pub no_flag : (words : List Word) (at : ℕ) → (flagging words at (word_at words at).flags ≡ []) × (flagged words at (word_at words at).flags ≡ words)
 no_flag words at =
     let same = eq-eqb (word_at words at).flags (word_at words at).flags refl in (
       ap (λ b. cond b [] (record { word = at; flags = (word_at words at).flags } ∷ [])) same,
       ap (λ b. cond b words (slice_set words at (set_word (word_at words at) (word_at words at).flags))) same,
     )
 
-worked : (setting : Setting) (change : Label → Change) (calls : List Call) (words after : List Word) (flags : List Flagging) (made : List Made) (moves : List Move) → SetsOne words flags after
+pub worked : (setting : Setting) (change : Label → Change) (calls : List Call) (words after : List Word) (flags : List Flagging) (made : List Made) (moves : List Move) → SetsOne words flags after
     → length words ≡ 160 → has_met calls ≡ true → AllKeepWords (version_after setting change) calls → AreAsKnown (version_after setting change) calls words
     → AllKeepWords (version_after setting change) (its_of words flags made moves ++ calls) × AreAsKnown (version_after setting change) (its_of words flags made moves ++ calls) after
 worked setting change calls words after flags made moves one wide met keeps known =
@@ -104,6 +104,18 @@ pub connect_sets : (words : List Word) (flags : ℕ) (after : Containers) (seat 
 connect_sets words flags after None low = inl (refl, refl)
 connect_sets words flags after (Some seat) low = inr (1 + seat.slot, flags, omega (arith, low), refl, refl)
 
+-- the administration, and the writer that a hold gave back, are a desk again
+pub again : (setting : Setting) (change : Label → Change) (switches : TableId) (labels : List Label) (admin next : State) (later w : Known) (lent : Option Known) (told : Option (List Word))
+    → StandsFor setting change labels admin → next ≡ admin → later ≡ w → lent ≡ Some w → option_map (λ (x : Known). words_of x.view) lent ≡ told → told ≡ Some admin.words
+    → IfSome lent (λ (x : Known). x.switches ≡ switches) → IsDesk setting change switches labels next later
+again setting change switches labels admin next later w lent told stands last mine some tells known from =
+    let e : Some (words_of w.view) ≡ Some admin.words = ap (λ (o : Option Known). option_map (λ (x : Known). words_of x.view) o) (sym some) ∙ (tells ∙ known) in
+    record {
+      stands = last ∙ stands;
+      words_are = ap (λ (x : Known). words_of x.view) mine ∙ (ap (λ (o : Option (List Word)). unwrap_or o []) e ∙ ap (λ (s : State). s.words) (sym last));
+      same = ap (λ (x : Known). x.switches) mine ∙ subst (λ (o : Option Known). IfSome o (λ (x : Known). x.switches ≡ switches)) some from;
+    }
+
 module _ (setting : Setting) (change : Label → Change) (switches : TableId) (labels : List Label) (admin : State) (pen : Known) where
   pub same_desk : IsDesk setting change switches labels admin pen → (a : State) → (p : Known) → a ≡ admin → p ≡ pen → IsDesk setting change switches labels a p
   same_desk is a p ea ep = record {
@@ -120,12 +132,7 @@ module _ (setting : Setting) (change : Label → Change) (switches : TableId) (l
       → change label ≡ what → Follows label.session what admin b → next ≡ b → later ≡ w → lent ≡ Some w → option_map (λ (x : Known). words_of x.view) lent ≡ told → told ≡ Some b.words
       → IfSome lent (λ (x : Known). x.switches ≡ switches) → IsDesk setting change switches (labels ++ label ∷ []) next later
   followed is label what b next later w lent told whose step last mine some tells known from =
-      let e : Some (words_of w.view) ≡ Some b.words = ap (λ (o : Option Known). option_map (λ (x : Known). words_of x.view) o) (sym some) ∙ (tells ∙ known) in
-      record {
-        stands = last ∙ step.stands setting change labels label refl whose is.stands;
-        words_are = ap (λ (x : Known). words_of x.view) mine ∙ (ap (λ (o : Option (List Word)). unwrap_or o []) e ∙ ap (λ (s : State). s.words) (sym last));
-        same = ap (λ (x : Known). x.switches) mine ∙ subst (λ (o : Option Known). IfSome o (λ (x : Known). x.switches ≡ switches)) some from;
-      }
+      again setting change switches (labels ++ label ∷ []) b next later w lent told (step.stands setting change labels label refl whose is.stands) last mine some tells known from
 
 -- a desk for one label more stands for what the action's own calls say
 pub ended : (setting : Setting) (change : Label → Change) (switches : TableId) (label : Label) (labels : List Label) (next : State) (later : Known) (words : List Word) (flags : List Flagging) (made : List Made) (moves : List Move) (seen : List ℕ) (calls : List Call)

@@ -57,12 +57,12 @@ moves_quiet [] = tt
 moves_quiet (m ∷ moves) = quiet_both (move_calls m) (moves_calls moves) (quiet_both (gift_calls (stat_of_words m.found) m.gifts) _ (gifts_quiet (stat_of_words m.found) m.gifts) tt) (moves_quiet moves)
 
 -- they change nothing of the words
-record IsStill (versions : List Label → ℕ → ℕ) (calls more : List Call) : Type 0 where
-  keeps : AllKeepWords versions calls → AllKeepWords versions more
-  met : has_met more ≡ has_met calls
-  same : (at : ℕ) → present versions more at ≡ present versions calls at
+pub record IsStill (versions : List Label → ℕ → ℕ) (calls more : List Call) : Type 0 where
+  pub keeps : AllKeepWords versions calls → AllKeepWords versions more
+  pub met : has_met more ≡ has_met calls
+  pub same : (at : ℕ) → present versions more at ≡ present versions calls at
 
-still : (versions : List Label → ℕ → ℕ) (xs calls : List Call) → AreQuiet xs → IsStill versions calls (xs ++ calls)
+pub still : (versions : List Label → ℕ → ℕ) (xs calls : List Call) → AreQuiet xs → IsStill versions calls (xs ++ calls)
 still versions [] calls q = record { keeps = λ k. k; met = refl; same = λ at. refl }
 still versions (Takes row version found ∷ xs) calls q = let i = still versions xs calls q in record { keeps = λ k. (tt, i.keeps k); met = i.met; same = i.same }
 still versions (Puts row content version ∷ xs) calls q = let i = still versions xs calls q in record { keeps = λ k. (tt, i.keeps k); met = i.met; same = i.same }
