@@ -1,5 +1,5 @@
 pub mod Agreeing
-mod Ends
+mod Skipping
 pub mod Examples
 pub mod Members
 pub mod Passing

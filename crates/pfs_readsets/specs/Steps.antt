@@ -1,8 +1,6 @@
 -- How far a read set has come.
 use Rattle.std.specs.Prelude.{◌≡◌, ℕ, ◌+◌, ◌<◌, ◌≤◌, Bool, true, false, if◌then◌else◌, Option, Some, None, List, [], ◌∷◌, ◌++◌, length, map, slice_index_or, slice_set}
 use Rattle.pfs_rows.specs.declared.table.Table.{Table}
-use Rattle.pfs_rows.specs.declared.table.Table.TheVariants.{Threads, Accounts, Users, Hosts, Summary}
-use Rattle.pfs_rows.specs.declared.table.SummaryTable.TheVariants.{ByThread, ByAccount, ByUser, ByHost, Global}
 use Rattle.pfs_rows.specs.declared.table.Reading.{Reading}
 use Rattle.pfs_readsets.specs.declared.target.Target.TheVariants.{Row, Word}
 use Rattle.pfs_readsets.specs.declared.read_set.ReadSet.{ReadSet}
@@ -31,19 +29,6 @@ own_rows set = reads_row set.table (λ cell. slice_index_or set.cells cell false
 
 abbrev pub own_words : ReadSet → ℕ → Bool
 own_words set = reads_word set.table set.classes (λ row. slice_index_or set.whole row false)
-
--- behind the last row that the table may read, whatever was noted
-abbrev pub end_of : Table → ℕ
-end_of Threads = 2177
-end_of (Summary kind ByThread) = 2177
-end_of Accounts = 4225
-end_of (Summary kind ByAccount) = 4225
-end_of Users = 6273
-end_of (Summary kind ByUser) = 6273
-end_of Hosts = 8321
-end_of (Summary kind ByHost) = 8321
-end_of (Summary kind Global) = 8385
-end_of _ = 14242
 
 -- the first of so many numbers from one on that passes, or none
 abbrev pub FirstPassing : (ℕ → Bool) → ℕ → ℕ → Option ℕ → Type 0

@@ -3,7 +3,6 @@
 ghost use Rattle.std.specs.Prelude.{◌≡◌, ◌<◌, ℕ, false, slice_index_or, slice_get};
 ghost use Rattle.pfs_readsets.specs.Places as spec;
 ghost use Rattle.pfs_readsets.specs.Places.{scope_of};
-ghost use Rattle.pfs_readsets.specs.Steps.{end_of};
 
 use pfs_classes::{Class, ClassId, Classes, Kind, Setting};
 use pfs_rows::{EventTable, SummaryTable, Table, TableKind};
@@ -130,21 +129,6 @@ pub(crate) fn is_digest(table: Table) -> bool
     ensures { result ≡ spec.is_digest table }
 {
     matches!(table, Table::DigestSummary)
-}
-
-// Behind the last row that the table may read. Of a summary of levels that is behind the cells of the last level
-// that it reads.
-pub(crate) fn end_of(table: Table) -> u64
-    ensures { result ≡ end_of table }
-{
-    match table {
-        Table::Threads | Table::Summary(_, SummaryTable::ByThread) => 2_177,
-        Table::Accounts | Table::Summary(_, SummaryTable::ByAccount) => 4_225,
-        Table::Summary(_, SummaryTable::ByUser) | Table::Users => 6_273,
-        Table::Hosts | Table::Summary(_, SummaryTable::ByHost) => 8_321,
-        Table::Summary(_, SummaryTable::Global) => 8_385,
-        _ => 14_242,
-    }
 }
 
 // The ring places of a kind's current events.

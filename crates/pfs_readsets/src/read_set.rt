@@ -1,10 +1,10 @@
 //! The targets of a read set, one after another.
 
-ghost use Rattle.std.specs.Prelude.{◌≡◌, ◌<◌, ◌≤◌, ◌+◌, ℕ, false, true, MatchOption, slice_index_or, ◌&&◌, ◌||◌, ◌==◌, nat_le, nat_lt, ◌-◌, length};
+ghost use Rattle.std.specs.Prelude.{◌≡◌, ◌<◌, ◌≤◌, ◌+◌, ℕ, false, true, MatchOption, if◌then◌else◌, slice_index_or, ◌&&◌, ◌||◌, ◌==◌, nat_le, nat_lt, ◌-◌, length};
 
 use crate::Target;
 use crate::places::{
-    CELLS, cells_of, end_of, has_accounts, has_hosts, has_long, has_ring, has_threads, has_users,
+    CELLS, cells_of, has_accounts, has_hosts, has_long, has_ring, has_threads, has_users,
     is_digest, is_global,
 };
 use pfs_classes::Setting;
@@ -17,6 +17,11 @@ const INFO_ROWS: usize = 129;
 const ROWS: u64 = 14_242;
 
 const WORDS: u64 = 160;
+
+// Ring places of a thread, and places of a kind's long history.
+const RING_PLACES: u64 = 56;
+
+const LONG_PLACES: u64 = 1_000;
 
 /// The read set of a table, which tells its targets one after another: first rows, then switch
 /// words, each ascending. Which cells, ring places and words come depends on the infos that were
@@ -149,14 +154,63 @@ impl ReadSet {
         }
     }
 
+    // How many rows from this one on, which the table doesn't read, it passes over: also those behind it that hang
+    // on the same info, which wasn't Whole, or lie in the same long history of another kind.
+    fn passes_over(&self, row: u64) -> u64
+        requires row { row < 14242 }
+        requires fails { own_rows self.now row ≡ false }
+        ensures some { 0 < result }
+        ensures within { row + result ≤ 14242 }
+        ensures none { (number : ℕ) → row ≤ number → number < row + result → own_rows self.now number ≡ false }
+    {
+        laws::rows();
+        let table = self.table;
+        match place_of(row) {
+            Some(Place::ThreadCell { thread, cell }) => {
+                rest_of(
+                    has_threads(table) && self.was_whole(1, thread),
+                    cell,
+                    CELLS as u64,
+                )
+            }
+            Some(Place::AccountCell { account, cell }) => {
+                rest_of(
+                    has_accounts(table) && self.was_whole(33, account),
+                    cell,
+                    CELLS as u64,
+                )
+            }
+            Some(Place::UserCell { user, cell }) => {
+                rest_of(
+                    has_users(table) && self.was_whole(65, user),
+                    cell,
+                    CELLS as u64,
+                )
+            }
+            Some(Place::HostCell { host, cell }) => {
+                rest_of(
+                    has_hosts(table) && self.was_whole(97, host),
+                    cell,
+                    CELLS as u64,
+                )
+            }
+            Some(Place::Ring { thread, place }) => {
+                rest_of(self.was_whole(1, thread), place, RING_PLACES)
+            }
+            Some(Place::Long { kind, place }) => rest_of(has_long(table, kind), place, LONG_PLACES),
+            _ => 1,
+        }
+    }
+
     fn next_row(&self) -> Option<u64>
         ensures { FirstPassing (own_rows self.now) self.now.row (14242 - self.now.row) result }
     {
-        laws::rows();
-        for row in self.row..end_of(self.table) {
+        let mut row = self.row;
+        while row < ROWS {
             if self.reads_row(row) {
                 return Some(row);
             }
+            row += self.passes_over(row);
         }
         None
     }
@@ -191,6 +245,14 @@ impl ReadSet {
             self.word = word + 1;
         }
     }
+}
+
+// One of a group so wide where it is open, else all from this one on.
+fn rest_of(is_open: bool, at: u64, width: u64) -> u64
+    requires { at < width }
+    ensures { result ≡ (if is_open then 1 else width - at) }
+{
+    if is_open { 1 } else { width - at }
 }
 
 // No info was found Whole.
