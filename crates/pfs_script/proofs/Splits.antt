@@ -1,8 +1,10 @@
 -- The first line of a text.
-use Rattle.std.proofs.Common.{ℕ, ◌≡◌, ◌+◌, ◌<◌, ◌≤◌, ◌-◌, Bool, true, false, not, List, [], ◌∷◌, length, take, drop, subst, refl, arith, length-drop}
-use Rattle.std.specs.Prelude.{Some, None}
+use Rattle.std.proofs.Common.{ℕ, ◌≡◌, ◌+◌, ◌<◌, ◌≤◌, ◌-◌, Bool, true, false, not, List, [], ◌∷◌, length, take, drop, subst, refl, sym, ap, ◌∙◌, arith, length-drop}
+use Rattle.std.specs.Prelude.{Option, Some, None, slice_index}
 use Rattle.std.specs.List.{position, position_or_len, slice_split}
+use Rattle.std.proofs.lemmas.Bool.{false≢true}
 use Rattle.std.proofs.lemmas.Bool.Decides.{nat_tests}
+use Rattle.memchr.specs.Find.{IsFirstByte}
 use Rattle.std.proofs.lemmas.List.Quantifiers.{position-Some}
 use Rattle.std.proofs.lemmas.List.Sums.{prefix_len_passes}
 use Rattle.std.proofs.lemmas.List.Splits.{slice_split_first, slice_split_none, length-slice_split}
@@ -37,6 +39,26 @@ pub split_missing : (p : ℕ → Bool) (xs : List ℕ) → position p xs ≡ Non
 split_missing p xs e =
     let none = not_found p xs e in
     slice_split_none p xs (λ k d h. not_true _ (prefix_len_passes (λ x. not (p x)) xs k d (omega arith)))
+
+-- the first byte that passes, as the search of bytes says it, is the first place
+no_place : (p : ℕ → Bool) (xs : List ℕ) → position p xs ≡ None → (k : ℕ) → k < length xs → p (slice_index xs k) ≡ false
+no_place p xs e k below = not_true _ (prefix_len_passes (λ x. not (p x)) xs k 0 (omega (arith, not_found p xs e, below)))
+
+pub first_place : (p : ℕ → Bool) (xs : List ℕ) (r : Option ℕ) → IsFirstByte p xs r → r ≡ position p xs
+first_place p xs r first = on p xs r (position p xs) refl first
+  where
+    on : (p : ℕ → Bool) (xs : List ℕ) (r q : Option ℕ) → position p xs ≡ q → IsFirstByte p xs r → r ≡ q
+    on p xs None None e first = refl
+    on p xs (Some i) None e first = absurd (false≢true (sym (no_place p xs e i first.0.high) ∙ first.1))
+    on p xs None (Some j) e first =
+        let is = position-Some p xs j 0 e in
+        absurd (first j (omega arith) is.0 is.1)
+    on p xs (Some i) (Some j) e first =
+        let is = position-Some p xs j 0 e in
+        let high : ¬ (i < j) = λ less. absurd (false≢true (sym (is.2 i less) ∙ first.1)) in
+        let low : ¬ (j < i) = λ less. absurd (first.0.before j (omega arith) less is.1) in
+        let same : i ≡ j = omega (arith, high, low) in
+        ap Some same
 
 -- a text has at least one part
 pub some_parts : (p : ℕ → Bool) (xs : List ℕ) → 0 < length (slice_split p xs)

@@ -21,6 +21,7 @@ use crate::reasons::{Extent, Reason};
 use crate::saying::block_line;
 use crate::scripts::Script;
 use crate::words::is_clean;
+use memchr::memchr;
 use pfs_classes::{ClassRef, NoMemory};
 use std::alloc::Global;
 
@@ -212,7 +213,7 @@ fn read_line<'a>(
 fn first_line_feed(bytes: &[u8]) -> Option<usize>
     ensures { result ≡ position (λ byte. byte == 10) bytes.now }
 {
-    bytes.iter().position(|byte| *byte == b'\n')
+    memchr(b'\n', bytes)
 }
 
 /// The first line without its line feed, and what follows it; None where no line feed is left.
