@@ -49,6 +49,8 @@ pub fn connect<'a, R: Wait, N: Shared>(
       actions = 1;
       last = session.new.state.last;
     } }
+    ensures held { session.new.state.held ≡ nothing_held }
+    ensures owed { owed_by_state session.new.state ≡ [] }
     ensures hand { (r : ℕ) → ⟦<BoardRows<'a, Desk<N>> as Rows>⟧.hand result r ≡ None }
     ensures left { ⟦<BoardRows<'a, Desk<N>> as Rows>⟧.left rows.entry
         ≤ ⟦<BoardRows<'a, Desk<N>> as Rows>⟧.left result + 5 }
