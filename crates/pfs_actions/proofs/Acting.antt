@@ -12,7 +12,7 @@ use Rattle.pfs_containers.proofs.Keeping.{free_inside}
 use Rattle.pfs_event.specs.declared.entry.Entry.{Entry}
 use Rattle.pfs_levels.specs.Calls.{Call, Opening, Goes, Begins, Enters, Leaves}
 use Rattle.pfs_model.specs.Journals.{joined}
-use Rattle.pfs_parts.specs.Deeds.{Connecting, Deed, MayDo, Part, Quitting, Truncating, action_of, part_calls, part_entries, steps_for}
+use Rattle.pfs_parts.specs.Deeds.{Connecting, Deed, MayDo, Part, Quitting, action_of, part_calls, part_entries, steps_for}
 use Rattle.pfs_session.specs.States.{State, Book, nothing_held}
 use Rattle.pfs_session.specs.Turns.{Played, turns_calls}
 use Rattle.pfs_actions.specs.Done.{HasActed}

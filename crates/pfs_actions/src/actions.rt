@@ -58,8 +58,8 @@ pub fn quit<A: Acts>(session: &mut Session, rows: &mut A, admin: &mut Admin)
     requires few { admin.old.actions < 2 ^ 47 }
     requires idle { (r : ℕ) → A.hand rows.old r ≡ None }
     requires lent { A.words rows.old ≡ Some admin.old.words }
-    requires spare { length (owed_by_state session.old.state) + 197 ≤ A.left rows.old }
-    requires room { settle_cost (owed_by_state session.old.state) + 198 ≤ session.old.journal.room }
+    requires spare { length (owed_by_state session.old.state) + 253 ≤ A.left rows.old }
+    requires room { settle_cost (owed_by_state session.old.state) + 254 ≤ session.old.journal.room }
     ensures acted { HasActed (Quitting admin.old) session.old session.new (A.reached rows.old) (A.reached rows.new) }
     ensures admin { admin.new ≡ has_quit admin.old session.old.state.number }
     ensures rest { session.new.state ≡ record session.old.state {
@@ -68,8 +68,8 @@ pub fn quit<A: Acts>(session: &mut Session, rows: &mut A, admin: &mut Admin)
       actions = session.old.state.actions + 1;
       last = session.new.state.last;
     } }
-    ensures leaves { Leaves (length (owed_by_state session.old.state) + 197)
-        (settle_cost (owed_by_state session.old.state) + 198) (A.hand rows.old) (A.hand rows.new) (A.left rows.old)
+    ensures leaves { Leaves (length (owed_by_state session.old.state) + 253)
+        (settle_cost (owed_by_state session.old.state) + 254) (A.hand rows.old) (A.hand rows.new) (A.left rows.old)
         (A.left rows.new) (A.draws rows.old) (A.draws rows.new) (A.name rows.old) (A.name rows.new)
         session.old.journal session.new.journal }
     ensures lent { A.words rows.new ≡ Some admin.new.words }

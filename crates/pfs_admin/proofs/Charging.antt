@@ -19,7 +19,9 @@ use Rattle.pfs_rows.specs.Rows.{row_number}
 use Rattle.pfs_admin.specs.declared.summaries.Reach.{Reach}
 use Rattle.pfs_admin.proofs.Celling.{one_most}
 use Rattle.pfs_admin.specs.States.{KindCells}
-use Rattle.pfs_admin.specs.Truncations.{up_to, count_up_to, thread_source, account_source, user_source, host_source, place_asks, asks_at, level_asks, emptied, cleared, digest_ask, digest_asks, lower_asks, upper_asks, reach_asks, summary_asks, all_asks}
+use Rattle.pfs_truncations.specs.declared.truncations.Truncation.{Truncation}
+use Rattle.pfs_truncations.specs.declared.truncations.Truncation.TheVariants.{Events, Summary, DigestSummary, Accounts, Users, Hosts, SetupActors, SetupObjects}
+use Rattle.pfs_admin.specs.Truncations.{moves_bound, signs_bound, up_to, count_up_to, thread_source, account_source, user_source, host_source, place_asks, asks_at, level_asks, emptied, cleared, digest_ask, digest_asks, lower_asks, upper_asks, reach_asks, summary_asks, all_asks}
 
 -- each cell costs as much
 pub cells_cost : (source : Source) (each : ℕ) (cells : List ℕ) → ((cell : ℕ) → each ≡ 1 + length (ask_of source cell).to)
@@ -167,3 +169,14 @@ digests_up (suc n) = omega (arith, cost_then (up_to digest_ask n) (digest_ask n)
 pub digests_cost : (places : ℕ) → places + 1 ≡ cost (digest_asks places)
 unfolding digest_asks
 digests_cost places = sym (digests_up (places + 1))
+
+-- no truncation has both many moves and many rows
+pub few_together : (what : Truncation) → moves_bound what + signs_bound what ≤ 19138
+few_together (Events kind table) = omega arith
+few_together (Summary kind table) = omega arith
+few_together DigestSummary = omega arith
+few_together Accounts = omega arith
+few_together Users = omega arith
+few_together Hosts = omega arith
+few_together SetupActors = omega arith
+few_together SetupObjects = omega arith

@@ -2,9 +2,10 @@
 use Rattle.std.proofs.Common.{refl}
 use Rattle.pfs_admin.specs.Examples.{WorkedFold}
 use Rattle.pfs_admin.specs.Fold.{state_from}
+use Rattle.pfs_admin.specs.Truncations.{free_rows}
 
 pub worked : WorkedFold
-unfolding state_from
+unfolding state_from free_rows
 worked = record {
   entry = refl;
   slots = refl;
@@ -13,5 +14,6 @@ worked = record {
   count = refl;
   moves = refl;
   rows = refl;
+  rows_last = refl;
   flags = refl;
 }

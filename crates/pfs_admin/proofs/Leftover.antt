@@ -6,7 +6,7 @@ use Rattle.pfs_levels.specs.declared.places.Level.{Level}
 use Rattle.pfs_levels.specs.declared.places.Level.TheVariants as levels
 use Rattle.pfs_admin.specs.declared.remaining.Standing.{Standing}
 use Rattle.pfs_truncations.specs.declared.truncations.Truncation.{Truncation}
-use Rattle.pfs_truncations.specs.declared.truncations.Truncation.TheVariants.{Summary, DigestSummary, Accounts, Users, Hosts, SetupActors, SetupObjects}
+use Rattle.pfs_truncations.specs.declared.truncations.Truncation.TheVariants.{Events, Summary, DigestSummary, Accounts, Users, Hosts, SetupActors, SetupObjects}
 use Rattle.pfs_admin.specs.Truncations.{up_to, count_up_to, standing, sign_at, place_sign, first_row, content_at, level_signs, truncation_signs, signs_most, is_there, was_by, IsStanding}
 
 pub count_next : (test : ℕ → Bool) (n : ℕ) → count_up_to test (n + 1) ≡ count_up_to test n + cond (test n) 1 0
@@ -59,6 +59,7 @@ standing_same f g same = count_same f g 32 same
 
 pub signs_same : (s : State) (there : Standing) (after : Containers) (what : Truncation) → IsStanding s there
     → truncation_signs (was_by there) after what ≡ truncation_signs (is_there s) after what
+signs_same s there after (Events kind table) is = refl
 signs_same s there after (Summary kind table) is = refl
 signs_same s there after DigestSummary is = refl
 signs_same s there after SetupActors is = refl
@@ -76,6 +77,7 @@ signs_same s there after Hosts is =
     (level_same true (was_by there levels.Host) (is_there s levels.Host) after levels.Host is.hosts)
 
 pub most_same : (s : State) (there : Standing) (what : Truncation) → IsStanding s there → signs_most (was_by there) what ≡ signs_most (is_there s) what
+most_same s there (Events kind table) is = refl
 most_same s there (Summary kind table) is = refl
 most_same s there DigestSummary is = refl
 most_same s there SetupActors is = refl

@@ -3,6 +3,7 @@ pub mod Signing
 pub mod Listing
 pub mod Opened
 pub mod Folding
+pub mod Released
 pub mod Rows
 pub mod Examples
 pub mod Truncated

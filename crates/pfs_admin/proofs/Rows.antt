@@ -1,5 +1,5 @@
 -- The rows that an action names ascend.
-use Rattle.std.proofs.Common.{ℕ, ◌≤◌, ◌<◌, ◌+◌, ◌*◌, List, [], ◌∷◌, ◌++◌, map, Option, Some, None, IfSome, arith}
+use Rattle.std.proofs.Common.{ℕ, zero, suc, ◌≡◌, ◌≤◌, ◌<◌, ◌+◌, ◌*◌, List, [], ◌∷◌, ◌++◌, map, Option, Some, None, IfSome, subst, sym, refl, ap, ◌∙◌, arith}
 use Rattle.std.specs.Option.{option_map}
 use Rattle.pfs_containers.specs.declared.containers.Connection.{Connection}
 use Rattle.pfs_containers.specs.declared.containers.Seated.{Seated}
@@ -12,6 +12,7 @@ use Rattle.pfs_levels.specs.declared.places.Up.{Up}
 use Rattle.pfs_levels.specs.Flushes.{Ascends, ask_of, asks_of, from_of}
 use Rattle.pfs_admin.specs.Asks.{tag_of, account_tag, user_tag, host_tag, upper_tags, up_of}
 use Rattle.pfs_admin.specs.Laws.{row_of, ConnectRows, QuitRows}
+use Rattle.pfs_admin.specs.Truncations.{up_to, freed_at, free_rows, free_ring}
 use Rattle.pfs_admin.specs.Works.{Sign}
 
 wider : (low low2 limit : ℕ) (xs : List ℕ) → low2 ≤ low → Ascends low limit xs → Ascends low2 limit xs
@@ -65,8 +66,47 @@ cells_ascend up low (x ∷ xs) h a = (
   ),
 )
 
+-- rows below a limit, and others from there on
+two_runs : (low mid limit : ℕ) (xs ys : List ℕ) → mid ≤ limit → low ≤ mid → Ascends low mid xs → Ascends mid limit ys → Ascends low limit (xs ++ ys)
+two_runs low mid limit [] ys h l a b = wider mid low limit ys l b
+two_runs low mid limit (x ∷ xs) ys h l a b = (a.0, (omega (arith, a.1.0, h), two_runs (x + 1) mid limit xs ys h (omega (arith, a.1.0)) a.1.1 b))
+
+mapped : (xs ys : List Sign) → map row_of (xs ++ ys) ≡ map row_of xs ++ map row_of ys
+mapped [] ys = refl
+mapped (x ∷ xs) ys = ap (λ z. row_of x ∷ z) (mapped xs ys)
+
+-- rows that are released one after another
+pub frees_up : (first count : ℕ) → Ascends first (first + count) (map row_of (up_to (freed_at first) count))
+frees_up first zero = tt
+frees_up first (suc n) =
+    let last : Ascends (first + n) (first + suc n) (map row_of (freed_at first n)) = (omega arith, (omega arith, tt)) in
+    let front : Ascends first (first + n) (map row_of (up_to (freed_at first) n)) = frees_up first n in
+    subst (Ascends first (first + suc n)) (sym (mapped (up_to (freed_at first) n) (freed_at first n)))
+    (two_runs first (first + n) (first + suc n) (map row_of (up_to (freed_at first) n)) (map row_of (freed_at first n)) (omega arith) (omega arith) front last)
+
+pub frees_ascend : (first count : ℕ) → Ascends first (first + count) (map row_of (free_rows first count))
+unfolding free_rows
+frees_ascend first count = frees_up first count
+
+pub higher : (low limit limit2 : ℕ) (xs : List ℕ) → limit ≤ limit2 → Ascends low limit xs → Ascends low limit2 xs
+higher low limit limit2 [] l a = tt
+higher low limit limit2 (x ∷ xs) l a = (a.0, (omega (arith, a.1.0, l), higher (x + 1) limit limit2 xs l a.1.1))
+
+-- behind the info rows the places of a ring
+with_ring : (low slot : ℕ) (tags : List Sign) → slot < 32 → low ≤ 129 → Ascends low 129 (map row_of tags) → Ascends low 10242 (map row_of (tags ++ free_ring slot))
+with_ring low slot tags s l a =
+    let ring : Ascends (8450 + 56 * slot) (8450 + 56 * slot + 56) (map row_of (free_ring slot)) = frees_ascend (8450 + 56 * slot) 56 in
+    let wide : Ascends 129 10242 (map row_of (free_ring slot)) =
+    wider (8450 + 56 * slot) 129 10242 (map row_of (free_ring slot)) (omega arith)
+    (higher (8450 + 56 * slot) (8450 + 56 * slot + 56) 10242 (map row_of (free_ring slot)) (omega (arith, s)) ring) in
+    subst (Ascends low 10242) (sym (mapped tags (free_ring slot)))
+    (two_runs low 129 10242 (map row_of tags) (map row_of (free_ring slot)) (omega arith) l a wide)
+
 pub quit_rows : QuitRows
 quit_rows words cells after seat is a = (
   wider (129 + 64 * seat.slot + 0) 129 2177 (map from_of (asks_of cells (of.Thread (up_of seat)))) (omega arith) (cells_ascend (up_of seat) 0 cells is.slot a),
-  (omega arith, (omega (arith, is.slot), behind_slot after seat is)),
+  (
+    omega arith,
+    (omega (arith, is.slot), with_ring (1 + seat.slot + 1) seat.slot (upper_tags after seat.connection) is.slot (omega (arith, is.slot)) (behind_slot after seat is)),
+  ),
 )

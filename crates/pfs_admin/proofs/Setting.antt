@@ -13,7 +13,7 @@ use Rattle.pfs_matching.specs.declared.actor_rows.ActorRow.{ActorRow}
 use Rattle.pfs_matching.specs.declared.object_rows.ObjectRow.{ObjectRow}
 use Rattle.pfs_admin.specs.States.{State, AreEarly, IsState}
 use Rattle.pfs_truncations.specs.declared.truncations.Truncation.{Truncation}
-use Rattle.pfs_truncations.specs.declared.truncations.Truncation.TheVariants.{Summary, DigestSummary, Accounts, Users, Hosts, SetupActors, SetupObjects}
+use Rattle.pfs_truncations.specs.declared.truncations.Truncation.TheVariants.{Events, Summary, DigestSummary, Accounts, Users, Hosts, SetupActors, SetupObjects}
 use Rattle.pfs_admin.specs.Truncations.{words_behind, up_to, off_at, off_up_to, off_flags, off_words}
 use Rattle.pfs_admin.specs.Works.{Flagging, flagging, flagged, flagging_calls, flagging_entries, word_at, set_word, Leaves}
 use Rattle.pfs_admin.proofs.Costs.{len_if, early_at, early_set, early_wider}
@@ -132,6 +132,7 @@ off_early most (suc n) words are =
 
 pub early_behind : (what : Truncation) (most : ℕ) (words : List Word) → AreEarly most words → AreEarly (most + 1) (words_behind what words)
 unfolding off_words
+early_behind (Events kind table) most words are = early_wider most words are
 early_behind (Summary kind table) most words are = early_wider most words are
 early_behind DigestSummary most words are = early_wider most words are
 early_behind Accounts most words are = early_wider most words are
@@ -142,6 +143,7 @@ early_behind SetupObjects most words are = off_early most 64 words are
 
 pub wide_behind : (what : Truncation) (words : List Word) → length (words_behind what words) ≡ length words
 unfolding off_words
+wide_behind (Events kind table) words = refl
 wide_behind (Summary kind table) words = refl
 wide_behind DigestSummary words = refl
 wide_behind Accounts words = refl

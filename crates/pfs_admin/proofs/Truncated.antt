@@ -1,10 +1,10 @@
 -- The truncations of two sessions compute.
 use Rattle.std.proofs.Common.{refl}
 use Rattle.pfs_admin.specs.Truncated.{WorkedTruncations}
-use Rattle.pfs_admin.specs.Truncations.{level_asks, level_signs, digest_asks}
+use Rattle.pfs_admin.specs.Truncations.{level_asks, level_signs, digest_asks, free_rows, free_threads}
 
 pub worked : WorkedTruncations
-unfolding level_asks level_signs digest_asks
+unfolding level_asks level_signs digest_asks free_rows free_threads
 worked = record {
   by_account = refl;
   by_thread = refl;
@@ -33,5 +33,11 @@ worked = record {
   account_total = refl;
   actors = refl;
   digests = refl;
+  current = refl;
+  ended = refl;
+  history = refl;
+  long = refl;
+  events_move = refl;
+  events_kept = refl;
   digests_kept = refl;
 }

@@ -14,6 +14,7 @@ use Rattle.pfs_levels.specs.declared.answers.Word.{Word}
 use Rattle.pfs_levels.specs.Flushes.{asks_of}
 use Rattle.pfs_admin.specs.declared.admin.Placed.{Placed}
 use Rattle.pfs_admin.specs.Works.{Sign, Releases, Tags, Work, no_work, flagging}
+use Rattle.pfs_admin.specs.Truncations.{free_ring}
 use Rattle.pfs_admin.specs.States.{State, thread_flags, seat_at, seat_in, connected, has_quit}
 
 abbrev pub tag_of : ℕ → Option (List ℕ) → List Sign
@@ -55,12 +56,12 @@ up_of seat = record {
 }
 
 -- a quit moves each cell of its slot up, cell by cell; it releases the slot's info, writes those of its other places,
--- and clears its thread's flags; without a slot it does nothing
+-- releases all places of its thread's ring, and clears its thread's flags; without a slot it does nothing
 abbrev pub quit_work : List Word → List ℕ → Containers → Option Seated → Work
 quit_work words cells after None = no_work
 quit_work words cells after (Some seat) = record {
   moves = asks_of cells (of.Thread (up_of seat));
-  signs = Releases (1 + seat.slot) ∷ upper_tags after seat.connection;
+  signs = Releases (1 + seat.slot) ∷ (upper_tags after seat.connection ++ free_ring seat.slot);
   flags = flagging words (1 + seat.slot) 0;
 }
 

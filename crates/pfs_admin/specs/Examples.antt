@@ -1,5 +1,5 @@
 -- Two sessions of one account, worked: both connect, the second reads the setup, the first ends.
-use Rattle.std.specs.Prelude.{ℕ, ◌≡◌, ◌==◌, if◌then◌else◌, [], ◌∷◌, map, codes, Some, None}
+use Rattle.std.specs.Prelude.{ℕ, ◌≡◌, ◌==◌, if◌then◌else◌, [], ◌∷◌, map, take, drop, codes, Some, None}
 use Rattle.pfs_board.specs.declared.view.Label.{Label}
 use Rattle.pfs_containers.specs.Kept.{Kept}
 use Rattle.pfs_event.specs.declared.entry.Entry.TheVariants as says
@@ -76,7 +76,9 @@ pub record WorkedFold : Type 0 where
   pub totals : four.kept.now.account_totals ≡ 2 ∷ []
   pub words : four.words ≡ word 0 63 ∷ word 2 0 ∷ word 1 3 ∷ []
   pub count : four.actions ≡ 4
-  -- the first one's cells go to its account, its info is released, and the others' are written
+  -- the first one's cells go to its account, its info is released, the others' are written, and the 56 places of its
+  -- ring are released
   pub moves : (work_of_quit two 1).moves ≡ ask 129 (2177 ∷ []) ∷ ask 191 (2239 ∷ []) ∷ ask 192 (2240 ∷ []) ∷ []
-  pub rows : map row_of (work_of_quit two 1).signs ≡ 1 ∷ 33 ∷ 65 ∷ 97 ∷ []
+  pub rows : take 5 (map row_of (work_of_quit two 1).signs) ≡ 1 ∷ 33 ∷ 65 ∷ 97 ∷ 8450 ∷ []
+  pub rows_last : drop 59 (map row_of (work_of_quit two 1).signs) ≡ 8505 ∷ []
   pub flags : (work_of_quit two 1).flags ≡ record { word = 1; flags = 0 } ∷ []

@@ -28,7 +28,7 @@ FixedLaw = (setting : Setting) → (change : Label → Change) → (labels : Lis
     → StandsFor setting change labels s
     → (s.names ≡ setting.names) × (s.cells ≡ cells_of setting.classes) × (s.kinds ≡ kinds_of setting)
 
--- the info row that a sign releases or writes
+-- the row that a sign releases or writes
 abbrev pub row_of : Sign → ℕ
 row_of (Releases row) = row
 row_of (Tags row content) = row
@@ -38,11 +38,11 @@ abbrev pub ConnectRows : Type 0
 ConnectRows = (words : List Word) → (flags : ℕ) → (after : Containers) → (seat : Seated) → IsInRange seat
     → Ascends 1 129 (map row_of (connect_work words flags after (Some seat)).signs)
 
--- a quit's cells are rows 129 to 2176
+-- a quit's cells are rows 129 to 2176; behind its info rows it releases places of a ring, rows 8450 to 10241
 abbrev pub QuitRows : Type 0
 QuitRows = (words : List Word) → (cells : List ℕ) → (after : Containers) → (seat : Seated) → IsInRange seat
     → Ascends 0 64 cells → Ascends 129 2177 (map from_of (quit_work words cells after (Some seat)).moves)
-    × Ascends 1 129 (map row_of (quit_work words cells after (Some seat)).signs)
+    × Ascends 1 10242 (map row_of (quit_work words cells after (Some seat)).signs)
 
 -- without any row of `setup_objects` no table is instrumented, whatever its name
 abbrev pub NoRowLaw : Type 0

@@ -1,9 +1,10 @@
 -- Truncations of two sessions of one account, worked, while both are there and behind their ends.
-use Rattle.std.specs.Prelude.{◌≡◌, [], ◌∷◌, map, Some, None}
-use Rattle.pfs_rows.specs.declared.table.TableKind.TheVariants.{Waits, Transactions}
+use Rattle.std.specs.Prelude.{◌≡◌, [], ◌∷◌, length, map, Some, None}
+use Rattle.pfs_rows.specs.declared.table.TableKind.TheVariants.{Waits, Stages, Transactions}
+use Rattle.pfs_rows.specs.declared.table.EventTable.TheVariants.{Current, History, HistoryLong}
 use Rattle.pfs_rows.specs.declared.table.SummaryTable.TheVariants.{ByThread, ByAccount, ByUser, ByHost, Global}
 use Rattle.pfs_levels.specs.Moves.{ask}
-use Rattle.pfs_truncations.specs.declared.truncations.Truncation.TheVariants.{Summary, DigestSummary, Accounts, Users, Hosts, SetupActors}
+use Rattle.pfs_truncations.specs.declared.truncations.Truncation.TheVariants.{Events, Summary, DigestSummary, Accounts, Users, Hosts, SetupActors}
 use Rattle.pfs_admin.specs.Examples.{start}
 use Rattle.pfs_admin.specs.Laws.{row_of}
 use Rattle.pfs_admin.specs.States.{State, connected, has_quit}
@@ -67,4 +68,14 @@ pub record WorkedTruncations : Type 0 where
   pub actors : (has_truncated both SetupActors).actors ≡ []
   -- the row of the digests without a place is cleared first, then that of each place
   pub digests : (work_of_truncation both DigestSummary).moves ≡ ask 8385 [] ∷ ask 8386 [] ∷ ask 8387 [] ∷ []
+  -- an event table releases its places of each live thread, also those that are free, and nothing moves
+  pub current : (work_of_truncation both (Events Stages Current)).signs ≡ Releases 8454 ∷ Releases 8510 ∷ []
+  pub ended : (work_of_truncation one (Events Waits Current)).signs
+      ≡ Releases 8506 ∷ Releases 8507 ∷ Releases 8508 ∷ Releases 8509 ∷ []
+  pub history : map row_of (work_of_truncation one (Events Stages History)).signs
+      ≡ 8532 ∷ 8533 ∷ 8534 ∷ 8535 ∷ 8536 ∷ 8537 ∷ 8538 ∷ 8539 ∷ 8540 ∷ 8541 ∷ []
+  -- a long history releases all of its places, whoever is there
+  pub long : length (work_of_truncation none (Events Waits HistoryLong)).signs ≡ 1000
+  pub events_move : (work_of_truncation both (Events Waits Current)).moves ≡ []
+  pub events_kept : (has_truncated both (Events Waits Current)).kept ≡ both.kept
   pub digests_kept : (has_truncated both DigestSummary).kept ≡ both.kept

@@ -1,13 +1,17 @@
 -- What a TRUNCATE asks for, and the state behind it. A summary's numbers move up level by level until its own rows are
 -- zero; those of digests go nowhere; `accounts`, `users` and `hosts` move those of all kinds, and free what has no
--- connection; the setup tables lose their rows. These rules are our own, after MySQL's, and so is the order within an
--- action.
-use Rattle.std.specs.Prelude.{ℕ, zero, suc, ◌≡◌, ◌<◌, ◌+◌, cond, Bool, true, false, List, [], ◌∷◌, ◌++◌, map, Option, Some, None, is_some}
+-- connection; the places of an event table are released; the setup tables lose their rows. These rules are our own,
+-- after MySQL's, and so is the order within an action.
+use Rattle.std.specs.Prelude.{ℕ, zero, suc, ◌≡◌, ◌<◌, ◌+◌, ◌*◌, cond, Bool, true, false, List, [], ◌∷◌, ◌++◌, map, Option, Some, None, is_some}
 use Rattle.std.specs.List.{slice_index_or}
 use Rattle.std.specs.Option.{option_map}
 use Rattle.pfs_rows.specs.declared.place.Place.TheVariants.{DigestNull, GlobalCell}
+use Rattle.pfs_rows.specs.declared.table.EventTable.{EventTable}
+use Rattle.pfs_rows.specs.declared.table.EventTable.TheVariants as events
 use Rattle.pfs_rows.specs.declared.table.SummaryTable.{SummaryTable}
 use Rattle.pfs_rows.specs.declared.table.SummaryTable.TheVariants as tables
+use Rattle.pfs_rows.specs.declared.table.TableKind.{TableKind}
+use Rattle.pfs_rows.specs.declared.table.TableKind.TheVariants.{Waits, Stages, Statements, Transactions}
 use Rattle.pfs_rows.specs.Rows.{row_number}
 use Rattle.pfs_rows.specs.Tables.{kind_number}
 use Rattle.pfs_containers.specs.declared.containers.Account.{Account}
@@ -31,7 +35,7 @@ use Rattle.pfs_levels.specs.Moves.{Ask, ask, cost}
 use Rattle.pfs_admin.specs.declared.remaining.Standing.{Standing}
 use Rattle.pfs_admin.specs.declared.summaries.Reach.{Reach}
 use Rattle.pfs_truncations.specs.declared.truncations.Truncation.{Truncation}
-use Rattle.pfs_truncations.specs.declared.truncations.Truncation.TheVariants.{Summary, DigestSummary, Accounts, Users, Hosts, SetupActors, SetupObjects}
+use Rattle.pfs_truncations.specs.declared.truncations.Truncation.TheVariants.{Events, Summary, DigestSummary, Accounts, Users, Hosts, SetupActors, SetupObjects}
 use Rattle.pfs_admin.specs.States.{State, KindCells, kind_cells}
 use Rattle.pfs_admin.specs.Works.{Sign, Releases, Tags, Work, Flagging, flagging, flagged}
 
@@ -124,6 +128,7 @@ digest_asks places = up_to digest_ask (places + 1)
 
 -- a summary moves its own kind, by its own level; `accounts`, `users` and `hosts` move all kinds, by theirs
 abbrev pub truncation_asks : KindCells → places.State → Truncation → List Ask
+truncation_asks kinds s (Events kind table) = []
 truncation_asks kinds s (Summary kind table) = summary_asks s table (kind_cells kinds kind)
 truncation_asks kinds s DigestSummary = digest_asks kinds.digests
 truncation_asks kinds s Accounts = all_asks kinds s tables.ByAccount
@@ -162,6 +167,43 @@ sign_at written was after level place =
 unfoldable pub level_signs : Bool → (ℕ → Bool) → Containers → Level → List Sign
 level_signs written was after level = up_to (sign_at written was after level) 32
 
+-- so many rows from this one on are released, ascending, whether or not they are free
+abbrev pub freed_at : ℕ → ℕ → List Sign
+freed_at first place = Releases (first + place) ∷ []
+
+unfoldable pub free_rows : ℕ → ℕ → List Sign
+free_rows first count = up_to (freed_at first) count
+
+-- all places of a thread's ring
+abbrev pub free_ring : ℕ → List Sign
+free_ring slot = free_rows (8450 + 56 * slot) 56
+
+-- so many places from this one on of each live thread
+abbrev pub free_slot : (ℕ → Bool) → ℕ → ℕ → ℕ → List Sign
+free_slot there first count slot = cond (there slot) (free_rows (8450 + 56 * slot + first) count) []
+
+unfoldable pub free_threads : (ℕ → Bool) → ℕ → ℕ → List Sign
+free_threads there first count = up_to (free_slot there first count) 32
+
+-- where a kind's current places begin in a thread's ring, and how many there are
+abbrev pub current_first : TableKind → ℕ
+current_first Waits = 0
+current_first Stages = 4
+current_first Statements = 5
+current_first Transactions = 15
+
+abbrev pub current_count : TableKind → ℕ
+current_count Waits = 4
+current_count Stages = 1
+current_count Statements = 10
+current_count Transactions = 1
+
+-- an event table releases its places of every live thread, or all places of a long history
+abbrev pub event_signs : (ℕ → Bool) → TableKind → EventTable → List Sign
+event_signs there kind events.Current = free_threads there (current_first kind) (current_count kind)
+event_signs there kind events.History = free_threads there (16 + 10 * kind_number kind) 10
+event_signs there kind events.HistoryLong = free_rows (10242 + 1000 * kind_number kind) 1000
+
 -- each remaining row of the table is written as it stands behind the action; behind `users` and `hosts` the remaining
 -- accounts are not
 abbrev pub truncation_signs : (Level → ℕ → Bool) → Containers → Truncation → List Sign
@@ -170,6 +212,7 @@ truncation_signs was after Users = level_signs false (was levels.Account) after 
     ++ level_signs true (was levels.User) after levels.User
 truncation_signs was after Hosts = level_signs false (was levels.Account) after levels.Account
     ++ level_signs true (was levels.Host) after levels.Host
+truncation_signs was after (Events kind table) = event_signs (is_there after.places levels.Thread) kind table
 truncation_signs was after (Summary kind table) = []
 truncation_signs was after DigestSummary = []
 truncation_signs was after SetupActors = []
@@ -192,6 +235,7 @@ off_words words = off_up_to words 64
 
 -- no other table changes a word
 abbrev pub truncation_flags : List Word → Truncation → List Flagging
+truncation_flags words (Events kind table) = []
 truncation_flags words (Summary kind table) = []
 truncation_flags words DigestSummary = []
 truncation_flags words Accounts = []
@@ -201,6 +245,7 @@ truncation_flags words SetupActors = []
 truncation_flags words SetupObjects = off_flags words
 
 abbrev pub words_behind : Truncation → List Word → List Word
+words_behind (Events kind table) words = words
 words_behind (Summary kind table) words = words
 words_behind DigestSummary words = words
 words_behind Accounts words = words
@@ -211,6 +256,7 @@ words_behind SetupObjects words = off_words words
 
 -- all rows of a setup table are removed
 abbrev pub actors_behind : Truncation → List ActorRow → List ActorRow
+actors_behind (Events kind table) actors = actors
 actors_behind (Summary kind table) actors = actors
 actors_behind DigestSummary actors = actors
 actors_behind Accounts actors = actors
@@ -220,6 +266,7 @@ actors_behind SetupActors actors = []
 actors_behind SetupObjects actors = actors
 
 abbrev pub objects_behind : Truncation → List ObjectRow → List ObjectRow
+objects_behind (Events kind table) objects = objects
 objects_behind (Summary kind table) objects = objects
 objects_behind DigestSummary objects = objects
 objects_behind Accounts objects = objects
@@ -228,7 +275,8 @@ objects_behind Hosts objects = objects
 objects_behind SetupActors objects = objects
 objects_behind SetupObjects objects = []
 
--- what a truncation is in the containers' fold, where its conservation is proved; no container has rows of digests
+-- what a truncation is in the containers' fold, where its conservation is proved; no container has rows of digests or
+-- places of events
 abbrev pub level_of : SummaryTable → places.Level
 level_of tables.ByThread = ByThread
 level_of tables.ByAccount = ByAccount
@@ -237,6 +285,7 @@ level_of tables.ByHost = ByHost
 level_of tables.Global = ByAll
 
 abbrev pub action_of : Truncation → Action
+action_of (Events kind table) = Other
 action_of (Summary kind table) = Truncate (fold.Summary (kind_number kind) (level_of table))
 action_of DigestSummary = Other
 action_of Accounts = Truncate fold.Accounts
@@ -278,8 +327,15 @@ count_up_to test (suc n) = count_up_to test n + cond (test n) 1 0
 unfoldable pub standing : (ℕ → Bool) → ℕ
 standing was = count_up_to was 32
 
--- the most info rows that it writes or releases: one for each place of its tables where something stands
+-- the most places of an event table: ten of each of 32 threads, or 1,000
+abbrev pub event_most : EventTable → ℕ
+event_most events.Current = 320
+event_most events.History = 320
+event_most events.HistoryLong = 1000
+
+-- the most rows that it writes or releases: one for each place of its tables where something stands
 abbrev pub signs_most : (Level → ℕ → Bool) → Truncation → ℕ
+signs_most was (Events kind table) = event_most table
 signs_most was (Summary kind table) = 0
 signs_most was DigestSummary = 0
 signs_most was Accounts = standing (was levels.Account)
@@ -288,8 +344,30 @@ signs_most was Hosts = standing (was levels.Account) + standing (was levels.Host
 signs_most was SetupActors = 0
 signs_most was SetupObjects = 0
 
+-- what its moves and its rows cost at most, whatever is connected: an event table moves nothing
+abbrev pub moves_bound : Truncation → ℕ
+moves_bound (Events kind table) = 0
+moves_bound (Summary kind table) = 19074
+moves_bound DigestSummary = 19074
+moves_bound Accounts = 19074
+moves_bound Users = 19074
+moves_bound Hosts = 19074
+moves_bound SetupActors = 19074
+moves_bound SetupObjects = 19074
+
+abbrev pub signs_bound : Truncation → ℕ
+signs_bound (Events kind table) = 1000
+signs_bound (Summary kind table) = 64
+signs_bound DigestSummary = 64
+signs_bound Accounts = 64
+signs_bound Users = 64
+signs_bound Hosts = 64
+signs_bound SetupActors = 64
+signs_bound SetupObjects = 64
+
 -- and the most words that it sets
 abbrev pub flags_most : Truncation → ℕ
+flags_most (Events kind table) = 0
 flags_most (Summary kind table) = 0
 flags_most DigestSummary = 0
 flags_most Accounts = 0

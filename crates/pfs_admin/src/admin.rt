@@ -143,20 +143,21 @@ impl Admin {
     }
 
     /// Ends the connection in the lowest thread slot that a session has, an action: the numbers of its thread move
-    /// up, its info is released, those of its other places are written, and its thread's flags are cleared. The log
-    /// gets each of these; the action's `act` entry is the caller's. Without a slot nothing is written.
+    /// up, its info is released, those of its other places are written, the 56 places of its thread's ring are
+    /// released, and its thread's flags are cleared. The log gets each of these; the action's `act` entry is the
+    /// caller's. Without a slot nothing is written.
     pub fn quit<H: Hold>(&mut self, rows: &mut H, number: u64, log: &mut Log)
         requires few { self.old.actions < 2 ^ 47 }
         requires alone { (r : ℕ) → 0 < r → H.hand rows.old r ≡ None }
         requires lent { H.words rows.old ≡ Some self.old.words }
-        requires spare { 196 ≤ H.left rows.old }
-        requires room { 197 ≤ log.old.room }
+        requires spare { 252 ≤ H.left rows.old }
+        requires room { 253 ≤ log.old.room }
         ensures step { self.new ≡ has_quit self.old number }
         ensures stands { Follows number Quit self.old self.new }
         ensures worked { Worked (work_of_quit self.old number) self.old.words [] log.old log.new (H.reached rows.old)
             (H.reached rows.new) }
         ensures lent { H.words rows.new ≡ Some self.new.words }
-        ensures leaves { Leaves 196 197 (H.hand rows.old) (H.hand rows.new) (H.left rows.old) (H.left rows.new)
+        ensures leaves { Leaves 252 253 (H.hand rows.old) (H.hand rows.new) (H.left rows.old) (H.left rows.new)
             (H.draws rows.old) (H.draws rows.new) (H.name rows.old) (H.name rows.new) log.old log.new }
     {
         let seat = self.containers.quit(number);
@@ -172,10 +173,10 @@ impl Admin {
     }
 
     /// Truncates a table, an action: a summary's numbers move up, level by level, but those of digests go nowhere;
-    /// those below `accounts`, `users` or `hosts` move up in all kinds, and what has no connection is freed; a setup
-    /// table loses its rows. The log gets each take and its gifts, the info rows that are written or released, and the
-    /// words that change; the action's `act` entry is the caller's. Which levels move, what is freed and the order are
-    /// our own rules, after MySQL's.
+    /// those below `accounts`, `users` or `hosts` move up in all kinds, and what has no connection is freed; the places
+    /// of an event table are released; a setup table loses its rows. The log gets each take and its gifts, the rows
+    /// that are written or released, and the words that change; the action's `act` entry is the caller's. Which levels
+    /// move, what is freed and the order are our own rules, after MySQL's.
     pub fn truncate<H: Hold>(&mut self, rows: &mut H, what: Truncation, log: &mut Log)
         requires few { self.old.actions < 2 ^ 47 }
         requires alone { (r : ℕ) → 0 < r → H.hand rows.old r ≡ None }
@@ -203,8 +204,9 @@ impl Admin {
         self.actions += 1;
     }
 
-    /// The most publications and entries of a truncation as things stand: each move with what it may give, an info row
-    /// for each place of its tables where something stands, and for `setup_objects` the 64 words of the tables. With the
+    /// The most publications and entries of a truncation as things stand: each move with what it may give, a row
+    /// for each place of its tables where something stands or an event may, and for `setup_objects` the 64 words of
+    /// the tables. With the
     /// 194 entries of what its session settles first, its action and its answer it stays within 20,000.
     pub fn truncation_cost(&self, what: Truncation) -> u64
         ensures cost { result ≡ truncation_cost self.now what }
@@ -276,6 +278,7 @@ fn remove_rows(actors: &mut Actors, objects: &mut Objects, what: Truncation)
         Truncation::SetupObjects => objects.truncate(),
         Truncation::Summary(_, _)
         | Truncation::DigestSummary
+        | Truncation::Events(_, _)
         | Truncation::Accounts
         | Truncation::Users
         | Truncation::Hosts => {}

@@ -4,21 +4,21 @@ ghost use Rattle.std.specs.Prelude.{◌≡◌, ◌≤◌, ◌+◌, ◌*◌, ℕ,
 ghost use Rattle.pfs_levels.specs.Flushes.{ask_of, beyond};
 ghost use Rattle.pfs_levels.specs.Moves.{cost};
 ghost use Rattle.pfs_admin.specs.States.{AreKindCells, kind_cells};
-ghost use Rattle.pfs_admin.specs.Truncations.{all_asks, cleared, digest_asks, emptied, flags_most, is_there, level_asks, place_asks, reach_asks, signs_most, standing, summary_asks, truncation_asks};
+ghost use Rattle.pfs_admin.specs.Truncations.{all_asks, cleared, digest_asks, emptied, event_most, flags_most, is_there, level_asks, moves_bound, place_asks, reach_asks, signs_bound, signs_most, standing, summary_asks, truncation_asks};
 
 use crate::cells::CellsByKind;
 use crate::emptying::source_at;
 use crate::summaries::Reach;
 use pfs_containers::Containers;
 use pfs_levels::{Level, Source};
-use pfs_rows::{SummaryTable, TableKind};
+use pfs_rows::{EventTable, SummaryTable, TableKind};
 use pfs_truncations::Truncation;
 
 /// The takes of a truncation's moves, and what they may give: at most 289 for each of 66 cells in all kinds.
 pub(crate) fn moves_cost(containers: &Containers, cells: &CellsByKind, what: Truncation) -> u64
     requires { AreKindCells cells.now }
     ensures cost { result ≡ cost (truncation_asks cells.now containers.now.now.places what) }
-    ensures few { result ≤ 19_074 }
+    ensures few { result ≤ moves_bound what }
 {
     match what {
         Truncation::Summary(kind, table) => kind_cost(containers, table, cells, kind),
@@ -26,16 +26,17 @@ pub(crate) fn moves_cost(containers: &Containers, cells: &CellsByKind, what: Tru
         Truncation::Accounts => all_cost(containers, SummaryTable::ByAccount, cells),
         Truncation::Users => all_cost(containers, SummaryTable::ByUser, cells),
         Truncation::Hosts => all_cost(containers, SummaryTable::ByHost, cells),
-        Truncation::SetupActors | Truncation::SetupObjects => 0,
+        Truncation::Events(_, _) | Truncation::SetupActors | Truncation::SetupObjects => 0,
     }
 }
 
-/// An info row for each place of a truncation's tables where something stands.
+/// A row for each place of a truncation's tables where something stands, and for each of an event table.
 pub(crate) fn signs_cost(containers: &Containers, what: Truncation) -> u64
     ensures most { result ≡ signs_most (is_there containers.now.now.places) what }
-    ensures few { result ≤ 64 }
+    ensures few { result ≤ signs_bound what }
 {
     match what {
+        Truncation::Events(_, table) => events_cost(table),
         Truncation::Accounts => count(containers, Level::Account),
         Truncation::Users => count(containers, Level::Account) + count(containers, Level::User),
         Truncation::Hosts => count(containers, Level::Account) + count(containers, Level::Host),
@@ -53,12 +54,23 @@ pub(crate) fn flags_cost(what: Truncation) -> u64
 {
     match what {
         Truncation::SetupObjects => 64,
-        Truncation::Summary(_, _)
+        Truncation::Events(_, _)
+        | Truncation::Summary(_, _)
         | Truncation::DigestSummary
         | Truncation::Accounts
         | Truncation::Users
         | Truncation::Hosts
         | Truncation::SetupActors => 0,
+    }
+}
+
+// Ten places of each of 32 threads, or those of a long history.
+fn events_cost(table: EventTable) -> u64
+    ensures { result ≡ event_most table }
+{
+    match table {
+        EventTable::Current | EventTable::History => 320,
+        EventTable::HistoryLong => 1_000,
     }
 }
 

@@ -6,6 +6,7 @@ mod cells;
 mod changes;
 mod charges;
 mod emptying;
+mod freeing;
 pub mod laws;
 mod naming;
 mod opening;

@@ -8,6 +8,7 @@ ghost use Rattle.pfs_admin.specs.Works.{Signed};
 ghost use Rattle.pfs_admin.specs.Truncations.{content_at, first_row, flag_at, is_there, level_signs, place_sign, signs_most, standing, truncation_signs, was_by, IsStanding};
 
 use crate::emptying::source_at;
+use crate::freeing::release_events;
 use crate::signs::{release, tag};
 use pfs_containers::Containers;
 use pfs_levels::{Content, Hold, Level, Log};
@@ -47,7 +48,8 @@ fn standing_at(containers: &Containers, level: Level) -> [bool; PLACES]
 }
 
 /// Writes the rows of a truncated table's places that remain, as they stand now, and releases those of the places that
-/// were freed; of accounts that remain behind `users` and `hosts` nothing is written. The log gets tags and releases.
+/// were freed, and all of an event table; of accounts that remain behind `users` and `hosts` nothing is written. The log
+/// gets tags and releases.
 #[tactic(auto, using(crate::proofs::Levelling::stays_nothing, crate::proofs::Signing::signed_none))]
 pub(crate) fn sign_truncated<H: Hold>(
     rows: &mut H,
@@ -78,6 +80,7 @@ pub(crate) fn sign_truncated<H: Hold>(
         }
         Truncation::Users => sign_users(rows, containers, before, log),
         Truncation::Hosts => sign_hosts(rows, containers, before, log),
+        Truncation::Events(kind, table) => release_events(rows, containers, kind, table, log),
         Truncation::Summary(_, _)
         | Truncation::DigestSummary
         | Truncation::SetupActors

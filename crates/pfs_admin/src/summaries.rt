@@ -14,7 +14,8 @@ use pfs_rows::{Place, SummaryTable, TableKind, row_of};
 use pfs_truncations::Truncation;
 
 /// Moves what a truncation moves: a summary its own kind, by its own level; that of digests their rows, nowhere;
-/// `accounts`, `users` and `hosts` all kinds, by theirs; a setup table nothing. The log gets each take and its gifts.
+/// `accounts`, `users` and `hosts` all kinds, by theirs; an event table and a setup table nothing. The log gets each take
+/// and its gifts.
 #[tactic(auto, using(crate::proofs::Levelling::moved_nothing, crate::proofs::Levelling::stays_nothing))]
 pub(crate) fn move_truncated<H: Hold>(
     rows: &mut H,
@@ -41,7 +42,7 @@ pub(crate) fn move_truncated<H: Hold>(
         Truncation::Accounts => empty_all(rows, containers, SummaryTable::ByAccount, cells, log),
         Truncation::Users => empty_all(rows, containers, SummaryTable::ByUser, cells, log),
         Truncation::Hosts => empty_all(rows, containers, SummaryTable::ByHost, cells, log),
-        Truncation::SetupActors | Truncation::SetupObjects => {}
+        Truncation::Events(_, _) | Truncation::SetupActors | Truncation::SetupObjects => {}
     }
 }
 

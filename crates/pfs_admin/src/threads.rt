@@ -6,6 +6,7 @@ ghost use Rattle.pfs_admin.specs.Works.{Worked, Leaves, word_at};
 ghost use Rattle.pfs_admin.specs.States.{words_by};
 ghost use Rattle.pfs_admin.specs.Asks.{connect_work, quit_work};
 
+use crate::freeing::release_ring;
 use crate::signs::{flag, release, tag};
 use crate::tags::tag_uppers;
 use pfs_containers::{Containers, Seated};
@@ -56,13 +57,13 @@ pub(crate) fn write_quit<H: Hold>(
     requires wide { length words.old ≡ 160 }
     requires lent { H.words rows.old ≡ Some words.old }
     requires early { (at : ℕ) → (word_at words.old at).version + 1 < 2 ^ 48 }
-    requires spare { 3 * length cells.now + 4 ≤ H.left rows.old }
-    requires room { 3 * length cells.now + 5 ≤ log.old.room }
+    requires spare { 3 * length cells.now + 60 ≤ H.left rows.old }
+    requires room { 3 * length cells.now + 61 ≤ log.old.room }
     ensures worked { Worked (quit_work words.old cells.now containers.now.now seat.now) words.old [] log.old log.new
         (H.reached rows.old) (H.reached rows.new) }
     ensures mine { words.new ≡ words_by words.old 0 seat.now }
     ensures lent { H.words rows.new ≡ Some words.new }
-    ensures leaves { Leaves (3 * length cells.now + 4) (3 * length cells.now + 5) (H.hand rows.old) (H.hand rows.new)
+    ensures leaves { Leaves (3 * length cells.now + 60) (3 * length cells.now + 61) (H.hand rows.old) (H.hand rows.new)
         (H.left rows.old) (H.left rows.new) (H.draws rows.old) (H.draws rows.new) (H.name rows.old) (H.name rows.new)
         log.old log.new }
 {
@@ -100,8 +101,8 @@ fn seat_thread<H: Hold>(
     flag(rows, words, 1 + seat.slot, flags, log);
 }
 
-// Moves the cells of a session that has ended up, releases its slot's info, writes those of its other places, and
-// clears its thread's flags where they are set.
+// Moves the cells of a session that has ended up, releases its slot's info, writes those of its other places, releases
+// the places of its thread's ring, and clears its thread's flags where they are set.
 fn clear_thread<H: Hold>(
     rows: &mut H,
     containers: &Containers,
@@ -116,13 +117,13 @@ fn clear_thread<H: Hold>(
     requires wide { length words.old ≡ 160 }
     requires lent { H.words rows.old ≡ Some words.old }
     requires early { (at : ℕ) → (word_at words.old at).version + 1 < 2 ^ 48 }
-    requires spare { 3 * length cells.now + 4 ≤ H.left rows.old }
-    requires room { 3 * length cells.now + 5 ≤ log.old.room }
+    requires spare { 3 * length cells.now + 60 ≤ H.left rows.old }
+    requires room { 3 * length cells.now + 61 ≤ log.old.room }
     ensures worked { Worked (quit_work words.old cells.now containers.now.now (Some seat.now)) words.old [] log.old
         log.new (H.reached rows.old) (H.reached rows.new) }
     ensures mine { words.new ≡ words_by words.old 0 (Some seat.now) }
     ensures lent { H.words rows.new ≡ Some words.new }
-    ensures leaves { Leaves (3 * length cells.now + 4) (3 * length cells.now + 5) (H.hand rows.old) (H.hand rows.new)
+    ensures leaves { Leaves (3 * length cells.now + 60) (3 * length cells.now + 61) (H.hand rows.old) (H.hand rows.new)
         (H.left rows.old) (H.left rows.new) (H.draws rows.old) (H.draws rows.new) (H.name rows.old) (H.name rows.new)
         log.old log.new }
 {
@@ -135,5 +136,6 @@ fn clear_thread<H: Hold>(
     flush_cells(rows, Source::Thread(up), cells, log);
     release(rows, 1 + seat.slot, log);
     tag_uppers(rows, containers, &seat.connection, log);
+    release_ring(rows, seat.slot, log);
     flag(rows, words, 1 + seat.slot, 0, log);
 }

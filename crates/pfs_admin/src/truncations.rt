@@ -54,7 +54,8 @@ fn free_truncated(containers: &mut Containers, what: Truncation)
         Truncation::Accounts => containers.truncate_accounts(),
         Truncation::Users => containers.truncate_users(),
         Truncation::Hosts => containers.truncate_hosts(),
-        Truncation::Summary(_, _)
+        Truncation::Events(_, _)
+        | Truncation::Summary(_, _)
         | Truncation::DigestSummary
         | Truncation::SetupActors
         | Truncation::SetupObjects => {}
@@ -78,7 +79,8 @@ fn set_truncated<H: Hold>(rows: &mut H, words: &mut [Word], what: Truncation, lo
 {
     match what {
         Truncation::SetupObjects => turn_off(rows, words, log),
-        Truncation::Summary(_, _)
+        Truncation::Events(_, _)
+        | Truncation::Summary(_, _)
         | Truncation::DigestSummary
         | Truncation::Accounts
         | Truncation::Users

@@ -7,7 +7,9 @@ use Rattle.pfs_model.specs.declared.lines.Subject.{Subject}
 use Rattle.pfs_model.specs.Chains.{row_change, word_change, action_change, each_of}
 use Rattle.pfs_model.specs.Contexts.{Context, subject_of}
 use Rattle.pfs_model.specs.Places.{Placed}
-use Rattle.pfs_model.specs.Plain.{last_of, AreNext, AreLast, Agrees, AgreeBehind}
+use Rattle.pfs_model.specs.Plain.{last_of, tickets_at, AreNext, AreLast, Agrees, AgreeBehind}
+use Rattle.pfs_model.specs.Rings.{Ticketed, ticketed_at}
+use Rattle.pfs_alone.proofs.Pairing.{AreNextTickets}
 use Rattle.pfs_model.specs.Setups.{loads_at}
 use Rattle.pfs_alone.specs.Notes.{Note, Saw, saw_all, notes_at, notes_of}
 use Rattle.pfs_alone.proofs.Nexts.{writes, switches, acts, AreNextNotes, behind, next_front, next_back, saw_writes, saw_switches, saw_acts}
@@ -39,6 +41,8 @@ adds subject context before (says.End event last consumers thread) q =
     let loads = loads_at subject context (says.End event last consumers thread) in
     record { rows = saw_writes before loads; words = saw_switches before loads; numbers = saw_acts before loads }
 adds subject context before (says.Add row version) q = record { rows = refl; words = refl; numbers = refl }
+adds subject context before (says.Ring row version) q = record { rows = refl; words = refl; numbers = refl }
+adds subject context before (says.Long row version ticket) q = record { rows = refl; words = refl; numbers = refl }
 adds subject context before (says.Take row version) q = record { rows = refl; words = refl; numbers = refl }
 adds subject context before (says.Give row version from) q = record { rows = refl; words = refl; numbers = refl }
 adds subject context before (says.Tag row version) q = record { rows = refl; words = refl; numbers = refl }
@@ -63,20 +67,22 @@ one_more : (v row : ℕ) (xs ys : List Change) → xs ≡ ys → v ≡ last_of r
 one_more v row xs ys e n = n ∙ ap (λ z. last_of row z + 1) e
 
 meets : (subject : Option Subject) (context : Context) (before : List Note) (earlier : List Placed) (entry : Entry) → IsBefore before earlier → IsQuiet entry
-    → AreNextNotes before (notes_at subject context entry) → Meets earlier (loads_at subject context entry) entry
-meets subject context before earlier (says.Connect action thread account user host) b q n = record { rows = tt; words = tt; numbers = (one_more action 0 _ _ b.numbers n.0, tt); loaded = tt; others = tt }
-meets subject context before earlier (says.Act action) b q n = record { rows = tt; words = tt; numbers = (one_more action 0 _ _ b.numbers n.0, tt); loaded = tt; others = tt }
-meets subject context before earlier (says.Start event verdict consumers thread class table) b q n =
+    → AreNextNotes before (notes_at subject context entry) → AreNextTickets (each_of tickets_at earlier) (ticketed_at entry) → Meets earlier (loads_at subject context entry) entry
+meets subject context before earlier (says.Connect action thread account user host) b q n t = record { rows = tt; words = tt; numbers = (one_more action 0 _ _ b.numbers n.0, tt); loaded = tt; others = tt }
+meets subject context before earlier (says.Act action) b q n t = record { rows = tt; words = tt; numbers = (one_more action 0 _ _ b.numbers n.0, tt); loaded = tt; others = tt }
+meets subject context before earlier (says.Start event verdict consumers thread class table) b q n t =
     record { rows = tt; words = tt; numbers = tt; loaded = saw_last before _ _ b.words n; others = tt }
-meets subject context before earlier (says.End event last consumers thread) b q n = record { rows = tt; words = tt; numbers = tt; loaded = saw_last before _ _ b.words n; others = tt }
-meets subject context before earlier (says.Add row version) b q n = record { rows = (one_more version row _ _ b.rows n.0, tt); words = tt; numbers = tt; loaded = tt; others = tt }
-meets subject context before earlier (says.Take row version) b q n = record { rows = (one_more version row _ _ b.rows n.0, tt); words = tt; numbers = tt; loaded = tt; others = tt }
-meets subject context before earlier (says.Give row version from) b q n = record { rows = (one_more version row _ _ b.rows n.0, tt); words = tt; numbers = tt; loaded = tt; others = tt }
-meets subject context before earlier (says.Tag row version) b q n = record { rows = (one_more version row _ _ b.rows n.0, tt); words = tt; numbers = tt; loaded = tt; others = tt }
-meets subject context before earlier (says.Free row version) b q n = record { rows = tt; words = tt; numbers = tt; loaded = tt; others = n.0 ∙ ap (last_of row) b.rows }
-meets subject context before earlier (says.Set word version flags) b q n = record { rows = tt; words = (one_more version word _ _ b.words n.0, tt); numbers = tt; loaded = tt; others = tt }
-meets subject context before earlier (says.Reply number) b q n = record { rows = tt; words = tt; numbers = tt; loaded = tt; others = tt }
-meets subject context before earlier _ b q n = absurd q
+meets subject context before earlier (says.End event last consumers thread) b q n t = record { rows = tt; words = tt; numbers = tt; loaded = saw_last before _ _ b.words n; others = tt }
+meets subject context before earlier (says.Add row version) b q n t = record { rows = (one_more version row _ _ b.rows n.0, tt); words = tt; numbers = tt; loaded = tt; others = tt }
+meets subject context before earlier (says.Ring row version) b q n t = record { rows = (one_more version row _ _ b.rows n.0, tt); words = tt; numbers = tt; loaded = tt; others = tt }
+meets subject context before earlier (says.Long row version ticket) b q n t = record { rows = (one_more version row _ _ b.rows n.0, tt); words = tt; numbers = tt; loaded = tt; others = t.0 }
+meets subject context before earlier (says.Take row version) b q n t = record { rows = (one_more version row _ _ b.rows n.0, tt); words = tt; numbers = tt; loaded = tt; others = tt }
+meets subject context before earlier (says.Give row version from) b q n t = record { rows = (one_more version row _ _ b.rows n.0, tt); words = tt; numbers = tt; loaded = tt; others = tt }
+meets subject context before earlier (says.Tag row version) b q n t = record { rows = (one_more version row _ _ b.rows n.0, tt); words = tt; numbers = tt; loaded = tt; others = tt }
+meets subject context before earlier (says.Free row version) b q n t = record { rows = tt; words = tt; numbers = tt; loaded = tt; others = n.0 ∙ ap (last_of row) b.rows }
+meets subject context before earlier (says.Set word version flags) b q n t = record { rows = tt; words = (one_more version word _ _ b.words n.0, tt); numbers = tt; loaded = tt; others = tt }
+meets subject context before earlier (says.Reply number) b q n t = record { rows = tt; words = tt; numbers = tt; loaded = tt; others = tt }
+meets subject context before earlier _ b q n t = absurd q
 
 more_before : (before : List Note) (earlier : List Placed) (p : Placed) → IsBefore before earlier → IsQuiet p.entry
     → IsBefore (behind before (notes_at (subject_of p.line) p.context p.entry)) (p ∷ earlier)
@@ -88,11 +94,22 @@ more_before before earlier p b q =
       numbers = a.numbers ∙ ap (λ z. action_change p.entry ++ z) b.numbers;
     }
 
-pub agreed : (before : List Note) (earlier ps : List Placed) → IsBefore before earlier → AreQuietPlaces ps → AreNextNotes before (notes_of ps) → AgreeBehind earlier ps
-agreed before earlier [] b q n = tt
-agreed before earlier (p ∷ ps) b q n =
+-- the tickets of a line, and those behind it
+front_tickets : (before : List ℕ) (e : Entry) (rest : List Ticketed) → AreNextTickets before (ticketed_at e ++ rest) → AreNextTickets before (ticketed_at e)
+front_tickets before (says.Long row version ticket) rest t = (t.0, tt)
+front_tickets before _ rest t = tt
+
+back_tickets : (before : List ℕ) (e : Entry) (rest : List Ticketed) → AreNextTickets before (ticketed_at e ++ rest) → AreNextTickets (tickets_at e ++ before) rest
+back_tickets before (says.Long row version ticket) rest t = t.1
+back_tickets before _ rest t = t
+
+pub agreed : (before : List Note) (earlier ps : List Placed) → IsBefore before earlier → AreQuietPlaces ps → AreNextNotes before (notes_of ps)
+    → AreNextTickets (each_of tickets_at earlier) (each_of ticketed_at ps) → AgreeBehind earlier ps
+agreed before earlier [] b q n t = tt
+agreed before earlier (p ∷ ps) b q n t =
     let notes = notes_at (subject_of p.line) p.context p.entry in
-    let m = meets (subject_of p.line) p.context before earlier p.entry b q.0 (next_front before notes (notes_of ps) n) in (
+    let m = meets (subject_of p.line) p.context before earlier p.entry b q.0 (next_front before notes (notes_of ps) n) (front_tickets (each_of tickets_at earlier) p.entry (each_of ticketed_at ps) t) in (
       record { rows = m.rows; words = m.words; numbers = m.numbers; loads = m.loaded; others = m.others },
-      agreed (behind before notes) (p ∷ earlier) ps (more_before before earlier p b q.0) q.1 (next_back before notes (notes_of ps) n),
+      agreed (behind before notes) (p ∷ earlier) ps (more_before before earlier p b q.0) q.1 (next_back before notes (notes_of ps) n)
+          (back_tickets (each_of tickets_at earlier) p.entry (each_of ticketed_at ps) t),
     )

@@ -24,7 +24,7 @@ use Rattle.pfs_session.specs.Starts.{started}
 use Rattle.pfs_session.specs.Turns.{StartsEvent, EndsEvent, SettlesHeld, Connects, Turn, acted}
 use Rattle.pfs_session.specs.declared.setup.Setup.{Setup}
 use Rattle.pfs_parts.specs.Deeds.{Deed, Connecting, Starting, Ending, Closing, Part, IsPart}
-use Rattle.pfs_session.proofs.Ending.{ends_undigested}
+use Rattle.pfs_session.proofs.Ending.{ends_undigested, starts_unplaced}
 use Rattle.pfs_session.proofs.Owed.{nothing_owed}
 use Rattle.pfs_parts.specs.Stints.{AreStints}
 use Rattle.pfs_alone.specs.Spells.{Doing, Spell, AreSpells, stints_of, calls_of}
@@ -155,15 +155,15 @@ first_connects = record {
 wait_starts : IsPart first_seated (record { deed = Starting wait; turns = start_turn ∷ [] })
 wait_starts = record {
   are_turns = (
-    record {
+    starts_unplaced _ _ _ _ _ (record {
       seen = Some seen;
       what = open_wait;
       loaded = record { there = refl; table_is = refl };
       calls_are = refl;
-      opened = record { kind = refl; verdict_is = refl; session_is = refl; number = refl; class = refl; digested_is = refl; link = refl; lies_in = refl; start = refl; timed_is = refl; read_only = refl; unfilled = record { last = refl; duration = refl; numbers = refl; ticket = refl; placed = refl } };
+      opened = record { kind = refl; verdict_is = refl; session_is = refl; number = refl; class = refl; digested_is = refl; placed_is = refl; link = refl; lies_in = refl; start = refl; timed_is = refl; read_only = refl; unfilled = record { last = refl; duration = refl; numbers = refl; ticket = refl } };
       entries_are = refl;
       after_is = refl;
-    },
+    }) refl,
     tt,
   );
   steps_are = refl;
@@ -176,7 +176,7 @@ wait_ends = record {
       what = open_wait;
       others = [];
       innermost = refl;
-      ends = ends_undigested first_waits 0 open_wait [] no_numbers _ _ end_turn.after refl
+      ends = ends_undigested first_waits 0 open_wait [] no_numbers _ _ end_turn.after refl refl
           (record { consumers = word 0 12288; thread = word 1 3; answer = Counted 129 1; row_is = refl; calls_are = refl; entries_are = refl; after_is = refl });
     },
     tt,

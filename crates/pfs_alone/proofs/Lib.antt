@@ -2,6 +2,8 @@ pub mod Nexts
 pub mod Telling
 pub mod Inner
 pub mod Steps
+pub mod Pairing
+pub mod Ticketing
 pub mod Lines
 pub mod Weighing
 pub mod Quiet

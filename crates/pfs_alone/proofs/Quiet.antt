@@ -13,7 +13,7 @@ use Rattle.pfs_levels.specs.Calls.{Call, Adds, Rings, Reads, Loads, Draws, Takes
 use Rattle.pfs_levels.specs.Plain.{AllAnswer}
 use Rattle.pfs_levels.specs.declared.answers.Added.{Added}
 use Rattle.pfs_levels.specs.declared.answers.Added.TheVariants.{Counted, Held}
-use Rattle.pfs_session.specs.Ends.{EndsIn, EndsThrough, EndsCounted, DigestsIn, added_entry, still_held, cell_number, digest_number, with_held, amount_of}
+use Rattle.pfs_session.specs.Ends.{EndsIn, EndsThrough, EndsAdded, EndsCounted, PutsAtEnd, DigestsIn, added_entry, still_held, cell_number, digest_number, with_held, amount_of}
 use Rattle.pfs_session.specs.Settles.{Settles, Paid, owed_in, owed_by, owed_by_state, paid_calls, paid_entries, settle_head}
 use Rattle.pfs_session.specs.Starts.{start_entry}
 use Rattle.pfs_session.specs.States.{State, Owed, nothing_held, held_row, held_at}
@@ -22,14 +22,29 @@ use Rattle.pfs_session.specs.declared.events.Numbers.{Numbers}
 use Rattle.pfs_session.specs.declared.setup.Setup.{Setup}
 use Rattle.pfs_stat.specs.declared.Stat.{Stat}
 use Rattle.pfs_session.proofs.Owed.{nothing_owed}
+use Rattle.std.specs.Prelude.{slice_index}
+use Rattle.pfs_event.specs.declared.event.Event.{Event}
+use Rattle.pfs_levels.specs.declared.answers.RingPut.{RingPut}
+use Rattle.pfs_levels.specs.declared.answers.RingPut.TheVariants as told
+use Rattle.pfs_levels.specs.declared.answers.RingPut.TheVariants.{Done, Busy, Late}
+use Rattle.pfs_model.specs.Causes.{long_row}
+use Rattle.pfs_model.specs.Rings.{ring_number, current_row, history_row}
+use Rattle.pfs_rings.specs.Offers.{Says, offered}
+use Rattle.pfs_rings.specs.declared.puts.Put.{Put}
+use Rattle.pfs_rings.specs.declared.rings.Ring.{Ring}
+use Rattle.pfs_rings.specs.declared.rings.Ring.TheVariants.{Current, History, Long}
+use Rattle.pfs_session.specs.Rings.{PutAt, PutIf, PutIn, put_entries}
+use Rattle.pfs_alone.proofs.Pairing.{Pending, pending, ArePaired, never_late}
 use Rattle.pfs_alone.proofs.Inner.{IsInner, AreInner}
 use Rattle.pfs_alone.proofs.Steps.{IsActed, acted, truncated_acted}
 
--- an addition was counted
+-- an addition was counted, and a put was made
 abbrev pub IsAdded : Call → Type 0
 IsAdded (Adds row amount (Counted r version)) = Unit {0}
 IsAdded (Adds row amount (Held r first second)) = ⊥
-IsAdded (Rings row content answer) = Unit {0}
+IsAdded (Rings row content (Done version)) = Unit {0}
+IsAdded (Rings row content (Busy first second)) = ⊥
+IsAdded (Rings row content (Late greater)) = ⊥
 IsAdded (Reads row seen) = Unit {0}
 IsAdded (Loads at version found) = Unit {0}
 IsAdded (Draws kind ticket) = Unit {0}
@@ -53,21 +68,36 @@ pub added_back : (xs ys : List Call) → AreAdded (xs ++ ys) → AreAdded ys
 added_back [] ys a = a
 added_back (x ∷ xs) ys a = added_back xs ys a.1
 
-pub plain_added : (flags : List ℕ) (calls : List Call) → AllAnswer flags calls → AreAdded calls
-plain_added flags [] a = tt
-plain_added flags (Adds row amount (Counted r v) ∷ calls) a = (tt, plain_added flags calls a.1)
-plain_added flags (Adds row amount (Held r v w) ∷ calls) a = absurd a.0
-plain_added flags (Rings row content answer ∷ calls) a = (tt, plain_added flags calls a.1)
-plain_added flags (Reads row seen ∷ calls) a = (tt, plain_added flags calls a.1)
-plain_added flags (Loads at v found ∷ calls) a = (tt, plain_added flags calls a.1)
-plain_added flags (Draws kind ticket ∷ calls) a = (tt, plain_added flags calls a.1)
-plain_added flags (Takes row v found ∷ calls) a = (tt, plain_added flags calls a.1)
-plain_added flags (Puts row content v ∷ calls) a = (tt, plain_added flags calls a.1)
-plain_added flags (Frees row v ∷ calls) a = (tt, plain_added flags calls a.1)
-plain_added flags (Sets at to v ∷ calls) a = (tt, plain_added flags calls a.1)
-plain_added flags (Enters label labels ∷ calls) a = (tt, plain_added flags calls a.1)
-plain_added flags (Leaves ∷ calls) a = (tt, plain_added flags calls a.1)
-plain_added flags (Meets versions ∷ calls) a = (tt, plain_added flags calls a.1)
+pub plain_added : (flags : List ℕ) (p : Option Pending) (calls : List Call) → AllAnswer flags calls → ArePaired p calls → AreAdded calls
+plain_added flags None [] a q = tt
+plain_added flags (Some p) [] a q = absurd q
+plain_added flags None (Adds row amount (Counted r v) ∷ calls) a q = (tt, plain_added flags None calls a.1 q)
+plain_added flags None (Adds row amount (Held r v w) ∷ calls) a q = absurd a.0
+plain_added flags None (Rings row content (Done v) ∷ calls) a q = (tt, plain_added flags (pending row (slice_index content 15)) calls a.1 q)
+plain_added flags None (Rings row content (Busy v w) ∷ calls) a q = absurd a.0
+plain_added flags None (Rings row content (Late t) ∷ calls) a q = absurd (never_late flags row t content calls a q)
+plain_added flags None (Draws kind ticket ∷ calls) a q = absurd q
+plain_added flags None (Puts row content version ∷ calls) a q = (tt, plain_added flags None calls a.1 q.1)
+plain_added flags None (Reads row seen ∷ calls) a q = (tt, plain_added flags None calls a.1 q)
+plain_added flags None (Loads at version found ∷ calls) a q = (tt, plain_added flags None calls a.1 q)
+plain_added flags None (Takes row version found ∷ calls) a q = (tt, plain_added flags None calls a.1 q)
+plain_added flags None (Frees row version ∷ calls) a q = (tt, plain_added flags None calls a.1 q)
+plain_added flags None (Sets at to version ∷ calls) a q = (tt, plain_added flags None calls a.1 q)
+plain_added flags None (Enters label labels ∷ calls) a q = (tt, plain_added flags None calls a.1 q)
+plain_added flags None (Leaves ∷ calls) a q = (tt, plain_added flags None calls a.1 q)
+plain_added flags None (Meets versions ∷ calls) a q = (tt, plain_added flags None calls a.1 q)
+plain_added flags (Some p) (Draws kind ticket ∷ calls) a q = (tt, plain_added flags None calls a.1 q.2)
+plain_added flags (Some p) (Adds row amount answer ∷ calls) a q = absurd q
+plain_added flags (Some p) (Rings row content answer ∷ calls) a q = absurd q
+plain_added flags (Some p) (Reads row seen ∷ calls) a q = absurd q
+plain_added flags (Some p) (Loads at version found ∷ calls) a q = absurd q
+plain_added flags (Some p) (Takes row version found ∷ calls) a q = absurd q
+plain_added flags (Some p) (Puts row content version ∷ calls) a q = absurd q
+plain_added flags (Some p) (Frees row version ∷ calls) a q = absurd q
+plain_added flags (Some p) (Sets at to version ∷ calls) a q = absurd q
+plain_added flags (Some p) (Enters label labels ∷ calls) a q = absurd q
+plain_added flags (Some p) (Leaves ∷ calls) a q = absurd q
+plain_added flags (Some p) (Meets versions ∷ calls) a q = absurd q
 
 -- an entry of a session of which nothing was held
 abbrev pub IsQuiet : Entry → Type 0
@@ -76,6 +106,8 @@ IsQuiet (says.Act action) = Unit {0}
 IsQuiet (says.Start event verdict consumers thread class table) = Unit {0}
 IsQuiet (says.End event last consumers thread) = Unit {0}
 IsQuiet (says.Add row version) = Unit {0}
+IsQuiet (says.Ring row version) = Unit {0}
+IsQuiet (says.Long row version ticket) = Unit {0}
 IsQuiet (says.Take row version) = Unit {0}
 IsQuiet (says.Give row version from) = Unit {0}
 IsQuiet (says.Tag row version) = Unit {0}
@@ -156,15 +188,62 @@ digest_quiet true s slot what numbers calls entries after h added d =
       held = ap (λ z. slice_set s.held (digest_number what) z) (counted_none row amount d.answer one) ∙ (ap (λ z. slice_set z (digest_number what) None) h ∙ set_same nobody 193 (digest_number what));
     })
 
-through_quiet : (s : State) (slot : ℕ) (what : Open) (others : List Open) (numbers : Numbers) (calls : List Call) (entries : List Entry) (after : State) → s.held ≡ nothing_held → AreAdded calls
-    → EndsThrough s slot what others numbers calls entries after → IsQuietStep entries after
-through_quiet s slot what others numbers calls entries after h added e =
+-- puts that were made
+put_quiet : (put : Option Put) (calls : List Call) (row : ℕ) (ticket : Option ℕ) (drawn : List Call) (event : Event) (one : Put) → put ≡ Some one → PutAt row ticket drawn event one calls → AreAdded calls
+    → AreQuiet (put_entries put)
+put_quiet put calls row ticket drawn event one e x added = by_answer ticket x.answer x.says (subst AreAdded x.calls_are added).0 where
+  by_answer : (ticket : Option ℕ) (answer : RingPut) → Says row ticket answer one → IsAdded (Rings row (offered event ticket) answer) → AreQuiet (put_entries put)
+  by_answer None (told.Done version) s a = subst (λ z. AreQuiet (put_entries z)) (sym (e ∙ ap Some s)) (tt, tt)
+  by_answer (Some ticket) (told.Done version) s a = subst (λ z. AreQuiet (put_entries z)) (sym (e ∙ ap Some s)) (tt, tt)
+  by_answer ticket (told.Busy first second) s a = absurd a
+  by_answer ticket (told.Late greater) s a = absurd a
+
+none_quiet : (put : Option Put) → put ≡ None → AreQuiet (put_entries put)
+none_quiet put e = subst (λ z. AreQuiet (put_entries z)) (sym e) tt
+
+put_if_quiet : (due : Bool) (ring : Ring) (event : Event) (put : Option Put) (calls : List Call) → PutIf due ring event put calls → AreAdded calls → AreQuiet (put_entries put)
+put_if_quiet false ring event put calls x a = none_quiet put x.0
+put_if_quiet true ring event None calls x a = tt
+put_if_quiet true (Current thread kind depth) event (Some put) calls x a = put_quiet (Some put) calls (current_row thread kind depth) None [] event put refl x a
+put_if_quiet true (History thread kind place) event (Some put) calls x a = put_quiet (Some put) calls (history_row thread (ring_number kind) place) None [] event put refl x a
+put_if_quiet true (Long kind) event (Some put) calls x a = put_quiet (Some put) calls (long_row (ring_number kind) x.ticket) (Some x.ticket) (Draws (ring_number kind) x.ticket ∷ []) event put refl x.at a
+
+put_in_quiet : (slot : Option ℕ) (what : Open) (depth : ℕ) (event : Event) (put : Option Put) (calls : List Call) → PutIn slot what depth event put calls → AreAdded calls → AreQuiet (put_entries put)
+put_in_quiet None what depth event put calls x a = none_quiet put x.0
+put_in_quiet (Some slot) what depth event put calls x a = put_if_quiet what.placed (Current slot what.kind depth) event put calls x a
+
+puts_quiet : (s : State) (slot : ℕ) (what : Open) (numbers : Numbers) (consumers thread : ℕ) (calls : List Call) (entries : List Entry) (after : State) → s.held ≡ nothing_held → AreAdded calls
+    → PutsAtEnd s slot what numbers consumers thread calls entries after → IsQuietStep entries after
+puts_quiet s slot what numbers consumers thread calls entries after h added x =
+    let all = subst AreAdded x.calls_are added in
+    let older = added_back x.long_calls (x.history_calls ++ x.current_calls) all in
+    quiet_as entries _ after _ x.entries_are x.after_is (record {
+      quiet = quiet_then (put_entries x.current) (put_entries x.history ++ put_entries x.long)
+          (put_if_quiet _ _ _ x.current x.current_calls x.current_is (added_back x.history_calls x.current_calls older))
+          (quiet_then (put_entries x.history) (put_entries x.long) (put_if_quiet _ _ _ x.history x.history_calls x.history_is (added_front x.history_calls x.current_calls older))
+          (put_if_quiet _ _ _ x.long x.long_calls x.long_is (added_front x.long_calls (x.history_calls ++ x.current_calls) all)));
+      held = h;
+    })
+
+ended_quiet : (s : State) (slot : ℕ) (what : Open) (others : List Open) (numbers : Numbers) (calls : List Call) (entries : List Entry) (after : State) → s.held ≡ nothing_held → AreAdded calls
+    → EndsAdded s slot what others numbers calls entries after → IsQuietStep entries after
+ended_quiet s slot what others numbers calls entries after h added e =
     let both = subst AreAdded e.calls_are added in
     let first : IsQuietStep e.counted_entries e.between =
     counted_quiet s slot what others numbers e.counted_calls e.counted_entries e.between h (added_back e.digested_calls e.counted_calls both) e.counts in
     let second : IsQuietStep e.digested_entries after =
     digest_quiet what.digested e.between slot what numbers e.digested_calls e.digested_entries after first.held (added_front e.digested_calls e.counted_calls both) e.digests in
     record { quiet = subst AreQuiet (sym e.entries_are) (quiet_then e.counted_entries e.digested_entries first.quiet second.quiet); held = second.held }
+
+through_quiet : (s : State) (slot : ℕ) (what : Open) (others : List Open) (numbers : Numbers) (calls : List Call) (entries : List Entry) (after : State) → s.held ≡ nothing_held → AreAdded calls
+    → EndsThrough s slot what others numbers calls entries after → IsQuietStep entries after
+through_quiet s slot what others numbers calls entries after h added e =
+    let both = subst AreAdded e.calls_are added in
+    let first : IsQuietStep e.added_entries e.among =
+    ended_quiet s slot what others numbers e.added_calls e.added_entries e.among h (added_back e.ring_calls e.added_calls both) e.adds in
+    let second : IsQuietStep e.ring_entries after =
+    puts_quiet e.among slot what numbers _ _ e.ring_calls e.ring_entries after first.held (added_front e.ring_calls e.added_calls both) e.puts in
+    record { quiet = subst AreQuiet (sym e.entries_are) (quiet_then e.added_entries e.ring_entries first.quiet second.quiet); held = second.held }
 
 ends_quiet : (s : State) (slot : Option ℕ) (b : Bool) (what : Open) (others : List Open) (numbers : Numbers) (calls : List Call) (entries : List Entry) (after : State) → s.held ≡ nothing_held → AreAdded calls
     → EndsIn s slot b what others numbers calls entries after → IsQuietStep entries after
@@ -203,7 +282,11 @@ acted_quiet : (head : Entry) (calls : List Call) (entries : List Entry) → IsQu
 acted_quiet head calls entries q a = subst AreQuiet (sym a.entries_are) (q, inner_quiets a.rest a.same.inner)
 
 pub does_quiet : (s : State) (step : Step) (calls : List Call) (entries : List Entry) (after : State) → s.held ≡ nothing_held → AreAdded calls → Does s step calls entries after → IsQuietStep entries after
-does_quiet s (StartsEvent what) calls entries after h added d = quiet_as entries _ after _ d.entries_are d.after_is (record { quiet = (start_quiet _ _ d.seen, tt); held = h })
+does_quiet s (StartsEvent what) calls entries after h added d =
+    let b = d.begins in
+    let newer = added_front d.put_calls d.begun_calls (subst AreAdded d.calls_are added) in
+    quiet_as entries _ after _ (d.entries_are ∙ ap (λ z. z ++ put_entries d.current) b.entries_are) b.after_is
+    (record { quiet = (start_quiet _ _ b.seen, put_in_quiet s.place.thread b.what _ b.what.event d.current d.put_calls d.put_is newer); held = h })
 does_quiet s (EndsEvent numbers) calls entries after h added d =
     ends_quiet s s.place.thread (is_let_through d.what.verdict) d.what d.others numbers calls entries after h added d.ends
 does_quiet s (Spends time) calls entries after h added d = quiet_as entries _ after _ d.1 d.2 (record { quiet = tt; held = h })

@@ -15,7 +15,7 @@ use Rattle.pfs_event.specs.declared.entry.Entry.TheVariants as says
 use Rattle.pfs_event.specs.declared.open.Open.{Open}
 use Rattle.pfs_event.specs.declared.verdict.Verdict.{Verdict}
 use Rattle.pfs_event.specs.Verdicts.{is_let_through}
-use Rattle.pfs_levels.specs.Calls.{Call, Adds, Loads}
+use Rattle.pfs_levels.specs.Calls.{Call, Adds, Rings, Loads, Draws}
 use Rattle.pfs_levels.specs.Moves.{moves_calls, moves_entries}
 use Rattle.pfs_levels.specs.declared.answers.Added.{Added}
 use Rattle.pfs_levels.specs.declared.answers.Added.TheVariants.{Counted, Held}
@@ -23,15 +23,27 @@ use Rattle.pfs_levels.specs.declared.answers.Word.{Word}
 use Rattle.pfs_model.specs.declared.lines.Subject.{Subject}
 use Rattle.pfs_model.specs.Contexts.{Context, noted, after_entries}
 use Rattle.pfs_model.specs.Setups.{thread_word, class_word, table_word, word_named}
-use Rattle.pfs_session.specs.Ends.{EndsIn, EndsThrough, EndsCounted, EndsSilently, DigestsIn, added_entry, amount_of, digest_number, with_held}
+use Rattle.pfs_event.specs.declared.event.Event.{Event}
+use Rattle.pfs_levels.specs.declared.answers.RingPut.{RingPut}
+use Rattle.pfs_levels.specs.declared.answers.RingPut.TheVariants as rings
+use Rattle.pfs_model.specs.Causes.{long_row}
+use Rattle.pfs_model.specs.Rings.{ring_number, current_row, history_row}
+use Rattle.pfs_parts.proofs.Acting.{all_then}
+use Rattle.pfs_parts.proofs.Ringing.{is_ring, put_ring, rings_keep}
+use Rattle.pfs_rings.specs.Offers.{Says, offered, put_entry}
+use Rattle.pfs_rings.specs.declared.puts.Put.{Put}
+use Rattle.pfs_rings.specs.declared.rings.Ring.{Ring}
+use Rattle.pfs_rings.specs.declared.rings.Ring.TheVariants.{Current, History, Long}
+use Rattle.pfs_session.specs.Rings.{PutAt, PutIf, PutIn, put_entries}
+use Rattle.pfs_session.specs.Ends.{EndsIn, EndsThrough, EndsAdded, PutsAtEnd, EndsCounted, EndsSilently, DigestsIn, added_entry, amount_of, digest_number, with_held}
 use Rattle.pfs_session.specs.Settles.{Paid, paid_calls, paid_entries, settle_head}
-use Rattle.pfs_session.specs.Starts.{Starts, start_entry, load_calls, table_calls, IsLoaded, versions_in, version_of}
+use Rattle.pfs_session.specs.Starts.{Starts, Begins, start_entry, load_calls, table_calls, IsLoaded, versions_in, version_of}
 use Rattle.pfs_session.specs.States.{State, Owed, held_at, held_row}
 use Rattle.pfs_session.specs.Turns.{Step, StartsEvent, EndsEvent, Spends, SettlesHeld, Connects, Quits, Truncates, Truncated, Does, Works}
 use Rattle.pfs_session.specs.declared.events.Numbers.{Numbers}
 use Rattle.pfs_session.specs.declared.setup.Setup.{Setup}
 use Rattle.pfs_stat.specs.declared.Stat.{Stat}
-use Rattle.pfs_alone.specs.Notes.{Note, Saw, Acted, saw_all, notes_at, notes_in, told, all_told}
+use Rattle.pfs_alone.specs.Notes.{Note, Wrote, Saw, Acted, saw_all, notes_at, notes_in, told, all_told}
 use Rattle.pfs_alone.specs.Told.{Sits, head_of}
 use Rattle.pfs_alone.proofs.Inner.{told_then, notes_then, entries_then, inner_slots, IsSame, same_then, reply_same, moves_same, signs_same, flags_same, paid_same}
 
@@ -111,12 +123,77 @@ start_slot : (subject : Option Subject) (context : Context) (v : Verdict) (n : �
 start_slot subject context v n None = refl
 start_slot subject context v n (Some seen) = refl
 
-starts_told : (what : Subject) (context : Context) (s : State) (calls : List Call) (entries : List Entry) (after : State) → Sits context s → Starts s what calls entries after
+-- puts
+put_told : (subject : Option Subject) (context : Context) (put : Put) (row : ℕ) (ticket : Option ℕ) (drawn calls : List Call) (event : Event) → all_told drawn ≡ [] → PutAt row ticket drawn event put calls
+    → notes_in subject context (put_entry put ∷ []) ≡ all_told calls
+unfolding all_told
+put_told subject context put row ticket drawn calls event none x = by_answer ticket x.answer x.says ∙ sym (ap all_told x.calls_are) where
+  by_answer : (ticket : Option ℕ) (answer : RingPut) → Says row ticket answer put → notes_in subject context (put_entry put ∷ []) ≡ all_told (Rings row (offered event ticket) answer ∷ drawn)
+  by_answer None (rings.Done version) e = ap (λ z. notes_in subject context (put_entry z ∷ [])) e ∙ ap (λ z. z ++ Wrote row version ∷ []) (sym none)
+  by_answer (Some ticket) (rings.Done version) e = ap (λ z. notes_in subject context (put_entry z ∷ [])) e ∙ ap (λ z. z ++ Wrote row version ∷ []) (sym none)
+  by_answer ticket (rings.Busy first second) e = ap (λ z. notes_in subject context (put_entry z ∷ [])) e ∙ ap (λ z. z ++ []) (sym none)
+  by_answer None (rings.Late greater) e = absurd e
+  by_answer (Some ticket) (rings.Late greater) e = ap (λ z. notes_in subject context (put_entry z ∷ [])) e.0 ∙ ap (λ z. z ++ []) (sym none)
+
+none_told : (subject : Option Subject) (context : Context) (put : Option Put) (calls : List Call) → (put ≡ None) × (calls ≡ []) → notes_in subject context (put_entries put) ≡ all_told calls
+unfolding all_told
+none_told subject context put calls x = ap (λ z. notes_in subject context (put_entries z)) x.0 ∙ sym (ap all_told x.1)
+
+put_if_told : (subject : Option Subject) (context : Context) (due : Bool) (ring : Ring) (event : Event) (put : Option Put) (calls : List Call) → PutIf due ring event put calls
+    → notes_in subject context (put_entries put) ≡ all_told calls
+unfolding all_told
+put_if_told subject context false ring event put calls x = none_told subject context put calls x
+put_if_told subject context true ring event None calls x = absurd x
+put_if_told subject context true (Current thread kind depth) event (Some put) calls x = put_told subject context put (current_row thread kind depth) None [] calls event refl x
+put_if_told subject context true (History thread kind place) event (Some put) calls x = put_told subject context put (history_row thread (ring_number kind) place) None [] calls event refl x
+put_if_told subject context true (Long kind) event (Some put) calls x =
+    put_told subject context put (long_row (ring_number kind) x.ticket) (Some x.ticket) (Draws (ring_number kind) x.ticket ∷ []) calls event refl x.at
+
+put_in_told : (subject : Option Subject) (context : Context) (slot : Option ℕ) (what : Open) (depth : ℕ) (event : Event) (put : Option Put) (calls : List Call) → PutIn slot what depth event put calls
+    → notes_in subject context (put_entries put) ≡ all_told calls
+put_in_told subject context None what depth event put calls x = none_told subject context put calls x
+put_in_told subject context (Some slot) what depth event put calls x = put_if_told subject context what.placed (Current slot what.kind depth) event put calls x
+
+puts_told : (subject : Option Subject) (context : Context) (s : State) (slot : ℕ) (what : Open) (numbers : Numbers) (consumers thread : ℕ) (calls : List Call) (entries : List Entry) (after : State)
+    → Sits context s → PutsAtEnd s slot what numbers consumers thread calls entries after → IsTold subject context [] calls entries after
+puts_told subject context s slot what numbers consumers thread calls entries after sits x =
+    let c1 = put_entries x.current in
+    let c2 = put_entries x.history in
+    let c3 = put_entries x.long in
+    let m1 : Context = after_entries subject context c1 in
+    let m2 : Context = after_entries subject m1 c2 in
+    let a = put_if_told subject context _ _ _ x.current x.current_calls x.current_is in
+    let b = put_if_told subject m1 _ _ _ x.history x.history_calls x.history_is in
+    let d = put_if_told subject m2 _ _ _ x.long x.long_calls x.long_is in
+    told_as subject context [] calls (x.long_calls ++ (x.history_calls ++ x.current_calls)) entries (c1 ++ (c2 ++ c3)) after _ x.calls_are x.entries_are x.after_is (record {
+      same = notes_then subject context c1 (c2 ++ c3)
+          ∙ (ap (λ z. z ++ notes_in subject m1 (c2 ++ c3)) a
+          ∙ (ap (λ z. all_told x.current_calls ++ z) (notes_then subject m1 c2 c3 ∙ (ap (λ z. z ++ notes_in subject m2 c3) b ∙ ap (λ z. all_told x.history_calls ++ z) d))
+          ∙ (sym (append_assoc (all_told x.current_calls) (all_told x.history_calls) (all_told x.long_calls))
+          ∙ (ap (λ z. z ++ all_told x.long_calls) (sym (told_then x.history_calls x.current_calls)) ∙ sym (told_then x.long_calls (x.history_calls ++ x.current_calls))))));
+      sits = λ thread q. ap (λ (c : Context). c.slot)
+          (rings_keep subject context (c1 ++ (c2 ++ c3)) (all_then true is_ring c1 (c2 ++ c3) (put_ring x.current) (all_then true is_ring c2 c3 (put_ring x.history) (put_ring x.long)))) ∙ sits thread q;
+    })
+
+begins_told : (what : Subject) (context : Context) (s : State) (calls : List Call) (entries : List Entry) (after : State) → Sits context s → Begins s what calls entries after
     → IsTold (Some what) context [] calls entries after
-starts_told what context s calls entries after sits st = told_as (Some what) context [] calls _ entries _ after _ st.calls_are st.entries_are st.after_is (record {
+begins_told what context s calls entries after sits st = told_as (Some what) context [] calls _ entries _ after _ st.calls_are st.entries_are st.after_is (record {
   same = start_loads s.place.thread what.class what.table st.seen _ (s.drawn + 1) what context refl refl st.loaded sits;
   sits = λ thread e. start_slot (Some what) context _ (s.drawn + 1) st.seen ∙ sits thread e;
 })
+
+starts_told : (what : Subject) (context : Context) (s : State) (calls : List Call) (entries : List Entry) (after : State) → Sits context s → Starts s what calls entries after
+    → IsTold (Some what) context [] calls entries after
+starts_told what context s calls entries after sits x =
+    let first = begins_told what context s x.begun_calls x.begun_entries after sits x.begins in
+    let mid : Context = after_entries (Some what) context x.begun_entries in
+    let puts : List Entry = put_entries x.current in
+    let second = put_in_told (Some what) mid s.place.thread x.begins.what _ x.begins.what.event x.current x.put_calls x.put_is in
+    told_as (Some what) context [] calls (x.put_calls ++ x.begun_calls) entries (x.begun_entries ++ puts) after after x.calls_are x.entries_are refl (record {
+      same = notes_then (Some what) context x.begun_entries puts
+          ∙ (ap (λ z. z ++ notes_in (Some what) mid puts) first.same ∙ (ap (λ z. all_told x.begun_calls ++ z) second ∙ sym (told_then x.put_calls x.begun_calls)));
+      sits = λ thread q. ap (λ (c : Context). c.slot) (entries_then (Some what) context x.begun_entries puts ∙ rings_keep (Some what) mid puts (put_ring x.current)) ∙ first.sits thread q;
+    })
 
 -- ends
 added_same : (subject : Option Subject) (context : Context) (row : ℕ) (amount : Stat) (answer : Added) → notes_in subject context (added_entry answer ∷ []) ≡ told (Adds row amount answer)
@@ -170,9 +247,9 @@ digest_told subject context true s slot what numbers calls entries after sits d 
   sits = λ thread q. added_slot subject context d.answer ∙ sits thread q;
 })
 
-through_told : (subject : Option Subject) (context : Context) (s : State) (slot : ℕ) (what : Open) (others : List Open) (numbers : Numbers) (calls : List Call) (entries : List Entry) (after : State)
-    → s.place.thread ≡ Some slot → Sits context s → EndsThrough s slot what others numbers calls entries after → IsTold subject context [] calls entries after
-through_told subject context s slot what others numbers calls entries after p sits e =
+ended_told : (subject : Option Subject) (context : Context) (s : State) (slot : ℕ) (what : Open) (others : List Open) (numbers : Numbers) (calls : List Call) (entries : List Entry) (after : State)
+    → s.place.thread ≡ Some slot → Sits context s → EndsAdded s slot what others numbers calls entries after → IsTold subject context [] calls entries after
+ended_told subject context s slot what others numbers calls entries after p sits e =
     let first : IsTold subject context [] e.counted_calls e.counted_entries e.between =
     counted_told subject context s slot what others numbers e.counted_calls e.counted_entries e.between p sits e.counts in
     let mid : Context = after_entries subject context e.counted_entries in
@@ -182,6 +259,20 @@ through_told subject context s slot what others numbers calls entries after p si
       same = notes_then subject context e.counted_entries e.digested_entries
           ∙ (ap (λ z. z ++ notes_in subject mid e.digested_entries) first.same ∙ (ap (λ z. all_told e.counted_calls ++ z) second.same ∙ sym (told_then e.digested_calls e.counted_calls)));
       sits = λ thread q. ap (λ (c : Context). c.slot) (entries_then subject context e.counted_entries e.digested_entries) ∙ second.sits thread q;
+    })
+
+through_told : (subject : Option Subject) (context : Context) (s : State) (slot : ℕ) (what : Open) (others : List Open) (numbers : Numbers) (calls : List Call) (entries : List Entry) (after : State)
+    → s.place.thread ≡ Some slot → Sits context s → EndsThrough s slot what others numbers calls entries after → IsTold subject context [] calls entries after
+through_told subject context s slot what others numbers calls entries after p sits e =
+    let first : IsTold subject context [] e.added_calls e.added_entries e.among =
+    ended_told subject context s slot what others numbers e.added_calls e.added_entries e.among p sits e.adds in
+    let mid : Context = after_entries subject context e.added_entries in
+    let second : IsTold subject mid [] e.ring_calls e.ring_entries after =
+    puts_told subject mid e.among slot what numbers _ _ e.ring_calls e.ring_entries after first.sits e.puts in
+    told_as subject context [] calls (e.ring_calls ++ e.added_calls) entries (e.added_entries ++ e.ring_entries) after after e.calls_are e.entries_are refl (record {
+      same = notes_then subject context e.added_entries e.ring_entries
+          ∙ (ap (λ z. z ++ notes_in subject mid e.ring_entries) first.same ∙ (ap (λ z. all_told e.added_calls ++ z) second.same ∙ sym (told_then e.ring_calls e.added_calls)));
+      sits = λ thread q. ap (λ (c : Context). c.slot) (entries_then subject context e.added_entries e.ring_entries) ∙ second.sits thread q;
     })
 
 ends_in_told : (subject : Option Subject) (context : Context) (s : State) (slot : Option ℕ) (b : Bool) (what : Open) (others : List Open) (numbers : Numbers) (calls : List Call) (entries : List Entry) (after : State)

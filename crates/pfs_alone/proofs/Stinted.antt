@@ -1,24 +1,29 @@
 -- Sessions one after another on a plain store: the law.
-use Rattle.std.proofs.Common.{ℕ, ◌≡◌, ◌==◌, Bool, true, false, cond, List, [], ◌∷◌, ◌++◌, refl, ap, sym, ◌∙◌, subst}
+use Rattle.std.proofs.Common.{ℕ, ◌≡◌, ◌==◌, Bool, true, false, cond, List, [], ◌∷◌, ◌++◌, Option, Some, None, refl, ap, sym, ◌∙◌, subst}
 use Rattle.std.proofs.lemmas.Bool.{eqb-true}
-use Rattle.std.proofs.lemmas.List.{append-nil}
+use Rattle.std.proofs.lemmas.List.{append-nil, append_assoc}
+use Rattle.pfs_board.specs.declared.view.Label.{Label}
+use Rattle.pfs_event.specs.declared.entry.Entry.{Entry}
 use Rattle.pfs_levels.specs.Calls.{Call, Adds, Rings, Reads, Loads, Draws, Takes, Puts, Frees, Sets, Enters, Leaves, Meets}
 use Rattle.pfs_levels.specs.Joint.{At, Setting, sets_of, changes_of, flags_at, all_calls, AllAgree}
 use Rattle.pfs_levels.specs.Plain.{AllAnswer, ops_of, content_at}
 use Rattle.pfs_levels.proofs.PlainJoint.{plain_joint, plain_words}
-use Rattle.pfs_model.specs.Chains.{Each}
-use Rattle.pfs_model.specs.Contexts.{Context, fresh as empty}
-use Rattle.pfs_model.specs.Places.{Block, Placed, places, places_behind, placed_lines, after_lines, told_by}
+use Rattle.pfs_model.specs.Chains.{Each, each_of}
+use Rattle.pfs_model.specs.Rings.{ticketed_at}
+use Rattle.pfs_model.specs.declared.lines.Line.{Line}
+use Rattle.pfs_model.specs.Contexts.{Context, subject_of, noted, turned, after, fresh as empty}
+use Rattle.pfs_model.specs.Places.{Block, Placed, places, places_behind, placed_part, placed_lines, after_lines, told_by}
 use Rattle.pfs_model.proofs.Plainly.{plain_keeps}
 use Rattle.pfs_session.specs.States.{State, fresh, nothing_held}
 use Rattle.pfs_parts.specs.Agreeing.{LoadsAgree}
-use Rattle.pfs_parts.specs.Deeds.{Part}
-use Rattle.pfs_parts.specs.Shaped.{AllLoadsAgree, lines_of, entries_of, state_behind}
+use Rattle.pfs_session.specs.Turns.{state_after}
+use Rattle.pfs_parts.specs.Deeds.{Part, action_of, line_of, part_calls, part_entries}
+use Rattle.pfs_parts.specs.Shaped.{AllLoadsAgree, AreParts, lines_of, entries_of, state_behind}
 use Rattle.pfs_parts.specs.Stints.{Stint, block_of, blocks_of, resumed, state_by, over_by, IsStint, AreStintsBehind}
 use Rattle.pfs_parts.proofs.Journals.{journals}
 use Rattle.pfs_parts.proofs.Stinting.{state_more, told_more, blocks_more}
 use Rattle.pfs_alone.specs.Notes.{notes_of, all_told}
-use Rattle.pfs_alone.specs.Spells.{Spell, doings_calls, parts_in, stint_of, stints_of, calls_of, AllEntered, AreSpells}
+use Rattle.pfs_alone.specs.Spells.{Doing, Spell, around, doing_calls, doings_calls, parts_in, stint_of, stints_of, calls_of, AllEntered, AreSpells}
 use Rattle.pfs_alone.specs.Alone.{AloneLaw, printed}
 use Rattle.pfs_alone.specs.Told.{Sits}
 use Rattle.pfs_alone.proofs.Inner.{told_then}
@@ -27,6 +32,8 @@ use Rattle.pfs_alone.proofs.Lines.{notes_join, told_all}
 use Rattle.pfs_alone.proofs.Agreed.{AreQuietPlaces, agreed}
 use Rattle.pfs_alone.proofs.Nexts.{AreNextNotes}
 use Rattle.pfs_alone.proofs.Printed.{printed_same}
+use Rattle.pfs_alone.proofs.Pairing.{ArePaired, AreNextTickets, paired_then, all_ticketed, ticketed_then, tickets_next}
+use Rattle.pfs_alone.proofs.Ticketing.{IsTicketed, tickets_in, turns_ticketed}
 use Rattle.pfs_alone.proofs.Telling.{told_next}
 use Rattle.pfs_alone.proofs.Blocks.{quiet_join, block_told, loads_front, loads_back, block_loads}
 
@@ -132,6 +139,69 @@ plain_loads of flags calls same a =
     loads_agree of flags (content_at (ops_of calls)) (changes_of calls) (sets_of calls) calls same
     (subst (λ z. AllAgree flags (content_at (ops_of z)) (changes_of z) (sets_of z) z) e j.agrees)
 
+-- the puts to the long history among all calls, and the tickets that the journals print
+around_ticketed : (label : Label) (labels : List Label) (action : Option ℕ) (calls : List Call) (entries : List Entry) → IsTicketed calls entries → IsTicketed (around label labels action calls) entries
+around_ticketed label labels None calls entries t = t
+around_ticketed label labels (Some number) calls entries t = record {
+  paired = paired_then None calls (Enters label labels ∷ []) t.paired tt;
+  same = t.same ∙ sym (append-nil (all_ticketed (calls ++ Enters label labels ∷ [])) ∙ ticketed_then calls (Enters label labels ∷ []));
+}
+
+part_tickets : (phase session : ℕ) (line : Line) (context : Context) (es : List Entry) → each_of ticketed_at (placed_part phase session line context es) ≡ tickets_in es
+part_tickets phase session line context [] = refl
+part_tickets phase session line context (e ∷ es) = ap (λ z. ticketed_at e ++ z) (part_tickets phase session line (noted (subject_of line) context e) es)
+
+tickets_join : (xs ys : List Placed) → each_of ticketed_at (xs ++ ys) ≡ each_of ticketed_at xs ++ each_of ticketed_at ys
+tickets_join [] ys = refl
+tickets_join (x ∷ xs) ys = ap (λ z. ticketed_at x.entry ++ z) (tickets_join xs ys) ∙ sym (append_assoc (ticketed_at x.entry) (each_of ticketed_at xs) (each_of ticketed_at ys))
+
+record LinesTicketed (calls : List Call) (placed : List Placed) : Type 0 where
+  paired : ArePaired None calls
+  same : each_of ticketed_at placed ≡ all_ticketed calls
+
+doings_ticketed : (phase session : ℕ) (context : Context) (s : State) (doings : List Doing) → AreParts s (parts_in doings)
+    → LinesTicketed (doings_calls doings) (placed_lines phase session context (lines_of (parts_in doings)) (entries_of (parts_in doings)))
+doings_ticketed phase session context s [] are = record { paired = tt; same = refl }
+doings_ticketed phase session context s (d ∷ ds) are =
+    let line : Line = line_of d.part.deed in
+    let t = around_ticketed d.label d.labels (action_of d.part.deed) (part_calls d.part) (part_entries d.part) (turns_ticketed s d.part.turns are.0.are_turns) in
+    let next : Context = after context line (part_entries d.part) in
+    let r = doings_ticketed phase session next (state_after s d.part.turns) ds are.1 in
+    let here : List Placed = placed_part phase session line (turned context) (part_entries d.part) in
+    let rest : List Placed = placed_lines phase session next (lines_of (parts_in ds)) (entries_of (parts_in ds)) in
+    record {
+      paired = paired_then None (doings_calls ds) (doing_calls d) r.paired t.paired;
+      same = tickets_join here rest
+          ∙ (ap (λ z. z ++ each_of ticketed_at rest) (part_tickets phase session line (turned context) (part_entries d.part) ∙ t.same)
+          ∙ (ap (λ z. all_ticketed (doing_calls d) ++ z) r.same ∙ sym (ticketed_then (doings_calls ds) (doing_calls d))));
+    }
+
+spells_ticketed : (stack : ℕ) (depths : ℕ → ℕ) (earlier : List Stint) (phase : ℕ) (spells : List Spell) → AreStintsBehind stack depths earlier phase (stints_of spells)
+    → LinesTicketed (calls_of spells) (places_behind (blocks_of earlier) (blocks_of (stints_of spells)))
+unfolding places_behind
+spells_ticketed stack depths earlier phase [] are = record { paired = tt; same = refl }
+spells_ticketed stack depths earlier phase (spell ∷ spells) are =
+    let k : ℕ = spell.session in
+    let stint : Stint = stint_of spell in
+    let context : Context = told_by k empty (blocks_of earlier) in
+    let s : State = state_by k (fresh k stack (depths k)) earlier in
+    let t = doings_ticketed spell.phase k context s spell.doings are.1.are_parts in
+    let more = blocks_more earlier stint in
+    let later : List Block = blocks_of (stints_of spells) in
+    let g = spells_ticketed stack depths (earlier ++ stint ∷ []) spell.phase spells are.2 in
+    let here : List Placed = placed_lines spell.phase k context (lines_of (parts_in spell.doings)) (entries_of (parts_in spell.doings)) in
+    let rest : List Placed = places_behind (blocks_of earlier ++ block_of stint ∷ []) later in
+    record {
+      paired = paired_then None (calls_of spells) (doings_calls spell.doings) g.paired t.paired;
+      same = tickets_join here rest
+          ∙ (ap (λ z. z ++ each_of ticketed_at rest) t.same
+          ∙ (ap (λ z. all_ticketed (doings_calls spell.doings) ++ z) (subst (λ z. each_of ticketed_at (places_behind z later) ≡ all_ticketed (calls_of spells)) more g.same)
+          ∙ sym (ticketed_then (calls_of spells) (doings_calls spell.doings))));
+    }
+
+pub all_paired : (stack : ℕ) (depths : ℕ → ℕ) (spells : List Spell) → AreSpells stack depths spells → ArePaired None (calls_of spells)
+all_paired stack depths spells are = (spells_ticketed stack depths [] 0 spells are.stints).paired
+
 -- what all journals tell is what all calls tell, nothing is held or settled in them, and each load gave the flags that
 -- the printed sets give
 pub record AreTogether (flags : List ℕ) (spells : List Spell) : Type 0 where
@@ -145,7 +215,7 @@ together flags stack depths spells are answers =
     let calls = calls_of spells in
     let all : List Placed = places (blocks_of (stints_of spells)) in
     let ready : AllReady stack depths [] = λ k. record { sits = λ thread q. q; held = refl } in
-    let g = good stack depths [] 0 spells ready are.stints are.entered (plain_added flags calls answers) in
+    let g = good stack depths [] 0 spells ready are.stints are.entered (plain_added flags None calls answers (all_paired stack depths spells are)) in
     let of : ℕ → ℕ → ℕ = printed flags all in
     let same : (at k : ℕ) → flags_at flags (sets_of calls) at k ≡ of at k = λ at k. printed_same flags all calls at k (plain_words flags calls answers) g.same in
     record { same = g.same; quiet = g.quiet; loads = all_loads of spells (plain_loads of flags calls same answers) }
@@ -156,7 +226,8 @@ alone = λ flags stack depths spells are answers.
     let all : List Placed = places (blocks_of stints) in
     let t : AreTogether flags spells = together flags stack depths spells are answers in
     let j = journals (printed flags all) stack depths stints are.stints t.loads in
-    let plain = agreed [] [] all (record { rows = refl; words = refl; numbers = refl }) t.quiet (subst (AreNextNotes []) (sym t.same) (told_next flags (calls_of spells) answers)) in
+    let plain = agreed [] [] all (record { rows = refl; words = refl; numbers = refl }) t.quiet (subst (AreNextNotes []) (sym t.same) (told_next flags (calls_of spells) answers))
+    (subst (AreNextTickets []) (sym (spells_ticketed stack depths [] 0 spells are.stints).same) (tickets_next flags None (calls_of spells) answers (all_paired stack depths spells are))) in
     record {
       shaped = j.shaped;
       plain = plain;

@@ -12,6 +12,7 @@ use Rattle.pfs_model.specs.Contexts.{Context, noted, after_entries, subject_of}
 use Rattle.pfs_model.specs.Places.{Placed, placed_part}
 use Rattle.pfs_model.specs.declared.lines.Line.{Line}
 use Rattle.pfs_model.specs.declared.lines.Subject.{Subject}
+use Rattle.pfs_parts.proofs.Ringing.{ring_keeps}
 use Rattle.pfs_asked.proofs.Deeds.{dids}
 use Rattle.pfs_asked.specs.Asking.{Orders, no_rows}
 use Rattle.pfs_asked.specs.Done.{IsMade, AreMade}
@@ -110,6 +111,10 @@ is_calm (says.End _ _ _ _) = true
 is_calm (says.Add _ _) = true
 is_calm (says.Held _ _ _) = true
 is_calm says.Settle = true
+is_calm (says.Ring _ _) = true
+is_calm (says.Long _ _ _) = true
+is_calm (says.Busy _ _ _) = true
+is_calm (says.Late _ _ _) = true
 is_calm _ = false
 
 abbrev pub AreCalm : List Entry → Type 0
@@ -126,6 +131,10 @@ calm_did (says.End _ _ _ _) q = refl
 calm_did (says.Add _ _) q = refl
 calm_did (says.Held _ _ _) q = refl
 calm_did says.Settle q = refl
+calm_did (says.Ring _ _) q = refl
+calm_did (says.Long _ _ _) q = refl
+calm_did (says.Busy _ _ _) q = refl
+calm_did (says.Late _ _ _) q = refl
 calm_did _ q = absurd (false≢true q)
 
 calm_keeps : (subject : Option Subject) (context : Context) (e : Entry) → is_calm e ≡ true → (noted subject context e).action ≡ context.action
@@ -134,6 +143,10 @@ calm_keeps subject context (says.End _ _ _ _) q = refl
 calm_keeps subject context (says.Add _ _) q = refl
 calm_keeps subject context (says.Held _ _ _) q = refl
 calm_keeps subject context says.Settle q = refl
+calm_keeps subject context (says.Ring r v) q = ap (λ (z : Context). z.action) (ring_keeps subject context (says.Ring r v) refl)
+calm_keeps subject context (says.Long r v t) q = ap (λ (z : Context). z.action) (ring_keeps subject context (says.Long r v t) refl)
+calm_keeps subject context (says.Busy r f s) q = ap (λ (z : Context). z.action) (ring_keeps subject context (says.Busy r f s) refl)
+calm_keeps subject context (says.Late r t g) q = ap (λ (z : Context). z.action) (ring_keeps subject context (says.Late r t g) refl)
 calm_keeps subject context _ q = absurd (false≢true q)
 
 calm_fact : (orders : Orders) (given : Given) (content : ℕ → ℕ → List ℕ) (phase session : ℕ) (line : Line) (context : Context) (e : Entry) → is_calm e ≡ true
@@ -143,6 +156,10 @@ calm_fact orders given content phase session line context (says.End _ _ _ _) q =
 calm_fact orders given content phase session line context (says.Add _ _) q = record { found = tt; made = tt; answered = tt }
 calm_fact orders given content phase session line context (says.Held _ _ _) q = record { found = tt; made = tt; answered = tt }
 calm_fact orders given content phase session line context says.Settle q = record { found = tt; made = tt; answered = tt }
+calm_fact orders given content phase session line context (says.Ring _ _) q = record { found = tt; made = tt; answered = tt }
+calm_fact orders given content phase session line context (says.Long _ _ _) q = record { found = tt; made = tt; answered = tt }
+calm_fact orders given content phase session line context (says.Busy _ _ _) q = record { found = tt; made = tt; answered = tt }
+calm_fact orders given content phase session line context (says.Late _ _ _) q = record { found = tt; made = tt; answered = tt }
 calm_fact orders given content phase session line context _ q = absurd (false≢true q)
 
 calm_still : (phase session : ℕ) (line : Line) (context : Context) (es : List Entry) → AreCalm es → AreStill (placed_part phase session line context es)

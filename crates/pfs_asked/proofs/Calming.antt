@@ -4,16 +4,21 @@ use Rattle.std.specs.Prelude.{if◌then◌else◌}
 use Rattle.std.proofs.lemmas.Bool.{false≢true}
 use Rattle.pfs_event.specs.Verdicts.{is_let_through}
 use Rattle.pfs_event.specs.declared.entry.Entry.{Entry}
+use Rattle.pfs_event.specs.declared.entry.Entry.TheVariants as says
 use Rattle.pfs_event.specs.declared.open.Open.{Open}
 use Rattle.pfs_event.specs.declared.verdict.Verdict.{Verdict}
 use Rattle.pfs_levels.specs.Calls.{Call}
 use Rattle.pfs_levels.specs.declared.answers.Added.{Added}
 use Rattle.pfs_levels.specs.declared.answers.Added.TheVariants.{Counted, Held}
 use Rattle.pfs_model.specs.Shapes.{is_stage}
+use Rattle.pfs_model.specs.declared.lines.Subject.{Subject}
+use Rattle.pfs_parts.proofs.Acting.{AreAll}
+use Rattle.pfs_parts.proofs.Ringing.{is_ring, put_ring, rings_of}
 use Rattle.pfs_parts.specs.Deeds.{Deed, Connecting, Starting, Staging, StageEnding, Ending, Spending, Quitting, Truncating, Closing, steps_for}
-use Rattle.pfs_session.specs.Ends.{Ends, EndsIn, DigestsIn, added_entry, no_numbers}
+use Rattle.pfs_session.specs.Ends.{Ends, EndsIn, EndsAdded, DigestsIn, added_entry, no_numbers}
 use Rattle.pfs_session.specs.Settles.{Paid, paid_entries, pay_entries, settle_head}
-use Rattle.pfs_session.specs.Starts.{start_entry}
+use Rattle.pfs_session.specs.Rings.{put_entries}
+use Rattle.pfs_session.specs.Starts.{Begins, start_entry}
 use Rattle.pfs_session.specs.States.{State, Owed}
 use Rattle.pfs_session.specs.Turns.{Step, StartsEvent, EndsEvent, Spends, SettlesHeld, Connects, Quits, Truncates, Does, Turn, AreTurns, state_after, steps_of, turns_entries, stage_ends}
 use Rattle.pfs_session.specs.declared.events.Numbers.{Numbers}
@@ -42,6 +47,27 @@ digests_calm : (b : Bool) (s : State) (slot : ℕ) (what : Open) (numbers : Numb
 digests_calm false s slot what numbers calls entries after d = subst AreCalm (sym d.entries_are) tt
 digests_calm true s slot what numbers calls entries after d = subst AreCalm (sym d.entries_are) (added_calm d.answer, tt)
 
+ring_calm : (e : Entry) → is_ring e ≡ true → is_calm e ≡ true
+ring_calm (says.Ring row version) q = refl
+ring_calm (says.Long row version ticket) q = refl
+ring_calm (says.Busy row first second) q = refl
+ring_calm (says.Late row ticket greater) q = refl
+ring_calm _ q = absurd (false≢true q)
+
+rings_calm : (es : List Entry) → AreAll true is_ring es → AreCalm es
+rings_calm [] a = tt
+rings_calm (e ∷ es) a = (ring_calm e a.0, rings_calm es a.1)
+
+added_is_calm : (s : State) (slot : ℕ) (what : Open) (others : List Open) (numbers : Numbers) (calls : List Call) (entries : List Entry) (after : State)
+    → EndsAdded s slot what others numbers calls entries after → AreCalm entries
+added_is_calm s slot what others numbers calls entries after x =
+    subst AreCalm (sym x.entries_are)
+    (calm_then x.counted_entries x.digested_entries (subst AreCalm (sym x.counts.entries_are) (refl, (added_calm x.counts.answer, tt)))
+    (digests_calm what.digested x.between slot what numbers x.digested_calls x.digested_entries after x.digests))
+
+begins_calm : (s : State) (subject : Subject) (calls : List Call) (entries : List Entry) (after : State) → Begins s subject calls entries after → AreCalm entries
+begins_calm s subject calls entries after b = subst AreCalm (sym b.entries_are) (start_calm _ _ b.seen, tt)
+
 ends_calm : (s : State) (numbers : Numbers) (calls : List Call) (entries : List Entry) (after : State) → Ends s numbers calls entries after → AreCalm entries
 ends_calm s numbers calls entries after e = by_case s.place.thread (is_let_through e.what.verdict) e.ends where
   by_case : (slot : Option ℕ) (b : Bool) → EndsIn s slot b e.what e.others numbers calls entries after → AreCalm entries
@@ -49,8 +75,8 @@ ends_calm s numbers calls entries after e = by_case s.place.thread (is_let_throu
   by_case None true x = absurd x
   by_case (Some slot) true x =
       subst AreCalm (sym x.entries_are)
-      (calm_then x.counted_entries x.digested_entries (subst AreCalm (sym x.counts.entries_are) (refl, (added_calm x.counts.answer, tt)))
-      (digests_calm e.what.digested x.between slot e.what numbers x.digested_calls x.digested_entries after x.digests))
+      (calm_then x.added_entries x.ring_entries (added_is_calm s slot e.what e.others numbers x.added_calls x.added_entries x.among x.adds)
+      (rings_calm x.ring_entries (rings_of x.among slot e.what numbers _ _ x.ring_calls x.ring_entries after x.puts)))
 
 abbrev pub is_idle : Step → Bool
 is_idle (Connects admin user host) = false
@@ -59,7 +85,9 @@ is_idle (Truncates admin what) = false
 is_idle _ = true
 
 pub does_calm : (s : State) (step : Step) (calls : List Call) (entries : List Entry) (after : State) → is_idle step ≡ true → Does s step calls entries after → AreCalm entries
-does_calm s (StartsEvent subject) calls entries after i d = subst AreCalm (sym d.entries_are) (start_calm _ _ d.seen, tt)
+does_calm s (StartsEvent subject) calls entries after i d =
+    subst AreCalm (sym d.entries_are)
+    (calm_then d.begun_entries (put_entries d.current) (begins_calm s subject d.begun_calls d.begun_entries after d.begins) (rings_calm (put_entries d.current) (put_ring d.current)))
 does_calm s (EndsEvent numbers) calls entries after i d = ends_calm s numbers calls entries after d
 does_calm s (Spends time) calls entries after i d = subst AreCalm (sym d.1) tt
 does_calm s SettlesHeld calls entries after i d = subst AreCalm (sym d.entries_are) (settle_calm _ d.paid)

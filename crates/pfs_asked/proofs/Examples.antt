@@ -1,8 +1,13 @@
 -- The worked run meets the premises of the law.
-use Rattle.std.proofs.Common.{arith, ℕ, ◌≡◌, ◌+◌, ◌==◌, ◌<◌, ◌≤◌, Bool, true, false, cond, [], ◌∷◌, ◌++◌, Some, inl, inr, refl, ap, sym, subst}
+use Rattle.std.proofs.Common.{arith, ℕ, zero, suc, ◌≡◌, ◌+◌, ◌==◌, ◌<◌, ◌≤◌, Bool, true, false, cond, List, [], ◌∷◌, ◌++◌, drop, Some, inl, inr, refl, ap, sym, subst}
 use Rattle.std.specs.Prelude.{◌⊎◌, if◌then◌else◌}
 use Rattle.std.proofs.lemmas.Bool.{eqb-true, true≢false}
-use Rattle.pfs_levels.specs.Moves.{AreMoves, ask}
+use Rattle.pfs_admin.specs.Truncations.{free_rows}
+use Rattle.pfs_admin.specs.Works.{signs_calls, flagging_entries}
+use Rattle.pfs_event.specs.declared.entry.Entry.{Entry}
+use Rattle.pfs_event.specs.declared.entry.Entry.TheVariants as says
+use Rattle.pfs_levels.specs.Calls.{Call, Frees, Takes}
+use Rattle.pfs_levels.specs.Moves.{AreMoves, ask, moves_calls}
 use Rattle.pfs_model.specs.Chains.{Each, times}
 use Rattle.pfs_session.proofs.Owed.{nothing_owed}
 use Rattle.pfs_parts.specs.Agreeing.{LoadsAgree}
@@ -18,9 +23,9 @@ use Rattle.pfs_asked.proofs.Wholly.{whole}
 use Rattle.pfs_asked.specs.Takes.{IsSeatedStint}
 use Rattle.pfs_containers.specs.Kept.{IsInRange}
 use Rattle.pfs_levels.specs.Flushes.{Ascends}
-use Rattle.pfs_asked.specs.Asking.{AreOrders, asked_by}
+use Rattle.pfs_asked.specs.Asking.{AreCounted, AreOrders, asked_by}
 use Rattle.pfs_admin.specs.Examples.{start}
-use Rattle.pfs_asked.specs.Examples.{second, first_work, second_work, third_work, content, first_made, second_made, third_made, third_moves, connect_part, connected_one, quit_part, one, two, stints, asked, orders, given, WorkedRun}
+use Rattle.pfs_asked.specs.Examples.{second, first_work, second_work, third_work, content, first_made, second_made, third_made, third_moves, connect_part, connected_one, quit_part, one, two, stints, asked, orders, given, third, WorkedRun}
 use Rattle.pfs_asked.specs.Runs.{IsOrdered, nothing_asked}
 
 first_is : IsPart one (connect_part one start first_work first_made)
@@ -65,7 +70,36 @@ moves_are = (
   ),
 )
 
+-- the places of a ring that are released, newest first, and that they find their contents
+abbrev freed_calls : ℕ → List Call
+freed_calls zero = []
+freed_calls (suc n) = Frees (8450 + n) 0 ∷ Takes (8450 + n) 0 (content (8450 + n) 0) ∷ freed_calls n
+
+frees_agree : (n : ℕ) (rest : List Call) → ContentsAgree content rest → ContentsAgree content (freed_calls n ++ rest)
+frees_agree zero rest a = a
+frees_agree (suc n) rest a = (tt, (refl, frees_agree n rest a))
+
+frees_load : (flags : ℕ → ℕ → ℕ) (n : ℕ) (rest : List Call) → LoadsAgree flags rest → LoadsAgree flags (freed_calls n ++ rest)
+frees_load flags zero rest a = a
+frees_load flags (suc n) rest a = (tt, (tt, frees_load flags n rest a))
+
+abbrev freed_entries : ℕ → ℕ → List Entry
+freed_entries first zero = []
+freed_entries first (suc n) = says.Free first 0 ∷ freed_entries (suc first) n
+
+frees_counted : (first n : ℕ) (rest : List Entry) → AreCounted content orders.counted 3 rest → AreCounted content orders.counted 3 (freed_entries first n ++ rest)
+frees_counted first zero rest a = a
+frees_counted first (suc n) rest a = (tt, frees_counted (suc first) n rest a)
+
+-- what stands behind them in time order, and before them in the calls
+abbrev last_entries : List Entry
+last_entries = flagging_entries third.words third_work.flags
+
+abbrev former_calls : List Call
+former_calls = drop 112 (signs_calls third_made ++ moves_calls third_moves)
+
 third_is : IsPart connected_one quit_part
+unfolding free_rows
 third_is = record {
   are_turns = (
     (record { moves = third_moves; made = third_made; are_moves = moves_are; signs_are = refl; calls_are = refl; entries_are = refl }, refl),
@@ -91,10 +125,11 @@ second_orders : AreOrders orders given content 2 (connect_part two second second
 second_orders = record { asked = refl; rooms = refl; counted = (tt, (tt, (tt, (tt, (tt, (tt, tt)))))); words = (refl, (refl, (refl, (refl, tt)))) }
 
 third_orders : AreOrders orders given content 1 quit_part
+unfolding free_rows
 third_orders = record {
   asked = refl;
   rooms = tt;
-  counted = (tt, (refl, (tt, (refl, (refl, (tt, (tt, (tt, (tt, (tt, tt))))))))));
+  counted = (tt, (refl, (tt, (refl, (refl, (tt, (tt, (tt, (tt, frees_counted 8450 56 last_entries (tt, tt))))))))));
   words = (refl, (refl, (refl, tt)));
 }
 
@@ -105,7 +140,9 @@ second_contents : ContentsAgree content (part_calls (connect_part two second sec
 second_contents = (tt, (refl, (refl, (refl, (refl, (refl, (refl, (refl, (refl, tt)))))))))
 
 third_contents : ContentsAgree content (part_calls quit_part)
-third_contents = (tt, (refl, (refl, (refl, (refl, (refl, (refl, (tt, (refl, (refl, (refl, (refl, (refl, (refl, (refl, (refl, (refl, tt)))))))))))))))))
+unfolding free_rows
+third_contents =
+    (tt, frees_agree 56 former_calls (refl, (refl, (refl, (refl, (refl, (refl, (tt, (refl, (refl, (refl, (refl, (refl, (refl, (refl, (refl, (refl, tt)))))))))))))))))
 
 first_done : IsDoneBy 1 (connect_part one start first_work first_made ∷ [])
 first_done = record { from = one; number_is = refl; are_parts = (first_is, tt) }
@@ -188,6 +225,7 @@ agreed : Each (λ stint. AllContentsAgree content stint.parts) stints
 agreed = ((first_contents, tt), ((second_contents, tt), ((third_contents, tt), tt)))
 
 pub worked : WorkedRun
+unfolding free_rows
 worked = record {
   chained = chained;
   ordered = ordered;
@@ -205,7 +243,9 @@ first_loads : LoadsAgree (λ word version. 0) (part_calls (connect_part one star
 first_loads = (tt, (tt, (tt, (tt, (tt, (tt, (tt, (tt, (tt, tt)))))))))
 
 third_loads : LoadsAgree (λ word version. 0) (part_calls quit_part)
-third_loads = (tt, (tt, (tt, (tt, (tt, (tt, (tt, (tt, (tt, (tt, (tt, (tt, (tt, (tt, (tt, (tt, (tt, tt)))))))))))))))))
+unfolding free_rows
+third_loads =
+    (tt, frees_load (λ word version. 0) 56 former_calls (tt, (tt, (tt, (tt, (tt, (tt, (tt, (tt, (tt, (tt, (tt, (tt, (tt, (tt, (tt, (tt, tt)))))))))))))))))
 
 abbrev pub no_facts : ℕ → ℕ → Facts
 no_facts session index = record { start = 0; duration = 0; lock = 0; errors = 0; warnings = 0; affected = 0; sent = 0; examined = 0 }

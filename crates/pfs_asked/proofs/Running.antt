@@ -9,7 +9,8 @@ use Rattle.pfs_model.specs.Contents.{Given, amount_of, IsContent, AllContents}
 use Rattle.pfs_model.specs.Contexts.{Context, fresh, noted, after, subject_of, turned}
 use Rattle.pfs_model.specs.Places.{Block, Placed, places_behind, placed_part, placed_lines, told_by, by_session}
 use Rattle.pfs_model.specs.declared.lines.Line.{Line}
-use Rattle.pfs_parts.specs.Amounts.{IsAdded, AreAdded}
+use Rattle.pfs_parts.specs.Amounts.{IsAdded, AreAdded, IsPut, ArePut}
+use Rattle.pfs_parts.proofs.Agreed.{is_ringed}
 use Rattle.pfs_parts.specs.Deeds.{Part, line_of, part_entries}
 use Rattle.pfs_parts.specs.Shaped.{lines_of, entries_of}
 use Rattle.pfs_parts.specs.Stints.{Stint, block_of, blocks_of}
@@ -17,7 +18,7 @@ use Rattle.pfs_asked.proofs.Bits.{all_found, all_made, all_answered}
 use Rattle.pfs_asked.proofs.Listing.{owed, ArePaid, paid_then, lines_paid, owed_none, owed_once}
 use Rattle.pfs_asked.specs.Asking.{Orders}
 use Rattle.pfs_asked.specs.Done.{IsMade, AreMade}
-use Rattle.pfs_asked.specs.Runs.{all_numbers, numbers_of, IsOrdered, nothing_asked, AreActions, IsAsked, LinesLaw, RunLaw, AreAddedBy, AllAdded, ContentsLaw}
+use Rattle.pfs_asked.specs.Runs.{all_numbers, numbers_of, IsOrdered, nothing_asked, AreActions, IsAsked, LinesLaw, RunLaw, AreAddedBy, ArePutBy, AllAdded, ContentsLaw}
 
 blocks_paid : (orders : Orders) (given : Given) (content : ℕ → ℕ → List ℕ) (earlier : List Block) (stints : List Stint) → Each (IsOrdered orders given content) stints
     → ArePaid orders given content (all_numbers stints) (places_behind earlier (blocks_of stints))
@@ -59,16 +60,21 @@ lines = λ orders given content phase session context s parts are calls told.
 pub run : RunLaw
 run = λ orders given content stints are actions. asked_where orders given content (all_numbers stints) _ (blocks_paid orders given content [] stints are) actions
 
--- an addition, or anything else
+-- an addition, a put, or anything else
 content_of : (given : Given) (content : ℕ → ℕ → List ℕ) (phase session : ℕ) (line : Line) (context : Context) (e : Entry)
     → IsMade given content (record { phase = phase; session = session; line = line; context = context; entry = e }) e → IsAdded (amount_of given session) content context e
-    → IsContent given content (record { phase = phase; session = session; line = line; context = context; entry = e }) e
-content_of given content phase session line context (says.Add row version) m a = a
-content_of given content phase session line context _ m a = m
+    → IsPut given.flags (given.facts session) content session context e → IsContent given content (record { phase = phase; session = session; line = line; context = context; entry = e }) e
+content_of given content phase session line context (says.Add row version) m a p = a
+content_of given content phase session line context (says.Ring row version) m a p =
+    is_ringed given content (record { phase = phase; session = session; line = line; context = context; entry = says.Ring row version }) (says.Ring row version) refl p
+content_of given content phase session line context (says.Long row version ticket) m a p =
+    is_ringed given content (record { phase = phase; session = session; line = line; context = context; entry = says.Long row version ticket }) (says.Long row version ticket) refl p
+content_of given content phase session line context _ m a p = m
 
-all_contents : (given : Given) (content : ℕ → ℕ → List ℕ) (ps : List Placed) → AreMade given content ps → AreAddedBy given content ps → AllContents given content ps
-all_contents given content [] m a = tt
-all_contents given content (p ∷ ps) m a = (content_of given content p.phase p.session p.line p.context p.entry m.0 a.0, all_contents given content ps m.1 a.1)
+all_contents : (given : Given) (content : ℕ → ℕ → List ℕ) (ps : List Placed) → AreMade given content ps → AreAddedBy given content ps → ArePutBy given content ps
+    → AllContents given content ps
+all_contents given content [] m a p = tt
+all_contents given content (x ∷ xs) m a p = (content_of given content x.phase x.session x.line x.context x.entry m.0 a.0 p.0, all_contents given content xs m.1 a.1 p.1)
 
 front : (given : Given) (content : ℕ → ℕ → List ℕ) (session : ℕ) (xs ys : List Placed) → AreAdded (amount_of given session) content (xs ++ ys) → AreAdded (amount_of given session) content xs
 front given content session [] ys a = tt
@@ -112,5 +118,18 @@ sessions_added given content (p ∷ ps) a = (own, sessions_added given content p
   own : IsAdded (amount_of given p.session) content p.context p.entry
   own = (subst (λ b. AreAdded (amount_of given p.session) content (cond b (p ∷ []) [] ++ by_session p.session ps)) (eq-eqb p.session p.session refl) (a p.session)).0
 
+put_back : (given : Given) (content : ℕ → ℕ → List ℕ) (session : ℕ) (xs ys : List Placed) → ArePut given.flags (given.facts session) content session (xs ++ ys)
+    → ArePut given.flags (given.facts session) content session ys
+put_back given content session [] ys a = a
+put_back given content session (x ∷ xs) ys a = put_back given content session xs ys a.1
+
+sessions_put : (given : Given) (content : ℕ → ℕ → List ℕ) (ps : List Placed) → ((session : ℕ) → ArePut given.flags (given.facts session) content session (by_session session ps))
+    → ArePutBy given content ps
+sessions_put given content [] a = tt
+sessions_put given content (p ∷ ps) a = (own, sessions_put given content ps (λ k. put_back given content k (cond (p.session == k) (p ∷ []) []) (by_session k ps) (a k))) where
+  own : IsPut given.flags (given.facts p.session) content p.session p.context p.entry
+  own =
+      (subst (λ b. ArePut given.flags (given.facts p.session) content p.session (cond b (p ∷ []) [] ++ by_session p.session ps)) (eq-eqb p.session p.session refl) (a p.session)).0
+
 pub contents : ContentsLaw
-contents = record { all = all_contents; added = λ given content stints a. blocks_added given content [] stints a; by_all = sessions_added }
+contents = record { all = all_contents; added = λ given content stints a. blocks_added given content [] stints a; by_all = sessions_added; put_by_all = sessions_put }

@@ -2,7 +2,7 @@
 use Rattle.std.proofs.Common.{ℕ, ◌≡◌, ◌≤◌, ◌+◌, ◌==◌, ◌<◌, Bool, true, false, cond, List, [], ◌∷◌, ◌++◌, map, Option, Some, None, inl, inr, ne_eqb, eq-eqb, refl, ap, sym, ◌∙◌, subst, arith}
 use Rattle.std.specs.Prelude.{nat_lt, if◌then◌else◌, IfSome, ◌⊎◌}
 use Rattle.std.proofs.lemmas.Bool.{false≢true, ltb-true, ltb-false}
-use Rattle.pfs_admin.proofs.Rows.{connect_rows, quit_rows}
+use Rattle.pfs_admin.proofs.Rows.{connect_rows, quit_rows, higher}
 use Rattle.pfs_admin.specs.Asks.{connect_work, quit_work}
 use Rattle.pfs_admin.specs.Laws.{row_of}
 use Rattle.pfs_admin.specs.States.{seat_at, seat_in, has_quit, connected, thread_flags}
@@ -109,15 +109,19 @@ all_signed low limit (Releases row ∷ signs) a = all_signed (row + 1) limit sig
 all_signed low limit (Tags row words ∷ signs) a =
     (ap (λ b. if b then words else signed_words signs row) (eq-eqb row row refl), still_signed (row + 1) limit row words signs signs (omega arith) a.1.1 (all_signed (row + 1) limit signs a.1.1))
 
-signs_ascend : (session : ℕ) (deed : Deed) → IsSeated session deed → Ascends 1 129 (map row_of (work_of session deed).signs)
+signs_ascend : (session : ℕ) (deed : Deed) → IsSeated session deed → Ascends 1 14242 (map row_of (work_of session deed).signs)
 signs_ascend session (Connecting admin user host) is = by_seat (seat_at admin session user host) is where
-  by_seat : (seat : Option Seated) → IfSome seat IsInRange → Ascends 1 129 (map row_of (connect_work admin.words (thread_flags admin user host) (connected admin session user host).kept.now seat).signs)
+  by_seat : (seat : Option Seated) → IfSome seat IsInRange → Ascends 1 14242 (map row_of (connect_work admin.words (thread_flags admin user host) (connected admin session user host).kept.now seat).signs)
   by_seat None h = tt
-  by_seat (Some seat) h = connect_rows admin.words (thread_flags admin user host) (connected admin session user host).kept.now seat h
+  by_seat (Some seat) h =
+      higher 1 129 14242 (map row_of (connect_work admin.words (thread_flags admin user host) (connected admin session user host).kept.now (Some seat)).signs) (omega arith)
+      (connect_rows admin.words (thread_flags admin user host) (connected admin session user host).kept.now seat h)
 signs_ascend session (Quitting admin) is = by_seat (seat_in admin session) is.1 where
-  by_seat : (seat : Option Seated) → IfSome seat IsInRange → Ascends 1 129 (map row_of (quit_work admin.words admin.cells (has_quit admin session).kept.now seat).signs)
+  by_seat : (seat : Option Seated) → IfSome seat IsInRange → Ascends 1 14242 (map row_of (quit_work admin.words admin.cells (has_quit admin session).kept.now seat).signs)
   by_seat None h = tt
-  by_seat (Some seat) h = (quit_rows admin.words admin.cells (has_quit admin session).kept.now seat h is.0).1
+  by_seat (Some seat) h =
+      higher 1 10242 14242 (map row_of (quit_work admin.words admin.cells (has_quit admin session).kept.now (Some seat)).signs) (omega arith)
+      (quit_rows admin.words admin.cells (has_quit admin session).kept.now seat h is.0).1
 signs_ascend session (Truncating admin what) is = is.1
 signs_ascend session (Starting subject) is = tt
 signs_ascend session (Staging subject) is = tt
@@ -148,7 +152,7 @@ parts_orders given content all session (p ∷ ps) info seated a r w c =
       asked = a.0 q;
       rooms = deed_rooms (orders_of content all).rooms session p.deed (r.0 q);
       counted = c.0;
-      words = subst (λ z. AreWords z signs) (sym (ap (λ z. z (number_of p.deed)) info ∙ w.0 q)) (all_signed 1 129 signs (signs_ascend session p.deed seated.0));
+      words = subst (λ z. AreWords z signs) (sym (ap (λ z. z (number_of p.deed)) info ∙ w.0 q)) (all_signed 1 14242 signs (signs_ascend session p.deed seated.0));
     } in
     (own, parts_orders given content all session ps info seated.1 a.1 r.1 w.1 c.1)
 

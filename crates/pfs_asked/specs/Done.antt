@@ -13,9 +13,11 @@ use Rattle.pfs_parts.specs.Deeds.{Part, IsPart, line_of, part_calls, part_entrie
 use Rattle.pfs_session.specs.States.{State}
 use Rattle.pfs_asked.specs.Asking.{Orders, AreOrders, no_rows, number_of}
 
--- but for an addition, a change makes its row's content of the one before: a take, a give, a tag
+-- but for an addition and a put, a change makes its row's content of the one before: a take, a give, a tag
 abbrev pub IsMade : Given → (ℕ → ℕ → List ℕ) → Placed → Entry → Type 0
 IsMade given content place (says.Add row version) = Unit {0}
+IsMade given content place (says.Ring row version) = Unit {0}
+IsMade given content place (says.Long row version ticket) = Unit {0}
 IsMade given content place entry = IsContent given content place entry
 
 abbrev pub AreMade : Given → (ℕ → ℕ → List ℕ) → List Placed → Type 0

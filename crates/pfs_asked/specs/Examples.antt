@@ -1,5 +1,5 @@
 -- Two sessions of one account connect, and the first one ends: a wait that it has counted goes up to the account.
-use Rattle.std.specs.Prelude.{ℕ, ◌≡◌, ◌<◌, ◌≤◌, ◌+◌, ◌==◌, ◌&&◌, nat_lt, if◌then◌else◌, true, List, [], ◌∷◌, ◌++◌, None, replicate}
+use Rattle.std.specs.Prelude.{ℕ, zero, suc, ◌≡◌, ◌<◌, ◌≤◌, ◌+◌, ◌==◌, ◌&&◌, nat_lt, if◌then◌else◌, true, List, [], ◌∷◌, ◌++◌, None, replicate}
 use Rattle.pfs_admin.specs.Asks.{work_of_connect, work_of_quit, connect_entry, placed_of}
 use Rattle.pfs_admin.specs.Examples.{start}
 use Rattle.pfs_admin.specs.Laws.{row_of}
@@ -9,7 +9,7 @@ use Rattle.pfs_admin.specs.Works.{Sign, Releases, Tags, Made, Work, signs_calls,
 use Rattle.pfs_event.specs.declared.entry.Entry.TheVariants as says
 use Rattle.pfs_levels.specs.Contents.{merged, zero_words}
 use Rattle.pfs_levels.specs.Moves.{Gift, Move, moves_calls, moves_entries}
-use Rattle.pfs_model.specs.Asked.{Asked, Took, Gave, Freed, Tagged, Flagged, asked_of}
+use Rattle.pfs_model.specs.Asked.{Asked, Did, Took, Gave, Freed, Tagged, Flagged, asked_of}
 use Rattle.pfs_model.specs.Chains.{Each, times}
 use Rattle.pfs_model.specs.Contents.{Given}
 use Rattle.pfs_model.specs.Places.{places}
@@ -93,7 +93,7 @@ abbrev pub second_made : List Made
 second_made = made_at (λ row. if row == 2 then 0 else 1) second_work.signs
 
 abbrev pub third_made : List Made
-third_made = made_at (λ row. if row == 1 then 1 else 2) third_work.signs
+third_made = made_at (λ row. if row == 1 then 1 else if nat_lt row 129 then 2 else 0) third_work.signs
 
 abbrev pub emptied : ℕ → ℕ → List Gift → Move
 emptied from before gifts = record {
@@ -197,6 +197,11 @@ given = record {
   info_words = info_words;
 }
 
+-- rows that are released one after another
+abbrev pub freed : ℕ → ℕ → List Did
+freed first zero = []
+freed first (suc n) = Freed first ∷ freed (suc first) n
+
 pub record WorkedRun : Type 0 where
   -- the premises are met: each session goes on as its last stint left it, what is done agrees with the contents and the
   -- orders, each number is that of one action, and the places are in range
@@ -210,6 +215,8 @@ pub record WorkedRun : Type 0 where
   pub run : IsAsked orders given content (places (blocks_of stints))
   pub whole : (given : Given) → given.info_words ≡ words_of_all stints
       → IsAsked (orders_of content stints) given content (places (blocks_of stints))
-  -- the wait goes up; the other two cells had counted nothing; then the infos, and the thread's flags
+  -- the wait goes up; the other two cells had counted nothing; then the infos, the 56 places of the thread's rings, and
+  -- its flags
   pub quit : asked_of (orders.counted 3) (orders.asked 3)
-      ≡ Took 129 ∷ Gave 2177 129 ∷ Took 191 ∷ Took 192 ∷ Freed 1 ∷ Tagged 33 ∷ Tagged 65 ∷ Tagged 97 ∷ Flagged 1 0 ∷ []
+      ≡ Took 129 ∷ Gave 2177 129 ∷ Took 191 ∷ Took 192 ∷ Freed 1 ∷ Tagged 33 ∷ Tagged 65 ∷ Tagged 97
+      ∷ (freed 8450 56 ++ Flagged 1 0 ∷ [])

@@ -5,7 +5,7 @@ use Rattle.pfs_model.specs.Chains.{Each, each_of, times}
 use Rattle.pfs_model.specs.Contents.{Given, amount_of, AllContents, AreFoundAsCounted}
 use Rattle.pfs_model.specs.Contexts.{Context, fresh}
 use Rattle.pfs_model.specs.Places.{Block, Placed, places, placed_lines, told_by, by_session}
-use Rattle.pfs_parts.specs.Amounts.{AllContentsAgree, IsAdded, AreAdded}
+use Rattle.pfs_parts.specs.Amounts.{AllContentsAgree, IsAdded, AreAdded, IsPut, ArePut}
 use Rattle.pfs_parts.specs.Deeds.{Part}
 use Rattle.pfs_parts.specs.Shaped.{AreParts, lines_of, entries_of}
 use Rattle.pfs_parts.specs.Stints.{Stint, IsDoneBy, along, block_of, blocks_of}
@@ -42,7 +42,7 @@ AreActions asked numbers = (number : ℕ) → 0 < number → (times (λ n. n == 
     ⊎ ((times (λ n. n == number) numbers ≡ 0) × (asked number ≡ nothing_asked))
 
 -- each action does just what it asks for, in its order; connects have their rooms; takes are found as counted; and all
--- contents but those of additions are as their changes make them
+-- contents but those of additions and puts are as their changes make them
 pub record IsAsked (orders : Orders) (given : Given) (content : ℕ → ℕ → List ℕ) (all : List Placed) : Type 0 where
   pub done : DoAsAsked orders.asked orders.counted all
   pub answered : AreAnswered orders.rooms no_rows all
@@ -50,8 +50,8 @@ pub record IsAsked (orders : Orders) (given : Given) (content : ℕ → ℕ → 
   pub made : AreMade given content all
 
 -- each action among these numbers does just what it asks for, in its order, and nothing stands under another number;
--- connects have their rooms; takes are found as counted; and all contents but those of additions are as their changes
--- make them
+-- connects have their rooms; takes are found as counted; and all contents but those of additions and puts are as their
+-- changes make them
 pub record AreAsked (orders : Orders) (given : Given) (content : ℕ → ℕ → List ℕ) (numbers : List ℕ)
     (all : List Placed) : Type 0 where
   pub done : (number : ℕ) → 0 < number → times (λ n. n == number) numbers ≡ 1
@@ -82,6 +82,13 @@ AreAddedBy given content [] = Unit {0}
 AreAddedBy given content (place ∷ places) =
     IsAdded (amount_of given place.session) content place.context place.entry × AreAddedBy given content places
 
+-- each put leaves the words of its event
+abbrev pub ArePutBy : Given → (ℕ → ℕ → List ℕ) → List Placed → Type 0
+ArePutBy given content [] = Unit {0}
+ArePutBy given content (place ∷ places) =
+    IsPut given.flags (given.facts place.session) content place.session place.context place.entry
+    × ArePutBy given content places
+
 -- each session adds what is given, behind these blocks
 abbrev pub AllAdded : Given → (ℕ → ℕ → List ℕ) → List Block → List Stint → Type 0
 AllAdded given content earlier [] = Unit {0}
@@ -90,13 +97,16 @@ AllAdded given content earlier (stint ∷ stints) =
     (told_by stint.session fresh earlier) (lines_of stint.parts) (entries_of stint.parts))
     × AllAdded given content (earlier ++ block_of stint ∷ []) stints
 
--- where additions are made too, all contents are; and the additions are made where each session adds what is given, be
--- it block by block or by all its entries
+-- where additions and puts are made too, all contents are; additions are made where each session adds what is given, be
+-- it block by block or by all its entries, and puts where each session's are by all its entries
 pub record ContentsLaw : Type 0 where
   pub all : (given : Given) (content : ℕ → ℕ → List ℕ) (places : List Placed) → AreMade given content places
-      → AreAddedBy given content places → AllContents given content places
+      → AreAddedBy given content places → ArePutBy given content places → AllContents given content places
   pub added : (given : Given) (content : ℕ → ℕ → List ℕ) (stints : List Stint) → AllAdded given content [] stints
       → AreAddedBy given content (places (blocks_of stints))
   pub by_all : (given : Given) (content : ℕ → ℕ → List ℕ) (places : List Placed)
       → ((session : ℕ) → AreAdded (amount_of given session) content (by_session session places))
       → AreAddedBy given content places
+  pub put_by_all : (given : Given) (content : ℕ → ℕ → List ℕ) (places : List Placed)
+      → ((session : ℕ) → ArePut given.flags (given.facts session) content session (by_session session places))
+      → ArePutBy given content places

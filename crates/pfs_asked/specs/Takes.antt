@@ -69,11 +69,11 @@ abbrev pub AreOnce : List ℕ → Type 0
 AreOnce numbers = (number : ℕ) → times (λ n. n == number) numbers ≤ 1
 
 -- a session's places are in range, and the cells that a quit moves ascend; a truncation takes no row twice, and the
--- info rows that it releases or writes ascend
+-- rows that it releases or writes ascend, those of info below those of rings
 abbrev pub IsSeated : ℕ → Deed → Type 0
 IsSeated session (Quitting admin) = Ascends 0 64 admin.cells × IfSome (seat_in admin session) IsInRange
 IsSeated session (Truncating admin what) = AreOnce (map from_of (work_of_truncation admin what).moves)
-    × Ascends 1 129 (map row_of (work_of_truncation admin what).signs)
+    × Ascends 1 14242 (map row_of (work_of_truncation admin what).signs)
 IsSeated session (Connecting admin user host) = IfSome (seat_at admin session user host) IsInRange
 IsSeated session (Starting subject) = Unit {0}
 IsSeated session (Staging subject) = Unit {0}

@@ -23,8 +23,8 @@ pub fn run()
     ensures { RunLaw }
 {}
 
-/// With the additions, the contents of all rows are as their changes make them; and the additions are made where each
-/// session adds what is given.
+/// With the additions and the puts, the contents of all rows are as their changes make them; and these are made where
+/// each session adds what is given, and puts the words of its events.
 pub fn contents()
     ensures { ContentsLaw }
 {}

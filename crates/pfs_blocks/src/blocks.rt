@@ -8,6 +8,7 @@ ghost use Rattle.pfs_script.specs.Marks.{written_out};
 ghost use Rattle.pfs_script.specs.declared.blocks.BlockLine.{BlockLine as Line};
 ghost use Rattle.pfs_script.specs.declared.blocks.BlockLine.TheVariants as said;
 ghost use Rattle.pfs_session.specs.States.{nothing_held};
+ghost use Rattle.pfs_session.specs.Using.{Uses};
 ghost use Rattle.pfs_course.specs.Course.{connected_by, connecting};
 ghost use Rattle.pfs_blocks.specs.Played.{HasDeeds, HasEnded, HasPlayed, MayConnect, MayEnd};
 
@@ -83,9 +84,10 @@ fn play_and_quit<A: Acts>(
     requires few { admin.old.actions + actions_on (written_out body.now) < 2 ^ 47 }
     requires idle { (r : ℕ) → A.hand rows.old r ≡ None }
     requires lent { A.words rows.old ≡ Some admin.old.words }
-    requires spare { 4 * length (written_out body.now) + 20192 * actions_on (written_out body.now) + 390
+    requires tickets { 2 * length (written_out body.now) ≤ A.draws rows.old }
+    requires spare { 11 * length (written_out body.now) + 20192 * actions_on (written_out body.now) + 446
         ≤ A.left rows.old }
-    requires room { cost_on (written_out body.now) + 392 ≤ session.old.journal.room }
+    requires room { cost_on (written_out body.now) + 448 ≤ session.old.journal.room }
     ensures did { HasEnded (body.now ++ said.Quit ∷ []) admin.old admin.new session.old session.new
         (A.reached rows.old) (A.reached rows.new) }
     ensures kinds { kinds_at session.new.state ≡ [] }
@@ -95,8 +97,9 @@ fn play_and_quit<A: Acts>(
     ensures actions { session.new.state.actions ≤ session.old.state.actions + actions_on (written_out body.now) + 1 }
     ensures counted { admin.new.actions ≤ admin.old.actions + actions_on (written_out body.now) + 1 }
     ensures wide { length session.new.state.held ≡ 193 }
-    ensures leaves { Leaves (4 * length (written_out body.now) + 20192 * actions_on (written_out body.now) + 390)
-        (cost_on (written_out body.now) + 392)
+    ensures leaves { Uses (11 * length (written_out body.now) + 20192 * actions_on (written_out body.now) + 446)
+        (2 * length (written_out body.now))
+        (cost_on (written_out body.now) + 448)
         (A.hand rows.old) (A.hand rows.new) (A.left rows.old) (A.left rows.new) (A.draws rows.old)
         (A.draws rows.new) (A.name rows.old) (A.name rows.new) session.old.journal session.new.journal }
     ensures lent { A.words rows.new ≡ Some admin.new.words }
@@ -115,9 +118,10 @@ fn play_to_end<A: Acts>(session: &mut Session, rows: &mut A, admin: &mut Admin, 
     requires few { admin.old.actions + actions_on (written_out lines.now) < 2 ^ 47 }
     requires idle { (r : ℕ) → A.hand rows.old r ≡ None }
     requires lent { A.words rows.old ≡ Some admin.old.words }
-    requires spare { 4 * length (written_out lines.now) + 20192 * actions_on (written_out lines.now) + 390
+    requires tickets { 2 * length (written_out lines.now) ≤ A.draws rows.old }
+    requires spare { 11 * length (written_out lines.now) + 20192 * actions_on (written_out lines.now) + 446
         ≤ A.left rows.old }
-    requires room { cost_on (written_out lines.now) + 392 ≤ session.old.journal.room }
+    requires room { cost_on (written_out lines.now) + 448 ≤ session.old.journal.room }
     ensures did { HasEnded lines.now admin.old admin.new session.old session.new (A.reached rows.old)
         (A.reached rows.new) }
     ensures kinds { kinds_at session.new.state ≡ kinds_after (kinds_at session.old.state) (written_out lines.now) }
@@ -128,8 +132,9 @@ fn play_to_end<A: Acts>(session: &mut Session, rows: &mut A, admin: &mut Admin, 
     ensures actions { session.new.state.actions ≤ session.old.state.actions + actions_on (written_out lines.now) + 1 }
     ensures counted { admin.new.actions ≤ admin.old.actions + actions_on (written_out lines.now) + 1 }
     ensures wide { length session.new.state.held ≡ 193 }
-    ensures leaves { Leaves (4 * length (written_out lines.now) + 20192 * actions_on (written_out lines.now) + 390)
-        (cost_on (written_out lines.now) + 392)
+    ensures leaves { Uses (11 * length (written_out lines.now) + 20192 * actions_on (written_out lines.now) + 446)
+        (2 * length (written_out lines.now))
+        (cost_on (written_out lines.now) + 448)
         (A.hand rows.old) (A.hand rows.new) (A.left rows.old) (A.left rows.new) (A.draws rows.old)
         (A.draws rows.new) (A.name rows.old) (A.name rows.new) session.old.journal session.new.journal }
     ensures lent { A.words rows.new ≡ Some admin.new.words }
@@ -157,9 +162,10 @@ pub fn play_block<A: Acts>(
     requires few { admin.old.actions + actions_on (written_out block.now.lines) + 1 < 2 ^ 47 }
     requires idle { (r : ℕ) → A.hand rows.old r ≡ None }
     requires lent { A.words rows.old ≡ Some admin.old.words }
-    requires spare { 4 * length (written_out block.now.lines) + 20192 * actions_on (written_out block.now.lines) + 588
+    requires tickets { 2 * length (written_out block.now.lines) ≤ A.draws rows.old }
+    requires spare { 11 * length (written_out block.now.lines) + 20192 * actions_on (written_out block.now.lines) + 644
         ≤ A.left rows.old }
-    requires room { cost_on (written_out block.now.lines) + 592 ≤ session.journal.room }
+    requires room { cost_on (written_out block.now.lines) + 648 ≤ session.journal.room }
     ensures did { length admin.old.kept.now.places.threads ≤ 32
         → HasPlayed block.now admin.old admin.new session result (A.reached rows.old) (A.reached rows.new) }
     ensures kinds { kinds_at result.state ≡ kinds_after (kinds_at session.state) (written_out block.now.lines) }
@@ -170,8 +176,9 @@ pub fn play_block<A: Acts>(
     ensures depth { result.state.opened.depth ≡ session.state.opened.depth }
     ensures actions { result.state.actions ≤ session.state.actions + actions_on (written_out block.now.lines) + 2 }
     ensures counted { admin.new.actions ≤ admin.old.actions + actions_on (written_out block.now.lines) + 2 }
-    ensures leaves { Leaves (4 * length (written_out block.now.lines) + 20192 * actions_on (written_out block.now.lines)
-        + 588) (cost_on (written_out block.now.lines) + 592) (A.hand rows.old) (A.hand rows.new) (A.left rows.old)
+    ensures leaves { Uses (11 * length (written_out block.now.lines) + 20192 * actions_on (written_out block.now.lines) + 644)
+        (2 * length (written_out block.now.lines))
+        (cost_on (written_out block.now.lines) + 648) (A.hand rows.old) (A.hand rows.new) (A.left rows.old)
         (A.left rows.new) (A.draws rows.old) (A.draws rows.new) (A.name rows.old) (A.name rows.new) session.journal
         result.journal }
     ensures lent { A.words rows.new ≡ Some admin.new.words }

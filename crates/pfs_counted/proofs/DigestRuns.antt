@@ -15,7 +15,6 @@ use Rattle.pfs_ranged.specs.Ranged.{InRangeLaw}
 use Rattle.pfs_rows.specs.Tables.{table_name}
 use Rattle.pfs_rows.specs.declared.table.Seen.TheVariants.{Whole, Free}
 use Rattle.pfs_rows.specs.declared.table.Table.TheVariants.{DigestSummary}
-use Rattle.pfs_runs.proofs.Ringless.{digested_left}
 use Rattle.pfs_runs.specs.Finals.{IsFinal, shown_row, row_version, word_version}
 use Rattle.pfs_runs.specs.Labels.{terms_of}
 use Rattle.pfs_runs.specs.Lines.{change_in, facts_in}
@@ -83,7 +82,7 @@ pub digested_law : KeptLaw → OrderlyLaw → FewEndedLaw → InRangeLaw → Dig
 digested_law kept orderly few in_range acted added sums board differ text setting phases report script run =
     final_then _ _ report.phases one run.finals where
       same_flags : (one : Ended) → is_digested (run_of setting phases report run).flags one.context.slot one.event ≡ is_digested (given_in (run_of setting phases report run)).flags one.context.slot one.event
-      same_flags one = digested_left (flags_by (terms_of setting (change_in phases) (facts_in phases) run.labels) (places (all_blocks run.blocks))) one.context.slot one.event
+      same_flags one = refl
 
       one : (part : PhaseParts) → IsFinal (run_of setting phases report run).setting (run_of setting phases report run).change run.labels run.content (flags_by (terms_of setting (change_in phases) (facts_in phases) run.labels) (places (all_blocks run.blocks))) (entries_to (run_of setting phases report run) part.number) part
           → AreDigested (run_of setting phases report run) part

@@ -1,11 +1,12 @@
 -- Rows of cells and of digests are never FREE: nothing but info rows is released.
-use Rattle.std.proofs.Common.{◌⊎◌, inl, inr, ◌≡◌, ℕ, ◌+◌, ◌-◌, ◌<◌, ◌≤◌, ◌==◌, ◌&&◌, Bool, true, false, cond, nat_lt, nat_le, List, [], ◌∷◌, ◌++◌, length, map, take, Option, Some, None, refl, sym, ap, subst, ◌∙◌, arith, append-nil}
+use Rattle.std.proofs.Common.{◌⊎◌, inl, inr, ◌≡◌, ℕ, ◌+◌, ◌-◌, ◌*◌, ◌<◌, ◌≤◌, ◌==◌, ◌&&◌, Bool, true, false, cond, nat_lt, nat_le, List, [], ◌∷◌, ◌++◌, length, map, take, Option, Some, None, refl, sym, ap, subst, ◌∙◌, arith, append-nil}
 use Rattle.std.specs.Prelude.{IfSome, ◌||◌}
+use Rattle.pfs_admin.proofs.Rows.{frees_ascend}
 use Rattle.pfs_admin.specs.Asks.{account_tag, user_tag, host_tag, upper_tags, tag_of, connect_work, quit_work}
 use Rattle.pfs_admin.specs.Fold.{state_of}
 use Rattle.pfs_admin.specs.Laws.{row_of}
 use Rattle.pfs_admin.specs.States.{State as Admin, seat_at, seat_in, connected, has_quit, thread_flags}
-use Rattle.pfs_admin.specs.Truncations.{is_there, kept_behind, work_of_truncation}
+use Rattle.pfs_admin.specs.Truncations.{free_ring, is_there, kept_behind, work_of_truncation}
 use Rattle.pfs_admin.specs.Works.{Releases, Sign as Said, Tags, Work}
 use Rattle.pfs_admin.specs.declared.changes.Change.{Change}
 use Rattle.pfs_admin.specs.declared.changes.Change.TheVariants as changes
@@ -23,7 +24,7 @@ use Rattle.pfs_model.specs.Asked.{Move, Sign, Frees, Flagging, Did, Freed, did, 
 use Rattle.pfs_model.specs.Asked.{Tags as Tagging}
 use Rattle.pfs_model.specs.Chains.{Each, change_at, times, row_change, release_of, each_of, is_of, is_that, is_free_after, opens_free}
 use Rattle.pfs_model.specs.Places.{Placed, places, up_to_phase}
-use Rattle.pfs_ruled.proofs.Truncating.{signs_ascend}
+use Rattle.pfs_ruled.proofs.Truncating.{AreInfosOrRings, signs_split}
 use Rattle.pfs_runs.specs.Labels.{label_at, work_at, work_for, work_of_label}
 use Rattle.pfs_tagged.proofs.AddedFloor.{place_among}
 use Rattle.pfs_tagged.proofs.Saying.{HasNumber, IsSaid, all_said, said_to, said_range}
@@ -64,15 +65,51 @@ upper_frees : (c : Containers) (x : Connection) (row : ℕ) → IsAmong (Frees r
 upper_frees c x row m =
     host_frees c x.host row [] (subst (λ l. IsAmong (Frees row) (signs_asked l)) (sym (append-nil (host_tag c x.host))) (user_frees c x.user row (host_tag c x.host) (account_frees c x.account row (user_tag c x.user ++ host_tag c x.host) m)))
 
-connect_frees : (s : Admin) (number user host row : ℕ) (o : Option Seated) → IsAmong (Frees row) (signs_asked (connect_work s.words (thread_flags s user host) (connected s number user host).kept.now o).signs) → row < 129
+-- a row that is released is an info row, or a place of a ring
+abbrev IsFreedRow : ℕ → Type 0
+IsFreedRow row = (row < 129) ⊎ (8450 ≤ row)
+
+connect_frees : (s : Admin) (number user host row : ℕ) (o : Option Seated) → IsAmong (Frees row) (signs_asked (connect_work s.words (thread_flags s user host) (connected s number user host).kept.now o).signs) → IsFreedRow row
 connect_frees s number user host row None m = absurd m
 connect_frees s number user host row (Some seat) (inl e) = absurd (cc)
 connect_frees s number user host row (Some seat) (inr m) = absurd (upper_frees (connected s number user host).kept.now seat.connection row m)
 
-quit_frees : (s : Admin) (number row : ℕ) (o : Option Seated) → IfSome o IsInRange → IsAmong (Frees row) (signs_asked (quit_work s.words s.cells (has_quit s number).kept.now o).signs) → row < 129
+asked_either : (row : ℕ) (xs ys : List Said) → IsAmong (Frees row) (signs_asked (xs ++ ys)) → IsAmong (Frees row) (signs_asked xs) ⊎ IsAmong (Frees row) (signs_asked ys)
+asked_either row [] ys m = inr m
+asked_either row (Releases x ∷ xs) ys (inl e) = inl (inl e)
+asked_either row (Releases x ∷ xs) ys (inr m) = more (asked_either row xs ys m) where
+  more : IsAmong (Frees row) (signs_asked xs) ⊎ IsAmong (Frees row) (signs_asked ys) → IsAmong (Frees row) (signs_asked (Releases x ∷ xs)) ⊎ IsAmong (Frees row) (signs_asked ys)
+  more (inl a) = inl (inr a)
+  more (inr b) = inr b
+asked_either row (Tags x content ∷ xs) ys (inl e) = inl (inl e)
+asked_either row (Tags x content ∷ xs) ys (inr m) = more (asked_either row xs ys m) where
+  more : IsAmong (Frees row) (signs_asked xs) ⊎ IsAmong (Frees row) (signs_asked ys) → IsAmong (Frees row) (signs_asked (Tags x content ∷ xs)) ⊎ IsAmong (Frees row) (signs_asked ys)
+  more (inl a) = inl (inr a)
+  more (inr b) = inr b
+
+-- rows that ascend lie above their first
+above_frees : (low limit row : ℕ) (signs : List Said) → Ascends low limit (map row_of signs) → IsAmong (Frees row) (signs_asked signs) → low ≤ row
+above_frees low limit row [] a m = absurd m
+above_frees low limit row (Releases x ∷ signs) a (inl e) = let f : x ≡ row = cc in let l : low ≤ x = a.0 in omega (arith, f, l)
+above_frees low limit row (Releases x ∷ signs) a (inr m) =
+    let l : low ≤ x = a.0 in
+    let r : x + 1 ≤ row = above_frees (x + 1) limit row signs a.1.1 m in
+    omega (arith, l, r)
+above_frees low limit row (Tags x content ∷ signs) a (inl e) = absurd (cc)
+above_frees low limit row (Tags x content ∷ signs) a (inr m) =
+    let l : low ≤ x = a.0 in
+    let r : x + 1 ≤ row = above_frees (x + 1) limit row signs a.1.1 m in
+    omega (arith, l, r)
+
+quit_frees : (s : Admin) (number row : ℕ) (o : Option Seated) → IfSome o IsInRange → IsAmong (Frees row) (signs_asked (quit_work s.words s.cells (has_quit s number).kept.now o).signs) → IsFreedRow row
 quit_frees s number row None low m = absurd m
-quit_frees s number row (Some seat) low (inl e) = let f : 1 + seat.slot ≡ row = cc in let l : seat.slot < 32 = low.slot in omega (arith, f, l)
-quit_frees s number row (Some seat) low (inr m) = absurd (upper_frees (has_quit s number).kept.now seat.connection row m)
+quit_frees s number row (Some seat) low (inl e) = let f : 1 + seat.slot ≡ row = cc in let l : seat.slot < 32 = low.slot in inl (omega (arith, f, l))
+quit_frees s number row (Some seat) low (inr m) = by_part (asked_either row (upper_tags (has_quit s number).kept.now seat.connection) (free_ring seat.slot) m) where
+  by_part : IsAmong (Frees row) (signs_asked (upper_tags (has_quit s number).kept.now seat.connection)) ⊎ IsAmong (Frees row) (signs_asked (free_ring seat.slot)) → IsFreedRow row
+  by_part (inl a) = absurd (upper_frees (has_quit s number).kept.now seat.connection row a)
+  by_part (inr b) =
+      let l : 8450 + 56 * seat.slot ≤ row = above_frees (8450 + 56 * seat.slot) (8450 + 56 * seat.slot + 56) row (free_ring seat.slot) (frees_ascend (8450 + 56 * seat.slot) 56) b in
+      inr (omega (arith, l))
 
 -- rows that ascend below a limit lie below it
 ascending_frees : (low row : ℕ) (signs : List Said) → Ascends low 129 (map row_of signs) → IsAmong (Frees row) (signs_asked signs) → row < 129
@@ -82,19 +119,22 @@ ascending_frees low row (Releases x ∷ signs) a (inr m) = ascending_frees (x + 
 ascending_frees low row (Tags x content ∷ signs) a (inl e) = absurd (cc)
 ascending_frees low row (Tags x content ∷ signs) a (inr m) = ascending_frees (x + 1) row signs a.1.1 m
 
-truncation_frees : (s : Admin) (what : Truncation) (row : ℕ) → IsAmong (Frees row) (signs_asked (work_of_truncation s what).signs) → row < 129
-truncation_frees s what row m = ascending_frees 1 row (work_of_truncation s what).signs (signs_ascend (is_there s.kept.now.places) (kept_behind s.kept what).now what) m
+truncation_frees : (s : Admin) (what : Truncation) (row : ℕ) → IsAmong (Frees row) (signs_asked (work_of_truncation s what).signs) → IsFreedRow row
+truncation_frees s what row m = by_split (signs_split (is_there s.kept.now.places) (kept_behind s.kept what).now what) where
+  by_split : AreInfosOrRings (work_of_truncation s what).signs → IsFreedRow row
+  by_split (inl a) = inl (ascending_frees 1 row (work_of_truncation s what).signs a m)
+  by_split (inr a) = inr (above_frees 8450 14242 row (work_of_truncation s what).signs a.0 m)
 
-work_frees : (setting : _) (change : Label → Change) (labels : List Label) (session row : ℕ) (what : Change) → IsAmong (Frees row) (signs_asked (work_for (state_of setting change labels) session what).signs) → row < 129
+work_frees : (setting : _) (change : Label → Change) (labels : List Label) (session row : ℕ) (what : Change) → IsAmong (Frees row) (signs_asked (work_for (state_of setting change labels) session what).signs) → IsFreedRow row
 work_frees setting change labels session row (changes.Connect user host) m = connect_frees (state_of setting change labels) session user host row (seat_at (state_of setting change labels) session user host) m
 work_frees setting change labels session row changes.Quit m =
     quit_frees (state_of setting change labels) session row (seat_in (state_of setting change labels) session) (seat_in_in (state_of setting change labels) session (fold_well setting change labels)) m
 work_frees setting change labels session row (changes.Truncate what) m = truncation_frees (state_of setting change labels) what row m
 work_frees setting change labels session row changes.Show m = absurd m
 
-asked_frees : (setting : _) (change : Label → Change) (labels : List Label) (number row : ℕ) → IsAmong (Frees row) (signs_asked (work_at setting change labels number).signs) → row < 129
+asked_frees : (setting : _) (change : Label → Change) (labels : List Label) (number row : ℕ) → IsAmong (Frees row) (signs_asked (work_at setting change labels number).signs) → IsFreedRow row
 asked_frees setting change labels number row m = at (label_at labels number) m where
-  at : (o : Option Label) → IsAmong (Frees row) (signs_asked (work_of_label change (state_of setting change (take (number - 1) labels)) o).signs) → row < 129
+  at : (o : Option Label) → IsAmong (Frees row) (signs_asked (work_of_label change (state_of setting change (take (number - 1) labels)) o).signs) → IsFreedRow row
   at None m = absurd m
   at (Some label) m = work_frees setting change (take (number - 1) labels) label.session row (change label) m
 
@@ -162,10 +202,10 @@ did_among row version number p (x ∷ ps) (inr m) a e = at (x.context.action == 
   at true m = more (did x.entry) (each_of did (of_action number ps)) m
   at false m = m
 
--- ---- so no release is of a cell
+-- so no release is of a cell
 
 abbrev FreesLow : Placed → Type 0
-FreesLow p = (row version : ℕ) → p.entry ≡ says.Free row version → row < 129
+FreesLow p = (row version : ℕ) → p.entry ≡ says.Free row version → IsFreedRow row
 
 each_low : (ps all : List Placed) → ((p : Placed) → IsAmong p ps → IsAmong p all) → ((p : Placed) → IsAmong p all → FreesLow p) → Each FreesLow ps
 each_low [] all sub h = tt
@@ -173,7 +213,7 @@ each_low (p ∷ ps) all sub h = (h p (sub p (inl refl)), each_low ps all (λ q m
 
 low_frees : (run : Run) → AreKept run → (p : Placed) → IsAmong p (places run.blocks) → FreesLow p
 low_frees run kept p m row version e = by (place_among (HasNumber (places run.blocks)) p (places run.blocks) m (all_said run.blocks kept.rules.shaped)) where
-  by : HasNumber (places run.blocks) p → row < 129
+  by : HasNumber (places run.blocks) p → IsFreedRow row
   by (inl n) = absurd (let z : true ≡ false = sym (ap is_acted e) ∙ n.1 in cc)
   by (inr s) =
       let t : IsSaid (up_to_phase p.phase (places run.blocks)) p.session p.phase p.context.action = said_to p.phase p.session p.phase p.context.action (places run.blocks) (self p.phase) s in
@@ -184,16 +224,20 @@ low_frees run kept p m row version e = by (place_among (HasNumber (places run.bl
         self : (n : ℕ) → nat_le n n ≡ true
         self n = grind arith
 
-none_released : (row version : ℕ) (ps : List Placed) → 129 ≤ row → Each FreesLow ps → times (is_that (change_at row version)) (each_of release_of ps) ≡ 0
-none_released row version [] l h = refl
-none_released row version (p ∷ ps) l h = by p.entry refl (none_released row version ps l h.1) where
+none_released : (row version : ℕ) (ps : List Placed) → 129 ≤ row → row < 8450 → Each FreesLow ps → times (is_that (change_at row version)) (each_of release_of ps) ≡ 0
+none_released row version [] l u h = refl
+none_released row version (p ∷ ps) l u h = by p.entry refl (none_released row version ps l u h.1) where
   by : (e : Entry) → p.entry ≡ e → times (is_that (change_at row version)) (each_of release_of ps) ≡ 0 → times (is_that (change_at row version)) (release_of e ++ each_of release_of ps) ≡ 0
   by (says.Free at v) q rest = on (at == row) refl where
     none : (n : ℕ) → 0 + n ≡ n
     none n = omega arith
 
+    nowhere : IsFreedRow at → at ≡ row → ⊥
+    nowhere (inl k) s = absurd (omega (arith, k, s, l))
+    nowhere (inr k) s = absurd (omega (arith, k, s, u))
+
     on : (b : Bool) → (at == row) ≡ b → cond {A = ℕ} ((at == row) && (v == version)) 1 0 + times (is_that (change_at row version)) (each_of release_of ps) ≡ 0
-    on true w = absurd (let k : at < 129 = h.0 at v q in let s : at ≡ row = eq_of at row w in omega (arith, k, s, l))
+    on true w = absurd (nowhere (h.0 at v q) (eq_of at row w))
     on false w = ap (λ b. cond {A = ℕ} (b && (v == version)) 1 0 + times (is_that (change_at row version)) (each_of release_of ps)) w ∙ (none (times (is_that (change_at row version)) (each_of release_of ps)) ∙ rest)
   by _ q rest = rest
 
@@ -208,7 +252,7 @@ chosen_among phase p (x ∷ ps) m = at (nat_le x.phase phase) m (λ k. chosen_am
 pub never_free : (run : Run) (phase : ℕ) → AreKept run → (row : ℕ) → 129 ≤ row → row < 8450 → is_free_after (entries_to run phase) row ≡ false
 never_free run phase kept row low high =
     ap (λ n. nat_lt 0 n || ((times (is_of row) (each_of row_change (entries_to run phase)) == 0) && opens_free row))
-    (none_released row (times (is_of row) (each_of row_change (entries_to run phase))) (entries_to run phase) low (each_low (entries_to run phase) (places run.blocks) (λ p m. chosen_among phase p (places run.blocks) m) (low_frees run kept)))
+    (none_released row (times (is_of row) (each_of row_change (entries_to run phase))) (entries_to run phase) low (omega (arith, high)) (each_low (entries_to run phase) (places run.blocks) (λ p m. chosen_among phase p (places run.blocks) m) (low_frees run kept)))
     ∙ off (times (is_of row) (each_of row_change (entries_to run phase)) == 0) (opens_free row) (closed row low high) where
       off : (a b : Bool) → b ≡ false → (nat_lt 0 0 || (a && b)) ≡ false
       off true b q = q

@@ -15,7 +15,6 @@ use Rattle.pfs_model.specs.Chains.{Each}
 use Rattle.pfs_model.specs.Places.{places}
 use Rattle.pfs_model.specs.Setups.{is_digested}
 use Rattle.pfs_orderly.specs.Orderly.{run_of, KeptLaw, OrderlyLaw}
-use Rattle.pfs_runs.proofs.Ringless.{digested_left}
 use Rattle.pfs_runs.specs.Finals.{IsFinal, containers_behind, lost_behind}
 use Rattle.pfs_runs.specs.Labels.{terms_of}
 use Rattle.pfs_runs.specs.Lines.{change_in, facts_in}
@@ -70,7 +69,7 @@ pub lost_digests_law : KeptLaw → OrderlyLaw → LostDigestsLaw
 lost_digests_law kept orderly text setting phases report script run =
     final_then _ _ report.phases one run.finals where
       same : (e : Ended) → lacks_place (run_of setting phases report run).flags e ≡ (is_digested (given_in (run_of setting phases report run)).flags e.context.slot e.event && is_none e.event.subject.digest)
-      same e = ap (λ b. b && is_none e.event.subject.digest) (digested_left (flags_by (terms_of setting (change_in phases) (facts_in phases) run.labels) (places (all_blocks run.blocks))) e.context.slot e.event)
+      same e = refl
 
       one : (part : PhaseParts) → IsFinal (run_of setting phases report run).setting (run_of setting phases report run).change run.labels run.content (flags_by (terms_of setting (change_in phases) (facts_in phases) run.labels) (places (all_blocks run.blocks))) (entries_to (run_of setting phases report run) part.number) part
           → AreLostDigests (run_of setting phases report run) part

@@ -104,6 +104,7 @@ state_named count opening named action each (suc n) =
 
 truncation_named : (count : ℕ) (what : Truncation) → IsNamedAction count (action_of what)
 truncation_named count (truncates.Summary kind table) = tt
+truncation_named count (truncates.Events kind table) = tt
 truncation_named count truncates.Accounts = tt
 truncation_named count truncates.Users = tt
 truncation_named count truncates.Hosts = tt

@@ -147,7 +147,7 @@ slot_printed blocks a session =
       ends : slot_in blocks session ≡ (told_to session fresh (places blocks)).slot
       ends = comes_slot (told_to session fresh (places blocks)) (told_by session fresh blocks) (all_followed session blocks).ends
 
-each_answered : (rooms : ℕ → Rooms) (answers : ℕ → Answer) (ps : List Placed) → AreAnswered rooms answers ps → Each (λ (p : Placed). IsAnswered rooms answers p p.entry) ps
+pub each_answered : (rooms : ℕ → Rooms) (answers : ℕ → Answer) (ps : List Placed) → AreAnswered rooms answers ps → Each (λ (p : Placed). IsAnswered rooms answers p p.entry) ps
 each_answered rooms answers [] h = tt
 each_answered rooms answers (p ∷ ps) h = (h.0, each_answered rooms answers ps h.1)
 
@@ -156,13 +156,13 @@ room_is : (c : Containers) (number user host slot : ℕ) (o : Option ℕ) → o 
 room_is c number user host slot None q = absurd (cc)
 room_is c number user host slot (Some other) q = q
 
-action_names : (session number user host : ℕ) (what : Change) → action_for session what ≡ Connect number user host → (session ≡ number) × (what ≡ changes.Connect user host)
+pub action_names : (session number user host : ℕ) (what : Change) → action_for session what ≡ Connect number user host → (session ≡ number) × (what ≡ changes.Connect user host)
 action_names session number user host (changes.Connect u h) e = (cc, (let a : u ≡ user = cc in let b : h ≡ host = cc in cc))
 action_names session number user host changes.Quit e = absurd (cc)
 action_names session number user host (changes.Truncate what) e = absurd (truncation_connects what number user host e)
 action_names session number user host changes.Show e = absurd (cc)
 
-connects_line : (line : Line) (user host : ℕ) → IsChangeOf line (changes.Connect user host) → is_connecting line ≡ true
+pub connects_line : (line : Line) (user host : ℕ) → IsChangeOf line (changes.Connect user host) → is_connecting line ≡ true
 connects_line lines.Connect user host h = refl
 connects_line lines.Quit user host h = absurd h
 connects_line _ user host h = absurd h

@@ -14,7 +14,10 @@ use Rattle.pfs_tagged.specs.Premises.{AreKept, IsOrderly}
 use Rattle.pfs_tagged.specs.Runs.{Run, IsKeyOf, events_to, counted_to}
 use Rattle.pfs_counted.specs.Counted.{past_to, AreCounted}
 use Rattle.pfs_counted.specs.Counts.{counted_at}
+use Rattle.pfs_counted.specs.Currents.{AllHaveCurrents}
 use Rattle.pfs_counted.specs.Digested.{AllAreDigested}
+use Rattle.pfs_counted.specs.History.{AllHaveHistories}
+use Rattle.pfs_counted.specs.Longs.{AllHaveLongs}
 
 -- what counts by the numbers that conservation gives to events is what counts by the entries
 abbrev pub AgreedLaw : Type 0
@@ -33,8 +36,13 @@ CountedLaw = (text : List ℕ) (setting : Setting) (phases : List Phase) (report
     → IsScript Whole text setting phases → (run : IsRun setting phases report)
     → AllAreCounted setting phases report run
 
--- a plain run whose summaries, that by digest among them, show what counts there
+-- a plain run whose summaries, that by digest among them, show what counts there, whose histories show just the last
+-- puts of each session that is there, whose current places show the last put of each, and whose long history the
+-- greatest ticket of each place
 pub record IsCountedRun (setting : Setting) (phases : List Phase) (report : ReportParts) : Type 0 where
   pub plain : IsPlainRun setting phases report
   pub counted : AllAreCounted setting phases report plain.run
   pub digested : AllAreDigested setting phases report plain.run
+  pub histories : AllHaveHistories setting phases report plain.run
+  pub currents : AllHaveCurrents setting phases report plain.run
+  pub longs : AllHaveLongs setting phases report plain.run

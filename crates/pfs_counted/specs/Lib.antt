@@ -4,6 +4,9 @@ pub mod Named
 pub mod Counts
 pub mod Counted
 pub mod Digested
+pub mod History
+pub mod Currents
+pub mod Longs
 pub mod Laws
 pub mod Extremes
 pub mod Numbers
@@ -12,3 +15,5 @@ pub mod LostDigests
 pub mod Worked
 pub mod WorkedCounts
 pub mod WorkedDigests
+pub mod WorkedHistory
+pub mod WorkedPlaces

@@ -1,13 +1,18 @@
 //! Laws of the definitions.
 
+ghost use Rattle.pfs_counted.specs.Currents.{CurrentLaw, CurrentsLaw};
 ghost use Rattle.pfs_counted.specs.DigestNumbers.{DigestNumbersLaw};
 ghost use Rattle.pfs_counted.specs.Digested.{DigestedLaw};
+ghost use Rattle.pfs_counted.specs.History.{HistoriesLaw, HistoryLaw};
 ghost use Rattle.pfs_counted.specs.Laws.{CountedLaw, AgreedLaw};
+ghost use Rattle.pfs_counted.specs.Longs.{LongLaw, LongsLaw};
 ghost use Rattle.pfs_counted.specs.LostDigests.{LostDigestsLaw};
 ghost use Rattle.pfs_counted.specs.Numbers.{NumbersLaw};
 ghost use Rattle.pfs_counted.specs.Worked.{WorkedSummaries};
 ghost use Rattle.pfs_counted.specs.WorkedCounts.{WorkedCounts};
 ghost use Rattle.pfs_counted.specs.WorkedDigests.{WorkedDigests};
+ghost use Rattle.pfs_counted.specs.WorkedHistory.{WorkedHistory};
+ghost use Rattle.pfs_counted.specs.WorkedPlaces.{WorkedPlaces};
 
 /// Under the end of each phase of a run of any script, each summary shows just the events that count there: a row for
 /// each key and class by which something counts, with their number, sums, least and greatest, and no other row. An
@@ -101,4 +106,65 @@ pub fn worked_counts()
 /// it.
 pub fn worked_digests()
     ensures { WorkedDigests }
+{}
+
+/// Under the end of each phase of a run that keeps the rules and is orderly, of each session that is there, the ten
+/// places of each kind's history show just the session's last ten puts of the kind, but for those that were released
+/// since: whoever had the slot before.
+pub fn history()
+    ensures { HistoryLaw }
+{}
+
+/// Under the end of each phase of a run of any script, of each session that is there, the places of its histories show
+/// just its last ten puts of each kind, but for those that were released since.
+pub fn histories()
+    ensures { HistoriesLaw }
+{
+    pfs_orderly::laws::kept();
+    pfs_orderly::laws::orderly();
+    history();
+}
+
+/// Under the end of each phase of a run that keeps the rules and is orderly, each current place of each slot shows just
+/// its last put, unless it was released since.
+pub fn current()
+    ensures { CurrentLaw }
+{}
+
+/// Under the end of each phase of a run of any script, each current place of each slot shows just its last put, unless
+/// it was released since.
+pub fn currents()
+    ensures { CurrentsLaw }
+{
+    pfs_orderly::laws::kept();
+    pfs_orderly::laws::orderly();
+    current();
+}
+
+/// Under the end of each phase of a run that keeps the rules and is orderly, each place of the long history shows just
+/// the greatest ticket put there since its last release.
+pub fn long()
+    ensures { LongLaw }
+{}
+
+/// Under the end of each phase of a run of any script, each place of the long history shows just the greatest ticket
+/// put there since its last release.
+pub fn longs()
+    ensures { LongsLaw }
+{
+    pfs_orderly::laws::kept();
+    pfs_orderly::laws::orderly();
+    long();
+}
+
+/// What the history of two sessions of one slot has and shows: before and behind a quit, of more puts than places, and
+/// behind a TRUNCATE.
+pub fn worked_history()
+    ensures { WorkedHistory }
+{}
+
+/// What the current places of two sessions and a place of the long history show: before and behind a quit, where a
+/// ticket comes too late, and behind a TRUNCATE.
+pub fn worked_places()
+    ensures { WorkedPlaces }
 {}

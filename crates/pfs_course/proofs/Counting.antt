@@ -49,7 +49,7 @@ ends_actions s numbers calls entries after e = by_case s.place.thread (is_let_th
   by_case (Some slot) true x = ap (λ (z : State). z.actions) (through_leaves s slot e.what e.others numbers calls entries after x)
 
 does_actions : (s : State) (step : Step) (calls : List Call) (entries : List Entry) (after : State) → Does s step calls entries after → after.actions ≡ made_at s.actions step
-does_actions s (StartsEvent subject) calls entries after d = ap (λ (z : State). z.actions) d.after_is
+does_actions s (StartsEvent subject) calls entries after d = ap (λ (z : State). z.actions) d.begins.after_is
 does_actions s (EndsEvent numbers) calls entries after d = ends_actions s numbers calls entries after d
 does_actions s (Spends time) calls entries after d = ap (λ (z : State). z.actions) d.2
 does_actions s SettlesHeld calls entries after d = ap (λ (z : State). z.actions) d.after_is

@@ -8,7 +8,10 @@ pub mod Telling
 pub mod Matching
 pub mod Doing
 pub mod Dues
+pub mod Putting
 pub mod Bringing
+pub mod Keeping
+pub mod Leading
 pub mod Carrying
 pub mod Whole
 pub mod Ahead

@@ -14,7 +14,8 @@ use Rattle.pfs_runs.specs.Finals.{IsFinal}
 use Rattle.pfs_runs.specs.Labels.{AreLabels, terms_of}
 use Rattle.pfs_runs.specs.Lines.{change_in, facts_in}
 use Rattle.pfs_runs.specs.Rules.{AreRules, flags_by}
-use Rattle.pfs_runs.specs.Runs.{ArePhasesOf, AreBroughtToRows, AreFinal, IsPlainRun, all_blocks}
+use Rattle.pfs_model.specs.Puts.{AreBrought}
+use Rattle.pfs_runs.specs.Runs.{ArePhasesOf, AreFinal, IsPlainRun, all_blocks}
 use Rattle.pfs_script.specs.declared.blocks.Phase.{Phase}
 use Rattle.pfs_course.specs.Course.{IsCourse, numbered}
 use Rattle.pfs_course.specs.Told.{ArePhasesTold}
@@ -30,7 +31,7 @@ pub record IsRunButFinals (setting : Setting) (phases : List Phase) (report : Re
   pub labelled : AreLabels (labels_of spells) (places (all_blocks blocks))
   pub rules : AreRules (terms_of setting (change_in phases) (facts_in phases) (labels_of spells))
       (counted_by (contents_of spells) (all_taken (stints_of spells))) (contents_of spells) (all_blocks blocks)
-  pub brought : AreBroughtToRows (flags_by (terms_of setting (change_in phases) (facts_in phases) (labels_of spells))
+  pub brought : AreBrought (flags_by (terms_of setting (change_in phases) (facts_in phases) (labels_of spells))
       (places (all_blocks blocks))) (places (all_blocks blocks))
   pub plain : IsPlain (places (all_blocks blocks))
 

@@ -42,7 +42,7 @@ use Rattle.pfs_switches.specs.Known.{Known}
 use Rattle.pfs_switches.specs.Knowledge.{met}
 use Rattle.pfs_switches.specs.Opening.{opening_words}
 use Rattle.pfs_truncations.specs.declared.truncations.Truncation.{Truncation}
-use Rattle.pfs_truncations.specs.declared.truncations.Truncation.TheVariants.{Summary, DigestSummary, Accounts, Users, Hosts, SetupActors, SetupObjects}
+use Rattle.pfs_truncations.specs.declared.truncations.Truncation.TheVariants.{Events, Summary, DigestSummary, Accounts, Users, Hosts, SetupActors, SetupObjects}
 use Rattle.pfs_desk.specs.Desks.{IsDesk}
 use Rattle.pfs_desk.specs.Following.{version_after}
 use Rattle.pfs_desk.specs.Laws.{SharedLaw}
@@ -78,6 +78,7 @@ rise_all_off q words = rise_off q 64 words
 
 rise_behind : (q : ℕ) (words : List Word) (what : Truncation) → (word_at words q).version ≤ (word_at (words_behind what words) q).version
 rise_behind q words (Summary kind table) = omega arith
+rise_behind q words (Events kind table) = omega arith
 rise_behind q words Accounts = omega arith
 rise_behind q words Users = omega arith
 rise_behind q words Hosts = omega arith

@@ -1,6 +1,7 @@
 -- How many digests entries say were lost, entry by entry and line by line, and that all lines together say so of just
 -- those that the journals do.
 use Rattle.std.proofs.Common.{ℕ, suc, ◌≡◌, ◌+◌, ◌≤◌, Bool, true, false, cond, List, [], ◌∷◌, ◌++◌, length, Option, Some, None, refl, ap, sym, ◌∙◌, arith}
+use Rattle.std.proofs.lemmas.Bool.{false≢true}
 use Rattle.pfs_admin.specs.Asks.{work_of_connect, work_of_quit, connect_entry}
 use Rattle.pfs_admin.specs.States.{seat_at}
 use Rattle.pfs_alone.proofs.Inner.{IsInner, AreInner, paid_same}
@@ -23,13 +24,16 @@ use Rattle.pfs_model.specs.Journals.{joined}
 use Rattle.pfs_model.specs.Places.{Block, Placed, placed_part, placed_lines, places_behind, told_by}
 use Rattle.pfs_model.specs.Shapes.{is_stage}
 use Rattle.pfs_model.specs.declared.lines.Line.{Line}
+use Rattle.pfs_parts.proofs.Acting.{AreAll}
+use Rattle.pfs_parts.proofs.Ringing.{is_ring, put_ring, rings_of}
 use Rattle.pfs_parts.specs.Deeds.{Deed, Connecting, Starting, Staging, StageEnding, Ending, Spending, Quitting, Truncating, Closing, Part, IsPart, line_of, part_entries, steps_for}
 use Rattle.pfs_parts.specs.Shaped.{AreParts, lines_of}
 use Rattle.pfs_parts.specs.Shaped.{entries_of as entries_of_parts}
 use Rattle.pfs_parts.specs.Stints.{blocks_of}
 use Rattle.pfs_ruled.specs.Ruled.{entries_of}
 use Rattle.pfs_runs.specs.Finals.{ends_events, is_digest_lost, is_unplaced}
-use Rattle.pfs_session.specs.Ends.{EndsIn, EndsThrough, DigestsIn, added_entry, no_numbers}
+use Rattle.pfs_session.specs.Ends.{EndsIn, EndsAdded, EndsThrough, DigestsIn, added_entry, no_numbers}
+use Rattle.pfs_session.specs.Rings.{put_entries}
 use Rattle.pfs_session.specs.Settles.{Paid, owed_by, owed_by_state, paid_entries, settle_head}
 use Rattle.pfs_session.specs.Starts.{start_entry}
 use Rattle.pfs_session.specs.States.{State, Owed}
@@ -135,6 +139,31 @@ settle_none : (ends : Bool) (owed : List Owed) (ps : List Paid) → owed_by ps �
 settle_none ends [] ps e = paid_none ends ps e
 settle_none ends (o ∷ os) ps e = sum_none 0 (unplaced_in false (paid_entries ps)) refl (inner_none (paid_entries ps) (paid_same ps).inner)
 
+-- nor do entries of puts, which begin and end nothing
+ring_none : (ends : Bool) (e : Entry) → is_ring e ≡ true → ◌≡◌ {A = ℕ} (cond (is_unplaced ends e) 1 0) 0
+ring_none ends (says.Ring row version) q = refl
+ring_none ends (says.Long row version ticket) q = refl
+ring_none ends (says.Busy row first second) q = refl
+ring_none ends (says.Late row ticket greater) q = refl
+ring_none ends _ q = absurd (false≢true q)
+
+pub rings_none : (ends : Bool) (es : List Entry) → AreAll true is_ring es → unplaced_in ends es ≡ 0
+rings_none ends [] q = refl
+rings_none ends (e ∷ es) q = sum_none (cond (is_unplaced ends e) 1 0) (unplaced_in (ends_behind ends e) es) (ring_none ends e q.0) (rings_none (ends_behind ends e) es q.1)
+
+rings_bring : (ends : Bool) (es : List Entry) → AreAll true is_ring es → brought_in ends es ≡ 0
+rings_bring ends [] q = refl
+rings_bring ends (e ∷ es) q = sum_none (cond (is_unplaced ends e) 1 0) (brought_in ends es) (ring_none ends e q.0) (rings_bring ends es q.1)
+
+-- so behind others they say no more than those
+rings_same : (ends : Bool) (entries es rings : List Entry) → entries ≡ es ++ rings → AreAll true is_ring rings → unplaced_in ends es ≡ brought_in true es → unplaced_in ends entries ≡ brought_in true entries
+rings_same ends entries es rings e q s =
+    ap (unplaced_in ends) e
+    ∙ (unplaced_then ends es rings
+    ∙ (ap (λ z. unplaced_in ends es + z) (rings_none (behind_all ends es) rings q)
+    ∙ (ap (λ z. z + 0) s
+    ∙ (ap (λ z. brought_in true es + z) (sym (rings_bring true rings q)) ∙ (sym (brought_then true es rings) ∙ ap (brought_in true) (sym e))))))
+
 -- nor does a start
 start_none : (ends : Bool) (v : Verdict) (n : ℕ) (seen : Option Setup) → unplaced_in ends (start_entry v n seen ∷ []) ≡ 0
 start_none ends v n None = refl
@@ -163,9 +192,9 @@ same_as ends entries es e s = ap (unplaced_in ends) e ∙ (s ∙ ap (brought_in 
 abbrev counted_of : State → Open → Word → Word → Added → List Entry
 counted_of s what consumers thread answer = says.End (Some what.event.number) (Some s.drawn) (Some consumers.version) (Some thread.version) ∷ added_entry answer ∷ []
 
-through_same : (ends : Bool) (s : State) (slot : ℕ) (what : Open) (others : List Open) (numbers : Numbers) (calls : List Call) (entries : List Entry) (after : State) → EndsThrough s slot what others numbers calls entries after
+added_same : (ends : Bool) (s : State) (slot : ℕ) (what : Open) (others : List Open) (numbers : Numbers) (calls : List Call) (entries : List Entry) (after : State) → EndsAdded s slot what others numbers calls entries after
     → unplaced_in ends entries ≡ brought_in true entries
-through_same ends s slot what others numbers calls entries after x = by what.digested x.digests where
+added_same ends s slot what others numbers calls entries after x = by what.digested x.digests where
   by : (b : Bool) → DigestsIn b x.between slot what numbers x.digested_calls x.digested_entries after → unplaced_in ends entries ≡ brought_in true entries
   by false d =
       same_as ends entries _ (x.entries_are ∙ (ap (λ z. z ++ x.digested_entries) x.counts.entries_are ∙ ap (λ z. counted_of s what x.counts.consumers x.counts.thread x.counts.answer ++ z) d.entries_are))
@@ -173,6 +202,12 @@ through_same ends s slot what others numbers calls entries after x = by what.dig
   by true d =
       same_as ends entries _ (x.entries_are ∙ (ap (λ z. z ++ x.digested_entries) x.counts.entries_are ∙ ap (λ z. counted_of s what x.counts.consumers x.counts.thread x.counts.answer ++ z) d.entries_are))
       (both_same ends (Some what.event.number) (Some s.drawn) (Some x.counts.consumers.version) (Some x.counts.thread.version) x.counts.answer d.answer)
+
+through_same : (ends : Bool) (s : State) (slot : ℕ) (what : Open) (others : List Open) (numbers : Numbers) (calls : List Call) (entries : List Entry) (after : State) → EndsThrough s slot what others numbers calls entries after
+    → unplaced_in ends entries ≡ brought_in true entries
+through_same ends s slot what others numbers calls entries after x =
+    rings_same ends entries x.added_entries x.ring_entries x.entries_are (rings_of x.among slot what numbers _ _ x.ring_calls x.ring_entries after x.puts)
+    (added_same ends s slot what others numbers x.added_calls x.added_entries x.among x.adds)
 
 ends_same : (ends : Bool) (s : State) (slot : Option ℕ) (through : Bool) (what : Open) (others : List Open) (numbers : Numbers) (calls : List Call) (entries : List Entry) (after : State) → EndsIn s slot through what others numbers calls entries after
     → unplaced_in ends entries ≡ brought_in true entries
@@ -212,7 +247,12 @@ some_none e = absurd (omega (arith, e))
 
 pub step_none : (ends : Bool) (s : State) (step : Step) (calls : List Call) (entries : List Entry) (after : State) → Does s step calls entries after → ends_at step ≡ 0 → unplaced_in ends entries ≡ 0
 step_none ends s (EndsEvent numbers) calls entries after d e = absurd (some_none e)
-step_none ends s (StartsEvent subject) calls entries after d e = ap (unplaced_in ends) d.entries_are ∙ start_none ends _ _ d.seen
+step_none ends s (StartsEvent subject) calls entries after d e =
+    let rings : List Entry = put_entries d.current in
+    ap (unplaced_in ends) d.entries_are
+    ∙ (unplaced_then ends d.begun_entries rings
+    ∙ sum_none (unplaced_in ends d.begun_entries) (unplaced_in (behind_all ends d.begun_entries) rings)
+    (ap (unplaced_in ends) d.begins.entries_are ∙ start_none ends _ _ d.begins.seen) (rings_none (behind_all ends d.begun_entries) rings (put_ring d.current)))
 step_none ends s (Spends time) calls entries after d e = ap (unplaced_in ends) d.1
 step_none ends s SettlesHeld calls entries after d e = ap (unplaced_in ends) d.entries_are ∙ settle_none ends (owed_by_state s) d.paid d.owed_are
 step_none ends s (Connects admin user host) calls entries after d e =
@@ -224,7 +264,9 @@ step_none ends s (Truncates admin what) calls entries after d e = act_none ends 
 
 step_same : (ends : Bool) (s : State) (step : Step) (calls : List Call) (entries : List Entry) (after : State) → Does s step calls entries after → others_at step ≡ 0 → unplaced_in ends entries ≡ brought_in true entries
 step_same ends s (EndsEvent numbers) calls entries after d e = ends_same ends s s.place.thread (is_let_through d.what.verdict) d.what d.others numbers calls entries after d.ends
-step_same ends s (StartsEvent subject) calls entries after d e = same_as ends entries _ d.entries_are (start_none ends _ _ d.seen ∙ sym (start_brings true _ _ d.seen))
+step_same ends s (StartsEvent subject) calls entries after d e =
+    rings_same ends entries d.begun_entries (put_entries d.current) d.entries_are (put_ring d.current)
+    (same_as ends d.begun_entries _ d.begins.entries_are (start_none ends _ _ d.begins.seen ∙ sym (start_brings true _ _ d.begins.seen)))
 step_same ends s (Spends time) calls entries after d e = absurd (some_none e)
 step_same ends s SettlesHeld calls entries after d e = absurd (some_none e)
 step_same ends s (Connects admin user host) calls entries after d e = absurd (some_none e)

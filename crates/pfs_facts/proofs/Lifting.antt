@@ -1,24 +1,22 @@
 -- From single lines to all lines of a session, through its phases.
-use Rattle.std.proofs.Common.{ℕ, ◌≡◌, ◌+◌, ◌%◌, ◌^◌, ◌==◌, Bool, true, false, cond, List, [], ◌∷◌, ◌++◌, Option, Some, None, drop, refl, ap, sym, ◌∙◌, subst, append_assoc, arith}
+use Rattle.std.proofs.Common.{ℕ, ◌≡◌, ◌+◌, ◌%◌, ◌^◌, ◌==◌, Bool, true, false, cond, List, [], ◌∷◌, ◌++◌, Option, Some, None, refl, ap, sym, ◌∙◌, subst, append_assoc, arith}
 use Rattle.std.proofs.Math.Nat.{mod-add-mod}
 use Rattle.std.proofs.lemmas.List.{append-nil, map-append}
 use Rattle.pfs_admin.specs.States.{State as Administration}
 use Rattle.pfs_event.specs.declared.kind.EventKind.{EventKind}
-use Rattle.pfs_event.specs.declared.kind.EventKind.TheVariants.{Wait, Stage, Statement, Transaction}
 use Rattle.pfs_model.specs.Contents.{Facts}
 use Rattle.pfs_parts.proofs.Stinting.{IfOwn, AreOwn, own_stints}
 use Rattle.pfs_parts.specs.Amounts.{Clocked, at_first, stepped, all_stepped, AreFacts, AllFacts, clock_behind}
 use Rattle.pfs_parts.specs.Deeds.{Deed, Connecting, Starting, Staging, StageEnding, Ending, Spending, Quitting, Truncating, Closing, Part, IsPart, steps_for}
 use Rattle.pfs_parts.specs.Shaped.{AreParts, state_behind, over_behind}
 use Rattle.pfs_parts.specs.Stints.{Stint, resumed, parts_by}
-use Rattle.pfs_classes.specs.declared.classes.ClassRef.{ClassRef}
 use Rattle.pfs_runs.specs.Lines.{stage_on}
 use Rattle.pfs_script.specs.declared.blocks.BlockLine.{BlockLine}
 use Rattle.pfs_script.specs.declared.blocks.BlockLine.TheVariants as said
 use Rattle.pfs_script.specs.Brackets.{open_in, kinds_of, kinds_behind}
 use Rattle.pfs_script.specs.EventRules.{AreEvents}
 use Rattle.pfs_script.specs.Events.{Event}
-use Rattle.pfs_script.specs.Marks.{Mark, Opens, Ends, EndsStage, mark_of}
+use Rattle.pfs_script.specs.Marks.{Mark, mark_of}
 use Rattle.pfs_script.proofs.Nesting.{open_is_run, kinds_more}
 use Rattle.pfs_session.specs.States.{State, fresh}
 use Rattle.pfs_session.specs.Ends.{no_numbers}
@@ -26,7 +24,7 @@ use Rattle.pfs_session.specs.Turns.{Step, StartsEvent, EndsEvent, Spends, Settle
 use Rattle.pfs_truncations.specs.Texts.{truncation_of}
 use Rattle.pfs_truncations.specs.declared.truncations.Truncation.{Truncation}
 use Rattle.pfs_facts.specs.Deeds.{IsLine, IsNext, AreDeeds, deed_on, sql_deed, SessionLaw}
-use Rattle.pfs_facts.specs.Steps.{numbers_in, stage_ends_in, steps_on}
+use Rattle.pfs_facts.specs.Steps.{numbers_in, steps_on}
 use Rattle.pfs_facts.specs.Tracks.{marks_of, Tracks, IsTold}
 use Rattle.pfs_facts.specs.Steps.{kinds_at}
 use Rattle.pfs_facts.proofs.OpenKinds.{line_kinds, kinds_stepped, all_kinds_stepped, kinds_turns, stage_ends_are}

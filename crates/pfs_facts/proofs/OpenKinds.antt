@@ -49,7 +49,7 @@ ended_in s (Some slot) true what others numbers calls entries after e = ap (λ (
 
 pub kinds_does : (s : State) (step : Step) (calls : List Call) (entries : List Entry) (after : State) → Does s step calls entries after → kinds_at after ≡ kinds_stepped (kinds_at s) step
 kinds_does s (StartsEvent subject) calls entries after does =
-    ap kinds_at does.after_is ∙ ap (λ (kind : EventKind). kind ∷ kinds_at s) does.opened.kind
+    ap kinds_at does.begins.after_is ∙ ap (λ (kind : EventKind). kind ∷ kinds_at s) does.begins.opened.kind
 kinds_does s (EndsEvent numbers) calls entries after does =
     ap kinds_in (ended_in s s.place.thread (is_let_through does.what.verdict) does.what does.others numbers calls entries after does.ends)
     ∙ sym (ap (λ (events : List Open). drop 1 (kinds_in events)) does.innermost)

@@ -2,6 +2,7 @@
 use Rattle.std.specs.Prelude.{◌≡◌, ℕ, ◌==◌, not, Bool, true, false, if◌then◌else◌, List, [], ◌∷◌, ◌++◌, All, filter, length, map, slice_index_or}
 use Rattle.std.specs.List.{flat_map}
 use Rattle.pfs_rows.specs.declared.table.Reading.{Reading}
+use Rattle.pfs_rows.specs.declared.table.EventTable.TheVariants.{Current, History, HistoryLong}
 use Rattle.pfs_rows.specs.declared.table.SummaryTable.{SummaryTable}
 use Rattle.pfs_rows.specs.declared.table.SummaryTable.TheVariants.{ByThread, ByAccount, ByUser, ByHost, Global}
 use Rattle.pfs_rows.specs.declared.table.Table.{Table}
@@ -19,7 +20,11 @@ use Rattle.pfs_tables.specs.Shown.{listed_rows}
 use Rattle.pfs_values.specs.declared.RowValue.{RowValue}
 use Rattle.pfs_values.specs.declared.RowValue.TheVariants.{Null, Number, Text}
 
--- the tables that a report may show, in its order: a kind's summaries stand together, and that of digests is the last
+-- the tables that a report may show, in its order: a kind's event tables stand together, then a kind's summaries, and
+-- that of digests is the last
+abbrev pub events_of : TableKind → List Table
+events_of kind = Events kind Current ∷ Events kind History ∷ Events kind HistoryLong ∷ []
+
 abbrev pub summaries_of : TableKind → List Table
 summaries_of kind =
     Summary kind ByThread ∷ Summary kind ByAccount ∷ Summary kind ByUser ∷ Summary kind ByHost ∷ Summary kind Global
@@ -28,8 +33,9 @@ summaries_of kind =
 abbrev pub final_order : List Table
 final_order =
     Threads ∷ Accounts ∷ Users ∷ Hosts ∷ []
+    ++ (events_of Waits ++ (events_of Stages ++ (events_of Statements ++ (events_of Transactions
     ++ (summaries_of Waits ++ (summaries_of Stages ++ (summaries_of Statements
-    ++ (summaries_of Transactions ++ DigestSummary ∷ []))))
+    ++ (summaries_of Transactions ++ DigestSummary ∷ []))))))))
 
 -- where a summary's rows have COUNT_STAR: behind whose row it is and the class's name
 abbrev pub count_place : SummaryTable → ℕ

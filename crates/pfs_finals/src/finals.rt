@@ -9,18 +9,30 @@ use pfs_classes::Setting;
 use pfs_journal::{TableList, TableReport};
 use pfs_levels::Rows;
 use pfs_reader::read_table;
-use pfs_rows::{Reading, SummaryTable, Table, TableKind};
+use pfs_rows::{EventTable, Reading, SummaryTable, Table, TableKind};
 use pfs_tables::listed;
 use pfs_text::Text;
 use pfs_values::{Row, RowValue, Rowset};
 use std::alloc::Global;
 
 /// The tables that a report may show at a phase's end, in its order. The names are MySQL's, the order is our own.
-pub const FINAL_TABLES: [Table; 25] = [
+pub const FINAL_TABLES: [Table; 37] = [
     Table::Threads,
     Table::Accounts,
     Table::Users,
     Table::Hosts,
+    Table::Events(TableKind::Waits, EventTable::Current),
+    Table::Events(TableKind::Waits, EventTable::History),
+    Table::Events(TableKind::Waits, EventTable::HistoryLong),
+    Table::Events(TableKind::Stages, EventTable::Current),
+    Table::Events(TableKind::Stages, EventTable::History),
+    Table::Events(TableKind::Stages, EventTable::HistoryLong),
+    Table::Events(TableKind::Statements, EventTable::Current),
+    Table::Events(TableKind::Statements, EventTable::History),
+    Table::Events(TableKind::Statements, EventTable::HistoryLong),
+    Table::Events(TableKind::Transactions, EventTable::Current),
+    Table::Events(TableKind::Transactions, EventTable::History),
+    Table::Events(TableKind::Transactions, EventTable::HistoryLong),
     Table::Summary(TableKind::Waits, SummaryTable::ByThread),
     Table::Summary(TableKind::Waits, SummaryTable::ByAccount),
     Table::Summary(TableKind::Waits, SummaryTable::ByUser),

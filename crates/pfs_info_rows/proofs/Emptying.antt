@@ -1,14 +1,18 @@
 -- The info rows of a level, place by place: each has its own row, and is signed once at most.
-use Rattle.std.proofs.Common.{◌≡◌, refl, ℕ, zero, suc, ◌+◌, ◌<◌, ◌≤◌, ◌==◌, Bool, true, false, cond, nat_lt, List, [], ◌∷◌, ◌++◌, Option, Some, None, sym, ap, subst, ◌∙◌, arith}
-use Rattle.pfs_admin.specs.Truncations.{up_to, place_sign, first_row, content_at, sign_at, level_signs, truncation_signs}
+use Rattle.std.proofs.Common.{◌≡◌, refl, ℕ, zero, suc, ◌+◌, ◌<◌, ◌≤◌, ◌==◌, Bool, true, false, cond, nat_lt, List, [], ◌∷◌, ◌++◌, map, ne_eqb, Option, Some, None, sym, ap, subst, ◌∙◌, arith}
+use Rattle.std.proofs.lemmas.Bool.{eqb-true}
+use Rattle.pfs_admin.specs.Laws.{row_of}
+use Rattle.pfs_admin.specs.Truncations.{is_there, event_signs, up_to, place_sign, first_row, content_at, sign_at, level_signs, truncation_signs}
 use Rattle.pfs_admin.specs.Works.{Sign, Releases, Tags}
 use Rattle.pfs_containers.specs.Administration.{Containers}
+use Rattle.pfs_levels.specs.Flushes.{Ascends}
 use Rattle.pfs_levels.specs.declared.places.Level.{Level}
 use Rattle.pfs_levels.specs.declared.places.Level.TheVariants as levels
 use Rattle.pfs_model.proofs.Growing.{times_append}
 use Rattle.pfs_model.specs.Chains.{times}
+use Rattle.pfs_ruled.proofs.Truncating.{events_ascend}
 use Rattle.pfs_truncations.specs.declared.truncations.Truncation.{Truncation}
-use Rattle.pfs_truncations.specs.declared.truncations.Truncation.TheVariants.{Summary, DigestSummary, Accounts, Users, Hosts, SetupActors, SetupObjects}
+use Rattle.pfs_truncations.specs.declared.truncations.Truncation.TheVariants.{Events, Summary, DigestSummary, Accounts, Users, Hosts, SetupActors, SetupObjects}
 use Rattle.pfs_info_rows.proofs.Naming.{signs_at}
 use Rattle.pfs_info_rows.proofs.News.{news, Misses, news_miss, news_none, misses_then, apart}
 
@@ -130,9 +134,26 @@ two_once row xs ys a b high low = at (nat_lt row 65) refl where
   at true e = let none : times (signs_at row) ys ≡ 0 = times_none row ys (low (is_below row 65 e)) in omega (arith, both, none, a)
   at false e = let none : times (signs_at row) xs ≡ 0 = times_none row xs (high (not_below row 65 e)) in omega (arith, both, none, b)
 
+-- rows that ascend: one below them is missed, and each is signed once
+pub ascends_miss : (row low high : ℕ) (signs : List Sign) → row < low → Ascends low high (map row_of signs) → Misses row signs
+ascends_miss row low high [] l a = tt
+ascends_miss row low high (x ∷ xs) l a =
+    (ne_eqb (row_of x) row (λ q. absurd (omega (arith, q, l, a.0))), ascends_miss row (row_of x + 1) high xs (omega (arith, l, a.0)) a.1.1)
+
+ascends_once : (row low high : ℕ) (signs : List Sign) → Ascends low high (map row_of signs) → times (signs_at row) signs ≤ 1
+ascends_once row low high [] a = omega arith
+ascends_once row low high (x ∷ xs) a = at (row_of x == row) refl (ascends_once row (row_of x + 1) high xs a.1.1) where
+  at : (b : Bool) → (row_of x == row) ≡ b → times (signs_at row) xs ≤ 1 → (cond b 1 0 + times (signs_at row) xs) ≤ 1
+  at true e rest =
+      let none : times (signs_at row) xs ≡ 0 = times_none row xs (ascends_miss row (row_of x + 1) high xs (omega (arith, eqb-true (row_of x) row e)) a.1.1) in
+      omega (arith, none)
+  at false e rest = omega (arith, rest)
+
 -- a truncation signs no row twice
 pub truncation_once : (row : ℕ) (was : Level → ℕ → Bool) (after : Containers) (what : Truncation) → times (signs_at row) (truncation_signs was after what) ≤ 1
 truncation_once row was after (Summary kind table) = omega arith
+truncation_once row was after (Events kind table) =
+    ascends_once row 8450 14242 (event_signs (is_there after.places levels.Thread) kind table) (events_ascend (is_there after.places levels.Thread) kind table)
 truncation_once row was after Accounts = signs_once true (was levels.Account) after levels.Account row
 truncation_once row was after Users =
     two_once row (level_signs false (was levels.Account) after levels.Account) (level_signs true (was levels.User) after levels.User) (signs_once false (was levels.Account) after levels.Account row) (signs_once true (was levels.User) after levels.User row)

@@ -19,7 +19,7 @@ use Rattle.pfs_model.specs.Chains.{action_change, each_of}
 use Rattle.pfs_rows.specs.declared.limits.Limits.{Limits}
 use Rattle.pfs_tagged.specs.Runs.{entries_to}
 use Rattle.pfs_truncations.specs.declared.truncations.Truncation.{Truncation}
-use Rattle.pfs_truncations.specs.declared.truncations.Truncation.TheVariants.{Summary, DigestSummary, Accounts, Users, Hosts, SetupActors, SetupObjects}
+use Rattle.pfs_truncations.specs.declared.truncations.Truncation.TheVariants.{Events, Summary, DigestSummary, Accounts, Users, Hosts, SetupActors, SetupObjects}
 use Rattle.pfs_info_rows.specs.Laws.{containers_to, LimitsLaw}
 use Rattle.pfs_info_rows.proofs.Stepping.{thread_none, account_none, user_none, host_none}
 
@@ -67,6 +67,7 @@ truncate_many limits c Accounts m = record {
   users = m.users;
   hosts = m.hosts;
 }
+truncate_many limits c (Events kind table) m = m
 truncate_many limits c Users m = record {
   threads = m.threads;
   accounts = len_kept 0 (in_use (λ x. x.account) c.places.threads) c.places.accounts ∙ m.accounts;

@@ -19,7 +19,7 @@ use Rattle.pfs_infos.specs.Infos.{account_words, name_words}
 use Rattle.pfs_model.specs.Chains.{Each, action_change, each_of}
 use Rattle.pfs_model.specs.Places.{Placed, places, up_to_phase}
 use Rattle.pfs_truncations.specs.declared.truncations.Truncation.{Truncation}
-use Rattle.pfs_truncations.specs.declared.truncations.Truncation.TheVariants.{Summary, DigestSummary, Accounts, Users, Hosts, SetupActors, SetupObjects}
+use Rattle.pfs_truncations.specs.declared.truncations.Truncation.TheVariants.{Events, Summary, DigestSummary, Accounts, Users, Hosts, SetupActors, SetupObjects}
 use Rattle.pfs_info_rows.specs.Laws.{containers_to, frees_accounts, frees_users, frees_hosts, labels_between, AreHeld, HeldLaw, RemainingLaw}
 use Rattle.pfs_info_rows.specs.Said.{account_said, user_said, host_said}
 use Rattle.pfs_info_rows.proofs.Freeing.{used_stays}
@@ -62,6 +62,7 @@ quit_before s (Some found) = record { accounts = λ h q e. e; users = λ h q e. 
 
 truncate_before : (c : Containers) (what : Truncation) → IsFreeBefore (changes.Truncate what) c.places (advanced c (action_of what)).places
 truncate_before c (Summary kind table) = same _ _ _ c.places
+truncate_before c (Events kind table) = same _ _ _ c.places
 truncate_before c Accounts = record { accounts = λ h q e. absurd (cc); users = λ h q e. e; hosts = λ h q e. e }
 truncate_before c Users = record { accounts = λ h q e. absurd (cc); users = λ h q e. absurd (cc); hosts = λ h q e. e }
 truncate_before c Hosts = record { accounts = λ h q e. absurd (cc); users = λ h q e. e; hosts = λ h q e. absurd (cc) }
@@ -178,6 +179,7 @@ module _ (c : Containers) where
 
 pub held_law : HeldLaw
 held_law c (Summary kind table) = nothing_freed c
+held_law c (Events kind table) = nothing_freed c
 held_law c Accounts = record {
   accounts = λ q. account_held c (advanced c (action_of Accounts)) q refl;
   users = λ q u e. e;

@@ -54,7 +54,7 @@ once_for row s session (changes.Connect user host) well = on (seat_at s session 
 once_for row s session changes.Quit well = on (seat_in s session) (seat_in_in s session well) where
   on : (o : Option Seated) → IfSome o IsInRange → times (signs_at row) (quit_work s.words s.cells (has_quit s session).kept.now o).signs ≤ 1
   on None r = omega arith
-  on (Some seat) r = once_at row 1 129 (quit_work s.words s.cells (has_quit s session).kept.now (Some seat)).signs (quit_rows s.words [] (has_quit s session).kept.now seat r tt).1
+  on (Some seat) r = once_at row 1 10242 (quit_work s.words s.cells (has_quit s session).kept.now (Some seat)).signs (quit_rows s.words [] (has_quit s session).kept.now seat r tt).1
 once_for row s session (changes.Truncate what) well = truncation_once row (is_there s.kept.now.places) (has_truncated s what).kept.now what
 once_for row s session changes.Show well = omega arith
 

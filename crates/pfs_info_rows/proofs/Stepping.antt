@@ -1,10 +1,12 @@
 -- An action's signs say of each info row what stands at its place behind the action, and of no other row does that
 -- change.
-use Rattle.std.proofs.Common.{◌≡◌, refl, ℕ, ◌+◌, ◌<◌, ◌≤◌, ◌==◌, Bool, true, false, cond, List, [], ◌∷◌, ◌++◌, Option, Some, None, slice_index_or, sym, ap, subst, ◌∙◌, arith}
+use Rattle.std.proofs.Common.{◌≡◌, refl, ℕ, ◌+◌, ◌*◌, ◌<◌, ◌≤◌, ◌==◌, Bool, true, false, cond, List, [], ◌∷◌, ◌++◌, Option, Some, None, slice_index_or, sym, ap, subst, ◌∙◌, arith}
 use Rattle.std.specs.Option.{option_map}
 use Rattle.std.specs.Prelude.{IfSome}
+use Rattle.pfs_admin.proofs.Rows.{frees_ascend}
 use Rattle.pfs_admin.specs.Asks.{account_tag, user_tag, host_tag, upper_tags, connect_work, quit_work, work_of_connect, work_of_quit}
 use Rattle.pfs_admin.specs.States.{State, seat_at, seat_in, thread_flags, connected, has_quit}
+use Rattle.pfs_admin.specs.Truncations.{free_ring}
 use Rattle.pfs_admin.specs.Works.{Sign, Releases, Tags}
 use Rattle.pfs_containers.proofs.Sharing.{free_filled, filled_others, emptied_none, emptied_others, quit_law}
 use Rattle.pfs_containers.specs.Administration.{Containers, Found, found_where, lowest_free, connect_at, session_of, quit_line}
@@ -17,6 +19,7 @@ use Rattle.pfs_containers.specs.declared.containers.Connection.{Connection}
 use Rattle.pfs_infos.specs.Infos.{thread_words, account_words, name_words}
 use Rattle.pfs_info_rows.specs.Said.{thread_said, account_said, user_said, host_said}
 use Rattle.pfs_info_rows.proofs.Levels.{read_at, level_said, connect_empty, connect_same, quit_empty, quit_same}
+use Rattle.pfs_info_rows.proofs.Emptying.{ascends_miss, news_front}
 use Rattle.pfs_info_rows.proofs.News.{news, news_miss, news_none, misses_then, apart, level_tags, level_misses, level_news}
 
 -- a place that is free says nothing
@@ -220,44 +223,50 @@ module _ (c : Containers) (f : Found Connection) (stands : entry_at c.places.thr
   left = record c { places = places_after c.places (quit_line (Some f)) }
 
   abbrev quit_signs : List Sign
-  quit_signs = Releases (1 + f.place) ∷ upper_tags left f.entry
+  quit_signs = Releases (1 + f.place) ∷ (upper_tags left f.entry ++ free_ring f.place)
 
   place_low : f.place < 32
   place_low = range.slot
 
-  skip_quit : (row : ℕ) (old : Option (List ℕ)) → 33 ≤ row → news quit_signs row old ≡ news (upper_tags left f.entry) row old
-  skip_quit row old h = ap (λ b. cond b None (news (upper_tags left f.entry) row old)) (past_first f.place row place_low h)
+  -- the places of its rings are no info rows
+  skip_ring : (row : ℕ) (old : Option (List ℕ)) → row < 8450 → news (upper_tags left f.entry ++ free_ring f.place) row old ≡ news (upper_tags left f.entry) row old
+  skip_ring row old l =
+      news_front row old (upper_tags left f.entry) (free_ring f.place)
+      (ascends_miss row (8450 + 56 * f.place) (8450 + 56 * f.place + 56) (free_ring f.place) (omega (arith, l)) (frees_ascend (8450 + 56 * f.place) 56))
+
+  skip_quit : (row : ℕ) (old : Option (List ℕ)) → 33 ≤ row → row < 8450 → news quit_signs row old ≡ news (upper_tags left f.entry) row old
+  skip_quit row old h l = ap (λ b. cond b None (news (upper_tags left f.entry ++ free_ring f.place) row old)) (past_first f.place row place_low h) ∙ skip_ring row old l
 
   quit_thread : (q : ℕ) → q < 32 → thread_said left q ≡ news quit_signs (1 + q) (thread_said c q)
   quit_thread q l = on (f.place == q) refl where
     on : (b : Bool) → (f.place == q) ≡ b → thread_said left q ≡ news quit_signs (1 + q) (thread_said c q)
     on true e =
         ap thread_text (read_at (emptied_at f.place c.places.threads) q ∙ (ap (entry_at (emptied_at f.place c.places.threads)) (sym (is_slot f.place q e)) ∙ emptied_none f.place c.places.threads))
-        ∙ sym (ap (λ b. cond b None (news (upper_tags left f.entry) (1 + q) (thread_said c q))) (same_slot f.place q ∙ e))
+        ∙ sym (ap (λ b. cond b None (news (upper_tags left f.entry ++ free_ring f.place) (1 + q) (thread_said c q))) (same_slot f.place q ∙ e))
     on false e =
         ap thread_text (read_at (emptied_at f.place c.places.threads) q ∙ (emptied_others f.place q c.places.threads (not_slot f.place q e) ∙ sym (read_at c.places.threads q)))
-        ∙ sym (ap (λ b. cond b None (news (upper_tags left f.entry) (1 + q) (thread_said c q))) (same_slot f.place q ∙ e) ∙ upper_none left f.entry range.places q (thread_said c q) l)
+        ∙ sym (ap (λ b. cond b None (news (upper_tags left f.entry ++ free_ring f.place) (1 + q) (thread_said c q))) (same_slot f.place q ∙ e) ∙ (skip_ring (1 + q) (thread_said c q) (omega (arith, l)) ∙ upper_none left f.entry range.places q (thread_said c q) l))
 
   quit_account : (q : ℕ) → q < 32 → account_said left q ≡ news quit_signs (33 + q) (account_said c q)
   quit_account q l =
       account_news left f.entry range.places q (account_said c q) l
       (λ e n. account_is c q ∙ quit_empty of_account account_make f.place q c.places.accounts c.places.threads c.account_totals (sym (account_is left q) ∙ n))
       (λ ne. account_is left q ∙ (quit_same of_account account_make f.entry f.place q c.places.accounts c.places.threads c.account_totals stands ne ∙ sym (account_is c q)))
-      ∙ sym (skip_quit (33 + q) (account_said c q) (omega arith))
+      ∙ sym (skip_quit (33 + q) (account_said c q) (omega arith) (omega (arith, l)))
 
   quit_user : (q : ℕ) → q < 32 → user_said left q ≡ news quit_signs (65 + q) (user_said c q)
   quit_user q l =
       user_news left f.entry range.places q (user_said c q) l
       (λ e n. user_is c q ∙ quit_empty of_user name_make f.place q c.places.users c.places.threads c.user_totals (sym (user_is left q) ∙ n))
       (λ ne. user_is left q ∙ (quit_same of_user name_make f.entry f.place q c.places.users c.places.threads c.user_totals stands ne ∙ sym (user_is c q)))
-      ∙ sym (skip_quit (65 + q) (user_said c q) (omega arith))
+      ∙ sym (skip_quit (65 + q) (user_said c q) (omega arith) (omega (arith, l)))
 
   quit_host : (q : ℕ) → q < 32 → host_said left q ≡ news quit_signs (97 + q) (host_said c q)
   quit_host q l =
       host_news left f.entry range.places q (host_said c q) l
       (λ e n. host_is c q ∙ quit_empty of_host name_make f.place q c.places.hosts c.places.threads c.host_totals (sym (host_is left q) ∙ n))
       (λ ne. host_is left q ∙ (quit_same of_host name_make f.entry f.place q c.places.hosts c.places.threads c.host_totals stands ne ∙ sym (host_is c q)))
-      ∙ sym (skip_quit (97 + q) (host_said c q) (omega arith))
+      ∙ sym (skip_quit (97 + q) (host_said c q) (omega arith) (omega (arith, l)))
 
 -- what the rows of the four levels are to say, behind signs
 pub record AreSaid (before : Containers) (signs : List Sign) (after : Containers) : Type 0 where

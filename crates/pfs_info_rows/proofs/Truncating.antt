@@ -1,18 +1,21 @@
 -- A truncation's signs say of each info row what stands at its place behind it: a place that was freed nothing, and one
 -- that remains its connections now and in all. A row that isn't signed says the same as before.
-use Rattle.std.proofs.Common.{◌≡◌, refl, ℕ, ◌+◌, ◌<◌, Bool, true, false, List, ◌++◌, Option, Some, None, slice_index_or, sym, ap, ◌∙◌, arith}
+use Rattle.std.proofs.Common.{◌≡◌, refl, ℕ, ◌+◌, ◌<◌, Bool, true, false, List, ◌++◌, map, Option, Some, None, slice_index_or, sym, ap, ◌∙◌, arith}
+use Rattle.pfs_admin.specs.Laws.{row_of}
 use Rattle.pfs_admin.specs.States.{State}
-use Rattle.pfs_admin.specs.Truncations.{account_source, user_source, host_source, is_there, level_signs, work_of_truncation, has_truncated}
+use Rattle.pfs_admin.specs.Truncations.{account_source, user_source, host_source, is_there, event_signs, level_signs, work_of_truncation, has_truncated}
 use Rattle.pfs_admin.specs.Works.{Sign}
 use Rattle.pfs_containers.specs.Administration.{Containers, totals_kept_from, truncated}
 use Rattle.pfs_containers.specs.Administration as fold
 use Rattle.pfs_containers.specs.Connections.{in_use, kept_from}
+use Rattle.pfs_levels.specs.Flushes.{Ascends}
 use Rattle.pfs_levels.specs.declared.places.Level.{Level}
 use Rattle.pfs_levels.specs.declared.places.Level.TheVariants as levels
+use Rattle.pfs_ruled.proofs.Truncating.{events_ascend}
 use Rattle.pfs_truncations.specs.declared.truncations.Truncation.{Truncation}
-use Rattle.pfs_truncations.specs.declared.truncations.Truncation.TheVariants.{Summary, DigestSummary, Accounts, Users, Hosts, SetupActors, SetupObjects}
+use Rattle.pfs_truncations.specs.declared.truncations.Truncation.TheVariants.{Events, Summary, DigestSummary, Accounts, Users, Hosts, SetupActors, SetupObjects}
 use Rattle.pfs_info_rows.specs.Said.{thread_said, account_said, user_said, host_said}
-use Rattle.pfs_info_rows.proofs.Emptying.{news_front, signs_news, signs_miss}
+use Rattle.pfs_info_rows.proofs.Emptying.{ascends_miss, news_front, signs_news, signs_miss}
 use Rattle.pfs_info_rows.proofs.Freeing.{free_stays, not_there, kept_same}
 use Rattle.pfs_info_rows.proofs.Levels.{level_said}
 use Rattle.pfs_info_rows.proofs.News.{news, Misses, news_miss, news_none, misses_then}
@@ -153,8 +156,21 @@ module _ (c : Containers) where
     hosts = hosts_own;
   }
 
+-- the places of rings are no info rows
+rings_said : (c : Containers) (signs : List Sign) → Ascends 8450 14242 (map row_of signs) → AreSaid c signs c
+rings_said c signs a = record {
+  threads = λ q l. missed (1 + q) (thread_said c q) (omega (arith, l));
+  accounts = λ q l. missed (33 + q) (account_said c q) (omega (arith, l));
+  users = λ q l. missed (65 + q) (user_said c q) (omega (arith, l));
+  hosts = λ q l. missed (97 + q) (host_said c q) (omega (arith, l));
+} where
+  missed : (row : ℕ) (old : Option (List ℕ)) → row < 8450 → old ≡ news signs row old
+  missed row old l = sym (news_none row old signs (ascends_miss row 8450 14242 signs l a))
+
 pub truncation_said : (s : State) (what : Truncation) → AreSaid s.kept.now (work_of_truncation s what).signs (has_truncated s what).kept.now
 truncation_said s (Summary kind table) = unsigned s.kept.now
+truncation_said s (Events kind table) =
+    rings_said s.kept.now (event_signs (is_there s.kept.now.places levels.Thread) kind table) (events_ascend (is_there s.kept.now.places levels.Thread) kind table)
 truncation_said s Accounts = accounts_said s.kept.now
 truncation_said s Users = users_said s.kept.now
 truncation_said s Hosts = hosts_said s.kept.now

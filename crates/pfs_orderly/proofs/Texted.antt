@@ -1,7 +1,6 @@
 -- A statement's digest text is one of the setting's, or has no place.
 use Rattle.std.proofs.Common.{ℕ, zero, suc, ◌<◌, List, [], ◌∷◌, ◌++◌, length, map, Option, Some, None, arith}
 use Rattle.std.specs.List.{All}
-use Rattle.pfs_classes.specs.declared.setting.Setting.{Setting}
 use Rattle.pfs_model.specs.Chains.{Each}
 use Rattle.pfs_model.specs.declared.lines.Line.{Line}
 use Rattle.pfs_model.specs.declared.lines.Line.TheVariants as told

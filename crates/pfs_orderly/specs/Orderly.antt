@@ -6,7 +6,7 @@ use Rattle.pfs_model.specs.Places.{places}
 use Rattle.pfs_runs.specs.Labels.{terms_of}
 use Rattle.pfs_runs.specs.Lines.{change_in, facts_in}
 use Rattle.pfs_runs.specs.Rules.{flags_by}
-use Rattle.pfs_runs.specs.Runs.{IsRun, all_blocks, ringless}
+use Rattle.pfs_runs.specs.Runs.{IsRun, all_blocks}
 use Rattle.pfs_script.specs.declared.blocks.Phase.{Phase}
 use Rattle.pfs_script.specs.declared.reasons.Extent.TheVariants.{Whole}
 use Rattle.pfs_script.specs.Scripts.{IsScript}
@@ -14,7 +14,7 @@ use Rattle.pfs_tagged.specs.Premises.{AreActionsOf, AreKept, AreClosed, AreFirst
 use Rattle.pfs_tagged.specs.Runs.{Run}
 
 -- the run of a report: the changes and the facts are the script's, and the flags by which events are brought are those
--- of the words, without the consumers of rings
+-- of the words
 abbrev pub run_of : (setting : Setting) (phases : List Phase) (report : ReportParts)
     → IsRun setting phases report → Run
 run_of setting phases report run = record {
@@ -25,8 +25,7 @@ run_of setting phases report run = record {
   counted = run.counted;
   content = run.content;
   blocks = all_blocks run.blocks;
-  flags = ringless (flags_by (terms_of setting (change_in phases) (facts_in phases) run.labels)
-      (places (all_blocks run.blocks)));
+  flags = flags_by (terms_of setting (change_in phases) (facts_in phases) run.labels) (places (all_blocks run.blocks));
 }
 
 -- it keeps the rules, has its labels, and brings each event as its flags ask

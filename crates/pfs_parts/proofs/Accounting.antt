@@ -37,9 +37,10 @@ use Rattle.pfs_parts.proofs.Once.{once_then, once_lines}
 use Rattle.pfs_parts.proofs.Owing.{Ascend, ascending, wait_same}
 use Rattle.pfs_parts.proofs.Settling.{settle_brings, acted_sums, is_seated}
 use Rattle.pfs_parts.proofs.Written.{turned_agrees, does_at, ends_by, has_stage}
-use Rattle.pfs_parts.specs.Agreeing.{Agrees, Stands}
-use Rattle.pfs_parts.specs.Amounts.{Clocked, stepped, all_stepped, StepFacts, AreFacts, AllFacts, AllPlaced, IsPlaced, ContentsAgree, AllContentsAgree, AreAdded, Sums, sum_of, owed_to, IsAccounted, AmountsLaw, SumsLaw}
-use Rattle.pfs_parts.specs.Deeds.{Deed, Connecting, Starting, Staging, StageEnding, Ending, Spending, Quitting, Truncating, Closing, Part, MayDo, is_over, line_of, steps_for}
+use Rattle.pfs_parts.proofs.Wording.{PutBy, quiet_put, connect_put, none_worded}
+use Rattle.pfs_parts.specs.Agreeing.{Agrees, Stands, LoadsAgree}
+use Rattle.pfs_parts.specs.Amounts.{Clocked, stepped, all_stepped, StepFacts, AreFacts, AllFacts, AllPlaced, IsPlaced, ContentsAgree, AllContentsAgree, AreAdded, ArePut, Sums, sum_of, owed_to, IsAccounted, AmountsLaw, SumsLaw}
+use Rattle.pfs_parts.specs.Deeds.{IsSubject, Deed, Connecting, Starting, Staging, StageEnding, Ending, Spending, Quitting, Truncating, Closing, Part, MayDo, is_over, line_of, steps_for}
 use Rattle.pfs_parts.specs.Shaped.{AreParts, MayDoAll, AllLoadsAgree}
 
 ascend_state : (slot : Option ℕ) (s : State) → IfSome slot (λ n. n < 32) → Ascend (owed_in slot s.held)
@@ -55,13 +56,21 @@ module _ (m : MergeIsMonoid) (flags : ℕ → ℕ → ℕ) (slots : ℕ → Opti
 
   -- the turns of a line bring what they say
   abbrev OfLine : Option Subject → Clocked → Context → State → List Turn → Type 0
-  OfLine subject k context s turns = AreTurns s turns → AreFacts (facts session) k (steps_of turns) → ContentsAgree content (turns_calls turns)
+  OfLine subject k context s turns = AreTurns s turns → AreFacts (facts session) k (steps_of turns) → ContentsAgree content (turns_calls turns) → LoadsAgree flags (turns_calls turns)
       → Brings subject (turned context) (turns_entries turns) (all_stepped k (steps_of turns)) (state_after s turns)
 
   -- so does a step, behind these entries
   abbrev OfStep : Option Subject → Clocked → Context → State → Step → List Call → List Entry → State → Type 0
-  OfStep subject k context s step calls entries after = Does s step calls entries after → StepFacts (facts session) k step → ContentsAgree content calls
+  OfStep subject k context s step calls entries after = Does s step calls entries after → StepFacts (facts session) k step → ContentsAgree content calls → LoadsAgree flags calls
       → Brings subject context entries (stepped k step) after
+
+  front_loads : (xs ys : List Call) → LoadsAgree flags (xs ++ ys) → LoadsAgree flags xs
+  front_loads [] ys l = tt
+  front_loads (x ∷ xs) ys l = (l.0, front_loads xs ys l.1)
+
+  back_loads : (xs ys : List Call) → LoadsAgree flags (xs ++ ys) → LoadsAgree flags ys
+  back_loads [] ys l = l
+  back_loads (x ∷ xs) ys l = back_loads xs ys l.1
 
   front : (xs ys : List Call) → ContentsAgree content (xs ++ ys) → ContentsAgree content xs
   front [] ys c = tt
@@ -76,9 +85,9 @@ module _ (m : MergeIsMonoid) (flags : ℕ → ℕ → ℕ) (slots : ℕ → Opti
   one_line subject k context s turns step steps go =
       let o : OneTurn turns step = one_turn turns step steps in
       let t : Turn = o.turn in
-      subst (OfLine subject k context s) (sym o.is) (λ are f c.
+      subst (OfLine subject k context s) (sym o.is) (λ are f c l.
       subst (λ z. Brings subject (turned context) t.entries (stepped k z) t.after) (sym o.step_is)
-      (go t.calls t.entries t.after (does_at s t step o.step_is are.0) (subst (StepFacts (facts session) k) o.step_is f.0) (front t.calls [] c)))
+      (go t.calls t.entries t.after (does_at s t step o.step_is are.0) (subst (StepFacts (facts session) k) o.step_is f.0) (front t.calls [] c) (front_loads t.calls [] l)))
 
   two_line : (subject : Option Subject) (k : Clocked) (context : Context) (s : State) (turns : List Turn) (a b : Step) → steps_of turns ≡ a ∷ b ∷ []
       → ((calls : List Call) (entries : List Entry) (after : State) → OfStep subject k (turned context) s a calls entries after)
@@ -89,14 +98,14 @@ module _ (m : MergeIsMonoid) (flags : ℕ → ℕ → ℕ) (slots : ℕ → Opti
       let o : TwoTurns turns a b = two_turns turns a b steps in
       let t : Turn = o.first in
       let u : Turn = o.second in
-      subst (OfLine subject k context s) (sym o.is) (λ are f c.
+      subst (OfLine subject k context s) (sym o.is) (λ are f c l.
       let does : Does s a t.calls t.entries t.after = does_at s t a o.first_is are.1.0 in
       let one : Brings subject (turned context) t.entries (stepped k a) t.after =
-      go t.calls t.entries t.after does (subst (StepFacts (facts session) k) o.first_is f.0) (front t.calls [] (back u.calls (t.calls ++ []) c)) in
+      go t.calls t.entries t.after does (subst (StepFacts (facts session) k) o.first_is f.0) (front t.calls [] (back u.calls (t.calls ++ []) c)) (front_loads t.calls [] (back_loads u.calls (t.calls ++ []) l)) in
       let f2 : StepFacts (facts session) (stepped k a) b =
       subst (StepFacts (facts session) (stepped k a)) o.second_is (subst (λ z. StepFacts (facts session) (stepped k z) u.step) o.first_is f.1.0) in
       let two : Brings subject (after_entries subject (turned context) t.entries) u.entries (stepped (stepped k a) b) u.after =
-      on t.calls t.entries t.after does one.sums u.calls u.entries u.after (does_at t.after u b o.second_is are.0) f2 (front u.calls (t.calls ++ []) c) in
+      on t.calls t.entries t.after does one.sums u.calls u.entries u.after (does_at t.after u b o.second_is are.0) f2 (front u.calls (t.calls ++ []) c) (front_loads u.calls (t.calls ++ []) l) in
       let same : stepped (stepped k a) b ≡ stepped (stepped k t.step) u.step =
       ap (λ z. stepped (stepped k z) b) (sym o.first_is) ∙ ap (stepped (stepped k t.step)) (sym o.second_is) in
       subst (λ z. Brings subject (turned context) (t.entries ++ u.entries) z u.after) same
@@ -104,25 +113,26 @@ module _ (m : MergeIsMonoid) (flags : ℕ → ℕ → ℕ) (slots : ℕ → Opti
 
   no_line : (subject : Option Subject) (k : Clocked) (context : Context) (s : State) (turns : List Turn) → Rests k context s → turns ≡ [] → OfLine subject k context s turns
   no_line subject k context s turns a none =
-      subst (OfLine subject k context s) (sym none) (λ are f c. record { added = tt; once = λ h. refl; sums = turned_sums m flags slots facts session content k context s a })
+      subst (OfLine subject k context s) (sym none) (λ are f c l. record { added = tt; put = tt; once = λ h. refl; sums = turned_sums m flags slots facts session content k context s a })
 
-  of_start : (subject : Subject) (k : Clocked) (context : Context) (s : State) → Rests k context s → (calls : List Call) (entries : List Entry) (after : State)
+  of_start : (subject : Subject) (k : Clocked) (context : Context) (s : State) → Agrees flags context s → IsSubject subject → Rests k context s → (calls : List Call) (entries : List Entry) (after : State)
       → OfStep (Some subject) k context s (StartsEvent subject) calls entries after
-  of_start subject k context s a calls entries after d f c = start_brings m flags slots facts session content k context s after subject calls entries a d f
+  of_start subject k context s agrees is a calls entries after d f c l = start_brings m flags slots facts session content k context s after subject calls entries agrees a is d l f c
 
   of_end : (subject : Option Subject) (numbers : Numbers) (k : Clocked) (context : Context) (s : State) → Agrees flags context s → Rests k context s
       → (calls : List Call) (entries : List Entry) (after : State) → OfStep subject k context s (EndsEvent numbers) calls entries after
-  of_end subject numbers k context s agrees a calls entries after d f c = end_brings m flags slots facts session content subject k context s after numbers calls entries agrees a d f c
+  of_end subject numbers k context s agrees a calls entries after d f c l = end_brings m flags slots facts session content subject k context s after numbers calls entries agrees a d f c
 
   of_settle : (subject : Option Subject) (k : Clocked) (context : Context) (s : State) → Rests k (turned context) s → Ascend (owed_by_state s)
       → (calls : List Call) (entries : List Entry) (after : State) → OfStep subject k (turned context) s SettlesHeld calls entries after
-  of_settle subject k context s a up calls entries after d f c = settle_brings m flags slots facts session content subject k (turned context) s after calls entries a refl up d c
+  of_settle subject k context s a up calls entries after d f c l = settle_brings m flags slots facts session content subject k (turned context) s after calls entries a refl up d c
 
   of_spend : (subject : Option Subject) (time : ℕ) (k : Clocked) (context : Context) (s : State) → Rests k context s
       → (calls : List Call) (entries : List Entry) (after : State) → OfStep subject k context s (Spends time) calls entries after
-  of_spend subject time k context s a calls entries after d f c =
+  of_spend subject time k context s a calls entries after d f c l =
       brings_as m flags slots facts session content subject context entries [] _ after _ d.1 d.2 (record {
         added = tt;
+        put = tt;
         once = λ h. refl;
         sums = record {
           clock = ap (λ z. (z + time) % 2 ^ 64) a.clock;
@@ -131,13 +141,15 @@ module _ (m : MergeIsMonoid) (flags : ℕ → ℕ → ℕ) (slots : ℕ → Opti
           starts = a.starts;
           held = a.held;
           seat = a.seat;
+          own = a.own;
+          worded = a.worded;
         };
       })
 
-  of_connect : (admin : Administration) (user host : ℕ) (k : Clocked) (context : Context) (s : State) → Rests k context s → s.held ≡ nothing_held
+  of_connect : (admin : Administration) (user host : ℕ) (k : Clocked) (context : Context) (s : State) → Rests k context s → s.held ≡ nothing_held → s.opened.events ≡ []
       → (placed_of (seat_at admin s.number user host)).thread ≡ slots session → (calls : List Call) (entries : List Entry) (after : State)
       → OfStep None k context s (Connects admin user host) calls entries after
-  of_connect admin user host k context s a free placed calls entries after d f c =
+  of_connect admin user host k context s a free closed placed calls entries after d f c l =
       let w = d.0 in
       let seat = seat_at admin s.number user host in
       let work = work_of_connect admin s.number user host in
@@ -148,14 +160,16 @@ module _ (m : MergeIsMonoid) (flags : ℕ → ℕ → ℕ) (slots : ℕ → Opti
       let next : State = record (acted s (connected admin s.number user host)) { place = placed_of seat } in
       let q = quiet_then context mid (after_entries None mid rest) (connect_quiet context (admin.actions + 1) seat) (quiet_context mid rest quiet) in
       brings_as m flags slots facts session content None context entries (head ∷ rest) _ after next w.entries_are d.1 (record {
+        put = (connect_put flags (facts session) content session context (admin.actions + 1) seat, quiet_put flags (facts session) content session mid rest quiet);
         added = (connect_added (amount_by flags slots facts session) content context (admin.actions + 1) seat, quiet_added (amount_by flags slots facts session) content mid rest quiet);
         once = once_then flags None context (head ∷ []) rest (connect_once flags context (admin.actions + 1) seat) (quiet_once flags mid rest quiet);
-        sums = acted_sums m flags slots facts session content k context (after_entries None mid rest) s next a free q refl refl refl (is_seated (slots session) (placed_of seat).thread placed);
+        sums = acted_sums m flags slots facts session content k context (after_entries None mid rest) s next a free q refl refl refl (is_seated (slots session) (placed_of seat).thread placed) refl
+            (none_worded flags (placed_of seat).thread session context.opened s.opened.events closed);
       })
 
-  of_quit : (admin : Administration) (k : Clocked) (context : Context) (s : State) → Rests k context s → s.held ≡ nothing_held
+  of_quit : (admin : Administration) (k : Clocked) (context : Context) (s : State) → Rests k context s → s.held ≡ nothing_held → s.opened.events ≡ []
       → (calls : List Call) (entries : List Entry) (after : State) → OfStep None k context s (Quits admin) calls entries after
-  of_quit admin k context s a free calls entries after d f c =
+  of_quit admin k context s a free closed calls entries after d f c l =
       let w = d.0 in
       let work = work_of_quit admin s.number in
       let head : Entry = says.Act (admin.actions + 1) in
@@ -164,14 +178,16 @@ module _ (m : MergeIsMonoid) (flags : ℕ → ℕ → ℕ) (slots : ℕ → Opti
       let next : State = record (acted s (has_quit admin s.number)) { place = no_place } in
       let q = quiet_context context (head ∷ rest) (refl, quiet) in
       brings_as m flags slots facts session content None context entries (head ∷ rest) _ after next w.entries_are d.1 (record {
+        put = quiet_put flags (facts session) content session context (head ∷ rest) (refl, quiet);
         added = quiet_added (amount_by flags slots facts session) content context (head ∷ rest) (refl, quiet);
         once = quiet_once flags context (head ∷ rest) (refl, quiet);
-        sums = acted_sums m flags slots facts session content k context (after_entries None context (head ∷ rest)) s next a free q refl refl refl tt;
+        sums = acted_sums m flags slots facts session content k context (after_entries None context (head ∷ rest)) s next a free q refl refl refl tt refl
+            (none_worded flags None session context.opened s.opened.events closed);
       })
 
   of_truncation : (admin : Administration) (what : Truncation) (k : Clocked) (context : Context) (s : State) → Rests k context s → s.held ≡ nothing_held
       → (calls : List Call) (entries : List Entry) (after : State) → OfStep None k context s (Truncates admin what) calls entries after
-  of_truncation admin what k context s a free calls entries after d f c =
+  of_truncation admin what k context s a free calls entries after d f c l =
       let w = d.works in
       let work = work_of_truncation admin what in
       let head : Entry = says.Act (admin.actions + 1) in
@@ -181,9 +197,10 @@ module _ (m : MergeIsMonoid) (flags : ℕ → ℕ → ℕ) (slots : ℕ → Opti
       let next : State = acted s (has_truncated admin what) in
       let q = quiet_context context whole quiet in
       brings_as m flags slots facts session content None context entries whole _ after next (d.entries_are ∙ ap (λ z. z ++ says.Reply 0 ∷ []) w.entries_are) d.after_is (record {
+        put = quiet_put flags (facts session) content session context whole quiet;
         added = quiet_added (amount_by flags slots facts session) content context whole quiet;
         once = quiet_once flags context whole quiet;
-        sums = acted_sums m flags slots facts session content k context (after_entries None context whole) s next a free q refl refl refl a.seat;
+        sums = acted_sums m flags slots facts session content k context (after_entries None context whole) s next a free q refl refl refl a.seat refl a.worded;
       })
 
   -- the session behind an end agrees with what the end wrote
@@ -196,18 +213,19 @@ module _ (m : MergeIsMonoid) (flags : ℕ → ℕ → ℕ) (slots : ℕ → Opti
   by_deed : (over : Bool) (k : Clocked) (context : Context) (s : State) (deed : Deed) (turns : List Turn) → Stands flags over context s → Rests k context s → MayDo over s deed
       → IsPlaced (slots session) s.number deed → steps_of turns ≡ steps_for s deed → OfLine (subject_of (line_of deed)) k context s turns
   by_deed false k context s (Connecting admin user host) turns a r may placed steps =
-      one_line None k context s turns (Connects admin user host) steps (of_connect admin user host k (turned context) s (turned_sums m flags slots facts session content k context s r) may.2 placed)
+      one_line None k context s turns (Connects admin user host) steps (of_connect admin user host k (turned context) s (turned_sums m flags slots facts session content k context s r) may.2 may.1 placed)
   by_deed false k context s (Starting subject) turns a r may placed steps =
-      one_line (Some subject) k context s turns (StartsEvent subject) steps (of_start subject k (turned context) s (turned_sums m flags slots facts session content k context s r))
+      one_line (Some subject) k context s turns (StartsEvent subject) steps (of_start subject k (turned context) s (turned_agrees flags context s a) may.1 (turned_sums m flags slots facts session content k context s r))
   by_deed false k context s (Staging subject) turns a r may placed steps = by_stage (has_stage s.opened.events) refl where
     by_stage : (b : Bool) → has_stage s.opened.events ≡ b → OfLine (Some subject) k context s turns
     by_stage false e =
         one_line (Some subject) k context s turns (StartsEvent subject) (steps ∙ ap (λ z. z ++ StartsEvent subject ∷ []) (ends_by s.opened.events false e))
-        (of_start subject k (turned context) s (turned_sums m flags slots facts session content k context s r))
+        (of_start subject k (turned context) s (turned_agrees flags context s a) may.1 (turned_sums m flags slots facts session content k context s r))
     by_stage true e =
         two_line (Some subject) k context s turns (EndsEvent no_numbers) (StartsEvent subject) (steps ∙ ap (λ z. z ++ StartsEvent subject ∷ []) (ends_by s.opened.events true e))
         (of_end (Some subject) no_numbers k (turned context) s (turned_agrees flags context s a) (turned_sums m flags slots facts session content k context s r))
-        (λ calls entries mid d now. of_start subject (stepped k (EndsEvent no_numbers)) (after_entries (Some subject) (turned context) entries) mid now)
+        (λ calls entries mid d now. of_start subject (stepped k (EndsEvent no_numbers)) (after_entries (Some subject) (turned context) entries) mid
+        (mid_agrees (lines.Stage subject) (turned context) s mid no_numbers calls entries (turned_agrees flags context s a) d) may.1 now)
   by_deed false k context s StageEnding turns a r may placed steps = by_stage (has_stage s.opened.events) refl where
     by_stage : (b : Bool) → has_stage s.opened.events ≡ b → OfLine None k context s turns
     by_stage false e = no_line None k context s turns r (no_turns turns (steps ∙ (append-nil (stage_ends s.opened.events) ∙ ends_by s.opened.events false e)))
@@ -229,7 +247,8 @@ module _ (m : MergeIsMonoid) (flags : ℕ → ℕ → ℕ) (slots : ℕ → Opti
   by_deed false k context s (Quitting admin) turns a r may placed steps =
       two_line None k context s turns SettlesHeld (Quits admin) steps
       (of_settle None k context s (turned_sums m flags slots facts session content k context s r) (ascend_state s.place.thread s a.low))
-      (λ calls entries mid d now. of_quit admin k (after_entries None (turned context) entries) mid now (ap (λ (z : State). z.held) d.after_is))
+      (λ calls entries mid d now. of_quit admin k (after_entries None (turned context) entries) mid now (ap (λ (z : State). z.held) d.after_is)
+      (ap (λ (z : State). z.opened.events) d.after_is ∙ may.1))
   by_deed false k context s (Truncating admin what) turns a r may placed steps =
       two_line None k context s turns SettlesHeld (Truncates admin what) steps
       (of_settle None k context s (turned_sums m flags slots facts session content k context s r) (ascend_state s.place.thread s a.low))
@@ -249,6 +268,16 @@ module _ (m : MergeIsMonoid) (flags : ℕ → ℕ → ℕ) (slots : ℕ → Opti
       one_line None k context s turns SettlesHeld steps
       (of_settle None k context s (turned_sums m flags slots facts session content k context s r) (subst (λ z. Ascend (owed_in z s.held)) (sym a.nowhere) tt))
 
+pub put_more : (flags : ℕ → ℕ → ℕ) (facts : ℕ → Facts) (content : ℕ → ℕ → List ℕ) (session : ℕ) (xs ys : List Placed) → ArePut flags facts content session xs → ArePut flags facts content session ys
+    → ArePut flags facts content session (xs ++ ys)
+put_more flags facts content session [] ys a b = b
+put_more flags facts content session (x ∷ xs) ys a b = (a.0, put_more flags facts content session xs ys a.1 b)
+
+put_places : (flags : ℕ → ℕ → ℕ) (facts : ℕ → Facts) (content : ℕ → ℕ → List ℕ) (phase session : ℕ) (line : Line) (context : Context) (entries : List Entry)
+    → PutBy flags facts content session (subject_of line) context entries → ArePut flags facts content session (placed_part phase session line context entries)
+put_places flags facts content phase session line context [] a = tt
+put_places flags facts content phase session line context (e ∷ es) a = (a.0, put_places flags facts content phase session line (noted (subject_of line) context e) es a.1)
+
 pub added_more : (amounts : Opened → Stat) (content : ℕ → ℕ → List ℕ) (xs ys : List Placed) → AreAdded amounts content xs → AreAdded amounts content ys → AreAdded amounts content (xs ++ ys)
 added_more amounts content [] ys a b = b
 added_more amounts content (x ∷ xs) ys a b = (a.0, added_more amounts content xs ys a.1 b)
@@ -264,19 +293,20 @@ accounted m = λ flags slots facts session content over k context s parts stands
       all : (flags : ℕ → ℕ → ℕ) (slots : ℕ → Option ℕ) (facts : ℕ → ℕ → Facts) (session : ℕ) (content : ℕ → ℕ → List ℕ) (over : Bool) (k : Clocked) (context : Context) (s : State)
           (parts : List Part) → Stands flags over context s → Sums flags slots facts session k context s → MayDoAll over s parts → AreParts s parts → AllLoadsAgree flags parts
           → AllPlaced (slots session) s.number parts → AllFacts (facts session) k parts → AllContentsAgree content parts → IsAccounted flags slots facts session content k context s parts
-      all flags slots facts session content over k context s [] stands sums may are loads placed given contents = record { added = λ phase. tt; once = λ phase h. refl; sums = sums }
+      all flags slots facts session content over k context s [] stands sums may are loads placed given contents = record { added = λ phase. tt; put = λ phase. tt; once = λ phase h. refl; sums = sums }
       all flags slots facts session content over k context s (p ∷ ps) stands sums may are loads placed given contents =
           let w = written flags over context s p stands may.0 are.0 loads.0 in
           let line : Line = line_of p.deed in
           let next : Context = context_after context line (turns_entries p.turns) in
           let then : Clocked = all_stepped k (steps_of p.turns) in
           let b : Accounts flags slots facts session content (subject_of line) (turned context) (turns_entries p.turns) then (state_after s p.turns) =
-          by_deed m flags slots facts session content over k context s p.deed p.turns stands sums may.0 placed.0 are.0.steps_are are.0.are_turns given.0 contents.0 in
+          by_deed m flags slots facts session content over k context s p.deed p.turns stands sums may.0 placed.0 are.0.steps_are are.0.are_turns given.0 contents.0 loads.0 in
           let r : IsAccounted flags slots facts session content then next (state_after s p.turns) ps =
           all flags slots facts session content (is_over over p.deed) then next (state_after s p.turns) ps w.stands b.sums may.1 are.1 loads.1
           (subst (λ z. AllPlaced (slots session) z ps) (sym (turns_number s p.turns are.0.are_turns)) placed.1) given.1 contents.1 in
           record {
             added = λ phase. added_more _ content _ _ (at_places (amount_by flags slots facts session) content phase session line (turned context) (turns_entries p.turns) b.added) (r.added phase);
+            put = λ phase. put_more flags (facts session) content session _ _ (put_places flags (facts session) content phase session line (turned context) (turns_entries p.turns) b.put) (r.put phase);
             once = λ phase. once_lines flags phase session line (turned context) (turns_entries p.turns) _ _ b.once (r.once phase);
             sums = r.sums;
           }
@@ -293,7 +323,7 @@ no_sum amounts (x ∷ xs) e = absurd (cc)
 
 pub sums : SumsLaw
 sums = record {
-  fresh = λ flags slots facts session number stack depth. record { clock = refl; begun = refl; going = refl; starts = tt; held = λ row. refl; seat = tt };
+  fresh = λ flags slots facts session stack depth. record { clock = refl; begun = refl; going = refl; starts = tt; held = λ row. refl; seat = tt; own = refl; worded = tt };
   nothing = λ flags slots facts session clocked context s a none. no_wait context.waiting
       (λ row. no_sum (amount_by flags slots facts session) (held_for row context.waiting) (sym (a.held row) ∙ ap (owed_to row) none));
 }

@@ -1,5 +1,5 @@
 -- What each step of a session adds is what its journal brings there.
-use Rattle.std.proofs.Common.{ℕ, ◌≡◌, ◌<◌, ◌+◌, ◌-◌, ◌%◌, ◌^◌, Bool, true, false, List, [], ◌∷◌, ◌++◌, Option, Some, None, length, map, drop, slice_set, refl, ap, sym, ◌∙◌, subst}
+use Rattle.std.proofs.Common.{ℕ, ◌≡◌, ◌<◌, ◌+◌, ◌-◌, ◌%◌, ◌^◌, ◌&&◌, Bool, true, false, is_some, List, [], ◌∷◌, ◌++◌, Option, Some, None, length, map, drop, slice_set, refl, ap, sym, ◌∙◌, subst}
 use Rattle.std.specs.Prelude.{if◌then◌else◌, ◌==◌, IfSome}
 use Rattle.std.proofs.lemmas.Bool.{eqb-true, false≢true}
 use Rattle.std.proofs.lemmas.List.{append-nil, length-set}
@@ -18,9 +18,18 @@ use Rattle.pfs_model.specs.Contexts.{Context, Waiting, noted, turned, after_entr
 use Rattle.pfs_model.specs.Setups.{is_timed, is_digested}
 use Rattle.pfs_model.specs.declared.lines.Opened.{Opened}
 use Rattle.pfs_model.specs.declared.lines.Subject.{Subject}
-use Rattle.pfs_session.specs.Ends.{Ends, EndsIn, EndsThrough, EndsSilently, DigestsIn, cell_number, digest_number, added_entry, still_held, with_held, amount_of}
+use Rattle.pfs_session.specs.Ends.{Ends, EndsIn, EndsThrough, EndsAdded, EndsSilently, DigestsIn, ended_event, cell_number, digest_number, added_entry, still_held, with_held, amount_of}
 use Rattle.pfs_session.specs.Settles.{owed_in, owed_by_state}
-use Rattle.pfs_session.specs.Starts.{Starts, started, verdict_in, if_through}
+use Rattle.pfs_event.specs.declared.verdict.Verdict.{Verdict}
+use Rattle.pfs_event.specs.declared.verdict.Verdict.TheVariants.{Attributed}
+use Rattle.pfs_model.specs.Contents.{or_zero, written_at, written_of}
+use Rattle.pfs_model.specs.Setups.{is_attributed}
+use Rattle.pfs_session.proofs.Ending.{added_leaves, without_one}
+use Rattle.pfs_session.specs.Rings.{is_placed_by, put_entries}
+use Rattle.pfs_session.specs.Starts.{Starts, Begins, IsLoaded, load_calls, is_timed_by, started, verdict_in, if_through}
+use Rattle.pfs_session.specs.Starts.{link_of as started_link}
+use Rattle.pfs_session.specs.declared.opening.Outer.{Outer}
+use Rattle.pfs_session.specs.declared.setup.Setup.{Setup}
 use Rattle.pfs_session.specs.States.{State, held_row, held_at}
 use Rattle.pfs_session.specs.Turns.{StartsEvent, EndsEvent}
 use Rattle.pfs_session.specs.declared.events.Numbers.{Numbers}
@@ -34,10 +43,17 @@ use Rattle.pfs_model.specs.Shapes.{counted_slot}
 use Rattle.pfs_session.specs.Ends.{cell_in}
 use Rattle.pfs_parts.proofs.Owing.{owed_cell, owed_same, owed_other, wait_same, wait_other, else_same, else_other}
 use Rattle.pfs_parts.proofs.Pieces.{entries_then}
-use Rattle.pfs_parts.proofs.Starting.{consumers_in, thread_in, class_in, table_in, start_as}
+use Rattle.pfs_parts.proofs.Ringing.{is_ring, put_ring, ring_keeps, rings_keep, rings_of}
+use Rattle.pfs_parts.proofs.Started.{loads_behind}
+use Rattle.pfs_parts.proofs.Starting.{class_worded, link_worded, read_only_worded, start_digested, start_timed, event_of, consumers_in, thread_in, class_in, table_in, start_as}
+use Rattle.pfs_model.specs.Contents.{nesting_type, nesting_id}
+use Rattle.pfs_model.specs.Numbers.{nesting_of}
+use Rattle.pfs_session.specs.States.{around}
+use Rattle.pfs_parts.proofs.Wording.{PutBy, Writes, around_same, back_calls, front_calls, start_words, end_words, put_then, put_in, puts_by}
 use Rattle.pfs_parts.proofs.Summing.{is_added, same_measure}
-use Rattle.pfs_parts.specs.Agreeing.{AreAlike, Agrees, IsCounted}
-use Rattle.pfs_parts.specs.Amounts.{Going, Clocked, stepped, IsMeasured, EndFacts, StepFacts, sum_of, owed_to, going_of, HaveStarted, Sums, ContentAgrees, ContentsAgree, IsAdded, in_row, in_digest_row, counted_first, counted_at, brought_at}
+use Rattle.pfs_parts.specs.Agreeing.{AreAlike, Agrees, IsCounted, LoadsAgree}
+use Rattle.pfs_parts.specs.Deeds.{IsSubject}
+use Rattle.pfs_parts.specs.Amounts.{Going, Clocked, stepped, IsMeasured, EndFacts, StepFacts, sum_of, owed_to, going_of, HaveStarted, Sums, ContentAgrees, ContentsAgree, IsAdded, IsPut, IsWorded, AreWorded, words_put, in_row, in_digest_row, counted_first, counted_at, brought_at}
 
 -- each addition among these entries brings what the entries before it say
 abbrev pub AddedBy : (Opened → Stat) → (ℕ → ℕ → List ℕ) → Option Subject → Context → List Entry → Type 0
@@ -53,6 +69,7 @@ added_then amounts content subject context (e ∷ es) fs a b = (a.0, added_then 
 pub record Accounts (flags : ℕ → ℕ → ℕ) (slots : ℕ → Option ℕ) (facts : ℕ → ℕ → Facts) (session : ℕ) (content : ℕ → ℕ → List ℕ) (subject : Option Subject) (context : Context)
     (entries : List Entry) (k : Clocked) (after : State) : Type 0 where
   pub added : AddedBy (amount_by flags slots facts session) content subject context entries
+  pub put : PutBy flags (facts session) content session subject context entries
   pub once : OnceBy flags subject context entries
   pub sums : Sums flags slots facts session k (after_entries subject context entries) after
 
@@ -180,16 +197,79 @@ counted_some flags slot event others digested e d =
     ap (λ b. if b then in_row (cell_row (counted_slot slot event.verdict) event.subject.cell) event ∷ in_digest_row (is_digested flags slot event) event else []) e
     ∙ ap (λ b. in_row (cell_row (counted_slot slot event.verdict) event.subject.cell) event ∷ in_digest_row b event) d
 
-front_calls : (content : ℕ → ℕ → List ℕ) (xs ys : List Call) → ContentsAgree content (xs ++ ys) → ContentsAgree content xs
-front_calls content [] ys c = tt
-front_calls content (x ∷ xs) ys c = (c.0, front_calls content xs ys c.1)
-
-back_calls : (content : ℕ → ℕ → List ℕ) (xs ys : List Call) → ContentsAgree content (xs ++ ys) → ContentsAgree content ys
-back_calls content [] ys c = c
-back_calls content (x ∷ xs) ys c = back_calls content xs ys c.1
-
 same_then : (a b c : Context) → Same a b → Same b c → Same a c
 same_then a b c p q = record { begun = q.begun ∙ p.begun; opened = q.opened ∙ p.opened }
+
+-- an addition is no put
+added_put : (flags : ℕ → ℕ → ℕ) (facts : ℕ → Facts) (content : ℕ → ℕ → List ℕ) (session : ℕ) (context : Context) (answer : Added) → IsPut flags facts content session context (added_entry answer)
+added_put flags facts content session context (Counted row version) = tt
+added_put flags facts content session context (Held row first second) = tt
+
+-- what the entries of an end and its additions tell of the event that ended
+record AddedTold (old new : Context) : Type 0 where
+  ended : new.ended ≡ first_of old.opened
+  opened : new.opened ≡ drop 1 old.opened
+  slot : new.slot ≡ old.slot
+  drawn : new.drawn ≡ old.drawn
+
+record StillTold (old new : Context) : Type 0 where
+  ended : new.ended ≡ old.ended
+  opened : new.opened ≡ old.opened
+  slot : new.slot ≡ old.slot
+  drawn : new.drawn ≡ old.drawn
+
+still_told : (subject : Option Subject) (context : Context) (answer : Added) → StillTold context (noted subject context (added_entry answer))
+still_told None context (Counted row version) = record { ended = refl; opened = refl; slot = refl; drawn = refl }
+still_told None context (Held row first second) = record { ended = refl; opened = refl; slot = refl; drawn = refl }
+still_told (Some subject) context (Counted row version) = record { ended = refl; opened = refl; slot = refl; drawn = refl }
+still_told (Some subject) context (Held row first second) = record { ended = refl; opened = refl; slot = refl; drawn = refl }
+
+end_told : (subject : Option Subject) (context : Context) (n l c t : Option ℕ) → AddedTold context (noted subject context (says.End n l c t))
+end_told None context n l c t = record { ended = refl; opened = refl; slot = refl; drawn = refl }
+end_told (Some subject) context n l c t = record { ended = refl; opened = refl; slot = refl; drawn = refl }
+
+told_on : (a b c : Context) → AddedTold a b → StillTold b c → AddedTold a c
+told_on a b c p q = record { ended = q.ended ∙ p.ended; opened = q.opened ∙ p.opened; slot = q.slot ∙ p.slot; drawn = q.drawn ∙ p.drawn }
+
+added_told : (subject : Option Subject) (context : Context) (s after : State) (slot : ℕ) (what : Open) (others : List Open) (numbers : Numbers) (calls : List Call) (entries : List Entry)
+    → EndsAdded s slot what others numbers calls entries after → AddedTold context (after_entries subject context entries)
+added_told subject context s after slot what others numbers calls entries x = by_digest what.digested x.digests where
+  End : Entry
+  End = says.End (Some what.event.number) (Some s.drawn) (Some x.counts.consumers.version) (Some x.counts.thread.version)
+
+  mid : Context
+  mid = noted subject context End
+
+  next : Context
+  next = noted subject mid (added_entry x.counts.answer)
+
+  first : AddedTold context next
+  first = told_on context mid next (end_told subject context (Some what.event.number) (Some s.drawn) (Some x.counts.consumers.version) (Some x.counts.thread.version)) (still_told subject mid x.counts.answer)
+
+  by_digest : (b : Bool) → DigestsIn b x.between slot what numbers x.digested_calls x.digested_entries after → AddedTold context (after_entries subject context entries)
+  by_digest false y =
+      let same : entries ≡ End ∷ added_entry x.counts.answer ∷ [] = x.entries_are ∙ (ap (λ z. x.counted_entries ++ z) y.entries_are ∙ (append-nil x.counted_entries ∙ x.counts.entries_are)) in
+      subst (λ z. AddedTold context (after_entries subject context z)) (sym same) first
+  by_digest true y =
+      let same : entries ≡ End ∷ added_entry x.counts.answer ∷ added_entry y.answer ∷ [] =
+      x.entries_are ∙ (ap (λ z. x.counted_entries ++ z) y.entries_are ∙ ap (λ z. z ++ added_entry y.answer ∷ []) x.counts.entries_are) in
+      subst (λ z. AddedTold context (after_entries subject context z)) (sym same) (told_on context next (noted subject next (added_entry y.answer)) first (still_told subject next y.answer))
+
+attributed_is : (v : Verdict) → is_attributed v ≡ true → v ≡ Attributed
+attributed_is Attributed q = refl
+attributed_is _ q = absurd (false≢true q)
+
+first_true : (a b : Bool) → (a && b) ≡ true → a ≡ true
+first_true true b q = refl
+first_true false b q = absurd (false≢true q)
+
+-- nothing is loaded of a lost class
+abbrev lost_class : Option ℕ
+lost_class = None
+
+no_class : (own : Option ℕ) → true ≡ (is_some own && is_some lost_class) → ⊥
+no_class None q = absurd (false≢true (sym q))
+no_class (Some n) q = absurd (false≢true (sym q))
 
 -- an addition that was tried of the event that has just ended: what it brings, and what is held behind it
 record Tried (amounts : Opened → Stat) (content : ℕ → ℕ → List ℕ) (subject : Option Subject) (context : Context) (answer : Added) (row : ℕ) (event : Opened) (thread : Option ℕ)
@@ -219,29 +299,137 @@ module _ (m : MergeIsMonoid) (flags : ℕ → ℕ → ℕ) (slots : ℕ → Opti
       → Brings subject (after_entries subject context es) fs k after → Brings subject context (es ++ fs) k after
   brings_then subject context es fs j k s after a b = record {
     added = added_then amounts content subject context es fs a.added b.added;
+    put = put_then flags (facts session) content session subject context es fs a.put b.put;
     once = once_then flags subject context es fs a.once b.once;
     sums = subst (λ z. Stands' k z after) (sym (entries_then subject context es fs)) b.sums;
   }
 
   pub turned_sums : (k : Clocked) (context : Context) (s : State) → Stands' k context s → Stands' k (turned context) s
-  turned_sums k context s a = record { clock = a.clock; begun = a.begun; going = a.going; starts = a.starts; held = a.held; seat = a.seat }
+  turned_sums k context s a = record { clock = a.clock; begun = a.begun; going = a.going; starts = a.starts; held = a.held; seat = a.seat; own = a.own; worded = a.worded }
 
-  pub start_brings : (k : Clocked) (context : Context) (s after : State) (subject : Subject) (calls : List Call) (entries : List Entry) → Stands' k context s
-      → Starts s subject calls entries after → StepFacts (facts session) k (StartsEvent subject) → Brings (Some subject) context entries (stepped k (StartsEvent subject)) after
-  start_brings k context s after subject calls entries a st f =
+  -- entries of puts bring nothing to rows, and change nothing but the next places of histories
+  ring_once : (subject : Option Subject) (context : Context) (e : Entry) → is_ring e ≡ true → OnceBy flags subject context (e ∷ [])
+  ring_once subject context e q = once_plain flags subject context e (nothing e q).0 (nothing e q).1 (ap (λ (z : Context). z.waiting) (ring_keeps subject context e q)) where
+    nothing : (e : Entry) → is_ring e ≡ true → (counted_at flags context e ≡ []) × (brought_at context e ≡ [])
+    nothing (says.Ring row version) q = (refl, refl)
+    nothing (says.Long row version ticket) q = (refl, refl)
+    nothing (says.Busy row first second) q = (refl, refl)
+    nothing (says.Late row ticket greater) q = (refl, refl)
+    nothing _ q = absurd (false≢true q)
+
+  rings_once : (subject : Option Subject) (context : Context) (es : List Entry) → AreAll true is_ring es → OnceBy flags subject context es
+  rings_once subject context [] q = λ h. refl
+  rings_once subject context (e ∷ es) q = once_then flags subject context (e ∷ []) es (ring_once subject context e q.0) (rings_once subject (noted subject context e) es q.1)
+
+  ring_added : (context : Context) (e : Entry) → is_ring e ≡ true → IsAdded amounts content context e
+  ring_added context (says.Add row version) q = absurd (false≢true q)
+  ring_added context _ q = tt
+
+  rings_added : (subject : Option Subject) (context : Context) (es : List Entry) → AreAll true is_ring es → AddedBy amounts content subject context es
+  rings_added subject context [] q = tt
+  rings_added subject context (e ∷ es) q = (ring_added context e q.0, rings_added subject (noted subject context e) es q.1)
+
+  rings_bring : (subject : Option Subject) (k : Clocked) (context : Context) (s after : State) (es : List Entry) → AreAll true is_ring es
+      → PutBy flags (facts session) content session subject context es → Stands' k context s → after.clock ≡ s.clock → after.opened ≡ s.opened → after.held ≡ s.held → after.place ≡ s.place
+      → after.number ≡ s.number → Brings subject context es k after
+  rings_bring subject k context s after es q put a clock opened held place number = record {
+    added = rings_added subject context es q;
+    put = put;
+    once = rings_once subject context es q;
+    sums = subst (λ z. Stands' k z after) (sym (rings_keep subject context es q)) (record {
+      clock = a.clock ∙ sym clock;
+      begun = a.begun;
+      going = a.going ∙ ap (λ z. going_of context.opened z.events) (sym opened);
+      starts = a.starts;
+      held = λ row. ap (λ z. owed_to row (owed_in z.thread after.held)) place ∙ (ap (λ z. owed_to row (owed_in s.place.thread z)) held ∙ a.held row);
+      seat = subst (λ p. IfSome p.thread (λ n. slots session ≡ Some n)) (sym place) a.seat;
+      own = number ∙ a.own;
+      worded = subst (λ z. AreWorded flags after.place.thread session context.opened z.events) (sym opened)
+          (subst (λ z. AreWorded flags z.thread session context.opened s.opened.events) (sym place) a.worded);
+    });
+  }
+
+  -- what the words of an event that starts say, where it is offered to its current place
+  start_worded : (k : Clocked) (context : Context) (s after : State) (subject : Subject) (calls : List Call) (entries : List Entry) (b : Begins s subject calls entries after) → Agrees flags context s
+      → Stands' k context s → IsSubject subject → LoadsAgree flags calls → b.what.placed ≡ true
+      → IsWorded flags s.place.thread session (event_of subject (verdict_in s subject b.seen) context.begun (s.drawn + 1) b.seen) context.opened b.what
+  start_worded k context s after subject calls entries st agrees a is loads placed = by_seen st.seen subject.class refl refl st.loaded where
+    v : Verdict
+    v = verdict_in s subject st.seen
+
+    agree : LoadsAgree flags (load_calls s.place.thread subject.class subject.table st.seen)
+    agree = subst (LoadsAgree flags) st.calls_are loads
+
+    offered_there : is_placed_by subject v st.seen ≡ true
+    offered_there = sym st.opened.placed_is ∙ placed
+
+    attributed : (seen : Option Setup) → is_placed_by subject v seen ≡ true → v ≡ Attributed
+    attributed None q = absurd (false≢true q)
+    attributed (Some seen) q = attributed_is v (first_true (is_attributed v) _ q)
+
+    own : v ≡ Attributed
+    own = attributed st.seen offered_there
+
+    outer : (nesting_type (nesting_of context.opened) ≡ (around s.opened.events).nesting) × (nesting_id (nesting_of context.opened) ≡ (around s.opened.events).parent)
+    outer = around_same flags s.place.thread context.opened s.opened.events agrees.opened
+
+    by_seen : (seen : Option Setup) (class : Option ℕ) → st.seen ≡ seen → subject.class ≡ class → IsLoaded s.place.thread subject.class subject.table st.seen
+        → IsWorded flags s.place.thread session (event_of subject v context.begun (s.drawn + 1) st.seen) context.opened st.what
+    by_seen None class e c l = absurd (false≢true (sym (ap (is_placed_by subject v) e) ∙ offered_there))
+    by_seen (Some seen) None e c l = absurd (no_class s.place.thread (subst (λ z. IsLoaded s.place.thread z subject.table (Some seen)) c (subst (IsLoaded s.place.thread subject.class subject.table) e l)).there)
+    by_seen (Some seen) (Some class) e c l = record {
+      session_is = sym (st.opened.session_is ∙ a.own);
+      number = ap (λ z. or_zero (if_through z (s.drawn + 1))) own ∙ sym st.opened.number;
+      class = class_worded subject.class st.what.event.class st.opened.class;
+      link = link_worded _ (event_of subject v context.begun (s.drawn + 1) st.seen)
+          ∙ (ap (λ z. started_link z subject) (start_digested flags s.place.thread subject v context.begun (s.drawn + 1) st.seen subject.class refl st.loaded agree) ∙ sym st.opened.link);
+      timed = subst (λ z. is_timed flags s.place.thread (event_of subject v context.begun (s.drawn + 1) z) ≡ is_timed_by subject z) (sym e)
+          (start_timed flags s.place.thread subject v context.begun (s.drawn + 1) seen (subst (IsLoaded s.place.thread subject.class subject.table) e l)
+          (subst (λ z. LoadsAgree flags (load_calls s.place.thread subject.class subject.table z)) e agree)) ∙ sym st.opened.timed_is;
+      read_only = read_only_worded subject class st.what is c st.opened.class ∙ sym st.opened.read_only;
+      nesting = outer.0 ∙ sym (ap (λ (z : Outer). z.nesting) st.opened.lies_in);
+      parent = outer.1 ∙ sym (ap (λ (z : Outer). z.parent) st.opened.lies_in);
+      unfilled = st.opened.unfilled;
+    }
+
+  pub start_brings : (k : Clocked) (context : Context) (s after : State) (subject : Subject) (calls : List Call) (entries : List Entry) → Agrees flags context s → Stands' k context s → IsSubject subject
+      → Starts s subject calls entries after → LoadsAgree flags calls → StepFacts (facts session) k (StartsEvent subject) → ContentsAgree content calls
+      → Brings (Some subject) context entries (stepped k (StartsEvent subject)) after
+  start_brings k context s after subject calls entries agrees a is x loads f c =
+      let st = x.begins in
       let v = verdict_in s subject st.seen in
       let n : ℕ = s.drawn + 1 in
       let entry : Entry = says.Start (if_through v n) v (consumers_in st.seen) (thread_in st.seen) (class_in st.seen) (table_in st.seen) in
-      let same : entries ≡ entry ∷ [] = st.entries_are ∙ ap (λ z. z ∷ []) (start_as v n st.seen) in
-      let sums : Stands' (stepped k (StartsEvent subject)) (noted (Some subject) context entry) (started s st.what) = record {
+      let event : Opened = event_of subject v context.begun n st.seen in
+      let next : Context = noted (Some subject) context entry in
+      let puts : List Entry = put_entries x.current in
+      let same : entries ≡ entry ∷ puts = x.entries_are ∙ (ap (λ z. z ++ puts) st.entries_are ∙ ap (λ z. z ∷ puts) (start_as v n st.seen)) in
+      let older : LoadsAgree flags x.begun_calls = loads_behind flags x.put_calls x.begun_calls (subst (LoadsAgree flags) x.calls_are loads) in
+      let newer : ContentsAgree content x.put_calls = front_calls content x.put_calls x.begun_calls (subst (ContentsAgree content) x.calls_are c) in
+      let worded : st.what.placed ≡ true → IsWorded flags s.place.thread session event context.opened st.what =
+      λ q. start_worded k context s after subject x.begun_calls x.begun_entries st agrees a is older q in
+      let index : (facts session event.index).start ≡ st.what.event.start =
+      ap (λ z. (facts session z).start) (sym a.begun) ∙ (f ∙ (a.clock ∙ sym st.opened.start)) in
+      let writes : st.what.placed ≡ true → Writes flags (facts session) content session (Some subject) next st.what.event =
+      λ q. (λ ticket. ap (λ z. words_put flags (facts session) session z ticket (written_at next)) agrees.slot
+      ∙ start_words flags session s.place.thread (facts session event.index) event context.opened st.what (worded q) index ticket) in
+      let sums : Stands' (stepped k (StartsEvent subject)) next (started s st.what) = record {
         clock = a.clock;
         begun = ap (λ z. z + 1) a.begun;
         going = same_going _ _ _ _ _ _ _ _ a.begun (sym st.opened.kind) (a.clock ∙ sym st.opened.start) a.going;
         starts = (f, a.starts);
         held = a.held;
         seat = a.seat;
+        own = a.own;
+        worded = (worded, a.worded);
       } in
-      brings_as (Some subject) context entries (entry ∷ []) _ after (started s st.what) same st.after_is (record { added = (tt, tt); once = once_plain flags (Some subject) context entry refl refl refl; sums = sums })
+      let first : Brings (Some subject) context (entry ∷ []) (stepped k (StartsEvent subject)) (started s st.what) =
+      record { added = (tt, tt); put = (tt, tt); once = once_plain flags (Some subject) context entry refl refl refl; sums = sums } in
+      let second : Brings (Some subject) next puts (stepped k (StartsEvent subject)) (started s st.what) =
+      rings_bring (Some subject) (stepped k (StartsEvent subject)) next (started s st.what) (started s st.what) puts (put_ring x.current)
+      (put_in flags (facts session) content session (Some subject) next s.place.thread st.what _ st.what.event x.current x.put_calls writes x.put_is newer) sums refl refl refl refl refl in
+      brings_as (Some subject) context entries (entry ∷ puts) _ after (started s st.what) same st.after_is
+      (brings_then (Some subject) context (entry ∷ []) puts (stepped k (StartsEvent subject)) (stepped k (StartsEvent subject)) (started s st.what) (started s st.what) first second)
 
   -- the events that go on, behind an end
   went_on : (k : Clocked) (context behind : Context) (s : State) (what : Open) (others : List Open) (event : Opened) (rest : List Opened) → Stands' k context s
@@ -249,6 +437,13 @@ module _ (m : MergeIsMonoid) (flags : ℕ → ℕ → ℕ) (slots : ℕ → Opti
   went_on k context behind s what others event rest a o e b =
       ap (drop 1) a.going ∙ (ap (λ z. drop 1 (going_of z s.opened.events)) o ∙ (ap (λ z. drop 1 (going_of (event ∷ rest) z)) e
       ∙ sym (ap (λ z. going_of z others) (b ∙ ap (drop 1) o))))
+
+  worded_on : {k : Clocked} (context behind : Context) (s : State) (what : Open) (others : List Open) (event : Opened) (rest : List Opened) → Stands' k context s
+      → context.opened ≡ event ∷ rest → s.opened.events ≡ what ∷ others → behind.opened ≡ drop 1 context.opened → AreWorded flags s.place.thread session behind.opened others
+  worded_on context behind s what others event rest a o e b =
+      let whole : AreWorded flags s.place.thread session (event ∷ rest) (what ∷ others) =
+      subst (λ z. AreWorded flags s.place.thread session z (what ∷ others)) o (subst (AreWorded flags s.place.thread session context.opened) e a.worded) in
+      subst (λ z. AreWorded flags s.place.thread session z others) (sym (b ∙ ap (drop 1) o)) whole.1
 
   silent_brings : (subject : Option Subject) (k : Clocked) (context : Context) (s after : State) (what : Open) (others : List Open) (event : Opened) (rest : List Opened) (numbers : Numbers)
       (calls : List Call) (entries : List Entry) → Stands' k context s → context.opened ≡ event ∷ rest → s.opened.events ≡ what ∷ others → is_let_through event.verdict ≡ false
@@ -263,9 +458,12 @@ module _ (m : MergeIsMonoid) (flags : ℕ → ℕ → ℕ) (slots : ℕ → Opti
         starts = starts_drop (facts session) k.going a.starts;
         held = λ row. a.held row ∙ ap (λ z. sum_of (map amounts (held_for row z))) (sym d.waiting);
         seat = a.seat;
+        own = a.own;
+        worded = worded_on context (noted subject context End) s what others event rest a o e d.opened;
       } in
       brings_as subject context entries (End ∷ []) _ after _ x.entries_are x.after_is (record {
         added = (tt, tt);
+        put = (tt, tt);
         once = once_plain flags subject context End (ap (counted_first flags context.slot) o ∙ counted_none flags context.slot event rest silent) refl d.waiting;
         sums = sums;
       })
@@ -339,11 +537,11 @@ module _ (m : MergeIsMonoid) (flags : ℕ → ℕ → ℕ) (slots : ℕ → Opti
                   (λ q o. ap (held_for q) left ∙ wait_other q row event context.waiting o);
             }
 
-  through_brings : (subject : Option Subject) (k : Clocked) (context : Context) (s after : State) (slot : ℕ) (what : Open) (others : List Open) (numbers : Numbers) (calls : List Call)
+  added_brings : (subject : Option Subject) (k : Clocked) (context : Context) (s after : State) (slot : ℕ) (what : Open) (others : List Open) (numbers : Numbers) (calls : List Call)
       (entries : List Entry) → Agrees flags context s → Stands' k context s → s.place.thread ≡ Some slot → s.opened.events ≡ what ∷ others
       → (i : Innermost flags s.place.thread context.opened what others) → is_let_through what.verdict ≡ true → StepFacts (facts session) k (EndsEvent numbers)
-      → EndsThrough s slot what others numbers calls entries after → ContentsAgree content calls → Brings subject context entries (stepped k (EndsEvent numbers)) after
-  through_brings subject k context s after slot what others numbers calls entries agrees a seat e i through f x c =
+      → EndsAdded s slot what others numbers calls entries after → ContentsAgree content calls → Brings subject context entries (stepped k (EndsEvent numbers)) after
+  added_brings subject k context s after slot what others numbers calls entries agrees a seat e i through f x c =
       by_digest what.digested refl x.digests where
         End : Entry
         End = says.End (Some what.event.number) (Some s.drawn) (Some x.counts.consumers.version) (Some x.counts.thread.version)
@@ -381,15 +579,18 @@ module _ (m : MergeIsMonoid) (flags : ℕ → ℕ → ℕ) (slots : ℕ → Opti
             (λ q. a.held q ∙ ap (λ z. sum_of (map amounts (held_for q z))) (sym d.waiting)) x.counts.row_is (subst (ContentsAgree content) x.counts.calls_are older).0
 
         -- the session behind both, or behind the first
-        behind : (last : Context) (left : State) → Same mid last → left.clock ≡ s.clock → left.opened.events ≡ others → left.place ≡ s.place
+        behind : (last : Context) (left : State) → Same mid last → left.clock ≡ s.clock → left.opened.events ≡ others → left.place ≡ s.place → left.number ≡ s.number
             → ((q : ℕ) → owed_to q (owed_by_state left) ≡ sum_of (map amounts (held_for q last.waiting))) → Stands' (stepped k (EndsEvent numbers)) last left
-        behind last left same clock opened place held = record {
+        behind last left same clock opened place number held = record {
           clock = a.clock ∙ sym clock;
           begun = a.begun ∙ sym (same.begun ∙ d.begun);
           going = went_on k context last s what others i.event i.rest a i.is e (same.opened ∙ d.opened) ∙ ap (going_of last.opened) (sym opened);
           starts = starts_drop (facts session) k.going a.starts;
           held = held;
           seat = subst (λ p. IfSome p.thread (λ n. slots session ≡ Some n)) (sym place) a.seat;
+          own = number ∙ a.own;
+          worded = subst (λ z. AreWorded flags z.thread session last.opened left.opened.events) (sym place)
+              (subst (AreWorded flags s.place.thread session last.opened) (sym opened) (worded_on context last s what others i.event i.rest a i.is e (same.opened ∙ d.opened)));
         }
 
         between_owed : (q : ℕ) → owed_to q (owed_by_state x.between) ≡ sum_of (map amounts (held_for q next.waiting))
@@ -411,9 +612,10 @@ module _ (m : MergeIsMonoid) (flags : ℕ → ℕ → ℕ) (slots : ℕ → Opti
             let same : entries ≡ End ∷ added_entry x.counts.answer ∷ [] = x.entries_are ∙ (ap (λ z. x.counted_entries ++ z) y.entries_are ∙ (append-nil x.counted_entries ∙ x.counts.entries_are)) in
             brings_as subject context entries (End ∷ added_entry x.counts.answer ∷ []) _ after x.between same y.after_is (record {
               added = (tt, (first.added, tt));
+              put = (tt, (added_put flags (facts session) content session mid x.counts.answer, tt));
               once = once_ended flags subject context End x.counts.answer (held_row slot (cell_number what)) i.event (counted false q) refl d.waiting first.shared;
               sums = behind next x.between first.same (ap (λ (z : State). z.clock) x.counts.after_is) (ap (λ (z : State). z.opened.events) x.counts.after_is)
-                  (ap (λ (z : State). z.place) x.counts.after_is) between_owed;
+                  (ap (λ (z : State). z.place) x.counts.after_is) (ap (λ (z : State). z.number) x.counts.after_is) between_owed;
             })
         by_digest true q y =
             let between : x.between.place.thread ≡ Some slot = ap (λ (z : State). z.place.thread) x.counts.after_is ∙ seat in
@@ -430,11 +632,49 @@ module _ (m : MergeIsMonoid) (flags : ℕ → ℕ → ℕ) (slots : ℕ → Opti
             let left : State = record x.between { held = slice_set x.between.held (digest_number what) (still_held (with_held (held_at x.between.held (digest_number what)) (amount_of what x.between.clock numbers)) y.answer) } in
             brings_as subject context entries (End ∷ added_entry x.counts.answer ∷ added_entry y.answer ∷ []) _ after left same y.after_is (record {
               added = (tt, (first.added, (second.added, tt)));
+              put = (tt, (added_put flags (facts session) content session mid x.counts.answer, (added_put flags (facts session) content session next y.answer, tt)));
               once = once_digested flags subject context End x.counts.answer y.answer (held_row slot (cell_number what)) (held_row slot (digest_number what)) i.event
                   (counted true q ∙ ap (λ z. in_row (held_row slot (cell_number what)) i.event ∷ in_row z i.event ∷ []) at) refl d.waiting first.shared second.shared;
               sums = behind (noted subject next (added_entry y.answer)) left (same_then mid next (noted subject next (added_entry y.answer)) first.same second.same) clock
-                  (ap (λ (z : State). z.opened.events) x.counts.after_is) (ap (λ (z : State). z.place) x.counts.after_is) second.owed;
+                  (ap (λ (z : State). z.opened.events) x.counts.after_is) (ap (λ (z : State). z.place) x.counts.after_is) (ap (λ (z : State). z.number) x.counts.after_is) second.owed;
             })
+
+  -- behind the additions: the puts
+  through_brings : (subject : Option Subject) (k : Clocked) (context : Context) (s after : State) (slot : ℕ) (what : Open) (others : List Open) (numbers : Numbers) (calls : List Call)
+      (entries : List Entry) → Agrees flags context s → Stands' k context s → s.place.thread ≡ Some slot → s.opened.events ≡ what ∷ others
+      → (i : Innermost flags s.place.thread context.opened what others) → is_let_through what.verdict ≡ true → StepFacts (facts session) k (EndsEvent numbers)
+      → EndsThrough s slot what others numbers calls entries after → ContentsAgree content calls → Brings subject context entries (stepped k (EndsEvent numbers)) after
+  through_brings subject k context s after slot what others numbers calls entries agrees a seat e i through f x c =
+      let later : Clocked = stepped k (EndsEvent numbers) in
+      let all : ContentsAgree content (x.ring_calls ++ x.added_calls) = subst (ContentsAgree content) x.calls_are c in
+      let first : Brings subject context x.added_entries later x.among =
+      added_brings subject k context s x.among slot what others numbers x.added_calls x.added_entries agrees a seat e i through f x.adds (back_calls content x.ring_calls x.added_calls all) in
+      let mid : Context = after_entries subject context x.added_entries in
+      let t : AddedTold context mid = added_told subject context s x.among slot what others numbers x.added_calls x.added_entries x.adds in
+      let gone : k.going ≡ going i.event.index what.kind what.event.start ∷ going_of i.rest others =
+      a.going ∙ (ap (λ z. going_of z s.opened.events) i.is ∙ ap (going_of (i.event ∷ i.rest)) e) in
+      let whole : AreWorded flags s.place.thread session (i.event ∷ i.rest) (what ∷ others) =
+      subst (λ z. AreWorded flags s.place.thread session z (what ∷ others)) i.is (subst (AreWorded flags s.place.thread session context.opened) e a.worded) in
+      let start : (facts session i.event.index).start ≡ what.event.start = (subst (HaveStarted (facts session)) gone a.starts).0 in
+      let measured = subst (EndFacts (facts session) k.clock numbers) gone f in
+      let still : x.among ≡ without_one s others x.among.held = added_leaves s slot what others numbers x.added_calls x.added_entries x.among x.adds in
+      let clock : x.among.clock ≡ s.clock = ap (λ (z : State). z.clock) still in
+      let drawn : x.among.drawn ≡ s.drawn = ap (λ (z : State). z.drawn) still in
+      let written : written_at mid ≡ Some (record { event = i.event; around = i.rest; last = Some mid.drawn }) =
+      ap (λ z. written_of z mid.opened mid.drawn) (t.ended ∙ ap first_of i.is)
+      ∙ ap (λ z. Some (record { event = i.event; around = z; last = Some mid.drawn })) (t.opened ∙ ap (drop 1) i.is) in
+      let writes : what.placed ≡ true → Writes flags (facts session) content session subject mid (ended_event what x.among.drawn x.among.clock numbers) =
+      λ q. (λ ticket. ap (λ z. words_put flags (facts session) session z ticket (written_at mid)) (t.slot ∙ agrees.slot)
+      ∙ (ap (words_put flags (facts session) session s.place.thread ticket) written
+      ∙ end_words flags session s.place.thread (facts session i.event.index) i.event i.rest what x.among.drawn mid.drawn x.among.clock k.clock numbers (whole.0 q) start
+      (t.drawn ∙ (agrees.drawn ∙ sym drawn)) (a.clock ∙ sym clock) measured ticket)) in
+      let ringed : AreAll true is_ring x.ring_entries = rings_of x.among slot what numbers _ _ x.ring_calls x.ring_entries after x.puts in
+      let put = puts_by flags (facts session) content session subject mid x.among slot what numbers _ _ x.ring_calls x.ring_entries after writes x.puts (front_calls content x.ring_calls x.added_calls all) in
+      let second : Brings subject mid x.ring_entries later after =
+      rings_bring subject later mid x.among after x.ring_entries ringed put first.sums (ap (λ (z : State). z.clock) x.puts.after_is) (ap (λ (z : State). z.opened) x.puts.after_is)
+      (ap (λ (z : State). z.held) x.puts.after_is) (ap (λ (z : State). z.place) x.puts.after_is) (ap (λ (z : State). z.number) x.puts.after_is) in
+      subst (λ z. Brings subject context z later after) (sym x.entries_are)
+      (brings_then subject context x.added_entries x.ring_entries later later x.among after first second)
 
   pub end_brings : (subject : Option Subject) (k : Clocked) (context : Context) (s after : State) (numbers : Numbers) (calls : List Call) (entries : List Entry) → Agrees flags context s
       → Stands' k context s → Ends s numbers calls entries after → StepFacts (facts session) k (EndsEvent numbers) → ContentsAgree content calls

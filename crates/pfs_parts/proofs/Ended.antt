@@ -18,22 +18,24 @@ use Rattle.pfs_event.specs.declared.verdict.Verdict.TheVariants.{Aside, Attribut
 use Rattle.pfs_levels.specs.Calls.{Call, row_in}
 use Rattle.pfs_levels.specs.declared.answers.Added.{Added}
 use Rattle.pfs_levels.specs.declared.answers.Added.TheVariants.{Counted, Held}
-use Rattle.pfs_model.specs.Asks.{cell_row, digest_row, is_digest, is_summary, both_loaded}
+use Rattle.pfs_model.specs.Asks.{cell_row, is_digest, is_summary, both_loaded}
 use Rattle.pfs_model.specs.Contexts.{Context, subject_of, noted, with_row, without_row}
 use Rattle.pfs_model.specs.Cuts.{cut, are_closed, is_headed}
 use Rattle.pfs_model.specs.Numbers.{IsNumbered, ending_id, end_event_id}
-use Rattle.pfs_model.specs.Shapes.{ending, counting, counted_slot, digest_of, puts}
+use Rattle.pfs_model.specs.Shapes.{ending, counting, counted_slot, digest_of, maybe, puts}
 use Rattle.pfs_model.specs.Setups.{is_attributed, is_digested, is_statement}
 use Rattle.pfs_model.specs.declared.lines.Line.{Line}
 use Rattle.pfs_model.specs.declared.lines.Opened.{Opened}
 use Rattle.pfs_model.specs.declared.lines.Subject.{Subject}
 use Rattle.pfs_model.specs.declared.shapes.Ask.TheVariants as asks
 use Rattle.pfs_stat.specs.declared.Stat.{Stat}
-use Rattle.pfs_session.specs.Ends.{Ends, EndsIn, EndsThrough, EndsCounted, EndsSilently, AddsTo, DigestsIn, cell_in, cell_number, digest_number, added_entry, still_held, with_held, amount_of}
+use Rattle.pfs_session.specs.Ends.{Ends, EndsIn, EndsThrough, EndsAdded, EndsCounted, EndsSilently, DigestsIn, cell_in, cell_number, digest_number, added_entry, still_held, with_held, amount_of}
 use Rattle.pfs_session.specs.Settles.{owed_in}
 use Rattle.pfs_session.specs.States.{State, held_row, held_at}
 use Rattle.pfs_session.specs.declared.events.Numbers.{Numbers}
-use Rattle.pfs_parts.proofs.Cutting.{cut_one, cut_maybe, cut_maybe_end, cut_nothing}
+use Rattle.pfs_parts.proofs.Acting.{AreAll}
+use Rattle.pfs_parts.proofs.Cutting.{cut_one, cut_maybe, cut_maybe_end, cut_maybe_other, cut_nothing}
+use Rattle.pfs_parts.proofs.Ringing.{is_ring, puts_cut, rings_of, rings_piece}
 use Rattle.pfs_parts.proofs.Held.{rows, rows_held, rows_freed}
 use Rattle.pfs_parts.proofs.Pieces.{IsPiece, piece_one, piece_plain, piece_then, judged_end, is_plain}
 use Rattle.pfs_parts.specs.Agreeing.{IsAlike, IsCounted, AreAlike, Agrees, row_owed}
@@ -50,14 +52,23 @@ ending_closed slot event = counted (is_let_through event.verdict) event.subject.
   counted true kind = kinds_closed event.subject.kind
   counted false kind = refl
 
-puts_end : cut puts [] ≡ Ok []
-puts_end = cut_maybe_end asks.Put _ ∙ (cut_maybe_end asks.Put _ ∙ (cut_maybe_end asks.LongPut [] ∙ cut_nothing []))
+ring_undigested : (e : Entry) → is_ring e ≡ true → is_digest e ≡ false
+ring_undigested (says.Ring row version) q = refl
+ring_undigested (says.Long row version ticket) q = refl
+ring_undigested (says.Busy row first second) q = refl
+ring_undigested (says.Late row ticket greater) q = refl
+ring_undigested _ q = absurd (false≢true q)
 
-nothing_more : (kind : EventKind) → cut (digest_of kind ++ puts) [] ≡ Ok []
-nothing_more kinds.Wait = puts_end
-nothing_more kinds.Stage = puts_end
-nothing_more kinds.Statement = cut_maybe_end asks.Digest puts ∙ puts_end
-nothing_more kinds.Transaction = puts_end
+-- puts alone, which are no additions to the row of a digest
+no_digest : (rings : List Entry) → AreAll true is_ring rings → cut (maybe asks.Digest ∷ puts) rings ≡ cut puts rings
+no_digest [] q = cut_maybe_end asks.Digest puts
+no_digest (e ∷ es) q = cut_maybe_other asks.Digest puts e es (ring_undigested e q.0)
+
+nothing_more : (kind : EventKind) (rings : List Entry) → AreAll true is_ring rings → cut puts rings ≡ Ok [] → cut (digest_of kind ++ puts) rings ≡ Ok []
+nothing_more kinds.Wait rings q p = p
+nothing_more kinds.Stage rings q p = p
+nothing_more kinds.Statement rings q p = no_digest rings q ∙ p
+nothing_more kinds.Transaction rings q p = p
 
 -- the cell of a slot, or the global one, by its number
 cell_of : (slot cell : ℕ) → cell < 64 → held_row slot cell ≡ cell_row (Some slot) cell
@@ -116,13 +127,13 @@ added_digest : (answer : Added) → is_digest (added_entry answer) ≡ true
 added_digest (Counted row version) = refl
 added_digest (Held row first second) = refl
 
-digest_more : (kind : EventKind) (answer : Added) → is_statement kind ≡ true → cut (digest_of kind ++ puts) (added_entry answer ∷ []) ≡ Ok []
-digest_more kinds.Statement answer t = cut_maybe asks.Digest puts (added_entry answer) [] (added_digest answer) ∙ puts_end
-digest_more kinds.Wait answer t = absurd (false≢true t)
-digest_more kinds.Stage answer t = absurd (false≢true t)
-digest_more kinds.Transaction answer t = absurd (false≢true t)
+digest_more : (kind : EventKind) (answer : Added) (rings : List Entry) → is_statement kind ≡ true → cut puts rings ≡ Ok [] → cut (digest_of kind ++ puts) (added_entry answer ∷ rings) ≡ Ok []
+digest_more kinds.Statement answer rings t p = cut_maybe asks.Digest puts (added_entry answer) rings (added_digest answer) ∙ p
+digest_more kinds.Wait answer rings t p = absurd (false≢true t)
+digest_more kinds.Stage answer rings t p = absurd (false≢true t)
+digest_more kinds.Transaction answer rings t p = absurd (false≢true t)
 
-first_of_three : (a b c : Bool) → (a && b && c) ≡ true → a ≡ true
+pub first_of_three : (a b c : Bool) → (a && b && c) ≡ true → a ≡ true
 first_of_three true b c t = refl
 first_of_three false b c t = absurd (false≢true t)
 
@@ -213,26 +224,26 @@ plain_added (Counted row version) = refl
 plain_added (Held row first second) = refl
 
 -- the journal's context behind an addition that was tried
-record AddedTo (subject : Option Subject) (context : Context) (answer : Added) : Type 0 where
+pub record AddedTo (subject : Option Subject) (context : Context) (answer : Added) : Type 0 where
   pub slot : (noted subject context (added_entry answer)).slot ≡ context.slot
   pub opened : (noted subject context (added_entry answer)).opened ≡ context.opened
   pub held : (noted subject context (added_entry answer)).held ≡ held_by answer context.held
   pub drawn : (noted subject context (added_entry answer)).drawn ≡ context.drawn
 
-added_to : (subject : Option Subject) (context : Context) (answer : Added) → AddedTo subject context answer
+pub added_to : (subject : Option Subject) (context : Context) (answer : Added) → AddedTo subject context answer
 added_to None context (Counted row version) = record { slot = refl; opened = refl; held = refl; drawn = refl }
 added_to None context (Held row first second) = record { slot = refl; opened = refl; held = refl; drawn = refl }
 added_to (Some subject) context (Counted row version) = record { slot = refl; opened = refl; held = refl; drawn = refl }
 added_to (Some subject) context (Held row first second) = record { slot = refl; opened = refl; held = refl; drawn = refl }
 
 -- and behind an end
-record EndedFrom (subject : Option Subject) (context : Context) (number last consumers thread : Option ℕ) : Type 0 where
+pub record EndedFrom (subject : Option Subject) (context : Context) (number last consumers thread : Option ℕ) : Type 0 where
   pub slot : (noted subject context (says.End number last consumers thread)).slot ≡ context.slot
   pub opened : (noted subject context (says.End number last consumers thread)).opened ≡ drop 1 context.opened
   pub held : (noted subject context (says.End number last consumers thread)).held ≡ context.held
   pub drawn : (noted subject context (says.End number last consumers thread)).drawn ≡ context.drawn
 
-ended_from : (subject : Option Subject) (context : Context) (number last consumers thread : Option ℕ) → EndedFrom subject context number last consumers thread
+pub ended_from : (subject : Option Subject) (context : Context) (number last consumers thread : Option ℕ) → EndedFrom subject context number last consumers thread
 ended_from None context number last consumers thread = record { slot = refl; opened = refl; held = refl; drawn = refl }
 ended_from (Some subject) context number last consumers thread = record { slot = refl; opened = refl; held = refl; drawn = refl }
 
@@ -325,36 +336,46 @@ end_counted flags line context s after slot what others numbers calls entries a 
           (adds_agrees flags subject mid closed slot (cell_number what) amount e.answer stands seat (cell_fits what s.held a.wide) e.row_is);
     }
 
--- an end that is counted, and behind it a digested statement's addition to the row of its digest
-end_through : (flags : ℕ → ℕ → ℕ) (line : Line) (context : Context) (s after : State) (slot : ℕ) (what : Open) (others : List Open) (numbers : Numbers) (calls : List Call)
-    (entries : List Entry) → Agrees flags context s → s.place.thread ≡ Some slot → Innermost flags s.place.thread context.opened what others → is_let_through what.verdict ≡ true
-    → EndsThrough s slot what others numbers calls entries after → EndIs flags s.stack line context entries after
-end_through flags line context s after slot what others numbers calls entries a seat i through e = by_digest what.digested refl e.digests where
+-- what stands behind an end, the addition to the cell's row, and a digested statement's to the row of its digest
+record AddedIs (flags : ℕ → ℕ → ℕ) (stack : ℕ) (line : Line) (context : Context) (event : Opened) (others : List Opened) (entries : List Entry) (after : State) : Type 0 where
+  pub shaped : (rings : List Entry) → AreAll true is_ring rings → cut puts rings ≡ Ok [] → cut (ending context.slot event) (entries ++ rings) ≡ Ok []
+  pub headed : (rings : List Entry) → is_headed (entries ++ rings) ≡ true
+  pub behind : Context
+  pub piece : IsPiece flags stack line context entries behind
+  pub behind_opened : behind.opened ≡ others
+  pub behind_slot : behind.slot ≡ context.slot
+  pub agrees : Agrees flags behind after
+
+end_added : (flags : ℕ → ℕ → ℕ) (line : Line) (context : Context) (s after : State) (slot : ℕ) (what : Open) (others : List Open) (numbers : Numbers) (calls : List Call)
+    (entries : List Entry) → Agrees flags context s → s.place.thread ≡ Some slot → (i : Innermost flags s.place.thread context.opened what others) → is_let_through what.verdict ≡ true
+    → EndsAdded s slot what others numbers calls entries after → AddedIs flags s.stack line context i.event i.rest entries after
+end_added flags line context s after slot what others numbers calls entries a seat i through e = by_digest what.digested refl e.digests where
   first : CountedIs flags s.stack line context i.rest e.counted_entries e.between
   first = end_counted flags line context s e.between slot what others numbers e.counted_calls e.counted_entries a seat i through e.counts
 
+  End : Entry
+  End = says.End (Some what.event.number) (Some s.drawn) (Some e.counts.consumers.version) (Some e.counts.thread.version)
+
   -- the entries, and their shape
-  shape_of : (more : List Entry) → e.digested_entries ≡ more → cut (digest_of i.event.subject.kind ++ puts) more ≡ Ok [] → cut (ending context.slot i.event) entries ≡ Ok []
-  shape_of more m rest =
-      let whole : entries ≡ says.End (Some what.event.number) (Some s.drawn) (Some e.counts.consumers.version) (Some e.counts.thread.version) ∷ added_entry e.counts.answer ∷ more =
-      e.entries_are ∙ (ap (λ z. z ++ e.digested_entries) e.counts.entries_are
-      ∙ ap (λ z. says.End (Some what.event.number) (Some s.drawn) (Some e.counts.consumers.version) (Some e.counts.thread.version) ∷ added_entry e.counts.answer ∷ z) m) in
-      ap (λ z. cut (ending z i.event) entries) (a.slot ∙ seat)
-      ∙ (ap (cut (ending (Some slot) i.event)) whole
-      ∙ shaped_through slot i.event what e.counts.answer more what.event.number s.drawn e.counts.consumers.version e.counts.thread.version i.alike.verdict
+  whole_of : (more : List Entry) → e.digested_entries ≡ more → entries ≡ End ∷ added_entry e.counts.answer ∷ more
+  whole_of more m = e.entries_are ∙ (ap (λ z. z ++ e.digested_entries) e.counts.entries_are ∙ ap (λ z. End ∷ added_entry e.counts.answer ∷ z) m)
+
+  shape_of : (more rings : List Entry) → e.digested_entries ≡ more → cut (digest_of i.event.subject.kind ++ puts) (more ++ rings) ≡ Ok [] → cut (ending context.slot i.event) (entries ++ rings) ≡ Ok []
+  shape_of more rings m rest =
+      ap (λ z. cut (ending z i.event) (entries ++ rings)) (a.slot ∙ seat)
+      ∙ (ap (λ z. cut (ending (Some slot) i.event) (z ++ rings)) (whole_of more m)
+      ∙ shaped_through slot i.event what e.counts.answer (more ++ rings) what.event.number s.drawn e.counts.consumers.version e.counts.thread.version i.alike.verdict
       (counted_cell flags s.place.thread i.event what through i.alike.counted) through e.counts.row_is rest)
 
-  head_of : is_headed entries ≡ true
-  head_of = ap is_headed (e.entries_are ∙ ap (λ z. z ++ e.digested_entries) e.counts.entries_are)
+  head_of : (rings : List Entry) → is_headed (entries ++ rings) ≡ true
+  head_of rings = ap (λ z. is_headed (z ++ rings)) (whole_of e.digested_entries refl)
 
-  by_digest : (b : Bool) → what.digested ≡ b → DigestsIn b e.between slot what numbers e.digested_calls e.digested_entries after → EndIs flags s.stack line context entries after
+  by_digest : (b : Bool) → what.digested ≡ b → DigestsIn b e.between slot what numbers e.digested_calls e.digested_entries after
+      → AddedIs flags s.stack line context i.event i.rest entries after
   by_digest false q d =
       let same : entries ≡ e.counted_entries = e.entries_are ∙ (ap (λ z. e.counted_entries ++ z) d.entries_are ∙ append-nil e.counted_entries) in
       record {
-        event = i.event;
-        others = i.rest;
-        opened_is = i.is;
-        shaped = shape_of [] d.entries_are (nothing_more i.event.subject.kind);
+        shaped = λ rings r p. shape_of [] rings d.entries_are (nothing_more i.event.subject.kind rings r p);
         headed = head_of;
         behind = first.behind;
         piece = subst (λ z. IsPiece flags s.stack line context z first.behind) (sym same) first.piece;
@@ -369,11 +390,8 @@ end_through flags line context s after slot what others numbers calls entries a 
       let between : e.between.place.thread ≡ Some slot = ap (λ (z : State). z.place.thread) e.counts.after_is ∙ seat in
       let sum : Stat = with_held (held_at e.between.held (digest_number what)) (amount_of what e.between.clock numbers) in
       record {
-        event = i.event;
-        others = i.rest;
-        opened_is = i.is;
-        shaped = shape_of (added_entry d.answer ∷ []) d.entries_are
-            (digest_more i.event.subject.kind d.answer (statement_of flags s.place.thread i.event (i.alike.digested ∙ q)));
+        shaped = λ rings r p. shape_of (added_entry d.answer ∷ []) rings d.entries_are
+            (digest_more i.event.subject.kind d.answer rings (statement_of flags s.place.thread i.event (i.alike.digested ∙ q)) p);
         headed = head_of;
         behind = last;
         piece = subst (λ z. IsPiece flags s.stack line context z last) (sym (e.entries_are ∙ ap (λ z. e.counted_entries ++ z) d.entries_are))
@@ -384,6 +402,32 @@ end_through flags line context s after slot what others numbers calls entries a 
         agrees = subst (Agrees flags last) (sym d.after_is)
             (adds_agrees flags subject first.behind e.between slot (digest_number what) sum d.answer first.agrees between (digest_fits what e.between.held first.agrees.wide) d.row_is);
       }
+
+-- an end that is added, and behind it the puts
+end_through : (flags : ℕ → ℕ → ℕ) (line : Line) (context : Context) (s after : State) (slot : ℕ) (what : Open) (others : List Open) (numbers : Numbers) (calls : List Call)
+    (entries : List Entry) → Agrees flags context s → s.place.thread ≡ Some slot → Innermost flags s.place.thread context.opened what others → is_let_through what.verdict ≡ true
+    → EndsThrough s slot what others numbers calls entries after → EndIs flags s.stack line context entries after
+end_through flags line context s after slot what others numbers calls entries a seat i through e =
+    let first : AddedIs flags s.stack line context i.event i.rest e.added_entries e.among =
+    end_added flags line context s e.among slot what others numbers e.added_calls e.added_entries a seat i through e.adds in
+    let ringed : AreAll true is_ring e.ring_entries = rings_of e.among slot what numbers _ _ e.ring_calls e.ring_entries after e.puts in
+    let shape : cut puts e.ring_entries ≡ Ok [] = puts_cut e.among slot what numbers _ _ e.ring_calls e.ring_entries after e.puts in
+    let g : Agrees flags first.behind e.among = first.agrees in
+    record {
+      event = i.event;
+      others = i.rest;
+      opened_is = i.is;
+      shaped = ap (cut (ending context.slot i.event)) e.entries_are ∙ first.shaped e.ring_entries ringed shape;
+      headed = ap is_headed e.entries_are ∙ first.headed e.ring_entries;
+      behind = first.behind;
+      piece = subst (λ z. IsPiece flags s.stack line context z first.behind) (sym e.entries_are)
+          (piece_then flags s.stack line context first.behind first.behind e.added_entries e.ring_entries first.piece
+          (rings_piece flags s.stack line first.behind e.ring_entries ringed));
+      behind_opened = first.behind_opened;
+      behind_slot = first.behind_slot;
+      agrees = subst (Agrees flags first.behind) (sym e.puts.after_is)
+          (record { slot = g.slot; opened = g.opened; held = g.held; drawn = g.drawn; wide = g.wide; low = g.low });
+    }
 
 -- an end, of whatever event
 pub end_is : (flags : ℕ → ℕ → ℕ) (line : Line) (context : Context) (s after : State) (numbers : Numbers) (calls : List Call) (entries : List Entry)

@@ -91,6 +91,7 @@ state clock events held = record {
   held = held;
   actions = 1;
   last = None;
+  nexts = record { waits = 0; stages = 0; statements = 0; transactions = 0 };
 }
 
 abbrev twenty : Stat
@@ -186,8 +187,8 @@ agrees : Agrees flags told first
 agrees = record {
   slot = refl;
   opened = (
-    record { kind = refl; verdict = refl; number = refl; counted = (refl, refl); digested = refl; digest = λ t. absurd (cc) },
-    (record { kind = refl; verdict = refl; number = refl; counted = (refl, refl); digested = refl; digest = λ t. absurd (cc) }, tt),
+    record { kind = refl; verdict = refl; number = refl; counted = (refl, refl); digested = refl; placed = refl; digest = λ t. absurd (cc) },
+    (record { kind = refl; verdict = refl; number = refl; counted = (refl, refl); digested = refl; placed = refl; digest = λ t. absurd (cc) }, tt),
   );
   held = sym (ap (map row_owed) (nothing_owed (Some 3)));
   drawn = refl;
@@ -203,6 +204,8 @@ sums = record {
   starts = (refl, (refl, tt));
   held = λ row. ap (owed_to row) (nothing_owed (Some 3));
   seat = refl;
+  own = refl;
+  worded = (λ t. absurd (cc), (λ t. absurd (cc), tt));
 }
 
 are_parts : AreParts first parts
@@ -213,7 +216,7 @@ are_parts = (
         what = inner;
         others = outer ∷ [];
         innermost = refl;
-        ends = ends_undigested first 3 inner (outer ∷ []) no_numbers _ _ second refl
+        ends = ends_undigested first 3 inner (outer ∷ []) no_numbers _ _ second refl refl
             (record { consumers = words; thread = words; answer = Held 326 7 9; row_is = refl; calls_are = refl; entries_are = refl; after_is = refl });
       },
       tt,
@@ -229,7 +232,7 @@ are_parts = (
             what = outer;
             others = [];
             innermost = refl;
-            ends = ends_undigested third 3 outer [] no_numbers _ _ last refl
+            ends = ends_undigested third 3 outer [] no_numbers _ _ last refl refl
                 (record { consumers = words; thread = words; answer = Counted 326 12; row_is = refl; calls_are = refl; entries_are = refl; after_is = refl });
           },
           tt,

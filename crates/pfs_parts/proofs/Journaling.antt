@@ -45,7 +45,7 @@ written = λ flags over context s p stands may part loads.
 
 -- no step changes how many statements may be open
 does_stack : (s : State) (step : Step) (calls : List Call) (entries : List Entry) (after : State) → Does s step calls entries after → after.stack ≡ s.stack
-does_stack s (StartsEvent subject) calls entries after d = ap (λ (z : State). z.stack) d.after_is
+does_stack s (StartsEvent subject) calls entries after d = ap (λ (z : State). z.stack) d.begins.after_is
 does_stack s (EndsEvent numbers) calls entries after d = ends_stack s numbers calls entries after d
 does_stack s (Spends time) calls entries after d = ap (λ (z : State). z.stack) d.2
 does_stack s SettlesHeld calls entries after d = ap (λ (z : State). z.stack) d.after_is
@@ -66,7 +66,7 @@ ends_number s numbers calls entries after e = by_case s.place.thread (is_let_thr
   by_case (Some slot) true x = ap (λ (z : State). z.number) (through_leaves s slot e.what e.others numbers calls entries after x)
 
 does_number : (s : State) (step : Step) (calls : List Call) (entries : List Entry) (after : State) → Does s step calls entries after → after.number ≡ s.number
-does_number s (StartsEvent subject) calls entries after d = ap (λ (z : State). z.number) d.after_is
+does_number s (StartsEvent subject) calls entries after d = ap (λ (z : State). z.number) d.begins.after_is
 does_number s (EndsEvent numbers) calls entries after d = ends_number s numbers calls entries after d
 does_number s (Spends time) calls entries after d = ap (λ (z : State). z.number) d.2
 does_number s SettlesHeld calls entries after d = ap (λ (z : State). z.number) d.after_is

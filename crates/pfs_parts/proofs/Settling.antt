@@ -22,8 +22,9 @@ use Rattle.pfs_parts.proofs.Owing.{Ascend, above_none, head_owed, else_same, els
 use Rattle.pfs_parts.proofs.Pieces.{entries_then}
 use Rattle.pfs_session.proofs.Owed.{nothing_owed}
 use Rattle.pfs_parts.proofs.Summing.{is_added}
+use Rattle.pfs_parts.proofs.Wording.{settle_put}
 use Rattle.pfs_parts.specs.Agreeing.{row_owed}
-use Rattle.pfs_parts.specs.Amounts.{Clocked, sum_of, owed_to, going_of, Sums, ContentsAgree}
+use Rattle.pfs_parts.specs.Amounts.{Clocked, sum_of, owed_to, going_of, Sums, AreWorded, ContentsAgree}
 
 -- entries that bring some of what was owed, so that this is left
 record PaidIs (flags : ℕ → ℕ → ℕ) (amounts : Opened → Stat) (content : ℕ → ℕ → List ℕ) (subject : Option Subject) (context : Context) (entries : List Entry) (left : List Owed) : Type 0 where
@@ -130,14 +131,21 @@ module _ (m : MergeIsMonoid) (flags : ℕ → ℕ → ℕ) (slots : ℕ → Opti
         starts = a.starts;
         held = λ row. ap (owed_to row) (nothing_owed s.place.thread) ∙ r.held row;
         seat = a.seat;
+        own = a.own;
+        worded = subst (λ z. AreWorded flags s.place.thread session z s.opened.events) (sym r.opened) a.worded;
       } in
-      brings_as m flags slots facts session content subject context entries whole k after next x.entries_are x.after_is (record { added = r.added; once = r.once; sums = sums })
+      brings_as m flags slots facts session content subject context entries whole k after next x.entries_are x.after_is (record {
+        added = r.added;
+        put = settle_put flags (facts session) content session subject context owed x.paid;
+        once = r.once;
+        sums = sums;
+      })
 
   -- an action of a session that holds nothing, wherever it is connected then
   pub acted_sums : (k : Clocked) (context behind : Context) (s after : State) → Sums flags slots facts session k context s → s.held ≡ nothing_held → Quiet context behind
       → after.clock ≡ s.clock → after.opened ≡ s.opened → after.held ≡ s.held → IfSome after.place.thread (λ n. slots session ≡ Some n)
-      → Sums flags slots facts session k behind after
-  acted_sums k context behind s after a free q clock opened held seat = record {
+      → after.number ≡ s.number → AreWorded flags after.place.thread session context.opened s.opened.events → Sums flags slots facts session k behind after
+  acted_sums k context behind s after a free q clock opened held seat number worded = record {
     clock = a.clock ∙ sym clock;
     begun = a.begun ∙ sym q.begun;
     going = a.going ∙ (ap (λ z. going_of z s.opened.events) (sym q.opened) ∙ ap (λ z. going_of behind.opened z.events) (sym opened));
@@ -146,6 +154,9 @@ module _ (m : MergeIsMonoid) (flags : ℕ → ℕ → ℕ) (slots : ℕ → Opti
         ∙ (sym (ap (λ z. owed_to row (owed_in s.place.thread z)) free ∙ ap (owed_to row) (nothing_owed s.place.thread))
         ∙ (a.held row ∙ ap (λ z. sum_of (map (amount_by flags slots facts session) (held_for row z))) (sym q.waiting))));
     seat = seat;
+    own = number ∙ a.own;
+    worded = subst (λ z. AreWorded flags after.place.thread session z after.opened.events) (sym q.opened)
+        (subst (λ z. AreWorded flags after.place.thread session context.opened z.events) (sym opened) worded);
   }
 
 -- a slot that is the one given

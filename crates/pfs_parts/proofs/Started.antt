@@ -1,5 +1,5 @@
 -- What a start writes, and how the session stands behind it.
-use Rattle.std.proofs.Common.{ℕ, ◌≡◌, ◌+◌, true, cond, List, [], ◌∷◌, Option, Some, None, refl, ap, sym, ◌∙◌, subst}
+use Rattle.std.proofs.Common.{ℕ, ◌≡◌, ◌+◌, true, cond, List, [], ◌∷◌, ◌++◌, Option, Some, None, refl, ap, sym, ◌∙◌, subst}
 use Rattle.std.specs.Prelude.{Ok}
 use Rattle.pfs_event.specs.Verdicts.{is_let_through}
 use Rattle.pfs_event.specs.declared.entry.Entry.{Entry}
@@ -13,11 +13,14 @@ use Rattle.pfs_model.specs.Numbers.{IsNumbered}
 use Rattle.pfs_model.specs.Setups.{IsJudged, verdict_of, seen_by, is_statement, is_wait}
 use Rattle.pfs_model.specs.Shapes.{starting}
 use Rattle.pfs_model.specs.declared.lines.Subject.{Subject}
-use Rattle.pfs_session.specs.Starts.{Starts, started, verdict_in, is_timed_by, is_digested_by, if_through}
+use Rattle.pfs_session.specs.Rings.{is_placed_by, put_entries}
+use Rattle.pfs_session.specs.Starts.{Starts, start_entry, started, verdict_in, is_timed_by, is_digested_by, if_through}
 use Rattle.pfs_session.specs.States.{State, count_open, one_if}
 use Rattle.pfs_session.specs.declared.setup.Setup.{Setup}
 use Rattle.pfs_parts.proofs.Alike.{same_count, one_cond}
-use Rattle.pfs_parts.proofs.Starting.{consumers_in, thread_in, class_in, table_in, start_as, start_shaped, start_judged, start_counted, start_digested, start_row, event_of}
+use Rattle.pfs_parts.proofs.Starting.{consumers_in, thread_in, class_in, table_in, start_as, start_shaped, start_judged, start_counted, start_digested, start_offered, start_row, event_of}
+use Rattle.pfs_parts.proofs.Acting.{AreAll}
+use Rattle.pfs_parts.proofs.Ringing.{is_ring, put_ring, start_short}
 use Rattle.pfs_parts.specs.Agreeing.{LoadsAgree, IsAlike, Agrees}
 use Rattle.pfs_parts.specs.Deeds.{IsSubject}
 
@@ -26,7 +29,9 @@ pub record StartIs (flags : ℕ → ℕ → ℕ) (stack : ℕ) (context : Contex
   pub shaped : cut (starting context.slot subject) entries ≡ Ok []
   pub headed : is_headed entries ≡ true
   pub entry : Entry
-  pub only : entries ≡ entry ∷ []
+  pub rings : List Entry
+  pub only : entries ≡ entry ∷ rings
+  pub ringed : AreAll true is_ring rings
   pub judged : IsJudged stack flags (Some subject) context entry
   pub numbered : IsNumbered context entry
   pub agrees : Agrees flags (noted (Some subject) context entry) after
@@ -47,14 +52,20 @@ seen_stands flags context s subject seen what v a e n like = record {
 number_as : (v : Verdict) (context : Context) (drawn : ℕ) → context.drawn ≡ drawn → if_through v (drawn + 1) ≡ cond (is_let_through v) (Some (context.drawn + 1)) None
 number_as v context drawn e = ap (λ z. cond (is_let_through v) (Some (z + 1)) None) (sym e)
 
+pub loads_behind : (flags : ℕ → ℕ → ℕ) (xs ys : List Call) → LoadsAgree flags (xs ++ ys) → LoadsAgree flags ys
+loads_behind flags [] ys l = l
+loads_behind flags (x ∷ xs) ys l = loads_behind flags xs ys l.1
+
 pub start_is : (flags : ℕ → ℕ → ℕ) (context : Context) (s : State) (subject : Subject) (calls : List Call) (entries : List Entry) (after : State)
     → Agrees flags context s → IsSubject subject → Starts s subject calls entries after → LoadsAgree flags calls → StartIs flags s.stack context subject entries after
-start_is flags context s subject calls entries after a is st loads =
+start_is flags context s subject calls entries after a is x loads =
+    let st = x.begins in
     let v : Verdict = verdict_in s subject st.seen in
     let n : ℕ = s.drawn + 1 in
     let entry : Entry = says.Start (if_through v n) v (consumers_in st.seen) (thread_in st.seen) (class_in st.seen) (table_in st.seen) in
-    let same : entries ≡ entry ∷ [] = st.entries_are ∙ ap (λ z. z ∷ []) (start_as v n st.seen) in
-    let agree = subst (LoadsAgree flags) st.calls_are loads in
+    let whole : entries ≡ start_entry v n st.seen ∷ put_entries x.current = x.entries_are ∙ ap (λ z. z ++ put_entries x.current) st.entries_are in
+    let same : entries ≡ entry ∷ put_entries x.current = whole ∙ ap (λ z. z ∷ put_entries x.current) (start_as v n st.seen) in
+    let agree = subst (LoadsAgree flags) st.calls_are (loads_behind flags x.put_calls x.begun_calls (subst (LoadsAgree flags) x.calls_are loads)) in
     let statements = same_count flags s.place.thread is_statement context.opened s.opened.events a.opened in
     let waits = same_count flags s.place.thread is_wait context.opened s.opened.events a.opened in
     let P : Option ℕ → Type 0 = λ z. cut (starting z subject) entries ≡ Ok [] in
@@ -63,17 +74,22 @@ start_is flags context s subject calls entries after a is st loads =
       kind = sym st.opened.kind;
       verdict = sym st.opened.verdict_is;
       number = ap (λ z. if_through v z) (sym st.opened.number) ∙ ap (λ z. if_through z st.what.event.number) (sym st.opened.verdict_is);
-      counted = start_counted flags s.place.thread subject v context.begun n st.seen subject.class s.number s.drawn s.clock s.opened.events (is_timed_by subject st.seen) (is_digested_by subject v st.seen) st.what
+      counted = start_counted flags s.place.thread subject v context.begun n st.seen subject.class s.number s.drawn s.clock s.opened.events (is_timed_by subject st.seen) (is_digested_by subject v st.seen)
+          (is_placed_by subject v st.seen) st.what
           s.stack (count_open is_statement s.opened.events) (count_open is_wait s.opened.events) refl is st.loaded agree refl refl st.opened;
       digested = start_digested flags s.place.thread subject v context.begun n st.seen subject.class refl st.loaded agree ∙ sym st.opened.digested_is;
+      placed = start_offered flags s.place.thread subject v context.begun n st.seen subject.class refl st.loaded agree ∙ sym st.opened.placed_is;
       digest = start_row subject (is_digested_by subject v st.seen) st.what st.opened.digested_is st.opened.link;
     } in
     record {
-      shaped = subst P (sym a.slot) (ap (λ z. cut (starting s.place.thread subject) z) st.entries_are
-          ∙ start_shaped s.place.thread subject st.seen s.stack (count_open is_statement s.opened.events) (count_open is_wait s.opened.events) v n st.loaded refl);
+      shaped = subst P (sym a.slot) (ap (λ z. cut (starting s.place.thread subject) z) whole
+          ∙ start_shaped s.place.thread subject st.seen s.stack (count_open is_statement s.opened.events) (count_open is_wait s.opened.events) v n st.loaded refl x.current
+          (start_short s.place.thread st.what _ st.what.event x.current x.put_calls x.put_is));
       headed = ap is_headed same;
       entry = entry;
+      rings = put_entries x.current;
       only = same;
+      ringed = put_ring x.current;
       judged = subst J (sym a.slot) (start_judged flags s.stack s.place.thread subject v context.begun n st.seen context.opened
           (count_open is_statement s.opened.events) (count_open is_wait s.opened.events) subject.class refl st.loaded agree statements waits refl);
       numbered = number_as v context s.drawn a.drawn;

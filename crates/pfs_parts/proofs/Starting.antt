@@ -1,5 +1,5 @@
 -- A start, by what it loaded.
-use Rattle.std.proofs.Common.{ℕ, ◌≡◌, ◌&&◌, ◌||◌, Bool, true, false, List, [], ◌∷◌, ◌++◌, Option, Some, None, is_some, is_none, inl, inr, eq-eqb, refl, ap, sym, ◌∙◌, subst, ◌+◌, arith}
+use Rattle.std.proofs.Common.{ℕ, ◌≡◌, ◌&&◌, ◌||◌, Bool, true, false, List, [], ◌∷◌, ◌++◌, Option, Some, None, is_some, is_none, inl, inr, eq-eqb, ne_eqb, refl, ap, sym, ◌∙◌, subst, ◌+◌, arith}
 use Rattle.std.specs.Option.{option_map}
 use Rattle.std.specs.Prelude.{Ok, ◌⊎◌, ◌==◌, if◌then◌else◌}
 use Rattle.std.proofs.lemmas.Bool.{true≢false, false≢true, eqb-true}
@@ -16,14 +16,23 @@ use Rattle.pfs_model.specs.Asks.{is_start, verdict_fits, are_loaded, digest_row}
 use Rattle.pfs_model.specs.Contents.{plus_one}
 use Rattle.pfs_model.specs.Cuts.{cut}
 use Rattle.pfs_model.specs.Setups.{SeenSetup, verdict_by, verdict_of, seen_by, flags_seen, class_word, table_word, thread_word, is_timed, is_digested, has_time, is_statement, is_wait, open_through}
-use Rattle.pfs_model.specs.Shapes.{starting}
+use Rattle.pfs_model.specs.Shapes.{maybe, starting}
 use Rattle.pfs_model.specs.declared.lines.Opened.{Opened}
 use Rattle.pfs_model.specs.declared.lines.Subject.{Subject}
 use Rattle.pfs_model.specs.declared.shapes.Ask.TheVariants as asks
+use Rattle.pfs_event.specs.declared.kind.EventKind.{EventKind}
+use Rattle.pfs_event.specs.declared.kind.EventKind.TheVariants as kinds
+use Rattle.pfs_model.specs.Contents.{is_read_only, or_zero}
+use Rattle.pfs_model.specs.Contents.{link_of as link_by}
+use Rattle.pfs_model.specs.Setups.{current_consumer, is_attributed, is_offered_current}
+use Rattle.pfs_rings.specs.declared.puts.Put.{Put}
+use Rattle.pfs_rings.specs.declared.puts.Put.TheVariants.{Done, Busy, Late}
 use Rattle.pfs_session.specs.Ends.{cell_in}
+use Rattle.pfs_session.specs.Rings.{is_placed_by, put_entries}
 use Rattle.pfs_session.specs.Starts.{IsLoaded, IsOpened, IsClass, load_calls, setup_calls, table_calls, start_entry, verdict_seen, is_timed_by, is_digested_by, link_of, flags_in, flags_of, if_through, versions_in, version_of}
 use Rattle.pfs_session.specs.declared.setup.Setup.{Setup}
-use Rattle.pfs_parts.proofs.Cutting.{cut_one, cut_maybe_end, cut_nothing}
+use Rattle.pfs_parts.proofs.Cutting.{cut_one, cut_maybe, cut_maybe_end, cut_nothing}
+use Rattle.pfs_parts.proofs.Ringing.{IsShort}
 use Rattle.pfs_parts.specs.Agreeing.{LoadsAgree, IsCounted}
 use Rattle.pfs_parts.specs.Deeds.{IsSubject}
 
@@ -85,11 +94,17 @@ start_fits (Some slot) (Some class) table (Some seen) stack statements waits sub
 
 pub start_shaped : (slot : Option ℕ) (subject : Subject) (seen : Option Setup) (stack statements waits : ℕ) (verdict : Verdict) (number : ℕ)
     → IsLoaded slot subject.class subject.table seen → verdict ≡ verdict_seen stack slot subject seen statements waits
-    → cut (starting slot subject) (start_entry verdict number seen ∷ []) ≡ Ok []
-start_shaped slot subject seen stack statements waits verdict number l v =
-    cut_one (asks.Start (is_some slot) (is_none subject.class) (is_some subject.table)) _ (start_entry verdict number seen) []
+    → (put : Option Put) → IsShort put → cut (starting slot subject) (start_entry verdict number seen ∷ put_entries put) ≡ Ok []
+start_shaped slot subject seen stack statements waits verdict number l v put short =
+    cut_one (asks.Start (is_some slot) (is_none subject.class) (is_some subject.table)) _ (start_entry verdict number seen) (put_entries put)
     (start_fits slot subject.class subject.table seen stack statements waits subject verdict number l v)
-    ∙ (cut_maybe_end asks.Put [] ∙ cut_nothing [])
+    ∙ by_put put short where
+      by_put : (put : Option Put) → IsShort put → cut (maybe asks.Put ∷ []) (put_entries put) ≡ Ok []
+      by_put None s = cut_maybe_end asks.Put [] ∙ cut_nothing []
+      by_put (Some (Done row version None)) s = cut_maybe asks.Put [] (says.Ring row version) [] refl ∙ cut_nothing []
+      by_put (Some (Done row version (Some ticket))) s = absurd s
+      by_put (Some (Busy row first second)) s = cut_maybe asks.Put [] (says.Busy row first second) [] refl ∙ cut_nothing []
+      by_put (Some (Late row ticket greater)) s = absurd s
 
 -- the flags of the versions that a start names are those that it loaded
 abbrev pub class_flags : Option Setup → ℕ
@@ -231,19 +246,19 @@ start_judged flags stack (Some slot) subject verdict index number (Some seen) op
 silent_thread : (stack : ℕ) (subject : Subject) (seen : Option Setup) (statements waits : ℕ) → is_let_through (verdict_seen stack None subject seen statements waits) ≡ false
 silent_thread stack subject seen statements waits = refl
 
-cell_as : (cell class number : ℕ) (only : Bool) → only ≡ (cell == 63) → number ≡ class → (cell ≡ class) ⊎ (cell ≡ 63) → cell ≡ (if only then 63 else number)
-cell_as cell class number only o n is = by_test (cell == 63) refl where
+cell_as : (cell class number : ℕ) (kind : EventKind) (only : Bool) → only ≡ (cell == 63) → number ≡ class → (cell ≡ class) ⊎ ((cell ≡ 63) × (kind ≡ kinds.Transaction)) → cell ≡ (if only then 63 else number)
+cell_as cell class number kind only o n is = by_test (cell == 63) refl where
   by_test : (b : Bool) → (cell == 63) ≡ b → cell ≡ (if only then 63 else number)
   by_test true t = eqb-true cell 63 t ∙ sym (on_none only 63 number (o ∙ t))
-  by_test false t = elim is [ inl x ↦ x ∙ sym n ∙ sym (on_some only 63 number (o ∙ t)) | inr x ↦ absurd (true≢false (sym (eq-eqb cell 63 x) ∙ t)) ]
+  by_test false t = elim is [ inl x ↦ x ∙ sym n ∙ sym (on_some only 63 number (o ∙ t)) | inr x ↦ absurd (true≢false (sym (eq-eqb cell 63 x.0) ∙ t)) ]
 
 pub start_counted : (flags : ℕ → ℕ → ℕ) (slot : Option ℕ) (subject : Subject) (verdict : Verdict) (index number : ℕ) (seen : Option Setup) (class : Option ℕ)
-    (session drawn clock : ℕ) (events : List Open) (timed digested : Bool) (what : Open) (stack statements waits : ℕ)
+    (session drawn clock : ℕ) (events : List Open) (timed digested placed : Bool) (what : Open) (stack statements waits : ℕ)
     → subject.class ≡ class → IsSubject subject → IsLoaded slot subject.class subject.table seen → LoadsAgree flags (load_calls slot subject.class subject.table seen)
     → verdict ≡ verdict_seen stack slot subject seen statements waits → timed ≡ is_timed_by subject seen
-    → IsOpened session drawn clock events subject verdict timed digested what
+    → IsOpened session drawn clock events subject verdict timed digested placed what
     → IsCounted flags slot (is_let_through what.verdict) (event_of subject verdict index number seen) what
-start_counted flags slot subject verdict index number seen class session drawn clock events timed digested what stack statements waits e is l agree v t o =
+start_counted flags slot subject verdict index number seen class session drawn clock events timed digested placed what stack statements waits e is l agree v t o =
     subst (λ z. IsCounted flags slot (is_let_through z) (event_of subject verdict index number seen) what) (sym (o.verdict_is ∙ v)) (counted slot seen class e l agree refl t) where
       counted : (slot : Option ℕ) (seen : Option Setup) (class : Option ℕ) → subject.class ≡ class → IsLoaded slot subject.class subject.table seen
           → LoadsAgree flags (load_calls slot subject.class subject.table seen) → slot ≡ slot → timed ≡ is_timed_by subject seen
@@ -253,7 +268,7 @@ start_counted flags slot subject verdict index number seen class session drawn c
       counted (Some slot) (Some seen) None e l agree same t = absurd (true≢false (l.there ∙ ap is_some e))
       counted (Some slot) (Some seen) (Some class) e l agree same t =
           both_if (is_let_through (verdict_by stack subject (flags_of seen) statements waits))
-          (cell_as subject.cell class what.event.class what.event.read_only o.read_only (class_is class e) (is.cell class e))
+          (cell_as subject.cell class what.event.class subject.kind what.event.read_only o.read_only (class_is class e) (is.cell class e))
           (start_timed flags (Some slot) subject verdict index number seen l agree ∙ sym t ∙ sym o.timed_is) where
             class_is : (class : ℕ) → subject.class ≡ Some class → what.event.class ≡ class
             class_is class e = subst (λ z. IsClass z what.event.class) e o.class
@@ -290,3 +305,49 @@ pub start_row : (subject : Subject) (digested : Bool) (what : Open) → what.dig
 start_row subject digested what d l t =
     let on : digested ≡ true = sym d ∙ t in
     row_by_link subject.digest ∙ ap (λ z. 8385 + z) (sym (l ∙ ap (λ b. link_of b subject) on))
+
+-- an event is offered to its current place by what the printed versions give just where it is by what was loaded
+pub start_offered : (flags : ℕ → ℕ → ℕ) (slot : Option ℕ) (subject : Subject) (verdict : Verdict) (index number : ℕ) (seen : Option Setup) (class : Option ℕ) → subject.class ≡ class
+    → IsLoaded slot subject.class subject.table seen → LoadsAgree flags (load_calls slot subject.class subject.table seen)
+    → is_offered_current flags slot (event_of subject verdict index number seen) ≡ is_placed_by subject verdict seen
+start_offered flags slot subject verdict index number None class e l agree = second_false (is_attributed verdict) (acts_of 0 (current_consumer subject.kind)) (none_acts subject.kind) where
+  second_false : (a b : Bool) → b ≡ false → (a && b) ≡ false
+  second_false true b q = q
+  second_false false b q = refl
+
+  none_acts : (kind : EventKind) → acts_of 0 (current_consumer kind) ≡ false
+  none_acts kinds.Wait = refl
+  none_acts kinds.Stage = refl
+  none_acts kinds.Statement = refl
+  none_acts kinds.Transaction = refl
+start_offered flags None subject verdict index number (Some seen) class e l agree = absurd (true≢false l.there)
+start_offered flags (Some slot) subject verdict index number (Some seen) None e l agree = absurd (true≢false (l.there ∙ ap is_some e))
+start_offered flags (Some slot) subject verdict index number (Some seen) (Some class) e l agree =
+    let w = words_told flags slot class subject.table seen l.table_is (subst (λ z. LoadsAgree flags (load_calls (Some slot) z subject.table (Some seen))) e agree) in
+    ap (λ z. is_attributed verdict && acts_of z (current_consumer subject.kind)) w.1
+
+-- what the words of an event that starts say of its class, its link, and whether it is a READ ONLY transaction
+pub class_worded : (class : Option ℕ) (number : ℕ) → IsClass class number → or_zero class ≡ number
+class_worded None number e = sym e
+class_worded (Some class) number e = sym e
+
+pub link_worded : (digested : Bool) (event : Opened) → link_by digested event ≡ link_of digested event.subject
+link_worded true event = refl
+link_worded false event = refl
+
+read_only_as : (kind : EventKind) (cell : ℕ) → ((kind ≡ kinds.Transaction → ⊥) → (cell == 63) ≡ false) → is_read_only kind cell ≡ (cell == 63)
+read_only_as kinds.Transaction cell q = refl
+read_only_as kinds.Wait cell q = sym (q (λ e. cc))
+read_only_as kinds.Stage cell q = sym (q (λ e. cc))
+read_only_as kinds.Statement cell q = sym (q (λ e. cc))
+
+-- a class that isn't lost has an id below 63
+pub read_only_worded : (subject : Subject) (class : ℕ) (what : Open) → IsSubject subject → subject.class ≡ Some class → IsClass subject.class what.event.class
+    → is_read_only subject.kind subject.cell ≡ (subject.cell == 63)
+read_only_worded subject class what is e own = read_only_as subject.kind subject.cell (λ other. by_cell other (is.cell class e)) where
+  own_class : what.event.class ≡ class
+  own_class = subst (λ z. IsClass z what.event.class) e own
+
+  by_cell : (subject.kind ≡ kinds.Transaction → ⊥) → (subject.cell ≡ class) ⊎ ((subject.cell ≡ 63) × (subject.kind ≡ kinds.Transaction)) → (subject.cell == 63) ≡ false
+  by_cell other (inl x) = ne_eqb subject.cell 63 (λ z. absurd (omega (arith, x, own_class, what.event.class_fits, z)))
+  by_cell other (inr x) = absurd (other x.1)

@@ -8,12 +8,12 @@ use Rattle.pfs_session.specs.Settles.{owed_in}
 use Rattle.pfs_session.specs.States.{State, fresh}
 use Rattle.pfs_session.specs.Turns.{steps_of}
 use Rattle.pfs_stat.specs.Stat.{MergeIsMonoid}
-use Rattle.pfs_parts.proofs.Accounting.{accounted, added_more, sums}
+use Rattle.pfs_parts.proofs.Accounting.{accounted, added_more, put_more, sums}
 use Rattle.pfs_parts.proofs.Journaling.{journaled, parts_number}
 use Rattle.pfs_parts.proofs.Once.{once_both}
 use Rattle.pfs_parts.proofs.Stinting.{own_places, own_is, IfOwn, AreOwn, own_stints}
 use Rattle.pfs_parts.specs.Agreeing.{Agrees, Stands, IsOver}
-use Rattle.pfs_parts.specs.Amounts.{Clocked, all_stepped, AllFacts, AllPlaced, AllContentsAgree, AreAdded, Sums, IsAccounted, WholeLaw, IsOnce, at_first, clock_behind}
+use Rattle.pfs_parts.specs.Amounts.{Clocked, all_stepped, AllFacts, AllPlaced, AllContentsAgree, AreAdded, ArePut, Sums, IsAccounted, WholeLaw, IsOnce, at_first, clock_behind}
 use Rattle.pfs_parts.specs.Deeds.{Part}
 use Rattle.pfs_parts.specs.Shaped.{AllLoadsAgree, lines_of, entries_of, state_behind, over_behind}
 use Rattle.pfs_parts.specs.Stints.{Stint, IsStint, blocks_of, parts_by, resumed, state_by, over_by}
@@ -62,11 +62,12 @@ resumed_stands flags true context s a = record { opened = a.opened; held = a.hel
 
 resumed_sums : (flags : ℕ → ℕ → ℕ) (slots : ℕ → Option ℕ) (facts : ℕ → ℕ → Facts) (session : ℕ) (k : Clocked) (context : Context) (s : State) → Sums flags slots facts session k context s
     → Sums flags slots facts session k context (resumed s)
-resumed_sums flags slots facts session k context s a = record { clock = a.clock; begun = a.begun; going = a.going; starts = a.starts; held = a.held; seat = a.seat }
+resumed_sums flags slots facts session k context s a = record { clock = a.clock; begun = a.begun; going = a.going; starts = a.starts; held = a.held; seat = a.seat; own = a.own; worded = a.worded }
 
 record IsThrough (flags : ℕ → ℕ → ℕ) (slots : ℕ → Option ℕ) (facts : ℕ → ℕ → Facts) (content : ℕ → ℕ → List ℕ) (session : ℕ) (before : List Waiting) (all : List Placed) (over : Bool)
     (clocked : Clocked) (context : Context) (s : State) : Type 0 where
   pub added : AreAdded (amount_by flags slots facts session) content all
+  pub put : ArePut flags (facts session) content session all
   pub once : IsOnce flags before all context.waiting
   pub stands : Stands flags over context s
   pub sums : Sums flags slots facts session clocked context s
@@ -84,7 +85,7 @@ through : MergeIsMonoid → (flags : ℕ → ℕ → ℕ) (slots : ℕ → Optio
     → AllPlaced (slots session) s.number (parts_by session stints) → AllFacts (facts session) clocked (parts_by session stints) → AllContentsAgree content (parts_by session stints)
     → IsThrough flags slots facts content session context.waiting (own_places session context stints) (over_by session over stints) (clock_behind clocked (parts_by session stints))
     (told_by session context (blocks_of stints)) (state_by session s stints)
-through m flags slots facts content session [] over clocked context s stands sums are loads placed given contents = record { added = tt; once = λ h. refl; stands = stands; sums = sums }
+through m flags slots facts content session [] over clocked context s stands sums are loads placed given contents = record { added = tt; put = tt; once = λ h. refl; stands = stands; sums = sums }
 through m flags slots facts content session (stint ∷ stints) over clocked context s stands sums are loads placed given contents =
     at (stint.session == session) (through m flags slots facts content session stints) are loads placed given contents where
       at : (b : Bool) → ((over : Bool) (clocked : Clocked) (context : Context) (s : State) → GoesThrough flags slots facts content session stints over clocked context s)
@@ -119,6 +120,7 @@ through m flags slots facts content session (stint ∷ stints) over clocked cont
           let end : Context = told_by session now (blocks_of stints) in
           record {
             added = added_more (amount_by flags slots facts session) content here (own_places session now stints) (a.added stint.phase) r.added;
+            put = put_more flags (facts session) content session here (own_places session now stints) (a.put stint.phase) r.put;
             once = once_both flags here (own_places session now stints) context.waiting now.waiting end.waiting (a.once stint.phase) r.once;
             stands = r.stands;
             sums = subst (λ z. Sums flags slots facts session z end (state_by session (resumed behind) stints)) (clock_then clocked ps qs) r.sums;
@@ -129,7 +131,7 @@ pub whole : MergeIsMonoid → WholeLaw
 whole m = λ flags slots facts content stack depths session stints are loads placed given contents.
     (let s : State = fresh session stack (depths session) in
     let agrees : Agrees flags empty s = record { slot = refl; opened = tt; held = refl; drawn = refl; wide = refl; low = tt } in
-    let starts : Sums flags slots facts session at_first empty s = sums.fresh flags slots facts session session stack (depths session) in
+    let starts : Sums flags slots facts session at_first empty s = sums.fresh flags slots facts session stack (depths session) in
     let all : List Placed = by_session session (places (blocks_of stints)) in
     let behind : Context = told_by session empty (blocks_of stints) in
     let clock : Clocked = clock_behind at_first (parts_by session stints) in
@@ -142,4 +144,4 @@ whole m = λ flags slots facts content stack depths session stints are loads pla
     (let gone : IsOver behind left = subst (λ b. Stands flags b behind left) over t.stands in
     let none : behind.waiting ≡ [] = sums.nothing flags slots facts session clock behind left t.sums (ap (λ z. owed_in z left.held) gone.nowhere) in
     subst (IsOnce flags [] all) none all_once) in
-    record { added = subst (AreAdded (amount_by flags slots facts session) content) (sym same) t.added; once = all_once; sums = t.sums; ended = at_end })
+    record { added = subst (AreAdded (amount_by flags slots facts session) content) (sym same) t.added; put = subst (ArePut flags (facts session) content session) (sym same) t.put; once = all_once; sums = t.sums; ended = at_end })

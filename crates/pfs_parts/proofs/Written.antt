@@ -37,6 +37,7 @@ use Rattle.pfs_parts.proofs.Pieces.{IsPiece, piece_none, piece_one, piece_plain,
 use Rattle.pfs_parts.proofs.Settled.{SettleIs, settle_is, settling_closed, settled_context, settle_shaped, settle_plain, piece_plains}
 use Rattle.pfs_session.proofs.Ending.{through_leaves}
 use Rattle.pfs_session.proofs.Owed.{nothing_owed}
+use Rattle.pfs_parts.proofs.Ringing.{rings_piece}
 use Rattle.pfs_parts.proofs.Started.{StartIs, start_is}
 use Rattle.pfs_parts.specs.Agreeing.{LoadsAgree, AreAlike, Agrees, IsOver, Stands, row_owed}
 use Rattle.pfs_parts.specs.Deeds.{IsSubject}
@@ -68,8 +69,10 @@ start_piece : (flags : ℕ → ℕ → ℕ) (stack : ℕ) (line : Line) (subject
 start_piece flags stack line subject context entries after e s =
     let P : Option Subject → Type 0 = λ z. IsPiece flags stack line context (s.entry ∷ []) (noted z context s.entry) in
     let J : IsJudged stack flags (subject_of line) context s.entry = subst (λ z. IsJudged stack flags z context s.entry) (sym e) s.judged in
-    subst (λ z. IsPiece flags stack line context z (noted (Some subject) context s.entry)) (sym s.only)
-    (subst P e (piece_one flags stack line context s.entry J s.numbered))
+    let one : IsPiece flags stack line context (s.entry ∷ []) (noted (Some subject) context s.entry) = subst P e (piece_one flags stack line context s.entry J s.numbered) in
+    let next : Context = noted (Some subject) context s.entry in
+    subst (λ z. IsPiece flags stack line context z next) (sym s.only)
+    (piece_then flags stack line context next next (s.entry ∷ []) s.rings one (rings_piece flags stack line next s.rings s.ringed))
 
 pub does_at : (s : State) (t : Turn) (step : Step) → t.step ≡ step → Does s t.step t.calls t.entries t.after → Does s step t.calls t.entries t.after
 does_at s t step e d = subst (λ z. Does s z t.calls t.entries t.after) e d
@@ -78,10 +81,10 @@ does_at s t step e d = subst (λ z. Does s z t.calls t.entries t.after) e d
 one_calls : (t : Turn) → turns_calls (t ∷ []) ≡ t.calls
 one_calls t = append-nil t.calls
 
-loads_one : (flags : ℕ → ℕ → ℕ) (t : Turn) → LoadsAgree flags (turns_calls (t ∷ [])) → LoadsAgree flags t.calls
+pub loads_one : (flags : ℕ → ℕ → ℕ) (t : Turn) → LoadsAgree flags (turns_calls (t ∷ [])) → LoadsAgree flags t.calls
 loads_one flags t l = subst (LoadsAgree flags) (one_calls t) l
 
-loads_front : (flags : ℕ → ℕ → ℕ) (xs ys : List Call) → LoadsAgree flags (xs ++ ys) → LoadsAgree flags xs
+pub loads_front : (flags : ℕ → ℕ → ℕ) (xs ys : List Call) → LoadsAgree flags (xs ++ ys) → LoadsAgree flags xs
 loads_front flags [] ys l = tt
 loads_front flags (x ∷ xs) ys l = (l.0, loads_front flags xs ys l.1)
 

@@ -5,7 +5,7 @@ use Rattle.pfs_event.specs.declared.open.Open.{Open}
 use Rattle.pfs_levels.specs.Calls.{Call, Adds, Rings, Reads, Loads, Draws, Takes, Puts, Frees, Sets, Enters, Leaves, Meets}
 use Rattle.pfs_model.specs.Asks.{digest_row}
 use Rattle.pfs_model.specs.Contexts.{Context}
-use Rattle.pfs_model.specs.Setups.{is_timed, is_digested}
+use Rattle.pfs_model.specs.Setups.{is_timed, is_digested, is_offered_current}
 use Rattle.pfs_model.specs.declared.lines.Opened.{Opened}
 use Rattle.pfs_session.specs.Ends.{cell_in}
 use Rattle.pfs_session.specs.Settles.{owed_by_state}
@@ -45,6 +45,7 @@ pub record IsAlike (flags : ℕ → ℕ → ℕ) (slot : Option ℕ) (event : Op
   pub number : event.number ≡ if_through what.verdict what.event.number
   pub counted : IsCounted flags slot (is_let_through what.verdict) event what
   pub digested : is_digested flags slot event ≡ what.digested
+  pub placed : is_offered_current flags slot event ≡ what.placed
   pub digest : what.digested ≡ true → digest_row event.subject.digest ≡ 8385 + what.event.link
 
 abbrev pub AreAlike : (ℕ → ℕ → ℕ) → Option ℕ → List Opened → List Open → Type 0

@@ -10,18 +10,21 @@ use Rattle.pfs_event.specs.declared.open.Open.{Open}
 use Rattle.pfs_levels.specs.Calls.{Call, Adds, Rings, Reads, Loads, Draws, Takes, Puts, Frees, Sets, Enters, Leaves, Meets}
 use Rattle.pfs_levels.specs.Contents.{merged}
 use Rattle.pfs_levels.specs.declared.answers.Added.TheVariants.{Counted, Held}
-use Rattle.pfs_model.specs.Contents.{Facts, Given, amount_by, amount_of, IsNext, IsContent}
+use Rattle.pfs_levels.specs.declared.answers.RingPut.TheVariants.{Done, Busy, Late}
+use Rattle.pfs_model.specs.Contents.{Facts, Given, Written, amount_by, amount_of, or_zero, link_of, is_read_only, nesting_type, nesting_id, words_at, written_at, IsNext, IsContent}
 use Rattle.pfs_model.specs.Contents.{merged as all_merged}
 use Rattle.pfs_levels.specs.Joint.{total, At, Setting, AllAgree}
 use Rattle.pfs_model.specs.Asks.{cell_row, digest_row}
 use Rattle.pfs_model.specs.Contexts.{Context, Waiting, brought, held_for}
 use Rattle.pfs_model.specs.Contexts.{fresh as empty}
 use Rattle.pfs_model.specs.Places.{Placed, placed_lines, after_lines, told_by, by_session, places}
-use Rattle.pfs_model.specs.Setups.{is_digested}
+use Rattle.pfs_model.specs.Numbers.{nesting_of}
+use Rattle.pfs_model.specs.Setups.{is_digested, is_timed}
 use Rattle.pfs_model.specs.Shapes.{counted_slot}
 use Rattle.pfs_model.specs.declared.lines.Opened.{Opened}
 use Rattle.pfs_session.specs.Ends.{numbers_for, with_held}
 use Rattle.pfs_session.specs.Settles.{owed_by_state}
+use Rattle.pfs_session.specs.Starts.{IsUnfilled}
 use Rattle.pfs_session.specs.States.{State, Owed, fresh}
 use Rattle.pfs_session.specs.Turns.{Step, StartsEvent, EndsEvent, Spends, SettlesHeld, Connects, Quits, Truncates, steps_of}
 use Rattle.pfs_session.specs.declared.events.Numbers.{Numbers}
@@ -125,8 +128,29 @@ abbrev pub HaveStarted : (ℕ → Facts) → List Going → Type 0
 HaveStarted facts [] = Unit {0}
 HaveStarted facts (event ∷ events) = ((facts event.index).start ≡ event.start) × HaveStarted facts events
 
+-- an open event is as its words in a ring say, but for its start; what its end fills in is empty
+pub record IsWorded (flags : ℕ → ℕ → ℕ) (slot : Option ℕ) (session : ℕ) (event : Opened) (around : List Opened)
+    (what : Open) : Type 0 where
+  pub session_is : session ≡ what.event.session
+  pub number : or_zero event.number ≡ what.event.number
+  pub class : or_zero event.subject.class ≡ what.event.class
+  pub link : link_of (is_digested flags slot event) event ≡ what.event.link
+  pub timed : is_timed flags slot event ≡ what.event.timed
+  pub read_only : is_read_only event.subject.kind event.subject.cell ≡ what.event.read_only
+  pub nesting : nesting_type (nesting_of around) ≡ what.event.nesting
+  pub parent : nesting_id (nesting_of around) ≡ what.event.parent
+  pub unfilled : IsUnfilled what
+
+-- each open event that is offered to its current place
+abbrev pub AreWorded : (ℕ → ℕ → ℕ) → Option ℕ → ℕ → List Opened → List Open → Type 0
+AreWorded flags slot session [] whats = Unit {0}
+AreWorded flags slot session (event ∷ events) [] = Unit {0}
+AreWorded flags slot session (event ∷ events) (what ∷ whats) =
+    (what.placed ≡ true → IsWorded flags slot session event events what) × AreWorded flags slot session events whats
+
 -- a session holds for each row exactly the sum of what its journal says is waiting for the row; its clock and its open
--- events are those of its steps, and the facts have their starts; and its slot, where it has one, is the one given
+-- events are those of its steps, and the facts have their starts; its number and its slot, where it has one, are those
+-- given; and its open events are as their words say
 pub record Sums (flags : ℕ → ℕ → ℕ) (slots : ℕ → Option ℕ) (facts : ℕ → ℕ → Facts) (session : ℕ) (clocked : Clocked)
     (context : Context) (s : State) : Type 0 where
   pub clock : clocked.clock ≡ s.clock
@@ -136,6 +160,8 @@ pub record Sums (flags : ℕ → ℕ → ℕ) (slots : ℕ → Option ℕ) (fact
   pub held : (row : ℕ) → owed_to row (owed_by_state s)
       ≡ sum_of (map (amount_by flags slots facts session) (held_for row context.waiting))
   pub seat : IfSome s.place.thread (λ n. slots session ≡ Some n)
+  pub own : s.number ≡ session
+  pub worded : AreWorded flags s.place.thread session context.opened s.opened.events
 
 -- by the contents of the rows: an addition and a put made a row's content, and a take found it
 abbrev pub ContentAgrees : (ℕ → ℕ → List ℕ) → Call → Type 0
@@ -144,7 +170,10 @@ ContentAgrees content (Adds row amount (Counted at version)) =
 ContentAgrees content (Adds row amount (Held at first second)) = Unit {0}
 ContentAgrees content (Takes row version found) = found ≡ content row version
 ContentAgrees content (Puts row put version) = content row version ≡ put
-ContentAgrees content (Rings row put answer) = Unit {0}
+ContentAgrees content (Rings row put (Done version)) =
+    (before : ℕ) × (version ≡ before + 1) × (content row version ≡ put)
+ContentAgrees content (Rings row put (Busy first second)) = Unit {0}
+ContentAgrees content (Rings row put (Late ticket)) = Unit {0}
 ContentAgrees content (Reads row seen) = Unit {0}
 ContentAgrees content (Loads at version found) = Unit {0}
 ContentAgrees content (Draws kind ticket) = Unit {0}
@@ -189,6 +218,25 @@ AreAdded amount content [] = Unit {0}
 AreAdded amount content (place ∷ places) =
     IsAdded amount content place.context place.entry × AreAdded amount content places
 
+-- the words of an event as a put finds it, by what its session's entries so far tell
+abbrev pub words_put : (ℕ → ℕ → ℕ) → (ℕ → Facts) → ℕ → Option ℕ → Option ℕ → Option Written → List ℕ
+words_put flags facts session slot ticket None = []
+words_put flags facts session slot ticket (Some written) =
+    words_at flags session slot (facts written.event.index) ticket written
+
+-- a put leaves the words of the event that has just ended, or has just started, at the next version of its row
+abbrev pub IsPut : (ℕ → ℕ → ℕ) → (ℕ → Facts) → (ℕ → ℕ → List ℕ) → ℕ → Context → Entry → Type 0
+IsPut flags facts content session context (says.Ring row version) =
+    IsNext content (λ here. words_put flags facts session context.slot None (written_at context)) row version
+IsPut flags facts content session context (says.Long row version ticket) =
+    IsNext content (λ here. words_put flags facts session context.slot (Some ticket) (written_at context)) row version
+IsPut flags facts content session context entry = Unit {0}
+
+abbrev pub ArePut : (ℕ → ℕ → ℕ) → (ℕ → Facts) → (ℕ → ℕ → List ℕ) → ℕ → List Placed → Type 0
+ArePut flags facts content session [] = Unit {0}
+ArePut flags facts content session (place ∷ places) =
+    IsPut flags facts content session place.context place.entry × ArePut flags facts content session places
+
 -- an event with the row in which it counts
 abbrev pub in_row : ℕ → Opened → Waiting
 in_row row event = record { row = row; event = event }
@@ -231,12 +279,14 @@ IsOnce flags before places behind = (weight : Waiting → ℕ)
     → total weight (counted_in flags places) + total weight before
     ≡ total weight (brought_in places) + total weight behind
 
--- each addition of a session's journal brings its row exactly the events that the journal says; each event that ended
--- and counts was brought once to each of its rows, or waits for it; and behind the journal the session holds for each
--- row exactly what waits for it
+-- each addition of a session's journal brings its row exactly the events that the journal says; each put leaves the
+-- words of its event; each event that ended and counts was brought once to each of its rows, or waits for it; and behind
+-- the journal the session holds for each row exactly what waits for it
 pub record IsAccounted (flags : ℕ → ℕ → ℕ) (slots : ℕ → Option ℕ) (facts : ℕ → ℕ → Facts) (session : ℕ)
     (content : ℕ → ℕ → List ℕ) (clocked : Clocked) (context : Context) (s : State) (parts : List Part) : Type 0 where
   pub added : (phase : ℕ) → AreAdded (amount_by flags slots facts session) content
+      (placed_lines phase session context (lines_of parts) (entries_of parts))
+  pub put : (phase : ℕ) → ArePut flags (facts session) content session
       (placed_lines phase session context (lines_of parts) (entries_of parts))
   pub once : (phase : ℕ) → IsOnce flags context.waiting
       (placed_lines phase session context (lines_of parts) (entries_of parts))
@@ -256,18 +306,20 @@ AmountsLaw = (flags : ℕ → ℕ → ℕ) (slots : ℕ → Option ℕ) (facts :
 
 -- a session that begins stands so; and where a session holds nothing, nothing waits
 pub record SumsLaw : Type 0 where
-  pub fresh : (flags : ℕ → ℕ → ℕ) (slots : ℕ → Option ℕ) (facts : ℕ → ℕ → Facts) (session number stack depth : ℕ)
-      → Sums flags slots facts session at_first empty (fresh number stack depth)
+  pub fresh : (flags : ℕ → ℕ → ℕ) (slots : ℕ → Option ℕ) (facts : ℕ → ℕ → Facts) (session stack depth : ℕ)
+      → Sums flags slots facts session at_first empty (fresh session stack depth)
   pub nothing : (flags : ℕ → ℕ → ℕ) (slots : ℕ → Option ℕ) (facts : ℕ → ℕ → Facts) (session : ℕ) (clocked : Clocked)
       (context : Context) (s : State) → Sums flags slots facts session clocked context s → owed_by_state s ≡ []
       → context.waiting ≡ []
 
 -- of a session through all its phases: each addition of its journal brings its row exactly the events that the journal
--- says; each event that ended and counts was brought once to its row, or waits for it, and the session holds exactly
--- what waits; and once it has ended, each such event was brought just once, to its row, and nothing else was brought
+-- says; each put leaves the words of its event; each event that ended and counts was brought once to its row, or waits
+-- for it, and the session holds exactly what waits; and once it has ended, each such event was brought just once, to its
+-- row, and nothing else was brought
 pub record IsWhole (flags : ℕ → ℕ → ℕ) (slots : ℕ → Option ℕ) (facts : ℕ → ℕ → Facts) (content : ℕ → ℕ → List ℕ)
     (s : State) (session : ℕ) (stints : List Stint) : Type 0 where
   pub added : AreAdded (amount_by flags slots facts session) content (by_session session (places (blocks_of stints)))
+  pub put : ArePut flags (facts session) content session (by_session session (places (blocks_of stints)))
   pub once : IsOnce flags [] (by_session session (places (blocks_of stints)))
       (told_by session empty (blocks_of stints)).waiting
   pub sums : Sums flags slots facts session (clock_behind at_first (parts_by session stints))
@@ -286,6 +338,12 @@ WholeLaw = (flags : ℕ → ℕ → ℕ) (slots : ℕ → Option ℕ) (facts : �
 abbrev pub FactsLaw : Type 0
 FactsLaw = (parts : List Part) → (facts : ℕ → Facts) × AllFacts facts at_first parts
 
+-- what the rules ask of a put's content
+abbrev pub IsRinged : Given → (ℕ → ℕ → List ℕ) → Placed → Entry → Type 0
+IsRinged given content place (says.Ring row version) = IsContent given content place place.entry
+IsRinged given content place (says.Long row version ticket) = IsContent given content place place.entry
+IsRinged given content place entry = Unit {0}
+
 -- what a store's actors have in common says what this law asks of the contents, and what it answers is the content that
 -- the rules of a journal ask for
 pub record ContentsLaw : Type 0 where
@@ -295,3 +353,6 @@ pub record ContentsLaw : Type 0 where
       → place.entry ≡ says.Add row version
       → IsAdded (amount_of given place.session) content place.context place.entry
       → IsContent given content place place.entry
+  pub ask_put : (given : Given) (content : ℕ → ℕ → List ℕ) (place : Placed)
+      → IsPut given.flags (given.facts place.session) content place.session place.context place.entry
+      → IsRinged given content place place.entry

@@ -5,6 +5,7 @@ use Rattle.pfs_admin.specs.States.{seat_at}
 use Rattle.pfs_admin.specs.States.{State as Administration}
 use Rattle.pfs_truncations.specs.declared.truncations.Truncation.{Truncation}
 use Rattle.pfs_event.specs.declared.entry.Entry.{Entry}
+use Rattle.pfs_event.specs.declared.kind.EventKind.TheVariants.{Transaction}
 use Rattle.pfs_levels.specs.Calls.{Call}
 use Rattle.pfs_model.specs.declared.lines.Line.{Line}
 use Rattle.pfs_model.specs.declared.lines.Line.TheVariants as lines
@@ -83,9 +84,10 @@ pub record IsPart (s : State) (p : Part) : Type 0 where
   pub are_turns : AreTurns s p.turns
   pub steps_are : steps_of p.turns ≡ steps_for s p.deed
 
--- the class of an event is one of 63, and its cell that of the class, or the last one
+-- the cell of an event is that of its class, or, of a transaction, the last one
 pub record IsSubject (subject : Subject) : Type 0 where
-  pub cell : (class : ℕ) → subject.class ≡ Some class → (subject.cell ≡ class) ⊎ (subject.cell ≡ 63)
+  pub cell : (class : ℕ) → subject.class ≡ Some class → (subject.cell ≡ class)
+      ⊎ ((subject.cell ≡ 63) × (subject.kind ≡ Transaction))
 
 -- what a line asks of its session. A session that connects has nothing open and holds nothing, and gets one of 32
 -- slots; one that ends has nothing open; behind its end there is the end of its block alone

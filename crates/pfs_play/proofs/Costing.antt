@@ -11,11 +11,11 @@ use Rattle.pfs_play.specs.Errands.{actions_of, actions_on, cost_of, cost_on, err
 use Rattle.pfs_play.specs.Repeats.{repeated}
 use Rattle.pfs_play.proofs.Writing.{place, found, not_found, written_round, written_open, written_begin, begins, cost_then, cost_copies, length_copies}
 
-sql_cost : (what : Option Truncation) → cost_of (sql_errand what) ≤ 7 + 20189 * actions_of (sql_errand what)
+sql_cost : (what : Option Truncation) → cost_of (sql_errand what) ≤ 14 + 20182 * actions_of (sql_errand what)
 sql_cost None = omega arith
 sql_cost (Some what) = omega arith
 
-one_cost : (line : BlockLine) → cost_of (errand_on line) ≤ 7 + 20189 * actions_of (errand_on line)
+one_cost : (line : BlockLine) → cost_of (errand_on line) ≤ 14 + 20182 * actions_of (errand_on line)
 one_cost (said.Wait class) = omega arith
 one_cost (said.TableWait class table) = omega arith
 one_cost (said.Statement class digest) = omega arith
@@ -54,7 +54,7 @@ pub once_each : (lines : List BlockLine) → actions_on lines ≤ length lines
 once_each [] = omega arith
 once_each (line ∷ lines) = omega (arith, one_once line, once_each lines)
 
-pub costs_few : (lines : List BlockLine) → cost_on lines ≤ 7 * length lines + 20189 * actions_on lines
+pub costs_few : (lines : List BlockLine) → cost_on lines ≤ 14 * length lines + 20182 * actions_on lines
 costs_few [] = omega arith
 costs_few (line ∷ lines) = omega (arith, one_cost line, costs_few lines)
 

@@ -45,24 +45,30 @@ errand_deed admin (said.Sql text) = sql_same admin (truncation_of text)
 errand_deed admin (said.Repeat times) = refl
 errand_deed admin said.Done = refl
 
--- an event counts in the cell of its class, or in the last one
-cell_fits : (access : Option Access) (class : ClassRef) (id : ℕ) → class_in class ≡ Some id → (cell_in access (class_in class) ≡ id) ⊎ (cell_in access (class_in class) ≡ 63)
-cell_fits (Some ReadOnly) class id q = inr refl
-cell_fits (Some ReadWrite) (refs.Class other) id q = inl (cc)
-cell_fits None (refs.Class other) id q = inl (cc)
-cell_fits (Some ReadWrite) (refs.Lost kind) id q = cc
-cell_fits None (refs.Lost kind) id q = cc
+-- only a transaction has an access
+abbrev IsOf : Option Access → EventKind → Type 0
+IsOf None kind = Unit {0}
+IsOf (Some access) kind = kind ≡ Transaction
+
+-- an event counts in the cell of its class, or, a READ ONLY transaction, in the last one
+cell_fits : (access : Option Access) (class : ClassRef) (id : ℕ) (kind : EventKind) → IsOf access kind → class_in class ≡ Some id
+    → (cell_in access (class_in class) ≡ id) ⊎ ((cell_in access (class_in class) ≡ 63) × (kind ≡ Transaction))
+cell_fits (Some ReadOnly) class id kind of q = inr (refl, of)
+cell_fits (Some ReadWrite) (refs.Class other) id kind of q = inl (cc)
+cell_fits None (refs.Class other) id kind of q = inl (cc)
+cell_fits (Some ReadWrite) (refs.Lost lost) id kind of q = cc
+cell_fits None (refs.Lost lost) id kind of q = cc
 
 sql_may : (s : State) (admin : Administration) (what : Option Truncation) → MayDo false s (sql_deed admin what)
 sql_may s admin None = refl
 sql_may s admin (Some what) = refl
 
 may_do : (s : State) (admin : Administration) (line : BlockLine) → is_quit line ≡ false → MayDo false s (deed_on admin line)
-may_do s admin (said.Wait class) quits = (refl, record { cell = cell_fits None class })
-may_do s admin (said.TableWait class table) quits = (refl, record { cell = cell_fits None class })
-may_do s admin (said.Statement class digest) quits = (refl, record { cell = cell_fits None class })
-may_do s admin (said.Transaction access) quits = (refl, record { cell = cell_fits (Some access) (refs.Class 62) })
-may_do s admin (said.Stage class) quits = (refl, record { cell = cell_fits None class })
+may_do s admin (said.Wait class) quits = (refl, record { cell = λ id q. cell_fits None class id Wait tt q })
+may_do s admin (said.TableWait class table) quits = (refl, record { cell = λ id q. cell_fits None class id Wait tt q })
+may_do s admin (said.Statement class digest) quits = (refl, record { cell = λ id q. cell_fits None class id Statement tt q })
+may_do s admin (said.Transaction access) quits = (refl, record { cell = λ id q. cell_fits (Some access) (refs.Class 62) id Transaction refl q })
+may_do s admin (said.Stage class) quits = (refl, record { cell = λ id q. cell_fits None class id Stage tt q })
 may_do s admin said.StageEnd quits = refl
 may_do s admin (said.Spend time) quits = refl
 may_do s admin said.End quits = refl

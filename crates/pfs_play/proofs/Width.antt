@@ -30,10 +30,11 @@ ends_in : (s after : State) (slot : Option ℕ) (through : Bool) (what : Open) (
 ends_in s after slot false what others numbers calls entries e = ap width e.after_is
 ends_in s after None true what others numbers calls entries e = absurd e
 ends_in s after (Some n) true what others numbers calls entries e =
-    digest_in what.digested e.between n what numbers e.digested_calls e.digested_entries after e.digests ∙ (ap width e.counts.after_is ∙ length-set s.held _ _)
+    ap width e.puts.after_is
+    ∙ (digest_in what.digested e.adds.between n what numbers e.adds.digested_calls e.adds.digested_entries e.among e.adds.digests ∙ (ap width e.adds.counts.after_is ∙ length-set s.held _ _))
 
 step_wide : (s after : State) (step : Step) (calls : List Call) (entries : List Entry) → Does s step calls entries after → width s ≡ 193 → width after ≡ 193
-step_wide s after (StartsEvent subject) calls entries d wide = ap width d.after_is ∙ wide
+step_wide s after (StartsEvent subject) calls entries d wide = ap width d.begins.after_is ∙ wide
 step_wide s after (EndsEvent numbers) calls entries d wide = ends_in s after s.place.thread (is_let_through d.what.verdict) d.what d.others numbers calls entries d.ends ∙ wide
 step_wide s after (Spends time) calls entries d wide = ap width d.2 ∙ wide
 step_wide s after SettlesHeld calls entries d wide = ap width d.after_is ∙ none_wide

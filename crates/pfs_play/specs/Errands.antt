@@ -51,9 +51,9 @@ errand_on said.Done = ask.Spend 0
 -- how many entries it writes at most, where it isn't the session's end: for a truncation 194 to settle what is held,
 -- 20,000 for what it changes, its action and its answer
 abbrev pub cost_of : Errand → ℕ
-cost_of (ask.Start subject) = 1
-cost_of (ask.Stage subject) = 4
-cost_of (ask.End numbers) = 7
+cost_of (ask.Start subject) = 2
+cost_of (ask.Stage subject) = 8
+cost_of (ask.End numbers) = 14
 cost_of (ask.Spend time) = 0
 cost_of ask.Quit = 0
 cost_of (ask.Truncate what) = 20196

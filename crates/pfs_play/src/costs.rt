@@ -21,7 +21,7 @@ struct Cost {
 pub fn written_cost(lines: &[BlockLine]) -> u64
     requires short { length (written_out lines.now) ≤ 200000 }
     ensures cost { result ≡ cost_on (written_out lines.now) }
-    ensures small { result ≤ 7 * length (written_out lines.now) + 20189 * actions_on (written_out lines.now) }
+    ensures small { result ≤ 14 * length (written_out lines.now) + 20182 * actions_on (written_out lines.now) }
 {
     let mut entries = 0;
     let mut at = 0;
@@ -111,9 +111,9 @@ fn line_cost(line: &BlockLine) -> u64
         BlockLine::Wait(_)
         | BlockLine::TableWait { .. }
         | BlockLine::Statement { .. }
-        | BlockLine::Transaction(_) => 1,
-        BlockLine::Stage(_) | BlockLine::StageEnd => 4,
-        BlockLine::End | BlockLine::EndStatement(_) => 7,
+        | BlockLine::Transaction(_) => 2,
+        BlockLine::Stage(_) | BlockLine::StageEnd => 8,
+        BlockLine::End | BlockLine::EndStatement(_) => 14,
         BlockLine::Sql(text) => sql_cost(text.as_bytes()),
         BlockLine::Spend(_) | BlockLine::Quit | BlockLine::Repeat(_) | BlockLine::Done => 0,
     }

@@ -1,7 +1,7 @@
 //! Playing lines of a script one after another.
 
 ghost use Rattle.std.specs.Prelude.{◌≡◌, ◌<◌, ◌≤◌, ◌+◌, ◌*◌, ◌^◌, ℕ, None, Some, length};
-ghost use Rattle.pfs_admin.specs.Works.{Leaves};
+ghost use Rattle.pfs_session.specs.Using.{Uses};
 ghost use Rattle.pfs_play.specs.Errands.{CanPlay, HavePlayed, StagesLie, actions_on, admin_after, cost_on, kinds_after};
 ghost use Rattle.pfs_facts.specs.Steps.{kinds_at};
 
@@ -27,7 +27,8 @@ pub fn play_lines<A: Acts>(
     requires few { admin.old.actions + actions_on lines.now ≤ 2 ^ 47 }
     requires idle { (r : ℕ) → A.hand rows.old r ≡ None }
     requires lent { A.words rows.old ≡ Some admin.old.words }
-    requires spare { 4 * length lines.now + 20192 * actions_on lines.now ≤ A.left rows.old }
+    requires tickets { 2 * length lines.now ≤ A.draws rows.old }
+    requires spare { 11 * length lines.now + 20192 * actions_on lines.now ≤ A.left rows.old }
     requires room { cost_on lines.now ≤ session.old.journal.room }
     ensures played { HavePlayed lines.now admin.old session.old session.new (A.reached rows.old)
         (A.reached rows.new) }
@@ -44,11 +45,12 @@ pub fn play_lines<A: Acts>(
       held = session.new.state.held;
       actions = session.new.state.actions;
       last = session.new.state.last;
+      nexts = session.new.state.nexts;
     } }
     ensures last { actions_on lines.now ≡ 0 → session.new.state.last ≡ session.old.state.last }
     ensures depth { session.new.state.opened.depth ≡ session.old.state.opened.depth }
     ensures wide { length session.new.state.held ≡ 193 }
-    ensures leaves { Leaves (4 * length lines.now + 20192 * actions_on lines.now) (cost_on lines.now)
+    ensures leaves { Uses (11 * length lines.now + 20192 * actions_on lines.now) (2 * length lines.now) (cost_on lines.now)
         (A.hand rows.old) (A.hand rows.new) (A.left rows.old) (A.left rows.new) (A.draws rows.old)
         (A.draws rows.new) (A.name rows.old) (A.name rows.new) session.old.journal session.new.journal }
     ensures lent { A.words rows.new ≡ Some admin.new.words }

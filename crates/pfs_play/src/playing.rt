@@ -7,6 +7,7 @@ ghost use Rattle.pfs_admin.specs.Works.{Leaves};
 ghost use Rattle.pfs_parts.specs.Deeds.{Ending, Truncating};
 ghost use Rattle.pfs_session.specs.Settles.{owed_by_state};
 ghost use Rattle.pfs_session.specs.States.{nothing_held};
+ghost use Rattle.pfs_session.specs.Using.{Uses};
 ghost use Rattle.pfs_play.specs.Errands.{MayRun, actions_of, admin_behind, cost_of, deed_of};
 
 use crate::errands::Errand;
@@ -25,7 +26,8 @@ pub fn play<A: Acts>(session: &mut Session, rows: &mut A, admin: &mut Admin, err
     requires few { admin.old.actions + actions_of errand.now ≤ 2 ^ 47 }
     requires idle { (r : ℕ) → A.hand rows.old r ≡ None }
     requires lent { A.words rows.old ≡ Some admin.old.words }
-    requires spare { 4 + 20192 * actions_of errand.now ≤ A.left rows.old }
+    requires tickets { 2 ≤ A.draws rows.old }
+    requires spare { 11 + 20192 * actions_of errand.now ≤ A.left rows.old }
     requires room { cost_of errand.now ≤ session.old.journal.room }
     ensures run { HasActed (deed_of admin.old errand.now) session.old session.new (A.reached rows.old)
         (A.reached rows.new) }
@@ -39,12 +41,13 @@ pub fn play<A: Acts>(session: &mut Session, rows: &mut A, admin: &mut Admin, err
       held = session.new.state.held;
       actions = session.new.state.actions;
       last = session.new.state.last;
+      nexts = session.new.state.nexts;
     } }
     ensures last { actions_of errand.now ≡ 0 → session.new.state.last ≡ session.old.state.last }
     ensures depth { session.new.state.opened.depth ≡ session.old.state.opened.depth }
     ensures wide { length session.new.state.held ≡ 193 }
     ensures owed { length (owed_by_state session.new.state) ≤ length (owed_by_state session.old.state) + 4 }
-    ensures leaves { Leaves (4 + 20192 * actions_of errand.now) (cost_of errand.now) (A.hand rows.old)
+    ensures leaves { Uses (11 + 20192 * actions_of errand.now) 2 (cost_of errand.now) (A.hand rows.old)
         (A.hand rows.new) (A.left rows.old) (A.left rows.new) (A.draws rows.old) (A.draws rows.new)
         (A.name rows.old) (A.name rows.new) session.old.journal session.new.journal }
     ensures lent { A.words rows.new ≡ Some admin.new.words }
@@ -68,8 +71,9 @@ fn end<R: Rows>(session: &mut Session, rows: &mut R, numbers: &Numbers)
     requires may { MayRun (Errand.End numbers.now) session.old.state.opened }
     requires early { session.old.state.drawn + 1 < 2 ^ 64 }
     requires alone { (r : ℕ) → 0 < r → R.hand rows.old r ≡ None }
-    requires spare { 4 ≤ R.left rows.old }
-    requires room { 7 ≤ session.old.journal.room }
+    requires tickets { 2 ≤ R.draws rows.old }
+    requires spare { 11 ≤ R.left rows.old }
+    requires room { 14 ≤ session.old.journal.room }
     ensures run { HasActed (Ending numbers.now) session.old session.new (R.reached rows.old) (R.reached rows.new) }
     ensures drawn { session.new.state.drawn ≤ session.old.state.drawn + 1 }
     ensures rest { session.new.state ≡ record session.old.state {
@@ -77,10 +81,11 @@ fn end<R: Rows>(session: &mut Session, rows: &mut R, numbers: &Numbers)
       drawn = session.new.state.drawn;
       opened = session.new.state.opened;
       held = session.new.state.held;
+      nexts = session.new.state.nexts;
     } }
     ensures depth { session.new.state.opened.depth ≡ session.old.state.opened.depth }
     ensures owed { length (owed_by_state session.new.state) ≤ length (owed_by_state session.old.state) + 4 }
-    ensures leaves { Leaves 4 7 (R.hand rows.old) (R.hand rows.new) (R.left rows.old) (R.left rows.new)
+    ensures leaves { Uses 11 2 14 (R.hand rows.old) (R.hand rows.new) (R.left rows.old) (R.left rows.new)
         (R.draws rows.old) (R.draws rows.new) (R.name rows.old) (R.name rows.new) session.old.journal
         session.new.journal }
     ensures words { R.words rows.new ≡ R.words rows.old }

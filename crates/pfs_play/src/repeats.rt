@@ -2,7 +2,7 @@
 
 ghost use Rattle.std.specs.Prelude.{◌≡◌, ◌<◌, ◌≤◌, ◌+◌, ◌-◌, ◌*◌, ◌^◌, ℕ, [], List, None, Some, length, take, drop};
 ghost use Rattle.std.specs.List.{position};
-ghost use Rattle.pfs_admin.specs.Works.{Leaves};
+ghost use Rattle.pfs_session.specs.Using.{Uses};
 ghost use Rattle.pfs_facts.specs.Steps.{kinds_at};
 ghost use Rattle.pfs_script.specs.Marks.{copies, is_done, repeats_of, written_out};
 ghost use Rattle.pfs_play.specs.Repeats.{AllMayPlay, HaveGone, repeated};
@@ -34,7 +34,8 @@ pub fn play_times<A: Acts>(
     requires few { admin.old.actions + times * actions_on body.now ≤ 2 ^ 47 }
     requires idle { (r : ℕ) → A.hand rows.old r ≡ None }
     requires lent { A.words rows.old ≡ Some admin.old.words }
-    requires spare { 4 * (times * length body.now) + 20192 * (times * actions_on body.now) ≤ A.left rows.old }
+    requires tickets { 2 * (times * length body.now) ≤ A.draws rows.old }
+    requires spare { 11 * (times * length body.now) + 20192 * (times * actions_on body.now) ≤ A.left rows.old }
     requires room { times * cost_on body.now ≤ session.old.journal.room }
     ensures played { HavePlayed (copies times body.now) admin.old session.old session.new (A.reached rows.old)
         (A.reached rows.new) }
@@ -50,13 +51,15 @@ pub fn play_times<A: Acts>(
       held = session.new.state.held;
       actions = session.new.state.actions;
       last = session.new.state.last;
+      nexts = session.new.state.nexts;
     } }
     ensures last { times * actions_on body.now ≡ 0 → session.new.state.last ≡ session.old.state.last }
     ensures depth { session.new.state.opened.depth ≡ session.old.state.opened.depth }
     ensures wide { length session.new.state.held ≡ 193 }
-    ensures leaves { Leaves (4 * (times * length body.now) + 20192 * (times * actions_on body.now))
-        (times * cost_on body.now) (A.hand rows.old) (A.hand rows.new) (A.left rows.old) (A.left rows.new)
-        (A.draws rows.old) (A.draws rows.new) (A.name rows.old) (A.name rows.new) session.old.journal session.new.journal }
+    ensures leaves { Uses (11 * (times * length body.now) + 20192 * (times * actions_on body.now))
+        (2 * (times * length body.now)) (times * cost_on body.now) (A.hand rows.old) (A.hand rows.new)
+        (A.left rows.old) (A.left rows.new) (A.draws rows.old) (A.draws rows.new) (A.name rows.old) (A.name rows.new)
+        session.old.journal session.new.journal }
     ensures lent { A.words rows.new ≡ Some admin.new.words }
 {
     // Empty rounds change nothing, and there may be up to 2^64 - 1 of them.
@@ -110,7 +113,8 @@ fn play_repeat<A: Acts>(
     requires few { admin.old.actions + actions_on (repeated times lines.now) ≤ 2 ^ 47 }
     requires idle { (r : ℕ) → A.hand rows.old r ≡ None }
     requires lent { A.words rows.old ≡ Some admin.old.words }
-    requires spare { 4 * length (repeated times lines.now) + 20192 * actions_on (repeated times lines.now)
+    requires tickets { 2 * length (repeated times lines.now) ≤ A.draws rows.old }
+    requires spare { 11 * length (repeated times lines.now) + 20192 * actions_on (repeated times lines.now)
         ≤ A.left rows.old }
     requires room { cost_on (repeated times lines.now) ≤ session.old.journal.room }
     ensures count { result ≤ length lines.now }
@@ -134,12 +138,14 @@ fn play_repeat<A: Acts>(
       held = session.new.state.held;
       actions = session.new.state.actions;
       last = session.new.state.last;
+      nexts = session.new.state.nexts;
     } }
     ensures last { actions_on (repeated times lines.now) ≡ 0 → session.new.state.last ≡ session.old.state.last }
     ensures depth { session.new.state.opened.depth ≡ session.old.state.opened.depth }
     ensures wide { length session.new.state.held ≡ 193 }
-    ensures leaves { Leaves (4 * (length (repeated times lines.now) - length (written_out (drop result lines.now)))
+    ensures leaves { Uses (11 * (length (repeated times lines.now) - length (written_out (drop result lines.now)))
         + 20192 * (actions_on (repeated times lines.now) - actions_on (written_out (drop result lines.now))))
+        (2 * (length (repeated times lines.now) - length (written_out (drop result lines.now))))
         (cost_on (repeated times lines.now) - cost_on (written_out (drop result lines.now))) (A.hand rows.old)
         (A.hand rows.new) (A.left rows.old) (A.left rows.new) (A.draws rows.old) (A.draws rows.new)
         (A.name rows.old) (A.name rows.new) session.old.journal session.new.journal }
@@ -173,7 +179,8 @@ fn play_next<A: Acts>(
     requires few { admin.old.actions + actions_on (written_out lines.now) ≤ 2 ^ 47 }
     requires idle { (r : ℕ) → A.hand rows.old r ≡ None }
     requires lent { A.words rows.old ≡ Some admin.old.words }
-    requires spare { 4 * length (written_out lines.now) + 20192 * actions_on (written_out lines.now) ≤ A.left rows.old }
+    requires tickets { 2 * length (written_out lines.now) ≤ A.draws rows.old }
+    requires spare { 11 * length (written_out lines.now) + 20192 * actions_on (written_out lines.now) ≤ A.left rows.old }
     requires room { cost_on (written_out lines.now) ≤ session.old.journal.room }
     ensures count { (0 < result) × (result ≤ length lines.now) }
     ensures gone { HaveGone (written_out lines.now) (written_out (drop result lines.now)) admin.old admin.new
@@ -196,12 +203,14 @@ fn play_next<A: Acts>(
       held = session.new.state.held;
       actions = session.new.state.actions;
       last = session.new.state.last;
+      nexts = session.new.state.nexts;
     } }
     ensures last { actions_on (written_out lines.now) ≡ 0 → session.new.state.last ≡ session.old.state.last }
     ensures depth { session.new.state.opened.depth ≡ session.old.state.opened.depth }
     ensures wide { length session.new.state.held ≡ 193 }
-    ensures leaves { Leaves (4 * (length (written_out lines.now) - length (written_out (drop result lines.now)))
+    ensures leaves { Uses (11 * (length (written_out lines.now) - length (written_out (drop result lines.now)))
         + 20192 * (actions_on (written_out lines.now) - actions_on (written_out (drop result lines.now))))
+        (2 * (length (written_out lines.now) - length (written_out (drop result lines.now))))
         (cost_on (written_out lines.now) - cost_on (written_out (drop result lines.now))) (A.hand rows.old)
         (A.hand rows.new) (A.left rows.old) (A.left rows.new) (A.draws rows.old) (A.draws rows.new)
         (A.name rows.old) (A.name rows.new) session.old.journal session.new.journal }
@@ -235,7 +244,8 @@ pub fn play_written<A: Acts>(
     requires few { admin.old.actions + actions_on (written_out lines.now) ≤ 2 ^ 47 }
     requires idle { (r : ℕ) → A.hand rows.old r ≡ None }
     requires lent { A.words rows.old ≡ Some admin.old.words }
-    requires spare { 4 * length (written_out lines.now) + 20192 * actions_on (written_out lines.now) ≤ A.left rows.old }
+    requires tickets { 2 * length (written_out lines.now) ≤ A.draws rows.old }
+    requires spare { 11 * length (written_out lines.now) + 20192 * actions_on (written_out lines.now) ≤ A.left rows.old }
     requires room { cost_on (written_out lines.now) ≤ session.old.journal.room }
     ensures played { HavePlayed (written_out lines.now) admin.old session.old session.new (A.reached rows.old)
         (A.reached rows.new) }
@@ -252,12 +262,13 @@ pub fn play_written<A: Acts>(
       held = session.new.state.held;
       actions = session.new.state.actions;
       last = session.new.state.last;
+      nexts = session.new.state.nexts;
     } }
     ensures last { actions_on (written_out lines.now) ≡ 0 → session.new.state.last ≡ session.old.state.last }
     ensures depth { session.new.state.opened.depth ≡ session.old.state.opened.depth }
     ensures wide { length session.new.state.held ≡ 193 }
-    ensures leaves { Leaves (4 * length (written_out lines.now) + 20192 * actions_on (written_out lines.now))
-        (cost_on (written_out lines.now)) (A.hand rows.old) (A.hand rows.new) (A.left rows.old) (A.left rows.new)
+    ensures leaves { Uses (11 * length (written_out lines.now) + 20192 * actions_on (written_out lines.now))
+        (2 * length (written_out lines.now)) (cost_on (written_out lines.now)) (A.hand rows.old) (A.hand rows.new) (A.left rows.old) (A.left rows.new)
         (A.draws rows.old) (A.draws rows.new) (A.name rows.old) (A.name rows.new) session.old.journal session.new.journal }
     ensures lent { A.words rows.new ≡ Some admin.new.words }
 {

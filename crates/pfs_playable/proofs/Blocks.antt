@@ -5,7 +5,6 @@ use Rattle.std.specs.List.{All, flat_map, sum_by}
 use Rattle.std.proofs.lemmas.List.Elements.{All-cons}
 use Rattle.std.proofs.lemmas.List.Sums.{sum_by-cons}
 use Rattle.std.proofs.lemmas.Option.{slice_get_within}
-use Rattle.pfs_classes.specs.declared.setting.Setting.{Setting}
 use Rattle.pfs_script.specs.declared.forms.Form.{Form}
 use Rattle.pfs_script.specs.declared.forms.Form.TheVariants as form
 use Rattle.pfs_script.specs.declared.blocks.Block.{Block}
@@ -18,7 +17,7 @@ use Rattle.pfs_script.specs.SessionNames.{connect_of, names_of}
 use Rattle.pfs_script.specs.Sessions.{ends_block, is_phase, is_session}
 use Rattle.pfs_script.proofs.BlockNesting.{stand_of}
 use Rattle.pfs_script.proofs.SessionNaming.{are_named}
-use Rattle.pfs_playable.specs.Playable.{blocks_in, lines_among, FewLaw, LinesLaw, IsNamed, NamedLaw}
+use Rattle.pfs_playable.specs.Playable.{blocks_in, lines_among, FewLaw, LinesLaw, NamedLaw}
 use Rattle.pfs_playable.proofs.Bools.{bool_cases}
 use Rattle.pfs_playable.proofs.Bounds.{few_lines}
 use Rattle.pfs_playable.proofs.OwnBlocks.{none_block}

@@ -6,6 +6,7 @@ use Rattle.std.proofs.lemmas.Bool.Decides.{nat_tests}
 use Rattle.std.proofs.lemmas.List.Sums.{sum_by-cons}
 use Rattle.pfs_classes.specs.declared.classes.ClassRef.{ClassRef}
 use Rattle.pfs_rows.specs.declared.table.SummaryTable.TheVariants.{ByThread, ByAccount, ByUser, ByHost, Global}
+use Rattle.pfs_rows.specs.declared.table.EventTable.TheVariants.{Current, History, HistoryLong}
 use Rattle.pfs_rows.specs.declared.table.TableKind.TheVariants.{Waits, Stages, Statements, Transactions}
 use Rattle.pfs_play.specs.Errands.{actions_of, actions_on, errand_on, sql_errand}
 use Rattle.pfs_play.proofs.Writing.{actions_then, actions_copies}
@@ -26,13 +27,13 @@ use Rattle.pfs_script.proofs.Behind.{counted_none}
 use Rattle.pfs_script.proofs.BlockNesting.{Stand, stand_of}
 use Rattle.pfs_truncations.specs.Texts.{text_of, truncation_of}
 use Rattle.pfs_truncations.specs.declared.truncations.Truncation.{Truncation}
-use Rattle.pfs_truncations.specs.declared.truncations.Truncation.TheVariants.{Summary, DigestSummary, Accounts, Users, Hosts, SetupActors, SetupObjects}
+use Rattle.pfs_truncations.specs.declared.truncations.Truncation.TheVariants.{Events, Summary, DigestSummary, Accounts, Users, Hosts, SetupActors, SetupObjects}
 use Rattle.pfs_truncations.proofs.Finding.{text}
 use Rattle.pfs_playable.specs.Playable.{actions_among, actions_in, ActionsLaw}
 use Rattle.pfs_playable.proofs.Bodies.{first_said, stop_said, last_said}
 use Rattle.pfs_playable.proofs.Bools.{bool_cases, first_false, second_false}
 use Rattle.pfs_playable.proofs.OwnBlocks.{none_block, connected, resumed}
-use Rattle.pfs_playable.proofs.Totals.{NoRepeat, NoDone, begins, ends, front_some, no_done, plain, times_more, until_other, with_one}
+use Rattle.pfs_playable.proofs.Totals.{NoRepeat, begins, ends, front_some, no_done, plain, times_more, until_other, with_one}
 
 -- what the truncations of lines weigh
 abbrev heft : List BlockLine → ℕ
@@ -45,6 +46,18 @@ IsLight (Some line) weight = 20000 * actions_of (errand_on line) ≤ weight
 
 weighs : (what : Truncation) → sql_weight (text_of what) ≡ 20000
 unfolding begins_with command_of
+weighs (Events Waits Current) = refl
+weighs (Events Waits History) = refl
+weighs (Events Waits HistoryLong) = refl
+weighs (Events Stages Current) = refl
+weighs (Events Stages History) = refl
+weighs (Events Stages HistoryLong) = refl
+weighs (Events Statements Current) = refl
+weighs (Events Statements History) = refl
+weighs (Events Statements HistoryLong) = refl
+weighs (Events Transactions Current) = refl
+weighs (Events Transactions History) = refl
+weighs (Events Transactions HistoryLong) = refl
 weighs (Summary Waits ByThread) = refl
 weighs (Summary Waits ByAccount) = refl
 weighs (Summary Waits ByUser) = refl

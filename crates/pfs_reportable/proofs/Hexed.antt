@@ -1,5 +1,5 @@
 -- A hash in hexadecimal digits is a text of a report.
-use Rattle.std.proofs.Common.{ℕ, zero, suc, ◌≡◌, ◌<◌, ◌/◌, ◌%◌, Bool, true, ◌&&◌, List, [], ◌∷◌, ◌++◌, inl, inr, refl, arith}
+use Rattle.std.proofs.Common.{ℕ, zero, suc, ◌≡◌, ◌<◌, ◌/◌, ◌%◌, Bool, true, ◌&&◌, List, [], ◌∷◌, inl, inr, refl, arith}
 use Rattle.std.specs.Prelude.{slice_index}
 use Rattle.std.specs.Int.{byte_at, bytes_high_first, to_be_bytes, w32}
 use Rattle.std.specs.List.{All}

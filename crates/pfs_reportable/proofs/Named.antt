@@ -1,4 +1,5 @@
--- The names of a script have only bytes that its lines have, and its digest texts those and printable ones.
+-- The names of a script, and of its tables, have only bytes that its lines have, and its digest texts those and
+-- printable ones.
 use Rattle.std.proofs.Common.{ℕ, ◌≡◌, ◌+◌, ◌==◌, Bool, true, false, ◌&&◌, ◌||◌, cond, nat_lt, List, [], ◌∷◌, ◌++◌, length, map, drop, Option, Some, None, Result, Ok, Err, refl, subst}
 use Rattle.std.specs.Prelude.{codes, is_some, option_map, option_and_then, position}
 use Rattle.std.specs.List.{All, fold, list_all, list_any, position_or_len}
@@ -11,33 +12,35 @@ use Rattle.pfs_classes.specs.declared.kind.Kind.{Kind}
 use Rattle.pfs_classes.specs.declared.kind.Kind.TheVariants.{Mutex, Rwlock, Cond, File, Socket, TableIo, TableLock, Stage as KindStage, Statement as KindStatement, Transaction as KindTransaction}
 use Rattle.pfs_classes.specs.Kinds.{kind_of}
 use Rattle.pfs_classes.specs.declared.setting.DigestText.{DigestText}
+use Rattle.pfs_classes.specs.declared.setting.TableName.{TableName}
 use Rattle.pfs_digest.proofs.Bytes.{digest_plain, is_printable}
 use Rattle.pfs_digest.specs.Digest.{digest_text_of}
 use Rattle.pfs_journal.specs.Reports.{IsText, is_text_byte}
 use Rattle.pfs_lexer.specs.declared.tokens.LexFault.{LexFault}
 use Rattle.pfs_model.specs.Chains.{Each}
 use Rattle.pfs_names.specs.Interning.{interned}
-use Rattle.pfs_script.specs.Finds.{add_digest, digests_of, has_text, of_text, with_digest}
+use Rattle.pfs_script.specs.Finds.{add_digest, digests_of, has_text, of_text, table_number, tables_of, with_digest, with_table}
 use Rattle.pfs_script.specs.Forms.{class_kind_of, class_of, class_form, limit_of, limit_form, consumer_of, consumer_form, instrument_of, instrument_form, connect_of, connect_form, session_of, session_form, start_of_kind, start_class, transaction_form, table_wait_of, table_wait_form, start_of_kind_with, start_class_with, start_of, start_form, stage_of, stage_form, spend_form, end_form, sql_form, repeat_form, bare_form, block_form, long_form, form_of, words_form, or_bad_form, is_silent, form}
 use Rattle.pfs_script.specs.Headings.{Naming, head_of, limits_of, naming_behind, naming_of, naming_under, with_class}
 use Rattle.pfs_script.specs.Next.{fault_of, next, placed, unless_fault}
 use Rattle.pfs_script.specs.Numbers.{number_of, numbers_of}
 use Rattle.pfs_script.specs.Scripts.{Begins, IsScript}
 use Rattle.pfs_script.specs.SessionNames.{names_of, with_session}
-use Rattle.pfs_script.specs.Words.{is_script_byte, is_space, word_of, rest_of, schema_of, table_of, is_word, is_name, is_table_name, switch_of, switches_of}
+use Rattle.pfs_script.specs.Words.{is_dot, is_script_byte, is_space, word_of, rest_of, schema_of, table_of, is_word, is_name, is_table_name, switch_of, switches_of}
 use Rattle.pfs_script.specs.declared.blocks.Access.TheVariants.{ReadWrite, ReadOnly}
 use Rattle.pfs_script.specs.declared.forms.Form.{Form}
 use Rattle.pfs_script.specs.declared.forms.Form.TheVariants.{Silent, Limit, Class, Consumer, Instrument, Phase, Connect, TableWait, Statement, Transaction, StageEnd, Spend, End, EndStatement, Sql, Quit, Repeat, Done}
 use Rattle.pfs_script.specs.declared.reasons.Extent.{Extent}
 use Rattle.pfs_script.specs.declared.reasons.Reason.{Reason}
 use Rattle.pfs_script.specs.declared.reasons.Reason.TheVariants.{BadByte}
-use Rattle.pfs_reportable.specs.Reportable.{NamesLaw, TextsLaw}
+use Rattle.pfs_reportable.specs.Reportable.{IsNamedTable, NamesLaw, TableNamesLaw, TextsLaw}
 
--- the names that a line gives, and its statement, are texts
+-- the names that a line gives, those of its table, and its statement, are texts
 abbrev IsClean : Form → Type 0
 IsClean (Class name kind enabled timed) = IsText name
 IsClean (Connect session user host) = IsText user × IsText host
 IsClean (Statement class text) = IsText text
+IsClean (TableWait class schema name) = IsText schema × IsText name
 IsClean _ = Unit {0}
 
 -- ---- parts of a text
@@ -53,6 +56,18 @@ word_text bytes text = All-take (λ b. is_text_byte b ≡ true) (position_or_len
 rest_text : (bytes : List ℕ) → IsText bytes → IfSome (rest_of bytes) IsText
 unfolding rest_of
 rest_text bytes text = at (position is_space bytes)
+  where
+    at : (o : Option ℕ) → IfSome (option_map (λ at. drop (at + 1) bytes) o) IsText
+    at None = tt
+    at (Some k) = All-drop (λ b. is_text_byte b ≡ true) (k + 1) bytes text
+
+schema_text : (bytes : List ℕ) → IsText bytes → IsText (schema_of bytes)
+unfolding schema_of
+schema_text bytes text = All-take (λ b. is_text_byte b ≡ true) (position_or_len is_dot bytes) bytes text
+
+table_text : (bytes : List ℕ) → IsText bytes → IfSome (table_of bytes) IsText
+unfolding table_of
+table_text bytes text = at (position is_dot bytes)
   where
     at : (o : Option ℕ) → IfSome (option_map (λ at. drop (at + 1) bytes) o) IsText
     at None = tt
@@ -135,9 +150,11 @@ transaction_keeps : (access : List ℕ) → Keeps (transaction_form access)
 unfolding transaction_form
 transaction_keeps access = either (bytes_eq access (codes "rw")) (Some (Transaction ReadWrite)) _ tt (chosen (bytes_eq access (codes "ro")) (Transaction ReadOnly) tt)
 
-table_wait_keeps : (class place : List ℕ) → Keeps (table_wait_form class place)
+table_wait_keeps : (class place : List ℕ) → IsText place → Keeps (table_wait_form class place)
 unfolding table_wait_form
-table_wait_keeps class place = then_by (table_wait_of class (schema_of place)) (table_of place) (λ name. chosen (is_table_name (schema_of place) && is_table_name name) (TableWait class (schema_of place) name) tt)
+table_wait_keeps class place text =
+    then_text (table_wait_of class (schema_of place)) (table_of place) (table_text place text)
+    (λ name n. chosen (is_table_name (schema_of place) && is_table_name name) (TableWait class (schema_of place) name) (schema_text place text, n))
 
 start_kind_with_keeps : (class more : List ℕ) → IsText more → (kind : Kind) → Keeps (start_of_kind_with class more kind)
 start_kind_with_keeps class more text Mutex = tt
@@ -145,8 +162,8 @@ start_kind_with_keeps class more text Rwlock = tt
 start_kind_with_keeps class more text Cond = tt
 start_kind_with_keeps class more text File = tt
 start_kind_with_keeps class more text Socket = tt
-start_kind_with_keeps class more text TableIo = table_wait_keeps class more
-start_kind_with_keeps class more text TableLock = table_wait_keeps class more
+start_kind_with_keeps class more text TableIo = table_wait_keeps class more text
+start_kind_with_keeps class more text TableLock = table_wait_keeps class more text
 start_kind_with_keeps class more text KindStage = tt
 start_kind_with_keeps class more text KindStatement = text
 start_kind_with_keeps class more text KindTransaction = tt
@@ -359,3 +376,25 @@ pub all_digests : TextsLaw
 unfolding IsScript
 all_digests = λ extent text setting phases is.
     All-same IsTextual setting.digests (digests_of (limits_of is.0).digests is.0) is.2.digests (digests_textual (limits_of is.0).digests is.0 (lines_clean extent [] is.1.0 is.0 is.1.2))
+
+-- ---- tables
+
+line_named : (tables : List TableName) (line : Form) → All IsNamedTable tables → IsClean line → All IsNamedTable (with_table tables line)
+line_named tables (TableWait class schema name) all clean = at (is_some (table_number tables schema name)) where
+  at : (known : Bool) → All IsNamedTable (cond known tables (tables ++ record { schema = schema; name = name } ∷ []))
+  at true = all
+  at false = All-push IsNamedTable tables (record { schema = schema; name = name }) all clean
+line_named tables _ all clean = all
+
+lines_named : (tables : List TableName) (lines : List Form) → All IsNamedTable tables → Each IsClean lines → All IsNamedTable (fold with_table tables lines)
+lines_named tables [] all each = all
+lines_named tables (line ∷ lines) all each = lines_named (with_table tables line) lines (line_named tables line all each.0) each.1
+
+tables_named : (lines : List Form) → Each IsClean lines → All IsNamedTable (tables_of lines)
+unfolding tables_of
+tables_named lines each = lines_named [] lines (All-nil IsNamedTable) each
+
+pub all_tables_named : TableNamesLaw
+unfolding IsScript
+all_tables_named = λ extent text setting phases is.
+    All-same IsNamedTable setting.tables (tables_of is.0) is.2.tables (tables_named is.0 (lines_clean extent [] is.1.0 is.0 is.1.2))

@@ -1,6 +1,6 @@
 -- The tables at a phase's end show numbers, names of the setting, and words of their own.
 use Rattle.std.proofs.Common.{ℕ, zero, suc, ◌≡◌, ◌≢◌, ◌+◌, Bool, true, false, cond, List, [], ◌∷◌, ◌++◌, map, length, Option, Some, None, refl, sym, ap, subst}
-use Rattle.std.specs.Prelude.{◌==◌, codes, nat_lt, ◌&&◌, option_map, option_and_then, slice_get, unwrap_or}
+use Rattle.std.specs.Prelude.{◌==◌, codes, nat_lt, ◌&&◌, ◌-◌, not, if◌then◌else◌, option_map, option_and_then, slice_get, unwrap_or}
 use Rattle.std.specs.List.{All, AllByRecursion, flat_map, list_all, list_any, range_with_len}
 use Rattle.std.specs.Option.{IfSome, option_to_list}
 use Rattle.std.specs.Int.{bit_at}
@@ -12,7 +12,7 @@ use Rattle.pfs_classes.specs.declared.classes.Class.{Class}
 use Rattle.pfs_classes.specs.declared.setting.DigestText.{DigestText}
 use Rattle.pfs_classes.specs.declared.setting.Setting.{Setting}
 use Rattle.pfs_classes.specs.Registry.{class_at, text_of}
-use Rattle.pfs_finals.specs.Finals.{TableRead, final_order, is_shown, shown_rows, summaries_of, table_if, table_report}
+use Rattle.pfs_finals.specs.Finals.{TableRead, events_of, final_order, is_shown, shown_rows, summaries_of, table_if, table_report}
 use Rattle.pfs_infos.specs.declared.AccountInfo.{AccountInfo}
 use Rattle.pfs_infos.specs.declared.NameInfo.{NameInfo}
 use Rattle.pfs_infos.specs.declared.ThreadInfo.{ThreadInfo}
@@ -27,7 +27,9 @@ use Rattle.pfs_rows.specs.declared.table.Seen.TheVariants as seens
 use Rattle.pfs_rows.specs.declared.table.SummaryTable.{SummaryTable}
 use Rattle.pfs_rows.specs.declared.table.SummaryTable.TheVariants.{ByThread, ByAccount, ByUser, ByHost, Global}
 use Rattle.pfs_rows.specs.declared.table.Table.{Table}
-use Rattle.pfs_rows.specs.declared.table.Table.TheVariants.{Threads, Accounts, Users, Hosts, Summary, DigestSummary}
+use Rattle.pfs_rows.specs.declared.table.EventTable.{EventTable}
+use Rattle.pfs_rows.specs.declared.table.EventTable.TheVariants.{Current, History, HistoryLong}
+use Rattle.pfs_rows.specs.declared.table.Table.TheVariants.{Threads, Accounts, Users, Hosts, Events, Summary, DigestSummary}
 use Rattle.pfs_rows.specs.declared.table.TableKind.{TableKind}
 use Rattle.pfs_rows.specs.declared.table.TableKind.TheVariants.{Waits, Stages, Statements, Transactions}
 use Rattle.pfs_stat.specs.declared.Stat.{Stat}
@@ -43,12 +45,14 @@ use Rattle.pfs_summaries.specs.declared.heads.Head.{Head}
 use Rattle.pfs_summaries.specs.declared.numbers.Numbers.{Numbers}
 use Rattle.pfs_summaries.specs.declared.numbers.Numbers.TheVariants as numbers
 use Rattle.pfs_summaries.specs.declared.tallies.Tally.{Tally}
+use Rattle.pfs_tables.specs.Events.{Fields, class_name, digest_of, digest_values, event_head, event_in, event_tail, event_values, has_ended, named_values, nesting_name, object_of, statement_values, table_values, where_true}
 use Rattle.pfs_tables.specs.Orders.{Keyed, name_key, number_key, row_cmp}
-use Rattle.pfs_tables.specs.Plain.{account_row, account_values, flag_value, flags_at, may_show, name_row, name_values, on_place, plain_rows_of, rows_of, slot_row, thread_row, thread_values, word_rows, words_row}
+use Rattle.pfs_tables.specs.Plain.{account_row, account_values, event_key, event_row, flag_value, flags_at, keyed_event, may_show, name_row, name_values, on_place, plain_rows_of, rows_of, slot_row, thread_row, thread_values, word_rows, words_row}
 use Rattle.pfs_tables.specs.Shown.{listed_rows}
 use Rattle.pfs_values.specs.declared.RowValue.{RowValue}
+use Rattle.pfs_values.specs.declared.RowValue.TheVariants as values
 use Rattle.pfs_reportable.proofs.Hexed.{hash_text}
-use Rattle.pfs_reportable.specs.Reportable.{TablesLaw}
+use Rattle.pfs_reportable.specs.Reportable.{IsNamedTable, TablesLaw}
 
 -- ---- texts and names
 
@@ -315,6 +319,115 @@ module _ (setting : Setting) (texts : All (λ (digest : DigestText). IsText dige
       (counted_good null_heading (tt, (tt, (tt, tt))) (info_at (contents_of 8385 65 readings) 0))
       (each_digest_good (contents_of 8385 65 readings) (range_with_len 0 64))
 
+-- ---- event tables
+
+number_good : (test : Bool) (number : ℕ) → IsValue (where_true test number)
+number_good true number = tt
+number_good false number = tt
+
+nesting_good : (nesting : ℕ) → IsValue (nesting_name nesting)
+nesting_good nesting = at (nesting == 1) (nesting == 2) (nesting == 3) (nesting == 4) where
+  at : (a b c d : Bool)
+      → IsValue (if a then values.Text (codes "TRANSACTION") else if b then values.Text (codes "STATEMENT") else if c then values.Text (codes "STAGE") else if d then values.Text (codes "WAIT") else values.Null)
+  at true b c d = passed is_text_byte (codes "TRANSACTION") refl
+  at false true c d = passed is_text_byte (codes "STATEMENT") refl
+  at false false true d = passed is_text_byte (codes "STAGE") refl
+  at false false false true = passed is_text_byte (codes "WAIT") refl
+  at false false false false = tt
+
+event_head_good : (event : Fields) (name : List ℕ) → IsText name → IsLegible (event_head event name)
+unfolding event_head
+event_head_good event name text = (
+  tt,
+  (
+    tt,
+    (
+      number_good (has_ended event) event.last,
+      (
+        text,
+        (
+          number_good event.timed event.start,
+          (
+            number_good (event.timed && has_ended event) _,
+            (number_good (event.timed && has_ended event) event.duration, (number_good (not (event.nesting == 0)) event.parent, (nesting_good event.nesting, tt))),
+          ),
+        ),
+      ),
+    ),
+  ),
+)
+
+access_good : (read_only : Bool) → IsText (if read_only then codes "READ ONLY" else codes "READ WRITE")
+access_good true = passed is_text_byte (codes "READ ONLY") refl
+access_good false = passed is_text_byte (codes "READ WRITE") refl
+
+found_in : {A : Type 0} (P : A → Type 0) (xs : List A) (i : ℕ) → All P xs → IfSome (slice_get xs i) P
+found_in P [] i all = tt
+found_in P (x ∷ xs) zero all = All-head P x xs all
+found_in P (x ∷ xs) (suc i) all = found_in P xs i (All-tail P x xs all)
+
+any_if : {A : Type 0} (o : Option A) → IfSome o (λ x. Unit {0})
+any_if None = tt
+any_if (Some x) = tt
+
+module _ (setting : Setting) (all : All IsText setting.names) (texts : All (λ (digest : DigestText). IsText digest.text) setting.digests) (named : All IsNamedTable setting.tables) where
+  object_good : (link : ℕ) → IfSome (object_of setting link) IsLegible
+  unfolding object_of
+  object_good link = at (link == 0) where
+    at : (none : Bool) → IfSome (if none then Some (values.Null ∷ values.Null ∷ []) else option_map table_values (slice_get setting.tables (link - 1))) IsLegible
+    at true = (tt, (tt, tt))
+    at false = mapped_if IsNamedTable IsLegible table_values (slice_get setting.tables (link - 1)) (found_in IsNamedTable setting.tables (link - 1) named) (λ table t. (t.0, (t.1, tt)))
+
+  link_good : (link : ℕ) → IfSome (digest_of setting link) IsLegible
+  unfolding digest_of
+  link_good link = at (link == 0) where
+    at : (none : Bool) → IfSome (if none then Some (values.Null ∷ []) else option_map digest_values (slice_get setting.digests (link - 1))) IsLegible
+    at true = (tt, tt)
+    at false = mapped_if (λ (digest : DigestText). IsText digest.text) IsLegible digest_values (slice_get setting.digests (link - 1))
+        (found_in (λ (digest : DigestText). IsText digest.text) setting.digests (link - 1) texts) (λ digest t. (hash_text digest.text, tt))
+
+  tail_good : (kind : TableKind) (event : Fields) → IfSome (event_tail setting kind event) IsLegible
+  unfolding event_tail
+  tail_good Waits event = object_good event.link
+  tail_good Stages event = tt
+  tail_good Statements event =
+      mapped_if IsLegible IsLegible (λ digest. statement_values event ++ digest) (digest_of setting event.link) (link_good event.link) (λ digest g. (tt, (tt, (tt, (tt, (tt, (tt, g)))))))
+  tail_good Transactions event = (access_good event.read_only, tt)
+
+  class_named : (class : Option Class) → IfSome (option_and_then (λ (class : Class). slice_get setting.names class.name) class) IsText
+  class_named None = tt
+  class_named (Some class) = found_text setting.names class.name all
+
+  event_values_good : (kind : TableKind) (event : Fields) → IfSome (event_values setting kind event) IsLegible
+  event_values_good kind event =
+      then_if IsText IsLegible (named_values setting kind event) (class_name setting event.class) (class_named (class_at setting.classes event.class))
+      (λ name n. mapped_if IsLegible IsLegible (λ tail. event_head event name ++ tail) (event_tail setting kind event) (tail_good kind event)
+      (λ tail g. both IsValue (event_head event name) tail (event_head_good event name n) g))
+
+  event_good : (kind : TableKind) (which : EventTable) (place : ℕ) (words : List ℕ) → IfSome (event_row setting kind which place words) IsLegibleRow
+  unfolding event_row
+  event_good kind which place words =
+      then_if (λ (event : Fields). Unit {0}) IsLegibleRow (keyed_event setting kind which place) (event_in words) (any_if (event_in words))
+      (λ event u. mapped_if IsLegible IsLegibleRow (λ values. (event_key which event place, values)) (event_values setting kind event) (event_values_good kind event) (λ values g. g))
+
+  events : (kind : TableKind) (which : EventTable) → IsPlainGood setting all (Events kind which)
+  unfolding words_row
+  events kind which = record { words = λ readings row words. event_good kind which row words; loads = λ word flags. refl }
+
+event_name : (kind : TableKind) (which : EventTable) → IsName (table_name (Events kind which))
+event_name Waits Current = is_name (table_name (Events Waits Current)) refl refl
+event_name Waits History = is_name (table_name (Events Waits History)) refl refl
+event_name Waits HistoryLong = is_name (table_name (Events Waits HistoryLong)) refl refl
+event_name Stages Current = is_name (table_name (Events Stages Current)) refl refl
+event_name Stages History = is_name (table_name (Events Stages History)) refl refl
+event_name Stages HistoryLong = is_name (table_name (Events Stages HistoryLong)) refl refl
+event_name Statements Current = is_name (table_name (Events Statements Current)) refl refl
+event_name Statements History = is_name (table_name (Events Statements History)) refl refl
+event_name Statements HistoryLong = is_name (table_name (Events Statements HistoryLong)) refl refl
+event_name Transactions Current = is_name (table_name (Events Transactions Current)) refl refl
+event_name Transactions History = is_name (table_name (Events Transactions History)) refl refl
+event_name Transactions HistoryLong = is_name (table_name (Events Transactions HistoryLong)) refl refl
+
 -- ---- the tables at a phase's end
 
 -- a table with such a name shows such rows, whatever is read of it
@@ -322,7 +435,7 @@ record IsGood (setting : Setting) (table : Table) : Type 0 where
   name : IsName (table_name table)
   rows : (readings : List Reading) → AllByRecursion IsLegible (listed_rows setting table readings)
 
-module _ (setting : Setting) (all : All IsText setting.names) (texts : All (λ (digest : DigestText). IsText digest.text) setting.digests) where
+module _ (setting : Setting) (all : All IsText setting.names) (texts : All (λ (digest : DigestText). IsText digest.text) setting.digests) (named : All IsNamedTable setting.tables) where
   one_good : (kind : TableKind) (which : SummaryTable) → IsGood setting (Summary kind which)
   one_good kind which = record { name = summary_name kind which; rows = summary_good setting all kind which }
 
@@ -341,8 +454,25 @@ module _ (setting : Setting) (all : All IsText setting.names) (texts : All (λ (
   hosts_good : IsGood setting Hosts
   hosts_good = record { name = is_name (table_name Hosts) refl refl; rows = plain_good setting all Hosts (hosts setting all) }
 
+  event_table_good : (kind : TableKind) (which : EventTable) → IsGood setting (Events kind which)
+  event_table_good kind which = record { name = event_name kind which; rows = plain_good setting all (Events kind which) (events setting all texts named kind which) }
+
+  events_good : (kind : TableKind) → AllByRecursion (IsGood setting) (events_of kind)
+  events_good kind = (event_table_good kind Current, (event_table_good kind History, (event_table_good kind HistoryLong, tt)))
+
   digest_summary_good : IsGood setting DigestSummary
   digest_summary_good = record { name = is_name (table_name DigestSummary) refl refl; rows = digests_good setting texts }
+
+  -- behind the event tables stand the summaries
+  abbrev behind_events : List Table
+  behind_events = summaries_of Waits ++ (summaries_of Stages ++ (summaries_of Statements ++ (summaries_of Transactions ++ DigestSummary ∷ [])))
+
+  summaries_good : AllByRecursion (IsGood setting) behind_events
+  summaries_good =
+      both (IsGood setting) (summaries_of Waits) (summaries_of Stages ++ (summaries_of Statements ++ (summaries_of Transactions ++ DigestSummary ∷ []))) (kind_good Waits)
+      (both (IsGood setting) (summaries_of Stages) (summaries_of Statements ++ (summaries_of Transactions ++ DigestSummary ∷ [])) (kind_good Stages)
+      (both (IsGood setting) (summaries_of Statements) (summaries_of Transactions ++ DigestSummary ∷ []) (kind_good Statements)
+      (both (IsGood setting) (summaries_of Transactions) (DigestSummary ∷ []) (kind_good Transactions) (digest_summary_good, tt))))
 
   order_good : AllByRecursion (IsGood setting) final_order
   order_good = (
@@ -353,10 +483,10 @@ module _ (setting : Setting) (all : All IsText setting.names) (texts : All (λ (
         users_good,
         (
           hosts_good,
-          both (IsGood setting) (summaries_of Waits) (summaries_of Stages ++ (summaries_of Statements ++ (summaries_of Transactions ++ DigestSummary ∷ []))) (kind_good Waits)
-              (both (IsGood setting) (summaries_of Stages) (summaries_of Statements ++ (summaries_of Transactions ++ DigestSummary ∷ [])) (kind_good Stages)
-              (both (IsGood setting) (summaries_of Statements) (summaries_of Transactions ++ DigestSummary ∷ []) (kind_good Statements)
-              (both (IsGood setting) (summaries_of Transactions) (DigestSummary ∷ []) (kind_good Transactions) (digest_summary_good, tt)))),
+          both (IsGood setting) (events_of Waits) (events_of Stages ++ (events_of Statements ++ (events_of Transactions ++ behind_events))) (events_good Waits)
+              (both (IsGood setting) (events_of Stages) (events_of Statements ++ (events_of Transactions ++ behind_events)) (events_good Stages)
+              (both (IsGood setting) (events_of Statements) (events_of Transactions ++ behind_events) (events_good Statements)
+              (both (IsGood setting) (events_of Transactions) behind_events (events_good Transactions) summaries_good))),
         ),
       ),
     ),
@@ -383,5 +513,5 @@ module _ (setting : Setting) (all : All IsText setting.names) (texts : All (λ (
   reads_good (read ∷ reads) good = both IsTable (table_report setting read) (flat_map (table_report setting) reads) (report_good read good.0) (reads_good reads good.1)
 
 pub all_tables : TablesLaw
-all_tables = λ setting reads all texts order.
-    All-from_recursion IsTable (flat_map (table_report setting) reads) (reads_good setting all texts reads (subst (AllByRecursion (IsGood setting)) (sym order) (order_good setting all texts)))
+all_tables = λ setting reads all texts named order.
+    All-from_recursion IsTable (flat_map (table_report setting) reads) (reads_good setting all texts named reads (subst (AllByRecursion (IsGood setting)) (sym order) (order_good setting all texts named)))

@@ -3,6 +3,7 @@ use Rattle.std.specs.Prelude.{ℕ, ◌≡◌, List, [], map}
 use Rattle.std.specs.List.{All, flat_map}
 use Rattle.pfs_alone.specs.Spells.{Spell, AreSpells, calls_of, parts_in}
 use Rattle.pfs_classes.specs.declared.setting.Setting.{Setting}
+use Rattle.pfs_classes.specs.declared.setting.TableName.{TableName}
 use Rattle.pfs_finals.specs.Finals.{TableRead, final_order, table_report}
 use Rattle.pfs_journal.specs.Reports.{AreAnswered, IsTable, IsText}
 use Rattle.pfs_levels.specs.Plain.{AllAnswer}
@@ -23,10 +24,18 @@ abbrev pub TextsLaw : Type 0
 TextsLaw = (extent : Extent) (text : List ℕ) (setting : Setting) (phases : List Phase)
     → IsScript extent text setting phases → All (λ digest. IsText digest.text) setting.digests
 
+-- and so are the schemas and the names of its tables
+abbrev pub IsNamedTable : TableName → Type 0
+IsNamedTable table = IsText table.schema × IsText table.name
+
+abbrev pub TableNamesLaw : Type 0
+TableNamesLaw = (extent : Extent) (text : List ℕ) (setting : Setting) (phases : List Phase)
+    → IsScript extent text setting phases → All IsNamedTable setting.tables
+
 -- whatever was read of the tables at a phase's end, what they show under such names and texts are tables of a report
 abbrev pub TablesLaw : Type 0
 TablesLaw = (setting : Setting) (reads : List TableRead) → All IsText setting.names
-    → All (λ digest. IsText digest.text) setting.digests
+    → All (λ digest. IsText digest.text) setting.digests → All IsNamedTable setting.tables
     → map (λ (read : TableRead). read.table) reads ≡ final_order
     → All IsTable (flat_map (table_report setting) reads)
 

@@ -1,6 +1,6 @@
 //! Laws of the definitions.
 
-ghost use Rattle.pfs_reportable.specs.Reportable.{BlocksLaw, NamesLaw, TablesLaw, TextsLaw};
+ghost use Rattle.pfs_reportable.specs.Reportable.{BlocksLaw, NamesLaw, TableNamesLaw, TablesLaw, TextsLaw};
 
 /// The names of any script's setting have only bytes that a report's texts can have.
 pub fn names()
@@ -12,8 +12,13 @@ pub fn texts()
     ensures { TextsLaw }
 {}
 
-/// Where the setting's names and digest texts are such texts, the tables at a phase's end are tables that a report can
-/// have.
+/// The schemas and the names of the tables of any script's setting have only bytes that a report's texts can have.
+pub fn table_names()
+    ensures { TableNamesLaw }
+{}
+
+/// Where the setting's names and digest texts, and the names of its tables, are such texts, the tables at a phase's end
+/// are tables that a report can have.
 pub fn tables()
     ensures { TablesLaw }
 {}

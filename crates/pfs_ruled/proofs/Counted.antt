@@ -57,7 +57,7 @@ none_more : (x y : ℕ) → x ≡ y → x ≡ y + 0
 none_more x y e = omega (arith, e)
 
 does_actions : (s : State) (step : Step) (calls : List Call) (entries : List Entry) (after : State) → Does s step calls entries after → after.actions ≡ s.actions + acts_at step
-does_actions s (StartsEvent subject) calls entries after d = none_more _ _ (ap (λ (z : State). z.actions) d.after_is)
+does_actions s (StartsEvent subject) calls entries after d = none_more _ _ (ap (λ (z : State). z.actions) d.begins.after_is)
 does_actions s (EndsEvent numbers) calls entries after d = none_more _ _ (ends_actions s numbers calls entries after d)
 does_actions s (Spends time) calls entries after d = none_more _ _ (ap (λ (z : State). z.actions) d.2)
 does_actions s SettlesHeld calls entries after d = none_more _ _ (ap (λ (z : State). z.actions) d.after_is)

@@ -1,7 +1,7 @@
 -- Two sessions, worked: the first connects and a wait of it is counted, the second connects and finds no account, and in
 -- the next phase the first one ends. All that the laws ask of them holds.
 use Rattle.std.proofs.Common.{ℕ, ◌≡◌, ◌+◌, ◌==◌, zero, suc, true, false, List, [], ◌∷◌, ◌++◌, map, Some, None, Contains, inl, replicate, refl, ap, sym, ◌∙◌, subst, arith}
-use Rattle.std.specs.Prelude.{codes, if◌then◌else◌}
+use Rattle.std.specs.Prelude.{codes, drop, if◌then◌else◌, nat_lt}
 use Rattle.std.proofs.lemmas.Grind.{merely}
 use Rattle.std.proofs.lemmas.List.Elements.{Contains-append_left, Contains-push}
 use Rattle.pfs_admin.specs.Asks.{work_of_connect, work_of_quit, connect_entry, placed_of}
@@ -10,6 +10,7 @@ use Rattle.pfs_admin.specs.Laws.{row_of}
 use Rattle.pfs_admin.specs.Opening.{opening_flags, cells_of, cells_of_kind, kinds_of, opened}
 use Rattle.pfs_admin.specs.States.{KindCells, seat_at, connected, has_quit}
 use Rattle.pfs_admin.specs.States.{State as Administration}
+use Rattle.pfs_admin.specs.Truncations.{free_rows}
 use Rattle.pfs_admin.specs.Works.{Sign, Releases, Tags, Made, Work, signs_calls, signs_entries, flagging_calls, flagging_entries}
 use Rattle.pfs_admin.specs.declared.changes.Change.{Change}
 use Rattle.pfs_admin.specs.declared.changes.Change.TheVariants.{Connect, Quit}
@@ -25,11 +26,11 @@ use Rattle.pfs_event.specs.declared.entry.Entry.TheVariants as says
 use Rattle.pfs_event.specs.declared.kind.EventKind.TheVariants as kinds
 use Rattle.pfs_event.specs.declared.open.Open.{Open}
 use Rattle.pfs_event.specs.declared.verdict.Verdict.TheVariants.{Attributed}
-use Rattle.pfs_levels.specs.Calls.{Adds, Loads}
+use Rattle.pfs_levels.specs.Calls.{Call, Adds, Leaves, Loads, Sets}
 use Rattle.pfs_levels.specs.Contents.{merged, zero_words, opening_content}
 use Rattle.pfs_levels.specs.Joint.{sets_of}
 use Rattle.pfs_levels.specs.Moves.{ask, Gift, Move, AreMoves, moves_calls, moves_entries}
-use Rattle.pfs_levels.specs.Plain.{AllAnswer, ops_of, slot_after, word_after, labels_after, word}
+use Rattle.pfs_levels.specs.Plain.{AllAnswer, Answers, ops_of, slot_after, word_after, labels_after, word}
 use Rattle.pfs_levels.specs.declared.answers.Added.TheVariants.{Counted}
 use Rattle.pfs_matching.specs.ActorRules.{opening_actors}
 use Rattle.pfs_matching.specs.ObjectRules.{opening_objects}
@@ -41,7 +42,7 @@ use Rattle.pfs_parts.specs.Deeds.{Deed, Connecting, Starting, Ending, Quitting, 
 use Rattle.pfs_parts.specs.Stints.{AreStints, parts_by, resumed}
 use Rattle.pfs_rows.specs.Limits.{AreInRange}
 use Rattle.pfs_rows.specs.declared.limits.Limits.{Limits}
-use Rattle.pfs_session.proofs.Ending.{ends_undigested}
+use Rattle.pfs_session.proofs.Ending.{ends_undigested, starts_unplaced}
 use Rattle.pfs_session.proofs.Owed.{nothing_owed}
 use Rattle.pfs_session.specs.Ends.{no_numbers, amount_of}
 use Rattle.pfs_session.specs.Settles.{owed_in, owed_by_state, settle_head}
@@ -50,6 +51,7 @@ use Rattle.pfs_session.specs.States.{State, fresh, nothing_held, no_place}
 use Rattle.pfs_session.specs.Turns.{StartsEvent, EndsEvent, SettlesHeld, Connects, Quits, Turn, acted}
 use Rattle.pfs_session.specs.declared.setup.Setup.{Setup}
 use Rattle.pfs_stat.specs.Stat.{MergeIsMonoid}
+use Rattle.pfs_ruled.proofs.Freed.{are_low, freed_calls, frees_answer}
 use Rattle.pfs_ruled.proofs.Leaving.{left}
 use Rattle.pfs_ruled.proofs.Ruling.{ruled}
 use Rattle.pfs_ruled.specs.Folded.{AreFolded, AllConnectFirst}
@@ -310,15 +312,20 @@ abbrev pub moves : List Move
 moves = emptied 192 0 zero_words [] ∷ emptied 191 0 zero_words [] ∷ emptied 131 0 zero_words [] ∷ emptied 130 0 zero_words []
     ∷ emptied 129 1 (merged zero_words (amount_of open_wait 0 no_numbers)) (record { to = 2177; before = 0; version = 1; there = zero_words } ∷ []) ∷ []
 
--- what its connect wrote
+-- what its connect wrote, and nobody wrote to the places of its rings
 abbrev pub written : List Sign → ℕ → List ℕ
 written [] row = []
 written (Releases released ∷ signs) row = written signs row
 written (Tags tagged words ∷ signs) row = if tagged == row then words else written signs row
 
+abbrev pub next_made : Sign → Made
+next_made sign =
+    if nat_lt (row_of sign) 129 then record { sign = sign; version = 1; found = written (work_of_connect opening 1 0 1).signs (row_of sign) }
+    else record { sign = sign; version = 0; found = opening_content (row_of sign) }
+
 abbrev pub made_next : List Sign → List Made
 made_next [] = []
-made_next (sign ∷ signs) = made_next signs ++ record { sign = sign; version = 1; found = written (work_of_connect opening 1 0 1).signs (row_of sign) } ∷ []
+made_next (sign ∷ signs) = made_next signs ++ next_made sign ∷ []
 
 abbrev pub back : State
 back = resumed (close_turn end_turn.after).after
@@ -357,15 +364,15 @@ first_connects = record {
 wait_starts : IsPart first_seated (record { deed = Starting wait; turns = start_turn ∷ [] })
 wait_starts = record {
   are_turns = (
-    record {
+    starts_unplaced _ _ _ _ _ (record {
       seen = Some seen;
       what = open_wait;
       loaded = record { there = refl; table_is = refl };
       calls_are = refl;
-      opened = record { kind = refl; verdict_is = refl; session_is = refl; number = refl; class = refl; digested_is = refl; link = refl; lies_in = refl; start = refl; timed_is = refl; read_only = refl; unfilled = record { last = refl; duration = refl; numbers = refl; ticket = refl; placed = refl } };
+      opened = record { kind = refl; verdict_is = refl; session_is = refl; number = refl; class = refl; digested_is = refl; placed_is = refl; link = refl; lies_in = refl; start = refl; timed_is = refl; read_only = refl; unfilled = record { last = refl; duration = refl; numbers = refl; ticket = refl } };
       entries_are = refl;
       after_is = refl;
-    },
+    }) refl,
     tt,
   );
   steps_are = refl;
@@ -378,7 +385,7 @@ wait_ends = record {
       what = open_wait;
       others = [];
       innermost = refl;
-      ends = ends_undigested first_waits 0 open_wait [] no_numbers _ _ end_turn.after refl
+      ends = ends_undigested first_waits 0 open_wait [] no_numbers _ _ end_turn.after refl refl
           (record { consumers = word 0 12288; thread = word 1 3; answer = Counted 129 1; row_is = refl; calls_are = refl; entries_are = refl; after_is = refl });
     },
     tt,
@@ -404,6 +411,7 @@ moves_are : AreMoves work.moves moves
 moves_are = (ask 129 (2177 ∷ []) ∷ ask 130 (2178 ∷ []) ∷ ask 131 (2179 ∷ []) ∷ ask 191 (2239 ∷ []) ∷ [], (ask 192 (2240 ∷ []), (refl, (record { from_is = refl; next = refl; gifts_are = tt; to_is = refl }, (ask 129 (2177 ∷ []) ∷ ask 130 (2178 ∷ []) ∷ ask 131 (2179 ∷ []) ∷ [], (ask 191 (2239 ∷ []), (refl, (record { from_is = refl; next = refl; gifts_are = tt; to_is = refl }, (ask 129 (2177 ∷ []) ∷ ask 130 (2178 ∷ []) ∷ [], (ask 131 (2179 ∷ []), (refl, (record { from_is = refl; next = refl; gifts_are = tt; to_is = refl }, (ask 129 (2177 ∷ []) ∷ [], (ask 130 (2178 ∷ []), (refl, (record { from_is = refl; next = refl; gifts_are = tt; to_is = refl }, ([], (ask 129 (2177 ∷ []), (refl, (record { from_is = refl; next = refl; gifts_are = (refl, tt); to_is = refl }, refl))))))))))))))))))))
 
 first_quits : IsPart back (record { deed = Quitting last; turns = quit_turn ∷ close_turn back ∷ [] })
+unfolding free_rows
 first_quits = record {
   are_turns = (
     (record { moves = moves; made = made_next work.signs; are_moves = moves_are; signs_are = refl; calls_are = refl; entries_are = refl }, refl),
@@ -435,9 +443,39 @@ are_folded = (((first_fold, refl), (tt, (tt, (tt, tt)))), (((second_fold, refl),
 pub connect_first : AllConnectFirst spells
 connect_first = ((refl, (tt, (tt, (tt, tt)))), ((refl, (tt, tt)), ((tt, (tt, tt)), tt)))
 
+-- all calls but the last ones, which release the places of the first session's rings, turn its thread off and end its
+-- quit
+abbrev former_calls : List Call
+former_calls = drop 114 (calls_of spells)
+
+former_low : are_low (ops_of former_calls) ≡ true
+unfolding free_rows ops_of
+former_low = refl
+
+former_answer : AllAnswer flags former_calls
+unfolding free_rows ops_of sets_of slot_after word_after labels_after
+former_answer = (((omega arith, omega arith), refl, refl), (((omega arith, omega arith), refl, refl, refl), (((omega arith, omega arith), refl, refl), (((omega arith, omega arith), refl, refl, refl), (((omega arith, omega arith), refl, refl), (((omega arith, omega arith), refl, refl, refl), (((omega arith, omega arith), refl, refl), (((omega arith, omega arith), refl, refl, refl), (((omega arith, omega arith), refl, refl), (((omega arith, omega arith), refl, refl, refl), (((omega arith, omega arith), refl, refl), (((omega arith, omega arith), refl, refl, refl), (((omega arith, omega arith), refl, refl), (((omega arith, omega arith), refl, refl, refl), (((omega arith, omega arith), refl, refl), (((omega arith, omega arith), refl, refl, refl), (((omega arith, omega arith), refl, refl), (((omega arith, omega arith), refl, refl, refl), (((omega arith, omega arith), refl, refl), (((omega arith, omega arith), refl, refl, refl), ((refl, refl), (refl, ((omega arith, refl), (((omega arith, omega arith), refl, refl), (((omega arith, omega arith), refl, refl, refl), ((refl, refl), (((omega arith, omega arith), refl, refl, refl), ((omega arith, refl), ((omega arith, refl), ((omega arith, refl), ((omega arith, refl), ((omega arith, refl), (refl, ((omega arith, refl), (((omega arith, omega arith), refl, refl), (((omega arith, omega arith), refl, refl, refl), (((omega arith, omega arith), refl, refl), (((omega arith, omega arith), refl, refl, refl), (((omega arith, omega arith), refl, refl), (((omega arith, omega arith), refl, refl, refl), (((omega arith, omega arith), refl, refl), (((omega arith, omega arith), refl, refl, refl), ((refl, refl), tt)))))))))))))))))))))))))))))))))))))))))))
+
+freed_answer : AllAnswer flags (freed_calls 56 ++ former_calls)
+freed_answer = frees_answer flags 56 former_calls (omega arith) former_low former_answer
+
+calls_are : calls_of spells ≡ Leaves ∷ Sets 1 0 2 ∷ (freed_calls 56 ++ former_calls)
+unfolding free_rows
+calls_are = refl
+
+quit_ends : Answers flags (Sets 1 0 2 ∷ (freed_calls 56 ++ former_calls)) Leaves
+unfolding free_rows ops_of slot_after
+quit_ends = refl
+
+thread_off : Answers flags (freed_calls 56 ++ former_calls) (Sets 1 0 2)
+unfolding free_rows sets_of word_after
+thread_off = (omega arith, refl)
+
+two_more : (x y : Call) (calls rest : List Call) → calls ≡ x ∷ y ∷ rest → Answers flags (y ∷ rest) x → Answers flags rest y → AllAnswer flags rest → AllAnswer flags calls
+two_more x y calls rest e a b c = subst (AllAnswer flags) (sym e) (a, (b, c))
+
 answer_so : AllAnswer flags (calls_of spells)
-unfolding ops_of sets_of slot_after word_after labels_after
-answer_so = (refl, ((omega arith, refl), (((omega arith, omega arith), refl, refl), (((omega arith, omega arith), refl, refl, refl), (((omega arith, omega arith), refl, refl), (((omega arith, omega arith), refl, refl, refl), (((omega arith, omega arith), refl, refl), (((omega arith, omega arith), refl, refl, refl), (((omega arith, omega arith), refl, refl), (((omega arith, omega arith), refl, refl, refl), (((omega arith, omega arith), refl, refl), (((omega arith, omega arith), refl, refl, refl), (((omega arith, omega arith), refl, refl), (((omega arith, omega arith), refl, refl, refl), (((omega arith, omega arith), refl, refl), (((omega arith, omega arith), refl, refl, refl), (((omega arith, omega arith), refl, refl), (((omega arith, omega arith), refl, refl, refl), (((omega arith, omega arith), refl, refl), (((omega arith, omega arith), refl, refl, refl), (((omega arith, omega arith), refl, refl), (((omega arith, omega arith), refl, refl, refl), ((refl, refl), (refl, ((omega arith, refl), (((omega arith, omega arith), refl, refl), (((omega arith, omega arith), refl, refl, refl), ((refl, refl), (((omega arith, omega arith), refl, refl, refl), ((omega arith, refl), ((omega arith, refl), ((omega arith, refl), ((omega arith, refl), ((omega arith, refl), (refl, ((omega arith, refl), (((omega arith, omega arith), refl, refl), (((omega arith, omega arith), refl, refl, refl), (((omega arith, omega arith), refl, refl), (((omega arith, omega arith), refl, refl, refl), (((omega arith, omega arith), refl, refl), (((omega arith, omega arith), refl, refl, refl), (((omega arith, omega arith), refl, refl), (((omega arith, omega arith), refl, refl, refl), ((refl, refl), tt)))))))))))))))))))))))))))))))))))))))))))))
+answer_so = two_more Leaves (Sets 1 0 2) (calls_of spells) (freed_calls 56 ++ former_calls) calls_are quit_ends thread_off freed_answer
 
 pub answers : AllAnswer (opening_flags setting opening_objects) (calls_of spells)
 answers = subst (λ z. AllAnswer z (calls_of spells)) (sym flags_are) answer_so

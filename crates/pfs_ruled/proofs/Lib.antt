@@ -13,10 +13,13 @@ pub mod Placing
 pub mod Labelling
 pub mod Quieting
 pub mod Quiet
+pub mod Owning
+pub mod Tickets
 pub mod Ruling
 pub mod Fronts
 pub mod Stores
 pub mod Tallying
 pub mod Leaving
 pub mod Appending
+mod Freed
 mod Examples

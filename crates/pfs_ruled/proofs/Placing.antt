@@ -22,11 +22,13 @@ use Rattle.pfs_model.specs.Places.{after_lines, told_by}
 use Rattle.pfs_model.specs.Shapes.{is_stage}
 use Rattle.pfs_model.specs.declared.lines.Subject.{Subject}
 use Rattle.pfs_parts.proofs.Journaling.{turns_number}
+use Rattle.pfs_parts.proofs.Ringing.{put_ring, rings_keep, rings_of}
 use Rattle.pfs_parts.specs.Amounts.{IsPlaced, AllPlaced}
 use Rattle.pfs_parts.specs.Deeds.{Deed, Connecting, Starting, Staging, StageEnding, Ending, Spending, Quitting, Truncating, Closing, Part, line_of, part_entries, action_of, steps_for}
 use Rattle.pfs_parts.specs.Shaped.{AreParts, lines_of, entries_of}
 use Rattle.pfs_parts.specs.Stints.{Stint, blocks_of, parts_by, AreDone}
 use Rattle.pfs_session.specs.Ends.{Ends, EndsIn, EndsThrough, EndsCounted, DigestsIn, added_entry, no_numbers}
+use Rattle.pfs_session.specs.Rings.{put_entries}
 use Rattle.pfs_session.specs.Settles.{Paid, paid_entries, settle_head}
 use Rattle.pfs_session.specs.Starts.{start_entry}
 use Rattle.pfs_session.specs.States.{State, Owed}
@@ -80,12 +82,17 @@ digest_slot subject context false s slot what numbers calls entries after d = sl
 digest_slot subject context true s slot what numbers calls entries after d = slot_as subject context entries _ context.slot d.entries_are (added_slot subject context d.answer)
 
 through_slot : (subject : Option Subject) (context : Context) (s : State) (slot : ℕ) (what : Open) (others : List Open) (numbers : Numbers) (calls : List Call) (entries : List Entry) (after : State)
-    → (x : EndsThrough s slot what others numbers calls entries after) → (after_entries subject context (x.counted_entries ++ x.digested_entries)).slot ≡ context.slot
+    → (x : EndsThrough s slot what others numbers calls entries after) → (after_entries subject context (x.added_entries ++ x.ring_entries)).slot ≡ context.slot
 through_slot subject context s slot what others numbers calls entries after x =
-    let mid : Context = after_entries subject context x.counted_entries in
-    ap (λ (z : Context). z.slot) (entries_then subject context x.counted_entries x.digested_entries)
-    ∙ (digest_slot subject mid what.digested x.between slot what numbers x.digested_calls x.digested_entries after x.digests
-    ∙ counted_slot subject context s slot what others numbers x.counted_calls x.counted_entries x.between x.counts)
+    let e = x.adds in
+    let mid : Context = after_entries subject context e.counted_entries in
+    let added : Context = after_entries subject context x.added_entries in
+    ap (λ (z : Context). z.slot) (entries_then subject context x.added_entries x.ring_entries)
+    ∙ (ap (λ (z : Context). z.slot) (rings_keep subject added x.ring_entries (rings_of x.among slot what numbers _ _ x.ring_calls x.ring_entries after x.puts))
+    ∙ (ap (λ z. (after_entries subject context z).slot) e.entries_are
+    ∙ (ap (λ (z : Context). z.slot) (entries_then subject context e.counted_entries e.digested_entries)
+    ∙ (digest_slot subject mid what.digested e.between slot what numbers e.digested_calls e.digested_entries x.among e.digests
+    ∙ counted_slot subject context s slot what others numbers e.counted_calls e.counted_entries e.between e.counts))))
 
 ends_slot : (subject : Option Subject) (context : Context) (s : State) (numbers : Numbers) (calls : List Call) (entries : List Entry) (after : State) → Ends s numbers calls entries after
     → (after_entries subject context entries).slot ≡ context.slot
@@ -105,7 +112,11 @@ acted_slot subject context head calls entries slot e a = slot_as subject context
 
 does_slot : (subject : Option Subject) (context : Context) (s : State) (step : Step) (calls : List Call) (entries : List Entry) (after : State) → Does s step calls entries after
     → (after_entries subject context entries).slot ≡ slot_by s.number context.slot step
-does_slot subject context s (StartsEvent what) calls entries after d = slot_as subject context entries _ context.slot d.entries_are (start_slot subject context _ _ d.seen)
+does_slot subject context s (StartsEvent what) calls entries after d =
+    let begun : Context = after_entries subject context d.begun_entries in
+    slot_as subject context entries _ context.slot d.entries_are
+    (ap (λ (z : Context). z.slot) (entries_then subject context d.begun_entries (put_entries d.current) ∙ rings_keep subject begun (put_entries d.current) (put_ring d.current))
+    ∙ slot_as subject context d.begun_entries _ context.slot d.begins.entries_are (start_slot subject context _ _ d.begins.seen))
 does_slot subject context s (EndsEvent numbers) calls entries after d = ends_slot subject context s numbers calls entries after d
 does_slot subject context s (Spends time) calls entries after d = slot_as subject context entries _ context.slot d.1 refl
 does_slot subject context s SettlesHeld calls entries after d = slot_as subject context entries _ context.slot d.entries_are (settle_slot subject context _ d.paid)

@@ -33,9 +33,11 @@ use Rattle.pfs_ruled.proofs.Finding.{AreNumbers, unique, spells_numbers}
 use Rattle.pfs_ruled.proofs.Knowing.{KnownActing, AllStandAmong, spells_among, spells_known}
 use Rattle.pfs_ruled.proofs.Labelling.{labelled}
 use Rattle.pfs_ruled.proofs.Orders.{asked_are, rooms_are, words_are}
+use Rattle.pfs_ruled.proofs.Owning.{all_later, all_own}
 use Rattle.pfs_ruled.proofs.Placing.{all_placed}
 use Rattle.pfs_ruled.proofs.Quieting.{caused, there}
 use Rattle.pfs_ruled.proofs.Seating.{spells_seated}
+use Rattle.pfs_ruled.proofs.Tickets.{risen, ticketed}
 
 -- what the labels give, in the words of the rules
 record AreOrdered (setting : Setting) (change : Label → Change) (labels : List Label) (stints : List Stint) : Type 0 where
@@ -114,8 +116,11 @@ ruled m = λ setting change facts depths spells are answers folded first given_f
       found = asked.found;
       contents = record {
         opens = content_opens (ops_of (calls_of spells));
-        made = contents.all given content all asked.made (contents.by_all given content all (λ session. (whole session).added));
+        made = contents.all given content all asked.made (contents.by_all given content all (λ session. (whole session).added))
+            (contents.put_by_all given content all (λ session. (whole session).put));
       };
+      ticketed = λ phase kind few. ticketed 0 all a.plain (all_own stints has.are_done) (all_later setting.limits.statement_stack depths stints are.stints) phase kind;
+      risen = risen all a.plain;
     }) in
     record {
       labelled = subst (λ z. AreLabels z all) (sym has.now) (labelled setting.limits.statement_stack depths spells are.stints has.are_done has.lined has.among t.same);

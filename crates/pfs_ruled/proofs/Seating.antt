@@ -26,7 +26,7 @@ use Rattle.pfs_ruled.specs.Folded.{FoldsTo, DoingsFolded, AreFolded}
 use Rattle.pfs_admin.specs.Laws.{row_of}
 use Rattle.pfs_admin.specs.Truncations.{action_of, work_of_truncation}
 use Rattle.pfs_truncations.specs.declared.truncations.Truncation.{Truncation}
-use Rattle.pfs_truncations.specs.declared.truncations.Truncation.TheVariants.{Summary, DigestSummary, Accounts, Users, Hosts, SetupActors, SetupObjects}
+use Rattle.pfs_truncations.specs.declared.truncations.Truncation.TheVariants.{Events, Summary, DigestSummary, Accounts, Users, Hosts, SetupActors, SetupObjects}
 use Rattle.pfs_ruled.proofs.CellKinds.{fold_kinds}
 use Rattle.pfs_ruled.proofs.Classes.{few_classes}
 use Rattle.pfs_ruled.proofs.Truncating.{rows_of_truncation}
@@ -46,6 +46,7 @@ quit_well c number well = by_found (found_where (λ x. x.number == number) c.pla
 
 truncation_well : (c : Containers) (what : Truncation) → AreWell c.places → AreWell (advanced c (action_of what)).places
 truncation_well c (Summary kind table) well = well
+truncation_well c (Events kind table) well = well
 truncation_well c Accounts well = accounts_freed c.places (in_use (λ x. x.account) c.places.threads) _ refl well
 truncation_well c Users well =
     users_freed (places_after c.places FreesAccounts) (in_use (λ x. x.user) c.places.threads) _ refl
@@ -106,7 +107,7 @@ deed_seated setting change session label labels (Connecting admin user host) f =
 deed_seated setting change session label labels (Quitting admin) f =
     subst (λ (s : State). Ascends 0 64 s.cells × IfSome (seat_in s session) IsInRange) (sym f.0) (fold_cells setting change labels, seat_in_in (state_of setting change labels).kept.now session (fold_well setting change labels))
 deed_seated setting change session label labels (Truncating admin what) f =
-    subst (λ (s : State). AreOnce (map from_of (work_of_truncation s what).moves) × Ascends 1 129 (map row_of (work_of_truncation s what).signs)) (sym f.0)
+    subst (λ (s : State). AreOnce (map from_of (work_of_truncation s what).moves) × Ascends 1 14242 (map row_of (work_of_truncation s what).signs)) (sym f.0)
     (rows_of_truncation (state_of setting change labels) what (fold_kinds setting change labels))
 deed_seated setting change session label labels (Starting subject) f = tt
 deed_seated setting change session label labels (Staging subject) f = tt

@@ -1,15 +1,16 @@
--- A truncation takes no row twice, and the info rows that it writes or releases ascend.
-use Rattle.std.proofs.Common.{ℕ, zero, suc, ◌≡◌, ◌<◌, ◌≤◌, ◌+◌, ◌-◌, ◌*◌, ◌%◌, ◌==◌, Bool, true, false, cond, List, [], ◌∷◌, ◌++◌, map, length, Option, Some, None, ne_eqb, eq-eqb, refl, ap, sym, ◌∙◌, subst, arith}
-use Rattle.std.specs.Prelude.{All, nat_lt}
+-- A truncation takes no row twice, and the rows that it writes or releases ascend, those of infos or those of rings.
+use Rattle.std.proofs.Common.{ℕ, zero, suc, ◌≡◌, ◌<◌, ◌≤◌, ◌+◌, ◌-◌, ◌*◌, ◌%◌, ◌==◌, Bool, true, false, cond, List, [], ◌∷◌, ◌++◌, map, Option, Some, None, inl, inr, ne_eqb, eq-eqb, refl, ap, sym, ◌∙◌, subst, arith}
+use Rattle.std.specs.Prelude.{◌⊎◌, All, nat_lt}
 use Rattle.std.specs.List.{slice_index_or}
 use Rattle.std.specs.Option.{option_map}
 use Rattle.std.proofs.lemmas.Bool.{false≢true, eqb-true, ltb-true, ltb-false}
 use Rattle.std.proofs.lemmas.List.{map-append}
 use Rattle.std.proofs.lemmas.List.Elements.{All-head, All-tail}
+use Rattle.pfs_admin.proofs.Rows.{frees_ascend}
 use Rattle.pfs_admin.specs.Laws.{row_of}
 use Rattle.pfs_admin.specs.States.{State, KindCells, kind_cells, AreKindCells}
-use Rattle.pfs_admin.specs.Truncations.{up_to, thread_source, account_source, user_source, host_source, source_at, place_asks, asks_at, level_asks, emptied, cleared, lower_asks, upper_asks, reach_asks, reach_of, summary_asks, all_asks, truncation_asks, first_row, content_at, place_sign, sign_at, level_signs, truncation_signs, is_there, kept_behind, work_of_truncation, digest_ask, digest_asks}
-use Rattle.pfs_admin.specs.Works.{Sign}
+use Rattle.pfs_admin.specs.Truncations.{up_to, thread_source, account_source, user_source, host_source, place_asks, asks_at, level_asks, emptied, cleared, reach_asks, reach_of, summary_asks, all_asks, truncation_asks, first_row, content_at, place_sign, sign_at, level_signs, truncation_signs, is_there, kept_behind, work_of_truncation, digest_ask, digest_asks, freed_at, free_rows, free_slot, free_threads, current_first, current_count, event_signs}
+use Rattle.pfs_admin.specs.Works.{Sign, Releases, Tags}
 use Rattle.pfs_asked.specs.Takes.{AreOnce}
 use Rattle.pfs_containers.specs.Administration.{Containers}
 use Rattle.pfs_containers.specs.Connections as places
@@ -18,16 +19,18 @@ use Rattle.pfs_containers.specs.declared.containers.Connection.{Connection}
 use Rattle.pfs_levels.specs.Flushes.{Ascends, ask_of, asks_of, from_of}
 use Rattle.pfs_levels.specs.Moves.{Ask}
 use Rattle.pfs_levels.specs.declared.flushes.Source.{Source}
-use Rattle.pfs_levels.specs.declared.flushes.Source.TheVariants as of
 use Rattle.pfs_levels.specs.declared.places.Level.{Level}
 use Rattle.pfs_levels.specs.declared.places.Level.TheVariants as levels
-use Rattle.pfs_model.specs.Chains.{times}
+use Rattle.pfs_model.specs.Chains.{Each, times}
+use Rattle.pfs_rows.specs.declared.table.EventTable.{EventTable}
+use Rattle.pfs_rows.specs.declared.table.EventTable.TheVariants as events
 use Rattle.pfs_rows.specs.declared.table.TableKind.{TableKind}
 use Rattle.pfs_rows.specs.declared.table.TableKind.TheVariants.{Waits, Stages, Statements, Transactions}
 use Rattle.pfs_rows.specs.declared.table.SummaryTable.{SummaryTable}
 use Rattle.pfs_rows.specs.declared.table.SummaryTable.TheVariants as tables
+use Rattle.pfs_rows.specs.Tables.{kind_number}
 use Rattle.pfs_truncations.specs.declared.truncations.Truncation.{Truncation}
-use Rattle.pfs_truncations.specs.declared.truncations.Truncation.TheVariants.{Summary, DigestSummary, Accounts, Users, Hosts, SetupActors, SetupObjects}
+use Rattle.pfs_truncations.specs.declared.truncations.Truncation.TheVariants.{Events, Summary, DigestSummary, Accounts, Users, Hosts, SetupActors, SetupObjects}
 
 abbrev count : ℕ → List ℕ → ℕ
 count row xs = times (λ n. n == row) xs
@@ -278,6 +281,7 @@ pub takes_once : (k : KindCells) (s : places.State) (what : Truncation) → AreF
 takes_once k s (Summary kind table) fit row =
     let a : count row (map from_of (summary_asks s table (kind_cells k kind))) ≤ count (cell_of row) (kind_cells k kind) = summary_few row s table (kind_cells k kind) (fit.small.small kind) in
     omega (arith, a, of_kind k kind fit (cell_of row))
+takes_once k s (Events kind table) fit row = omega arith
 takes_once k s Accounts fit row = all_once s tables.ByAccount k fit row
 takes_once k s Users fit row = all_once s tables.ByUser k fit row
 takes_once k s Hosts fit row = all_once s tables.ByHost k fit row
@@ -316,26 +320,117 @@ signs_of_level : (written : Bool) (was : ℕ → Bool) (after : Containers) (lev
 unfolding level_signs
 signs_of_level written was after level = few_signs written was after level 32
 
-pub signs_ascend : (was : Level → ℕ → Bool) (after : Containers) (what : Truncation) → Ascends 1 129 (map row_of (truncation_signs was after what))
-signs_ascend was after (Summary kind table) = tt
-signs_ascend was after Accounts = wider 33 1 65 129 _ (omega arith) (omega arith) (signs_of_level true (was levels.Account) after levels.Account)
-signs_ascend was after Users =
+-- the places of rings: so many of each live thread, one thread behind the other, or a whole long history
+slot_ascends : (there : ℕ → Bool) (first count slot : ℕ) → first + count ≤ 56 → Ascends (8450 + 56 * slot) (8450 + 56 * slot + 56) (map row_of (free_slot there first count slot))
+slot_ascends there first count slot h = by_there (there slot) where
+  by_there : (b : Bool) → Ascends (8450 + 56 * slot) (8450 + 56 * slot + 56) (map row_of (cond b (free_rows (8450 + 56 * slot + first) count) []))
+  by_there false = tt
+  by_there true = wider (8450 + 56 * slot + first) (8450 + 56 * slot) (8450 + 56 * slot + first + count) (8450 + 56 * slot + 56) _ (omega arith) (omega (arith, h)) (frees_ascend (8450 + 56 * slot + first) count)
+
+slots_ascend : (there : ℕ → Bool) (first count n : ℕ) → first + count ≤ 56 → Ascends 8450 (8450 + 56 * n) (map row_of (up_to (free_slot there first count) n))
+slots_ascend there first count zero h = tt
+slots_ascend there first count (suc n) h =
+    let more : 8450 + 56 * n + 56 ≡ 8450 + 56 * suc n = omega arith in
+    subst (λ z. Ascends 8450 z (map row_of (up_to (free_slot there first count) (suc n)))) more
+    (subst (Ascends 8450 (8450 + 56 * n + 56)) (sym (map-append row_of (up_to (free_slot there first count) n) (free_slot there first count n)))
+    (ascends_then 8450 (8450 + 56 * n) (8450 + 56 * n + 56) _ _ (omega arith) (slots_ascend there first count n h) (slot_ascends there first count n h) (omega arith)))
+
+threads_ascend : (there : ℕ → Bool) (first count : ℕ) → first + count ≤ 56 → Ascends 8450 14242 (map row_of (free_threads there first count))
+unfolding free_threads
+threads_ascend there first count h = wider 8450 8450 10242 14242 _ (omega arith) (omega arith) (slots_ascend there first count 32 h)
+
+long_ascends : (first : ℕ) → 8450 ≤ first → first + 1000 ≤ 14242 → Ascends 8450 14242 (map row_of (free_rows first 1000))
+long_ascends first l h = wider first 8450 (first + 1000) 14242 _ l h (frees_ascend first 1000)
+
+pub events_ascend : (there : ℕ → Bool) (kind : TableKind) (table : EventTable) → Ascends 8450 14242 (map row_of (event_signs there kind table))
+events_ascend there Waits events.Current = threads_ascend there 0 4 (omega arith)
+events_ascend there Stages events.Current = threads_ascend there 4 1 (omega arith)
+events_ascend there Statements events.Current = threads_ascend there 5 10 (omega arith)
+events_ascend there Transactions events.Current = threads_ascend there 15 1 (omega arith)
+events_ascend there Waits events.History = threads_ascend there 16 10 (omega arith)
+events_ascend there Stages events.History = threads_ascend there 26 10 (omega arith)
+events_ascend there Statements events.History = threads_ascend there 36 10 (omega arith)
+events_ascend there Transactions events.History = threads_ascend there 46 10 (omega arith)
+events_ascend there Waits events.HistoryLong = long_ascends 10242 (omega arith) (omega arith)
+events_ascend there Stages events.HistoryLong = long_ascends 11242 (omega arith) (omega arith)
+events_ascend there Statements events.HistoryLong = long_ascends 12242 (omega arith) (omega arith)
+events_ascend there Transactions events.HistoryLong = long_ascends 13242 (omega arith) (omega arith)
+
+-- a sign that releases
+abbrev pub IsRelease : Sign → Type 0
+IsRelease (Releases row) = Unit {0}
+IsRelease (Tags row content) = ⊥
+
+up_releases : (f : ℕ → List Sign) (n : ℕ) → ((k : ℕ) → Each IsRelease (f k)) → Each IsRelease (up_to f n)
+up_releases f zero each = tt
+up_releases f (suc n) each = both (up_to f n) (f n) (up_releases f n each) (each n) where
+  both : (xs ys : List Sign) → Each IsRelease xs → Each IsRelease ys → Each IsRelease (xs ++ ys)
+  both [] ys a b = b
+  both (x ∷ xs) ys a b = (a.0, both xs ys a.1 b)
+
+pub rows_release : (first count : ℕ) → Each IsRelease (free_rows first count)
+unfolding free_rows
+rows_release first count = up_releases (freed_at first) count (λ k. (tt, tt))
+
+threads_release : (there : ℕ → Bool) (first count : ℕ) → Each IsRelease (free_threads there first count)
+unfolding free_threads
+threads_release there first count = up_releases (free_slot there first count) 32 (λ slot. by_there slot (there slot)) where
+  by_there : (slot : ℕ) (b : Bool) → Each IsRelease (cond b (free_rows (8450 + 56 * slot + first) count) [])
+  by_there slot true = rows_release (8450 + 56 * slot + first) count
+  by_there slot false = tt
+
+events_release : (there : ℕ → Bool) (kind : TableKind) (table : EventTable) → Each IsRelease (event_signs there kind table)
+events_release there kind events.Current = threads_release there (current_first kind) (current_count kind)
+events_release there kind events.History = threads_release there (16 + 10 * kind_number kind) 10
+events_release there kind events.HistoryLong = rows_release (10242 + 1000 * kind_number kind) 1000
+
+-- of any other table info rows ascend
+abbrev pub InfosAscend : Truncation → List Sign → Type 0
+InfosAscend (Events kind table) signs = Unit {0}
+InfosAscend _ signs = Ascends 1 129 (map row_of signs)
+
+pub infos_ascend : (was : Level → ℕ → Bool) (after : Containers) (what : Truncation) → InfosAscend what (truncation_signs was after what)
+infos_ascend was after (Events kind table) = tt
+infos_ascend was after (Summary kind table) = tt
+infos_ascend was after Accounts = wider 33 1 65 129 _ (omega arith) (omega arith) (signs_of_level true (was levels.Account) after levels.Account)
+infos_ascend was after Users =
     let accounts : List Sign = level_signs false (was levels.Account) after levels.Account in
     let users : List Sign = level_signs true (was levels.User) after levels.User in
     subst (Ascends 1 129) (sym (map-append row_of accounts users))
     (ascends_then 1 65 129 _ _ (omega arith) (wider 33 1 65 65 _ (omega arith) (omega arith) (signs_of_level false (was levels.Account) after levels.Account))
     (wider 65 65 97 129 _ (omega arith) (omega arith) (signs_of_level true (was levels.User) after levels.User)) (omega arith))
-signs_ascend was after Hosts =
+infos_ascend was after Hosts =
     let accounts : List Sign = level_signs false (was levels.Account) after levels.Account in
     let hosts : List Sign = level_signs true (was levels.Host) after levels.Host in
     subst (Ascends 1 129) (sym (map-append row_of accounts hosts))
     (ascends_then 1 65 129 _ _ (omega arith) (wider 33 1 65 65 _ (omega arith) (omega arith) (signs_of_level false (was levels.Account) after levels.Account))
     (wider 97 65 129 129 _ (omega arith) (omega arith) (signs_of_level true (was levels.Host) after levels.Host)) (omega arith))
-signs_ascend was after DigestSummary = tt
-signs_ascend was after SetupActors = tt
-signs_ascend was after SetupObjects = tt
+infos_ascend was after DigestSummary = tt
+infos_ascend was after SetupActors = tt
+infos_ascend was after SetupObjects = tt
+
+-- info rows ascend, or places of rings that are all released
+abbrev pub AreInfosOrRings : List Sign → Type 0
+AreInfosOrRings signs = Ascends 1 129 (map row_of signs) ⊎ (Ascends 8450 14242 (map row_of signs) × Each IsRelease signs)
+
+pub signs_split : (was : Level → ℕ → Bool) (after : Containers) (what : Truncation) → AreInfosOrRings (truncation_signs was after what)
+signs_split was after (Events kind table) =
+    inr (events_ascend (is_there after.places levels.Thread) kind table, events_release (is_there after.places levels.Thread) kind table)
+signs_split was after (Summary kind table) = inl (infos_ascend was after (Summary kind table))
+signs_split was after Accounts = inl (infos_ascend was after Accounts)
+signs_split was after Users = inl (infos_ascend was after Users)
+signs_split was after Hosts = inl (infos_ascend was after Hosts)
+signs_split was after DigestSummary = inl (infos_ascend was after DigestSummary)
+signs_split was after SetupActors = inl (infos_ascend was after SetupActors)
+signs_split was after SetupObjects = inl (infos_ascend was after SetupObjects)
+
+signs_ascend : (was : Level → ℕ → Bool) (after : Containers) (what : Truncation) → Ascends 1 14242 (map row_of (truncation_signs was after what))
+signs_ascend was after what = by_split (signs_split was after what) where
+  by_split : AreInfosOrRings (truncation_signs was after what) → Ascends 1 14242 (map row_of (truncation_signs was after what))
+  by_split (inl a) = wider 1 1 129 14242 _ (omega arith) (omega arith) a
+  by_split (inr a) = wider 8450 1 14242 14242 _ (omega arith) (omega arith) a.0
 
 -- of an administration whose cells are so
 pub rows_of_truncation : (s : State) (what : Truncation) → AreFit s.kinds
-    → AreOnce (map from_of (work_of_truncation s what).moves) × Ascends 1 129 (map row_of (work_of_truncation s what).signs)
+    → AreOnce (map from_of (work_of_truncation s what).moves) × Ascends 1 14242 (map row_of (work_of_truncation s what).signs)
 rows_of_truncation s what fit = (takes_once s.kinds s.kept.now.places what fit, signs_ascend (is_there s.kept.now.places) (kept_behind s.kept what).now what)

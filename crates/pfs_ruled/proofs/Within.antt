@@ -7,6 +7,7 @@ use Rattle.pfs_alone.specs.Notes.{Note, Wrote, Freed, Switched, Saw, Acted, told
 use Rattle.pfs_alone.proofs.Nexts.{acts}
 use Rattle.pfs_event.specs.Verdicts.{is_let_through}
 use Rattle.pfs_event.specs.declared.entry.Entry.{Entry}
+use Rattle.pfs_event.specs.declared.event.Event.{Event}
 use Rattle.pfs_event.specs.declared.open.Open.{Open}
 use Rattle.pfs_levels.specs.Calls.{Call, Adds, Rings, Reads, Loads, Draws, Takes, Puts, Frees, Sets, Enters, Leaves, Meets, label_in}
 use Rattle.pfs_levels.specs.Moves.{Gift, Move, gift_calls, move_calls, moves_calls}
@@ -14,7 +15,11 @@ use Rattle.pfs_levels.specs.Plain.{labels_after}
 use Rattle.pfs_levels.specs.declared.answers.Added.TheVariants.{Counted, Held}
 use Rattle.pfs_levels.specs.declared.answers.RingPut.TheVariants.{Done, Busy, Late}
 use Rattle.pfs_levels.specs.declared.answers.Word.{Word}
-use Rattle.pfs_session.specs.Ends.{Ends, EndsIn, EndsThrough, DigestsIn}
+use Rattle.pfs_rings.specs.declared.puts.Put.{Put}
+use Rattle.pfs_rings.specs.declared.rings.Ring.{Ring}
+use Rattle.pfs_rings.specs.declared.rings.Ring.TheVariants.{Current, History, Long}
+use Rattle.pfs_session.specs.Ends.{Ends, EndsIn, EndsThrough, DigestsIn, PutsAtEnd}
+use Rattle.pfs_session.specs.Rings.{PutAt, PutIf, PutIn, depth_of}
 use Rattle.pfs_session.specs.Settles.{Paid, paid_calls, pay_calls}
 use Rattle.pfs_session.specs.Starts.{load_calls, table_calls}
 use Rattle.pfs_session.specs.States.{State}
@@ -91,11 +96,36 @@ digest_within : (b : Bool) (s : State) (slot : ℕ) (what : Open) (numbers : Num
 digest_within false s slot what numbers calls entries after d = subst AreWithin (sym d.calls_are) tt
 digest_within true s slot what numbers calls entries after d = subst AreWithin (sym d.calls_are) (tt, tt)
 
+-- puts to rings
+at_within : (row : ℕ) (ticket : Option ℕ) (head : List Call) (event : Event) (put : Put) (calls : List Call) → PutAt row ticket head event put calls → AreWithin head → AreWithin calls
+at_within row ticket head event put calls x h = subst AreWithin (sym x.calls_are) (tt, h)
+
+if_within : (due : Bool) (ring : Ring) (event : Event) (put : Option Put) (calls : List Call) → PutIf due ring event put calls → AreWithin calls
+if_within false ring event put calls x = subst AreWithin (sym x.1) tt
+if_within true ring event None calls x = absurd x
+if_within true (Current slot kind depth) event (Some put) calls x = at_within _ None [] event put calls x tt
+if_within true (History slot kind place) event (Some put) calls x = at_within _ None [] event put calls x tt
+if_within true (Long kind) event (Some put) calls x = at_within _ _ _ event put calls x.at (tt, tt)
+
+in_within : (slot : Option ℕ) (what : Open) (depth : ℕ) (event : Event) (put : Option Put) (calls : List Call) → PutIn slot what depth event put calls → AreWithin calls
+in_within None what depth event put calls x = subst AreWithin (sym x.1) tt
+in_within (Some slot) what depth event put calls x = if_within what.placed (Current slot what.kind depth) event put calls x
+
+puts_within : (s : State) (slot : ℕ) (what : Open) (numbers : Numbers) (consumers thread : ℕ) (calls : List Call) (entries : List Entry) (after : State)
+    → PutsAtEnd s slot what numbers consumers thread calls entries after → AreWithin calls
+puts_within s slot what numbers consumers thread calls entries after x =
+    subst AreWithin (sym x.calls_are)
+    (within_then x.long_calls (x.history_calls ++ x.current_calls) (if_within _ _ _ x.long x.long_calls x.long_is)
+    (within_then x.history_calls x.current_calls (if_within _ _ _ x.history x.history_calls x.history_is) (if_within _ _ _ x.current x.current_calls x.current_is)))
+
 through_within : (s : State) (slot : ℕ) (what : Open) (others : List Open) (numbers : Numbers) (calls : List Call) (entries : List Entry) (after : State) → (x : EndsThrough s slot what others numbers calls entries after)
-    → AreWithin (x.digested_calls ++ x.counted_calls)
+    → AreWithin (x.ring_calls ++ x.added_calls)
 through_within s slot what others numbers calls entries after x =
-    within_then x.digested_calls x.counted_calls (digest_within what.digested x.between slot what numbers x.digested_calls x.digested_entries after x.digests)
-    (subst AreWithin (sym x.counts.calls_are) (tt, (tt, (tt, tt))))
+    let e = x.adds in
+    within_then x.ring_calls x.added_calls (puts_within x.among slot what numbers _ _ x.ring_calls x.ring_entries after x.puts)
+    (subst AreWithin (sym e.calls_are)
+    (within_then e.digested_calls e.counted_calls (digest_within what.digested e.between slot what numbers e.digested_calls e.digested_entries x.among e.digests)
+    (subst AreWithin (sym e.counts.calls_are) (tt, (tt, (tt, tt))))))
 
 ends_within : (s : State) (numbers : Numbers) (calls : List Call) (entries : List Entry) (after : State) → Ends s numbers calls entries after → AreWithin calls
 ends_within s numbers calls entries after e = by_case s.place.thread (is_let_through e.what.verdict) e.ends where
@@ -105,7 +135,11 @@ ends_within s numbers calls entries after e = by_case s.place.thread (is_let_thr
   by_case (Some slot) true x = subst AreWithin (sym x.calls_are) (through_within s slot e.what e.others numbers calls entries after x)
 
 does_within : (s : State) (step : Step) (calls : List Call) (entries : List Entry) (after : State) → Does s step calls entries after → AreWithin calls
-does_within s (StartsEvent subject) calls entries after d = subst AreWithin (sym d.calls_are) (loads_within s.place.thread subject.class subject.table d.seen)
+does_within s (StartsEvent subject) calls entries after d =
+    let b = d.begins in
+    subst AreWithin (sym d.calls_are)
+    (within_then d.put_calls d.begun_calls (in_within s.place.thread b.what (depth_of b.what.kind s.opened.events) b.what.event d.current d.put_calls d.put_is)
+    (subst AreWithin (sym b.calls_are) (loads_within s.place.thread subject.class subject.table b.seen)))
 does_within s (EndsEvent numbers) calls entries after d = ends_within s numbers calls entries after d
 does_within s (Spends time) calls entries after d = subst AreWithin (sym d.0) tt
 does_within s SettlesHeld calls entries after d = subst AreWithin (sym d.calls_are) (paid_within d.paid)

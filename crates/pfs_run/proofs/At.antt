@@ -23,8 +23,8 @@ use Rattle.pfs_run.proofs.Ready.{IsReady, ready}
 use Rattle.pfs_run.proofs.Slots.{few_slots}
 
 module _ (setting : Setting) (phases before : List Phase) (first : List Block) (block : Block) (others : List Block) (after : List Phase)
-    (was : Opening → List Call → Type 0) (hand : ℕ → Option ℕ) (left : ℕ) (words : Option (List Word)) (admin : Administration) (seats : List (Option Book)) (lost : LostEvents) (ended : List PhaseParts) (told : List BlockReport)
-    (along : IsAlong setting phases before first (block_at before block ∷ ahead_of before others after) was hand left words admin seats lost ended told)
+    (was : Opening → List Call → Type 0) (hand : ℕ → Option ℕ) (left draws : ℕ) (words : Option (List Word)) (admin : Administration) (seats : List (Option Book)) (lost : LostEvents) (ended : List PhaseParts) (told : List BlockReport)
+    (along : IsAlong setting phases before first (block_at before block ∷ ahead_of before others after) was hand left draws words admin seats lost ended told)
     (here : IsHere setting phases before first block others after) where
   abbrev spells : List Spell
   spells = along.earlier ++ along.current
@@ -37,8 +37,11 @@ module _ (setting : Setting) (phases before : List Phase) (first : List Block) (
   pub slots_at : length admin.kept.now.places.threads ≤ 32
   slots_at = subst (λ (a : Administration). length a.kept.now.places.threads ≤ 32) (sym along.course.admin_is) (few_slots setting (change_in phases) (labels_of spells))
 
-  pub spare_at : 4 * length (written_out block.lines) + 20192 * actions_on (written_out block.lines) + 588 ≤ left
+  pub spare_at : 11 * length (written_out block.lines) + 20192 * actions_on (written_out block.lines) + 644 ≤ left
   spare_at = omega (arith, along.spare, here.few, here.playable.short, here.rare)
+
+  pub tickets_at : 2 * length (written_out block.lines) ≤ draws
+  tickets_at = omega (arith, along.tickets, here.few, here.playable.short)
 
   pub actions_at : admin.actions + actions_on (written_out block.lines) + 1 < 2 ^ 47
   actions_at = omega (arith, along.acted, here.few, here.rare)

@@ -43,12 +43,12 @@ empty_seat session seats e low high = ap (λ z. seat_of z session) e ∙ get_or-
 sits_empty : (setting : Setting) (phases : List Phase) (session : ℕ) (seat : Option Book) → seat ≡ None → Sits setting phases [] [] session seat
 sits_empty setting phases session seat e = subst (Sits setting phases [] [] session) (sym e) refl
 
-pub begun : (setting : Setting) (phases : List Phase) (reached : Opening → List Call → Type 0) (hand : ℕ → Option ℕ) (left : ℕ) (words : Option (List Word))
+pub begun : (setting : Setting) (phases : List Phase) (reached : Opening → List Call → Type 0) (hand : ℕ → Option ℕ) (left draws : ℕ) (words : Option (List Word))
     (admin : Administration) (seats : List (Option Book)) (lost : LostEvents) (ended : List PhaseParts) (told : List BlockReport) → AreInRange setting.limits
     → IsBegun setting (change_in phases) (depth_of phases) → ((start : Opening) → start.flags ≡ opening_flags setting opening_objects → reached start [])
-    → ((row : ℕ) → hand row ≡ None) → left ≡ 2 ^ 47 → words ≡ Some (map (word 0) (opening_flags setting opening_objects)) → admin ≡ opened setting → seats ≡ replicate 64 None
-    → lost.digests ≡ 0 → lost.statements ≡ 0 → lost.waits ≡ 0 → ended ≡ [] → told ≡ [] → IsAlong setting phases [] [] (numbered 1 phases) reached hand left words admin seats lost ended told
-begun setting phases reached hand left words admin seats lost ended told limits is leads idle all lent is_open empty digests statements waits none nothing =
+    → ((row : ℕ) → hand row ≡ None) → left ≡ 2 ^ 47 → draws ≡ 2 ^ 47 → words ≡ Some (map (word 0) (opening_flags setting opening_objects)) → admin ≡ opened setting → seats ≡ replicate 64 None
+    → lost.digests ≡ 0 → lost.statements ≡ 0 → lost.waits ≡ 0 → ended ≡ [] → told ≡ [] → IsAlong setting phases [] [] (numbered 1 phases) reached hand left draws words admin seats lost ended told
+begun setting phases reached hand left draws words admin seats lost ended told limits is leads idle all every lent is_open empty digests statements waits none nothing =
     let nowhere : Start = record {
       table = record { words = 0; slots = 0; views_name = 0; atom = 0; block = 0; offset = 0; slot_names = [] };
       number = 0;
@@ -75,6 +75,7 @@ begun setting phases reached hand left words admin seats lost ended told limits 
       idle = idle;
       lent = lent ∙ ap (λ (z : Administration). Some z.words) (sym is_open);
       spare = omega (arith, all);
+      tickets = omega (arith, every);
       acted = omega (arith, ap (λ (z : Administration). z.actions) is_open);
       wide = ap length empty ∙ length-replicate {A = Option Book} 64 None;
       seated = λ session low high. sits_empty setting phases session (seat_of seats session) (empty_seat session seats empty low high);

@@ -85,11 +85,12 @@ numbers_more most now (r ∷ rs) report low one all = (within r.number all.0, nu
   within n h = omega (arith, h, low)
 
 -- what a phase's end leaves: the store, read and no more, and the report
-pub record IsEndOf (setting : Setting) (was now : Opening → List Call → Type 0) (hand_old hand_new : ℕ → Option ℕ) (left_old left_new : ℕ) (words_old words_new : Option (List Word))
+pub record IsEndOf (setting : Setting) (was now : Opening → List Call → Type 0) (hand_old hand_new : ℕ → Option ℕ) (left_old left_new draws_old draws_new : ℕ) (words_old words_new : Option (List Word))
     (admin : Administration) (lost : LostEvents) (ended : List PhaseParts) (told : List BlockReport) (report : PhaseParts) : Type 0 where
   pub answers : (start : Opening) (calls : List Call) → now start calls → AllAnswer start.flags calls
   pub hand : (row : ℕ) → hand_new row ≡ hand_old row
   pub left : left_new ≡ left_old
+  pub draws : draws_new ≡ draws_old
   pub words : words_new ≡ words_old
   pub number : report.number ≡ length ended + 1
   pub blocks : report.blocks ≡ told
@@ -109,12 +110,12 @@ abbrev pub as_phase : List Block → Phase
 as_phase blocks = record { blocks = blocks }
 
 phase_ended : (setting : Setting) (phases before : List Phase) (first : List Block) (after : List Phase) (was now : Opening → List Call → Type 0) (hand_old hand_new : ℕ → Option ℕ)
-    (left_old left_new : ℕ) (words_old words_new : Option (List Word)) (admin : Administration) (seats : List (Option Book)) (lost : LostEvents) (ended : List PhaseParts)
-    (told : List BlockReport) (report : PhaseParts) → IsAlong setting phases before first (ahead_of before [] after) was hand_old left_old words_old admin seats lost ended told
-    → IsEndOf setting was now hand_old hand_new left_old left_new words_old words_new admin lost ended told report
-    → IsAlong setting phases (before ++ as_phase first ∷ []) [] (numbered (1 + length (before ++ as_phase first ∷ [])) after) now hand_new left_new words_new admin seats lost
+    (left_old left_new draws_old draws_new : ℕ) (words_old words_new : Option (List Word)) (admin : Administration) (seats : List (Option Book)) (lost : LostEvents) (ended : List PhaseParts)
+    (told : List BlockReport) (report : PhaseParts) → IsAlong setting phases before first (ahead_of before [] after) was hand_old left_old draws_old words_old admin seats lost ended told
+    → IsEndOf setting was now hand_old hand_new left_old left_new draws_old draws_new words_old words_new admin lost ended told report
+    → IsAlong setting phases (before ++ as_phase first ∷ []) [] (numbered (1 + length (before ++ as_phase first ∷ [])) after) now hand_new left_new draws_new words_new admin seats lost
     (ended ++ report ∷ []) []
-phase_ended setting phases before first after was now hand_old hand_new left_old left_new words_old words_new admin seats lost ended told report a e =
+phase_ended setting phases before first after was now hand_old hand_new left_old left_new draws_old draws_new words_old words_new admin seats lost ended told report a e =
     let spells : List Spell = a.earlier ++ a.current in
     let phase : Phase = as_phase first in
     let all : List Phase = before ++ phase ∷ [] in
@@ -164,7 +165,8 @@ phase_ended setting phases before first after was now hand_old hand_new left_old
       alike = subst (λ z. LeadAlike (read ++ a.calls) (calls_of z)) same (leads_still (all_readings e.tables.reads) a.calls (calls_of spells) a.alike);
       idle = λ row. e.hand row ∙ a.idle row;
       lent = e.words ∙ a.lent;
-      spare = subst (λ z. 2 ^ 47 ≤ left_new + 6000000 * length z) behind (subst (λ z. 2 ^ 47 ≤ z + 6000000 * length done) (sym e.left) a.spare);
+      spare = subst (λ z. 2 ^ 47 ≤ left_new + 8000000 * length z) behind (subst (λ z. 2 ^ 47 ≤ z + 8000000 * length done) (sym e.left) a.spare);
+      tickets = subst (λ z. 2 ^ 47 ≤ draws_new + 400000 * length z) behind (subst (λ z. 2 ^ 47 ≤ z + 400000 * length done) (sym e.draws) a.tickets);
       acted = subst (λ z. admin.actions ≤ 252 * length z) behind a.acted;
       wide = a.wide;
       seated = λ session one many. subst (λ z. Sits setting phases (done_before all []) z session (seat_of seats session)) same
@@ -181,13 +183,13 @@ phase_ended setting phases before first after was now hand_old hand_new left_old
 
 -- with that report behind those so far, and no block told
 pub ended_along : (setting : Setting) (phases before : List Phase) (first : List Block) (after : List Phase) (was now : Opening → List Call → Type 0) (hand_old hand_new : ℕ → Option ℕ)
-    (left_old left_new : ℕ) (words_old words_new : Option (List Word)) (admin : Administration) (seats : List (Option Book)) (lost : LostEvents) (ended ended_now : List PhaseParts)
-    (told told_now : List BlockReport) (report : PhaseParts) → IsAlong setting phases before first (ahead_of before [] after) was hand_old left_old words_old admin seats lost ended told
-    → IsEndOf setting was now hand_old hand_new left_old left_new words_old words_new admin lost ended told report → ended_now ≡ ended ++ report ∷ [] → told_now ≡ []
-    → IsAlong setting phases (before ++ as_phase first ∷ []) [] (numbered (1 + length (before ++ as_phase first ∷ [])) after) now hand_new left_new words_new admin seats lost
+    (left_old left_new draws_old draws_new : ℕ) (words_old words_new : Option (List Word)) (admin : Administration) (seats : List (Option Book)) (lost : LostEvents) (ended ended_now : List PhaseParts)
+    (told told_now : List BlockReport) (report : PhaseParts) → IsAlong setting phases before first (ahead_of before [] after) was hand_old left_old draws_old words_old admin seats lost ended told
+    → IsEndOf setting was now hand_old hand_new left_old left_new draws_old draws_new words_old words_new admin lost ended told report → ended_now ≡ ended ++ report ∷ [] → told_now ≡ []
+    → IsAlong setting phases (before ++ as_phase first ∷ []) [] (numbered (1 + length (before ++ as_phase first ∷ [])) after) now hand_new left_new draws_new words_new admin seats lost
     ended_now told_now
-ended_along setting phases before first after was now hand_old hand_new left_old left_new words_old words_new admin seats lost ended ended_now told told_now report a e reports none =
+ended_along setting phases before first after was now hand_old hand_new left_old left_new draws_old draws_new words_old words_new admin seats lost ended ended_now told told_now report a e reports none =
     let along : (reports : List PhaseParts) → List BlockReport → Type 0 = λ reports told. IsAlong setting phases (before ++ as_phase first ∷ []) []
-    (numbered (1 + length (before ++ as_phase first ∷ [])) after) now hand_new left_new words_new admin seats lost reports told in
+    (numbered (1 + length (before ++ as_phase first ∷ [])) after) now hand_new left_new draws_new words_new admin seats lost reports told in
     subst (λ z. along ended_now z) (sym none) (subst (λ z. along z []) (sym reports)
-    (phase_ended setting phases before first after was now hand_old hand_new left_old left_new words_old words_new admin seats lost ended told report a e))
+    (phase_ended setting phases before first after was now hand_old hand_new left_old left_new draws_old draws_new words_old words_new admin seats lost ended told report a e))

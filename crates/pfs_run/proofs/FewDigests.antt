@@ -1,8 +1,8 @@
 -- Each line of a session ends two events at most, so a block says of few digests that they were lost.
-use Rattle.std.proofs.Common.{ℕ, ◌≡◌, ◌≤◌, ◌+◌, ◌*◌, Bool, true, false, cond, List, [], ◌∷◌, ◌++◌, length, Option, Some, None, refl, ap, length-append, arith}
+use Rattle.std.proofs.Common.{ℕ, ◌≡◌, ◌≤◌, ◌*◌, Bool, true, false, cond, List, [], ◌∷◌, length, Option, Some, None, refl, ap, length-append, arith}
 use Rattle.pfs_admin.specs.States.{State as Administration}
 use Rattle.pfs_course.specs.Course.{deeds_in, deeds_of}
-use Rattle.pfs_ends.proofs.Unplaced.{behind_all, ends_at, step_none, sum_of, sum_then, unplaced_few, unplaced_then}
+use Rattle.pfs_ends.proofs.Unplaced.{behind_all, ends_at, step_none, rings_none, sum_of, sum_then, unplaced_few, unplaced_then}
 use Rattle.pfs_ends.specs.Counts.{lost_digests, unplaced_in}
 use Rattle.pfs_event.specs.Verdicts.{is_let_through}
 use Rattle.pfs_event.specs.declared.entry.Entry.{Entry}
@@ -10,11 +10,12 @@ use Rattle.pfs_event.specs.declared.open.Open.{Open}
 use Rattle.pfs_levels.specs.Calls.{Call}
 use Rattle.pfs_model.specs.Journals.{joined}
 use Rattle.pfs_model.specs.Shapes.{is_stage}
+use Rattle.pfs_parts.proofs.Ringing.{rings_of}
 use Rattle.pfs_parts.specs.Deeds.{Deed, Connecting, Starting, Staging, StageEnding, Ending, Spending, Quitting, Truncating, Closing, Part, part_entries, steps_for}
 use Rattle.pfs_parts.specs.Shaped.{AreParts, entries_of}
 use Rattle.pfs_script.specs.declared.blocks.BlockLine.{BlockLine}
 use Rattle.pfs_script.specs.declared.blocks.Connect.{Connect}
-use Rattle.pfs_session.specs.Ends.{EndsIn, DigestsIn, no_numbers}
+use Rattle.pfs_session.specs.Ends.{EndsIn, EndsAdded, DigestsIn, no_numbers}
 use Rattle.pfs_session.specs.States.{State}
 use Rattle.pfs_session.specs.Turns.{Step, StartsEvent, EndsEvent, Spends, SettlesHeld, Connects, Quits, Truncates, Does, Turn, AreTurns, state_after, stage_ends, steps_of, turns_entries}
 use Rattle.pfs_session.specs.declared.events.Numbers.{Numbers}
@@ -24,18 +25,27 @@ digest_long : (b : Bool) (s : State) (slot : ℕ) (what : Open) (numbers : Numbe
 digest_long false s slot what numbers calls entries after d = let e = ap length d.entries_are in omega (arith, e)
 digest_long true s slot what numbers calls entries after d = let e = ap length d.entries_are in omega (arith, e)
 
-ends_long : (s : State) (slot : Option ℕ) (through : Bool) (what : Open) (others : List Open) (numbers : Numbers) (calls : List Call) (entries : List Entry) (after : State) → EndsIn s slot through what others numbers calls entries after → length entries ≤ 3
-ends_long s slot false what others numbers calls entries after x = let e = ap length x.entries_are in omega (arith, e)
-ends_long s None true what others numbers calls entries after x = absurd x
-ends_long s (Some slot) true what others numbers calls entries after x =
+added_long : (s : State) (slot : ℕ) (what : Open) (others : List Open) (numbers : Numbers) (calls : List Call) (entries : List Entry) (after : State) → EndsAdded s slot what others numbers calls entries after → length entries ≤ 3
+added_long s slot what others numbers calls entries after x =
     let all = ap length x.entries_are in
     let both = length-append x.counted_entries x.digested_entries in
     let counted = ap length x.counts.entries_are in
     omega (arith, all, both, counted, digest_long what.digested x.between slot what numbers x.digested_calls x.digested_entries after x.digests)
 
+-- entries of puts, behind those, say it of none
+ends_few : (ends : Bool) (s : State) (slot : Option ℕ) (through : Bool) (what : Open) (others : List Open) (numbers : Numbers) (calls : List Call) (entries : List Entry) (after : State) → EndsIn s slot through what others numbers calls entries after
+    → unplaced_in ends entries ≤ 3
+ends_few ends s slot false what others numbers calls entries after x = let e = ap length x.entries_are in omega (arith, e, unplaced_few ends entries)
+ends_few ends s None true what others numbers calls entries after x = absurd x
+ends_few ends s (Some slot) true what others numbers calls entries after x =
+    let all = ap (unplaced_in ends) x.entries_are in
+    let both = unplaced_then ends x.added_entries x.ring_entries in
+    let none = rings_none (behind_all ends x.added_entries) x.ring_entries (rings_of x.among slot what numbers _ _ x.ring_calls x.ring_entries after x.puts) in
+    omega (arith, all, both, none, unplaced_few ends x.added_entries, added_long s slot what others numbers x.added_calls x.added_entries x.among x.adds)
+
 step_few : (ends : Bool) (s : State) (step : Step) (calls : List Call) (entries : List Entry) (after : State) → Does s step calls entries after → unplaced_in ends entries ≤ 3 * ends_at step
 step_few ends s (EndsEvent numbers) calls entries after d =
-    omega (arith, unplaced_few ends entries, ends_long s s.place.thread (is_let_through d.what.verdict) d.what d.others numbers calls entries after d.ends)
+    omega (arith, ends_few ends s s.place.thread (is_let_through d.what.verdict) d.what d.others numbers calls entries after d.ends)
 step_few ends s (StartsEvent subject) calls entries after d = let e = step_none ends s (StartsEvent subject) calls entries after d refl in omega (arith, e)
 step_few ends s (Spends time) calls entries after d = let e = step_none ends s (Spends time) calls entries after d refl in omega (arith, e)
 step_few ends s SettlesHeld calls entries after d = let e = step_none ends s SettlesHeld calls entries after d refl in omega (arith, e)

@@ -18,7 +18,8 @@ use Rattle.pfs_levels.specs.declared.answers.Added.{Added}
 use Rattle.pfs_levels.specs.declared.answers.Added.TheVariants.{Counted, Held}
 use Rattle.pfs_levels.specs.declared.answers.Word.{Word}
 use Rattle.pfs_model.specs.Journals.{joined}
-use Rattle.pfs_parts.proofs.Acting.{connect_plain, quiet_plains, work_quiet}
+use Rattle.pfs_parts.proofs.Acting.{AreAll, connect_plain, quiet_plains, work_quiet}
+use Rattle.pfs_parts.proofs.Ringing.{is_ring, put_ring, ring_plain, rings_of}
 use Rattle.pfs_parts.proofs.Pieces.{is_plain}
 use Rattle.pfs_parts.proofs.Settled.{ArePlain, settle_plain}
 use Rattle.pfs_parts.proofs.Written.{ends_by, has_stage}
@@ -27,7 +28,8 @@ use Rattle.pfs_parts.specs.Shaped.{AreParts, entries_of}
 use Rattle.pfs_play.specs.Errands.{admin_behind, errand_on}
 use Rattle.pfs_script.specs.declared.blocks.BlockLine.{BlockLine}
 use Rattle.pfs_script.specs.declared.blocks.Connect.{Connect}
-use Rattle.pfs_session.specs.Ends.{EndsIn, EndsCounted, EndsThrough, DigestsIn, added_entry}
+use Rattle.pfs_session.specs.Ends.{EndsIn, EndsAdded, EndsCounted, EndsThrough, DigestsIn, added_entry}
+use Rattle.pfs_session.specs.Rings.{put_entries}
 use Rattle.pfs_session.specs.Settles.{owed_by_state}
 use Rattle.pfs_session.specs.States.{State}
 use Rattle.pfs_session.specs.Turns.{Step, StartsEvent, EndsEvent, Spends, SettlesHeld, Connects, Quits, Truncates, Does, Works, Turn, AreTurns, state_after, stage_ends, steps_of, turns_entries}
@@ -81,12 +83,28 @@ digest_none : (test : Verdict → Bool) (b : Bool) (s : State) (slot : ℕ) (wha
 digest_none test false s slot what numbers calls entries after d = ap (started test) d.entries_are
 digest_none test true s slot what numbers calls entries after d = ap (started test) d.entries_are ∙ answer_none test d.answer
 
-through_none : (test : Verdict → Bool) (s : State) (slot : ℕ) (what : Open) (others : List Open) (numbers : Numbers) (calls : List Call) (entries : List Entry) (after : State) → EndsThrough s slot what others numbers calls entries after
+added_none_all : (test : Verdict → Bool) (s : State) (slot : ℕ) (what : Open) (others : List Open) (numbers : Numbers) (calls : List Call) (entries : List Entry) (after : State) → EndsAdded s slot what others numbers calls entries after
     → started test entries ≡ 0
-through_none test s slot what others numbers calls entries after e =
+added_none_all test s slot what others numbers calls entries after e =
     let first = counted_none test s slot what others numbers e.counted_calls e.counted_entries e.between e.counts in
     let second = digest_none test what.digested e.between slot what numbers e.digested_calls e.digested_entries after e.digests in
     let both = started_then test e.counted_entries e.digested_entries in
+    let all = ap (started test) e.entries_are in
+    omega (arith, first, second, both, all)
+
+-- entries of puts
+rings_none : (test : Verdict → Bool) (es : List Entry) → AreAll true is_ring es → started test es ≡ 0
+rings_none test es ringed = plain_none test es (all_plain es ringed) where
+  all_plain : (es : List Entry) → AreAll true is_ring es → ArePlain es
+  all_plain [] q = tt
+  all_plain (e ∷ es) q = (ring_plain e q.0, all_plain es q.1)
+
+through_none : (test : Verdict → Bool) (s : State) (slot : ℕ) (what : Open) (others : List Open) (numbers : Numbers) (calls : List Call) (entries : List Entry) (after : State) → EndsThrough s slot what others numbers calls entries after
+    → started test entries ≡ 0
+through_none test s slot what others numbers calls entries after e =
+    let first = added_none_all test s slot what others numbers e.added_calls e.added_entries e.among e.adds in
+    let second = rings_none test e.ring_entries (rings_of e.among slot what numbers _ _ e.ring_calls e.ring_entries after e.puts) in
+    let both = started_then test e.added_entries e.ring_entries in
     let all = ap (started test) e.entries_are in
     omega (arith, first, second, both, all)
 
@@ -101,7 +119,13 @@ works_none test work words head calls entries plain w =
     ap (started test) w.entries_are ∙ plain_none test (head ∷ (moves_entries w.moves ++ (signs_entries w.made ++ flagging_entries words work.flags))) (plain, quiet_plains _ (work_quiet w.moves w.made words work.flags))
 
 step_few : (test : Verdict → Bool) (s after : State) (step : Step) (calls : List Call) (entries : List Entry) → Does s step calls entries after → started test entries ≤ starts_in step
-step_few test s after (StartsEvent subject) calls entries d = subst (λ (es : List Entry). started test es ≤ 1) (sym d.entries_are) (started_one test _)
+step_few test s after (StartsEvent subject) calls entries d =
+    let rings : List Entry = put_entries d.current in
+    let none = rings_none test rings (put_ring d.current) in
+    let both = started_then test d.begun_entries rings in
+    let all = ap (started test) d.entries_are in
+    let one : started test d.begun_entries ≤ 1 = subst (λ (es : List Entry). started test es ≤ 1) (sym d.begins.entries_are) (started_one test _) in
+    omega (arith, none, both, all, one)
 step_few test s after (EndsEvent numbers) calls entries d = let e = ends_none test s after s.place.thread (is_let_through d.what.verdict) d.what d.others numbers calls entries d.ends in omega (arith, e)
 step_few test s after (Spends time) calls entries d = let e = ap (started test) d.1 in omega (arith, e)
 step_few test s after SettlesHeld calls entries d = let e = ap (started test) d.entries_are ∙ plain_none test _ (settle_plain (owed_by_state s) d.paid) in omega (arith, e)

@@ -19,7 +19,7 @@ use Rattle.pfs_levels.specs.declared.answers.Word.{Word}
 use Rattle.pfs_matching.specs.ObjectRules.{opening_objects}
 use Rattle.pfs_model.specs.Chains.{Each}
 use Rattle.pfs_course.specs.Ahead.{ahead_of}
-use Rattle.pfs_reportable.specs.Reportable.{BlocksLaw, IsAnswerless, TablesLaw}
+use Rattle.pfs_reportable.specs.Reportable.{BlocksLaw, IsAnswerless, IsNamedTable, TablesLaw}
 use Rattle.pfs_script.specs.declared.blocks.Block.{Block}
 use Rattle.pfs_script.specs.declared.blocks.Phase.{Phase}
 use Rattle.pfs_session.specs.States.{Book}
@@ -43,14 +43,14 @@ told_good number (x ∷ xs) [] reports told none = absurd told
 told_good number (x ∷ xs) (y ∷ ys) [] told none = absurd told
 told_good number (x ∷ xs) (y ∷ ys) (z ∷ zs) told none = (one_good number x y z told.0 none.0, told_good number xs ys zs told.1 none.1)
 
-pub blocks_good : BlocksLaw → (setting : Setting) (phases before : List Phase) (first : List Block) (after : List Phase) (reached : Opening → List Call → Type 0) (hand : ℕ → Option ℕ) (left : ℕ)
+pub blocks_good : BlocksLaw → (setting : Setting) (phases before : List Phase) (first : List Block) (after : List Phase) (reached : Opening → List Call → Type 0) (hand : ℕ → Option ℕ) (left draws : ℕ)
     (words : Option (List Word)) (admin : Administration) (seats : List (Option Book)) (lost : LostEvents) (ended : List PhaseParts) (told : List BlockReport)
-    → IsAlong setting phases before first (ahead_of before [] after) reached hand left words admin seats lost ended told → All IsBlock told
-blocks_good law setting phases before first after reached hand left words admin seats lost ended told a =
+    → IsAlong setting phases before first (ahead_of before [] after) reached hand left draws words admin seats lost ended told → All IsBlock told
+blocks_good law setting phases before first after reached hand left draws words admin seats lost ended told a =
     All-from_recursion IsBlock told
     (told_good (1 + length before) first a.current told a.blocks_told
     (each_behind IsAnswerless a.earlier a.current (law (opening_flags setting opening_objects) setting.limits.statement_stack (depth_of phases) (a.earlier ++ a.current) a.course.are_spells a.course.answer)))
 
 pub tables_good : TablesLaw → (setting : Setting) (tables : List TableReport) (was now : Opening → List Call → Type 0) → All IsText setting.names
-    → All (λ (digest : DigestText). IsText digest.text) setting.digests → AreTables setting tables was now → All IsTable tables
-tables_good law setting tables was now names texts are = subst (All IsTable) (sym are.tables_are) (law setting are.reads names texts are.order_is)
+    → All (λ (digest : DigestText). IsText digest.text) setting.digests → All IsNamedTable setting.tables → AreTables setting tables was now → All IsTable tables
+tables_good law setting tables was now names texts named are = subst (All IsTable) (sym are.tables_are) (law setting are.reads names texts named are.order_is)

@@ -77,7 +77,7 @@ GoesOn seat number stack depth book =
 -- store was led there by just that and by reads between, what is told of it, the phases that ended, and the sessions
 -- that wait for their next blocks.
 pub record IsAlong (setting : Setting) (phases before : List Phase) (first : List Block) (ahead : List PhasedBlock)
-    (reached : Opening → List Call → Type 0) (hand : ℕ → Option ℕ) (left : ℕ) (words : Option (List Word))
+    (reached : Opening → List Call → Type 0) (hand : ℕ → Option ℕ) (left draws : ℕ) (words : Option (List Word))
     (admin : Administration) (seats : List (Option Book)) (lost : LostEvents) (ended : List PhaseParts)
     (told : List BlockReport) : Type 0 where
   pub limits : AreInRange setting.limits
@@ -98,7 +98,8 @@ pub record IsAlong (setting : Setting) (phases before : List Phase) (first : Lis
   pub alike : LeadAlike calls (calls_of (earlier ++ current))
   pub idle : (row : ℕ) → hand row ≡ None
   pub lent : words ≡ Some admin.words
-  pub spare : 2 ^ 47 ≤ left + 6000000 * length (done_before before first)
+  pub spare : 2 ^ 47 ≤ left + 8000000 * length (done_before before first)
+  pub tickets : 2 ^ 47 ≤ draws + 400000 * length (done_before before first)
   pub acted : admin.actions ≤ 252 * length (done_before before first)
   pub wide : length seats ≡ 64
   pub seated : (session : ℕ) → 1 ≤ session → session ≤ 64

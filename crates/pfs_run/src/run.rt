@@ -52,22 +52,26 @@ fn run_phase(
         × (phases.now ≡ before ++ phase.now ∷ after)
         × IsAlong setting.now phases.now before [] (numbered (1 + length before) (phase.now ∷ after))
         (⟦<PlainRows as Rows>⟧.reached runner.old.rows) (⟦<PlainRows as Rows>⟧.hand runner.old.rows)
-        (⟦<PlainRows as Rows>⟧.left runner.old.rows) (⟦<PlainRows as Rows>⟧.words runner.old.rows) runner.old.admin
+        (⟦<PlainRows as Rows>⟧.left runner.old.rows) (⟦<PlainRows as Rows>⟧.draws runner.old.rows)
+        (⟦<PlainRows as Rows>⟧.words runner.old.rows) runner.old.admin
         runner.old.seats.items runner.old.lost runner.old.phases.items runner.old.blocks.items }
     ensures { OnOk result ((before : List SaidPhase) → (after : List SaidPhase)
         → phases.now ≡ before ++ phase.now ∷ after
         → IsAlong setting.now phases.now before [] (numbered (1 + length before) (phase.now ∷ after))
         (⟦<PlainRows as Rows>⟧.reached runner.old.rows) (⟦<PlainRows as Rows>⟧.hand runner.old.rows)
-        (⟦<PlainRows as Rows>⟧.left runner.old.rows) (⟦<PlainRows as Rows>⟧.words runner.old.rows) runner.old.admin
+        (⟦<PlainRows as Rows>⟧.left runner.old.rows) (⟦<PlainRows as Rows>⟧.draws runner.old.rows)
+        (⟦<PlainRows as Rows>⟧.words runner.old.rows) runner.old.admin
         runner.old.seats.items runner.old.lost runner.old.phases.items runner.old.blocks.items
         → IsAlong setting.now phases.now (before ++ phase.now ∷ []) []
         (numbered (1 + length (before ++ phase.now ∷ [])) after)
         (⟦<PlainRows as Rows>⟧.reached runner.new.rows) (⟦<PlainRows as Rows>⟧.hand runner.new.rows)
-        (⟦<PlainRows as Rows>⟧.left runner.new.rows) (⟦<PlainRows as Rows>⟧.words runner.new.rows) runner.new.admin
+        (⟦<PlainRows as Rows>⟧.left runner.new.rows) (⟦<PlainRows as Rows>⟧.draws runner.new.rows)
+        (⟦<PlainRows as Rows>⟧.words runner.new.rows) runner.new.admin
         runner.new.seats.items runner.new.lost runner.new.phases.items runner.new.blocks.items) }
 {
     pfs_reportable::laws::names();
     pfs_reportable::laws::texts();
+    pfs_reportable::laws::table_names();
     for block in phase.blocks.as_slice() {
         match runner.play(setting, phases, block) {
             Ok(()) => {}

@@ -5,6 +5,7 @@ ghost use Rattle.std.specs.List.{All};
 ghost use Rattle.pfs_course.specs.Ahead.{ahead_of, block_at};
 ghost use Rattle.pfs_course.specs.Course.{numbered};
 ghost use Rattle.pfs_journal.specs.Reports.{IsText};
+ghost use Rattle.pfs_reportable.specs.Reportable.{IsNamedTable};
 ghost use Rattle.pfs_script.specs.Scripts.{IsScript};
 ghost use Rattle.pfs_script.specs.declared.blocks.Block.{Block as Said};
 ghost use Rattle.pfs_script.specs.declared.blocks.Phase.{Phase as SaidPhase};
@@ -27,7 +28,7 @@ use pfs_session::Paused;
 use std::alloc::Global;
 
 /// The journal entries that a connect, what is settled, and a quit take at most.
-const AT_ENDS: u64 = 592;
+const AT_ENDS: u64 = 648;
 
 /// A run between two blocks.
 #[derive(Drop)]
@@ -49,7 +50,8 @@ impl Runner {
     pub fn open(alloc: Global, setting: &Setting) -> Result<Runner, NoMemory>
         ensures { IfOk result (λ runner. (phases : List SaidPhase) → IsAlong setting.now phases [] [] (numbered 1 phases)
             (⟦<PlainRows as Rows>⟧.reached runner.rows) (⟦<PlainRows as Rows>⟧.hand runner.rows)
-            (⟦<PlainRows as Rows>⟧.left runner.rows) (⟦<PlainRows as Rows>⟧.words runner.rows) runner.admin
+            (⟦<PlainRows as Rows>⟧.left runner.rows) (⟦<PlainRows as Rows>⟧.draws runner.rows)
+            (⟦<PlainRows as Rows>⟧.words runner.rows) runner.admin
             runner.seats.items runner.lost runner.phases.items runner.blocks.items) }
     {
         pfs_course::laws::no_course();
@@ -79,18 +81,21 @@ impl Runner {
             × (phases.now ≡ before ++ record { blocks = first ++ block.now ∷ others } ∷ after)
             × IsAlong setting.now phases.now before first (block_at before block.now ∷ ahead_of before others after)
             (⟦<PlainRows as Rows>⟧.reached self.old.rows) (⟦<PlainRows as Rows>⟧.hand self.old.rows)
-            (⟦<PlainRows as Rows>⟧.left self.old.rows) (⟦<PlainRows as Rows>⟧.words self.old.rows) self.old.admin
+            (⟦<PlainRows as Rows>⟧.left self.old.rows) (⟦<PlainRows as Rows>⟧.draws self.old.rows)
+            (⟦<PlainRows as Rows>⟧.words self.old.rows) self.old.admin
             self.old.seats.items self.old.lost self.old.phases.items self.old.blocks.items }
         ensures { OnOk result ((before : List SaidPhase) → (first : List Said) → (others : List Said)
             → (after : List SaidPhase)
             → phases.now ≡ before ++ record { blocks = first ++ block.now ∷ others } ∷ after
             → IsAlong setting.now phases.now before first (block_at before block.now ∷ ahead_of before others after)
             (⟦<PlainRows as Rows>⟧.reached self.old.rows) (⟦<PlainRows as Rows>⟧.hand self.old.rows)
-            (⟦<PlainRows as Rows>⟧.left self.old.rows) (⟦<PlainRows as Rows>⟧.words self.old.rows) self.old.admin
+            (⟦<PlainRows as Rows>⟧.left self.old.rows) (⟦<PlainRows as Rows>⟧.draws self.old.rows)
+            (⟦<PlainRows as Rows>⟧.words self.old.rows) self.old.admin
             self.old.seats.items self.old.lost self.old.phases.items self.old.blocks.items
             → IsAlong setting.now phases.now before (first ++ block.now ∷ []) (ahead_of before others after)
             (⟦<PlainRows as Rows>⟧.reached self.new.rows) (⟦<PlainRows as Rows>⟧.hand self.new.rows)
-            (⟦<PlainRows as Rows>⟧.left self.new.rows) (⟦<PlainRows as Rows>⟧.words self.new.rows) self.new.admin
+            (⟦<PlainRows as Rows>⟧.left self.new.rows) (⟦<PlainRows as Rows>⟧.draws self.new.rows)
+            (⟦<PlainRows as Rows>⟧.words self.new.rows) self.new.admin
             self.new.seats.items self.new.lost self.new.phases.items self.new.blocks.items) }
     {
         pfs_playable::laws::playable();
@@ -116,20 +121,24 @@ impl Runner {
     pub fn end_phase(&mut self, setting: &Setting) -> Result<(), NoMemory>
         requires named { All IsText setting.now.names }
         requires texts { All (λ digest. IsText digest.text) setting.now.digests }
+        requires tables { All IsNamedTable setting.now.tables }
         requires here { (phases : List SaidPhase) × (before : List SaidPhase) × (first : List Said)
             × (after : List SaidPhase) × IsAlong setting.now phases before first (ahead_of before [] after)
             (⟦<PlainRows as Rows>⟧.reached self.old.rows) (⟦<PlainRows as Rows>⟧.hand self.old.rows)
-            (⟦<PlainRows as Rows>⟧.left self.old.rows) (⟦<PlainRows as Rows>⟧.words self.old.rows) self.old.admin
+            (⟦<PlainRows as Rows>⟧.left self.old.rows) (⟦<PlainRows as Rows>⟧.draws self.old.rows)
+            (⟦<PlainRows as Rows>⟧.words self.old.rows) self.old.admin
             self.old.seats.items self.old.lost self.old.phases.items self.old.blocks.items }
         ensures { OnOk result ((phases : List SaidPhase) → (before : List SaidPhase) → (first : List Said)
             → (after : List SaidPhase) → IsAlong setting.now phases before first (ahead_of before [] after)
             (⟦<PlainRows as Rows>⟧.reached self.old.rows) (⟦<PlainRows as Rows>⟧.hand self.old.rows)
-            (⟦<PlainRows as Rows>⟧.left self.old.rows) (⟦<PlainRows as Rows>⟧.words self.old.rows) self.old.admin
+            (⟦<PlainRows as Rows>⟧.left self.old.rows) (⟦<PlainRows as Rows>⟧.draws self.old.rows)
+            (⟦<PlainRows as Rows>⟧.words self.old.rows) self.old.admin
             self.old.seats.items self.old.lost self.old.phases.items self.old.blocks.items
             → IsAlong setting.now phases (before ++ record { blocks = first } ∷ []) []
             (numbered (1 + length (before ++ record { blocks = first } ∷ [])) after)
             (⟦<PlainRows as Rows>⟧.reached self.new.rows) (⟦<PlainRows as Rows>⟧.hand self.new.rows)
-            (⟦<PlainRows as Rows>⟧.left self.new.rows) (⟦<PlainRows as Rows>⟧.words self.new.rows) self.new.admin
+            (⟦<PlainRows as Rows>⟧.left self.new.rows) (⟦<PlainRows as Rows>⟧.draws self.new.rows)
+            (⟦<PlainRows as Rows>⟧.words self.new.rows) self.new.admin
             self.new.seats.items self.new.lost self.new.phases.items self.new.blocks.items) }
     {
         pfs_reportable::laws::tables();

@@ -13,10 +13,11 @@ use Rattle.pfs_model.specs.Cuts.{cut, behind}
 use Rattle.pfs_model.specs.Journals.{joined}
 use Rattle.pfs_model.specs.Places.{Placed, places_behind, up_to_phase, IsShaped}
 use Rattle.pfs_model.specs.declared.changes.Change.{Change as Numbered}
+use Rattle.pfs_model.specs.Puts.{AreBrought}
 use Rattle.pfs_rows.specs.declared.limits.Limits.{Limits}
 use Rattle.pfs_script.specs.Marks.{written_from}
 use Rattle.pfs_runs.specs.Finals.{lost_behind}
-use Rattle.pfs_runs.specs.Runs.{ArePhasesOf, AreBroughtToRows, all_blocks}
+use Rattle.pfs_runs.specs.Runs.{ArePhasesOf, all_blocks}
 use Rattle.pfs_runs.specs.Worked.{WorkedBlocks, WorkedEnds, limits, phases, reports, labels, all, lost, lost_by_phase, blocks as journals}
 
 phased : ArePhasesOf 1 phases reports journals
@@ -101,7 +102,12 @@ few_labels : length labels ≡ length (each_of action_change all)
 unfolding places_behind written_from
 few_labels = refl
 
-brought : AreBroughtToRows (λ word version. 12288) all
+-- the first statement is offered to its current place, and isn't put there
+offered : AreBrought (λ word version. 12296) all → ⊥
+unfolding places_behind written_from
+offered other = other.1.1.1.1.1.0
+
+brought : AreBrought (λ word version. 12288) all
 unfolding places_behind written_from
 brought = (
   tt,
@@ -258,8 +264,7 @@ blocks = record {
   shaped = shaped;
   labelled = record { few = few_labels; each = each_label };
   brought = brought;
-  asking = refl;
-  silent = refl;
+  offered = offered;
   lost_added = refl;
   lost_held = refl;
   lost_settled = refl;

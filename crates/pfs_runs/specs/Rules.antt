@@ -1,5 +1,5 @@
 -- What holds of the journals of all sessions of a run, rule by rule.
-use Rattle.std.specs.Prelude.{ℕ, Bool, List, Option}
+use Rattle.std.specs.Prelude.{ℕ, ◌<◌, Bool, List, Option}
 use Rattle.pfs_model.specs.Actions.{settings_of}
 use Rattle.pfs_model.specs.Asked.{Asked, Answer, Rooms, AreAnswered, DoAsAsked}
 use Rattle.pfs_model.specs.Causes.{AreCaused}
@@ -9,6 +9,7 @@ use Rattle.pfs_model.specs.Floors.{AreThere}
 use Rattle.pfs_model.specs.Numbers.{AreNumbered}
 use Rattle.pfs_model.specs.Places.{Block, Placed, places, told_by, IsShaped}
 use Rattle.pfs_model.specs.Plain.{AreJoint}
+use Rattle.pfs_model.specs.Rings.{AreTickets, LongRises}
 use Rattle.pfs_model.specs.Setups.{AreJudged, flags_at}
 
 -- What the rules go by beside the journals: how many statements may be open one in another; the flags of the switch
@@ -45,7 +46,8 @@ given_by terms blocks = record {
 -- floor. What it names is there, and what was held has its cause. Each verdict is that of the flags at the versions
 -- that its start names, and each event has its numbers. Each connect has its rooms, each answer is its action's, and
 -- each action does what it asks for and nothing else. What stands in a row at a version is made by its change of what
--- stood there before, and `counted` says of each action and row whether its take found something counted.
+-- stood there before, and `counted` says of each action and row whether its take found something counted. The puts of
+-- the long history have the tickets of their kind, each at its place, and rise there with the versions.
 pub record AreRules (terms : Terms) (counted : ℕ → ℕ → Bool) (content : ℕ → ℕ → List ℕ) (blocks : List Block) : Type 0
   where
     pub shaped : IsShaped blocks
@@ -58,3 +60,5 @@ pub record AreRules (terms : Terms) (counted : ℕ → ℕ → Bool) (content : 
     pub done : DoAsAsked terms.asked counted (places blocks)
     pub found : AreFoundAsCounted content counted (places blocks)
     pub contents : AreContents (given_by terms blocks) content (places blocks)
+    pub ticketed : (phase kind : ℕ) → kind < 4 → AreTickets (places blocks) phase kind
+    pub risen : LongRises (places blocks)

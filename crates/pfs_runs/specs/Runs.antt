@@ -1,5 +1,5 @@
 -- When a report is a run of a script.
-use Rattle.std.specs.Prelude.{ℕ, ◌≡◌, ◌+◌, ◌^◌, ◌==◌, cond, Bool, List, [], ◌∷◌, ◌++◌}
+use Rattle.std.specs.Prelude.{ℕ, ◌≡◌, ◌+◌, Bool, List, [], ◌∷◌, ◌++◌}
 use Rattle.pfs_board.specs.declared.view.Label.{Label}
 use Rattle.pfs_classes.specs.declared.setting.Setting.{Setting}
 use Rattle.pfs_journal.specs.declared.blocks.BlockReport.{BlockReport}
@@ -9,7 +9,6 @@ use Rattle.pfs_model.specs.Journals.{joined}
 use Rattle.pfs_model.specs.Places.{Block, Placed, places, up_to_phase}
 use Rattle.pfs_model.specs.Plain.{IsPlain}
 use Rattle.pfs_model.specs.Puts.{AreBrought}
-use Rattle.pfs_model.specs.Setups.{is_yes}
 use Rattle.pfs_script.specs.declared.blocks.Block.{Block as Said}
 use Rattle.pfs_script.specs.declared.blocks.Phase.{Phase}
 use Rattle.pfs_runs.specs.Finals.{IsFinal}
@@ -46,30 +45,15 @@ abbrev pub all_blocks : List (List Block) → List Block
 all_blocks [] = []
 all_blocks (blocks ∷ others) = blocks ++ all_blocks others
 
--- the flag of a bit in the consumers' word, where it is YES
-abbrev pub kept_bit : ℕ → ℕ → ℕ
-kept_bit flags bit = cond (is_yes flags bit) (2 ^ bit) 0
-
--- Nothing is put into rings yet, so the consumers of rings ask for nothing: of the consumers' flags these are left,
--- those of `global_instrumentation`, `thread_instrumentation` and `statements_digest`.
-abbrev pub without_rings : ℕ → ℕ
-without_rings flags = kept_bit flags 12 + (kept_bit flags 13 + kept_bit flags 14)
-
-abbrev pub ringless : (ℕ → ℕ → ℕ) → ℕ → ℕ → ℕ
-ringless flags word version = cond (word == 0) (without_rings (flags word version)) (flags word version)
-
--- each event is brought to its summary row, and a digested statement to the row of its digest too
-abbrev pub AreBroughtToRows : (ℕ → ℕ → ℕ) → List Placed → Type 0
-AreBroughtToRows flags all = AreBrought (ringless flags) all
-
 abbrev pub AreFinal : (PhaseParts → Type 0) → List PhaseParts → Type 0
 AreFinal final [] = Unit {0}
 AreFinal final (report ∷ reports) = final report × AreFinal final reports
 
 -- The report's phases and blocks are the script's; its journals keep the rules of a run, by the actions that the
--- script's lines ask for and the facts that it says of their events; and under each phase's end stands what the
--- journals so far make of rows, words and counters. Its format is the one of a report in part: rings and SQL but for
--- truncations are not in it yet.
+-- script's lines ask for and the facts that it says of their events; each event is brought to its summary row, a
+-- digested statement to the row of its digest too, and to the places of rings that it is offered to; and under each
+-- phase's end stands what the journals so far make of rows, words and counters. Its format is the one of a report in
+-- part: SQL but for truncations is not in it yet.
 pub record IsRun (setting : Setting) (phases : List Phase) (report : ReportParts) : Type 0 where
   pub format : report.format ≡ 0
   pub blocks : List (List Block)
@@ -80,7 +64,7 @@ pub record IsRun (setting : Setting) (phases : List Phase) (report : ReportParts
   pub labelled : AreLabels labels (places (all_blocks blocks))
   pub rules : AreRules (terms_of setting (change_in phases) (facts_in phases) labels)
       counted content (all_blocks blocks)
-  pub brought : AreBroughtToRows (flags_by (terms_of setting (change_in phases) (facts_in phases) labels)
+  pub brought : AreBrought (flags_by (terms_of setting (change_in phases) (facts_in phases) labels)
       (places (all_blocks blocks))) (places (all_blocks blocks))
   pub finals : AreFinal (λ (phase : PhaseParts). IsFinal setting (change_in phases) labels
       content (flags_by (terms_of setting (change_in phases) (facts_in phases) labels)

@@ -12,6 +12,7 @@ use Rattle.pfs_finals.specs.declared.counters.LostCounters.{LostCounters}
 use Rattle.pfs_journal.specs.declared.report.PhaseParts.{PhaseParts}
 use Rattle.pfs_model.specs.Journals.{joined}
 use Rattle.pfs_model.specs.Places.{Block, Placed, places, up_to_phase, IsShaped}
+use Rattle.pfs_model.specs.Puts.{AreBrought}
 use Rattle.pfs_readsets.specs.declared.target.Target.TheVariants.{Row, Word}
 use Rattle.pfs_rows.specs.Limits.{default_limits}
 use Rattle.pfs_rows.specs.declared.limits.Limits.{Limits}
@@ -23,7 +24,7 @@ use Rattle.pfs_script.specs.declared.blocks.Phase.{Phase}
 use Rattle.pfs_runs.specs.Finals.{lost_behind, containers_behind, is_unplaced, reading_of}
 use Rattle.pfs_runs.specs.Labels.{AreLabels}
 use Rattle.pfs_runs.specs.Lines.{lines_in, change_in}
-use Rattle.pfs_runs.specs.Runs.{ArePhasesOf, AreBroughtToRows, all_blocks, without_rings}
+use Rattle.pfs_runs.specs.Runs.{ArePhasesOf, all_blocks}
 
 -- one slot and no account, and one statement may be open
 abbrev pub limits : Limits
@@ -175,8 +176,9 @@ empty_report number = record { number = number; blocks = []; tables = []; lost =
 
 -- The report's phases and blocks are the script's, and no other number of phases, nor a count from 0, is. Its journals
 -- have the right shape, its labels are those of its actions, and each event is added once where `statements_digest` is
--- NO. Of the consumers' flags those of rings ask for nothing. A digest is lost where an end adds to the row of those
--- without a place, or holds for it, and not where what is held is settled.
+-- NO and no consumer of rings is YES; where `events_statements_current` is YES, a put of a statement is missing. A
+-- digest is lost where an end adds to the row of those without a place, or holds for it, and not where what is held is
+-- settled.
 pub record WorkedBlocks : Type 0 where
   pub phases_are : ArePhasesOf 1 phases reports blocks
   pub counted_from_one : ArePhasesOf 0 phases reports blocks → ⊥
@@ -184,9 +186,8 @@ pub record WorkedBlocks : Type 0 where
   pub none_missing : ArePhasesOf 1 phases [] [] → ⊥
   pub shaped : IsShaped (all_blocks blocks)
   pub labelled : AreLabels labels all
-  pub brought : AreBroughtToRows (λ word version. 12288) all
-  pub asking : without_rings 28888 ≡ 28672
-  pub silent : without_rings 216 ≡ 0
+  pub brought : AreBrought (λ word version. 12288) all
+  pub offered : AreBrought (λ word version. 12296) all → ⊥
   pub lost_added : is_unplaced true (says.Add 8385 1) ≡ true
   pub lost_held : is_unplaced true (says.Held 8385 2 0) ≡ true
   pub lost_settled : is_unplaced false (says.Add 8385 3) ≡ false

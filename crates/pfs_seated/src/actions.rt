@@ -43,7 +43,7 @@ pub fn connect<'a, R: Wait, N: Shared>(
         → ⟦<BoardRows<'a, Desk<N>> as Rows>⟧.reached rows.entry start calls → (more : List Call) × (admin : State)
         × ⟦<BoardRows<'a, Desk<N>> as Rows>⟧.reached result start more
         × HasActed N.setting N.change (Connects admin user host ∷ []) admin session.old session.new calls more
-        × (IfSome session.new.state.place.thread (λ n. n < 32) → KeepsToWords N.setting N.change calls more) }
+        × KeepsToWords N.setting N.change calls more }
     ensures rest { session.new.state ≡ record session.old.state {
       place = session.new.state.place;
       actions = 1;
@@ -72,8 +72,8 @@ pub fn quit<'a, R: Wait, N: Shared>(
     requires closed { session.old.state.opened.events ≡ [] }
     requires early { session.old.state.actions + 1 < 2 ^ 64 }
     requires alone { (r : ℕ) → ⟦<BoardRows<'a, Desk<N>> as Rows>⟧.hand rows r ≡ None }
-    requires spare { length (owed_by_state session.old.state) + 197 ≤ ⟦<BoardRows<'a, Desk<N>> as Rows>⟧.left rows }
-    requires room { settle_cost (owed_by_state session.old.state) + 198 ≤ session.old.journal.room }
+    requires spare { length (owed_by_state session.old.state) + 253 ≤ ⟦<BoardRows<'a, Desk<N>> as Rows>⟧.left rows }
+    requires room { settle_cost (owed_by_state session.old.state) + 254 ≤ session.old.journal.room }
     requires begun { (start : Opening) × (calls : List Call)
         × (⟦<BoardRows<'a, Desk<N>> as Rows>⟧.reached rows start calls) × (start.switches.table ≡ N.switches) }
     ensures acted { (start : Opening) → (calls : List Call)
@@ -89,9 +89,9 @@ pub fn quit<'a, R: Wait, N: Shared>(
     } }
     ensures hand { (r : ℕ) → ⟦<BoardRows<'a, Desk<N>> as Rows>⟧.hand result r ≡ None }
     ensures left { ⟦<BoardRows<'a, Desk<N>> as Rows>⟧.left rows.entry
-        ≤ ⟦<BoardRows<'a, Desk<N>> as Rows>⟧.left result + (length (owed_by_state session.old.state) + 197) }
+        ≤ ⟦<BoardRows<'a, Desk<N>> as Rows>⟧.left result + (length (owed_by_state session.old.state) + 253) }
     ensures room { session.old.journal.room
-        ≤ session.new.journal.room + (settle_cost (owed_by_state session.old.state) + 198) }
+        ≤ session.new.journal.room + (settle_cost (owed_by_state session.old.state) + 254) }
 {
     let (mut admin, mut hold) = begin(rt, rows, session.label());
     session.quit(&mut hold, &mut admin);

@@ -50,6 +50,8 @@ fn begin<'a, 'b, R: Wait>(
     ensures lent { ⟦<BoardHold<'a, 'b, R, Anything> as Rows>⟧.words result ≡ Some (words_of writer.view) }
     ensures left { ⟦<BoardRows<'b, Anything> as Rows>⟧.left rows.entry
         ≤ ⟦<BoardHold<'a, 'b, R, Anything> as Rows>⟧.left result + 1 }
+    ensures draws { ⟦<BoardHold<'a, 'b, R, Anything> as Rows>⟧.draws result
+        ≡ ⟦<BoardRows<'b, Anything> as Rows>⟧.draws rows.entry }
 {
     let mut rows = rows;
     let label = Label {
@@ -75,6 +77,8 @@ fn finish<'a, 'b, R: Wait>(
     ensures lent { Some (words_of result.1.view) ≡ ⟦<BoardHold<'a, 'b, R, Anything> as Rows>⟧.words hold.entry }
     ensures left { ⟦<BoardRows<'b, Anything> as Rows>⟧.left result.0
         ≡ ⟦<BoardHold<'a, 'b, R, Anything> as Rows>⟧.left hold.entry }
+    ensures draws { ⟦<BoardRows<'b, Anything> as Rows>⟧.draws result.0
+        ≡ ⟦<BoardHold<'a, 'b, R, Anything> as Rows>⟧.draws hold.entry }
 {
     let (mut rows, lent) = hold.into_parts();
     rows.leave(Anything {});
@@ -112,6 +116,8 @@ pub(crate) fn connect<'b, R: Wait>(
     ensures owed { length (owed_by_state session.new.state) ≡ 0 }
     ensures left { ⟦<BoardRows<'b, Anything> as Rows>⟧.left rows.entry
         ≤ ⟦<BoardRows<'b, Anything> as Rows>⟧.left result.0 + 5 }
+    ensures draws { ⟦<BoardRows<'b, Anything> as Rows>⟧.draws result.0
+        ≡ ⟦<BoardRows<'b, Anything> as Rows>⟧.draws rows.entry }
     ensures room { session.old.journal.room ≤ session.new.journal.room + 6 }
 {
     let mut hold = begin(rt, rows, writer);
@@ -134,8 +140,8 @@ pub(crate) fn quit<'b, R: Wait>(
     requires actions { (admin.old.actions ≡ 1) × (session.old.state.actions ≡ 1) }
     requires closed { session.old.state.opened ≡ record { depth = 1; events = [] } }
     requires owed { length (owed_by_state session.old.state) ≡ 0 }
-    requires spare { 197 ≤ ⟦<BoardRows<'b, Anything> as Rows>⟧.left rows }
-    requires room { 199 ≤ session.old.journal.room }
+    requires spare { 253 ≤ ⟦<BoardRows<'b, Anything> as Rows>⟧.left rows }
+    requires room { 255 ≤ session.old.journal.room }
     ensures begun { IsBegun (⟦<BoardRows<'b, Anything> as Rows>⟧.reached result.0) result.1.switches }
     ensures wide { 160 ≤ length result.1.view.seen }
     ensures idle { IsIdle (⟦<BoardRows<'b, Anything> as Rows>⟧.hand result.0) }
@@ -194,15 +200,16 @@ pub(crate) fn wait<'b>(
     requires closed { session.old.state.opened ≡ record { depth = 1; events = [] } }
     requires early { session.old.state.drawn ≡ 0 }
     requires owed { length (owed_by_state session.old.state) ≡ 0 }
-    requires spare { 2 ≤ ⟦<BoardRows<'b, Anything> as Rows>⟧.left rows.old }
-    requires room { 4 ≤ session.old.journal.room }
+    requires spare { 6 ≤ ⟦<BoardRows<'b, Anything> as Rows>⟧.left rows.old }
+    requires tickets { 1 ≤ ⟦<BoardRows<'b, Anything> as Rows>⟧.draws rows.old }
+    requires room { 8 ≤ session.old.journal.room }
     ensures begun { IsBegun (⟦<BoardRows<'b, Anything> as Rows>⟧.reached rows.new) writer.now.switches }
     ensures idle { IsIdle (⟦<BoardRows<'b, Anything> as Rows>⟧.hand rows.new) }
     ensures actions { session.new.state.actions ≡ session.old.state.actions }
     ensures owed { length (owed_by_state session.new.state) ≤ 2 }
     ensures left { ⟦<BoardRows<'b, Anything> as Rows>⟧.left rows.old
-        ≤ ⟦<BoardRows<'b, Anything> as Rows>⟧.left rows.new + 2 }
-    ensures room { session.old.journal.room ≤ session.new.journal.room + 4 }
+        ≤ ⟦<BoardRows<'b, Anything> as Rows>⟧.left rows.new + 6 }
+    ensures room { session.old.journal.room ≤ session.new.journal.room + 8 }
 {
     let binlog = Subject {
         kind: EventKind::Wait,

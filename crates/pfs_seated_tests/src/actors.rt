@@ -183,6 +183,7 @@ pub(crate) fn actor<'a>(
     ensures begun { IsBegun (⟦<BoardRows<'a, Anything> as Rows>⟧.reached result) switches.now.id }
     ensures idle { IsIdle (⟦<BoardRows<'a, Anything> as Rows>⟧.hand result) }
     ensures left { ⟦<BoardRows<'a, Anything> as Rows>⟧.left result ≡ 300 }
+    ensures draws { ⟦<BoardRows<'a, Anything> as Rows>⟧.draws result ≡ 50 }
 {
     let seats = Seats {
         board: board.split(root, 300),

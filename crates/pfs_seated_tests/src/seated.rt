@@ -108,7 +108,7 @@ fn a_session_connects_and_quits(rt: HostRuntime) -> Result<(), Fail> {
         mut drawer,
         admin,
         session,
-    } = fresh_run(rt.alloc(), 205)?;
+    } = fresh_run(rt.alloc(), 261)?;
     let rows = actor(
         &board,
         &switches,
@@ -144,7 +144,7 @@ fn what_another_actor_holds_back_is_settled_at_a_pause(rt: HostRuntime) -> Resul
         mut drawer,
         admin,
         session,
-    } = fresh_run(rt.alloc(), 13)?;
+    } = fresh_run(rt.alloc(), 17)?;
     let rows = actor(
         &board,
         &switches,
@@ -189,7 +189,7 @@ fn a_session_truncates(rt: HostRuntime) -> Result<(), Fail> {
         mut drawer,
         admin,
         session,
-    } = fresh_run(rt.alloc(), 215)?;
+    } = fresh_run(rt.alloc(), 219)?;
     let rows = actor(
         &board,
         &switches,

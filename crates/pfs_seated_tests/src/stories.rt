@@ -42,8 +42,8 @@ pub(crate) fn come_and_go<'b, R: Wait>(
     requires names { 2 ≤ length admin.names }
     requires first { (session.state.actions ≡ 0) × (session.state.place ≡ no_place) }
     requires closed { session.state.opened ≡ record { depth = 1; events = [] } }
-    requires spare { 202 ≤ ⟦<BoardRows<'b, Anything> as Rows>⟧.left rows }
-    requires room { 205 ≤ session.journal.room }
+    requires spare { 258 ≤ ⟦<BoardRows<'b, Anything> as Rows>⟧.left rows }
+    requires room { 261 ≤ session.journal.room }
 {
     let mut admin = admin;
     let mut session = session;
@@ -90,8 +90,9 @@ pub(crate) fn settle_behind<'b, R: Wait>(
     requires first { (session.state.actions ≡ 0) × (session.state.place ≡ no_place) }
     requires drawn { session.state.drawn ≡ 0 }
     requires closed { session.state.opened ≡ record { depth = 1; events = [] } }
-    requires spare { 9 ≤ ⟦<BoardRows<'b, Anything> as Rows>⟧.left rows }
-    requires room { 13 ≤ session.journal.room }
+    requires spare { 13 ≤ ⟦<BoardRows<'b, Anything> as Rows>⟧.left rows }
+    requires tickets { 1 ≤ ⟦<BoardRows<'b, Anything> as Rows>⟧.draws rows }
+    requires room { 17 ≤ session.journal.room }
 {
     let mut admin = admin;
     let mut session = session;
@@ -136,8 +137,9 @@ pub(crate) fn truncate_waits<'b, R: Wait>(
     requires first { (session.state.actions ≡ 0) × (session.state.place ≡ no_place) }
     requires drawn { session.state.drawn ≡ 0 }
     requires closed { session.state.opened ≡ record { depth = 1; events = [] } }
-    requires spare { 210 ≤ ⟦<BoardRows<'b, Anything> as Rows>⟧.left rows }
-    requires room { 215 ≤ session.journal.room }
+    requires spare { 214 ≤ ⟦<BoardRows<'b, Anything> as Rows>⟧.left rows }
+    requires tickets { 1 ≤ ⟦<BoardRows<'b, Anything> as Rows>⟧.draws rows }
+    requires room { 219 ≤ session.journal.room }
 {
     let mut admin = admin;
     let mut session = session;

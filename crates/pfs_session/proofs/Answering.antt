@@ -8,6 +8,9 @@ use Rattle.pfs_levels.specs.Calls.{Call, Opening}
 use Rattle.pfs_levels.specs.Journal.{Journal}
 use Rattle.pfs_model.specs.declared.lines.Subject.{Subject}
 use Rattle.pfs_session.specs.Answers.{SaysStart, SaysEnd, SaysStage, SaysStageEnd, SaysStageStart, is_in_stage}
+use Rattle.std.proofs.lemmas.List.{append_assoc}
+use Rattle.pfs_rings.specs.declared.puts.Put.{Put}
+use Rattle.pfs_session.specs.Rings.{put_entries}
 use Rattle.pfs_session.specs.Ends.{Finished, added_entry, added_entries}
 use Rattle.pfs_session.specs.Starts.{if_through, start_entry, versions_in}
 use Rattle.pfs_session.specs.States.{Book}
@@ -16,15 +19,12 @@ use Rattle.pfs_session.specs.declared.session.Ended.{Ended}
 use Rattle.pfs_session.specs.declared.session.Started.{Started}
 use Rattle.pfs_session.specs.declared.setup.Setup.{Setup}
 
--- a start of this verdict and number
-abbrev pub said : Verdict → ℕ → Started
-said verdict number = record { event = if_through verdict number; verdict = verdict }
-
-start_entry_says : (seen : Option Setup) (verdict : Verdict) (number : ℕ) (before after : List Entry)
-    → after ≡ before ++ start_entry verdict number seen ∷ [] → SaysStart (said verdict number) before after
-start_entry_says None verdict number before after is =
+start_entry_says : (seen : Option Setup) (verdict : Verdict) (number : ℕ) (current : Option Put) (before after : List Entry)
+    → after ≡ before ++ start_entry verdict number seen ∷ put_entries current
+    → SaysStart (record { event = if_through verdict number; verdict = verdict; current = current }) before after
+start_entry_says None verdict number current before after is =
     record { consumers = None; thread = None; class = None; table = None; entries_are = is }
-start_entry_says (Some seen) verdict number before after is = record {
+start_entry_says (Some seen) verdict number current before after is = record {
   consumers = Some seen.consumers.version;
   thread = Some seen.thread.version;
   class = Some seen.class.version;
@@ -32,22 +32,29 @@ start_entry_says (Some seen) verdict number before after is = record {
   entries_are = is;
 }
 
-pub start_says : (seen : Option Setup) (verdict : Verdict) (number : ℕ) (entry : Entry) (what : Open) (answer : Started) (before after : List Entry)
-    → answer ≡ said what.verdict what.event.number → what.verdict ≡ verdict → what.event.number ≡ number → entry ≡ start_entry verdict number seen
-    → after ≡ before ++ entry ∷ [] → SaysStart answer before after
-start_says seen verdict number entry what answer before after a v n e is =
-    let same : answer ≡ said verdict number = a ∙ (ap (λ z. said z what.event.number) v ∙ ap (λ z. said verdict z) n) in
-    subst (λ z. SaysStart z before after) (sym same)
-    (start_entry_says seen verdict number before after (is ∙ ap (λ z. before ++ z ∷ []) e))
+pub start_says : (seen : Option Setup) (verdict : Verdict) (number : ℕ) (entry : Entry) (what : Open) (event : Option ℕ) (current : Option Put) (before mid after : List Entry)
+    → event ≡ if_through what.verdict what.event.number → what.verdict ≡ verdict → what.event.number ≡ number → entry ≡ start_entry verdict number seen
+    → mid ≡ before ++ entry ∷ [] → after ≡ mid ++ put_entries current
+    → SaysStart (record { event = event; verdict = verdict; current = current }) before after
+start_says seen verdict number entry what event current before mid after a v n e is last =
+    let same : event ≡ if_through verdict number = a ∙ (ap (λ z. if_through z what.event.number) v ∙ ap (λ z. if_through verdict z) n) in
+    let front : mid ≡ before ++ start_entry verdict number seen ∷ [] = is ∙ ap (λ z. before ++ z ∷ []) e in
+    subst (λ z. SaysStart (record { event = z; verdict = verdict; current = current }) before after) (sym same)
+    (start_entry_says seen verdict number current before after
+    (last ∙ (ap (λ z. z ++ put_entries current) front ∙ append_assoc before (start_entry verdict number seen ∷ []) (put_entries current))))
 
 pub end_says : (old mid new : Book) (what : Open) (numbers : Numbers) (answer : Ended) (was now : Opening → List Call → Type 0)
     → mid.journal ≡ old.journal → Finished mid new what numbers answer was now → SaysEnd (Some answer) old.journal.entries new.journal.entries
 end_says old mid new what numbers answer was now journal f =
-    let c = f.ends.counts in
+    let x = f.ends.adds in
+    let c = x.counts in
     let End : Entry = says.End (Some what.event.number) (Some mid.state.drawn) (Some c.consumers.version) (Some c.thread.version) in
-    let same : f.ends.counted_entries ++ f.ends.digested_entries ≡ End ∷ added_entry answer.summary ∷ added_entries answer.digest =
-    ap (λ z. z ++ f.ends.digested_entries) c.entries_are
-    ∙ (ap (λ z. End ∷ added_entry z ∷ f.ends.digested_entries) f.summary_is ∙ ap (λ z. End ∷ added_entry answer.summary ∷ z) f.digest_is) in
+    let added : f.ends.added_entries ≡ End ∷ added_entry answer.summary ∷ added_entries answer.digest =
+    x.entries_are ∙ (ap (λ z. z ++ x.digested_entries) c.entries_are
+    ∙ (ap (λ z. End ∷ added_entry z ∷ x.digested_entries) f.summary_is ∙ ap (λ z. End ∷ added_entry answer.summary ∷ z) f.digest_is)) in
+    let puts : List Entry = put_entries answer.current ++ (put_entries answer.history ++ put_entries answer.long) in
+    let same : f.ends.added_entries ++ f.ends.ring_entries ≡ End ∷ added_entry answer.summary ∷ (added_entries answer.digest ++ puts) =
+    ap (λ z. z ++ f.ends.ring_entries) added ∙ ap (λ z. End ∷ added_entry answer.summary ∷ (added_entries answer.digest ++ z)) f.puts_are in
     record {
       event = Some what.event.number;
       last = Some mid.state.drawn;
@@ -56,7 +63,8 @@ end_says old mid new what numbers answer was now journal f =
       through = refl;
       entries_are = f.did.entries_are
           ∙ (ap (λ z. mid.journal.entries ++ z) (f.ends.entries_are ∙ same)
-          ∙ ap (λ (j : Journal). j.entries ++ End ∷ added_entry answer.summary ∷ added_entries answer.digest) journal);
+          ∙ ap (λ (j : Journal). j.entries ++ End ∷ added_entry answer.summary ∷ (added_entries answer.digest ++ puts)) journal);
+      stand = f.stand;
     }
 
 pub stage_says : (events : List Open) (what : Option Subject) (subject : Subject) (ended : Option Ended) (begun : Started) (before mid after : List Entry)

@@ -28,11 +28,18 @@ use Rattle.pfs_model.specs.Setups.{is_wait, is_statement}
 use Rattle.pfs_model.specs.declared.lines.Subject.{Subject}
 use Rattle.pfs_stat.specs.declared.Stat.{Stat}
 use Rattle.pfs_session.specs.Adding.{Brings}
-use Rattle.pfs_session.specs.Ends.{EndsIn, EndsThrough, EndsCounted, EndsSilently, AddsTo, AddsNothing, DigestsIn, HasCounted, HasDigested, Finished, amount_of, cell_number, digest_number, added_entry, added_entries, with_held, without_innermost}
+use Rattle.pfs_event.specs.declared.event.Event.{Event}
+use Rattle.pfs_model.specs.Setups.{history_consumer, long_consumer}
+use Rattle.pfs_rings.specs.declared.puts.Put.{Put}
+use Rattle.pfs_rings.specs.declared.rings.Ring.TheVariants.{Current, History, Long}
+use Rattle.pfs_session.specs.Kept.{IsKept}
+use Rattle.pfs_session.specs.Rings.{AreNexts, ArePlaced, HasPut, HasPutIn, PutIf, depth_of, goes_on, is_placed_by, moved_by, put_entries, StandInRings}
+use Rattle.pfs_session.specs.declared.nexts.Nexts.{Nexts}
+use Rattle.pfs_session.specs.Ends.{EndsIn, EndsThrough, EndsAdded, EndsCounted, EndsSilently, AddsTo, AddsNothing, DigestsIn, HasCounted, HasDigested, HasPuts, PutsAtEnd, Finished, ended_event, amount_of, cell_number, digest_number, added_entry, added_entries, with_held, without_innermost}
 use Rattle.pfs_session.specs.Settles.{PaysAll, owed_in, owed_by_state}
-use Rattle.pfs_session.specs.Starts.{Starts, IsLoaded, IsOpened, load_calls, start_entry, started, verdict_seen, verdict_in, is_timed_by, is_digested_by}
-use Rattle.pfs_session.specs.States.{State, Book, held_row, held_at, count_open, one_if, IsKept, AreAround, AreSeated, AreSilent, AreHeldFor, no_place, nothing_held}
-use Rattle.pfs_session.specs.Turns.{StartsEvent, EndsEvent, SettlesHeld, Connects, Quits, Truncates, Truncated, Played, Works, stage_ends, stage_steps}
+use Rattle.pfs_session.specs.Starts.{Starts, Begins, IsLoaded, IsOpened, load_calls, start_entry, started, verdict_seen, verdict_in, is_timed_by, is_digested_by}
+use Rattle.pfs_session.specs.States.{State, Book, held_row, held_at, next_of, count_open, one_if, AreAround, AreSeated, AreSilent, AreHeldFor, no_place, nothing_held}
+use Rattle.pfs_session.specs.Turns.{StartsEvent, EndsEvent, SettlesHeld, Connects, Quits, Truncates, Played, Works, stage_ends, stage_steps}
 use Rattle.pfs_session.specs.declared.events.Numbers.{Numbers}
 use Rattle.pfs_session.specs.declared.session.Ended.{Ended}
 use Rattle.pfs_session.specs.declared.setup.Setup.{Setup}
@@ -44,32 +51,49 @@ verdict_counts s subject seen statements waits a b =
     ap (λ z. verdict_seen s.stack s.place.thread subject seen z waits) a
     ∙ ap (λ z. verdict_seen s.stack s.place.thread subject seen (count_open is_statement s.opened.events) z) b
 
-pub start_played : (old new : Book) (entry : Entry) (subject : Subject) (seen : Option Setup) (verdict : Verdict) (timed digested : Bool) (what : Open) (statements waits : ℕ)
-    (was now : Opening → List Call → Type 0)
+pub start_played : (old at new : Book) (entry : Entry) (subject : Subject) (seen : Option Setup) (verdict : Verdict) (timed digested placed : Bool) (what : Open) (statements waits depth : ℕ)
+    (current : Option Put) (was mid now : Opening → List Call → Type 0)
     → IsLoaded old.state.place.thread subject.class subject.table seen → statements ≡ count_open is_statement old.state.opened.events
     → waits ≡ count_open is_wait old.state.opened.events → verdict ≡ verdict_seen old.state.stack old.state.place.thread subject seen statements waits
-    → timed ≡ is_timed_by subject seen → digested ≡ is_digested_by subject verdict seen
-    → IsOpened old.state.number old.state.drawn old.state.clock old.state.opened.events subject verdict timed digested what
-    → new.state ≡ started old.state what → entry ≡ start_entry verdict (old.state.drawn + 1) seen
-    → new.journal.entries ≡ old.journal.entries ++ entry ∷ [] → Goes was now (load_calls old.state.place.thread subject.class subject.table seen)
+    → timed ≡ is_timed_by subject seen → digested ≡ is_digested_by subject verdict seen → placed ≡ is_placed_by subject verdict seen
+    → IsOpened old.state.number old.state.drawn old.state.clock old.state.opened.events subject verdict timed digested placed what
+    → at.state ≡ started old.state what → entry ≡ start_entry verdict (old.state.drawn + 1) seen
+    → at.journal.entries ≡ old.journal.entries ++ entry ∷ [] → Goes was mid (load_calls old.state.place.thread subject.class subject.table seen)
+    → depth ≡ depth_of subject.kind old.state.opened.events → HasPutIn at.state.place.thread what depth current at.journal new.journal mid now → new.state ≡ at.state
     → Played (StartsEvent subject ∷ []) old new was now
-start_played old new entry subject seen verdict timed digested what statements waits was now loaded a b v t d opened state e entries goes =
+start_played old at new entry subject seen verdict timed digested placed what statements waits depth current was mid now loaded a b v t d p opened state e entries goes deep put last =
     let s : State = old.state in
+    let loads : List Call = load_calls s.place.thread subject.class subject.table seen in
     let same : verdict ≡ verdict_in s subject seen = v ∙ verdict_counts s subject seen statements waits a b in
-    let P : Verdict → Type 0 = λ z. IsOpened s.number s.drawn s.clock s.opened.events subject z timed digested what in
-    let Q : Bool → Type 0 = λ z. IsOpened s.number s.drawn s.clock s.opened.events subject (verdict_in s subject seen) z digested what in
-    let R : Bool → Type 0 = λ z. IsOpened s.number s.drawn s.clock s.opened.events subject (verdict_in s subject seen) (is_timed_by subject seen) z what in
-    let turn : Starts s subject (load_calls s.place.thread subject.class subject.table seen) (entry ∷ []) (started s what) = record {
+    let P : Verdict → Type 0 = λ z. IsOpened s.number s.drawn s.clock s.opened.events subject z timed digested placed what in
+    let Q : Bool → Type 0 = λ z. IsOpened s.number s.drawn s.clock s.opened.events subject (verdict_in s subject seen) z digested placed what in
+    let R : Bool → Type 0 = λ z. IsOpened s.number s.drawn s.clock s.opened.events subject (verdict_in s subject seen) (is_timed_by subject seen) z placed what in
+    let T : Bool → Type 0 = λ z. IsOpened s.number s.drawn s.clock s.opened.events subject (verdict_in s subject seen) (is_timed_by subject seen) (is_digested_by subject (verdict_in s subject seen) seen) z what in
+    let begins : Begins s subject loads (entry ∷ []) (started s what) = record {
       seen = seen;
       what = what;
       loaded = loaded;
       calls_are = refl;
-      opened = subst R (d ∙ ap (λ z. is_digested_by subject z seen) same) (subst Q t (subst P same opened));
+      opened = subst T (p ∙ ap (λ z. is_placed_by subject z seen) same) (subst R (d ∙ ap (λ z. is_digested_by subject z seen) same) (subst Q t (subst P same opened)));
       entries_are = ap (λ z. z ∷ []) (e ∙ ap (λ z. start_entry z (s.drawn + 1) seen) same);
       after_is = refl;
     } in
-    played_one (StartsEvent subject) (load_calls s.place.thread subject.class subject.table seen) (entry ∷ []) (started s what) old new was now turn state
-    (record { entries_are = entries; goes = goes })
+    let M : Option ℕ → Type 0 = λ z. HasPutIn z what depth current at.journal new.journal mid now in
+    let N : ℕ → Type 0 = λ n. HasPutIn s.place.thread what n current at.journal new.journal mid now in
+    let kind : depth ≡ depth_of what.kind s.opened.events = deep ∙ ap (λ z. depth_of z s.opened.events) (sym opened.kind) in
+    let h = subst N kind (subst M (ap (λ (z : State). z.place.thread) state) put) in
+    let turn : Starts s subject (h.calls ++ loads) (entry ∷ put_entries current) (started s what) = record {
+      begun_calls = loads;
+      begun_entries = entry ∷ [];
+      begins = begins;
+      current = current;
+      put_calls = h.calls;
+      put_is = h.put_is;
+      calls_are = refl;
+      entries_are = refl;
+    } in
+    played_one (StartsEvent subject) (h.calls ++ loads) (entry ∷ put_entries current) (started s what) old new was now turn (last ∙ state)
+    (did_then loads h.calls (entry ∷ []) (put_entries current) old.journal at.journal new.journal was mid now (record { entries_are = entries; goes = goes }) h.did)
 
 -- an event that is out of the nest is counted: two loads, its entry, and the addition
 pub count_done : (old new : Book) (slot cell : ℕ) (consumers thread : Word) (answer : Added) (amount : Stat) (what : Open) (numbers : Numbers) (mid : Journal)
@@ -79,7 +103,7 @@ pub count_done : (old new : Book) (slot cell : ℕ) (consumers thread : Word) (a
     → mid.entries ≡ old.journal.entries ++ says.End (Some what.event.number) (Some old.state.drawn) (Some consumers.version) (Some thread.version) ∷ []
     → cell ≡ cell_number what → amount ≡ amount_of what old.state.clock numbers → here ≡ old.state.held
     → Brings slot cell amount here there answer mid new.journal b now
-    → new.state ≡ record old.state { held = there } → HasCounted old new what numbers answer was now
+    → new.state ≡ record old.state { held = there } → HasCounted old new what numbers answer consumers.flags thread.flags was now
 count_done old new slot cell consumers thread answer amount what numbers mid here there was a b now seat l0 l1 m c e h br state =
     let End : Entry = says.End (Some what.event.number) (Some old.state.drawn) (Some consumers.version) (Some thread.version) in
     let P : ℕ → Type 0 = λ z. Brings slot z amount here there answer mid new.journal b now in
@@ -101,6 +125,8 @@ count_done old new slot cell consumers thread answer amount what numbers mid her
         after_is = state ∙ ap (λ z. record old.state { held = z }) br2.held_is;
       };
       answer_is = refl;
+      consumers_is = refl;
+      thread_is = refl;
       did = record {
         entries_are = br2.did.entries_are ∙ (ap (λ z. z ++ added_entry answer ∷ []) m ∙ append_assoc old.journal.entries (End ∷ []) (added_entry answer ∷ []));
         goes = λ start calls h0. br2.did.goes start _ (l1 start _ (l0 start calls h0));
@@ -142,36 +168,113 @@ digest_none old new slot what numbers was seat digested same =
       did = subst (λ (b : Book). Did [] [] old.journal b.journal was was) (sym same) (did_none old.journal was);
     }
 
--- both, one behind the other
-pub finish_both : (old mid new : Book) (what : Open) (numbers : Numbers) (summary : Added) (digest : Option Added) (was at now : Opening → List Call → Type 0)
-    → HasCounted old mid what numbers summary was at → HasDigested mid new what numbers digest at now
-    → Finished old new what numbers (record { summary = summary; digest = digest }) was now
-finish_both old mid new what numbers summary digest was at now c d =
-    let place : mid.state.place.thread ≡ old.state.place.thread = ap (λ (m : State). m.place.thread) c.counts.after_is in
+-- an event that has ended is put to its rings, one behind the other
+pub puts_done : (at old new : Book) (slot depth place : ℕ) (what : Open) (numbers : Numbers) (consumers thread : ℕ) (event : Event) (first second : Bool)
+    (current history long : Option Put) (a b : Journal) (nexts : Nexts) (was m n now : Opening → List Call → Type 0)
+    → at ≡ old → at.state.place.thread ≡ Some slot → event ≡ ended_event what at.state.drawn at.state.clock numbers
+    → depth ≡ depth_of what.kind at.state.opened.events → place ≡ next_of what.kind at.state.nexts
+    → first ≡ goes_on what.placed (history_consumer what.kind) consumers thread → second ≡ goes_on what.placed (long_consumer what.kind) consumers thread
+    → HasPut what.placed (Current slot what.kind depth) event current at.journal a was m
+    → HasPut first (History slot what.kind place) event history a b m n → HasPut second (Long what.kind) event long b new.journal n now
+    → nexts ≡ moved_by what.kind history at.state.nexts → new.state ≡ record at.state { nexts = nexts }
+    → HasPuts old new what numbers consumers thread current history long was now
+puts_done at old new slot depth place what numbers consumers thread event first second current history long a b nexts was m n now same seat e d p f g x y z moves state =
+    let s : State = at.state in
+    let own : Event = ended_event what s.drawn s.clock numbers in
+    let D : ℕ → Type 0 = λ k. PutIf what.placed (Current slot what.kind k) own current x.calls in
+    let E : Event → Type 0 = λ k. PutIf what.placed (Current slot what.kind depth) k current x.calls in
+    let F : Bool → Type 0 = λ k. PutIf k (History slot what.kind (next_of what.kind s.nexts)) own history y.calls in
+    let G : ℕ → Type 0 = λ k. PutIf first (History slot what.kind k) own history y.calls in
+    let H : Event → Type 0 = λ k. PutIf first (History slot what.kind place) k history y.calls in
+    let I : Bool → Type 0 = λ k. PutIf k (Long what.kind) own long z.calls in
+    let J : Event → Type 0 = λ k. PutIf second (Long what.kind) k long z.calls in
+    let puts : PutsAtEnd s slot what numbers consumers thread (z.calls ++ (y.calls ++ x.calls)) (put_entries current ++ (put_entries history ++ put_entries long)) new.state = record {
+      current = current;
+      history = history;
+      long = long;
+      current_calls = x.calls;
+      history_calls = y.calls;
+      long_calls = z.calls;
+      current_is = subst D d (subst E e x.put_is);
+      history_is = subst F f (subst G p (subst H e y.put_is));
+      long_is = subst I g (subst J e z.put_is);
+      calls_are = refl;
+      entries_are = refl;
+      after_is = state ∙ ap (λ k. record s { nexts = k }) moves;
+    } in
+    let two : Did (y.calls ++ x.calls) (put_entries current ++ put_entries history) at.journal b was n =
+    did_then x.calls y.calls (put_entries current) (put_entries history) at.journal a b was m n x.did y.did in
+    let three : Did (z.calls ++ (y.calls ++ x.calls)) ((put_entries current ++ put_entries history) ++ put_entries long) at.journal new.journal was now =
+    did_then (y.calls ++ x.calls) z.calls (put_entries current ++ put_entries history) (put_entries long) at.journal b new.journal was n now two z.did in
+    let B : Book → Type 0 = λ k. HasPuts k new what numbers consumers thread current history long was now in
+    subst B same (record {
+      slot = slot;
+      calls = z.calls ++ (y.calls ++ x.calls);
+      entries = put_entries current ++ (put_entries history ++ put_entries long);
+      slot_is = seat;
+      puts = puts;
+      current_is = refl;
+      history_is = refl;
+      long_is = refl;
+      did = subst (λ k. Did (z.calls ++ (y.calls ++ x.calls)) k at.journal new.journal was now)
+          (append_assoc (put_entries current) (put_entries history) (put_entries long)) three;
+    })
+
+same_slot : {m n : ℕ} → Some m ≡ Some n → m ≡ n
+same_slot {m} {n} e = grind (arith, e)
+
+-- all of them, one behind the other
+pub finish_all : (old mid at new : Book) (what : Open) (numbers : Numbers) (consumers thread : ℕ) (summary : Added) (digest : Option Added) (current history long : Option Put)
+    (was m n now : Opening → List Call → Type 0)
+    → HasCounted old mid what numbers summary consumers thread was m → HasDigested mid at what numbers digest m n → at.state ≡ record mid.state { held = at.state.held }
+    → HasPuts at new what numbers consumers thread current history long n now → StandInRings current history long
+    → Finished old new what numbers (record { summary = summary; digest = digest; current = current; history = history; long = long }) was now
+finish_all old mid at new what numbers consumers thread summary digest current history long was m n now c d rest p stand =
+    let place : mid.state.place.thread ≡ old.state.place.thread = ap (λ (k : State). k.place.thread) c.counts.after_is in
+    let further : at.state.place.thread ≡ mid.state.place.thread = ap (λ (k : State). k.place.thread) rest in
     let slot : d.slot ≡ c.slot = same_slot (sym d.slot_is ∙ (place ∙ c.slot_is)) in
-    let S : ℕ → Type 0 = λ n. DigestsIn what.digested mid.state n what numbers d.calls (added_entries digest) new.state in
+    let last : p.slot ≡ c.slot = same_slot (sym p.slot_is ∙ (further ∙ (place ∙ c.slot_is))) in
+    let S : ℕ → Type 0 = λ k. DigestsIn what.digested mid.state k what numbers d.calls (added_entries digest) at.state in
+    let T : ℕ → Type 0 = λ k. PutsAtEnd at.state k what numbers consumers thread p.calls p.entries new.state in
+    let U : ℕ → Type 0 = λ k. PutsAtEnd at.state c.slot what numbers k thread p.calls p.entries new.state in
+    let V : ℕ → Type 0 = λ k. PutsAtEnd at.state c.slot what numbers c.counts.consumers.flags k p.calls p.entries new.state in
+    let adds : EndsAdded old.state c.slot what old.state.opened.events numbers (d.calls ++ c.calls) (c.entries ++ added_entries digest) at.state = record {
+      between = mid.state;
+      counted_calls = c.calls;
+      counted_entries = c.entries;
+      digested_calls = d.calls;
+      digested_entries = added_entries digest;
+      counts = c.counts;
+      digests = subst S slot d.digests;
+      calls_are = refl;
+      entries_are = refl;
+    } in
     record {
       slot = c.slot;
-      calls = d.calls ++ c.calls;
-      entries = c.entries ++ added_entries digest;
+      calls = p.calls ++ (d.calls ++ c.calls);
+      entries = (c.entries ++ added_entries digest) ++ p.entries;
       slot_is = c.slot_is;
       ends = record {
-        between = mid.state;
-        counted_calls = c.calls;
-        counted_entries = c.entries;
-        digested_calls = d.calls;
-        digested_entries = added_entries digest;
-        counts = c.counts;
-        digests = subst S slot d.digests;
+        among = at.state;
+        added_calls = d.calls ++ c.calls;
+        added_entries = c.entries ++ added_entries digest;
+        ring_calls = p.calls;
+        ring_entries = p.entries;
+        adds = adds;
+        puts = subst V (sym c.thread_is) (subst U (sym c.consumers_is) (subst T last p.puts));
         calls_are = refl;
         entries_are = refl;
       };
       summary_is = c.answer_is;
       digest_is = refl;
-      did = did_then c.calls d.calls c.entries (added_entries digest) old.journal mid.journal new.journal was at now c.did d.did;
-    } where
-      same_slot : {m n : ℕ} → Some m ≡ Some n → m ≡ n
-      same_slot {m} {n} e = grind (arith, e)
+      puts_are = p.puts.entries_are
+          ∙ (ap (λ k. put_entries k ++ (put_entries p.puts.history ++ put_entries p.puts.long)) p.current_is
+          ∙ (ap (λ k. put_entries current ++ (put_entries k ++ put_entries p.puts.long)) p.history_is
+          ∙ ap (λ k. put_entries current ++ (put_entries history ++ put_entries k)) p.long_is));
+      stand = stand;
+      did = did_then (d.calls ++ c.calls) p.calls (c.entries ++ added_entries digest) p.entries old.journal at.journal new.journal was n now
+          (did_then c.calls d.calls c.entries (added_entries digest) old.journal mid.journal at.journal was m n c.did d.did) p.did;
+    }
 
 pub end_through : (old mid new : Book) (what : Open) (numbers : Numbers) (answer : Ended) (was now : Opening → List Call → Type 0)
     → old.state.opened.events ≡ what ∷ mid.state.opened.events → mid.state ≡ without_innermost old.state → mid.journal ≡ old.journal
@@ -179,23 +282,34 @@ pub end_through : (old mid new : Book) (what : Open) (numbers : Numbers) (answer
 end_through old mid new what numbers answer was now inner same journal through f =
     let P : State → Type 0 = λ m. EndsThrough m f.slot what mid.state.opened.events numbers f.calls f.entries new.state in
     let e = subst P same f.ends in
-    let counts : EndsCounted old.state f.slot what mid.state.opened.events numbers e.counted_calls e.counted_entries e.between = record {
-      consumers = e.counts.consumers;
-      thread = e.counts.thread;
-      answer = e.counts.answer;
-      row_is = e.counts.row_is;
-      calls_are = e.counts.calls_are;
-      entries_are = e.counts.entries_are;
-      after_is = e.counts.after_is;
+    let counts : EndsCounted old.state f.slot what mid.state.opened.events numbers e.adds.counted_calls e.adds.counted_entries e.adds.between = record {
+      consumers = e.adds.counts.consumers;
+      thread = e.adds.counts.thread;
+      answer = e.adds.counts.answer;
+      row_is = e.adds.counts.row_is;
+      calls_are = e.adds.counts.calls_are;
+      entries_are = e.adds.counts.entries_are;
+      after_is = e.adds.counts.after_is;
+    } in
+    let adds : EndsAdded old.state f.slot what mid.state.opened.events numbers e.added_calls e.added_entries e.among = record {
+      between = e.adds.between;
+      counted_calls = e.adds.counted_calls;
+      counted_entries = e.adds.counted_entries;
+      digested_calls = e.adds.digested_calls;
+      digested_entries = e.adds.digested_entries;
+      counts = counts;
+      digests = e.adds.digests;
+      calls_are = e.adds.calls_are;
+      entries_are = e.adds.entries_are;
     } in
     let own : EndsThrough old.state f.slot what mid.state.opened.events numbers f.calls f.entries new.state = record {
-      between = e.between;
-      counted_calls = e.counted_calls;
-      counted_entries = e.counted_entries;
-      digested_calls = e.digested_calls;
-      digested_entries = e.digested_entries;
-      counts = counts;
-      digests = e.digests;
+      among = e.among;
+      added_calls = e.added_calls;
+      added_entries = e.added_entries;
+      ring_calls = e.ring_calls;
+      ring_entries = e.ring_entries;
+      adds = adds;
+      puts = e.puts;
       calls_are = e.calls_are;
       entries_are = e.entries_are;
     } in
@@ -355,9 +469,9 @@ pub count_from : (at old new : Book) (slot cell : ℕ) (consumers thread : Word)
     → mid.entries ≡ at.journal.entries ++ says.End (Some what.event.number) (Some at.state.drawn) (Some consumers.version) (Some thread.version) ∷ []
     → cell ≡ cell_number what → amount ≡ amount_of what at.state.clock numbers → here ≡ at.state.held
     → Brings slot cell amount here there answer mid new.journal b now
-    → last ≡ there → new.state ≡ record at.state { held = last } → HasCounted old new what numbers answer was now
+    → last ≡ there → new.state ≡ record at.state { held = last } → HasCounted old new what numbers answer consumers.flags thread.flags was now
 count_from at old new slot cell consumers thread answer amount what numbers mid here there last was a b now same seat l0 l1 m c e h br is state =
-    subst (λ z. HasCounted z new what numbers answer was now) same
+    subst (λ z. HasCounted z new what numbers answer consumers.flags thread.flags was now) same
     (count_done at new slot cell consumers thread answer amount what numbers mid here there was a b now seat l0 l1 m c e h br
     (state ∙ ap (λ z. record at.state { held = z }) is))
 
@@ -391,15 +505,18 @@ seated_by None events e low = subst AreSilent (sym e) tt
 seated_by (Some slot) events e low = low
 
 pub kept_elsewhere : (s after : State) (statements waits : ℕ) → s.opened.events ≡ [] → s.place.thread ≡ None
-    → IfSome after.place.thread (λ n. n < 32) → after.opened ≡ s.opened → after.held ≡ s.held
+    → IfSome after.place.thread (λ n. n < 32) → after.opened ≡ s.opened → after.held ≡ s.held → after.stack ≡ s.stack → after.nexts ≡ s.nexts
     → IsKept s statements waits → IsKept after statements waits
-kept_elsewhere s after statements waits e nowhere low o h k = record {
+kept_elsewhere s after statements waits e nowhere low o h d n k = record {
   statements_are = k.statements_are ∙ ap (λ z. count_open is_statement z.events) (sym o);
   waits_are = k.waits_are ∙ ap (λ z. count_open is_wait z.events) (sym o);
   nested = subst (λ z. AreAround z.events) (sym o) k.nested;
   seated = seated_by after.place.thread after.opened.events (ap (λ z. z.events) o ∙ e) low;
   held_wide = ap length h ∙ k.held_wide;
   held_seated = held_for after.place.thread after.held (h ∙ none_held s.place.thread s.held k.held_seated nowhere);
+  stack_few = omega (arith, d, k.stack_few);
+  placed = subst (λ z. ArePlaced z.events) (sym o) k.placed;
+  nexts_few = subst AreNexts (sym n) k.nexts_few;
 }
 
 -- a session in a slot may hold what it likes

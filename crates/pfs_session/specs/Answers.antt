@@ -1,28 +1,33 @@
 -- What a start, an end and a stage answer is what the journal says of them.
-use Rattle.std.specs.Prelude.{ℕ, ◌≡◌, Bool, true, false, List, [], ◌∷◌, ◌++◌, Option, Some, None, is_some}
+use Rattle.std.specs.Prelude.{ℕ, ◌≡◌, Bool, true, false, List, [], ◌∷◌, ◌++◌, Option, Some, None, is_some, IfSome}
 use Rattle.pfs_event.specs.declared.entry.Entry.{Entry}
 use Rattle.pfs_event.specs.declared.entry.Entry.TheVariants as says
 use Rattle.pfs_event.specs.declared.open.Open.{Open}
 use Rattle.pfs_model.specs.Shapes.{is_stage}
 use Rattle.pfs_model.specs.declared.lines.Subject.{Subject}
 use Rattle.pfs_session.specs.Ends.{added_entry, added_entries}
+use Rattle.pfs_session.specs.Rings.{StandInRings, put_entries}
 use Rattle.pfs_session.specs.declared.session.Ended.{Ended}
 use Rattle.pfs_session.specs.declared.session.Started.{Started}
 
--- one entry more stands there: a start of this event number and this verdict
+-- a start of this event number and this verdict stands there, and what became of its put, where there was one
 pub record SaysStart (answer : Started) (before after : List Entry) : Type 0 where
   pub consumers : Option ℕ
   pub thread : Option ℕ
   pub class : Option ℕ
   pub table : Option ℕ
-  pub entries_are : after ≡ before ++ says.Start answer.event answer.verdict consumers thread class table ∷ []
+  pub entries_are : after
+      ≡ before ++ says.Start answer.event answer.verdict consumers thread class table ∷ put_entries answer.current
 
--- what became of the addition to the cell's row, and then of that to the digest's, where there was one
+-- what became of the addition to the cell's row, then of that to the digest's, and of each put, where there was one
 abbrev pub ended_entries : Option Ended → List Entry
 ended_entries None = []
-ended_entries (Some ended) = added_entry ended.summary ∷ added_entries ended.digest
+ended_entries (Some ended) = added_entry ended.summary
+    ∷ (added_entries ended.digest
+    ++ (put_entries ended.current ++ (put_entries ended.history ++ put_entries ended.long)))
 
--- an end stands there, with an event number just where something was added or held, and then what became of that
+-- an end stands there, with an event number just where something was added or held, and then what became of that: the
+-- three puts are told each as that of its own ring
 pub record SaysEnd (answer : Option Ended) (before after : List Entry) : Type 0 where
   pub event : Option ℕ
   pub last : Option ℕ
@@ -30,6 +35,7 @@ pub record SaysEnd (answer : Option Ended) (before after : List Entry) : Type 0 
   pub thread : Option ℕ
   pub through : is_some answer ≡ is_some event
   pub entries_are : after ≡ before ++ says.End event last consumers thread ∷ ended_entries answer
+  pub stand : IfSome answer (λ ended. StandInRings ended.current ended.history ended.long)
 
 -- the innermost open event is a stage
 abbrev pub is_in_stage : List Open → Bool

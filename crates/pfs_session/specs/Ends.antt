@@ -11,10 +11,14 @@ use Rattle.pfs_levels.specs.Moves.{Did}
 use Rattle.pfs_levels.specs.declared.answers.Added.{Added}
 use Rattle.pfs_levels.specs.declared.answers.Added.TheVariants.{Counted, Held}
 use Rattle.pfs_levels.specs.declared.answers.Word.{Word}
-use Rattle.pfs_model.specs.Setups.{thread_word, is_attributed}
+use Rattle.pfs_event.specs.declared.event.Event.{Event}
+use Rattle.pfs_model.specs.Setups.{thread_word, is_attributed, history_consumer, long_consumer}
+use Rattle.pfs_rings.specs.declared.puts.Put.{Put}
+use Rattle.pfs_rings.specs.declared.rings.Ring.TheVariants.{Current, History, Long}
 use Rattle.pfs_stat.specs.Stat.{stat_of, merge_of}
 use Rattle.pfs_stat.specs.declared.Stat.{Stat}
-use Rattle.pfs_session.specs.States.{State, Book, held_row, held_at}
+use Rattle.pfs_session.specs.Rings.{PutIf, StandInRings, put_entries, goes_on, depth_of, moved_by}
+use Rattle.pfs_session.specs.States.{State, Book, held_row, held_at, next_of}
 use Rattle.pfs_session.specs.declared.events.Numbers.{Numbers}
 use Rattle.pfs_session.specs.declared.session.Ended.{Ended}
 
@@ -118,8 +122,8 @@ pub record EndsCounted (s : State) (slot : ℕ) (what : Open) (others : List Ope
         (with_held (held_at s.held (cell_number what)) (amount_of what s.clock numbers)) answer);
   }
 
--- it ends: it is counted, and behind that added to its digest's row, where it is a digested statement
-pub record EndsThrough (s : State) (slot : ℕ) (what : Open) (others : List Open) (numbers : Numbers)
+-- it is counted, and behind that added to its digest's row, where it is a digested statement
+pub record EndsAdded (s : State) (slot : ℕ) (what : Open) (others : List Open) (numbers : Numbers)
     (calls : List Call) (entries : List Entry) (after : State) : Type 0 where
   pub between : State
   pub counted_calls : List Call
@@ -130,6 +134,54 @@ pub record EndsThrough (s : State) (slot : ℕ) (what : Open) (others : List Ope
   pub digests : DigestsIn what.digested between slot what numbers digested_calls digested_entries after
   pub calls_are : calls ≡ digested_calls ++ counted_calls
   pub entries_are : entries ≡ counted_entries ++ digested_entries
+
+-- an event as it is written at its end
+abbrev pub ended_event : Open → ℕ → ℕ → Numbers → Event
+ended_event what drawn clock numbers = record what.event {
+  last = drawn;
+  duration = lasted what clock;
+  lock = (numbers_for what.kind numbers).lock;
+  errors = (numbers_for what.kind numbers).errors;
+  warnings = (numbers_for what.kind numbers).warnings;
+  affected = (numbers_for what.kind numbers).affected;
+  sent = (numbers_for what.kind numbers).sent;
+  examined = (numbers_for what.kind numbers).examined;
+}
+
+-- an event that ends is offered to its current place, its history and the long history, in this order. It isn't among
+-- the open ones any more
+pub record PutsAtEnd (s : State) (slot : ℕ) (what : Open) (numbers : Numbers) (consumers thread : ℕ)
+    (calls : List Call) (entries : List Entry) (after : State) : Type 0 where
+  pub current : Option Put
+  pub history : Option Put
+  pub long : Option Put
+  pub current_calls : List Call
+  pub history_calls : List Call
+  pub long_calls : List Call
+  pub current_is : PutIf what.placed (Current slot what.kind (depth_of what.kind s.opened.events))
+      (ended_event what s.drawn s.clock numbers) current current_calls
+  pub history_is : PutIf (goes_on what.placed (history_consumer what.kind) consumers thread)
+      (History slot what.kind (next_of what.kind s.nexts)) (ended_event what s.drawn s.clock numbers) history
+      history_calls
+  pub long_is : PutIf (goes_on what.placed (long_consumer what.kind) consumers thread) (Long what.kind)
+      (ended_event what s.drawn s.clock numbers) long long_calls
+  pub calls_are : calls ≡ long_calls ++ (history_calls ++ current_calls)
+  pub entries_are : entries ≡ put_entries current ++ (put_entries history ++ put_entries long)
+  pub after_is : after ≡ record s { nexts = moved_by what.kind history s.nexts }
+
+-- it ends: it is added, and behind that put to the rings that it is offered to, by the words that were loaded
+pub record EndsThrough (s : State) (slot : ℕ) (what : Open) (others : List Open) (numbers : Numbers)
+    (calls : List Call) (entries : List Entry) (after : State) : Type 0 where
+  pub among : State
+  pub added_calls : List Call
+  pub added_entries : List Entry
+  pub ring_calls : List Call
+  pub ring_entries : List Entry
+  pub adds : EndsAdded s slot what others numbers added_calls added_entries among
+  pub puts : PutsAtEnd among slot what numbers adds.counts.consumers.flags adds.counts.thread.flags ring_calls
+      ring_entries after
+  pub calls_are : calls ≡ ring_calls ++ added_calls
+  pub entries_are : entries ≡ added_entries ++ ring_entries
 
 -- an event that isn't let through ends, and nothing is loaded or added
 pub record EndsSilently (s : State) (others : List Open) (calls : List Call) (entries : List Entry)
@@ -146,14 +198,16 @@ EndsIn s (Some slot) true what others numbers calls entries after =
     EndsThrough s slot what others numbers calls entries after
 
 -- an event that isn't among the open ones any more was counted so
-pub record HasCounted (old new : Book) (what : Open) (numbers : Numbers) (answer : Added) (was now : Opening
-    → List Call → Type 0) : Type 0 where
+pub record HasCounted (old new : Book) (what : Open) (numbers : Numbers) (answer : Added) (consumers thread : ℕ)
+    (was now : Opening → List Call → Type 0) : Type 0 where
   pub slot : ℕ
   pub calls : List Call
   pub entries : List Entry
   pub slot_is : old.state.place.thread ≡ Some slot
   pub counts : EndsCounted old.state slot what old.state.opened.events numbers calls entries new.state
   pub answer_is : counts.answer ≡ answer
+  pub consumers_is : counts.consumers.flags ≡ consumers
+  pub thread_is : counts.thread.flags ≡ thread
   pub did : Did calls entries old.journal new.journal was now
 
 -- and added to its digest's row so, where it is a digested statement
@@ -165,6 +219,19 @@ pub record HasDigested (old new : Book) (what : Open) (numbers : Numbers) (answe
   pub digests : DigestsIn what.digested old.state slot what numbers calls (added_entries answer) new.state
   pub did : Did calls (added_entries answer) old.journal new.journal was now
 
+-- and put to the rings that it was offered to so, by these flags
+pub record HasPuts (old new : Book) (what : Open) (numbers : Numbers) (consumers thread : ℕ)
+    (current history long : Option Put) (was now : Opening → List Call → Type 0) : Type 0 where
+  pub slot : ℕ
+  pub calls : List Call
+  pub entries : List Entry
+  pub slot_is : old.state.place.thread ≡ Some slot
+  pub puts : PutsAtEnd old.state slot what numbers consumers thread calls entries new.state
+  pub current_is : puts.current ≡ current
+  pub history_is : puts.history ≡ history
+  pub long_is : puts.long ≡ long
+  pub did : Did calls entries old.journal new.journal was now
+
 -- it ended so
 pub record Finished (old new : Book) (what : Open) (numbers : Numbers) (answer : Ended) (was now : Opening → List Call
     → Type 0) : Type 0 where
@@ -173,8 +240,11 @@ pub record Finished (old new : Book) (what : Open) (numbers : Numbers) (answer :
   pub entries : List Entry
   pub slot_is : old.state.place.thread ≡ Some slot
   pub ends : EndsThrough old.state slot what old.state.opened.events numbers calls entries new.state
-  pub summary_is : ends.counts.answer ≡ answer.summary
-  pub digest_is : ends.digested_entries ≡ added_entries answer.digest
+  pub summary_is : ends.adds.counts.answer ≡ answer.summary
+  pub digest_is : ends.adds.digested_entries ≡ added_entries answer.digest
+  pub puts_are : ends.ring_entries
+      ≡ put_entries answer.current ++ (put_entries answer.history ++ put_entries answer.long)
+  pub stand : StandInRings answer.current answer.history answer.long
   pub did : Did calls entries old.journal new.journal was now
 
 -- the open events without the innermost

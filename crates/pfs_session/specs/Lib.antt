@@ -1,4 +1,7 @@
 pub mod States
+pub mod Rings
+pub mod Kept
+pub mod Using
 pub mod Starts
 pub mod Ends
 pub mod Answers

@@ -15,6 +15,8 @@ use Rattle.pfs_model.specs.Contents.{plus_one}
 use Rattle.pfs_model.specs.Setups.{SeenSetup, verdict_by, has_time, is_wait, is_statement, thread_word, class_word, table_word}
 use Rattle.pfs_model.specs.declared.lines.Subject.{Subject}
 use Rattle.pfs_session.specs.Ends.{no_numbers}
+use Rattle.pfs_rings.specs.declared.puts.Put.{Put}
+use Rattle.pfs_session.specs.Rings.{PutIn, put_entries, is_placed_by, depth_of}
 use Rattle.pfs_session.specs.States.{State, around, count_open, one_if}
 use Rattle.pfs_session.specs.declared.setup.Setup.{Setup}
 
@@ -94,7 +96,7 @@ abbrev pub IsClass : Option ℕ → ℕ → Type 0
 IsClass None number = number ≡ 0
 IsClass (Some class) number = number ≡ class
 
--- what an end fills in, or a place that an event gets, is empty in an event that has just started
+-- what an end fills in, and the ticket of a put, is empty in an event that has just started
 pub record IsUnfilled (what : Open) : Type 0 where
   pub last : what.event.last ≡ 0
   pub duration : what.event.duration ≡ 0
@@ -107,18 +109,19 @@ pub record IsUnfilled (what : Open) : Type 0 where
     examined = what.event.examined;
   } ≡ no_numbers
   pub ticket : what.event.ticket ≡ 0
-  pub placed : what.placed ≡ false
 
 -- the open event that a start of a subject makes, with this verdict, in a session of this number that has drawn so many
--- event numbers, at this clock, where those events are open; whether it is timed, and digested, is decided here
+-- event numbers, at this clock, where those events are open; whether it is timed, digested, and offered to its current
+-- place is decided here
 pub record IsOpened (session drawn clock : ℕ) (events : List Open) (subject : Subject) (verdict : Verdict)
-    (timed digested : Bool) (what : Open) : Type 0 where
+    (timed digested placed : Bool) (what : Open) : Type 0 where
   pub kind : what.kind ≡ subject.kind
   pub verdict_is : what.verdict ≡ verdict
   pub session_is : what.event.session ≡ session
   pub number : what.event.number ≡ drawn + 1
   pub class : IsClass subject.class what.event.class
   pub digested_is : what.digested ≡ digested
+  pub placed_is : what.placed ≡ placed
   pub link : what.event.link ≡ link_of digested subject
   pub lies_in : record { nesting = what.event.nesting; parent = what.event.parent } ≡ around events
   pub start : what.event.start ≡ clock
@@ -150,13 +153,27 @@ started s what = record s {
 }
 
 -- a start loads, decides by what it loaded, and opens the event
-pub record Starts (s : State) (subject : Subject) (calls : List Call) (entries : List Entry) (after : State) : Type 0
+pub record Begins (s : State) (subject : Subject) (calls : List Call) (entries : List Entry) (after : State) : Type 0
   where
     pub seen : Option Setup
     pub what : Open
     pub loaded : IsLoaded s.place.thread subject.class subject.table seen
     pub calls_are : calls ≡ load_calls s.place.thread subject.class subject.table seen
     pub opened : IsOpened s.number s.drawn s.clock s.opened.events subject (verdict_in s subject seen)
-        (is_timed_by subject seen) (is_digested_by subject (verdict_in s subject seen) seen) what
+        (is_timed_by subject seen) (is_digested_by subject (verdict_in s subject seen) seen)
+        (is_placed_by subject (verdict_in s subject seen) seen) what
     pub entries_are : entries ≡ start_entry (verdict_in s subject seen) (s.drawn + 1) seen ∷ []
     pub after_is : after ≡ started s what
+
+-- and behind that the event is put to its current place, where it is offered there
+pub record Starts (s : State) (subject : Subject) (calls : List Call) (entries : List Entry) (after : State) : Type 0
+  where
+    pub begun_calls : List Call
+    pub begun_entries : List Entry
+    pub begins : Begins s subject begun_calls begun_entries after
+    pub current : Option Put
+    pub put_calls : List Call
+    pub put_is : PutIn s.place.thread begins.what (depth_of begins.what.kind s.opened.events) begins.what.event current
+        put_calls
+    pub calls_are : calls ≡ put_calls ++ begun_calls
+    pub entries_are : entries ≡ begun_entries ++ put_entries current

@@ -1,22 +1,23 @@
 -- A session between two steps: where it is connected, its clock, its open events, and what it holds back.
-use Rattle.std.specs.Prelude.{ℕ, ◌≡◌, ◌<◌, ◌+◌, ◌*◌, nat_lt, Bool, true, false, ◌&&◌, if◌then◌else◌, List, [], ◌∷◌, length, replicate, Option, Some, None}
+use Rattle.std.specs.Prelude.{ℕ, ◌≡◌, ◌<◌, ◌+◌, ◌*◌, nat_lt, Bool, true, false, ◌&&◌, if◌then◌else◌, List, [], ◌∷◌, replicate, Option, Some, None}
 use Rattle.std.specs.List.{slice_index_or}
 use Rattle.pfs_admin.specs.declared.admin.Placed.{Placed}
 use Rattle.pfs_event.specs.Kinds.{nesting_number}
 use Rattle.pfs_event.specs.Nesting.{OpenEvents}
 use Rattle.pfs_event.specs.Verdicts.{is_let_through}
 use Rattle.pfs_event.specs.declared.kind.EventKind.{EventKind}
+use Rattle.pfs_event.specs.declared.kind.EventKind.TheVariants as kinds
 use Rattle.pfs_event.specs.declared.open.Open.{Open}
 use Rattle.pfs_levels.specs.Journal.{Journal}
-use Rattle.pfs_model.specs.Setups.{is_wait, is_statement}
 use Rattle.pfs_model.specs.Shapes.{is_stage}
 use Rattle.pfs_stat.specs.declared.Stat.{Stat}
+use Rattle.pfs_session.specs.declared.nexts.Nexts.{Nexts}
 use Rattle.pfs_session.specs.declared.opening.Outer.{Outer}
 use Rattle.pfs_session.specs.declared.session.LastAction.{LastAction}
 
 -- A session: its number; how many statements may be open one in another; where it is connected; its clock; how many
 -- event numbers it has drawn; its open events; the amounts that it holds back, by the number of their cell; how many
--- actions it has made, and the last one of this phase
+-- actions it has made, and the last one of this phase; and the next places of its histories
 pub record State : Type 0 where
   pub number : ℕ
   pub stack : ℕ
@@ -27,6 +28,7 @@ pub record State : Type 0 where
   pub held : List (Option Stat)
   pub actions : ℕ
   pub last : Option LastAction
+  pub nexts : Nexts
 
 -- a session with its journal of this phase
 pub record Book : Type 0 where
@@ -69,6 +71,7 @@ fresh number stack depth = record {
   held = nothing_held;
   actions = 0;
   last = None;
+  nexts = record { waits = 0; stages = 0; statements = 0; transactions = 0 };
 }
 
 abbrev pub one_if : Bool → ℕ
@@ -79,6 +82,13 @@ one_if false = 0
 abbrev pub count_open : (EventKind → Bool) → List Open → ℕ
 count_open test [] = 0
 count_open test (what ∷ events) = one_if (is_let_through what.verdict && test what.kind) + count_open test events
+
+-- the next place of a kind's history
+abbrev pub next_of : EventKind → Nexts → ℕ
+next_of kinds.Wait nexts = nexts.waits
+next_of kinds.Stage nexts = nexts.stages
+next_of kinds.Statement nexts = nexts.statements
+next_of kinds.Transaction nexts = nexts.transactions
 
 -- what an event lies in that starts where these are open: the innermost that is let through
 abbrev pub around : List Open → Outer
@@ -108,15 +118,6 @@ AreSeated (Some slot) events = slot < 32
 abbrev pub AreHeldFor : Option ℕ → List (Option Stat) → Type 0
 AreHeldFor None held = held ≡ nothing_held
 AreHeldFor (Some slot) held = Unit {0}
-
--- what always holds of a session that counts so many open statements and waits
-pub record IsKept (s : State) (statements waits : ℕ) : Type 0 where
-  pub statements_are : statements ≡ count_open is_statement s.opened.events
-  pub waits_are : waits ≡ count_open is_wait s.opened.events
-  pub nested : AreAround s.opened.events
-  pub seated : AreSeated s.place.thread s.opened.events
-  pub held_wide : length s.held ≡ 193
-  pub held_seated : AreHeldFor s.place.thread s.held
 
 -- the open events without the innermost one, where that is a stage
 abbrev pub without_stage : List Open → List Open

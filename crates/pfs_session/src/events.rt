@@ -53,8 +53,8 @@ pub(crate) fn is_wait(kind: EventKind) -> bool
     matches!(kind, EventKind::Wait)
 }
 
-// The numbers of a statement, and of another event none.
-fn numbers_for(kind: EventKind, numbers: &Numbers) -> Numbers
+/// The numbers of a statement, and of another event none.
+pub(crate) fn numbers_for(kind: EventKind, numbers: &Numbers) -> Numbers
     ensures { result ≡ numbers_for kind numbers.now }
 {
     if is_statement(kind) {

@@ -3,13 +3,19 @@
 
 mod adding;
 mod events;
+mod nexts;
 mod opening;
+mod paused;
 mod paying;
+mod putting;
 mod session;
 mod setup;
 
 pub use events::Numbers;
-pub use session::{Ended, LastAction, Paused, Session, Started};
+pub use nexts::Nexts;
+pub use paused::Paused;
+pub use pfs_rings::Put;
+pub use session::{Ended, LastAction, Session, Started};
 pub use setup::Setup;
 
 /// Memory ran out.

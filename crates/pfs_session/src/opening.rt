@@ -97,13 +97,14 @@ pub(crate) fn opened(
     verdict: Verdict,
     timed: bool,
     digested: bool,
+    placed: bool,
 ) -> Open
     requires nested { AreAround nest.now.events }
     requires class { IfSome subject.now.class (λ n. n < 63) }
     requires table { IfSome subject.now.table (λ n. n < 64) }
     requires digest { IfSome subject.now.digest (λ n. n < 64) }
     requires early { drawn + 1 < 2 ^ 64 }
-    ensures { IsOpened session drawn clock nest.now.events subject.now verdict timed digested result }
+    ensures { IsOpened session drawn clock nest.now.events subject.now verdict timed digested placed result }
 {
     let outer = around(nest);
     Open {
@@ -130,6 +131,6 @@ pub(crate) fn opened(
             read_only: subject.cell == READ_ONLY_CELL,
         },
         digested,
-        placed: false,
+        placed,
     }
 }

@@ -1,6 +1,6 @@
 //! A session: its calls, each of which is one or two steps.
 
-ghost use Rattle.std.specs.Prelude.{◌≡◌, ◌<◌, ◌≤◌, ◌+◌, ◌%◌, ◌^◌, ◌∷◌, ◌&&◌, [], ℕ, length, Some, None, IfOk, IfSome, OnOk, OnErr, IsSome, false};
+ghost use Rattle.std.specs.Prelude.{◌≡◌, ◌<◌, ◌≤◌, ◌+◌, ◌%◌, ◌^◌, ◌∷◌, ◌&&◌, [], ℕ, length, Some, None, IfOk, IfSome, OnOk, OnErr, IsSome, false, true};
 ghost use Rattle.pfs_admin.specs.Asks.{placed_of};
 ghost use Rattle.pfs_admin.specs.States.{connected, has_quit, seat_at};
 ghost use Rattle.pfs_admin.specs.Truncations.{has_truncated, truncation_cost};
@@ -8,24 +8,31 @@ ghost use Rattle.pfs_admin.specs.Works.{Leaves};
 ghost use Rattle.pfs_event.specs.Nesting.{MayStart};
 ghost use Rattle.pfs_event.specs.Verdicts.{is_let_through};
 ghost use Rattle.pfs_session.specs.Answers.{SaysStart, SaysEnd, SaysStage, SaysStageEnd, is_in_stage};
-ghost use Rattle.pfs_session.specs.Ends.{Finished, HasCounted, HasDigested, outer_events, without_innermost};
+ghost use Rattle.pfs_rings.specs.Rings.{depths};
+ghost use Rattle.pfs_session.specs.Ends.{Finished, HasCounted, HasDigested, HasPuts, outer_events, without_innermost};
 ghost use Rattle.pfs_session.specs.Leaving.{HasStarted, HasStaged};
+ghost use Rattle.pfs_session.specs.Rings.{HasPutIn, depth_of, StandInRings};
 ghost use Rattle.pfs_session.specs.Settles.{owed_by_state, settle_cost};
 ghost use Rattle.pfs_session.specs.Starts.{started, if_through};
 ghost use Rattle.pfs_session.specs.States.{fresh, around, one_if, no_place, nothing_held, without_stage};
+ghost use Rattle.pfs_session.specs.Using.{Uses};
 ghost use Rattle.pfs_session.specs.Turns.{Played, Does, StartsEvent, EndsEvent, Spends, SettlesHeld, Connects, Quits, Truncates, StageMayStart, stage_steps, stage_ends};
 
 use crate::NoMemory;
 use crate::adding::bring;
 use crate::events::{Numbers, amount_of, cell_number, digest_number, is_statement, is_wait};
+use crate::nexts::Nexts;
 use crate::opening::opened;
+use crate::paused::Paused;
 use crate::paying::{clear, settle_all};
+use crate::putting::{ended_event, goes_on, history_consumer, is_placed, long_consumer, offer};
 use crate::setup::{if_through, is_digested, is_timed, judge, load, load_word, start_entry};
 use pfs_admin::{Admin, Lost, Placed, Reply, Truncation};
 use pfs_event::{Entry, EventKind, Nest, Open, Verdict};
 use pfs_levels::{Added, Hold, Label, Log, Rows};
 use pfs_model::Subject;
 use pfs_names::NameId;
+use pfs_rings::{Put, Ring};
 use pfs_stat::Stat;
 use std::alloc::Global;
 use std::marker::Model;
@@ -37,25 +44,46 @@ pub struct LastAction {
     pub lost: Lost,
 }
 
-/// What became of a start: the EVENT_ID of an event that is let through, and the verdict.
+/// What became of a start: the EVENT_ID of an event that is let through, the verdict, and what became of its put to its
+/// current place, where it was offered there.
 #[derive(Clone, Copy, Debug, PartialEq, Eq)]
 pub struct Started {
     pub event: Option<u64>,
     pub verdict: Verdict,
+    pub current: Option<Put>,
 }
 
-/// What became of an event that was let through, at its end: of its addition to the row of its cell, and, of a digested
-/// statement, of that to the row of its digest.
+/// What became of an event that was let through, at its end: of its addition to the row of its cell, of that of a
+/// digested statement to the row of its digest, and of its puts to the rings that it was offered to.
 #[derive(Clone, Copy, Debug, PartialEq, Eq)]
 pub struct Ended {
     pub summary: Added,
     pub digest: Option<Added>,
+    pub current: Option<Put>,
+    pub history: Option<Put>,
+    pub long: Option<Put>,
+}
+
+// What became of an event's addition to the row of its cell, and the flags that its end loaded.
+#[derive(Clone, Copy)]
+struct Counting {
+    summary: Added,
+    consumers: u16,
+    thread: u16,
+}
+
+// What became of an event's puts at its end.
+#[derive(Clone, Copy)]
+struct Puts {
+    current: Option<Put>,
+    history: Option<Put>,
+    long: Option<Put>,
 }
 
 /// A session with its journal of the phase. It takes memory as it is opened and by `reserve` alone.
 #[derive(Drop)]
 pub struct Session {
-    alloc: Global,
+    pub(crate) alloc: Global,
     number: u64,
     stack: u64,
     place: Placed,
@@ -66,12 +94,14 @@ pub struct Session {
     waits: u64,
     held: Vec<Option<Stat>>,
     actions: u64,
-    last: Option<LastAction>,
-    log: Log,
+    pub(crate) last: Option<LastAction>,
+    nexts: Nexts,
+    pub(crate) log: Log,
 }
 
 impl Model for Session {
-    ghost use Rattle.pfs_session.specs.States.{Book, IsKept};
+    ghost use Rattle.pfs_session.specs.Kept.{IsKept};
+    ghost use Rattle.pfs_session.specs.States.{Book};
 
     ghost Value = { Book };
 
@@ -86,6 +116,7 @@ impl Model for Session {
         held = s.held.items;
         actions = s.actions;
         last = s.last;
+        nexts = s.nexts;
       };
       journal = s.log;
     } };
@@ -100,6 +131,7 @@ impl Model for Session {
       held = s.held.items;
       actions = s.actions;
       last = s.last;
+      nexts = s.nexts;
     }) s.statements s.waits };
 }
 
@@ -114,6 +146,7 @@ impl Session {
     /// The session of this number, connected nowhere, with its clock at 0, nothing open and nothing held, and with
     /// room for `depth` open events; at most `stack` statements that are let through may be open.
     pub fn open(alloc: Global, number: u64, stack: u64, depth: u64) -> Result<Session, NoMemory>
+        requires stack { stack ≤ 10 }
         ensures { IfOk result (λ s. s ≡ record {
           state = fresh number stack depth;
           journal = record {
@@ -143,6 +176,7 @@ impl Session {
             held,
             actions: 0,
             last: None,
+            nexts: Nexts::FIRST,
             log: Log::new(alloc),
         })
     }
@@ -181,7 +215,8 @@ impl Session {
 
     /// Starts an event. Its start loads the consumers' word, the thread's, the class's and, of an event of a table,
     /// the table's, in this order; nothing of a session without a slot and of a lost class. What it loads decides
-    /// whether and where the event counts, and whether it is digested. The log gets the start.
+    /// whether and where the event counts, whether it is digested, and whether it is offered to its current place:
+    /// there it is put then. The log gets the start and what became of the put.
     pub fn start<R: Rows>(&mut self, rows: &mut R, what: &Subject) -> Started
         requires may { MayStart self.old.state.opened what.now.kind }
         requires shallow { length self.old.state.opened.events < self.old.state.opened.depth }
@@ -189,7 +224,9 @@ impl Session {
         requires table { IfSome what.now.table (λ n. n < 64) }
         requires digest { IfSome what.now.digest (λ n. n < 64) }
         requires early { self.old.state.drawn + 1 < 2 ^ 64 }
-        requires room { 1 ≤ self.old.journal.room }
+        requires alone { (r : ℕ) → 0 < r → R.hand rows.old r ≡ None }
+        requires spare { 1 ≤ R.left rows.old }
+        requires room { 2 ≤ self.old.journal.room }
         ensures played { Played (StartsEvent what.now ∷ []) self.old self.new (R.reached rows.old)
             (R.reached rows.new) }
         ensures answer { SaysStart result self.old.journal.entries self.new.journal.entries }
@@ -199,7 +236,7 @@ impl Session {
           drawn = self.new.state.drawn;
           opened = self.new.state.opened;
         } }
-        ensures leaves { Leaves 0 1 (R.hand rows.old) (R.hand rows.new) (R.left rows.old) (R.left rows.new)
+        ensures uses { Uses 1 0 2 (R.hand rows.old) (R.hand rows.new) (R.left rows.old) (R.left rows.new)
             (R.draws rows.old) (R.draws rows.new) (R.name rows.old) (R.name rows.new) self.old.journal
             self.new.journal }
         ensures words { R.words rows.new ≡ R.words rows.old }
@@ -215,6 +252,8 @@ impl Session {
         );
         let timed = is_timed(what, &seen);
         let digested = is_digested(what, verdict, &seen);
+        let placed = is_placed(what, verdict, &seen);
+        let depth = self.depth(what.kind);
         let event = opened(
             self.number,
             self.drawn,
@@ -224,25 +263,66 @@ impl Session {
             verdict,
             timed,
             digested,
+            placed,
         );
         self.log.push(start_entry(verdict, self.drawn + 1, &seen));
-        self.begin(event)
+        let number = self.begin(event);
+        let current = self.place(rows, &event, depth);
+        Started {
+            event: number,
+            verdict,
+            current,
+        }
     }
 
-    // Opens an event.
-    fn begin(&mut self, what: Open) -> Started
+    // How many let-through events of a kind are open; of stages and transactions it is no matter.
+    fn depth(&self, kind: EventKind) -> u64
+        ensures { result ≡ depth_of kind self.now.state.opened.events }
+    {
+        match kind {
+            EventKind::Wait => self.waits,
+            EventKind::Statement => self.statements,
+            EventKind::Stage | EventKind::Transaction => 0,
+        }
+    }
+
+    // Puts an event that starts to its current place, where it is offered there.
+    fn place<R: Rows>(&mut self, rows: &mut R, what: &Open, depth: u64) -> Option<Put>
+        requires deep { what.now.placed ≡ true → depth < depths what.now.kind }
+        requires alone { (r : ℕ) → 0 < r → R.hand rows.old r ≡ None }
+        requires spare { 1 ≤ R.left rows.old }
+        requires room { 1 ≤ self.old.journal.room }
+        ensures put { HasPutIn self.old.state.place.thread what.now depth result self.old.journal self.new.journal
+            (R.reached rows.old) (R.reached rows.new) }
+        ensures state { self.new.state ≡ self.old.state }
+        ensures uses { Uses 1 0 1 (R.hand rows.old) (R.hand rows.new) (R.left rows.old) (R.left rows.new)
+            (R.draws rows.old) (R.draws rows.new) (R.name rows.old) (R.name rows.new) self.old.journal
+            self.new.journal }
+        ensures words { R.words rows.new ≡ R.words rows.old }
+    {
+        let Some(slot) = self.place.thread else {
+            return None;
+        };
+        let ring = Ring::Current {
+            thread: slot,
+            kind: what.kind,
+            depth,
+        };
+        offer(rows, what.placed, ring, &what.event, &mut self.log)
+    }
+
+    // Opens an event. Answers the EVENT_ID of one that is let through.
+    fn begin(&mut self, what: Open) -> Option<u64>
         requires may { MayStart self.old.state.opened what.kind }
         requires shallow { length self.old.state.opened.events < self.old.state.opened.depth }
         requires lies_in { record { nesting = what.event.nesting; parent = what.event.parent }
             ≡ around self.old.state.opened.events }
         requires seated { self.old.state.place.thread ≡ None → is_let_through what.verdict ≡ false }
+        requires deep { what.placed ≡ true → depth_of what.kind self.old.state.opened.events < depths what.kind }
         requires early { self.old.state.drawn + 1 < 2 ^ 64 }
         ensures state { self.new.state ≡ started self.old.state what }
         ensures journal { self.new.journal ≡ self.old.journal }
-        ensures answer { result ≡ record {
-          event = if_through what.verdict what.event.number;
-          verdict = what.verdict;
-        } }
+        ensures answer { result ≡ if_through what.verdict what.event.number }
     {
         // Its clause bounds how many events are open.
         let _ = self.nest.depth();
@@ -254,31 +334,31 @@ impl Session {
         self.statements += one_if(through, is_statement(what.kind));
         self.waits += one_if(through, is_wait(what.kind));
         self.drawn += one_if(through, true);
-        Started {
-            event: if_through(what.verdict, what.event.number),
-            verdict: what.verdict,
-        }
+        if_through(what.verdict, what.event.number)
     }
 
     /// Ends the innermost open event, with a statement's numbers; of another event they say nothing. Of an event that
     /// is let through the consumers' word and the thread's are loaded, and it is added to its cell with all that is
     /// held for it, or held with it where another actor has the cell in hand; a digested statement is added to the row
-    /// of its digest in the same way. The log gets the end and the additions. Answers what became of these: none of an
-    /// event that isn't let through.
+    /// of its digest in the same way. An event that was offered to its current place is put there again, and to the
+    /// histories whose consumers act now, where the thread's HISTORY is YES now. The log gets the end, the additions
+    /// and the puts. Answers what became of these: none of an event that isn't let through.
     pub fn end<R: Rows>(&mut self, rows: &mut R, numbers: &Numbers) -> Option<Ended>
         requires open { 0 < length self.old.state.opened.events }
         requires alone { (r : ℕ) → 0 < r → R.hand rows.old r ≡ None }
-        requires spare { 2 ≤ R.left rows.old }
-        requires room { 3 ≤ self.old.journal.room }
+        requires spare { 5 ≤ R.left rows.old }
+        requires tickets { 1 ≤ R.draws rows.old }
+        requires room { 6 ≤ self.old.journal.room }
         ensures played { Played (EndsEvent numbers.now ∷ []) self.old self.new (R.reached rows.old)
             (R.reached rows.new) }
         ensures answer { SaysEnd result self.old.journal.entries self.new.journal.entries }
         ensures rest { self.new.state ≡ record self.old.state {
           opened = record self.old.state.opened { events = outer_events self.old.state.opened.events };
           held = self.new.state.held;
+          nexts = self.new.state.nexts;
         } }
         ensures owed { length (owed_by_state self.new.state) ≤ length (owed_by_state self.old.state) + 2 }
-        ensures leaves { Leaves 2 3 (R.hand rows.old) (R.hand rows.new) (R.left rows.old) (R.left rows.new)
+        ensures uses { Uses 5 1 6 (R.hand rows.old) (R.hand rows.new) (R.left rows.old) (R.left rows.new)
             (R.draws rows.old) (R.draws rows.new) (R.name rows.old) (R.name rows.new) self.old.journal
             self.new.journal }
         ensures words { R.words rows.new ≡ R.words rows.old }
@@ -304,6 +384,8 @@ impl Session {
         ensures state { self.new.state ≡ without_innermost self.old.state }
         ensures journal { self.new.journal ≡ self.old.journal }
         ensures seated { self.old.state.place.thread ≡ None → is_let_through result.verdict ≡ false }
+        ensures placed { result.placed ≡ true
+            → depth_of result.kind self.new.state.opened.events < depths result.kind }
     {
         let what = match self.nest.end() {
             Ok(what) => what,
@@ -318,31 +400,44 @@ impl Session {
     // Ends an event that is let through and no longer among those that are open.
     fn finish<R: Rows>(&mut self, rows: &mut R, what: &Open, numbers: &Numbers) -> Ended
         requires there { IsSome self.old.state.place.thread }
+        requires deep { what.now.placed ≡ true
+            → depth_of what.now.kind self.old.state.opened.events < depths what.now.kind }
         requires alone { (r : ℕ) → 0 < r → R.hand rows.old r ≡ None }
-        requires spare { 2 ≤ R.left rows.old }
-        requires room { 3 ≤ self.old.journal.room }
+        requires spare { 5 ≤ R.left rows.old }
+        requires tickets { 1 ≤ R.draws rows.old }
+        requires room { 6 ≤ self.old.journal.room }
         ensures finished { Finished self.old self.new what.now numbers.now result (R.reached rows.old)
             (R.reached rows.new) }
-        ensures rest { self.new.state ≡ record self.old.state { held = self.new.state.held } }
+        ensures rest { self.new.state ≡ record self.old.state {
+          held = self.new.state.held;
+          nexts = self.new.state.nexts;
+        } }
         ensures owed { length (owed_by_state self.new.state) ≤ length (owed_by_state self.old.state) + 2 }
-        ensures leaves { Leaves 2 3 (R.hand rows.old) (R.hand rows.new) (R.left rows.old) (R.left rows.new)
+        ensures uses { Uses 5 1 6 (R.hand rows.old) (R.hand rows.new) (R.left rows.old) (R.left rows.new)
             (R.draws rows.old) (R.draws rows.new) (R.name rows.old) (R.name rows.new) self.old.journal
             self.new.journal }
         ensures words { R.words rows.new ≡ R.words rows.old }
     {
-        let summary = self.count(rows, what, numbers);
+        let counting = self.count(rows, what, numbers);
         let digest = self.digest(rows, what, numbers);
-        Ended { summary, digest }
+        let puts = self.put(rows, what, numbers, counting.consumers, counting.thread);
+        Ended {
+            summary: counting.summary,
+            digest,
+            current: puts.current,
+            history: puts.history,
+            long: puts.long,
+        }
     }
 
     // Writes the end of an event, and adds it to the row of its cell.
-    fn count<R: Rows>(&mut self, rows: &mut R, what: &Open, numbers: &Numbers) -> Added
+    fn count<R: Rows>(&mut self, rows: &mut R, what: &Open, numbers: &Numbers) -> Counting
         requires there { IsSome self.old.state.place.thread }
         requires alone { (r : ℕ) → 0 < r → R.hand rows.old r ≡ None }
         requires spare { 1 ≤ R.left rows.old }
         requires room { 2 ≤ self.old.journal.room }
-        ensures counted { HasCounted self.old self.new what.now numbers.now result (R.reached rows.old)
-            (R.reached rows.new) }
+        ensures counted { HasCounted self.old self.new what.now numbers.now result.summary result.consumers
+            result.thread (R.reached rows.old) (R.reached rows.new) }
         ensures rest { self.new.state ≡ record self.old.state { held = self.new.state.held } }
         ensures owed { length (owed_by_state self.new.state) ≤ length (owed_by_state self.old.state) + 1 }
         ensures leaves { Leaves 1 2 (R.hand rows.old) (R.hand rows.new) (R.left rows.old) (R.left rows.new)
@@ -363,14 +458,19 @@ impl Session {
             thread: Some(thread.version),
         });
         let amount = amount_of(what, self.clock, numbers);
-        bring(
+        let summary = bring(
             rows,
             slot,
             cell_number(what),
             amount,
             self.held.as_mut_slice(),
             &mut self.log,
-        )
+        );
+        Counting {
+            summary,
+            consumers: consumers.flags,
+            thread: thread.flags,
+        }
     }
 
     // Adds an ended event to the row of its digest, where it is a digested statement.
@@ -406,6 +506,61 @@ impl Session {
         ))
     }
 
+    // Puts an event that has ended to its current place, its history and the long history, where it is offered there by
+    // these flags.
+    fn put<R: Rows>(
+        &mut self,
+        rows: &mut R,
+        what: &Open,
+        numbers: &Numbers,
+        consumers: u16,
+        thread: u16,
+    ) -> Puts
+        requires there { IsSome self.old.state.place.thread }
+        requires deep { what.now.placed ≡ true
+            → depth_of what.now.kind self.old.state.opened.events < depths what.now.kind }
+        requires alone { (r : ℕ) → 0 < r → R.hand rows.old r ≡ None }
+        requires spare { 3 ≤ R.left rows.old }
+        requires tickets { 1 ≤ R.draws rows.old }
+        requires room { 3 ≤ self.old.journal.room }
+        ensures puts { HasPuts self.old self.new what.now numbers.now consumers thread result.current result.history
+            result.long (R.reached rows.old) (R.reached rows.new) }
+        ensures stand { StandInRings result.current result.history result.long }
+        ensures rest { self.new.state ≡ record self.old.state { nexts = self.new.state.nexts } }
+        ensures uses { Uses 3 1 3 (R.hand rows.old) (R.hand rows.new) (R.left rows.old) (R.left rows.new)
+            (R.draws rows.old) (R.draws rows.new) (R.name rows.old) (R.name rows.new) self.old.journal
+            self.new.journal }
+        ensures words { R.words rows.new ≡ R.words rows.old }
+    {
+        let slot = match self.place.thread {
+            Some(slot) => slot,
+            None => unreachable!(),
+        };
+        let kind = what.kind;
+        let event = ended_event(what, self.drawn, self.clock, numbers);
+        let first = Ring::Current {
+            thread: slot,
+            kind,
+            depth: self.depth(kind),
+        };
+        let current = offer(rows, what.placed, first, &event, &mut self.log);
+        let next = Ring::History {
+            thread: slot,
+            kind,
+            place: self.nexts.of(kind),
+        };
+        let due = goes_on(what.placed, history_consumer(kind), consumers, thread);
+        let history = offer(rows, due, next, &event, &mut self.log);
+        self.nexts = self.nexts.moved_by(kind, &history);
+        let due = goes_on(what.placed, long_consumer(kind), consumers, thread);
+        let long = offer(rows, due, Ring::Long { kind }, &event, &mut self.log);
+        Puts {
+            current,
+            history,
+            long,
+        }
+    }
+
     /// Ends the open stage, where the innermost open event is one, and starts another, where one is given. What a
     /// start asks for holds of the events that are open then.
     pub fn stage<R: Rows>(
@@ -418,8 +573,9 @@ impl Session {
         }) what.now }
         requires early { IfSome what.now (λ subject. self.old.state.drawn + 1 < 2 ^ 64) }
         requires alone { (r : ℕ) → 0 < r → R.hand rows.old r ≡ None }
-        requires spare { 2 ≤ R.left rows.old }
-        requires room { 4 ≤ self.old.journal.room }
+        requires spare { 6 ≤ R.left rows.old }
+        requires tickets { 1 ≤ R.draws rows.old }
+        requires room { 8 ≤ self.old.journal.room }
         ensures played { Played (stage_steps self.old.state.opened.events what.now) self.old self.new
             (R.reached rows.old) (R.reached rows.new) }
         ensures answer { SaysStage self.old.state.opened.events what.now result.0 result.1
@@ -430,9 +586,10 @@ impl Session {
           drawn = self.new.state.drawn;
           opened = self.new.state.opened;
           held = self.new.state.held;
+          nexts = self.new.state.nexts;
         } }
         ensures owed { length (owed_by_state self.new.state) ≤ length (owed_by_state self.old.state) + 2 }
-        ensures leaves { Leaves 2 4 (R.hand rows.old) (R.hand rows.new) (R.left rows.old) (R.left rows.new)
+        ensures uses { Uses 6 1 8 (R.hand rows.old) (R.hand rows.new) (R.left rows.old) (R.left rows.new)
             (R.draws rows.old) (R.draws rows.new) (R.name rows.old) (R.name rows.new) self.old.journal
             self.new.journal }
         ensures words { R.words rows.new ≡ R.words rows.old }
@@ -450,8 +607,9 @@ impl Session {
     // Ends the open stage, where the innermost open event is one.
     fn end_stage<R: Rows>(&mut self, rows: &mut R) -> Option<Ended>
         requires alone { (r : ℕ) → 0 < r → R.hand rows.old r ≡ None }
-        requires spare { 2 ≤ R.left rows.old }
-        requires room { 3 ≤ self.old.journal.room }
+        requires spare { 5 ≤ R.left rows.old }
+        requires tickets { 1 ≤ R.draws rows.old }
+        requires room { 6 ≤ self.old.journal.room }
         ensures played { Played (stage_ends self.old.state.opened.events) self.old self.new (R.reached rows.old)
             (R.reached rows.new) }
         ensures answer { SaysStageEnd (is_in_stage self.old.state.opened.events) result self.old.journal.entries
@@ -459,9 +617,10 @@ impl Session {
         ensures rest { self.new.state ≡ record self.old.state {
           opened = record self.old.state.opened { events = without_stage self.old.state.opened.events };
           held = self.new.state.held;
+          nexts = self.new.state.nexts;
         } }
         ensures owed { length (owed_by_state self.new.state) ≤ length (owed_by_state self.old.state) + 2 }
-        ensures leaves { Leaves 2 3 (R.hand rows.old) (R.hand rows.new) (R.left rows.old) (R.left rows.new)
+        ensures uses { Uses 5 1 6 (R.hand rows.old) (R.hand rows.new) (R.left rows.old) (R.left rows.new)
             (R.draws rows.old) (R.draws rows.new) (R.name rows.old) (R.name rows.new) self.old.journal
             self.new.journal }
         ensures words { R.words rows.new ≡ R.words rows.old }
@@ -500,6 +659,7 @@ impl Session {
             (H.reached rows.new) }
         ensures admin { admin.new ≡ connected admin.old self.old.state.number user host }
         ensures placed { result ≡ placed_of (seat_at admin.old self.old.state.number user host) }
+        ensures slot { IfSome result.thread (λ n. n < 32) }
         ensures rest { self.new.state ≡ record self.old.state {
           place = result;
           actions = 1;
@@ -530,8 +690,8 @@ impl Session {
         requires few { admin.old.actions < 2 ^ 47 }
         requires alone { (r : ℕ) → 0 < r → H.hand rows.old r ≡ None }
         requires lent { H.words rows.old ≡ Some admin.old.words }
-        requires spare { length (owed_by_state self.old.state) + 196 ≤ H.left rows.old }
-        requires room { settle_cost (owed_by_state self.old.state) + 198 ≤ self.old.journal.room }
+        requires spare { length (owed_by_state self.old.state) + 252 ≤ H.left rows.old }
+        requires room { settle_cost (owed_by_state self.old.state) + 254 ≤ self.old.journal.room }
         ensures played { Played (SettlesHeld ∷ Quits admin.old ∷ []) self.old self.new (H.reached rows.old)
             (H.reached rows.new) }
         ensures admin { admin.new ≡ has_quit admin.old self.old.state.number }
@@ -541,8 +701,8 @@ impl Session {
           actions = self.old.state.actions + 1;
           last = self.new.state.last;
         } }
-        ensures leaves { Leaves (length (owed_by_state self.old.state) + 196)
-            (settle_cost (owed_by_state self.old.state) + 198) (H.hand rows.old) (H.hand rows.new) (H.left rows.old)
+        ensures leaves { Leaves (length (owed_by_state self.old.state) + 252)
+            (settle_cost (owed_by_state self.old.state) + 254) (H.hand rows.old) (H.hand rows.new) (H.left rows.old)
             (H.left rows.new) (H.draws rows.old) (H.draws rows.new) (H.name rows.old) (H.name rows.new)
             self.old.journal self.new.journal }
         ensures lent { H.words rows.new ≡ Some admin.new.words }
@@ -635,51 +795,5 @@ impl Session {
         let mut session = self;
         session.settle(rows);
         Paused { session }
-    }
-}
-
-/// A session between two phases, which holds nothing.
-#[derive(Drop)]
-pub struct Paused {
-    session: Session,
-}
-
-impl Model for Paused {
-    ghost use Rattle.std.specs.Prelude.{◌≡◌};
-    ghost use Rattle.pfs_session.specs.States.{Book, nothing_held};
-
-    ghost Value = { Book };
-
-    ghost view = { λ s. s.session };
-
-    ghost invariant = { λ s. s.session.state.held ≡ nothing_held };
-}
-
-impl Paused {
-    /// Hands out the journal of the phase, and leaves an empty one without room.
-    pub fn take_log(&mut self) -> Log
-        ensures journal { result ≡ self.old.journal }
-        ensures rest { self.new ≡ record self.old { journal = record { entries = []; room = 0 } } }
-    {
-        let empty = Log::new(self.session.alloc);
-        std::mem::replace(&mut self.session.log, empty)
-    }
-
-    /// The session's last action of the phase, where it had one.
-    pub fn last_action(&self) -> Option<LastAction>
-        ensures { result ≡ self.now.state.last }
-    {
-        self.session.last
-    }
-
-    /// Goes on with the session in another phase, in which it has had no action yet.
-    pub fn resume(self) -> Session
-        ensures state { result ≡ record self { state = record self.state { last = None } } }
-        ensures held { result.state.held ≡ nothing_held }
-        ensures owed { owed_by_state result.state ≡ [] }
-    {
-        let mut session = self.session;
-        session.last = None;
-        session
     }
 }

@@ -17,6 +17,13 @@ use std::test::Fail;
 pub(crate) fn setting(alloc: Global) -> Result<Setting, Fail>
     ensures { IfOk result (λ setting. 2 ≤ length setting.names) }
 {
+    setting_with(alloc, Flags::OPENING.0)
+}
+
+// The same, and these consumers.
+pub(crate) fn setting_with(alloc: Global, consumers: u16) -> Result<Setting, Fail>
+    ensures { IfOk result (λ setting. 2 ≤ length setting.names) }
+{
     let mut names = Names::new(alloc);
     names.intern("u")?;
     names.intern("h")?;
@@ -30,13 +37,14 @@ pub(crate) fn setting(alloc: Global) -> Result<Setting, Fail>
     }
     let tables = TableList::new(Vec::new(alloc));
     let digests = DigestList::new(Vec::new(alloc));
-    Ok(Setting::new(names, classes, tables, digests, limits, Flags::OPENING.0))
+    Ok(Setting::new(names, classes, tables, digests, limits, consumers))
 }
 
 // A store that opens with the setting's flags.
 pub(crate) fn store(alloc: Global, setting: &Setting) -> Result<PlainRows, NoMemory>
     ensures words { IfOk result (λ rows. ⟦<PlainRows as Rows>⟧.words rows ≡ Some (opened setting.now).words) }
     ensures left { IfOk result (λ rows. ⟦<PlainRows as Rows>⟧.left rows ≡ 2 ^ 47) }
+    ensures draws { IfOk result (λ rows. ⟦<PlainRows as Rows>⟧.draws rows ≡ 2 ^ 47) }
     ensures hand { IfOk result (λ rows. (r : ℕ) → ⟦<PlainRows as Rows>⟧.hand rows r ≡ None) }
 {
     let objects = Objects::open(alloc)?;
@@ -50,11 +58,13 @@ fn a_session_connects_and_quits(rt: HostRuntime) -> Result<(), Fail> {
     let setting = setting(alloc)?;
     let mut rows = store(alloc, &setting)?;
     let mut admin = Admin::open(alloc, &setting)?;
-    let mut log = Log::with_room(alloc, 203)?;
+    let mut log = Log::with_room(alloc, 259)?;
     let placed = admin.connect(&mut rows, 7, NameId(0), NameId(1), &mut log);
     assert_eq!(rt; placed.thread, Some(0));
     assert_eq!(rt; log.entries().len(), 6);
     admin.quit(&mut rows, 7, &mut log);
+    // Its 26 cells, its own row, those of its account, user and host, 56 places of rings, and its word.
+    assert_eq!(rt; log.entries().len(), 6 + 26 + 1 + 3 + 56 + 1);
     assert_eq!(rt; admin.lost().threads, 0);
     Ok(())
 }

@@ -1,7 +1,8 @@
-//! Sessions over a plain store, and over one that refuses additions.
+//! Sessions over a plain store, and over one that refuses additions and puts.
 
-ghost use Rattle.std.specs.Prelude.{◌≡◌, ◌≤◌, ◌<◌, ◌+◌, ◌^◌, ℕ, [], Some, None, IfOk, length};
+ghost use Rattle.std.specs.Prelude.{◌≡◌, ◌≤◌, ◌<◌, ◌+◌, ◌^◌, ℕ, [], Some, None, IfOk, IfSome, length};
 ghost use Rattle.pfs_admin.specs.Opening.{opened};
+ghost use Rattle.pfs_event.specs.Nesting.{MayStart};
 ghost use Rattle.pfs_session.specs.Settles.{owed_by_state};
 
 use crate::admin;
@@ -18,11 +19,16 @@ use pfs_stat::Stat;
 use std::alloc::Global;
 use std::test::Fail;
 
-// A plain store that refuses so many additions first.
+mod rings;
+
+const LONG_HISTORY: u64 = 10_242;
+
+// A plain store that refuses so many additions and so many puts first.
 #[derive(Drop)]
 struct Refusing {
     rows: PlainRows,
-    refusals: u64,
+    additions: u64,
+    puts: u64,
 }
 
 impl Rows for Refusing {
@@ -39,8 +45,8 @@ impl Rows for Refusing {
     ghost name = { λ s. 0 };
 
     fn add_try(&mut self, row: u64, amount: &Stat) -> Added {
-        if self.refusals > 0 {
-            self.refusals -= 1;
+        if self.additions > 0 {
+            self.additions -= 1;
             return Added::Held {
                 row,
                 first: 1,
@@ -51,7 +57,20 @@ impl Rows for Refusing {
     }
 
     fn ring_try(&mut self, row: u64, content: &Content) -> RingPut {
-        self.rows.ring_try(row, content)
+        if self.puts == 0 {
+            return self.rows.ring_try(row, content);
+        }
+        self.puts -= 1;
+        if row < LONG_HISTORY {
+            return RingPut::Busy {
+                first: 1,
+                second: 1,
+            };
+        }
+        // Word 15 is one more than the event's ticket.
+        RingPut::Late {
+            ticket: content[15],
+        }
     }
 
     fn read(&mut self, row: u64) -> Seen {
@@ -85,38 +104,64 @@ impl Hold for Refusing {
     }
 }
 
-// A store that opens with the setting's flags, and refuses so many additions first.
-fn store(alloc: Global, setting: &Setting, refusals: u64) -> Result<Refusing, NoMemory>
+// A store that opens with the setting's flags, and refuses so many additions and puts first.
+fn store(alloc: Global, setting: &Setting, additions: u64, puts: u64) -> Result<Refusing, NoMemory>
     ensures words { IfOk result (λ rows. ⟦<Refusing as Rows>⟧.words rows ≡ Some (opened setting.now).words) }
     ensures left { IfOk result (λ rows. ⟦<Refusing as Rows>⟧.left rows ≡ 2 ^ 47) }
+    ensures draws { IfOk result (λ rows. ⟦<Refusing as Rows>⟧.draws rows ≡ 2 ^ 47) }
     ensures hand { IfOk result (λ rows. (r : ℕ) → ⟦<Refusing as Rows>⟧.hand rows r ≡ None) }
 {
     let rows = admin::store(alloc, setting)?;
-    Ok(Refusing { rows, refusals })
+    Ok(Refusing {
+        rows,
+        additions,
+        puts,
+    })
 }
 
-// A wait of class 6 of so many picoseconds, of a session with nothing open.
-fn wait<R: Rows>(session: &mut Session, rows: &mut R, time: u64) -> Result<(), Fail>
+// What a wait of class 6 is, and a statement of class 17 without a digest's place.
+const WAIT: Subject = Subject {
+    kind: EventKind::Wait,
+    class: Some(6),
+    cell: 6,
+    table: None,
+    digest: None,
+};
+
+const STATEMENT: Subject = Subject {
+    kind: EventKind::Statement,
+    class: Some(17),
+    cell: 17,
+    table: None,
+    digest: None,
+};
+
+// An event of so many picoseconds, of a session with nothing open.
+fn record<R: Rows>(
+    session: &mut Session,
+    rows: &mut R,
+    what: &Subject,
+    time: u64,
+) -> Result<(), Fail>
+    requires may { MayStart session.old.state.opened what.now.kind }
+    requires class { IfSome what.now.class (λ n. n < 63) }
+    requires table { IfSome what.now.table (λ n. n < 64) }
+    requires digest { IfSome what.now.digest (λ n. n < 64) }
     requires closed { session.old.state.opened ≡ record { depth = 1; events = [] } }
     requires early { session.old.state.drawn + 1 < 2 ^ 64 }
     requires alone { (r : ℕ) → 0 < r → R.hand rows.old r ≡ None }
-    requires spare { 2 ≤ R.left rows.old }
-    requires room { 4 ≤ session.old.journal.room }
+    requires spare { 6 ≤ R.left rows.old }
+    requires tickets { 1 ≤ R.draws rows.old }
+    requires room { 8 ≤ session.old.journal.room }
     ensures closed { session.new.state.opened ≡ record { depth = 1; events = [] } }
     ensures drawn { session.new.state.drawn ≤ session.old.state.drawn + 1 }
     ensures owed { length (owed_by_state session.new.state) ≤ length (owed_by_state session.old.state) + 2 }
     ensures hand { (r : ℕ) → R.hand rows.new r ≡ R.hand rows.old r }
-    ensures left { R.left rows.old ≤ R.left rows.new + 2 }
-    ensures room { session.old.journal.room ≤ session.new.journal.room + 4 }
+    ensures left { R.left rows.old ≤ R.left rows.new + 6 }
+    ensures draws { R.draws rows.old ≤ R.draws rows.new + 1 }
+    ensures room { session.old.journal.room ≤ session.new.journal.room + 8 }
 {
-    let binlog = Subject {
-        kind: EventKind::Wait,
-        class: Some(6),
-        cell: 6,
-        table: None,
-        digest: None,
-    };
-    let started = session.start(rows, &binlog);
+    let started = session.start(rows, what);
     session.spend(time);
     session.end(rows, &Numbers::NONE);
     if started.verdict == Verdict::Attributed {
@@ -126,58 +171,93 @@ fn wait<R: Rows>(session: &mut Session, rows: &mut R, time: u64) -> Result<(), F
     }
 }
 
-fn wait_often<R: Rows>(session: &mut Session, rows: &mut R, times: &[u64]) -> Result<(), Fail>
+fn record_often<R: Rows>(
+    session: &mut Session,
+    rows: &mut R,
+    what: &Subject,
+    times: &[u64],
+) -> Result<(), Fail>
     requires few { length times.now ≤ 3 }
+    requires may { MayStart (record { depth = 1; events = [] }) what.now.kind }
+    requires class { IfSome what.now.class (λ n. n < 63) }
+    requires table { IfSome what.now.table (λ n. n < 64) }
+    requires digest { IfSome what.now.digest (λ n. n < 64) }
     requires closed { session.old.state.opened ≡ record { depth = 1; events = [] } }
     requires early { session.old.state.drawn ≡ 0 }
     requires alone { (r : ℕ) → 0 < r → R.hand rows.old r ≡ None }
-    requires spare { 6 ≤ R.left rows.old }
-    requires room { 12 ≤ session.old.journal.room }
+    requires spare { 18 ≤ R.left rows.old }
+    requires tickets { 3 ≤ R.draws rows.old }
+    requires room { 24 ≤ session.old.journal.room }
     ensures owed { length (owed_by_state session.new.state) ≤ length (owed_by_state session.old.state) + 6 }
     ensures hand { (r : ℕ) → R.hand rows.new r ≡ R.hand rows.old r }
-    ensures left { R.left rows.old ≤ R.left rows.new + 6 }
-    ensures room { session.old.journal.room ≤ session.new.journal.room + 12 }
+    ensures left { R.left rows.old ≤ R.left rows.new + 18 }
+    ensures room { session.old.journal.room ≤ session.new.journal.room + 24 }
 {
     for time in times {
-        wait(session, rows, *time)?;
+        record(session, rows, what, *time)?;
     }
     Ok(())
 }
 
-// What a session's waits leave: its journal, and the version and the numbers of row 135.
+// What a session's events leave: its journal, and a row's version and content.
 #[derive(Drop)]
 struct Recorded {
     log: Log,
     version: u64,
-    stat: Stat,
+    content: Content,
 }
 
-// A session connects, waits so often and pauses, where the store refuses so many additions first. To pause again
-// writes nothing.
-fn record_waits(alloc: Global, refusals: u64, times: &[u64]) -> Result<Recorded, Fail>
-    requires { length times.now ≤ 3 }
+// A session connects, records events as often as there are times and pauses, over this store; then a row is read. To
+// pause again writes nothing.
+fn session_records(
+    alloc: Global,
+    setting: &Setting,
+    mut rows: Refusing,
+    what: &Subject,
+    times: &[u64],
+    row: u64,
+) -> Result<Recorded, Fail>
+    requires few { length times.now ≤ 3 }
+    requires may { MayStart (record { depth = 1; events = [] }) what.now.kind }
+    requires class { IfSome what.now.class (λ n. n < 63) }
+    requires table { IfSome what.now.table (λ n. n < 64) }
+    requires digest { IfSome what.now.digest (λ n. n < 64) }
+    requires words { ⟦<Refusing as Rows>⟧.words rows ≡ Some (opened setting.now).words }
+    requires left { ⟦<Refusing as Rows>⟧.left rows ≡ 2 ^ 47 }
+    requires draws { ⟦<Refusing as Rows>⟧.draws rows ≡ 2 ^ 47 }
+    requires hand { (r : ℕ) → ⟦<Refusing as Rows>⟧.hand rows r ≡ None }
+    requires names { 2 ≤ length setting.now.names }
+    requires row { 0 < row }
+    requires few_rows { row < 14242 }
 {
-    let setting = admin::setting(alloc)?;
-    let mut rows = store(alloc, &setting, refusals)?;
-    let mut admin = Admin::open(alloc, &setting)?;
+    let mut admin = Admin::open(alloc, setting)?;
     let mut session = Session::open(alloc, 1, 10, 1)?;
     session.reserve(308)?;
     session.connect(&mut rows, &mut admin, NameId(0), NameId(1));
-    wait_often(&mut session, &mut rows, times)?;
+    record_often(&mut session, &mut rows, what, times)?;
     let mut paused = session.pause(&mut rows);
     let log = paused.take_log();
     let mut again = paused.resume().pause(&mut rows);
     if !again.take_log().entries().is_empty() {
         return Err(Fail::from("something was settled twice"));
     }
-    match rows.read(135) {
+    match rows.read(row) {
         Seen::Whole { version, content } => Ok(Recorded {
             log,
             version,
-            stat: Stat::of_words(&content),
+            content,
         }),
         _ => Err(Fail::from("the row is not whole")),
     }
+}
+
+// What waits leave, and row 135, where the store refuses so many additions first.
+fn record_waits(alloc: Global, additions: u64, times: &[u64]) -> Result<Recorded, Fail>
+    requires { length times.now ≤ 3 }
+{
+    let setting = admin::setting(alloc)?;
+    let rows = store(alloc, &setting, additions, 0)?;
+    session_records(alloc, &setting, rows, &WAIT, times, 135)
 }
 
 // The entries of a session's connect.
@@ -251,7 +331,7 @@ fn a_wait_is_counted(rt: HostRuntime) -> Result<(), Fail> {
     assert_eq!(rt; &entries[..6], connected().as_slice());
     assert_eq!(rt; &entries[6..8], waited(1).as_slice());
     assert_eq!(rt; entries[8], ADDED);
-    let stat = ran.stat;
+    let stat = Stat::of_words(&ran.content);
     assert_eq!(rt;
         (ran.version, stat.count, stat.sum, stat.min, stat.max),
         (1, 1, 120, 120, 120)
@@ -271,7 +351,7 @@ fn what_is_held_is_added_with_the_next(rt: HostRuntime) -> Result<(), Fail> {
     assert_eq!(rt; entries[11], HELD);
     assert_eq!(rt; &entries[12..14], waited(3).as_slice());
     assert_eq!(rt; entries[14], ADDED);
-    let stat = ran.stat;
+    let stat = Stat::of_words(&ran.content);
     assert_eq!(rt;
         (ran.version, stat.count, stat.sum, stat.min, stat.max),
         (1, 3, 21, 5, 9)
@@ -286,7 +366,7 @@ fn what_is_held_is_settled_at_a_pause(rt: HostRuntime) -> Result<(), Fail> {
     let entries = list.as_slice();
     assert_eq!(rt; entries.len(), 11);
     assert_eq!(rt; &entries[8..], [HELD, Entry::Settle, ADDED].as_slice());
-    let stat = ran.stat;
+    let stat = Stat::of_words(&ran.content);
     assert_eq!(rt;
         (ran.version, stat.count, stat.sum, stat.min, stat.max),
         (1, 1, 5, 5, 5)

@@ -30,7 +30,7 @@ use Rattle.pfs_tagged.proofs.Printing.{AreAlike}
 use Rattle.pfs_tagged.proofs.Quitting.{IsLow}
 use Rattle.pfs_tagged.proofs.Seating.{AreBack, thread_kind, account_kind, user_kind, host_kind, global_kind}
 use Rattle.pfs_truncations.specs.declared.truncations.Truncation.{Truncation}
-use Rattle.pfs_truncations.specs.declared.truncations.Truncation.TheVariants.{Summary, DigestSummary, Accounts, Users, Hosts, SetupActors, SetupObjects}
+use Rattle.pfs_truncations.specs.declared.truncations.Truncation.TheVariants.{Events, Summary, DigestSummary, Accounts, Users, Hosts, SetupActors, SetupObjects}
 
 -- places that are there
 pub record IsPlaced (up : Up) : Type 0 where
@@ -123,6 +123,7 @@ module _ (P : Ask → Type 0) where
   pub each_truncation : (kinds : KindCells) (s : State) (what : Truncation) → AreWell s → ((kind : TableKind) → Each (IsAsking P) (kind_cells kinds kind))
       → kinds.digests ≤ 64 → ((at : ℕ) → at ≤ 64 → P (ask (row_number DigestNull + at) [])) → Each P (truncation_asks kinds s what)
   each_truncation kinds s (Summary kind table) well k few d = each_summary s table (kind_cells kinds kind) well (k kind)
+  each_truncation kinds s (Events kind table) well k few d = tt
   each_truncation kinds s Accounts well k few d = each_kinds kinds s tables.ByAccount well k
   each_truncation kinds s Users well k few d = each_kinds kinds s tables.ByUser well k
   each_truncation kinds s Hosts well k few d = each_kinds kinds s tables.ByHost well k

@@ -30,7 +30,7 @@ use Rattle.pfs_rows.specs.declared.table.SummaryTable.TheVariants as tables
 use Rattle.pfs_rows.specs.declared.table.TableKind.{TableKind}
 use Rattle.pfs_runs.specs.Labels.{work_for, work_of_label, label_at, asked_at}
 use Rattle.pfs_truncations.specs.declared.truncations.Truncation.{Truncation}
-use Rattle.pfs_truncations.specs.declared.truncations.Truncation.TheVariants.{Summary, DigestSummary, Accounts, Users, Hosts, SetupActors, SetupObjects}
+use Rattle.pfs_truncations.specs.declared.truncations.Truncation.TheVariants.{Events, Summary, DigestSummary, Accounts, Users, Hosts, SetupActors, SetupObjects}
 use Rattle.pfs_tagged.specs.Digests.{rows_from, digest_rows, is_clearing, clears_by}
 use Rattle.pfs_tagged.proofs.Asking.{connect_moves, low_cells}
 use Rattle.pfs_tagged.proofs.Climbing.{IsPlaced, IsAsking, each_summary, each_kinds, low_each}
@@ -151,6 +151,7 @@ below_kind : (setting : Setting) (kind : TableKind) → Each (IsAsking IsBelow) 
 below_kind setting kind = low_each (IsAsking IsBelow) below_cells (kind_cells (kinds_of setting) kind) ((kinds_fit setting).small kind)
 
 truncation_below : (setting : Setting) (s : Places) (what : Truncation) → AreWell s → is_clearing (changes.Truncate what) ≡ false → Each IsBelow (truncation_asks (kinds_of setting) s what)
+truncation_below setting s (Events kind table) well q = tt
 truncation_below setting s (Summary kind table) well q = each_summary IsBelow s table (kind_cells (kinds_of setting) kind) well (below_kind setting kind)
 truncation_below setting s Accounts well q = each_kinds IsBelow (kinds_of setting) s tables.ByAccount well (below_kind setting)
 truncation_below setting s Users well q = each_kinds IsBelow (kinds_of setting) s tables.ByUser well (below_kind setting)

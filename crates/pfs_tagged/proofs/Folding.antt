@@ -17,7 +17,7 @@ use Rattle.pfs_containers.specs.Administration.{Containers, advanced, connect_at
 use Rattle.pfs_rows.specs.Tables.{kind_number}
 use Rattle.pfs_rows.specs.declared.limits.Limits.{Limits}
 use Rattle.pfs_truncations.specs.declared.truncations.Truncation.{Truncation}
-use Rattle.pfs_truncations.specs.declared.truncations.Truncation.TheVariants.{Summary, DigestSummary, Accounts, Users, Hosts, SetupActors, SetupObjects}
+use Rattle.pfs_truncations.specs.declared.truncations.Truncation.TheVariants.{Events, Summary, DigestSummary, Accounts, Users, Hosts, SetupActors, SetupObjects}
 use Rattle.pfs_tagged.specs.Acts.{action_for, actions_of}
 use Rattle.pfs_tagged.specs.Board.{limits_of}
 
@@ -45,6 +45,7 @@ truncation_places c (Summary kind table) = at (kind_number kind == 0) where
   at : (b : Bool) → c.places ≡ then_places c.places (cond b (Truncates (level_of table)) Others)
   at true = refl
   at false = refl
+truncation_places c (Events kind table) = refl
 truncation_places c Accounts = refl
 truncation_places c Users = refl
 truncation_places c Hosts = refl
@@ -55,6 +56,7 @@ truncation_places c SetupObjects = refl
 -- a truncation connects nobody, and nobody quits by it
 pub truncation_connects : (what : Truncation) (number user host : ℕ) → action_of what ≡ Connect number user host → ⊥
 truncation_connects (Summary kind table) number user host e = cc
+truncation_connects (Events kind table) number user host e = cc
 truncation_connects Accounts number user host e = cc
 truncation_connects Users number user host e = cc
 truncation_connects Hosts number user host e = cc
@@ -64,6 +66,7 @@ truncation_connects SetupObjects number user host e = cc
 
 pub truncation_quits : (what : Truncation) (number : ℕ) → action_of what ≡ Quit number → ⊥
 truncation_quits (Summary kind table) number e = cc
+truncation_quits (Events kind table) number e = cc
 truncation_quits Accounts number e = cc
 truncation_quits Users number e = cc
 truncation_quits Hosts number e = cc

@@ -17,7 +17,7 @@ use Rattle.pfs_containers.specs.Connections.{in_use, FreesAccounts, stepped as p
 use Rattle.pfs_containers.specs.Kept.{AreWell, IsInRange, seat_by, seated}
 use Rattle.pfs_containers.specs.declared.containers.Connection.{Connection}
 use Rattle.pfs_truncations.specs.declared.truncations.Truncation.{Truncation}
-use Rattle.pfs_truncations.specs.declared.truncations.Truncation.TheVariants.{Summary, DigestSummary, Accounts, Users, Hosts, SetupActors, SetupObjects}
+use Rattle.pfs_truncations.specs.declared.truncations.Truncation.TheVariants.{Events, Summary, DigestSummary, Accounts, Users, Hosts, SetupActors, SetupObjects}
 
 -- no place that isn't there
 connect_well : (c : Containers) (number user host : ℕ) → AreWell c.places → AreWell (connect_at c number user host (lowest_free c.places.threads)).places
@@ -34,6 +34,7 @@ quit_well c number well = by_found (found_where (λ x. x.number == number) c.pla
 
 truncation_well : (c : Containers) (what : Truncation) → AreWell c.places → AreWell (advanced c (action_of what)).places
 truncation_well c (Summary kind table) well = well
+truncation_well c (Events kind table) well = well
 truncation_well c Accounts well = accounts_freed c.places (in_use (λ x. x.account) c.places.threads) _ refl well
 truncation_well c Users well =
     users_freed (places_after c.places FreesAccounts) (in_use (λ x. x.user) c.places.threads) _ refl

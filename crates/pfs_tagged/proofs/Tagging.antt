@@ -1,11 +1,11 @@
 -- Info rows are written below the rows of cells: what an action tags is what it was asked to sign.
-use Rattle.std.proofs.Common.{◌≡◌, ℕ, ◌+◌, ◌-◌, ◌<◌, ◌==◌, Bool, true, false, cond, List, [], ◌∷◌, ◌++◌, map, take, Option, Some, None, subst, arith}
+use Rattle.std.proofs.Common.{◌≡◌, ℕ, ◌+◌, ◌*◌, ◌-◌, ◌<◌, ◌==◌, Bool, true, false, cond, inl, inr, List, [], ◌∷◌, ◌++◌, map, take, Option, Some, None, subst, arith}
 use Rattle.std.specs.Prelude.{IfSome}
 use Rattle.pfs_admin.specs.Asks.{tag_of, account_tag, user_tag, host_tag, upper_tags, connect_work, quit_work}
 use Rattle.pfs_admin.specs.Fold.{state_of}
 use Rattle.pfs_admin.specs.States.{State, seat_in, seat_at, thread_flags, connected, has_quit}
 use Rattle.pfs_admin.specs.Laws.{row_of}
-use Rattle.pfs_admin.specs.Truncations.{is_there, kept_behind, work_of_truncation}
+use Rattle.pfs_admin.specs.Truncations.{free_ring, is_there, kept_behind, work_of_truncation}
 use Rattle.pfs_admin.specs.Works.{Sign, Releases, Tags}
 use Rattle.pfs_admin.specs.declared.changes.Change.{Change}
 use Rattle.pfs_admin.specs.declared.changes.Change.TheVariants as changes
@@ -19,7 +19,7 @@ use Rattle.pfs_levels.specs.Flushes.{Ascends}
 use Rattle.pfs_model.specs.Asked.{Did, Tagged, did, Move, Flagging, of_action, given_to, moved_by, signed_by, flagged_by, asked_of}
 use Rattle.pfs_model.specs.Chains.{Each, each_of}
 use Rattle.pfs_model.specs.Places.{Placed}
-use Rattle.pfs_ruled.proofs.Truncating.{signs_ascend}
+use Rattle.pfs_ruled.proofs.Truncating.{AreInfosOrRings, IsRelease, rows_release, signs_split}
 use Rattle.pfs_runs.specs.Labels.{work_for, work_of_label, work_at, label_at, asked_at}
 use Rattle.pfs_tagged.proofs.Staying.{fold_well, seat_at_in, seat_in_in}
 
@@ -71,6 +71,16 @@ low_ascending low [] a = tt
 low_ascending low (Releases row ∷ signs) a = (tt, low_ascending (row + 1) signs a.1.1)
 low_ascending low (Tags row content ∷ signs) a = (a.1.0, low_ascending (row + 1) signs a.1.1)
 
+-- what is released is written nowhere
+low_releases : (signs : List Sign) → Each IsRelease signs → Each IsLowSign signs
+low_releases [] r = tt
+low_releases (Releases row ∷ signs) r = (tt, low_releases signs r.1)
+low_releases (Tags row content ∷ signs) r = absurd r.0
+
+low_split : (signs : List Sign) → AreInfosOrRings signs → Each IsLowSign signs
+low_split signs (inl a) = low_ascending 1 signs a
+low_split signs (inr a) = low_releases signs a.1
+
 low_work : (s : State) (session : ℕ) (what : Change) → AreWell s.kept.now.places → Each IsLowSign (work_for s session what).signs
 low_work s session (changes.Connect user host) well = on (seat_at s session user host) (seat_at_in s session user host well) where
   on : (o : Option Seated) → IfSome o IsInRange → Each IsLowSign (connect_work s.words (thread_flags s user host) (connected s session user host).kept.now o).signs
@@ -79,8 +89,9 @@ low_work s session (changes.Connect user host) well = on (seat_at s session user
 low_work s session changes.Quit well = on (seat_in s session) (seat_in_in s session well) where
   on : (o : Option Seated) → IfSome o IsInRange → Each IsLowSign (quit_work s.words s.cells (has_quit s session).kept.now o).signs
   on None r = tt
-  on (Some seat) r = (tt, low_upper (has_quit s session).kept.now seat r)
-low_work s session (changes.Truncate what) well = low_ascending 1 (work_of_truncation s what).signs (signs_ascend (is_there s.kept.now.places) (kept_behind s.kept what).now what)
+  on (Some seat) r =
+      (tt, each_join IsLowSign (upper_tags (has_quit s session).kept.now seat.connection) (free_ring seat.slot) (low_upper (has_quit s session).kept.now seat r) (low_releases (free_ring seat.slot) (rows_release (8450 + 56 * seat.slot) 56)))
+low_work s session (changes.Truncate what) well = low_split (work_of_truncation s what).signs (signs_split (is_there s.kept.now.places) (kept_behind s.kept what).now what)
 low_work s session changes.Show well = tt
 
 low_label : (setting : Setting) (change : Label → Change) (labels : List Label) (number : ℕ) → Each IsLowSign (work_at setting change labels number).signs

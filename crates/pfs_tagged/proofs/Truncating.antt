@@ -34,7 +34,7 @@ use Rattle.pfs_tagged.proofs.Printing.{moves_as, moves_on, AreAlike, AllAlike}
 use Rattle.pfs_tagged.proofs.Seating.{AreBack, none_of_all}
 use Rattle.pfs_tagged.proofs.Sifting.{eq_of, both_of}
 use Rattle.pfs_truncations.specs.declared.truncations.Truncation.{Truncation}
-use Rattle.pfs_truncations.specs.declared.truncations.Truncation.TheVariants.{Summary, DigestSummary, Accounts, Users, Hosts, SetupActors, SetupObjects}
+use Rattle.pfs_truncations.specs.declared.truncations.Truncation.TheVariants.{Events, Summary, DigestSummary, Accounts, Users, Hosts, SetupActors, SetupObjects}
 
 -- no row of a digest is a cell's
 digest_apart : AreBack → (is_cell : ℕ → Bool) (at : ℕ) → at ≤ 64 → is_kind_row is_cell (row_number DigestNull + at) ≡ false
@@ -222,6 +222,7 @@ module _ (back : AreBack) (setting : Setting) (kind : TableKind) (opening : Stat
       → moves_on (is_kind_row (cells_of setting kind)) (moves_as action (moves_asked (truncation_asks (kinds_of setting) (state_before opening actions action) what)))
       ≡ moves_of (holder_of (board (cells_of setting kind)) opening actions) (takes_by (board (cells_of setting kind)) opening actions (kind_number kind)) action (kind_rows (cells_of setting kind))
   truncation_same (Summary other table) e = ap (λ z. asked is_cell action (summary_asks before table z)) (kind_is other) ∙ summary_same other table e
+  truncation_same (Events other table) e = sym (idle (ap (λ a. line_of (kind_number kind) before a) e))
   truncation_same Accounts e =
       whole tables.ByAccount (by_line FreesAccounts tables.ByAccount (ap (λ a. line_of (kind_number kind) before a) e)
       (record { thread = λ p. refl; account = λ p. refl; user = λ p. refl; host = λ p. refl; global = refl }))

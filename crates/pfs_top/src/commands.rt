@@ -114,10 +114,14 @@ fn report<K: Sink>(alloc: Global, sink: &mut K, script: &Script) -> Status
 {
     match run_plain(alloc, &script.setting, script.phases.as_slice()) {
         Ok(report) => {
-            // A report's parts tell that they can be spelled, and the summaries of a run show what counts there.
+            // A report's parts tell that they can be spelled; the summaries of a run show what counts there, its
+            // histories and current places the last puts, and its long history the greatest tickets.
             let _ = report.parts();
             pfs_counted::laws::counted();
             pfs_counted::laws::digested();
+            pfs_counted::laws::histories();
+            pfs_counted::laws::currents();
+            pfs_counted::laws::longs();
             status_after(write(alloc, &report, sink), Status::Done)
         }
         Err(_) => Status::NoMemory,

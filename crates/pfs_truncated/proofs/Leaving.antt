@@ -5,6 +5,7 @@ use Rattle.pfs_truncated.proofs.Tables.{off_words_all, off_words_below}
 
 pub left_law : LeftLaw
 left_law s = record {
+  events = λ kind table. refl;
   summary = λ kind table. refl;
   digests = refl;
   setup_actors = refl;

@@ -16,7 +16,7 @@ use Rattle.pfs_containers.specs.Connections as places
 use Rattle.pfs_containers.specs.Kept.{opening_places}
 use Rattle.pfs_rows.specs.declared.limits.Limits.{Limits}
 use Rattle.pfs_truncations.specs.declared.truncations.Truncation.{Truncation}
-use Rattle.pfs_truncations.specs.declared.truncations.Truncation.TheVariants.{Summary, DigestSummary, Accounts, Users, Hosts, SetupActors, SetupObjects}
+use Rattle.pfs_truncations.specs.declared.truncations.Truncation.TheVariants.{Events, Summary, DigestSummary, Accounts, Users, Hosts, SetupActors, SetupObjects}
 use Rattle.pfs_truncated.specs.Laws.{AreStanding, StandingLaw}
 
 -- nobody stands anywhere at first
@@ -42,6 +42,7 @@ connect_places c number user host (Some slot) = refl
 
 truncated_sound : (s : State) (what : Truncation) → Sound s.kept.now.places → Sound (has_truncated s what).kept.now.places
 truncated_sound s (Summary kind table) sound = sound
+truncated_sound s (Events kind table) sound = sound
 truncated_sound s Accounts sound = sound_step 0 s.kept.now.places sound (action_of Accounts)
 truncated_sound s Users sound = sound_step 0 s.kept.now.places sound (action_of Users)
 truncated_sound s Hosts sound = sound_step 0 s.kept.now.places sound (action_of Hosts)

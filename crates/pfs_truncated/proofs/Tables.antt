@@ -25,7 +25,7 @@ use Rattle.pfs_levels.specs.declared.answers.Word.{Word}
 use Rattle.pfs_matching.specs.declared.object_rows.ObjectRow.{ObjectRow}
 use Rattle.pfs_matching.specs.ObjectRules.{opening_objects}
 use Rattle.pfs_truncations.specs.declared.truncations.Truncation.{Truncation}
-use Rattle.pfs_truncations.specs.declared.truncations.Truncation.TheVariants.{Summary, DigestSummary, Accounts, Users, Hosts, SetupActors, SetupObjects}
+use Rattle.pfs_truncations.specs.declared.truncations.Truncation.TheVariants.{Events, Summary, DigestSummary, Accounts, Users, Hosts, SetupActors, SetupObjects}
 use Rattle.pfs_truncated.specs.Laws.{TableWordsLaw}
 
 -- a word that is set leaves any other
@@ -164,6 +164,7 @@ quit_few c (Some found) few = omega (arith, few, len_emptied found.place c.place
 
 truncate_fits : (setting : Setting) (s : State) (what : Truncation) → Fits setting s → Fits setting (has_truncated s what)
 truncate_fits setting s (Summary kind table) fits = record { few = fits.few; words = fits.words }
+truncate_fits setting s (Events kind table) fits = record { few = fits.few; words = fits.words }
 truncate_fits setting s Accounts fits = record { few = fits.few; words = fits.words }
 truncate_fits setting s Users fits = record { few = fits.few; words = fits.words }
 truncate_fits setting s Hosts fits = record { few = fits.few; words = fits.words }

@@ -18,9 +18,10 @@ use Rattle.pfs_containers.specs.declared.containers.Account.{Account}
 use Rattle.pfs_containers.specs.declared.containers.Connection.{Connection}
 use Rattle.pfs_levels.specs.Flushes.{Ascends, from_of}
 use Rattle.pfs_rows.specs.declared.table.SummaryTable.{SummaryTable}
+use Rattle.pfs_rows.specs.declared.table.EventTable.{EventTable}
 use Rattle.pfs_rows.specs.declared.table.TableKind.{TableKind}
 use Rattle.pfs_truncations.specs.declared.truncations.Truncation.{Truncation}
-use Rattle.pfs_truncations.specs.declared.truncations.Truncation.TheVariants.{Summary, DigestSummary, Accounts, Users, Hosts, SetupActors, SetupObjects}
+use Rattle.pfs_truncations.specs.declared.truncations.Truncation.TheVariants.{Events, Summary, DigestSummary, Accounts, Users, Hosts, SetupActors, SetupObjects}
 
 -- the session of some slot has the place
 pub record HasSession (which : Connection → Option ℕ) (threads : List (Option Connection)) (place : ℕ) : Type 0 where
@@ -111,10 +112,11 @@ abbrev pub HostsLaw : Type 0
 HostsLaw = (s : State) → HostsTruncated s.kept.now (has_truncated s Hosts).kept.now
     × IsRestLeft s (has_truncated s Hosts)
 
--- a summary's truncation changes nothing but the number of actions, and a setup table loses its rows; behind
--- `setup_actors` the threads of new sessions are off, while those that are there keep their flags; behind
+-- a truncation of an event table or a summary changes nothing but the number of actions, and a setup table loses its
+-- rows; behind `setup_actors` the threads of new sessions are off, while those that are there keep their flags; behind
 -- `setup_objects` all tables are off, and no other word is set
 pub record AreLeft (s : State) : Type 0 where
+  pub events : (kind : TableKind) → (table : EventTable) → has_truncated s (Events kind table) ≡ noted s
   pub summary : (kind : TableKind) → (table : SummaryTable) → has_truncated s (Summary kind table) ≡ noted s
   pub digests : has_truncated s DigestSummary ≡ noted s
   pub setup_actors : has_truncated s SetupActors ≡ record (noted s) { actors = [] }
@@ -152,8 +154,20 @@ TableWordsLaw = (setting : Setting) → (change : Label → Change) → (labels 
     → (word_at (state_of setting change labels).words (96 + table)).flags
     ≡ table_flags (state_of setting change labels).objects (slice_get setting.tables table)
 
+-- the rows that a truncation releases or writes ascend: those of an event table are places of rings, and those of any
+-- other table info rows
+abbrev pub SignsAscend : Truncation → List ℕ → Type 0
+SignsAscend (Events kind table) rows = Ascends 8450 14242 rows
+SignsAscend (Summary kind table) rows = Ascends 1 129 rows
+SignsAscend DigestSummary rows = Ascends 1 129 rows
+SignsAscend Accounts rows = Ascends 1 129 rows
+SignsAscend Users rows = Ascends 1 129 rows
+SignsAscend Hosts rows = Ascends 1 129 rows
+SignsAscend SetupActors rows = Ascends 1 129 rows
+SignsAscend SetupObjects rows = Ascends 1 129 rows
+
 -- behind the actions of any labels
 abbrev pub OrderLaw : Type 0
 OrderLaw = (setting : Setting) → (change : Label → Change) → (labels : List Label) → (what : Truncation)
     → AreOnce (map from_of (work_of_truncation (state_of setting change labels) what).moves)
-    × Ascends 1 129 (map row_of (work_of_truncation (state_of setting change labels) what).signs)
+    × SignsAscend what (map row_of (work_of_truncation (state_of setting change labels) what).signs)

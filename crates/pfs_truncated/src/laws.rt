@@ -38,9 +38,10 @@ pub fn standing()
     ensures { StandingLaw }
 {}
 
-/// A TRUNCATE of a summary leaves the whole administration as it was, but that it is one action more; one of a setup
-/// table removes all its rows, and leaves sessions, accounts, users and hosts. Behind one of `setup_actors` no new
-/// session is instrumented, and no word is set; behind one of `setup_objects` no table is, and no other word is set.
+/// A TRUNCATE of an event table or a summary leaves the whole administration as it was, but that it is one action more;
+/// one of a setup table removes all its rows, and leaves sessions, accounts, users and hosts. Behind one of
+/// `setup_actors` no new session is instrumented, and no word is set; behind one of `setup_objects` no table is, and no
+/// other word is set.
 pub fn summaries()
     ensures { LeftLaw }
 {}
@@ -51,7 +52,8 @@ pub fn tables()
     ensures { TableWordsLaw }
 {}
 
-/// A TRUNCATE takes no row twice, and the info rows that it releases or writes ascend, each one of 1 to 128.
+/// A TRUNCATE takes no row twice, and the rows that it releases or writes ascend: those of an event table are places of
+/// rings, each one of 8450 to 14241, and those of any other table info rows, each one of 1 to 128.
 pub fn order()
     ensures { OrderLaw }
 {}

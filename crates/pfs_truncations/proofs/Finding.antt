@@ -11,15 +11,28 @@ use Rattle.std.proofs.lemmas.List.Folds.{find_at}
 use Rattle.std.proofs.lemmas.List.Sums.{passes_at_first}
 use Rattle.std.proofs.lemmas.Option.{slice_get_within, get_or_from_slice_get}
 use Rattle.pfs_rows.specs.Tables.{table_name}
+use Rattle.pfs_rows.specs.declared.table.EventTable.TheVariants.{Current, History, HistoryLong}
 use Rattle.pfs_rows.specs.declared.table.SummaryTable.TheVariants.{ByThread, ByAccount, ByUser, ByHost, Global}
 use Rattle.pfs_rows.specs.declared.table.TableKind.TheVariants.{Waits, Stages, Statements, Transactions}
 use Rattle.pfs_truncations.specs.Texts.{FoundLaw, TextLaw, truncation_of, text_of, name_in, named, table_of}
 use Rattle.pfs_truncations.specs.declared.texts.TheConstants.{TRUNCATIONS}
 use Rattle.pfs_truncations.specs.declared.truncations.Truncation.{Truncation}
-use Rattle.pfs_truncations.specs.declared.truncations.Truncation.TheVariants.{Summary, DigestSummary, Accounts, Users, Hosts, SetupActors, SetupObjects}
+use Rattle.pfs_truncations.specs.declared.truncations.Truncation.TheVariants.{Events, Summary, DigestSummary, Accounts, Users, Hosts, SetupActors, SetupObjects}
 
 pub found : FoundLaw
 unfolding truncation_of name_in
+found (Events Waits Current) = refl
+found (Events Waits History) = refl
+found (Events Waits HistoryLong) = refl
+found (Events Stages Current) = refl
+found (Events Stages History) = refl
+found (Events Stages HistoryLong) = refl
+found (Events Statements Current) = refl
+found (Events Statements History) = refl
+found (Events Statements HistoryLong) = refl
+found (Events Transactions Current) = refl
+found (Events Transactions History) = refl
+found (Events Transactions HistoryLong) = refl
 found (Summary Waits ByThread) = refl
 found (Summary Waits ByAccount) = refl
 found (Summary Waits ByUser) = refl

@@ -1,5 +1,5 @@
 -- The texts that ask for a truncation: `TRUNCATE` and the table's name in lower case.
-use Rattle.std.specs.Prelude.{ℕ, ◌≡◌, ◌<◌, nat_lt, Bool, true, false, if◌then◌else◌, List, [], ◌∷◌, ◌++◌, Option, Some, None, codes, length, take, drop, Contains}
+use Rattle.std.specs.Prelude.{ℕ, ◌≡◌, if◌then◌else◌, List, ◌++◌, Option, Some, None, codes, take, drop}
 use Rattle.std.specs.List.{find}
 use Rattle.std.specs.Str.{bytes_eq}
 use Rattle.pfs_rows.specs.declared.table.Table.{Table}
@@ -7,9 +7,10 @@ use Rattle.pfs_rows.specs.declared.table.Table.TheVariants as tables
 use Rattle.pfs_rows.specs.Tables.{table_name}
 use Rattle.pfs_truncations.specs.declared.texts.TheConstants.{TRUNCATIONS}
 use Rattle.pfs_truncations.specs.declared.truncations.Truncation.{Truncation}
-use Rattle.pfs_truncations.specs.declared.truncations.Truncation.TheVariants.{Summary, DigestSummary, Accounts, Users, Hosts, SetupActors, SetupObjects}
+use Rattle.pfs_truncations.specs.declared.truncations.Truncation.TheVariants.{Events, Summary, DigestSummary, Accounts, Users, Hosts, SetupActors, SetupObjects}
 
 abbrev pub table_of : Truncation → Table
+table_of (Events kind table) = tables.Events kind table
 table_of (Summary kind table) = tables.Summary kind table
 table_of DigestSummary = tables.DigestSummary
 table_of Accounts = tables.Accounts

@@ -8,13 +8,25 @@ ghost use Rattle.pfs_rows.specs.Tables.{table_name};
 ghost use Rattle.pfs_truncations.specs.Texts.{name_in, table_of, truncation_of};
 
 use crate::truncations::Truncation;
-use pfs_rows::{SummaryTable, TableKind};
+use pfs_rows::{EventTable, SummaryTable, TableKind};
 
 const FRONT: &[u8] = b"TRUNCATE ";
 
-/// All of them: the summaries in the order of their kinds and that of digests, then the tables of connections and of the
-/// setup.
-pub const TRUNCATIONS: [Truncation; 26] = [
+/// All of them: the event tables and the summaries, each in the order of their kinds, and that of digests, then the
+/// tables of connections and of the setup.
+pub const TRUNCATIONS: [Truncation; 38] = [
+    Truncation::Events(TableKind::Waits, EventTable::Current),
+    Truncation::Events(TableKind::Waits, EventTable::History),
+    Truncation::Events(TableKind::Waits, EventTable::HistoryLong),
+    Truncation::Events(TableKind::Stages, EventTable::Current),
+    Truncation::Events(TableKind::Stages, EventTable::History),
+    Truncation::Events(TableKind::Stages, EventTable::HistoryLong),
+    Truncation::Events(TableKind::Statements, EventTable::Current),
+    Truncation::Events(TableKind::Statements, EventTable::History),
+    Truncation::Events(TableKind::Statements, EventTable::HistoryLong),
+    Truncation::Events(TableKind::Transactions, EventTable::Current),
+    Truncation::Events(TableKind::Transactions, EventTable::History),
+    Truncation::Events(TableKind::Transactions, EventTable::HistoryLong),
     Truncation::Summary(TableKind::Waits, SummaryTable::ByThread),
     Truncation::Summary(TableKind::Waits, SummaryTable::ByAccount),
     Truncation::Summary(TableKind::Waits, SummaryTable::ByUser),

@@ -3,7 +3,7 @@
 ghost use Rattle.std.specs.Prelude.{◌≡◌};
 ghost use Rattle.pfs_truncations.specs.Texts.{table_of};
 
-use pfs_rows::{SummaryTable, Table, TableKind};
+use pfs_rows::{EventTable, SummaryTable, Table, TableKind};
 
 /// A table that is truncated.
 #[derive(Clone, Copy, Debug, PartialEq, Eq)]
@@ -12,6 +12,8 @@ pub enum Truncation {
     Summary(TableKind, SummaryTable),
     /// The summary of statements by their digests.
     DigestSummary,
+    /// The current events of a kind, its history, or its long history.
+    Events(TableKind, EventTable),
     Accounts,
     Users,
     Hosts,
@@ -25,6 +27,7 @@ impl Truncation {
         ensures { result ≡ table_of self }
     {
         match self {
+            Truncation::Events(kind, table) => Table::Events(kind, table),
             Truncation::Summary(kind, table) => Table::Summary(kind, table),
             Truncation::DigestSummary => Table::DigestSummary,
             Truncation::Accounts => Table::Accounts,

@@ -26,6 +26,14 @@ pub tag_uppers-requires-clause-room : goal.tag_uppers-requires-clause-room
 tag_uppers-requires-clause-room g c =
     omega (arith, cost_small (up_of c.args.seat.now) c.args.cells.now, c.requires.room, c.flush_cells.ensures.stays.room, c.release.ensures.stays.room)
 
+pub release_ring-requires-clause-spare : goal.release_ring-requires-clause-spare
+release_ring-requires-clause-spare g c =
+    omega (arith, cost_small (up_of c.args.seat.now) c.args.cells.now, c.requires.spare, c.flush_cells.ensures.stays.left, c.release.ensures.stays.left, c.tag_uppers.ensures.stays.left)
+
+pub release_ring-requires-clause-room : goal.release_ring-requires-clause-room
+release_ring-requires-clause-room g c =
+    omega (arith, cost_small (up_of c.args.seat.now) c.args.cells.now, c.requires.room, c.flush_cells.ensures.stays.room, c.release.ensures.stays.room, c.tag_uppers.ensures.stays.room)
+
 pub flag-requires-clause-room : goal.flag-requires-clause-room
 flag-requires-clause-room g c =
     omega (
@@ -35,23 +43,25 @@ flag-requires-clause-room g c =
       c.flush_cells.ensures.stays.room,
       c.release.ensures.stays.room,
       c.tag_uppers.ensures.stays.room,
+      c.release_ring.ensures.stays.room,
     )
 
 pub returns-clause-worked : goal.returns-clause-worked
 returns-clause-worked g c =
     worked_all _ _ _ _ _ _ _ _ _ _ _ _ c.flush_cells.ensures.moved
-    (signed_then _ _ _ _ _ _ _ _ c.release.ensures.signed c.tag_uppers.ensures.signed) c.flag.ensures.did
+    (signed_then _ _ _ _ _ _ _ _ c.release.ensures.signed (signed_then _ _ _ _ _ _ _ _ c.tag_uppers.ensures.signed c.release_ring.ensures.signed)) c.flag.ensures.did
 
 pub returns-clause-leaves : goal.returns-clause-leaves
 returns-clause-leaves g c = record {
   hand = λ r. c.flag.ensures.leaves.hand r
-      ∙ (c.tag_uppers.ensures.stays.hand r ∙ (c.release.ensures.stays.hand r ∙ c.flush_cells.ensures.stays.hand r));
+      ∙ (c.release_ring.ensures.stays.hand r ∙ (c.tag_uppers.ensures.stays.hand r ∙ (c.release.ensures.stays.hand r ∙ c.flush_cells.ensures.stays.hand r)));
   left = omega (
     arith,
     cost_small (up_of c.args.seat.now) c.args.cells.now,
     c.flush_cells.ensures.stays.left,
     c.release.ensures.stays.left,
     c.tag_uppers.ensures.stays.left,
+    c.release_ring.ensures.stays.left,
     c.flag.ensures.leaves.left,
   );
   draws = search rules;
@@ -62,6 +72,7 @@ returns-clause-leaves g c = record {
     c.flush_cells.ensures.stays.room,
     c.release.ensures.stays.room,
     c.tag_uppers.ensures.stays.room,
+    c.release_ring.ensures.stays.room,
     c.flag.ensures.leaves.room,
   );
 }

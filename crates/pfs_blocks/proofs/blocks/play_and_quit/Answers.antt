@@ -84,7 +84,7 @@ returns-clause-leaves g c =
     record {
       hand = λ r. c.quit.ensures.leaves.hand r ∙ c.play_written.ensures.leaves.hand r;
       left = omega (arith, owed_fits c.play_written.new.session.state wide, c.play_written.ensures.leaves.left, c.quit.ensures.leaves.left);
-      draws = c.quit.ensures.leaves.draws ∙ c.play_written.ensures.leaves.draws;
+      draws = omega (arith, c.play_written.ensures.leaves.draws, c.quit.ensures.leaves.draws);
       name = c.quit.ensures.leaves.name ∙ c.play_written.ensures.leaves.name;
       room = omega (arith, settling_fits c.play_written.new.session.state wide, c.play_written.ensures.leaves.room, c.quit.ensures.leaves.room);
     }

@@ -43,6 +43,11 @@ play_to_end-requires-clause-few g c =
 pub play_to_end-requires-clause-idle : goal.play_to_end-requires-clause-idle
 play_to_end-requires-clause-idle g c = λ r. c.connect_by.ensures.leaves.hand r ∙ c.requires.idle r
 
+pub play_to_end-requires-clause-tickets : goal.play_to_end-requires-clause-tickets
+play_to_end-requires-clause-tickets g c =
+    let n = ap (λ (l : List BlockLine). length (written_out l)) c.as_slice.ensures in
+    omega (arith, n, c.connect_by.ensures.leaves.draws, c.requires.tickets)
+
 pub play_to_end-requires-clause-spare : goal.play_to_end-requires-clause-spare
 play_to_end-requires-clause-spare g c =
     let n = ap (λ (l : List BlockLine). length (written_out l)) c.as_slice.ensures in
@@ -134,7 +139,7 @@ returns-clause-leaves g c =
     record {
       hand = λ r. c.pause.ensures.leaves.hand r ∙ (c.play_to_end.ensures.leaves.hand r ∙ c.connect_by.ensures.leaves.hand r);
       left = omega (arith, n, k, owed_fits c.play_to_end.new.session.state c.play_to_end.ensures.wide, c.connect_by.ensures.leaves.left, c.play_to_end.ensures.leaves.left, c.pause.ensures.leaves.left);
-      draws = c.pause.ensures.leaves.draws ∙ (c.play_to_end.ensures.leaves.draws ∙ c.connect_by.ensures.leaves.draws);
+      draws = omega (arith, n, c.connect_by.ensures.leaves.draws, c.play_to_end.ensures.leaves.draws, c.pause.ensures.leaves.draws);
       name = c.pause.ensures.leaves.name ∙ (c.play_to_end.ensures.leaves.name ∙ c.connect_by.ensures.leaves.name);
       room = omega (arith, m, settling_fits c.play_to_end.new.session.state c.play_to_end.ensures.wide, c.connect_by.ensures.leaves.room, c.play_to_end.ensures.leaves.room, c.pause.ensures.leaves.room);
     }

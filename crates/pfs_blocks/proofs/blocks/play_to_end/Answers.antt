@@ -18,6 +18,11 @@ play_and_quit-requires-clause-early g c =
     let n = ap (λ (l : List BlockLine). length (written_out l)) c.in-Some.ensures in
     omega (arith, n, quit_length c.in-Some.body.now, c.requires.early)
 
+pub play_and_quit-requires-clause-tickets : goal.play_and_quit-requires-clause-tickets
+play_and_quit-requires-clause-tickets g c =
+    let n = ap (λ (l : List BlockLine). length (written_out l)) c.in-Some.ensures in
+    omega (arith, n, quit_length c.in-Some.body.now, c.requires.tickets)
+
 pub play_and_quit-requires-clause-spare : goal.play_and_quit-requires-clause-spare
 play_and_quit-requires-clause-spare g c =
     let n = ap (λ (l : List BlockLine). length (written_out l)) c.in-Some.ensures in
@@ -75,7 +80,7 @@ returns-in-Some-clause-leaves g c =
     record {
       hand = c.play_and_quit.ensures.leaves.hand;
       left = omega (arith, n, k, quit_actions c.in-Some.body.now, quit_length c.in-Some.body.now, c.play_and_quit.ensures.leaves.left);
-      draws = c.play_and_quit.ensures.leaves.draws;
+      draws = omega (arith, n, quit_length c.in-Some.body.now, c.play_and_quit.ensures.leaves.draws);
       name = c.play_and_quit.ensures.leaves.name;
       room = omega (arith, m, quit_cost c.in-Some.body.now, c.play_and_quit.ensures.leaves.room);
     }

@@ -42,7 +42,7 @@ loop-line-init g c = record {
   depth = refl;
   hand = λ r. refl;
   left = omega arith;
-  draws = refl;
+  draws = omega arith;
   name = refl;
   lent = c.requires.lent;
   room = omega arith;
@@ -80,6 +80,9 @@ play-requires-clause-few g c =
     let left_acts : actions_on (drop i lines) ≡ actions_of (errand_on line) + actions_on (drop (i + 1) lines) = ap actions_on split in
     let left_cost : cost_on (drop i lines) ≡ cost_of (errand_on line) + cost_on (drop (i + 1) lines) = ap cost_on split in
     omega (arith, acts, left_acts, c.loop-line.invariant.counted, c.requires.few)
+
+pub play-requires-clause-tickets : goal.play-requires-clause-tickets
+play-requires-clause-tickets g c = omega (arith, c.loop-line.invariant.draws, c.loop-line-test.true, c.requires.tickets)
 
 pub play-requires-clause-spare : goal.play-requires-clause-spare
 play-requires-clause-spare g c =
@@ -142,13 +145,13 @@ loop-line-preserved g c =
       few = omega (arith, before.few, left_acts);
       actions = omega (arith, before.actions, now.actions, acts, left_acts);
       counted = omega (arith, before.counted, stepped, acts, left_acts);
-      rest = now.rest ∙ ap (λ (s : State). record s { clock = new.state.clock; drawn = new.state.drawn; opened = new.state.opened; held = new.state.held; actions = new.state.actions; last = new.state.last }) before.rest;
+      rest = now.rest ∙ ap (λ (s : State). record s { clock = new.state.clock; drawn = new.state.drawn; opened = new.state.opened; held = new.state.held; actions = new.state.actions; last = new.state.last; nexts = new.state.nexts }) before.rest;
       last = λ none. now.last (omega (arith, none, before.few, acts, left_acts)) ∙ before.last none;
       wide = now.wide;
       depth = now.depth ∙ before.depth;
       hand = λ r. now.leaves.hand r ∙ before.hand r;
       left = omega (arith, before.left, now.leaves.left, acts, left_acts);
-      draws = now.leaves.draws ∙ before.draws;
+      draws = omega (arith, before.draws, now.leaves.draws);
       name = now.leaves.name ∙ before.name;
       lent = now.lent;
       room = omega (arith, before.room, now.leaves.room, cost, left_cost);

@@ -14,13 +14,13 @@ invariant-loop-line g l = record {
   few : actions_on (drop l.line-index l.lines) ≤ actions_on l.lines;
   actions : l.session.state.actions + actions_on (drop l.line-index l.lines) ≡ l.fn.session.state.actions + actions_on l.lines;
   counted : l.admin.actions + actions_on (drop l.line-index l.lines) ≡ l.fn.admin.actions + actions_on l.lines;
-  rest : l.session.state ≡ record l.fn.session.state { clock = l.session.state.clock; drawn = l.session.state.drawn; opened = l.session.state.opened; held = l.session.state.held; actions = l.session.state.actions; last = l.session.state.last };
+  rest : l.session.state ≡ record l.fn.session.state { clock = l.session.state.clock; drawn = l.session.state.drawn; opened = l.session.state.opened; held = l.session.state.held; actions = l.session.state.actions; last = l.session.state.last; nexts = l.session.state.nexts };
   last : actions_on l.lines ≡ 0 → l.session.state.last ≡ l.fn.session.state.last;
   wide : length l.session.state.held ≡ 193;
   depth : l.session.state.opened.depth ≡ l.fn.session.state.opened.depth;
   hand : (r : ℕ) → g.A.Rows.hand l.rows r ≡ g.A.Rows.hand l.fn.rows r;
-  left : g.A.Rows.left l.fn.rows + 20192 * actions_on (drop l.line-index l.lines) ≤ g.A.Rows.left l.rows + (4 * l.line-index + 20192 * actions_on l.lines);
-  draws : g.A.Rows.draws l.rows ≡ g.A.Rows.draws l.fn.rows;
+  left : g.A.Rows.left l.fn.rows + 20192 * actions_on (drop l.line-index l.lines) ≤ g.A.Rows.left l.rows + (11 * l.line-index + 20192 * actions_on l.lines);
+  draws : g.A.Rows.draws l.fn.rows ≤ g.A.Rows.draws l.rows + 2 * l.line-index;
   name : g.A.Rows.name l.rows ≡ g.A.Rows.name l.fn.rows;
   lent : g.A.Rows.words l.rows ≡ Some l.admin.words;
   room : l.fn.session.journal.room + cost_on (drop l.line-index l.lines) ≤ l.session.journal.room + cost_on l.lines;

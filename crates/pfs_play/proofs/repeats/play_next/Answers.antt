@@ -17,6 +17,12 @@ play_repeat-requires-clause-early g c =
     let w = ap length b.written in
     omega (arith, w, c.requires.early)
 
+pub play_repeat-requires-clause-tickets : goal.play_repeat-requires-clause-tickets
+play_repeat-requires-clause-tickets g c =
+    let b = begun 62 c.args.session.now.state.opened.depth (kinds_at c.args.session.now.state) c.in-Some-times_of.times c.args.lines.now c.in-Some.first.now c.in-Some.others.now c.in-Some.ensures.cases.0 (sym c.times_of.ensures ∙ c.in-Some-times_of.is) c.requires.may in
+    let w = ap length b.written in
+    omega (arith, w, c.requires.tickets)
+
 pub play_repeat-requires-clause-spare : goal.play_repeat-requires-clause-spare
 play_repeat-requires-clause-spare g c =
     let b = begun 62 c.args.session.now.state.opened.depth (kinds_at c.args.session.now.state) c.in-Some-times_of.times c.args.lines.now c.in-Some.first.now c.in-Some.others.now c.in-Some.ensures.cases.0 (sym c.times_of.ensures ∙ c.in-Some-times_of.is) c.requires.may in
@@ -37,6 +43,11 @@ pub play_lines-requires-clause-early : goal.play_lines-requires-clause-early
 play_lines-requires-clause-early g c =
     let p = played 62 c.args.session.now.state.opened.depth (kinds_at c.args.session.now.state) c.args.lines.now c.in-Some.first.now c.in-Some.others.now c.in-Some.ensures.cases.0 (sym c.times_of.ensures ∙ c.in-None.is) c.requires.may in
     omega (arith, p.lengths, c.requires.early)
+
+pub play_lines-requires-clause-tickets : goal.play_lines-requires-clause-tickets
+play_lines-requires-clause-tickets g c =
+    let p = played 62 c.args.session.now.state.opened.depth (kinds_at c.args.session.now.state) c.args.lines.now c.in-Some.first.now c.in-Some.others.now c.in-Some.ensures.cases.0 (sym c.times_of.ensures ∙ c.in-None.is) c.requires.may in
+    omega (arith, p.lengths, c.requires.tickets)
 
 pub play_lines-requires-clause-spare : goal.play_lines-requires-clause-spare
 play_lines-requires-clause-spare g c =
@@ -84,7 +95,7 @@ returns-in-Some-times_of-clause-leaves g c =
     record {
       hand = c.play_repeat.ensures.leaves.hand;
       left = omega (arith, w, n, k, z, c.play_repeat.ensures.leaves.left);
-      draws = c.play_repeat.ensures.leaves.draws;
+      draws = omega (arith, w, n, c.play_repeat.ensures.leaves.draws);
       name = c.play_repeat.ensures.leaves.name;
       room = omega (arith, v, m, c.play_repeat.ensures.leaves.room);
     }
@@ -116,7 +127,7 @@ returns-in-None-clause-leaves g c =
     record {
       hand = c.play_lines.ensures.leaves.hand;
       left = omega (arith, p.lengths, p.actions, c.play_lines.ensures.leaves.left);
-      draws = c.play_lines.ensures.leaves.draws;
+      draws = omega (arith, p.lengths, c.play_lines.ensures.leaves.draws);
       name = c.play_lines.ensures.leaves.name;
       room = omega (arith, p.costs, c.play_lines.ensures.leaves.room);
     }

@@ -20,6 +20,11 @@ play_times-requires-clause-early g c =
     let r = rounds_at 62 c.args.session.now.state.opened.depth (kinds_at c.args.session.now.state) c.args.times c.in-Some.end c.args.lines.now (sym c.done_in.ensures ∙ c.in-Some.is) c.requires.may in
     omega (arith, r.lengths, c.requires.early)
 
+pub play_times-requires-clause-tickets : goal.play_times-requires-clause-tickets
+play_times-requires-clause-tickets g c =
+    let r = rounds_at 62 c.args.session.now.state.opened.depth (kinds_at c.args.session.now.state) c.args.times c.in-Some.end c.args.lines.now (sym c.done_in.ensures ∙ c.in-Some.is) c.requires.may in
+    omega (arith, r.lengths, c.requires.tickets)
+
 pub play_times-requires-clause-spare : goal.play_times-requires-clause-spare
 play_times-requires-clause-spare g c =
     let r = rounds_at 62 c.args.session.now.state.opened.depth (kinds_at c.args.session.now.state) c.args.times c.in-Some.end c.args.lines.now (sym c.done_in.ensures ∙ c.in-Some.is) c.requires.may in
@@ -37,6 +42,11 @@ pub play_lines-requires-clause-early : goal.play_lines-requires-clause-early
 play_lines-requires-clause-early g c =
     let w = ap length (written_open c.args.times c.args.lines.now (not_found c.args.lines.now (sym c.done_in.ensures ∙ c.in-None.is))) in
     omega (arith, w, c.requires.early)
+
+pub play_lines-requires-clause-tickets : goal.play_lines-requires-clause-tickets
+play_lines-requires-clause-tickets g c =
+    let w = ap length (written_open c.args.times c.args.lines.now (not_found c.args.lines.now (sym c.done_in.ensures ∙ c.in-None.is))) in
+    omega (arith, w, c.requires.tickets)
 
 pub play_lines-requires-clause-spare : goal.play_lines-requires-clause-spare
 play_lines-requires-clause-spare g c =
@@ -78,7 +88,7 @@ returns-in-Some-clause-leaves g c =
     record {
       hand = c.play_times.ensures.leaves.hand;
       left = omega (arith, r.lengths, r.actions, c.play_times.ensures.leaves.left);
-      draws = c.play_times.ensures.leaves.draws;
+      draws = omega (arith, r.lengths, c.play_times.ensures.leaves.draws);
       name = c.play_times.ensures.leaves.name;
       room = omega (arith, r.costs, c.play_times.ensures.leaves.room);
     }
@@ -118,7 +128,7 @@ returns-in-None-clause-leaves g c =
     record {
       hand = c.play_lines.ensures.leaves.hand;
       left = omega (arith, w, n, k, z, c.play_lines.ensures.leaves.left);
-      draws = c.play_lines.ensures.leaves.draws;
+      draws = omega (arith, w, n, c.play_lines.ensures.leaves.draws);
       name = c.play_lines.ensures.leaves.name;
       room = omega (arith, v, m, c.play_lines.ensures.leaves.room);
     }

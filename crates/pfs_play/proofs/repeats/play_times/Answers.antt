@@ -49,7 +49,7 @@ loop-round-init g c = record {
   depth = refl;
   hand = λ r. refl;
   left = omega arith;
-  draws = refl;
+  draws = omega arith;
   name = refl;
   lent = c.requires.lent;
   room = omega arith;
@@ -72,13 +72,13 @@ loop-round-preserved g c =
       drawn = omega (arith, before.drawn, c.play_lines.ensures.drawn);
       actions = omega (arith, before.actions, c.play_lines.ensures.actions);
       counted = omega (arith, before.counted, c.play_lines.ensures.counted);
-      rest = c.play_lines.ensures.rest ∙ ap (λ (s : State). record s { clock = new.state.clock; drawn = new.state.drawn; opened = new.state.opened; held = new.state.held; actions = new.state.actions; last = new.state.last }) before.rest;
+      rest = c.play_lines.ensures.rest ∙ ap (λ (s : State). record s { clock = new.state.clock; drawn = new.state.drawn; opened = new.state.opened; held = new.state.held; actions = new.state.actions; last = new.state.last; nexts = new.state.nexts }) before.rest;
       last = λ none. c.play_lines.ensures.last (omega (arith, none)) ∙ before.last (omega (arith, none));
       wide = c.play_lines.ensures.wide;
       depth = c.play_lines.ensures.depth ∙ before.depth;
       hand = λ r. c.play_lines.ensures.leaves.hand r ∙ before.hand r;
       left = omega (arith, before.left, c.play_lines.ensures.leaves.left);
-      draws = c.play_lines.ensures.leaves.draws ∙ before.draws;
+      draws = omega (arith, before.draws, c.play_lines.ensures.leaves.draws);
       name = c.play_lines.ensures.leaves.name ∙ before.name;
       lent = c.play_lines.ensures.lent;
       room = omega (arith, before.room, c.play_lines.ensures.leaves.room);

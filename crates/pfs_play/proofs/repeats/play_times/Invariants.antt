@@ -13,13 +13,13 @@ invariant-loop-round g l = record {
   drawn : l.session.state.drawn ≤ l.fn.session.state.drawn + l.round * length l.body;
   actions : l.session.state.actions ≡ l.fn.session.state.actions + l.round * actions_on l.body;
   counted : l.admin.actions ≡ l.fn.admin.actions + l.round * actions_on l.body;
-  rest : l.session.state ≡ record l.fn.session.state { clock = l.session.state.clock; drawn = l.session.state.drawn; opened = l.session.state.opened; held = l.session.state.held; actions = l.session.state.actions; last = l.session.state.last };
+  rest : l.session.state ≡ record l.fn.session.state { clock = l.session.state.clock; drawn = l.session.state.drawn; opened = l.session.state.opened; held = l.session.state.held; actions = l.session.state.actions; last = l.session.state.last; nexts = l.session.state.nexts };
   last : l.round * actions_on l.body ≡ 0 → l.session.state.last ≡ l.fn.session.state.last;
   wide : length l.session.state.held ≡ 193;
   depth : l.session.state.opened.depth ≡ l.fn.session.state.opened.depth;
   hand : (r : ℕ) → g.A.Rows.hand l.rows r ≡ g.A.Rows.hand l.fn.rows r;
-  left : g.A.Rows.left l.fn.rows ≤ g.A.Rows.left l.rows + (4 * (l.round * length l.body) + 20192 * (l.round * actions_on l.body));
-  draws : g.A.Rows.draws l.rows ≡ g.A.Rows.draws l.fn.rows;
+  left : g.A.Rows.left l.fn.rows ≤ g.A.Rows.left l.rows + (11 * (l.round * length l.body) + 20192 * (l.round * actions_on l.body));
+  draws : g.A.Rows.draws l.fn.rows ≤ g.A.Rows.draws l.rows + 2 * (l.round * length l.body);
   name : g.A.Rows.name l.rows ≡ g.A.Rows.name l.fn.rows;
   lent : g.A.Rows.words l.rows ≡ Some l.admin.words;
   room : l.fn.session.journal.room ≤ l.session.journal.room + l.round * cost_on l.body;

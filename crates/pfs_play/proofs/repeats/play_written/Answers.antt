@@ -25,7 +25,7 @@ loop-at-init g c = record {
   depth = refl;
   hand = λ r. refl;
   left = omega arith;
-  draws = refl;
+  draws = omega arith;
   name = refl;
   lent = c.requires.lent;
   room = omega arith;
@@ -51,6 +51,12 @@ play_next-at-requires-clause-few g c =
 
 pub play_next-at-requires-clause-idle : goal.play_next-at-requires-clause-idle
 play_next-at-requires-clause-idle g c = λ r. c.loop-at.invariant.hand r ∙ c.requires.idle r
+
+pub play_next-at-requires-clause-tickets : goal.play_next-at-requires-clause-tickets
+play_next-at-requires-clause-tickets g c =
+    let e = ap (λ (l : List BlockLine). length (written_out l)) (to_the_end c.loop-at.at c.args.lines.now) in
+    let less = gone_less (written_out c.args.lines.now) (written_out (drop c.loop-at.at c.args.lines.now)) c.args.admin.now c.loop-at.admin c.args.session.now c.loop-at.session (g.A.Rows.reached c.args.rows.now) (g.A.Rows.reached c.loop-at.rows) c.loop-at.invariant.gone in
+    omega (arith, e, less.lines, c.loop-at.invariant.draws, c.requires.tickets)
 
 pub play_next-at-requires-clause-spare : goal.play_next-at-requires-clause-spare
 play_next-at-requires-clause-spare g c =
@@ -101,13 +107,13 @@ loop-at-preserved g c =
       drawn = omega (arith, size_here, size_there, before.drawn, now.drawn);
       actions = omega (arith, acts_here, acts_there, before.actions, now.actions);
       counted = omega (arith, acts_here, acts_there, before.counted, now.counted);
-      rest = now.rest ∙ ap (λ (s : State). record s { clock = new.state.clock; drawn = new.state.drawn; opened = new.state.opened; held = new.state.held; actions = new.state.actions; last = new.state.last }) before.rest;
+      rest = now.rest ∙ ap (λ (s : State). record s { clock = new.state.clock; drawn = new.state.drawn; opened = new.state.opened; held = new.state.held; actions = new.state.actions; last = new.state.last; nexts = new.state.nexts }) before.rest;
       last = λ free. now.last (omega (arith, acts_here, less.actions, free)) ∙ before.last free;
       wide = now.wide;
       depth = now.depth ∙ before.depth;
       hand = λ r. now.leaves.hand r ∙ before.hand r;
       left = omega (arith, size_here, size_there, acts_here, acts_there, less.lines, less_one.lines, less.actions, less_one.actions, before.left, now.leaves.left);
-      draws = now.leaves.draws ∙ before.draws;
+      draws = omega (arith, size_here, size_there, less.lines, less_one.lines, before.draws, now.leaves.draws);
       name = now.leaves.name ∙ before.name;
       lent = now.lent;
       room = omega (arith, cost_here, cost_there, less.costs, less_one.costs, before.room, now.leaves.room);
@@ -134,7 +140,7 @@ returns-clause-leaves g c =
     record {
       hand = c.loop-at.invariant.hand;
       left = omega (arith, none, quiet, c.loop-at.invariant.left);
-      draws = c.loop-at.invariant.draws;
+      draws = omega (arith, none, c.loop-at.invariant.draws);
       name = c.loop-at.invariant.name;
       room = omega (arith, free, c.loop-at.invariant.room);
     }

@@ -15,13 +15,13 @@ invariant-loop-at g l = record {
   drawn : l.session.state.drawn + length (written_out (drop l.at l.lines)) ≤ l.fn.session.state.drawn + length (written_out l.lines);
   actions : l.session.state.actions + actions_on (written_out (drop l.at l.lines)) ≡ l.fn.session.state.actions + actions_on (written_out l.lines);
   counted : l.admin.actions + actions_on (written_out (drop l.at l.lines)) ≡ l.fn.admin.actions + actions_on (written_out l.lines);
-  rest : l.session.state ≡ record l.fn.session.state { clock = l.session.state.clock; drawn = l.session.state.drawn; opened = l.session.state.opened; held = l.session.state.held; actions = l.session.state.actions; last = l.session.state.last };
+  rest : l.session.state ≡ record l.fn.session.state { clock = l.session.state.clock; drawn = l.session.state.drawn; opened = l.session.state.opened; held = l.session.state.held; actions = l.session.state.actions; last = l.session.state.last; nexts = l.session.state.nexts };
   last : actions_on (written_out l.lines) ≡ 0 → l.session.state.last ≡ l.fn.session.state.last;
   wide : length l.session.state.held ≡ 193;
   depth : l.session.state.opened.depth ≡ l.fn.session.state.opened.depth;
   hand : (r : ℕ) → g.A.Rows.hand l.rows r ≡ g.A.Rows.hand l.fn.rows r;
-  left : g.A.Rows.left l.fn.rows ≤ g.A.Rows.left l.rows + (4 * (length (written_out l.lines) - length (written_out (drop l.at l.lines))) + 20192 * (actions_on (written_out l.lines) - actions_on (written_out (drop l.at l.lines))));
-  draws : g.A.Rows.draws l.rows ≡ g.A.Rows.draws l.fn.rows;
+  left : g.A.Rows.left l.fn.rows ≤ g.A.Rows.left l.rows + (11 * (length (written_out l.lines) - length (written_out (drop l.at l.lines))) + 20192 * (actions_on (written_out l.lines) - actions_on (written_out (drop l.at l.lines))));
+  draws : g.A.Rows.draws l.fn.rows ≤ g.A.Rows.draws l.rows + 2 * (length (written_out l.lines) - length (written_out (drop l.at l.lines)));
   name : g.A.Rows.name l.rows ≡ g.A.Rows.name l.fn.rows;
   lent : g.A.Rows.words l.rows ≡ Some l.admin.words;
   room : l.fn.session.journal.room ≤ l.session.journal.room + (cost_on (written_out l.lines) - cost_on (written_out (drop l.at l.lines)));

@@ -46,6 +46,7 @@ end_phase-requires c =
     record {
       named = c.names.ensures Whole c.requires.script.0 c.args.setting.now c.args.phases.now c.requires.script.1;
       texts = c.texts.ensures Whole c.requires.script.0 c.args.setting.now c.args.phases.now c.requires.script.1;
+      tables = c.table_names.ensures Whole c.requires.script.0 c.args.setting.now c.args.phases.now c.requires.script.1;
       here = (
         c.args.phases.now,
         h.0,

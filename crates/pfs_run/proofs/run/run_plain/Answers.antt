@@ -44,5 +44,5 @@ returns c =
     let stands = subst (λ (z : List Phase). Stands c.args.setting.now phases z [] (numbered (1 + length z) []) runner) p.taken
     (subst (λ (z : List Phase). Stands c.args.setting.now phases (take c.loop-phase.phase-index phases) [] (numbered (1 + length (take c.loop-phase.phase-index phases)) z) runner) p.dropped
     c.loop-phase.invariant) in
-    run_is c.whole.ensures c.run.ensures c.all_end.ensures c.args.setting.now phases c.new-2.result _ _ _ _ _ _ _ runner.phases.items runner.blocks.items stands
+    run_is c.whole.ensures c.run.ensures c.all_end.ensures c.args.setting.now phases c.new-2.result _ _ _ _ _ _ _ _ runner.phases.items runner.blocks.items stands
     (ap (λ z. z.format) c.new-2.ensures) (ap (λ z. z.phases) c.new-2.ensures ∙ (c.new.ensures ∙ c.into_phases.ensures))

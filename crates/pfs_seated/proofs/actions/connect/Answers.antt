@@ -1,4 +1,4 @@
-use Rattle.std.proofs.Common.{◌<◌, List, ap, ◌∙◌, subst, sym, arith}
+use Rattle.std.proofs.Common.{◌<◌, List, ap, subst, sym, arith}
 use Rattle.std.specs.Prelude.{IfSome}
 use Rattle.pfs_admin.specs.Asks.{placed_of, work_of_connect}
 use Rattle.pfs_admin.specs.declared.admin.Placed.{Placed}
@@ -6,7 +6,6 @@ use Rattle.pfs_admin.specs.declared.changes.Change.TheVariants.{Connect}
 use Rattle.pfs_admin.specs.States.{State as Administration, connected, seat_at, thread_flags}
 use Rattle.pfs_desk.proofs.Acted.{SetsOne, connect_sets, named}
 use Rattle.pfs_levels.specs.declared.answers.Word.{Word}
-use Rattle.pfs_session.specs.States.{State as Session}
 use Rattle.pfs_seated.proofs.Acting.{acted, connect_calls, keeps_behind, stands_behind, stood}
 use Rattle.pfs_seated.proofs.actions.connect.Goals as goal
 
@@ -47,14 +46,14 @@ returns-clause-acted g c = λ start calls reached.
     let work = connect_calls old p.turns admin c.args.user c.args.host p.are_turns p.steps_are in
     let behind = stood g.N.Named.setting g.N.Named.change g.N.Shared.switches _ met.0 admin met.1 calls old (Connect c.args.user c.args.host) _ c.label.ensures c.requires.named met.2 c.connect.ensures.admin in
     let what = work_of_connect admin old.number c.args.user c.args.host in
-    let slot : IfSome c.connect.new.self.state.place.thread (λ n. n < 32) → IfSome (placed_of (seat_at admin old.number c.args.user c.args.host)).thread (λ n. n < 32) = λ low.
-    subst (λ (p : Placed). IfSome p.thread (λ n. n < 32)) (ap (λ (s : Session). s.place) c.connect.ensures.rest ∙ c.connect.ensures.placed) low in
-    let one : IfSome c.connect.new.self.state.place.thread (λ n. n < 32) → SetsOne admin.words what.flags c.connect.new.admin.words = λ low.
+    let slot : IfSome (placed_of (seat_at admin old.number c.args.user c.args.host)).thread (λ n. n < 32) =
+    subst (λ (p : Placed). IfSome p.thread (λ n. n < 32)) c.connect.ensures.placed c.connect.ensures.slot in
+    let one : SetsOne admin.words what.flags c.connect.new.admin.words =
     subst (λ (ws : List Word). SetsOne admin.words what.flags ws) (sym (ap (λ (s : Administration). s.words) c.connect.ensures.admin))
-    (connect_sets admin.words (thread_flags admin c.args.user c.args.host) (connected admin old.number c.args.user c.args.host).kept.now (seat_at admin old.number c.args.user c.args.host) (slot low)) in (
+    (connect_sets admin.words (thread_flags admin c.args.user c.args.host) (connected admin old.number c.args.user c.args.host).kept.now (seat_at admin old.number c.args.user c.args.host) slot) in (
       _,
       admin,
       c.finish.ensures.call start _ (p.did.goes start _ met.3),
       acted g.N.Named.setting g.N.Named.change g.N.Shared.switches _ met.0 admin met.1 calls _ _ _ _ _ p c.label.ensures met.2,
-      λ low. keeps_behind g.N.Named.setting g.N.Named.change g.N.Shared.switches _ met.0 admin met.1 calls _ _ _ met.2 work (one low) behind,
+      keeps_behind g.N.Named.setting g.N.Named.change g.N.Shared.switches _ met.0 admin met.1 calls _ _ _ met.2 work one behind,
     )

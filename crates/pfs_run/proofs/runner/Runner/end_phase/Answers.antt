@@ -14,8 +14,8 @@ new-report-requires c =
     let h = c.requires.here in
     let told = c.new.ensures ∙ ap (λ z. z.items) c.replace-blocks.ensures.value in
     record {
-      blocks = subst (All IsBlock) (sym told) (blocks_good c.blocks-2.ensures c.args.setting.now h.0 h.1 h.2 h.3 _ _ _ _ _ _ _ _ _ h.4);
-      tables = tables_good c.tables.ensures c.args.setting.now c.in_ok-tables.tables _ _ c.requires.named c.requires.texts c.in_ok-tables.ensures.tables;
+      blocks = subst (All IsBlock) (sym told) (blocks_good c.blocks-2.ensures c.args.setting.now h.0 h.1 h.2 h.3 _ _ _ _ _ _ _ _ _ _ h.4);
+      tables = tables_good c.tables.ensures c.args.setting.now c.in_ok-tables.tables _ _ c.requires.named c.requires.texts c.requires.tables c.in_ok-tables.ensures.tables;
       lost = c.in_ok-lost.ensures.good;
     }
 
@@ -24,10 +24,11 @@ returns c =
     let report : PhaseParts = record { number = c.len.result + 1; blocks = c.new.result; tables = c.in_ok-tables.tables; lost = c.in_ok-lost.lost } in
     let kept = c.in_ok-tables.ensures.kept in
     let told = c.new.ensures ∙ ap (λ z. z.items) c.replace-blocks.ensures.value in
-    λ phases before first after a. ended_along c.args.setting.now phases before first after _ _ _ _ _ _ _ _ _ _ _ _ _ _ _ report a (record {
+    λ phases before first after a. ended_along c.args.setting.now phases before first after _ _ _ _ _ _ _ _ _ _ _ _ _ _ _ _ _ report a (record {
       answers = λ start calls at. at.answers;
       hand = kept.hand;
       left = kept.left;
+      draws = kept.draws;
       words = kept.words;
       number = omega (arith, c.len.ensures, c.args.self.now.phases.ok);
       blocks = told;
@@ -41,8 +42,8 @@ returns c =
       statements = c.counters.ensures.statements;
       waits = c.counters.ensures.waits;
       good = record {
-        blocks = subst (All IsBlock) (sym told) (blocks_good c.blocks-2.ensures c.args.setting.now phases before first after _ _ _ _ _ _ _ _ _ a);
-        tables = tables_good c.tables.ensures c.args.setting.now c.in_ok-tables.tables _ _ c.requires.named c.requires.texts c.in_ok-tables.ensures.tables;
+        blocks = subst (All IsBlock) (sym told) (blocks_good c.blocks-2.ensures c.args.setting.now phases before first after _ _ _ _ _ _ _ _ _ _ a);
+        tables = tables_good c.tables.ensures c.args.setting.now c.in_ok-tables.tables _ _ c.requires.named c.requires.texts c.requires.tables c.in_ok-tables.ensures.tables;
         lost = c.in_ok-lost.ensures.good;
       };
       lost_are = c.in_ok-lost.ensures.rows;

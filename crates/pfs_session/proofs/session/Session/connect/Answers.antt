@@ -13,7 +13,7 @@ returns-clause-played g c =
 pub invariant_of-self : goal.invariant_of-self
 invariant_of-self g c =
     kept_elsewhere _ _ _ _ (ap (λ (b : Book). b.state.opened.events) c.self.view_is ∙ c.requires.closed)
-    (ap (λ (b : Book). b.state.place.thread) c.self.view_is ∙ ap (λ p. p.thread) c.requires.unplaced) c.connect-placed.ensures.slot refl refl c.self.invariant
+    (ap (λ (b : Book). b.state.place.thread) c.self.view_is ∙ ap (λ p. p.thread) c.requires.unplaced) c.connect-placed.ensures.slot refl refl refl refl c.self.invariant
 
 pub returns-clause-owed : goal.returns-clause-owed
 returns-clause-owed g c =

@@ -1,0 +1,172 @@
+//! Places of rings that are released.
+
+ghost use Rattle.std.specs.Prelude.{◌≡◌, ◌<◌, ◌≤◌, ◌+◌, ◌*◌, cond, [], ℕ, Option, None};
+ghost use Rattle.pfs_levels.specs.declared.places.Level.TheVariants as levels;
+ghost use Rattle.pfs_levels.specs.Moves.{Stays};
+ghost use Rattle.pfs_admin.specs.Works.{Signed};
+ghost use Rattle.pfs_admin.specs.Truncations.{current_first, current_count, event_most, event_signs, free_ring, free_rows, free_threads, is_there};
+
+use crate::emptying::source_at;
+use crate::signs::release;
+use pfs_containers::Containers;
+use pfs_levels::{Hold, Level, Log};
+use pfs_rows::{EventTable, TableKind};
+
+const RINGS: u64 = 8_450;
+
+// Places of a thread: 16 current ones, then ten of history for each kind.
+const THREAD_PLACES: u64 = 56;
+
+const HISTORY: u64 = 16;
+
+const HISTORY_PLACES: u64 = 10;
+
+const LONG_HISTORY: u64 = 10_242;
+
+const LONG_PLACES: u64 = 1_000;
+
+/// Releases all places of a thread's ring, ascending, also those that are free. The log gets the releases.
+pub(crate) fn release_ring<H: Hold>(rows: &mut H, slot: u64, log: &mut Log)
+    requires alone { (r : ℕ) → 0 < r → H.hand rows.old r ≡ None }
+    requires slot { slot < 32 }
+    requires spare { 56 ≤ H.left rows.old }
+    requires room { 56 ≤ log.old.room }
+    ensures signed { Signed (free_ring slot) log.old log.new (H.reached rows.old) (H.reached rows.new) }
+    ensures stays { Stays 56 (H.hand rows.old) (H.hand rows.new) (H.left rows.old) (H.left rows.new) (H.draws rows.old)
+        (H.draws rows.new) (H.words rows.old) (H.words rows.new) (H.name rows.old) (H.name rows.new) log.old log.new }
+{
+    release_rows(rows, RINGS + THREAD_PLACES * slot, THREAD_PLACES, log);
+}
+
+/// Releases the places of an event table: those of each live thread, or all places of a long history. The log gets the
+/// releases.
+pub(crate) fn release_events<H: Hold>(
+    rows: &mut H,
+    containers: &Containers,
+    kind: TableKind,
+    table: EventTable,
+    log: &mut Log,
+)
+    requires alone { (r : ℕ) → 0 < r → H.hand rows.old r ≡ None }
+    requires spare { event_most table ≤ H.left rows.old }
+    requires room { event_most table ≤ log.old.room }
+    ensures signed { Signed (event_signs (is_there containers.now.now.places levels.Thread) kind table) log.old log.new
+        (H.reached rows.old) (H.reached rows.new) }
+    ensures stays { Stays (event_most table) (H.hand rows.old) (H.hand rows.new) (H.left rows.old) (H.left rows.new)
+        (H.draws rows.old) (H.draws rows.new) (H.words rows.old) (H.words rows.new) (H.name rows.old)
+        (H.name rows.new) log.old log.new }
+{
+    match table {
+        EventTable::Current => {
+            release_threads(
+                rows,
+                containers,
+                current_first(kind),
+                current_count(kind),
+                log,
+            );
+        }
+        EventTable::History => {
+            let first = HISTORY + HISTORY_PLACES * kind.number();
+            release_threads(rows, containers, first, HISTORY_PLACES, log);
+        }
+        EventTable::HistoryLong => {
+            let first = LONG_HISTORY + LONG_PLACES * kind.number();
+            release_rows(rows, first, LONG_PLACES, log);
+        }
+    }
+}
+
+// Where a kind's current places begin in a thread's ring.
+fn current_first(kind: TableKind) -> u64
+    ensures first { result ≡ current_first kind }
+    ensures few { result ≤ 15 }
+{
+    match kind {
+        TableKind::Waits => 0,
+        TableKind::Stages => 4,
+        TableKind::Statements => 5,
+        TableKind::Transactions => 15,
+    }
+}
+
+// How many current places a kind has.
+fn current_count(kind: TableKind) -> u64
+    ensures count { result ≡ current_count kind }
+    ensures few { result ≤ 10 }
+{
+    match kind {
+        TableKind::Waits => 4,
+        TableKind::Stages | TableKind::Transactions => 1,
+        TableKind::Statements => 10,
+    }
+}
+
+// Releases so many places from this one on of the ring of each live thread.
+fn release_threads<H: Hold>(
+    rows: &mut H,
+    containers: &Containers,
+    first: u64,
+    count: u64,
+    log: &mut Log,
+)
+    requires alone { (r : ℕ) → 0 < r → H.hand rows.old r ≡ None }
+    requires first { first ≤ 46 }
+    requires count { count ≤ 10 }
+    requires spare { 320 ≤ H.left rows.old }
+    requires room { 320 ≤ log.old.room }
+    ensures signed { Signed (free_threads (is_there containers.now.now.places levels.Thread) first count) log.old
+        log.new (H.reached rows.old) (H.reached rows.new) }
+    ensures stays { Stays 320 (H.hand rows.old) (H.hand rows.new) (H.left rows.old) (H.left rows.new)
+        (H.draws rows.old) (H.draws rows.new) (H.words rows.old) (H.words rows.new) (H.name rows.old)
+        (H.name rows.new) log.old log.new }
+{
+    for slot in 0..32 {
+        let there = source_at(containers, Level::Thread, slot).is_some();
+        release_slot(rows, there, slot, first, count, log);
+    }
+}
+
+// Releases so many places of a thread's ring, where one is there.
+#[tactic(auto, using(crate::proofs::Levelling::stays_nothing, crate::proofs::Signing::signed_none))]
+fn release_slot<H: Hold>(
+    rows: &mut H,
+    there: bool,
+    slot: u64,
+    first: u64,
+    count: u64,
+    log: &mut Log,
+)
+    requires alone { (r : ℕ) → 0 < r → H.hand rows.old r ≡ None }
+    requires slot { slot < 32 }
+    requires first { first ≤ 46 }
+    requires count { count ≤ 10 }
+    requires spare { 10 ≤ H.left rows.old }
+    requires room { 10 ≤ log.old.room }
+    ensures signed { Signed (cond there (free_rows (8450 + 56 * slot + first) count) []) log.old log.new
+        (H.reached rows.old) (H.reached rows.new) }
+    ensures stays { Stays 10 (H.hand rows.old) (H.hand rows.new) (H.left rows.old) (H.left rows.new)
+        (H.draws rows.old) (H.draws rows.new) (H.words rows.old) (H.words rows.new) (H.name rows.old)
+        (H.name rows.new) log.old log.new }
+{
+    if there {
+        release_rows(rows, RINGS + THREAD_PLACES * slot + first, count, log);
+    }
+}
+
+// Releases so many rows from this one on.
+fn release_rows<H: Hold>(rows: &mut H, first: u64, count: u64, log: &mut Log)
+    requires alone { (r : ℕ) → 0 < r → H.hand rows.old r ≡ None }
+    requires low { 0 < first }
+    requires high { first + count ≤ 14242 }
+    requires spare { count ≤ H.left rows.old }
+    requires room { count ≤ log.old.room }
+    ensures signed { Signed (free_rows first count) log.old log.new (H.reached rows.old) (H.reached rows.new) }
+    ensures stays { Stays count (H.hand rows.old) (H.hand rows.new) (H.left rows.old) (H.left rows.new)
+        (H.draws rows.old) (H.draws rows.new) (H.words rows.old) (H.words rows.new) (H.name rows.old)
+        (H.name rows.new) log.old log.new }
+{
+    for place in 0..count {
+        release(rows, first + place, log);
+    }
+}

@@ -1,0 +1,10 @@
+use Rattle.std.proofs.Common.{ap, ◌∙◌}
+use Rattle.pfs_session.specs.Settles.{owed_in, owed_by_state}
+use Rattle.pfs_session.specs.States.{Book}
+use Rattle.pfs_session.proofs.Owed.{nothing_owed}
+use Rattle.pfs_session.proofs.paused.Paused.resume.Goals as goal
+
+pub returns-clause-owed : goal.returns-clause-owed
+returns-clause-owed c =
+    ap (λ (b : Book). owed_by_state b.state) c.session.view_is
+    ∙ (ap (owed_in c.self.inside.session.state.place.thread) c.self.invariant ∙ nothing_owed c.self.inside.session.state.place.thread)
