@@ -1,6 +1,6 @@
 -- The lines that are known with one line more.
-use Rattle.std.proofs.Common.{ℕ, ◌≡◌, inl, inr, Bool, true, false, cond, List, [], ◌∷◌, ◌++◌, Option, Some, None, Ok, Err, refl, sym, ap, ◌∙◌, subst}
-use Rattle.std.specs.Prelude.{IfSome, is_some}
+use Rattle.std.proofs.Common.{ℕ, ◌≡◌, ◌&&◌, ◌||◌, inl, inr, Bool, true, false, cond, List, [], ◌∷◌, ◌++◌, Option, Some, None, Ok, Err, refl, sym, ap, ◌∙◌, subst, Bor}
+use Rattle.std.specs.Prelude.{IfSome, option_copied}
 use Rattle.std.specs.Str.{bytes_eq}
 use Rattle.std.proofs.lemmas.Bool.{false≢true}
 use Rattle.std.proofs.lemmas.Slice.Eq.{bytes_eq-Decides}
@@ -28,7 +28,11 @@ use Rattle.pfs_script.specs.Sessions.{is_phase}
 use Rattle.pfs_script.proofs.Faultless.{passes}
 use Rattle.pfs_script.proofs.Finding.{head_limits, tables_push, digests_push}
 use Rattle.pfs_script.proofs.Settling.{settled_more}
-use Rattle.pfs_script.proofs.Standing.{Idles, idles, any_stays, class_stays, is_behind, settled_last}
+use Rattle.pfs_script.proofs.Standing.{Idles, idles, any_stays, class_stays, settled_last}
+
+first_true : (a b : Bool) → (a && b) ≡ true → a ≡ true
+first_true true b h = refl
+first_true false b h = cc
 
 module _ (old new : Reader) (before : List Form) (line : Form) (b : IsBehind old before) (m : IsBehind new (before ++ line ∷ [])) where
   more_tables : new.finds.tables ≡ with_table old.finds.tables line
@@ -67,21 +71,29 @@ module _ (old new : Reader) (before : List Form) (line : Form) (b : IsBehind old
 
   -- and the line is known
   pub known_new : (bytes : List ℕ) (class : Option ClassRef) (number : Option ℕ) (extent : Extent) → fault_of extent before line ≡ None → forms.form bytes ≡ Ok line → forms.HasItsKind line
-      → class ≡ class_in (resolved old.heading) line → is_some class ≡ true → number ≡ number_in new.finds.tables new.finds.digests line
+      → class ≡ class_in (resolved old.heading) line → (starts many : Bool) → (new.place.front.has_phase && (starts || many)) ≡ true → number ≡ number_in new.finds.tables new.finds.digests line
       → IsKnown new.heading new.finds (before ++ line ∷ []) bytes (record { form = line; class = class; number = number })
-  known_new bytes class number extent none said kind c some n = record {
+  known_new bytes class number extent none said kind c starts many wanted n = record {
     said = said;
     kind = kind;
     class = c ∙ (ap (λ (h : Head). class_in (resolved h) line) b.head ∙ (class_stays before line ∙ ap (λ (h : Head). class_in (resolved h) line) (sym m.head)));
     found = (sym n, settled_last new.heading.limits.digests new.finds before line m.settled, (passes extent before line none).statement);
-    behind = is_behind before line (resolved old.heading) m.ahead (ap is_some (sym c) ∙ some);
+    behind = sym m.place.front.phase ∙ first_true new.place.front.has_phase (starts || many) wanted;
   }
 
 -- what is known of a line that is found
 pub known_is : (heading : Head) (finds : Finds) (before : List Form) (known : KnownLines) (bytes : List ℕ) (line : KnownLine) → known_line known bytes ≡ Some line → AreKnown heading finds before known → IsKnown heading finds before bytes line
 known_is heading finds before known bytes line e k = subst (λ (found : Option KnownLine). IfSome found (IsKnown heading finds before bytes)) e (k bytes)
 
+-- what a look-up tells of the line that it finds
+pub found_so : (found : Option (Bor KnownLine)) (known : Option KnownLine) → option_copied found ≡ known → IfSome found (λ line. known ≡ Some line.now)
+found_so None known e = tt
+found_so (Some line) known e = sym e
+
 -- with a line that is kept
+pub kept_so : (known more : KnownLines) (text bytes : List ℕ) (line : KnownLine) → text ≡ bytes → Keeps known more text line → Keeps known more bytes line
+kept_so known more text bytes line e keeps = subst (λ (one : List ℕ). Keeps known more one line) e keeps
+
 kept_by : (heading : Head) (finds : Finds) (before : List Form) (known : KnownLines) (bytes other : List ℕ) (line : KnownLine) (same : Bool) → bytes_eq bytes other ≡ same → AreKnown heading finds before known → IsKnown heading finds before bytes line
     → IfSome (cond same (Some line) (known_line known other)) (IsKnown heading finds before other)
 kept_by heading finds before known bytes other line true e k one = subst (λ (text : List ℕ). IsKnown heading finds before text line) ((bytes_eq-Decides bytes other).0 e) one

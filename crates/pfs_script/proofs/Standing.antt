@@ -1,10 +1,9 @@
 -- What the reader keeps stays true with one line more.
 use Rattle.std.proofs.Common.{ℕ, ◌≡◌, ◌⊎◌, inl, inr, Bool, true, false, ◌||◌, not, List, [], ◌∷◌, ◌++◌, Option, refl, sym, ap, ◌∙◌, append_assoc}
-use Rattle.std.specs.Prelude.{fold, is_some, option_map, option_and_then}
+use Rattle.std.specs.Prelude.{fold, option_map, option_and_then}
 use Rattle.std.specs.List.{list_any, list_all}
-use Rattle.std.proofs.lemmas.Bool.{false≢true, and_parts}
+use Rattle.std.proofs.lemmas.Bool.{false≢true}
 use Rattle.std.proofs.lemmas.List.Folds.{list_any-append, list_all-append}
-use Rattle.pfs_classes.specs.declared.classes.ClassRef.{ClassRef}
 use Rattle.pfs_classes.specs.declared.setting.TableName.{TableName}
 use Rattle.pfs_classes.specs.declared.setting.DigestText.{DigestText}
 use Rattle.pfs_script.specs.declared.blocks.BlockLine.{BlockLine}
@@ -50,11 +49,6 @@ any_parts test before line e = or_parts (list_any test before) (test line) (sym 
 
 all_push : (test : Form → Bool) (before : List Form) (line : Form) → list_all test before ≡ true → test line ≡ true → list_all test (before ++ line ∷ []) ≡ true
 all_push test before line all one = list_all-append test before (line ∷ []) ∙ rw (all, one) refl
-
-all_last : (test : Form → Bool) (before : List Form) (line : Form) → list_all test (before ++ line ∷ []) ≡ true → test line ≡ true
-all_last test before line e =
-    let parts = and_parts (list_all test before) (list_all test (line ∷ [])) (sym (list_all-append test before (line ∷ [])) ∙ e) in
-    (and_parts (test line) true parts.1).0
 
 -- they begin no session, no repeat and no phase
 
@@ -124,24 +118,6 @@ pub ahead_more : (before : List Form) (line : Form) → is_out_of_place before l
 ahead_more before line place old none =
     let parts = any_parts is_phase before line none in
     all_push is_ahead before line (old parts.0) (ahead_line before line (old parts.0) parts.0 place parts.1)
-
--- behind a line that names a class there is a phase
-not_ahead : (line : Form) (classes : List ℕ → Option ClassRef) → is_some (class_in classes line) ≡ true → is_ahead line ≡ true → ⊥
-not_ahead form.Silent classes some a = false≢true some
-not_ahead (form.Limit name value) classes some a = false≢true some
-not_ahead (form.Class name kind enabled timed) classes some a = false≢true some
-not_ahead (form.Consumer name on) classes some a = false≢true some
-not_ahead (form.Instrument pattern enabled timed) classes some a = false≢true some
-not_ahead _ classes some a = cc
-
-behind_by : (here : Bool) (before : List Form) (line : Form) (classes : List ℕ → Option ClassRef) → list_any is_phase (before ++ line ∷ []) ≡ here → (list_any is_phase (before ++ line ∷ []) ≡ false → list_all is_ahead (before ++ line ∷ []) ≡ true)
-    → is_some (class_in classes line) ≡ true → list_any is_phase (before ++ line ∷ []) ≡ true
-behind_by true before line classes e ahead some = e
-behind_by false before line classes e ahead some = absurd (not_ahead line classes some (all_last is_ahead before line (ahead e)))
-
-pub is_behind : (before : List Form) (line : Form) (classes : List ℕ → Option ClassRef) → (list_any is_phase (before ++ line ∷ []) ≡ false → list_all is_ahead (before ++ line ∷ []) ≡ true)
-    → is_some (class_in classes line) ≡ true → list_any is_phase (before ++ line ∷ []) ≡ true
-is_behind before line classes ahead some = behind_by (list_any is_phase (before ++ line ∷ [])) before line classes refl ahead some
 
 -- a line fixes nothing, or there is no phase yet and it names no table and no text
 abbrev pub Idles : List Form → Form → Type 0

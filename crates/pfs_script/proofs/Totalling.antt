@@ -9,7 +9,7 @@ use Rattle.pfs_script.specs.declared.totals.Totals.{Totals}
 use Rattle.pfs_script.specs.Counts.{counted, is_done, is_repeat, is_in_repeat, once_more, more_times}
 use Rattle.pfs_script.specs.Next.{is_class, is_select, one_select, begins_with, has_over, is_blockless, is_out_of_place, is_too_long, is_too_much, one_each, weight_of}
 use Rattle.pfs_script.specs.Sessions.{is_phase}
-use Rattle.pfs_script.specs.Places.{KnowsTally, KnowsTotals, more_with, body_with}
+use Rattle.pfs_script.specs.Places.{KnowsTally, KnowsTotals, HasCounted, more_with, body_with}
 use Rattle.pfs_script.proofs.Behind.{counted_none, counted_with, count_more, more_none, more_more, more_done, pending_none, pending_more, pending_done, in_repeat-begun, in_repeat-same}
 
 none_tally : (tally : Tally) (measure : Form → ℕ) (more : ℕ) → tally.total ≡ 0 → tally.body ≡ 0 → more ≡ 0 → KnowsTally tally measure more []
@@ -46,17 +46,21 @@ tally_with : (tally : Tally) (measure : Form → ℕ) (more : ℕ) (before : Lis
 tally_with tally measure more before line k =
     counted_with measure before line (more * tally.body) k.body ∙ ap (λ n. n + (measure line + (if is_done line then more * tally.body else 0))) (sym k.total)
 
-pub tally_over : (tally : Tally) (measure : Form → ℕ) (more most own added : ℕ) (before : List Form) (line : Form) → KnowsTally tally measure more before → own ≡ measure line → most < 2 ^ 63
-    → added ≡ min (own + (if is_done line then more * tally.body else 0)) (2 ^ 64 - 1) → nat_lt most (min (tally.total + added) (2 ^ 64 - 1)) ≡ nat_lt most (counted measure (before ++ line ∷ []))
-tally_over tally measure more most own added before line k o high is =
-    rw (is, o, tally_with tally measure more before line k) (capped most tally.total (measure line + (if is_done line then more * tally.body else 0)) (omega (arith, high)))
+-- what a tally is behind one more line, by what its step says
+pub record Stepped (tally after : Tally) (line : Form) (own more : ℕ) : Type 0 where
+  pub total : after.total ≡ min (tally.total + min (own + (if is_done line then more * tally.body else 0)) (2 ^ 64 - 1)) (2 ^ 64 - 1)
+  pub body : after.body ≡ min (body_with line own tally.body) (2 ^ 64 - 1)
 
-over : (a b c : ℕ) → b ≤ c → nat_lt (c - b) a ≡ nat_lt c (a + b)
-over a b c h = grind (arith, nat_tests, h)
+tally_over : (tally after : Tally) (measure : Form → ℕ) (more most own : ℕ) (before : List Form) (line : Form) → KnowsTally tally measure more before → own ≡ measure line → most < 2 ^ 63 → Stepped tally after line own more
+    → nat_lt most after.total ≡ nat_lt most (counted measure (before ++ line ∷ []))
+tally_over tally after measure more most own before line k o high s =
+    rw (s.total, o, tally_with tally measure more before line k) (capped most tally.total (measure line + (if is_done line then more * tally.body else 0)) (omega (arith, high)))
 
--- one more of a kind is one too many
-pub over_one : (test : Form → Bool) (most number one : ℕ) (before : List Form) (line : Form) → number ≡ count_by test before → one ≡ (if test line then 1 else 0) → one ≤ most → nat_lt (most - one) number ≡ has_over most test before line
-over_one test most number one before line k c few = rw (count_more test before line) (over number one most few ∙ ap (nat_lt most) (omega (arith, k, c)))
+count_over : (test : Form → Bool) (most number after : ℕ) (before : List Form) (line : Form) → number ≡ count_by test before → after ≡ number + (if test line then 1 else 0) → nat_lt most after ≡ has_over most test before line
+count_over test most number after before line k c = ap (nat_lt most) (omega (arith, count_more test before line, k, c))
+
+or_alike : (a b c d p q r s : Bool) → a ≡ p → b ≡ q → c ≡ r → d ≡ s → (a || (b || (c || d))) ≡ (p || (q || (r || s)))
+or_alike a b c d p q r s e f g h = rw (e, f, g, h) refl
 
 both_false : (a b : Bool) → (a || b) ≡ false → (b ≡ false)
 both_false true b h = cc
@@ -120,11 +124,6 @@ low_one false = omega arith
 
 low_select_of : (line : Form) → one_select line ≤ 20000
 low_select_of line = low_one (is_select line)
-
--- what a tally is behind one more line, by what its step says
-pub record Stepped (tally after : Tally) (line : Form) (own more : ℕ) : Type 0 where
-  pub total : after.total ≡ min (tally.total + min (own + (if is_done line then more * tally.body else 0)) (2 ^ 64 - 1)) (2 ^ 64 - 1)
-  pub body : after.body ≡ min (body_with line own tally.body) (2 ^ 64 - 1)
 
 module _ (tally after : Tally) (measure : Form → ℕ) (more most : ℕ) (before : List Form) where
   tally_total : (line : Form) (own : ℕ) → KnowsTally tally measure more before → own ≡ measure line → most < 10000000 → nat_lt most (counted measure (before ++ line ∷ [])) ≡ false → Stepped tally after line own more
@@ -193,7 +192,7 @@ pub record Passed (totals after : Totals) (line : Form) (selects weight : ℕ) :
   pub classes : after.classes ≡ totals.classes + (if is_class line then 1 else 0)
   pub more : after.more ≡ more_with line totals.more
 
-pub totals_more : (totals after : Totals) (before : List Form) (line : Form) (selects weight : ℕ) → KnowsTotals totals before → is_out_of_place before line ≡ false → is_too_long before line ≡ false → is_too_much before line ≡ false
+totals_more : (totals after : Totals) (before : List Form) (line : Form) (selects weight : ℕ) → KnowsTotals totals before → is_out_of_place before line ≡ false → is_too_long before line ≡ false → is_too_much before line ≡ false
     → Passed totals after line selects weight → KnowsTotals after (before ++ line ∷ [])
 totals_more totals after before line selects weight k out long much p =
     let over_phases = has_over 64 is_phase before line in
@@ -223,3 +222,12 @@ totals_more totals after before line selects weight k out long much p =
       more = p.more ∙ more_is totals.more before line k.more k.alone out;
       alone = λ h. p.more ∙ alone_is totals.more before line k.alone h;
     }
+
+pub totals_counted : (totals after : Totals) (before : List Form) (line : Form) (selects weight : ℕ) → KnowsTotals totals before → Passed totals after line selects weight → HasCounted after before line
+totals_counted totals after before line selects weight k p = record {
+  long = tally_over totals.lines after.lines one_each totals.more 200000 1 before line k.lines refl (omega arith) p.lines;
+  much = or_alike (nat_lt 64 after.phases) (nat_lt 256 after.classes) (nat_lt 256 after.selects.total) (nat_lt 5000000 after.weight.total) _ _ _ _
+      (count_over is_phase 64 totals.phases after.phases before line k.phases p.phases) (count_over is_class 256 totals.classes after.classes before line k.classes p.classes)
+      (tally_over totals.selects after.selects one_select totals.more 256 selects before line k.selects p.selects_are (omega arith) p.selected) (tally_over totals.weight after.weight weight_of totals.more 5000000 weight before line k.weight p.weight_is (omega arith) p.weighed);
+  knows = λ out long much. totals_more totals after before line selects weight k out long much p;
+}

@@ -1,4 +1,4 @@
--- The lines that start events of a class, each read once.
+-- The lines behind the first phase, each read once.
 use Rattle.std.specs.Prelude.{ℕ, ◌≡◌, true, if◌then◌else◌, List, Option, Some, IfSome, Ok}
 use Rattle.std.specs.List.{list_any}
 use Rattle.std.specs.Str.{bytes_eq}
@@ -15,7 +15,7 @@ use Rattle.pfs_script.specs.Sessions.{is_phase}
 
 -- the line that has these bytes
 abbrev pub known_line : KnownLines → List ℕ → Option KnownLine
-known_line known bytes = get_by (λ key. bytes_eq bytes key.now) known.lines
+known_line known bytes = get_by (bytes_eq bytes) known.lines
 
 -- a line more is known
 abbrev pub Keeps : KnownLines → KnownLines → List ℕ → KnownLine → Type 0

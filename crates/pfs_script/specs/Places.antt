@@ -1,5 +1,5 @@
 -- What the reader keeps of the lines so far.
-use Rattle.std.specs.Prelude.{ℕ, zero, suc, ◌≡◌, ◌+◌, ◌*◌, ◌<◌, ◌≤◌, slice_set, Bool, true, false, List, [], ◌∷◌, length, Some, is_some, IfSome, count_by, get_or}
+use Rattle.std.specs.Prelude.{ℕ, zero, suc, ◌≡◌, ◌+◌, ◌*◌, ◌<◌, ◌≤◌, slice_set, Bool, true, false, List, [], ◌∷◌, ◌++◌, ◌||◌, length, nat_lt, Some, is_some, IfSome, count_by, get_or}
 use Rattle.std.specs.List.{list_any, list_all}
 use Rattle.pfs_rows.specs.declared.limits.Limit.{Limit}
 use Rattle.pfs_rows.specs.Limits.{order_of}
@@ -20,7 +20,7 @@ use Rattle.pfs_script.specs.declared.totals.Tally.{Tally}
 use Rattle.pfs_script.specs.declared.finds.Finds.{Finds}
 use Rattle.pfs_script.specs.Headings.{limits_of}
 use Rattle.pfs_script.specs.Finds.{tables_of, digests_of}
-use Rattle.pfs_script.specs.Next.{is_class, one_select, session_kinds, kinds_open, gives, one_each, weight_of}
+use Rattle.pfs_script.specs.Next.{is_class, is_out_of_place, is_too_long, is_too_much, one_select, session_kinds, kinds_open, gives, one_each, weight_of}
 
 -- the flags are true of the lines, and a limit's flag says whether it was given
 pub record KnowsFront (front : Front) (before : List Form) : Type 0 where
@@ -127,6 +127,23 @@ pub record KnowsTotals (totals : Totals) (before : List Form) : Type 0 where
   pub more : totals.more ≡ more_times before
   pub alone : is_in_repeat before ≡ false → totals.more ≡ 0
 
+-- there are more than 200,000 lines
+abbrev pub has_many_lines : Totals → Bool
+has_many_lines totals = nat_lt 200000 totals.lines.total
+
+-- there are more than 64 phases, 256 classes or 256 SELECTs, or the lines weigh more than 5,000,000
+abbrev pub has_much : Totals → Bool
+has_much totals =
+    nat_lt 64 totals.phases
+    || (nat_lt 256 totals.classes || (nat_lt 256 totals.selects.total || nat_lt 5000000 totals.weight.total))
+
+-- with this line they tell whether it is one too many or too much, and where it is neither they are known
+pub record HasCounted (totals : Totals) (before : List Form) (line : Form) : Type 0 where
+  pub long : has_many_lines totals ≡ is_too_long before line
+  pub much : has_much totals ≡ is_too_much before line
+  pub knows : is_out_of_place before line ≡ false → is_too_long before line ≡ false
+      → is_too_much before line ≡ false → KnowsTotals totals (before ++ line ∷ [])
+
 -- the tables and digest texts are those of the lines, under the limit that these give, and there are 64 tables at most
 pub record KnowsFinds (finds : Finds) (before : List Form) : Type 0 where
   pub tables : finds.tables ≡ tables_of before
@@ -138,3 +155,9 @@ pub record Knows (place : Place) (before : List Form) : Type 0 where
   pub front : KnowsFront place.front before
   pub course : KnowsCourse place.course before
   pub totals : KnowsTotals place.totals before
+
+-- the place is that behind these lines, and its totals count one line more
+pub record KnowsCounted (place : Place) (before : List Form) (line : Form) : Type 0 where
+  pub front : KnowsFront place.front before
+  pub course : KnowsCourse place.course before
+  pub totals : HasCounted place.totals before line

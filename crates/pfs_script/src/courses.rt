@@ -164,9 +164,9 @@ impl Course {
             Form::Repeat { .. } => self.repeat = Some(self.events()),
             Form::Done => self.repeat = None,
             _ => {
-                let mut state = self.state();
-                state.pass(line);
-                self.put(state);
+                if self.present < 65 {
+                    self.sessions[self.present as usize].pass(line);
+                }
             }
         }
     }
@@ -196,19 +196,6 @@ impl Course {
             self.sessions[number as usize] = state;
             self.here[number as usize] = true;
             self.present = number;
-        }
-    }
-
-    // Puts what is known of the session of the block.
-    fn put(&mut self, state: SessionState)
-        ensures sessions { self.old.present < 65
-            → self.new.sessions ≡ slice_set self.old.sessions self.old.present state }
-        ensures here { self.new.here ≡ self.old.here }
-        ensures present { self.new.present ≡ self.old.present }
-        ensures repeat { self.new.repeat ≡ self.old.repeat }
-    {
-        if self.present < 65 {
-            self.sessions[self.present as usize] = state;
         }
     }
 }

@@ -1,14 +1,19 @@
-//! The lines that start events of a class, each read once: the same line again is known by its bytes.
+//! The lines behind the first phase, each read once: the same line again is known by its bytes.
 
-ghost use Rattle.std.specs.Prelude.{◌≡◌, IfSome, Some, None, List, ℕ, OnOk};
+ghost use Rattle.std.specs.Prelude.{◌≡◌, ◌&&◌, ◌||◌, nat_lt, IfSome, Some, None, List, ℕ, OnOk};
+ghost use Rattle.std.specs.HashMap.{hash_map_len};
 ghost use Rattle.pfs_script.specs.Known.{known_line, Keeps};
 
 use crate::forms::Form;
+use crate::texts::Text;
 use pfs_classes::{ClassRef, NoMemory};
 use std::alloc::Global;
 use std::collections::HashMap;
 
-/// What a line says that starts an event of a class.
+/// How many lines are kept before those alone are that start an event of a class, which are the dearest to read.
+const MANY_LINES: usize = 4096;
+
+/// What a line says.
 #[derive(Drop)]
 pub struct KnownLine<'a> {
     pub form: Form<'a>,
@@ -21,7 +26,7 @@ pub struct KnownLine<'a> {
 /// Such lines, by their bytes.
 #[derive(Drop)]
 pub struct KnownLines<'a> {
-    pub lines: HashMap<&'a [u8], KnownLine<'a>>,
+    pub lines: HashMap<Text<'a>, KnownLine<'a>>,
 }
 
 impl<'a> KnownLines<'a> {
@@ -34,23 +39,25 @@ impl<'a> KnownLines<'a> {
         }
     }
 
-    /// The line that has these bytes. Only lines that begin as `start` and `stage` do are looked for, since no
-    /// other line starts an event.
+    /// The line that has these bytes.
     pub fn find(&self, bytes: &'a [u8]) -> Option<&KnownLine<'a>>
         ensures { IfSome result (λ line. known_line self.now bytes.now ≡ Some line.now) }
     {
-        if bytes.starts_with(b"st") {
-            self.lines.get(&bytes)
-        } else {
-            None
-        }
+        self.lines.get(&Text::new(bytes))
+    }
+
+    /// Whether a line is to be kept, which may stand behind a phase's beginning and may start an event of a class.
+    pub fn wants(&self, has_phase: bool, starts: bool) -> bool
+        ensures { result ≡ (has_phase && (starts || nat_lt (hash_map_len self.now.lines) 4096)) }
+    {
+        has_phase && (starts || self.lines.len() < MANY_LINES)
     }
 
     /// Keeps a line that has these bytes.
     pub fn keep(&mut self, bytes: &'a [u8], line: KnownLine<'a>) -> Result<(), NoMemory>
         ensures { OnOk result (Keeps self.old self.new bytes.now line.entry) }
     {
-        self.lines.insert(bytes, line)?;
+        self.lines.insert(Text::new(bytes), line)?;
         Ok(())
     }
 }

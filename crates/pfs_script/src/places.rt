@@ -7,7 +7,7 @@ ghost use Rattle.pfs_script.specs.Built.{is_built};
 ghost use Rattle.pfs_script.specs.declared.reasons.Extent.{Extent};
 ghost use Rattle.pfs_script.specs.Next.{has_bad_number, is_no_count, is_out_of_place, is_bad_number, is_unknown, is_event_class, is_bad_statement, is_table_too_many, is_let_in, fault_of, least_reason};
 ghost use Rattle.pfs_script.specs.Sensing.{class_in};
-ghost use Rattle.pfs_script.specs.Places.{Knows, KnowsFinds};
+ghost use Rattle.pfs_script.specs.Places.{Knows, KnowsCounted, KnowsFinds};
 
 use crate::courses::{Course, no_course};
 use crate::finds::Finds;
@@ -38,8 +38,17 @@ pub fn start() -> Place
 }
 
 impl Place {
-    /// Why the line, whose class may be there and whose text the lexer may have refused, may not stand
-    /// behind the lines so far: the least reason, or none. One that isn't let in is tested for nothing else.
+    /// Counts one more line, which may not stand there.
+    pub fn count(&mut self, line: &Form)
+        requires phases { self.old.totals.phases ≤ 64 }
+        requires classes { self.old.totals.classes ≤ 256 }
+        ensures { (before : List Form) → Knows self.old before → KnowsCounted self.new before line.now }
+    {
+        self.totals.count(line);
+    }
+
+    /// Why the line, which is counted, may not stand behind the lines so far: the least reason, or none. Its class
+    /// may be there, and the lexer may have refused its text. One that isn't let in is tested for nothing else.
     #[tactic(auto, unfolding(crate::specs::Next::fault_of))]
     pub fn fault(
         &self,
@@ -52,7 +61,7 @@ impl Place {
     ) -> Option<Reason>
         requires named { is_named ≡ is_some (class_in (resolved heading.now) line.now) }
         requires refused { refused ≡ is_bad_statement line.now }
-        ensures { (before : List Form) → Knows self.now before → heading.now ≡ head_of before
+        ensures { (before : List Form) → KnowsCounted self.now before line.now → heading.now ≡ head_of before
             → KnowsFinds finds.now before → result ≡ fault_of extent before line.now }
     {
         if is_let_in(extent, line) {
@@ -73,7 +82,7 @@ impl Place {
     ) -> Option<Reason>
         requires named { is_named ≡ is_some (class_in (resolved heading.now) line.now) }
         requires refused { refused ≡ is_bad_statement line.now }
-        ensures { (before : List Form) → Knows self.now before → heading.now ≡ head_of before
+        ensures { (before : List Form) → KnowsCounted self.now before line.now → heading.now ≡ head_of before
             → KnowsFinds finds.now before → result ≡ least_reason before line.now }
     {
         if self.is_out_of_place(line) {
@@ -90,29 +99,27 @@ impl Place {
             Some(Reason::BadNesting)
         } else if refused {
             Some(Reason::BadStatement)
-        } else if self.totals.is_too_long(line) {
+        } else if self.totals.is_too_long() {
             Some(Reason::TooLong)
-        } else if self.totals.is_too_much(line) || is_table_too_many(finds, line) {
+        } else if self.totals.is_too_much() || is_table_too_many(finds, line) {
             Some(Reason::TooMuch)
         } else {
             None
         }
     }
 
-    /// The place behind one more line.
+    /// The place behind one more line, which is counted and may stand there.
     pub fn pass(&mut self, line: &Form)
-        requires phases { self.old.totals.phases ≤ 64 }
-        requires classes { self.old.totals.classes ≤ 256 }
-        ensures { (extent : Extent) (before : List Form) → Knows self.old before
+        ensures { (extent : Extent) (before : List Form) → KnowsCounted self.old before line.now
             → fault_of extent before line.now ≡ None → Knows self.new (before ++ line.now ∷ []) }
     {
         self.front.pass(line);
         self.course.pass(line);
-        self.totals.pass(line);
     }
 
     fn is_out_of_place(&self, line: &Form) -> bool
-        ensures { (before : List Form) → Knows self.now before → result ≡ is_out_of_place before line.now }
+        ensures { (before : List Form) → KnowsCounted self.now before line.now
+            → result ≡ is_out_of_place before line.now }
     {
         match line {
             Form::Limit { .. } => !self.front.limits_alone,

@@ -145,6 +145,7 @@ impl<'a> Reader<'a> {
     {
         let alloc = self.alloc;
         let is_named = class.is_some();
+        self.place.count(line);
         let fault = self.place.fault(
             self.extent,
             &self.heading,
@@ -187,6 +188,22 @@ fn read_line<'a>(
             Err(fault) => Err(fault),
         };
     }
+    read_new(reader, known, bytes)
+}
+
+/// The same for a line that isn't known.
+fn read_new<'a>(
+    reader: &mut Reader<'a>,
+    known: &mut KnownLines<'a>,
+    bytes: &'a [u8],
+) -> Result<(), ScriptFault>
+    requires { (before : List Form) × IsBehind reader.old before
+        × AreKnown reader.old.heading reader.old.finds before known.old }
+    ensures extent { reader.new.extent ≡ reader.old.extent }
+    ensures says { (before : List Form) → IsBehind reader.old before
+        → AreKnown reader.old.heading reader.old.finds before known.old
+        → Says reader.old reader.new known.new before bytes.now result }
+{
     let form = match parse_line(bytes) {
         Ok(form) => form,
         Err(reason) => return Err(bad(reader.count, reason)),
@@ -198,7 +215,7 @@ fn read_line<'a>(
         Ok(number) => number,
         Err(fault) => return Err(fault),
     };
-    if class.is_some() {
+    if known.wants(reader.place.front.has_phase, class.is_some()) {
         let line = KnownLine {
             form,
             class,

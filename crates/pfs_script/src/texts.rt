@@ -1,12 +1,14 @@
 //! A word of a line, or the rest of a line, as a text.
 
-ghost use Rattle.std.specs.Prelude.{◌≡◌, ◌==◌, true};
+ghost use Rattle.std.specs.Prelude.{◌≡◌, ◌==◌, ◌∷◌, [], true, List, ℕ};
 ghost use Rattle.std.specs.List.{list_all};
 ghost use Rattle.pfs_script.specs.Words.{is_script_byte};
 ghost use Rattle.std.specs.Cmp.{partial_equiv_from_equiv};
-ghost use Rattle.std.specs.Cmp.Lexicographic.{pointwise, nat_list_eq_equiv};
+ghost use Rattle.std.specs.Cmp.Lexicographic.{pointwise, nat_list_eq_equiv, bytes_decides};
+ghost use Rattle.std.proofs.Common.{ap};
 
 use std::fmt::{self, Debug, Formatter};
+use std::hash::{Hash, Hasher};
 use std::marker::Model;
 use std::str::from_utf8;
 
@@ -53,6 +55,17 @@ impl<'a> PartialEq for Text<'a> {
 
 impl<'a> Eq for Text<'a> {
     ghost laws = { nat_list_eq_equiv };
+}
+
+/// A text is hashed as a whole.
+impl<'a> Hash for Text<'a> {
+    ghost hash_input = { λ text. text ∷ [] };
+
+    ghost respects_eq = { λ one other same. ap (λ (bytes : List ℕ). bytes ∷ []) ((bytes_decides one other).0 same) };
+
+    fn hash<H: Hasher>(&self, state: &mut H) {
+        state.write(self.bytes);
+    }
 }
 
 /// Bytes that are a text print as it does.

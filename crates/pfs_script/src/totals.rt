@@ -1,11 +1,11 @@
 //! How many lines there are so far, and what they weigh.
 
-ghost use Rattle.std.specs.Prelude.{◌≡◌, ◌≤◌, ◌<◌, ◌+◌, ◌-◌, ◌*◌, ◌^◌, ℕ, min, nat_lt, List, ◌∷◌, ◌++◌, [], false, if◌then◌else◌};
+ghost use Rattle.std.specs.Prelude.{◌≡◌, ◌≤◌, ◌+◌, ◌-◌, ◌*◌, ◌^◌, min, List, [], if◌then◌else◌};
 ghost use Rattle.pfs_script.specs.declared.forms.Form.{Form};
-ghost use Rattle.pfs_script.specs.Counts.{is_done, counted};
-ghost use Rattle.pfs_script.specs.Next.{is_class, is_select, has_over, is_out_of_place, is_too_long, is_too_much, one_select, weight_of};
+ghost use Rattle.pfs_script.specs.Counts.{is_done};
+ghost use Rattle.pfs_script.specs.Next.{is_class, one_select, weight_of};
 ghost use Rattle.pfs_script.specs.Sessions.{is_phase};
-ghost use Rattle.pfs_script.specs.Places.{KnowsTally, KnowsTotals, more_with, body_with};
+ghost use Rattle.pfs_script.specs.Places.{KnowsTotals, HasCounted, has_many_lines, has_much, more_with, body_with};
 
 use crate::commands::{is_select, sql_weight};
 use crate::forms::Form;
@@ -43,30 +43,21 @@ fn no_tally() -> Tally
 }
 
 impl Tally {
-    /// Whether with a line of that measure they come to more than so much. The next line runs `more`
-    /// times more than once.
-    fn is_over(&self, line: &Form, own: u64, more: u64, most: u64) -> bool
-        requires { most < 2 ^ 63 }
-        ensures { (measure : Form → ℕ) (before : List Form) → KnowsTally self.now measure more before
-            → own ≡ measure line.now → result ≡ nat_lt most (counted measure (before ++ line.now ∷ [])) }
-    {
-        let added = added(line, own, more, self.body);
-        self.total.saturating_add(added) > most
-    }
-
-    /// What they come to with a line of that measure.
-    fn pass(&mut self, line: &Form, own: u64, more: u64)
-        ensures total { self.new.total
-            ≡ min (self.old.total + min (own + (if is_done line.now then more * self.old.body else 0)) (2 ^ 64 - 1))
+    /// What they come to with a line of that measure. The next line runs `more` times more than once.
+    fn with(&self, line: &Form, own: u64, more: u64) -> Tally
+        ensures total { result.total
+            ≡ min (self.now.total + min (own + (if is_done line.now then more * self.now.body else 0)) (2 ^ 64 - 1))
             (2 ^ 64 - 1) }
-        ensures body { self.new.body ≡ min (body_with line.now own self.old.body) (2 ^ 64 - 1) }
+        ensures body { result.body ≡ min (body_with line.now own self.now.body) (2 ^ 64 - 1) }
     {
         let added = added(line, own, more, self.body);
-        self.total = self.total.saturating_add(added);
-        self.body = match line {
-            Form::Repeat { .. } | Form::Done => 0,
-            _ => self.body.saturating_add(own),
-        };
+        Tally {
+            total: self.total.saturating_add(added),
+            body: match line {
+                Form::Repeat { .. } | Form::Done => 0,
+                _ => self.body.saturating_add(own),
+            },
+        }
     }
 }
 
@@ -98,66 +89,38 @@ pub fn no_lines() -> Totals
 }
 
 impl Totals {
-    /// Whether with the line there are too many lines.
-    pub fn is_too_long(&self, line: &Form) -> bool
-        ensures { (before : List Form) → KnowsTotals self.now before → result ≡ is_too_long before line.now }
-    {
-        self.lines.is_over(line, 1, self.more, MOST_LINES)
-    }
-
-    /// Whether with the line there are too many phases, classes or SELECTs, or too much weight.
-    pub fn is_too_much(&self, line: &Form) -> bool
-        ensures { (before : List Form) → KnowsTotals self.now before → result ≡ is_too_much before line.now }
-    {
-        self.has_over_phases(line)
-            || self.has_over_classes(line)
-            || self.has_over_selects(line)
-            || self.is_too_heavy(line)
-    }
-
-    fn has_over_phases(&self, line: &Form) -> bool
-        ensures { (before : List Form) → KnowsTotals self.now before → result ≡ has_over 64 is_phase before line.now }
-    {
-        self.phases > MOST_PHASES - phases(line)
-    }
-
-    fn has_over_classes(&self, line: &Form) -> bool
-        ensures { (before : List Form) → KnowsTotals self.now before → result ≡ has_over 256 is_class before line.now }
-    {
-        self.classes > MOST_CLASSES - classes(line)
-    }
-
-    fn has_over_selects(&self, line: &Form) -> bool
-        ensures { (before : List Form) → KnowsTotals self.now before
-            → result ≡ nat_lt 256 (counted one_select (before ++ line.now ∷ [])) }
-    {
-        self.selects
-            .is_over(line, selects(line), self.more, MOST_SELECTS)
-    }
-
-    fn is_too_heavy(&self, line: &Form) -> bool
-        ensures { (before : List Form) → KnowsTotals self.now before
-            → result ≡ nat_lt 5000000 (counted weight_of (before ++ line.now ∷ [])) }
-    {
-        self.weight
-            .is_over(line, weight(line), self.more, MOST_WEIGHT)
-    }
-
-    /// The totals with one more line.
-    pub fn pass(&mut self, line: &Form)
+    /// The totals with one more line, which may be too many or too much.
+    pub fn count(&mut self, line: &Form)
         requires phases { self.old.phases ≤ 64 }
         requires classes { self.old.classes ≤ 256 }
-        ensures { (before : List Form) → KnowsTotals self.old before → is_out_of_place before line.now ≡ false
-            → is_too_long before line.now ≡ false
-            → is_too_much before line.now ≡ false → KnowsTotals self.new (before ++ line.now ∷ []) }
+        ensures { (before : List Form) → KnowsTotals self.old before → HasCounted self.new before line.now }
     {
         let more = self.more;
-        self.lines.pass(line, 1, more);
-        self.selects.pass(line, selects(line), more);
-        self.weight.pass(line, weight(line), more);
-        self.phases += phases(line);
-        self.classes += classes(line);
-        self.more = more_behind(line, more);
+        *self = Totals {
+            lines: self.lines.with(line, 1, more),
+            selects: self.selects.with(line, selects(line), more),
+            weight: self.weight.with(line, weight(line), more),
+            phases: self.phases + phases(line),
+            classes: self.classes + classes(line),
+            more: more_behind(line, more),
+        };
+    }
+
+    /// Whether there are too many lines.
+    pub fn is_too_long(&self) -> bool
+        ensures { result ≡ has_many_lines self.now }
+    {
+        self.lines.total > MOST_LINES
+    }
+
+    /// Whether there are too many phases, classes or SELECTs, or too much weight.
+    pub fn is_too_much(&self) -> bool
+        ensures { result ≡ has_much self.now }
+    {
+        self.phases > MOST_PHASES
+            || self.classes > MOST_CLASSES
+            || self.selects.total > MOST_SELECTS
+            || self.weight.total > MOST_WEIGHT
     }
 }
 

@@ -1,6 +1,5 @@
-use Rattle.std.proofs.Common.{refl, subst}
-use Rattle.pfs_script.specs.declared.open_kinds.SessionState.{SessionState}
-use Rattle.pfs_script.proofs.Coursing.{phase_knows, connect_knows, resume_knows, repeat_knows, done_knows, Moved, rest_knows}
+use Rattle.std.proofs.Common.{refl}
+use Rattle.pfs_script.proofs.Coursing.{phase_knows, connect_knows, resume_knows, repeat_knows, done_knows, rest_knows}
 use Rattle.pfs_script.proofs.courses.Course.pass.Goals as goal
 
 pub returns-in-Phase : goal.returns-in-Phase
@@ -33,15 +32,14 @@ pub returns-in-Done : goal.returns-in-Done
 returns-in-Done c before short knows number session nesting =
     rw c.in-Done.is (done_knows c.args.self.now _ before knows refl refl refl refl)
 
-pub returns-in_default : goal.returns-in_default
-returns-in_default c before short knows number session nesting =
-    let moved = subst (λ (state : SessionState). Moved state c.pass.new.self c.args.line.now) (c.state-state.ensures knows.low) (record {
+pub returns-then-self-lt65 : goal.returns-then-self-lt65
+returns-then-self-lt65 c before short knows number session nesting =
+    rest_knows c.args.self.now _ before c.args.line.now c.pass.new.self knows short nesting c.in_default.not-Phase c.in_default.not-Connect c.in_default.not-Resume c.in_default.not-Repeat c.in_default.not-Done
+    (record {
       begun = c.pass.ensures.begun;
       quits = c.pass.ensures.quits;
       kinds = c.pass.ensures.kinds;
       inside = c.pass.ensures.inside;
       waits = c.pass.ensures.waits;
       statements = c.pass.ensures.statements;
-    }) in
-    rest_knows c.args.self.now c.put.new.self before c.args.line.now c.pass.new.self knows short nesting c.in_default.not-Phase c.in_default.not-Connect c.in_default.not-Resume c.in_default.not-Repeat c.in_default.not-Done
-    moved c.put.ensures.sessions c.put.ensures.here c.put.ensures.present c.put.ensures.repeat
+    }) (λ low. refl) refl refl refl

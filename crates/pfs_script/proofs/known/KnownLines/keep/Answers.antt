@@ -1,5 +1,5 @@
-use Rattle.std.proofs.lemmas.Map.Text.{hash_map_updates_str}
+use Rattle.pfs_script.proofs.Knowing.{kept_so}
 use Rattle.pfs_script.proofs.known.KnownLines.keep.Goals as goal
 
 pub returns : goal.returns
-returns c other = hash_map_updates_str c.args.bytes.now c.args.self.now.lines c.insert.new.self _ c.in_ok-insert.ensures.updates other
+returns c = kept_so c.args.self.now (record { lines = c.insert.new.self }) c.new.result c.args.bytes.now c.args.line c.new.ensures (λ other. c.in_ok-insert.ensures.updates.0 other)
