@@ -1,6 +1,7 @@
 -- Starts, ends and actions as steps, from what their parts do.
 use Rattle.std.proofs.Common.{ℕ, ◌≡◌, ◌<◌, ◌≤◌, ◌+◌, ◌^◌, ◌&&◌, Bool, true, false, List, [], ◌∷◌, ◌++◌, Option, Some, None, length, refl, ap, sym, ◌∙◌, subst, arith}
-use Rattle.std.specs.Prelude.{IfSome}
+use Rattle.std.proofs.lemmas.Bool.{false≢true}
+use Rattle.std.specs.Prelude.{IfSome, IsSome}
 use Rattle.std.proofs.lemmas.List.{append_assoc}
 use Rattle.pfs_admin.proofs.Signing.{worked_behind}
 use Rattle.pfs_admin.specs.Asks.{work_of_connect, work_of_quit, connect_entry, placed_of}
@@ -222,6 +223,41 @@ puts_done at old new slot depth place what numbers consumers thread event first 
 
 same_slot : {m n : ℕ} → Some m ≡ Some n → m ≡ n
 same_slot {m} {n} e = grind (arith, e)
+
+-- of an event that wasn't offered to its current place nothing is put
+pub puts_none : (at : Book) (what : Open) (numbers : Numbers) (consumers thread : ℕ) (was : Opening → List Call → Type 0) (seat : Option ℕ) → at.state.place.thread ≡ seat → IsSome seat
+    → what.placed ≡ false → HasPuts at at what numbers consumers thread None None None was was
+puts_none at what numbers consumers thread was None e there off = absurd (false≢true there)
+puts_none at what numbers consumers thread was (Some slot) e there off =
+    let s : State = at.state in
+    let own : Event = ended_event what s.drawn s.clock numbers in
+    let C : Bool → Type 0 = λ b. PutIf b (Current slot what.kind (depth_of what.kind s.opened.events)) own None [] in
+    let H : Bool → Type 0 = λ b. PutIf (goes_on b (history_consumer what.kind) consumers thread) (History slot what.kind (next_of what.kind s.nexts)) own None [] in
+    let L : Bool → Type 0 = λ b. PutIf (goes_on b (long_consumer what.kind) consumers thread) (Long what.kind) own None [] in
+    record {
+      slot = slot;
+      calls = [];
+      entries = [];
+      slot_is = e;
+      puts = record {
+        current = None;
+        history = None;
+        long = None;
+        current_calls = [];
+        history_calls = [];
+        long_calls = [];
+        current_is = subst C (sym off) (refl, refl);
+        history_is = subst H (sym off) (refl, refl);
+        long_is = subst L (sym off) (refl, refl);
+        calls_are = refl;
+        entries_are = refl;
+        after_is = refl;
+      };
+      current_is = refl;
+      history_is = refl;
+      long_is = refl;
+      did = did_none at.journal was;
+    }
 
 -- all of them, one behind the other
 pub finish_all : (old mid at new : Book) (what : Open) (numbers : Numbers) (consumers thread : ℕ) (summary : Added) (digest : Option Added) (current history long : Option Put)

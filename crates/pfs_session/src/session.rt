@@ -532,6 +532,13 @@ impl Session {
             self.new.journal }
         ensures words { R.words rows.new ≡ R.words rows.old }
     {
+        if !what.placed {
+            return Puts {
+                current: None,
+                history: None,
+                long: None,
+            };
+        }
         let slot = match self.place.thread {
             Some(slot) => slot,
             None => unreachable!(),

@@ -2,7 +2,7 @@ use Rattle.std.proofs.Common.{rules, refl, ◌∙◌, ap}
 use Rattle.pfs_consumers.specs.declared.Consumer.{Consumer}
 use Rattle.pfs_session.specs.Rings.{goes_on}
 use Rattle.pfs_session.proofs.Offering.{stand}
-use Rattle.pfs_session.proofs.Turning.{puts_done}
+use Rattle.pfs_session.proofs.Turning.{puts_done, puts_none}
 use Rattle.pfs_session.proofs.session.Session.put.Goals as goal
 
 pub returns-clause-puts : goal.returns-clause-puts
@@ -16,3 +16,7 @@ returns-clause-puts g c =
 pub returns-clause-stand : goal.returns-clause-stand
 returns-clause-stand g c =
     stand _ _ _ _ c.offer-current.result c.offer-history.result c.offer-long.result c.offer-current.ensures.stands c.offer-history.ensures.stands c.offer-long.ensures.stands
+
+pub returns-then-not-what-clause-puts : goal.returns-then-not-what-clause-puts
+returns-then-not-what-clause-puts g c =
+    puts_none c.args.self.now c.args.what.now c.args.numbers.now c.args.consumers c.args.thread (g.R.Rows.reached c.args.rows.now) _ refl c.requires.there c.if-not-what.true
