@@ -12,6 +12,8 @@ mod matching;
 #[cfg(test)]
 mod settings;
 #[cfg(test)]
+mod setups;
+#[cfg(test)]
 mod show;
 #[cfg(test)]
 mod sql;

@@ -1,0 +1,12 @@
+use Rattle.std.proofs.Common.{◌∙◌}
+use Rattle.pfs_matching.specs.ObjectRules.{object_key}
+use Rattle.pfs_setups.proofs.Answering.{answers, adds}
+use Rattle.pfs_setups.proofs.inserts.insert_object.Goals as goal
+
+pub returns-clause-answer : goal.returns-clause-answer
+returns-clause-answer c =
+    c.answer_of.ensures ∙ answers object_key c.args.objects.now c.args.row c.insert.result c.insert.ensures.duplicate c.insert.ensures.full
+
+pub returns-clause-rows : goal.returns-clause-rows
+returns-clause-rows c =
+    adds object_key c.args.objects.now c.insert.new.self c.args.row c.insert.result c.insert.ensures.ok c.insert.ensures.err (answers object_key c.args.objects.now c.args.row c.insert.result c.insert.ensures.duplicate c.insert.ensures.full)

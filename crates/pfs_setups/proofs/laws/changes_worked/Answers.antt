@@ -1,0 +1,5 @@
+use Rattle.pfs_setups.proofs.Working.{worked}
+use Rattle.pfs_setups.proofs.laws.changes_worked.Goals as goal
+
+pub returns : goal.returns
+returns c = worked

@@ -1,0 +1,5 @@
+use Rattle.pfs_setups.proofs.Answering.{decide}
+use Rattle.pfs_setups.proofs.laws.keys_decide.Goals as goal
+
+pub returns : goal.returns
+returns c = decide

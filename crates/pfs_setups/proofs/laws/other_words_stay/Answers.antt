@@ -1,0 +1,5 @@
+use Rattle.pfs_setups.proofs.Staying.{others_stay}
+use Rattle.pfs_setups.proofs.laws.other_words_stay.Goals as goal
+
+pub returns : goal.returns
+returns c = others_stay

@@ -1,0 +1,5 @@
+use Rattle.pfs_setups.proofs.Selected.{are_selected}
+use Rattle.pfs_setups.proofs.laws.rows_are_selected.Goals as goal
+
+pub returns : goal.returns
+returns c = are_selected
