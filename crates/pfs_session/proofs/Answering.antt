@@ -15,8 +15,8 @@ use Rattle.pfs_session.specs.Ends.{Finished, added_entry, added_entries}
 use Rattle.pfs_session.specs.Starts.{if_through, start_entry, versions_in}
 use Rattle.pfs_session.specs.States.{Book}
 use Rattle.pfs_session.specs.declared.events.Numbers.{Numbers}
-use Rattle.pfs_session.specs.declared.session.Ended.{Ended}
-use Rattle.pfs_session.specs.declared.session.Started.{Started}
+use Rattle.pfs_session.specs.declared.outcomes.Ended.{Ended}
+use Rattle.pfs_session.specs.declared.outcomes.Started.{Started}
 use Rattle.pfs_session.specs.declared.setup.Setup.{Setup}
 
 start_entry_says : (seen : Option Setup) (verdict : Verdict) (number : ℕ) (current : Option Put) (before after : List Entry)

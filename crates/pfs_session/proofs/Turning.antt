@@ -42,7 +42,7 @@ use Rattle.pfs_session.specs.Starts.{Starts, Begins, IsLoaded, IsOpened, load_ca
 use Rattle.pfs_session.specs.States.{State, Book, held_row, held_at, next_of, count_open, one_if, AreAround, AreSeated, AreSilent, AreHeldFor, no_place, nothing_held}
 use Rattle.pfs_session.specs.Turns.{StartsEvent, EndsEvent, SettlesHeld, Connects, Quits, Truncates, Played, Works, stage_ends, stage_steps}
 use Rattle.pfs_session.specs.declared.events.Numbers.{Numbers}
-use Rattle.pfs_session.specs.declared.session.Ended.{Ended}
+use Rattle.pfs_session.specs.declared.outcomes.Ended.{Ended}
 use Rattle.pfs_session.specs.declared.setup.Setup.{Setup}
 use Rattle.pfs_session.proofs.Playing.{played_one, played_then}
 

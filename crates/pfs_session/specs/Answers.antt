@@ -7,8 +7,8 @@ use Rattle.pfs_model.specs.Shapes.{is_stage}
 use Rattle.pfs_model.specs.declared.lines.Subject.{Subject}
 use Rattle.pfs_session.specs.Ends.{added_entry, added_entries}
 use Rattle.pfs_session.specs.Rings.{StandInRings, put_entries}
-use Rattle.pfs_session.specs.declared.session.Ended.{Ended}
-use Rattle.pfs_session.specs.declared.session.Started.{Started}
+use Rattle.pfs_session.specs.declared.outcomes.Ended.{Ended}
+use Rattle.pfs_session.specs.declared.outcomes.Started.{Started}
 
 -- a start of this event number and this verdict stands there, and what became of its put, where there was one
 pub record SaysStart (answer : Started) (before after : List Entry) : Type 0 where

@@ -20,7 +20,7 @@ use Rattle.pfs_stat.specs.declared.Stat.{Stat}
 use Rattle.pfs_session.specs.Rings.{PutIf, StandInRings, put_entries, goes_on, depth_of, moved_by}
 use Rattle.pfs_session.specs.States.{State, Book, held_row, held_at, next_of}
 use Rattle.pfs_session.specs.declared.events.Numbers.{Numbers}
-use Rattle.pfs_session.specs.declared.session.Ended.{Ended}
+use Rattle.pfs_session.specs.declared.outcomes.Ended.{Ended}
 
 abbrev pub no_numbers : Numbers
 no_numbers = record { lock = 0; errors = 0; warnings = 0; affected = 0; sent = 0; examined = 0 }

@@ -13,7 +13,7 @@ use Rattle.pfs_model.specs.Shapes.{is_stage}
 use Rattle.pfs_stat.specs.declared.Stat.{Stat}
 use Rattle.pfs_session.specs.declared.nexts.Nexts.{Nexts}
 use Rattle.pfs_session.specs.declared.opening.Outer.{Outer}
-use Rattle.pfs_session.specs.declared.session.LastAction.{LastAction}
+use Rattle.pfs_session.specs.declared.outcomes.LastAction.{LastAction}
 
 -- A session: its number; how many statements may be open one in another; where it is connected; its clock; how many
 -- event numbers it has drawn; its open events; the amounts that it holds back, by the number of their cell; how many

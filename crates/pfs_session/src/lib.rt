@@ -5,6 +5,7 @@ mod adding;
 mod events;
 mod nexts;
 mod opening;
+mod outcomes;
 mod paused;
 mod paying;
 mod putting;
@@ -13,9 +14,10 @@ mod setup;
 
 pub use events::Numbers;
 pub use nexts::Nexts;
+pub use outcomes::{Ended, LastAction, Started};
 pub use paused::Paused;
 pub use pfs_rings::Put;
-pub use session::{Ended, LastAction, Session, Started};
+pub use session::Session;
 pub use setup::Setup;
 
 /// Memory ran out.

@@ -4,7 +4,8 @@ ghost use Rattle.std.specs.Prelude.{◌≡◌, [], None};
 ghost use Rattle.pfs_session.specs.Settles.{owed_by_state};
 ghost use Rattle.pfs_session.specs.States.{nothing_held};
 
-use crate::session::{LastAction, Session};
+use crate::outcomes::LastAction;
+use crate::session::Session;
 use pfs_levels::Log;
 use std::marker::Model;
 

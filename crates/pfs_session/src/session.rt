@@ -23,11 +23,12 @@ use crate::adding::bring;
 use crate::events::{Numbers, amount_of, cell_number, digest_number, is_statement, is_wait};
 use crate::nexts::Nexts;
 use crate::opening::opened;
+use crate::outcomes::{Counting, Ended, LastAction, Puts, Started};
 use crate::paused::Paused;
 use crate::paying::{clear, settle_all};
 use crate::putting::{ended_event, goes_on, history_consumer, is_placed, long_consumer, offer};
 use crate::setup::{if_through, is_digested, is_timed, judge, load, load_word, start_entry};
-use pfs_admin::{Admin, Lost, Placed, Reply, Truncation};
+use pfs_admin::{Admin, Placed, Reply, Truncation};
 use pfs_event::{Entry, EventKind, Nest, Open, Verdict};
 use pfs_levels::{Added, Hold, Label, Log, Rows};
 use pfs_model::Subject;
@@ -36,49 +37,6 @@ use pfs_rings::{Put, Ring};
 use pfs_stat::Stat;
 use std::alloc::Global;
 use std::marker::Model;
-
-/// The last action that a session made in a phase: its number, and what connects had found no place by its end.
-#[derive(Clone, Copy, Debug, PartialEq, Eq)]
-pub struct LastAction {
-    pub number: u64,
-    pub lost: Lost,
-}
-
-/// What became of a start: the EVENT_ID of an event that is let through, the verdict, and what became of its put to its
-/// current place, where it was offered there.
-#[derive(Clone, Copy, Debug, PartialEq, Eq)]
-pub struct Started {
-    pub event: Option<u64>,
-    pub verdict: Verdict,
-    pub current: Option<Put>,
-}
-
-/// What became of an event that was let through, at its end: of its addition to the row of its cell, of that of a
-/// digested statement to the row of its digest, and of its puts to the rings that it was offered to.
-#[derive(Clone, Copy, Debug, PartialEq, Eq)]
-pub struct Ended {
-    pub summary: Added,
-    pub digest: Option<Added>,
-    pub current: Option<Put>,
-    pub history: Option<Put>,
-    pub long: Option<Put>,
-}
-
-// What became of an event's addition to the row of its cell, and the flags that its end loaded.
-#[derive(Clone, Copy)]
-struct Counting {
-    summary: Added,
-    consumers: u16,
-    thread: u16,
-}
-
-// What became of an event's puts at its end.
-#[derive(Clone, Copy)]
-struct Puts {
-    current: Option<Put>,
-    history: Option<Put>,
-    long: Option<Put>,
-}
 
 /// A session with its journal of the phase. It takes memory as it is opened and by `reserve` alone.
 #[derive(Drop)]
