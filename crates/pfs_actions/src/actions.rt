@@ -1,15 +1,16 @@
 //! Actions of a session: it enters with its label, does what it asks for, and leaves.
 
 ghost use Rattle.std.specs.Prelude.{◌≡◌, ◌<◌, ◌≤◌, ◌+◌, ◌^◌, ℕ, [], None, Some, length};
+ghost use Rattle.pfs_admin.specs.Setups.{has_changed, most_of};
 ghost use Rattle.pfs_admin.specs.States.{connected, has_quit};
 ghost use Rattle.pfs_admin.specs.Truncations.{has_truncated, truncation_cost};
 ghost use Rattle.pfs_admin.specs.Works.{Leaves};
-ghost use Rattle.pfs_parts.specs.Deeds.{Connecting, Quitting, Truncating};
+ghost use Rattle.pfs_parts.specs.Deeds.{Changing, Connecting, IsReplied, Quitting, Truncating};
 ghost use Rattle.pfs_session.specs.Settles.{owed_by_state, settle_cost};
 ghost use Rattle.pfs_session.specs.States.{no_place, nothing_held};
 ghost use Rattle.pfs_actions.specs.Done.{HasActed};
 
-use pfs_admin::{Admin, Truncation};
+use pfs_admin::{Admin, SetupStatement, Truncation};
 use pfs_levels::Acts;
 use pfs_names::NameId;
 use pfs_session::Session;
@@ -104,5 +105,33 @@ pub fn truncate<A: Acts>(session: &mut Session, rows: &mut A, admin: &mut Admin,
 {
     rows.enter(session.label());
     session.truncate(rows, admin, what);
+    rows.leave();
+}
+
+/// Does a statement on a setup table, an action: what the session holds is settled first. The journal gets the answer.
+pub fn act<A: Acts>(session: &mut Session, rows: &mut A, admin: &mut Admin, what: SetupStatement)
+    requires replied { IsReplied what }
+    requires early { session.old.state.actions + 1 < 2 ^ 64 }
+    requires few { admin.old.actions < 2 ^ 47 }
+    requires idle { (r : ℕ) → A.hand rows.old r ≡ None }
+    requires lent { A.words rows.old ≡ Some admin.old.words }
+    requires spare { length (owed_by_state session.old.state) + 1 ≤ A.left rows.old }
+    requires room { settle_cost (owed_by_state session.old.state) + (most_of what + 2) ≤ session.old.journal.room }
+    ensures acted { HasActed (Changing admin.old what) session.old session.new (A.reached rows.old)
+        (A.reached rows.new) }
+    ensures admin { admin.new ≡ has_changed admin.old what }
+    ensures rest { session.new.state ≡ record session.old.state {
+      held = nothing_held;
+      actions = session.old.state.actions + 1;
+      last = session.new.state.last;
+    } }
+    ensures leaves { Leaves (length (owed_by_state session.old.state) + 1)
+        (settle_cost (owed_by_state session.old.state) + (most_of what + 2)) (A.hand rows.old) (A.hand rows.new)
+        (A.left rows.old) (A.left rows.new) (A.draws rows.old) (A.draws rows.new) (A.name rows.old)
+        (A.name rows.new) session.old.journal session.new.journal }
+    ensures lent { A.words rows.new ≡ Some admin.new.words }
+{
+    rows.enter(session.label());
+    session.act(rows, admin, what);
     rows.leave();
 }

@@ -1,6 +1,6 @@
-//! Connects, truncations and ends of sessions, each an action of its own, over any store that begins actions.
+//! Connects, changes by SQL and ends of sessions, each an action of its own, over any store that begins actions.
 #![tactic(auto)]
 
 mod actions;
 
-pub use actions::{connect, quit, truncate};
+pub use actions::{act, connect, quit, truncate};

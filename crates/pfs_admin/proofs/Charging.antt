@@ -13,7 +13,7 @@ use Rattle.pfs_levels.specs.declared.places.Level.TheVariants as levels
 use Rattle.pfs_levels.specs.Flushes.{ask_of, asks_of, beyond, upper}
 use Rattle.pfs_levels.specs.Moves.{Ask, ask, cost}
 use Rattle.pfs_levels.proofs.Flushing.{cost_then}
-use Rattle.pfs_rows.specs.declared.place.Place.TheVariants.{DigestNull, GlobalCell}
+use Rattle.pfs_rows.specs.declared.place.Place.TheVariants.{GlobalCell}
 use Rattle.pfs_rows.specs.declared.table.SummaryTable.{SummaryTable}
 use Rattle.pfs_rows.specs.Rows.{row_number}
 use Rattle.pfs_admin.specs.declared.summaries.Reach.{Reach}
@@ -21,7 +21,8 @@ use Rattle.pfs_admin.proofs.Celling.{one_most}
 use Rattle.pfs_admin.specs.States.{KindCells}
 use Rattle.pfs_truncations.specs.declared.truncations.Truncation.{Truncation}
 use Rattle.pfs_truncations.specs.declared.truncations.Truncation.TheVariants.{Events, Summary, DigestSummary, Accounts, Users, Hosts, SetupActors, SetupObjects}
-use Rattle.pfs_admin.specs.Truncations.{moves_bound, signs_bound, up_to, count_up_to, thread_source, account_source, user_source, host_source, place_asks, asks_at, level_asks, emptied, cleared, digest_ask, digest_asks, lower_asks, upper_asks, reach_asks, summary_asks, all_asks}
+use Rattle.pfs_admin.specs.Changing.{up_to}
+use Rattle.pfs_admin.specs.Truncations.{moves_bound, signs_bound, count_up_to, thread_source, account_source, user_source, host_source, place_asks, asks_at, level_asks, emptied, cleared, digest_ask, digest_asks, lower_asks, upper_asks, reach_asks, summary_asks, all_asks}
 
 -- each cell costs as much
 pub cells_cost : (source : Source) (each : ℕ) (cells : List ℕ) → ((cell : ℕ) → each ≡ 1 + length (ask_of source cell).to)

@@ -3,14 +3,20 @@ use Rattle.std.proofs.Common.{ℕ, ◌≡◌, ◌+◌, List, [], ◌∷◌, ◌+
 use Rattle.pfs_board.specs.declared.view.Label.{Label}
 use Rattle.pfs_classes.specs.declared.setting.Setting.{Setting}
 use Rattle.pfs_admin.specs.declared.changes.Change.{Change}
-use Rattle.pfs_admin.specs.declared.changes.Change.TheVariants.{Connect, Quit, Truncate, Show}
+use Rattle.pfs_admin.specs.declared.changes.Change.TheVariants.{Connect, Quit, Truncate, Setup}
 use Rattle.pfs_admin.specs.Fold.{stepped, state_from, state_of, Follows}
 use Rattle.pfs_admin.specs.Laws.{StepLaw, CountLaw, FixedLaw}
 use Rattle.pfs_admin.specs.Opening.{opened}
-use Rattle.pfs_admin.specs.States.{State, AreEarly, IsState, thread_flags, seat_at, seat_in, noted}
-use Rattle.pfs_admin.proofs.Costs.{early_by, early_wider}
+use Rattle.pfs_admin.specs.Setups.{first_of, flags_after, most_of, words_after}
+use Rattle.pfs_admin.specs.declared.changes.SetupStatement.{SetupStatement}
+use Rattle.pfs_levels.specs.declared.answers.Word.{Word}
+use Rattle.pfs_matching.specs.declared.actor_rows.ActorRow.{ActorRow}
+use Rattle.pfs_matching.specs.declared.object_rows.ObjectRow.{ObjectRow}
+use Rattle.pfs_setups.specs.Rows.{Naming, naming_of}
+use Rattle.pfs_admin.specs.States.{State, AreEarly, IsState, thread_flags, seat_at, seat_in, naming_in}
+use Rattle.pfs_admin.proofs.Costs.{early_by}
 use Rattle.pfs_admin.proofs.Opened.{opened_early}
-use Rattle.pfs_admin.proofs.Setting.{early_behind}
+use Rattle.pfs_admin.proofs.Setting.{early_behind, changed_early, changed_length}
 
 then_one : (change : Label → Change) (s : State) (labels : List Label) (label : Label)
     → state_from change s (labels ++ label ∷ []) ≡ stepped (state_from change s labels) label.session (change label)
@@ -35,7 +41,7 @@ step_law session what s = follows session what s (stepped s session what) refl
 record IsStep (s next : State) : Type 0 where
   count : next.actions ≡ s.actions + 1
   early : AreEarly s.actions s.words → AreEarly (s.actions + 1) next.words
-  names : next.names ≡ s.names
+  names : naming_in next ≡ naming_in s
   cells : next.cells ≡ s.cells
   kinds : next.kinds ≡ s.kinds
 
@@ -61,12 +67,18 @@ is_step s session (Truncate what) = record {
   cells = refl;
   kinds = refl;
 }
-is_step s session Show = record { count = refl; early = λ e. early_wider s.actions s.words e; names = refl; cells = refl; kinds = refl }
+is_step s session (Setup what) = record {
+  count = refl;
+  early = λ e. changed_early (flags_after s what) s.actions (first_of what) (most_of what) s.words e;
+  names = refl;
+  cells = refl;
+  kinds = refl;
+}
 
 record IsAfter (n : ℕ) (s last : State) : Type 0 where
   count : last.actions ≡ s.actions + n
   early : AreEarly last.actions last.words
-  names : last.names ≡ s.names
+  names : naming_in last ≡ naming_in s
   cells : last.cells ≡ s.cells
   kinds : last.kinds ≡ s.kinds
 
@@ -96,19 +108,27 @@ count_law setting change labels s is =
     let count : s.actions ≡ length labels = ap (λ (z : State). z.actions) is ∙ (after.count ∙ omega arith) in
     (count, subst (λ n. AreEarly n s.words) count (subst (λ (z : State). AreEarly z.actions z.words) (sym is) after.early))
 
+opened_names : (setting : Setting) → naming_in (opened setting) ≡ naming_of setting
+unfolding naming_of
+opened_names setting = refl
+
 pub fixed_law : FixedLaw
+unfolding naming_of
 fixed_law setting change labels s is =
-    let after : IsAfter (length labels) (opened setting) (state_of setting change labels) = after_opening setting change labels in (
-      ap (λ (z : State). z.names) is ∙ after.names,
+    let after : IsAfter (length labels) (opened setting) (state_of setting change labels) = after_opening setting change labels in
+    let names : naming_in s ≡ naming_in (opened setting) = ap naming_in is ∙ after.names in (
+      ap (λ (z : Naming). z.names) names,
       ap (λ (z : State). z.cells) is ∙ after.cells,
       ap (λ (z : State). z.kinds) is ∙ after.kinds,
+      names ∙ opened_names setting,
     )
 
--- an action that changes nothing keeps what always holds
-pub note_keeps : (s : State) → IsState s → IsState (noted s)
-note_keeps s is = record {
-  words_wide = is.words_wide;
-  words_early = early_wider s.actions s.words is.words_early;
+-- a statement keeps what always holds
+pub changed_keeps : (s : State) (what : SetupStatement) (words : List Word) (actors : List ActorRow) (objects : List ObjectRow) → IsState s
+    → words ≡ words_after s what → IsState (record s { words = words; actors = actors; objects = objects; actions = s.actions + 1 })
+changed_keeps s what words actors objects is e = record {
+  words_wide = ap length e ∙ (changed_length (flags_after s what) s.words (first_of what) (most_of what) ∙ is.words_wide);
+  words_early = subst (AreEarly (s.actions + 1)) (sym e) (changed_early (flags_after s what) s.actions (first_of what) (most_of what) s.words is.words_early);
   connects_few = omega (arith, is.connects_few);
   cells_small = is.cells_small;
   cells_few = is.cells_few;

@@ -7,7 +7,8 @@ use Rattle.pfs_levels.specs.declared.places.Level.TheVariants as levels
 use Rattle.pfs_admin.specs.declared.remaining.Standing.{Standing}
 use Rattle.pfs_truncations.specs.declared.truncations.Truncation.{Truncation}
 use Rattle.pfs_truncations.specs.declared.truncations.Truncation.TheVariants.{Events, Summary, DigestSummary, Accounts, Users, Hosts, SetupActors, SetupObjects}
-use Rattle.pfs_admin.specs.Truncations.{up_to, count_up_to, standing, sign_at, place_sign, first_row, content_at, level_signs, truncation_signs, signs_most, is_there, was_by, IsStanding}
+use Rattle.pfs_admin.specs.Changing.{up_to}
+use Rattle.pfs_admin.specs.Truncations.{count_up_to, standing, sign_at, place_sign, first_row, content_at, level_signs, truncation_signs, signs_most, is_there, was_by, IsStanding}
 
 pub count_next : (test : ℕ → Bool) (n : ℕ) → count_up_to test (n + 1) ≡ count_up_to test n + cond (test n) 1 0
 count_next test n = let next : n + 1 ≡ suc n = omega arith in ap (count_up_to test) next

@@ -10,7 +10,8 @@ use Rattle.pfs_rows.specs.declared.place.Place.TheVariants.{GlobalCell}
 use Rattle.pfs_rows.specs.Rows.{row_number}
 use Rattle.pfs_levels.proofs.Flushing.{cost_then, stays_more}
 use Rattle.pfs_levels.proofs.Moving.{moved_none}
-use Rattle.pfs_admin.specs.Truncations.{up_to, asks_at, level_asks, digest_ask, digest_asks}
+use Rattle.pfs_admin.specs.Changing.{up_to}
+use Rattle.pfs_admin.specs.Truncations.{asks_at, level_asks, digest_ask, digest_asks}
 
 pub up_next : {X : Type 0} (f : ℕ → List X) (n : ℕ) → up_to f (n + 1) ≡ up_to f n ++ f n
 up_next f n = let next : n + 1 ≡ suc n = omega arith in ap (up_to f) next

@@ -13,3 +13,4 @@ pub mod Levelling
 pub mod Setting
 pub mod Leftover
 pub mod Charging
+pub mod Wording

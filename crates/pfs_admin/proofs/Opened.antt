@@ -6,6 +6,7 @@ use Rattle.pfs_classes.specs.declared.setting.Setting.{Setting}
 use Rattle.pfs_matching.specs.declared.object_rows.ObjectRow.{ObjectRow}
 use Rattle.pfs_matching.specs.ObjectRules.{opening_objects}
 use Rattle.pfs_levels.specs.Plain.{word}
+use Rattle.pfs_setups.specs.Rows.{naming_of}
 use Rattle.pfs_admin.specs.Laws.{NoRowLaw}
 use Rattle.pfs_admin.specs.States.{AreEarly, AreKindCells, IsState}
 use Rattle.pfs_admin.specs.Opening.{word_flags, opening_flags, opened}
@@ -54,3 +55,8 @@ opened_holds setting small few kinds = record {
 pub none_on : NoRowLaw
 none_on None = refl
 none_on (Some table) = refl
+
+-- what a setting fixes of the rows' names
+pub fixed_names : (setting : Setting) → ((naming_of setting).names ≡ setting.names) × ((naming_of setting).tables ≡ setting.tables)
+unfolding naming_of
+fixed_names setting = (refl, refl)

@@ -1,9 +1,10 @@
 -- Rows that are released one after another.
-use Rattle.std.proofs.Common.{ℕ, zero, suc, ◌≡◌, ◌≤◌, ◌+◌, ◌*◌, Bool, List, [], Option, refl, ap, arith}
+use Rattle.std.proofs.Common.{ℕ, ◌≡◌, ◌≤◌, Bool, List, Option, ap, arith}
 use Rattle.pfs_levels.specs.declared.answers.Word.{Word}
 use Rattle.pfs_levels.specs.Journal.{Journal}
 use Rattle.pfs_levels.specs.Moves.{Stays}
-use Rattle.pfs_admin.specs.Truncations.{up_to, freed_at, free_rows, free_slot, free_threads}
+use Rattle.pfs_admin.specs.Changing.{up_to}
+use Rattle.pfs_admin.specs.Truncations.{freed_at, free_rows, free_slot, free_threads}
 
 pub rows_whole : (first count n : ℕ) → n ≡ count → up_to (freed_at first) n ≡ free_rows first count
 unfolding free_rows

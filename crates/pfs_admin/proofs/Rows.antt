@@ -1,5 +1,5 @@
 -- The rows that an action names ascend.
-use Rattle.std.proofs.Common.{ℕ, zero, suc, ◌≡◌, ◌≤◌, ◌<◌, ◌+◌, ◌*◌, List, [], ◌∷◌, ◌++◌, map, Option, Some, None, IfSome, subst, sym, refl, ap, ◌∙◌, arith}
+use Rattle.std.proofs.Common.{ℕ, zero, suc, ◌≡◌, ◌≤◌, ◌<◌, ◌+◌, ◌*◌, List, [], ◌∷◌, ◌++◌, map, Option, Some, None, IfSome, subst, sym, refl, ap, arith}
 use Rattle.std.specs.Option.{option_map}
 use Rattle.pfs_containers.specs.declared.containers.Connection.{Connection}
 use Rattle.pfs_containers.specs.declared.containers.Seated.{Seated}
@@ -12,7 +12,8 @@ use Rattle.pfs_levels.specs.declared.places.Up.{Up}
 use Rattle.pfs_levels.specs.Flushes.{Ascends, ask_of, asks_of, from_of}
 use Rattle.pfs_admin.specs.Asks.{tag_of, account_tag, user_tag, host_tag, upper_tags, up_of}
 use Rattle.pfs_admin.specs.Laws.{row_of, ConnectRows, QuitRows}
-use Rattle.pfs_admin.specs.Truncations.{up_to, freed_at, free_rows, free_ring}
+use Rattle.pfs_admin.specs.Changing.{up_to}
+use Rattle.pfs_admin.specs.Truncations.{freed_at, free_rows, free_ring}
 use Rattle.pfs_admin.specs.Works.{Sign}
 
 wider : (low low2 limit : ℕ) (xs : List ℕ) → low2 ≤ low → Ascends low limit xs → Ascends low2 limit xs
@@ -102,11 +103,19 @@ with_ring low slot tags s l a =
     subst (Ascends low 10242) (sym (mapped tags (free_ring slot)))
     (two_runs low 129 10242 (map row_of tags) (map row_of (free_ring slot)) (omega arith) l a wide)
 
+low_ring : (slot : ℕ) → slot < 32 → Ascends 8450 10242 (map row_of (free_ring slot))
+low_ring slot l =
+    wider (8450 + 56 * slot) 8450 10242 (map row_of (free_ring slot)) (omega arith)
+    (higher (8450 + 56 * slot) (8450 + 56 * slot + 56) 10242 (map row_of (free_ring slot)) (omega (arith, l)) (frees_ascend (8450 + 56 * slot) 56))
+
 pub quit_rows : QuitRows
-quit_rows words cells after seat is a = (
-  wider (129 + 64 * seat.slot + 0) 129 2177 (map from_of (asks_of cells (of.Thread (up_of seat)))) (omega arith) (cells_ascend (up_of seat) 0 cells is.slot a),
-  (
-    omega arith,
-    (omega (arith, is.slot), with_ring (1 + seat.slot + 1) seat.slot (upper_tags after seat.connection) is.slot (omega (arith, is.slot)) (behind_slot after seat is)),
-  ),
-)
+quit_rows words cells after seat is a =
+    let tags : Ascends (1 + seat.slot + 1) 129 (map row_of (upper_tags after seat.connection)) = behind_slot after seat is in (
+      wider (129 + 64 * seat.slot + 0) 129 2177 (map from_of (asks_of cells (of.Thread (up_of seat)))) (omega arith) (cells_ascend (up_of seat) 0 cells is.slot a),
+      (
+        omega arith,
+        (omega (arith, is.slot), with_ring (1 + seat.slot + 1) seat.slot (upper_tags after seat.connection) is.slot (omega (arith, is.slot)) tags),
+      ),
+      (omega arith, (omega (arith, is.slot), tags)),
+      low_ring seat.slot is.slot,
+    )

@@ -90,5 +90,17 @@ worked_behind work words entry old mid new was now e w = record {
   };
 }
 
+-- words alone are set
+pub worked_words : (words : List Word) (flags : List Flagging) (old new : Journal) (was now : Opening → List Call → Type 0)
+    → Did (flagging_calls words flags) (flagging_entries words flags) old new was now
+    → Worked (record { moves = []; signs = []; flags = flags }) words [] old new was now
+worked_words words flags old new was now did = record {
+  moves = [];
+  made = [];
+  are_moves = refl;
+  signs_are = refl;
+  did = did_as _ _ _ _ old new was now (sym (append-nil (flagging_calls words flags))) refl did;
+}
+
 pub worked_nothing : (words : List Word) (log : Journal) (was : Opening → List Call → Type 0) → Worked no_work words [] log log was was
 worked_nothing words log was = record { moves = []; made = []; are_moves = refl; signs_are = refl; did = did_none log was }

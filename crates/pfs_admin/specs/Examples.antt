@@ -7,7 +7,8 @@ use Rattle.pfs_levels.specs.Moves.{ask}
 use Rattle.pfs_levels.specs.Plain.{word}
 use Rattle.pfs_matching.specs.ActorRules.{opening_actors}
 use Rattle.pfs_admin.specs.declared.changes.Change.{Change}
-use Rattle.pfs_admin.specs.declared.changes.Change.TheVariants.{Connect, Quit, Show}
+use Rattle.pfs_admin.specs.declared.changes.Change.TheVariants.{Connect, Quit, Setup}
+use Rattle.pfs_admin.specs.declared.changes.SetupStatement.TheVariants.{Show}
 use Rattle.pfs_admin.specs.Asks.{work_of_quit, connect_entry}
 use Rattle.pfs_admin.specs.Fold.{state_from}
 use Rattle.pfs_admin.specs.Laws.{row_of}
@@ -18,7 +19,7 @@ label session line = record { session = session; line = line }
 
 -- each session connects in its first line; in its second, session 1 ends and session 2 reads
 abbrev pub change : Label → Change
-change l = if l.line == 1 then Connect 0 1 else if l.session == 1 then Quit else Show
+change l = if l.line == 1 then Connect 0 1 else if l.session == 1 then Quit else Setup Show
 
 -- two slots, and one place of each other kind
 abbrev pub nobody : Kept
@@ -49,6 +50,8 @@ start = record {
   actors = opening_actors;
   objects = [];
   names = codes "u" ∷ codes "h" ∷ [];
+  classes = [];
+  tables = [];
   cells = 0 ∷ 62 ∷ 63 ∷ [];
   kinds = record { waits = 0 ∷ []; stages = []; statements = []; transactions = 62 ∷ 63 ∷ []; digests = 2 };
   actions = 0;

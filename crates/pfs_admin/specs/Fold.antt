@@ -3,8 +3,9 @@ use Rattle.std.specs.Prelude.{ℕ, ◌≡◌, List, [], ◌∷◌, ◌++◌}
 use Rattle.pfs_board.specs.declared.view.Label.{Label}
 use Rattle.pfs_classes.specs.declared.setting.Setting.{Setting}
 use Rattle.pfs_admin.specs.declared.changes.Change.{Change}
-use Rattle.pfs_admin.specs.declared.changes.Change.TheVariants.{Connect, Quit, Truncate, Show}
-use Rattle.pfs_admin.specs.States.{State, connected, has_quit, noted}
+use Rattle.pfs_admin.specs.declared.changes.Change.TheVariants.{Connect, Quit, Truncate, Setup}
+use Rattle.pfs_admin.specs.States.{State, connected, has_quit}
+use Rattle.pfs_admin.specs.Setups.{has_changed}
 use Rattle.pfs_admin.specs.Opening.{opened}
 use Rattle.pfs_admin.specs.Truncations.{has_truncated}
 
@@ -13,7 +14,7 @@ abbrev pub stepped : State → ℕ → Change → State
 stepped s session (Connect user host) = connected s session user host
 stepped s session Quit = has_quit s session
 stepped s session (Truncate what) = has_truncated s what
-stepped s session Show = noted s
+stepped s session (Setup what) = has_changed s what
 
 -- the state behind the actions of these labels, the oldest first
 unfoldable pub state_from : (Label → Change) → State → List Label → State

@@ -1,5 +1,7 @@
 pub mod Works
 pub mod States
+pub mod Changing
+pub mod Setups
 pub mod Asks
 pub mod Opening
 pub mod Fold

@@ -13,6 +13,7 @@ use Rattle.pfs_levels.specs.Plain.{word}
 use Rattle.pfs_readsets.specs.Places.{is_kind_cell}
 use Rattle.pfs_rows.specs.declared.table.TableKind.{TableKind}
 use Rattle.pfs_rows.specs.declared.table.TableKind.TheVariants.{Waits, Stages, Statements, Transactions}
+use Rattle.pfs_setups.specs.Rows.{naming_of}
 use Rattle.pfs_admin.specs.States.{State, KindCells, flags_of}
 
 -- of a class that is registered, ENABLED and TIMED
@@ -61,6 +62,8 @@ opened setting = record {
   actors = opening_actors;
   objects = opening_objects;
   names = setting.names;
+  classes = (naming_of setting).classes;
+  tables = setting.tables;
   cells = cells_of setting.classes;
   kinds = kinds_of setting;
   actions = 0;

@@ -1,6 +1,7 @@
 -- The administration's state, and its steps.
 use Rattle.std.specs.Prelude.{ℕ, ◌≡◌, ◌+◌, ◌==◌, ◌≤◌, ◌<◌, Bool, if◌then◌else◌, List, [], ◌∷◌, length, All, Option, Some, None}
 use Rattle.std.specs.List.{slice_index_or}
+use Rattle.pfs_classes.specs.declared.setting.TableName.{TableName}
 use Rattle.pfs_containers.specs.Administration.{found_where}
 use Rattle.pfs_containers.specs.declared.containers.Seated.{Seated}
 use Rattle.pfs_containers.specs.Kept.{Kept, with_connect, with_quit, seat_of, seated}
@@ -10,6 +11,7 @@ use Rattle.pfs_matching.specs.ActorRules.{actor_flags}
 use Rattle.pfs_levels.specs.declared.answers.Word.{Word}
 use Rattle.pfs_rows.specs.declared.table.TableKind.{TableKind}
 use Rattle.pfs_rows.specs.declared.table.TableKind.TheVariants.{Waits, Stages, Statements, Transactions}
+use Rattle.pfs_setups.specs.Rows.{Naming}
 use Rattle.pfs_admin.specs.Works.{flagged}
 
 -- the cells of the registered classes of each kind of event, ascending; and how many digest texts have a place
@@ -26,18 +28,24 @@ kind_cells k Stages = k.stages
 kind_cells k Statements = k.statements
 kind_cells k Transactions = k.transactions
 
--- who is connected where; the switch words; the rows of setup_actors and setup_objects. The names by id and the cells
--- of the registered classes, all and by their kinds, ascending, never change, nor does how many digests have a place.
--- And how many actions there were.
+-- who is connected where; the switch words; the rows of setup_actors and setup_objects. The names by id, of each class
+-- by id the id of its name, the tables by number, and the cells of the registered classes, all and by their kinds,
+-- ascending, never change, nor does how many digests have a place. And how many actions there were.
 pub record State : Type 0 where
   pub kept : Kept
   pub words : List Word
   pub actors : List ActorRow
   pub objects : List ObjectRow
   pub names : List (List ℕ)
+  pub classes : List (Option ℕ)
+  pub tables : List TableName
   pub cells : List ℕ
   pub kinds : KindCells
   pub actions : ℕ
+
+-- what the rows of the setup tables are named by
+abbrev pub naming_in : State → Naming
+naming_in s = record { names = s.names; classes = s.classes; tables = s.tables }
 
 abbrev pub flags_of : Bool × Bool → ℕ
 flags_of pair = (if pair.0 then 1 else 0) + (if pair.1 then 2 else 0)
@@ -73,10 +81,6 @@ has_quit s number = record s {
   words = words_by s.words 0 (seat_in s number);
   actions = s.actions + 1;
 }
-
--- an action that changes nothing else
-abbrev pub noted : State → State
-noted s = record s { actions = s.actions + 1 }
 
 -- no word was set more often than there were actions
 abbrev pub AreEarly : ℕ → List Word → Type 0

@@ -37,12 +37,8 @@ use Rattle.pfs_admin.specs.declared.summaries.Reach.{Reach}
 use Rattle.pfs_truncations.specs.declared.truncations.Truncation.{Truncation}
 use Rattle.pfs_truncations.specs.declared.truncations.Truncation.TheVariants.{Events, Summary, DigestSummary, Accounts, Users, Hosts, SetupActors, SetupObjects}
 use Rattle.pfs_admin.specs.States.{State, KindCells, kind_cells}
-use Rattle.pfs_admin.specs.Works.{Sign, Releases, Tags, Work, Flagging, flagging, flagged}
-
--- what each of the first n numbers gives, one after another
-abbrev pub up_to : {X : Type 0} → (ℕ → List X) → ℕ → List X
-up_to f zero = []
-up_to f (suc n) = up_to f n ++ f n
+use Rattle.pfs_admin.specs.Changing.{up_to, flags_changed, words_changed}
+use Rattle.pfs_admin.specs.Works.{Sign, Releases, Tags, Work, Flagging}
 
 abbrev pub thread_source : ℕ → Connection → Source
 thread_source place x =
@@ -220,18 +216,14 @@ truncation_signs was after SetupObjects = []
 
 -- without any row of `setup_objects` no table is instrumented: of the words from 96 on, the 64 of the tables, those
 -- that aren't off are set
-abbrev pub off_at : List Word → ℕ → List Flagging
-off_at words table = flagging words (96 + table) 0
+abbrev pub off : ℕ → ℕ → ℕ
+off word flags = 0
 
-abbrev pub off_up_to : List Word → ℕ → List Word
-off_up_to words zero = words
-off_up_to words (suc n) = flagged (off_up_to words n) (96 + n) 0
+abbrev pub off_flags : List Word → List Flagging
+off_flags words = flags_changed off words 96 64
 
-unfoldable pub off_flags : List Word → List Flagging
-off_flags words = up_to (off_at words) 64
-
-unfoldable pub off_words : List Word → List Word
-off_words words = off_up_to words 64
+abbrev pub off_words : List Word → List Word
+off_words words = words_changed off words 96 64
 
 -- no other table changes a word
 abbrev pub truncation_flags : List Word → Truncation → List Flagging

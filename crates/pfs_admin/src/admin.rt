@@ -1,10 +1,13 @@
 //! The administration's calls.
 
 ghost use Rattle.std.specs.Prelude.{◌≡◌, ◌<◌, ◌≤◌, ◌+◌, ◌*◌, ◌^◌, ◌∷◌, [], ℕ, Some, None, IfOk, IfSome, length};
+ghost use Rattle.pfs_changes.specs.Inserts.{table_of};
 ghost use Rattle.pfs_containers.specs.Kept.{lost_in};
 ghost use Rattle.pfs_admin.specs.Works.{Worked, Leaves};
-ghost use Rattle.pfs_admin.specs.States.{thread_flags, connected, has_quit, noted, seat_at, seat_in, name_text};
-ghost use Rattle.pfs_admin.specs.declared.changes.Change.TheVariants.{Connect, Quit, Truncate, Show};
+ghost use Rattle.pfs_admin.specs.States.{thread_flags, connected, has_quit, seat_at, seat_in, name_text};
+ghost use Rattle.pfs_admin.specs.declared.changes.Change.TheVariants.{Connect, Quit, Truncate, Setup};
+ghost use Rattle.pfs_admin.specs.declared.changes.SetupStatement.TheVariants as statements;
+ghost use Rattle.pfs_admin.specs.Setups.{has_changed, reply_of as spec_reply_of, reply_to, word_count, work_of_statement};
 ghost use Rattle.pfs_admin.specs.Fold.{Follows};
 ghost use Rattle.pfs_admin.specs.Opening.{opened};
 ghost use Rattle.pfs_admin.specs.Truncations.{actors_behind, objects_behind, has_truncated, truncation_cost, work_of_truncation};
@@ -12,17 +15,20 @@ ghost use Rattle.pfs_admin.specs.Asks.{work_of_connect, work_of_quit, connect_en
 
 use crate::NoMemory;
 use crate::cells::CellsByKind;
+use crate::changes::Reply;
 use crate::charges::{flags_cost, moves_cost, signs_cost};
-use crate::opening::{both_flags, cells_of, opening_flags, texts_of, words_of};
+use crate::opening::{both_flags, cells_of, names_of, opening_flags, words_of};
+use crate::setups::{flags_of, set_deleted, set_inserted, set_updated, table_of};
 use crate::threads::{write_connect, write_quit};
 use crate::truncations::write_truncation;
+use pfs_changes::{Delete, Insert, Update};
 use pfs_classes::Setting;
 use pfs_containers::{Containers, Lost, Seated};
 use pfs_event::Entry;
 use pfs_levels::{Hold, Log, Word};
 use pfs_matching::{Actors, Objects};
 use pfs_names::NameId;
-use pfs_text::Text;
+use pfs_setups::{RowNames, delete, insert, update};
 use pfs_truncations::Truncation;
 use std::alloc::Global;
 use std::marker::Model;
@@ -37,15 +43,15 @@ pub struct Placed {
 }
 
 /// The administration: who is connected where, the switch words as they stand, the rows of `setup_actors` and
-/// `setup_objects`, and how many actions there were. Its caller changes it inside row 0 alone; `connect`, `quit` and
-/// `truncate` are one action each.
+/// `setup_objects`, and how many actions there were. Its caller changes it inside row 0 alone; `connect`, `quit`,
+/// `truncate`, `update`, `insert`, `delete` and `note` are one action each.
 #[derive(Drop)]
 pub struct Admin {
     containers: Containers,
     words: Vec<Word>,
     actors: Actors,
     objects: Objects,
-    names: Vec<Text>,
+    names: RowNames,
     cells: Vec<u64>,
     kinds: CellsByKind,
     actions: u64,
@@ -61,7 +67,9 @@ impl Model for Admin {
       words = s.words.items;
       actors = s.actors;
       objects = s.objects;
-      names = s.names.items;
+      names = s.names.names;
+      classes = s.names.classes;
+      tables = s.names.tables;
       cells = s.cells.items;
       kinds = s.kinds;
       actions = s.actions;
@@ -72,7 +80,9 @@ impl Model for Admin {
       words = s.words.items;
       actors = s.actors;
       objects = s.objects;
-      names = s.names.items;
+      names = s.names.names;
+      classes = s.names.classes;
+      tables = s.names.tables;
       cells = s.cells.items;
       kinds = s.kinds;
       actions = s.actions;
@@ -91,7 +101,7 @@ impl Admin {
             words: words_of(alloc, flags.as_slice())?,
             actors: Actors::open(alloc)?,
             objects,
-            names: texts_of(alloc, &setting.names)?,
+            names: names_of(alloc, setting)?,
             cells: cells_of(alloc, &setting.classes)?,
             kinds: CellsByKind::open(alloc, setting)?,
             actions: 0,
@@ -216,6 +226,108 @@ impl Admin {
         moves + signs_cost(&self.containers, what) + flags_cost(what)
     }
 
+    /// Changes flags of a setup table's rows, an action: of each row that is met those that are named become as asked.
+    /// The flags of `setup_actors` and `setup_objects` are the administration's own; the others' stand in switch words,
+    /// and of those behind `setup_objects` all tables are decided again. The log gets a `set` for each word whose flags
+    /// change, ascending; the action's `act` entry is the caller's. Answers how many rows are met, also where they stay
+    /// as they were.
+    pub fn update<H: Hold>(&mut self, rows: &mut H, what: &Update, log: &mut Log) -> Reply
+        requires few { self.old.actions < 2 ^ 47 }
+        requires lent { H.words rows.old ≡ Some self.old.words }
+        requires room { word_count what.now.table ≤ log.old.room }
+        ensures step { self.new ≡ has_changed self.old (statements.Update what.now) }
+        ensures stands { (session : ℕ) → Follows session (Setup (statements.Update what.now)) self.old self.new }
+        ensures reply { result ≡ reply_to self.old (statements.Update what.now) }
+        ensures worked { Worked (work_of_statement self.old (statements.Update what.now)) self.old.words [] log.old
+            log.new (H.reached rows.old) (H.reached rows.new) }
+        ensures lent { H.words rows.new ≡ Some self.new.words }
+        ensures leaves { Leaves 0 (word_count what.now.table) (H.hand rows.old) (H.hand rows.new) (H.left rows.old)
+            (H.left rows.new) (H.draws rows.old) (H.draws rows.new) (H.name rows.old) (H.name rows.new) log.old
+            log.new }
+    {
+        let flags = flags_of(self.words.as_slice());
+        let met = update(
+            &self.names,
+            &self.containers,
+            &mut self.actors,
+            &mut self.objects,
+            &flags,
+            what,
+        );
+        set_updated(
+            rows,
+            &self.names,
+            &self.containers,
+            &self.objects,
+            self.words.as_mut_slice(),
+            what,
+            log,
+        );
+        self.actions += 1;
+        Reply::Changed(met)
+    }
+
+    /// Adds a row to `setup_actors` or `setup_objects`, an action. Answers 1; or the number of an error, 1062 where a
+    /// row with its key is there, else 1114 where there are 100 rows, and then changes nothing. The log gets what
+    /// [update](Admin::update) gives it.
+    pub fn insert<H: Hold>(&mut self, rows: &mut H, what: Insert, log: &mut Log) -> Reply
+        requires few { self.old.actions < 2 ^ 47 }
+        requires lent { H.words rows.old ≡ Some self.old.words }
+        requires room { word_count (table_of what.row) ≤ log.old.room }
+        ensures step { self.new ≡ has_changed self.old (statements.Insert what) }
+        ensures stands { (session : ℕ) → Follows session (Setup (statements.Insert what)) self.old self.new }
+        ensures reply { result ≡ reply_to self.old (statements.Insert what) }
+        ensures worked { Worked (work_of_statement self.old (statements.Insert what)) self.old.words [] log.old
+            log.new (H.reached rows.old) (H.reached rows.new) }
+        ensures lent { H.words rows.new ≡ Some self.new.words }
+        ensures leaves { Leaves 0 (word_count (table_of what.row)) (H.hand rows.old) (H.hand rows.new) (H.left rows.old)
+            (H.left rows.new) (H.draws rows.old) (H.draws rows.new) (H.name rows.old) (H.name rows.new) log.old
+            log.new }
+    {
+        let table = table_of(&what.row);
+        let answer = insert(&mut self.actors, &mut self.objects, what);
+        set_inserted(
+            rows,
+            &self.names,
+            &self.objects,
+            self.words.as_mut_slice(),
+            table,
+            &answer,
+            log,
+        );
+        self.actions += 1;
+        reply_of(answer)
+    }
+
+    /// Removes the rows of `setup_actors` or `setup_objects` that are met, an action, and answers how many there were.
+    /// The log gets what [update](Admin::update) gives it.
+    pub fn delete<H: Hold>(&mut self, rows: &mut H, what: &Delete, log: &mut Log) -> Reply
+        requires few { self.old.actions < 2 ^ 47 }
+        requires lent { H.words rows.old ≡ Some self.old.words }
+        requires room { word_count what.now.table ≤ log.old.room }
+        ensures step { self.new ≡ has_changed self.old (statements.Delete what.now) }
+        ensures stands { (session : ℕ) → Follows session (Setup (statements.Delete what.now)) self.old self.new }
+        ensures reply { result ≡ reply_to self.old (statements.Delete what.now) }
+        ensures worked { Worked (work_of_statement self.old (statements.Delete what.now)) self.old.words [] log.old
+            log.new (H.reached rows.old) (H.reached rows.new) }
+        ensures lent { H.words rows.new ≡ Some self.new.words }
+        ensures leaves { Leaves 0 (word_count what.now.table) (H.hand rows.old) (H.hand rows.new) (H.left rows.old)
+            (H.left rows.new) (H.draws rows.old) (H.draws rows.new) (H.name rows.old) (H.name rows.new) log.old
+            log.new }
+    {
+        let met = delete(&mut self.actors, &mut self.objects, what);
+        set_deleted(
+            rows,
+            &self.names,
+            &self.objects,
+            self.words.as_mut_slice(),
+            what.table,
+            log,
+        );
+        self.actions += 1;
+        Reply::Changed(met)
+    }
+
     /// How many actions there were.
     pub fn actions(&self) -> u64
         ensures { result ≡ self.now.actions }
@@ -232,10 +344,11 @@ impl Admin {
     }
 
     /// An action that changes nothing: the rows of `setup_actors` or `setup_objects` were read.
+    #[tactic(auto, unfolding(crate::specs::Changing::words_changed))]
     pub fn note(&mut self)
         requires { self.old.actions < 2 ^ 47 }
-        ensures step { self.new ≡ noted self.old }
-        ensures stands { (session : ℕ) → Follows session Show self.old self.new }
+        ensures step { self.new ≡ has_changed self.old statements.Show }
+        ensures stands { (session : ℕ) → Follows session (Setup statements.Show) self.old self.new }
     {
         // It writes nothing: the entry is its caller's.
         self.actions += 1;
@@ -261,10 +374,20 @@ impl Admin {
         requires host { host < length self.now.names }
         ensures { result ≡ thread_flags self.now user host }
     {
-        let user = self.names[user.0 as usize].as_bytes();
-        let host = self.names[host.0 as usize].as_bytes();
+        let names = self.names.names();
+        let user = names[user.0 as usize].as_bytes();
+        let host = names[host.0 as usize].as_bytes();
         let (enabled, history) = self.actors.decide(user, host);
         both_flags(enabled, history)
+    }
+}
+
+fn reply_of(answer: Result<u64, u16>) -> Reply
+    ensures { result ≡ spec_reply_of answer }
+{
+    match answer {
+        Ok(count) => Reply::Changed(count),
+        Err(error) => Reply::Error(error),
     }
 }
 

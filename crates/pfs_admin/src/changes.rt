@@ -1,10 +1,11 @@
 //! What an action changes, and what it answers.
 
+use pfs_changes::{Delete, Insert, Update};
 use pfs_names::NameId;
 use pfs_truncations::Truncation;
 
 /// What an action changes.
-#[derive(Clone, Copy, Debug, PartialEq, Eq)]
+#[derive(Debug, Drop)]
 pub enum Change {
     /// The session connects, with the ids of its user's and its host's names.
     Connect { user: NameId, host: NameId },
@@ -12,7 +13,17 @@ pub enum Change {
     Quit,
     /// A table is truncated.
     Truncate(Truncation),
-    /// Nothing: the rows of `setup_actors` or `setup_objects` are read.
+    /// A statement on the setup tables.
+    Setup(SetupStatement),
+}
+
+/// A statement on the setup tables that is an action.
+#[derive(Debug, Drop)]
+pub enum SetupStatement {
+    Update(Update),
+    Insert(Insert),
+    Delete(Delete),
+    /// The rows of `setup_actors` or `setup_objects` are read; nothing changes.
     Show,
 }
 

@@ -2,7 +2,7 @@
 
 ghost use Rattle.pfs_admin.specs.Examples.{WorkedFold};
 ghost use Rattle.pfs_admin.specs.Truncated.{WorkedTruncations};
-ghost use Rattle.pfs_admin.specs.Laws.{StepLaw, CountLaw, FixedLaw, NoRowLaw, ConnectRows, QuitRows};
+ghost use Rattle.pfs_admin.specs.Laws.{StepLaw, CountLaw, FixedLaw, NoRowLaw, ConnectRows, EachWordLaw, QuitRows};
 
 /// An administration that stands for a list of labels stands for that list and one label more once the step of that
 /// label's session and change was made.
@@ -26,8 +26,8 @@ pub fn rows_of_a_connect_ascend()
     ensures { ConnectRows }
 {}
 
-/// The rows that a quit empties ascend, and so do the info rows that it releases and writes; the latter are all below
-/// the former, and none comes twice.
+/// The rows that a quit empties ascend, and none comes twice; so do the rows that it releases and writes: its info rows,
+/// which lie below those that it empties, and behind them the places of its ring, which lie above.
 pub fn rows_of_a_quit_ascend()
     ensures { QuitRows }
 {}
@@ -46,4 +46,10 @@ pub fn without_rows_no_table_is_on()
 /// number by number.
 pub fn truncations_worked()
     ensures { WorkedTruncations }
+{}
+
+/// Behind a statement on the setup tables each of the 160 words has the flags that the statement gives it, and a version
+/// more exactly where they change.
+pub fn each_word_has_its_flags()
+    ensures { EachWordLaw }
 {}

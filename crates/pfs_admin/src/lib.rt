@@ -11,6 +11,7 @@ pub mod laws;
 mod naming;
 mod opening;
 mod remaining;
+mod setups;
 mod signs;
 mod summaries;
 mod tags;
@@ -18,7 +19,7 @@ mod threads;
 mod truncations;
 
 pub use admin::{Admin, Placed};
-pub use changes::{Change, Reply};
+pub use changes::{Change, Reply, SetupStatement};
 pub use naming::Named;
 pub use opening::opening_flags;
 pub use pfs_containers::Lost;

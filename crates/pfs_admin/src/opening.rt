@@ -3,6 +3,7 @@
 ghost use Rattle.std.specs.Prelude.{◌≡◌, ◌<◌, ◌≤◌, ◌-◌, map, All, IfOk, slice_get, length};
 ghost use Rattle.pfs_classes.specs.Registry.{class_at};
 ghost use Rattle.pfs_levels.specs.Plain.{word};
+ghost use Rattle.pfs_setups.specs.Rows.{naming_of};
 ghost use Rattle.pfs_admin.specs.States.{flags_of};
 ghost use Rattle.pfs_admin.specs.Opening.{class_flags, table_flags, word_flags, opening_flags, cells_of};
 
@@ -10,8 +11,7 @@ use crate::NoMemory;
 use pfs_classes::{ClassId, Classes, Setting, TableName};
 use pfs_levels::Word;
 use pfs_matching::Objects;
-use pfs_names::{NameId, Names};
-use pfs_text::Text;
+use pfs_setups::RowNames;
 use std::alloc::Global;
 
 const WORDS: u64 = 160;
@@ -125,13 +125,12 @@ fn class_count(classes: &Classes) -> u64
     classes.count()
 }
 
-/// The texts of the names by id.
-pub(crate) fn texts_of(alloc: Global, names: &Names) -> Result<Vec<Text>, NoMemory>
-    ensures { IfOk result (λ texts. texts.items ≡ names.now) }
+/// What the rows of the setup tables are named by.
+#[tactic(auto, using(crate::proofs::Opened::fixed_names))]
+pub(crate) fn names_of(alloc: Global, setting: &Setting) -> Result<RowNames, NoMemory>
+    ensures names { IfOk result (λ s. s.names ≡ setting.now.names) }
+    ensures classes { IfOk result (λ s. s.classes ≡ (naming_of setting.now).classes) }
+    ensures tables { IfOk result (λ s. s.tables ≡ setting.now.tables) }
 {
-    let mut texts = Vec::new(alloc);
-    for id in 0..names.count() {
-        texts.push(Text::from_slice(alloc, names.get(NameId(id)).as_bytes())?)?;
-    }
-    Ok(texts)
+    RowNames::open(alloc, setting)
 }

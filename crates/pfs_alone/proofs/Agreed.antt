@@ -1,18 +1,18 @@
 -- Lines whose notes go each by those before it agree each with those before it.
-use Rattle.std.proofs.Common.{ℕ, ◌≡◌, ◌+◌, List, [], ◌∷◌, ◌++◌, Option, refl, ap, ◌∙◌}
+use Rattle.std.proofs.Common.{ℕ, ◌≡◌, ◌+◌, List, [], ◌∷◌, ◌++◌, Option, refl, ap, sym, ◌∙◌}
 use Rattle.pfs_event.specs.declared.entry.Entry.{Entry}
 use Rattle.pfs_event.specs.declared.entry.Entry.TheVariants as says
 use Rattle.pfs_model.specs.declared.changes.Change.{Change}
 use Rattle.pfs_model.specs.declared.lines.Subject.{Subject}
-use Rattle.pfs_model.specs.Chains.{row_change, word_change, action_change, each_of}
+use Rattle.pfs_model.specs.Chains.{row_change, word_change, action_change, change_at, each_of}
 use Rattle.pfs_model.specs.Contexts.{Context, subject_of}
 use Rattle.pfs_model.specs.Places.{Placed}
-use Rattle.pfs_model.specs.Plain.{last_of, tickets_at, AreNext, AreLast, Agrees, AgreeBehind}
+use Rattle.pfs_model.specs.Plain.{last_of, tickets_at, stands_free, is_free, AreNext, AreLast, Agrees, AgreeBehind}
 use Rattle.pfs_model.specs.Rings.{Ticketed, ticketed_at}
 use Rattle.pfs_alone.proofs.Pairing.{AreNextTickets}
 use Rattle.pfs_model.specs.Setups.{loads_at}
 use Rattle.pfs_alone.specs.Notes.{Note, Saw, saw_all, notes_at, notes_of}
-use Rattle.pfs_alone.proofs.Nexts.{writes, switches, acts, AreNextNotes, behind, next_front, next_back, saw_writes, saw_switches, saw_acts}
+use Rattle.pfs_alone.proofs.Nexts.{writes, switches, acts, free_in, AreNextNotes, behind, next_front, next_back, saw_writes, saw_switches, saw_acts, saw_free}
 use Rattle.pfs_alone.proofs.Quiet.{IsQuiet}
 
 abbrev pub AreQuietPlaces : List Placed → Type 0
@@ -24,31 +24,39 @@ pub record IsBefore (before : List Note) (earlier : List Placed) : Type 0 where
   pub rows : writes before ≡ each_of row_change earlier
   pub words : switches before ≡ each_of word_change earlier
   pub numbers : acts before ≡ each_of action_change earlier
+  pub free : (row : ℕ) → free_in before row ≡ is_free earlier row
 
 -- what an entry adds to each
 record Adds (before : List Note) (notes : List Note) (entry : Entry) : Type 0 where
   pub rows : writes (behind before notes) ≡ row_change entry ++ writes before
   pub words : switches (behind before notes) ≡ word_change entry ++ switches before
   pub numbers : acts (behind before notes) ≡ action_change entry ++ acts before
+  pub free : (row : ℕ) → free_in (behind before notes) row ≡ stands_free entry row (free_in before row)
 
 adds : (subject : Option Subject) (context : Context) (before : List Note) (entry : Entry) → IsQuiet entry → Adds before (notes_at subject context entry) entry
-adds subject context before (says.Connect action thread account user host) q = record { rows = refl; words = refl; numbers = refl }
-adds subject context before (says.Act action) q = record { rows = refl; words = refl; numbers = refl }
+adds subject context before (says.Connect action thread account user host) q = record { rows = refl; words = refl; numbers = refl; free = λ row. refl }
+adds subject context before (says.Act action) q = record { rows = refl; words = refl; numbers = refl; free = λ row. refl }
 adds subject context before (says.Start event verdict consumers thread class table) q =
     let loads = loads_at subject context (says.Start event verdict consumers thread class table) in
-    record { rows = saw_writes before loads; words = saw_switches before loads; numbers = saw_acts before loads }
+    record { rows = saw_writes before loads; words = saw_switches before loads; numbers = saw_acts before loads; free = saw_free before loads }
 adds subject context before (says.End event last consumers thread) q =
     let loads = loads_at subject context (says.End event last consumers thread) in
-    record { rows = saw_writes before loads; words = saw_switches before loads; numbers = saw_acts before loads }
-adds subject context before (says.Add row version) q = record { rows = refl; words = refl; numbers = refl }
-adds subject context before (says.Ring row version) q = record { rows = refl; words = refl; numbers = refl }
-adds subject context before (says.Long row version ticket) q = record { rows = refl; words = refl; numbers = refl }
-adds subject context before (says.Take row version) q = record { rows = refl; words = refl; numbers = refl }
-adds subject context before (says.Give row version from) q = record { rows = refl; words = refl; numbers = refl }
-adds subject context before (says.Tag row version) q = record { rows = refl; words = refl; numbers = refl }
-adds subject context before (says.Free row version) q = record { rows = refl; words = refl; numbers = refl }
-adds subject context before (says.Set word version flags) q = record { rows = refl; words = refl; numbers = refl }
-adds subject context before (says.Reply number) q = record { rows = refl; words = refl; numbers = refl }
+    record { rows = saw_writes before loads; words = saw_switches before loads; numbers = saw_acts before loads; free = saw_free before loads }
+adds subject context before (says.Add row version) q = record { rows = refl; words = refl; numbers = refl; free = λ row. refl }
+adds subject context before (says.Ring row version) q = record { rows = refl; words = refl; numbers = refl; free = λ row. refl }
+adds subject context before (says.Long row version ticket) q = record { rows = refl; words = refl; numbers = refl; free = λ row. refl }
+adds subject context before (says.Take row version) q = record { rows = refl; words = refl; numbers = refl; free = λ row. refl }
+adds subject context before (says.Give row version from) q = record { rows = refl; words = refl; numbers = refl; free = λ row. refl }
+adds subject context before (says.Tag row version) q = record { rows = refl; words = refl; numbers = refl; free = λ row. refl }
+adds subject context before (says.Free row version) q = record { rows = refl; words = refl; numbers = refl; free = λ row. refl }
+adds subject context before (says.Set word version flags) q = record { rows = refl; words = refl; numbers = refl; free = λ row. refl }
+adds subject context before (says.Reply number) q = record { rows = refl; words = refl; numbers = refl; free = λ row. refl }
+adds subject context before (says.Error number) q = record { rows = refl; words = refl; numbers = refl; free = λ row. refl }
+adds subject context before says.Query q = record { rows = refl; words = refl; numbers = refl; free = λ row. refl }
+adds subject context before (says.Seen row version) q = record { rows = refl; words = refl; numbers = refl; free = λ row. refl }
+adds subject context before (says.Vacant row) q = record { rows = refl; words = refl; numbers = refl; free = λ row. refl }
+adds subject context before (says.Saw word version) q = record { rows = refl; words = refl; numbers = refl; free = λ row. refl }
+adds subject context before (says.Rows number) q = record { rows = refl; words = refl; numbers = refl; free = λ row. refl }
 adds subject context before _ q = absurd q
 
 -- the parts of an agreement
@@ -82,6 +90,14 @@ meets subject context before earlier (says.Tag row version) b q n t = record { r
 meets subject context before earlier (says.Free row version) b q n t = record { rows = tt; words = tt; numbers = tt; loaded = tt; others = n.0 ∙ ap (last_of row) b.rows }
 meets subject context before earlier (says.Set word version flags) b q n t = record { rows = tt; words = (one_more version word _ _ b.words n.0, tt); numbers = tt; loaded = tt; others = tt }
 meets subject context before earlier (says.Reply number) b q n t = record { rows = tt; words = tt; numbers = tt; loaded = tt; others = tt }
+meets subject context before earlier (says.Error number) b q n t = record { rows = tt; words = tt; numbers = tt; loaded = tt; others = tt }
+meets subject context before earlier says.Query b q n t = record { rows = tt; words = tt; numbers = tt; loaded = tt; others = tt }
+meets subject context before earlier (says.Seen row version) b q n t =
+    record { rows = tt; words = tt; numbers = tt; loaded = tt; others = (n.0.0 ∙ ap (last_of row) b.rows, sym (b.free row) ∙ n.0.1) }
+meets subject context before earlier (says.Vacant row) b q n t = record { rows = tt; words = tt; numbers = tt; loaded = tt; others = sym (b.free row) ∙ n.0 }
+meets subject context before earlier (says.Saw word version) b q n t =
+    record { rows = tt; words = tt; numbers = tt; loaded = saw_last before _ (change_at word version ∷ []) b.words n; others = tt }
+meets subject context before earlier (says.Rows number) b q n t = record { rows = tt; words = tt; numbers = tt; loaded = tt; others = tt }
 meets subject context before earlier _ b q n t = absurd q
 
 more_before : (before : List Note) (earlier : List Placed) (p : Placed) → IsBefore before earlier → IsQuiet p.entry
@@ -92,6 +108,7 @@ more_before before earlier p b q =
       rows = a.rows ∙ ap (λ z. row_change p.entry ++ z) b.rows;
       words = a.words ∙ ap (λ z. word_change p.entry ++ z) b.words;
       numbers = a.numbers ∙ ap (λ z. action_change p.entry ++ z) b.numbers;
+      free = λ row. a.free row ∙ ap (stands_free p.entry row) (b.free row);
     }
 
 -- the tickets of a line, and those behind it

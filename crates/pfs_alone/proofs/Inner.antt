@@ -2,6 +2,10 @@
 use Rattle.std.proofs.Common.{ℕ, ◌≡◌, ◌+◌, List, [], ◌∷◌, ◌++◌, Option, refl, ap, sym, ◌∙◌}
 use Rattle.std.proofs.lemmas.List.{append_assoc, append-nil}
 use Rattle.pfs_admin.specs.Works.{Sign, Releases, Tags, Made, signs_calls, signs_entries, made_calls, made_entries, Flagging, flagging_calls, flagging_entries, word_at}
+use Rattle.pfs_admin.specs.declared.changes.Reply.{Reply}
+use Rattle.pfs_admin.specs.declared.changes.Reply.TheVariants as replies
+use Rattle.pfs_admin.specs.declared.changes.SetupStatement.{SetupStatement}
+use Rattle.pfs_admin.specs.declared.changes.SetupStatement.TheVariants.{Update, Insert, Delete, Show}
 use Rattle.pfs_event.specs.declared.entry.Entry.{Entry}
 use Rattle.pfs_event.specs.declared.entry.Entry.TheVariants as says
 use Rattle.pfs_levels.specs.Calls.{Call, Takes, Puts, Sets}
@@ -11,6 +15,7 @@ use Rattle.pfs_levels.specs.declared.answers.Word.{Word}
 use Rattle.pfs_model.specs.declared.lines.Subject.{Subject}
 use Rattle.pfs_model.specs.Contexts.{Context, noted, after_entries}
 use Rattle.pfs_session.specs.Settles.{Paid, paid_calls, paid_entries, pay_calls, pay_entries}
+use Rattle.pfs_session.specs.Turns.{reply_entry, reply_entries}
 use Rattle.pfs_stat.specs.Stat.{stat_of_words}
 use Rattle.pfs_stat.specs.declared.Stat.{Stat}
 use Rattle.pfs_alone.specs.Notes.{Wrote, notes_at, notes_in, told, all_told}
@@ -41,6 +46,7 @@ IsInner (says.Tag row version) = Unit {0}
 IsInner (says.Free row version) = Unit {0}
 IsInner (says.Set word version flags) = Unit {0}
 IsInner (says.Reply number) = Unit {0}
+IsInner (says.Error number) = Unit {0}
 IsInner entry = ⊥
 
 abbrev pub AreInner : List Entry → Type 0
@@ -59,6 +65,7 @@ inner_slot subject context (says.Tag row version) i = refl
 inner_slot subject context (says.Free row version) i = refl
 inner_slot subject context (says.Set word version flags) i = refl
 inner_slot subject context (says.Reply number) i = refl
+inner_slot subject context (says.Error number) i = refl
 inner_slot subject context _ i = absurd i
 
 pub inner_slots : (subject : Option Subject) (context : Context) (es : List Entry) → AreInner es → (after_entries subject context es).slot ≡ context.slot
@@ -126,6 +133,20 @@ flags_same words (f ∷ fs) =
 pub reply_same : (number : ℕ) → IsSame (says.Reply number ∷ []) []
 unfolding all_told
 reply_same number = record { inner = (tt, tt); same = λ subject context. refl }
+
+error_same : (number : ℕ) → IsSame (says.Error number ∷ []) []
+unfolding all_told
+error_same number = record { inner = (tt, tt); same = λ subject context. refl }
+
+answer_same : (reply : Reply) → IsSame (reply_entry reply ∷ []) []
+answer_same (replies.Changed count) = reply_same count
+answer_same (replies.Error error) = error_same error
+
+pub answers_same : (what : SetupStatement) (reply : Reply) → IsSame (reply_entries what reply) []
+answers_same (Update update) reply = answer_same reply
+answers_same (Insert insert) reply = answer_same reply
+answers_same (Delete delete) reply = answer_same reply
+answers_same Show reply = same_none
 
 pub paid_same : (ps : List Paid) → IsSame (paid_entries ps) (paid_calls ps)
 paid_same [] = same_none

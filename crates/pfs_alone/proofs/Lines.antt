@@ -9,10 +9,12 @@ use Rattle.pfs_model.specs.Contexts.{Context, noted, after, after_entries, subje
 use Rattle.pfs_model.specs.Contexts.{fresh as empty}
 use Rattle.pfs_model.specs.Places.{Placed, placed_part, placed_lines, after_lines}
 use Rattle.pfs_model.specs.Shapes.{is_stage}
+use Rattle.pfs_rows.specs.declared.table.Reading.{Reading}
 use Rattle.pfs_session.specs.Ends.{no_numbers}
 use Rattle.pfs_session.specs.States.{State, fresh}
+use Rattle.pfs_session.specs.declared.remarks.Remark.TheVariants.{Rows}
 use Rattle.pfs_session.specs.Turns.{Step, StartsEvent, EndsEvent, Turn, AreTurns, state_after, steps_of, turns_entries, stage_ends}
-use Rattle.pfs_parts.specs.Deeds.{Deed, Connecting, Starting, Staging, StageEnding, Ending, Spending, Quitting, Truncating, Closing, Part, IsPart, steps_for, line_of, part_entries}
+use Rattle.pfs_parts.specs.Deeds.{Deed, Connecting, Starting, Staging, StageEnding, Ending, Spending, Quitting, Truncating, Changing, Showing, Querying, Refusing, Closing, Part, IsPart, looks, remark, steps_for, line_of, part_entries}
 use Rattle.pfs_parts.proofs.Stinting.{own_places, own_is, IfOwn, AreOwn, own_stints}
 use Rattle.pfs_parts.specs.Shaped.{AreParts, lines_of, entries_of, state_behind, over_behind}
 use Rattle.pfs_parts.specs.Stints.{Stint, IsStint, parts_by, resumed}
@@ -60,6 +62,10 @@ stage_of subject (what ∷ events) = by_test (is_stage what.kind) where
   by_test true = (tt, tt)
   by_test false = tt
 
+looks_of : (found : List Reading) → AreOf None (looks found)
+looks_of [] = tt
+looks_of (reading ∷ found) = (tt, looks_of found)
+
 deed_of : (s : State) (deed : Deed) → AreOf (subject_of (line_of deed)) (steps_for s deed)
 deed_of s (Connecting admin user host) = (tt, tt)
 deed_of s (Starting subject) = (refl, tt)
@@ -69,6 +75,10 @@ deed_of s (Ending numbers) = of_then None (stage_ends s.opened.events) (EndsEven
 deed_of s (Spending time) = (tt, tt)
 deed_of s (Quitting admin) = (tt, (tt, tt))
 deed_of s (Truncating admin what) = (tt, (tt, tt))
+deed_of s (Changing admin what) = (tt, (tt, tt))
+deed_of s (Showing admin count) = (tt, (tt, (tt, tt)))
+deed_of s (Querying found count) = (tt, of_then None (looks found) (remark (Rows count) ∷ []) (looks_of found) (tt, tt))
+deed_of s (Refusing error) = (tt, tt)
 deed_of s Closing = (tt, tt)
 
 part_told : (context : Context) (s : State) (p : Part) → Sits context s → IsPart s p

@@ -15,7 +15,8 @@ use Rattle.pfs_model.specs.Contexts.{Context, subject_of}
 use Rattle.pfs_model.specs.Places.{Placed}
 use Rattle.pfs_model.specs.Setups.{loads_at}
 use Rattle.pfs_model.specs.Setups.{flags_at as printed_at}
-use Rattle.pfs_alone.specs.Notes.{Note, Wrote, Freed, Switched, Saw, Acted, saw_all, notes_at, notes_of, told, all_told}
+use Rattle.pfs_rows.specs.declared.table.Seen.TheVariants as seen
+use Rattle.pfs_alone.specs.Notes.{Note, Wrote, Freed, Found, Vacant, Switched, Saw, Acted, saw_all, notes_at, notes_of, told, all_told}
 use Rattle.pfs_alone.specs.Alone.{printed}
 
 -- what the first set of a word to a version gives it, or else this
@@ -24,6 +25,8 @@ first_or d [] word version = d
 first_or d (Switched at k flags ∷ notes) word version = cond ((at == word) && (k == version)) flags (first_or d notes word version)
 first_or d (Wrote at k ∷ notes) word version = first_or d notes word version
 first_or d (Freed at k ∷ notes) word version = first_or d notes word version
+first_or d (Found at k ∷ notes) word version = first_or d notes word version
+first_or d (Vacant at ∷ notes) word version = first_or d notes word version
 first_or d (Saw at k ∷ notes) word version = first_or d notes word version
 first_or d (Acted number ∷ notes) word version = first_or d notes word version
 
@@ -32,6 +35,8 @@ first_then d [] ys word version = refl
 first_then d (Switched at k flags ∷ xs) ys word version = ap (λ z. cond ((at == word) && (k == version)) flags z) (first_then d xs ys word version)
 first_then d (Wrote at k ∷ xs) ys word version = first_then d xs ys word version
 first_then d (Freed at k ∷ xs) ys word version = first_then d xs ys word version
+first_then d (Found at k ∷ xs) ys word version = first_then d xs ys word version
+first_then d (Vacant at ∷ xs) ys word version = first_then d xs ys word version
 first_then d (Saw at k ∷ xs) ys word version = first_then d xs ys word version
 first_then d (Acted number ∷ xs) ys word version = first_then d xs ys word version
 
@@ -67,7 +72,10 @@ sets_first (Adds at amount (Held r v w) ∷ calls) d word version = first_then d
 sets_first (Rings at content (Done v) ∷ calls) d word version = first_then d (all_told calls) (told (Rings at content (Done v))) word version ∙ sets_first calls d word version
 sets_first (Rings at content (Busy v w) ∷ calls) d word version = first_then d (all_told calls) [] word version ∙ sets_first calls d word version
 sets_first (Rings at content (Late t) ∷ calls) d word version = first_then d (all_told calls) [] word version ∙ sets_first calls d word version
-sets_first (Reads at seen ∷ calls) d word version = first_then d (all_told calls) [] word version ∙ sets_first calls d word version
+sets_first (Reads at (seen.Whole v found) ∷ calls) d word version =
+    first_then d (all_told calls) (told (Reads at (seen.Whole v found))) word version ∙ sets_first calls d word version
+sets_first (Reads at (seen.Free w) ∷ calls) d word version = first_then d (all_told calls) (told (Reads at (seen.Free w))) word version ∙ sets_first calls d word version
+sets_first (Reads at (seen.Busy v w) ∷ calls) d word version = first_then d (all_told calls) [] word version ∙ sets_first calls d word version
 sets_first (Loads at v found ∷ calls) d word version = first_then d (all_told calls) (told (Loads at v found)) word version ∙ sets_first calls d word version
 sets_first (Draws kind ticket ∷ calls) d word version = first_then d (all_told calls) [] word version ∙ sets_first calls d word version
 sets_first (Meets versions ∷ calls) d word version = first_then d (all_told calls) [] word version ∙ sets_first calls d word version

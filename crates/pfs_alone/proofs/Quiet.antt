@@ -17,8 +17,10 @@ use Rattle.pfs_session.specs.Ends.{EndsIn, EndsThrough, EndsAdded, EndsCounted, 
 use Rattle.pfs_session.specs.Settles.{Settles, Paid, owed_in, owed_by, owed_by_state, paid_calls, paid_entries, settle_head}
 use Rattle.pfs_session.specs.Starts.{start_entry}
 use Rattle.pfs_session.specs.States.{State, Owed, nothing_held, held_row, held_at}
-use Rattle.pfs_session.specs.Turns.{Step, StartsEvent, EndsEvent, Spends, SettlesHeld, Connects, Quits, Truncates, Does}
+use Rattle.pfs_session.specs.Turns.{Step, StartsEvent, EndsEvent, Spends, SettlesHeld, Connects, Quits, Truncates, Changes, Inquires, Does}
+use Rattle.pfs_session.specs.Inquiries.{Inquiry, Looks, Remarks, inquiry_calls, inquiry_entry}
 use Rattle.pfs_session.specs.declared.events.Numbers.{Numbers}
+use Rattle.pfs_session.specs.declared.remarks.Remark.TheVariants as remarks
 use Rattle.pfs_session.specs.declared.setup.Setup.{Setup}
 use Rattle.pfs_stat.specs.declared.Stat.{Stat}
 use Rattle.pfs_session.proofs.Owed.{nothing_owed}
@@ -29,6 +31,8 @@ use Rattle.pfs_levels.specs.declared.answers.RingPut.TheVariants as told
 use Rattle.pfs_levels.specs.declared.answers.RingPut.TheVariants.{Done, Busy, Late}
 use Rattle.pfs_model.specs.Causes.{long_row}
 use Rattle.pfs_model.specs.Rings.{ring_number, current_row, history_row}
+use Rattle.pfs_rows.specs.declared.table.Reading.TheVariants as readings
+use Rattle.pfs_rows.specs.declared.table.Seen.TheVariants as seen
 use Rattle.pfs_rings.specs.Offers.{Says, offered}
 use Rattle.pfs_rings.specs.declared.puts.Put.{Put}
 use Rattle.pfs_rings.specs.declared.rings.Ring.{Ring}
@@ -36,16 +40,18 @@ use Rattle.pfs_rings.specs.declared.rings.Ring.TheVariants.{Current, History, Lo
 use Rattle.pfs_session.specs.Rings.{PutAt, PutIf, PutIn, put_entries}
 use Rattle.pfs_alone.proofs.Pairing.{Pending, pending, ArePaired, never_late}
 use Rattle.pfs_alone.proofs.Inner.{IsInner, AreInner}
-use Rattle.pfs_alone.proofs.Steps.{IsActed, acted, truncated_acted}
+use Rattle.pfs_alone.proofs.Steps.{IsActed, acted, truncated_acted, changed_acted}
 
--- an addition was counted, and a put was made
+-- an addition was counted, a put was made, and a row that was read wasn't busy
 abbrev pub IsAdded : Call → Type 0
 IsAdded (Adds row amount (Counted r version)) = Unit {0}
 IsAdded (Adds row amount (Held r first second)) = ⊥
 IsAdded (Rings row content (Done version)) = Unit {0}
 IsAdded (Rings row content (Busy first second)) = ⊥
 IsAdded (Rings row content (Late greater)) = ⊥
-IsAdded (Reads row seen) = Unit {0}
+IsAdded (Reads row (seen.Whole version content)) = Unit {0}
+IsAdded (Reads row (seen.Free word)) = Unit {0}
+IsAdded (Reads row (seen.Busy first second)) = ⊥
 IsAdded (Loads at version found) = Unit {0}
 IsAdded (Draws kind ticket) = Unit {0}
 IsAdded (Takes row version found) = Unit {0}
@@ -78,7 +84,9 @@ plain_added flags None (Rings row content (Busy v w) ∷ calls) a q = absurd a.0
 plain_added flags None (Rings row content (Late t) ∷ calls) a q = absurd (never_late flags row t content calls a q)
 plain_added flags None (Draws kind ticket ∷ calls) a q = absurd q
 plain_added flags None (Puts row content version ∷ calls) a q = (tt, plain_added flags None calls a.1 q.1)
-plain_added flags None (Reads row seen ∷ calls) a q = (tt, plain_added flags None calls a.1 q)
+plain_added flags None (Reads row (seen.Whole v content) ∷ calls) a q = (tt, plain_added flags None calls a.1 q)
+plain_added flags None (Reads row (seen.Free w) ∷ calls) a q = (tt, plain_added flags None calls a.1 q)
+plain_added flags None (Reads row (seen.Busy v w) ∷ calls) a q = absurd a.0
 plain_added flags None (Loads at version found ∷ calls) a q = (tt, plain_added flags None calls a.1 q)
 plain_added flags None (Takes row version found ∷ calls) a q = (tt, plain_added flags None calls a.1 q)
 plain_added flags None (Frees row version ∷ calls) a q = (tt, plain_added flags None calls a.1 q)
@@ -89,7 +97,7 @@ plain_added flags None (Meets versions ∷ calls) a q = (tt, plain_added flags N
 plain_added flags (Some p) (Draws kind ticket ∷ calls) a q = (tt, plain_added flags None calls a.1 q.2)
 plain_added flags (Some p) (Adds row amount answer ∷ calls) a q = absurd q
 plain_added flags (Some p) (Rings row content answer ∷ calls) a q = absurd q
-plain_added flags (Some p) (Reads row seen ∷ calls) a q = absurd q
+plain_added flags (Some p) (Reads row found ∷ calls) a q = absurd q
 plain_added flags (Some p) (Loads at version found ∷ calls) a q = absurd q
 plain_added flags (Some p) (Takes row version found ∷ calls) a q = absurd q
 plain_added flags (Some p) (Puts row content version ∷ calls) a q = absurd q
@@ -114,6 +122,12 @@ IsQuiet (says.Tag row version) = Unit {0}
 IsQuiet (says.Free row version) = Unit {0}
 IsQuiet (says.Set word version flags) = Unit {0}
 IsQuiet (says.Reply number) = Unit {0}
+IsQuiet (says.Error number) = Unit {0}
+IsQuiet says.Query = Unit {0}
+IsQuiet (says.Seen row version) = Unit {0}
+IsQuiet (says.Vacant row) = Unit {0}
+IsQuiet (says.Saw word version) = Unit {0}
+IsQuiet (says.Rows number) = Unit {0}
 IsQuiet entry = ⊥
 
 abbrev pub AreQuiet : List Entry → Type 0
@@ -132,6 +146,7 @@ inner_quiet (says.Tag row version) i = tt
 inner_quiet (says.Free row version) i = tt
 inner_quiet (says.Set word version flags) i = tt
 inner_quiet (says.Reply number) i = tt
+inner_quiet (says.Error number) i = tt
 inner_quiet _ i = absurd i
 
 inner_quiets : (es : List Entry) → AreInner es → AreQuiet es
@@ -281,6 +296,15 @@ connect_quiet action (Some seat) = tt
 acted_quiet : (head : Entry) (calls : List Call) (entries : List Entry) → IsQuiet head → IsActed head calls entries → AreQuiet entries
 acted_quiet head calls entries q a = subst AreQuiet (sym a.entries_are) (q, inner_quiets a.rest a.same.inner)
 
+inquiry_quiet : (what : Inquiry) → AreAdded (inquiry_calls what) → IsQuiet (inquiry_entry what)
+inquiry_quiet (Looks (readings.Slot row (seen.Whole version content))) a = tt
+inquiry_quiet (Looks (readings.Slot row (seen.Free word))) a = tt
+inquiry_quiet (Looks (readings.Slot row (seen.Busy first second))) a = absurd a.0
+inquiry_quiet (Looks (readings.Word word version flags)) a = tt
+inquiry_quiet (Remarks remarks.Query) a = tt
+inquiry_quiet (Remarks (remarks.Rows count)) a = tt
+inquiry_quiet (Remarks (remarks.Refused error)) a = tt
+
 pub does_quiet : (s : State) (step : Step) (calls : List Call) (entries : List Entry) (after : State) → s.held ≡ nothing_held → AreAdded calls → Does s step calls entries after → IsQuietStep entries after
 does_quiet s (StartsEvent what) calls entries after h added d =
     let b = d.begins in
@@ -306,3 +330,9 @@ does_quiet s (Truncates admin what) calls entries after h added d = record {
   quiet = acted_quiet (says.Act (admin.actions + 1)) calls entries tt (truncated_acted s admin what calls entries after d);
   held = ap (λ (z : State). z.held) d.after_is ∙ h;
 }
+does_quiet s (Changes admin what) calls entries after h added d = record {
+  quiet = acted_quiet (says.Act (admin.actions + 1)) calls entries tt (changed_acted s admin what calls entries after d);
+  held = ap (λ (z : State). z.held) d.after_is ∙ h;
+}
+does_quiet s (Inquires what) calls entries after h added d =
+    quiet_as entries _ after _ d.entries_are d.after_is (record { quiet = (inquiry_quiet what (subst AreAdded d.calls_are added), tt); held = h })

@@ -7,6 +7,8 @@ use Rattle.pfs_admin.specs.Asks.{work_of_connect, work_of_quit, connect_entry, p
 use Rattle.pfs_admin.specs.States.{seat_at}
 use Rattle.pfs_admin.specs.States.{State as Administration}
 use Rattle.pfs_admin.specs.Truncations.{work_of_truncation}
+use Rattle.pfs_admin.specs.Setups.{reply_to, work_of_statement}
+use Rattle.pfs_admin.specs.declared.changes.SetupStatement.{SetupStatement}
 use Rattle.pfs_truncations.specs.declared.truncations.Truncation.{Truncation}
 use Rattle.pfs_admin.specs.Works.{Work, signs_calls, signs_entries, flagging_calls, flagging_entries}
 use Rattle.pfs_containers.specs.declared.containers.Seated.{Seated}
@@ -34,18 +36,22 @@ use Rattle.pfs_rings.specs.Offers.{Says, offered, put_entry}
 use Rattle.pfs_rings.specs.declared.puts.Put.{Put}
 use Rattle.pfs_rings.specs.declared.rings.Ring.{Ring}
 use Rattle.pfs_rings.specs.declared.rings.Ring.TheVariants.{Current, History, Long}
+use Rattle.pfs_rows.specs.declared.table.Reading.TheVariants as readings
+use Rattle.pfs_rows.specs.declared.table.Seen.TheVariants as seen
+use Rattle.pfs_session.specs.Inquiries.{Inquiry, Looks, Remarks, inquiry_calls, inquiry_entry}
+use Rattle.pfs_session.specs.declared.remarks.Remark.TheVariants as remarks
 use Rattle.pfs_session.specs.Rings.{PutAt, PutIf, PutIn, put_entries}
 use Rattle.pfs_session.specs.Ends.{EndsIn, EndsThrough, EndsAdded, PutsAtEnd, EndsCounted, EndsSilently, DigestsIn, added_entry, amount_of, digest_number, with_held}
 use Rattle.pfs_session.specs.Settles.{Paid, paid_calls, paid_entries, settle_head}
 use Rattle.pfs_session.specs.Starts.{Starts, Begins, start_entry, load_calls, table_calls, IsLoaded, versions_in, version_of}
 use Rattle.pfs_session.specs.States.{State, Owed, held_at, held_row}
-use Rattle.pfs_session.specs.Turns.{Step, StartsEvent, EndsEvent, Spends, SettlesHeld, Connects, Quits, Truncates, Truncated, Does, Works}
+use Rattle.pfs_session.specs.Turns.{Step, StartsEvent, EndsEvent, Spends, SettlesHeld, Connects, Quits, Truncates, Changes, Inquires, Truncated, Changed, Does, Works, reply_entries}
 use Rattle.pfs_session.specs.declared.events.Numbers.{Numbers}
 use Rattle.pfs_session.specs.declared.setup.Setup.{Setup}
 use Rattle.pfs_stat.specs.declared.Stat.{Stat}
 use Rattle.pfs_alone.specs.Notes.{Note, Wrote, Saw, Acted, saw_all, notes_at, notes_in, told, all_told}
 use Rattle.pfs_alone.specs.Told.{Sits, head_of}
-use Rattle.pfs_alone.proofs.Inner.{told_then, notes_then, entries_then, inner_slots, IsSame, same_then, reply_same, moves_same, signs_same, flags_same, paid_same}
+use Rattle.pfs_alone.proofs.Inner.{told_then, notes_then, entries_then, inner_slots, IsSame, same_then, reply_same, answers_same, moves_same, signs_same, flags_same, paid_same}
 
 -- a step that starts an event starts what its line says
 abbrev pub IsOf : Option Subject → Step → Type 0
@@ -56,6 +62,8 @@ IsOf subject SettlesHeld = Unit {0}
 IsOf subject (Connects admin user host) = Unit {0}
 IsOf subject (Quits admin) = Unit {0}
 IsOf subject (Truncates admin what) = Unit {0}
+IsOf subject (Changes admin what) = Unit {0}
+IsOf subject (Inquires what) = Unit {0}
 
 pub record IsTold (subject : Option Subject) (context : Context) (head : List Note) (calls : List Call) (entries : List Entry) (after : State) : Type 0 where
   pub same : notes_in subject context entries ≡ head ++ all_told calls
@@ -318,6 +326,37 @@ truncated_acted s admin what calls entries after d =
       same = same_then a.rest (says.Reply 0 ∷ []) calls [] a.same (reply_same 0);
     }
 
+pub changed_acted : (s : State) (admin : Administration) (what : SetupStatement) (calls : List Call) (entries : List Entry) (after : State)
+    → Changed s admin what calls entries after → IsActed (says.Act (admin.actions + 1)) calls entries
+changed_acted s admin what calls entries after d =
+    let a = acted (work_of_statement admin what) admin.words (says.Act (admin.actions + 1)) calls d.changes d.works in
+    let answer : List Entry = reply_entries what (reply_to admin what) in
+    record {
+      rest = a.rest ++ answer;
+      entries_are = d.entries_are ∙ ap (λ z. z ++ answer) a.entries_are;
+      same = same_then a.rest answer calls [] a.same (answers_same what (reply_to admin what));
+    }
+
+-- inquiries
+inquiry_same : (subject : Option Subject) (context : Context) (what : Inquiry) → notes_in subject context (inquiry_entry what ∷ []) ≡ all_told (inquiry_calls what)
+unfolding all_told
+inquiry_same subject context (Looks (readings.Slot row (seen.Whole version content))) = refl
+inquiry_same subject context (Looks (readings.Slot row (seen.Free word))) = refl
+inquiry_same subject context (Looks (readings.Slot row (seen.Busy first second))) = refl
+inquiry_same subject context (Looks (readings.Word word version flags)) = refl
+inquiry_same subject context (Remarks remarks.Query) = refl
+inquiry_same subject context (Remarks (remarks.Rows count)) = refl
+inquiry_same subject context (Remarks (remarks.Refused error)) = refl
+
+inquiry_slot : (subject : Option Subject) (context : Context) (what : Inquiry) → (noted subject context (inquiry_entry what)).slot ≡ context.slot
+inquiry_slot subject context (Looks (readings.Slot row (seen.Whole version content))) = refl
+inquiry_slot subject context (Looks (readings.Slot row (seen.Free word))) = refl
+inquiry_slot subject context (Looks (readings.Slot row (seen.Busy first second))) = refl
+inquiry_slot subject context (Looks (readings.Word word version flags)) = refl
+inquiry_slot subject context (Remarks remarks.Query) = refl
+inquiry_slot subject context (Remarks (remarks.Rows count)) = refl
+inquiry_slot subject context (Remarks (remarks.Refused error)) = refl
+
 connect_notes : (subject : Option Subject) (context : Context) (action : ℕ) (seat : Option Seated) → notes_at subject context (connect_entry action seat) ≡ Acted action ∷ []
 connect_notes subject context action None = refl
 connect_notes subject context action (Some seat) = refl
@@ -356,3 +395,10 @@ does_told subject context s (Quits admin) calls entries after is sits d =
 does_told subject context s (Truncates admin what) calls entries after is sits d =
     acted_told subject context (admin.actions + 1) (says.Act (admin.actions + 1)) calls entries after refl (truncated_acted s admin what calls entries after d)
     (λ thread q. sits thread (sym (ap (λ (z : State). z.place.thread) d.after_is) ∙ q))
+does_told subject context s (Changes admin what) calls entries after is sits d =
+    acted_told subject context (admin.actions + 1) (says.Act (admin.actions + 1)) calls entries after refl (changed_acted s admin what calls entries after d)
+    (λ thread q. sits thread (sym (ap (λ (z : State). z.place.thread) d.after_is) ∙ q))
+does_told subject context s (Inquires what) calls entries after is sits d = told_as subject context [] calls _ entries _ after _ d.calls_are d.entries_are d.after_is (record {
+  same = inquiry_same subject context what;
+  sits = λ thread q. inquiry_slot subject context what ∙ sits thread q;
+})

@@ -226,7 +226,7 @@ alone = λ flags stack depths spells are answers.
     let all : List Placed = places (blocks_of stints) in
     let t : AreTogether flags spells = together flags stack depths spells are answers in
     let j = journals (printed flags all) stack depths stints are.stints t.loads in
-    let plain = agreed [] [] all (record { rows = refl; words = refl; numbers = refl }) t.quiet (subst (AreNextNotes []) (sym t.same) (told_next flags (calls_of spells) answers))
+    let plain = agreed [] [] all (record { rows = refl; words = refl; numbers = refl; free = λ row. refl }) t.quiet (subst (AreNextNotes []) (sym t.same) (told_next flags (calls_of spells) answers))
     (subst (AreNextTickets []) (sym (spells_ticketed stack depths [] 0 spells are.stints).same) (tickets_next flags None (calls_of spells) answers (all_paired stack depths spells are))) in
     record {
       shaped = j.shaped;

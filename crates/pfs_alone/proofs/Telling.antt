@@ -1,18 +1,24 @@
 -- What the calls of a plain store tell: each note goes by those before it.
 use Rattle.std.proofs.Common.{ℕ, inl, inr, ◌≡◌, ◌<◌, ◌+◌, ◌==◌, false, true, Bool, cond, List, [], ◌∷◌, ◌++◌, length, refl, ap, sym, ◌∙◌, subst, arith, ne_eqb, length-append, ◌&&◌}
+use Rattle.std.specs.Prelude.{not}
+use Rattle.std.proofs.lemmas.Bool.{false≢true}
+use Rattle.std.proofs.lemmas.Bool.Decides.{nat_tests}
 use Rattle.pfs_levels.specs.declared.answers.Added.TheVariants.{Counted, Held}
 use Rattle.pfs_levels.specs.declared.answers.RingPut.TheVariants.{Done, Busy, Late}
 use Rattle.pfs_board.specs.declared.view.Label.{Label}
 use Rattle.pfs_levels.specs.Calls.{Call, Adds, Rings, Reads, Loads, Draws, Takes, Puts, Frees, Sets, Enters, Leaves, Meets, IsRing, label_in}
 use Rattle.pfs_levels.specs.Joint.{At, changes_of, count, IsCounted, Setting, sets_of, word_version, AreWordsCounted}
-use Rattle.pfs_levels.specs.Plain.{AllAnswer, IsNext, Op, op, Merges, Becomes, Holds, Releases, ops_of, slot_after, labels_after}
+use Rattle.pfs_levels.specs.Joint.{opens_free as opens_free_there}
+use Rattle.pfs_levels.specs.declared.plain.Slot.{Slot}
+use Rattle.pfs_rows.specs.declared.table.Seen.TheVariants as seen
+use Rattle.pfs_levels.specs.Plain.{AllAnswer, IsNext, Op, op, Merges, Becomes, Renews, Holds, Releases, ops_of, slot_after, slot_by, labels_after}
 use Rattle.pfs_levels.proofs.PlainJoint.{plain_chain, plain_words}
 use Rattle.pfs_levels.proofs.PlainNext.{plain_next}
 use Rattle.pfs_model.specs.declared.changes.Change.{Change}
-use Rattle.pfs_model.specs.Chains.{change_at}
+use Rattle.pfs_model.specs.Chains.{change_at, opens_free}
 use Rattle.pfs_model.specs.Plain.{last_of}
 use Rattle.pfs_alone.specs.Notes.{Note, told, all_told}
-use Rattle.pfs_alone.proofs.Nexts.{writes, switches, acts, AreNextNotes, behind, behind_then, next_then}
+use Rattle.pfs_alone.proofs.Nexts.{writes, switches, acts, free_in, AreNextNotes, behind, behind_then, next_then}
 
 -- what calls tell, newest first
 abbrev pub newest : List Call → List Note
@@ -39,7 +45,9 @@ writes_are (Adds at amount (Held r v w) ∷ calls) = writes_are calls
 writes_are (Rings at content (Done v) ∷ calls) = ap (λ z. change_at at v ∷ z) (writes_are calls)
 writes_are (Rings at content (Busy v w) ∷ calls) = writes_are calls
 writes_are (Rings at content (Late t) ∷ calls) = writes_are calls
-writes_are (Reads at seen ∷ calls) = writes_are calls
+writes_are (Reads at (seen.Whole v found) ∷ calls) = writes_are calls
+writes_are (Reads at (seen.Free w) ∷ calls) = writes_are calls
+writes_are (Reads at (seen.Busy v w) ∷ calls) = writes_are calls
 writes_are (Loads at v found ∷ calls) = writes_are calls
 writes_are (Draws kind ticket ∷ calls) = writes_are calls
 writes_are (Meets versions ∷ calls) = writes_are calls
@@ -94,7 +102,9 @@ switches_are (Adds at amount (Held r v w) ∷ calls) = switches_are calls
 switches_are (Rings at content (Done v) ∷ calls) = switches_are calls
 switches_are (Rings at content (Busy v w) ∷ calls) = switches_are calls
 switches_are (Rings at content (Late t) ∷ calls) = switches_are calls
-switches_are (Reads at seen ∷ calls) = switches_are calls
+switches_are (Reads at (seen.Whole v found) ∷ calls) = switches_are calls
+switches_are (Reads at (seen.Free w) ∷ calls) = switches_are calls
+switches_are (Reads at (seen.Busy v w) ∷ calls) = switches_are calls
 switches_are (Loads at v found ∷ calls) = switches_are calls
 switches_are (Draws kind ticket ∷ calls) = switches_are calls
 switches_are (Meets versions ∷ calls) = switches_are calls
@@ -136,7 +146,9 @@ stood flags (Adds at amount (Held r v w) ∷ calls) a = absurd a.0
 stood flags (Rings at content (Done v) ∷ calls) a = stood_kept (op at (Becomes content)) (ops_of calls) _ _ (ring_up at content a.0.0) (stood flags calls a.1)
 stood flags (Rings at content (Busy v w) ∷ calls) a = absurd a.0
 stood flags (Rings at content (Late t) ∷ calls) a = stood flags calls a.1
-stood flags (Reads at seen ∷ calls) a = stood flags calls a.1
+stood flags (Reads at (seen.Whole v found) ∷ calls) a = stood flags calls a.1
+stood flags (Reads at (seen.Free w) ∷ calls) a = stood flags calls a.1
+stood flags (Reads at (seen.Busy v w) ∷ calls) a = stood flags calls a.1
 stood flags (Loads at v found ∷ calls) a = stood flags calls a.1
 stood flags (Draws kind ticket ∷ calls) a = stood flags calls a.1
 stood flags (Meets versions ∷ calls) a = stood flags calls a.1
@@ -155,6 +167,48 @@ acts_are : (flags : List ℕ) (label : Label) (labels : List Label) (calls : Lis
 acts_are flags label labels calls a =
     subst (λ z. Stood z (last_of 0 (acts (newest calls))) (length (labels_after calls))) a.0.0 (stood flags calls a.1) ∙ sym (ap (λ (z : List Label). length z) a.0.1)
 
+-- a row that a plain store has is free by what was told of it where it isn't allocated
+opens_alike : (row : ℕ) → opens_free row ≡ not (not (opens_free_there row))
+opens_alike row = grind (arith, nat_tests)
+
+put_free : (b x : Bool) (s t : Slot) → t.allocated ≡ true → x ≡ not s.allocated → cond b false x ≡ not (cond b t s).allocated
+put_free true x s t e h = ap not (sym e)
+put_free false x s t e h = h
+
+held_free : (b x : Bool) (s : Slot) → x ≡ not s.allocated → x ≡ not (cond b (slot_by Holds s) s).allocated
+held_free true x s h = h
+held_free false x s h = h
+
+released_free : (b x : Bool) (s : Slot) → x ≡ not s.allocated → cond b true x ≡ not (cond b (slot_by Releases s) s).allocated
+released_free true x s h = refl
+released_free false x s h = h
+
+left_free : (b x : Bool) (s : Slot) → b ≡ false → x ≡ not s.allocated → x ≡ not (cond b (slot_by Renews s) s).allocated
+left_free true x s e h = absurd (false≢true (sym e))
+left_free false x s e h = h
+
+free_are : (calls : List Call) (row : ℕ) → 0 < row → free_in (newest calls) row ≡ not (slot_after (ops_of calls) row).allocated
+unfolding ops_of slot_after
+free_are [] row up = opens_alike row
+free_are (Adds at amount (Counted r v) ∷ calls) row up = put_free (r == row) _ _ (slot_by (Merges amount) (slot_after (ops_of calls) row)) refl (free_are calls row up)
+free_are (Adds at amount (Held r v w) ∷ calls) row up = free_are calls row up
+free_are (Rings at content (Done v) ∷ calls) row up = put_free (at == row) _ _ (slot_by (Becomes content) (slot_after (ops_of calls) row)) refl (free_are calls row up)
+free_are (Rings at content (Busy v w) ∷ calls) row up = free_are calls row up
+free_are (Rings at content (Late t) ∷ calls) row up = free_are calls row up
+free_are (Reads at (seen.Whole v found) ∷ calls) row up = free_are calls row up
+free_are (Reads at (seen.Free w) ∷ calls) row up = free_are calls row up
+free_are (Reads at (seen.Busy v w) ∷ calls) row up = free_are calls row up
+free_are (Loads at v found ∷ calls) row up = free_are calls row up
+free_are (Draws kind ticket ∷ calls) row up = free_are calls row up
+free_are (Meets versions ∷ calls) row up = free_are calls row up
+free_are (Takes at v found ∷ calls) row up = held_free (at == row) _ (slot_after (ops_of calls) row) (free_are calls row up)
+free_are (Puts at content v ∷ calls) row up = put_free (at == row) _ _ (slot_by (Becomes content) (slot_after (ops_of calls) row)) refl (free_are calls row up)
+free_are (Frees at v ∷ calls) row up = released_free (at == row) _ (slot_after (ops_of calls) row) (free_are calls row up)
+free_are (Sets at to v ∷ calls) row up = free_are calls row up
+free_are (Enters label labels ∷ calls) row up = held_free (0 == row) _ (slot_after (ops_of calls) row) (free_are calls row up)
+free_are (Leaves ∷ calls) row up =
+    left_free (0 == row) _ (slot_after (ops_of calls) row) (ne_eqb 0 row (λ z. absurd (omega (arith, up, z)))) (free_are calls row up)
+
 next_told : (flags : List ℕ) (call : Call) (calls : List Call) → AllAnswer flags (call ∷ calls) → IsNext calls call → AreNextNotes (newest calls) (told call)
 next_told flags (Adds at amount (Counted r v)) calls a n =
     (n.1 ∙ ap (λ z. z + 1) (ap (count (changes_of calls)) (sym n.0) ∙ sym (rows_are flags calls r a.1)), tt)
@@ -162,7 +216,10 @@ next_told flags (Adds at amount (Held r v w)) calls a n = absurd n
 next_told flags (Rings at content (Done v)) calls a n = (n ∙ ap (λ z. z + 1) (sym (rows_are flags calls at a.1)), tt)
 next_told flags (Rings at content (Busy v w)) calls a n = absurd n
 next_told flags (Rings at content (Late t)) calls a n = tt
-next_told flags (Reads at seen) calls a n = tt
+next_told flags (Reads at (seen.Whole v found)) calls a n =
+    ((n ∙ sym (rows_are flags calls at a.1), free_are calls at a.0.0.0 ∙ ap not a.0.1), tt)
+next_told flags (Reads at (seen.Free w)) calls a n = (free_are calls at a.0.0.0 ∙ ap not a.0.1, tt)
+next_told flags (Reads at (seen.Busy v w)) calls a n = absurd n
 next_told flags (Loads at v found) calls a n = (n ∙ sym (words_are flags calls at a.1), tt)
 next_told flags (Draws kind ticket) calls a n = tt
 next_told flags (Meets versions) calls a n = absurd n

@@ -7,7 +7,13 @@ use Rattle.std.proofs.lemmas.List.{append-nil}
 use Rattle.pfs_admin.specs.Asks.{work_of_connect, work_of_quit, connect_work, quit_work, connect_entry, tag_of, account_tag, user_tag, host_tag, upper_tags}
 use Rattle.pfs_admin.specs.States.{seat_at, seat_in, connected, has_quit, thread_flags}
 use Rattle.pfs_admin.specs.States.{State as Administration}
-use Rattle.pfs_admin.specs.Truncations.{up_to, freed_at, free_rows, free_ring, free_slot, free_threads, event_signs, current_first, current_count, sign_at, place_sign, content_at, first_row, level_signs, truncation_signs, is_there, kept_behind, work_of_truncation}
+use Rattle.pfs_admin.specs.Changing.{up_to}
+use Rattle.pfs_admin.specs.Truncations.{freed_at, free_rows, free_ring, free_slot, free_threads, event_signs, current_first, current_count, sign_at, place_sign, content_at, first_row, level_signs, truncation_signs, is_there, kept_behind, work_of_truncation}
+use Rattle.pfs_admin.specs.Setups.{reply_to, work_of_statement}
+use Rattle.pfs_admin.specs.declared.changes.Reply.{Reply}
+use Rattle.pfs_admin.specs.declared.changes.Reply.TheVariants as replies
+use Rattle.pfs_admin.specs.declared.changes.SetupStatement.{SetupStatement}
+use Rattle.pfs_admin.specs.declared.changes.SetupStatement.TheVariants.{Update, Insert, Delete, Show}
 use Rattle.pfs_admin.specs.Works.{Sign, Releases, Tags, Made, Work, Flagging, signs_of, signs_calls, signs_entries, sign_calls, sign_entry, made_calls, made_entries, flagging_calls, flagging_entries}
 use Rattle.pfs_containers.specs.Administration.{Containers}
 use Rattle.pfs_containers.specs.Infos.{account_info_at, user_info_at, host_info_at}
@@ -44,11 +50,15 @@ use Rattle.pfs_rows.specs.declared.table.TableKind.{TableKind}
 use Rattle.pfs_rows.specs.Tables.{kind_number}
 use Rattle.pfs_stat.specs.declared.Stat.{Stat}
 use Rattle.pfs_session.specs.Ends.{EndsIn, EndsThrough, EndsCounted, DigestsIn, PutsAtEnd, added_entry}
+use Rattle.pfs_rows.specs.declared.table.Reading.TheVariants as readings
+use Rattle.pfs_rows.specs.declared.table.Seen.TheVariants as seen
+use Rattle.pfs_session.specs.Inquiries.{Inquiry, Looks, Remarks, inquiry_calls, inquiry_entry}
+use Rattle.pfs_session.specs.declared.remarks.Remark.TheVariants as remarks
 use Rattle.pfs_session.specs.Rings.{PutAt, PutIf, PutIn, PutLong, put_entries}
 use Rattle.pfs_session.specs.Settles.{Paid, pay_calls, pay_entries, paid_calls, paid_entries, settle_head, owed_by_state}
 use Rattle.pfs_session.specs.Starts.{Starts, load_calls, table_calls, start_entry}
 use Rattle.pfs_session.specs.States.{State, Owed}
-use Rattle.pfs_session.specs.Turns.{Step, StartsEvent, EndsEvent, Spends, SettlesHeld, Connects, Quits, Truncates, Does, Works, Turn, AreTurns, state_after, turns_calls, turns_entries}
+use Rattle.pfs_session.specs.Turns.{Step, StartsEvent, EndsEvent, Spends, SettlesHeld, Connects, Quits, Truncates, Changes, Inquires, Does, Works, reply_entries, Turn, AreTurns, state_after, turns_calls, turns_entries}
 use Rattle.pfs_session.specs.declared.events.Numbers.{Numbers}
 use Rattle.pfs_session.specs.declared.setup.Setup.{Setup}
 use Rattle.pfs_truncations.specs.declared.truncations.Truncation.{Truncation}
@@ -375,6 +385,24 @@ connect_printed : (action : ℕ) (seat : Option Seated) → ticketed_at (connect
 connect_printed action None = refl
 connect_printed action (Some seat) = refl
 
+replies_printed : (what : SetupStatement) (reply : Reply) → tickets_in (reply_entries what reply) ≡ []
+replies_printed (Update update) (replies.Changed count) = refl
+replies_printed (Update update) (replies.Error error) = refl
+replies_printed (Insert insert) (replies.Changed count) = refl
+replies_printed (Insert insert) (replies.Error error) = refl
+replies_printed (Delete delete) (replies.Changed count) = refl
+replies_printed (Delete delete) (replies.Error error) = refl
+replies_printed Show reply = refl
+
+inquiry_ticketed : (what : Inquiry) → IsTicketed (inquiry_calls what) (inquiry_entry what ∷ [])
+inquiry_ticketed (Looks (readings.Slot row (seen.Whole version content))) = record { paired = tt; same = refl }
+inquiry_ticketed (Looks (readings.Slot row (seen.Free word))) = record { paired = tt; same = refl }
+inquiry_ticketed (Looks (readings.Slot row (seen.Busy first second))) = record { paired = tt; same = refl }
+inquiry_ticketed (Looks (readings.Word word version flags)) = record { paired = tt; same = refl }
+inquiry_ticketed (Remarks remarks.Query) = record { paired = tt; same = refl }
+inquiry_ticketed (Remarks (remarks.Rows count)) = record { paired = tt; same = refl }
+inquiry_ticketed (Remarks (remarks.Refused error)) = record { paired = tt; same = refl }
+
 does_ticketed : (s : State) (step : Step) (calls : List Call) (entries : List Entry) (after : State) → Does s step calls entries after → IsTicketed calls entries
 does_ticketed s (StartsEvent subject) calls entries after d = starts_ticketed s subject calls entries after d
 does_ticketed s (EndsEvent numbers) calls entries after d = ends_ticketed s s.place.thread (is_let_through d.what.verdict) d.what d.others numbers calls entries after d.ends
@@ -386,6 +414,15 @@ does_ticketed s (Quits admin) calls entries after d = works_ticketed (work_of_qu
 does_ticketed s (Truncates admin what) calls entries after d =
     let t = works_ticketed (work_of_truncation admin what) admin.words _ calls d.changes refl (truncation_none (is_there admin.kept.now.places) (kept_behind admin.kept what).now what) d.works in
     ticketed_as calls calls entries _ refl d.entries_are (record { paired = t.paired; same = tickets_then d.changes (says.Reply 0 ∷ []) ∙ (append-nil (tickets_in d.changes) ∙ t.same) })
+does_ticketed s (Changes admin what) calls entries after d =
+    let t = works_ticketed (work_of_statement admin what) admin.words _ calls d.changes refl tt d.works in
+    let answer : List Entry = reply_entries what (reply_to admin what) in
+    ticketed_as calls calls entries _ refl d.entries_are (record {
+      paired = t.paired;
+      same = tickets_then d.changes answer
+          ∙ (ap (λ z. tickets_in d.changes ++ z) (replies_printed what (reply_to admin what)) ∙ (append-nil (tickets_in d.changes) ∙ t.same));
+    })
+does_ticketed s (Inquires what) calls entries after d = ticketed_as calls _ entries _ d.calls_are d.entries_are (inquiry_ticketed what)
 
 pub turns_ticketed : (s : State) (turns : List Turn) → AreTurns s turns → IsTicketed (turns_calls turns) (turns_entries turns)
 turns_ticketed s [] are = nothing_ticketed

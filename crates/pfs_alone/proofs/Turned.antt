@@ -6,12 +6,15 @@ use Rattle.pfs_board.specs.declared.view.Label.{Label}
 use Rattle.pfs_event.specs.declared.open.Open.{Open}
 use Rattle.pfs_levels.specs.Calls.{Call, Enters, Leaves}
 use Rattle.pfs_model.specs.Shapes.{is_stage}
+use Rattle.pfs_admin.specs.declared.changes.SetupStatement.TheVariants.{Show}
+use Rattle.pfs_rows.specs.declared.table.Reading.{Reading}
 use Rattle.pfs_session.specs.Ends.{no_numbers}
+use Rattle.pfs_session.specs.declared.remarks.Remark.TheVariants.{Rows}
 use Rattle.pfs_session.specs.States.{State, nothing_held}
-use Rattle.pfs_session.specs.Turns.{Step, StartsEvent, EndsEvent, SettlesHeld, Connects, Quits, Truncates, Does, Turn, AreTurns, state_after, steps_of, turns_calls, turns_entries, stage_ends}
-use Rattle.pfs_parts.specs.Deeds.{Deed, Connecting, Starting, Staging, StageEnding, Ending, Spending, Quitting, Truncating, Closing, IsPart, steps_for, part_entries, action_of}
-use Rattle.pfs_parts.proofs.Inverting.{OneTurn, one_turn, TwoTurns, two_turns}
-use Rattle.pfs_alone.specs.Notes.{Acted, all_told}
+use Rattle.pfs_session.specs.Turns.{Step, StartsEvent, EndsEvent, SettlesHeld, Connects, Quits, Truncates, Changes, Does, Turn, AreTurns, state_after, steps_of, turns_calls, turns_entries, stage_ends}
+use Rattle.pfs_parts.specs.Deeds.{Deed, Connecting, Starting, Staging, StageEnding, Ending, Spending, Quitting, Truncating, Changing, Showing, Querying, Refusing, Closing, IsPart, looks, remark, steps_for, part_entries, action_of}
+use Rattle.pfs_parts.proofs.Inverting.{OneTurn, one_turn, TwoTurns, two_turns, ThreeTurns, three_turns}
+use Rattle.pfs_alone.specs.Notes.{Note, Acted, all_told}
 use Rattle.pfs_alone.specs.Told.{head_of, turns_notes}
 use Rattle.pfs_alone.specs.Spells.{Doing, around, doing_calls, IsEntered}
 use Rattle.pfs_alone.proofs.Inner.{told_then}
@@ -59,6 +62,10 @@ stage_still (what ∷ events) = by_test (is_stage what.kind) where
   by_test true = (refl, tt)
   by_test false = tt
 
+looks_still : (found : List Reading) → AreStill (looks found)
+looks_still [] = tt
+looks_still (reading ∷ found) = (refl, looks_still found)
+
 -- an action's calls tell its number first
 around_told : (label : Label) (labels : List Label) (calls : List Call) → all_told (Leaves ∷ (calls ++ Enters label labels ∷ [])) ≡ Acted (length labels + 1) ∷ all_told calls
 unfolding all_told
@@ -94,11 +101,34 @@ quit_notes s turns step n label labels h are head e steps =
     ∙ sym (around_told label labels (u.calls ++ (t.calls ++ [])))
     )
 
+-- the same, with what is told behind it of the rows that are shown
+show_notes : (s : State) (turns : List Turn) (step : Step) (n count : ℕ) (label : Label) (labels : List Label) → s.held ≡ nothing_held → AreTurns s turns → head_of step ≡ Acted n ∷ []
+    → n ≡ length labels + 1 → steps_of turns ≡ SettlesHeld ∷ step ∷ remark (Rows count) ∷ [] → turns_notes turns ≡ all_told (Leaves ∷ (turns_calls turns ++ Enters label labels ∷ []))
+unfolding all_told
+show_notes s turns step n count label labels h are head e steps =
+    let o : ThreeTurns turns SettlesHeld step (remark (Rows count)) = three_turns turns SettlesHeld step (remark (Rows count)) steps in
+    let t : Turn = o.first in
+    let u : Turn = o.second in
+    let v : Turn = o.third in
+    let P : List Turn → Type 0 = λ z. turns_notes z ≡ all_told (Leaves ∷ (turns_calls z ++ Enters label labels ∷ [])) in
+    let ours : AreTurns s (v ∷ u ∷ t ∷ []) = subst (AreTurns s) o.is are in
+    let none : v.calls ≡ [] = (does_at u.after v (remark (Rows count)) o.third_is ours.0).calls_are in
+    let first : P (u ∷ t ∷ []) = quit_notes s (u ∷ t ∷ []) step n label labels h ours.1 head e (ap (λ z. z ∷ u.step ∷ []) o.first_is ∙ ap (λ z. SettlesHeld ∷ z ∷ []) o.second_is) in
+    let before : List Note = turns_notes (u ∷ t ∷ []) in
+    subst P (sym o.is)
+    (ap (λ z. before ++ (head_of z ++ all_told v.calls)) o.third_is ∙ (ap (λ z. before ++ all_told z) none ∙ (append-nil before
+    ∙ (first ∙ ap (λ z. all_told (Leaves ∷ ((z ++ (u.calls ++ (t.calls ++ []))) ++ Enters label labels ∷ []))) (sym none)))))
+
 deed_notes : (s : State) (deed : Deed) (turns : List Turn) (label : Label) (labels : List Label) → s.held ≡ nothing_held → AreTurns s turns → steps_of turns ≡ steps_for s deed → IsEntered s label labels deed
     → turns_notes turns ≡ all_told (around label labels (action_of deed) (turns_calls turns))
 deed_notes s (Connecting admin user host) turns label labels h are steps e = connect_notes s turns (Connects admin user host) (admin.actions + 1) label labels refl e.0 steps
 deed_notes s (Quitting admin) turns label labels h are steps e = quit_notes s turns (Quits admin) (admin.actions + 1) label labels h are refl e.0 steps
 deed_notes s (Truncating admin what) turns label labels h are steps e = quit_notes s turns (Truncates admin what) (admin.actions + 1) label labels h are refl e.0 steps
+deed_notes s (Changing admin what) turns label labels h are steps e = quit_notes s turns (Changes admin what) (admin.actions + 1) label labels h are refl e.0 steps
+deed_notes s (Showing admin count) turns label labels h are steps e = show_notes s turns (Changes admin Show) (admin.actions + 1) count label labels h are refl e.0 steps
+deed_notes s (Querying found count) turns label labels h are steps e =
+    still_notes turns (subst AreStill (sym steps) (refl, still_then (looks found) (remark (Rows count) ∷ []) (looks_still found) (refl, tt)))
+deed_notes s (Refusing error) turns label labels h are steps e = still_notes turns (subst AreStill (sym steps) (refl, tt))
 deed_notes s (Starting subject) turns label labels h are steps e = still_notes turns (subst AreStill (sym steps) (refl, tt))
 deed_notes s (Staging subject) turns label labels h are steps e =
     still_notes turns (subst AreStill (sym steps) (still_then (stage_ends s.opened.events) (StartsEvent subject ∷ []) (stage_still s.opened.events) (refl, tt)))

@@ -13,11 +13,12 @@ use Rattle.pfs_model.specs.Places.{Placed, placed_lines, by_session, places}
 use Rattle.pfs_model.specs.Setups.{loads_at}
 use Rattle.pfs_model.specs.declared.changes.Change.{Change}
 use Rattle.pfs_model.specs.declared.lines.Subject.{Subject}
-use Rattle.pfs_session.specs.Turns.{Step, StartsEvent, EndsEvent, Spends, SettlesHeld, Connects, Quits, Truncates, Turn, turns_calls}
+use Rattle.pfs_rows.specs.declared.table.Seen.TheVariants as seen
+use Rattle.pfs_session.specs.Turns.{Step, StartsEvent, EndsEvent, Spends, SettlesHeld, Connects, Quits, Truncates, Changes, Inquires, Turn, turns_calls}
 use Rattle.pfs_parts.specs.Deeds.{Part, part_calls, parts_calls}
 use Rattle.pfs_parts.specs.Shaped.{lines_of, entries_of}
 use Rattle.pfs_parts.specs.Stints.{blocks_of, parts_by}
-use Rattle.pfs_alone.specs.Notes.{Note, Wrote, Freed, Switched, Saw, Acted, saw_all, notes_at, notes_of, told, all_told}
+use Rattle.pfs_alone.specs.Notes.{Note, Wrote, Freed, Found, Vacant, Switched, Saw, Acted, saw_all, notes_at, notes_of, told, all_told}
 use Rattle.pfs_alone.specs.Told.{head_of, turns_notes, parts_notes}
 use Rattle.pfs_alone.specs.Weighed.{put_at, free_at, setting_of, AreWeighed, WeighedLaw, WeighedThroughLaw}
 use Rattle.pfs_alone.proofs.Inner.{told_then}
@@ -31,6 +32,8 @@ total_then h (x ∷ xs) ys = omega (arith, total_then h xs ys)
 abbrev of_row : (At → ℕ) → Note → ℕ
 of_row h (Wrote row version) = h (at_put row version)
 of_row h (Freed row version) = h (at_free row version)
+of_row h (Found row version) = 0
+of_row h (Vacant row) = 0
 of_row h (Switched word version flags) = 0
 of_row h (Saw word version) = 0
 of_row h (Acted number) = 0
@@ -39,6 +42,8 @@ abbrev of_set : (Setting → ℕ) → Note → ℕ
 of_set h (Switched word version flags) = h (record { word = word; version = version; flags = flags })
 of_set h (Wrote row version) = 0
 of_set h (Freed row version) = 0
+of_set h (Found row version) = 0
+of_set h (Vacant row) = 0
 of_set h (Saw word version) = 0
 of_set h (Acted number) = 0
 
@@ -108,7 +113,9 @@ calls_rows h (Adds at amount (Held r v w) ∷ calls) = same_rows h calls [] _ (c
 calls_rows h (Rings at content (Done v) ∷ calls) = more_rows h calls (told (Rings at content (Done v))) (h (at_put at v)) _ (calls_rows h calls) (omega arith)
 calls_rows h (Rings at content (Busy v w) ∷ calls) = same_rows h calls [] _ (calls_rows h calls) refl
 calls_rows h (Rings at content (Late t) ∷ calls) = same_rows h calls [] _ (calls_rows h calls) refl
-calls_rows h (Reads at seen ∷ calls) = same_rows h calls [] _ (calls_rows h calls) refl
+calls_rows h (Reads at (seen.Whole v found) ∷ calls) = same_rows h calls (told (Reads at (seen.Whole v found))) _ (calls_rows h calls) refl
+calls_rows h (Reads at (seen.Free w) ∷ calls) = same_rows h calls (told (Reads at (seen.Free w))) _ (calls_rows h calls) refl
+calls_rows h (Reads at (seen.Busy v w) ∷ calls) = same_rows h calls (told (Reads at (seen.Busy v w))) _ (calls_rows h calls) refl
 calls_rows h (Loads at v found ∷ calls) = same_rows h calls (told (Loads at v found)) _ (calls_rows h calls) refl
 calls_rows h (Draws kind ticket ∷ calls) = same_rows h calls [] _ (calls_rows h calls) refl
 calls_rows h (Meets versions ∷ calls) = same_rows h calls [] _ (calls_rows h calls) refl
@@ -133,7 +140,9 @@ calls_sets h (Adds at amount (Held r v w) ∷ calls) = same_sets h calls [] _ (c
 calls_sets h (Rings at content (Done v) ∷ calls) = same_sets h calls (told (Rings at content (Done v))) _ (calls_sets h calls) refl
 calls_sets h (Rings at content (Busy v w) ∷ calls) = same_sets h calls [] _ (calls_sets h calls) refl
 calls_sets h (Rings at content (Late t) ∷ calls) = same_sets h calls [] _ (calls_sets h calls) refl
-calls_sets h (Reads at seen ∷ calls) = same_sets h calls [] _ (calls_sets h calls) refl
+calls_sets h (Reads at (seen.Whole v found) ∷ calls) = same_sets h calls (told (Reads at (seen.Whole v found))) _ (calls_sets h calls) refl
+calls_sets h (Reads at (seen.Free w) ∷ calls) = same_sets h calls (told (Reads at (seen.Free w))) _ (calls_sets h calls) refl
+calls_sets h (Reads at (seen.Busy v w) ∷ calls) = same_sets h calls (told (Reads at (seen.Busy v w))) _ (calls_sets h calls) refl
 calls_sets h (Loads at v found ∷ calls) = same_sets h calls (told (Loads at v found)) _ (calls_sets h calls) refl
 calls_sets h (Draws kind ticket ∷ calls) = same_sets h calls [] _ (calls_sets h calls) refl
 calls_sets h (Meets versions ∷ calls) = same_sets h calls [] _ (calls_sets h calls) refl
@@ -153,6 +162,8 @@ unfolding total
 head_weighs w none (Connects admin user host) = omega (arith, none (admin.actions + 1))
 head_weighs w none (Quits admin) = omega (arith, none (admin.actions + 1))
 head_weighs w none (Truncates admin what) = omega (arith, none (admin.actions + 1))
+head_weighs w none (Changes admin what) = omega (arith, none (admin.actions + 1))
+head_weighs w none (Inquires what) = refl
 head_weighs w none (StartsEvent subject) = refl
 head_weighs w none (EndsEvent numbers) = refl
 head_weighs w none (Spends time) = refl

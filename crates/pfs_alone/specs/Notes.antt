@@ -10,11 +10,15 @@ use Rattle.pfs_model.specs.declared.lines.Subject.{Subject}
 use Rattle.pfs_model.specs.Contexts.{Context, noted, subject_of}
 use Rattle.pfs_model.specs.Places.{Placed}
 use Rattle.pfs_model.specs.Setups.{loads_at}
+use Rattle.pfs_rows.specs.declared.table.Seen.{Seen}
+use Rattle.pfs_rows.specs.declared.table.Seen.TheVariants as seen
 
--- a row was changed, or released; a switch word was set, or loaded; an action of this number began
+-- a row was changed, released, or read; a switch word was set, or loaded; an action of this number began
 pub data Note : Type 0 where
   Wrote : ℕ → ℕ → Note  -- the row and its new version
   Freed : ℕ → ℕ → Note  -- the row and its version
+  Found : ℕ → ℕ → Note  -- the row and the version at which it was read
+  Vacant : ℕ → Note  -- the row, which was free
   Switched : ℕ → ℕ → ℕ → Note  -- the word, its new version and its flags
   Saw : ℕ → ℕ → Note  -- the word and its version
   Acted : ℕ → Note
@@ -40,6 +44,8 @@ notes_at subject context (says.Give row version from) = Wrote row version ∷ []
 notes_at subject context (says.Tag row version) = Wrote row version ∷ []
 notes_at subject context (says.Free row version) = Freed row version ∷ []
 notes_at subject context (says.Set word version flags) = Switched word version flags ∷ []
+notes_at subject context (says.Seen row version) = Found row version ∷ []
+notes_at subject context (says.Vacant row) = Vacant row ∷ []
 notes_at subject context _ = []
 
 -- what the entries of a line tell
@@ -53,6 +59,12 @@ abbrev pub notes_of : List Placed → List Note
 notes_of [] = []
 notes_of (place ∷ places) = notes_at (subject_of place.line) place.context place.entry ++ notes_of places
 
+-- what a reading of a row tells
+abbrev pub found_notes : ℕ → Seen → List Note
+found_notes row (seen.Whole version content) = Found row version ∷ []
+found_notes row (seen.Free word) = Vacant row ∷ []
+found_notes row (seen.Busy first second) = []
+
 -- what a call tells
 abbrev pub told : Call → List Note
 told (Adds row amount (Counted r version)) = Wrote r version ∷ []
@@ -60,7 +72,7 @@ told (Adds row amount (Held r first second)) = []
 told (Rings row content (Done version)) = Wrote row version ∷ []
 told (Rings row content (Busy first second)) = []
 told (Rings row content (Late ticket)) = []
-told (Reads row seen) = []
+told (Reads row found) = found_notes row found
 told (Loads at version flags) = Saw at version ∷ []
 told (Draws kind ticket) = []
 told (Takes row version found) = []

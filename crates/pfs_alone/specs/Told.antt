@@ -7,7 +7,7 @@ use Rattle.pfs_parts.specs.Deeds.{Part}
 use Rattle.pfs_parts.specs.Shaped.{AreParts, lines_of, entries_of, state_behind}
 use Rattle.pfs_parts.specs.Stints.{Stint, AreStints, blocks_of, parts_by}
 use Rattle.pfs_session.specs.States.{State}
-use Rattle.pfs_session.specs.Turns.{Step, StartsEvent, EndsEvent, Spends, SettlesHeld, Connects, Quits, Truncates, Turn}
+use Rattle.pfs_session.specs.Turns.{Step, StartsEvent, EndsEvent, Spends, SettlesHeld, Connects, Quits, Truncates, Changes, Inquires, Turn}
 use Rattle.pfs_alone.specs.Notes.{Note, Acted, notes_of, all_told}
 
 -- a session that has a slot is in that of its journal
@@ -19,6 +19,8 @@ abbrev pub head_of : Step → List Note
 head_of (Connects admin user host) = Acted (admin.actions + 1) ∷ []
 head_of (Quits admin) = Acted (admin.actions + 1) ∷ []
 head_of (Truncates admin what) = Acted (admin.actions + 1) ∷ []
+head_of (Changes admin what) = Acted (admin.actions + 1) ∷ []
+head_of (Inquires what) = []
 head_of (StartsEvent subject) = []
 head_of (EndsEvent numbers) = []
 head_of (Spends time) = []
@@ -32,8 +34,8 @@ abbrev pub parts_notes : List Part → List Note
 parts_notes [] = []
 parts_notes (p ∷ ps) = turns_notes p.turns ++ parts_notes ps
 
--- the same row changes and releases, sets and loads of words and actions, and the session still sits in its journal's
--- slot
+-- the same changes, releases and readings of rows, sets and loads of words and actions, and the session still sits in
+-- its journal's slot
 pub record AreTold (context : Context) (s : State) (parts : List Part) : Type 0 where
   pub same : (phase session : ℕ)
       → notes_of (placed_lines phase session context (lines_of parts) (entries_of parts)) ≡ parts_notes parts

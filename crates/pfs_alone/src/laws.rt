@@ -4,8 +4,8 @@ ghost use Rattle.pfs_alone.specs.Alone.{AloneLaw};
 ghost use Rattle.pfs_alone.specs.Told.{ToldLaw, ToldThroughLaw};
 ghost use Rattle.pfs_alone.specs.Weighed.{WeighedLaw, WeighedThroughLaw};
 
-/// What a session's entries tell is what its calls tell, in the same order, whatever store it has: the changes and
-/// releases of rows, and the sets and loads of switch words; and actions have the numbers of their administration.
+/// What a session's entries tell is what its calls tell, in the same order, whatever store it has: the changes, releases
+/// and readings of rows, and the sets and loads of switch words; and actions have the numbers of their administration.
 pub fn told()
     ensures { ToldLaw }
 {}

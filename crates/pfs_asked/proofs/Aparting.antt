@@ -6,8 +6,14 @@ use Rattle.std.proofs.lemmas.List.{append_assoc, append-nil, map-append}
 use Rattle.pfs_admin.proofs.Rows.{quit_rows}
 use Rattle.pfs_admin.specs.Asks.{connect_entry, connect_work, quit_work, work_of_connect, work_of_quit}
 use Rattle.pfs_admin.specs.States.{seat_at, seat_in, has_quit, connected, thread_flags}
+use Rattle.pfs_admin.specs.States.{State as Administration}
+use Rattle.pfs_admin.specs.Setups.{reply_to, work_of_statement}
 use Rattle.pfs_admin.specs.Truncations.{work_of_truncation}
 use Rattle.pfs_admin.specs.Works.{Sign, Releases, Tags, Made, Flagging, Work, signs_entries, made_entries, sign_entry, flagging_entries}
+use Rattle.pfs_admin.specs.declared.changes.Reply.{Reply}
+use Rattle.pfs_admin.specs.declared.changes.Reply.TheVariants as replies
+use Rattle.pfs_admin.specs.declared.changes.SetupStatement.{SetupStatement}
+use Rattle.pfs_admin.specs.declared.changes.SetupStatement.TheVariants.{Update, Insert, Delete, Show}
 use Rattle.pfs_containers.specs.Kept.{IsInRange}
 use Rattle.pfs_containers.specs.declared.containers.Seated.{Seated}
 use Rattle.pfs_event.specs.declared.entry.Entry.{Entry}
@@ -17,14 +23,16 @@ use Rattle.pfs_levels.specs.Moves.{Ask, Gift, Move, IsMove, AreMoves, gift_entri
 use Rattle.pfs_levels.specs.declared.answers.Word.{Word}
 use Rattle.pfs_model.specs.Chains.{Each, times}
 use Rattle.pfs_parts.proofs.Journaling.{turns_number}
-use Rattle.pfs_parts.proofs.Inverting.{OneTurn, TwoTurns, one_turn, two_turns}
-use Rattle.pfs_parts.specs.Deeds.{Deed, Connecting, Starting, Staging, StageEnding, Ending, Spending, Quitting, Truncating, Closing, Part, part_entries, steps_for}
+use Rattle.pfs_parts.proofs.Inverting.{OneTurn, TwoTurns, ThreeTurns, one_turn, two_turns, three_turns}
+use Rattle.pfs_parts.specs.Deeds.{Deed, Connecting, Starting, Staging, StageEnding, Ending, Spending, Quitting, Truncating, Changing, Showing, Querying, Refusing, Closing, Part, part_entries, steps_for}
 use Rattle.pfs_parts.specs.Shaped.{AreParts}
 use Rattle.pfs_parts.specs.Stints.{Stint}
+use Rattle.pfs_session.specs.Inquiries.{Remarks}
 use Rattle.pfs_session.specs.States.{State}
-use Rattle.pfs_session.specs.Turns.{Step, Connects, Quits, Truncates, SettlesHeld, Does, Turn, AreTurns, state_after, steps_of, turns_entries}
+use Rattle.pfs_session.specs.declared.remarks.Remark.TheVariants.{Rows, Refused}
+use Rattle.pfs_session.specs.Turns.{Step, Connects, Quits, Truncates, Changes, Inquires, SettlesHeld, Changed, Does, Turn, AreTurns, state_after, steps_of, turns_entries, reply_entries}
 use Rattle.pfs_asked.proofs.Bits.{each_then, is_calm, AreCalm}
-use Rattle.pfs_asked.proofs.Calming.{AreIdleSteps, does_calm, turns_calm, deed_idle}
+use Rattle.pfs_asked.proofs.Calming.{AreIdleSteps, IsIdleDeed, does_calm, turns_calm, deed_idle}
 use Rattle.pfs_asked.proofs.Parting.{work_entries}
 use Rattle.pfs_asked.specs.Asking.{number_of, work_of}
 use Rattle.pfs_asked.specs.Runs.{numbers_of, all_numbers}
@@ -110,21 +118,78 @@ head_taken : (action : ℕ) (seat : Option Seated) (n : ℕ) (rest : List Entry)
 head_taken action None n rest = refl
 head_taken action (Some seat) n rest = refl
 
+-- a line that is no action takes nothing
+lines_none : (s : State) (deed : Deed) (turns : List Turn) → AreTurns s turns → steps_of turns ≡ steps_for s deed → number_of deed ≡ 0 → TakeNone (turns_entries turns)
+lines_none s deed turns are steps none = by_deed deed steps none where
+  calm : (deed : Deed) → steps_of turns ≡ steps_for s deed → IsIdleDeed deed → TakeNone (turns_entries turns)
+  calm deed steps idle = calms_none (turns_entries turns) (turns_calm s turns are (subst AreIdleSteps (sym steps) (deed_idle s deed idle)))
+
+  by_deed : (deed : Deed) → steps_of turns ≡ steps_for s deed → number_of deed ≡ 0 → TakeNone (turns_entries turns)
+  by_deed (Connecting admin user host) steps e = absurd (omega (arith, e))
+  by_deed (Quitting admin) steps e = absurd (omega (arith, e))
+  by_deed (Truncating admin what) steps e = absurd (omega (arith, e))
+  by_deed (Changing admin what) steps e = absurd (omega (arith, e))
+  by_deed (Showing admin count) steps e = absurd (omega (arith, e))
+  by_deed (Querying found count) steps e = calm (Querying found count) steps tt
+  by_deed (Refusing error) steps e =
+      let step : Step = Inquires (Remarks (Refused error)) in
+      let one : OneTurn turns step = one_turn turns step steps in
+      let t : Turn = one.turn in
+      let ours : AreTurns s (t ∷ []) = subst (AreTurns s) one.is are in
+      let d = does_at s t step one.step_is ours.0 in
+      subst (λ z. TakeNone (turns_entries z)) (sym one.is) (subst TakeNone (sym d.entries_are) (refl, tt))
+  by_deed (Starting subject) steps e = calm (Starting subject) steps tt
+  by_deed (Staging subject) steps e = calm (Staging subject) steps tt
+  by_deed StageEnding steps e = calm StageEnding steps tt
+  by_deed (Ending numbers) steps e = calm (Ending numbers) steps tt
+  by_deed (Spending time) steps e = calm (Spending time) steps tt
+  by_deed Closing steps e = calm Closing steps tt
+
 idle_rows : (action : ℕ) (s : State) (deed : Deed) (turns : List Turn) → AreTurns s turns → steps_of turns ≡ steps_for s deed → number_of deed ≡ 0
     → map row_in (taken_in action (turns_entries turns)) ≡ map from_of (work_of s.number deed).moves
 idle_rows action s deed turns are steps none =
-    let calm = turns_calm s turns are (subst AreIdleSteps (sym steps) (deed_idle s deed none)) in
-    ap (map row_in) (none_taken action (turns_entries turns) (calms_none (turns_entries turns) calm)) ∙ no_moves deed none where
+    ap (map row_in) (none_taken action (turns_entries turns) (lines_none s deed turns are steps none)) ∙ no_moves deed none where
       no_moves : (deed : Deed) → number_of deed ≡ 0 → [] ≡ map from_of (work_of s.number deed).moves
       no_moves (Connecting admin user host) e = absurd (omega (arith, e))
       no_moves (Quitting admin) e = absurd (omega (arith, e))
       no_moves (Truncating admin what) e = absurd (omega (arith, e))
+      no_moves (Changing admin what) e = refl
+      no_moves (Showing admin count) e = refl
+      no_moves (Querying found count) e = refl
+      no_moves (Refusing error) e = refl
       no_moves (Starting subject) e = refl
       no_moves (Staging subject) e = refl
       no_moves StageEnding e = refl
       no_moves (Ending numbers) e = refl
       no_moves (Spending time) e = refl
       no_moves Closing e = refl
+
+-- a statement on the setup tables takes nothing
+answers_none : (what : SetupStatement) (reply : Reply) → TakeNone (reply_entries what reply)
+answers_none Show reply = tt
+answers_none (Update update) (replies.Changed count) = (refl, tt)
+answers_none (Update update) (replies.Error error) = (refl, tt)
+answers_none (Insert insert) (replies.Changed count) = (refl, tt)
+answers_none (Insert insert) (replies.Error error) = (refl, tt)
+answers_none (Delete delete) (replies.Changed count) = (refl, tt)
+answers_none (Delete delete) (replies.Error error) = (refl, tt)
+
+changed_none : (action : ℕ) (s : State) (admin : Administration) (what : SetupStatement) (u : Turn) → Changed s admin what u.calls u.entries u.after → taken_in action u.entries ≡ []
+changed_none action s admin what u d =
+    let w = d.works in
+    let work : Work = work_of_statement admin what in
+    let rest : List Entry = work_entries w.moves w.made admin.words work in
+    let answer : List Entry = reply_entries what (reply_to admin what) in
+    ap (taken_in action) (d.entries_are ∙ ap (λ z. z ++ answer) w.entries_are)
+    ∙ (taken_then action rest answer
+    ∙ (ap (λ z. taken_in action rest ++ z) (none_taken action answer (answers_none what (reply_to admin what)))
+    ∙ (append-nil (taken_in action rest) ∙ no_rows (taken_in action rest) (work_taken action work w.moves w.made admin.words w.are_moves)))) where
+      no_rows : (ts : List Taken) → map row_in ts ≡ [] → ts ≡ []
+      no_rows [] e = refl
+      no_rows (t ∷ ts) e = absurd (cc)
+
+settled_none : (action : ℕ) (s : State) (t : Turn) → Does s SettlesHeld t.calls t.entries t.after → taken_in action t.entries ≡ []
+settled_none action s t d = none_taken action t.entries (calms_none t.entries (does_calm s SettlesHeld t.calls t.entries t.after refl d))
 
 -- the rows that a part takes are those that its action moves
 part_rows : (action : ℕ) (s : State) (deed : Deed) (turns : List Turn) → AreTurns s turns → steps_of turns ≡ steps_for s deed
@@ -153,7 +218,7 @@ part_rows action s (Quitting admin) turns are steps =
     let work : Work = work_of_quit admin t.after.number in
     ap (λ z. map row_in (taken_in action (turns_entries z))) two.is
     ∙ (ap (map row_in) (taken_then action t.entries u.entries)
-    ∙ (ap (λ z. map row_in (z ++ taken_in action u.entries)) (none_taken action t.entries (calms_none t.entries (does_calm s SettlesHeld t.calls t.entries t.after refl settles)))
+    ∙ (ap (λ z. map row_in (z ++ taken_in action u.entries)) (settled_none action s t settles)
     ∙ (ap (λ z. map row_in (taken_in action z)) w.entries_are
     ∙ (work_taken action work w.moves w.made admin.words w.are_moves ∙ ap (λ z. map from_of (work_of_quit admin z).moves) same))))
 part_rows action s (Truncating admin what) turns are steps =
@@ -168,11 +233,38 @@ part_rows action s (Truncating admin what) turns are steps =
     let rest : List Entry = work_entries w.moves w.made admin.words work in
     ap (λ z. map row_in (taken_in action (turns_entries z))) two.is
     ∙ (ap (map row_in) (taken_then action t.entries u.entries)
-    ∙ (ap (λ z. map row_in (z ++ taken_in action u.entries)) (none_taken action t.entries (calms_none t.entries (does_calm s SettlesHeld t.calls t.entries t.after refl settles)))
+    ∙ (ap (λ z. map row_in (z ++ taken_in action u.entries)) (settled_none action s t settles)
     ∙ (ap (λ z. map row_in (taken_in action z)) (d.entries_are ∙ ap (λ z. z ++ says.Reply 0 ∷ []) w.entries_are)
     ∙ (ap (map row_in) (taken_then action rest (says.Reply 0 ∷ []))
     ∙ (ap (map row_in) (append-nil (taken_in action rest))
     ∙ work_taken action work w.moves w.made admin.words w.are_moves)))))
+part_rows action s (Changing admin what) turns are steps =
+    let two : TwoTurns turns SettlesHeld (Changes admin what) = two_turns turns SettlesHeld (Changes admin what) steps in
+    let t : Turn = two.first in
+    let u : Turn = two.second in
+    let ours : AreTurns s (u ∷ t ∷ []) = subst (AreTurns s) two.is are in
+    let settles = does_at s t SettlesHeld two.first_is ours.1.0 in
+    let d = does_at t.after u (Changes admin what) two.second_is ours.0 in
+    ap (λ z. map row_in (taken_in action (turns_entries z))) two.is
+    ∙ (ap (map row_in) (taken_then action t.entries u.entries)
+    ∙ (ap (λ z. map row_in (z ++ taken_in action u.entries)) (settled_none action s t settles) ∙ ap (map row_in) (changed_none action t.after admin what u d)))
+part_rows action s (Showing admin count) turns are steps =
+    let last : Step = Inquires (Remarks (Rows count)) in
+    let three : ThreeTurns turns SettlesHeld (Changes admin Show) last = three_turns turns SettlesHeld (Changes admin Show) last steps in
+    let t : Turn = three.first in
+    let u : Turn = three.second in
+    let v : Turn = three.third in
+    let ours : AreTurns s (v ∷ u ∷ t ∷ []) = subst (AreTurns s) three.is are in
+    let settles = does_at s t SettlesHeld three.first_is ours.1.1.0 in
+    let d = does_at t.after u (Changes admin Show) three.second_is ours.1.0 in
+    let tells = does_at u.after v last three.third_is ours.0 in
+    ap (λ z. map row_in (taken_in action (turns_entries z))) three.is
+    ∙ (ap (map row_in) (taken_then action (t.entries ++ u.entries) v.entries ∙ ap (λ z. z ++ taken_in action v.entries) (taken_then action t.entries u.entries))
+    ∙ (ap (λ z. map row_in ((z ++ taken_in action u.entries) ++ taken_in action v.entries)) (settled_none action s t settles)
+    ∙ (ap (λ z. map row_in (z ++ taken_in action v.entries)) (changed_none action t.after admin Show u d)
+    ∙ ap (map row_in) (none_taken action v.entries (calms_none v.entries (does_calm u.after last v.calls v.entries v.after refl tells))))))
+part_rows action s (Querying found count) turns are steps = idle_rows action s (Querying found count) turns are steps refl
+part_rows action s (Refusing error) turns are steps = idle_rows action s (Refusing error) turns are steps refl
 part_rows action s (Starting subject) turns are steps = idle_rows action s (Starting subject) turns are steps refl
 part_rows action s (Staging subject) turns are steps = idle_rows action s (Staging subject) turns are steps refl
 part_rows action s StageEnding turns are steps = idle_rows action s StageEnding turns are steps refl
@@ -208,6 +300,10 @@ rows_once session (Quitting admin) is = by_seat (seat_in admin session) is.1 whe
   by_seat None h = λ row. omega arith
   by_seat (Some seat) h = ascends_once 129 2177 _ (quit_rows admin.words admin.cells (has_quit admin session).kept.now seat h is.0).0
 rows_once session (Truncating admin what) is = is.0
+rows_once session (Changing admin what) is = λ row. omega arith
+rows_once session (Showing admin count) is = λ row. omega arith
+rows_once session (Querying found count) is = λ row. omega arith
+rows_once session (Refusing error) is = λ row. omega arith
 rows_once session (Starting subject) is = λ row. omega arith
 rows_once session (Staging subject) is = λ row. omega arith
 rows_once session StageEnding is = λ row. omega arith
@@ -321,8 +417,7 @@ parts_apart number s (p ∷ ps) ns ts same are seated u r =
     let own : List Taken = taken_in a (part_entries p) in
     let rows : AreOnce (map row_in own) =
     subst AreOnce (sym (part_rows a s p.deed p.turns are.0.are_turns are.0.steps_are ∙ ap (λ z. map from_of (work_of z p.deed).moves) same)) (rows_once number p.deed seated.0) in
-    let none : a ≡ 0 → own ≡ [] = λ e. none_taken a (turns_entries p.turns)
-    (calms_none (turns_entries p.turns) (turns_calm s p.turns are.0.are_turns (subst AreIdleSteps (sym are.0.steps_are) (deed_idle s p.deed e)))) in
+    let none : a ≡ 0 → own ≡ [] = λ e. none_taken a (turns_entries p.turns) (lines_none s p.deed p.turns are.0.are_turns are.0.steps_are e) in
     subst (IsApart (a ∷ (numbers_of ps ++ ns))) (sym (append_assoc own (taken_by ps) ts))
     (part_more a own (numbers_of ps ++ ns) (taken_by ps ++ ts) (all_own a (part_entries p)) (once_apart own rows) none u
     (parts_apart number (state_after s p.turns) ps ns ts (turns_number s p.turns are.0.are_turns ∙ same) are.1 seated.1 (tail_unique a (numbers_of ps ++ ns) u) r))

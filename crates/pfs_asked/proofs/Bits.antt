@@ -14,7 +14,7 @@ use Rattle.pfs_model.specs.declared.lines.Line.{Line}
 use Rattle.pfs_model.specs.declared.lines.Subject.{Subject}
 use Rattle.pfs_parts.proofs.Ringing.{ring_keeps}
 use Rattle.pfs_asked.proofs.Deeds.{dids}
-use Rattle.pfs_asked.specs.Asking.{Orders, no_rows}
+use Rattle.pfs_asked.specs.Asking.{Orders}
 use Rattle.pfs_asked.specs.Done.{IsMade, AreMade}
 
 pub each_then : {A : Type 0} (P : A → Type 0) (xs ys : List A) → Each P xs → Each P ys → Each P (xs ++ ys)
@@ -52,7 +52,7 @@ all_keep subject context (e ∷ es) a = all_keep subject (noted subject context 
 pub record Fact (orders : Orders) (given : Given) (content : ℕ → ℕ → List ℕ) (place : Placed) : Type 0 where
   pub found : IsFoundAsCounted content orders.counted place.context.action place.entry
   pub made : IsMade given content place place.entry
-  pub answered : IsAnswered orders.rooms no_rows place place.entry
+  pub answered : IsAnswered orders.rooms orders.answers place place.entry
 
 pub all_found : (orders : Orders) (given : Given) (content : ℕ → ℕ → List ℕ) (ps : List Placed) → Each (Fact orders given content) ps → AreFoundAsCounted content orders.counted ps
 all_found orders given content [] a = tt
@@ -63,7 +63,7 @@ all_made orders given content [] a = tt
 all_made orders given content (p ∷ ps) a = (a.0.made, all_made orders given content ps a.1)
 
 pub all_answered : (orders : Orders) (given : Given) (content : ℕ → ℕ → List ℕ) (ps : List Placed) → Each (Fact orders given content) ps
-    → AreAnswered orders.rooms no_rows ps
+    → AreAnswered orders.rooms orders.answers ps
 all_answered orders given content [] a = tt
 all_answered orders given content (p ∷ ps) a = (a.0.answered, all_answered orders given content ps a.1)
 
@@ -115,6 +115,11 @@ is_calm (says.Ring _ _) = true
 is_calm (says.Long _ _ _) = true
 is_calm (says.Busy _ _ _) = true
 is_calm (says.Late _ _ _) = true
+is_calm says.Query = true
+is_calm (says.Seen _ _) = true
+is_calm (says.Vacant _) = true
+is_calm (says.Saw _ _) = true
+is_calm (says.Rows _) = true
 is_calm _ = false
 
 abbrev pub AreCalm : List Entry → Type 0
@@ -135,6 +140,11 @@ calm_did (says.Ring _ _) q = refl
 calm_did (says.Long _ _ _) q = refl
 calm_did (says.Busy _ _ _) q = refl
 calm_did (says.Late _ _ _) q = refl
+calm_did says.Query q = refl
+calm_did (says.Seen _ _) q = refl
+calm_did (says.Vacant _) q = refl
+calm_did (says.Saw _ _) q = refl
+calm_did (says.Rows _) q = refl
 calm_did _ q = absurd (false≢true q)
 
 calm_keeps : (subject : Option Subject) (context : Context) (e : Entry) → is_calm e ≡ true → (noted subject context e).action ≡ context.action
@@ -147,6 +157,11 @@ calm_keeps subject context (says.Ring r v) q = ap (λ (z : Context). z.action) (
 calm_keeps subject context (says.Long r v t) q = ap (λ (z : Context). z.action) (ring_keeps subject context (says.Long r v t) refl)
 calm_keeps subject context (says.Busy r f s) q = ap (λ (z : Context). z.action) (ring_keeps subject context (says.Busy r f s) refl)
 calm_keeps subject context (says.Late r t g) q = ap (λ (z : Context). z.action) (ring_keeps subject context (says.Late r t g) refl)
+calm_keeps subject context says.Query q = refl
+calm_keeps subject context (says.Seen _ _) q = refl
+calm_keeps subject context (says.Vacant _) q = refl
+calm_keeps subject context (says.Saw _ _) q = refl
+calm_keeps subject context (says.Rows _) q = refl
 calm_keeps subject context _ q = absurd (false≢true q)
 
 calm_fact : (orders : Orders) (given : Given) (content : ℕ → ℕ → List ℕ) (phase session : ℕ) (line : Line) (context : Context) (e : Entry) → is_calm e ≡ true
@@ -160,6 +175,11 @@ calm_fact orders given content phase session line context (says.Ring _ _) q = re
 calm_fact orders given content phase session line context (says.Long _ _ _) q = record { found = tt; made = tt; answered = tt }
 calm_fact orders given content phase session line context (says.Busy _ _ _) q = record { found = tt; made = tt; answered = tt }
 calm_fact orders given content phase session line context (says.Late _ _ _) q = record { found = tt; made = tt; answered = tt }
+calm_fact orders given content phase session line context says.Query q = record { found = tt; made = tt; answered = tt }
+calm_fact orders given content phase session line context (says.Seen _ _) q = record { found = tt; made = tt; answered = tt }
+calm_fact orders given content phase session line context (says.Vacant _) q = record { found = tt; made = tt; answered = tt }
+calm_fact orders given content phase session line context (says.Saw _ _) q = record { found = tt; made = tt; answered = tt }
+calm_fact orders given content phase session line context (says.Rows _) q = record { found = tt; made = tt; answered = tt }
 calm_fact orders given content phase session line context _ q = absurd (false≢true q)
 
 calm_still : (phase session : ℕ) (line : Line) (context : Context) (es : List Entry) → AreCalm es → AreStill (placed_part phase session line context es)

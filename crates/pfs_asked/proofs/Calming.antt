@@ -1,5 +1,5 @@
 -- What a session writes at a step that is no action.
-use Rattle.std.proofs.Common.{ℕ, ◌≡◌, Bool, true, false, List, [], ◌∷◌, ◌++◌, Option, Some, None, refl, sym, subst, arith}
+use Rattle.std.proofs.Common.{ℕ, ◌≡◌, Bool, true, false, List, [], ◌∷◌, ◌++◌, Option, Some, None, refl, sym, subst}
 use Rattle.std.specs.Prelude.{if◌then◌else◌}
 use Rattle.std.proofs.lemmas.Bool.{false≢true}
 use Rattle.pfs_event.specs.Verdicts.{is_let_through}
@@ -14,17 +14,21 @@ use Rattle.pfs_model.specs.Shapes.{is_stage}
 use Rattle.pfs_model.specs.declared.lines.Subject.{Subject}
 use Rattle.pfs_parts.proofs.Acting.{AreAll}
 use Rattle.pfs_parts.proofs.Ringing.{is_ring, put_ring, rings_of}
-use Rattle.pfs_parts.specs.Deeds.{Deed, Connecting, Starting, Staging, StageEnding, Ending, Spending, Quitting, Truncating, Closing, steps_for}
+use Rattle.pfs_parts.specs.Deeds.{Deed, Connecting, Starting, Staging, StageEnding, Ending, Spending, Quitting, Truncating, Changing, Showing, Querying, Refusing, Closing, looks, remark, steps_for}
+use Rattle.pfs_rows.specs.declared.table.Reading.{Reading}
+use Rattle.pfs_rows.specs.declared.table.Reading.TheVariants as readings
+use Rattle.pfs_rows.specs.declared.table.Seen.TheVariants as seen
 use Rattle.pfs_session.specs.Ends.{Ends, EndsIn, EndsAdded, DigestsIn, added_entry, no_numbers}
+use Rattle.pfs_session.specs.Inquiries.{Inquiry, Looks, Remarks, inquiry_entry, reading_entry}
+use Rattle.pfs_session.specs.declared.remarks.Remark.TheVariants as remarks
 use Rattle.pfs_session.specs.Settles.{Paid, paid_entries, pay_entries, settle_head}
 use Rattle.pfs_session.specs.Rings.{put_entries}
 use Rattle.pfs_session.specs.Starts.{Begins, start_entry}
 use Rattle.pfs_session.specs.States.{State, Owed}
-use Rattle.pfs_session.specs.Turns.{Step, StartsEvent, EndsEvent, Spends, SettlesHeld, Connects, Quits, Truncates, Does, Turn, AreTurns, state_after, steps_of, turns_entries, stage_ends}
+use Rattle.pfs_session.specs.Turns.{Step, StartsEvent, EndsEvent, Spends, SettlesHeld, Connects, Quits, Truncates, Changes, Inquires, Does, Turn, AreTurns, state_after, steps_of, turns_entries, stage_ends}
 use Rattle.pfs_session.specs.declared.events.Numbers.{Numbers}
 use Rattle.pfs_session.specs.declared.setup.Setup.{Setup}
 use Rattle.pfs_asked.proofs.Bits.{is_calm, AreCalm, calm_then}
-use Rattle.pfs_asked.specs.Asking.{number_of}
 
 start_calm : (verdict : Verdict) (number : ℕ) (seen : Option Setup) → is_calm (start_entry verdict number seen) ≡ true
 start_calm verdict number None = refl
@@ -78,10 +82,31 @@ ends_calm s numbers calls entries after e = by_case s.place.thread (is_let_throu
       (calm_then x.added_entries x.ring_entries (added_is_calm s slot e.what e.others numbers x.added_calls x.added_entries x.among x.adds)
       (rings_calm x.ring_entries (rings_of x.among slot e.what numbers _ _ x.ring_calls x.ring_entries after x.puts)))
 
+-- all but a refusal
+abbrev pub is_calm_inquiry : Inquiry → Bool
+is_calm_inquiry (Looks reading) = true
+is_calm_inquiry (Remarks remarks.Query) = true
+is_calm_inquiry (Remarks (remarks.Rows count)) = true
+is_calm_inquiry (Remarks (remarks.Refused error)) = false
+
+reading_calm : (reading : Reading) → is_calm (reading_entry reading) ≡ true
+reading_calm (readings.Slot row (seen.Whole version content)) = refl
+reading_calm (readings.Slot row (seen.Free word)) = refl
+reading_calm (readings.Slot row (seen.Busy first second)) = refl
+reading_calm (readings.Word word version flags) = refl
+
+inquiry_calm : (what : Inquiry) → is_calm_inquiry what ≡ true → is_calm (inquiry_entry what) ≡ true
+inquiry_calm (Looks reading) q = reading_calm reading
+inquiry_calm (Remarks remarks.Query) q = refl
+inquiry_calm (Remarks (remarks.Rows count)) q = refl
+inquiry_calm (Remarks (remarks.Refused error)) q = absurd (false≢true q)
+
 abbrev pub is_idle : Step → Bool
 is_idle (Connects admin user host) = false
 is_idle (Quits admin) = false
 is_idle (Truncates admin what) = false
+is_idle (Changes admin what) = false
+is_idle (Inquires what) = is_calm_inquiry what
 is_idle _ = true
 
 pub does_calm : (s : State) (step : Step) (calls : List Call) (entries : List Entry) (after : State) → is_idle step ≡ true → Does s step calls entries after → AreCalm entries
@@ -94,6 +119,8 @@ does_calm s SettlesHeld calls entries after i d = subst AreCalm (sym d.entries_a
 does_calm s (Connects admin user host) calls entries after i d = absurd (false≢true i)
 does_calm s (Quits admin) calls entries after i d = absurd (false≢true i)
 does_calm s (Truncates admin what) calls entries after i d = absurd (false≢true i)
+does_calm s (Changes admin what) calls entries after i d = absurd (false≢true i)
+does_calm s (Inquires what) calls entries after i d = subst AreCalm (sym d.entries_are) (inquiry_calm what i, tt)
 
 abbrev pub AreIdleSteps : List Step → Type 0
 AreIdleSteps [] = Unit {0}
@@ -124,13 +151,37 @@ stage_idle (what ∷ events) = by_test (is_stage what.kind) where
   by_test true = (refl, tt)
   by_test false = tt
 
-pub deed_idle : (s : State) (deed : Deed) → number_of deed ≡ 0 → AreIdleSteps (steps_for s deed)
-deed_idle s (Connecting admin user host) e = absurd (omega (arith, e))
+looks_idle : (found : List Reading) → AreIdleSteps (looks found)
+looks_idle [] = tt
+looks_idle (reading ∷ found) = (refl, looks_idle found)
+
+-- a line that is no action, and whose text isn't refused
+abbrev pub IsIdleDeed : Deed → Type 0
+IsIdleDeed (Connecting admin user host) = ⊥
+IsIdleDeed (Quitting admin) = ⊥
+IsIdleDeed (Truncating admin what) = ⊥
+IsIdleDeed (Changing admin what) = ⊥
+IsIdleDeed (Showing admin count) = ⊥
+IsIdleDeed (Refusing error) = ⊥
+IsIdleDeed (Querying found count) = Unit {0}
+IsIdleDeed (Starting subject) = Unit {0}
+IsIdleDeed (Staging subject) = Unit {0}
+IsIdleDeed StageEnding = Unit {0}
+IsIdleDeed (Ending numbers) = Unit {0}
+IsIdleDeed (Spending time) = Unit {0}
+IsIdleDeed Closing = Unit {0}
+
+pub deed_idle : (s : State) (deed : Deed) → IsIdleDeed deed → AreIdleSteps (steps_for s deed)
+deed_idle s (Connecting admin user host) e = absurd e
 deed_idle s (Starting subject) e = (refl, tt)
 deed_idle s (Staging subject) e = idle_then (stage_ends s.opened.events) (StartsEvent subject ∷ []) (stage_idle s.opened.events) (refl, tt)
 deed_idle s StageEnding e = idle_then (stage_ends s.opened.events) [] (stage_idle s.opened.events) tt
 deed_idle s (Ending numbers) e = idle_then (stage_ends s.opened.events) (EndsEvent numbers ∷ []) (stage_idle s.opened.events) (refl, tt)
 deed_idle s (Spending time) e = (refl, tt)
-deed_idle s (Quitting admin) e = absurd (omega (arith, e))
-deed_idle s (Truncating admin what) e = absurd (omega (arith, e))
+deed_idle s (Quitting admin) e = absurd e
+deed_idle s (Truncating admin what) e = absurd e
+deed_idle s (Changing admin what) e = absurd e
+deed_idle s (Showing admin count) e = absurd e
+deed_idle s (Querying found count) e = (refl, idle_then (looks found) (remark (remarks.Rows count) ∷ []) (looks_idle found) (refl, tt))
+deed_idle s (Refusing error) e = absurd e
 deed_idle s Closing e = (refl, tt)

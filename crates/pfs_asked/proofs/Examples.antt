@@ -119,16 +119,17 @@ third_is = record {
 }
 
 first_orders : AreOrders orders given content 1 (connect_part one start first_work first_made)
-first_orders = record { asked = refl; rooms = refl; counted = (tt, (tt, (tt, (tt, (tt, (tt, tt)))))); words = (refl, (refl, (refl, (refl, tt)))) }
+first_orders = record { asked = refl; rooms = refl; answers = tt; counted = (tt, (tt, (tt, (tt, (tt, (tt, tt)))))); words = (refl, (refl, (refl, (refl, tt)))) }
 
 second_orders : AreOrders orders given content 2 (connect_part two second second_work second_made)
-second_orders = record { asked = refl; rooms = refl; counted = (tt, (tt, (tt, (tt, (tt, (tt, tt)))))); words = (refl, (refl, (refl, (refl, tt)))) }
+second_orders = record { asked = refl; rooms = refl; answers = tt; counted = (tt, (tt, (tt, (tt, (tt, (tt, tt)))))); words = (refl, (refl, (refl, (refl, tt)))) }
 
 third_orders : AreOrders orders given content 1 quit_part
 unfolding free_rows
 third_orders = record {
   asked = refl;
   rooms = tt;
+  answers = tt;
   counted = (tt, (refl, (tt, (refl, (refl, (tt, (tt, (tt, (tt, frees_counted 8450 56 last_entries (tt, tt))))))))));
   words = (refl, (refl, (refl, tt)));
 }

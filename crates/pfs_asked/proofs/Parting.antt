@@ -1,13 +1,19 @@
 -- What a part of a session's journal says was done is what its line asks for.
 use Rattle.std.proofs.Common.{ℕ, ◌≡◌, ◌+◌, ◌==◌, ◌<◌, Bool, true, false, cond, List, [], ◌∷◌, ◌++◌, Option, Some, None, ne_eqb, refl, ap, sym, ◌∙◌, subst, arith}
 use Rattle.std.proofs.lemmas.Bool.{eqb-true}
-use Rattle.std.proofs.lemmas.List.{append-nil}
+use Rattle.std.proofs.lemmas.List.{append_assoc, append-nil}
 use Rattle.pfs_admin.specs.Asks.{connect_entry, placed_of, work_of_connect, work_of_quit}
 use Rattle.pfs_admin.specs.States.{seat_at}
 use Rattle.pfs_admin.specs.States.{State as Administration}
 use Rattle.pfs_admin.specs.Truncations.{work_of_truncation}
+use Rattle.pfs_admin.specs.Changing.{flags_changed}
+use Rattle.pfs_admin.specs.Setups.{has_changed, reply_to, work_of_statement}
+use Rattle.pfs_admin.specs.declared.changes.Reply.{Reply}
+use Rattle.pfs_admin.specs.declared.changes.Reply.TheVariants as replies
+use Rattle.pfs_admin.specs.declared.changes.SetupStatement.{SetupStatement}
+use Rattle.pfs_admin.specs.declared.changes.SetupStatement.TheVariants.{Update, Insert, Delete, Show}
 use Rattle.pfs_truncations.specs.declared.truncations.Truncation.{Truncation}
-use Rattle.pfs_admin.specs.Works.{Work, Made, signs_of, signs_calls, signs_entries, flagging_calls, flagging_entries}
+use Rattle.pfs_admin.specs.Works.{Work, no_work, Made, signs_of, signs_calls, signs_entries, flagging_calls, flagging_entries}
 use Rattle.pfs_containers.specs.declared.containers.Seated.{Seated}
 use Rattle.pfs_event.specs.declared.entry.Entry.{Entry}
 use Rattle.pfs_event.specs.declared.entry.Entry.TheVariants as says
@@ -21,16 +27,18 @@ use Rattle.pfs_model.specs.Places.{Placed, placed_part}
 use Rattle.pfs_model.specs.declared.lines.Line.{Line}
 use Rattle.pfs_model.specs.declared.lines.Line.TheVariants as lines
 use Rattle.pfs_model.specs.declared.lines.Subject.{Subject}
-use Rattle.pfs_parts.proofs.Inverting.{OneTurn, TwoTurns, one_turn, two_turns}
+use Rattle.pfs_parts.proofs.Inverting.{OneTurn, TwoTurns, ThreeTurns, one_turn, two_turns, three_turns}
 use Rattle.pfs_parts.specs.Amounts.{ContentsAgree}
-use Rattle.pfs_parts.specs.Deeds.{Deed, Connecting, Starting, Staging, StageEnding, Ending, Spending, Quitting, Truncating, Closing, Part, IsPart, line_of, part_calls, part_entries, steps_for}
+use Rattle.pfs_parts.specs.Deeds.{Deed, Connecting, Starting, Staging, StageEnding, Ending, Spending, Quitting, Truncating, Changing, Showing, Querying, Refusing, Closing, Part, IsPart, line_of, part_calls, part_entries, steps_for}
+use Rattle.pfs_session.specs.Inquiries.{Remarks}
 use Rattle.pfs_session.specs.States.{State}
-use Rattle.pfs_session.specs.Turns.{Step, Connects, Quits, Truncates, SettlesHeld, Does, Turn, AreTurns, steps_of, turns_calls, turns_entries}
-use Rattle.pfs_asked.proofs.Bits.{each_then, placed_then, AreActed, acted_then, all_keep, acted_at, Fact, IsBit, bit_then, still_bit, calm_bit, calm_idle, all_of, each_placed, all_found, all_made, all_answered}
-use Rattle.pfs_asked.proofs.Calming.{AreIdleSteps, does_calm, turns_calm, deed_idle}
+use Rattle.pfs_session.specs.declared.remarks.Remark.TheVariants.{Rows, Refused}
+use Rattle.pfs_session.specs.Turns.{Step, Connects, Quits, Truncates, Changes, Inquires, SettlesHeld, Changed, Does, Turn, AreTurns, steps_of, turns_calls, turns_entries, reply_entry, reply_entries}
+use Rattle.pfs_asked.proofs.Bits.{each_then, placed_then, AreActed, acted_then, all_keep, acted_at, Fact, IsBit, bit_then, still_bit, AreCalm, calm_bit, calm_idle, all_of, each_placed, all_found, all_made, all_answered}
+use Rattle.pfs_asked.proofs.Calming.{AreIdleSteps, IsIdleDeed, does_calm, turns_calm, deed_idle}
 use Rattle.pfs_asked.proofs.Deeds.{dids, dids_then, signs_done, sets_done}
 use Rattle.pfs_asked.proofs.Working.{contents_front, contents_back, counted_front, counted_back, moves_acted, signs_acted, sets_acted, MovesAre, moves_are, signs_facts, sets_facts}
-use Rattle.pfs_asked.specs.Asking.{Orders, AreOrders, AreWords, AreCounted, moves_asked, signs_asked, asked_by, number_of, rooms_of}
+use Rattle.pfs_asked.specs.Asking.{Orders, AreOrders, AreWords, AreCounted, answer_by, moves_asked, signs_asked, asked_by, number_of, rooms_of, work_of}
 use Rattle.pfs_asked.specs.Done.{DoneLaw, AreIdle}
 
 -- what an action of this number owes under each number
@@ -173,65 +181,197 @@ quit_paid orders given content phase session context s admin turns are steps cal
     let joined : P (t.entries ++ (head ∷ rest)) = subst Q (sym (placed_then phase session lines.Quit now t.entries (head ∷ rest))) paid in
     subst (λ z. P (turns_entries z)) (sym two.is) (subst (λ z. P (t.entries ++ z)) (sym w.entries_are) joined)
 
+-- a piece behind which nothing more is done
+no_more : (orders : Orders) (given : Given) (content : ℕ → ℕ → List ℕ) (due : ℕ → List Did) (xs ys : List Placed) → IsBit orders given content due xs → IsBit orders given content (λ n. []) ys
+    → IsBit orders given content due (xs ++ ys)
+no_more orders given content due xs ys a b =
+    let both = bit_then orders given content due (λ n. []) xs ys a b in
+    record { done = λ n. both.done n ∙ append-nil (due n); facts = both.facts }
+
+-- an action behind its head: its work, and behind that entries that say nothing was done
+act_bit : (orders : Orders) (given : Given) (content : ℕ → ℕ → List ℕ) (phase session : ℕ) (line : Line) (action : ℕ) (work : Work) (words : List Word) (moves : List Move) (made : List Made)
+    (tail : List Entry) (context : Context) → AreMoves work.moves moves → signs_of made ≡ work.signs
+    → ContentsAgree content (flagging_calls words work.flags ++ (signs_calls made ++ moves_calls moves))
+    → AreCounted content orders.counted action (says.Act action ∷ (work_entries moves made words work ++ tail))
+    → AreWords (given.info_words action) work.signs → orders.asked action ≡ asked_by work
+    → ((behind : Context) → behind.action ≡ action → IsBit orders given content (λ n. []) (placed_part phase session line behind tail))
+    → IsBit orders given content (owes orders action) (placed_part phase session line context (says.Act action ∷ (work_entries moves made words work ++ tail)))
+act_bit orders given content phase session line action work words moves made tail context are signs calls counts infos asks answers =
+    let head : Entry = says.Act action in
+    let rest : List Entry = work_entries moves made words work in
+    let begun : Context = noted (subject_of line) context head in
+    let behind : Context = after_entries (subject_of line) begun rest in
+    let acted : AreActed rest = acted_then (moves_entries moves) (signs_entries made ++ flagging_entries words work.flags) (moves_acted moves)
+    (acted_then (signs_entries made) (flagging_entries words work.flags) (signs_acted made) (sets_acted words work.flags)) in
+    let place : Placed = record { phase = phase; session = session; line = line; context = context; entry = head } in
+    let first : IsBit orders given content (λ n. []) (place ∷ []) = still_bit orders given content (place ∷ []) (refl, tt) (record { found = tt; made = tt; answered = tt }, tt) in
+    let then = work_bit orders given content phase session line action work words moves made begun refl are signs calls (counted_front content orders.counted action rest tail counts.1) infos asks in
+    let xs : List Placed = placed_part phase session line begun rest in
+    let ys : List Placed = placed_part phase session line behind tail in
+    let done = no_more orders given content (owes orders action) xs ys then (answers behind (all_keep (subject_of line) begun rest acted)) in
+    let whole = bit_then orders given content (λ n. []) (owes orders action) (place ∷ []) (xs ++ ys) first done in
+    subst (λ z. IsBit orders given content (owes orders action) (place ∷ z)) (sym (placed_then phase session line begun rest tail)) whole
+
+-- an action behind a settlement
+settled_paid : (orders : Orders) (given : Given) (content : ℕ → ℕ → List ℕ) (phase session : ℕ) (context : Context) (deed : Deed) (settling rest : List Entry) → 0 < number_of deed → AreCalm settling
+    → ((behind : Context) → IsBit orders given content (owes orders (number_of deed)) (placed_part phase session (line_of deed) behind rest))
+    → IsPaid orders given content deed (placed_part phase session (line_of deed) (turned context) (settling ++ rest))
+settled_paid orders given content phase session context deed settling rest some calm bits =
+    let line : Line = line_of deed in
+    let now : Context = turned context in
+    let mid : Context = after_entries (subject_of line) now settling in
+    let whole = bit_then orders given content (λ n. []) (owes orders (number_of deed)) (placed_part phase session line now settling) (placed_part phase session line mid rest)
+    (calm_bit orders given content phase session line now settling calm) (bits mid) in
+    subst (IsPaid orders given content deed) (sym (placed_then phase session line now settling rest))
+    (record { done = λ n p. whole.done n; idle = λ e. absurd (omega (arith, e, some)); facts = whole.facts })
+
+-- an answer at the end of a change
+reply_bit : (orders : Orders) (given : Given) (content : ℕ → ℕ → List ℕ) (phase session : ℕ) (context : Context) (reply : Reply) → orders.answers context.action ≡ answer_by reply
+    → IsBit orders given content (λ n. []) (placed_part phase session lines.Change context (reply_entry reply ∷ []))
+reply_bit orders given content phase session context (replies.Changed count) e =
+    still_bit orders given content _ (refl, tt) (record { found = tt; made = tt; answered = e }, tt)
+reply_bit orders given content phase session context (replies.Error error) e =
+    still_bit orders given content _ (refl, tt) (record { found = tt; made = tt; answered = e }, tt)
+
+replies_bit : (orders : Orders) (given : Given) (content : ℕ → ℕ → List ℕ) (phase session : ℕ) (context : Context) (what : SetupStatement) (reply : Reply)
+    → orders.answers context.action ≡ answer_by reply → IsBit orders given content (λ n. []) (placed_part phase session lines.Change context (reply_entries what reply))
+replies_bit orders given content phase session context (Update update) reply e = reply_bit orders given content phase session context reply e
+replies_bit orders given content phase session context (Insert insert) reply e = reply_bit orders given content phase session context reply e
+replies_bit orders given content phase session context (Delete delete) reply e = reply_bit orders given content phase session context reply e
+replies_bit orders given content phase session context Show reply e = still_bit orders given content [] tt tt
+
 truncation_paid : (orders : Orders) (given : Given) (content : ℕ → ℕ → List ℕ) (phase session : ℕ) (context : Context) (s : State) (admin : Administration) (what : Truncation) (turns : List Turn)
     → AreTurns s turns → steps_of turns ≡ SettlesHeld ∷ Truncates admin what ∷ [] → ContentsAgree content (turns_calls turns)
     → AreOrders orders given content s.number (record { deed = Truncating admin what; turns = turns })
     → IsPaid orders given content (Truncating admin what) (placed_part phase session lines.Change (turned context) (turns_entries turns))
 truncation_paid orders given content phase session context s admin what turns are steps calls o =
+    let deed : Deed = Truncating admin what in
     let action : ℕ = admin.actions + 1 in
     let two : TwoTurns turns SettlesHeld (Truncates admin what) = two_turns turns SettlesHeld (Truncates admin what) steps in
     let t : Turn = two.first in
     let u : Turn = two.second in
-    let now : Context = turned context in
     let ours : AreTurns s (u ∷ t ∷ []) = subst (AreTurns s) two.is are in
     let settles = does_at s t SettlesHeld two.first_is ours.1.0 in
     let d = does_at t.after u (Truncates admin what) two.second_is ours.0 in
     let w = d.works in
     let work : Work = work_of_truncation admin what in
-    let head : Entry = says.Act action in
-    let reply : Entry = says.Reply 0 in
-    let rest : List Entry = work_entries w.moves w.made admin.words work in
-    let is : u.entries ≡ head ∷ (rest ++ reply ∷ []) = d.entries_are ∙ ap (λ z. z ++ reply ∷ []) w.entries_are in
+    let tail : List Entry = says.Reply 0 ∷ [] in
+    let is : u.entries ≡ says.Act action ∷ (work_entries w.moves w.made admin.words work ++ tail) = d.entries_are ∙ ap (λ z. z ++ tail) w.entries_are in
     let own : ContentsAgree content u.calls = contents_front content u.calls (t.calls ++ []) (subst (λ z. ContentsAgree content (turns_calls z)) two.is calls) in
-    let made = subst (ContentsAgree content) w.calls_are own in
     let all : AreCounted content orders.counted action (t.entries ++ u.entries) = subst (λ z. AreCounted content orders.counted action (turns_entries z)) two.is o.counted in
-    let counts : AreCounted content orders.counted action (head ∷ (rest ++ reply ∷ [])) =
-    subst (AreCounted content orders.counted action) is (counted_back content orders.counted action t.entries u.entries all) in
-    let mid : Context = after_entries None now t.entries in
-    let begun : Context = noted None mid head in
-    let place : Placed = record { phase = phase; session = session; line = lines.Change; context = mid; entry = head } in
-    let last : Placed = record { phase = phase; session = session; line = lines.Change; context = after_entries None begun rest; entry = reply } in
-    let settled = calm_bit orders given content phase session lines.Change now t.entries (does_calm s SettlesHeld t.calls t.entries t.after refl settles) in
-    let first : IsBit orders given content (λ n. []) (place ∷ []) = still_bit orders given content (place ∷ []) (refl, tt) (record { found = tt; made = tt; answered = tt }, tt) in
-    let answer : IsBit orders given content (λ n. []) (last ∷ []) = still_bit orders given content (last ∷ []) (refl, tt) (record { found = tt; made = tt; answered = refl }, tt) in
-    let then = work_bit orders given content phase session lines.Change action work admin.words w.moves w.made begun refl w.are_moves w.signs_are made
-    (counted_front content orders.counted action rest (reply ∷ []) counts.1) o.words o.asked in
-    let done = bit_then orders given content (owes orders action) (λ n. []) (placed_part phase session lines.Change begun rest) (last ∷ []) then answer in
-    let both = bit_then orders given content (λ n. []) _ (place ∷ []) _ first done in
-    let whole = bit_then orders given content (λ n. []) _ _ _ settled both in
-    let P : List Entry → Type 0 = λ z. IsPaid orders given content (Truncating admin what) (placed_part phase session lines.Change now z) in
-    let Q : List Placed → Type 0 = λ z. IsPaid orders given content (Truncating admin what) z in
-    let parts : List Placed = placed_part phase session lines.Change now t.entries ++ (place ∷ (placed_part phase session lines.Change begun rest ++ last ∷ [])) in
-    let paid : Q parts = record { done = λ n p. whole.done n ∙ append-nil (owes orders action n); idle = λ e. absurd (omega (arith, e)); facts = whole.facts } in
-    let are_parts : placed_part phase session lines.Change now (t.entries ++ (head ∷ (rest ++ reply ∷ []))) ≡ parts =
-    placed_then phase session lines.Change now t.entries (head ∷ (rest ++ reply ∷ []))
-    ∙ ap (λ z. placed_part phase session lines.Change now t.entries ++ (place ∷ z)) (placed_then phase session lines.Change begun rest (reply ∷ [])) in
-    let joined : P (t.entries ++ (head ∷ (rest ++ reply ∷ []))) = subst Q (sym are_parts) paid in
-    subst (λ z. P (turns_entries z)) (sym two.is) (subst (λ z. P (t.entries ++ z)) (sym is) joined)
+    let counts = subst (AreCounted content orders.counted action) is (counted_back content orders.counted action t.entries u.entries all) in
+    let answer : (behind : Context) → behind.action ≡ action → IsBit orders given content (λ n. []) (placed_part phase session lines.Change behind tail) =
+    λ behind at. reply_bit orders given content phase session behind (replies.Changed 0) (ap orders.answers at ∙ o.answers) in
+    let bits : (behind : Context) → IsBit orders given content (owes orders action) (placed_part phase session lines.Change behind u.entries) =
+    λ behind. subst (λ z. IsBit orders given content (owes orders action) (placed_part phase session lines.Change behind z)) (sym is)
+    (act_bit orders given content phase session lines.Change action work admin.words w.moves w.made tail behind w.are_moves w.signs_are (subst (ContentsAgree content) w.calls_are own) counts o.words
+    o.asked answer) in
+    subst (λ z. IsPaid orders given content deed (placed_part phase session lines.Change (turned context) (turns_entries z))) (sym two.is)
+    (settled_paid orders given content phase session context deed t.entries u.entries (omega arith) (does_calm s SettlesHeld t.calls t.entries t.after refl settles) bits)
+
+-- what a statement on the setup tables did, at a line
+changed_bit : (orders : Orders) (given : Given) (content : ℕ → ℕ → List ℕ) (phase session : ℕ) (line : Line) (s : State) (admin : Administration) (what : SetupStatement) (u : Turn)
+    → Changed s admin what u.calls u.entries u.after → ContentsAgree content u.calls → AreCounted content orders.counted (admin.actions + 1) u.entries
+    → orders.asked (admin.actions + 1) ≡ asked_by (work_of_statement admin what)
+    → ((behind : Context) → behind.action ≡ admin.actions + 1
+    → IsBit orders given content (λ n. []) (placed_part phase session line behind (reply_entries what (reply_to admin what))))
+    → (context : Context) → IsBit orders given content (owes orders (admin.actions + 1)) (placed_part phase session line context u.entries)
+changed_bit orders given content phase session line s admin what u d calls counts asks answer context =
+    let action : ℕ = admin.actions + 1 in
+    let w = d.works in
+    let work : Work = work_of_statement admin what in
+    let tail : List Entry = reply_entries what (reply_to admin what) in
+    let is : u.entries ≡ says.Act action ∷ (work_entries w.moves w.made admin.words work ++ tail) = d.entries_are ∙ ap (λ z. z ++ tail) w.entries_are in
+    subst (λ z. IsBit orders given content (owes orders action) (placed_part phase session line context z)) (sym is)
+    (act_bit orders given content phase session line action work admin.words w.moves w.made tail context w.are_moves w.signs_are (subst (ContentsAgree content) w.calls_are calls)
+    (subst (AreCounted content orders.counted action) is counts) tt asks answer)
+
+change_paid : (orders : Orders) (given : Given) (content : ℕ → ℕ → List ℕ) (phase session : ℕ) (context : Context) (s : State) (admin : Administration) (what : SetupStatement) (turns : List Turn)
+    → AreTurns s turns → steps_of turns ≡ SettlesHeld ∷ Changes admin what ∷ [] → ContentsAgree content (turns_calls turns)
+    → AreOrders orders given content s.number (record { deed = Changing admin what; turns = turns })
+    → IsPaid orders given content (Changing admin what) (placed_part phase session lines.Change (turned context) (turns_entries turns))
+change_paid orders given content phase session context s admin what turns are steps calls o =
+    let deed : Deed = Changing admin what in
+    let action : ℕ = admin.actions + 1 in
+    let two : TwoTurns turns SettlesHeld (Changes admin what) = two_turns turns SettlesHeld (Changes admin what) steps in
+    let t : Turn = two.first in
+    let u : Turn = two.second in
+    let ours : AreTurns s (u ∷ t ∷ []) = subst (AreTurns s) two.is are in
+    let settles = does_at s t SettlesHeld two.first_is ours.1.0 in
+    let d = does_at t.after u (Changes admin what) two.second_is ours.0 in
+    let own : ContentsAgree content u.calls = contents_front content u.calls (t.calls ++ []) (subst (λ z. ContentsAgree content (turns_calls z)) two.is calls) in
+    let all : AreCounted content orders.counted action (t.entries ++ u.entries) = subst (λ z. AreCounted content orders.counted action (turns_entries z)) two.is o.counted in
+    let counts = counted_back content orders.counted action t.entries u.entries all in
+    let answer : (behind : Context) → behind.action ≡ action → IsBit orders given content (λ n. []) (placed_part phase session lines.Change behind (reply_entries what (reply_to admin what))) =
+    λ behind at. replies_bit orders given content phase session behind what (reply_to admin what) (ap orders.answers at ∙ o.answers) in
+    subst (λ z. IsPaid orders given content deed (placed_part phase session lines.Change (turned context) (turns_entries z))) (sym two.is)
+    (settled_paid orders given content phase session context deed t.entries u.entries (omega arith) (does_calm s SettlesHeld t.calls t.entries t.after refl settles)
+    (changed_bit orders given content phase session lines.Change t.after admin what u d own counts o.asked answer))
+
+-- a SELECT that is an action changes nothing
+pub shows_nothing : (admin : Administration) → work_of_statement admin Show ≡ no_work
+unfolding flags_changed
+shows_nothing admin = refl
+
+show_paid : (orders : Orders) (given : Given) (content : ℕ → ℕ → List ℕ) (phase session : ℕ) (context : Context) (s : State) (admin : Administration) (count : ℕ) (turns : List Turn)
+    → AreTurns s turns → steps_of turns ≡ SettlesHeld ∷ Changes admin Show ∷ Inquires (Remarks (Rows count)) ∷ [] → ContentsAgree content (turns_calls turns)
+    → AreOrders orders given content s.number (record { deed = Showing admin count; turns = turns })
+    → IsPaid orders given content (Showing admin count) (placed_part phase session lines.Show (turned context) (turns_entries turns))
+show_paid orders given content phase session context s admin count turns are steps calls o =
+    let deed : Deed = Showing admin count in
+    let action : ℕ = admin.actions + 1 in
+    let three : ThreeTurns turns SettlesHeld (Changes admin Show) (Inquires (Remarks (Rows count))) = three_turns turns SettlesHeld (Changes admin Show) (Inquires (Remarks (Rows count))) steps in
+    let t : Turn = three.first in
+    let u : Turn = three.second in
+    let v : Turn = three.third in
+    let ours : AreTurns s (v ∷ u ∷ t ∷ []) = subst (AreTurns s) three.is are in
+    let settles = does_at s t SettlesHeld three.first_is ours.1.1.0 in
+    let d = does_at t.after u (Changes admin Show) three.second_is ours.1.0 in
+    let tells = does_at u.after v (Inquires (Remarks (Rows count))) three.third_is ours.0 in
+    let all : ContentsAgree content (v.calls ++ (u.calls ++ (t.calls ++ []))) = subst (λ z. ContentsAgree content (turns_calls z)) three.is calls in
+    let own : ContentsAgree content u.calls = contents_front content u.calls (t.calls ++ []) (contents_back content v.calls (u.calls ++ (t.calls ++ [])) all) in
+    let told : AreCounted content orders.counted action ((t.entries ++ u.entries) ++ v.entries) = subst (λ z. AreCounted content orders.counted action (turns_entries z)) three.is o.counted in
+    let counts = counted_back content orders.counted action t.entries u.entries (counted_front content orders.counted action (t.entries ++ u.entries) v.entries told) in
+    let calm : AreCalm v.entries = does_calm u.after (Inquires (Remarks (Rows count))) v.calls v.entries v.after refl tells in
+    let answer : (behind : Context) → behind.action ≡ action → IsBit orders given content (λ n. []) (placed_part phase session lines.Show behind []) =
+    λ behind at. still_bit orders given content [] tt tt in
+    let acts = changed_bit orders given content phase session lines.Show t.after admin Show u d own counts (o.asked ∙ ap asked_by (sym (shows_nothing admin))) answer in
+    let bits : (behind : Context) → IsBit orders given content (owes orders action) (placed_part phase session lines.Show behind (u.entries ++ v.entries)) =
+    λ behind. subst (IsBit orders given content (owes orders action)) (sym (placed_then phase session lines.Show behind u.entries v.entries))
+    (no_more orders given content (owes orders action) _ _ (acts behind) (calm_bit orders given content phase session lines.Show (after_entries None behind u.entries) v.entries calm)) in
+    subst (λ z. IsPaid orders given content deed (placed_part phase session lines.Show (turned context) (turns_entries z))) (sym three.is)
+    (subst (λ z. IsPaid orders given content deed (placed_part phase session lines.Show (turned context) z)) (sym (append_assoc t.entries u.entries v.entries))
+    (settled_paid orders given content phase session context deed t.entries (u.entries ++ v.entries) (omega arith) (does_calm s SettlesHeld t.calls t.entries t.after refl settles) bits))
 
 none_due : (orders : Orders) (number : ℕ) → 0 < number → [] ≡ owes orders 0 number
 none_due orders number p = ap (λ b. cond b (asked_of (orders.counted number) (orders.asked number)) []) (sym (ne_eqb 0 number (λ e. absurd (omega (arith, e, p)))))
 
 idle_paid : (orders : Orders) (given : Given) (content : ℕ → ℕ → List ℕ) (phase session : ℕ) (context : Context) (s : State) (deed : Deed) (turns : List Turn) → number_of deed ≡ 0
-    → AreTurns s turns → steps_of turns ≡ steps_for s deed → IsPaid orders given content deed (placed_part phase session (line_of deed) (turned context) (turns_entries turns))
-idle_paid orders given content phase session context s deed turns none are steps =
-    let calm = turns_calm s turns are (subst AreIdleSteps (sym steps) (deed_idle s deed none)) in
+    → IsIdleDeed deed → AreTurns s turns → steps_of turns ≡ steps_for s deed → IsPaid orders given content deed (placed_part phase session (line_of deed) (turned context) (turns_entries turns))
+idle_paid orders given content phase session context s deed turns none idle are steps =
+    let calm = turns_calm s turns are (subst AreIdleSteps (sym steps) (deed_idle s deed idle)) in
     let bit = calm_bit orders given content phase session (line_of deed) (turned context) (turns_entries turns) calm in
     record {
       done = λ n p. bit.done n ∙ (none_due orders n p ∙ ap (λ z. owes orders z n) (sym none));
       idle = λ e. calm_idle phase session (line_of deed) (turned context) (turns_entries turns) calm refl;
       facts = bit.facts;
     }
+
+-- a text that is refused beforehand has the error that its line says
+refused_paid : (orders : Orders) (given : Given) (content : ℕ → ℕ → List ℕ) (phase session : ℕ) (context : Context) (s : State) (error : ℕ) (turns : List Turn)
+    → AreTurns s turns → steps_of turns ≡ Inquires (Remarks (Refused error)) ∷ []
+    → IsPaid orders given content (Refusing error) (placed_part phase session (lines.Refused error) (turned context) (turns_entries turns))
+refused_paid orders given content phase session context s error turns are steps =
+    let step : Step = Inquires (Remarks (Refused error)) in
+    let one : OneTurn turns step = one_turn turns step steps in
+    let t : Turn = one.turn in
+    let ours : AreTurns s (t ∷ []) = subst (AreTurns s) one.is are in
+    let d = does_at s t step one.step_is ours.0 in
+    let place : Placed = record { phase = phase; session = session; line = lines.Refused error; context = turned context; entry = says.Error error } in
+    let bit : IsBit orders given content (λ n. []) (place ∷ []) = still_bit orders given content (place ∷ []) (refl, tt) (record { found = tt; made = tt; answered = refl }, tt) in
+    let paid : IsPaid orders given content (Refusing error) (place ∷ []) = record { done = λ n p. bit.done n ∙ none_due orders n p; idle = λ e. (refl, tt); facts = bit.facts } in
+    let P : List Entry → Type 0 = λ z. IsPaid orders given content (Refusing error) (placed_part phase session (lines.Refused error) (turned context) z) in
+    subst (λ z. P (turns_entries z)) (sym one.is) (subst P (sym d.entries_are) paid)
 
 by_deed : (orders : Orders) (given : Given) (content : ℕ → ℕ → List ℕ) (phase session : ℕ) (context : Context) (s : State) (deed : Deed) (turns : List Turn)
     → AreTurns s turns → steps_of turns ≡ steps_for s deed → ContentsAgree content (turns_calls turns)
@@ -240,12 +380,16 @@ by_deed : (orders : Orders) (given : Given) (content : ℕ → ℕ → List ℕ)
 by_deed orders given content phase session context s (Connecting admin user host) turns are steps calls o = connect_paid orders given content phase session context s admin user host turns are steps calls (o (omega arith))
 by_deed orders given content phase session context s (Quitting admin) turns are steps calls o = quit_paid orders given content phase session context s admin turns are steps calls (o (omega arith))
 by_deed orders given content phase session context s (Truncating admin what) turns are steps calls o = truncation_paid orders given content phase session context s admin what turns are steps calls (o (omega arith))
-by_deed orders given content phase session context s (Starting subject) turns are steps calls o = idle_paid orders given content phase session context s (Starting subject) turns refl are steps
-by_deed orders given content phase session context s (Staging subject) turns are steps calls o = idle_paid orders given content phase session context s (Staging subject) turns refl are steps
-by_deed orders given content phase session context s StageEnding turns are steps calls o = idle_paid orders given content phase session context s StageEnding turns refl are steps
-by_deed orders given content phase session context s (Ending numbers) turns are steps calls o = idle_paid orders given content phase session context s (Ending numbers) turns refl are steps
-by_deed orders given content phase session context s (Spending time) turns are steps calls o = idle_paid orders given content phase session context s (Spending time) turns refl are steps
-by_deed orders given content phase session context s Closing turns are steps calls o = idle_paid orders given content phase session context s Closing turns refl are steps
+by_deed orders given content phase session context s (Changing admin what) turns are steps calls o = change_paid orders given content phase session context s admin what turns are steps calls (o (omega arith))
+by_deed orders given content phase session context s (Showing admin count) turns are steps calls o = show_paid orders given content phase session context s admin count turns are steps calls (o (omega arith))
+by_deed orders given content phase session context s (Querying found count) turns are steps calls o = idle_paid orders given content phase session context s (Querying found count) turns refl tt are steps
+by_deed orders given content phase session context s (Refusing error) turns are steps calls o = refused_paid orders given content phase session context s error turns are steps
+by_deed orders given content phase session context s (Starting subject) turns are steps calls o = idle_paid orders given content phase session context s (Starting subject) turns refl tt are steps
+by_deed orders given content phase session context s (Staging subject) turns are steps calls o = idle_paid orders given content phase session context s (Staging subject) turns refl tt are steps
+by_deed orders given content phase session context s StageEnding turns are steps calls o = idle_paid orders given content phase session context s StageEnding turns refl tt are steps
+by_deed orders given content phase session context s (Ending numbers) turns are steps calls o = idle_paid orders given content phase session context s (Ending numbers) turns refl tt are steps
+by_deed orders given content phase session context s (Spending time) turns are steps calls o = idle_paid orders given content phase session context s (Spending time) turns refl tt are steps
+by_deed orders given content phase session context s Closing turns are steps calls o = idle_paid orders given content phase session context s Closing turns refl tt are steps
 
 pub paid_part : (orders : Orders) (given : Given) (content : ℕ → ℕ → List ℕ) (phase session : ℕ) (context : Context) (s : State) (p : Part) → IsPart s p → ContentsAgree content (part_calls p)
     → (0 < number_of p.deed → AreOrders orders given content s.number p)

@@ -10,19 +10,19 @@ use Rattle.pfs_admin.specs.Works.{Sign, Releases, Tags}
 use Rattle.pfs_containers.specs.Kept.{IsInRange}
 use Rattle.pfs_containers.specs.declared.containers.Seated.{Seated}
 use Rattle.pfs_levels.specs.Flushes.{Ascends}
-use Rattle.pfs_model.specs.Asked.{Rooms}
+use Rattle.pfs_model.specs.Asked.{Answer, Rooms}
 use Rattle.pfs_model.specs.Chains.{Each, times}
 use Rattle.pfs_model.specs.Contents.{Given}
 use Rattle.pfs_parts.specs.Amounts.{AllContentsAgree}
-use Rattle.pfs_parts.specs.Deeds.{Deed, Connecting, Starting, Staging, StageEnding, Ending, Spending, Quitting, Truncating, Closing, Part}
+use Rattle.pfs_parts.specs.Deeds.{Deed, Connecting, Starting, Staging, StageEnding, Ending, Spending, Quitting, Truncating, Changing, Showing, Querying, Refusing, Closing, Part}
 use Rattle.pfs_parts.specs.Stints.{Stint}
 use Rattle.pfs_asked.proofs.Aparting.{apart}
 use Rattle.pfs_asked.proofs.Running.{run}
 use Rattle.pfs_asked.proofs.Taking.{counted, each_front, each_back}
-use Rattle.pfs_asked.specs.Asking.{AreOrders, AreRooms, AreWords, number_of, work_of}
+use Rattle.pfs_asked.specs.Asking.{AreAnswers, AreOrders, AreRooms, AreWords, no_rows, number_of, work_of}
 use Rattle.pfs_asked.specs.Runs.{AllOrders, IsOrdered, numbers_of, all_numbers, nothing_asked}
 use Rattle.pfs_asked.specs.Takes.{AreSeated, IsSeated, IsSeatedStint, AllCounted, CountedIn}
-use Rattle.pfs_asked.specs.Whole.{Acting, actings_of, all_actings, of_number, no_rooms, rooms_for, signed_words, asked_for, room_for, words_for, no_words, orders_of, words_of_all, WholeLaw}
+use Rattle.pfs_asked.specs.Whole.{Acting, actings_of, all_actings, of_number, no_rooms, rooms_for, answers_for, signed_words, asked_for, room_for, answer_for, words_for, no_words, orders_of, words_of_all, WholeLaw}
 
 abbrev number_in : Acting → ℕ
 number_in one = number_of one.deed
@@ -123,6 +123,10 @@ signs_ascend session (Quitting admin) is = by_seat (seat_in admin session) is.1 
       higher 1 10242 14242 (map row_of (quit_work admin.words admin.cells (has_quit admin session).kept.now (Some seat)).signs) (omega arith)
       (quit_rows admin.words admin.cells (has_quit admin session).kept.now seat h is.0).1
 signs_ascend session (Truncating admin what) is = is.1
+signs_ascend session (Changing admin what) is = tt
+signs_ascend session (Showing admin count) is = tt
+signs_ascend session (Querying found count) is = tt
+signs_ascend session (Refusing error) is = tt
 signs_ascend session (Starting subject) is = tt
 signs_ascend session (Staging subject) is = tt
 signs_ascend session StageEnding is = tt
@@ -134,6 +138,10 @@ deed_rooms : (rooms : ℕ → Rooms) (session : ℕ) (deed : Deed) → rooms (nu
 deed_rooms rooms session (Connecting admin user host) e = e
 deed_rooms rooms session (Quitting admin) e = tt
 deed_rooms rooms session (Truncating admin what) e = tt
+deed_rooms rooms session (Changing admin what) e = tt
+deed_rooms rooms session (Showing admin count) e = tt
+deed_rooms rooms session (Querying found count) e = tt
+deed_rooms rooms session (Refusing error) e = tt
 deed_rooms rooms session (Starting subject) e = tt
 deed_rooms rooms session (Staging subject) e = tt
 deed_rooms rooms session StageEnding e = tt
@@ -141,36 +149,54 @@ deed_rooms rooms session (Ending numbers) e = tt
 deed_rooms rooms session (Spending time) e = tt
 deed_rooms rooms session Closing e = tt
 
+deed_answers : (answers : ℕ → Answer) (deed : Deed) → answers (number_of deed) ≡ answers_for deed → AreAnswers answers deed
+deed_answers answers (Truncating admin what) e = e
+deed_answers answers (Changing admin what) e = e
+deed_answers answers (Connecting admin user host) e = tt
+deed_answers answers (Quitting admin) e = tt
+deed_answers answers (Showing admin count) e = tt
+deed_answers answers (Querying found count) e = tt
+deed_answers answers (Refusing error) e = tt
+deed_answers answers (Starting subject) e = tt
+deed_answers answers (Staging subject) e = tt
+deed_answers answers StageEnding e = tt
+deed_answers answers (Ending numbers) e = tt
+deed_answers answers (Spending time) e = tt
+deed_answers answers Closing e = tt
+
 parts_orders : (given : Given) (content : ℕ → ℕ → List ℕ) (all : List Stint) (session : ℕ) (ps : List Part) → given.info_words ≡ words_of_all all → AreSeated session ps
     → Each (Gives asked_for nothing_asked (all_actings all)) (actings_of session ps) → Each (Gives room_for no_rooms (all_actings all)) (actings_of session ps)
+    → Each (Gives answer_for no_rows (all_actings all)) (actings_of session ps)
     → Each (Gives words_for no_words (all_actings all)) (actings_of session ps) → CountedIn content (orders_of content all).counted ps
     → AllOrders (orders_of content all) given content session ps
-parts_orders given content all session [] info seated a r w c = tt
-parts_orders given content all session (p ∷ ps) info seated a r w c =
+parts_orders given content all session [] info seated a r n w c = tt
+parts_orders given content all session (p ∷ ps) info seated a r n w c =
     let signs : List Sign = (work_of session p.deed).signs in
     let own : 0 < number_of p.deed → AreOrders (orders_of content all) given content session p = λ q. record {
       asked = a.0 q;
       rooms = deed_rooms (orders_of content all).rooms session p.deed (r.0 q);
+      answers = deed_answers (orders_of content all).answers p.deed (n.0 q);
       counted = c.0;
       words = subst (λ z. AreWords z signs) (sym (ap (λ z. z (number_of p.deed)) info ∙ w.0 q)) (all_signed 1 14242 signs (signs_ascend session p.deed seated.0));
     } in
-    (own, parts_orders given content all session ps info seated.1 a.1 r.1 w.1 c.1)
+    (own, parts_orders given content all session ps info seated.1 a.1 r.1 n.1 w.1 c.1)
 
 stints_are : (given : Given) (content : ℕ → ℕ → List ℕ) (all stints : List Stint) → given.info_words ≡ words_of_all all → Each IsSeatedStint stints
     → Each (λ stint. AllContentsAgree content stint.parts) stints
     → Each (Gives asked_for nothing_asked (all_actings all)) (all_actings stints) → Each (Gives room_for no_rooms (all_actings all)) (all_actings stints)
+    → Each (Gives answer_for no_rows (all_actings all)) (all_actings stints)
     → Each (Gives words_for no_words (all_actings all)) (all_actings stints) → AllCounted content (orders_of content all).counted stints
     → Each (IsOrdered (orders_of content all) given content) stints
-stints_are given content all [] info are calls a r w c = tt
-stints_are given content all (stint ∷ stints) info are calls a r w c =
+stints_are given content all [] info are calls a r n w c = tt
+stints_are given content all (stint ∷ stints) info are calls a r n w c =
     let xs : List Acting = actings_of stint.session stint.parts in
     let ys : List Acting = all_actings stints in (
       record {
         done = are.0.done;
         contents = calls.0;
-        told = parts_orders given content all stint.session stint.parts info are.0.seated (each_front _ xs ys a) (each_front _ xs ys r) (each_front _ xs ys w) c.0;
+        told = parts_orders given content all stint.session stint.parts info are.0.seated (each_front _ xs ys a) (each_front _ xs ys r) (each_front _ xs ys n) (each_front _ xs ys w) c.0;
       },
-      stints_are given content all stints info are.1 calls.1 (each_back _ xs ys a) (each_back _ xs ys r) (each_back _ xs ys w) c.1,
+      stints_are given content all stints info are.1 calls.1 (each_back _ xs ys a) (each_back _ xs ys r) (each_back _ xs ys n) (each_back _ xs ys w) c.1,
     )
 
 pub whole : WholeLaw
@@ -178,7 +204,8 @@ whole = λ given content stints info are calls unique.
     let full : List Acting = all_actings stints in
     let own : IsUnique (numbers_in full) = subst IsUnique (sym (stints_numbers stints)) unique in
     run (orders_of content stints) given content stints
-    (stints_are given content stints stints info are calls (all_give asked_for nothing_asked full own) (all_give room_for no_rooms full own) (all_give words_for no_words full own)
+    (stints_are given content stints stints info are calls (all_give asked_for nothing_asked full own) (all_give room_for no_rooms full own) (all_give answer_for no_rows full own)
+    (all_give words_for no_words full own)
     (counted content stints (apart stints are unique)))
     (λ number p. at content stints number (nat_lt 0 (times (λ n. n == number) (all_numbers stints))) refl (unique number p)) where
       at : (content : ℕ → ℕ → List ℕ) (stints : List Stint) (number : ℕ) (b : Bool) → nat_lt 0 (times (λ n. n == number) (all_numbers stints)) ≡ b → times (λ n. n == number) (all_numbers stints) ≤ 1

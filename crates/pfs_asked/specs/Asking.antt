@@ -4,13 +4,16 @@ use Rattle.pfs_admin.specs.Asks.{work_of_connect, work_of_quit, placed_of}
 use Rattle.pfs_admin.specs.States.{seat_at}
 use Rattle.pfs_admin.specs.Truncations.{work_of_truncation}
 use Rattle.pfs_admin.specs.Works.{Sign, Releases, Tags, Flagging, Work, no_work}
+use Rattle.pfs_admin.specs.Setups.{reply_to, work_of_statement}
 use Rattle.pfs_admin.specs.declared.admin.Placed.{Placed as Found}
+use Rattle.pfs_admin.specs.declared.changes.Reply.{Reply}
+use Rattle.pfs_admin.specs.declared.changes.Reply.TheVariants as replies
 use Rattle.pfs_event.specs.declared.entry.Entry.{Entry}
 use Rattle.pfs_levels.specs.Moves.{Ask}
-use Rattle.pfs_model.specs.Asked.{Answer, Replied, Asked, Move, Frees, Rooms}
+use Rattle.pfs_model.specs.Asked.{Answer, Replied, Failed, Asked, Move, Frees, Rooms}
 use Rattle.pfs_model.specs.Asked.{Sign as Signing, Tags as Tagging, Flagging as Setting}
 use Rattle.pfs_model.specs.Contents.{Given, IsFoundAsCounted}
-use Rattle.pfs_parts.specs.Deeds.{Deed, Connecting, Starting, Staging, StageEnding, Ending, Spending, Quitting, Truncating, Closing, Part, action_of, part_entries}
+use Rattle.pfs_parts.specs.Deeds.{Deed, Connecting, Starting, Staging, StageEnding, Ending, Spending, Quitting, Truncating, Changing, Showing, Querying, Refusing, Closing, Part, action_of, part_entries}
 
 abbrev pub moves_asked : List Ask → List Move
 moves_asked [] = []
@@ -37,6 +40,10 @@ abbrev pub work_of : ℕ → Deed → Work
 work_of session (Connecting admin user host) = work_of_connect admin session user host
 work_of session (Quitting admin) = work_of_quit admin session
 work_of session (Truncating admin what) = work_of_truncation admin what
+work_of session (Changing admin what) = work_of_statement admin what
+work_of session (Showing admin count) = no_work
+work_of session (Querying readings count) = no_work
+work_of session (Refusing error) = no_work
 work_of session (Starting subject) = no_work
 work_of session (Staging subject) = no_work
 work_of session StageEnding = no_work
@@ -63,15 +70,21 @@ rooms_of found = record {
   host = found.host;
 }
 
--- a truncation changes no rows, as MySQL counts them; no other change is answered yet
-abbrev pub no_rows : ℕ → Answer
-no_rows action = Replied 0
+-- what a change is answered: how many rows it changed, or the number of an error
+abbrev pub answer_by : Reply → Answer
+answer_by (replies.Changed count) = Replied count
+answer_by (replies.Error error) = Failed error
 
--- what is said of each action, by its number: what it asks for, where a connect finds room, and whether its take of a
--- row found something counted
+-- a truncation changes no rows, as MySQL counts them
+abbrev pub no_rows : Answer
+no_rows = Replied 0
+
+-- what is said of each action, by its number: what it asks for, where a connect finds room, what a change is answered,
+-- and whether its take of a row found something counted
 pub record Orders : Type 0 where
   pub asked : ℕ → Asked
   pub rooms : ℕ → Rooms
+  pub answers : ℕ → Answer
   pub counted : ℕ → ℕ → Bool
 
 -- the rooms are those that the administration finds for a connect
@@ -80,12 +93,32 @@ AreRooms rooms session (Connecting admin user host) =
     rooms (admin.actions + 1) ≡ rooms_of (placed_of (seat_at admin session user host))
 AreRooms rooms session (Quitting admin) = Unit {0}
 AreRooms rooms session (Truncating admin what) = Unit {0}
+AreRooms rooms session (Changing admin what) = Unit {0}
+AreRooms rooms session (Showing admin count) = Unit {0}
+AreRooms rooms session (Querying readings count) = Unit {0}
+AreRooms rooms session (Refusing error) = Unit {0}
 AreRooms rooms session (Starting subject) = Unit {0}
 AreRooms rooms session (Staging subject) = Unit {0}
 AreRooms rooms session StageEnding = Unit {0}
 AreRooms rooms session (Ending numbers) = Unit {0}
 AreRooms rooms session (Spending time) = Unit {0}
 AreRooms rooms session Closing = Unit {0}
+
+-- the answer is that of the administration
+abbrev pub AreAnswers : (ℕ → Answer) → Deed → Type 0
+AreAnswers answers (Truncating admin what) = answers (admin.actions + 1) ≡ no_rows
+AreAnswers answers (Changing admin what) = answers (admin.actions + 1) ≡ answer_by (reply_to admin what)
+AreAnswers answers (Connecting admin user host) = Unit {0}
+AreAnswers answers (Quitting admin) = Unit {0}
+AreAnswers answers (Showing admin count) = Unit {0}
+AreAnswers answers (Querying readings count) = Unit {0}
+AreAnswers answers (Refusing error) = Unit {0}
+AreAnswers answers (Starting subject) = Unit {0}
+AreAnswers answers (Staging subject) = Unit {0}
+AreAnswers answers StageEnding = Unit {0}
+AreAnswers answers (Ending numbers) = Unit {0}
+AreAnswers answers (Spending time) = Unit {0}
+AreAnswers answers Closing = Unit {0}
 
 -- the words of each info row that is written
 abbrev pub AreWords : (ℕ → List ℕ) → List Sign → Type 0
@@ -104,5 +137,6 @@ pub record AreOrders (orders : Orders) (given : Given) (content : ℕ → ℕ �
   where
     pub asked : orders.asked (number_of p.deed) ≡ asked_of_deed session p.deed
     pub rooms : AreRooms orders.rooms session p.deed
+    pub answers : AreAnswers orders.answers p.deed
     pub counted : AreCounted content orders.counted (number_of p.deed) (part_entries p)
     pub words : AreWords (given.info_words (number_of p.deed)) (work_of session p.deed).signs

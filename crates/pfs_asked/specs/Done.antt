@@ -11,7 +11,7 @@ use Rattle.pfs_model.specs.Places.{Placed, placed_part}
 use Rattle.pfs_parts.specs.Amounts.{ContentsAgree}
 use Rattle.pfs_parts.specs.Deeds.{Part, IsPart, line_of, part_calls, part_entries}
 use Rattle.pfs_session.specs.States.{State}
-use Rattle.pfs_asked.specs.Asking.{Orders, AreOrders, no_rows, number_of}
+use Rattle.pfs_asked.specs.Asking.{Orders, AreOrders, number_of}
 
 -- but for an addition and a put, a change makes its row's content of the one before: a take, a give, a tag
 abbrev pub IsMade : Given → (ℕ → ℕ → List ℕ) → Placed → Entry → Type 0
@@ -28,14 +28,14 @@ AreMade given content (place ∷ places) = IsMade given content place place.entr
 abbrev pub AreIdle : List Placed → Type 0
 AreIdle places = Each (λ place. place.context.action ≡ 0) places
 
--- Under its number stands just what the action asks for, in this order; a connect has the rooms; takes are found as
--- counted; and each take, give and tag makes its row's content. Where the line is no action, nothing stands under any.
+-- Under its number stands just what the action asks for, in this order; a connect has the rooms and a change its answer;
+-- takes are found as counted; and each take, give and tag makes its row's content. Where the line is no action, nothing stands under any.
 pub record IsDone (orders : Orders) (given : Given) (content : ℕ → ℕ → List ℕ) (p : Part) (placed : List Placed) : Type
     0 where
   pub done : (number : ℕ) → 0 < number → each_of did_by (of_action number placed)
       ≡ cond (number_of p.deed == number) (asked_of (orders.counted number) (orders.asked number)) []
   pub idle : number_of p.deed ≡ 0 → AreIdle placed
-  pub answered : AreAnswered orders.rooms no_rows placed
+  pub answered : AreAnswered orders.rooms orders.answers placed
   pub found : AreFoundAsCounted content orders.counted placed
   pub made : AreMade given content placed
 

@@ -20,7 +20,7 @@ use Rattle.pfs_session.specs.States.{State, fresh, nothing_held}
 use Rattle.pfs_session.specs.States.{no_place}
 use Rattle.pfs_session.specs.Turns.{Connects, Quits, SettlesHeld, Turn, acted}
 use Rattle.pfs_stat.specs.Stat.{stat_of, words_of, stat_of_words}
-use Rattle.pfs_asked.specs.Asking.{Orders, asked_by, rooms_of}
+use Rattle.pfs_asked.specs.Asking.{Orders, asked_by, no_rows, rooms_of}
 use Rattle.pfs_asked.specs.Runs.{IsOrdered, AreActions, all_numbers, nothing_asked, IsAsked}
 use Rattle.pfs_asked.specs.Takes.{IsSeatedStint}
 use Rattle.pfs_asked.specs.Whole.{orders_of, words_of_all}
@@ -177,6 +177,7 @@ abbrev pub orders : Orders
 orders = record {
   asked = asked;
   rooms = λ number. rooms_of (placed_of (if number == 1 then seat_at start 1 0 1 else seat_at second 2 0 1));
+  answers = λ number. no_rows;
   counted = λ number row. row == 129;
 }
 

@@ -10,7 +10,7 @@ use Rattle.pfs_parts.specs.Deeds.{Part}
 use Rattle.pfs_parts.specs.Shaped.{AreParts, lines_of, entries_of}
 use Rattle.pfs_parts.specs.Stints.{Stint, IsDoneBy, along, block_of, blocks_of}
 use Rattle.pfs_session.specs.States.{State}
-use Rattle.pfs_asked.specs.Asking.{Orders, AreOrders, no_rows, number_of}
+use Rattle.pfs_asked.specs.Asking.{Orders, AreOrders, number_of}
 use Rattle.pfs_asked.specs.Done.{AreMade}
 
 -- the number of each line's action, and 0 of a line that is none
@@ -45,7 +45,7 @@ AreActions asked numbers = (number : ℕ) → 0 < number → (times (λ n. n == 
 -- contents but those of additions and puts are as their changes make them
 pub record IsAsked (orders : Orders) (given : Given) (content : ℕ → ℕ → List ℕ) (all : List Placed) : Type 0 where
   pub done : DoAsAsked orders.asked orders.counted all
-  pub answered : AreAnswered orders.rooms no_rows all
+  pub answered : AreAnswered orders.rooms orders.answers all
   pub found : AreFoundAsCounted content orders.counted all
   pub made : AreMade given content all
 
@@ -58,7 +58,7 @@ pub record AreAsked (orders : Orders) (given : Given) (content : ℕ → ℕ →
       → each_of did (of_action number all) ≡ asked_of (orders.counted number) (orders.asked number)
   pub none : (number : ℕ) → 0 < number → times (λ n. n == number) numbers ≡ 0
       → each_of did (of_action number all) ≡ []
-  pub answered : AreAnswered orders.rooms no_rows all
+  pub answered : AreAnswered orders.rooms orders.answers all
   pub found : AreFoundAsCounted content orders.counted all
   pub made : AreMade given content all
 

@@ -9,7 +9,7 @@ use Rattle.pfs_event.specs.declared.entry.Entry.{Entry}
 use Rattle.pfs_event.specs.declared.entry.Entry.TheVariants as says
 use Rattle.pfs_levels.specs.Flushes.{Ascends, from_of}
 use Rattle.pfs_model.specs.Chains.{Each, times}
-use Rattle.pfs_parts.specs.Deeds.{Deed, Connecting, Starting, Staging, StageEnding, Ending, Spending, Quitting, Truncating, Closing, Part, part_entries}
+use Rattle.pfs_parts.specs.Deeds.{Deed, Connecting, Starting, Staging, StageEnding, Ending, Spending, Quitting, Truncating, Changing, Showing, Querying, Refusing, Closing, Part, part_entries}
 use Rattle.pfs_parts.specs.Stints.{Stint, IsDoneBy, along}
 use Rattle.pfs_stat.specs.Stat.{stat_of_words}
 use Rattle.pfs_asked.specs.Asking.{AreCounted, number_of}
@@ -75,6 +75,10 @@ IsSeated session (Quitting admin) = Ascends 0 64 admin.cells × IfSome (seat_in 
 IsSeated session (Truncating admin what) = AreOnce (map from_of (work_of_truncation admin what).moves)
     × Ascends 1 14242 (map row_of (work_of_truncation admin what).signs)
 IsSeated session (Connecting admin user host) = IfSome (seat_at admin session user host) IsInRange
+IsSeated session (Changing admin what) = Unit {0}
+IsSeated session (Showing admin count) = Unit {0}
+IsSeated session (Querying readings count) = Unit {0}
+IsSeated session (Refusing error) = Unit {0}
 IsSeated session (Starting subject) = Unit {0}
 IsSeated session (Staging subject) = Unit {0}
 IsSeated session StageEnding = Unit {0}

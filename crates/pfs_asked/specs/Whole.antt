@@ -1,16 +1,17 @@
 -- Of any number of sessions there are orders: those of the parts themselves.
 use Rattle.std.specs.Prelude.{ℕ, ◌≡◌, ◌<◌, ◌≤◌, ◌==◌, if◌then◌else◌, List, [], ◌∷◌, ◌++◌, None}
 use Rattle.pfs_admin.specs.Asks.{placed_of}
+use Rattle.pfs_admin.specs.Setups.{reply_to}
 use Rattle.pfs_admin.specs.States.{seat_at}
 use Rattle.pfs_admin.specs.Works.{Sign, Releases, Tags}
-use Rattle.pfs_model.specs.Asked.{Asked, Rooms}
+use Rattle.pfs_model.specs.Asked.{Asked, Answer, Rooms}
 use Rattle.pfs_model.specs.Chains.{Each, times}
 use Rattle.pfs_model.specs.Contents.{Given}
 use Rattle.pfs_model.specs.Places.{places}
 use Rattle.pfs_parts.specs.Amounts.{AllContentsAgree}
-use Rattle.pfs_parts.specs.Deeds.{Deed, Connecting, Starting, Staging, StageEnding, Ending, Spending, Quitting, Truncating, Closing, Part}
+use Rattle.pfs_parts.specs.Deeds.{Deed, Connecting, Starting, Staging, StageEnding, Ending, Spending, Quitting, Truncating, Changing, Showing, Querying, Refusing, Closing, Part}
 use Rattle.pfs_parts.specs.Stints.{Stint, blocks_of}
-use Rattle.pfs_asked.specs.Asking.{Orders, number_of, asked_of_deed, rooms_of, work_of}
+use Rattle.pfs_asked.specs.Asking.{Orders, number_of, answer_by, asked_of_deed, no_rows, rooms_of, work_of}
 use Rattle.pfs_asked.specs.Runs.{all_numbers, nothing_asked, IsAsked}
 use Rattle.pfs_asked.specs.Takes.{all_taken, counted_by, IsSeatedStint}
 
@@ -40,12 +41,32 @@ abbrev pub rooms_for : ℕ → Deed → Rooms
 rooms_for session (Connecting admin user host) = rooms_of (placed_of (seat_at admin session user host))
 rooms_for session (Quitting admin) = no_rooms
 rooms_for session (Truncating admin what) = no_rooms
+rooms_for session (Changing admin what) = no_rooms
+rooms_for session (Showing admin count) = no_rooms
+rooms_for session (Querying readings count) = no_rooms
+rooms_for session (Refusing error) = no_rooms
 rooms_for session (Starting subject) = no_rooms
 rooms_for session (Staging subject) = no_rooms
 rooms_for session StageEnding = no_rooms
 rooms_for session (Ending numbers) = no_rooms
 rooms_for session (Spending time) = no_rooms
 rooms_for session Closing = no_rooms
+
+-- what a change is answered; of a line that has no answer nothing is said
+abbrev pub answers_for : Deed → Answer
+answers_for (Changing admin what) = answer_by (reply_to admin what)
+answers_for (Truncating admin what) = no_rows
+answers_for (Connecting admin user host) = no_rows
+answers_for (Quitting admin) = no_rows
+answers_for (Showing admin count) = no_rows
+answers_for (Querying readings count) = no_rows
+answers_for (Refusing error) = no_rows
+answers_for (Starting subject) = no_rows
+answers_for (Staging subject) = no_rows
+answers_for StageEnding = no_rows
+answers_for (Ending numbers) = no_rows
+answers_for (Spending time) = no_rows
+answers_for Closing = no_rows
 
 -- the words of an info row among signs
 abbrev pub signed_words : List Sign → ℕ → List ℕ
@@ -59,6 +80,9 @@ asked_for one = asked_of_deed one.session one.deed
 abbrev pub room_for : Acting → Rooms
 room_for one = rooms_for one.session one.deed
 
+abbrev pub answer_for : Acting → Answer
+answer_for one = answers_for one.deed
+
 abbrev pub words_for : Acting → ℕ → List ℕ
 words_for one = signed_words (work_of one.session one.deed).signs
 
@@ -69,6 +93,7 @@ abbrev pub orders_of : (ℕ → ℕ → List ℕ) → List Stint → Orders
 orders_of content stints = record {
   asked = of_number asked_for nothing_asked (all_actings stints);
   rooms = of_number room_for no_rooms (all_actings stints);
+  answers = of_number answer_for no_rows (all_actings stints);
   counted = counted_by content (all_taken stints);
 }
 

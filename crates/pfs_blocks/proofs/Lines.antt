@@ -1,5 +1,5 @@
 -- Lines that were played as deeds of their session.
-use Rattle.std.proofs.Common.{◌≡◌, false, List, [], ◌∷◌, refl, ap, ◌∙◌}
+use Rattle.std.proofs.Common.{◌≡◌, false, List, [], ◌∷◌, Result, Ok, Err, OnOk, refl, ap, ◌∙◌}
 use Rattle.pfs_admin.specs.States.{State as Administration}
 use Rattle.pfs_facts.specs.Deeds.{deed_on}
 use Rattle.pfs_levels.specs.Calls.{Call, Opening}
@@ -20,3 +20,8 @@ deeds_are admin (line ∷ lines) (p ∷ ps) are =
 -- lines that were played are deeds of their session
 pub played_deeds : (admin : Administration) (lines : List BlockLine) (old new : Book) (was now : Opening → List Call → Type 0) → HavePlayed lines admin old new was now → HasDeeds (deeds_along admin lines) false old new was now
 played_deeds admin lines old new was now p = record { parts = p.parts; deeds_are = deeds_are admin lines p.parts p.are_of; may = p.may; over_is = p.goes_on; done = p.done }
+
+-- what holds of two facts at Ok
+pub on_ok_both : {T E P Q S : Type 0} (r : Result T E) → (P → Q → S) → OnOk r P → OnOk r Q → OnOk r S
+on_ok_both (Ok x) f p q = f p q
+on_ok_both (Err e) f p q = tt

@@ -1,6 +1,6 @@
 //! A block of a script in its session.
 
-ghost use Rattle.std.specs.Prelude.{◌≡◌, ◌<◌, ◌≤◌, ◌+◌, ◌*◌, ◌^◌, ◌++◌, ◌∷◌, ℕ, List, [], Bool, true, false, None, Some, IfSome, MatchOption, length, map};
+ghost use Rattle.std.specs.Prelude.{◌≡◌, ◌<◌, ◌≤◌, ◌+◌, ◌*◌, ◌^◌, ◌++◌, ◌∷◌, ℕ, List, [], Bool, true, false, None, Some, IfSome, IfOk, OnOk, MatchOption, length, map};
 ghost use Rattle.pfs_admin.specs.Works.{Leaves};
 ghost use Rattle.pfs_facts.specs.Steps.{kinds_at};
 ghost use Rattle.pfs_play.specs.Errands.{StagesLie, actions_on, cost_on, kinds_after};
@@ -15,9 +15,10 @@ ghost use Rattle.pfs_blocks.specs.Played.{HasDeeds, HasEnded, HasPlayed, MayConn
 use pfs_actions::{connect, quit};
 use pfs_admin::Admin;
 use pfs_levels::Acts;
-use pfs_play::play_written;
+use pfs_play::{NoMemory, play_written};
 use pfs_script::{Block, BlockLine, Connect};
 use pfs_session::{Paused, Session};
+use std::alloc::Global;
 
 // Connects the session, where its block gives names.
 fn connect_by<A: Acts>(
@@ -70,11 +71,12 @@ fn before_quit(lines: &[BlockLine]) -> Option<&[BlockLine]>
 
 // Plays lines, and then ends the session.
 fn play_and_quit<A: Acts>(
+    alloc: Global,
     session: &mut Session,
     rows: &mut A,
     admin: &mut Admin,
     body: &[BlockLine],
-)
+) -> Result<(), NoMemory>
     requires may { MayEnd session.old.state.opened.depth (kinds_at session.old.state)
         (body.now ++ said.Quit ∷ []) }
     requires lie { StagesLie (kinds_at session.old.state) }
@@ -88,28 +90,39 @@ fn play_and_quit<A: Acts>(
     requires spare { 11 * length (written_out body.now) + 20192 * actions_on (written_out body.now) + 446
         ≤ A.left rows.old }
     requires room { cost_on (written_out body.now) + 448 ≤ session.old.journal.room }
-    ensures did { HasEnded (body.now ++ said.Quit ∷ []) admin.old admin.new session.old session.new
-        (A.reached rows.old) (A.reached rows.new) }
-    ensures kinds { kinds_at session.new.state ≡ [] }
-    ensures drawn { session.new.state.drawn ≤ session.old.state.drawn + length (written_out body.now) }
-    ensures number { session.new.state.number ≡ session.old.state.number }
-    ensures depth { session.new.state.opened.depth ≡ session.old.state.opened.depth }
-    ensures actions { session.new.state.actions ≤ session.old.state.actions + actions_on (written_out body.now) + 1 }
-    ensures counted { admin.new.actions ≤ admin.old.actions + actions_on (written_out body.now) + 1 }
-    ensures wide { length session.new.state.held ≡ 193 }
-    ensures leaves { Uses (11 * length (written_out body.now) + 20192 * actions_on (written_out body.now) + 446)
-        (2 * length (written_out body.now))
-        (cost_on (written_out body.now) + 448)
-        (A.hand rows.old) (A.hand rows.new) (A.left rows.old) (A.left rows.new) (A.draws rows.old)
-        (A.draws rows.new) (A.name rows.old) (A.name rows.new) session.old.journal session.new.journal }
-    ensures lent { A.words rows.new ≡ Some admin.new.words }
+    ensures did { OnOk result (HasEnded (body.now ++ said.Quit ∷ []) admin.old admin.new session.old session.new
+        (A.reached rows.old) (A.reached rows.new)) }
+    ensures kinds { OnOk result (kinds_at session.new.state ≡ []) }
+    ensures drawn { OnOk result (session.new.state.drawn ≤ session.old.state.drawn + length (written_out body.now)) }
+    ensures number { OnOk result (session.new.state.number ≡ session.old.state.number) }
+    ensures depth { OnOk result (session.new.state.opened.depth ≡ session.old.state.opened.depth) }
+    ensures actions { OnOk result (session.new.state.actions ≤ session.old.state.actions
+        + actions_on (written_out body.now) + 1) }
+    ensures counted { OnOk result (admin.new.actions ≤ admin.old.actions + actions_on (written_out body.now) + 1) }
+    ensures wide { OnOk result (length session.new.state.held ≡ 193) }
+    ensures leaves { OnOk result (Uses (11 * length (written_out body.now) + 20192 * actions_on (written_out body.now)
+        + 446) (2 * length (written_out body.now)) (cost_on (written_out body.now) + 448) (A.hand rows.old)
+        (A.hand rows.new) (A.left rows.old) (A.left rows.new) (A.draws rows.old) (A.draws rows.new) (A.name rows.old)
+        (A.name rows.new) session.old.journal session.new.journal) }
+    ensures lent { OnOk result (A.words rows.new ≡ Some admin.new.words) }
 {
-    play_written(session, rows, admin, body);
-    quit(session, rows, admin);
+    match play_written(alloc, session, rows, admin, body) {
+        Ok(()) => {
+            quit(session, rows, admin);
+            Ok(())
+        }
+        Err(fault) => Err(fault),
+    }
 }
 
 // Plays the lines of a block, and ends the session where the last line says so.
-fn play_to_end<A: Acts>(session: &mut Session, rows: &mut A, admin: &mut Admin, lines: &[BlockLine])
+fn play_to_end<A: Acts>(
+    alloc: Global,
+    session: &mut Session,
+    rows: &mut A,
+    admin: &mut Admin,
+    lines: &[BlockLine],
+) -> Result<(), NoMemory>
     requires may { MayEnd session.old.state.opened.depth (kinds_at session.old.state) lines.now }
     requires lie { StagesLie (kinds_at session.old.state) }
     requires wide { length session.old.state.held ≡ 193 }
@@ -122,37 +135,40 @@ fn play_to_end<A: Acts>(session: &mut Session, rows: &mut A, admin: &mut Admin, 
     requires spare { 11 * length (written_out lines.now) + 20192 * actions_on (written_out lines.now) + 446
         ≤ A.left rows.old }
     requires room { cost_on (written_out lines.now) + 448 ≤ session.old.journal.room }
-    ensures did { HasEnded lines.now admin.old admin.new session.old session.new (A.reached rows.old)
-        (A.reached rows.new) }
-    ensures kinds { kinds_at session.new.state ≡ kinds_after (kinds_at session.old.state) (written_out lines.now) }
-    ensures lie { StagesLie (kinds_at session.new.state) }
-    ensures drawn { session.new.state.drawn ≤ session.old.state.drawn + length (written_out lines.now) }
-    ensures number { session.new.state.number ≡ session.old.state.number }
-    ensures depth { session.new.state.opened.depth ≡ session.old.state.opened.depth }
-    ensures actions { session.new.state.actions ≤ session.old.state.actions + actions_on (written_out lines.now) + 1 }
-    ensures counted { admin.new.actions ≤ admin.old.actions + actions_on (written_out lines.now) + 1 }
-    ensures wide { length session.new.state.held ≡ 193 }
-    ensures leaves { Uses (11 * length (written_out lines.now) + 20192 * actions_on (written_out lines.now) + 446)
-        (2 * length (written_out lines.now))
-        (cost_on (written_out lines.now) + 448)
-        (A.hand rows.old) (A.hand rows.new) (A.left rows.old) (A.left rows.new) (A.draws rows.old)
-        (A.draws rows.new) (A.name rows.old) (A.name rows.new) session.old.journal session.new.journal }
-    ensures lent { A.words rows.new ≡ Some admin.new.words }
+    ensures did { OnOk result (HasEnded lines.now admin.old admin.new session.old session.new (A.reached rows.old)
+        (A.reached rows.new)) }
+    ensures kinds { OnOk result (kinds_at session.new.state ≡ kinds_after (kinds_at session.old.state)
+        (written_out lines.now)) }
+    ensures lie { OnOk result (StagesLie (kinds_at session.new.state)) }
+    ensures drawn { OnOk result (session.new.state.drawn ≤ session.old.state.drawn + length (written_out lines.now)) }
+    ensures number { OnOk result (session.new.state.number ≡ session.old.state.number) }
+    ensures depth { OnOk result (session.new.state.opened.depth ≡ session.old.state.opened.depth) }
+    ensures actions { OnOk result (session.new.state.actions ≤ session.old.state.actions
+        + actions_on (written_out lines.now) + 1) }
+    ensures counted { OnOk result (admin.new.actions ≤ admin.old.actions + actions_on (written_out lines.now) + 1) }
+    ensures wide { OnOk result (length session.new.state.held ≡ 193) }
+    ensures leaves { OnOk result (Uses (11 * length (written_out lines.now)
+        + 20192 * actions_on (written_out lines.now) + 446) (2 * length (written_out lines.now))
+        (cost_on (written_out lines.now) + 448) (A.hand rows.old) (A.hand rows.new) (A.left rows.old)
+        (A.left rows.new) (A.draws rows.old) (A.draws rows.new) (A.name rows.old) (A.name rows.new)
+        session.old.journal session.new.journal) }
+    ensures lent { OnOk result (A.words rows.new ≡ Some admin.new.words) }
 {
     match before_quit(lines) {
-        Some(body) => play_and_quit(session, rows, admin, body),
-        None => play_written(session, rows, admin, lines),
+        Some(body) => play_and_quit(alloc, session, rows, admin, body),
+        None => play_written(alloc, session, rows, admin, lines),
     }
 }
 
 /// Plays a block of a script in its session: it connects where the block gives names, plays the lines, each repeat so
 /// many times as it says, ends where the last line says so, and settles at the block's end what it still holds.
 pub fn play_block<A: Acts>(
+    alloc: Global,
     session: Session,
     rows: &mut A,
     admin: &mut Admin,
     block: &Block,
-) -> Paused
+) -> Result<Paused, NoMemory>
     requires connects { IfSome block.now.connect (λ connect. MayConnect session.state admin.old connect) }
     requires may { MayEnd session.state.opened.depth (kinds_at session.state) block.now.lines }
     requires lie { StagesLie (kinds_at session.state) }
@@ -166,25 +182,31 @@ pub fn play_block<A: Acts>(
     requires spare { 11 * length (written_out block.now.lines) + 20192 * actions_on (written_out block.now.lines) + 644
         ≤ A.left rows.old }
     requires room { cost_on (written_out block.now.lines) + 648 ≤ session.journal.room }
-    ensures did { length admin.old.kept.now.places.threads ≤ 32
-        → HasPlayed block.now admin.old admin.new session result (A.reached rows.old) (A.reached rows.new) }
-    ensures kinds { kinds_at result.state ≡ kinds_after (kinds_at session.state) (written_out block.now.lines) }
-    ensures lie { StagesLie (kinds_at result.state) }
-    ensures free { result.state.held ≡ nothing_held }
-    ensures drawn { result.state.drawn ≤ session.state.drawn + length (written_out block.now.lines) }
-    ensures number { result.state.number ≡ session.state.number }
-    ensures depth { result.state.opened.depth ≡ session.state.opened.depth }
-    ensures actions { result.state.actions ≤ session.state.actions + actions_on (written_out block.now.lines) + 2 }
-    ensures counted { admin.new.actions ≤ admin.old.actions + actions_on (written_out block.now.lines) + 2 }
-    ensures leaves { Uses (11 * length (written_out block.now.lines) + 20192 * actions_on (written_out block.now.lines) + 644)
-        (2 * length (written_out block.now.lines))
+    ensures did { IfOk result (λ paused. length admin.old.kept.now.places.threads ≤ 32
+        → HasPlayed block.now admin.old admin.new session paused (A.reached rows.old) (A.reached rows.new)) }
+    ensures kinds { IfOk result (λ paused. kinds_at paused.state ≡ kinds_after (kinds_at session.state)
+        (written_out block.now.lines)) }
+    ensures lie { IfOk result (λ paused. StagesLie (kinds_at paused.state)) }
+    ensures free { IfOk result (λ paused. paused.state.held ≡ nothing_held) }
+    ensures drawn { IfOk result (λ paused. paused.state.drawn ≤ session.state.drawn
+        + length (written_out block.now.lines)) }
+    ensures number { IfOk result (λ paused. paused.state.number ≡ session.state.number) }
+    ensures depth { IfOk result (λ paused. paused.state.opened.depth ≡ session.state.opened.depth) }
+    ensures actions { IfOk result (λ paused. paused.state.actions ≤ session.state.actions
+        + actions_on (written_out block.now.lines) + 2) }
+    ensures counted { OnOk result (admin.new.actions ≤ admin.old.actions + actions_on (written_out block.now.lines)
+        + 2) }
+    ensures leaves { IfOk result (λ paused. Uses (11 * length (written_out block.now.lines)
+        + 20192 * actions_on (written_out block.now.lines) + 644) (2 * length (written_out block.now.lines))
         (cost_on (written_out block.now.lines) + 648) (A.hand rows.old) (A.hand rows.new) (A.left rows.old)
         (A.left rows.new) (A.draws rows.old) (A.draws rows.new) (A.name rows.old) (A.name rows.new) session.journal
-        result.journal }
-    ensures lent { A.words rows.new ≡ Some admin.new.words }
+        paused.journal) }
+    ensures lent { OnOk result (A.words rows.new ≡ Some admin.new.words) }
 {
     let mut session = session;
     connect_by(&mut session, rows, admin, block.connect);
-    play_to_end(&mut session, rows, admin, block.lines.as_slice());
-    session.pause(rows)
+    match play_to_end(alloc, &mut session, rows, admin, block.lines.as_slice()) {
+        Ok(()) => Ok(session.pause(rows)),
+        Err(fault) => Err(fault),
+    }
 }

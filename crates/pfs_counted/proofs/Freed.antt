@@ -130,7 +130,7 @@ work_frees setting change labels session row (changes.Connect user host) m = con
 work_frees setting change labels session row changes.Quit m =
     quit_frees (state_of setting change labels) session row (seat_in (state_of setting change labels) session) (seat_in_in (state_of setting change labels) session (fold_well setting change labels)) m
 work_frees setting change labels session row (changes.Truncate what) m = truncation_frees (state_of setting change labels) what row m
-work_frees setting change labels session row changes.Show m = absurd m
+work_frees setting change labels session row (changes.Setup what) m = absurd m
 
 asked_frees : (setting : _) (change : Label → Change) (labels : List Label) (number row : ℕ) → IsAmong (Frees row) (signs_asked (work_at setting change labels number).signs) → IsFreedRow row
 asked_frees setting change labels number row m = at (label_at labels number) m where

@@ -2,7 +2,6 @@
 use Rattle.std.proofs.Common.{◌≡◌, refl, ℕ, zero, suc, ◌+◌, ◌*◌, ◌<◌, ◌≤◌, ◌==◌, ◌&&◌, ◌||◌, Bool, true, false, cond, nat_le, nat_lt, List, [], ◌∷◌, ◌++◌, length, Option, Some, None, sym, ap, subst, ◌∙◌, inl, inr, arith}
 use Rattle.std.specs.Prelude.{slice_get, ◌⊎◌}
 use Rattle.std.proofs.lemmas.Bool.{leb-true, ltb-true}
-use Rattle.pfs_asked.specs.Asking.{no_rows}
 use Rattle.pfs_event.specs.declared.entry.Entry.{Entry}
 use Rattle.pfs_event.specs.declared.entry.Entry.TheVariants as says
 use Rattle.pfs_model.specs.Actions.{IsAmong}
@@ -12,7 +11,7 @@ use Rattle.pfs_model.specs.Places.{Placed, by_session, places}
 use Rattle.pfs_model.specs.Rings.{history_put, history_puts, is_history_row}
 use Rattle.pfs_model.specs.declared.changes.Change.{Change}
 use Rattle.pfs_info_rows.proofs.Naming.{among_back, among_split}
-use Rattle.pfs_runs.specs.Labels.{rooms_at, terms_of}
+use Rattle.pfs_runs.specs.Labels.{answers_at, rooms_at, terms_of}
 use Rattle.pfs_tagged.proofs.AddedFloor.{place_among}
 use Rattle.pfs_tagged.proofs.AddedRun.{run_acting, run_own}
 use Rattle.pfs_tagged.proofs.AddedSeat.{IsSeated, seated_there, session_in, slot_low}
@@ -190,8 +189,8 @@ module _ (run : Run) (kept : AreKept run) (orderly : IsOrderly run) (phase sessi
 
   answered : rooms_at run.setting run.change run.labels connects.action ≡ record { thread = Some slot; account = connects.account; user = connects.user; host = connects.host }
   answered =
-      subst (IsAnswered (rooms_at run.setting run.change run.labels) no_rows connects.place) connects.entry
-      (place_among (λ (p : Placed). IsAnswered (rooms_at run.setting run.change run.labels) no_rows p p.entry) connects.place (places run.blocks) (sub run kept orderly phase connects.place connects.among) (each_answered (rooms_at run.setting run.change run.labels) no_rows (places run.blocks) kept.rules.answered))
+      subst (IsAnswered (rooms_at run.setting run.change run.labels) (answers_at run.setting run.change run.labels) connects.place) connects.entry
+      (place_among (λ (p : Placed). IsAnswered (rooms_at run.setting run.change run.labels) (answers_at run.setting run.change run.labels) p p.entry) connects.place (places run.blocks) (sub run kept orderly phase connects.place connects.among) (each_answered (rooms_at run.setting run.change run.labels) (answers_at run.setting run.change run.labels) (places run.blocks) kept.rules.answered))
 
   slot_few : slot < 32
   slot_few =

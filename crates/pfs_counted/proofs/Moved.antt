@@ -72,7 +72,7 @@ moved_for setting s session (changes.Truncate what) well cells kinds =
     subst (λ z. Each IsMoved (moves_asked (truncation_asks z s.kept.now.places what))) (sym kinds)
     (asked_moved (truncation_asks (kinds_of setting) s.kept.now.places what)
     (each_truncation IsSinking (kinds_of setting) s.kept.now.places what well (λ kind. low_each (IsAsking IsSinking) sinking (kind_cells (kinds_of setting) kind) ((kinds_fit setting).small kind)) (kinds_fit setting).digests_few (λ at low. (omega (arith, low), tt))))
-moved_for setting s session changes.Show well cells kinds = tt
+moved_for setting s session (changes.Setup what) well cells kinds = tt
 moved_for setting s session changes.Quit well cells kinds = on (seat_in s session) (seat_in_in s session well) where
   on : (o : Option Seated) → IfSome o IsInRange → Each IsMoved (moves_asked (quit_work s.words s.cells (has_quit s session).kept.now o).moves)
   on None r = tt

@@ -7,6 +7,7 @@ use Rattle.std.proofs.lemmas.List.Elements.{All-nil, All-cons, All-head, All-tai
 use Rattle.pfs_admin.specs.Truncations.{action_of}
 use Rattle.pfs_admin.specs.declared.changes.Change.{Change}
 use Rattle.pfs_admin.specs.declared.changes.Change.TheVariants as changes
+use Rattle.pfs_admin.specs.declared.changes.SetupStatement.TheVariants as statements
 use Rattle.pfs_board.specs.declared.view.Label.{Label}
 use Rattle.pfs_classes.specs.declared.setting.Setting.{Setting}
 use Rattle.pfs_conservation.proofs.Connecting.{fill_was}
@@ -14,6 +15,9 @@ use Rattle.pfs_conservation.proofs.Folding.{kept_was}
 use Rattle.pfs_conservation.specs.Administration.{Action, Connect, Quit, Truncate, Other, Summary, Accounts, Users, Hosts, Found, connect_line, quit_line, found_where, is_account, line_of, lowest_free, numbered, session_by, session_of, state_after}
 use Rattle.pfs_conservation.specs.Folds.{Entry, Session, State, Connects, Truncates, Others, entry_at, entry_of, in_use, stepped}
 use Rattle.pfs_playable.specs.Playable.{IsNamed}
+use Rattle.pfs_requests.specs.Requests.{request_of}
+use Rattle.pfs_requests.specs.declared.requests.Request.{Request}
+use Rattle.pfs_requests.specs.declared.requests.Request.TheVariants as requests
 use Rattle.pfs_runs.specs.Lines.{connect_changes, changes_on, sql_changes, changes_in, change_in}
 use Rattle.pfs_script.specs.Events.{blocks_for}
 use Rattle.pfs_script.specs.Marks.{written_out}
@@ -23,7 +27,6 @@ use Rattle.pfs_script.specs.declared.blocks.BlockLine.TheVariants as said
 use Rattle.pfs_script.specs.declared.blocks.Connect.{Connect as Names}
 use Rattle.pfs_script.specs.declared.blocks.Phase.{Phase}
 use Rattle.pfs_tagged.specs.Acts.{action_for, actions_of}
-use Rattle.pfs_truncations.specs.Texts.{truncation_of}
 use Rattle.pfs_truncations.specs.declared.truncations.Truncation.{Truncation}
 use Rattle.pfs_truncations.specs.declared.truncations.Truncation.TheVariants as truncates
 use Rattle.pfs_counted.proofs.Standing.{AreNamed}
@@ -37,7 +40,7 @@ abbrev IsNamedChange : ℕ → Change → Type 0
 IsNamedChange count (changes.Connect user host) = (user < count) × (host < count)
 IsNamedChange count changes.Quit = Unit {0}
 IsNamedChange count (changes.Truncate what) = Unit {0}
-IsNamedChange count changes.Show = Unit {0}
+IsNamedChange count (changes.Setup what) = Unit {0}
 
 -- ---- along the fold
 
@@ -116,7 +119,7 @@ action_named : (count session : ℕ) (what : Change) → IsNamedChange count wha
 action_named count session (changes.Connect user host) h = h
 action_named count session changes.Quit h = tt
 action_named count session (changes.Truncate what) h = truncation_named count what
-action_named count session changes.Show h = tt
+action_named count session (changes.Setup what) h = tt
 
 numbered_named : (count : ℕ) (change : Label → Change) → ((label : Label) → IsNamedChange count (change label)) → (labels : List Label) (k : ℕ) → IsNamedAction count (numbered (actions_of change labels) k)
 numbered_named count change each labels zero = tt
@@ -134,13 +137,18 @@ at_or P [] i d h last = last
 at_or P (x ∷ xs) zero d h last = All-head P x xs h
 at_or P (x ∷ xs) (suc i) d h last = at_or P xs i d (All-tail P x xs h) last
 
-sql_named : (count : ℕ) (what : Option Truncation) → All (IsNamedChange count) (sql_changes what)
-sql_named count None = All-nil (IsNamedChange count)
-sql_named count (Some what) = All-cons (IsNamedChange count) (changes.Truncate what) [] tt (All-nil (IsNamedChange count))
+sql_named : (count : ℕ) (asks : Request) → All (IsNamedChange count) (sql_changes asks)
+sql_named count (requests.Refused error) = All-nil (IsNamedChange count)
+sql_named count (requests.Truncate what) = All-cons (IsNamedChange count) (changes.Truncate what) [] tt (All-nil (IsNamedChange count))
+sql_named count (requests.Update update) = All-cons (IsNamedChange count) (changes.Setup (statements.Update update)) [] tt (All-nil (IsNamedChange count))
+sql_named count (requests.Insert insert) = All-cons (IsNamedChange count) (changes.Setup (statements.Insert insert)) [] tt (All-nil (IsNamedChange count))
+sql_named count (requests.Delete delete) = All-cons (IsNamedChange count) (changes.Setup (statements.Delete delete)) [] tt (All-nil (IsNamedChange count))
+sql_named count (requests.Query select) = All-nil (IsNamedChange count)
+sql_named count (requests.Show select) = All-nil (IsNamedChange count)
 
 line_named : (count : ℕ) (line : BlockLine) → All (IsNamedChange count) (changes_on line)
 line_named count said.Quit = All-cons (IsNamedChange count) changes.Quit [] tt (All-nil (IsNamedChange count))
-line_named count (said.Sql text) = sql_named count (truncation_of text)
+line_named count (said.Sql text) = sql_named count (request_of text)
 line_named count _ = All-nil (IsNamedChange count)
 
 lines_named : (count : ℕ) (lines : List BlockLine) → All (λ line. All (IsNamedChange count) (changes_on line)) lines
@@ -162,7 +170,7 @@ blocks_named setting (block ∷ blocks) h =
 
 change_named : (setting : Setting) (phases : List Phase) → All (λ (phase : Phase). All (IsNamed setting) phase.blocks) phases → (label : Label) → IsNamedChange (length setting.names) (change_in phases label)
 change_named setting phases h label =
-    at_or (IsNamedChange (length setting.names)) _ _ changes.Show
+    at_or (IsNamedChange (length setting.names)) _ _ (changes.Setup statements.Show)
     (each_flat (IsNamedChange (length setting.names)) changes_in (blocks_for label.session phases) (blocks_named setting (blocks_for label.session phases)
     (All-filter (λ (block : Block). block.session == label.session) (IsNamed setting) _ (each_flat (IsNamed setting) (λ (phase : Phase). phase.blocks) phases h)))) tt
 

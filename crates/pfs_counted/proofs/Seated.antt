@@ -4,7 +4,7 @@ use Rattle.pfs_admin.specs.Asks.{placed_of}
 use Rattle.pfs_admin.specs.Fold.{state_of}
 use Rattle.pfs_admin.specs.declared.changes.Change.{Change}
 use Rattle.pfs_admin.specs.declared.changes.Change.TheVariants as changes
-use Rattle.pfs_asked.specs.Asking.{no_rows, rooms_of}
+use Rattle.pfs_asked.specs.Asking.{rooms_of}
 use Rattle.pfs_board.specs.declared.view.Label.{Label}
 use Rattle.pfs_conservation.proofs.Connecting.{fill_was}
 use Rattle.pfs_conservation.specs.Administration.{Action, Connect, Quit, Truncate, Other, Summary, Accounts, Users, Hosts, Found, connect_line, quit_line, found_where, line_of, lowest_free, numbered, session_by, session_of, state_after, is_account}
@@ -24,7 +24,7 @@ use Rattle.pfs_model.specs.declared.changes.Change.{Change as Numbered}
 use Rattle.pfs_model.specs.declared.lines.Line.{Line}
 use Rattle.pfs_model.specs.declared.lines.Line.TheVariants as lines
 use Rattle.pfs_model.specs.declared.lines.Subject.{Subject}
-use Rattle.pfs_runs.specs.Labels.{label_at, rooms_at, rooms_for, rooms_of_label}
+use Rattle.pfs_runs.specs.Labels.{answers_at, label_at, rooms_at, rooms_for, rooms_of_label}
 use Rattle.pfs_runs.specs.Rules.{slot_in}
 use Rattle.pfs_tagged.proofs.AddedConnects.{IsApart, is_act, is_connecting, all_apart}
 use Rattle.pfs_tagged.proofs.AddedFloor.{place_among}
@@ -160,7 +160,7 @@ pub action_names : (session number user host : ℕ) (what : Change) → action_f
 action_names session number user host (changes.Connect u h) e = (cc, (let a : u ≡ user = cc in let b : h ≡ host = cc in cc))
 action_names session number user host changes.Quit e = absurd (cc)
 action_names session number user host (changes.Truncate what) e = absurd (truncation_connects what number user host e)
-action_names session number user host changes.Show e = absurd (cc)
+action_names session number user host (changes.Setup what) e = absurd (cc)
 
 pub connects_line : (line : Line) (user host : ℕ) → IsChangeOf line (changes.Connect user host) → is_connecting line ≡ true
 connects_line lines.Connect user host h = refl
@@ -238,6 +238,6 @@ seated run phase kept orderly slot x h = on (connected (opened_by (limits_of run
       by (says.Connect n thread account user host) f g =
           let printed : slot_in run.blocks x.number ≡ thread = subst (Prints (slot_in run.blocks x.number)) f (place_among (λ (p : Placed). (p.session == x.number) ≡ true → Prints (slot_in run.blocks x.number) p.entry) p (places run.blocks) among (slot_printed run.blocks orderly.first x.number) own) in
           let answered : rooms_at run.setting run.change run.labels n ≡ record { thread = thread; account = account; user = user; host = host }
-          = subst (IsAnswered (rooms_at run.setting run.change run.labels) no_rows p) f (place_among (λ (p : Placed). IsAnswered (rooms_at run.setting run.change run.labels) no_rows p p.entry) p (places run.blocks) among (each_answered (rooms_at run.setting run.change run.labels) no_rows (places run.blocks) kept.rules.answered)) in
+          = subst (IsAnswered (rooms_at run.setting run.change run.labels) (answers_at run.setting run.change run.labels) p) f (place_among (λ (p : Placed). IsAnswered (rooms_at run.setting run.change run.labels) (answers_at run.setting run.change run.labels) p p.entry) p (places run.blocks) among (each_answered (rooms_at run.setting run.change run.labels) (answers_at run.setting run.change run.labels) (places run.blocks) kept.rules.answered)) in
           printed ∙ (sym (ap (λ (r : Rooms). r.thread) answered) ∙ (ap (λ k. (rooms_at run.setting run.change run.labels k).thread) (same n g) ∙ rooms_are))
       by _ f g = absurd (cc)

@@ -6,7 +6,8 @@ use Rattle.pfs_admin.specs.Asks.{quit_work, upper_tags, work_of_quit}
 use Rattle.pfs_admin.specs.Fold.{state_of}
 use Rattle.pfs_admin.specs.States.{has_quit, seat_in}
 use Rattle.pfs_admin.specs.States.{State as Admin}
-use Rattle.pfs_admin.specs.Truncations.{free_ring, free_rows, freed_at, up_to}
+use Rattle.pfs_admin.specs.Changing.{up_to}
+use Rattle.pfs_admin.specs.Truncations.{free_ring, free_rows, freed_at}
 use Rattle.pfs_admin.specs.Works.{Releases, Tags, Work}
 use Rattle.pfs_admin.specs.Works.{Sign as Said}
 use Rattle.pfs_admin.specs.declared.changes.Change.{Change}
@@ -257,7 +258,7 @@ quit_change : (line : Line) (what : Change) → is_quit line ≡ true → IsChan
 quit_change lines.Quit changes.Quit q h = refl
 quit_change lines.Quit (changes.Connect user host) q h = absurd h
 quit_change lines.Quit (changes.Truncate what) q h = absurd h
-quit_change lines.Quit changes.Show q h = absurd h
+quit_change lines.Quit (changes.Setup what) q h = absurd h
 quit_change _ what q h = absurd (cc)
 
 some_of : (qs : List ℕ) (number : ℕ) → first_of qs ≡ Some number → (rest : List ℕ) × (qs ≡ number ∷ rest)

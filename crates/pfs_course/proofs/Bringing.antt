@@ -1,10 +1,15 @@
 -- Each step of a session brings what is due: to the summary rows and those of digests, and to the places of rings.
 use Rattle.std.proofs.Common.{ℕ, ◌≡◌, ◌<◌, ◌+◌, ◌&&◌, Bool, true, false, cond, List, [], ◌∷◌, ◌++◌, length, ◌%◌, ◌*◌, Option, Some, None, eq-eqb, refl, ap, sym, ◌∙◌, subst, zero-add}
 use Rattle.std.proofs.lemmas.Bool.{true≢false, false≢true}
+use Rattle.std.proofs.lemmas.List.{append_assoc}
 use Rattle.pfs_admin.specs.Asks.{connect_entry}
 use Rattle.pfs_admin.specs.States.{State as Administration}
+use Rattle.pfs_admin.specs.Setups.{reply_to, work_of_statement}
 use Rattle.pfs_admin.specs.Truncations.{work_of_truncation}
 use Rattle.pfs_admin.specs.Works.{Work, signs_entries, flagging_entries}
+use Rattle.pfs_admin.specs.declared.changes.Reply.{Reply}
+use Rattle.pfs_admin.specs.declared.changes.SetupStatement.{SetupStatement}
+use Rattle.pfs_admin.specs.declared.changes.SetupStatement.TheVariants.{Update, Insert, Delete, Show}
 use Rattle.pfs_consumers.specs.Tree.{acts_of}
 use Rattle.pfs_consumers.specs.declared.Consumer.{Consumer}
 use Rattle.pfs_containers.specs.declared.containers.Seated.{Seated}
@@ -29,7 +34,7 @@ use Rattle.pfs_model.specs.Setups.{is_digested, is_offered_current, is_offered_a
 use Rattle.pfs_model.specs.Shapes.{counted_slot}
 use Rattle.pfs_model.specs.declared.lines.Opened.{Opened}
 use Rattle.pfs_model.specs.declared.lines.Subject.{Subject}
-use Rattle.pfs_parts.proofs.Acting.{AreAll, all_then, is_quiet, connect_fits, connect_plain, quiet_plains, work_quiet}
+use Rattle.pfs_parts.proofs.Acting.{AreAll, all_then, is_quiet, reply_last, connect_fits, connect_plain, quiet_plains, work_quiet}
 use Rattle.pfs_parts.proofs.Alike.{same_count}
 use Rattle.pfs_parts.proofs.Ended.{Innermost, innermost_of, counted_cell, summary_row, digest_of_number, added_to, ended_from}
 use Rattle.pfs_parts.proofs.Pieces.{is_plain}
@@ -46,7 +51,7 @@ use Rattle.pfs_session.specs.Rings.{ArePlaced, PutIn, depth_of, goes_on, put_ent
 use Rattle.pfs_session.specs.Settles.{Settles, Paid, owed_by, owed_by_state, settle_head, pay_entries, paid_entries}
 use Rattle.pfs_session.specs.Starts.{Starts, verdict_in, if_through}
 use Rattle.pfs_session.specs.States.{State, Owed, next_of}
-use Rattle.pfs_session.specs.Turns.{Truncated, Works}
+use Rattle.pfs_session.specs.Turns.{Truncated, Changed, Works, reply_entries}
 use Rattle.pfs_session.specs.declared.events.Numbers.{Numbers}
 use Rattle.pfs_session.specs.declared.nexts.Nexts.{Nexts}
 use Rattle.pfs_truncations.specs.declared.truncations.Truncation.{Truncation}
@@ -107,6 +112,12 @@ quiet_no_put _ q = refl
 connect_no_put : (action : ℕ) (seat : Option Seated) → is_put (connect_entry action seat) ≡ false
 connect_no_put action None = refl
 connect_no_put action (Some seat) = refl
+
+replies_quiet : (what : SetupStatement) (reply : Reply) → AreAll true is_quiet (reply_entries what reply)
+replies_quiet (Update update) reply = ((reply_last reply).quiet, tt)
+replies_quiet (Insert insert) reply = ((reply_last reply).quiet, tt)
+replies_quiet (Delete delete) reply = ((reply_last reply).quiet, tt)
+replies_quiet Show reply = tt
 
 connect_head : (e : Entry) → is_connect e ≡ true → is_head e ≡ true
 connect_head (says.Connect _ _ _ _ _) q = refl
@@ -204,16 +215,37 @@ module _ (flags : ℕ → ℕ → ℕ) (home : Option ℕ) (subject : Option Sub
   connect_brings work words action seat calls entries nexts w fits =
       works_bring work words (connect_entry action seat) calls entries nexts (connect_head _ (connect_fits action seat)) (connect_plain action seat) (connect_no_put action seat) w fits
 
+  -- entries of an action, and behind them those that answer it
+  acted_bring : (work : Work) (words : List Word) (action : ℕ) (calls : List Call) (changed tail : List Entry) (nexts : Nexts) → Works work words (says.Act action ∷ []) calls changed
+      → AreAll true is_quiet tail → Fits marks nexts → Brings flags home subject context marks (changed ++ tail) nexts
+  acted_bring work words action calls changed tail nexts w last fits =
+      let own : List Entry = moves_entries w.moves ++ (signs_entries w.made ++ flagging_entries words work.flags) in
+      let quiet : AreAll true is_quiet (own ++ tail) = all_then true is_quiet own tail (work_quiet w.moves w.made words work.flags) last in
+      subst (λ (z : List Entry). Brings flags home subject context marks z nexts) (sym (ap (λ (z : List Entry). z ++ tail) w.entries_are))
+      (plain_brings (says.Act action) (own ++ tail) nexts refl refl (quiet_plains _ quiet) refl (each_all true false is_quiet is_put quiet_no_put _ quiet) fits)
+
   -- a truncation's answer stands behind what it changes
   pub truncated_bring : (s : State) (admin : Administration) (what : Truncation) (calls : List Call) (entries : List Entry) (after : State) (nexts : Nexts)
       → Truncated s admin what calls entries after → Fits marks nexts → Brings flags home subject context marks entries nexts
   truncated_bring s admin what calls entries after nexts d fits =
-      let w = d.works in
-      let changes : List Entry = moves_entries w.moves ++ (signs_entries w.made ++ flagging_entries admin.words (work_of_truncation admin what).flags) in
-      let quiet : AreAll true is_quiet (changes ++ says.Reply 0 ∷ []) =
-      all_then true is_quiet changes (says.Reply 0 ∷ []) (work_quiet w.moves w.made admin.words (work_of_truncation admin what).flags) (refl, tt) in
-      subst (λ (z : List Entry). Brings flags home subject context marks z nexts) (sym (d.entries_are ∙ ap (λ (z : List Entry). z ++ says.Reply 0 ∷ []) w.entries_are))
-      (plain_brings (says.Act (admin.actions + 1)) (changes ++ says.Reply 0 ∷ []) nexts refl refl (quiet_plains _ quiet) refl (each_all true false is_quiet is_put quiet_no_put _ quiet) fits)
+      subst (λ (z : List Entry). Brings flags home subject context marks z nexts) (sym d.entries_are)
+      (acted_bring (work_of_truncation admin what) admin.words (admin.actions + 1) calls d.changes (says.Reply 0 ∷ []) nexts d.works (refl, tt) fits)
+
+  -- so does that of a statement on the setup tables, and behind it whatever is told of its rows
+  pub changed_bring : (s : State) (admin : Administration) (what : SetupStatement) (calls : List Call) (entries : List Entry) (after : State) (more : List Entry) (nexts : Nexts)
+      → Changed s admin what calls entries after → AreAll true is_quiet more → Fits marks nexts → Brings flags home subject context marks (entries ++ more) nexts
+  changed_bring s admin what calls entries after more nexts d last fits =
+      let answer : List Entry = reply_entries what (reply_to admin what) in
+      subst (λ (z : List Entry). Brings flags home subject context marks z nexts) (sym (ap (λ (z : List Entry). z ++ more) d.entries_are ∙ append_assoc d.changes answer more))
+      (acted_bring (work_of_statement admin what) admin.words (admin.actions + 1) calls d.changes (answer ++ more) nexts d.works
+      (all_then true is_quiet answer more (replies_quiet what (reply_to admin what)) last) fits)
+
+  -- entries of inquiries, of which the first begins a line
+  pub quiet_brings : (e : Entry) (es : List Entry) (nexts : Nexts) → is_head e ≡ true → AreAll true is_quiet (e ∷ es) → Fits marks nexts → Brings flags home subject context marks (e ∷ es) nexts
+  quiet_brings e es nexts head quiet fits =
+      let plain : ArePlain (e ∷ es) = quiet_plains (e ∷ es) quiet in
+      let none : AreAll false is_put (e ∷ es) = each_all true false is_quiet is_put quiet_no_put (e ∷ es) quiet in
+      plain_brings e es nexts head plain.0 plain.1 none.0 none.1 fits
 
   pub settles_bring : (s : State) (calls : List Call) (entries : List Entry) (after : State) → Settles s calls entries after → Fits marks s.nexts → Brings flags home subject context marks entries after.nexts
   settles_bring s calls entries after d fits =

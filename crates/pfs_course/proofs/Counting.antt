@@ -5,18 +5,24 @@ use Rattle.pfs_event.specs.declared.entry.Entry.{Entry}
 use Rattle.pfs_event.specs.declared.open.Open.{Open}
 use Rattle.pfs_levels.specs.Calls.{Call}
 use Rattle.pfs_model.specs.Shapes.{is_stage}
-use Rattle.pfs_parts.specs.Deeds.{Deed, Connecting, Starting, Staging, StageEnding, Ending, Spending, Quitting, Truncating, Closing, Part, IsPart, steps_for}
+use Rattle.pfs_parts.specs.Deeds.{Deed, Connecting, Starting, Staging, StageEnding, Ending, Spending, Quitting, Truncating, Changing, Showing, Querying, Refusing, Closing, Part, IsPart, looks, remark, steps_for}
+use Rattle.pfs_rows.specs.declared.table.Reading.{Reading}
 use Rattle.pfs_session.proofs.Ending.{through_leaves}
 use Rattle.pfs_session.specs.Ends.{Ends, EndsIn, no_numbers}
 use Rattle.pfs_session.specs.States.{State}
-use Rattle.pfs_session.specs.Turns.{Step, StartsEvent, EndsEvent, Spends, SettlesHeld, Connects, Quits, Truncates, Does, Turn, AreTurns, state_after, steps_of, stage_ends}
+use Rattle.pfs_session.specs.Turns.{Step, StartsEvent, EndsEvent, Spends, SettlesHeld, Connects, Quits, Truncates, Changes, Inquires, Does, Turn, AreTurns, state_after, steps_of, stage_ends}
 use Rattle.pfs_session.specs.declared.events.Numbers.{Numbers}
+use Rattle.pfs_session.specs.declared.remarks.Remark.TheVariants.{Rows}
 
 -- how many actions there are behind one
 abbrev pub made_by : ℕ → Deed → ℕ
 made_by made (Connecting admin user host) = made + 1
 made_by made (Quitting admin) = made + 1
 made_by made (Truncating admin what) = made + 1
+made_by made (Changing admin what) = made + 1
+made_by made (Showing admin count) = made + 1
+made_by made (Querying found count) = made
+made_by made (Refusing error) = made
 made_by made (Starting subject) = made
 made_by made (Staging subject) = made
 made_by made StageEnding = made
@@ -28,6 +34,8 @@ abbrev made_at : ℕ → Step → ℕ
 made_at made (Connects admin user host) = made + 1
 made_at made (Quits admin) = made + 1
 made_at made (Truncates admin what) = made + 1
+made_at made (Changes admin what) = made + 1
+made_at made (Inquires what) = made
 made_at made (StartsEvent subject) = made
 made_at made (EndsEvent numbers) = made
 made_at made (Spends time) = made
@@ -56,6 +64,8 @@ does_actions s SettlesHeld calls entries after d = ap (λ (z : State). z.actions
 does_actions s (Connects admin user host) calls entries after d = ap (λ (z : State). z.actions) d.1
 does_actions s (Quits admin) calls entries after d = ap (λ (z : State). z.actions) d.1
 does_actions s (Truncates admin what) calls entries after d = ap (λ (z : State). z.actions) d.after_is
+does_actions s (Changes admin what) calls entries after d = ap (λ (z : State). z.actions) d.after_is
+does_actions s (Inquires what) calls entries after d = ap (λ (z : State). z.actions) d.after_is
 
 turns_actions : (s : State) (turns : List Turn) → AreTurns s turns → (state_after s turns).actions ≡ made_in s.actions (steps_of turns)
 turns_actions s [] are = refl
@@ -70,10 +80,18 @@ stage_none made (what ∷ events) rest = by_test (is_stage what.kind) where
   by_test true = refl
   by_test false = refl
 
+looks_none : (made : ℕ) (found : List Reading) (rest : List Step) → made_in made (looks found ++ rest) ≡ made_in made rest
+looks_none made [] rest = refl
+looks_none made (reading ∷ found) rest = looks_none made found rest
+
 steps_made : (s : State) (made : ℕ) (deed : Deed) → made_in made (steps_for s deed) ≡ made_by made deed
 steps_made s made (Connecting admin user host) = refl
 steps_made s made (Quitting admin) = refl
 steps_made s made (Truncating admin what) = refl
+steps_made s made (Changing admin what) = refl
+steps_made s made (Showing admin count) = refl
+steps_made s made (Querying found count) = looks_none made found (remark (Rows count) ∷ [])
+steps_made s made (Refusing error) = refl
 steps_made s made (Starting subject) = refl
 steps_made s made (Staging subject) = stage_none made s.opened.events (StartsEvent subject ∷ [])
 steps_made s made StageEnding = stage_none made s.opened.events []

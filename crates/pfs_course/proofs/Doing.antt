@@ -4,9 +4,12 @@ use Rattle.std.specs.List.{flat_map}
 use Rattle.pfs_admin.specs.States.{State as Administration}
 use Rattle.pfs_alone.specs.Spells.{Spell, parts_in, stints_of}
 use Rattle.pfs_facts.specs.Deeds.{deed_on, sql_deed, IsNext, AreDeeds}
-use Rattle.pfs_parts.specs.Deeds.{Deed, Connecting, Starting, Staging, StageEnding, Ending, Spending, Quitting, Truncating, Closing, Part}
+use Rattle.pfs_parts.specs.Deeds.{Deed, Connecting, Starting, Staging, StageEnding, Ending, Spending, Quitting, Truncating, Changing, Showing, Querying, Refusing, Closing, Part}
 use Rattle.pfs_parts.specs.Stints.{parts_by}
 use Rattle.pfs_play.specs.Errands.{admin_behind, errand_on}
+use Rattle.pfs_requests.specs.Requests.{request_of}
+use Rattle.pfs_requests.specs.declared.requests.Request.{Request}
+use Rattle.pfs_requests.specs.declared.requests.Request.TheVariants as requests
 use Rattle.pfs_script.specs.declared.blocks.Block.{Block}
 use Rattle.pfs_script.specs.declared.blocks.BlockLine.{BlockLine}
 use Rattle.pfs_script.specs.declared.blocks.BlockLine.TheVariants as said
@@ -14,8 +17,6 @@ use Rattle.pfs_script.specs.declared.blocks.Connect.{Connect}
 use Rattle.pfs_script.specs.declared.blocks.Phase.{Phase}
 use Rattle.pfs_script.specs.Events.{lines_for}
 use Rattle.pfs_script.specs.Marks.{written_out}
-use Rattle.pfs_truncations.specs.Texts.{truncation_of}
-use Rattle.pfs_truncations.specs.declared.truncations.Truncation.{Truncation}
 use Rattle.pfs_course.specs.Course.{PhasedBlock, numbered, own_blocks, connected_by, deeds_along, deeds_of, deeds_in, IsSpellOf, AreSpellsOf}
 use Rattle.pfs_course.proofs.Changing.{own_numbered}
 
@@ -34,6 +35,10 @@ next_as [] (Ending numbers) some other f n = absurd n
 next_as [] (Spending time) some other f n = absurd n
 next_as [] (Quitting admin) some other f n = absurd n
 next_as [] (Truncating admin what) some other f n = absurd n
+next_as [] (Changing admin what) some other f n = absurd n
+next_as [] (Showing admin count) some other f n = absurd n
+next_as [] (Querying found count) some other f n = absurd n
+next_as [] (Refusing error) some other f n = absurd n
 next_as (line ∷ lines) (Starting subject) some other f n = (n.0, f lines n.1)
 next_as (line ∷ lines) (Staging subject) some other f n = (n.0, f lines n.1)
 next_as (line ∷ lines) StageEnding some other f n = (n.0, f lines n.1)
@@ -41,6 +46,10 @@ next_as (line ∷ lines) (Ending numbers) some other f n = (n.0, f lines n.1)
 next_as (line ∷ lines) (Spending time) some other f n = (n.0, f lines n.1)
 next_as (line ∷ lines) (Quitting admin) some other f n = (n.0, f lines n.1)
 next_as (line ∷ lines) (Truncating admin what) some other f n = (n.0, f lines n.1)
+next_as (line ∷ lines) (Changing admin what) some other f n = (n.0, f lines n.1)
+next_as (line ∷ lines) (Showing admin count) some other f n = (n.0, f lines n.1)
+next_as (line ∷ lines) (Querying found count) some other f n = (n.0, f lines n.1)
+next_as (line ∷ lines) (Refusing error) some other f n = (n.0, f lines n.1)
 
 next_then : (lines more : List BlockLine) (deed : Deed) (some other : List BlockLine → Type 0) → ((rest : List BlockLine) → some rest → other (rest ++ more)) → IsNext lines deed some
     → IsNext (lines ++ more) deed other
@@ -53,6 +62,10 @@ next_then [] more (Ending numbers) some other f n = absurd n
 next_then [] more (Spending time) some other f n = absurd n
 next_then [] more (Quitting admin) some other f n = absurd n
 next_then [] more (Truncating admin what) some other f n = absurd n
+next_then [] more (Changing admin what) some other f n = absurd n
+next_then [] more (Showing admin count) some other f n = absurd n
+next_then [] more (Querying found count) some other f n = absurd n
+next_then [] more (Refusing error) some other f n = absurd n
 next_then (line ∷ lines) more (Starting subject) some other f n = (n.0, f lines n.1)
 next_then (line ∷ lines) more (Staging subject) some other f n = (n.0, f lines n.1)
 next_then (line ∷ lines) more StageEnding some other f n = (n.0, f lines n.1)
@@ -60,6 +73,10 @@ next_then (line ∷ lines) more (Ending numbers) some other f n = (n.0, f lines 
 next_then (line ∷ lines) more (Spending time) some other f n = (n.0, f lines n.1)
 next_then (line ∷ lines) more (Quitting admin) some other f n = (n.0, f lines n.1)
 next_then (line ∷ lines) more (Truncating admin what) some other f n = (n.0, f lines n.1)
+next_then (line ∷ lines) more (Changing admin what) some other f n = (n.0, f lines n.1)
+next_then (line ∷ lines) more (Showing admin count) some other f n = (n.0, f lines n.1)
+next_then (line ∷ lines) more (Querying found count) some other f n = (n.0, f lines n.1)
+next_then (line ∷ lines) more (Refusing error) some other f n = (n.0, f lines n.1)
 
 parts_do : (lines : List BlockLine) (ps : List Part) → Do lines (deeds_in ps) → AreDeeds lines ps
 parts_do lines [] d = d
@@ -70,13 +87,18 @@ deeds_then lines more [] qs a b = subst (λ z. AreDeeds (z ++ more) qs) (sym a) 
 deeds_then lines more (p ∷ ps) qs a b = next_then lines more p.deed (λ rest. AreDeeds rest ps) (λ rest. AreDeeds rest (ps ++ qs)) (λ rest d. deeds_then rest more ps qs d b) a
 
 -- those of a block
-sql_next : (admin : Administration) (text : List ℕ) (lines : List BlockLine) (rest : List BlockLine → Type 0) (what : Option Truncation) → truncation_of text ≡ what → rest lines → IsNext (said.Sql text ∷ lines) (sql_deed admin what) rest
-sql_next admin text lines rest None e r = (record { admin = admin; is = ap (sql_deed admin) (sym e) }, r)
-sql_next admin text lines rest (Some what) e r = (record { admin = admin; is = ap (sql_deed admin) (sym e) }, r)
+sql_next : (admin : Administration) (text : List ℕ) (lines : List BlockLine) (rest : List BlockLine → Type 0) (asks : Request) → request_of text ≡ asks → rest lines → IsNext (said.Sql text ∷ lines) (sql_deed admin asks) rest
+sql_next admin text lines rest (requests.Refused error) e r = (record { admin = admin; is = ap (sql_deed admin) (sym e) }, r)
+sql_next admin text lines rest (requests.Truncate what) e r = (record { admin = admin; is = ap (sql_deed admin) (sym e) }, r)
+sql_next admin text lines rest (requests.Update update) e r = (record { admin = admin; is = ap (sql_deed admin) (sym e) }, r)
+sql_next admin text lines rest (requests.Insert insert) e r = (record { admin = admin; is = ap (sql_deed admin) (sym e) }, r)
+sql_next admin text lines rest (requests.Delete delete) e r = (record { admin = admin; is = ap (sql_deed admin) (sym e) }, r)
+sql_next admin text lines rest (requests.Query select) e r = (record { admin = admin; is = ap (sql_deed admin) (sym e) }, r)
+sql_next admin text lines rest (requests.Show select) e r = (record { admin = admin; is = ap (sql_deed admin) (sym e) }, r)
 
 line_next : (admin : Administration) (line : BlockLine) (lines : List BlockLine) (rest : List BlockLine → Type 0) → rest lines → IsNext (line ∷ lines) (deed_on admin line) rest
 line_next admin said.Quit lines rest r = (record { admin = admin; is = refl }, r)
-line_next admin (said.Sql text) lines rest r = sql_next admin text lines rest (truncation_of text) refl r
+line_next admin (said.Sql text) lines rest r = sql_next admin text lines rest (request_of text) refl r
 line_next admin _ lines rest r = (record { admin = admin; is = refl }, r)
 
 body_do : (admin : Administration) (lines : List BlockLine) → Do lines (deeds_along admin lines ++ Closing ∷ [])

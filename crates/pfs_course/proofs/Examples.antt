@@ -8,7 +8,7 @@ use Rattle.pfs_event.specs.declared.entry.Entry.TheVariants as says
 use Rattle.pfs_journal.specs.declared.report.PhaseParts.{PhaseParts}
 use Rattle.pfs_model.specs.Journals.{joined}
 use Rattle.pfs_parts.specs.Deeds.{Connecting, Starting, Ending, Spending, Quitting, Closing}
-use Rattle.pfs_runs.specs.Examples.{waiting, connecting, quitting, phases, wait}
+use Rattle.pfs_runs.specs.Examples.{waiting, connecting, quitting, asking, phases, wait}
 use Rattle.pfs_script.specs.Marks.{written_from, written_out}
 use Rattle.pfs_session.specs.Ends.{no_numbers}
 use Rattle.pfs_session.specs.States.{fresh}
@@ -19,7 +19,8 @@ use Rattle.pfs_course.specs.Told.{AreTold, ArePhasesTold}
 
 -- the blocks in their phases, those of the first session, and its administration lines
 blocks_are : numbered 1 phases
-    ≡ record { phase = 1; block = waiting } ∷ record { phase = 1; block = connecting } ∷ record { phase = 2; block = quitting } ∷ []
+    ≡ record { phase = 1; block = waiting } ∷ record { phase = 1; block = connecting }
+    ∷ record { phase = 2; block = quitting } ∷ record { phase = 2; block = asking } ∷ []
 blocks_are = refl
 
 own_are : own_blocks 1 (numbered 1 phases) ≡ waiting ∷ quitting ∷ []
@@ -56,7 +57,7 @@ quitting_behind : (admin : Administration) → behind_block admin quitting true 
 unfolding written_from
 quitting_behind admin = refl
 
--- what is told of three spells: one wrote an entry, the others nothing
+-- what is told of four spells: one wrote an entry, the others nothing
 settled : Doing
 settled = record {
   part = record { deed = Closing; turns = record { step = SettlesHeld; calls = []; entries = says.Settle ∷ []; after = fresh 1 1 1 } ∷ [] };
@@ -65,7 +66,9 @@ settled = record {
 }
 
 abbrev spells : List Spell
-spells = record { phase = 1; session = 1; doings = settled ∷ [] } ∷ record { phase = 1; session = 2; doings = [] } ∷ record { phase = 2; session = 1; doings = [] } ∷ []
+spells =
+    record { phase = 1; session = 1; doings = settled ∷ [] } ∷ record { phase = 1; session = 2; doings = [] }
+    ∷ record { phase = 2; session = 1; doings = [] } ∷ record { phase = 2; session = 2; doings = [] } ∷ []
 
 abbrev reports : List PhaseParts
 reports =
@@ -75,22 +78,31 @@ reports =
       tables = [];
       lost = [];
     }
-    ∷ record { number = 2; blocks = record { session = 1; entries = []; answers = [] } ∷ []; tables = []; lost = [] } ∷ []
+    ∷ record {
+      number = 2;
+      blocks = record { session = 1; entries = []; answers = [] } ∷ record { session = 2; entries = []; answers = [] } ∷ [];
+      tables = [];
+      lost = [];
+    } ∷ []
 
 told : ArePhasesTold 1 phases reports spells
 unfolding joined settled
 told = (
   record { phase = 1; session = 1; doings = settled ∷ [] } ∷ record { phase = 1; session = 2; doings = [] } ∷ [],
-  record { phase = 2; session = 1; doings = [] } ∷ [],
+  record { phase = 2; session = 1; doings = [] } ∷ record { phase = 2; session = 2; doings = [] } ∷ [],
   record {
     split = refl;
     numbered = refl;
     blocks = (record { phase = refl; session = refl; reported = refl; entries = refl; answers = refl }, (record { phase = refl; session = refl; reported = refl; entries = refl; answers = refl }, tt));
   },
   (
-    record { phase = 2; session = 1; doings = [] } ∷ [],
+    record { phase = 2; session = 1; doings = [] } ∷ record { phase = 2; session = 2; doings = [] } ∷ [],
     [],
-    record { split = refl; numbered = refl; blocks = (record { phase = refl; session = refl; reported = refl; entries = refl; answers = refl }, tt) },
+    record {
+      split = refl;
+      numbered = refl;
+      blocks = (record { phase = refl; session = refl; reported = refl; entries = refl; answers = refl }, (record { phase = refl; session = refl; reported = refl; entries = refl; answers = refl }, tt));
+    },
     refl,
   ),
 )

@@ -6,16 +6,18 @@ use Rattle.std.proofs.lemmas.List.{append_assoc, append-nil}
 use Rattle.pfs_actions.specs.Done.{IsLabelled, AreLabelled}
 use Rattle.pfs_admin.proofs.Folding.{step_law, count_law}
 use Rattle.pfs_admin.specs.Fold.{state_of}
+use Rattle.pfs_admin.specs.Setups.{has_changed}
 use Rattle.pfs_admin.specs.States.{connected, has_quit}
 use Rattle.pfs_admin.specs.States.{State as Administration}
 use Rattle.pfs_admin.specs.Truncations.{has_truncated}
 use Rattle.pfs_admin.specs.declared.changes.Change.{Change}
-use Rattle.pfs_admin.specs.declared.changes.Change.TheVariants.{Connect, Quit, Truncate}
+use Rattle.pfs_admin.specs.declared.changes.Change.TheVariants.{Connect, Quit, Truncate, Setup}
+use Rattle.pfs_admin.specs.declared.changes.SetupStatement.TheVariants.{Show}
 use Rattle.pfs_alone.specs.Spells.{Doing, Spell, parts_in, label_of, IsEntered, AreEntered}
 use Rattle.pfs_board.specs.declared.view.Label.{Label}
 use Rattle.pfs_classes.specs.declared.setting.Setting.{Setting}
 use Rattle.pfs_parts.proofs.Journaling.{turns_number}
-use Rattle.pfs_parts.specs.Deeds.{Deed, Connecting, Starting, Staging, StageEnding, Ending, Spending, Quitting, Truncating, Closing, Part, action_of, is_over}
+use Rattle.pfs_parts.specs.Deeds.{Deed, Connecting, Starting, Staging, StageEnding, Ending, Spending, Quitting, Truncating, Changing, Showing, Querying, Refusing, Closing, Part, action_of, is_over}
 use Rattle.pfs_parts.specs.Shaped.{AreParts, state_behind, over_behind}
 use Rattle.pfs_ruled.specs.Folded.{FoldsTo, DoingsFolded, ConnectsFirst, DoingsConnectFirst}
 use Rattle.pfs_ruled.proofs.Entering.{label_by, labels_in, all_labels, AreBehind, AllBehind}
@@ -34,6 +36,10 @@ abbrev pub admin_by : ℕ → Administration → Deed → Administration
 admin_by session admin (Connecting at user host) = connected admin session user host
 admin_by session admin (Quitting at) = has_quit admin session
 admin_by session admin (Truncating at what) = has_truncated admin what
+admin_by session admin (Changing at what) = has_changed admin what
+admin_by session admin (Showing at count) = has_changed admin Show
+admin_by session admin (Querying found count) = admin
+admin_by session admin (Refusing error) = admin
 admin_by session admin (Starting subject) = admin
 admin_by session admin (Staging subject) = admin
 admin_by session admin StageEnding = admin
@@ -58,6 +64,10 @@ Names change session point (Connecting admin user host) =
     (admin ≡ point.admin) × (change (record { session = session; line = point.made + 1 }) ≡ Connect user host) × (point.made ≡ 0)
 Names change session point (Quitting admin) = (admin ≡ point.admin) × (change (record { session = session; line = point.made + 1 }) ≡ Quit)
 Names change session point (Truncating admin what) = (admin ≡ point.admin) × (change (record { session = session; line = point.made + 1 }) ≡ Truncate what)
+Names change session point (Changing admin what) = (admin ≡ point.admin) × (change (record { session = session; line = point.made + 1 }) ≡ Setup what)
+Names change session point (Showing admin count) = (admin ≡ point.admin) × (change (record { session = session; line = point.made + 1 }) ≡ Setup Show)
+Names change session point (Querying found count) = Unit {0}
+Names change session point (Refusing error) = Unit {0}
 Names change session point (Starting subject) = Unit {0}
 Names change session point (Staging subject) = Unit {0}
 Names change session point StageEnding = Unit {0}
@@ -118,6 +128,28 @@ follows_one setting change session point labels s label own (Truncating at what)
       first = tt;
       admin_is = (step_law session (Truncate what) point.admin).stands setting change labels label (ap (λ (l : Label). l.session) is) asked stands;
     }
+follows_one setting change session point labels s label own (Changing at what) number actions labelled behind stands names =
+    let is : label ≡ record { session = session; line = point.made + 1 } = label_is session point.made s label number actions labelled in
+    let asked : change label ≡ Setup what = ap change is ∙ names.1 in
+    record {
+      folded = (names.0 ∙ (stands ∙ ap (λ z. state_of setting change z) (sym behind)), asked);
+      entered = (counts setting change labels own at point.admin behind stands names.0, labelled);
+      first = tt;
+      admin_is = (step_law session (Setup what) point.admin).stands setting change labels label (ap (λ (l : Label). l.session) is) asked stands;
+    }
+follows_one setting change session point labels s label own (Showing at count) number actions labelled behind stands names =
+    let is : label ≡ record { session = session; line = point.made + 1 } = label_is session point.made s label number actions labelled in
+    let asked : change label ≡ Setup Show = ap change is ∙ names.1 in
+    record {
+      folded = (names.0 ∙ (stands ∙ ap (λ z. state_of setting change z) (sym behind)), asked);
+      entered = (counts setting change labels own at point.admin behind stands names.0, labelled);
+      first = tt;
+      admin_is = (step_law session (Setup Show) point.admin).stands setting change labels label (ap (λ (l : Label). l.session) is) asked stands;
+    }
+follows_one setting change session point labels s label own (Querying found count) number actions labelled behind stands names =
+    record { folded = tt; entered = tt; first = tt; admin_is = quiet_follows setting change labels point.admin stands }
+follows_one setting change session point labels s label own (Refusing error) number actions labelled behind stands names =
+    record { folded = tt; entered = tt; first = tt; admin_is = quiet_follows setting change labels point.admin stands }
 follows_one setting change session point labels s label own (Starting subject) number actions labelled behind stands names =
     record { folded = tt; entered = tt; first = tt; admin_is = quiet_follows setting change labels point.admin stands }
 follows_one setting change session point labels s label own (Staging subject) number actions labelled behind stands names =

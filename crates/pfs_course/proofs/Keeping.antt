@@ -11,16 +11,18 @@ use Rattle.pfs_event.specs.declared.open.Open.{Open}
 use Rattle.pfs_levels.specs.Calls.{Call}
 use Rattle.pfs_model.specs.declared.lines.Subject.{Subject}
 use Rattle.pfs_parts.specs.Amounts.{IsPlaced}
-use Rattle.pfs_parts.specs.Deeds.{Deed, Connecting, Starting, Staging, StageEnding, Ending, Spending, Quitting, Truncating, Closing, Part, IsPart, steps_for}
+use Rattle.pfs_parts.specs.Deeds.{Deed, Connecting, Starting, Staging, StageEnding, Ending, Spending, Quitting, Truncating, Changing, Showing, Querying, Refusing, Closing, Part, IsPart, looks, remark, steps_for}
 use Rattle.pfs_rings.specs.Rings.{depths}
+use Rattle.pfs_rows.specs.declared.table.Reading.{Reading}
 use Rattle.pfs_session.proofs.Ending.{through_leaves}
 use Rattle.pfs_session.proofs.Placing.{start_deep}
 use Rattle.pfs_session.specs.Ends.{EndsIn}
 use Rattle.pfs_session.specs.Rings.{ArePlaced, depth_of, is_placed_by}
 use Rattle.pfs_session.specs.Starts.{Begins, verdict_in}
 use Rattle.pfs_session.specs.States.{State}
-use Rattle.pfs_session.specs.Turns.{Step, StartsEvent, EndsEvent, Spends, SettlesHeld, Connects, Quits, Truncates, Turn, Does, AreTurns, state_after, steps_of, stage_ends}
+use Rattle.pfs_session.specs.Turns.{Step, StartsEvent, EndsEvent, Spends, SettlesHeld, Connects, Quits, Truncates, Changes, Inquires, Turn, Does, AreTurns, state_after, steps_of, stage_ends}
 use Rattle.pfs_session.specs.declared.events.Numbers.{Numbers}
+use Rattle.pfs_session.specs.declared.remarks.Remark.TheVariants.{Rows}
 use Rattle.pfs_course.proofs.Dues.{IsHome}
 
 pub record Keeps (home : Option ℕ) (number : ℕ) (s : State) : Type 0 where
@@ -44,6 +46,8 @@ GetsHome home number (Spends time) = Unit {0}
 GetsHome home number SettlesHeld = Unit {0}
 GetsHome home number (Quits admin) = Unit {0}
 GetsHome home number (Truncates admin what) = Unit {0}
+GetsHome home number (Changes admin what) = Unit {0}
+GetsHome home number (Inquires what) = Unit {0}
 
 -- another state with the same number, stack and open events
 keeps_as : (home : Option ℕ) (number : ℕ) (s t : State) → Keeps home number s → t.number ≡ s.number → t.stack ≡ s.stack → t.opened.events ≡ s.opened.events → IsHome home t.place.thread → Keeps home number t
@@ -101,6 +105,8 @@ does_keeps home number s (Connects admin user host) calls entries after k g d =
     subst (Keeps home number) (sym d.1) (keeps_as home number s _ k refl refl refl (λ own q. sym placed ∙ q))
 does_keeps home number s (Quits admin) calls entries after k g d = subst (Keeps home number) (sym d.1) (keeps_as home number s _ k refl refl refl (nowhere_home home))
 does_keeps home number s (Truncates admin what) calls entries after k g d = subst (Keeps home number) (sym d.after_is) (keeps_as home number s _ k refl refl refl k.seat)
+does_keeps home number s (Changes admin what) calls entries after k g d = subst (Keeps home number) (sym d.after_is) (keeps_as home number s _ k refl refl refl k.seat)
+does_keeps home number s (Inquires what) calls entries after k g d = subst (Keeps home number) (sym d.after_is) k
 
 -- the steps of turns, one behind the other
 abbrev pub AllGetHome : Option ℕ → ℕ → List Step → Type 0
@@ -131,6 +137,10 @@ stage_home home number (what ∷ events) more g = by_kind what.kind where
   by_kind kinds.Statement = g
   by_kind kinds.Transaction = g
 
+looks_home : (home : Option ℕ) (number : ℕ) (found : List Reading) (more : List Step) → AllGetHome home number more → AllGetHome home number (looks found ++ more)
+looks_home home number [] more g = g
+looks_home home number (reading ∷ found) more g = (tt, looks_home home number found more g)
+
 deed_home : (home : Option ℕ) (number : ℕ) (s : State) (deed : Deed) → IsPlaced home number deed → AllGetHome home number (steps_for s deed)
 deed_home home number s (Connecting admin user host) p = (p, tt)
 deed_home home number s (Starting subject) p = (tt, tt)
@@ -140,6 +150,10 @@ deed_home home number s (Ending numbers) p = stage_home home number s.opened.eve
 deed_home home number s (Spending time) p = (tt, tt)
 deed_home home number s (Quitting admin) p = (tt, (tt, tt))
 deed_home home number s (Truncating admin what) p = (tt, (tt, tt))
+deed_home home number s (Changing admin what) p = (tt, (tt, tt))
+deed_home home number s (Showing admin count) p = (tt, (tt, (tt, tt)))
+deed_home home number s (Querying found count) p = (tt, looks_home home number found (remark (Rows count) ∷ []) (tt, tt))
+deed_home home number s (Refusing error) p = (tt, tt)
 deed_home home number s Closing p = (tt, tt)
 
 pub part_keeps : (home : Option ℕ) (number : ℕ) (s : State) (p : Part) → Keeps home number s → IsPlaced home number p.deed → IsPart s p → Keeps home number (state_after s p.turns)

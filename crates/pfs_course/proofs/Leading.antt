@@ -1,27 +1,33 @@
 -- Each line of a session brings what is due.
 use Rattle.std.proofs.Common.{ℕ, ◌≡◌, ◌+◌, Bool, true, false, List, [], ◌∷◌, ◌++◌, Option, Some, refl, ap, sym, ◌∙◌, subst}
-use Rattle.std.proofs.lemmas.List.{append-nil}
+use Rattle.std.proofs.lemmas.List.{append_assoc, append-nil}
 use Rattle.pfs_admin.specs.Asks.{work_of_connect, work_of_quit}
 use Rattle.pfs_admin.specs.States.{seat_at}
 use Rattle.pfs_admin.specs.States.{State as Administration}
+use Rattle.pfs_admin.specs.declared.changes.SetupStatement.{SetupStatement}
+use Rattle.pfs_admin.specs.declared.changes.SetupStatement.TheVariants.{Show}
 use Rattle.pfs_event.specs.declared.entry.Entry.{Entry}
 use Rattle.pfs_event.specs.declared.entry.Entry.TheVariants as says
 use Rattle.pfs_model.specs.Contexts.{Context, subject_of, turned, after_entries}
 use Rattle.pfs_model.specs.declared.lines.Line.{Line}
 use Rattle.pfs_model.specs.declared.lines.Subject.{Subject}
 use Rattle.pfs_parts.proofs.Ended.{EndIs, end_is}
-use Rattle.pfs_parts.proofs.Inverting.{OneTurn, TwoTurns, no_turns, one_turn, two_turns}
+use Rattle.pfs_parts.proofs.Inquiring.{Told, told, asked_by, asked_steps, asked_entries, answers_quiet}
+use Rattle.pfs_parts.proofs.Inverting.{OneTurn, TwoTurns, ThreeTurns, no_turns, one_turn, two_turns, three_turns}
 use Rattle.pfs_parts.proofs.Started.{loads_behind}
 use Rattle.pfs_parts.proofs.Written.{turned_agrees, does_at, has_stage, ends_by, loads_one, loads_front}
 use Rattle.pfs_parts.specs.Agreeing.{LoadsAgree, Agrees, Stands}
-use Rattle.pfs_parts.specs.Deeds.{Deed, Connecting, Starting, Staging, StageEnding, Ending, Spending, Quitting, Truncating, Closing, Part, IsPart, MayDo, line_of, steps_for, part_calls, part_entries}
+use Rattle.pfs_parts.specs.Deeds.{Deed, Connecting, Starting, Staging, StageEnding, Ending, Spending, Quitting, Truncating, Changing, Showing, Querying, Refusing, Closing, Part, IsPart, MayDo, looks, remark, line_of, steps_for, part_calls, part_entries}
+use Rattle.pfs_rows.specs.declared.table.Reading.{Reading}
 use Rattle.pfs_session.specs.Ends.{Ends, no_numbers}
+use Rattle.pfs_session.specs.Inquiries.{Remarks}
 use Rattle.pfs_session.specs.Settles.{Settles}
 use Rattle.pfs_session.specs.States.{State}
-use Rattle.pfs_session.specs.Turns.{Step, StartsEvent, EndsEvent, Spends, SettlesHeld, Connects, Quits, Truncates, Turn, AreTurns, state_after, steps_of, turns_calls, turns_entries, stage_ends}
+use Rattle.pfs_session.specs.Turns.{Step, StartsEvent, EndsEvent, Spends, SettlesHeld, Connects, Quits, Truncates, Changes, Turn, AreTurns, state_after, steps_of, turns_calls, turns_entries, stage_ends}
 use Rattle.pfs_session.specs.declared.events.Numbers.{Numbers}
+use Rattle.pfs_session.specs.declared.remarks.Remark.TheVariants.{Query, Rows, Refused}
 use Rattle.pfs_truncations.specs.declared.truncations.Truncation.{Truncation}
-use Rattle.pfs_course.proofs.Bringing.{Brings, brings_none, brings_then, works_bring, connect_brings, truncated_bring, settles_bring, starts_bring, ends_bring}
+use Rattle.pfs_course.proofs.Bringing.{Brings, brings_none, brings_then, works_bring, connect_brings, truncated_bring, changed_bring, quiet_brings, settles_bring, starts_bring, ends_bring}
 use Rattle.pfs_course.proofs.Dues.{Marks}
 use Rattle.pfs_course.proofs.Keeping.{Keeps, begun_deep, does_keeps}
 use Rattle.pfs_course.proofs.Putting.{Fits}
@@ -131,6 +137,52 @@ module _ (flags : ℕ → ℕ → ℕ) (home : Option ℕ) (number : ℕ) (line 
       (λ m mid. truncated_bring flags home (subject_of line) (after_entries (subject_of line) context t.entries) m t.after admin what u.calls u.entries u.after u.after.nexts d
       (subst (λ (z : State). Fits m z.nexts) (sym d.after_is) mid)))
 
+  by_change : (admin : Administration) (what : SetupStatement) → steps_of turns ≡ SettlesHeld ∷ Changes admin what ∷ [] → Done
+  by_change admin what e =
+      let o : TwoTurns turns SettlesHeld (Changes admin what) = two_turns turns SettlesHeld (Changes admin what) e in
+      let t : Turn = o.first in
+      let u : Turn = o.second in
+      let at : AtTwo SettlesHeld (Changes admin what) o = at_two SettlesHeld (Changes admin what) o in
+      let settles : Settles s t.calls t.entries t.after = does_at s t SettlesHeld o.first_is at.are_turns.1.0 in
+      let d = does_at t.after u (Changes admin what) o.second_is at.are_turns.0 in
+      let next : Context = after_entries (subject_of line) context t.entries in
+      subst BringAll (sym o.is)
+      (brings_then flags home (subject_of line) context marks t.entries u.entries t.after.nexts u.after.nexts (settles_bring flags home (subject_of line) context marks s t.calls t.entries t.after settles fits)
+      (λ m mid. subst (λ (z : List Entry). Brings flags home (subject_of line) next m z u.after.nexts) (append-nil u.entries)
+      (changed_bring flags home (subject_of line) next m t.after admin what u.calls u.entries u.after [] u.after.nexts d tt (subst (λ (z : State). Fits m z.nexts) (sym d.after_is) mid))))
+
+  by_show : (admin : Administration) (count : ℕ) → steps_of turns ≡ SettlesHeld ∷ Changes admin Show ∷ remark (Rows count) ∷ [] → Done
+  by_show admin count e =
+      let o : ThreeTurns turns SettlesHeld (Changes admin Show) (remark (Rows count)) = three_turns turns SettlesHeld (Changes admin Show) (remark (Rows count)) e in
+      let t : Turn = o.first in
+      let u : Turn = o.second in
+      let v : Turn = o.third in
+      let ours : AreTurns s (v ∷ u ∷ t ∷ []) = subst (AreTurns s) o.is are in
+      let settles : Settles s t.calls t.entries t.after = does_at s t SettlesHeld o.first_is ours.1.1.0 in
+      let d = does_at t.after u (Changes admin Show) o.second_is ours.1.0 in
+      let r = does_at u.after v (remark (Rows count)) o.third_is ours.0 in
+      let next : Context = after_entries (subject_of line) context t.entries in
+      let rows : List Entry = says.Rows count ∷ [] in
+      let is : (t.entries ++ u.entries) ++ v.entries ≡ t.entries ++ (u.entries ++ rows) = append_assoc t.entries u.entries v.entries ∙ ap (λ (z : List Entry). t.entries ++ (u.entries ++ z)) r.entries_are in
+      subst BringAll (sym o.is)
+      (subst (λ (z : List Entry). Brings flags home (subject_of line) context marks z v.after.nexts) (sym is)
+      (brings_then flags home (subject_of line) context marks t.entries (u.entries ++ rows) t.after.nexts v.after.nexts (settles_bring flags home (subject_of line) context marks s t.calls t.entries t.after settles fits)
+      (λ m mid. changed_bring flags home (subject_of line) next m t.after admin Show u.calls u.entries u.after rows v.after.nexts d (refl, tt)
+      (subst (λ (z : State). Fits m z.nexts) (sym (r.after_is ∙ d.after_is)) mid))))
+
+  by_query : (found : List Reading) (count : ℕ) → steps_of turns ≡ remark Query ∷ (looks found ++ remark (Rows count) ∷ []) → Done
+  by_query found count e =
+      let t : Told s (asked_by found count) turns = told s (asked_by found count) turns are (e ∙ asked_steps found count) in
+      subst (λ (z : List Entry). Brings flags home (subject_of line) context marks z (state_after s turns).nexts) (sym (t.entries_are ∙ asked_entries found count))
+      (quiet_brings flags home (subject_of line) context marks says.Query _ (state_after s turns).nexts refl (answers_quiet found count)
+      (subst (λ (z : State). Fits marks z.nexts) (sym t.after_is) fits))
+
+  by_refuse : (error : ℕ) → steps_of turns ≡ remark (Refused error) ∷ [] → Done
+  by_refuse error e =
+      let t : Told s (Remarks (Refused error) ∷ []) turns = told s (Remarks (Refused error) ∷ []) turns are e in
+      subst (λ (z : List Entry). Brings flags home (subject_of line) context marks z (state_after s turns).nexts) (sym t.entries_are)
+      (quiet_brings flags home (subject_of line) context marks (says.Error error) [] (state_after s turns).nexts refl (refl, tt) (subst (λ (z : State). Fits marks z.nexts) (sym t.after_is) fits))
+
   -- behind an end the session stands as its journal tells, and keeps what it kept
   record IsEnded (numbers : Numbers) (t : Turn) : Type 0 where
     brings : Brings flags home (subject_of line) context marks t.entries t.after.nexts
@@ -208,6 +260,14 @@ deed_brings flags home number over context s turns (Quitting admin) stands may a
     by_quit flags home number (line_of (Quitting admin)) (turned context) s turns are loads k marks fits admin steps
 deed_brings flags home number over context s turns (Truncating admin what) stands may are steps loads k marks fits =
     by_truncate flags home number (line_of (Truncating admin what)) (turned context) s turns are loads k marks fits admin what steps
+deed_brings flags home number over context s turns (Changing admin what) stands may are steps loads k marks fits =
+    by_change flags home number (line_of (Changing admin what)) (turned context) s turns are loads k marks fits admin what steps
+deed_brings flags home number over context s turns (Showing admin count) stands may are steps loads k marks fits =
+    by_show flags home number (line_of (Showing admin count)) (turned context) s turns are loads k marks fits admin count steps
+deed_brings flags home number over context s turns (Querying found count) stands may are steps loads k marks fits =
+    by_query flags home number (line_of (Querying found count)) (turned context) s turns are loads k marks fits found count steps
+deed_brings flags home number over context s turns (Refusing error) stands may are steps loads k marks fits =
+    by_refuse flags home number (line_of (Refusing error)) (turned context) s turns are loads k marks fits error steps
 deed_brings flags home number over context s turns Closing stands may are steps loads k marks fits =
     by_settle flags home number (line_of Closing) (turned context) s turns are loads k marks fits steps
 

@@ -13,6 +13,9 @@ use Rattle.pfs_parts.specs.Stints.{Stint, block_of, blocks_of}
 use Rattle.pfs_ruled.proofs.Fronts.{stints_then}
 use Rattle.pfs_ruled.specs.Ruled.{journals_of}
 use Rattle.pfs_play.specs.Errands.{admin_behind, errand_on}
+use Rattle.pfs_requests.specs.Requests.{request_of}
+use Rattle.pfs_requests.specs.declared.requests.Request.{Request}
+use Rattle.pfs_requests.specs.declared.requests.Request.TheVariants as requests
 use Rattle.pfs_runs.specs.Lines.{line_in, connect_lines, lines_in, sql_line}
 use Rattle.pfs_runs.specs.Runs.{AreBlocksOf, ArePhasesOf, all_blocks}
 use Rattle.pfs_script.specs.declared.blocks.Block.{Block as Said}
@@ -21,8 +24,6 @@ use Rattle.pfs_script.specs.declared.blocks.BlockLine.TheVariants as said
 use Rattle.pfs_script.specs.declared.blocks.Connect.{Connect}
 use Rattle.pfs_script.specs.declared.blocks.Phase.{Phase}
 use Rattle.pfs_script.specs.Marks.{written_out}
-use Rattle.pfs_truncations.specs.Texts.{truncation_of}
-use Rattle.pfs_truncations.specs.declared.truncations.Truncation.{Truncation}
 use Rattle.pfs_course.specs.Course.{PhasedBlock, phased, numbered, connected_by, deeds_along, deeds_of, deeds_in, IsSpellOf, AreSpellsOf}
 use Rattle.pfs_course.specs.Told.{AreTold, ArePhasesTold}
 
@@ -38,13 +39,18 @@ parts_lines : (ps : List Part) → lines_of ps ≡ map line_of (deeds_in ps)
 parts_lines [] = refl
 parts_lines (p ∷ ps) = ap (λ z. line_of p.deed ∷ z) (parts_lines ps)
 
-sql_told : (admin : Administration) (what : Option Truncation) → line_of (sql_deed admin what) ≡ sql_line what
-sql_told admin None = refl
-sql_told admin (Some what) = refl
+sql_told : (admin : Administration) (asks : Request) → line_of (sql_deed admin asks) ≡ sql_line asks
+sql_told admin (requests.Refused error) = refl
+sql_told admin (requests.Truncate what) = refl
+sql_told admin (requests.Update update) = refl
+sql_told admin (requests.Insert insert) = refl
+sql_told admin (requests.Delete delete) = refl
+sql_told admin (requests.Query select) = refl
+sql_told admin (requests.Show select) = refl
 
 deed_line : (admin : Administration) (line : BlockLine) → line_of (deed_on admin line) ≡ line_in line
 deed_line admin said.Quit = refl
-deed_line admin (said.Sql text) = sql_told admin (truncation_of text)
+deed_line admin (said.Sql text) = sql_told admin (request_of text)
 deed_line admin _ = refl
 
 body_lines : (admin : Administration) (lines : List BlockLine) → map line_of (deeds_along admin lines ++ Closing ∷ []) ≡ map line_in lines ++ told.Close ∷ []

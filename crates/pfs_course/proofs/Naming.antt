@@ -8,19 +8,21 @@ use Rattle.std.proofs.lemmas.List.Concat.{flat_map-append}
 use Rattle.pfs_admin.specs.States.{has_quit}
 use Rattle.pfs_admin.specs.States.{State as Administration}
 use Rattle.pfs_admin.specs.declared.changes.Change.{Change}
-use Rattle.pfs_admin.specs.declared.changes.Change.TheVariants.{Show}
+use Rattle.pfs_admin.specs.declared.changes.Change.TheVariants.{Setup}
+use Rattle.pfs_admin.specs.declared.changes.SetupStatement.TheVariants.{Show}
 use Rattle.pfs_board.specs.declared.view.Label.{Label}
 use Rattle.pfs_facts.specs.Deeds.{deed_on, sql_deed}
 use Rattle.pfs_parts.specs.Deeds.{Deed, Closing, is_over}
 use Rattle.pfs_play.specs.Errands.{admin_after, admin_behind, errand_on, is_quit, sql_errand}
 use Rattle.pfs_play.proofs.Repeating.{after_then}
 use Rattle.pfs_playable.specs.Playable.{end_of}
+use Rattle.pfs_requests.specs.Requests.{request_of}
+use Rattle.pfs_requests.specs.declared.requests.Request.{Request}
+use Rattle.pfs_requests.specs.declared.requests.Request.TheVariants as requests
 use Rattle.pfs_runs.specs.Lines.{connect_changes, changes_on, sql_changes}
 use Rattle.pfs_script.specs.declared.blocks.BlockLine.{BlockLine}
 use Rattle.pfs_script.specs.declared.blocks.BlockLine.TheVariants as said
 use Rattle.pfs_script.specs.declared.blocks.Connect.{Connect}
-use Rattle.pfs_truncations.specs.Texts.{truncation_of}
-use Rattle.pfs_truncations.specs.declared.truncations.Truncation.{Truncation}
 use Rattle.pfs_course.specs.Course.{connected_by, deeds_along, deeds_of, ended_by}
 use Rattle.pfs_course.proofs.Counting.{made_by}
 use Rattle.pfs_course.proofs.Following.{Point, Names, admin_by, point_by, point_behind, AllName}
@@ -32,11 +34,11 @@ AreAsked change session made [] = Unit {0}
 AreAsked change session made (one ∷ others) = (change (record { session = session; line = made + 1 }) ≡ one) × AreAsked change session (made + 1) others
 
 -- where they are the next of all its changes
-pub asked_there : (change : Label → Change) (session : ℕ) (all : List Change) → ((line : ℕ) → change (record { session = session; line = line }) ≡ slice_index_or all (line - 1) Show)
+pub asked_there : (change : Label → Change) (session : ℕ) (all : List Change) → ((line : ℕ) → change (record { session = session; line = line }) ≡ slice_index_or all (line - 1) (Setup Show))
     → (made : ℕ) (before now after : List Change) → all ≡ before ++ (now ++ after) → length before ≡ made → AreAsked change session made now
 asked_there change session all at made before [] after e long = tt
 asked_there change session all at made before (one ∷ others) after e long = (
-  at (made + 1) ∙ (ap (λ z. slice_index_or all z Show) (one_less made) ∙ (ap (λ z. slice_index_or all z Show) (sym long) ∙ (ap (λ z. slice_index_or z (length before) Show) e ∙ get_or-append_seam before one (others ++ after) Show))),
+  at (made + 1) ∙ (ap (λ z. slice_index_or all z (Setup Show)) (one_less made) ∙ (ap (λ z. slice_index_or all z (Setup Show)) (sym long) ∙ (ap (λ z. slice_index_or z (length before) (Setup Show)) e ∙ get_or-append_seam before one (others ++ after) (Setup Show)))),
   asked_there change session all at (made + 1) (before ++ one ∷ []) others after (e ∙ sym (append_assoc before (one ∷ []) (others ++ after))) (longer (length before) made (length (before ++ one ∷ [])) long (length-append before (one ∷ []))),
 ) where
   one_less : (n : ℕ) → n + 1 - 1 ≡ n
@@ -53,40 +55,60 @@ asked_split change session made (x ∷ xs) ys a =
     ((a.0, rest.0), subst (λ n. AreAsked change session n ys) same rest.1)
 
 -- of a line that ends no session: where it leads, and that it names the administration
-sql_admin : (session : ℕ) (admin : Administration) (what : Option Truncation) → admin_by session admin (sql_deed admin what) ≡ admin_behind admin (sql_errand what)
-sql_admin session admin None = refl
-sql_admin session admin (Some what) = refl
+sql_admin : (session : ℕ) (admin : Administration) (asks : Request) → admin_by session admin (sql_deed admin asks) ≡ admin_behind admin (sql_errand asks)
+sql_admin session admin (requests.Refused error) = refl
+sql_admin session admin (requests.Truncate what) = refl
+sql_admin session admin (requests.Update update) = refl
+sql_admin session admin (requests.Insert insert) = refl
+sql_admin session admin (requests.Delete delete) = refl
+sql_admin session admin (requests.Query select) = refl
+sql_admin session admin (requests.Show select) = refl
 
 one_admin : (session : ℕ) (admin : Administration) (line : BlockLine) → is_quit line ≡ false → admin_by session admin (deed_on admin line) ≡ admin_behind admin (errand_on line)
 one_admin session admin said.Quit q = cc
-one_admin session admin (said.Sql text) q = sql_admin session admin (truncation_of text)
+one_admin session admin (said.Sql text) q = sql_admin session admin (request_of text)
 one_admin session admin _ q = refl
 
-sql_made : (made : ℕ) (admin : Administration) (what : Option Truncation) → made_by made (sql_deed admin what) ≡ made + length (sql_changes what)
-sql_made made admin None = omega arith
-sql_made made admin (Some what) = omega arith
+sql_made : (made : ℕ) (admin : Administration) (asks : Request) → made_by made (sql_deed admin asks) ≡ made + length (sql_changes asks)
+sql_made made admin (requests.Refused error) = omega arith
+sql_made made admin (requests.Truncate what) = omega arith
+sql_made made admin (requests.Update update) = omega arith
+sql_made made admin (requests.Insert insert) = omega arith
+sql_made made admin (requests.Delete delete) = omega arith
+sql_made made admin (requests.Query select) = omega arith
+sql_made made admin (requests.Show select) = omega arith
 
 one_made : (made : ℕ) (admin : Administration) (line : BlockLine) → is_quit line ≡ false → made_by made (deed_on admin line) ≡ made + length (changes_on line)
 one_made made admin said.Quit q = cc
-one_made made admin (said.Sql text) q = sql_made made admin (truncation_of text)
+one_made made admin (said.Sql text) q = sql_made made admin (request_of text)
 one_made made admin _ q = omega arith
 
-sql_over : (over : Bool) (admin : Administration) (what : Option Truncation) → is_over over (sql_deed admin what) ≡ over
-sql_over over admin None = refl
-sql_over over admin (Some what) = refl
+sql_over : (over : Bool) (admin : Administration) (asks : Request) → is_over over (sql_deed admin asks) ≡ over
+sql_over over admin (requests.Refused error) = refl
+sql_over over admin (requests.Truncate what) = refl
+sql_over over admin (requests.Update update) = refl
+sql_over over admin (requests.Insert insert) = refl
+sql_over over admin (requests.Delete delete) = refl
+sql_over over admin (requests.Query select) = refl
+sql_over over admin (requests.Show select) = refl
 
 one_over : (over : Bool) (admin : Administration) (line : BlockLine) → is_quit line ≡ false → is_over over (deed_on admin line) ≡ over
 one_over over admin said.Quit q = cc
-one_over over admin (said.Sql text) q = sql_over over admin (truncation_of text)
+one_over over admin (said.Sql text) q = sql_over over admin (request_of text)
 one_over over admin _ q = refl
 
-sql_names : (change : Label → Change) (session : ℕ) (point : Point) (what : Option Truncation) → AreAsked change session point.made (sql_changes what) → Names change session point (sql_deed point.admin what)
-sql_names change session point None asked = tt
-sql_names change session point (Some what) asked = (refl, asked.0)
+sql_names : (change : Label → Change) (session : ℕ) (point : Point) (asks : Request) → AreAsked change session point.made (sql_changes asks) → Names change session point (sql_deed point.admin asks)
+sql_names change session point (requests.Refused error) asked = tt
+sql_names change session point (requests.Truncate what) asked = (refl, asked.0)
+sql_names change session point (requests.Update update) asked = (refl, asked.0)
+sql_names change session point (requests.Insert insert) asked = (refl, asked.0)
+sql_names change session point (requests.Delete delete) asked = (refl, asked.0)
+sql_names change session point (requests.Query select) asked = tt
+sql_names change session point (requests.Show select) asked = tt
 
 one_names : (change : Label → Change) (session : ℕ) (point : Point) (line : BlockLine) → is_quit line ≡ false → AreAsked change session point.made (changes_on line) → Names change session point (deed_on point.admin line)
 one_names change session point said.Quit q asked = cc
-one_names change session point (said.Sql text) q asked = sql_names change session point (truncation_of text) asked
+one_names change session point (said.Sql text) q asked = sql_names change session point (request_of text) asked
 one_names change session point _ q asked = tt
 
 -- of such lines, one after another

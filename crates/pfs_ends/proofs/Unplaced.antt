@@ -3,7 +3,12 @@
 use Rattle.std.proofs.Common.{ℕ, suc, ◌≡◌, ◌+◌, ◌≤◌, Bool, true, false, cond, List, [], ◌∷◌, ◌++◌, length, Option, Some, None, refl, ap, sym, ◌∙◌, arith}
 use Rattle.std.proofs.lemmas.Bool.{false≢true}
 use Rattle.pfs_admin.specs.Asks.{work_of_connect, work_of_quit, connect_entry}
+use Rattle.pfs_admin.specs.Setups.{reply_to, work_of_statement}
 use Rattle.pfs_admin.specs.States.{seat_at}
+use Rattle.pfs_admin.specs.declared.changes.Reply.{Reply}
+use Rattle.pfs_admin.specs.declared.changes.Reply.TheVariants as replies
+use Rattle.pfs_admin.specs.declared.changes.SetupStatement.{SetupStatement}
+use Rattle.pfs_admin.specs.declared.changes.SetupStatement.TheVariants.{Update, Insert, Delete, Show}
 use Rattle.pfs_alone.proofs.Inner.{IsInner, AreInner, paid_same}
 use Rattle.pfs_alone.proofs.Steps.{IsActed, acted, truncated_acted}
 use Rattle.pfs_alone.specs.Spells.{Spell, parts_in, stints_of}
@@ -26,19 +31,24 @@ use Rattle.pfs_model.specs.Shapes.{is_stage}
 use Rattle.pfs_model.specs.declared.lines.Line.{Line}
 use Rattle.pfs_parts.proofs.Acting.{AreAll}
 use Rattle.pfs_parts.proofs.Ringing.{is_ring, put_ring, rings_of}
-use Rattle.pfs_parts.specs.Deeds.{Deed, Connecting, Starting, Staging, StageEnding, Ending, Spending, Quitting, Truncating, Closing, Part, IsPart, line_of, part_entries, steps_for}
+use Rattle.pfs_parts.specs.Deeds.{Deed, Connecting, Starting, Staging, StageEnding, Ending, Spending, Quitting, Truncating, Changing, Showing, Querying, Refusing, Closing, Part, IsPart, line_of, looks, part_entries, remark, steps_for}
 use Rattle.pfs_parts.specs.Shaped.{AreParts, lines_of}
 use Rattle.pfs_parts.specs.Shaped.{entries_of as entries_of_parts}
 use Rattle.pfs_parts.specs.Stints.{blocks_of}
+use Rattle.pfs_rows.specs.declared.table.Reading.{Reading}
+use Rattle.pfs_rows.specs.declared.table.Reading.TheVariants as readings
+use Rattle.pfs_rows.specs.declared.table.Seen.TheVariants as seen
 use Rattle.pfs_ruled.specs.Ruled.{entries_of}
 use Rattle.pfs_runs.specs.Finals.{ends_events, is_digest_lost, is_unplaced}
 use Rattle.pfs_session.specs.Ends.{EndsIn, EndsAdded, EndsThrough, DigestsIn, added_entry, no_numbers}
+use Rattle.pfs_session.specs.Inquiries.{Inquiry, Looks, Remarks, inquiry_entry}
 use Rattle.pfs_session.specs.Rings.{put_entries}
 use Rattle.pfs_session.specs.Settles.{Paid, owed_by, owed_by_state, paid_entries, settle_head}
 use Rattle.pfs_session.specs.Starts.{start_entry}
 use Rattle.pfs_session.specs.States.{State, Owed}
-use Rattle.pfs_session.specs.Turns.{Step, StartsEvent, EndsEvent, Spends, SettlesHeld, Connects, Quits, Truncates, Does, Turn, AreTurns, state_after, steps_of, turns_entries, stage_ends}
+use Rattle.pfs_session.specs.Turns.{Step, StartsEvent, EndsEvent, Spends, SettlesHeld, Connects, Quits, Truncates, Changes, Inquires, Does, Turn, AreTurns, reply_entries, state_after, steps_of, turns_entries, stage_ends}
 use Rattle.pfs_session.specs.declared.events.Numbers.{Numbers}
+use Rattle.pfs_session.specs.declared.remarks.Remark.TheVariants.{Query, Rows, Refused}
 use Rattle.pfs_session.specs.declared.setup.Setup.{Setup}
 use Rattle.pfs_ends.proofs.Started.{times_then}
 use Rattle.pfs_ends.specs.Counts.{ends_behind, unplaced_in, lost_digests, journal_of}
@@ -111,6 +121,7 @@ inner_one (says.Tag row version) i = refl
 inner_one (says.Free row version) i = refl
 inner_one (says.Set word version flags) i = refl
 inner_one (says.Reply number) i = refl
+inner_one (says.Error number) i = refl
 inner_one _ i = absurd i
 
 inner_none : (xs : List Entry) → AreInner xs → unplaced_in false xs ≡ 0
@@ -125,6 +136,25 @@ act_none ends number calls entries a = ap (unplaced_in ends) a.entries_are ∙ s
 connect_none : (ends : Bool) (action : ℕ) (seat : Option Seated) (calls : List Call) (entries : List Entry) → IsActed (connect_entry action seat) calls entries → unplaced_in ends entries ≡ 0
 connect_none ends action None calls entries a = ap (unplaced_in ends) a.entries_are ∙ sum_none 0 (unplaced_in false a.rest) refl (inner_none a.rest a.same.inner)
 connect_none ends action (Some seat) calls entries a = ap (unplaced_in ends) a.entries_are ∙ sum_none 0 (unplaced_in false a.rest) refl (inner_none a.rest a.same.inner)
+
+-- nor does a statement's answer, or an inquiry
+reply_none : (ends : Bool) (what : SetupStatement) (reply : Reply) → unplaced_in ends (reply_entries what reply) ≡ 0
+reply_none ends Show reply = refl
+reply_none ends (Update update) (replies.Changed count) = refl
+reply_none ends (Update update) (replies.Error error) = refl
+reply_none ends (Insert insert) (replies.Changed count) = refl
+reply_none ends (Insert insert) (replies.Error error) = refl
+reply_none ends (Delete delete) (replies.Changed count) = refl
+reply_none ends (Delete delete) (replies.Error error) = refl
+
+inquiry_none : (ends : Bool) (what : Inquiry) → unplaced_in ends (inquiry_entry what ∷ []) ≡ 0
+inquiry_none ends (Looks (readings.Slot row (seen.Whole version content))) = refl
+inquiry_none ends (Looks (readings.Slot row (seen.Free word))) = refl
+inquiry_none ends (Looks (readings.Slot row (seen.Busy first second))) = refl
+inquiry_none ends (Looks (readings.Word word version flags)) = refl
+inquiry_none ends (Remarks Query) = refl
+inquiry_none ends (Remarks (Rows count)) = refl
+inquiry_none ends (Remarks (Refused error)) = refl
 
 -- where nothing is owed nothing is paid
 not_empty : (xs : List Owed) (x : Owed) → (xs ++ x ∷ []) ≡ [] → ⊥
@@ -224,6 +254,8 @@ ends_at SettlesHeld = 0
 ends_at (Connects admin user host) = 0
 ends_at (Quits admin) = 0
 ends_at (Truncates admin what) = 0
+ends_at (Changes admin what) = 0
+ends_at (Inquires what) = 0
 
 abbrev others_at : Step → ℕ
 others_at (EndsEvent numbers) = 0
@@ -233,6 +265,8 @@ others_at SettlesHeld = 1
 others_at (Connects admin user host) = 1
 others_at (Quits admin) = 1
 others_at (Truncates admin what) = 1
+others_at (Changes admin what) = 1
+others_at (Inquires what) = 1
 
 abbrev pub sum_of : (Step → ℕ) → List Step → ℕ
 sum_of count [] = 0
@@ -261,6 +295,13 @@ step_none ends s (Connects admin user host) calls entries after d e =
 step_none ends s (Quits admin) calls entries after d e =
     act_none ends (admin.actions + 1) calls entries (acted (work_of_quit admin s.number) admin.words (says.Act (admin.actions + 1)) calls entries d.0)
 step_none ends s (Truncates admin what) calls entries after d e = act_none ends (admin.actions + 1) calls entries (truncated_acted s admin what calls entries after d)
+step_none ends s (Changes admin what) calls entries after d e =
+    let answer : List Entry = reply_entries what (reply_to admin what) in
+    ap (unplaced_in ends) d.entries_are
+    ∙ (unplaced_then ends d.changes answer
+    ∙ sum_none (unplaced_in ends d.changes) (unplaced_in (behind_all ends d.changes) answer)
+    (act_none ends (admin.actions + 1) calls d.changes (acted (work_of_statement admin what) admin.words (says.Act (admin.actions + 1)) calls d.changes d.works)) (reply_none (behind_all ends d.changes) what (reply_to admin what)))
+step_none ends s (Inquires what) calls entries after d e = ap (unplaced_in ends) d.entries_are ∙ inquiry_none ends what
 
 step_same : (ends : Bool) (s : State) (step : Step) (calls : List Call) (entries : List Entry) (after : State) → Does s step calls entries after → others_at step ≡ 0 → unplaced_in ends entries ≡ brought_in true entries
 step_same ends s (EndsEvent numbers) calls entries after d e = ends_same ends s s.place.thread (is_let_through d.what.verdict) d.what d.others numbers calls entries after d.ends
@@ -272,6 +313,8 @@ step_same ends s SettlesHeld calls entries after d e = absurd (some_none e)
 step_same ends s (Connects admin user host) calls entries after d e = absurd (some_none e)
 step_same ends s (Quits admin) calls entries after d e = absurd (some_none e)
 step_same ends s (Truncates admin what) calls entries after d e = absurd (some_none e)
+step_same ends s (Changes admin what) calls entries after d e = absurd (some_none e)
+step_same ends s (Inquires what) calls entries after d e = absurd (some_none e)
 
 -- of none in none
 left_none : (a b : ℕ) → a + (b + 0) ≡ 0 → a ≡ 0
@@ -307,6 +350,14 @@ stage_none (what ∷ events) rest = by_test (is_stage what.kind) where
   by_test true = sym (none_first (sum_of others_at rest))
   by_test false = refl
 
+-- readings end none
+looks_none : (readings : List Reading) (rest : List Step) → sum_of ends_at (looks readings ++ rest) ≡ sum_of ends_at rest
+looks_none [] rest = refl
+looks_none (reading ∷ readings) rest = sym (none_first (sum_of ends_at (looks readings ++ rest))) ∙ looks_none readings rest
+
+pub query_none : (readings : List Reading) (count : ℕ) → sum_of ends_at (remark Query ∷ (looks readings ++ remark (Rows count) ∷ [])) ≡ 0
+query_none readings count = ap (λ z. 0 + z) (looks_none readings (remark (Rows count) ∷ []))
+
 -- so a line says it of what it brings, where an event ends in it
 pub part_brings : (ends : Bool) (s : State) (p : Part) → IsPart s p → unplaced_in ends (part_entries p) ≡ brought_in (ends_events (line_of p.deed)) (part_entries p)
 part_brings ends s p is = by p.deed is.steps_are where
@@ -325,6 +376,10 @@ part_brings ends s p is = by p.deed is.steps_are where
   by (Spending time) e = quiet (ap (sum_of ends_at) e)
   by (Quitting admin) e = quiet (ap (sum_of ends_at) e)
   by (Truncating admin what) e = quiet (ap (sum_of ends_at) e)
+  by (Changing admin what) e = quiet (ap (sum_of ends_at) e)
+  by (Showing admin count) e = quiet (ap (sum_of ends_at) e)
+  by (Querying readings count) e = quiet (ap (sum_of ends_at) e ∙ query_none readings count)
+  by (Refusing error) e = quiet (ap (sum_of ends_at) e)
   by Closing e = quiet (ap (sum_of ends_at) e)
 
 abbrev pub brought_by : List Part → ℕ

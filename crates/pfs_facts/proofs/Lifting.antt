@@ -1,15 +1,20 @@
 -- From single lines to all lines of a session, through its phases.
-use Rattle.std.proofs.Common.{ℕ, ◌≡◌, ◌+◌, ◌%◌, ◌^◌, ◌==◌, Bool, true, false, cond, List, [], ◌∷◌, ◌++◌, Option, Some, None, refl, ap, sym, ◌∙◌, subst, append_assoc, arith}
+use Rattle.std.proofs.Common.{ℕ, ◌≡◌, ◌+◌, ◌%◌, ◌^◌, ◌==◌, Bool, true, false, cond, List, [], ◌∷◌, ◌++◌, refl, ap, sym, ◌∙◌, subst, append_assoc, arith}
 use Rattle.std.proofs.Math.Nat.{mod-add-mod}
 use Rattle.std.proofs.lemmas.List.{append-nil, map-append}
 use Rattle.pfs_admin.specs.States.{State as Administration}
+use Rattle.pfs_admin.specs.declared.changes.SetupStatement.{SetupStatement}
+use Rattle.pfs_admin.specs.declared.changes.SetupStatement.TheVariants as statements
 use Rattle.pfs_event.specs.declared.kind.EventKind.{EventKind}
 use Rattle.pfs_model.specs.Contents.{Facts}
 use Rattle.pfs_parts.proofs.Stinting.{IfOwn, AreOwn, own_stints}
 use Rattle.pfs_parts.specs.Amounts.{Clocked, at_first, stepped, all_stepped, AreFacts, AllFacts, clock_behind}
-use Rattle.pfs_parts.specs.Deeds.{Deed, Connecting, Starting, Staging, StageEnding, Ending, Spending, Quitting, Truncating, Closing, Part, IsPart, steps_for}
+use Rattle.pfs_parts.specs.Deeds.{Deed, Connecting, Starting, Staging, StageEnding, Ending, Spending, Quitting, Truncating, Changing, Showing, Querying, Refusing, Closing, Part, IsPart, remark, steps_for}
 use Rattle.pfs_parts.specs.Shaped.{AreParts, state_behind, over_behind}
 use Rattle.pfs_parts.specs.Stints.{Stint, resumed, parts_by}
+use Rattle.pfs_requests.specs.Requests.{request_of}
+use Rattle.pfs_requests.specs.declared.requests.Request.{Request}
+use Rattle.pfs_requests.specs.declared.requests.Request.TheVariants as requests
 use Rattle.pfs_runs.specs.Lines.{stage_on}
 use Rattle.pfs_script.specs.declared.blocks.BlockLine.{BlockLine}
 use Rattle.pfs_script.specs.declared.blocks.BlockLine.TheVariants as said
@@ -19,10 +24,10 @@ use Rattle.pfs_script.specs.Events.{Event}
 use Rattle.pfs_script.specs.Marks.{Mark, mark_of}
 use Rattle.pfs_script.proofs.Nesting.{open_is_run, kinds_more}
 use Rattle.pfs_session.specs.States.{State, fresh}
-use Rattle.pfs_session.specs.Ends.{no_numbers}
-use Rattle.pfs_session.specs.Turns.{Step, StartsEvent, EndsEvent, Spends, SettlesHeld, Connects, Quits, Truncates, state_after, steps_of}
-use Rattle.pfs_truncations.specs.Texts.{truncation_of}
+use Rattle.pfs_session.specs.declared.remarks.Remark.TheVariants.{Refused}
 use Rattle.pfs_truncations.specs.declared.truncations.Truncation.{Truncation}
+use Rattle.pfs_session.specs.Ends.{no_numbers}
+use Rattle.pfs_session.specs.Turns.{Step, StartsEvent, EndsEvent, Spends, SettlesHeld, Connects, Quits, Truncates, Changes, state_after, steps_of}
 use Rattle.pfs_facts.specs.Deeds.{IsLine, IsNext, AreDeeds, deed_on, sql_deed, SessionLaw}
 use Rattle.pfs_facts.specs.Steps.{numbers_in, steps_on}
 use Rattle.pfs_facts.specs.Tracks.{marks_of, Tracks, IsTold}
@@ -55,6 +60,12 @@ same_quit clocked kinds admin = record { facts = λ facts are. (tt, (tt, tt)); b
 same_truncation : (clocked : Clocked) (kinds : List EventKind) (admin : Administration) (what : Truncation) → Same clocked kinds (SettlesHeld ∷ Truncates admin what ∷ []) []
 same_truncation clocked kinds admin what = record { facts = λ facts are. (tt, (tt, tt)); behind = refl; open_there = refl }
 
+same_change : (clocked : Clocked) (kinds : List EventKind) (admin : Administration) (what : SetupStatement) → Same clocked kinds (SettlesHeld ∷ Changes admin what ∷ []) []
+same_change clocked kinds admin what = record { facts = λ facts are. (tt, (tt, tt)); behind = refl; open_there = refl }
+
+same_refusal : (clocked : Clocked) (kinds : List EventKind) (error : ℕ) → Same clocked kinds (remark (Refused error) ∷ []) []
+same_refusal clocked kinds error = record { facts = λ facts are. (tt, tt); behind = refl; open_there = refl }
+
 -- a deed's steps are those of its line
 same_steps : (s : State) (clocked : Clocked) (passed : ℕ) → clocked.clock ≡ passed % 2 ^ 64 → (admin : Administration) (line : BlockLine)
     → Same clocked (kinds_at s) (steps_for s (deed_on admin line)) (steps_on (kinds_at s) line)
@@ -68,10 +79,15 @@ same_steps s clocked passed e admin (said.Spend time) = same_if clocked (kinds_a
 same_steps s clocked passed e admin said.End = same_if clocked (kinds_at s) _ _ (ap (λ (z : List Step). z ++ EndsEvent no_numbers ∷ []) (stage_ends_are s.opened.events))
 same_steps s clocked passed e admin (said.EndStatement numbers) = same_if clocked (kinds_at s) _ _ (ap (λ (z : List Step). z ++ EndsEvent (numbers_in numbers) ∷ []) (stage_ends_are s.opened.events))
 same_steps s clocked passed e admin said.Quit = same_quit clocked (kinds_at s) admin
-same_steps s clocked passed e admin (said.Sql text) = by_text (truncation_of text) where
-  by_text : (what : Option Truncation) → Same clocked (kinds_at s) (steps_for s (sql_deed admin what)) []
-  by_text None = same_still clocked (kinds_at s) passed e
-  by_text (Some what) = same_truncation clocked (kinds_at s) admin what
+same_steps s clocked passed e admin (said.Sql text) = by_text (request_of text) where
+  by_text : (what : Request) → Same clocked (kinds_at s) (steps_for s (sql_deed admin what)) []
+  by_text (requests.Refused error) = same_refusal clocked (kinds_at s) error
+  by_text (requests.Query select) = same_still clocked (kinds_at s) passed e
+  by_text (requests.Show select) = same_still clocked (kinds_at s) passed e
+  by_text (requests.Truncate what) = same_truncation clocked (kinds_at s) admin what
+  by_text (requests.Update update) = same_change clocked (kinds_at s) admin (statements.Update update)
+  by_text (requests.Insert insert) = same_change clocked (kinds_at s) admin (statements.Insert insert)
+  by_text (requests.Delete delete) = same_change clocked (kinds_at s) admin (statements.Delete delete)
 same_steps s clocked passed e admin (said.Repeat times) = same_still clocked (kinds_at s) passed e
 same_steps s clocked passed e admin said.Done = same_still clocked (kinds_at s) passed e
 
@@ -175,6 +191,18 @@ any_next events lines done (line ∷ more) clocked s p ps rest are whole stands 
     line_next events lines done (line ∷ more) clocked s p ps rest are whole stands is later line more refl (subst (IsLine line) (sym e) next.0) next.1
 any_next events lines done [] clocked s p ps rest are whole stands is later (Truncating admin what) e next = absurd next
 any_next events lines done (line ∷ more) clocked s p ps rest are whole stands is later (Truncating admin what) e next =
+    line_next events lines done (line ∷ more) clocked s p ps rest are whole stands is later line more refl (subst (IsLine line) (sym e) next.0) next.1
+any_next events lines done [] clocked s p ps rest are whole stands is later (Changing admin what) e next = absurd next
+any_next events lines done (line ∷ more) clocked s p ps rest are whole stands is later (Changing admin what) e next =
+    line_next events lines done (line ∷ more) clocked s p ps rest are whole stands is later line more refl (subst (IsLine line) (sym e) next.0) next.1
+any_next events lines done [] clocked s p ps rest are whole stands is later (Showing admin count) e next = absurd next
+any_next events lines done (line ∷ more) clocked s p ps rest are whole stands is later (Showing admin count) e next =
+    line_next events lines done (line ∷ more) clocked s p ps rest are whole stands is later line more refl (subst (IsLine line) (sym e) next.0) next.1
+any_next events lines done [] clocked s p ps rest are whole stands is later (Querying readings count) e next = absurd next
+any_next events lines done (line ∷ more) clocked s p ps rest are whole stands is later (Querying readings count) e next =
+    line_next events lines done (line ∷ more) clocked s p ps rest are whole stands is later line more refl (subst (IsLine line) (sym e) next.0) next.1
+any_next events lines done [] clocked s p ps rest are whole stands is later (Refusing error) e next = absurd next
+any_next events lines done (line ∷ more) clocked s p ps rest are whole stands is later (Refusing error) e next =
     line_next events lines done (line ∷ more) clocked s p ps rest are whole stands is later line more refl (subst (IsLine line) (sym e) next.0) next.1
 any_next events lines done [] clocked s p ps rest are whole stands is later (Quitting admin) e next = absurd next
 any_next events lines done (line ∷ more) clocked s p ps rest are whole stands is later (Quitting admin) e next =

@@ -11,7 +11,7 @@ use Rattle.pfs_model.specs.Shapes.{is_stage}
 use Rattle.pfs_session.proofs.Ending.{through_leaves}
 use Rattle.pfs_session.specs.Ends.{EndsIn, no_numbers}
 use Rattle.pfs_session.specs.States.{State}
-use Rattle.pfs_session.specs.Turns.{Step, StartsEvent, EndsEvent, Spends, SettlesHeld, Connects, Quits, Truncates, Turn, Does, AreTurns, state_after, steps_of, stage_ends}
+use Rattle.pfs_session.specs.Turns.{Step, StartsEvent, EndsEvent, Spends, SettlesHeld, Connects, Quits, Truncates, Changes, Inquires, Turn, Does, AreTurns, state_after, steps_of, stage_ends}
 use Rattle.pfs_session.specs.declared.events.Numbers.{Numbers}
 use Rattle.std.proofs.lemmas.List.{append-nil}
 use Rattle.pfs_admin.specs.States.{State as Administration}
@@ -22,8 +22,9 @@ use Rattle.pfs_script.specs.declared.blocks.BlockLine.{BlockLine}
 use Rattle.pfs_script.specs.declared.blocks.BlockLine.TheVariants as said
 use Rattle.pfs_script.specs.Brackets.{kinds_behind}
 use Rattle.pfs_script.specs.Marks.{Opens, Ends, EndsStage, mark_of}
-use Rattle.pfs_truncations.specs.Texts.{truncation_of}
-use Rattle.pfs_truncations.specs.declared.truncations.Truncation.{Truncation}
+use Rattle.pfs_requests.specs.Requests.{request_of}
+use Rattle.pfs_requests.specs.declared.requests.Request.{Request}
+use Rattle.pfs_requests.specs.declared.requests.Request.TheVariants as requests
 use Rattle.pfs_facts.specs.Deeds.{deed_on, sql_deed}
 use Rattle.pfs_facts.specs.Steps.{kinds_in, kinds_at, numbers_in, stage_ends_in, steps_on}
 
@@ -36,6 +37,8 @@ kinds_stepped kinds SettlesHeld = kinds
 kinds_stepped kinds (Connects admin user host) = kinds
 kinds_stepped kinds (Quits admin) = kinds
 kinds_stepped kinds (Truncates admin what) = kinds
+kinds_stepped kinds (Changes admin what) = kinds
+kinds_stepped kinds (Inquires what) = kinds
 
 abbrev pub all_kinds_stepped : List EventKind → List Step → List EventKind
 all_kinds_stepped kinds [] = kinds
@@ -58,6 +61,8 @@ kinds_does s SettlesHeld calls entries after does = ap kinds_at does.after_is
 kinds_does s (Connects admin user host) calls entries after does = ap kinds_at does.1
 kinds_does s (Quits admin) calls entries after does = ap kinds_at does.1
 kinds_does s (Truncates admin what) calls entries after does = ap kinds_at does.after_is
+kinds_does s (Changes admin what) calls entries after does = ap kinds_at does.after_is
+kinds_does s (Inquires what) calls entries after does = ap kinds_at does.after_is
 
 kinds_then : (kinds : List EventKind) (xs ys : List Step) → all_kinds_stepped kinds (xs ++ ys) ≡ all_kinds_stepped (all_kinds_stepped kinds xs) ys
 kinds_then kinds [] ys = refl
@@ -131,10 +136,15 @@ kinds_deed s admin said.End = ap (λ (z : List Step). all_kinds_stepped (kinds_a
 kinds_deed s admin (said.EndStatement numbers) =
     ap (λ (z : List Step). all_kinds_stepped (kinds_at s) (z ++ EndsEvent (numbers_in numbers) ∷ [])) (stage_ends_are s.opened.events) ∙ line_kinds (kinds_at s) (said.EndStatement numbers)
 kinds_deed s admin said.Quit = refl
-kinds_deed s admin (said.Sql text) = by_text (truncation_of text) where
-  by_text : (what : Option Truncation) → all_kinds_stepped (kinds_at s) (steps_for s (sql_deed admin what)) ≡ kinds_at s
-  by_text None = refl
-  by_text (Some what) = refl
+kinds_deed s admin (said.Sql text) = by_text (request_of text) where
+  by_text : (what : Request) → all_kinds_stepped (kinds_at s) (steps_for s (sql_deed admin what)) ≡ kinds_at s
+  by_text (requests.Refused error) = refl
+  by_text (requests.Query select) = refl
+  by_text (requests.Show select) = refl
+  by_text (requests.Truncate what) = refl
+  by_text (requests.Update update) = refl
+  by_text (requests.Insert insert) = refl
+  by_text (requests.Delete delete) = refl
 kinds_deed s admin (said.Repeat times) = refl
 kinds_deed s admin said.Done = refl
 

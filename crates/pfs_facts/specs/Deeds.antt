@@ -1,8 +1,9 @@
 -- The deeds that a script's lines are to a session, and that a session's steps tell the facts of all its events.
-use Rattle.std.specs.Prelude.{ℕ, ◌≡◌, List, [], ◌∷◌, Option, None, Some, slice_get}
+use Rattle.std.specs.Prelude.{ℕ, ◌≡◌, List, [], ◌∷◌, None, Some, slice_get}
 use Rattle.pfs_admin.specs.States.{State as Administration}
+use Rattle.pfs_admin.specs.declared.changes.SetupStatement.TheVariants as statements
 use Rattle.pfs_parts.specs.Amounts.{at_first, AllFacts}
-use Rattle.pfs_parts.specs.Deeds.{Deed, Connecting, Starting, Staging, StageEnding, Ending, Spending, Quitting, Truncating, Closing, Part}
+use Rattle.pfs_parts.specs.Deeds.{Deed, Connecting, Starting, Staging, StageEnding, Ending, Spending, Quitting, Truncating, Changing, Refusing, Closing, Part}
 use Rattle.pfs_parts.specs.Stints.{Stint, AreStints, parts_by}
 use Rattle.pfs_runs.specs.Lines.{facts_if, wait_on, statement_on, transaction_on, stage_on}
 use Rattle.pfs_script.specs.declared.blocks.BlockLine.{BlockLine}
@@ -10,14 +11,20 @@ use Rattle.pfs_script.specs.declared.blocks.BlockLine.TheVariants as said
 use Rattle.pfs_script.specs.EventRules.{AreEvents}
 use Rattle.pfs_script.specs.Events.{Event}
 use Rattle.pfs_session.specs.Ends.{no_numbers}
-use Rattle.pfs_truncations.specs.Texts.{truncation_of}
-use Rattle.pfs_truncations.specs.declared.truncations.Truncation.{Truncation}
+use Rattle.pfs_requests.specs.Requests.{request_of}
+use Rattle.pfs_requests.specs.declared.requests.Request.{Request}
+use Rattle.pfs_requests.specs.declared.requests.Request.TheVariants as requests
 use Rattle.pfs_facts.specs.Steps.{numbers_in}
 
--- a TRUNCATE is an action; no other SQL runs yet: there no time passes
-abbrev pub sql_deed : Administration → Option Truncation → Deed
-sql_deed admin None = Spending 0
-sql_deed admin (Some what) = Truncating admin what
+-- a text that is refused is no action; no SELECT runs yet: there no time passes
+abbrev pub sql_deed : Administration → Request → Deed
+sql_deed admin (requests.Refused error) = Refusing error
+sql_deed admin (requests.Truncate what) = Truncating admin what
+sql_deed admin (requests.Update update) = Changing admin (statements.Update update)
+sql_deed admin (requests.Insert insert) = Changing admin (statements.Insert insert)
+sql_deed admin (requests.Delete delete) = Changing admin (statements.Delete delete)
+sql_deed admin (requests.Query select) = Spending 0
+sql_deed admin (requests.Show select) = Spending 0
 
 -- a line of a script, repeats written out, as a deed of its session, before this administration. No line that begins
 -- or ends a repeat stands among lines that are written out: there no time passes
@@ -32,7 +39,7 @@ deed_on admin (said.Spend time) = Spending time
 deed_on admin said.End = Ending no_numbers
 deed_on admin (said.EndStatement numbers) = Ending (numbers_in numbers)
 deed_on admin said.Quit = Quitting admin
-deed_on admin (said.Sql text) = sql_deed admin (truncation_of text)
+deed_on admin (said.Sql text) = sql_deed admin (request_of text)
 deed_on admin (said.Repeat times) = Spending 0
 deed_on admin said.Done = Spending 0
 

@@ -2,7 +2,8 @@
 use Rattle.std.proofs.Common.{◌≡◌, refl, ℕ, zero, suc, ◌+◌, ◌<◌, ◌≤◌, ◌==◌, Bool, true, false, cond, nat_lt, List, [], ◌∷◌, ◌++◌, map, ne_eqb, Option, Some, None, sym, ap, subst, ◌∙◌, arith}
 use Rattle.std.proofs.lemmas.Bool.{eqb-true}
 use Rattle.pfs_admin.specs.Laws.{row_of}
-use Rattle.pfs_admin.specs.Truncations.{is_there, event_signs, up_to, place_sign, first_row, content_at, sign_at, level_signs, truncation_signs}
+use Rattle.pfs_admin.specs.Changing.{up_to}
+use Rattle.pfs_admin.specs.Truncations.{is_there, event_signs, place_sign, first_row, content_at, sign_at, level_signs, truncation_signs}
 use Rattle.pfs_admin.specs.Works.{Sign, Releases, Tags}
 use Rattle.pfs_containers.specs.Administration.{Containers}
 use Rattle.pfs_levels.specs.Flushes.{Ascends}

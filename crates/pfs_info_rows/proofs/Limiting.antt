@@ -88,7 +88,7 @@ step_many : (limits : Limits) (s : State) (session : ℕ) (what : Change) → Ar
 step_many limits s session (changes.Connect user host) m = connect_many limits s.kept.now session user host m (lowest_free s.kept.now.places.threads)
 step_many limits s session changes.Quit m = quit_many limits s.kept.now.places m (found_where (λ x. x.number == session) s.kept.now.places.threads)
 step_many limits s session (changes.Truncate what) m = truncate_many limits s.kept.now what m
-step_many limits s session changes.Show m = m
+step_many limits s session (changes.Setup what) m = m
 
 from_many : (limits : Limits) (change : Label → Change) (s : State) (labels : List Label) → AreMany limits s.kept.now.places → AreMany limits (state_from change s labels).kept.now.places
 unfolding state_from

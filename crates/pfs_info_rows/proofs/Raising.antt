@@ -76,7 +76,7 @@ moved_for s session changes.Quit well few = on (seat_in s session) where
 moved_for s session (changes.Truncate what) well few =
     asked_moved (truncation_asks s.kinds s.kept.now.places what)
     (each_truncation IsRising s.kinds s.kept.now.places what well (λ kind. all_rising (kind_cells s.kinds kind)) few (λ at low. (omega arith, tt)))
-moved_for s session changes.Show well few = tt
+moved_for s session (changes.Setup what) well few = tt
 
 -- what was done
 abbrev pub IsRaised : Did → Type 0

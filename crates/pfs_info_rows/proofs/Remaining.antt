@@ -74,7 +74,7 @@ step_before : (s : State) (session : ℕ) (what : Change) → IsFreeBefore what 
 step_before s session (changes.Connect user host) = connect_before s.kept.now session user host (lowest_free s.kept.now.places.threads)
 step_before s session changes.Quit = quit_before s.kept.now.places (found_where (λ x. x.number == session) s.kept.now.places.threads)
 step_before s session (changes.Truncate what) = truncate_before s.kept.now what
-step_before s session changes.Show = same _ _ _ s.kept.now.places
+step_before s session (changes.Setup what) = same _ _ _ s.kept.now.places
 
 -- behind the actions of labels
 abbrev Spare : (Label → Change) → (Change → Bool) → List Label → Type 0

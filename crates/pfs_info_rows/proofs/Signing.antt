@@ -56,7 +56,7 @@ once_for row s session changes.Quit well = on (seat_in s session) (seat_in_in s 
   on None r = omega arith
   on (Some seat) r = once_at row 1 10242 (quit_work s.words s.cells (has_quit s session).kept.now (Some seat)).signs (quit_rows s.words [] (has_quit s session).kept.now seat r tt).1
 once_for row s session (changes.Truncate what) well = truncation_once row (is_there s.kept.now.places) (has_truncated s what).kept.now what
-once_for row s session changes.Show well = omega arith
+once_for row s session (changes.Setup what) well = omega arith
 
 pub signed_once : (setting : Setting) (change : Label → Change) (labels : List Label) (row number : ℕ) → times (signs_at row) (work_at setting change labels number).signs ≤ 1
 signed_once setting change labels row number = on (label_at labels number) where
@@ -69,7 +69,7 @@ said_for : (s : State) (session : ℕ) (what : Change) → AreWell s.kept.now.pl
 said_for s session (changes.Connect user host) well = connect_said s session user host (seat_at_in s session user host well)
 said_for s session changes.Quit well = quit_said s session (seat_in_in s session well)
 said_for s session (changes.Truncate what) well = truncation_said s what
-said_for s session changes.Show well = unsigned s.kept.now
+said_for s session (changes.Setup what) well = unsigned s.kept.now
 
 from_next : (change : Label → Change) (s : State) (labels : List Label) (k : ℕ) (label : Label) → slice_get labels k ≡ Some label
     → state_from change s (take (suc k) labels) ≡ stepped (state_from change s (take k labels)) label.session (change label)

@@ -16,12 +16,12 @@ use Rattle.pfs_model.proofs.Ordering.{rising_numbers, never_fall, deed_walk, set
 use Rattle.pfs_model.proofs.Flooring.{Agreed, grown_rows, grown_words, grown_actions, each_append, each_map, each_chosen_of, greatest_most, IsPast, grows_rows, grows_words, change_past, last_past, known_past, release_past, all_past, past_at, AllLater, all_later, by_done, times_onto, times_most, times_all, times_none, rising_all, AllUpTo, up_to_all, up_to_more, strict, opened_free}
 
 -- a place among all lines, with what is known there
-record IsAt (earlier : List Placed) (p : Placed) (ps : List Placed) : Type 0 where
-  agreed : Agreed earlier
-  own : AgreesWith earlier p
-  later : AllLater p.context.done (p ∷ ps)
-  phases : Each (λ q. nat_lt q.phase p.phase ≡ false) (p ∷ ps)
-  up_to : AllUpTo p.phase (p ∷ earlier)
+pub record IsAt (earlier : List Placed) (p : Placed) (ps : List Placed) : Type 0 where
+  pub agreed : Agreed earlier
+  pub own : AgreesWith earlier p
+  pub later : AllLater p.context.done (p ∷ ps)
+  pub phases : Each (λ q. nat_lt q.phase p.phase ≡ false) (p ∷ ps)
+  pub up_to : AllUpTo p.phase (p ∷ earlier)
 
 -- what earlier phases counted is at most what the lines before count
 start_most : (f : Entry → List Change) (row : ℕ) (earlier : List Placed) (p : Placed) (ps : List Placed) → IsAt earlier p ps → IsGrown (each_of f earlier) → times (is_of row) (each_of f (before_phase p.phase (onto earlier (p ∷ ps)))) ≤ last_of row (each_of f earlier)
@@ -60,7 +60,7 @@ rows_past earlier a = all_past row_change (λ q. row_change q.entry) grows_rows 
 words_past : (earlier : List Placed) → Agreed earlier → Each (λ q. Each (IsPast (each_of word_change earlier)) (word_change q.entry)) earlier
 words_past earlier a = all_past word_change (λ q. word_change q.entry) grows_words (λ earlier p w. change_past (each_of word_change earlier) (word_change p.entry) (word_one p.entry)) earlier a
 
-floor_most : (row : ℕ) (earlier : List Placed) (p : Placed) (ps : List Placed) → IsAt earlier p ps → floor_of (onto earlier (p ∷ ps)) earlier p row ≤ last_of row (each_of row_change earlier)
+pub floor_most : (row : ℕ) (earlier : List Placed) (p : Placed) (ps : List Placed) → IsAt earlier p ps → floor_of (onto earlier (p ∷ ps)) earlier p row ≤ last_of row (each_of row_change earlier)
 floor_most row earlier p ps i =
     max-le
     (max-le
@@ -240,28 +240,26 @@ done_later earlier p ps w a = on w.0.state where
   on (inl s) = all_later p.context.done earlier p ps w a s.1 (inl s.0)
   on (inr s) = let x : p.context.action ≡ top earlier = s.0 in let y : p.context.done < p.context.action = s.1 in all_later p.context.done earlier p ps w a (omega (arith, x, y)) (inr y)
 
+-- so all this is known at each place
+pub is_at : (phase : ℕ) (earlier : List Placed) (p : Placed) (ps : List Placed) → Agreed earlier → AgreeBehind earlier (p ∷ ps) → Walk earlier (p ∷ ps) → Rising phase (p ∷ ps) → AllUpTo phase earlier → IsAt earlier p ps
+is_at phase earlier p ps g a w r u = record {
+  agreed = g;
+  own = a.0;
+  later = done_later earlier p ps w a;
+  phases = (self p.phase, rising_all p.phase p.phase ps (low p.phase) r.1);
+  up_to = (low p.phase, up_to_more phase p.phase earlier r.0 u);
+} where
+  self : (n : ℕ) → nat_lt n n ≡ false
+  self n = grind arith
+
+  low : (n : ℕ) → n ≤ n
+  low n = omega arith
+
 floored : (phase : ℕ) (earlier ps : List Placed) → Agreed earlier → AgreeBehind earlier ps → Walk earlier ps → Rising phase ps → AllUpTo phase earlier → AreFlooredBehind (onto earlier ps) earlier ps
 floored phase earlier [] g a w r u = tt
 floored phase earlier (p ∷ ps) g a w r u =
-    (namings_keep earlier p ps i, loads_keep earlier p ps i, floored p.phase (p ∷ earlier) ps (a.0, g) a.1 w.1 r.1 own) where
-      own : AllUpTo p.phase (p ∷ earlier)
-      own = (self p.phase, up_to_more phase p.phase earlier r.0 u) where
-        self : (n : ℕ) → n ≤ n
-        self n = omega arith
-
-      i : IsAt earlier p ps
-      i = record {
-        agreed = g;
-        own = a.0;
-        later = done_later earlier p ps w a;
-        phases = (self p.phase, rising_all p.phase p.phase ps (low p.phase) r.1);
-        up_to = own;
-      } where
-        self : (n : ℕ) → nat_lt n n ≡ false
-        self n = grind arith
-
-        low : (n : ℕ) → n ≤ n
-        low n = omega arith
+    let i : IsAt earlier p ps = is_at phase earlier p ps g a w r u in
+    (namings_keep earlier p ps i, loads_keep earlier p ps i, floored p.phase (p ∷ earlier) ps (a.0, g) a.1 w.1 r.1 i.up_to)
 
 -- nothing is held back
 none_held : (earlier ps : List Placed) → AgreeBehind earlier ps → NoneHeldBack ps

@@ -13,6 +13,9 @@ use Rattle.pfs_model.specs.Chains.{times}
 use Rattle.pfs_model.specs.Places.{Block, places}
 use Rattle.pfs_model.specs.declared.lines.Line.{Line}
 use Rattle.pfs_model.specs.declared.lines.Line.TheVariants as told
+use Rattle.pfs_requests.specs.Requests.{request_of}
+use Rattle.pfs_requests.specs.declared.requests.Request.{Request}
+use Rattle.pfs_requests.specs.declared.requests.Request.TheVariants as requests
 use Rattle.pfs_runs.specs.Lines.{lines_in, line_in, sql_line, connect_lines, changes_in, changes_on, sql_changes, connect_changes, change_in}
 use Rattle.pfs_runs.specs.Runs.{AreBlocksOf, ArePhasesOf, all_blocks}
 use Rattle.pfs_script.specs.declared.blocks.Block.{Block as Said}
@@ -22,8 +25,6 @@ use Rattle.pfs_script.specs.declared.blocks.Connect.{Connect}
 use Rattle.pfs_script.specs.declared.blocks.Phase.{Phase}
 use Rattle.pfs_script.specs.Marks.{written_out}
 use Rattle.pfs_tagged.specs.Premises.{IsChangeOf}
-use Rattle.pfs_truncations.specs.Texts.{truncation_of}
-use Rattle.pfs_truncations.specs.declared.truncations.Truncation.{Truncation}
 use Rattle.pfs_orderly.specs.Orderly.{ActionsLaw}
 use Rattle.pfs_orderly.proofs.Acting.{line_acts}
 use Rattle.pfs_orderly.proofs.Asking.{AreAskedOf, AreAskedBehind, asked_among, among_more, named_blocks}
@@ -31,20 +32,23 @@ use Rattle.pfs_orderly.proofs.Named.{named_actions}
 
 -- the lines of a block ask for its changes
 module _ (change : Label → Change) (session : ℕ) where
-  sql_asked : (made : ℕ) (what : Option Truncation) (ls : List BlockLine) → ((n : ℕ)
+  sql_asked : (made : ℕ) (request : Request) (ls : List BlockLine) → ((n : ℕ)
       → AreAsked change session n (flat_map changes_on ls)
       → AreAskedOf change session n (map line_in ls ++ told.Close ∷ []))
-      → AreAsked change session made (sql_changes what ++ flat_map changes_on ls)
-      → AreAskedOf change session made (sql_line what ∷ (map line_in ls ++ told.Close ∷ []))
-  sql_asked made None ls go a = ((λ q. absurd (cc)), go made a)
-  sql_asked made (Some what) ls go a = ((λ q. subst (IsChangeOf told.Change) (sym a.0) tt), go (made + 1) a.1)
+      → AreAsked change session made (sql_changes request ++ flat_map changes_on ls)
+      → AreAskedOf change session made (sql_line request ∷ (map line_in ls ++ told.Close ∷ []))
+  sql_asked made (requests.Truncate what) ls go a = ((λ q. subst (IsChangeOf told.Change) (sym a.0) tt), go (made + 1) a.1)
+  sql_asked made (requests.Update update) ls go a = ((λ q. subst (IsChangeOf told.Change) (sym a.0) tt), go (made + 1) a.1)
+  sql_asked made (requests.Insert insert) ls go a = ((λ q. subst (IsChangeOf told.Change) (sym a.0) tt), go (made + 1) a.1)
+  sql_asked made (requests.Delete delete) ls go a = ((λ q. subst (IsChangeOf told.Change) (sym a.0) tt), go (made + 1) a.1)
+  sql_asked made _ ls go a = ((λ q. absurd (cc)), go made a)
 
   lines_asked : (made : ℕ) (ls : List BlockLine) → AreAsked change session made (flat_map changes_on ls)
       → AreAskedOf change session made (map line_in ls ++ told.Close ∷ [])
   lines_asked made [] a = ((λ q. absurd (cc)), tt)
   lines_asked made (said.Quit ∷ ls) a =
       ((λ q. subst (IsChangeOf told.Quit) (sym a.0) tt), lines_asked (made + 1) ls a.1)
-  lines_asked made (said.Sql text ∷ ls) a = sql_asked made (truncation_of text) ls (λ n h. lines_asked n ls h) a
+  lines_asked made (said.Sql text ∷ ls) a = sql_asked made (request_of text) ls (λ n h. lines_asked n ls h) a
   lines_asked made (_ ∷ ls) a = ((λ q. absurd (cc)), lines_asked made ls a)
 
   block_asked : (made : ℕ) (block : Said) → AreAsked change session made (changes_in block)
@@ -58,17 +62,22 @@ module _ (change : Label → Change) (session : ℕ) where
     at None a = lines_asked made ls a
     at (Some names) a = ((λ q. subst (IsChangeOf told.Connect) (sym a.0) tt), lines_asked (made + 1) ls a.1)
 
-sql_count : (what : Option Truncation) (ls : List Line) (asked : List Change) → times line_acts ls ≡ length asked
-    → times line_acts (sql_line what ∷ ls) ≡ length (sql_changes what ++ asked)
-sql_count None ls asked e = omega (arith, e)
-sql_count (Some what) ls asked e = omega (arith, e)
+sql_count : (request : Request) (ls : List Line) (asked : List Change) → times line_acts ls ≡ length asked
+    → times line_acts (sql_line request ∷ ls) ≡ length (sql_changes request ++ asked)
+sql_count (requests.Refused error) ls asked e = omega (arith, e)
+sql_count (requests.Query select) ls asked e = omega (arith, e)
+sql_count (requests.Show select) ls asked e = omega (arith, e)
+sql_count (requests.Truncate what) ls asked e = omega (arith, e)
+sql_count (requests.Update update) ls asked e = omega (arith, e)
+sql_count (requests.Insert insert) ls asked e = omega (arith, e)
+sql_count (requests.Delete delete) ls asked e = omega (arith, e)
 
 lines_count : (ls : List BlockLine)
     → times line_acts (map line_in ls ++ told.Close ∷ []) ≡ length (flat_map changes_on ls)
 lines_count [] = refl
 lines_count (said.Quit ∷ ls) = omega (arith, lines_count ls)
 lines_count (said.Sql text ∷ ls) =
-    sql_count (truncation_of text) (map line_in ls ++ told.Close ∷ []) (flat_map changes_on ls) (lines_count ls)
+    sql_count (request_of text) (map line_in ls ++ told.Close ∷ []) (flat_map changes_on ls) (lines_count ls)
 lines_count (_ ∷ ls) = omega (arith, lines_count ls)
 
 block_count : (block : Said) → times line_acts (lines_in block) ≡ length (changes_in block)

@@ -11,6 +11,9 @@ use Rattle.pfs_model.specs.Places.{Block}
 use Rattle.pfs_model.specs.declared.lines.Line.{Line}
 use Rattle.pfs_model.specs.declared.lines.Line.TheVariants as told
 use Rattle.pfs_playable.specs.Playable.{IsPlayable, PlayableLaw}
+use Rattle.pfs_requests.specs.Requests.{request_of}
+use Rattle.pfs_requests.specs.declared.requests.Request.{Request}
+use Rattle.pfs_requests.specs.declared.requests.Request.TheVariants as requests
 use Rattle.pfs_runs.specs.Lines.{lines_in, line_in, sql_line}
 use Rattle.pfs_runs.specs.Runs.{AreBlocksOf, ArePhasesOf, all_blocks}
 use Rattle.pfs_script.specs.declared.blocks.Block.{Block as Said}
@@ -19,16 +22,19 @@ use Rattle.pfs_script.specs.declared.blocks.BlockLine.TheVariants as said
 use Rattle.pfs_script.specs.declared.blocks.Connect.{Connect}
 use Rattle.pfs_script.specs.declared.blocks.Phase.{Phase}
 use Rattle.pfs_script.specs.Marks.{written_out}
-use Rattle.pfs_truncations.specs.Texts.{truncation_of}
-use Rattle.pfs_truncations.specs.declared.truncations.Truncation.{Truncation}
 use Rattle.pfs_orderly.specs.Begun.{is_connect, AreUnconnected, NoneOf, Begins, AreBegunBehind}
 use Rattle.pfs_orderly.specs.Orderly.{FirstLaw}
 use Rattle.pfs_orderly.proofs.Closing.{each_then}
 use Rattle.pfs_orderly.proofs.Begun.{begun_law}
 
-sql_plain : (what : Option Truncation) → is_connect (sql_line what) ≡ false
-sql_plain None = refl
-sql_plain (Some what) = refl
+sql_plain : (request : Request) → is_connect (sql_line request) ≡ false
+sql_plain (requests.Refused error) = refl
+sql_plain (requests.Query select) = refl
+sql_plain (requests.Show select) = refl
+sql_plain (requests.Truncate what) = refl
+sql_plain (requests.Update update) = refl
+sql_plain (requests.Insert insert) = refl
+sql_plain (requests.Delete delete) = refl
 
 line_plain : (line : BlockLine) → is_connect (line_in line) ≡ false
 line_plain (said.Wait class) = refl
@@ -41,7 +47,7 @@ line_plain (said.Spend time) = refl
 line_plain said.End = refl
 line_plain (said.EndStatement numbers) = refl
 line_plain said.Quit = refl
-line_plain (said.Sql text) = sql_plain (truncation_of text)
+line_plain (said.Sql text) = sql_plain (request_of text)
 line_plain (said.Repeat times) = refl
 line_plain said.Done = refl
 

@@ -12,6 +12,9 @@ use Rattle.pfs_model.specs.declared.lines.Line.TheVariants as told
 use Rattle.pfs_play.specs.Errands.{is_quit as ends}
 use Rattle.pfs_play.specs.Repeats.{AllMayPlay}
 use Rattle.pfs_playable.specs.Playable.{PlayableLaw, IsPlayable, IsPlayableBlock, HasBody, end_of, kinds_before, lines_among}
+use Rattle.pfs_requests.specs.Requests.{request_of}
+use Rattle.pfs_requests.specs.declared.requests.Request.{Request}
+use Rattle.pfs_requests.specs.declared.requests.Request.TheVariants as requests
 use Rattle.pfs_runs.specs.Lines.{lines_in, line_in, connect_lines, sql_line}
 use Rattle.pfs_runs.specs.Runs.{AreBlocksOf, ArePhasesOf, all_blocks}
 use Rattle.pfs_script.specs.declared.blocks.Block.{Block as Said}
@@ -25,8 +28,6 @@ use Rattle.pfs_script.specs.Marks.{mark_of, Repeated, copies, written_from, writ
 use Rattle.pfs_script.specs.Runnable.{AreDistinct}
 use Rattle.pfs_tagged.specs.Ends.{is_quit}
 use Rattle.pfs_tagged.proofs.Sifting.{eq_of}
-use Rattle.pfs_truncations.specs.Texts.{truncation_of}
-use Rattle.pfs_truncations.specs.declared.truncations.Truncation.{Truncation}
 use Rattle.pfs_orderly.specs.Begun.{NoneOf}
 use Rattle.pfs_orderly.specs.Orderly.{LastLaw}
 use Rattle.pfs_orderly.specs.Quits.{Quits, AreQuit}
@@ -40,13 +41,18 @@ Stays line = is_quit (line_in line) ≡ false
 abbrev Stay : List BlockLine → Type 0
 Stay lines = Each Stays lines
 
-sql_stays : (what : Option Truncation) → is_quit (sql_line what) ≡ false
-sql_stays None = refl
-sql_stays (Some what) = refl
+sql_stays : (request : Request) → is_quit (sql_line request) ≡ false
+sql_stays (requests.Refused error) = refl
+sql_stays (requests.Query select) = refl
+sql_stays (requests.Show select) = refl
+sql_stays (requests.Truncate what) = refl
+sql_stays (requests.Update update) = refl
+sql_stays (requests.Insert insert) = refl
+sql_stays (requests.Delete delete) = refl
 
 stays : (line : BlockLine) → ends line ≡ false → Stays line
 stays said.Quit q = absurd (cc)
-stays (said.Sql text) q = sql_stays (truncation_of text)
+stays (said.Sql text) q = sql_stays (request_of text)
 stays _ q = refl
 
 may_stay : (depth : ℕ) (kinds : List EventKind) (start : Option (List EventKind)) (lines : List BlockLine)

@@ -9,6 +9,9 @@ use Rattle.pfs_model.specs.declared.lines.Line.{Line}
 use Rattle.pfs_model.specs.declared.lines.Line.TheVariants as told
 use Rattle.pfs_play.specs.Repeats.{AllMayPlay}
 use Rattle.pfs_playable.specs.Playable.{PlayableLaw, IsPlayableBlock, HasBody, end_of, kinds_before, lines_among}
+use Rattle.pfs_requests.specs.Requests.{request_of}
+use Rattle.pfs_requests.specs.declared.requests.Request.{Request}
+use Rattle.pfs_requests.specs.declared.requests.Request.TheVariants as requests
 use Rattle.pfs_runs.specs.Lines.{lines_in, line_in, connect_lines, sql_line}
 use Rattle.pfs_script.specs.declared.blocks.Access.TheVariants.{ReadWrite, ReadOnly}
 use Rattle.pfs_script.specs.declared.blocks.Block.{Block as Said}
@@ -23,8 +26,6 @@ use Rattle.pfs_script.specs.Marks.{mark_of, Repeated, copies, written_from, writ
 use Rattle.pfs_script.specs.Runnable.{IsKnown}
 use Rattle.pfs_script.specs.Scripts.{IsScript}
 use Rattle.pfs_tagged.specs.Premises.{IsSmall}
-use Rattle.pfs_truncations.specs.Texts.{truncation_of}
-use Rattle.pfs_truncations.specs.declared.truncations.Truncation.{Truncation}
 use Rattle.pfs_orderly.specs.Orderly.{SmallLaw}
 use Rattle.pfs_orderly.proofs.Closing.{each_then, OfSaid, OfPhase, of_phases}
 
@@ -35,9 +36,14 @@ SmallLine line = IsSmall (line_in line)
 abbrev AreSmallLines : List BlockLine → Type 0
 AreSmallLines lines = Each SmallLine lines
 
-sql_small : (what : Option Truncation) → IsSmall (sql_line what)
-sql_small None = tt
-sql_small (Some what) = tt
+sql_small : (request : Request) → IsSmall (sql_line request)
+sql_small (requests.Refused error) = tt
+sql_small (requests.Query select) = tt
+sql_small (requests.Show select) = tt
+sql_small (requests.Truncate what) = tt
+sql_small (requests.Update update) = tt
+sql_small (requests.Insert insert) = tt
+sql_small (requests.Delete delete) = tt
 
 small_known : (line : BlockLine) → IsKnown 62 line → SmallLine line
 small_known (said.Wait (refs.Class id)) known = omega (arith, known)
@@ -55,7 +61,7 @@ small_known (said.Spend time) known = tt
 small_known said.End known = tt
 small_known (said.EndStatement numbers) known = tt
 small_known said.Quit known = tt
-small_known (said.Sql text) known = sql_small (truncation_of text)
+small_known (said.Sql text) known = sql_small (request_of text)
 small_known (said.Repeat times) known = tt
 small_known said.Done known = tt
 

@@ -6,6 +6,9 @@ use Rattle.pfs_model.specs.declared.lines.Line.{Line}
 use Rattle.pfs_model.specs.declared.lines.Line.TheVariants as told
 use Rattle.pfs_playable.specs.Playable.{IsTextedLine, AreTextedLines}
 use Rattle.pfs_playable.specs.Playable.{TextedLaw as TextedBlocks}
+use Rattle.pfs_requests.specs.Requests.{request_of}
+use Rattle.pfs_requests.specs.declared.requests.Request.{Request}
+use Rattle.pfs_requests.specs.declared.requests.Request.TheVariants as requests
 use Rattle.pfs_runs.specs.Lines.{lines_in, line_in, connect_lines, sql_line}
 use Rattle.pfs_script.specs.declared.blocks.Block.{Block as Said}
 use Rattle.pfs_script.specs.declared.blocks.BlockLine.{BlockLine}
@@ -14,15 +17,18 @@ use Rattle.pfs_script.specs.declared.blocks.Connect.{Connect}
 use Rattle.pfs_script.specs.declared.blocks.Phase.{Phase}
 use Rattle.pfs_script.specs.Marks.{Repeated, copies, written_from, written_out}
 use Rattle.pfs_tagged.specs.Premises.{IsTexted}
-use Rattle.pfs_truncations.specs.Texts.{truncation_of}
-use Rattle.pfs_truncations.specs.declared.truncations.Truncation.{Truncation}
 use Rattle.pfs_orderly.specs.Orderly.{TextedLaw}
 use Rattle.pfs_orderly.proofs.Closing.{each_then, OfSaid, OfPhase, of_phases}
 
 module _ (places : ℕ) where
-  sql_texted : (what : Option Truncation) → IsTexted places (sql_line what)
-  sql_texted None = tt
-  sql_texted (Some what) = tt
+  sql_texted : (request : Request) → IsTexted places (sql_line request)
+  sql_texted (requests.Refused error) = tt
+  sql_texted (requests.Query select) = tt
+  sql_texted (requests.Show select) = tt
+  sql_texted (requests.Truncate what) = tt
+  sql_texted (requests.Update update) = tt
+  sql_texted (requests.Insert insert) = tt
+  sql_texted (requests.Delete delete) = tt
 
   line_texted : (line : BlockLine) → IsTextedLine places line → IsTexted places (line_in line)
   line_texted (said.Wait class) known = tt
@@ -35,7 +41,7 @@ module _ (places : ℕ) where
   line_texted said.End known = tt
   line_texted (said.EndStatement numbers) known = tt
   line_texted said.Quit known = tt
-  line_texted (said.Sql text) known = sql_texted (truncation_of text)
+  line_texted (said.Sql text) known = sql_texted (request_of text)
   line_texted (said.Repeat times) known = tt
   line_texted said.Done known = tt
 

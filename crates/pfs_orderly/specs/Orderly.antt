@@ -62,7 +62,7 @@ LastLaw = (text : List ℕ) (setting : Setting) (phases : List Phase) (report : 
     → AreLastBehind [] (places (all_blocks run.blocks))
 
 -- an action does what its line does: that of a connect's connects, that of a quit's quits, and that of no other line
--- than an SQL line's truncates
+-- than an SQL line's truncates or changes the setup
 abbrev pub HasActions : Run → Type 0
 HasActions run = AreActionsOf run.change run.labels (places run.blocks)
 

@@ -4,11 +4,15 @@ use Rattle.std.specs.Prelude.{IfSome}
 use Rattle.std.proofs.lemmas.Bool.{true≢false}
 use Rattle.std.proofs.lemmas.List.{append-nil}
 use Rattle.pfs_admin.specs.Asks.{connect_entry, placed_of, work_of_connect, work_of_quit}
+use Rattle.pfs_admin.specs.Setups.{has_changed, reply_to, work_of_statement}
 use Rattle.pfs_admin.specs.Truncations.{work_of_truncation, has_truncated}
+use Rattle.pfs_admin.specs.declared.changes.Reply.{Reply}
+use Rattle.pfs_admin.specs.declared.changes.SetupStatement.{SetupStatement}
+use Rattle.pfs_admin.specs.declared.changes.SetupStatement.TheVariants.{Update, Insert, Delete, Show}
 use Rattle.pfs_truncations.specs.declared.truncations.Truncation.{Truncation}
 use Rattle.pfs_admin.specs.States.{seat_at, connected, has_quit}
 use Rattle.pfs_admin.specs.States.{State as Administration}
-use Rattle.pfs_admin.specs.Works.{signs_entries, flagging_entries}
+use Rattle.pfs_admin.specs.Works.{Work, signs_entries, flagging_entries}
 use Rattle.pfs_event.specs.declared.entry.Entry.{Entry}
 use Rattle.pfs_event.specs.declared.entry.Entry.TheVariants as says
 use Rattle.pfs_levels.specs.Calls.{Call}
@@ -22,16 +26,19 @@ use Rattle.pfs_model.specs.declared.lines.Line.TheVariants as lines
 use Rattle.pfs_model.specs.declared.lines.Opened.{Opened}
 use Rattle.pfs_model.specs.declared.lines.Subject.{Subject}
 use Rattle.pfs_session.specs.Ends.{Ends, no_numbers}
+use Rattle.pfs_session.specs.Inquiries.{Inquiry, Remarks, inquiry_entry}
 use Rattle.pfs_session.specs.Settles.{owed_in, owed_by_state}
 use Rattle.pfs_session.specs.States.{State, no_place, nothing_held}
-use Rattle.pfs_session.specs.Turns.{Step, StartsEvent, EndsEvent, Spends, SettlesHeld, Connects, Quits, Truncates, Does, Turn, AreTurns, state_after, steps_of, turns_calls, turns_entries, stage_ends, acted}
+use Rattle.pfs_session.specs.Turns.{Step, StartsEvent, EndsEvent, Spends, SettlesHeld, Connects, Quits, Truncates, Changes, Inquires, Does, Turn, AreTurns, Works, Inquired, state_after, steps_of, turns_calls, turns_entries, stage_ends, acted, reply_entries}
 use Rattle.pfs_session.specs.declared.events.Numbers.{Numbers}
+use Rattle.pfs_session.specs.declared.remarks.Remark.TheVariants.{Rows, Refused}
 use Rattle.pfs_stat.specs.Stat.{MergeIsMonoid}
 use Rattle.pfs_stat.specs.declared.Stat.{Stat}
-use Rattle.pfs_parts.proofs.Acting.{work_quiet, is_quiet, all_then}
+use Rattle.pfs_parts.proofs.Acting.{AreAll, work_quiet, is_quiet, all_then, reply_last}
 use Rattle.pfs_parts.proofs.Bringing.{AddedBy, Accounts, brings_as, brings_then, turned_sums, start_brings, end_brings, quiet_added, quiet_context, quiet_then, connect_quiet, connect_added, quiet_once, connect_once}
 use Rattle.pfs_parts.proofs.Ended.{EndIs, end_is}
-use Rattle.pfs_parts.proofs.Inverting.{OneTurn, TwoTurns, no_turns, one_turn, two_turns}
+use Rattle.pfs_parts.proofs.Inquiring.{Told, told, inquired_at, all_quiet, asked_by, asked_steps}
+use Rattle.pfs_parts.proofs.Inverting.{OneTurn, TwoTurns, ThreeTurns, no_turns, one_turn, two_turns, three_turns}
 use Rattle.pfs_parts.proofs.Journaling.{written, turns_number}
 use Rattle.pfs_parts.proofs.Once.{once_then, once_lines}
 use Rattle.pfs_parts.proofs.Owing.{Ascend, ascending, wait_same}
@@ -39,13 +46,24 @@ use Rattle.pfs_parts.proofs.Settling.{settle_brings, acted_sums, is_seated}
 use Rattle.pfs_parts.proofs.Written.{turned_agrees, does_at, ends_by, has_stage}
 use Rattle.pfs_parts.proofs.Wording.{PutBy, quiet_put, connect_put, none_worded}
 use Rattle.pfs_parts.specs.Agreeing.{Agrees, Stands, LoadsAgree}
-use Rattle.pfs_parts.specs.Amounts.{Clocked, stepped, all_stepped, StepFacts, AreFacts, AllFacts, AllPlaced, IsPlaced, ContentsAgree, AllContentsAgree, AreAdded, ArePut, Sums, sum_of, owed_to, IsAccounted, AmountsLaw, SumsLaw}
-use Rattle.pfs_parts.specs.Deeds.{IsSubject, Deed, Connecting, Starting, Staging, StageEnding, Ending, Spending, Quitting, Truncating, Closing, Part, MayDo, is_over, line_of, steps_for}
+use Rattle.pfs_parts.specs.Amounts.{Clocked, stepped, all_stepped, StepFacts, AreFacts, AllFacts, AllPlaced, IsPlaced, ContentsAgree, AllContentsAgree, AreAdded, ArePut, AreWorded, Sums, going_of, sum_of, owed_to, IsAccounted, AmountsLaw, SumsLaw}
+use Rattle.pfs_parts.specs.Deeds.{IsSubject, Deed, Connecting, Starting, Staging, StageEnding, Ending, Spending, Quitting, Truncating, Changing, Showing, Querying, Refusing, Closing, Part, MayDo, is_over, line_of, steps_for}
 use Rattle.pfs_parts.specs.Shaped.{AreParts, MayDoAll, AllLoadsAgree}
 
 ascend_state : (slot : Option ℕ) (s : State) → IfSome slot (λ n. n < 32) → Ascend (owed_in slot s.held)
 ascend_state None s low = tt
 ascend_state (Some n) s low = ascending n 0 s.held low
+
+replies_quiet : (what : SetupStatement) (reply : Reply) → AreAll true is_quiet (reply_entries what reply)
+replies_quiet Show reply = tt
+replies_quiet (Update update) reply = ((reply_last reply).quiet, tt)
+replies_quiet (Insert insert) reply = ((reply_last reply).quiet, tt)
+replies_quiet (Delete delete) reply = ((reply_last reply).quiet, tt)
+
+-- inquiries take no time
+asked_clock : (k : Clocked) (asked : List Inquiry) → all_stepped k (map Inquires asked) ≡ k
+asked_clock k [] = refl
+asked_clock k (i ∷ is) = asked_clock k is
 
 module _ (m : MergeIsMonoid) (flags : ℕ → ℕ → ℕ) (slots : ℕ → Option ℕ) (facts : ℕ → ℕ → Facts) (session : ℕ) (content : ℕ → ℕ → List ℕ) where
   abbrev Rests : Clocked → Context → State → Type 0
@@ -185,23 +203,81 @@ module _ (m : MergeIsMonoid) (flags : ℕ → ℕ → ℕ) (slots : ℕ → Opti
             (none_worded flags None session context.opened s.opened.events closed);
       })
 
-  of_truncation : (admin : Administration) (what : Truncation) (k : Clocked) (context : Context) (s : State) → Rests k context s → s.held ≡ nothing_held
-      → (calls : List Call) (entries : List Entry) (after : State) → OfStep None k context s (Truncates admin what) calls entries after
-  of_truncation admin what k context s a free calls entries after d f c l =
-      let w = d.works in
-      let work = work_of_truncation admin what in
+  -- an action of which all entries are quiet
+  of_action : (admin after_it : Administration) (work : Work) (answers : List Entry) (k : Clocked) (context : Context) (s : State) → Rests k context s → s.held ≡ nothing_held
+      → AreAll true is_quiet answers → (calls : List Call) (changes entries : List Entry) (after : State) → Works work admin.words (says.Act (admin.actions + 1) ∷ []) calls changes
+      → entries ≡ changes ++ answers → after ≡ acted s after_it → Brings None context entries k after
+  of_action admin after_it work answers k context s a free said calls changes entries after w entries_are after_is =
       let head : Entry = says.Act (admin.actions + 1) in
       let rest : List Entry = moves_entries w.moves ++ (signs_entries w.made ++ flagging_entries admin.words work.flags) in
-      let whole : List Entry = (head ∷ rest) ++ says.Reply 0 ∷ [] in
-      let quiet = all_then true is_quiet (head ∷ rest) (says.Reply 0 ∷ []) (refl, work_quiet w.moves w.made admin.words work.flags) (refl, tt) in
-      let next : State = acted s (has_truncated admin what) in
+      let whole : List Entry = (head ∷ rest) ++ answers in
+      let quiet = all_then true is_quiet (head ∷ rest) answers (refl, work_quiet w.moves w.made admin.words work.flags) said in
+      let next : State = acted s after_it in
       let q = quiet_context context whole quiet in
-      brings_as m flags slots facts session content None context entries whole _ after next (d.entries_are ∙ ap (λ z. z ++ says.Reply 0 ∷ []) w.entries_are) d.after_is (record {
+      brings_as m flags slots facts session content None context entries whole _ after next (entries_are ∙ ap (λ z. z ++ answers) w.entries_are) after_is (record {
         put = quiet_put flags (facts session) content session context whole quiet;
         added = quiet_added (amount_by flags slots facts session) content context whole quiet;
         once = quiet_once flags context whole quiet;
         sums = acted_sums m flags slots facts session content k context (after_entries None context whole) s next a free q refl refl refl a.seat refl a.worded;
       })
+
+  of_truncation : (admin : Administration) (what : Truncation) (k : Clocked) (context : Context) (s : State) → Rests k context s → s.held ≡ nothing_held
+      → (calls : List Call) (entries : List Entry) (after : State) → OfStep None k context s (Truncates admin what) calls entries after
+  of_truncation admin what k context s a free calls entries after d f c l =
+      of_action admin (has_truncated admin what) (work_of_truncation admin what) (says.Reply 0 ∷ []) k context s a free (refl, tt) calls d.changes entries after d.works d.entries_are d.after_is
+
+  of_change : (admin : Administration) (what : SetupStatement) (k : Clocked) (context : Context) (s : State) → Rests k context s → s.held ≡ nothing_held
+      → (calls : List Call) (entries : List Entry) (after : State) → OfStep None k context s (Changes admin what) calls entries after
+  of_change admin what k context s a free calls entries after d f c l =
+      of_action admin (has_changed admin what) (work_of_statement admin what) (reply_entries what (reply_to admin what)) k context s a free (replies_quiet what (reply_to admin what))
+      calls d.changes entries after d.works d.entries_are d.after_is
+
+  -- entries of which all are quiet, behind which the session stands as it stood
+  of_quiet : (k : Clocked) (context : Context) (s after : State) (entries es : List Entry) → Rests k context s → AreAll true is_quiet es → entries ≡ es → after ≡ s
+      → Brings None context entries k after
+  of_quiet k context s after entries es a quiet entries_are after_is =
+      let behind : Context = after_entries None context es in
+      let q = quiet_context context es quiet in
+      brings_as m flags slots facts session content None context entries es k after s entries_are after_is (record {
+        put = quiet_put flags (facts session) content session context es quiet;
+        added = quiet_added (amount_by flags slots facts session) content context es quiet;
+        once = quiet_once flags context es quiet;
+        sums = record {
+          clock = a.clock;
+          begun = a.begun ∙ sym q.begun;
+          going = a.going ∙ ap (λ z. going_of z s.opened.events) (sym q.opened);
+          starts = a.starts;
+          held = λ row. a.held row ∙ ap (λ z. sum_of (map (amount_by flags slots facts session) (held_for row z))) (sym q.waiting);
+          seat = a.seat;
+          own = a.own;
+          worded = subst (λ z. AreWorded flags s.place.thread session z s.opened.events) (sym q.opened) a.worded;
+        };
+      })
+
+  -- a line of inquiries
+  asked_line : (k : Clocked) (context : Context) (s : State) (turns : List Turn) (asked : List Inquiry) → Rests k context s → steps_of turns ≡ map Inquires asked → OfLine None k context s turns
+  asked_line k context s turns asked a steps are f c l =
+      let t : Told s asked turns = told s asked turns are steps in
+      subst (λ z. Brings None (turned context) (turns_entries turns) z (state_after s turns)) (sym (ap (all_stepped k) steps ∙ asked_clock k asked))
+      (of_quiet k (turned context) s (state_after s turns) (turns_entries turns) (map inquiry_entry asked) (turned_sums m flags slots facts session content k context s a) (all_quiet asked)
+      t.entries_are t.after_is)
+
+  -- a line of two steps and an inquiry behind them
+  remark_line : (k : Clocked) (context : Context) (s : State) (turns : List Turn) (a b : Step) (what : Inquiry) → steps_of turns ≡ a ∷ b ∷ Inquires what ∷ []
+      → ((turns : List Turn) → steps_of turns ≡ a ∷ b ∷ [] → OfLine None k context s turns) → OfLine None k context s turns
+  remark_line k context s turns a b what steps go =
+      let o : ThreeTurns turns a b (Inquires what) = three_turns turns a b (Inquires what) steps in
+      let front : List Turn = o.second ∷ o.first ∷ [] in
+      let last : Turn = o.third in
+      subst (OfLine None k context s) (sym o.is) (λ are f c l.
+      let one : Brings None (turned context) (turns_entries front) (all_stepped k (steps_of front)) o.second.after =
+      go front (ap (λ z. z ∷ o.second.step ∷ []) o.first_is ∙ ap (λ z. a ∷ z ∷ []) o.second_is) are.1 (f.0, (f.1.0, tt)) (back last.calls (turns_calls front) c) (back_loads last.calls (turns_calls front) l) in
+      let then : Clocked = all_stepped k (steps_of front) in
+      let d : Inquired o.second.after what last.calls last.entries last.after = inquired_at o.second.after last.step what last o.third_is are.0 in
+      let two : Brings None (after_entries None (turned context) (turns_entries front)) last.entries then last.after =
+      of_quiet then (after_entries None (turned context) (turns_entries front)) o.second.after last.after last.entries (inquiry_entry what ∷ []) one.sums (all_quiet (what ∷ [])) d.entries_are d.after_is in
+      subst (λ z. Brings None (turned context) (turns_entries front ++ last.entries) z last.after) (ap (stepped then) (sym o.third_is))
+      (brings_then m flags slots facts session content None (turned context) (turns_entries front) last.entries then then o.second.after last.after one two))
 
   -- the session behind an end agrees with what the end wrote
   mid_agrees : (line : Line) (context : Context) (s mid : State) (numbers : Numbers) (calls : List Call) (entries : List Entry) → Agrees flags context s
@@ -209,6 +285,14 @@ module _ (m : MergeIsMonoid) (flags : ℕ → ℕ → ℕ) (slots : ℕ → Opti
   mid_agrees line context s mid numbers calls entries a d =
       let e : EndIs flags s.stack line context entries mid = end_is flags line context s mid numbers calls entries a d in
       subst (λ z. Agrees flags z mid) (sym e.piece.behind_is) e.agrees
+
+  -- a line that settles and does a statement on the setup tables
+  changed_line : (k : Clocked) (context : Context) (s : State) (admin : Administration) (what : SetupStatement) (turns : List Turn) → Agrees flags context s → Rests k context s
+      → steps_of turns ≡ SettlesHeld ∷ Changes admin what ∷ [] → OfLine None k context s turns
+  changed_line k context s admin what turns a r steps =
+      two_line None k context s turns SettlesHeld (Changes admin what) steps
+      (of_settle None k context s (turned_sums m flags slots facts session content k context s r) (ascend_state s.place.thread s a.low))
+      (λ calls entries mid d now. of_change admin what k (after_entries None (turned context) entries) mid now (ap (λ (z : State). z.held) d.after_is))
 
   by_deed : (over : Bool) (k : Clocked) (context : Context) (s : State) (deed : Deed) (turns : List Turn) → Stands flags over context s → Rests k context s → MayDo over s deed
       → IsPlaced (slots session) s.number deed → steps_of turns ≡ steps_for s deed → OfLine (subject_of (line_of deed)) k context s turns
@@ -253,6 +337,11 @@ module _ (m : MergeIsMonoid) (flags : ℕ → ℕ → ℕ) (slots : ℕ → Opti
       two_line None k context s turns SettlesHeld (Truncates admin what) steps
       (of_settle None k context s (turned_sums m flags slots facts session content k context s r) (ascend_state s.place.thread s a.low))
       (λ calls entries mid d now. of_truncation admin what k (after_entries None (turned context) entries) mid now (ap (λ (z : State). z.held) d.after_is))
+  by_deed false k context s (Changing admin what) turns a r may placed steps = changed_line k context s admin what turns a r steps
+  by_deed false k context s (Showing admin count) turns a r may placed steps =
+      remark_line k context s turns SettlesHeld (Changes admin Show) (Remarks (Rows count)) steps (λ front are. changed_line k context s admin Show front a r are)
+  by_deed false k context s (Querying readings count) turns a r may placed steps = asked_line k context s turns (asked_by readings count) r (steps ∙ asked_steps readings count)
+  by_deed false k context s (Refusing error) turns a r may placed steps = asked_line k context s turns (Remarks (Refused error) ∷ []) r steps
   by_deed false k context s Closing turns a r may placed steps =
       one_line None k context s turns SettlesHeld steps
       (of_settle None k context s (turned_sums m flags slots facts session content k context s r) (ascend_state s.place.thread s a.low))
@@ -264,6 +353,10 @@ module _ (m : MergeIsMonoid) (flags : ℕ → ℕ → ℕ) (slots : ℕ → Opti
   by_deed true k context s (Spending time) turns a r may placed steps = absurd (true≢false may)
   by_deed true k context s (Quitting admin) turns a r may placed steps = absurd (true≢false may.0)
   by_deed true k context s (Truncating admin what) turns a r may placed steps = absurd (true≢false may)
+  by_deed true k context s (Changing admin what) turns a r may placed steps = absurd (true≢false may.0)
+  by_deed true k context s (Showing admin count) turns a r may placed steps = absurd (true≢false may)
+  by_deed true k context s (Querying readings count) turns a r may placed steps = absurd (true≢false may.0)
+  by_deed true k context s (Refusing error) turns a r may placed steps = absurd (true≢false may)
   by_deed true k context s Closing turns a r may placed steps =
       one_line None k context s turns SettlesHeld steps
       (of_settle None k context s (turned_sums m flags slots facts session content k context s r) (subst (λ z. Ascend (owed_in z s.held)) (sym a.nowhere) tt))

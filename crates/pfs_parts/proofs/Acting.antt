@@ -4,6 +4,8 @@ use Rattle.std.specs.Prelude.{Ok, if◌then◌else◌}
 use Rattle.std.proofs.lemmas.Bool.{false≢true}
 use Rattle.std.proofs.lemmas.List.{append-nil}
 use Rattle.pfs_admin.specs.Asks.{connect_entry, placed_of}
+use Rattle.pfs_admin.specs.declared.changes.Reply.{Reply}
+use Rattle.pfs_admin.specs.declared.changes.Reply.TheVariants as replies
 use Rattle.pfs_admin.specs.Works.{Sign, Made, Flagging, signs_entries, made_entries, sign_entry, Releases, Tags, flagging_entries}
 use Rattle.pfs_containers.specs.declared.containers.Seated.{Seated}
 use Rattle.pfs_event.specs.declared.entry.Entry.{Entry}
@@ -18,6 +20,7 @@ use Rattle.pfs_model.specs.declared.lines.Subject.{Subject}
 use Rattle.pfs_model.specs.declared.shapes.Ask.{Ask}
 use Rattle.pfs_model.specs.declared.shapes.Ask.TheVariants as asks
 use Rattle.pfs_model.specs.declared.shapes.Item.{Item}
+use Rattle.pfs_session.specs.Turns.{reply_entry}
 use Rattle.pfs_parts.proofs.Cutting.{cut_nothing, cut_one}
 use Rattle.pfs_parts.proofs.Pieces.{is_plain}
 use Rattle.pfs_parts.proofs.Settled.{ArePlain, Kept}
@@ -37,7 +40,7 @@ behind_all ask [] [] p q = refl
 behind_all ask [] (f ∷ fs) p q = ap (λ b. if b then behind ask fs else f ∷ fs) q.0
 behind_all ask (e ∷ es) fs p q = ap (λ b. if b then behind ask (es ++ fs) else e ∷ (es ++ fs)) p.0 ∙ behind_all ask es fs p.1 q
 
-cut_many : (ask : Ask) (items : List Item) (es fs : List Entry) → AreAll true (fits ask) es → AreAll false (fits ask) fs → cut (many ask ∷ items) (es ++ fs) ≡ cut items fs
+pub cut_many : (ask : Ask) (items : List Item) (es fs : List Entry) → AreAll true (fits ask) es → AreAll false (fits ask) fs → cut (many ask ∷ items) (es ++ fs) ≡ cut items fs
 unfolding cut
 cut_many ask items es fs p q = ap (cut items) (behind_all ask es fs p q)
 
@@ -90,18 +93,6 @@ work_shaped moves made words fs =
     cut_changes (moves_entries moves) (signs_entries made) (flagging_entries words fs) (moves_move moves) (signs_sign made) (signs_no_move made)
     (sets_set words fs) (sets_no_move words fs) (sets_no_sign words fs)
 
--- and in front of the entry of an answer
-pub answered_shaped : (moves : List Move) (made : List Made) (words : List Word) (fs : List Flagging) (number : ℕ)
-    → cut (changes ++ one asks.Answer ∷ []) (moves_entries moves ++ (signs_entries made ++ (flagging_entries words fs ++ says.Reply number ∷ []))) ≡ Ok []
-answered_shaped moves made words fs number =
-    let answer : List Entry = says.Reply number ∷ [] in
-    let sets : List Entry = flagging_entries words fs in
-    cut_many asks.Move _ (moves_entries moves) (signs_entries made ++ (sets ++ answer)) (moves_move moves)
-    (all_then false is_move (signs_entries made) (sets ++ answer) (signs_no_move made) (all_then false is_move sets answer (sets_no_move words fs) (refl, tt)))
-    ∙ (cut_many asks.Sign _ (signs_entries made) (sets ++ answer) (signs_sign made) (all_then false is_sign sets answer (sets_no_sign words fs) (refl, tt))
-    ∙ (cut_many asks.Set (one asks.Answer ∷ []) sets answer (sets_set words fs) (refl, tt)
-    ∙ (cut_one asks.Answer [] (says.Reply number) [] refl ∙ cut_nothing [])))
-
 -- entries that leave what a journal tells of slot, open events, held rows and numbers
 abbrev pub is_quiet : Entry → Bool
 is_quiet (says.Take _ _) = true
@@ -111,7 +102,41 @@ is_quiet (says.Free _ _) = true
 is_quiet (says.Set _ _ _) = true
 is_quiet (says.Act _) = true
 is_quiet (says.Reply _) = true
+is_quiet (says.Error _) = true
+is_quiet says.Query = true
+is_quiet (says.Rows _) = true
+is_quiet (says.Seen _ _) = true
+is_quiet (says.Vacant _) = true
+is_quiet (says.Busy _ _ _) = true
+is_quiet (says.Saw _ _) = true
 is_quiet _ = false
+
+-- an entry that closes an action, and is none of its changes
+pub record IsLast (ask : Ask) (entry : Entry) : Type 0 where
+  pub is_asked : fits ask entry ≡ true
+  pub no_move : is_move entry ≡ false
+  pub no_sign : is_sign entry ≡ false
+  pub no_set : is_set entry ≡ false
+  pub quiet : is_quiet entry ≡ true
+
+pub reply_last : (reply : Reply) → IsLast asks.Answer (reply_entry reply)
+reply_last (replies.Changed count) = record { is_asked = refl; no_move = refl; no_sign = refl; no_set = refl; quiet = refl }
+reply_last (replies.Error error) = record { is_asked = refl; no_move = refl; no_sign = refl; no_set = refl; quiet = refl }
+
+pub rows_last : (count : ℕ) → IsLast asks.Rows (says.Rows count)
+rows_last count = record { is_asked = refl; no_move = refl; no_sign = refl; no_set = refl; quiet = refl }
+
+-- and in front of the entry that closes it
+pub answered_shaped : (moves : List Move) (made : List Made) (words : List Word) (fs : List Flagging) (ask : Ask) (entry : Entry) → IsLast ask entry
+    → cut (changes ++ one ask ∷ []) (moves_entries moves ++ (signs_entries made ++ (flagging_entries words fs ++ entry ∷ []))) ≡ Ok []
+answered_shaped moves made words fs ask entry last =
+    let answer : List Entry = entry ∷ [] in
+    let sets : List Entry = flagging_entries words fs in
+    cut_many asks.Move _ (moves_entries moves) (signs_entries made ++ (sets ++ answer)) (moves_move moves)
+    (all_then false is_move (signs_entries made) (sets ++ answer) (signs_no_move made) (all_then false is_move sets answer (sets_no_move words fs) (last.no_move, tt)))
+    ∙ (cut_many asks.Sign _ (signs_entries made) (sets ++ answer) (signs_sign made) (all_then false is_sign sets answer (sets_no_sign words fs) (last.no_sign, tt))
+    ∙ (cut_many asks.Set (one ask ∷ []) sets answer (sets_set words fs) (last.no_set, tt)
+    ∙ (cut_one ask [] entry [] last.is_asked ∙ cut_nothing [])))
 
 quiet_plain : (e : Entry) → is_quiet e ≡ true → is_plain e ≡ true
 quiet_plain (says.Take _ _) q = refl
@@ -121,6 +146,13 @@ quiet_plain (says.Free _ _) q = refl
 quiet_plain (says.Set _ _ _) q = refl
 quiet_plain (says.Act _) q = refl
 quiet_plain (says.Reply _) q = refl
+quiet_plain (says.Error _) q = refl
+quiet_plain says.Query q = refl
+quiet_plain (says.Rows _) q = refl
+quiet_plain (says.Seen _ _) q = refl
+quiet_plain (says.Vacant _) q = refl
+quiet_plain (says.Busy _ _ _) q = refl
+quiet_plain (says.Saw _ _) q = refl
 quiet_plain _ q = absurd (false≢true q)
 
 pub quiet_plains : (es : List Entry) → AreAll true is_quiet es → ArePlain es
@@ -138,6 +170,13 @@ quiet_noted None context (says.Free row version) q = same_context context
 quiet_noted None context (says.Set word version flags) q = same_context context
 quiet_noted None context (says.Act action) q = record { untouched = record { slot = refl; opened = refl; drawn = refl }; held = refl }
 quiet_noted None context (says.Reply number) q = record { untouched = record { slot = refl; opened = refl; drawn = refl }; held = refl }
+quiet_noted None context (says.Error number) q = same_context context
+quiet_noted None context says.Query q = same_context context
+quiet_noted None context (says.Rows count) q = same_context context
+quiet_noted None context (says.Seen row version) q = same_context context
+quiet_noted None context (says.Vacant row) q = same_context context
+quiet_noted None context (says.Busy row first second) q = same_context context
+quiet_noted None context (says.Saw word version) q = same_context context
 quiet_noted None context _ q = absurd (false≢true q)
 quiet_noted (Some subject) context (says.Take row version) q = record { untouched = record { slot = refl; opened = refl; drawn = refl }; held = refl }
 quiet_noted (Some subject) context (says.Give row version from) q = same_context context
@@ -146,6 +185,13 @@ quiet_noted (Some subject) context (says.Free row version) q = same_context cont
 quiet_noted (Some subject) context (says.Set word version flags) q = same_context context
 quiet_noted (Some subject) context (says.Act action) q = record { untouched = record { slot = refl; opened = refl; drawn = refl }; held = refl }
 quiet_noted (Some subject) context (says.Reply number) q = record { untouched = record { slot = refl; opened = refl; drawn = refl }; held = refl }
+quiet_noted (Some subject) context (says.Error number) q = same_context context
+quiet_noted (Some subject) context says.Query q = same_context context
+quiet_noted (Some subject) context (says.Rows count) q = same_context context
+quiet_noted (Some subject) context (says.Seen row version) q = same_context context
+quiet_noted (Some subject) context (says.Vacant row) q = same_context context
+quiet_noted (Some subject) context (says.Busy row first second) q = same_context context
+quiet_noted (Some subject) context (says.Saw word version) q = same_context context
 quiet_noted (Some subject) context _ q = absurd (false≢true q)
 
 pub kept_then : (a b c : Context) → Kept a b → Kept b c → Kept a c

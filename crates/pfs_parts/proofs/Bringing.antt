@@ -129,6 +129,13 @@ quiet_noted context (says.Free row version) q = record { begun = refl; opened = 
 quiet_noted context (says.Set word version flags) q = record { begun = refl; opened = refl; waiting = refl }
 quiet_noted context (says.Act action) q = record { begun = refl; opened = refl; waiting = refl }
 quiet_noted context (says.Reply number) q = record { begun = refl; opened = refl; waiting = refl }
+quiet_noted context (says.Error number) q = record { begun = refl; opened = refl; waiting = refl }
+quiet_noted context says.Query q = record { begun = refl; opened = refl; waiting = refl }
+quiet_noted context (says.Rows count) q = record { begun = refl; opened = refl; waiting = refl }
+quiet_noted context (says.Seen row version) q = record { begun = refl; opened = refl; waiting = refl }
+quiet_noted context (says.Vacant row) q = record { begun = refl; opened = refl; waiting = refl }
+quiet_noted context (says.Busy row first second) q = record { begun = refl; opened = refl; waiting = refl }
+quiet_noted context (says.Saw word version) q = record { begun = refl; opened = refl; waiting = refl }
 quiet_noted context _ q = absurd (false≢true q)
 
 pub quiet_then : (a b c : Context) → Quiet a b → Quiet b c → Quiet a c
@@ -151,6 +158,13 @@ quiet_nothing flags context (says.Free row version) q = (refl, refl)
 quiet_nothing flags context (says.Set word version bits) q = (refl, refl)
 quiet_nothing flags context (says.Act action) q = (refl, refl)
 quiet_nothing flags context (says.Reply number) q = (refl, refl)
+quiet_nothing flags context (says.Error number) q = (refl, refl)
+quiet_nothing flags context says.Query q = (refl, refl)
+quiet_nothing flags context (says.Rows count) q = (refl, refl)
+quiet_nothing flags context (says.Seen row version) q = (refl, refl)
+quiet_nothing flags context (says.Vacant row) q = (refl, refl)
+quiet_nothing flags context (says.Busy row first second) q = (refl, refl)
+quiet_nothing flags context (says.Saw word version) q = (refl, refl)
 quiet_nothing flags context _ q = absurd (false≢true q)
 
 pub quiet_once : (flags : ℕ → ℕ → ℕ) (context : Context) (es : List Entry) → AreAll true is_quiet es → OnceBy flags None context es

@@ -3,7 +3,7 @@ use Rattle.std.proofs.Common.{ℕ, ◌≡◌, ◌<◌, ◌≤◌, ◌+◌, ◌-�
 use Rattle.std.specs.Prelude.{◌==◌, if◌then◌else◌}
 use Rattle.pfs_model.specs.Contents.{Facts}
 use Rattle.pfs_session.specs.Ends.{numbers_for}
-use Rattle.pfs_session.specs.Turns.{Step, StartsEvent, EndsEvent, Spends, SettlesHeld, Connects, Quits, Truncates, steps_of}
+use Rattle.pfs_session.specs.Turns.{Step, StartsEvent, EndsEvent, Spends, SettlesHeld, Connects, Quits, Truncates, Changes, Inquires, steps_of}
 use Rattle.pfs_session.specs.declared.events.Numbers.{Numbers}
 use Rattle.pfs_parts.specs.Amounts.{Going, Clocked, at_first, stepped, all_stepped, IsMeasured, EndFacts, StepFacts, AreFacts, AllFacts, FactsLaw}
 use Rattle.pfs_parts.specs.Deeds.{Part}
@@ -50,6 +50,8 @@ keeps f g k (SettlesHeld ∷ steps) later now a = (tt, keeps f g k steps later n
 keeps f g k (Connects admin user host ∷ steps) later now a = (tt, keeps f g k steps later now a.1)
 keeps f g k (Quits admin ∷ steps) later now a = (tt, keeps f g k steps later now a.1)
 keeps f g k (Truncates admin what ∷ steps) later now a = (tt, keeps f g k steps later now a.1)
+keeps f g k (Changes admin what ∷ steps) later now a = (tt, keeps f g k steps later now a.1)
+keeps f g k (Inquires what ∷ steps) later now a = (tt, keeps f g k steps later now a.1)
 
 -- the positions of the events that go on fall
 abbrev Down : ℕ → List Going → Type 0
@@ -143,6 +145,12 @@ exist clock begun going (Quits admin ∷ steps) d =
     let r = exist clock begun going steps d in
     record { facts = r.facts; are = (tt, r.are) }
 exist clock begun going (Truncates admin what ∷ steps) d =
+    let r = exist clock begun going steps d in
+    record { facts = r.facts; are = (tt, r.are) }
+exist clock begun going (Changes admin what ∷ steps) d =
+    let r = exist clock begun going steps d in
+    record { facts = r.facts; are = (tt, r.are) }
+exist clock begun going (Inquires what ∷ steps) d =
     let r = exist clock begun going steps d in
     record { facts = r.facts; are = (tt, r.are) }
 

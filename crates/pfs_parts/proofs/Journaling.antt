@@ -7,13 +7,13 @@ use Rattle.pfs_levels.specs.Calls.{Call}
 use Rattle.pfs_model.specs.Contexts.{Context, after}
 use Rattle.pfs_session.specs.Ends.{Ends, EndsIn}
 use Rattle.pfs_session.specs.States.{State}
-use Rattle.pfs_session.specs.Turns.{Step, StartsEvent, EndsEvent, Spends, SettlesHeld, Connects, Quits, Truncates, Does, Turn, AreTurns, state_after, steps_of, turns_calls, turns_entries}
+use Rattle.pfs_session.specs.Turns.{Step, StartsEvent, EndsEvent, Spends, SettlesHeld, Connects, Quits, Truncates, Changes, Inquires, Does, Turn, AreTurns, state_after, steps_of, turns_calls, turns_entries}
 use Rattle.pfs_session.specs.declared.events.Numbers.{Numbers}
 use Rattle.pfs_session.proofs.Ending.{through_leaves}
 use Rattle.pfs_parts.proofs.Pieces.{judged_then, numbered_then}
-use Rattle.pfs_parts.proofs.Written.{IsLine, written_by, starting_line, staging_line, stage_end_line, end_line, spend_line, connect_line, quit_line, truncation_line, close_line, over_line, ends_stack}
+use Rattle.pfs_parts.proofs.Written.{IsLine, written_by, starting_line, staging_line, stage_end_line, end_line, spend_line, connect_line, quit_line, truncation_line, change_line, show_line, query_line, refusal_line, close_line, over_line, ends_stack}
 use Rattle.pfs_parts.specs.Agreeing.{LoadsAgree, Stands}
-use Rattle.pfs_parts.specs.Deeds.{Deed, Connecting, Starting, Staging, StageEnding, Ending, Spending, Quitting, Truncating, Closing, Part, MayDo, is_over, line_of, steps_for}
+use Rattle.pfs_parts.specs.Deeds.{Deed, Connecting, Starting, Staging, StageEnding, Ending, Spending, Quitting, Truncating, Changing, Showing, Querying, Refusing, Closing, Part, MayDo, is_over, line_of, steps_for}
 use Rattle.pfs_parts.specs.Shaped.{WrittenLaw, IsJournaled, JournalLaw, AreParts, MayDoAll, AllLoadsAgree, state_behind}
 
 by_deed : (flags : ℕ → ℕ → ℕ) (over : Bool) (context : Context) (s : State) (deed : Deed) (turns : List Turn) → Stands flags over context s → MayDo over s deed → AreTurns s turns
@@ -27,6 +27,10 @@ by_deed flags false context s (Ending numbers) turns a may are steps loads = end
 by_deed flags false context s (Spending time) turns a may are steps loads = spend_line flags context s time turns a are steps
 by_deed flags false context s (Quitting admin) turns a may are steps loads = quit_line flags context s admin turns a may.1 are steps
 by_deed flags false context s (Truncating admin what) turns a may are steps loads = truncation_line flags context s admin what turns a are steps
+by_deed flags false context s (Changing admin what) turns a may are steps loads = change_line flags context s admin what turns a may.1 are steps
+by_deed flags false context s (Showing admin count) turns a may are steps loads = show_line flags context s admin count turns a are steps
+by_deed flags false context s (Querying readings count) turns a may are steps loads = query_line flags context s readings count turns a are steps
+by_deed flags false context s (Refusing error) turns a may are steps loads = refusal_line flags context s error turns a are steps
 by_deed flags false context s Closing turns a may are steps loads = close_line flags context s turns a are steps
 by_deed flags true context s (Connecting admin user host) turns a may are steps loads = absurd (true≢false may.0)
 by_deed flags true context s (Starting subject) turns a may are steps loads = absurd (true≢false may.0)
@@ -36,6 +40,10 @@ by_deed flags true context s (Ending numbers) turns a may are steps loads = absu
 by_deed flags true context s (Spending time) turns a may are steps loads = absurd (true≢false may)
 by_deed flags true context s (Quitting admin) turns a may are steps loads = absurd (true≢false may.0)
 by_deed flags true context s (Truncating admin what) turns a may are steps loads = absurd (true≢false may)
+by_deed flags true context s (Changing admin what) turns a may are steps loads = absurd (true≢false may.0)
+by_deed flags true context s (Showing admin count) turns a may are steps loads = absurd (true≢false may)
+by_deed flags true context s (Querying readings count) turns a may are steps loads = absurd (true≢false may.0)
+by_deed flags true context s (Refusing error) turns a may are steps loads = absurd (true≢false may)
 by_deed flags true context s Closing turns a may are steps loads = over_line flags context s turns a are steps
 
 pub written : WrittenLaw
@@ -52,6 +60,8 @@ does_stack s SettlesHeld calls entries after d = ap (λ (z : State). z.stack) d.
 does_stack s (Connects admin user host) calls entries after d = ap (λ (z : State). z.stack) d.1
 does_stack s (Quits admin) calls entries after d = ap (λ (z : State). z.stack) d.1
 does_stack s (Truncates admin what) calls entries after d = ap (λ (z : State). z.stack) d.after_is
+does_stack s (Changes admin what) calls entries after d = ap (λ (z : State). z.stack) d.after_is
+does_stack s (Inquires what) calls entries after d = ap (λ (z : State). z.stack) d.after_is
 
 pub turns_stack : (s : State) (turns : List Turn) → AreTurns s turns → (state_after s turns).stack ≡ s.stack
 turns_stack s [] are = refl
@@ -73,6 +83,8 @@ does_number s SettlesHeld calls entries after d = ap (λ (z : State). z.number) 
 does_number s (Connects admin user host) calls entries after d = ap (λ (z : State). z.number) d.1
 does_number s (Quits admin) calls entries after d = ap (λ (z : State). z.number) d.1
 does_number s (Truncates admin what) calls entries after d = ap (λ (z : State). z.number) d.after_is
+does_number s (Changes admin what) calls entries after d = ap (λ (z : State). z.number) d.after_is
+does_number s (Inquires what) calls entries after d = ap (λ (z : State). z.number) d.after_is
 
 pub turns_number : (s : State) (turns : List Turn) → AreTurns s turns → (state_after s turns).number ≡ s.number
 turns_number s [] are = refl

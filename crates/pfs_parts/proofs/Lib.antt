@@ -8,6 +8,7 @@ pub mod Ringing
 pub mod Starting
 pub mod Ended
 pub mod Inverting
+pub mod Inquiring
 pub mod Written
 pub mod Journaling
 pub mod Started

@@ -4,11 +4,16 @@ use Rattle.std.specs.Prelude.{Ok, IfSome, if◌then◌else◌}
 use Rattle.std.proofs.lemmas.Bool.{false≢true}
 use Rattle.std.proofs.lemmas.List.{append-nil, append_assoc}
 use Rattle.pfs_admin.specs.Asks.{connect_entry, placed_of, work_of_connect, work_of_quit}
+use Rattle.pfs_admin.specs.Setups.{has_changed, reply_to, work_of_statement}
 use Rattle.pfs_admin.specs.Truncations.{work_of_truncation, has_truncated}
+use Rattle.pfs_admin.specs.declared.changes.Reply.{Reply}
+use Rattle.pfs_admin.specs.declared.changes.Reply.TheVariants as replies
+use Rattle.pfs_admin.specs.declared.changes.SetupStatement.{SetupStatement}
+use Rattle.pfs_admin.specs.declared.changes.SetupStatement.TheVariants.{Update, Insert, Delete, Show}
 use Rattle.pfs_truncations.specs.declared.truncations.Truncation.{Truncation}
 use Rattle.pfs_admin.specs.States.{seat_at, connected}
 use Rattle.pfs_admin.specs.States.{State as Administration}
-use Rattle.pfs_admin.specs.Works.{signs_entries, flagging_entries}
+use Rattle.pfs_admin.specs.Works.{Work, signs_entries, flagging_entries}
 use Rattle.pfs_event.specs.declared.entry.Entry.{Entry}
 use Rattle.pfs_event.specs.declared.entry.Entry.TheVariants as says
 use Rattle.pfs_event.specs.Verdicts.{is_let_through}
@@ -23,16 +28,21 @@ use Rattle.pfs_model.specs.declared.lines.Line.{Line}
 use Rattle.pfs_model.specs.declared.lines.Line.TheVariants as lines
 use Rattle.pfs_model.specs.declared.lines.Opened.{Opened}
 use Rattle.pfs_model.specs.declared.lines.Subject.{Subject}
+use Rattle.pfs_model.specs.declared.shapes.Ask.{Ask}
 use Rattle.pfs_model.specs.declared.shapes.Ask.TheVariants as asks
+use Rattle.pfs_rows.specs.declared.table.Reading.{Reading}
 use Rattle.pfs_session.specs.Ends.{Ends, EndsIn, no_numbers}
+use Rattle.pfs_session.specs.Inquiries.{Remarks}
 use Rattle.pfs_session.specs.Settles.{Settles, owed_in, owed_by_state, settle_head, paid_entries}
 use Rattle.pfs_session.specs.States.{State, nothing_held}
-use Rattle.pfs_session.specs.Turns.{Step, StartsEvent, EndsEvent, Spends, SettlesHeld, Connects, Quits, Truncates, Does, Turn, AreTurns, state_after, steps_of, turns_calls, turns_entries, stage_ends, stage_steps, acted}
+use Rattle.pfs_session.specs.Turns.{Step, StartsEvent, EndsEvent, Spends, SettlesHeld, Connects, Quits, Truncates, Changes, Does, Turn, AreTurns, Works, Truncated, Changed, Inquired, state_after, steps_of, turns_calls, turns_entries, stage_ends, stage_steps, acted, reply_entry, reply_entries}
 use Rattle.pfs_session.specs.declared.events.Numbers.{Numbers}
-use Rattle.pfs_parts.proofs.Acting.{connected_context, connect_fits, connect_plain, quiet_context, quiet_plains, work_quiet, work_shaped, all_then, is_quiet, answered_shaped}
+use Rattle.pfs_session.specs.declared.remarks.Remark.TheVariants.{Query, Rows, Refused}
+use Rattle.pfs_parts.proofs.Acting.{AreAll, IsLast, connected_context, connect_fits, connect_plain, quiet_context, quiet_plains, reply_last, rows_last, work_quiet, work_shaped, all_then, is_quiet, answered_shaped}
 use Rattle.pfs_parts.proofs.Cutting.{cut_one, cut_nothing}
 use Rattle.pfs_parts.proofs.Ended.{EndIs, end_is, ending_closed}
-use Rattle.pfs_parts.proofs.Inverting.{OneTurn, TwoTurns, no_turns, one_turn, two_turns}
+use Rattle.pfs_parts.proofs.Inquiring.{Told, told, asked_by, asked_steps, asked_entries, answers_to, answers_quiet, answers_shaped}
+use Rattle.pfs_parts.proofs.Inverting.{OneTurn, TwoTurns, ThreeTurns, no_turns, one_turn, two_turns, three_turns}
 use Rattle.pfs_parts.proofs.Pieces.{IsPiece, piece_none, piece_one, piece_plain, piece_then, cut_both}
 use Rattle.pfs_parts.proofs.Settled.{SettleIs, settle_is, settling_closed, settled_context, settle_shaped, settle_plain, piece_plains}
 use Rattle.pfs_session.proofs.Ending.{through_leaves}
@@ -40,7 +50,7 @@ use Rattle.pfs_session.proofs.Owed.{nothing_owed}
 use Rattle.pfs_parts.proofs.Ringing.{rings_piece}
 use Rattle.pfs_parts.proofs.Started.{StartIs, start_is}
 use Rattle.pfs_parts.specs.Agreeing.{LoadsAgree, AreAlike, Agrees, IsOver, Stands, row_owed}
-use Rattle.pfs_parts.specs.Deeds.{IsSubject}
+use Rattle.pfs_parts.specs.Deeds.{IsReplied, IsSubject, looks, remark}
 use Rattle.pfs_parts.specs.Shaped.{IsWritten}
 
 -- a new line tells no more of its session
@@ -377,6 +387,42 @@ quit_line flags context s admin turns a empty are steps =
       stands = over;
     })
 
+-- a line that settles and does an action that an entry closes
+action_line : (flags : ℕ → ℕ → ℕ) (context : Context) (s mid after : State) (line : Line) (ask : Ask) (answer : Entry) (admin next : Administration) (work : Work) (calls more : List Call)
+    (entries changed : List Entry) → Agrees flags context s → shape context line ≡ settling context.held ++ one asks.Act ∷ (changes ++ one ask ∷ []) → IsLast ask answer
+    → Settles s calls entries mid → Works work admin.words (says.Act (admin.actions + 1) ∷ []) more changed → after ≡ acted mid next
+    → IsLine flags s.stack false context line (entries ++ (changed ++ answer ∷ [])) after
+action_line flags context s mid after line ask answer admin next work calls more entries changed a same last settles w is_after =
+    let e : SettleIs flags s.stack line (turned context) entries mid = settle_is flags line (turned context) s mid calls entries (turned_agrees flags context s a) settles in
+    let head : Entry = says.Act (admin.actions + 1) in
+    let rest : List Entry = moves_entries w.moves ++ (signs_entries w.made ++ flagging_entries admin.words work.flags) in
+    let whole : List Entry = head ∷ (rest ++ answer ∷ []) in
+    let quiet = all_then true is_quiet (head ∷ rest) (answer ∷ []) (refl, work_quiet w.moves w.made admin.words work.flags) (last.quiet, tt) in
+    let behind : Context = after_entries (subject_of line) e.behind whole in
+    let k = quiet_context (subject_of line) e.behind whole quiet in
+    let is : changed ++ answer ∷ [] ≡ whole = ap (λ z. z ++ answer ∷ []) w.entries_are in
+    let joined : rest ++ answer ∷ [] ≡ moves_entries w.moves ++ (signs_entries w.made ++ (flagging_entries admin.words work.flags ++ answer ∷ [])) =
+    append_assoc (moves_entries w.moves) (signs_entries w.made ++ flagging_entries admin.words work.flags) (answer ∷ [])
+    ∙ ap (λ z. moves_entries w.moves ++ z) (append_assoc (signs_entries w.made) (flagging_entries admin.words work.flags) (answer ∷ [])) in
+    let stands : Agrees flags behind (acted mid next) = record {
+      slot = k.untouched.slot ∙ e.agrees.slot;
+      opened = subst (λ z. AreAlike flags mid.place.thread z mid.opened.events) (sym k.untouched.opened) e.agrees.opened;
+      held = k.held ∙ e.agrees.held;
+      drawn = k.untouched.drawn ∙ e.agrees.drawn;
+      wide = e.agrees.wide;
+      low = e.agrees.low;
+    } in
+    let own : IsLine flags s.stack false context line (entries ++ whole) (acted mid next) = record {
+      shaped = ap (λ z. cut z (entries ++ whole)) same
+          ∙ cut_both (settling context.held) (one asks.Act ∷ (changes ++ one ask ∷ [])) entries whole (settling_closed context.held) refl e.shaped
+          (cut_one asks.Act (changes ++ one ask ∷ []) head (rest ++ answer ∷ []) refl
+          ∙ (ap (cut (changes ++ one ask ∷ [])) joined ∙ answered_shaped w.moves w.made admin.words work.flags ask answer last));
+      behind = behind;
+      piece = piece_then flags s.stack line (turned context) e.behind behind entries whole e.piece (piece_plains flags s.stack line e.behind whole (quiet_plains whole quiet));
+      stands = stands;
+    } in
+    subst (λ z. IsLine flags s.stack false context line (entries ++ z) after) (sym is) (subst (λ z. IsLine flags s.stack false context line (entries ++ whole) z) (sym is_after) own)
+
 pub truncation_line : (flags : ℕ → ℕ → ℕ) (context : Context) (s : State) (admin : Administration) (what : Truncation) (turns : List Turn) → Agrees flags context s → AreTurns s turns
     → steps_of turns ≡ SettlesHeld ∷ Truncates admin what ∷ [] → IsLine flags s.stack false context lines.Change (turns_entries turns) (state_after s turns)
 truncation_line flags context s admin what turns a are steps =
@@ -385,41 +431,90 @@ truncation_line flags context s admin what turns a are steps =
     let u : Turn = o.second in
     let P : List Turn → Type 0 = λ z. IsLine flags s.stack false context lines.Change (turns_entries z) (state_after s z) in
     let ours : AreTurns s (u ∷ t ∷ []) = subst (AreTurns s) o.is are in
-    let e : SettleIs flags s.stack lines.Change (turned context) t.entries t.after =
-    settle_is flags lines.Change (turned context) s t.after t.calls t.entries (turned_agrees flags context s a) (does_at s t SettlesHeld o.first_is ours.1.0) in
-    let d = does_at t.after u (Truncates admin what) o.second_is ours.0 in
-    let w = d.works in
-    let work = work_of_truncation admin what in
-    let head : Entry = says.Act (admin.actions + 1) in
-    let rest : List Entry = moves_entries w.moves ++ (signs_entries w.made ++ flagging_entries admin.words work.flags) in
-    let answer : List Entry = says.Reply 0 ∷ [] in
-    let whole : List Entry = head ∷ (rest ++ answer) in
-    let quiet = all_then true is_quiet (head ∷ rest) answer (refl, work_quiet w.moves w.made admin.words work.flags) (refl, tt) in
-    let behind : Context = after_entries None e.behind whole in
-    let k = quiet_context None e.behind whole quiet in
-    let E : List Entry → Type 0 = λ z. IsPiece flags s.stack lines.Change (turned context) (t.entries ++ z) behind in
-    let is : u.entries ≡ whole = d.entries_are ∙ ap (λ z. z ++ answer) w.entries_are in
-    let joined : rest ++ answer ≡ moves_entries w.moves ++ (signs_entries w.made ++ (flagging_entries admin.words work.flags ++ answer)) =
-    append_assoc (moves_entries w.moves) (signs_entries w.made ++ flagging_entries admin.words work.flags) answer
-    ∙ ap (λ z. moves_entries w.moves ++ z) (append_assoc (signs_entries w.made) (flagging_entries admin.words work.flags) answer) in
-    let stands : Agrees flags behind (acted t.after (has_truncated admin what)) = record {
-      slot = k.untouched.slot ∙ e.agrees.slot;
-      opened = subst (λ z. AreAlike flags t.after.place.thread z t.after.opened.events) (sym k.untouched.opened) e.agrees.opened;
-      held = k.held ∙ e.agrees.held;
-      drawn = k.untouched.drawn ∙ e.agrees.drawn;
-      wide = e.agrees.wide;
-      low = e.agrees.low;
+    let settles : Settles s t.calls t.entries t.after = does_at s t SettlesHeld o.first_is ours.1.0 in
+    let d : Truncated t.after admin what u.calls u.entries u.after = does_at t.after u (Truncates admin what) o.second_is ours.0 in
+    subst P (sym o.is) (subst (λ z. IsLine flags s.stack false context lines.Change (t.entries ++ z) u.after) (sym d.entries_are)
+    (action_line flags context s t.after u.after lines.Change asks.Answer (says.Reply 0) admin (has_truncated admin what) (work_of_truncation admin what) t.calls u.calls t.entries d.changes
+    a refl (reply_last (replies.Changed 0)) settles d.works d.after_is))
+
+-- any but a SELECT is answered
+pub replied : (what : SetupStatement) (reply : Reply) → IsReplied what → reply_entries what reply ≡ reply_entry reply ∷ []
+replied Show reply r = absurd r
+replied (Update update) reply r = refl
+replied (Insert insert) reply r = refl
+replied (Delete delete) reply r = refl
+
+pub change_line : (flags : ℕ → ℕ → ℕ) (context : Context) (s : State) (admin : Administration) (what : SetupStatement) (turns : List Turn) → Agrees flags context s → IsReplied what
+    → AreTurns s turns → steps_of turns ≡ SettlesHeld ∷ Changes admin what ∷ [] → IsLine flags s.stack false context lines.Change (turns_entries turns) (state_after s turns)
+change_line flags context s admin what turns a answered are steps =
+    let o : TwoTurns turns SettlesHeld (Changes admin what) = two_turns turns SettlesHeld (Changes admin what) steps in
+    let t : Turn = o.first in
+    let u : Turn = o.second in
+    let P : List Turn → Type 0 = λ z. IsLine flags s.stack false context lines.Change (turns_entries z) (state_after s z) in
+    let ours : AreTurns s (u ∷ t ∷ []) = subst (AreTurns s) o.is are in
+    let settles : Settles s t.calls t.entries t.after = does_at s t SettlesHeld o.first_is ours.1.0 in
+    let d : Changed t.after admin what u.calls u.entries u.after = does_at t.after u (Changes admin what) o.second_is ours.0 in
+    let reply : Reply = reply_to admin what in
+    let is : u.entries ≡ d.changes ++ reply_entry reply ∷ [] = d.entries_are ∙ ap (λ z. d.changes ++ z) (replied what reply answered) in
+    subst P (sym o.is) (subst (λ z. IsLine flags s.stack false context lines.Change (t.entries ++ z) u.after) (sym is)
+    (action_line flags context s t.after u.after lines.Change asks.Answer (reply_entry reply) admin (has_changed admin what) (work_of_statement admin what) t.calls u.calls t.entries d.changes
+    a refl (reply_last reply) settles d.works d.after_is))
+
+-- of a SELECT of a setup table the rows close the action
+pub show_line : (flags : ℕ → ℕ → ℕ) (context : Context) (s : State) (admin : Administration) (count : ℕ) (turns : List Turn) → Agrees flags context s → AreTurns s turns
+    → steps_of turns ≡ SettlesHeld ∷ Changes admin Show ∷ remark (Rows count) ∷ [] → IsLine flags s.stack false context lines.Show (turns_entries turns) (state_after s turns)
+show_line flags context s admin count turns a are steps =
+    let o : ThreeTurns turns SettlesHeld (Changes admin Show) (remark (Rows count)) = three_turns turns SettlesHeld (Changes admin Show) (remark (Rows count)) steps in
+    let t : Turn = o.first in
+    let u : Turn = o.second in
+    let v : Turn = o.third in
+    let P : List Turn → Type 0 = λ z. IsLine flags s.stack false context lines.Show (turns_entries z) (state_after s z) in
+    let ours : AreTurns s (v ∷ u ∷ t ∷ []) = subst (AreTurns s) o.is are in
+    let settles : Settles s t.calls t.entries t.after = does_at s t SettlesHeld o.first_is ours.1.1.0 in
+    let d : Changed t.after admin Show u.calls u.entries u.after = does_at t.after u (Changes admin Show) o.second_is ours.1.0 in
+    let r : Inquired u.after (Remarks (Rows count)) v.calls v.entries v.after = does_at u.after v (remark (Rows count)) o.third_is ours.0 in
+    let is : (t.entries ++ u.entries) ++ v.entries ≡ t.entries ++ (d.changes ++ says.Rows count ∷ []) =
+    append_assoc t.entries u.entries v.entries
+    ∙ ap (λ z. t.entries ++ z) (ap (λ z. z ++ v.entries) (d.entries_are ∙ append-nil d.changes) ∙ ap (λ z. d.changes ++ z) r.entries_are) in
+    subst P (sym o.is) (subst (λ z. IsLine flags s.stack false context lines.Show z v.after) (sym is)
+    (action_line flags context s t.after v.after lines.Show asks.Rows (says.Rows count) admin (has_changed admin Show) (work_of_statement admin Show) t.calls u.calls t.entries d.changes
+    a refl (rows_last count) settles d.works (r.after_is ∙ d.after_is)))
+
+-- a line of which all entries are quiet, and which leaves its session as it was
+quiet_line : (flags : ℕ → ℕ → ℕ) (context : Context) (s after : State) (line : Line) (entries : List Entry) → Agrees flags context s → cut (shape context line) entries ≡ Ok []
+    → AreAll true is_quiet entries → after ≡ s → IsLine flags s.stack false context line entries after
+quiet_line flags context s after line entries a shaped quiet same =
+    let behind : Context = after_entries (subject_of line) (turned context) entries in
+    let k = quiet_context (subject_of line) (turned context) entries quiet in
+    let stands : Agrees flags behind s = record {
+      slot = k.untouched.slot ∙ a.slot;
+      opened = subst (λ z. AreAlike flags s.place.thread z s.opened.events) (sym k.untouched.opened) a.opened;
+      held = k.held ∙ a.held;
+      drawn = k.untouched.drawn ∙ a.drawn;
+      wide = a.wide;
+      low = a.low;
     } in
-    subst P (sym o.is) (record {
-      shaped = ap (λ z. cut (settling context.held ++ one asks.Act ∷ (changes ++ one asks.Answer ∷ [])) (t.entries ++ z)) is
-          ∙ cut_both (settling context.held) (one asks.Act ∷ (changes ++ one asks.Answer ∷ [])) t.entries whole (settling_closed context.held) refl e.shaped
-          (cut_one asks.Act (changes ++ one asks.Answer ∷ []) head (rest ++ answer) refl
-          ∙ (ap (cut (changes ++ one asks.Answer ∷ [])) joined ∙ answered_shaped w.moves w.made admin.words work.flags 0));
+    record {
+      shaped = shaped;
       behind = behind;
-      piece = subst E (sym is) (piece_then flags s.stack lines.Change (turned context) e.behind behind t.entries whole e.piece
-          (piece_plains flags s.stack lines.Change e.behind whole (quiet_plains whole quiet)));
-      stands = subst (λ z. Agrees flags behind z) (sym d.after_is) stands;
-    })
+      piece = piece_plains flags s.stack line (turned context) entries (quiet_plains entries quiet);
+      stands = subst (λ z. Agrees flags behind z) (sym same) stands;
+    }
+
+pub query_line : (flags : ℕ → ℕ → ℕ) (context : Context) (s : State) (readings : List Reading) (count : ℕ) (turns : List Turn) → Agrees flags context s → AreTurns s turns
+    → steps_of turns ≡ remark Query ∷ (looks readings ++ remark (Rows count) ∷ []) → IsLine flags s.stack false context lines.Query (turns_entries turns) (state_after s turns)
+query_line flags context s readings count turns a are steps =
+    let t : Told s (asked_by readings count) turns = told s (asked_by readings count) turns are (steps ∙ asked_steps readings count) in
+    let is : turns_entries turns ≡ answers_to readings count = t.entries_are ∙ asked_entries readings count in
+    subst (λ z. IsLine flags s.stack false context lines.Query z (state_after s turns)) (sym is)
+    (quiet_line flags context s (state_after s turns) lines.Query (answers_to readings count) a (answers_shaped readings count) (answers_quiet readings count) t.after_is)
+
+pub refusal_line : (flags : ℕ → ℕ → ℕ) (context : Context) (s : State) (error : ℕ) (turns : List Turn) → Agrees flags context s → AreTurns s turns
+    → steps_of turns ≡ remark (Refused error) ∷ [] → IsLine flags s.stack false context (lines.Refused error) (turns_entries turns) (state_after s turns)
+refusal_line flags context s error turns a are steps =
+    let t : Told s (Remarks (Refused error) ∷ []) turns = told s (Remarks (Refused error) ∷ []) turns are steps in
+    subst (λ z. IsLine flags s.stack false context (lines.Refused error) z (state_after s turns)) (sym t.entries_are)
+    (quiet_line flags context s (state_after s turns) (lines.Refused error) (says.Error error ∷ []) a (cut_one asks.Error [] (says.Error error) [] refl ∙ cut_nothing []) (refl, tt) t.after_is)
 
 pub close_line : (flags : ℕ → ℕ → ℕ) (context : Context) (s : State) (turns : List Turn) → Agrees flags context s → AreTurns s turns
     → steps_of turns ≡ SettlesHeld ∷ [] → IsLine flags s.stack false context lines.Close (turns_entries turns) (state_after s turns)

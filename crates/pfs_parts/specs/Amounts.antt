@@ -26,12 +26,12 @@ use Rattle.pfs_session.specs.Ends.{numbers_for, with_held}
 use Rattle.pfs_session.specs.Settles.{owed_by_state}
 use Rattle.pfs_session.specs.Starts.{IsUnfilled}
 use Rattle.pfs_session.specs.States.{State, Owed, fresh}
-use Rattle.pfs_session.specs.Turns.{Step, StartsEvent, EndsEvent, Spends, SettlesHeld, Connects, Quits, Truncates, steps_of}
+use Rattle.pfs_session.specs.Turns.{Step, StartsEvent, EndsEvent, Spends, SettlesHeld, Connects, Quits, Truncates, Changes, Inquires, steps_of}
 use Rattle.pfs_session.specs.declared.events.Numbers.{Numbers}
 use Rattle.pfs_stat.specs.Stat.{words_of, stat_of_words}
 use Rattle.pfs_stat.specs.declared.Stat.{Stat}
 use Rattle.pfs_parts.specs.Agreeing.{Stands}
-use Rattle.pfs_parts.specs.Deeds.{Deed, Connecting, Starting, Staging, StageEnding, Ending, Spending, Quitting, Truncating, Closing, Part, part_calls}
+use Rattle.pfs_parts.specs.Deeds.{Deed, Connecting, Starting, Staging, StageEnding, Ending, Spending, Quitting, Truncating, Changing, Showing, Querying, Refusing, Closing, Part, part_calls}
 use Rattle.pfs_parts.specs.Shaped.{AreParts, MayDoAll, AllLoadsAgree, lines_of, entries_of, state_behind}
 use Rattle.pfs_parts.specs.Stints.{Stint, AreStints, blocks_of, parts_by, state_by, over_by}
 
@@ -63,6 +63,8 @@ stepped clocked SettlesHeld = clocked
 stepped clocked (Connects admin user host) = clocked
 stepped clocked (Quits admin) = clocked
 stepped clocked (Truncates admin what) = clocked
+stepped clocked (Changes admin what) = clocked
+stepped clocked (Inquires what) = clocked
 
 -- these are the facts of an event that ends when the clock stands so: how long it took, modulo 2^64, and a statement's
 -- numbers
@@ -88,6 +90,8 @@ StepFacts facts clocked SettlesHeld = Unit {0}
 StepFacts facts clocked (Connects admin user host) = Unit {0}
 StepFacts facts clocked (Quits admin) = Unit {0}
 StepFacts facts clocked (Truncates admin what) = Unit {0}
+StepFacts facts clocked (Changes admin what) = Unit {0}
+StepFacts facts clocked (Inquires what) = Unit {0}
 
 abbrev pub all_stepped : Clocked → List Step → Clocked
 all_stepped clocked [] = clocked
@@ -201,6 +205,10 @@ IsPlaced slot number (Ending numbers) = Unit {0}
 IsPlaced slot number (Spending time) = Unit {0}
 IsPlaced slot number (Quitting admin) = Unit {0}
 IsPlaced slot number (Truncating admin what) = Unit {0}
+IsPlaced slot number (Changing admin what) = Unit {0}
+IsPlaced slot number (Showing admin count) = Unit {0}
+IsPlaced slot number (Querying readings count) = Unit {0}
+IsPlaced slot number (Refusing error) = Unit {0}
 IsPlaced slot number Closing = Unit {0}
 
 abbrev pub AllPlaced : Option ℕ → ℕ → List Part → Type 0

@@ -3,6 +3,11 @@ use Rattle.std.specs.Prelude.{ℕ, ◌≡◌, ◌⊎◌, ◌<◌, Bool, true, fa
 use Rattle.pfs_admin.specs.Asks.{placed_of}
 use Rattle.pfs_admin.specs.States.{seat_at}
 use Rattle.pfs_admin.specs.States.{State as Administration}
+use Rattle.pfs_admin.specs.declared.changes.SetupStatement.{SetupStatement}
+use Rattle.pfs_admin.specs.declared.changes.SetupStatement.TheVariants.{Update, Insert, Delete, Show}
+use Rattle.pfs_reader.specs.Readings.{IsThere}
+use Rattle.pfs_readsets.specs.ReadSets.{target_of}
+use Rattle.pfs_rows.specs.declared.table.Reading.{Reading}
 use Rattle.pfs_truncations.specs.declared.truncations.Truncation.{Truncation}
 use Rattle.pfs_event.specs.declared.entry.Entry.{Entry}
 use Rattle.pfs_event.specs.declared.kind.EventKind.TheVariants.{Transaction}
@@ -11,11 +16,14 @@ use Rattle.pfs_model.specs.declared.lines.Line.{Line}
 use Rattle.pfs_model.specs.declared.lines.Line.TheVariants as lines
 use Rattle.pfs_model.specs.declared.lines.Subject.{Subject}
 use Rattle.pfs_session.specs.States.{State, nothing_held}
-use Rattle.pfs_session.specs.Turns.{Step, StartsEvent, EndsEvent, Spends, SettlesHeld, Connects, Quits, Truncates, Turn, AreTurns, steps_of, turns_calls, turns_entries, stage_ends, stage_steps}
+use Rattle.pfs_session.specs.Inquiries.{Looks, Remarks}
+use Rattle.pfs_session.specs.declared.remarks.Remark.{Remark}
+use Rattle.pfs_session.specs.declared.remarks.Remark.TheVariants.{Query, Rows, Refused}
+use Rattle.pfs_session.specs.Turns.{Step, StartsEvent, EndsEvent, Spends, SettlesHeld, Connects, Quits, Truncates, Changes, Inquires, Turn, AreTurns, steps_of, turns_calls, turns_entries, stage_ends, stage_steps}
 use Rattle.pfs_session.specs.declared.events.Numbers.{Numbers}
 
 -- a line with what its session is told: of an action the administration as it stands before it, of an end a statement's
--- numbers
+-- numbers, of a SELECT its readings and how many rows answer it, of a text that is refused its error
 pub data Deed : Type 0 where
   Connecting : Administration → ℕ → ℕ → Deed
   Starting : Subject → Deed
@@ -25,6 +33,10 @@ pub data Deed : Type 0 where
   Spending : ℕ → Deed
   Quitting : Administration → Deed
   Truncating : Administration → Truncation → Deed
+  Changing : Administration → SetupStatement → Deed
+  Showing : Administration → ℕ → Deed
+  Querying : List Reading → ℕ → Deed
+  Refusing : ℕ → Deed
   Closing : Deed
 
 -- the line as a journal goes by it
@@ -37,6 +49,10 @@ line_of (Ending numbers) = lines.End
 line_of (Spending time) = lines.Spend
 line_of (Quitting admin) = lines.Quit
 line_of (Truncating admin what) = lines.Change
+line_of (Changing admin what) = lines.Change
+line_of (Showing admin count) = lines.Show
+line_of (Querying readings count) = lines.Query
+line_of (Refusing error) = lines.Refused error
 line_of Closing = lines.Close
 
 -- the number of its action, by the administration; None of a line that is none
@@ -44,6 +60,10 @@ abbrev pub action_of : Deed → Option ℕ
 action_of (Connecting admin user host) = Some (admin.actions + 1)
 action_of (Quitting admin) = Some (admin.actions + 1)
 action_of (Truncating admin what) = Some (admin.actions + 1)
+action_of (Changing admin what) = Some (admin.actions + 1)
+action_of (Showing admin count) = Some (admin.actions + 1)
+action_of (Querying readings count) = None
+action_of (Refusing error) = None
 action_of (Starting subject) = None
 action_of (Staging subject) = None
 action_of StageEnding = None
@@ -51,8 +71,16 @@ action_of (Ending numbers) = None
 action_of (Spending time) = None
 action_of Closing = None
 
+-- a reading after another; and a remark of the journal
+abbrev pub looks : List Reading → List Step
+looks [] = []
+looks (reading ∷ readings) = Inquires (Looks reading) ∷ looks readings
+
+abbrev pub remark : Remark → Step
+remark what = Inquires (Remarks what)
+
 -- the steps that a session does at it: a stage that is open ends before another starts, and before its statement ends;
--- what is held is settled before a quit and a truncation, and at the end of its block
+-- what is held is settled before an action but a connect, and at the end of its block
 abbrev pub steps_for : State → Deed → List Step
 steps_for s (Connecting admin user host) = Connects admin user host ∷ []
 steps_for s (Starting subject) = StartsEvent subject ∷ []
@@ -62,6 +90,10 @@ steps_for s (Ending numbers) = stage_ends s.opened.events ++ EndsEvent numbers �
 steps_for s (Spending time) = Spends time ∷ []
 steps_for s (Quitting admin) = SettlesHeld ∷ Quits admin ∷ []
 steps_for s (Truncating admin what) = SettlesHeld ∷ Truncates admin what ∷ []
+steps_for s (Changing admin what) = SettlesHeld ∷ Changes admin what ∷ []
+steps_for s (Showing admin count) = SettlesHeld ∷ Changes admin Show ∷ remark (Rows count) ∷ []
+steps_for s (Querying readings count) = remark Query ∷ (looks readings ++ remark (Rows count) ∷ [])
+steps_for s (Refusing error) = remark (Refused error) ∷ []
 steps_for s Closing = SettlesHeld ∷ []
 
 -- what a line did: its steps with their calls and entries
@@ -89,6 +121,18 @@ pub record IsSubject (subject : Subject) : Type 0 where
   pub cell : (class : ℕ) → subject.class ≡ Some class → (subject.cell ≡ class)
       ⊎ ((subject.cell ≡ 63) × (subject.kind ≡ Transaction))
 
+-- a statement that is answered: any but a SELECT
+abbrev pub IsReplied : SetupStatement → Type 0
+IsReplied Show = ⊥
+IsReplied (Update update) = Unit {0}
+IsReplied (Insert insert) = Unit {0}
+IsReplied (Delete delete) = Unit {0}
+
+-- a reading is of a row or a word that is there
+abbrev pub AreOfStore : List Reading → Type 0
+AreOfStore [] = Unit {0}
+AreOfStore (reading ∷ readings) = IsThere (target_of reading) × AreOfStore readings
+
 -- what a line asks of its session. A session that connects has nothing open and holds nothing, and gets one of 32
 -- slots; one that ends has nothing open; behind its end there is the end of its block alone
 abbrev pub MayDo : Bool → State → Deed → Type 0
@@ -101,12 +145,20 @@ MayDo over s (Ending numbers) = over ≡ false
 MayDo over s (Spending time) = over ≡ false
 MayDo over s (Quitting admin) = (over ≡ false) × (s.opened.events ≡ [])
 MayDo over s (Truncating admin what) = over ≡ false
+MayDo over s (Changing admin what) = (over ≡ false) × IsReplied what
+MayDo over s (Showing admin count) = over ≡ false
+MayDo over s (Querying readings count) = (over ≡ false) × AreOfStore readings
+MayDo over s (Refusing error) = over ≡ false
 MayDo over s Closing = Unit {0}
 
 -- a session is over once it has ended
 abbrev pub is_over : Bool → Deed → Bool
 is_over over (Quitting admin) = true
 is_over over (Truncating admin what) = over
+is_over over (Changing admin what) = over
+is_over over (Showing admin count) = over
+is_over over (Querying readings count) = over
+is_over over (Refusing error) = over
 is_over over (Connecting admin user host) = over
 is_over over (Starting subject) = over
 is_over over (Staging subject) = over

@@ -1,19 +1,25 @@
 -- What lines take.
-use Rattle.std.proofs.Common.{ℕ, zero, suc, ◌≡◌, ◌<◌, ◌≤◌, ◌+◌, ◌*◌, List, [], ◌∷◌, ◌++◌, length, take, drop, Option, Some, None, ap, sym, ◌∙◌, subst, arith}
+use Rattle.std.proofs.Common.{ℕ, zero, suc, ◌≡◌, ◌<◌, ◌≤◌, ◌+◌, ◌*◌, List, [], ◌∷◌, ◌++◌, length, take, drop, Some, None, ap, sym, ◌∙◌, subst, arith}
 use Rattle.std.specs.List.{position}
 use Rattle.std.proofs.lemmas.List.{length-append}
 use Rattle.pfs_script.specs.declared.blocks.BlockLine.{BlockLine}
 use Rattle.pfs_script.specs.declared.blocks.BlockLine.TheVariants as said
 use Rattle.pfs_script.specs.Marks.{copies, is_done, repeats_of, written_out}
-use Rattle.pfs_truncations.specs.Texts.{truncation_of}
-use Rattle.pfs_truncations.specs.declared.truncations.Truncation.{Truncation}
+use Rattle.pfs_requests.specs.Requests.{request_of}
+use Rattle.pfs_requests.specs.declared.requests.Request.{Request}
+use Rattle.pfs_requests.specs.declared.requests.Request.TheVariants as requests
 use Rattle.pfs_play.specs.Errands.{actions_of, actions_on, cost_of, cost_on, errand_on, sql_errand}
 use Rattle.pfs_play.specs.Repeats.{repeated}
 use Rattle.pfs_play.proofs.Writing.{place, found, not_found, written_round, written_open, written_begin, begins, cost_then, cost_copies, length_copies}
 
-sql_cost : (what : Option Truncation) → cost_of (sql_errand what) ≤ 14 + 20182 * actions_of (sql_errand what)
-sql_cost None = omega arith
-sql_cost (Some what) = omega arith
+sql_cost : (what : Request) → cost_of (sql_errand what) ≤ 14 + 20182 * actions_of (sql_errand what)
+sql_cost (requests.Refused error) = omega arith
+sql_cost (requests.Query select) = omega arith
+sql_cost (requests.Show select) = omega arith
+sql_cost (requests.Truncate what) = omega arith
+sql_cost (requests.Update update) = omega arith
+sql_cost (requests.Insert insert) = omega arith
+sql_cost (requests.Delete delete) = omega arith
 
 one_cost : (line : BlockLine) → cost_of (errand_on line) ≤ 14 + 20182 * actions_of (errand_on line)
 one_cost (said.Wait class) = omega arith
@@ -23,16 +29,21 @@ one_cost (said.Transaction access) = omega arith
 one_cost (said.Stage class) = omega arith
 one_cost said.StageEnd = omega arith
 one_cost (said.Spend time) = omega arith
-one_cost (said.Sql text) = sql_cost (truncation_of text)
+one_cost (said.Sql text) = sql_cost (request_of text)
 one_cost said.Quit = omega arith
 one_cost said.End = omega arith
 one_cost (said.EndStatement numbers) = omega arith
 one_cost (said.Repeat times) = omega arith
 one_cost said.Done = omega arith
 
-sql_once : (what : Option Truncation) → actions_of (sql_errand what) ≤ 1
-sql_once None = omega arith
-sql_once (Some what) = omega arith
+sql_once : (what : Request) → actions_of (sql_errand what) ≤ 1
+sql_once (requests.Refused error) = omega arith
+sql_once (requests.Query select) = omega arith
+sql_once (requests.Show select) = omega arith
+sql_once (requests.Truncate what) = omega arith
+sql_once (requests.Update update) = omega arith
+sql_once (requests.Insert insert) = omega arith
+sql_once (requests.Delete delete) = omega arith
 
 one_once : (line : BlockLine) → actions_of (errand_on line) ≤ 1
 one_once (said.Wait class) = omega arith
@@ -42,7 +53,7 @@ one_once (said.Transaction access) = omega arith
 one_once (said.Stage class) = omega arith
 one_once said.StageEnd = omega arith
 one_once (said.Spend time) = omega arith
-one_once (said.Sql text) = sql_once (truncation_of text)
+one_once (said.Sql text) = sql_once (request_of text)
 one_once said.Quit = omega arith
 one_once said.End = omega arith
 one_once (said.EndStatement numbers) = omega arith

@@ -22,13 +22,19 @@ use Rattle.pfs_session.specs.Turns.{state_after}
 use Rattle.pfs_facts.specs.Deeds.{deed_on, sql_deed}
 use Rattle.pfs_facts.specs.Steps.{kinds_at}
 use Rattle.pfs_facts.proofs.OpenKinds.{kinds_part}
-use Rattle.pfs_truncations.specs.Texts.{truncation_of}
-use Rattle.pfs_truncations.specs.declared.truncations.Truncation.{Truncation}
+use Rattle.pfs_requests.specs.Requests.{request_of}
+use Rattle.pfs_requests.specs.declared.requests.Request.{Request}
+use Rattle.pfs_requests.specs.declared.requests.Request.TheVariants as requests
 use Rattle.pfs_play.specs.Errands.{admin_after, admin_behind, deed_of, errand_on, sql_errand, is_quit, HavePlayed, AreOf, StagesLie}
 
-sql_same : (admin : Administration) (what : Option Truncation) → deed_of admin (sql_errand what) ≡ sql_deed admin what
-sql_same admin None = refl
-sql_same admin (Some what) = refl
+sql_same : (admin : Administration) (what : Request) → deed_of admin (sql_errand what) ≡ sql_deed admin what
+sql_same admin (requests.Refused error) = refl
+sql_same admin (requests.Query select) = refl
+sql_same admin (requests.Show select) = refl
+sql_same admin (requests.Truncate what) = refl
+sql_same admin (requests.Update update) = refl
+sql_same admin (requests.Insert insert) = refl
+sql_same admin (requests.Delete delete) = refl
 
 pub errand_deed : (admin : Administration) (line : BlockLine) → deed_of admin (errand_on line) ≡ deed_on admin line
 errand_deed admin (said.Wait class) = refl
@@ -41,7 +47,7 @@ errand_deed admin (said.Spend time) = refl
 errand_deed admin said.End = refl
 errand_deed admin (said.EndStatement numbers) = refl
 errand_deed admin said.Quit = refl
-errand_deed admin (said.Sql text) = sql_same admin (truncation_of text)
+errand_deed admin (said.Sql text) = sql_same admin (request_of text)
 errand_deed admin (said.Repeat times) = refl
 errand_deed admin said.Done = refl
 
@@ -59,9 +65,14 @@ cell_fits None (refs.Class other) id kind of q = inl (cc)
 cell_fits (Some ReadWrite) (refs.Lost lost) id kind of q = cc
 cell_fits None (refs.Lost lost) id kind of q = cc
 
-sql_may : (s : State) (admin : Administration) (what : Option Truncation) → MayDo false s (sql_deed admin what)
-sql_may s admin None = refl
-sql_may s admin (Some what) = refl
+sql_may : (s : State) (admin : Administration) (what : Request) → MayDo false s (sql_deed admin what)
+sql_may s admin (requests.Refused error) = refl
+sql_may s admin (requests.Query select) = refl
+sql_may s admin (requests.Show select) = refl
+sql_may s admin (requests.Truncate what) = refl
+sql_may s admin (requests.Update update) = (refl, tt)
+sql_may s admin (requests.Insert insert) = (refl, tt)
+sql_may s admin (requests.Delete delete) = (refl, tt)
 
 may_do : (s : State) (admin : Administration) (line : BlockLine) → is_quit line ≡ false → MayDo false s (deed_on admin line)
 may_do s admin (said.Wait class) quits = (refl, record { cell = λ id q. cell_fits None class id Wait tt q })
@@ -74,13 +85,18 @@ may_do s admin (said.Spend time) quits = refl
 may_do s admin said.End quits = refl
 may_do s admin (said.EndStatement numbers) quits = refl
 may_do s admin said.Quit quits = cc
-may_do s admin (said.Sql text) quits = sql_may s admin (truncation_of text)
+may_do s admin (said.Sql text) quits = sql_may s admin (request_of text)
 may_do s admin (said.Repeat times) quits = refl
 may_do s admin said.Done quits = refl
 
-sql_goes : (admin : Administration) (what : Option Truncation) → is_over false (sql_deed admin what) ≡ false
-sql_goes admin None = refl
-sql_goes admin (Some what) = refl
+sql_goes : (admin : Administration) (what : Request) → is_over false (sql_deed admin what) ≡ false
+sql_goes admin (requests.Refused error) = refl
+sql_goes admin (requests.Query select) = refl
+sql_goes admin (requests.Show select) = refl
+sql_goes admin (requests.Truncate what) = refl
+sql_goes admin (requests.Update update) = refl
+sql_goes admin (requests.Insert insert) = refl
+sql_goes admin (requests.Delete delete) = refl
 
 goes_on : (admin : Administration) (line : BlockLine) → is_quit line ≡ false → is_over false (deed_on admin line) ≡ false
 goes_on admin (said.Wait class) quits = refl
@@ -93,7 +109,7 @@ goes_on admin (said.Spend time) quits = refl
 goes_on admin said.End quits = refl
 goes_on admin (said.EndStatement numbers) quits = refl
 goes_on admin said.Quit quits = cc
-goes_on admin (said.Sql text) quits = sql_goes admin (truncation_of text)
+goes_on admin (said.Sql text) quits = sql_goes admin (request_of text)
 goes_on admin (said.Repeat times) quits = refl
 goes_on admin said.Done quits = refl
 

@@ -36,6 +36,8 @@ one_counted admin (ask.End numbers) = omega arith
 one_counted admin (ask.Spend time) = omega arith
 one_counted admin ask.Quit = omega arith
 one_counted admin (ask.Truncate what) = omega arith
+one_counted admin (ask.Change what) = omega arith
+one_counted admin (ask.Refuse error) = omega arith
 
 -- the administration behind lines, and then others
 pub after_then : (admin : Administration) (xs ys : List BlockLine) → admin_after admin (xs ++ ys) ≡ admin_after (admin_after admin xs) ys

@@ -16,22 +16,25 @@ use Rattle.pfs_event.specs.declared.open.Open.{Open}
 use Rattle.pfs_levels.specs.Calls.{Call, Opening}
 use Rattle.pfs_model.specs.Journals.{joined}
 use Rattle.pfs_model.specs.declared.lines.Subject.{Subject}
-use Rattle.pfs_parts.specs.Deeds.{Deed, Ending, Part, Spending, Staging, StageEnding, action_of, part_calls, part_entries, steps_for}
+use Rattle.pfs_parts.specs.Deeds.{Deed, Ending, Part, Refusing, Spending, Staging, StageEnding, action_of, part_calls, part_entries, steps_for}
 use Rattle.pfs_runs.specs.Lines.{class_in}
 use Rattle.pfs_script.specs.declared.blocks.BlockLine.{BlockLine}
 use Rattle.pfs_script.specs.declared.blocks.BlockLine.TheVariants as said
 use Rattle.pfs_script.specs.Brackets.{innermost, ended_by}
 use Rattle.pfs_script.specs.Marks.{Opens}
 use Rattle.pfs_script.specs.Runnable.{IsKnownClass}
+use Rattle.pfs_session.specs.Inquiries.{Remarks, remark_entry}
+use Rattle.pfs_session.specs.declared.remarks.Remark.TheVariants.{Refused}
 use Rattle.pfs_session.specs.Leaving.{HasStaged}
 use Rattle.pfs_session.specs.States.{Book, without_stage}
-use Rattle.pfs_session.specs.Turns.{Step, EndsEvent, Spends, Does, Played, stage_ends, stage_steps}
+use Rattle.pfs_session.specs.Turns.{Step, EndsEvent, Spends, Inquires, Does, Played, stage_ends, stage_steps}
 use Rattle.pfs_session.specs.declared.events.Numbers.{Numbers}
 use Rattle.pfs_session.proofs.Playing.{played_one, played_then}
 use Rattle.pfs_facts.specs.Steps.{kinds_in}
 use Rattle.pfs_play.specs.declared.errands.Errand.TheVariants as ask
-use Rattle.pfs_truncations.specs.Texts.{truncation_of}
-use Rattle.pfs_truncations.specs.declared.truncations.Truncation.{Truncation}
+use Rattle.pfs_requests.specs.Requests.{request_of}
+use Rattle.pfs_requests.specs.declared.requests.Request.{Request}
+use Rattle.pfs_requests.specs.declared.requests.Request.TheVariants as requests
 use Rattle.pfs_play.specs.Errands.{deed_of, errand_on, sql_errand, MayBegin, MayRun, MayPlay, StagesLie}
 
 joined_one : (entries : List Entry) → joined (entries ∷ []) ≡ entries
@@ -81,6 +84,12 @@ pub spend_ran : (time : ℕ) (old new : Book) (was : Opening → List Call → T
 spend_ran time old new was does same =
     ran (Spending time) _ old new was was refl refl
     (played_one (Spends time) [] [] new.state old new was was does refl (record { entries_are = ap (λ j. j.entries) same ∙ sym (append-nil old.journal.entries); goes = λ start calls h. h }))
+
+pub refuse_ran : (error : ℕ) (old new : Book) (was : Opening → List Call → Type 0) → Does old.state (Inquires (Remarks (Refused error))) [] (remark_entry (Refused error) ∷ []) new.state
+    → new.journal.entries ≡ old.journal.entries ++ remark_entry (Refused error) ∷ [] → HasActed (Refusing error) old new was was
+refuse_ran error old new was does entries =
+    ran (Refusing error) _ old new was was refl refl
+    (played_one (Inquires (Remarks (Refused error))) [] (remark_entry (Refused error) ∷ []) new.state old new was was does refl (record { entries_are = entries; goes = λ start calls h. h }))
 
 pub stage_depth : (subject : Option Subject) (old new : OpenEvents) → HasStaged subject old new → new.depth ≡ old.depth
 stage_depth None old new staged = ap (λ (nest : OpenEvents). nest.depth) staged
@@ -136,9 +145,14 @@ some_open (what ∷ events) lie stands = at what.kind events refl lie
     at Statement events e lie = rw e (omega arith)
     at Transaction events e lie = rw e (omega arith)
 
-sql_may_run : (nest : OpenEvents) (what : Option Truncation) → MayRun (sql_errand what) nest
-sql_may_run nest None = tt
-sql_may_run nest (Some what) = tt
+sql_may_run : (nest : OpenEvents) (what : Request) → MayRun (sql_errand what) nest
+sql_may_run nest (requests.Refused error) = tt
+sql_may_run nest (requests.Query select) = tt
+sql_may_run nest (requests.Show select) = tt
+sql_may_run nest (requests.Truncate what) = tt
+sql_may_run nest (requests.Update update) = tt
+sql_may_run nest (requests.Insert insert) = tt
+sql_may_run nest (requests.Delete delete) = tt
 
 pub may_run : (nest : OpenEvents) (line : BlockLine) → StagesLie (kinds_in nest.events) → MayPlay 62 nest.depth (kinds_in nest.events) line → MayRun (errand_on line) nest
 may_run nest (said.Wait class) lie may = begins nest _ may.stands (omega (arith, may.shallow, kinds_long nest.events)) (known_class class may.known) tt tt
@@ -153,6 +167,6 @@ may_run nest (said.Spend time) lie may = tt
 may_run nest said.End lie may = some_open nest.events lie may.stands
 may_run nest (said.EndStatement numbers) lie may = some_open nest.events lie may.stands
 may_run nest said.Quit lie may = let quits = may.quits in cc
-may_run nest (said.Sql text) lie may = sql_may_run nest (truncation_of text)
+may_run nest (said.Sql text) lie may = sql_may_run nest (request_of text)
 may_run nest (said.Repeat times) lie may = tt
 may_run nest said.Done lie may = tt

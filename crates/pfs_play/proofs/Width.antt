@@ -2,16 +2,22 @@
 use Rattle.std.proofs.Common.{ℕ, ◌≡◌, ◌≤◌, ◌+◌, Bool, true, false, List, [], ◌∷◌, Option, Some, None, length, refl, ap, ◌∙◌, arith}
 use Rattle.std.proofs.lemmas.List.{length-set}
 use Rattle.pfs_actions.specs.Done.{HasActed}
+use Rattle.pfs_admin.specs.Setups.{most_of, word_count}
+use Rattle.pfs_admin.specs.declared.changes.SetupStatement.{SetupStatement}
+use Rattle.pfs_admin.specs.declared.changes.SetupStatement.TheVariants as statements
+use Rattle.pfs_changes.specs.Inserts.{table_of}
 use Rattle.pfs_event.specs.Verdicts.{is_let_through}
 use Rattle.pfs_event.specs.declared.entry.Entry.{Entry}
 use Rattle.pfs_event.specs.declared.open.Open.{Open}
 use Rattle.pfs_levels.specs.Calls.{Call, Opening}
 use Rattle.pfs_parts.specs.Deeds.{Deed, Part}
 use Rattle.pfs_parts.specs.Shaped.{AreParts, state_behind}
+use Rattle.pfs_rows.specs.declared.table.Table.{Table}
+use Rattle.pfs_rows.specs.declared.table.Table.TheVariants as tables
 use Rattle.pfs_session.specs.Ends.{EndsIn, DigestsIn}
 use Rattle.pfs_session.specs.Settles.{owed_from, owed_in, owed_by_state, settle_cost}
 use Rattle.pfs_session.specs.States.{State, Book, Owed, nothing_held}
-use Rattle.pfs_session.specs.Turns.{Step, StartsEvent, EndsEvent, Spends, SettlesHeld, Connects, Quits, Truncates, Does, Turn, AreTurns, state_after}
+use Rattle.pfs_session.specs.Turns.{Step, StartsEvent, EndsEvent, Spends, SettlesHeld, Connects, Quits, Truncates, Changes, Inquires, Does, Turn, AreTurns, state_after}
 use Rattle.pfs_session.specs.declared.events.Numbers.{Numbers}
 use Rattle.pfs_stat.specs.declared.Stat.{Stat}
 
@@ -41,6 +47,8 @@ step_wide s after SettlesHeld calls entries d wide = ap width d.after_is ∙ non
 step_wide s after (Connects admin user host) calls entries d wide = ap width d.1 ∙ wide
 step_wide s after (Quits admin) calls entries d wide = ap width d.1 ∙ wide
 step_wide s after (Truncates admin what) calls entries d wide = ap width d.after_is ∙ wide
+step_wide s after (Changes admin what) calls entries d wide = ap width d.after_is ∙ wide
+step_wide s after (Inquires what) calls entries d wide = ap width d.after_is ∙ wide
 
 turns_wide : (s : State) (turns : List Turn) → AreTurns s turns → width s ≡ 193 → width (state_after s turns) ≡ 193
 turns_wide s [] are wide = wide
@@ -69,6 +77,26 @@ cost_fits (one ∷ others) few = omega (arith, few)
 
 pub settling_fits : (s : State) → width s ≡ 193 → settle_cost (owed_by_state s) ≤ 194
 settling_fits s wide = cost_fits (owed_by_state s) (owed_fits s wide)
+
+-- a statement sets 64 words at most
+table_words : (table : Table) → word_count table ≤ 64
+table_words (tables.Summary kind table) = omega arith
+table_words (tables.Events kind table) = omega arith
+table_words tables.DigestSummary = omega arith
+table_words tables.Accounts = omega arith
+table_words tables.Users = omega arith
+table_words tables.Hosts = omega arith
+table_words tables.SetupActors = omega arith
+table_words tables.SetupObjects = omega arith
+table_words tables.SetupInstruments = omega arith
+table_words tables.SetupConsumers = omega arith
+table_words tables.Threads = omega arith
+
+pub words_fit : (what : SetupStatement) → most_of what ≤ 64
+words_fit (statements.Update update) = table_words update.table
+words_fit (statements.Insert insert) = table_words (table_of insert.row)
+words_fit (statements.Delete delete) = table_words delete.table
+words_fit statements.Show = omega arith
 
 -- so it is behind what it did in one part
 pub acted_wide : (deed : Deed) (old new : Book) (was now : Opening → List Call → Type 0) → HasActed deed old new was now → width old.state ≡ 193 → width new.state ≡ 193

@@ -1,14 +1,16 @@
 -- What lines of a script ask their session to do, and what it does.
-use Rattle.std.specs.Prelude.{ℕ, ◌≡◌, ◌<◌, ◌+◌, Bool, true, false, List, [], ◌∷◌, length, Option, Some, None, IfSome}
+use Rattle.std.specs.Prelude.{ℕ, ◌≡◌, ◌<◌, ◌+◌, Bool, true, false, List, [], ◌∷◌, length, Some, None, IfSome}
 use Rattle.pfs_actions.specs.Done.{HasDone}
 use Rattle.pfs_admin.specs.States.{State as Administration}
+use Rattle.pfs_admin.specs.Setups.{has_changed}
 use Rattle.pfs_admin.specs.Truncations.{has_truncated}
+use Rattle.pfs_admin.specs.declared.changes.SetupStatement.TheVariants as statements
 use Rattle.pfs_event.specs.Nesting.{OpenEvents, MayStart}
 use Rattle.pfs_event.specs.declared.kind.EventKind.{EventKind}
 use Rattle.pfs_event.specs.declared.kind.EventKind.TheVariants.{Wait, Stage, Statement, Transaction}
 use Rattle.pfs_levels.specs.Calls.{Call, Opening}
 use Rattle.pfs_model.specs.declared.lines.Subject.{Subject}
-use Rattle.pfs_parts.specs.Deeds.{Deed, Starting, Staging, StageEnding, Ending, Spending, Quitting, Truncating, Part}
+use Rattle.pfs_parts.specs.Deeds.{Deed, Starting, Staging, StageEnding, Ending, Spending, Quitting, Truncating, Changing, Refusing, IsReplied, Part}
 use Rattle.pfs_parts.specs.Shaped.{MayDoAll, over_behind}
 use Rattle.pfs_script.specs.declared.blocks.BlockLine.{BlockLine}
 use Rattle.pfs_script.specs.declared.blocks.BlockLine.TheVariants as said
@@ -21,15 +23,21 @@ use Rattle.pfs_session.specs.Ends.{no_numbers}
 use Rattle.pfs_runs.specs.Lines.{wait_on, statement_on, transaction_on, stage_on}
 use Rattle.pfs_facts.specs.Deeds.{deed_on}
 use Rattle.pfs_facts.specs.Steps.{numbers_in}
-use Rattle.pfs_truncations.specs.Texts.{truncation_of}
-use Rattle.pfs_truncations.specs.declared.truncations.Truncation.{Truncation}
+use Rattle.pfs_requests.specs.Requests.{request_of}
+use Rattle.pfs_requests.specs.declared.requests.Request.{Request}
+use Rattle.pfs_requests.specs.declared.requests.Request.TheVariants as requests
 use Rattle.pfs_play.specs.declared.errands.Errand.{Errand}
 use Rattle.pfs_play.specs.declared.errands.Errand.TheVariants as ask
 
--- a TRUNCATE is an action; no other SQL runs yet: there no time passes
-abbrev pub sql_errand : Option Truncation → Errand
-sql_errand None = ask.Spend 0
-sql_errand (Some what) = ask.Truncate what
+-- a text that is refused is no action; no SELECT runs yet: there no time passes
+abbrev pub sql_errand : Request → Errand
+sql_errand (requests.Refused error) = ask.Refuse error
+sql_errand (requests.Truncate what) = ask.Truncate what
+sql_errand (requests.Update update) = ask.Change (statements.Update update)
+sql_errand (requests.Insert insert) = ask.Change (statements.Insert insert)
+sql_errand (requests.Delete delete) = ask.Change (statements.Delete delete)
+sql_errand (requests.Query select) = ask.Spend 0
+sql_errand (requests.Show select) = ask.Spend 0
 
 -- what a line asks its session to do. No line that begins or ends a repeat stands among lines that are written out:
 -- these let no time pass
@@ -44,12 +52,12 @@ errand_on (said.Spend time) = ask.Spend time
 errand_on said.End = ask.End no_numbers
 errand_on (said.EndStatement numbers) = ask.End (numbers_in numbers)
 errand_on said.Quit = ask.Quit
-errand_on (said.Sql text) = sql_errand (truncation_of text)
+errand_on (said.Sql text) = sql_errand (request_of text)
 errand_on (said.Repeat times) = ask.Spend 0
 errand_on said.Done = ask.Spend 0
 
--- how many entries it writes at most, where it isn't the session's end: for a truncation 194 to settle what is held,
--- 20,000 for what it changes, its action and its answer
+-- how many entries it writes at most, where it isn't the session's end: for an action 194 to settle what is held; for
+-- what a truncation changes, its action and its answer 20,000 more, and for those of a statement 66
 abbrev pub cost_of : Errand → ℕ
 cost_of (ask.Start subject) = 2
 cost_of (ask.Stage subject) = 8
@@ -57,6 +65,8 @@ cost_of (ask.End numbers) = 14
 cost_of (ask.Spend time) = 0
 cost_of ask.Quit = 0
 cost_of (ask.Truncate what) = 20196
+cost_of (ask.Change what) = 260
+cost_of (ask.Refuse error) = 1
 
 abbrev pub cost_on : List BlockLine → ℕ
 cost_on [] = 0
@@ -70,6 +80,8 @@ actions_of (ask.End numbers) = 0
 actions_of (ask.Spend time) = 0
 actions_of ask.Quit = 0
 actions_of (ask.Truncate what) = 1
+actions_of (ask.Change what) = 1
+actions_of (ask.Refuse error) = 0
 
 abbrev pub actions_on : List BlockLine → ℕ
 actions_on [] = 0
@@ -83,6 +95,8 @@ admin_behind admin (ask.End numbers) = admin
 admin_behind admin (ask.Spend time) = admin
 admin_behind admin ask.Quit = admin
 admin_behind admin (ask.Truncate what) = has_truncated admin what
+admin_behind admin (ask.Change what) = has_changed admin what
+admin_behind admin (ask.Refuse error) = admin
 
 abbrev pub admin_after : Administration → List BlockLine → Administration
 admin_after admin [] = admin
@@ -97,6 +111,8 @@ deed_of admin (ask.End numbers) = Ending numbers
 deed_of admin (ask.Spend time) = Spending time
 deed_of admin ask.Quit = Quitting admin
 deed_of admin (ask.Truncate what) = Truncating admin what
+deed_of admin (ask.Change what) = Changing admin what
+deed_of admin (ask.Refuse error) = Refusing error
 
 -- what a start asks of its session
 pub record MayBegin (nest : OpenEvents) (subject : Subject) : Type 0 where
@@ -114,6 +130,8 @@ MayRun (ask.End numbers) nest = 0 < length (without_stage nest.events)
 MayRun (ask.Spend time) nest = Unit {0}
 MayRun ask.Quit nest = ⊥
 MayRun (ask.Truncate what) nest = Unit {0}
+MayRun (ask.Change what) nest = IsReplied what
+MayRun (ask.Refuse error) nest = Unit {0}
 
 -- a statement lies around each stage
 abbrev pub StagesLie : List EventKind → Type 0

@@ -1,19 +1,21 @@
 //! What a line of a script asks its session to do.
 
-ghost use Rattle.std.specs.Prelude.{◌≡◌, ℕ};
+ghost use Rattle.std.specs.Prelude.{◌≡◌, ℕ, IfOk};
 ghost use Rattle.pfs_admin.specs.States.{State};
 ghost use Rattle.pfs_runs.specs.Lines.{class_in, cell_in, wait_on, statement_on, transaction_on, stage_on};
 ghost use Rattle.pfs_facts.specs.Deeds.{deed_on};
 ghost use Rattle.pfs_facts.specs.Steps.{numbers_in};
-ghost use Rattle.pfs_truncations.specs.Texts.{truncation_of};
 ghost use Rattle.pfs_play.specs.Errands.{deed_of, errand_on, sql_errand};
 
+use crate::NoMemory;
+use pfs_admin::{SetupStatement, Truncation};
 use pfs_classes::{ClassId, ClassRef};
 use pfs_event::EventKind;
 use pfs_model::Subject;
+use pfs_requests::{Request, request_of};
 use pfs_script::{Access, BlockLine, StatementNumbers};
 use pfs_session::Numbers;
-use pfs_truncations::{Truncation, truncation_of};
+use std::alloc::Global;
 
 /// The id of the class of transactions.
 const TRANSACTION: u64 = 62;
@@ -22,7 +24,7 @@ const TRANSACTION: u64 = 62;
 const READ_ONLY_CELL: u64 = 63;
 
 /// What a line asks its session to do, repeats written out.
-#[derive(Clone, Copy, Debug, PartialEq, Eq)]
+#[derive(Debug, Drop)]
 pub enum Errand {
     /// An event starts that isn't a stage.
     Start(Subject),
@@ -36,6 +38,10 @@ pub enum Errand {
     Quit,
     /// A table is truncated, an action.
     Truncate(Truncation),
+    /// A setup table is changed, an action.
+    Change(SetupStatement),
+    /// A text is refused with the number of this error, no action.
+    Refuse(u64),
 }
 
 fn class_in(class: ClassRef) -> Option<u64>
@@ -121,34 +127,43 @@ fn numbers_in(numbers: &StatementNumbers) -> Numbers
     }
 }
 
-// A TRUNCATE is an action; no other SQL runs yet: there no time passes.
-fn sql_errand(what: Option<Truncation>) -> Errand
+// A text that is refused is no action; no SELECT runs yet: there no time passes.
+fn sql_errand(what: Request) -> Errand
     ensures { result ≡ sql_errand what }
 {
     match what {
-        Some(what) => Errand::Truncate(what),
-        None => Errand::Spend(0),
+        Request::Refused(error) => Errand::Refuse(error),
+        Request::Truncate(what) => Errand::Truncate(what),
+        Request::Update(update) => Errand::Change(SetupStatement::Update(update)),
+        Request::Insert(insert) => Errand::Change(SetupStatement::Insert(insert)),
+        Request::Delete(delete) => Errand::Change(SetupStatement::Delete(delete)),
+        Request::Query(_) | Request::Show(_) => Errand::Spend(0),
     }
 }
 
 /// What a line asks its session to do. No line that begins or ends a repeat stands among lines that are written out:
 /// these let no time pass.
-pub fn errand_of(line: &BlockLine) -> Errand
-    ensures asks { result ≡ errand_on line.now }
-    ensures deed { (admin : State) → deed_of admin result ≡ deed_on admin line.now }
+pub fn errand_of(alloc: Global, line: &BlockLine) -> Result<Errand, NoMemory>
+    ensures asks { IfOk result (λ errand. errand ≡ errand_on line.now) }
+    ensures deed { IfOk result (λ errand. (admin : State) → deed_of admin errand ≡ deed_on admin line.now) }
 {
     match line {
-        BlockLine::Wait(class) => Errand::Start(wait_on(*class, None)),
-        BlockLine::TableWait { class, table } => Errand::Start(wait_on(*class, Some(*table))),
-        BlockLine::Statement { class, digest } => Errand::Start(statement_on(*class, *digest)),
-        BlockLine::Transaction(access) => Errand::Start(transaction_on(*access)),
-        BlockLine::Stage(class) => Errand::Stage(Some(stage_on(*class))),
-        BlockLine::StageEnd => Errand::Stage(None),
-        BlockLine::Spend(time) => Errand::Spend(*time),
-        BlockLine::End => Errand::End(Numbers::NONE),
-        BlockLine::EndStatement(numbers) => Errand::End(numbers_in(numbers)),
-        BlockLine::Quit => Errand::Quit,
-        BlockLine::Sql(text) => sql_errand(truncation_of(text.as_bytes())),
-        BlockLine::Repeat(_) | BlockLine::Done => Errand::Spend(0),
+        BlockLine::Wait(class) => Ok(Errand::Start(wait_on(*class, None))),
+        BlockLine::TableWait { class, table } => Ok(Errand::Start(wait_on(*class, Some(*table)))),
+        BlockLine::Statement { class, digest } => {
+            Ok(Errand::Start(statement_on(*class, *digest)))
+        }
+        BlockLine::Transaction(access) => Ok(Errand::Start(transaction_on(*access))),
+        BlockLine::Stage(class) => Ok(Errand::Stage(Some(stage_on(*class)))),
+        BlockLine::StageEnd => Ok(Errand::Stage(None)),
+        BlockLine::Spend(time) => Ok(Errand::Spend(*time)),
+        BlockLine::End => Ok(Errand::End(Numbers::NONE)),
+        BlockLine::EndStatement(numbers) => Ok(Errand::End(numbers_in(numbers))),
+        BlockLine::Quit => Ok(Errand::Quit),
+        BlockLine::Sql(text) => match request_of(alloc, text.as_bytes()) {
+            Ok(request) => Ok(sql_errand(request)),
+            Err(fault) => Err(fault),
+        },
+        BlockLine::Repeat(_) | BlockLine::Done => Ok(Errand::Spend(0)),
     }
 }

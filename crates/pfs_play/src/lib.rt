@@ -12,3 +12,6 @@ pub use errands::{Errand, errand_of};
 pub use lines::play_lines;
 pub use playing::play;
 pub use repeats::{play_times, play_written};
+
+/// Memory ran out.
+pub type NoMemory = std::alloc::AllocError;

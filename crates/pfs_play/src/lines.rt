@@ -1,24 +1,27 @@
 //! Playing lines of a script one after another.
 
-ghost use Rattle.std.specs.Prelude.{◌≡◌, ◌<◌, ◌≤◌, ◌+◌, ◌*◌, ◌^◌, ℕ, None, Some, length};
+ghost use Rattle.std.specs.Prelude.{◌≡◌, ◌<◌, ◌≤◌, ◌+◌, ◌*◌, ◌^◌, ℕ, None, Some, OnOk, length};
 ghost use Rattle.pfs_session.specs.Using.{Uses};
 ghost use Rattle.pfs_play.specs.Errands.{CanPlay, HavePlayed, StagesLie, actions_on, admin_after, cost_on, kinds_after};
 ghost use Rattle.pfs_facts.specs.Steps.{kinds_at};
 
+use crate::NoMemory;
 use crate::errands::errand_of;
 use crate::playing::play;
 use pfs_admin::Admin;
 use pfs_levels::Acts;
 use pfs_script::BlockLine;
 use pfs_session::Session;
+use std::alloc::Global;
 
 /// Plays lines in their session, repeats written out, none of which ends it.
 pub fn play_lines<A: Acts>(
+    alloc: Global,
     session: &mut Session,
     rows: &mut A,
     admin: &mut Admin,
     lines: &[BlockLine],
-)
+) -> Result<(), NoMemory>
     requires can { CanPlay 62 session.old.state.opened.depth (kinds_at session.old.state) lines.now }
     requires lie { StagesLie (kinds_at session.old.state) }
     requires early { session.old.state.drawn + length lines.now < 2 ^ 64 }
@@ -30,15 +33,15 @@ pub fn play_lines<A: Acts>(
     requires tickets { 2 * length lines.now ≤ A.draws rows.old }
     requires spare { 11 * length lines.now + 20192 * actions_on lines.now ≤ A.left rows.old }
     requires room { cost_on lines.now ≤ session.old.journal.room }
-    ensures played { HavePlayed lines.now admin.old session.old session.new (A.reached rows.old)
-        (A.reached rows.new) }
-    ensures admin { admin.new ≡ admin_after admin.old lines.now }
-    ensures kinds { kinds_at session.new.state ≡ kinds_after (kinds_at session.old.state) lines.now }
-    ensures lie { StagesLie (kinds_at session.new.state) }
-    ensures drawn { session.new.state.drawn ≤ session.old.state.drawn + length lines.now }
-    ensures counted { admin.new.actions ≡ admin.old.actions + actions_on lines.now }
-    ensures actions { session.new.state.actions ≡ session.old.state.actions + actions_on lines.now }
-    ensures rest { session.new.state ≡ record session.old.state {
+    ensures played { OnOk result (HavePlayed lines.now admin.old session.old session.new (A.reached rows.old)
+        (A.reached rows.new)) }
+    ensures admin { OnOk result (admin.new ≡ admin_after admin.old lines.now) }
+    ensures kinds { OnOk result (kinds_at session.new.state ≡ kinds_after (kinds_at session.old.state) lines.now) }
+    ensures lie { OnOk result (StagesLie (kinds_at session.new.state)) }
+    ensures drawn { OnOk result (session.new.state.drawn ≤ session.old.state.drawn + length lines.now) }
+    ensures counted { OnOk result (admin.new.actions ≡ admin.old.actions + actions_on lines.now) }
+    ensures actions { OnOk result (session.new.state.actions ≡ session.old.state.actions + actions_on lines.now) }
+    ensures rest { OnOk result (session.new.state ≡ record session.old.state {
       clock = session.new.state.clock;
       drawn = session.new.state.drawn;
       opened = session.new.state.opened;
@@ -46,16 +49,20 @@ pub fn play_lines<A: Acts>(
       actions = session.new.state.actions;
       last = session.new.state.last;
       nexts = session.new.state.nexts;
-    } }
-    ensures last { actions_on lines.now ≡ 0 → session.new.state.last ≡ session.old.state.last }
-    ensures depth { session.new.state.opened.depth ≡ session.old.state.opened.depth }
-    ensures wide { length session.new.state.held ≡ 193 }
-    ensures leaves { Uses (11 * length lines.now + 20192 * actions_on lines.now) (2 * length lines.now) (cost_on lines.now)
-        (A.hand rows.old) (A.hand rows.new) (A.left rows.old) (A.left rows.new) (A.draws rows.old)
-        (A.draws rows.new) (A.name rows.old) (A.name rows.new) session.old.journal session.new.journal }
-    ensures lent { A.words rows.new ≡ Some admin.new.words }
+    }) }
+    ensures last { OnOk result (actions_on lines.now ≡ 0 → session.new.state.last ≡ session.old.state.last) }
+    ensures depth { OnOk result (session.new.state.opened.depth ≡ session.old.state.opened.depth) }
+    ensures wide { OnOk result (length session.new.state.held ≡ 193) }
+    ensures leaves { OnOk result (Uses (11 * length lines.now + 20192 * actions_on lines.now) (2 * length lines.now)
+        (cost_on lines.now) (A.hand rows.old) (A.hand rows.new) (A.left rows.old) (A.left rows.new) (A.draws rows.old)
+        (A.draws rows.new) (A.name rows.old) (A.name rows.new) session.old.journal session.new.journal) }
+    ensures lent { OnOk result (A.words rows.new ≡ Some admin.new.words) }
 {
     for line in lines {
-        play(session, rows, admin, &errand_of(line));
+        match errand_of(alloc, line) {
+            Ok(errand) => play(session, rows, admin, errand),
+            Err(fault) => return Err(fault),
+        }
     }
+    Ok(())
 }

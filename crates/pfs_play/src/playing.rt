@@ -2,38 +2,38 @@
 
 ghost use Rattle.std.specs.Prelude.{◌≡◌, ◌<◌, ◌≤◌, ◌+◌, ◌*◌, ◌^◌, ℕ, None, Some, length};
 ghost use Rattle.pfs_actions.specs.Done.{HasActed};
+ghost use Rattle.pfs_admin.specs.Setups.{has_changed};
 ghost use Rattle.pfs_admin.specs.Truncations.{has_truncated};
 ghost use Rattle.pfs_admin.specs.Works.{Leaves};
-ghost use Rattle.pfs_parts.specs.Deeds.{Ending, Truncating};
+ghost use Rattle.pfs_parts.specs.Deeds.{Changing, Ending, IsReplied, Truncating};
 ghost use Rattle.pfs_session.specs.Settles.{owed_by_state};
 ghost use Rattle.pfs_session.specs.States.{nothing_held};
 ghost use Rattle.pfs_session.specs.Using.{Uses};
 ghost use Rattle.pfs_play.specs.Errands.{MayRun, actions_of, admin_behind, cost_of, deed_of};
 
 use crate::errands::Errand;
-use pfs_actions::truncate;
-use pfs_admin::Admin;
+use pfs_actions::{act, truncate};
+use pfs_admin::{Admin, SetupStatement, Truncation};
 use pfs_levels::{Acts, Rows};
-use pfs_session::{Numbers, Session};
-use pfs_truncations::Truncation;
+use pfs_session::{Numbers, Remark, Session};
 
 /// Runs an errand of a session that isn't its end.
-pub fn play<A: Acts>(session: &mut Session, rows: &mut A, admin: &mut Admin, errand: &Errand)
-    requires may { MayRun errand.now session.old.state.opened }
+pub fn play<A: Acts>(session: &mut Session, rows: &mut A, admin: &mut Admin, errand: Errand)
+    requires may { MayRun errand session.old.state.opened }
     requires early { session.old.state.drawn + 1 < 2 ^ 64 }
-    requires rare { session.old.state.actions + actions_of errand.now < 2 ^ 64 }
+    requires rare { session.old.state.actions + actions_of errand < 2 ^ 64 }
     requires wide { length session.old.state.held ≡ 193 }
-    requires few { admin.old.actions + actions_of errand.now ≤ 2 ^ 47 }
+    requires few { admin.old.actions + actions_of errand ≤ 2 ^ 47 }
     requires idle { (r : ℕ) → A.hand rows.old r ≡ None }
     requires lent { A.words rows.old ≡ Some admin.old.words }
     requires tickets { 2 ≤ A.draws rows.old }
-    requires spare { 11 + 20192 * actions_of errand.now ≤ A.left rows.old }
-    requires room { cost_of errand.now ≤ session.old.journal.room }
-    ensures run { HasActed (deed_of admin.old errand.now) session.old session.new (A.reached rows.old)
+    requires spare { 11 + 20192 * actions_of errand ≤ A.left rows.old }
+    requires room { cost_of errand ≤ session.old.journal.room }
+    ensures run { HasActed (deed_of admin.old errand) session.old session.new (A.reached rows.old)
         (A.reached rows.new) }
-    ensures admin { admin.new ≡ admin_behind admin.old errand.now }
+    ensures admin { admin.new ≡ admin_behind admin.old errand }
     ensures drawn { session.new.state.drawn ≤ session.old.state.drawn + 1 }
-    ensures actions { session.new.state.actions ≡ session.old.state.actions + actions_of errand.now }
+    ensures actions { session.new.state.actions ≡ session.old.state.actions + actions_of errand }
     ensures rest { session.new.state ≡ record session.old.state {
       clock = session.new.state.clock;
       drawn = session.new.state.drawn;
@@ -43,25 +43,27 @@ pub fn play<A: Acts>(session: &mut Session, rows: &mut A, admin: &mut Admin, err
       last = session.new.state.last;
       nexts = session.new.state.nexts;
     } }
-    ensures last { actions_of errand.now ≡ 0 → session.new.state.last ≡ session.old.state.last }
+    ensures last { actions_of errand ≡ 0 → session.new.state.last ≡ session.old.state.last }
     ensures depth { session.new.state.opened.depth ≡ session.old.state.opened.depth }
     ensures wide { length session.new.state.held ≡ 193 }
     ensures owed { length (owed_by_state session.new.state) ≤ length (owed_by_state session.old.state) + 4 }
-    ensures leaves { Uses (11 + 20192 * actions_of errand.now) 2 (cost_of errand.now) (A.hand rows.old)
+    ensures leaves { Uses (11 + 20192 * actions_of errand) 2 (cost_of errand) (A.hand rows.old)
         (A.hand rows.new) (A.left rows.old) (A.left rows.new) (A.draws rows.old) (A.draws rows.new)
         (A.name rows.old) (A.name rows.new) session.old.journal session.new.journal }
     ensures lent { A.words rows.new ≡ Some admin.new.words }
 {
     match errand {
         Errand::Start(subject) => {
-            session.start(rows, subject);
+            session.start(rows, &subject);
         }
         Errand::Stage(subject) => {
-            session.stage(rows, subject);
+            session.stage(rows, &subject);
         }
-        Errand::End(numbers) => end(session, rows, numbers),
-        Errand::Spend(time) => session.spend(*time),
-        Errand::Truncate(what) => truncate_table(session, rows, admin, *what),
+        Errand::End(numbers) => end(session, rows, &numbers),
+        Errand::Spend(time) => session.spend(time),
+        Errand::Truncate(what) => truncate_table(session, rows, admin, what),
+        Errand::Change(what) => change_table(session, rows, admin, what),
+        Errand::Refuse(error) => session.append(Remark::Refused(error)),
         Errand::Quit => unreachable!(),
     }
 }
@@ -120,4 +122,36 @@ fn truncate_table<A: Acts>(session: &mut Session, rows: &mut A, admin: &mut Admi
     // The most that it may come to is asked for the law that comes with it.
     let _ = admin.truncation_cost(what);
     truncate(session, rows, admin, what);
+}
+
+// Does a statement on a setup table. Whatever is held, it takes no more than this.
+fn change_table<A: Acts>(
+    session: &mut Session,
+    rows: &mut A,
+    admin: &mut Admin,
+    what: SetupStatement,
+)
+    requires replied { IsReplied what }
+    requires rare { session.old.state.actions + 1 < 2 ^ 64 }
+    requires wide { length session.old.state.held ≡ 193 }
+    requires few { admin.old.actions < 2 ^ 47 }
+    requires idle { (r : ℕ) → A.hand rows.old r ≡ None }
+    requires lent { A.words rows.old ≡ Some admin.old.words }
+    requires spare { 194 ≤ A.left rows.old }
+    requires room { 260 ≤ session.old.journal.room }
+    ensures run { HasActed (Changing admin.old what) session.old session.new (A.reached rows.old)
+        (A.reached rows.new) }
+    ensures admin { admin.new ≡ has_changed admin.old what }
+    ensures rest { session.new.state ≡ record session.old.state {
+      held = nothing_held;
+      actions = session.old.state.actions + 1;
+      last = session.new.state.last;
+    } }
+    ensures owed { length (owed_by_state session.new.state) ≤ length (owed_by_state session.old.state) }
+    ensures leaves { Leaves 194 260 (A.hand rows.old) (A.hand rows.new) (A.left rows.old) (A.left rows.new)
+        (A.draws rows.old) (A.draws rows.new) (A.name rows.old) (A.name rows.new) session.old.journal
+        session.new.journal }
+    ensures lent { A.words rows.new ≡ Some admin.new.words }
+{
+    act(session, rows, admin, what);
 }

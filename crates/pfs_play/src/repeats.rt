@@ -1,6 +1,6 @@
 //! Playing the lines of a block, those of a repeat so many times.
 
-ghost use Rattle.std.specs.Prelude.{◌≡◌, ◌<◌, ◌≤◌, ◌+◌, ◌-◌, ◌*◌, ◌^◌, ℕ, [], List, None, Some, length, take, drop};
+ghost use Rattle.std.specs.Prelude.{◌≡◌, ◌<◌, ◌≤◌, ◌+◌, ◌-◌, ◌*◌, ◌^◌, ℕ, [], List, None, Some, IfOk, OnOk, length, take, drop};
 ghost use Rattle.std.specs.List.{position};
 ghost use Rattle.pfs_session.specs.Using.{Uses};
 ghost use Rattle.pfs_facts.specs.Steps.{kinds_at};
@@ -8,23 +8,24 @@ ghost use Rattle.pfs_script.specs.Marks.{copies, is_done, repeats_of, written_ou
 ghost use Rattle.pfs_play.specs.Repeats.{AllMayPlay, HaveGone, repeated};
 ghost use Rattle.pfs_play.specs.Errands.{CanPlay, HavePlayed, StagesLie, actions_on, admin_after, cost_on, kinds_after};
 
-use crate::errands::errand_of;
+use crate::NoMemory;
 use crate::lines::play_lines;
-use crate::playing::play;
 use pfs_admin::Admin;
 use pfs_levels::Acts;
 use pfs_script::BlockLine;
 use pfs_session::Session;
+use std::alloc::Global;
 
 /// Plays the lines of a repeat so many times, each time as they stand: none of them ends the session, and at their end
 /// events of the same kinds are open as at their beginning.
 pub fn play_times<A: Acts>(
+    alloc: Global,
     session: &mut Session,
     rows: &mut A,
     admin: &mut Admin,
     body: &[BlockLine],
     times: u64,
-)
+) -> Result<(), NoMemory>
     requires can { CanPlay 62 session.old.state.opened.depth (kinds_at session.old.state) body.now }
     requires same { kinds_after (kinds_at session.old.state) body.now ≡ kinds_at session.old.state }
     requires lie { StagesLie (kinds_at session.old.state) }
@@ -37,14 +38,15 @@ pub fn play_times<A: Acts>(
     requires tickets { 2 * (times * length body.now) ≤ A.draws rows.old }
     requires spare { 11 * (times * length body.now) + 20192 * (times * actions_on body.now) ≤ A.left rows.old }
     requires room { times * cost_on body.now ≤ session.old.journal.room }
-    ensures played { HavePlayed (copies times body.now) admin.old session.old session.new (A.reached rows.old)
-        (A.reached rows.new) }
-    ensures admin { admin.new ≡ admin_after admin.old (copies times body.now) }
-    ensures kinds { kinds_at session.new.state ≡ kinds_at session.old.state }
-    ensures drawn { session.new.state.drawn ≤ session.old.state.drawn + times * length body.now }
-    ensures counted { admin.new.actions ≡ admin.old.actions + times * actions_on body.now }
-    ensures actions { session.new.state.actions ≡ session.old.state.actions + times * actions_on body.now }
-    ensures rest { session.new.state ≡ record session.old.state {
+    ensures played { OnOk result (HavePlayed (copies times body.now) admin.old session.old session.new
+        (A.reached rows.old) (A.reached rows.new)) }
+    ensures admin { OnOk result (admin.new ≡ admin_after admin.old (copies times body.now)) }
+    ensures kinds { OnOk result (kinds_at session.new.state ≡ kinds_at session.old.state) }
+    ensures drawn { OnOk result (session.new.state.drawn ≤ session.old.state.drawn + times * length body.now) }
+    ensures counted { OnOk result (admin.new.actions ≡ admin.old.actions + times * actions_on body.now) }
+    ensures actions { OnOk result (session.new.state.actions ≡ session.old.state.actions
+        + times * actions_on body.now) }
+    ensures rest { OnOk result (session.new.state ≡ record session.old.state {
       clock = session.new.state.clock;
       drawn = session.new.state.drawn;
       opened = session.new.state.opened;
@@ -52,24 +54,28 @@ pub fn play_times<A: Acts>(
       actions = session.new.state.actions;
       last = session.new.state.last;
       nexts = session.new.state.nexts;
-    } }
-    ensures last { times * actions_on body.now ≡ 0 → session.new.state.last ≡ session.old.state.last }
-    ensures depth { session.new.state.opened.depth ≡ session.old.state.opened.depth }
-    ensures wide { length session.new.state.held ≡ 193 }
-    ensures leaves { Uses (11 * (times * length body.now) + 20192 * (times * actions_on body.now))
+    }) }
+    ensures last { OnOk result (times * actions_on body.now ≡ 0 → session.new.state.last ≡ session.old.state.last) }
+    ensures depth { OnOk result (session.new.state.opened.depth ≡ session.old.state.opened.depth) }
+    ensures wide { OnOk result (length session.new.state.held ≡ 193) }
+    ensures leaves { OnOk result (Uses (11 * (times * length body.now) + 20192 * (times * actions_on body.now))
         (2 * (times * length body.now)) (times * cost_on body.now) (A.hand rows.old) (A.hand rows.new)
         (A.left rows.old) (A.left rows.new) (A.draws rows.old) (A.draws rows.new) (A.name rows.old) (A.name rows.new)
-        session.old.journal session.new.journal }
-    ensures lent { A.words rows.new ≡ Some admin.new.words }
+        session.old.journal session.new.journal) }
+    ensures lent { OnOk result (A.words rows.new ≡ Some admin.new.words) }
 {
     // Empty rounds change nothing, and there may be up to 2^64 - 1 of them.
     if body.is_empty() {
-        return;
+        return Ok(());
     }
     for round in 0..times {
         let _ = round;
-        play_lines(session, rows, admin, body);
+        match play_lines(alloc, session, rows, admin, body) {
+            Ok(()) => {}
+            Err(fault) => return Err(fault),
+        }
     }
+    Ok(())
 }
 
 // How often the lines run that begin behind this one, where it begins a repeat.
@@ -98,12 +104,13 @@ pub(crate) fn done_in(lines: &[BlockLine]) -> Option<usize>
 // Plays the lines behind the beginning of a repeat, up to its end, so many times; once where it has no end. So many of
 // the lines it took.
 fn play_repeat<A: Acts>(
+    alloc: Global,
     session: &mut Session,
     rows: &mut A,
     admin: &mut Admin,
     lines: &[BlockLine],
     times: u64,
-) -> usize
+) -> Result<usize, NoMemory>
     requires may { AllMayPlay 62 session.old.state.opened.depth (kinds_at session.old.state)
         (Some (kinds_at session.old.state)) lines.now }
     requires lie { StagesLie (kinds_at session.old.state) }
@@ -117,21 +124,21 @@ fn play_repeat<A: Acts>(
     requires spare { 11 * length (repeated times lines.now) + 20192 * actions_on (repeated times lines.now)
         ≤ A.left rows.old }
     requires room { cost_on (repeated times lines.now) ≤ session.old.journal.room }
-    ensures count { result ≤ length lines.now }
-    ensures gone { HaveGone (repeated times lines.now) (written_out (drop result lines.now)) admin.old admin.new
-        session.old session.new (A.reached rows.old) (A.reached rows.new) }
-    ensures may { AllMayPlay 62 session.old.state.opened.depth (kinds_at session.new.state) None
-        (drop result lines.now) }
-    ensures kinds { kinds_after (kinds_at session.new.state) (written_out (drop result lines.now))
-        ≡ kinds_after (kinds_at session.old.state) (repeated times lines.now) }
-    ensures lie { StagesLie (kinds_at session.new.state) }
-    ensures drawn { session.new.state.drawn + length (written_out (drop result lines.now))
-        ≤ session.old.state.drawn + length (repeated times lines.now) }
-    ensures actions { session.new.state.actions + actions_on (written_out (drop result lines.now))
-        ≡ session.old.state.actions + actions_on (repeated times lines.now) }
-    ensures counted { admin.new.actions + actions_on (written_out (drop result lines.now))
-        ≡ admin.old.actions + actions_on (repeated times lines.now) }
-    ensures rest { session.new.state ≡ record session.old.state {
+    ensures count { IfOk result (λ taken. taken ≤ length lines.now) }
+    ensures gone { IfOk result (λ taken. HaveGone (repeated times lines.now) (written_out (drop taken lines.now))
+        admin.old admin.new session.old session.new (A.reached rows.old) (A.reached rows.new)) }
+    ensures may { IfOk result (λ taken. AllMayPlay 62 session.old.state.opened.depth (kinds_at session.new.state) None
+        (drop taken lines.now)) }
+    ensures kinds { IfOk result (λ taken. kinds_after (kinds_at session.new.state) (written_out (drop taken lines.now))
+        ≡ kinds_after (kinds_at session.old.state) (repeated times lines.now)) }
+    ensures lie { OnOk result (StagesLie (kinds_at session.new.state)) }
+    ensures drawn { IfOk result (λ taken. session.new.state.drawn + length (written_out (drop taken lines.now))
+        ≤ session.old.state.drawn + length (repeated times lines.now)) }
+    ensures actions { IfOk result (λ taken. session.new.state.actions + actions_on (written_out (drop taken lines.now))
+        ≡ session.old.state.actions + actions_on (repeated times lines.now)) }
+    ensures counted { IfOk result (λ taken. admin.new.actions + actions_on (written_out (drop taken lines.now))
+        ≡ admin.old.actions + actions_on (repeated times lines.now)) }
+    ensures rest { OnOk result (session.new.state ≡ record session.old.state {
       clock = session.new.state.clock;
       drawn = session.new.state.drawn;
       opened = session.new.state.opened;
@@ -139,37 +146,40 @@ fn play_repeat<A: Acts>(
       actions = session.new.state.actions;
       last = session.new.state.last;
       nexts = session.new.state.nexts;
-    } }
-    ensures last { actions_on (repeated times lines.now) ≡ 0 → session.new.state.last ≡ session.old.state.last }
-    ensures depth { session.new.state.opened.depth ≡ session.old.state.opened.depth }
-    ensures wide { length session.new.state.held ≡ 193 }
-    ensures leaves { Uses (11 * (length (repeated times lines.now) - length (written_out (drop result lines.now)))
-        + 20192 * (actions_on (repeated times lines.now) - actions_on (written_out (drop result lines.now))))
-        (2 * (length (repeated times lines.now) - length (written_out (drop result lines.now))))
-        (cost_on (repeated times lines.now) - cost_on (written_out (drop result lines.now))) (A.hand rows.old)
-        (A.hand rows.new) (A.left rows.old) (A.left rows.new) (A.draws rows.old) (A.draws rows.new)
-        (A.name rows.old) (A.name rows.new) session.old.journal session.new.journal }
-    ensures lent { A.words rows.new ≡ Some admin.new.words }
+    }) }
+    ensures last { OnOk result (actions_on (repeated times lines.now) ≡ 0 → session.new.state.last
+        ≡ session.old.state.last) }
+    ensures depth { OnOk result (session.new.state.opened.depth ≡ session.old.state.opened.depth) }
+    ensures wide { OnOk result (length session.new.state.held ≡ 193) }
+    ensures leaves { IfOk result (λ taken. Uses
+        (11 * (length (repeated times lines.now) - length (written_out (drop taken lines.now)))
+        + 20192 * (actions_on (repeated times lines.now) - actions_on (written_out (drop taken lines.now))))
+        (2 * (length (repeated times lines.now) - length (written_out (drop taken lines.now))))
+        (cost_on (repeated times lines.now) - cost_on (written_out (drop taken lines.now))) (A.hand rows.old)
+        (A.hand rows.new) (A.left rows.old) (A.left rows.new) (A.draws rows.old) (A.draws rows.new) (A.name rows.old)
+        (A.name rows.new) session.old.journal session.new.journal) }
+    ensures lent { OnOk result (A.words rows.new ≡ Some admin.new.words) }
 {
     match done_in(lines) {
-        Some(end) => {
-            play_times(session, rows, admin, &lines[..end], times);
-            end + 1
-        }
-        None => {
-            play_lines(session, rows, admin, lines);
-            lines.len()
-        }
+        Some(end) => match play_times(alloc, session, rows, admin, &lines[..end], times) {
+            Ok(()) => Ok(end + 1),
+            Err(fault) => Err(fault),
+        },
+        None => match play_lines(alloc, session, rows, admin, lines) {
+            Ok(()) => Ok(lines.len()),
+            Err(fault) => Err(fault),
+        },
     }
 }
 
 // Plays the line that stands first, or the repeat that it begins. So many of the lines it took.
 fn play_next<A: Acts>(
+    alloc: Global,
     session: &mut Session,
     rows: &mut A,
     admin: &mut Admin,
     lines: &[BlockLine],
-) -> usize
+) -> Result<usize, NoMemory>
     requires some { 0 < length lines.now }
     requires may { AllMayPlay 62 session.old.state.opened.depth (kinds_at session.old.state) None lines.now }
     requires lie { StagesLie (kinds_at session.old.state) }
@@ -180,23 +190,24 @@ fn play_next<A: Acts>(
     requires idle { (r : ℕ) → A.hand rows.old r ≡ None }
     requires lent { A.words rows.old ≡ Some admin.old.words }
     requires tickets { 2 * length (written_out lines.now) ≤ A.draws rows.old }
-    requires spare { 11 * length (written_out lines.now) + 20192 * actions_on (written_out lines.now) ≤ A.left rows.old }
+    requires spare { 11 * length (written_out lines.now) + 20192 * actions_on (written_out lines.now)
+        ≤ A.left rows.old }
     requires room { cost_on (written_out lines.now) ≤ session.old.journal.room }
-    ensures count { (0 < result) × (result ≤ length lines.now) }
-    ensures gone { HaveGone (written_out lines.now) (written_out (drop result lines.now)) admin.old admin.new
-        session.old session.new (A.reached rows.old) (A.reached rows.new) }
-    ensures may { AllMayPlay 62 session.old.state.opened.depth (kinds_at session.new.state) None
-        (drop result lines.now) }
-    ensures kinds { kinds_after (kinds_at session.new.state) (written_out (drop result lines.now))
-        ≡ kinds_after (kinds_at session.old.state) (written_out lines.now) }
-    ensures lie { StagesLie (kinds_at session.new.state) }
-    ensures drawn { session.new.state.drawn + length (written_out (drop result lines.now))
-        ≤ session.old.state.drawn + length (written_out lines.now) }
-    ensures actions { session.new.state.actions + actions_on (written_out (drop result lines.now))
-        ≡ session.old.state.actions + actions_on (written_out lines.now) }
-    ensures counted { admin.new.actions + actions_on (written_out (drop result lines.now))
-        ≡ admin.old.actions + actions_on (written_out lines.now) }
-    ensures rest { session.new.state ≡ record session.old.state {
+    ensures count { IfOk result (λ taken. (0 < taken) × (taken ≤ length lines.now)) }
+    ensures gone { IfOk result (λ taken. HaveGone (written_out lines.now) (written_out (drop taken lines.now))
+        admin.old admin.new session.old session.new (A.reached rows.old) (A.reached rows.new)) }
+    ensures may { IfOk result (λ taken. AllMayPlay 62 session.old.state.opened.depth (kinds_at session.new.state) None
+        (drop taken lines.now)) }
+    ensures kinds { IfOk result (λ taken. kinds_after (kinds_at session.new.state) (written_out (drop taken lines.now))
+        ≡ kinds_after (kinds_at session.old.state) (written_out lines.now)) }
+    ensures lie { OnOk result (StagesLie (kinds_at session.new.state)) }
+    ensures drawn { IfOk result (λ taken. session.new.state.drawn + length (written_out (drop taken lines.now))
+        ≤ session.old.state.drawn + length (written_out lines.now)) }
+    ensures actions { IfOk result (λ taken. session.new.state.actions + actions_on (written_out (drop taken lines.now))
+        ≡ session.old.state.actions + actions_on (written_out lines.now)) }
+    ensures counted { IfOk result (λ taken. admin.new.actions + actions_on (written_out (drop taken lines.now))
+        ≡ admin.old.actions + actions_on (written_out lines.now)) }
+    ensures rest { OnOk result (session.new.state ≡ record session.old.state {
       clock = session.new.state.clock;
       drawn = session.new.state.drawn;
       opened = session.new.state.opened;
@@ -204,38 +215,44 @@ fn play_next<A: Acts>(
       actions = session.new.state.actions;
       last = session.new.state.last;
       nexts = session.new.state.nexts;
-    } }
-    ensures last { actions_on (written_out lines.now) ≡ 0 → session.new.state.last ≡ session.old.state.last }
-    ensures depth { session.new.state.opened.depth ≡ session.old.state.opened.depth }
-    ensures wide { length session.new.state.held ≡ 193 }
-    ensures leaves { Uses (11 * (length (written_out lines.now) - length (written_out (drop result lines.now)))
-        + 20192 * (actions_on (written_out lines.now) - actions_on (written_out (drop result lines.now))))
-        (2 * (length (written_out lines.now) - length (written_out (drop result lines.now))))
-        (cost_on (written_out lines.now) - cost_on (written_out (drop result lines.now))) (A.hand rows.old)
-        (A.hand rows.new) (A.left rows.old) (A.left rows.new) (A.draws rows.old) (A.draws rows.new)
-        (A.name rows.old) (A.name rows.new) session.old.journal session.new.journal }
-    ensures lent { A.words rows.new ≡ Some admin.new.words }
+    }) }
+    ensures last { OnOk result (actions_on (written_out lines.now) ≡ 0 → session.new.state.last
+        ≡ session.old.state.last) }
+    ensures depth { OnOk result (session.new.state.opened.depth ≡ session.old.state.opened.depth) }
+    ensures wide { OnOk result (length session.new.state.held ≡ 193) }
+    ensures leaves { IfOk result (λ taken. Uses
+        (11 * (length (written_out lines.now) - length (written_out (drop taken lines.now)))
+        + 20192 * (actions_on (written_out lines.now) - actions_on (written_out (drop taken lines.now))))
+        (2 * (length (written_out lines.now) - length (written_out (drop taken lines.now))))
+        (cost_on (written_out lines.now) - cost_on (written_out (drop taken lines.now))) (A.hand rows.old)
+        (A.hand rows.new) (A.left rows.old) (A.left rows.new) (A.draws rows.old) (A.draws rows.new) (A.name rows.old)
+        (A.name rows.new) session.old.journal session.new.journal) }
+    ensures lent { OnOk result (A.words rows.new ≡ Some admin.new.words) }
 {
     let Some((first, others)) = lines.split_first() else {
-        return 0;
+        return Ok(0);
     };
     match times_of(first) {
-        Some(times) => 1 + play_repeat(session, rows, admin, others, times),
-        None => {
-            play_lines(session, rows, admin, &lines[..1]);
-            1
-        }
+        Some(times) => match play_repeat(alloc, session, rows, admin, others, times) {
+            Ok(taken) => Ok(1 + taken),
+            Err(fault) => Err(fault),
+        },
+        None => match play_lines(alloc, session, rows, admin, &lines[..1]) {
+            Ok(()) => Ok(1),
+            Err(fault) => Err(fault),
+        },
     }
 }
 
 /// Plays the lines of a block, each repeat so many times as it says; one that isn't done runs once. None of them ends
 /// the session.
 pub fn play_written<A: Acts>(
+    alloc: Global,
     session: &mut Session,
     rows: &mut A,
     admin: &mut Admin,
     lines: &[BlockLine],
-)
+) -> Result<(), NoMemory>
     requires may { AllMayPlay 62 session.old.state.opened.depth (kinds_at session.old.state) None lines.now }
     requires lie { StagesLie (kinds_at session.old.state) }
     requires early { session.old.state.drawn + length (written_out lines.now) < 2 ^ 64 }
@@ -245,17 +262,20 @@ pub fn play_written<A: Acts>(
     requires idle { (r : ℕ) → A.hand rows.old r ≡ None }
     requires lent { A.words rows.old ≡ Some admin.old.words }
     requires tickets { 2 * length (written_out lines.now) ≤ A.draws rows.old }
-    requires spare { 11 * length (written_out lines.now) + 20192 * actions_on (written_out lines.now) ≤ A.left rows.old }
+    requires spare { 11 * length (written_out lines.now) + 20192 * actions_on (written_out lines.now)
+        ≤ A.left rows.old }
     requires room { cost_on (written_out lines.now) ≤ session.old.journal.room }
-    ensures played { HavePlayed (written_out lines.now) admin.old session.old session.new (A.reached rows.old)
-        (A.reached rows.new) }
-    ensures admin { admin.new ≡ admin_after admin.old (written_out lines.now) }
-    ensures kinds { kinds_at session.new.state ≡ kinds_after (kinds_at session.old.state) (written_out lines.now) }
-    ensures lie { StagesLie (kinds_at session.new.state) }
-    ensures drawn { session.new.state.drawn ≤ session.old.state.drawn + length (written_out lines.now) }
-    ensures counted { admin.new.actions ≡ admin.old.actions + actions_on (written_out lines.now) }
-    ensures actions { session.new.state.actions ≡ session.old.state.actions + actions_on (written_out lines.now) }
-    ensures rest { session.new.state ≡ record session.old.state {
+    ensures played { OnOk result (HavePlayed (written_out lines.now) admin.old session.old session.new
+        (A.reached rows.old) (A.reached rows.new)) }
+    ensures admin { OnOk result (admin.new ≡ admin_after admin.old (written_out lines.now)) }
+    ensures kinds { OnOk result (kinds_at session.new.state ≡ kinds_after (kinds_at session.old.state)
+        (written_out lines.now)) }
+    ensures lie { OnOk result (StagesLie (kinds_at session.new.state)) }
+    ensures drawn { OnOk result (session.new.state.drawn ≤ session.old.state.drawn + length (written_out lines.now)) }
+    ensures counted { OnOk result (admin.new.actions ≡ admin.old.actions + actions_on (written_out lines.now)) }
+    ensures actions { OnOk result (session.new.state.actions ≡ session.old.state.actions
+        + actions_on (written_out lines.now)) }
+    ensures rest { OnOk result (session.new.state ≡ record session.old.state {
       clock = session.new.state.clock;
       drawn = session.new.state.drawn;
       opened = session.new.state.opened;
@@ -263,17 +283,24 @@ pub fn play_written<A: Acts>(
       actions = session.new.state.actions;
       last = session.new.state.last;
       nexts = session.new.state.nexts;
-    } }
-    ensures last { actions_on (written_out lines.now) ≡ 0 → session.new.state.last ≡ session.old.state.last }
-    ensures depth { session.new.state.opened.depth ≡ session.old.state.opened.depth }
-    ensures wide { length session.new.state.held ≡ 193 }
-    ensures leaves { Uses (11 * length (written_out lines.now) + 20192 * actions_on (written_out lines.now))
-        (2 * length (written_out lines.now)) (cost_on (written_out lines.now)) (A.hand rows.old) (A.hand rows.new) (A.left rows.old) (A.left rows.new)
-        (A.draws rows.old) (A.draws rows.new) (A.name rows.old) (A.name rows.new) session.old.journal session.new.journal }
-    ensures lent { A.words rows.new ≡ Some admin.new.words }
+    }) }
+    ensures last { OnOk result (actions_on (written_out lines.now) ≡ 0 → session.new.state.last
+        ≡ session.old.state.last) }
+    ensures depth { OnOk result (session.new.state.opened.depth ≡ session.old.state.opened.depth) }
+    ensures wide { OnOk result (length session.new.state.held ≡ 193) }
+    ensures leaves { OnOk result (Uses
+        (11 * length (written_out lines.now) + 20192 * actions_on (written_out lines.now))
+        (2 * length (written_out lines.now)) (cost_on (written_out lines.now)) (A.hand rows.old) (A.hand rows.new)
+        (A.left rows.old) (A.left rows.new) (A.draws rows.old) (A.draws rows.new) (A.name rows.old) (A.name rows.new)
+        session.old.journal session.new.journal) }
+    ensures lent { OnOk result (A.words rows.new ≡ Some admin.new.words) }
 {
     let mut at = 0;
     while at < lines.len() {
-        at += play_next(session, rows, admin, &lines[at..]);
+        match play_next(alloc, session, rows, admin, &lines[at..]) {
+            Ok(taken) => at += taken,
+            Err(fault) => return Err(fault),
+        }
     }
+    Ok(())
 }

@@ -11,6 +11,7 @@ mod PhaseSplits
 mod PhaseSessions
 mod OwnLines
 mod Totals
+mod Wording
 mod Truncating
 mod Blocks
 mod Texted

@@ -1,14 +1,13 @@
--- How often all blocks truncate together, with each repeat written out: a truncation weighs as much as 20,000 lines.
-use Rattle.std.proofs.Common.{ℕ, zero, suc, ◌≡◌, ◌≤◌, ◌+◌, ◌-◌, ◌*◌, false, true, List, [], ◌∷◌, ◌++◌, Option, Some, None, nat_lt, refl, ap, ◌∙◌, inl, inr, append-nil, append_assoc, arith}
-use Rattle.std.specs.Prelude.{option_map, option_and_then, unwrap_or, ◌||◌}
+-- How many actions all blocks have together, with each repeat written out: an action weighs as much as 300 lines, and a
+-- truncation as 20,000.
+use Rattle.std.proofs.Common.{ℕ, zero, suc, ◌≡◌, ◌≤◌, ◌+◌, ◌-◌, ◌*◌, Bool, cond, false, true, List, [], ◌∷◌, ◌++◌, Option, Some, None, nat_lt, refl, ap, ◌∙◌, inl, inr, append-nil, append_assoc, arith}
+use Rattle.std.specs.Prelude.{codes, option_map, option_and_then, unwrap_or, ◌||◌}
 use Rattle.std.specs.List.{sum_by}
 use Rattle.std.proofs.lemmas.Bool.Decides.{nat_tests}
 use Rattle.std.proofs.lemmas.List.Sums.{sum_by-cons}
 use Rattle.pfs_classes.specs.declared.classes.ClassRef.{ClassRef}
-use Rattle.pfs_rows.specs.declared.table.SummaryTable.TheVariants.{ByThread, ByAccount, ByUser, ByHost, Global}
-use Rattle.pfs_rows.specs.declared.table.EventTable.TheVariants.{Current, History, HistoryLong}
-use Rattle.pfs_rows.specs.declared.table.TableKind.TheVariants.{Waits, Stages, Statements, Transactions}
 use Rattle.pfs_play.specs.Errands.{actions_of, actions_on, errand_on, sql_errand}
+use Rattle.pfs_play.specs.declared.errands.Errand.{Errand}
 use Rattle.pfs_play.proofs.Writing.{actions_then, actions_copies}
 use Rattle.pfs_script.specs.declared.forms.Form.{Form}
 use Rattle.pfs_script.specs.declared.forms.Form.TheVariants as form
@@ -18,81 +17,69 @@ use Rattle.pfs_script.specs.declared.blocks.BlockLine.TheVariants as said
 use Rattle.pfs_script.specs.declared.blocks.Phase.{Phase}
 use Rattle.pfs_script.specs.Marks.{Repeated, copies, written_from, written_out}
 use Rattle.pfs_script.specs.Counts.{is_done, until_done, again, counted}
-use Rattle.pfs_script.specs.Next.{begins_with, command_of, has_over, is_class, one_select, sql_weight, weight_of}
+use Rattle.pfs_requests.specs.Requests.{request_of}
+use Rattle.pfs_requests.specs.declared.requests.Request.{Request}
+use Rattle.pfs_requests.specs.declared.requests.Request.TheVariants as requests
+use Rattle.pfs_script.specs.Commands.{begins_with}
+use Rattle.pfs_script.specs.Next.{has_over, is_class, one_select, sql_weight, weight_of}
 use Rattle.pfs_script.specs.Finds.{table_number, digest_place}
 use Rattle.pfs_script.specs.Sessions.{is_phase, is_session, ends_block}
 use Rattle.pfs_script.specs.Blocks.{Sense, sense_of, with_front, block_line, block_lines, blocks_of, phases_of}
 use Rattle.pfs_script.specs.Scripts.{IsScript}
 use Rattle.pfs_script.proofs.Behind.{counted_none}
 use Rattle.pfs_script.proofs.BlockNesting.{Stand, stand_of}
-use Rattle.pfs_truncations.specs.Texts.{text_of, truncation_of}
-use Rattle.pfs_truncations.specs.declared.truncations.Truncation.{Truncation}
-use Rattle.pfs_truncations.specs.declared.truncations.Truncation.TheVariants.{Events, Summary, DigestSummary, Accounts, Users, Hosts, SetupActors, SetupObjects}
-use Rattle.pfs_truncations.proofs.Finding.{text}
-use Rattle.pfs_playable.specs.Playable.{actions_among, actions_in, ActionsLaw}
+use Rattle.pfs_playable.specs.Playable.{actions_among, actions_in, truncations_of, truncations_on, truncations_among, truncations_in, ActionsLaw}
 use Rattle.pfs_playable.proofs.Bodies.{first_said, stop_said, last_said}
 use Rattle.pfs_playable.proofs.Bools.{bool_cases, first_false, second_false}
 use Rattle.pfs_playable.proofs.OwnBlocks.{none_block, connected, resumed}
+use Rattle.pfs_playable.proofs.Wording.{truncation_weighs}
 use Rattle.pfs_playable.proofs.Totals.{NoRepeat, begins, ends, front_some, no_done, plain, times_more, until_other, with_one}
 
--- what the truncations of lines weigh
-abbrev heft : List BlockLine → ℕ
-heft lines = 20000 * actions_on lines
+-- what an errand weighs by its action, and lines by theirs
+abbrev heft_of : Errand → ℕ
+heft_of errand = 300 * actions_of errand + 19700 * truncations_of errand
 
--- a line's truncation weighs no more than its form
+abbrev heft : List BlockLine → ℕ
+heft lines = 300 * actions_on lines + 19700 * truncations_on lines
+
+truncations_then : (xs ys : List BlockLine) → truncations_on (xs ++ ys) ≡ truncations_on xs + truncations_on ys
+truncations_then [] ys = omega arith
+truncations_then (x ∷ xs) ys = ap (λ n. truncations_of (errand_on x) + n) (truncations_then xs ys) ∙ omega arith
+
+truncations_copies : (times : ℕ) (lines : List BlockLine) → truncations_on (copies times lines) ≡ times * truncations_on lines
+unfolding copies
+truncations_copies zero lines = omega arith
+truncations_copies (suc times) lines = truncations_then lines (copies times lines) ∙ (ap (λ n. truncations_on lines + n) (truncations_copies times lines) ∙ omega arith)
+
+heft_then : (xs ys : List BlockLine) → heft (xs ++ ys) ≡ heft xs + heft ys
+heft_then xs ys = omega (arith, actions_then xs ys, truncations_then xs ys)
+
+-- a line's action weighs no more than its form
 abbrev IsLight : Option BlockLine → ℕ → Type 0
 IsLight None weight = Unit {0}
-IsLight (Some line) weight = 20000 * actions_of (errand_on line) ≤ weight
+IsLight (Some line) weight = heft_of (errand_on line) ≤ weight
 
-weighs : (what : Truncation) → sql_weight (text_of what) ≡ 20000
-unfolding begins_with command_of
-weighs (Events Waits Current) = refl
-weighs (Events Waits History) = refl
-weighs (Events Waits HistoryLong) = refl
-weighs (Events Stages Current) = refl
-weighs (Events Stages History) = refl
-weighs (Events Stages HistoryLong) = refl
-weighs (Events Statements Current) = refl
-weighs (Events Statements History) = refl
-weighs (Events Statements HistoryLong) = refl
-weighs (Events Transactions Current) = refl
-weighs (Events Transactions History) = refl
-weighs (Events Transactions HistoryLong) = refl
-weighs (Summary Waits ByThread) = refl
-weighs (Summary Waits ByAccount) = refl
-weighs (Summary Waits ByUser) = refl
-weighs (Summary Waits ByHost) = refl
-weighs (Summary Waits Global) = refl
-weighs (Summary Stages ByThread) = refl
-weighs (Summary Stages ByAccount) = refl
-weighs (Summary Stages ByUser) = refl
-weighs (Summary Stages ByHost) = refl
-weighs (Summary Stages Global) = refl
-weighs (Summary Statements ByThread) = refl
-weighs (Summary Statements ByAccount) = refl
-weighs (Summary Statements ByUser) = refl
-weighs (Summary Statements ByHost) = refl
-weighs (Summary Statements Global) = refl
-weighs (Summary Transactions ByThread) = refl
-weighs (Summary Transactions ByAccount) = refl
-weighs (Summary Transactions ByUser) = refl
-weighs (Summary Transactions ByHost) = refl
-weighs (Summary Transactions Global) = refl
-weighs Accounts = refl
-weighs Users = refl
-weighs Hosts = refl
-weighs DigestSummary = refl
-weighs SetupActors = refl
-weighs SetupObjects = refl
+least : (first second : Bool) → 300 ≤ cond first 10000 (cond second 20000 300)
+least true second = omega arith
+least false true = omega arith
+least false false = omega arith
 
-sql_light : (line : List ℕ) → 20000 * actions_of (sql_errand (truncation_of line)) ≤ sql_weight line
-sql_light line = at (truncation_of line) refl
-  where
-    at : (what : Option Truncation) → truncation_of line ≡ what → 20000 * actions_of (sql_errand (truncation_of line)) ≤ sql_weight line
-    at None e = rw e (omega arith)
-    at (Some what) e = let weight : sql_weight line ≡ 20000 = ap sql_weight (text line what e) ∙ weighs what in rw e (omega (arith, weight))
+least_weight : (text : List ℕ) → 300 ≤ sql_weight text
+least_weight text = least (begins_with (codes "select") text) (begins_with (codes "truncate") text)
 
-light_class : (starts : ClassRef → BlockLine) (ref : Option ClassRef) (weight : ℕ) → ((one : ClassRef) → 20000 * actions_of (errand_on (starts one)) ≤ weight) → IsLight (option_map starts ref) weight
+request_light : (text : List ℕ) (request : Request) → request_of text ≡ request → heft_of (sql_errand request) ≤ sql_weight text
+request_light text (requests.Truncate what) e = omega (arith, truncation_weighs text what e)
+request_light text (requests.Update update) e = omega (arith, least_weight text)
+request_light text (requests.Insert insert) e = omega (arith, least_weight text)
+request_light text (requests.Delete delete) e = omega (arith, least_weight text)
+request_light text (requests.Refused error) e = omega arith
+request_light text (requests.Query select) e = omega arith
+request_light text (requests.Show select) e = omega arith
+
+sql_light : (text : List ℕ) → heft_of (sql_errand (request_of text)) ≤ sql_weight text
+sql_light text = request_light text (request_of text) refl
+
+light_class : (starts : ClassRef → BlockLine) (ref : Option ClassRef) (weight : ℕ) → ((one : ClassRef) → heft_of (errand_on (starts one)) ≤ weight) → IsLight (option_map starts ref) weight
 light_class starts None weight h = tt
 light_class starts (Some one) weight h = h one
 
@@ -110,19 +97,21 @@ front_few (Some line) rest weight plain light = omega (arith, light)
 
 with_one_light : (one : Option BlockLine) (body : List BlockLine) (weight : ℕ) → IsLight one weight → heft (with_one one body) ≤ heft body + weight
 with_one_light None body weight light = omega arith
-with_one_light (Some line) body weight light = let both = actions_then body (line ∷ []) in omega (arith, both, light)
+with_one_light (Some line) body weight light = let both = heft_then body (line ∷ []) in omega (arith, both, light)
 
-times_heft : (times each : ℕ) → 20000 * (times * each) ≡ times * (20000 * each)
-times_heft zero each = omega arith
-times_heft (suc times) each = let less = times_heft times each in omega (arith, less)
+times_heft : (times actions truncations : ℕ)
+    → 300 * (times * actions) + 19700 * (times * truncations) ≡ times * (300 * actions + 19700 * truncations)
+times_heft zero actions truncations = omega arith
+times_heft (suc times) actions truncations = let less = times_heft times actions truncations in omega (arith, less)
 
 copied : (times : ℕ) (body : List BlockLine) → heft (copies times body) ≤ heft body + (times - 1) * heft body
-copied zero body = let all = actions_copies 0 body in omega (arith, all)
+copied zero body = let all = actions_copies 0 body in let cut = truncations_copies 0 body in omega (arith, all, cut)
 copied (suc times) body =
     let all = actions_copies (suc times) body in
-    let each = times_heft times (actions_on body) in
+    let cut = truncations_copies (suc times) body in
+    let each = times_heft times (actions_on body) (truncations_on body) in
     let less : suc times - 1 ≡ times = omega arith in
-    rw less (omega (arith, all, each))
+    rw less (omega (arith, all, cut, each))
 
 -- so many times more than once, what a repeat's lines so far and those up to its `done` weigh
 abbrev rounds : ℕ → ℕ → Option (List Form) → ℕ
@@ -146,9 +135,11 @@ again_rounds times lines None e = rw e refl
 again_rounds times lines (Some more) e = rw e (ap (λ n. (times - 1) * n) (nothing_added (sum_by weight_of more)))
 
 module _ (sense : Sense) where
-  -- what the blocks that begin among lines, in this phase and in later ones, weigh by their truncations
+  -- what the blocks that begin among lines, in this phase and in later ones, weigh by their actions
   abbrev ahead : List Form → ℕ
-  ahead lines = 20000 * (actions_among (blocks_of sense lines) + actions_in (phases_of sense lines))
+  ahead lines =
+      300 * (actions_among (blocks_of sense lines) + actions_in (phases_of sense lines))
+      + 19700 * (truncations_among (blocks_of sense lines) + truncations_in (phases_of sense lines))
 
   ahead_none : ahead [] ≡ 0
   unfolding blocks_of phases_of
@@ -170,11 +161,15 @@ module _ (sense : Sense) where
         arith,
         sum_by-cons (λ (phase : Phase). actions_among phase.blocks)
             (record { blocks = blocks_of sense lines }) (phases_of sense lines),
+        sum_by-cons (λ (phase : Phase). truncations_among phase.blocks)
+            (record { blocks = blocks_of sense lines }) (phases_of sense lines),
       )
   ahead_ends (form.Connect (Some session) user host) lines e =
       omega (
         arith,
         sum_by-cons (λ (block : Block). actions_on (written_out block.lines))
+            (connected 0 sense session user host lines) (blocks_of sense lines),
+        sum_by-cons (λ (block : Block). truncations_on (written_out block.lines))
             (connected 0 sense session user host lines) (blocks_of sense lines),
       )
   ahead_ends (form.Connect None user host) lines e = omega arith
@@ -182,6 +177,8 @@ module _ (sense : Sense) where
       omega (
         arith,
         sum_by-cons (λ (block : Block). actions_on (written_out block.lines))
+            (resumed 0 sense session lines) (blocks_of sense lines),
+        sum_by-cons (λ (block : Block). truncations_on (written_out block.lines))
             (resumed 0 sense session lines) (blocks_of sense lines),
       )
   ahead_ends (form.Resume None) lines e = omega arith
@@ -206,7 +203,7 @@ module _ (sense : Sense) where
   light form.Done = omega arith
   light _ = tt
 
-  -- the truncations of the block so far, written out behind the lines so far of a repeat that isn't done
+  -- what the actions of the block so far weigh, written out behind the lines so far of a repeat that isn't done
   abbrev written : Option Repeated → List Form → ℕ
   written loop lines = heft (written_from loop (block_lines sense lines))
 
@@ -249,7 +246,7 @@ module _ (sense : Sense) where
 
   done_few : (loop : Repeated) (lines : List Form) → Few None lines → Few (Some loop) (form.Done ∷ lines)
   done_few loop lines h =
-      let joined = actions_then (copies loop.times loop.body) (written_from None (block_lines sense lines)) in
+      let joined = heft_then (copies loop.times loop.body) (written_from None (block_lines sense lines)) in
       let rounds_are : (loop.times - 1) * (heft loop.body + 0) ≡ (loop.times - 1) * heft loop.body =
       ap (λ n. (loop.times - 1) * n) (omega arith) in
       rw (first_said sense form.Done lines refl, ends loop (block_lines sense lines))
@@ -318,4 +315,5 @@ unfolding IsScript
 actions text setting phases s =
     let lines = s.0 in
     let same = ap {B = ℕ} actions_in s.3 in
-    omega (arith, same, few (sense_of lines) None lines, weight_fits lines (stand_of [] s.1.0 lines s.1.2))
+    let cut = ap {B = ℕ} truncations_in s.3 in
+    omega (arith, same, cut, few (sense_of lines) None lines, weight_fits lines (stand_of [] s.1.0 lines s.1.2))

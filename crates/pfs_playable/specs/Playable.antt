@@ -1,5 +1,5 @@
 -- When the blocks of a script may be played, phase after phase, each in its session.
-use Rattle.std.specs.Prelude.{ℕ, ◌≡◌, ◌≤◌, ◌<◌, ◌+◌, Bool, true, false, List, [], ◌∷◌, ◌++◌, length, map, None, IfSome, MatchOption}
+use Rattle.std.specs.Prelude.{ℕ, ◌≡◌, ◌≤◌, ◌<◌, ◌+◌, ◌*◌, Bool, true, false, List, [], ◌∷◌, ◌++◌, length, map, None, IfSome, MatchOption}
 use Rattle.std.specs.List.{All, sum_by}
 use Rattle.pfs_classes.specs.declared.setting.Setting.{Setting}
 use Rattle.pfs_event.specs.declared.kind.EventKind.{EventKind}
@@ -13,8 +13,10 @@ use Rattle.pfs_script.specs.Events.{blocks_for, lines_for}
 use Rattle.pfs_script.specs.Marks.{mark_of, written_out}
 use Rattle.pfs_script.specs.Runnable.{AreDistinct}
 use Rattle.pfs_script.specs.Scripts.{IsScript}
-use Rattle.pfs_play.specs.Errands.{actions_on, kinds_after}
+use Rattle.pfs_play.specs.Errands.{actions_on, errand_on, kinds_after}
 use Rattle.pfs_play.specs.Repeats.{AllMayPlay}
+use Rattle.pfs_play.specs.declared.errands.Errand.{Errand}
+use Rattle.pfs_play.specs.declared.errands.Errand.TheVariants as ask
 
 -- the kinds of the events that lines leave open, from the innermost on
 abbrev pub kinds_left : List BlockLine → List EventKind
@@ -35,12 +37,27 @@ written_among blocks = sum_by (λ (block : Block). length (written_out block.lin
 abbrev pub written_in : List Phase → ℕ
 written_in phases = sum_by (λ (phase : Phase). written_among phase.blocks) phases
 
--- how many actions these are beside connects and quits: a truncation is one
+-- how many actions these are beside connects and quits: a change by SQL is one
 abbrev pub actions_among : List Block → ℕ
 actions_among blocks = sum_by (λ (block : Block). actions_on (written_out block.lines)) blocks
 
 abbrev pub actions_in : List Phase → ℕ
 actions_in phases = sum_by (λ (phase : Phase). actions_among phase.blocks) phases
+
+-- and how many of these truncate
+abbrev pub truncations_of : Errand → ℕ
+truncations_of (ask.Truncate what) = 1
+truncations_of _ = 0
+
+abbrev pub truncations_on : List BlockLine → ℕ
+truncations_on [] = 0
+truncations_on (line ∷ lines) = truncations_of (errand_on line) + truncations_on lines
+
+abbrev pub truncations_among : List Block → ℕ
+truncations_among blocks = sum_by (λ (block : Block). truncations_on (written_out block.lines)) blocks
+
+abbrev pub truncations_in : List Phase → ℕ
+truncations_in phases = sum_by (λ (phase : Phase). truncations_among phase.blocks) phases
 
 abbrev pub end_of : Bool → List BlockLine
 end_of true = said.Quit ∷ []
@@ -92,10 +109,11 @@ abbrev pub TotalLaw : Type 0
 TotalLaw = (text : List ℕ) (setting : Setting) (phases : List Phase) → IsScript Whole text setting phases
     → written_in phases ≤ 200000
 
--- and truncate at most 250 times, each of the weight of 20,000 lines
+-- and of the weight of a script, 5,000,000, each action among them has 300, a truncation 20,000: so these are at most
+-- 16,666 actions, and 250 truncations
 abbrev pub ActionsLaw : Type 0
 ActionsLaw = (text : List ℕ) (setting : Setting) (phases : List Phase) → IsScript Whole text setting phases
-    → actions_in phases ≤ 250
+    → 300 * actions_in phases + 19700 * truncations_in phases ≤ 5000000
 
 -- each block is begun by a line, so there are as few
 abbrev pub FewLaw : Type 0

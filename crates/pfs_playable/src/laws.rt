@@ -13,7 +13,8 @@ pub fn total()
     ensures { TotalLaw }
 {}
 
-/// With each repeat written out the blocks of any script truncate at most 250 times together.
+/// With each repeat written out the blocks of any script have at most 16,666 actions of SQL together, and truncate at
+/// most 250 times.
 pub fn actions()
     ensures { ActionsLaw }
 {}

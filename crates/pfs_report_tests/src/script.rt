@@ -269,13 +269,13 @@ fn forms_that_are_not_built(rt: HostRuntime) {
         (b"start wait/io/table/sql/handler a.b\n", 1, 4),
         (b"sql SELECT\n", 1, 13),
         (b"sql TRUNCATE accounts\n", 1, 4),
-        (b"sql truncate accounts\n", 1, 13),
-        (b"sql TRUNCATE threads\n", 1, 13),
-        (b"sql TRUNCATE accounts \n", 1, 13),
+        (b"sql truncate accounts\n", 1, 4),
+        (b"sql TRUNCATE threads\n", 1, 4),
+        (b"sql \tseLECTed\n", 1, 13),
         (
             b"phase\nsession 1 u h\nsql TRUNCATE TABLE performance_schema.accounts\n",
-            3,
-            13,
+            0,
+            0,
         ),
         (
             b"phase\nsession 1 u h\nsql TRUNCATE accounts\nrepeat 2\nsql TRUNCATE setup_actors\ndone\nquit\n",

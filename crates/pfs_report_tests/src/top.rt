@@ -7,6 +7,7 @@ use std::alloc::{AllocError, Global};
 use std::test::Fail;
 
 mod rings;
+mod statements;
 
 const ONE_WAIT: &[u8] = b"phase\nsession 1 u h\nstart wait/io/file/sql/binlog\nspend 120\nend\n";
 

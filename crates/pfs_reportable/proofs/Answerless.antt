@@ -1,4 +1,4 @@
--- No entry of a journal tells how many rows an answer has, since no line of its session asks for rows.
+-- Where no line of its session is a SELECT, no entry of a journal tells how many rows an answer has.
 use Rattle.std.proofs.Common.{ℕ, ◌≡◌, Bool, true, false, ◌&&◌, cond, List, [], ◌∷◌, ◌++◌, map, Option, None, Result, Ok, Err, refl, sym, ap, ◌∙◌, subst}
 use Rattle.std.specs.List.{filter_map, cons_option}
 use Rattle.std.proofs.lemmas.Bool.{and_parts}
@@ -24,10 +24,10 @@ use Rattle.pfs_model.specs.declared.shapes.Ask.TheVariants as asks
 use Rattle.pfs_model.specs.declared.shapes.Item.{Item}
 use Rattle.pfs_model.specs.declared.shapes.Often.{Often}
 use Rattle.pfs_model.specs.declared.shapes.Often.TheVariants.{One, Maybe, Many}
-use Rattle.pfs_parts.specs.Deeds.{Connecting, Starting, Staging, StageEnding, Ending, Spending, Quitting, Truncating, Closing, Deed, Part, line_of, part_entries}
+use Rattle.pfs_parts.specs.Deeds.{Connecting, Starting, Staging, StageEnding, Ending, Spending, Quitting, Truncating, Changing, Showing, Querying, Refusing, Closing, Deed, Part, line_of, part_entries}
 use Rattle.pfs_parts.specs.Shaped.{entries_of, lines_of}
 use Rattle.pfs_parts.specs.Stints.{blocks_of}
-use Rattle.pfs_reportable.specs.Reportable.{BlocksLaw, IsAnswerless}
+use Rattle.pfs_reportable.specs.Reportable.{AreRowless, BlocksLaw, IsAnswerless, IsRowless}
 
 abbrev AskNothing : List Entry → Type 0
 AskNothing entries = filter_map rows_asked entries ≡ []
@@ -136,31 +136,35 @@ settling_other : (rows : List ℕ) → are_other (settling rows) ≡ true
 settling_other [] = refl
 settling_other (row ∷ rows) = added_other rows
 
-deed_other : (context : Context) (deed : Deed) → are_other (shape context (line_of deed)) ≡ true
-deed_other context (Connecting admin user host) = refl
-deed_other context (Starting subject) = refl
-deed_other context (Staging subject) = other_append (ending_stage context.slot context.opened) (starting context.slot subject) (stage_other context.slot context.opened) refl
-deed_other context StageEnding = stage_other context.slot context.opened
-deed_other context (Ending numbers) = both_other context.slot context.opened
-deed_other context (Spending time) = refl
-deed_other context (Quitting admin) = other_append (settling context.held) _ (settling_other context.held) refl
-deed_other context (Truncating admin what) = other_append (settling context.held) _ (settling_other context.held) refl
-deed_other context Closing = settling_other context.held
+deed_other : (context : Context) (deed : Deed) → IsRowless deed → are_other (shape context (line_of deed)) ≡ true
+deed_other context (Connecting admin user host) less = refl
+deed_other context (Starting subject) less = refl
+deed_other context (Staging subject) less = other_append (ending_stage context.slot context.opened) (starting context.slot subject) (stage_other context.slot context.opened) refl
+deed_other context StageEnding less = stage_other context.slot context.opened
+deed_other context (Ending numbers) less = both_other context.slot context.opened
+deed_other context (Spending time) less = refl
+deed_other context (Quitting admin) less = other_append (settling context.held) _ (settling_other context.held) refl
+deed_other context (Truncating admin what) less = other_append (settling context.held) _ (settling_other context.held) refl
+deed_other context (Changing admin what) less = other_append (settling context.held) _ (settling_other context.held) refl
+deed_other context (Showing admin count) less = absurd less
+deed_other context (Querying readings count) less = absurd less
+deed_other context (Refusing error) less = refl
+deed_other context Closing less = settling_other context.held
 
 -- ---- the journals
 
-parts_none : (context : Context) (parts : List Part) → AreShaped context (lines_of parts) (entries_of parts) → AskNothing (joined (entries_of parts))
+parts_none : (context : Context) (parts : List Part) → AreRowless parts → AreShaped context (lines_of parts) (entries_of parts) → AskNothing (joined (entries_of parts))
 unfolding joined
-parts_none context [] shaped = refl
-parts_none context (part ∷ parts) shaped =
+parts_none context [] less shaped = refl
+parts_none context (part ∷ parts) less shaped =
     filter_map-append rows_asked (part_entries part) (joined (entries_of parts))
-    ∙ (ap (λ z. z ++ filter_map rows_asked (joined (entries_of parts))) (cut_none (shape context (line_of part.deed)) (part_entries part) (deed_other context part.deed) shaped.0)
-    ∙ parts_none (after context (line_of part.deed) (part_entries part)) parts shaped.1)
+    ∙ (ap (λ z. z ++ filter_map rows_asked (joined (entries_of parts))) (cut_none (shape context (line_of part.deed)) (part_entries part) (deed_other context part.deed less.0) shaped.0)
+    ∙ parts_none (after context (line_of part.deed) (part_entries part)) parts less.1 shaped.1)
 
 spells_none : (earlier : List Block) (phase : ℕ) (spells : List Spell) → AreShapedBehind earlier phase (blocks_of (stints_of spells)) → Each IsAnswerless spells
 spells_none earlier phase [] shaped = tt
 spells_none earlier phase (spell ∷ spells) shaped =
-    (sym (parts_none (told_by spell.session fresh earlier) (parts_in spell.doings) shaped.1), spells_none (earlier ++ _ ∷ []) spell.phase spells shaped.2)
+    (λ less. sym (parts_none (told_by spell.session fresh earlier) (parts_in spell.doings) less shaped.1), spells_none (earlier ++ _ ∷ []) spell.phase spells shaped.2)
 
 pub answerless : AloneLaw → BlocksLaw
 answerless alone = λ flags stack depths spells are answer. spells_none [] 0 spells (alone flags stack depths spells are answer).shaped

@@ -9,6 +9,7 @@ use Rattle.pfs_journal.specs.Reports.{AreAnswered, IsTable, IsText}
 use Rattle.pfs_levels.specs.Plain.{AllAnswer}
 use Rattle.pfs_model.specs.Chains.{Each}
 use Rattle.pfs_model.specs.Journals.{joined}
+use Rattle.pfs_parts.specs.Deeds.{Deed, Part, Querying, Showing}
 use Rattle.pfs_parts.specs.Shaped.{entries_of}
 use Rattle.pfs_script.specs.Scripts.{IsScript}
 use Rattle.pfs_script.specs.declared.blocks.Phase.{Phase}
@@ -39,9 +40,18 @@ TablesLaw = (setting : Setting) (reads : List TableRead) → All IsText setting.
     → map (λ (read : TableRead). read.table) reads ≡ final_order
     → All IsTable (flat_map (table_report setting) reads)
 
--- the journal of a spell goes with no answers of rows
+-- a deed that is no SELECT
+abbrev pub IsRowless : Deed → Type 0
+IsRowless (Showing admin count) = ⊥
+IsRowless (Querying readings count) = ⊥
+IsRowless _ = Unit {0}
+
+abbrev pub AreRowless : List Part → Type 0
+AreRowless parts = Each (λ (part : Part). IsRowless part.deed) parts
+
+-- the journal of a spell without SELECTs goes with no answers of rows
 abbrev pub IsAnswerless : Spell → Type 0
-IsAnswerless spell = AreAnswered (joined (entries_of (parts_in spell.doings))) []
+IsAnswerless spell = AreRowless (parts_in spell.doings) → AreAnswered (joined (entries_of (parts_in spell.doings))) []
 
 -- and so those of all sessions that run one after another on a plain store
 abbrev pub BlocksLaw : Type 0

@@ -23,7 +23,7 @@ pub fn tables()
     ensures { TablesLaw }
 {}
 
-/// No entry of sessions that run one after another tells how many rows an answer has.
+/// Of sessions that run one after another, those without SELECTs have no entry that tells how many rows an answer has.
 pub fn blocks()
     ensures { BlocksLaw }
 {

@@ -11,14 +11,16 @@ use Rattle.pfs_levels.specs.Calls.{Call}
 use Rattle.pfs_model.specs.Shapes.{is_stage}
 use Rattle.pfs_parts.proofs.Journaling.{parts_number, turns_number}
 use Rattle.pfs_parts.proofs.Stinting.{state_more}
-use Rattle.pfs_parts.specs.Deeds.{Deed, Connecting, Starting, Staging, StageEnding, Ending, Spending, Quitting, Truncating, Closing, Part, IsPart, action_of, steps_for}
+use Rattle.pfs_parts.specs.Deeds.{Deed, Connecting, Starting, Staging, StageEnding, Ending, Spending, Quitting, Truncating, Changing, Showing, Querying, Refusing, Closing, Part, IsPart, action_of, looks, remark, steps_for}
 use Rattle.pfs_parts.specs.Shaped.{AreParts, state_behind}
 use Rattle.pfs_parts.specs.Stints.{Stint, resumed, state_by, AreStintsBehind}
+use Rattle.pfs_rows.specs.declared.table.Reading.{Reading}
 use Rattle.pfs_session.proofs.Ending.{through_leaves}
 use Rattle.pfs_session.specs.Ends.{Ends, EndsIn, no_numbers}
 use Rattle.pfs_session.specs.States.{State, fresh}
-use Rattle.pfs_session.specs.Turns.{Step, StartsEvent, EndsEvent, Spends, SettlesHeld, Connects, Quits, Truncates, Does, Turn, AreTurns, state_after, steps_of, stage_ends}
+use Rattle.pfs_session.specs.Turns.{Step, StartsEvent, EndsEvent, Spends, SettlesHeld, Connects, Quits, Truncates, Changes, Inquires, Does, Turn, AreTurns, state_after, steps_of, stage_ends}
 use Rattle.pfs_session.specs.declared.events.Numbers.{Numbers}
+use Rattle.pfs_session.specs.declared.remarks.Remark.TheVariants.{Rows}
 
 abbrev pub acts_at : Step → ℕ
 acts_at (Connects admin user host) = 1
@@ -28,6 +30,8 @@ acts_at (StartsEvent subject) = 0
 acts_at (EndsEvent numbers) = 0
 acts_at (Spends time) = 0
 acts_at SettlesHeld = 0
+acts_at (Changes admin what) = 1
+acts_at (Inquires what) = 0
 
 abbrev acts_in : List Step → ℕ
 acts_in [] = 0
@@ -64,6 +68,8 @@ does_actions s SettlesHeld calls entries after d = none_more _ _ (ap (λ (z : St
 does_actions s (Connects admin user host) calls entries after d = ap (λ (z : State). z.actions) d.1
 does_actions s (Quits admin) calls entries after d = ap (λ (z : State). z.actions) d.1
 does_actions s (Truncates admin what) calls entries after d = ap (λ (z : State). z.actions) d.after_is
+does_actions s (Changes admin what) calls entries after d = ap (λ (z : State). z.actions) d.after_is
+does_actions s (Inquires what) calls entries after d = none_more _ _ (ap (λ (z : State). z.actions) d.after_is)
 
 turns_actions : (s : State) (turns : List Turn) → AreTurns s turns → (state_after s turns).actions ≡ s.actions + acts_in (steps_of turns)
 turns_actions s [] are = omega arith
@@ -80,10 +86,18 @@ stage_none (what ∷ events) = by_test (is_stage what.kind) where
   by_test true = refl
   by_test false = refl
 
+looks_none : (readings : List Reading) → acts_in (looks readings) ≡ 0
+looks_none [] = refl
+looks_none (reading ∷ readings) = ap (λ z. 0 + z) (looks_none readings)
+
 steps_act : (s : State) (deed : Deed) → acts_in (steps_for s deed) ≡ one_of (action_of deed)
 steps_act s (Connecting admin user host) = refl
 steps_act s (Quitting admin) = refl
 steps_act s (Truncating admin what) = refl
+steps_act s (Changing admin what) = refl
+steps_act s (Showing admin count) = refl
+steps_act s (Querying readings count) = ap (λ z. 0 + z) (acts_then (looks readings) (remark (Rows count) ∷ []) ∙ ap (λ z. z + 0) (looks_none readings))
+steps_act s (Refusing error) = refl
 steps_act s (Starting subject) = refl
 steps_act s (Staging subject) = acts_then (stage_ends s.opened.events) (StartsEvent subject ∷ []) ∙ ap (λ z. z + 0) (stage_none s.opened.events)
 steps_act s StageEnding = acts_then (stage_ends s.opened.events) [] ∙ ap (λ z. z + 0) (stage_none s.opened.events)

@@ -50,6 +50,7 @@ use Rattle.pfs_session.specs.Starts.{started}
 use Rattle.pfs_session.specs.States.{State, fresh, nothing_held, no_place}
 use Rattle.pfs_session.specs.Turns.{StartsEvent, EndsEvent, SettlesHeld, Connects, Quits, Turn, acted}
 use Rattle.pfs_session.specs.declared.setup.Setup.{Setup}
+use Rattle.pfs_setups.specs.Rows.{naming_of}
 use Rattle.pfs_stat.specs.Stat.{MergeIsMonoid}
 use Rattle.pfs_ruled.proofs.Freed.{are_low, freed_calls, frees_answer}
 use Rattle.pfs_ruled.proofs.Leaving.{left}
@@ -162,6 +163,8 @@ opening = record {
   actors = opening_actors;
   objects = opening_objects;
   names = names;
+  classes = (naming_of setting).classes;
+  tables = [];
   cells = 0 ∷ 1 ∷ 2 ∷ 62 ∷ 63 ∷ [];
   kinds = cells_by_kind;
   actions = 0;
@@ -184,9 +187,9 @@ kinds_are = refl
 opened_is : opened setting ≡ opening
 unfolding setting
 opened_is =
-    ap (λ (z : List ℕ). record { kept = nobody limits; words = map (word 0) z; actors = opening_actors; objects = opening_objects; names = names; cells = cells_of setting.classes; kinds = kinds_of setting; actions = 0 }) flags_are
-    ∙ (ap (λ (z : List ℕ). record { kept = nobody limits; words = map (word 0) flags; actors = opening_actors; objects = opening_objects; names = names; cells = z; kinds = kinds_of setting; actions = 0 }) cells_are
-    ∙ ap (λ (z : KindCells). record { kept = nobody limits; words = map (word 0) flags; actors = opening_actors; objects = opening_objects; names = names; cells = 0 ∷ 1 ∷ 2 ∷ 62 ∷ 63 ∷ []; kinds = z; actions = 0 }) kinds_are)
+    ap (λ (z : List ℕ). record { kept = nobody limits; words = map (word 0) z; actors = opening_actors; objects = opening_objects; names = names; classes = (naming_of setting).classes; tables = []; cells = cells_of setting.classes; kinds = kinds_of setting; actions = 0 }) flags_are
+    ∙ (ap (λ (z : List ℕ). record { kept = nobody limits; words = map (word 0) flags; actors = opening_actors; objects = opening_objects; names = names; classes = (naming_of setting).classes; tables = []; cells = z; kinds = kinds_of setting; actions = 0 }) cells_are
+    ∙ ap (λ (z : KindCells). record { kept = nobody limits; words = map (word 0) flags; actors = opening_actors; objects = opening_objects; names = names; classes = (naming_of setting).classes; tables = []; cells = 0 ∷ 1 ∷ 2 ∷ 62 ∷ 63 ∷ []; kinds = z; actions = 0 }) kinds_are)
 
 first_fold : opening ≡ state_of setting change []
 unfolding state_from

@@ -2,19 +2,24 @@
 use Rattle.std.proofs.Common.{ℕ, ◌≡◌, ◌+◌, ◌-◌, List, [], ◌∷◌, ◌++◌, length, take, Option, Some, None, refl, ap, sym, ◌∙◌, add-one, arith}
 use Rattle.std.specs.Prelude.{IfSome, slice_get}
 use Rattle.std.proofs.lemmas.List.{append_assoc}
+use Rattle.pfs_admin.specs.Changing.{flags_changed}
 use Rattle.pfs_admin.specs.Fold.{state_of}
+use Rattle.pfs_admin.specs.Setups.{work_of_statement}
 use Rattle.pfs_admin.specs.States.{State}
+use Rattle.pfs_admin.specs.Works.{no_work}
 use Rattle.pfs_admin.specs.declared.changes.Change.{Change}
-use Rattle.pfs_admin.specs.declared.changes.Change.TheVariants.{Connect, Quit, Truncate}
+use Rattle.pfs_admin.specs.declared.changes.Change.TheVariants.{Connect, Quit, Truncate, Setup}
+use Rattle.pfs_admin.specs.declared.changes.SetupStatement.TheVariants.{Show}
 use Rattle.pfs_alone.specs.Spells.{Doing, Spell, parts_in, stints_of}
 use Rattle.pfs_asked.specs.Asking.{number_of, work_of}
-use Rattle.pfs_asked.specs.Whole.{Acting, actings_of, all_actings}
+use Rattle.pfs_asked.specs.Whole.{Acting, actings_of, all_actings, answers_for}
 use Rattle.pfs_asked.specs.Whole.{rooms_for as rooms_of_deed}
 use Rattle.pfs_board.specs.declared.view.Label.{Label}
 use Rattle.pfs_classes.specs.declared.setting.Setting.{Setting}
+use Rattle.pfs_model.specs.Asked.{Answer}
 use Rattle.pfs_model.specs.Chains.{Each}
-use Rattle.pfs_parts.specs.Deeds.{Deed, Connecting, Starting, Staging, StageEnding, Ending, Spending, Quitting, Truncating, Closing, action_of}
-use Rattle.pfs_runs.specs.Labels.{before_action, work_for, rooms_for, work_of_label, rooms_of_label, label_at, work_at, rooms_at}
+use Rattle.pfs_parts.specs.Deeds.{Deed, Connecting, Starting, Staging, StageEnding, Ending, Spending, Quitting, Truncating, Changing, Showing, Querying, Refusing, Closing, action_of}
+use Rattle.pfs_runs.specs.Labels.{before_action, work_for, rooms_for, answer_to, work_of_label, rooms_of_label, answer_of_label, label_at, work_at, rooms_at, answers_at}
 use Rattle.pfs_ruled.specs.Folded.{FoldsTo, DoingsFolded, AreFolded}
 use Rattle.pfs_ruled.proofs.Counted.{AreLined, AllLined, more_made, one_of}
 use Rattle.pfs_ruled.proofs.Entering.{label_by, labels_in, all_labels, AreBehind, AllBehind}
@@ -80,6 +85,7 @@ state_here setting change all labels label n e is = ap (λ z. state_of setting c
 pub record IsKnown (setting : Setting) (change : Label → Change) (all : List Label) (session : ℕ) (deed : Deed) : Type 0 where
   pub work : work_of session deed ≡ work_at setting change all (number_of deed)
   pub rooms : rooms_of_deed session deed ≡ rooms_at setting change all (number_of deed)
+  pub answers : answers_for deed ≡ answers_at setting change all (number_of deed)
 
 by_label : {A : Type 0} (of : State → Option Label → A) (at : State → ℕ → Change → A) (setting : Setting) (change : Label → Change) (all labels : List Label) (label : Label) (session made n : ℕ) (admin : State) (what : Change)
     → ((s : State) (l : Label) → of s (Some l) ≡ at s l.session (change l)) → n ≡ length labels + 1 → label ≡ record { session = session; line = made + 1 } → StandsAmong all label labels
@@ -89,27 +95,51 @@ by_label {A} of at setting change all labels label session made n admin what is 
     ∙ (ap (λ z. of z (Some label)) (state_here setting change all labels label n e among ∙ sym is_admin)
     ∙ (is admin label ∙ (ap (λ z. at admin label.session z) is_what ∙ ap (λ (z : Label). at admin z.session what) l)))
 
+-- what an action is answered goes by no session
+abbrev answered : State → ℕ → Change → Answer
+answered s session what = answer_to s what
+
+-- one that reads asks for nothing
+show_works : (s : State) → no_work ≡ work_of_statement s Show
+unfolding flags_changed
+show_works s = refl
+
 known : (setting : Setting) (change : Label → Change) (all : List Label) (session made : ℕ) (label : Label) (labels : List Label) (deed : Deed) → FoldsTo setting change label labels deed
     → IfSome (action_of deed) (λ number. (number ≡ length labels + 1) × (label ≡ record { session = session; line = made + 1 })) → IfSome (action_of deed) (λ number. StandsAmong all label labels)
     → IsKnown setting change all session deed
 known setting change all session made label labels (Connecting admin user host) f l a = record {
   work = sym (by_label (work_of_label change) work_for setting change all labels label session made (admin.actions + 1) admin (Connect user host) (λ s one. refl) l.0 l.1 a f.0 f.1);
   rooms = sym (by_label (rooms_of_label change) rooms_for setting change all labels label session made (admin.actions + 1) admin (Connect user host) (λ s one. refl) l.0 l.1 a f.0 f.1);
+  answers = sym (by_label (answer_of_label change) answered setting change all labels label session made (admin.actions + 1) admin (Connect user host) (λ s one. refl) l.0 l.1 a f.0 f.1);
 }
 known setting change all session made label labels (Quitting admin) f l a = record {
   work = sym (by_label (work_of_label change) work_for setting change all labels label session made (admin.actions + 1) admin Quit (λ s one. refl) l.0 l.1 a f.0 f.1);
   rooms = sym (by_label (rooms_of_label change) rooms_for setting change all labels label session made (admin.actions + 1) admin Quit (λ s one. refl) l.0 l.1 a f.0 f.1);
+  answers = sym (by_label (answer_of_label change) answered setting change all labels label session made (admin.actions + 1) admin Quit (λ s one. refl) l.0 l.1 a f.0 f.1);
 }
 known setting change all session made label labels (Truncating admin what) f l a = record {
   work = sym (by_label (work_of_label change) work_for setting change all labels label session made (admin.actions + 1) admin (Truncate what) (λ s one. refl) l.0 l.1 a f.0 f.1);
   rooms = sym (by_label (rooms_of_label change) rooms_for setting change all labels label session made (admin.actions + 1) admin (Truncate what) (λ s one. refl) l.0 l.1 a f.0 f.1);
+  answers = sym (by_label (answer_of_label change) answered setting change all labels label session made (admin.actions + 1) admin (Truncate what) (λ s one. refl) l.0 l.1 a f.0 f.1);
 }
-known setting change all session made label labels (Starting subject) f l a = record { work = refl; rooms = refl }
-known setting change all session made label labels (Staging subject) f l a = record { work = refl; rooms = refl }
-known setting change all session made label labels StageEnding f l a = record { work = refl; rooms = refl }
-known setting change all session made label labels (Ending numbers) f l a = record { work = refl; rooms = refl }
-known setting change all session made label labels (Spending time) f l a = record { work = refl; rooms = refl }
-known setting change all session made label labels Closing f l a = record { work = refl; rooms = refl }
+known setting change all session made label labels (Changing admin what) f l a = record {
+  work = sym (by_label (work_of_label change) work_for setting change all labels label session made (admin.actions + 1) admin (Setup what) (λ s one. refl) l.0 l.1 a f.0 f.1);
+  rooms = sym (by_label (rooms_of_label change) rooms_for setting change all labels label session made (admin.actions + 1) admin (Setup what) (λ s one. refl) l.0 l.1 a f.0 f.1);
+  answers = sym (by_label (answer_of_label change) answered setting change all labels label session made (admin.actions + 1) admin (Setup what) (λ s one. refl) l.0 l.1 a f.0 f.1);
+}
+known setting change all session made label labels (Showing admin count) f l a = record {
+  work = show_works admin ∙ sym (by_label (work_of_label change) work_for setting change all labels label session made (admin.actions + 1) admin (Setup Show) (λ s one. refl) l.0 l.1 a f.0 f.1);
+  rooms = sym (by_label (rooms_of_label change) rooms_for setting change all labels label session made (admin.actions + 1) admin (Setup Show) (λ s one. refl) l.0 l.1 a f.0 f.1);
+  answers = sym (by_label (answer_of_label change) answered setting change all labels label session made (admin.actions + 1) admin (Setup Show) (λ s one. refl) l.0 l.1 a f.0 f.1);
+}
+known setting change all session made label labels (Querying readings count) f l a = record { work = refl; rooms = refl; answers = refl }
+known setting change all session made label labels (Refusing error) f l a = record { work = refl; rooms = refl; answers = refl }
+known setting change all session made label labels (Starting subject) f l a = record { work = refl; rooms = refl; answers = refl }
+known setting change all session made label labels (Staging subject) f l a = record { work = refl; rooms = refl; answers = refl }
+known setting change all session made label labels StageEnding f l a = record { work = refl; rooms = refl; answers = refl }
+known setting change all session made label labels (Ending numbers) f l a = record { work = refl; rooms = refl; answers = refl }
+known setting change all session made label labels (Spending time) f l a = record { work = refl; rooms = refl; answers = refl }
+known setting change all session made label labels Closing f l a = record { work = refl; rooms = refl; answers = refl }
 
 abbrev pub KnownActing : Setting → (Label → Change) → List Label → Acting → Type 0
 KnownActing setting change all one = IsKnown setting change all one.session one.deed

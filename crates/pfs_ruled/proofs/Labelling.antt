@@ -22,12 +22,14 @@ use Rattle.pfs_model.specs.Setups.{loads_at}
 use Rattle.pfs_model.specs.Shapes.{is_stage}
 use Rattle.pfs_model.specs.declared.changes.Change.{Change}
 use Rattle.pfs_model.specs.declared.lines.Subject.{Subject}
-use Rattle.pfs_parts.specs.Deeds.{Deed, Connecting, Starting, Staging, StageEnding, Ending, Spending, Quitting, Truncating, Closing, Part, IsPart, action_of, part_calls, steps_for}
+use Rattle.pfs_parts.specs.Deeds.{Deed, Connecting, Starting, Staging, StageEnding, Ending, Spending, Quitting, Truncating, Changing, Showing, Querying, Refusing, Closing, Part, IsPart, action_of, looks, part_calls, remark, steps_for}
 use Rattle.pfs_parts.specs.Shaped.{AreParts}
 use Rattle.pfs_parts.specs.Stints.{Stint, AreStints, AreDone, blocks_of, parts_by}
+use Rattle.pfs_rows.specs.declared.table.Reading.{Reading}
 use Rattle.pfs_session.specs.Ends.{no_numbers}
 use Rattle.pfs_session.specs.States.{State}
 use Rattle.pfs_session.specs.Turns.{Step, StartsEvent, EndsEvent, Turn, state_after, steps_of, stage_ends}
+use Rattle.pfs_session.specs.declared.remarks.Remark.TheVariants.{Rows}
 use Rattle.pfs_runs.specs.Labels.{AreLabels}
 use Rattle.pfs_ruled.proofs.Counted.{AreLined, AllLined, none_made, one_of}
 use Rattle.pfs_ruled.proofs.Entering.{label_by, labels_in, all_labels}
@@ -92,10 +94,18 @@ stage_heads (what ∷ events) rest = by_test (is_stage what.kind) where
   by_test true = refl
   by_test false = refl
 
+looks_heads : (readings : List Reading) (rest : List Step) → heads (looks readings ++ rest) ≡ heads rest
+looks_heads [] rest = refl
+looks_heads (reading ∷ readings) rest = looks_heads readings rest
+
 deed_heads : (s : State) (deed : Deed) → heads (steps_for s deed) ≡ act_by (action_of deed)
 deed_heads s (Connecting admin user host) = refl
 deed_heads s (Quitting admin) = refl
 deed_heads s (Truncating admin what) = refl
+deed_heads s (Changing admin what) = refl
+deed_heads s (Showing admin count) = refl
+deed_heads s (Querying readings count) = looks_heads readings (remark (Rows count) ∷ [])
+deed_heads s (Refusing error) = refl
 deed_heads s (Starting subject) = refl
 deed_heads s (Staging subject) = stage_heads s.opened.events (StartsEvent subject ∷ [])
 deed_heads s StageEnding = stage_heads s.opened.events []

@@ -11,6 +11,7 @@ pub mod Seating
 pub mod Agreeing
 pub mod Placing
 pub mod Labelling
+pub mod Vacant
 pub mod Quieting
 pub mod Quiet
 pub mod Owning

@@ -3,13 +3,13 @@ use Rattle.std.proofs.Common.{ℕ, zero, suc, ◌≡◌, ◌<◌, ◌≤◌, Lis
 use Rattle.std.specs.Prelude.{slice_get}
 use Rattle.pfs_admin.specs.Works.{Work}
 use Rattle.pfs_admin.specs.declared.changes.Change.{Change}
-use Rattle.pfs_asked.specs.Asking.{asked_by}
+use Rattle.pfs_asked.specs.Asking.{asked_by, no_rows}
 use Rattle.pfs_asked.specs.Runs.{nothing_asked}
-use Rattle.pfs_asked.specs.Whole.{Acting, of_number, no_rooms, no_words, asked_for, room_for, words_for, signed_words}
+use Rattle.pfs_asked.specs.Whole.{Acting, of_number, no_rooms, no_words, answer_for, asked_for, room_for, words_for, signed_words}
 use Rattle.pfs_board.specs.declared.view.Label.{Label}
 use Rattle.pfs_classes.specs.declared.setting.Setting.{Setting}
 use Rattle.pfs_model.specs.Chains.{Each}
-use Rattle.pfs_runs.specs.Labels.{before_action, work_of_label, rooms_of_label, label_at, asked_at, rooms_at, words_at}
+use Rattle.pfs_runs.specs.Labels.{before_action, work_of_label, rooms_of_label, answer_of_label, label_at, asked_at, rooms_at, answers_at, words_at}
 use Rattle.pfs_ruled.proofs.Finding.{AreNumbers, IsGiven, found, found_none}
 use Rattle.pfs_ruled.proofs.Knowing.{KnownActing}
 
@@ -52,6 +52,12 @@ pub rooms_are : (setting : Setting) (change : Label → Change) (all : List Labe
 rooms_are setting change all ones are known =
     by_number setting change all room_for no_rooms (rooms_at setting change all) ones are known (λ one k. k.rooms)
     (λ n none. sym (ap (λ z. rooms_of_label change (before_action setting change all n) z) none))
+
+pub answers_are : (setting : Setting) (change : Label → Change) (all : List Label) (ones : List Acting) → AreNumbers 0 (length all) ones → Each (KnownActing setting change all) ones
+    → of_number answer_for no_rows ones ≡ answers_at setting change all
+answers_are setting change all ones are known =
+    by_number setting change all answer_for no_rows (answers_at setting change all) ones are known (λ one k. k.answers)
+    (λ n none. sym (ap (λ z. answer_of_label change (before_action setting change all n) z) none))
 
 pub words_are : (setting : Setting) (change : Label → Change) (all : List Label) (ones : List Acting) → AreNumbers 0 (length all) ones → Each (KnownActing setting change all) ones
     → of_number words_for no_words ones ≡ words_at setting change all

@@ -2,9 +2,14 @@
 use Rattle.std.proofs.Common.{ℕ, ◌≡◌, ◌<◌, ◌≤◌, ◌+◌, ◌%◌, Bool, true, false, List, [], ◌∷◌, ◌++◌, Option, Some, None, ap, sym, subst, arith}
 use Rattle.std.proofs.lemmas.List.{append_assoc}
 use Rattle.pfs_admin.specs.Asks.{connect_entry, work_of_connect, work_of_quit}
+use Rattle.pfs_admin.specs.Setups.{reply_to, work_of_statement}
 use Rattle.pfs_admin.specs.States.{seat_at}
 use Rattle.pfs_admin.specs.Truncations.{work_of_truncation}
 use Rattle.pfs_admin.specs.Works.{Sign, Releases, Tags, Made, Flagging, Work, signs_entries, sign_entry, flagging_entries}
+use Rattle.pfs_admin.specs.declared.changes.Reply.{Reply}
+use Rattle.pfs_admin.specs.declared.changes.Reply.TheVariants as replies
+use Rattle.pfs_admin.specs.declared.changes.SetupStatement.{SetupStatement}
+use Rattle.pfs_admin.specs.declared.changes.SetupStatement.TheVariants.{Update, Insert, Delete, Show}
 use Rattle.pfs_containers.specs.declared.containers.Seated.{Seated}
 use Rattle.pfs_event.specs.Verdicts.{is_let_through}
 use Rattle.pfs_event.specs.declared.entry.Entry.{Entry}
@@ -31,13 +36,17 @@ use Rattle.pfs_rings.specs.Offers.{Says}
 use Rattle.pfs_rings.specs.declared.puts.Put.{Put}
 use Rattle.pfs_rings.specs.declared.rings.Ring.{Ring}
 use Rattle.pfs_rings.specs.declared.rings.Ring.TheVariants.{Current, History, Long}
+use Rattle.pfs_rows.specs.declared.table.Reading.TheVariants as readings
+use Rattle.pfs_rows.specs.declared.table.Seen.TheVariants as seen
 use Rattle.pfs_session.specs.Ends.{EndsIn, EndsThrough, DigestsIn, PutsAtEnd, added_entry}
+use Rattle.pfs_session.specs.Inquiries.{Inquiry, Looks, Remarks, inquiry_entry}
 use Rattle.pfs_session.specs.Rings.{PutAt, PutLong, PutIf, PutIn, put_entries, depth_of}
 use Rattle.pfs_session.specs.Settles.{Paid, owed_by_state, paid_entries, pay_entries, settle_head}
 use Rattle.pfs_session.specs.Starts.{start_entry}
 use Rattle.pfs_session.specs.States.{State, Owed}
-use Rattle.pfs_session.specs.Turns.{Step, StartsEvent, EndsEvent, Spends, SettlesHeld, Connects, Quits, Truncates, Does, Works, Turn, AreTurns, state_after, turns_entries}
+use Rattle.pfs_session.specs.Turns.{Step, StartsEvent, EndsEvent, Spends, SettlesHeld, Connects, Quits, Truncates, Changes, Inquires, Does, Works, Turn, AreTurns, reply_entries, state_after, turns_entries}
 use Rattle.pfs_session.specs.declared.events.Numbers.{Numbers}
+use Rattle.pfs_session.specs.declared.remarks.Remark.TheVariants.{Query, Rows, Refused}
 use Rattle.pfs_session.specs.declared.setup.Setup.{Setup}
 
 abbrev pub AreLater : ℕ → List Placed → Type 0
@@ -176,6 +185,24 @@ connect_own : (action : ℕ) (seat : Option Seated) → IsOwn (connect_entry act
 connect_own action None = tt
 connect_own action (Some seat) = tt
 
+reply_own : (what : SetupStatement) (reply : Reply) → AreOwn (reply_entries what reply)
+reply_own Show reply = tt
+reply_own (Update update) (replies.Changed count) = (tt, tt)
+reply_own (Update update) (replies.Error error) = (tt, tt)
+reply_own (Insert insert) (replies.Changed count) = (tt, tt)
+reply_own (Insert insert) (replies.Error error) = (tt, tt)
+reply_own (Delete delete) (replies.Changed count) = (tt, tt)
+reply_own (Delete delete) (replies.Error error) = (tt, tt)
+
+inquiry_own : (what : Inquiry) → IsOwn (inquiry_entry what)
+inquiry_own (Looks (readings.Slot row (seen.Whole version content))) = tt
+inquiry_own (Looks (readings.Slot row (seen.Free word))) = tt
+inquiry_own (Looks (readings.Slot row (seen.Busy first second))) = tt
+inquiry_own (Looks (readings.Word word version flags)) = tt
+inquiry_own (Remarks Query) = tt
+inquiry_own (Remarks (Rows count)) = tt
+inquiry_own (Remarks (Refused error)) = tt
+
 does_own : (s : State) (step : Step) (calls : List Call) (entries : List Entry) (after : State) → Does s step calls entries after → AreOwn entries
 does_own s (StartsEvent subject) calls entries after d =
     subst AreOwn (sym d.entries_are)
@@ -191,6 +218,10 @@ does_own s (Quits admin) calls entries after d = works_own (work_of_quit admin s
 does_own s (Truncates admin what) calls entries after d =
     subst AreOwn (sym d.entries_are)
     (own_then d.changes (says.Reply 0 ∷ []) (works_own (work_of_truncation admin what) admin.words (says.Act (admin.actions + 1)) calls d.changes tt d.works) (tt, tt))
+does_own s (Changes admin what) calls entries after d =
+    subst AreOwn (sym d.entries_are)
+    (own_then d.changes (reply_entries what (reply_to admin what)) (works_own (work_of_statement admin what) admin.words (says.Act (admin.actions + 1)) calls d.changes tt d.works) (reply_own what (reply_to admin what)))
+does_own s (Inquires what) calls entries after d = subst AreOwn (sym d.entries_are) (inquiry_own what, tt)
 
 turns_own : (s : State) (turns : List Turn) → AreTurns s turns → AreOwn (turns_entries turns)
 turns_own s [] are = tt

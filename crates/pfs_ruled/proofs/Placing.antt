@@ -3,7 +3,12 @@ use Rattle.std.proofs.Common.{ℕ, ◌≡◌, ◌+◌, ◌<◌, ◌==◌, Bool, 
 use Rattle.std.specs.Prelude.{IfSome}
 use Rattle.std.proofs.lemmas.Bool.{eqb-true}
 use Rattle.pfs_admin.specs.Asks.{work_of_connect, work_of_quit, connect_entry, placed_of}
+use Rattle.pfs_admin.specs.Setups.{reply_to, work_of_statement}
 use Rattle.pfs_admin.specs.States.{seat_at}
+use Rattle.pfs_admin.specs.declared.changes.Reply.{Reply}
+use Rattle.pfs_admin.specs.declared.changes.Reply.TheVariants as replies
+use Rattle.pfs_admin.specs.declared.changes.SetupStatement.{SetupStatement}
+use Rattle.pfs_admin.specs.declared.changes.SetupStatement.TheVariants.{Update, Insert, Delete, Show}
 use Rattle.pfs_alone.proofs.Inner.{entries_then, inner_slots, paid_same}
 use Rattle.pfs_alone.proofs.Steps.{IsActed, acted, truncated_acted}
 use Rattle.pfs_alone.specs.Spells.{Doing, Spell, parts_in, stints_of}
@@ -24,16 +29,21 @@ use Rattle.pfs_model.specs.declared.lines.Subject.{Subject}
 use Rattle.pfs_parts.proofs.Journaling.{turns_number}
 use Rattle.pfs_parts.proofs.Ringing.{put_ring, rings_keep, rings_of}
 use Rattle.pfs_parts.specs.Amounts.{IsPlaced, AllPlaced}
-use Rattle.pfs_parts.specs.Deeds.{Deed, Connecting, Starting, Staging, StageEnding, Ending, Spending, Quitting, Truncating, Closing, Part, line_of, part_entries, action_of, steps_for}
+use Rattle.pfs_parts.specs.Deeds.{Deed, Connecting, Starting, Staging, StageEnding, Ending, Spending, Quitting, Truncating, Changing, Showing, Querying, Refusing, Closing, Part, line_of, looks, part_entries, action_of, remark, steps_for}
 use Rattle.pfs_parts.specs.Shaped.{AreParts, lines_of, entries_of}
 use Rattle.pfs_parts.specs.Stints.{Stint, blocks_of, parts_by, AreDone}
+use Rattle.pfs_rows.specs.declared.table.Reading.{Reading}
+use Rattle.pfs_rows.specs.declared.table.Reading.TheVariants as readings
+use Rattle.pfs_rows.specs.declared.table.Seen.TheVariants as seen
 use Rattle.pfs_session.specs.Ends.{Ends, EndsIn, EndsThrough, EndsCounted, DigestsIn, added_entry, no_numbers}
+use Rattle.pfs_session.specs.Inquiries.{Inquiry, Looks, Remarks, inquiry_entry}
 use Rattle.pfs_session.specs.Rings.{put_entries}
 use Rattle.pfs_session.specs.Settles.{Paid, paid_entries, settle_head}
 use Rattle.pfs_session.specs.Starts.{start_entry}
 use Rattle.pfs_session.specs.States.{State, Owed}
-use Rattle.pfs_session.specs.Turns.{Step, StartsEvent, EndsEvent, Spends, SettlesHeld, Connects, Quits, Truncates, Does, Turn, AreTurns, state_after, steps_of, turns_entries, stage_ends}
+use Rattle.pfs_session.specs.Turns.{Step, StartsEvent, EndsEvent, Spends, SettlesHeld, Connects, Quits, Truncates, Changes, Inquires, Does, Turn, AreTurns, reply_entries, state_after, steps_of, turns_entries, stage_ends}
 use Rattle.pfs_session.specs.declared.events.Numbers.{Numbers}
+use Rattle.pfs_session.specs.declared.remarks.Remark.TheVariants.{Query, Rows, Refused}
 use Rattle.pfs_session.specs.declared.setup.Setup.{Setup}
 use Rattle.pfs_ruled.specs.Folded.{ConnectsFirst, DoingsConnectFirst, AllConnectFirst}
 use Rattle.pfs_ruled.proofs.Counted.{AreLined, AllLined, more_made, one_of, actions_in}
@@ -43,6 +53,8 @@ abbrev slot_by : ℕ → Option ℕ → Step → Option ℕ
 slot_by number slot (Connects admin user host) = (placed_of (seat_at admin number user host)).thread
 slot_by number slot (Quits admin) = slot
 slot_by number slot (Truncates admin what) = slot
+slot_by number slot (Changes admin what) = slot
+slot_by number slot (Inquires what) = slot
 slot_by number slot (StartsEvent subject) = slot
 slot_by number slot (EndsEvent numbers) = slot
 slot_by number slot (Spends time) = slot
@@ -110,6 +122,24 @@ acted_slot : (subject : Option Subject) (context : Context) (head : Entry) (call
     → (after_entries subject context entries).slot ≡ slot
 acted_slot subject context head calls entries slot e a = slot_as subject context entries _ slot a.entries_are (inner_slots subject (noted subject context head) a.rest a.same.inner ∙ e)
 
+reply_slot : (subject : Option Subject) (context : Context) (what : SetupStatement) (reply : Reply) → (after_entries subject context (reply_entries what reply)).slot ≡ context.slot
+reply_slot subject context Show reply = refl
+reply_slot subject context (Update update) (replies.Changed count) = refl
+reply_slot subject context (Update update) (replies.Error error) = refl
+reply_slot subject context (Insert insert) (replies.Changed count) = refl
+reply_slot subject context (Insert insert) (replies.Error error) = refl
+reply_slot subject context (Delete delete) (replies.Changed count) = refl
+reply_slot subject context (Delete delete) (replies.Error error) = refl
+
+inquiry_slot : (subject : Option Subject) (context : Context) (what : Inquiry) → (noted subject context (inquiry_entry what)).slot ≡ context.slot
+inquiry_slot subject context (Looks (readings.Slot row (seen.Whole version content))) = refl
+inquiry_slot subject context (Looks (readings.Slot row (seen.Free word))) = refl
+inquiry_slot subject context (Looks (readings.Slot row (seen.Busy first second))) = refl
+inquiry_slot subject context (Looks (readings.Word word version flags)) = refl
+inquiry_slot subject context (Remarks Query) = refl
+inquiry_slot subject context (Remarks (Rows count)) = refl
+inquiry_slot subject context (Remarks (Refused error)) = refl
+
 does_slot : (subject : Option Subject) (context : Context) (s : State) (step : Step) (calls : List Call) (entries : List Entry) (after : State) → Does s step calls entries after
     → (after_entries subject context entries).slot ≡ slot_by s.number context.slot step
 does_slot subject context s (StartsEvent what) calls entries after d =
@@ -127,6 +157,13 @@ does_slot subject context s (Quits admin) calls entries after d =
     acted_slot subject context (says.Act (admin.actions + 1)) calls entries context.slot refl (acted (work_of_quit admin s.number) admin.words (says.Act (admin.actions + 1)) calls entries d.0)
 does_slot subject context s (Truncates admin what) calls entries after d =
     acted_slot subject context (says.Act (admin.actions + 1)) calls entries context.slot refl (truncated_acted s admin what calls entries after d)
+does_slot subject context s (Changes admin what) calls entries after d =
+    let mid : Context = after_entries subject context d.changes in
+    slot_as subject context entries _ context.slot d.entries_are
+    (ap (λ (z : Context). z.slot) (entries_then subject context d.changes (reply_entries what (reply_to admin what)))
+    ∙ (reply_slot subject mid what (reply_to admin what)
+    ∙ acted_slot subject context (says.Act (admin.actions + 1)) calls d.changes context.slot refl (acted (work_of_statement admin what) admin.words (says.Act (admin.actions + 1)) calls d.changes d.works)))
+does_slot subject context s (Inquires what) calls entries after d = slot_as subject context entries _ context.slot d.entries_are (inquiry_slot subject context what)
 
 turns_slot : (subject : Option Subject) (context : Context) (s : State) (turns : List Turn) → AreTurns s turns → (after_entries subject context (turns_entries turns)).slot ≡ slots_by s.number context.slot (steps_of turns)
 turns_slot subject context s [] are = refl
@@ -142,6 +179,10 @@ abbrev pub slot_behind : ℕ → Option ℕ → Deed → Option ℕ
 slot_behind number slot (Connecting admin user host) = (placed_of (seat_at admin number user host)).thread
 slot_behind number slot (Quitting admin) = slot
 slot_behind number slot (Truncating admin what) = slot
+slot_behind number slot (Changing admin what) = slot
+slot_behind number slot (Showing admin count) = slot
+slot_behind number slot (Querying readings count) = slot
+slot_behind number slot (Refusing error) = slot
 slot_behind number slot (Starting subject) = slot
 slot_behind number slot (Staging subject) = slot
 slot_behind number slot StageEnding = slot
@@ -160,10 +201,18 @@ stage_slots number slot (what ∷ events) rest = by_test (is_stage what.kind) wh
   by_test true = refl
   by_test false = refl
 
+looks_slots : (number : ℕ) (slot : Option ℕ) (readings : List Reading) (rest : List Step) → slots_by number slot (looks readings ++ rest) ≡ slots_by number slot rest
+looks_slots number slot [] rest = refl
+looks_slots number slot (reading ∷ readings) rest = looks_slots number slot readings rest
+
 deed_slot : (s : State) (slot : Option ℕ) (deed : Deed) → slots_by s.number slot (steps_for s deed) ≡ slot_behind s.number slot deed
 deed_slot s slot (Connecting admin user host) = refl
 deed_slot s slot (Quitting admin) = refl
 deed_slot s slot (Truncating admin what) = refl
+deed_slot s slot (Changing admin what) = refl
+deed_slot s slot (Showing admin count) = refl
+deed_slot s slot (Querying readings count) = looks_slots s.number slot readings (remark (Rows count) ∷ [])
+deed_slot s slot (Refusing error) = refl
 deed_slot s slot (Starting subject) = refl
 deed_slot s slot (Staging subject) = stage_slots s.number slot s.opened.events (StartsEvent subject ∷ [])
 deed_slot s slot StageEnding = stage_slots s.number slot s.opened.events []
@@ -260,6 +309,10 @@ no_connect session made label labels (Connecting admin user host) slot any up l 
     absurd (omega (arith, line, f, up))
 no_connect session made label labels (Quitting admin) slot any up l f = (refl, tt)
 no_connect session made label labels (Truncating admin what) slot any up l f = (refl, tt)
+no_connect session made label labels (Changing admin what) slot any up l f = (refl, tt)
+no_connect session made label labels (Showing admin count) slot any up l f = (refl, tt)
+no_connect session made label labels (Querying readings count) slot any up l f = (refl, tt)
+no_connect session made label labels (Refusing error) slot any up l f = (refl, tt)
 no_connect session made label labels (Starting subject) slot any up l f = (refl, tt)
 no_connect session made label labels (Staging subject) slot any up l f = (refl, tt)
 no_connect session made label labels StageEnding slot any up l f = (refl, tt)
@@ -294,6 +347,14 @@ placed_by session slot (d ∷ ds) l f = by_deed d.part.deed l.1 f.0 (λ m. place
   by_deed (Truncating admin what) l c rest =
       let s : IsSettled session slot ds = settled session 1 slot ds (omega arith) l f.1 in
       (tt, s.placed (slots_behind session slot (parts_in ds)))
+  by_deed (Changing admin what) l c rest =
+      let s : IsSettled session slot ds = settled session 1 slot ds (omega arith) l f.1 in
+      (tt, s.placed (slots_behind session slot (parts_in ds)))
+  by_deed (Showing admin count) l c rest =
+      let s : IsSettled session slot ds = settled session 1 slot ds (omega arith) l f.1 in
+      (tt, s.placed (slots_behind session slot (parts_in ds)))
+  by_deed (Querying readings count) l c rest = quiet (Querying readings count) (rest l) (λ any. tt)
+  by_deed (Refusing error) l c rest = quiet (Refusing error) (rest l) (λ any. tt)
   by_deed (Starting subject) l c rest = quiet (Starting subject) (rest l) (λ any. tt)
   by_deed (Staging subject) l c rest = quiet (Staging subject) (rest l) (λ any. tt)
   by_deed StageEnding l c rest = quiet StageEnding (rest l) (λ any. tt)

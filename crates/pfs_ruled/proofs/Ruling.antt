@@ -1,5 +1,5 @@
 -- Sessions one after another keep the rules of a run: the law.
-use Rattle.std.proofs.Common.{ℕ, ◌≡◌, List, [], length, refl, sym, ◌∙◌, subst}
+use Rattle.std.proofs.Common.{ℕ, ◌≡◌, Bool, List, [], length, refl, sym, ◌∙◌, subst}
 use Rattle.pfs_admin.specs.Opening.{opening_flags}
 use Rattle.pfs_admin.specs.declared.changes.Change.{Change}
 use Rattle.pfs_alone.proofs.Stinted.{alone, AreTogether, together}
@@ -21,7 +21,7 @@ use Rattle.pfs_model.specs.Places.{Placed}
 use Rattle.pfs_parts.proofs.Stinting.{done}
 use Rattle.pfs_parts.proofs.Through.{whole as parts_whole}
 use Rattle.pfs_parts.specs.Stints.{Stint, AreDone}
-use Rattle.pfs_runs.specs.Labels.{AreLabels, asked_at, rooms_at, words_at, terms_of}
+use Rattle.pfs_runs.specs.Labels.{AreLabels, asked_at, rooms_at, answers_at, words_at, terms_of}
 use Rattle.pfs_runs.specs.Rules.{Terms, AreRules, flags_by, slot_in, given_by}
 use Rattle.pfs_stat.specs.Stat.{MergeIsMonoid}
 use Rattle.pfs_ruled.specs.Folded.{AreFolded}
@@ -32,7 +32,7 @@ use Rattle.pfs_ruled.proofs.Entering.{all_labels, AreAllEntered, entered}
 use Rattle.pfs_ruled.proofs.Finding.{AreNumbers, unique, spells_numbers}
 use Rattle.pfs_ruled.proofs.Knowing.{KnownActing, AllStandAmong, spells_among, spells_known}
 use Rattle.pfs_ruled.proofs.Labelling.{labelled}
-use Rattle.pfs_ruled.proofs.Orders.{asked_are, rooms_are, words_are}
+use Rattle.pfs_ruled.proofs.Orders.{asked_are, rooms_are, answers_are, words_are}
 use Rattle.pfs_ruled.proofs.Owning.{all_later, all_own}
 use Rattle.pfs_ruled.proofs.Placing.{all_placed}
 use Rattle.pfs_ruled.proofs.Quieting.{caused, there}
@@ -72,7 +72,7 @@ have_labels setting change stack depths flags spells are answers folded =
 
 is_asked : (setting : Setting) (change : Label → Change) (given : Given) (flags : List ℕ) (spells : List Spell) → given.info_words ≡ words_at setting change (labels_of spells) → HaveLabels setting change spells
     → AreFolded setting change spells → AllAnswer flags (calls_of spells)
-    → IsAsked (record { asked = asked_at setting change (labels_of spells); rooms = rooms_at setting change (labels_of spells); counted = counted_by (contents_of spells) (all_taken (stints_of spells)) })
+    → IsAsked (record { asked = asked_at setting change (labels_of spells); rooms = rooms_at setting change (labels_of spells); answers = answers_at setting change (labels_of spells); counted = counted_by (contents_of spells) (all_taken (stints_of spells)) })
     given (contents_of spells) (entries_of spells)
 is_asked setting change given flags spells info has folded answers =
     let stints : List Stint = stints_of spells in
@@ -82,10 +82,13 @@ is_asked setting change given flags spells info has folded answers =
     let words = words_are setting change labels ones o.numbers o.known in
     let all : IsAsked (orders_of (contents_of spells) stints) given (contents_of spells) (entries_of spells) =
     asked_whole given (contents_of spells) stints (info ∙ sym words) (spells_seated setting change spells folded has.are_done) (contents_agree flags spells answers) (unique 0 (length labels) stints o.numbers) in
-    subst (λ z. IsAsked (record { asked = z; rooms = rooms_at setting change labels; counted = counted_by (contents_of spells) (all_taken stints) }) given (contents_of spells) (entries_of spells))
+    let counted : ℕ → ℕ → Bool = counted_by (contents_of spells) (all_taken stints) in
+    subst (λ z. IsAsked (record { asked = z; rooms = rooms_at setting change labels; answers = answers_at setting change labels; counted = counted }) given (contents_of spells) (entries_of spells))
     (asked_are setting change labels ones o.numbers o.known)
-    (subst (λ z. IsAsked (record { asked = (orders_of (contents_of spells) stints).asked; rooms = z; counted = counted_by (contents_of spells) (all_taken stints) }) given (contents_of spells) (entries_of spells))
-    (rooms_are setting change labels ones o.numbers o.known) all)
+    (subst (λ z. IsAsked (record { asked = (orders_of (contents_of spells) stints).asked; rooms = z; answers = answers_at setting change labels; counted = counted }) given (contents_of spells) (entries_of spells))
+    (rooms_are setting change labels ones o.numbers o.known)
+    (subst (λ z. IsAsked (record { asked = (orders_of (contents_of spells) stints).asked; rooms = (orders_of (contents_of spells) stints).rooms; answers = z; counted = counted }) given (contents_of spells) (entries_of spells))
+    (answers_are setting change labels ones o.numbers o.known) all))
 
 pub ruled : MergeIsMonoid → RuledLaw
 ruled m = λ setting change facts depths spells are answers folded first given_facts.
@@ -108,7 +111,7 @@ ruled m = λ setting change facts depths spells are answers folded first given_f
       shaped = a.shaped;
       joint = a.alone.joint;
       there = there flags all (calls_of spells) t.quiet t.same answers;
-      caused = caused all t.quiet;
+      caused = caused (journals_of spells) a.shaped a.plain t.quiet;
       judged = a.judged;
       numbered = a.numbered;
       answered = asked.answered;

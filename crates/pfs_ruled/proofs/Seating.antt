@@ -7,7 +7,7 @@ use Rattle.pfs_admin.specs.Fold.{stepped, state_from, state_of}
 use Rattle.pfs_admin.specs.Opening.{cells_of, opened}
 use Rattle.pfs_admin.specs.States.{State, seat_at, seat_in}
 use Rattle.pfs_admin.specs.declared.changes.Change.{Change}
-use Rattle.pfs_admin.specs.declared.changes.Change.TheVariants.{Connect, Quit, Truncate, Show}
+use Rattle.pfs_admin.specs.declared.changes.Change.TheVariants.{Connect, Quit, Truncate, Setup}
 use Rattle.pfs_alone.specs.Spells.{Doing, Spell, parts_in, stints_of}
 use Rattle.pfs_asked.specs.Takes.{IsSeated, AreOnce, AreSeated, IsSeatedStint}
 use Rattle.pfs_board.specs.declared.view.Label.{Label}
@@ -20,7 +20,7 @@ use Rattle.pfs_containers.specs.Kept.{AreWell, IsInRange, seat_by, seated}
 use Rattle.pfs_containers.specs.declared.containers.Connection.{Connection}
 use Rattle.pfs_levels.specs.Flushes.{Ascends, from_of}
 use Rattle.pfs_model.specs.Chains.{Each}
-use Rattle.pfs_parts.specs.Deeds.{Deed, Connecting, Starting, Staging, StageEnding, Ending, Spending, Quitting, Truncating, Closing}
+use Rattle.pfs_parts.specs.Deeds.{Deed, Connecting, Starting, Staging, StageEnding, Ending, Spending, Quitting, Truncating, Changing, Showing, Querying, Refusing, Closing}
 use Rattle.pfs_parts.specs.Stints.{AreDone}
 use Rattle.pfs_ruled.specs.Folded.{FoldsTo, DoingsFolded, AreFolded}
 use Rattle.pfs_admin.specs.Laws.{row_of}
@@ -62,7 +62,7 @@ step_well : (s : State) (session : ℕ) (what : Change) → AreWell s.kept.now.p
 step_well s session (Connect user host) well = connect_well s.kept.now session user host well
 step_well s session Quit well = quit_well s.kept.now session well
 step_well s session (Truncate what) well = truncation_well s.kept.now what well
-step_well s session Show well = well
+step_well s session (Setup what) well = well
 
 from_well : (change : Label → Change) (s : State) (labels : List Label) → AreWell s.kept.now.places → AreWell (state_from change s labels).kept.now.places
 unfolding state_from
@@ -109,6 +109,10 @@ deed_seated setting change session label labels (Quitting admin) f =
 deed_seated setting change session label labels (Truncating admin what) f =
     subst (λ (s : State). AreOnce (map from_of (work_of_truncation s what).moves) × Ascends 1 14242 (map row_of (work_of_truncation s what).signs)) (sym f.0)
     (rows_of_truncation (state_of setting change labels) what (fold_kinds setting change labels))
+deed_seated setting change session label labels (Changing admin what) f = tt
+deed_seated setting change session label labels (Showing admin count) f = tt
+deed_seated setting change session label labels (Querying readings count) f = tt
+deed_seated setting change session label labels (Refusing error) f = tt
 deed_seated setting change session label labels (Starting subject) f = tt
 deed_seated setting change session label labels (Staging subject) f = tt
 deed_seated setting change session label labels StageEnding f = tt

@@ -3,7 +3,7 @@ use Rattle.std.proofs.Common.{ℕ, ◌≡◌, ◌+◌, ◌<◌, ◌==◌, Bool, 
 use Rattle.std.specs.Prelude.{nat_lt, ◌||◌}
 use Rattle.std.proofs.lemmas.Bool.Decides.{nat_tests}
 use Rattle.pfs_alone.proofs.Nexts.{writes, switches}
-use Rattle.pfs_alone.specs.Notes.{Note, Wrote, Freed, Switched, Saw, Acted, saw_all, notes_at, notes_of, told, all_told}
+use Rattle.pfs_alone.specs.Notes.{Note, Wrote, Freed, Found, Vacant, Switched, Saw, Acted, saw_all, notes_at, notes_of, told, all_told}
 use Rattle.pfs_event.specs.declared.entry.Entry.{Entry}
 use Rattle.pfs_event.specs.declared.entry.Entry.TheVariants as says
 use Rattle.pfs_levels.specs.Calls.{Call, Adds, Rings, Reads, Loads, Draws, Takes, Puts, Frees, Sets, Enters, Leaves, Meets}
@@ -17,6 +17,7 @@ use Rattle.pfs_model.specs.Places.{Placed}
 use Rattle.pfs_model.specs.Setups.{loads_at}
 use Rattle.pfs_model.specs.declared.changes.Change.{Change}
 use Rattle.pfs_model.specs.declared.lines.Subject.{Subject}
+use Rattle.pfs_rows.specs.declared.table.Seen.TheVariants as seen
 
 abbrev releases : List Note → List Change
 releases [] = []
@@ -24,6 +25,8 @@ releases (Freed row version ∷ notes) = change_at row version ∷ releases note
 releases (Wrote row version ∷ notes) = releases notes
 releases (Switched word version flags ∷ notes) = releases notes
 releases (Saw word version ∷ notes) = releases notes
+releases (Found row version ∷ notes) = releases notes
+releases (Vacant row ∷ notes) = releases notes
 releases (Acted number ∷ notes) = releases notes
 
 -- along lists
@@ -33,6 +36,8 @@ writes_then (Wrote row version ∷ xs) ys = ap (λ z. change_at row version ∷ 
 writes_then (Freed row version ∷ xs) ys = writes_then xs ys
 writes_then (Switched word version flags ∷ xs) ys = writes_then xs ys
 writes_then (Saw word version ∷ xs) ys = writes_then xs ys
+writes_then (Found row version ∷ xs) ys = writes_then xs ys
+writes_then (Vacant row ∷ xs) ys = writes_then xs ys
 writes_then (Acted number ∷ xs) ys = writes_then xs ys
 
 switches_then : (xs ys : List Note) → switches (xs ++ ys) ≡ switches xs ++ switches ys
@@ -41,6 +46,8 @@ switches_then (Switched word version flags ∷ xs) ys = ap (λ z. change_at word
 switches_then (Wrote row version ∷ xs) ys = switches_then xs ys
 switches_then (Freed row version ∷ xs) ys = switches_then xs ys
 switches_then (Saw word version ∷ xs) ys = switches_then xs ys
+switches_then (Found row version ∷ xs) ys = switches_then xs ys
+switches_then (Vacant row ∷ xs) ys = switches_then xs ys
 switches_then (Acted number ∷ xs) ys = switches_then xs ys
 
 releases_then : (xs ys : List Note) → releases (xs ++ ys) ≡ releases xs ++ releases ys
@@ -49,6 +56,8 @@ releases_then (Freed row version ∷ xs) ys = ap (λ z. change_at row version �
 releases_then (Wrote row version ∷ xs) ys = releases_then xs ys
 releases_then (Switched word version flags ∷ xs) ys = releases_then xs ys
 releases_then (Saw word version ∷ xs) ys = releases_then xs ys
+releases_then (Found row version ∷ xs) ys = releases_then xs ys
+releases_then (Vacant row ∷ xs) ys = releases_then xs ys
 releases_then (Acted number ∷ xs) ys = releases_then xs ys
 
 -- what is printed is what is told
@@ -145,7 +154,9 @@ puts_are (Adds at amount (Held r v w) ∷ calls) row = not_wrote (all_told calls
 puts_are (Rings at content (Done v) ∷ calls) row = wrote (all_told calls) row at v (count (changes_of calls) row) (puts_are calls row)
 puts_are (Rings at content (Busy v w) ∷ calls) row = not_wrote (all_told calls) [] row (count (changes_of calls) row) refl (puts_are calls row)
 puts_are (Rings at content (Late t) ∷ calls) row = not_wrote (all_told calls) [] row (count (changes_of calls) row) refl (puts_are calls row)
-puts_are (Reads at seen ∷ calls) row = not_wrote (all_told calls) [] row (count (changes_of calls) row) refl (puts_are calls row)
+puts_are (Reads at (seen.Whole version content) ∷ calls) row = not_wrote (all_told calls) (told (Reads at (seen.Whole version content))) row (count (changes_of calls) row) refl (puts_are calls row)
+puts_are (Reads at (seen.Free word) ∷ calls) row = not_wrote (all_told calls) (told (Reads at (seen.Free word))) row (count (changes_of calls) row) refl (puts_are calls row)
+puts_are (Reads at (seen.Busy first second) ∷ calls) row = not_wrote (all_told calls) [] row (count (changes_of calls) row) refl (puts_are calls row)
 puts_are (Loads at v found ∷ calls) row = not_wrote (all_told calls) (told (Loads at v found)) row (count (changes_of calls) row) refl (puts_are calls row)
 puts_are (Draws kind ticket ∷ calls) row = not_wrote (all_told calls) [] row (count (changes_of calls) row) refl (puts_are calls row)
 puts_are (Meets versions ∷ calls) row = not_wrote (all_told calls) [] row (count (changes_of calls) row) refl (puts_are calls row)
@@ -171,7 +182,9 @@ sets_are (Adds row amount (Held r v w) ∷ calls) at = not_set (all_told calls) 
 sets_are (Rings row content (Done v) ∷ calls) at = not_set (all_told calls) (told (Rings row content (Done v))) at (word_version (sets_of calls) at) refl (sets_are calls at)
 sets_are (Rings row content (Busy v w) ∷ calls) at = not_set (all_told calls) [] at (word_version (sets_of calls) at) refl (sets_are calls at)
 sets_are (Rings row content (Late t) ∷ calls) at = not_set (all_told calls) [] at (word_version (sets_of calls) at) refl (sets_are calls at)
-sets_are (Reads row seen ∷ calls) at = not_set (all_told calls) [] at (word_version (sets_of calls) at) refl (sets_are calls at)
+sets_are (Reads row (seen.Whole version content) ∷ calls) at = not_set (all_told calls) (told (Reads row (seen.Whole version content))) at (word_version (sets_of calls) at) refl (sets_are calls at)
+sets_are (Reads row (seen.Free word) ∷ calls) at = not_set (all_told calls) (told (Reads row (seen.Free word))) at (word_version (sets_of calls) at) refl (sets_are calls at)
+sets_are (Reads row (seen.Busy first second) ∷ calls) at = not_set (all_told calls) [] at (word_version (sets_of calls) at) refl (sets_are calls at)
 sets_are (Loads word v found ∷ calls) at = not_set (all_told calls) (told (Loads word v found)) at (word_version (sets_of calls) at) refl (sets_are calls at)
 sets_are (Draws kind ticket ∷ calls) at = not_set (all_told calls) [] at (word_version (sets_of calls) at) refl (sets_are calls at)
 sets_are (Meets versions ∷ calls) at = not_set (all_told calls) [] at (word_version (sets_of calls) at) refl (sets_are calls at)
@@ -211,7 +224,9 @@ frees_are (Adds at amount (Held r v w) ∷ calls) row k = not_freed (all_told ca
 frees_are (Rings at content (Done v) ∷ calls) row k = put_frees (at == row) (v == k) _ (freed_in (changes_of calls) row k) (not_freed (all_told calls) (told (Rings at content (Done v))) row k (freed_in (changes_of calls) row k) refl (frees_are calls row k))
 frees_are (Rings at content (Busy v w) ∷ calls) row k = not_freed (all_told calls) [] row k (freed_in (changes_of calls) row k) refl (frees_are calls row k)
 frees_are (Rings at content (Late t) ∷ calls) row k = not_freed (all_told calls) [] row k (freed_in (changes_of calls) row k) refl (frees_are calls row k)
-frees_are (Reads at seen ∷ calls) row k = not_freed (all_told calls) [] row k (freed_in (changes_of calls) row k) refl (frees_are calls row k)
+frees_are (Reads at (seen.Whole version content) ∷ calls) row k = not_freed (all_told calls) (told (Reads at (seen.Whole version content))) row k (freed_in (changes_of calls) row k) refl (frees_are calls row k)
+frees_are (Reads at (seen.Free word) ∷ calls) row k = not_freed (all_told calls) (told (Reads at (seen.Free word))) row k (freed_in (changes_of calls) row k) refl (frees_are calls row k)
+frees_are (Reads at (seen.Busy first second) ∷ calls) row k = not_freed (all_told calls) [] row k (freed_in (changes_of calls) row k) refl (frees_are calls row k)
 frees_are (Loads at v found ∷ calls) row k = not_freed (all_told calls) (told (Loads at v found)) row k (freed_in (changes_of calls) row k) refl (frees_are calls row k)
 frees_are (Draws kind ticket ∷ calls) row k = not_freed (all_told calls) [] row k (freed_in (changes_of calls) row k) refl (frees_are calls row k)
 frees_are (Meets versions ∷ calls) row k = not_freed (all_told calls) [] row k (freed_in (changes_of calls) row k) refl (frees_are calls row k)

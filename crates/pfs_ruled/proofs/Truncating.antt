@@ -9,7 +9,8 @@ use Rattle.std.proofs.lemmas.List.Elements.{All-head, All-tail}
 use Rattle.pfs_admin.proofs.Rows.{frees_ascend}
 use Rattle.pfs_admin.specs.Laws.{row_of}
 use Rattle.pfs_admin.specs.States.{State, KindCells, kind_cells, AreKindCells}
-use Rattle.pfs_admin.specs.Truncations.{up_to, thread_source, account_source, user_source, host_source, place_asks, asks_at, level_asks, emptied, cleared, reach_asks, reach_of, summary_asks, all_asks, truncation_asks, first_row, content_at, place_sign, sign_at, level_signs, truncation_signs, is_there, kept_behind, work_of_truncation, digest_ask, digest_asks, freed_at, free_rows, free_slot, free_threads, current_first, current_count, event_signs}
+use Rattle.pfs_admin.specs.Changing.{up_to}
+use Rattle.pfs_admin.specs.Truncations.{thread_source, account_source, user_source, host_source, place_asks, asks_at, level_asks, emptied, cleared, reach_asks, reach_of, summary_asks, all_asks, truncation_asks, first_row, content_at, place_sign, sign_at, level_signs, truncation_signs, is_there, kept_behind, work_of_truncation, digest_ask, digest_asks, freed_at, free_rows, free_slot, free_threads, current_first, current_count, event_signs}
 use Rattle.pfs_admin.specs.Works.{Sign, Releases, Tags}
 use Rattle.pfs_asked.specs.Takes.{AreOnce}
 use Rattle.pfs_containers.specs.Administration.{Containers}

@@ -1,9 +1,10 @@
 -- The calls of a session's steps neither begin nor end an action.
 use Rattle.std.proofs.Common.{ℕ, ◌≡◌, Bool, true, false, List, [], ◌∷◌, ◌++◌, Option, Some, None, refl, ap, sym, ◌∙◌, subst}
 use Rattle.pfs_admin.specs.Asks.{work_of_connect, work_of_quit}
+use Rattle.pfs_admin.specs.Setups.{work_of_statement}
 use Rattle.pfs_admin.specs.Truncations.{work_of_truncation}
 use Rattle.pfs_admin.specs.Works.{Sign, Releases, Tags, Made, Flagging, signs_calls, made_calls, flagging_calls, Work}
-use Rattle.pfs_alone.specs.Notes.{Note, Wrote, Freed, Switched, Saw, Acted, told, all_told}
+use Rattle.pfs_alone.specs.Notes.{Note, Wrote, Freed, Found, Vacant, Switched, Saw, Acted, told, all_told}
 use Rattle.pfs_alone.proofs.Nexts.{acts}
 use Rattle.pfs_event.specs.Verdicts.{is_let_through}
 use Rattle.pfs_event.specs.declared.entry.Entry.{Entry}
@@ -18,12 +19,15 @@ use Rattle.pfs_levels.specs.declared.answers.Word.{Word}
 use Rattle.pfs_rings.specs.declared.puts.Put.{Put}
 use Rattle.pfs_rings.specs.declared.rings.Ring.{Ring}
 use Rattle.pfs_rings.specs.declared.rings.Ring.TheVariants.{Current, History, Long}
+use Rattle.pfs_rows.specs.declared.table.Reading.TheVariants as readings
+use Rattle.pfs_rows.specs.declared.table.Seen.TheVariants as seen
 use Rattle.pfs_session.specs.Ends.{Ends, EndsIn, EndsThrough, DigestsIn, PutsAtEnd}
+use Rattle.pfs_session.specs.Inquiries.{Inquiry, Looks, Remarks, inquiry_calls}
 use Rattle.pfs_session.specs.Rings.{PutAt, PutIf, PutIn, depth_of}
 use Rattle.pfs_session.specs.Settles.{Paid, paid_calls, pay_calls}
 use Rattle.pfs_session.specs.Starts.{load_calls, table_calls}
 use Rattle.pfs_session.specs.States.{State}
-use Rattle.pfs_session.specs.Turns.{Step, StartsEvent, EndsEvent, Spends, SettlesHeld, Connects, Quits, Truncates, Does, Works, Turn, AreTurns, state_after, turns_calls}
+use Rattle.pfs_session.specs.Turns.{Step, StartsEvent, EndsEvent, Spends, SettlesHeld, Connects, Quits, Truncates, Changes, Inquires, Does, Works, Turn, AreTurns, state_after, turns_calls}
 use Rattle.pfs_session.specs.declared.events.Numbers.{Numbers}
 use Rattle.pfs_session.specs.declared.setup.Setup.{Setup}
 use Rattle.pfs_stat.specs.declared.Stat.{Stat}
@@ -134,6 +138,11 @@ ends_within s numbers calls entries after e = by_case s.place.thread (is_let_thr
   by_case None true x = absurd x
   by_case (Some slot) true x = subst AreWithin (sym x.calls_are) (through_within s slot e.what e.others numbers calls entries after x)
 
+inquiry_within : (what : Inquiry) → AreWithin (inquiry_calls what)
+inquiry_within (Looks (readings.Slot row found)) = (tt, tt)
+inquiry_within (Looks (readings.Word word version flags)) = (tt, tt)
+inquiry_within (Remarks remark) = tt
+
 does_within : (s : State) (step : Step) (calls : List Call) (entries : List Entry) (after : State) → Does s step calls entries after → AreWithin calls
 does_within s (StartsEvent subject) calls entries after d =
     let b = d.begins in
@@ -146,6 +155,8 @@ does_within s SettlesHeld calls entries after d = subst AreWithin (sym d.calls_a
 does_within s (Connects admin user host) calls entries after d = works_within (work_of_connect admin s.number user host) admin.words _ calls entries d.0
 does_within s (Quits admin) calls entries after d = works_within (work_of_quit admin s.number) admin.words _ calls entries d.0
 does_within s (Truncates admin what) calls entries after d = works_within (work_of_truncation admin what) admin.words _ calls d.changes d.works
+does_within s (Changes admin what) calls entries after d = works_within (work_of_statement admin what) admin.words _ calls d.changes d.works
+does_within s (Inquires what) calls entries after d = subst AreWithin (sym d.calls_are) (inquiry_within what)
 
 abbrev pub TurnsWithin : List Turn → Type 0
 TurnsWithin [] = Unit {0}
@@ -199,6 +210,8 @@ acts_then (Wrote row version ∷ xs) ys = acts_then xs ys
 acts_then (Freed row version ∷ xs) ys = acts_then xs ys
 acts_then (Switched word version flags ∷ xs) ys = acts_then xs ys
 acts_then (Saw word version ∷ xs) ys = acts_then xs ys
+acts_then (Found row version ∷ xs) ys = acts_then xs ys
+acts_then (Vacant row ∷ xs) ys = acts_then xs ys
 
 call_acts : (call : Call) → IsWithin call → acts (told call) ≡ []
 call_acts (Enters label labels) w = absurd w
@@ -208,7 +221,9 @@ call_acts (Adds row amount (Held r v u)) w = refl
 call_acts (Rings row content (Done v)) w = refl
 call_acts (Rings row content (Busy v u)) w = refl
 call_acts (Rings row content (Late t)) w = refl
-call_acts (Reads row seen) w = refl
+call_acts (Reads row (seen.Whole version content)) w = refl
+call_acts (Reads row (seen.Free word)) w = refl
+call_acts (Reads row (seen.Busy first second)) w = refl
 call_acts (Loads at v found) w = refl
 call_acts (Draws kind ticket) w = refl
 call_acts (Takes row v found) w = refl

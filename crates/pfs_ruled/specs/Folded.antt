@@ -2,11 +2,12 @@
 use Rattle.std.specs.Prelude.{◌≡◌, List, [], ◌∷◌}
 use Rattle.pfs_admin.specs.Fold.{state_of}
 use Rattle.pfs_admin.specs.declared.changes.Change.{Change}
-use Rattle.pfs_admin.specs.declared.changes.Change.TheVariants.{Connect, Quit, Truncate}
+use Rattle.pfs_admin.specs.declared.changes.Change.TheVariants.{Connect, Quit, Truncate, Setup}
+use Rattle.pfs_admin.specs.declared.changes.SetupStatement.TheVariants.{Show}
 use Rattle.pfs_alone.specs.Spells.{Doing, Spell}
 use Rattle.pfs_board.specs.declared.view.Label.{Label}
 use Rattle.pfs_classes.specs.declared.setting.Setting.{Setting}
-use Rattle.pfs_parts.specs.Deeds.{Deed, Connecting, Starting, Staging, StageEnding, Ending, Spending, Quitting, Truncating, Closing}
+use Rattle.pfs_parts.specs.Deeds.{Deed, Connecting, Starting, Staging, StageEnding, Ending, Spending, Quitting, Truncating, Changing, Showing, Querying, Refusing, Closing}
 
 -- an action that entered with this label, behind those, names the administration that they make, and its change is
 -- that of its label
@@ -17,6 +18,12 @@ FoldsTo setting change label labels (Quitting admin) =
     (admin ≡ state_of setting change labels) × (change label ≡ Quit)
 FoldsTo setting change label labels (Truncating admin what) =
     (admin ≡ state_of setting change labels) × (change label ≡ Truncate what)
+FoldsTo setting change label labels (Changing admin what) =
+    (admin ≡ state_of setting change labels) × (change label ≡ Setup what)
+FoldsTo setting change label labels (Showing admin count) =
+    (admin ≡ state_of setting change labels) × (change label ≡ Setup Show)
+FoldsTo setting change label labels (Querying readings count) = Unit {0}
+FoldsTo setting change label labels (Refusing error) = Unit {0}
 FoldsTo setting change label labels (Starting subject) = Unit {0}
 FoldsTo setting change label labels (Staging subject) = Unit {0}
 FoldsTo setting change label labels StageEnding = Unit {0}
@@ -41,6 +48,10 @@ abbrev pub ConnectsFirst : Label → Deed → Type 0
 ConnectsFirst label (Connecting admin user host) = label.line ≡ 1
 ConnectsFirst label (Quitting admin) = Unit {0}
 ConnectsFirst label (Truncating admin what) = Unit {0}
+ConnectsFirst label (Changing admin what) = Unit {0}
+ConnectsFirst label (Showing admin count) = Unit {0}
+ConnectsFirst label (Querying readings count) = Unit {0}
+ConnectsFirst label (Refusing error) = Unit {0}
 ConnectsFirst label (Starting subject) = Unit {0}
 ConnectsFirst label (Staging subject) = Unit {0}
 ConnectsFirst label StageEnding = Unit {0}

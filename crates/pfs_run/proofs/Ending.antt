@@ -165,9 +165,9 @@ phase_ended setting phases before first after was now hand_old hand_new left_old
       alike = subst (λ z. LeadAlike (read ++ a.calls) (calls_of z)) same (leads_still (all_readings e.tables.reads) a.calls (calls_of spells) a.alike);
       idle = λ row. e.hand row ∙ a.idle row;
       lent = e.words ∙ a.lent;
-      spare = subst (λ z. 2 ^ 47 ≤ left_new + 8000000 * length z) behind (subst (λ z. 2 ^ 47 ≤ z + 8000000 * length done) (sym e.left) a.spare);
+      spare = subst (λ z. 2 ^ 47 ≤ left_new + 340000000 * length z) behind (subst (λ z. 2 ^ 47 ≤ z + 340000000 * length done) (sym e.left) a.spare);
       tickets = subst (λ z. 2 ^ 47 ≤ draws_new + 400000 * length z) behind (subst (λ z. 2 ^ 47 ≤ z + 400000 * length done) (sym e.draws) a.tickets);
-      acted = subst (λ z. admin.actions ≤ 252 * length z) behind a.acted;
+      acted = subst (λ z. admin.actions ≤ 16668 * length z) behind a.acted;
       wide = a.wide;
       seated = λ session one many. subst (λ z. Sits setting phases (done_before all []) z session (seat_of seats session)) same
           (subst (λ z. Sits setting phases z spells session (seat_of seats session)) behind (a.seated session one many));

@@ -2,7 +2,7 @@
 use Rattle.std.proofs.Common.{ℕ, ◌≡◌, ◌≤◌, ◌*◌, Bool, true, false, cond, List, [], ◌∷◌, length, Option, Some, None, refl, ap, length-append, arith}
 use Rattle.pfs_admin.specs.States.{State as Administration}
 use Rattle.pfs_course.specs.Course.{deeds_in, deeds_of}
-use Rattle.pfs_ends.proofs.Unplaced.{behind_all, ends_at, step_none, rings_none, sum_of, sum_then, unplaced_few, unplaced_then}
+use Rattle.pfs_ends.proofs.Unplaced.{behind_all, ends_at, query_none, step_none, rings_none, sum_of, sum_then, unplaced_few, unplaced_then}
 use Rattle.pfs_ends.specs.Counts.{lost_digests, unplaced_in}
 use Rattle.pfs_event.specs.Verdicts.{is_let_through}
 use Rattle.pfs_event.specs.declared.entry.Entry.{Entry}
@@ -11,13 +11,13 @@ use Rattle.pfs_levels.specs.Calls.{Call}
 use Rattle.pfs_model.specs.Journals.{joined}
 use Rattle.pfs_model.specs.Shapes.{is_stage}
 use Rattle.pfs_parts.proofs.Ringing.{rings_of}
-use Rattle.pfs_parts.specs.Deeds.{Deed, Connecting, Starting, Staging, StageEnding, Ending, Spending, Quitting, Truncating, Closing, Part, part_entries, steps_for}
+use Rattle.pfs_parts.specs.Deeds.{Deed, Connecting, Starting, Staging, StageEnding, Ending, Spending, Quitting, Truncating, Changing, Showing, Querying, Refusing, Closing, Part, part_entries, steps_for}
 use Rattle.pfs_parts.specs.Shaped.{AreParts, entries_of}
 use Rattle.pfs_script.specs.declared.blocks.BlockLine.{BlockLine}
 use Rattle.pfs_script.specs.declared.blocks.Connect.{Connect}
 use Rattle.pfs_session.specs.Ends.{EndsIn, EndsAdded, DigestsIn, no_numbers}
 use Rattle.pfs_session.specs.States.{State}
-use Rattle.pfs_session.specs.Turns.{Step, StartsEvent, EndsEvent, Spends, SettlesHeld, Connects, Quits, Truncates, Does, Turn, AreTurns, state_after, stage_ends, steps_of, turns_entries}
+use Rattle.pfs_session.specs.Turns.{Step, StartsEvent, EndsEvent, Spends, SettlesHeld, Connects, Quits, Truncates, Changes, Inquires, Does, Turn, AreTurns, state_after, stage_ends, steps_of, turns_entries}
 use Rattle.pfs_session.specs.declared.events.Numbers.{Numbers}
 use Rattle.pfs_run.proofs.FewLost.{block_short}
 
@@ -52,6 +52,8 @@ step_few ends s SettlesHeld calls entries after d = let e = step_none ends s Set
 step_few ends s (Connects admin user host) calls entries after d = let e = step_none ends s (Connects admin user host) calls entries after d refl in omega (arith, e)
 step_few ends s (Quits admin) calls entries after d = let e = step_none ends s (Quits admin) calls entries after d refl in omega (arith, e)
 step_few ends s (Truncates admin what) calls entries after d = let e = step_none ends s (Truncates admin what) calls entries after d refl in omega (arith, e)
+step_few ends s (Changes admin what) calls entries after d = let e = step_none ends s (Changes admin what) calls entries after d refl in omega (arith, e)
+step_few ends s (Inquires what) calls entries after d = let e = step_none ends s (Inquires what) calls entries after d refl in omega (arith, e)
 
 turns_few : (ends : Bool) (s : State) (turns : List Turn) → AreTurns s turns → unplaced_in ends (turns_entries turns) ≤ 3 * sum_of ends_at (steps_of turns)
 turns_few ends s [] are = omega arith
@@ -76,6 +78,10 @@ deed_few s (Ending numbers) = omega (arith, sum_then ends_at (stage_ends s.opene
 deed_few s (Spending time) = omega arith
 deed_few s (Quitting admin) = omega arith
 deed_few s (Truncating admin what) = omega arith
+deed_few s (Changing admin what) = omega arith
+deed_few s (Showing admin count) = omega arith
+deed_few s (Querying readings count) = omega (arith, query_none readings count)
+deed_few s (Refusing error) = omega arith
 deed_few s Closing = omega arith
 
 parts_few : (ends : Bool) (s : State) (parts : List Part) → AreParts s parts → unplaced_in ends (joined (entries_of parts)) ≤ 6 * length parts

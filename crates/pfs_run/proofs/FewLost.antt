@@ -1,9 +1,14 @@
 -- Each line of a session starts one event at most, so a block says of few that they were lost.
 use Rattle.std.proofs.Common.{ℕ, suc, ◌≡◌, ◌≤◌, ◌+◌, Bool, true, false, List, [], ◌∷◌, ◌++◌, length, Option, Some, None, refl, ap, sym, ◌∙◌, subst, length-append, arith}
 use Rattle.pfs_admin.specs.Asks.{work_of_connect, work_of_quit}
+use Rattle.pfs_admin.specs.Setups.{reply_to, work_of_statement}
 use Rattle.pfs_admin.specs.States.{State as Administration, seat_at}
 use Rattle.pfs_admin.specs.Truncations.{work_of_truncation}
 use Rattle.pfs_admin.specs.Works.{Work, flagging_entries, signs_entries}
+use Rattle.pfs_admin.specs.declared.changes.Reply.{Reply}
+use Rattle.pfs_admin.specs.declared.changes.Reply.TheVariants as replies
+use Rattle.pfs_admin.specs.declared.changes.SetupStatement.{SetupStatement}
+use Rattle.pfs_admin.specs.declared.changes.SetupStatement.TheVariants.{Update, Insert, Delete, Show}
 use Rattle.pfs_course.specs.Course.{connected_by, connecting, deeds_along, deeds_in, deeds_of}
 use Rattle.pfs_ends.specs.Counts.{started}
 use Rattle.pfs_ends.proofs.Started.{started_one, started_then}
@@ -23,17 +28,22 @@ use Rattle.pfs_parts.proofs.Ringing.{is_ring, put_ring, ring_plain, rings_of}
 use Rattle.pfs_parts.proofs.Pieces.{is_plain}
 use Rattle.pfs_parts.proofs.Settled.{ArePlain, settle_plain}
 use Rattle.pfs_parts.proofs.Written.{ends_by, has_stage}
-use Rattle.pfs_parts.specs.Deeds.{Deed, Connecting, Starting, Staging, StageEnding, Ending, Spending, Quitting, Truncating, Closing, Part, part_entries, steps_for}
+use Rattle.pfs_parts.specs.Deeds.{Deed, Connecting, Starting, Staging, StageEnding, Ending, Spending, Quitting, Truncating, Changing, Showing, Querying, Refusing, Closing, Part, looks, part_entries, remark, steps_for}
 use Rattle.pfs_parts.specs.Shaped.{AreParts, entries_of}
 use Rattle.pfs_play.specs.Errands.{admin_behind, errand_on}
+use Rattle.pfs_rows.specs.declared.table.Reading.{Reading}
+use Rattle.pfs_rows.specs.declared.table.Reading.TheVariants as readings
+use Rattle.pfs_rows.specs.declared.table.Seen.TheVariants as seen
 use Rattle.pfs_script.specs.declared.blocks.BlockLine.{BlockLine}
 use Rattle.pfs_script.specs.declared.blocks.Connect.{Connect}
 use Rattle.pfs_session.specs.Ends.{EndsIn, EndsAdded, EndsCounted, EndsThrough, DigestsIn, added_entry}
+use Rattle.pfs_session.specs.Inquiries.{Inquiry, Looks, Remarks, inquiry_entry}
 use Rattle.pfs_session.specs.Rings.{put_entries}
 use Rattle.pfs_session.specs.Settles.{owed_by_state}
 use Rattle.pfs_session.specs.States.{State}
-use Rattle.pfs_session.specs.Turns.{Step, StartsEvent, EndsEvent, Spends, SettlesHeld, Connects, Quits, Truncates, Does, Works, Turn, AreTurns, state_after, stage_ends, steps_of, turns_entries}
+use Rattle.pfs_session.specs.Turns.{Step, StartsEvent, EndsEvent, Spends, SettlesHeld, Connects, Quits, Truncates, Changes, Inquires, Does, Works, Turn, AreTurns, reply_entries, state_after, stage_ends, steps_of, turns_entries}
 use Rattle.pfs_session.specs.declared.events.Numbers.{Numbers}
+use Rattle.pfs_session.specs.declared.remarks.Remark.TheVariants.{Query, Rows, Refused}
 
 -- entries that start no event say of none that it was lost
 plain_one : (test : Verdict → Bool) (e : Entry) → is_plain e ≡ true → started test (e ∷ []) ≡ 0
@@ -57,6 +67,8 @@ starts_in SettlesHeld = 0
 starts_in (Connects admin user host) = 0
 starts_in (Quits admin) = 0
 starts_in (Truncates admin what) = 0
+starts_in (Changes admin what) = 0
+starts_in (Inquires what) = 0
 
 abbrev starts_of : List Step → ℕ
 starts_of [] = 0
@@ -118,6 +130,24 @@ works_none : (test : Verdict → Bool) (work : Work) (words : List Word) (head :
 works_none test work words head calls entries plain w =
     ap (started test) w.entries_are ∙ plain_none test (head ∷ (moves_entries w.moves ++ (signs_entries w.made ++ flagging_entries words work.flags))) (plain, quiet_plains _ (work_quiet w.moves w.made words work.flags))
 
+reply_none : (test : Verdict → Bool) (what : SetupStatement) (reply : Reply) → started test (reply_entries what reply) ≡ 0
+reply_none test Show reply = refl
+reply_none test (Update update) (replies.Changed count) = refl
+reply_none test (Update update) (replies.Error error) = refl
+reply_none test (Insert insert) (replies.Changed count) = refl
+reply_none test (Insert insert) (replies.Error error) = refl
+reply_none test (Delete delete) (replies.Changed count) = refl
+reply_none test (Delete delete) (replies.Error error) = refl
+
+inquiry_none : (test : Verdict → Bool) (what : Inquiry) → started test (inquiry_entry what ∷ []) ≡ 0
+inquiry_none test (Looks (readings.Slot row (seen.Whole version content))) = refl
+inquiry_none test (Looks (readings.Slot row (seen.Free word))) = refl
+inquiry_none test (Looks (readings.Slot row (seen.Busy first second))) = refl
+inquiry_none test (Looks (readings.Word word version flags)) = refl
+inquiry_none test (Remarks Query) = refl
+inquiry_none test (Remarks (Rows count)) = refl
+inquiry_none test (Remarks (Refused error)) = refl
+
 step_few : (test : Verdict → Bool) (s after : State) (step : Step) (calls : List Call) (entries : List Entry) → Does s step calls entries after → started test entries ≤ starts_in step
 step_few test s after (StartsEvent subject) calls entries d =
     let rings : List Entry = put_entries d.current in
@@ -138,6 +168,13 @@ step_few test s after (Truncates admin what) calls entries d =
     let answer = plain_one test (says.Reply 0) refl in
     let e = ap (started test) d.entries_are in
     omega (arith, changes, both, answer, e)
+step_few test s after (Changes admin what) calls entries d =
+    let changes = works_none test (work_of_statement admin what) admin.words _ calls d.changes refl d.works in
+    let both = started_then test d.changes (reply_entries what (reply_to admin what)) in
+    let answer = reply_none test what (reply_to admin what) in
+    let e = ap (started test) d.entries_are in
+    omega (arith, changes, both, answer, e)
+step_few test s after (Inquires what) calls entries d = let e = ap (started test) d.entries_are ∙ inquiry_none test what in omega (arith, e)
 
 turns_few : (test : Verdict → Bool) (s : State) (turns : List Turn) → AreTurns s turns → started test (turns_entries turns) ≤ starts_of (steps_of turns)
 turns_few test s [] are = omega arith
@@ -154,6 +191,10 @@ stage_by events false has = ap starts_of (ends_by events false has)
 stage_none : (events : List Open) → starts_of (stage_ends events) ≡ 0
 stage_none events = stage_by events (has_stage events) refl
 
+looks_none : (readings : List Reading) → starts_of (looks readings) ≡ 0
+looks_none [] = refl
+looks_none (reading ∷ readings) = ap (λ z. 0 + z) (looks_none readings)
+
 deed_few : (s : State) (deed : Deed) → starts_of (steps_for s deed) ≤ 1
 deed_few s (Connecting admin user host) = omega arith
 deed_few s (Starting subject) = omega arith
@@ -163,6 +204,10 @@ deed_few s (Ending numbers) = omega (arith, starts_then (stage_ends s.opened.eve
 deed_few s (Spending time) = omega arith
 deed_few s (Quitting admin) = omega arith
 deed_few s (Truncating admin what) = omega arith
+deed_few s (Changing admin what) = omega arith
+deed_few s (Showing admin count) = omega arith
+deed_few s (Querying readings count) = omega (arith, starts_then (looks readings) (remark (Rows count) ∷ []), looks_none readings)
+deed_few s (Refusing error) = omega arith
 deed_few s Closing = omega arith
 
 parts_few : (test : Verdict → Bool) (s : State) (parts : List Part) → AreParts s parts → started test (joined (entries_of parts)) ≤ length parts

@@ -24,7 +24,7 @@ pub record IsHere (setting : Setting) (phases before : List Phase) (first : List
   pub own : own_blocks block.session (done_before before first) ≡ blocks_for block.session before
   pub named : IsNamed setting block
   pub few : length (done_before before first) < 200000
-  pub rare : actions_on (written_out block.lines) ≤ 250
+  pub rare : actions_on (written_out block.lines) ≤ 16666
   pub depth : lines_among (blocks_for block.session before) + length block.lines ≤ depth_of phases block.session
 
 phased_length : (phase : ℕ) (blocks : List Block) → length (phased phase blocks) ≡ length blocks
@@ -44,7 +44,7 @@ with_itself block same is = ap (λ b. cond b (block ∷ []) []) is
 lines_of_more : (xs : List Block) (block : Block) (ys : List Block) → lines_among (xs ++ block ∷ ys) ≡ lines_among xs + (length block.lines + lines_among ys)
 lines_of_more xs block ys = sum_by-append (λ (block : Block). length block.lines) xs (block ∷ ys) ∙ ap (λ n. lines_among xs + n) (sum_by-cons (λ (block : Block). length block.lines) block ys)
 
--- a block truncates no more often than all blocks of its script together
+-- a block has no more actions than all blocks of its script together
 actions_here : (before after : List Phase) (first others : List Block) (block : Block) → actions_on (written_out block.lines) ≤ actions_in (before ++ record { blocks = first ++ block ∷ others } ∷ after)
 actions_here before after first others block =
     let here : Phase = record { blocks = first ++ block ∷ others } in

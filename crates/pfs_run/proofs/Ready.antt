@@ -36,7 +36,7 @@ pub record IsReady (setting : Setting) (phases : List Phase) (done : List Phased
   pub lie : StagesLie (kinds_at book.state)
   pub free : book.state.held ≡ nothing_held
   pub drawn : book.state.drawn ≤ 200000 * length done
-  pub actions : book.state.actions ≤ 252 * length done
+  pub actions : book.state.actions ≤ 16668 * length done
   pub depth : book.state.opened.depth ≡ depth_of phases block.session
 
 -- a session that no spell is of is as it began

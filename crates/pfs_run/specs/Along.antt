@@ -54,7 +54,7 @@ pub record IsWaiting (setting : Setting) (phases : List Phase) (done : List Phas
   pub kinds : kinds_at book.state ≡ kinds_left (lines_at session done)
   pub lie : StagesLie (kinds_at book.state)
   pub drawn : book.state.drawn ≤ 200000 * length done
-  pub actions : book.state.actions ≤ 252 * length done
+  pub actions : book.state.actions ≤ 16668 * length done
 
 -- a session that had no block yet has no seat
 abbrev pub Sits : Setting → List Phase → List PhasedBlock → List Spell → ℕ → Option Book → Type 0
@@ -98,9 +98,9 @@ pub record IsAlong (setting : Setting) (phases before : List Phase) (first : Lis
   pub alike : LeadAlike calls (calls_of (earlier ++ current))
   pub idle : (row : ℕ) → hand row ≡ None
   pub lent : words ≡ Some admin.words
-  pub spare : 2 ^ 47 ≤ left + 8000000 * length (done_before before first)
+  pub spare : 2 ^ 47 ≤ left + 340000000 * length (done_before before first)
   pub tickets : 2 ^ 47 ≤ draws + 400000 * length (done_before before first)
-  pub acted : admin.actions ≤ 252 * length (done_before before first)
+  pub acted : admin.actions ≤ 16668 * length (done_before before first)
   pub wide : length seats ≡ 64
   pub seated : (session : ℕ) → 1 ≤ session → session ≤ 64
       → Sits setting phases (done_before before first) (earlier ++ current) session (seat_of seats session)

@@ -104,8 +104,9 @@ impl Runner {
         pfs_playable::laws::lines();
         pfs_playable::laws::named();
         let mut session = take_seat(self.alloc, setting, phases, &mut self.seats, block.session)?;
-        session.reserve(AT_ENDS + written_cost(block.lines.as_slice()))?;
-        let mut paused = play_block(session, &mut self.rows, &mut self.admin, block);
+        let cost = written_cost(self.alloc, block.lines.as_slice())?;
+        session.reserve(AT_ENDS + cost)?;
+        let mut paused = play_block(self.alloc, session, &mut self.rows, &mut self.admin, block)?;
         let entries = paused.take_log().into_entries();
         keep_seat(&mut self.seats, block.session, paused);
         self.lost = count_lost(entries.as_slice(), self.lost);

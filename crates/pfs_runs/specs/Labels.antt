@@ -3,18 +3,19 @@ use Rattle.std.specs.Prelude.{ℕ, zero, suc, ◌≡◌, ◌+◌, ◌-◌, List,
 use Rattle.pfs_admin.specs.Asks.{work_of_connect, work_of_quit, placed_of}
 use Rattle.pfs_admin.specs.Fold.{state_of}
 use Rattle.pfs_admin.specs.Opening.{opening_flags}
+use Rattle.pfs_admin.specs.Setups.{reply_to, work_of_statement}
 use Rattle.pfs_admin.specs.States.{State, seat_at}
 use Rattle.pfs_admin.specs.Truncations.{work_of_truncation}
 use Rattle.pfs_admin.specs.Works.{Work, no_work}
 use Rattle.pfs_admin.specs.declared.changes.Change.{Change}
-use Rattle.pfs_admin.specs.declared.changes.Change.TheVariants.{Connect, Quit, Truncate, Show}
-use Rattle.pfs_asked.specs.Asking.{asked_by, no_rows, rooms_of}
+use Rattle.pfs_admin.specs.declared.changes.Change.TheVariants.{Connect, Quit, Truncate, Setup}
+use Rattle.pfs_asked.specs.Asking.{answer_by, asked_by, no_rows, rooms_of}
 use Rattle.pfs_asked.specs.Whole.{no_rooms, signed_words}
 use Rattle.pfs_board.specs.declared.view.Label.{Label}
 use Rattle.pfs_classes.specs.declared.setting.Setting.{Setting}
 use Rattle.pfs_matching.specs.ObjectRules.{opening_objects}
 use Rattle.pfs_model.specs.Actions.{numbers_by}
-use Rattle.pfs_model.specs.Asked.{Asked, Rooms}
+use Rattle.pfs_model.specs.Asked.{Asked, Answer, Rooms}
 use Rattle.pfs_model.specs.Chains.{action_change, each_of}
 use Rattle.pfs_model.specs.Contents.{Facts}
 use Rattle.pfs_model.specs.Places.{Placed}
@@ -38,14 +39,22 @@ abbrev pub work_for : State → ℕ → Change → Work
 work_for s session (Connect user host) = work_of_connect s session user host
 work_for s session Quit = work_of_quit s session
 work_for s session (Truncate what) = work_of_truncation s what
-work_for s session Show = no_work
+work_for s session (Setup what) = work_of_statement s what
 
 -- where a change finds room
 abbrev pub rooms_for : State → ℕ → Change → Rooms
 rooms_for s session (Connect user host) = rooms_of (placed_of (seat_at s session user host))
 rooms_for s session Quit = no_rooms
 rooms_for s session (Truncate what) = no_rooms
-rooms_for s session Show = no_rooms
+rooms_for s session (Setup what) = no_rooms
+
+-- what a change is answered: a truncation that it changed no rows; of a connect and a quit, which have no answer, it says
+-- the same
+abbrev pub answer_to : State → Change → Answer
+answer_to s (Connect user host) = no_rows
+answer_to s Quit = no_rows
+answer_to s (Truncate what) = no_rows
+answer_to s (Setup what) = answer_by (reply_to s what)
 
 abbrev pub work_of_label : (Label → Change) → State → Option Label → Work
 work_of_label change s None = no_work
@@ -54,6 +63,10 @@ work_of_label change s (Some label) = work_for s label.session (change label)
 abbrev pub rooms_of_label : (Label → Change) → State → Option Label → Rooms
 rooms_of_label change s None = no_rooms
 rooms_of_label change s (Some label) = rooms_for s label.session (change label)
+
+abbrev pub answer_of_label : (Label → Change) → State → Option Label → Answer
+answer_of_label change s None = no_rows
+answer_of_label change s (Some label) = answer_to s (change label)
 
 -- the label of the action of a number, counted from 1; none where there is no such action
 abbrev pub label_at : List Label → ℕ → Option Label
@@ -72,6 +85,10 @@ abbrev pub rooms_at : Setting → (Label → Change) → List Label → ℕ → 
 rooms_at setting change labels number =
     rooms_of_label change (before_action setting change labels number) (label_at labels number)
 
+abbrev pub answers_at : Setting → (Label → Change) → List Label → ℕ → Answer
+answers_at setting change labels number =
+    answer_of_label change (before_action setting change labels number) (label_at labels number)
+
 abbrev pub words_at : Setting → (Label → Change) → List Label → ℕ → ℕ → List ℕ
 words_at setting change labels number row = signed_words (work_at setting change labels number).signs row
 
@@ -83,7 +100,7 @@ terms_of setting change facts labels = record {
   opening = λ word. slice_index_or (opening_flags setting opening_objects) word 0;
   asked = asked_at setting change labels;
   rooms = rooms_at setting change labels;
-  answers = no_rows;
+  answers = answers_at setting change labels;
   info_words = words_at setting change labels;
   facts = facts;
 }

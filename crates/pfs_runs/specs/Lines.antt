@@ -3,6 +3,7 @@ use Rattle.std.specs.Prelude.{ℕ, ◌-◌, ◌%◌, ◌^◌, List, [], ◌∷�
 use Rattle.std.specs.List.{flat_map, slice_index_or}
 use Rattle.pfs_admin.specs.declared.changes.Change.{Change}
 use Rattle.pfs_admin.specs.declared.changes.Change.TheVariants as changes
+use Rattle.pfs_admin.specs.declared.changes.SetupStatement.TheVariants as statements
 use Rattle.pfs_board.specs.declared.view.Label.{Label}
 use Rattle.pfs_classes.specs.declared.classes.ClassRef.{ClassRef}
 use Rattle.pfs_classes.specs.declared.classes.ClassRef.TheVariants as refs
@@ -11,6 +12,9 @@ use Rattle.pfs_model.specs.Contents.{Facts}
 use Rattle.pfs_model.specs.declared.lines.Line.{Line}
 use Rattle.pfs_model.specs.declared.lines.Line.TheVariants as told
 use Rattle.pfs_model.specs.declared.lines.Subject.{Subject}
+use Rattle.pfs_requests.specs.Requests.{request_of}
+use Rattle.pfs_requests.specs.declared.requests.Request.{Request}
+use Rattle.pfs_requests.specs.declared.requests.Request.TheVariants as requests
 use Rattle.pfs_script.specs.declared.blocks.Access.{Access}
 use Rattle.pfs_script.specs.declared.blocks.Access.TheVariants.{ReadWrite, ReadOnly}
 use Rattle.pfs_script.specs.declared.blocks.Block.{Block}
@@ -21,8 +25,6 @@ use Rattle.pfs_script.specs.declared.blocks.Phase.{Phase}
 use Rattle.pfs_script.specs.Events.{blocks_for, events_for, Event, plain_subject}
 use Rattle.pfs_script.specs.Events.{Subject as Said}
 use Rattle.pfs_script.specs.Marks.{written_out}
-use Rattle.pfs_truncations.specs.Texts.{truncation_of}
-use Rattle.pfs_truncations.specs.declared.truncations.Truncation.{Truncation}
 
 -- the id of a class that isn't lost
 abbrev pub class_in : ClassRef → Option ℕ
@@ -81,10 +83,15 @@ transaction_on access = subject_in (record {
 abbrev pub stage_on : ClassRef → Subject
 stage_on class = subject_in (plain_subject kinds.Stage class)
 
--- a TRUNCATE is a change; no other SQL runs yet, and asks for nothing
-abbrev pub sql_line : Option Truncation → Line
-sql_line None = told.Spend
-sql_line (Some what) = told.Change
+-- a text that is refused is no action; no SELECT runs yet, and asks for nothing
+abbrev pub sql_line : Request → Line
+sql_line (requests.Refused error) = told.Refused error
+sql_line (requests.Truncate what) = told.Change
+sql_line (requests.Update update) = told.Change
+sql_line (requests.Insert insert) = told.Change
+sql_line (requests.Delete delete) = told.Change
+sql_line (requests.Query select) = told.Spend
+sql_line (requests.Show select) = told.Spend
 
 -- a line of a block, repeats written out. The lines that begin and end a repeat stand nowhere among lines that are
 -- written out: these ask for nothing
@@ -99,7 +106,7 @@ line_in (said.Spend time) = told.Spend
 line_in said.End = told.End
 line_in (said.EndStatement numbers) = told.End
 line_in said.Quit = told.Quit
-line_in (said.Sql text) = sql_line (truncation_of text)
+line_in (said.Sql text) = sql_line (request_of text)
 line_in (said.Repeat times) = told.Spend
 line_in said.Done = told.Spend
 
@@ -112,18 +119,23 @@ connect_lines (Some names) = told.Connect ∷ []
 abbrev pub lines_in : Block → List Line
 lines_in block = connect_lines block.connect ++ (map line_in (written_out block.lines) ++ told.Close ∷ [])
 
--- the administration lines of a block: its connect, its truncations and a quit
+-- the administration lines of a block: its connect, its changes by SQL and a quit
 abbrev pub connect_changes : Option Connect → List Change
 connect_changes None = []
 connect_changes (Some names) = changes.Connect names.user names.host ∷ []
 
-abbrev pub sql_changes : Option Truncation → List Change
-sql_changes None = []
-sql_changes (Some what) = changes.Truncate what ∷ []
+abbrev pub sql_changes : Request → List Change
+sql_changes (requests.Truncate what) = changes.Truncate what ∷ []
+sql_changes (requests.Update update) = changes.Setup (statements.Update update) ∷ []
+sql_changes (requests.Insert insert) = changes.Setup (statements.Insert insert) ∷ []
+sql_changes (requests.Delete delete) = changes.Setup (statements.Delete delete) ∷ []
+sql_changes (requests.Refused error) = []
+sql_changes (requests.Query select) = []
+sql_changes (requests.Show select) = []
 
 abbrev pub changes_on : BlockLine → List Change
 changes_on said.Quit = changes.Quit ∷ []
-changes_on (said.Sql text) = sql_changes (truncation_of text)
+changes_on (said.Sql text) = sql_changes (request_of text)
 changes_on _ = []
 
 abbrev pub changes_in : Block → List Change
@@ -132,7 +144,7 @@ changes_in block = connect_changes block.connect ++ flat_map changes_on (written
 -- the change of a label: the session's administration line of that number, counted from 1 over all phases
 abbrev pub change_in : List Phase → Label → Change
 change_in phases label =
-    slice_index_or (flat_map changes_in (blocks_for label.session phases)) (label.line - 1) changes.Show
+    slice_index_or (flat_map changes_in (blocks_for label.session phases)) (label.line - 1) (changes.Setup statements.Show)
 
 -- what the script says of an event: the clock and how long it took, modulo 2^64, and a statement's numbers. One that
 -- isn't closed has taken no time

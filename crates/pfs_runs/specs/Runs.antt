@@ -6,7 +6,7 @@ use Rattle.pfs_journal.specs.declared.blocks.BlockReport.{BlockReport}
 use Rattle.pfs_journal.specs.declared.report.PhaseParts.{PhaseParts}
 use Rattle.pfs_journal.specs.declared.report.ReportParts.{ReportParts}
 use Rattle.pfs_model.specs.Journals.{joined}
-use Rattle.pfs_model.specs.Places.{Block, Placed, places, up_to_phase}
+use Rattle.pfs_model.specs.Places.{Block, places, up_to_phase}
 use Rattle.pfs_model.specs.Plain.{IsPlain}
 use Rattle.pfs_model.specs.Puts.{AreBrought}
 use Rattle.pfs_script.specs.declared.blocks.Block.{Block as Said}
@@ -53,7 +53,7 @@ AreFinal final (report ∷ reports) = final report × AreFinal final reports
 -- script's lines ask for and the facts that it says of their events; each event is brought to its summary row, a
 -- digested statement to the row of its digest too, and to the places of rings that it is offered to; and under each
 -- phase's end stands what the journals so far make of rows, words and counters. Its format is the one of a report in
--- part: SQL but for truncations is not in it yet.
+-- part: no SELECT is in it yet.
 pub record IsRun (setting : Setting) (phases : List Phase) (report : ReportParts) : Type 0 where
   pub format : report.format ≡ 0
   pub blocks : List (List Block)

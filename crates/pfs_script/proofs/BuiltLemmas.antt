@@ -1,6 +1,6 @@
--- Of what the engine runs each command is a truncation.
+-- Of what the engine runs no command is a SELECT.
 use Rattle.std.proofs.Common.{ℕ, ◌≡◌, Bool, true, false, List, [], ◌∷◌, ◌++◌, Option, Some, None, refl, sym, ◌∙◌, append_assoc, ◌⊎◌, inl, inr}
-use Rattle.std.specs.Prelude.{option_map, option_and_then}
+use Rattle.std.specs.Prelude.{codes, not, option_map, option_and_then}
 use Rattle.std.specs.List.{All}
 use Rattle.std.proofs.lemmas.List.Elements.{All-nil, All-cons}
 use Rattle.pfs_classes.specs.declared.classes.ClassRef.{ClassRef}
@@ -18,6 +18,7 @@ use Rattle.pfs_script.specs.Finds.{table_number, tables_of, digest_place}
 use Rattle.pfs_script.specs.SessionNames.{names_of, connect_of}
 use Rattle.pfs_script.specs.Blocks.{sense_of, with_front, statement_numbers, block_line, block_lines, block_behind, blocks_of, phases_of}
 use Rattle.pfs_script.specs.Built.{is_built, IsBuiltLine}
+use Rattle.pfs_script.specs.Commands.{begins_with}
 use Rattle.pfs_script.specs.Scripts.{Begins, IsScript}
 use Rattle.pfs_script.proofs.Faultless.{passes}
 use Rattle.pfs_script.proofs.Taking.{next_none}
@@ -25,6 +26,10 @@ use Rattle.pfs_script.proofs.Taking.{next_none}
 bool_cases : (b : Bool) → (b ≡ true) ⊎ (b ≡ false)
 bool_cases true = inl refl
 bool_cases false = inr refl
+
+untrue : (b : Bool) → not b ≡ true → b ≡ false
+untrue true h = cc
+untrue false h = refl
 
 -- the engine runs each of these lines
 abbrev AreBuilt : List Form → Type 0
@@ -75,7 +80,7 @@ module _ (all : List Form) (built : AreBuilt all) where
   line_front before (form.EndStatement numbers) lines more e h rest = built_more (said.EndStatement (statement_numbers numbers)) more tt rest
   line_front before (form.Repeat (Some times)) lines more e h rest = built_more (said.Repeat times) more tt rest
   line_front before (form.Repeat None) lines more e h rest = rest
-  line_front before (form.Sql text) lines more e h rest = built_more (said.Sql text) more h rest
+  line_front before (form.Sql text) lines more e h rest = built_more (said.Sql text) more (untrue (begins_with (codes "select") text) h) rest
   line_front before form.Quit lines more e h rest = built_more said.Quit more tt rest
   line_front before form.Done lines more e h rest = built_more said.Done more tt rest
   line_front before line lines more e h rest = rest

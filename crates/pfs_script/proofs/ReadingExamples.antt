@@ -3,19 +3,19 @@ use Rattle.std.proofs.Common.{ℕ, ◌≡◌, true, false, List, [], ◌∷◌, 
 use Rattle.std.specs.Prelude.{codes}
 use Rattle.pfs_classes.specs.declared.kind.Kind.TheVariants.{File}
 use Rattle.pfs_classes.specs.declared.classes.ClassRef.TheVariants as refs
-use Rattle.pfs_truncations.specs.Texts.{truncation_of, name_in}
 use Rattle.pfs_script.specs.declared.forms.Form.{Form}
 use Rattle.pfs_script.specs.declared.forms.Form.TheVariants as form
 use Rattle.pfs_script.specs.declared.reasons.Reason.TheVariants.{OutOfPlace, BadSession, UnknownName, BadNesting, TooLong, NotBuilt}
 use Rattle.pfs_script.specs.declared.blocks.BlockLine.TheVariants as said
 use Rattle.pfs_script.specs.Brackets.{closing_from, brackets_from}
+use Rattle.pfs_script.specs.Commands.{begins_with, command_of}
 use Rattle.pfs_script.specs.Counts.{behind_last, ahead_of_last, counted}
 use Rattle.pfs_script.specs.declared.reasons.Extent.TheVariants.{Whole, Built}
 use Rattle.pfs_script.specs.declared.blocks.Connect.{Connect}
 use Rattle.pfs_script.specs.Headings.{named_limit}
 use Rattle.pfs_script.specs.Finds.{tables_of}
 use Rattle.pfs_script.specs.Sessions.{session_now, lines_in}
-use Rattle.pfs_script.specs.Next.{one_each, weight_of, sql_weight, command_of, begins_with, kinds_open, is_too_much, least_reason, fault_of}
+use Rattle.pfs_script.specs.Next.{one_each, weight_of, sql_weight, kinds_open, is_too_much, least_reason, fault_of}
 use Rattle.pfs_script.specs.Blocks.{Sense, block_lines, blocks_of}
 
 abbrev connect : ℕ → Form
@@ -75,22 +75,30 @@ early_quit = refl
 
 -- what isn't built is told before its place
 not_built : fault_of Built [] (form.Sql (codes "SELECT 1")) ≡ Some NotBuilt
-unfolding fault_of truncation_of name_in
+unfolding fault_of begins_with command_of
 not_built = refl
 
--- so is a truncation that is spelled otherwise, and one of a table that isn't truncated
-long_not_built : fault_of Built [] (form.Sql (codes "TRUNCATE TABLE accounts")) ≡ Some NotBuilt
-unfolding fault_of truncation_of name_in
-long_not_built = refl
+-- so is a SELECT in other letters and behind blanks, and a word that only begins so
+low_not_built : fault_of Built [] (form.Sql (codes "  sElect 1")) ≡ Some NotBuilt
+unfolding fault_of begins_with command_of
+low_not_built = refl
 
-threads_not_built : fault_of Built [] (form.Sql (codes "TRUNCATE threads")) ≡ Some NotBuilt
-unfolding fault_of truncation_of name_in
-threads_not_built = refl
+selected_not_built : fault_of Built [] (form.Sql (codes "selected")) ≡ Some NotBuilt
+unfolding fault_of begins_with command_of
+selected_not_built = refl
 
--- a truncation is built
+-- any other command is built, whatever it may ask for
 truncation_built : fault_of Built (form.Phase ∷ connect 7 ∷ []) (form.Sql (codes "TRUNCATE accounts")) ≡ None
-unfolding fault_of least_reason truncation_of name_in lines_in session_now kinds_open brackets_from counted tables_of begins_with command_of
+unfolding fault_of least_reason lines_in session_now kinds_open brackets_from counted tables_of begins_with command_of
 truncation_built = refl
+
+nonsense_built : fault_of Built (form.Phase ∷ connect 7 ∷ []) (form.Sql (codes "sel ect")) ≡ None
+unfolding fault_of least_reason lines_in session_now kinds_open brackets_from counted tables_of begins_with command_of
+nonsense_built = refl
+
+command_outside : fault_of Built [] (form.Sql (codes "TRUNCATE accounts")) ≡ Some OutOfPlace
+unfolding fault_of least_reason session_now lines_in begins_with command_of
+command_outside = refl
 
 -- the limit of digest texts is, and a name of no limit is told as unknown
 digests_built : fault_of Built [] (form.Limit (codes "digests") (Some 8)) ≡ None

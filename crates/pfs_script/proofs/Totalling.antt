@@ -7,7 +7,8 @@ use Rattle.pfs_script.specs.declared.forms.Form.TheVariants as form
 use Rattle.pfs_script.specs.declared.totals.Tally.{Tally}
 use Rattle.pfs_script.specs.declared.totals.Totals.{Totals}
 use Rattle.pfs_script.specs.Counts.{counted, is_done, is_repeat, is_in_repeat, once_more, more_times}
-use Rattle.pfs_script.specs.Next.{is_class, is_select, one_select, begins_with, has_over, is_blockless, is_out_of_place, is_too_long, is_too_much, one_each, weight_of}
+use Rattle.pfs_script.specs.Commands.{begins_with}
+use Rattle.pfs_script.specs.Next.{is_class, is_select, one_select, has_over, is_blockless, is_out_of_place, is_too_long, is_too_much, one_each, weight_of}
 use Rattle.pfs_script.specs.Sessions.{is_phase}
 use Rattle.pfs_script.specs.Places.{KnowsTally, KnowsTotals, HasCounted, more_with, body_with}
 use Rattle.pfs_script.proofs.Behind.{counted_none, counted_with, count_more, more_none, more_more, more_done, pending_none, pending_more, pending_done, in_repeat-begun, in_repeat-same}

@@ -7,6 +7,7 @@ pub mod Brackets
 pub mod Nested
 pub mod Counts
 pub mod Sessions
+pub mod Commands
 pub mod Built
 pub mod Finds
 pub mod Next

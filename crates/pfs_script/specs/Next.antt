@@ -17,6 +17,7 @@ use Rattle.pfs_script.specs.Brackets.{open_in, kinds_of, innermost, may_stand, i
 use Rattle.pfs_script.specs.Sessions.{is_phase, phase_of, is_block_of, session_now, lines_of, has_quit}
 use Rattle.pfs_script.specs.Finds.{is_refused, tables_of}
 use Rattle.pfs_script.specs.Built.{is_built}
+use Rattle.pfs_script.specs.Commands.{begins_with}
 use Rattle.pfs_script.specs.declared.reasons.Extent.{Extent}
 use Rattle.pfs_script.specs.declared.reasons.Extent.TheVariants.{Whole, Built}
 use Rattle.pfs_script.specs.Counts.{ahead_of_last, is_repeat, is_in_repeat, counted}
@@ -177,20 +178,6 @@ one_each line = 1
 -- with this line there are more than 200,000 lines
 abbrev pub is_too_long : List Form → Form → Bool
 is_too_long before line = nat_lt 200000 (counted one_each (before ++ line ∷ []))
-
--- neither a space nor a tab
-abbrev pub is_solid : ℕ → Bool
-is_solid byte = not ((byte == 32) || (byte == 9))
-
--- a command behind the spaces and tabs before it
-unfoldable pub command_of : List ℕ → List ℕ
-command_of text = unwrap_or (option_map (λ at. drop at text) (position is_solid text)) []
-
--- the command begins with these letters, in any case
-unfoldable pub begins_with : List ℕ → List ℕ → Bool
-begins_with letters text =
-    nat_le (length letters) (length (command_of text))
-    && str_eq_ignore_ascii_case (take (length letters) (command_of text)) letters
 
 abbrev pub is_select : Form → Bool
 is_select (form.Sql text) = begins_with (codes "select") text

@@ -94,7 +94,7 @@ pub fn events()
     ensures { (number : ℕ) (phases : List Phase) → AreEvents (lines_for number phases) (events_for number phases) }
 {}
 
-/// Each command of a script that the engine runs is a truncation.
+/// No command of a script that the engine runs is a SELECT.
 pub fn built()
     ensures { (text : List ℕ) (setting : Setting) (phases : List Phase) → IsScript Built text setting phases
         → All (λ (phase : Phase). All (λ (block : Block). All IsBuiltLine block.lines) phase.blocks) phases }

@@ -9,6 +9,7 @@ ghost use Rattle.pfs_script.specs.Next.{has_bad_number, is_no_count, is_out_of_p
 ghost use Rattle.pfs_script.specs.Sensing.{class_in};
 ghost use Rattle.pfs_script.specs.Places.{Knows, KnowsCounted, KnowsFinds};
 
+use crate::commands::is_select;
 use crate::courses::{Course, no_course};
 use crate::finds::Finds;
 use crate::forms::{Form, Number, Numbers};
@@ -16,7 +17,6 @@ use crate::fronts::{Front, no_front};
 use crate::heading::{Heading, find_consumer, find_limit};
 use crate::reasons::{Extent, Reason};
 use crate::totals::{Totals, no_lines};
-use pfs_truncations::truncation_of;
 
 /// What the lines so far amount to, as far as the next line depends on it.
 #[derive(Clone, Copy)]
@@ -171,7 +171,7 @@ fn is_built(line: &Form) -> bool
     ensures { result ≡ is_built line.now }
 {
     match line {
-        Form::Sql { text } => truncation_of(text.bytes()).is_some(),
+        Form::Sql { text } => !is_select(text.bytes()),
         _ => true,
     }
 }

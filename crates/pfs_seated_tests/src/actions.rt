@@ -17,7 +17,7 @@ use pfs_model::Subject;
 use pfs_names::NameId;
 use pfs_rows::Seen;
 use pfs_seats::{BoardHold, BoardRows};
-use pfs_session::{Ended, NoMemory, Numbers, Session};
+use pfs_session::{End, NoMemory, Numbers, Session};
 use pfs_switches::Writer;
 use std::alloc::Global;
 use std::sync::Wait;
@@ -182,10 +182,10 @@ pub(crate) fn truncate<'b, R: Wait>(
 }
 
 // What became of an event's addition to the row of its cell, where it was let through.
-fn summary_of(ended: &Option<Ended>) -> Option<Added> {
+fn summary_of(ended: &End) -> Option<Added> {
     match ended {
-        Some(ended) => Some(ended.summary),
-        None => None,
+        End::Through(ended) => Some(ended.summary),
+        End::Silent(_) => None,
     }
 }
 

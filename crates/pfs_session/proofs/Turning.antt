@@ -3,7 +3,8 @@ use Rattle.std.proofs.Common.{ℕ, ◌≡◌, ◌<◌, ◌≤◌, ◌+◌, ◌^�
 use Rattle.std.proofs.lemmas.Bool.{false≢true}
 use Rattle.std.specs.Prelude.{IfSome, IsSome}
 use Rattle.std.proofs.lemmas.List.{append_assoc}
-use Rattle.pfs_admin.proofs.Signing.{worked_behind}
+use Rattle.pfs_admin.proofs.Signing.{worked_behind, worked_nothing}
+use Rattle.pfs_admin.specs.Changing.{flags_changed, words_changed}
 use Rattle.pfs_admin.specs.Asks.{work_of_connect, work_of_quit, connect_entry, placed_of}
 use Rattle.pfs_admin.specs.States.{State as Administration}
 use Rattle.pfs_admin.specs.States.{connected, has_quit, seat_at}
@@ -40,7 +41,14 @@ use Rattle.pfs_session.specs.Ends.{EndsIn, EndsThrough, EndsAdded, EndsCounted, 
 use Rattle.pfs_session.specs.Settles.{PaysAll, owed_in, owed_by_state}
 use Rattle.pfs_session.specs.Starts.{Starts, Begins, IsLoaded, IsOpened, load_calls, start_entry, started, verdict_seen, verdict_in, is_timed_by, is_digested_by}
 use Rattle.pfs_session.specs.States.{State, Book, held_row, held_at, next_of, count_open, one_if, AreAround, AreSeated, AreSilent, AreHeldFor, no_place, nothing_held}
-use Rattle.pfs_session.specs.Turns.{StartsEvent, EndsEvent, SettlesHeld, Connects, Quits, Truncates, Played, Works, stage_ends, stage_steps}
+use Rattle.pfs_admin.specs.Setups.{has_changed, reply_to, work_of_statement}
+use Rattle.pfs_admin.specs.declared.changes.Reply.{Reply}
+use Rattle.pfs_admin.specs.declared.changes.SetupStatement.{SetupStatement}
+use Rattle.pfs_admin.specs.declared.changes.SetupStatement.TheVariants.{Show}
+use Rattle.pfs_reader.specs.Readings.{call_of}
+use Rattle.pfs_rows.specs.declared.table.Reading.{Reading}
+use Rattle.pfs_session.specs.Inquiries.{Looks, reading_entry}
+use Rattle.pfs_session.specs.Turns.{StartsEvent, EndsEvent, SettlesHeld, Connects, Quits, Truncates, Changes, Inquires, Played, Works, answer_entries, is_answered, looks_at, reply_entries, stage_ends, stage_steps}
 use Rattle.pfs_session.specs.declared.events.Numbers.{Numbers}
 use Rattle.pfs_session.specs.declared.outcomes.Ended.{Ended}
 use Rattle.pfs_session.specs.declared.setup.Setup.{Setup}
@@ -462,6 +470,50 @@ truncation_played old new mid last admin after what number action lost was now a
       goes = all.did.goes;
     })
 
+pub statement_played : (old new : Book) (mid last : Journal) (admin after : Administration) (what : SetupStatement) (answered : Bool) (reply : Reply) (number action : ℕ) (lost : Lost)
+    (was now : Opening → List Call → Type 0)
+    → action ≡ admin.actions + 1 → mid.entries ≡ old.journal.entries ++ says.Act action ∷ []
+    → Worked (work_of_statement admin what) admin.words [] mid last was now → answered ≡ is_answered what → reply ≡ reply_to admin what
+    → new.journal.entries ≡ last.entries ++ answer_entries answered reply
+    → after ≡ has_changed admin what → number ≡ after.actions → lost ≡ lost_in after.kept.now
+    → new.state ≡ placed_at old.state old.state.place number lost → Played (Changes admin what ∷ []) old new was now
+statement_played old new mid last admin after what answered reply number action lost was now a m w b r told step n l state =
+    let s : State = old.state in
+    let at : Administration = has_changed admin what in
+    let end : State = placed_at s s.place at.actions (lost_in at.kept.now) in
+    let all = worked_behind (work_of_statement admin what) admin.words (says.Act (admin.actions + 1)) old.journal mid last was now
+    (m ∙ ap (λ z. old.journal.entries ++ says.Act z ∷ []) a) w in
+    let answer : answer_entries answered reply ≡ reply_entries what (reply_to admin what) =
+    ap (λ z. answer_entries z reply) b ∙ ap (answer_entries (is_answered what)) r in
+    played_one (Changes admin what) _ _ end old new was now
+    (record { changes = _; works = works_of _ _ _ _ _ _ _ all; entries_are = refl; after_is = refl })
+    (state ∙ placed_same s _ _ _ _ _ _ refl (n ∙ ap (λ (z : Administration). z.actions) step) (l ∙ ap (λ (z : Administration). lost_in z.kept.now) step))
+    (record {
+      entries_are = told ∙ (ap (λ z. last.entries ++ z) answer ∙ (ap (λ z. z ++ reply_entries what (reply_to admin what)) all.did.entries_are
+          ∙ append_assoc old.journal.entries _ (reply_entries what (reply_to admin what))));
+      goes = all.did.goes;
+    })
+
+-- a SELECT asks for nothing
+pub shown_work : (admin : Administration) (what : SetupStatement) (log : Journal) (was : Opening → List Call → Type 0) → what ≡ Show
+    → Worked (work_of_statement admin what) admin.words [] log log was was
+unfolding flags_changed
+shown_work admin what log was e = subst (λ z. Worked (work_of_statement admin z) admin.words [] log log was was) (sym e) (worked_nothing admin.words log was)
+
+pub shown_words : (admin : Administration) → (has_changed admin Show).words ≡ admin.words
+unfolding words_changed
+shown_words admin = refl
+
+-- a reading is one call and one entry
+pub looked : (old new : Book) (reading : Reading) (was now : Opening → List Call → Type 0)
+    → Goes was now (call_of reading ∷ []) → new.state ≡ old.state → new.journal.entries ≡ old.journal.entries ++ reading_entry reading ∷ []
+    → Played (looks_at (Some reading)) old new was now
+looked old new reading was now goes state entries =
+    played_one (Inquires (Looks reading)) _ _ old.state old new was now
+    (record { calls_are = refl; entries_are = refl; after_is = refl })
+    state
+    (record { entries_are = entries; goes = goes })
+
 -- the same of a session that is known by another name
 pub connect_from : (at old new : Book) (admin after : Administration) (user host : ℕ) (placed : Placed) (number : ℕ) (lost : Lost) (was now : Opening → List Call → Type 0)
     → at ≡ old → Worked (work_of_connect admin at.state.number user host) admin.words (connect_entry (admin.actions + 1) (seat_at admin at.state.number user host) ∷ [])
@@ -488,6 +540,17 @@ pub truncation_from : (at old new : Book) (mid last : Journal) (admin after : Ad
 truncation_from at old new mid last admin after what number action lost was now e a m w reply step n l state =
     subst (λ b. Played (Truncates admin what ∷ []) b new was now) e
     (truncation_played at new mid last admin after what number action lost was now a m w reply step n l state)
+
+pub statement_from : (at old new : Book) (mid last : Journal) (admin after : Administration) (what : SetupStatement) (answered : Bool) (reply : Reply) (number action : ℕ) (lost : Lost)
+    (was now : Opening → List Call → Type 0)
+    → at ≡ old → action ≡ admin.actions + 1 → mid.entries ≡ at.journal.entries ++ says.Act action ∷ []
+    → Worked (work_of_statement admin what) admin.words [] mid last was now → answered ≡ is_answered what → reply ≡ reply_to admin what
+    → new.journal.entries ≡ last.entries ++ answer_entries answered reply
+    → after ≡ has_changed admin what → number ≡ after.actions → lost ≡ lost_in after.kept.now
+    → new.state ≡ placed_at at.state at.state.place number lost → Played (Changes admin what ∷ []) old new was now
+statement_from at old new mid last admin after what answered reply number action lost was now e a m w b r told step n l state =
+    subst (λ z. Played (Changes admin what ∷ []) z new was now) e
+    (statement_played at new mid last admin after what answered reply number action lost was now a m w b r told step n l state)
 
 pub settle_from : (at old new : Book) (held there : List (Option Stat)) (was now : Opening → List Call → Type 0) → at ≡ old
     → AreHeldFor at.state.place.thread at.state.held → held ≡ at.state.held

@@ -7,5 +7,6 @@ pub mod Ends
 pub mod Answers
 pub mod Adding
 pub mod Settles
+pub mod Inquiries
 pub mod Turns
 pub mod Leaving

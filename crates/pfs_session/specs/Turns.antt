@@ -1,10 +1,15 @@
 -- What a session does, step by step: the calls that it makes of its store, and the entries that it writes, by the
 -- answers of those calls.
-use Rattle.std.specs.Prelude.{ℕ, ◌≡◌, ◌<◌, ◌+◌, ◌%◌, ◌^◌, if◌then◌else◌, List, [], ◌∷◌, ◌++◌, length, Option, Some, None, IfSome}
+use Rattle.std.specs.Prelude.{ℕ, ◌≡◌, ◌<◌, ◌+◌, ◌%◌, ◌^◌, Bool, true, false, if◌then◌else◌, List, [], ◌∷◌, ◌++◌, length, Option, Some, None, IfSome}
 use Rattle.pfs_admin.specs.Asks.{work_of_connect, work_of_quit, connect_entry, placed_of}
 use Rattle.pfs_admin.specs.States.{connected, has_quit, seat_at}
 use Rattle.pfs_admin.specs.States.{State as Administration}
 use Rattle.pfs_admin.specs.Truncations.{work_of_truncation, has_truncated}
+use Rattle.pfs_admin.specs.Setups.{has_changed, reply_to, work_of_statement}
+use Rattle.pfs_admin.specs.declared.changes.Reply.{Reply}
+use Rattle.pfs_admin.specs.declared.changes.Reply.TheVariants as replies
+use Rattle.pfs_admin.specs.declared.changes.SetupStatement.{SetupStatement}
+use Rattle.pfs_admin.specs.declared.changes.SetupStatement.TheVariants.{Update, Insert, Delete, Show}
 use Rattle.pfs_truncations.specs.declared.truncations.Truncation.{Truncation}
 use Rattle.pfs_admin.specs.Works.{Work, Made, signs_of, signs_calls, signs_entries, flagging_calls, flagging_entries}
 use Rattle.pfs_containers.specs.Kept.{lost_in}
@@ -19,6 +24,8 @@ use Rattle.pfs_levels.specs.declared.answers.Word.{Word}
 use Rattle.pfs_model.specs.Shapes.{is_stage}
 use Rattle.pfs_model.specs.declared.lines.Subject.{Subject}
 use Rattle.pfs_session.specs.Ends.{Ends, no_numbers}
+use Rattle.pfs_rows.specs.declared.table.Reading.{Reading}
+use Rattle.pfs_session.specs.Inquiries.{Inquiry, Looks, inquiry_calls, inquiry_entry}
 use Rattle.pfs_session.specs.Settles.{Settles}
 use Rattle.pfs_session.specs.Starts.{Starts}
 use Rattle.pfs_session.specs.States.{State, Book, no_place}
@@ -33,6 +40,8 @@ pub data Step : Type 0 where
   Connects : Administration → ℕ → ℕ → Step  -- as this user from this host
   Quits : Administration → Step
   Truncates : Administration → Truncation → Step
+  Changes : Administration → SetupStatement → Step
+  Inquires : Inquiry → Step
 
 -- an administration's work was done behind these entries, by one who knew the words so
 pub record Works (work : Work) (words : List Word) (head : List Entry) (calls : List Call) (entries : List Entry) :
@@ -60,6 +69,44 @@ pub record Truncated (s : State) (admin : Administration) (what : Truncation) (c
   pub entries_are : entries ≡ changes ++ says.Reply 0 ∷ []
   pub after_is : after ≡ acted s (has_truncated admin what)
 
+abbrev pub reply_entry : Reply → Entry
+reply_entry (replies.Changed count) = says.Reply count
+reply_entry (replies.Error error) = says.Error error
+
+-- an action is answered behind its changes; of a SELECT the rows that it shows are told by whoever has them
+abbrev pub is_answered : SetupStatement → Bool
+is_answered Show = false
+is_answered (Update update) = true
+is_answered (Insert insert) = true
+is_answered (Delete delete) = true
+
+abbrev pub answer_entries : Bool → Reply → List Entry
+answer_entries false reply = []
+answer_entries true reply = reply_entry reply ∷ []
+
+abbrev pub reply_entries : SetupStatement → Reply → List Entry
+reply_entries what reply = answer_entries (is_answered what) reply
+
+-- a statement on the setup tables is done, and behind all that this changes its answer stands
+pub record Changed (s : State) (admin : Administration) (what : SetupStatement) (calls : List Call)
+    (entries : List Entry) (after : State) : Type 0 where
+  pub changes : List Entry
+  pub works : Works (work_of_statement admin what) admin.words (says.Act (admin.actions + 1) ∷ []) calls changes
+  pub entries_are : entries ≡ changes ++ reply_entries what (reply_to admin what)
+  pub after_is : after ≡ acted s (has_changed admin what)
+
+-- an inquiry changes nothing
+pub record Inquired (s : State) (what : Inquiry) (calls : List Call) (entries : List Entry) (after : State) : Type 0
+  where
+    pub calls_are : calls ≡ inquiry_calls what
+    pub entries_are : entries ≡ inquiry_entry what ∷ []
+    pub after_is : after ≡ s
+
+-- the step of a reading, where there is one
+abbrev pub looks_at : Option Reading → List Step
+looks_at None = []
+looks_at (Some reading) = Inquires (Looks reading) ∷ []
+
 -- what a step asks for: its calls, newest first, its entries in order, and the session after it
 abbrev pub Does : State → Step → List Call → List Entry → State → Type 0
 Does s (StartsEvent subject) calls entries after = Starts s subject calls entries after
@@ -77,6 +124,8 @@ Does s (Quits admin) calls entries after =
     Works (work_of_quit admin s.number) admin.words (says.Act (admin.actions + 1) ∷ []) calls entries
     × (after ≡ record (acted s (has_quit admin s.number)) { place = no_place })
 Does s (Truncates admin what) calls entries after = Truncated s admin what calls entries after
+Does s (Changes admin what) calls entries after = Changed s admin what calls entries after
+Does s (Inquires what) calls entries after = Inquired s what calls entries after
 
 -- a stage ends where the innermost open event is one; another starts where one is given
 abbrev pub stage_ends : List Open → List Step

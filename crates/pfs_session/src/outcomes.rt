@@ -1,5 +1,6 @@
 //! What the calls of a session answer, and what their parts do.
 
+use crate::setup::Setup;
 use pfs_admin::Lost;
 use pfs_event::Verdict;
 use pfs_levels::Added;
@@ -12,13 +13,22 @@ pub struct LastAction {
     pub lost: Lost,
 }
 
-/// What became of a start: the EVENT_ID of an event that is let through, the verdict, and what became of its put to its
-/// current place, where it was offered there.
+/// What became of a start: the EVENT_ID of an event that is let through, the verdict, the words that were loaded, which
+/// are none without a thread slot and for a lost class, and what became of its put to its current place, where it was
+/// offered there.
 #[derive(Clone, Copy, Debug, PartialEq, Eq)]
 pub struct Started {
     pub event: Option<u64>,
     pub verdict: Verdict,
+    pub seen: Option<Setup>,
     pub current: Option<Put>,
+}
+
+/// What became of an event at its end: of one that isn't let through, its verdict, by which it counts nowhere.
+#[derive(Clone, Copy, Debug, PartialEq, Eq)]
+pub enum End {
+    Through(Ended),
+    Silent(Verdict),
 }
 
 /// What became of an event that was let through, at its end: of its addition to the row of its cell, of that of a

@@ -7,7 +7,7 @@ ghost use Rattle.pfs_admin.specs.Truncations.{has_truncated, truncation_cost};
 ghost use Rattle.pfs_admin.specs.Works.{Leaves};
 ghost use Rattle.pfs_event.specs.Nesting.{MayStart};
 ghost use Rattle.pfs_event.specs.Verdicts.{is_let_through};
-ghost use Rattle.pfs_session.specs.Answers.{SaysStart, SaysEnd, SaysStage, SaysStageEnd, is_in_stage};
+ghost use Rattle.pfs_session.specs.Answers.{SaysStart, SaysEnd, SaysStage, SaysStageEnd, EndsAs, is_in_stage};
 ghost use Rattle.pfs_rings.specs.Rings.{depths};
 ghost use Rattle.pfs_session.specs.Ends.{Finished, HasCounted, HasDigested, HasPuts, outer_events, without_innermost};
 ghost use Rattle.pfs_session.specs.Leaving.{HasStarted, HasStaged};
@@ -23,7 +23,7 @@ use crate::adding::bring;
 use crate::events::{Numbers, amount_of, cell_number, digest_number, is_statement, is_wait};
 use crate::nexts::Nexts;
 use crate::opening::opened;
-use crate::outcomes::{Counting, Ended, LastAction, Puts, Started};
+use crate::outcomes::{Counting, End, Ended, LastAction, Puts, Started};
 use crate::paused::Paused;
 use crate::paying::{clear, settle_all};
 use crate::putting::{ended_event, goes_on, history_consumer, is_placed, long_consumer, offer};
@@ -51,7 +51,7 @@ pub struct Session {
     statements: u64,
     waits: u64,
     held: Vec<Option<Stat>>,
-    actions: u64,
+    pub(crate) actions: u64,
     pub(crate) last: Option<LastAction>,
     nexts: Nexts,
     pub(crate) log: Log,
@@ -229,6 +229,7 @@ impl Session {
         Started {
             event: number,
             verdict,
+            seen,
             current,
         }
     }
@@ -300,8 +301,8 @@ impl Session {
     /// held for it, or held with it where another actor has the cell in hand; a digested statement is added to the row
     /// of its digest in the same way. An event that was offered to its current place is put there again, and to the
     /// histories whose consumers act now, where the thread's HISTORY is YES now. The log gets the end, the additions
-    /// and the puts. Answers what became of these: none of an event that isn't let through.
-    pub fn end<R: Rows>(&mut self, rows: &mut R, numbers: &Numbers) -> Option<Ended>
+    /// and the puts. Answers what became of these, or the verdict of an event that isn't let through.
+    pub fn end<R: Rows>(&mut self, rows: &mut R, numbers: &Numbers) -> End
         requires open { 0 < length self.old.state.opened.events }
         requires alone { (r : ℕ) → 0 < r → R.hand rows.old r ≡ None }
         requires spare { 5 ≤ R.left rows.old }
@@ -310,6 +311,7 @@ impl Session {
         ensures played { Played (EndsEvent numbers.now ∷ []) self.old self.new (R.reached rows.old)
             (R.reached rows.new) }
         ensures answer { SaysEnd result self.old.journal.entries self.new.journal.entries }
+        ensures verdict { EndsAs self.old.state.opened.events result }
         ensures rest { self.new.state ≡ record self.old.state {
           opened = record self.old.state.opened { events = outer_events self.old.state.opened.events };
           held = self.new.state.held;
@@ -323,7 +325,7 @@ impl Session {
     {
         let what = self.close();
         if what.verdict.is_let_through() {
-            Some(self.finish(rows, &what, numbers))
+            End::Through(self.finish(rows, &what, numbers))
         } else {
             self.log.push(Entry::End {
                 event: None,
@@ -331,7 +333,7 @@ impl Session {
                 consumers: None,
                 thread: None,
             });
-            None
+            End::Silent(what.verdict)
         }
     }
 
@@ -532,7 +534,7 @@ impl Session {
         &mut self,
         rows: &mut R,
         what: &Option<Subject>,
-    ) -> (Option<Ended>, Option<Started>)
+    ) -> (Option<End>, Option<Started>)
         requires may { StageMayStart (record self.old.state.opened {
           events = without_stage self.old.state.opened.events;
         }) what.now }
@@ -545,6 +547,7 @@ impl Session {
             (R.reached rows.old) (R.reached rows.new) }
         ensures answer { SaysStage self.old.state.opened.events what.now result.0 result.1
             self.old.journal.entries self.new.journal.entries }
+        ensures verdict { IfSome result.0 (EndsAs self.old.state.opened.events) }
         ensures opened { HasStaged what.now self.old.state.opened self.new.state.opened }
         ensures drawn { self.new.state.drawn ≤ self.old.state.drawn + 1 }
         ensures rest { self.new.state ≡ record self.old.state {
@@ -570,7 +573,7 @@ impl Session {
     }
 
     // Ends the open stage, where the innermost open event is one.
-    fn end_stage<R: Rows>(&mut self, rows: &mut R) -> Option<Ended>
+    fn end_stage<R: Rows>(&mut self, rows: &mut R) -> Option<End>
         requires alone { (r : ℕ) → 0 < r → R.hand rows.old r ≡ None }
         requires spare { 5 ≤ R.left rows.old }
         requires tickets { 1 ≤ R.draws rows.old }
@@ -579,6 +582,7 @@ impl Session {
             (R.reached rows.new) }
         ensures answer { SaysStageEnd (is_in_stage self.old.state.opened.events) result self.old.journal.entries
             self.new.journal.entries }
+        ensures verdict { IfSome result (EndsAs self.old.state.opened.events) }
         ensures rest { self.new.state ≡ record self.old.state {
           opened = record self.old.state.opened { events = without_stage self.old.state.opened.events };
           held = self.new.state.held;
@@ -595,7 +599,7 @@ impl Session {
             None => false,
         };
         if is_open {
-            self.end(rows, &Numbers::NONE)
+            Some(self.end(rows, &Numbers::NONE))
         } else {
             None
         }
@@ -730,7 +734,7 @@ impl Session {
     }
 
     /// Adds all that is held, each amount to its row, in the order of the rows, and holds nothing any more.
-    fn settle<H: Hold>(&mut self, rows: &mut H)
+    pub(crate) fn settle<H: Hold>(&mut self, rows: &mut H)
         requires alone { (r : ℕ) → 0 < r → H.hand rows.old r ≡ None }
         requires spare { length (owed_by_state self.old.state) ≤ H.left rows.old }
         requires room { settle_cost (owed_by_state self.old.state) ≤ self.old.journal.room }

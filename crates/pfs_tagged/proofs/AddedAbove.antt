@@ -104,7 +104,7 @@ quit_change : (line : Line) (what : Change) → is_quit line ≡ true → IsChan
 quit_change lines.Quit changes.Quit q h = refl
 quit_change lines.Quit (changes.Connect user host) q h = absurd h
 quit_change lines.Quit (changes.Truncate what) q h = absurd h
-quit_change lines.Quit changes.Show q h = absurd h
+quit_change lines.Quit (changes.Setup what) q h = absurd h
 quit_change _ what q h = absurd (cc)
 
 connect_change : (line : Line) (user host : ℕ) → IsChangeOf line (changes.Connect user host) → is_connecting line ≡ true
@@ -160,7 +160,7 @@ module _ (back : AreBack) (found : AreFound) (none : AreNone) (run : Run) (kind 
       connects s (changes.Connect u h) e = (cc, cc)
       connects s changes.Quit e = absurd (cc)
       connects s (changes.Truncate what) e = absurd (truncation_connects what session user host e)
-      connects s changes.Show e = absurd (cc)
+      connects s (changes.Setup what) e = absurd (cc)
 
       same : (n : ℕ) → ◌≡◌ {A = List Numbered} (change_at 0 n ∷ []) (change_at 0 k ∷ []) → n ≡ k
       same n f = let h : change_at 0 n ≡ change_at 0 k = cc in ap (λ (z : Numbered). z.version) h

@@ -186,7 +186,7 @@ module _ (change : Label → Change) (labels : List Label) (all ps : List Placed
       quits s (changes.Connect user host) e = absurd (cc)
       quits s changes.Quit e = (refl, cc)
       quits s (changes.Truncate what) e = absurd (truncation_quits what session e)
-      quits s changes.Show e = absurd (cc)
+      quits s (changes.Setup what) e = absurd (cc)
 
       own : (p.session == session) ≡ true
       own = subst (λ n. (n == session) ≡ true) (sym (acted.session ∙ (quits label.session (change label) e).1)) (self session) where

@@ -1,7 +1,6 @@
 -- What is known of the entries of a run up to a phase's end.
 use Rattle.std.proofs.Common.{◌≡◌, refl, ℕ, zero, suc, ◌+◌, ◌-◌, ◌<◌, ◌≤◌, ◌==◌, Bool, true, false, cond, nat_le, List, [], ◌∷◌, ◌++◌, length, Option, Some, None, sym, ap, subst, ◌∙◌, inl, inr, arith}
 use Rattle.std.specs.Prelude.{slice_get, ◌&&◌, IfSome}
-use Rattle.pfs_asked.specs.Asking.{no_rows}
 use Rattle.pfs_conservation.specs.Lines.{times_added}
 use Rattle.pfs_event.specs.Verdicts.{is_let_through}
 use Rattle.pfs_event.specs.declared.entry.Entry.{Entry}
@@ -17,7 +16,7 @@ use Rattle.pfs_model.specs.Setups.{is_digested}
 use Rattle.pfs_model.specs.declared.changes.Change.{Change}
 use Rattle.pfs_model.specs.declared.lines.Subject.{Subject}
 use Rattle.pfs_model.proofs.Growing.{times_append}
-use Rattle.pfs_runs.specs.Labels.{label_at, rooms_at}
+use Rattle.pfs_runs.specs.Labels.{answers_at, label_at, rooms_at}
 use Rattle.pfs_tagged.specs.Ends.{event_number, Ended, number_of, ended_at, ended_first, all_ended}
 use Rattle.pfs_tagged.specs.Premises.{AreKept, IsOrderly, AreFirstBehind, AreLastBehind, IsActionOf, IsSmall, IsTexted, is_closed}
 use Rattle.pfs_tagged.specs.Runs.{Run, entries_to}
@@ -195,15 +194,15 @@ module _ (run : Run) (kept : AreKept run) (orderly : IsOrderly run) (phase : ℕ
   pub run_follow : (session : ℕ) → Follow session fresh (entries_to run phase)
   run_follow session = subst (Follow session fresh) (sym front.same) (all_followed session (blocks_to phase run.blocks)).follow
 
-  run_answered : AreAnswered (rooms_at run.setting run.change run.labels) no_rows (entries_to run phase)
-  run_answered = answered_front (rooms_at run.setting run.change run.labels) no_rows (entries_to run phase) front.rest (subst (AreAnswered (rooms_at run.setting run.change run.labels) no_rows) split kept.rules.answered)
+  run_answered : AreAnswered (rooms_at run.setting run.change run.labels) (answers_at run.setting run.change run.labels) (entries_to run phase)
+  run_answered = answered_front (rooms_at run.setting run.change run.labels) (answers_at run.setting run.change run.labels) (entries_to run phase) front.rest (subst (AreAnswered (rooms_at run.setting run.change run.labels) (answers_at run.setting run.change run.labels)) split kept.rules.answered)
 
   -- cells and slots are low
   run_low : Each IsLowEnded (all_ended (entries_to run phase))
   run_low = ended_low (entries_to run phase) (all_low (entries_to run phase) run_follow
       (both_each (λ (p : Placed). IsSmall p.line) (λ (p : Placed). IsLowEntry p.entry) (entries_to run phase)
       (each_front_of (λ (p : Placed). IsSmall p.line) (entries_to run phase) front.rest (subst (Each (λ (p : Placed). IsSmall p.line)) split (all_lines_of IsSmall run.blocks orderly.small)))
-      (low_entries (rooms_at run.setting run.change run.labels) no_rows (entries_to run phase) slots run_answered))) where
+      (low_entries (rooms_at run.setting run.change run.labels) (answers_at run.setting run.change run.labels) (entries_to run phase) slots run_answered))) where
         slots : (number slot : ℕ) → (rooms_at run.setting run.change run.labels number).thread ≡ Some slot → slot < 32
         slots number slot q =
             let l : slot < run.setting.limits.thread_instances = slot_low run.setting run.change run.labels number slot q in
@@ -238,7 +237,7 @@ module _ (run : Run) (kept : AreKept run) (orderly : IsOrderly run) (phase : ℕ
 
   pub run_own : (session : ℕ) → Each (λ (p : Placed). (p.session == session) ≡ true → IsOwn session (rooms_at run.setting run.change run.labels) (entries_to run phase) p) (entries_to run phase)
   run_own session =
-      all_told session (rooms_at run.setting run.change run.labels) no_rows (entries_to run phase)
+      all_told session (rooms_at run.setting run.change run.labels) (answers_at run.setting run.change run.labels) (entries_to run phase)
       (rising_front (numbers_by session (entries_to run phase)) (numbers_by session front.rest) (subst AreRising (ap (numbers_by session) split ∙ numbers_then session (entries_to run phase) front.rest) (kept.rules.joint.ordered.rising session)))
       (λ action more e. (run_number session action more e).0)
       (run_follow session)

@@ -90,7 +90,7 @@ module _ (setting : Setting) (change : Label → Change) (labels : List Label) w
       omega (arith, t, p, s)
   for_change k label changes.Quit slot l q = absurd (cc)
   for_change k label (changes.Truncate what) slot l q = absurd (cc)
-  for_change k label changes.Show slot l q = absurd (cc)
+  for_change k label (changes.Setup what) slot l q = absurd (cc)
 
   pub slot_low : (number slot : ℕ) → (rooms_at setting change labels number).thread ≡ Some slot → slot < setting.limits.thread_instances
   slot_low zero slot q = absurd (cc)
@@ -178,4 +178,4 @@ module _ (setting : Setting) (change : Label → Change) (labels : List Label) w
     }
     by changes.Quit q r = absurd (let z : None ≡ Some slot = ap (λ (z : Rooms). z.thread) (sym (ap (rooms_for (state_of setting change (take k labels)) label.session) q) ∙ r) ∙ t in cc)
     by (changes.Truncate what) q r = absurd (let z : None ≡ Some slot = ap (λ (z : Rooms). z.thread) (sym (ap (rooms_for (state_of setting change (take k labels)) label.session) q) ∙ r) ∙ t in cc)
-    by changes.Show q r = absurd (let z : None ≡ Some slot = ap (λ (z : Rooms). z.thread) (sym (ap (rooms_for (state_of setting change (take k labels)) label.session) q) ∙ r) ∙ t in cc)
+    by (changes.Setup what) q r = absurd (let z : None ≡ Some slot = ap (λ (z : Rooms). z.thread) (sym (ap (rooms_for (state_of setting change (take k labels)) label.session) q) ∙ r) ∙ t in cc)

@@ -166,7 +166,7 @@ module _ (back : AreBack) (found : AreFound) (setting : Setting) (kind : TableKi
       ap (λ z. moves_on test (asked (truncation_asks z s.kept.now.places what))) kinds
       ∙ (ap (λ z. moves_on test (asked (truncation_asks (kinds_of setting) z what))) places
       ∙ truncation_same back setting kind opening actions action (subst AreWell places well) what e)
-  asks_for s session changes.Show well cells kinds places e =
+  asks_for s session (changes.Setup what) well cells kinds places e =
       none_asked [] refl (λ place. ap (λ a. line_takes (line_of (kind_number kind) before a) place) e)
   asks_for s session changes.Quit well cells kinds places e = on (found_where (λ x. x.number == session) s.kept.now.places.threads) refl (seat_in_in s session well) where
     line : line_of (kind_number kind) before (actions action) ≡ quit_line (found_where (λ x. x.number == session) s.kept.now.places.threads)
@@ -187,7 +187,7 @@ module _ (back : AreBack) (found : AreFound) (setting : Setting) (kind : TableKi
   alike_for s session (changes.Connect user host) well cells kinds = subst (λ z. AllAlike test (asked z)) (sym (connect_moves s.words (thread_flags s user host) (connected s session user host).kept.now (seat_at s session user host))) tt
   alike_for s session (changes.Truncate what) well cells kinds =
       subst (λ z. AllAlike test (asked (truncation_asks z s.kept.now.places what))) (sym kinds) (truncation_alike back setting kind action s.kept.now.places well what)
-  alike_for s session changes.Show well cells kinds = tt
+  alike_for s session (changes.Setup what) well cells kinds = tt
   alike_for s session changes.Quit well cells kinds = on (seat_in s session) (seat_in_in s session well) where
     on : (o : Option Seated) → IfSome o IsInRange → AllAlike test (asked (quit_work s.words s.cells (has_quit s session).kept.now o).moves)
     on None r = tt

@@ -6,7 +6,8 @@ use Rattle.std.specs.Option.{option_map}
 use Rattle.std.specs.Prelude.{All, filter}
 use Rattle.std.proofs.lemmas.List.Elements.{All-head, All-tail}
 use Rattle.pfs_admin.specs.States.{KindCells, kind_cells}
-use Rattle.pfs_admin.specs.Truncations.{up_to, thread_source, account_source, user_source, host_source, place_asks, asks_at, level_asks, emptied, cleared, lower_asks, upper_asks, reach_of, summary_asks, all_asks, digest_ask, digest_asks, truncation_asks}
+use Rattle.pfs_admin.specs.Changing.{up_to}
+use Rattle.pfs_admin.specs.Truncations.{thread_source, account_source, user_source, host_source, place_asks, asks_at, level_asks, emptied, cleared, lower_asks, upper_asks, reach_of, summary_asks, all_asks, digest_ask, digest_asks, truncation_asks}
 use Rattle.pfs_containers.proofs.Keeping.{session_in_range, account_in_range}
 use Rattle.pfs_containers.specs.Connections.{State}
 use Rattle.pfs_containers.specs.Kept.{AreWell, HasPlaces, HasUppers}

@@ -6,7 +6,8 @@ use Rattle.pfs_admin.specs.Asks.{quit_work}
 use Rattle.pfs_admin.specs.Fold.{state_of}
 use Rattle.pfs_admin.specs.Opening.{cells_of as class_cells, kinds_of}
 use Rattle.pfs_admin.specs.States.{State, kind_cells, seat_in, seat_at, thread_flags, connected, has_quit}
-use Rattle.pfs_admin.specs.Truncations.{up_to, digest_ask, digest_asks, truncation_asks}
+use Rattle.pfs_admin.specs.Changing.{up_to}
+use Rattle.pfs_admin.specs.Truncations.{digest_ask, digest_asks, truncation_asks}
 use Rattle.pfs_admin.specs.declared.changes.Change.{Change}
 use Rattle.pfs_admin.specs.declared.changes.Change.TheVariants as changes
 use Rattle.pfs_asked.specs.Asking.{moves_asked}
@@ -190,7 +191,7 @@ module _ (setting : Setting) (action : ℕ) (cleared : ℕ → Bool) where
       ap (λ z. asked action (truncation_asks z s.kept.now.places DigestSummary)) kinds ∙ (table_cleared action setting ∙ sym (all_cleared action setting cleared q))
   asked_for s session (changes.Truncate what) well cells kinds q =
       ap (λ z. asked action (truncation_asks z s.kept.now.places what)) kinds ∙ below_none (truncation_asks (kinds_of setting) s.kept.now.places what) (truncation_below setting s.kept.now.places what well refl) q
-  asked_for s session changes.Show well cells kinds q = below_none [] tt q
+  asked_for s session (changes.Setup what) well cells kinds q = below_none [] tt q
   asked_for s session changes.Quit well cells kinds q = below_none (work_for s session changes.Quit).moves (quit_below setting s session well cells) q
 
   alike_for : (s : State) (session : ℕ) (what : Change) → AreWell s.kept.now.places → s.cells ≡ class_cells setting.classes → s.kinds ≡ kinds_of setting
@@ -202,7 +203,7 @@ module _ (setting : Setting) (action : ℕ) (cleared : ℕ → Bool) where
   alike_for s session (changes.Truncate what) well cells kinds =
       subst (λ z. AllAlike is_digest_row (moves_as action (moves_asked (truncation_asks z s.kept.now.places what)))) (sym kinds)
       (alike_below action (truncation_asks (kinds_of setting) s.kept.now.places what) (truncation_below setting s.kept.now.places what well refl))
-  alike_for s session changes.Show well cells kinds = tt
+  alike_for s session (changes.Setup what) well cells kinds = tt
   alike_for s session changes.Quit well cells kinds = alike_below action (work_for s session changes.Quit).moves (quit_below setting s session well cells)
 
 -- of the action of a number

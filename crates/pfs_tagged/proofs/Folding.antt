@@ -79,7 +79,7 @@ step_places s session (changes.Connect user host) =
     connect_places s.kept.now session user host (lowest_free s.kept.now.places.threads) refl
 step_places s session changes.Quit = refl
 step_places s session (changes.Truncate what) = truncation_places s.kept.now what
-step_places s session changes.Show = refl
+step_places s session (changes.Setup what) = refl
 
 -- after one action more, in front
 after_front : (opening : State) (action : Action) (actions : List Action) (n : ℕ)

@@ -7,7 +7,7 @@ use Rattle.pfs_admin.specs.Opening.{cells_of, kinds_of, opened}
 use Rattle.pfs_admin.specs.States.{State, seat_at, seat_in}
 use Rattle.pfs_admin.specs.Truncations.{action_of}
 use Rattle.pfs_admin.specs.declared.changes.Change.{Change}
-use Rattle.pfs_admin.specs.declared.changes.Change.TheVariants.{Connect, Quit, Truncate, Show}
+use Rattle.pfs_admin.specs.declared.changes.Change.TheVariants.{Connect, Quit, Truncate, Setup}
 use Rattle.pfs_board.specs.declared.view.Label.{Label}
 use Rattle.pfs_classes.specs.declared.setting.Setting.{Setting}
 use Rattle.pfs_containers.proofs.Keeping.{free_inside, session_has, seat_keeps, quit_keeps, opens_well, seat_in_range, quit_in_range}
@@ -50,7 +50,7 @@ step_well : (s : State) (session : ℕ) (what : Change) → AreWell s.kept.now.p
 step_well s session (Connect user host) well = connect_well s.kept.now session user host well
 step_well s session Quit well = quit_well s.kept.now session well
 step_well s session (Truncate what) well = truncation_well s.kept.now what well
-step_well s session Show well = well
+step_well s session (Setup what) well = well
 
 from_well : (change : Label → Change) (s : State) (labels : List Label) → AreWell s.kept.now.places → AreWell (state_from change s labels).kept.now.places
 unfolding state_from

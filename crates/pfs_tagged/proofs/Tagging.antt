@@ -92,7 +92,7 @@ low_work s session changes.Quit well = on (seat_in s session) (seat_in_in s sess
   on (Some seat) r =
       (tt, each_join IsLowSign (upper_tags (has_quit s session).kept.now seat.connection) (free_ring seat.slot) (low_upper (has_quit s session).kept.now seat r) (low_releases (free_ring seat.slot) (rows_release (8450 + 56 * seat.slot) 56)))
 low_work s session (changes.Truncate what) well = low_split (work_of_truncation s what).signs (signs_split (is_there s.kept.now.places) (kept_behind s.kept what).now what)
-low_work s session changes.Show well = tt
+low_work s session (changes.Setup what) well = tt
 
 low_label : (setting : Setting) (change : Label → Change) (labels : List Label) (number : ℕ) → Each IsLowSign (work_at setting change labels number).signs
 low_label setting change labels number = on (label_at labels number) where

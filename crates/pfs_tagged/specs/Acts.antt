@@ -26,7 +26,7 @@ abbrev pub action_for : ℕ → Change → Action
 action_for session (changes.Connect user host) = Connect session user host
 action_for session changes.Quit = Quit session
 action_for session (changes.Truncate what) = action_of what
-action_for session changes.Show = Other
+action_for session (changes.Setup what) = Other
 
 -- the actions of these labels
 abbrev pub actions_of : (Label → Change) → List Label → List Action
@@ -37,7 +37,7 @@ abbrev pub names_in : Change → Names
 names_in (changes.Connect user host) = record { user = user; host = host }
 names_in changes.Quit = record { user = 0; host = 0 }
 names_in (changes.Truncate what) = record { user = 0; host = 0 }
-names_in changes.Show = record { user = 0; host = 0 }
+names_in (changes.Setup what) = record { user = 0; host = 0 }
 
 abbrev pub names_by : (Label → Change) → ℕ → Names
 names_by change session = names_in (change (record { session = session; line = 1 }))

@@ -2,6 +2,7 @@
 use Rattle.std.specs.Prelude.{ℕ, ◌≡◌, ◌<◌, Bool, true, false, List, [], ◌∷◌, length, IfSome, Option, Some, None}
 use Rattle.pfs_admin.specs.declared.changes.Change.{Change}
 use Rattle.pfs_admin.specs.declared.changes.Change.TheVariants as changes
+use Rattle.pfs_admin.specs.declared.changes.SetupStatement.TheVariants as statements
 use Rattle.pfs_board.specs.declared.view.Label.{Label}
 use Rattle.pfs_event.specs.declared.entry.Entry.{Entry}
 use Rattle.pfs_event.specs.declared.entry.Entry.TheVariants as says
@@ -25,19 +26,20 @@ pub record AreKept (run : Run) : Type 0 where
   pub labelled : AreLabels run.labels (places run.blocks)
   pub brought : AreBrought run.flags (places run.blocks)
 
--- a connect's line connects, a quit's quits, and an SQL text's truncates, as no other line does; a change that only
--- shows may stand at any line but a connect and a quit
+-- a connect's line connects, a quit's quits, and an SQL text's truncates or changes the setup, as no other line does; a
+-- statement that only shows may stand at any line but a connect and a quit
 abbrev pub IsChangeOf : Line → Change → Type 0
 IsChangeOf lines.Connect (changes.Connect user host) = Unit {0}
 IsChangeOf lines.Connect changes.Quit = ⊥
 IsChangeOf lines.Connect (changes.Truncate what) = ⊥
-IsChangeOf lines.Connect changes.Show = ⊥
+IsChangeOf lines.Connect (changes.Setup what) = ⊥
 IsChangeOf lines.Quit changes.Quit = Unit {0}
 IsChangeOf lines.Quit (changes.Connect user host) = ⊥
 IsChangeOf lines.Quit (changes.Truncate what) = ⊥
-IsChangeOf lines.Quit changes.Show = ⊥
+IsChangeOf lines.Quit (changes.Setup what) = ⊥
 IsChangeOf lines.Change (changes.Truncate what) = Unit {0}
-IsChangeOf line changes.Show = Unit {0}
+IsChangeOf lines.Change (changes.Setup what) = Unit {0}
+IsChangeOf line (changes.Setup statements.Show) = Unit {0}
 IsChangeOf line change = ⊥
 
 abbrev pub IsLabelOf : (Label → Change) → Line → Option Label → Type 0

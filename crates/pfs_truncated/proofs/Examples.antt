@@ -1,11 +1,12 @@
 -- The truncations of the worked sessions compute.
 use Rattle.std.proofs.Common.{refl}
-use Rattle.pfs_admin.specs.Truncations.{level_asks, level_signs, off_words}
+use Rattle.pfs_admin.specs.Changing.{words_changed}
+use Rattle.pfs_admin.specs.Truncations.{level_asks, level_signs}
 use Rattle.pfs_truncated.specs.Examples.{one, Worked}
 use Rattle.pfs_truncated.proofs.Freeing.{used_has, not_used}
 
 pub worked : Worked
-unfolding level_asks level_signs off_words
+unfolding level_asks level_signs words_changed
 worked = record {
   accounts_before = refl;
   account_totals_before = refl;

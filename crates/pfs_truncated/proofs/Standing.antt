@@ -1,7 +1,7 @@
 -- Behind any actions sessions and accounts stand with their places.
 use Rattle.std.proofs.Common.{◌≡◌, refl, ℕ, zero, suc, List, [], ◌∷◌, replicate, Option, Some, None, sym, subst, ◌∙◌}
 use Rattle.pfs_admin.specs.declared.changes.Change.{Change}
-use Rattle.pfs_admin.specs.declared.changes.Change.TheVariants.{Connect, Quit, Truncate, Show}
+use Rattle.pfs_admin.specs.declared.changes.Change.TheVariants.{Connect, Quit, Truncate, Setup}
 use Rattle.pfs_admin.specs.Fold.{stepped, state_from, state_of}
 use Rattle.pfs_admin.specs.Opening.{opened}
 use Rattle.pfs_admin.specs.States.{State}
@@ -56,7 +56,7 @@ step_sound s session (Connect user host) sound =
     (sound_step 0 s.kept.now.places sound (fold.Connect session user host))
 step_sound s session Quit sound = sound_step 0 s.kept.now.places sound (fold.Quit session)
 step_sound s session (Truncate what) sound = truncated_sound s what sound
-step_sound s session Show sound = sound
+step_sound s session (Setup what) sound = sound
 
 from_sound : (change : Label → Change) (s : State) (labels : List Label) → Sound s.kept.now.places → Sound (state_from change s labels).kept.now.places
 unfolding state_from

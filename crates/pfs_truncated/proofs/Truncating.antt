@@ -15,7 +15,7 @@ accounts_law s = (
     hosts = refl;
     host_totals = refl;
   },
-  record { connects = refl; words = refl; actors = refl; objects = refl; names = refl; cells = refl; kinds = refl; actions = refl },
+  record { connects = refl; words = refl; actors = refl; objects = refl; names = refl; classes = refl; tables = refl; cells = refl; kinds = refl; actions = refl },
 )
 
 pub users_law : UsersLaw
@@ -29,7 +29,7 @@ users_law s = (
     hosts = refl;
     host_totals = refl;
   },
-  record { connects = refl; words = refl; actors = refl; objects = refl; names = refl; cells = refl; kinds = refl; actions = refl },
+  record { connects = refl; words = refl; actors = refl; objects = refl; names = refl; classes = refl; tables = refl; cells = refl; kinds = refl; actions = refl },
 )
 
 pub hosts_law : HostsLaw
@@ -43,5 +43,5 @@ hosts_law s = (
     hosts = are_freed _ (λ x. x.host) s.kept.now.places.threads s.kept.now.places.hosts;
     host_totals = are_counted_anew (λ x. x.host) s.kept.now.places.threads s.kept.now.host_totals;
   },
-  record { connects = refl; words = refl; actors = refl; objects = refl; names = refl; cells = refl; kinds = refl; actions = refl },
+  record { connects = refl; words = refl; actors = refl; objects = refl; names = refl; classes = refl; tables = refl; cells = refl; kinds = refl; actions = refl },
 )

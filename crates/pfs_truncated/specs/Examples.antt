@@ -3,7 +3,7 @@
 use Rattle.std.specs.Prelude.{◌≡◌, [], ◌∷◌, ◌++◌, map, replicate, codes, Some, None}
 use Rattle.pfs_admin.specs.Laws.{row_of}
 use Rattle.pfs_admin.specs.Opening.{table_flags}
-use Rattle.pfs_admin.specs.States.{State, connected, has_quit, noted, thread_flags}
+use Rattle.pfs_admin.specs.States.{State, connected, has_quit, thread_flags}
 use Rattle.pfs_admin.specs.Truncations.{has_truncated, work_of_truncation}
 use Rattle.pfs_admin.specs.Works.{word_at}
 use Rattle.pfs_classes.specs.declared.setting.TableName.{TableName}
@@ -18,7 +18,7 @@ use Rattle.pfs_rows.specs.declared.table.SummaryTable.TheVariants.{Global}
 use Rattle.pfs_rows.specs.declared.table.TableKind.TheVariants.{Waits}
 use Rattle.pfs_truncations.specs.declared.truncations.Truncation.{Truncation}
 use Rattle.pfs_truncations.specs.declared.truncations.Truncation.TheVariants.{Summary, Accounts, Users, Hosts, SetupActors, SetupObjects}
-use Rattle.pfs_truncated.specs.Laws.{HasSession, HasNoSession}
+use Rattle.pfs_truncated.specs.Laws.{HasSession, HasNoSession, noted}
 
 -- three slots, and two places of each other kind
 abbrev pub nobody : Kept
@@ -41,6 +41,9 @@ nobody = record {
   connects = 0;
 }
 
+abbrev pub first_table : TableName
+first_table = record { schema = codes "shop"; name = codes "orders" }
+
 -- the first table's word is on; the second one isn't there
 abbrev pub start : State
 start = record {
@@ -49,13 +52,12 @@ start = record {
   actors = opening_actors;
   objects = opening_objects;
   names = codes "u" ∷ codes "v" ∷ codes "h" ∷ [];
+  classes = [];
+  tables = first_table ∷ [];
   cells = 0 ∷ 62 ∷ 63 ∷ [];
   kinds = record { waits = 0 ∷ []; stages = []; statements = []; transactions = 62 ∷ 63 ∷ []; digests = 1 };
   actions = 0;
 }
-
-abbrev pub first_table : TableName
-first_table = record { schema = codes "shop"; name = codes "orders" }
 
 -- sessions 1, 2 and 3 have connected, and 1 and 3 have ended
 abbrev pub one : State

@@ -5,7 +5,7 @@ use Rattle.pfs_admin.specs.declared.changes.Change.{Change}
 use Rattle.pfs_admin.specs.Fold.{state_of}
 use Rattle.pfs_admin.specs.Laws.{row_of}
 use Rattle.pfs_admin.specs.Opening.{table_flags}
-use Rattle.pfs_admin.specs.States.{State, noted, thread_flags}
+use Rattle.pfs_admin.specs.States.{State, thread_flags}
 use Rattle.pfs_admin.specs.Truncations.{has_truncated, work_of_truncation}
 use Rattle.pfs_admin.specs.Works.{word_at}
 use Rattle.pfs_asked.specs.Takes.{AreOnce}
@@ -62,13 +62,15 @@ pub record AreSessionsLeft (before after : Containers) : Type 0 where
   pub lost_users : after.lost_users ≡ before.lost_users
   pub lost_hosts : after.lost_hosts ≡ before.lost_hosts
 
--- words, setup tables' rows, names and cells stay, and so does the number of connects; there is one action more
+-- words, setup tables' rows, names, classes, tables and cells stay, and so does the number of connects; there is one action more
 pub record IsRestLeft (before after : State) : Type 0 where
   pub connects : after.kept.connects ≡ before.kept.connects
   pub words : after.words ≡ before.words
   pub actors : after.actors ≡ before.actors
   pub objects : after.objects ≡ before.objects
   pub names : after.names ≡ before.names
+  pub classes : after.classes ≡ before.classes
+  pub tables : after.tables ≡ before.tables
   pub cells : after.cells ≡ before.cells
   pub kinds : after.kinds ≡ before.kinds
   pub actions : after.actions ≡ before.actions + 1
@@ -111,6 +113,10 @@ UsersLaw = (s : State) → UsersTruncated s.kept.now (has_truncated s Users).kep
 abbrev pub HostsLaw : Type 0
 HostsLaw = (s : State) → HostsTruncated s.kept.now (has_truncated s Hosts).kept.now
     × IsRestLeft s (has_truncated s Hosts)
+
+-- the state behind an action that changes nothing
+abbrev pub noted : State → State
+noted s = record s { actions = s.actions + 1 }
 
 -- a truncation of an event table or a summary changes nothing but the number of actions, and a setup table loses its
 -- rows; behind `setup_actors` the threads of new sessions are off, while those that are there keep their flags; behind

@@ -32,8 +32,8 @@ pub fn hosts()
     ensures { HostsLaw }
 {}
 
-/// Whatever connected, quit or was truncated, each session's account, user and host stand where it has them, and so do
-/// the user and the host of each account: a TRUNCATE leaves no account without its user or its host.
+/// Whatever connected, quit, was truncated or changed, each session's account, user and host stand where it has them,
+/// and so do the user and the host of each account: a TRUNCATE leaves no account without its user or its host.
 pub fn standing()
     ensures { StandingLaw }
 {}
@@ -46,8 +46,8 @@ pub fn summaries()
     ensures { LeftLaw }
 {}
 
-/// Whatever connected, quit or was truncated, the switch word of each table says what the rows of `setup_objects`
-/// decide of it: a TRUNCATE of `setup_objects` decides all tables again.
+/// Whatever connected, quit, was truncated or changed, the switch word of each table says what the rows of
+/// `setup_objects` decide of it: a TRUNCATE, UPDATE, INSERT or DELETE of `setup_objects` decides all tables again.
 pub fn tables()
     ensures { TableWordsLaw }
 {}

@@ -1,7 +1,8 @@
 use Rattle.std.proofs.Common.{◌≡◌, ◌+◌, ap, ◌∙◌, arith}
 use Rattle.pfs_levels.specs.Moves.{cost}
 use Rattle.pfs_levels.proofs.Flushing.{cost_then}
-use Rattle.pfs_admin.specs.Truncations.{up_to, asks_at, place_asks}
+use Rattle.pfs_admin.specs.Changing.{up_to}
+use Rattle.pfs_admin.specs.Truncations.{asks_at, place_asks}
 use Rattle.pfs_admin.proofs.Charging.{level_most}
 use Rattle.pfs_admin.proofs.Levelling.{up_next, level_front, level_whole}
 use Rattle.pfs_admin.proofs.charges.level_cost.Goals as goal

@@ -1,6 +1,7 @@
 use Rattle.std.proofs.Common.{◌≡◌}
 use Rattle.pfs_levels.specs.Moves.{cost}
-use Rattle.pfs_admin.specs.Truncations.{up_to, asks_at}
+use Rattle.pfs_admin.specs.Changing.{up_to}
+use Rattle.pfs_admin.specs.Truncations.{asks_at}
 use Rattle.pfs_admin.proofs.charges.level_cost.Given as goal
 
 abbrev pub invariant-loop-place : goal.invariant-loop-place

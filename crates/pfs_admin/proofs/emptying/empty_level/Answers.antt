@@ -1,7 +1,8 @@
 use Rattle.std.proofs.Common.{◌≡◌, ◌+◌, ◌++◌, ap, sym, subst, ◌∙◌, arith}
 use Rattle.pfs_levels.specs.Moves.{Moved, cost}
 use Rattle.pfs_levels.proofs.Flushing.{enough, moved_more, stays_more, stays_as}
-use Rattle.pfs_admin.specs.Truncations.{up_to, asks_at, place_asks, level_asks}
+use Rattle.pfs_admin.specs.Changing.{up_to}
+use Rattle.pfs_admin.specs.Truncations.{asks_at, place_asks, level_asks}
 use Rattle.pfs_admin.proofs.Levelling.{up_next, level_front, level_whole}
 use Rattle.pfs_admin.proofs.emptying.empty_level.Goals as goal
 

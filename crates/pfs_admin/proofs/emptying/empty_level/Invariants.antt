@@ -1,5 +1,6 @@
 use Rattle.pfs_levels.specs.Moves.{Moved, Stays, cost}
-use Rattle.pfs_admin.specs.Truncations.{up_to, asks_at}
+use Rattle.pfs_admin.specs.Changing.{up_to}
+use Rattle.pfs_admin.specs.Truncations.{asks_at}
 use Rattle.pfs_admin.proofs.emptying.empty_level.Given as goal
 
 abbrev pub invariant-loop-place : goal.invariant-loop-place

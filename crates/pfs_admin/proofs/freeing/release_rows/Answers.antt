@@ -1,6 +1,7 @@
-use Rattle.std.proofs.Common.{◌≡◌, ◌+◌, sym, subst, arith}
+use Rattle.std.proofs.Common.{◌≡◌, sym, subst, arith}
 use Rattle.pfs_levels.proofs.Flushing.{stays_then, stays_as}
-use Rattle.pfs_admin.specs.Truncations.{up_to, freed_at, free_rows}
+use Rattle.pfs_admin.specs.Changing.{up_to}
+use Rattle.pfs_admin.specs.Truncations.{freed_at, free_rows}
 use Rattle.pfs_admin.specs.Works.{Signed}
 use Rattle.pfs_admin.proofs.Released.{rows_whole}
 use Rattle.pfs_admin.proofs.Levelling.{up_next}

@@ -1,7 +1,8 @@
 use Rattle.std.proofs.Common.{◌≡◌, ◌+◌, ◌*◌, cond, [], is_some, sym, subst, ap, ◌∙◌, arith}
 use Rattle.pfs_levels.specs.declared.places.Level.TheVariants as levels
 use Rattle.pfs_levels.proofs.Flushing.{stays_then, stays_as}
-use Rattle.pfs_admin.specs.Truncations.{up_to, free_rows, free_slot, free_threads, is_there}
+use Rattle.pfs_admin.specs.Changing.{up_to}
+use Rattle.pfs_admin.specs.Truncations.{free_rows, free_slot, free_threads, is_there}
 use Rattle.pfs_admin.specs.Works.{Signed}
 use Rattle.pfs_admin.proofs.Released.{threads_whole}
 use Rattle.pfs_admin.proofs.Levelling.{up_next}

@@ -1,5 +1,6 @@
 use Rattle.pfs_levels.specs.Moves.{Moved, Stays, cost}
-use Rattle.pfs_admin.specs.Truncations.{up_to, digest_ask}
+use Rattle.pfs_admin.specs.Changing.{up_to}
+use Rattle.pfs_admin.specs.Truncations.{digest_ask}
 use Rattle.pfs_admin.proofs.summaries.clear_digests.Given as goal
 
 abbrev pub invariant-loop-at : goal.invariant-loop-at

@@ -1,28 +1,29 @@
-use Rattle.std.proofs.Common.{◌+◌, List, length, ap, sym, subst, ◌∙◌, arith}
+use Rattle.std.proofs.Common.{◌+◌, List, length, refl, ap, sym, subst, ◌∙◌, arith}
 use Rattle.pfs_levels.specs.declared.answers.Word.{Word}
 use Rattle.pfs_levels.specs.Moves.{Did}
+use Rattle.pfs_admin.specs.Truncations.{off}
 use Rattle.pfs_admin.specs.Works.{flagging, flagged, flagging_calls, flagging_entries, word_at}
-use Rattle.pfs_admin.proofs.Setting.{off_past, off_wide, off_next, off_whole, flags_whole, off_more, early_same}
+use Rattle.pfs_admin.proofs.Setting.{changed_past, changed_wide, changed_next, words_whole, flags_whole, changed_more, early_same}
 use Rattle.pfs_admin.proofs.truncations.turn_off.Goals as goal
 
 pub flag-requires-clause-wide : goal.flag-requires-clause-wide
 flag-requires-clause-wide g c =
-    ap length c.loop-table.invariant.mine ∙ (off_wide c.args.words.now c.loop-table.table ∙ c.requires.wide)
+    ap length c.loop-table.invariant.mine ∙ (changed_wide off c.args.words.now 96 c.loop-table.table ∙ c.requires.wide)
 
 pub flag-requires-clause-early : goal.flag-requires-clause-early
 flag-requires-clause-early g c =
     let at = 96 + c.loop-table.table in
     early_same c.loop-table.words c.args.words.now at
-    (ap (λ (z : List Word). word_at z at) c.loop-table.invariant.mine ∙ off_past c.args.words.now c.loop-table.table at (omega arith)) (c.requires.early at)
+    (ap (λ (z : List Word). word_at z at) c.loop-table.invariant.mine ∙ changed_past off c.args.words.now 96 c.loop-table.table at (omega arith)) (c.requires.early at)
 
 pub loop-table-preserved : goal.loop-table-preserved
 loop-table-preserved g c =
     let words = c.args.words.now in
     let i = c.loop-table.table in
     record {
-      did = off_more words i c.args.log.now c.loop-table.log c.flag.new.log _ _ _ c.loop-table.invariant.did
+      did = changed_more off words 96 i 0 c.args.log.now c.loop-table.log c.flag.new.log _ _ _ refl c.loop-table.invariant.did
           (subst (λ z. Did (flagging_calls z (flagging z (96 + i) 0)) (flagging_entries z (flagging z (96 + i) 0)) c.loop-table.log c.flag.new.log (g.H.Rows.reached c.loop-table.rows) (g.H.Rows.reached c.flag.new.rows)) c.loop-table.invariant.mine c.flag.ensures.did);
-      mine = c.flag.ensures.mine ∙ (ap (λ (z : List Word). flagged z (96 + i) 0) c.loop-table.invariant.mine ∙ sym (off_next words i));
+      mine = c.flag.ensures.mine ∙ (ap (λ (z : List Word). flagged z (96 + i) 0) c.loop-table.invariant.mine ∙ sym (changed_next off words 96 i));
       lent = c.flag.ensures.lent;
       leaves = record {
         hand = λ r. c.flag.ensures.leaves.hand r ∙ c.loop-table.invariant.leaves.hand r;
@@ -36,10 +37,10 @@ loop-table-preserved g c =
 pub returns-clause-did : goal.returns-clause-did
 returns-clause-did g c =
     subst (λ z. Did (flagging_calls c.args.words.now z) (flagging_entries c.args.words.now z) c.args.log.now c.loop-table.log (g.H.Rows.reached c.args.rows.now) (g.H.Rows.reached c.loop-table.rows))
-    (flags_whole c.args.words.now c.loop-table.table (omega arith)) c.loop-table.invariant.did
+    (flags_whole off c.args.words.now 96 c.loop-table.table 64 (omega arith)) c.loop-table.invariant.did
 
 pub returns-clause-mine : goal.returns-clause-mine
-returns-clause-mine g c = c.loop-table.invariant.mine ∙ off_whole c.args.words.now c.loop-table.table (omega arith)
+returns-clause-mine g c = c.loop-table.invariant.mine ∙ words_whole off c.args.words.now 96 c.loop-table.table 64 (omega arith)
 
 pub flag-requires-clause-room : goal.flag-requires-clause-room
 flag-requires-clause-room g c = omega (arith, c.loop-table.invariant.leaves.room, c.requires.room)

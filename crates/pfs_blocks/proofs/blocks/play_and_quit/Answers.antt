@@ -16,75 +16,75 @@ play_written-requires-clause-may g c = (ends_so c.args.session.now.state.opened.
 pub quit-requires-clause-closed : goal.quit-requires-clause-closed
 quit-requires-clause-closed g c =
     no_events c.play_written.new.session.state.opened.events
-    (c.play_written.ensures.kinds ∙ (ends_so c.args.session.now.state.opened.depth (kinds_at c.args.session.now.state) (c.args.body.now ++ said.Quit ∷ []) c.args.body.now c.requires.may refl).1)
+    (c.in-Ok.ensures.kinds ∙ (ends_so c.args.session.now.state.opened.depth (kinds_at c.args.session.now.state) (c.args.body.now ++ said.Quit ∷ []) c.args.body.now c.requires.may refl).1)
 
 pub quit-requires-clause-early : goal.quit-requires-clause-early
-quit-requires-clause-early g c = omega (arith, c.play_written.ensures.actions, c.requires.rare)
+quit-requires-clause-early g c = omega (arith, c.in-Ok.ensures.actions, c.requires.rare)
 
 pub quit-requires-clause-few : goal.quit-requires-clause-few
-quit-requires-clause-few g c = omega (arith, c.play_written.ensures.counted, c.requires.few)
+quit-requires-clause-few g c = omega (arith, c.in-Ok.ensures.counted, c.requires.few)
 
 pub quit-requires-clause-idle : goal.quit-requires-clause-idle
-quit-requires-clause-idle g c = λ r. c.play_written.ensures.leaves.hand r ∙ c.requires.idle r
+quit-requires-clause-idle g c = λ r. c.in-Ok.ensures.leaves.hand r ∙ c.requires.idle r
 
 pub quit-requires-clause-spare : goal.quit-requires-clause-spare
 quit-requires-clause-spare g c =
-    let wide = c.play_written.ensures.wide in
-    omega (arith, owed_fits c.play_written.new.session.state wide, c.play_written.ensures.leaves.left, c.requires.spare)
+    let wide = c.in-Ok.ensures.wide in
+    omega (arith, owed_fits c.play_written.new.session.state wide, c.in-Ok.ensures.leaves.left, c.requires.spare)
 
 pub quit-requires-clause-room : goal.quit-requires-clause-room
 quit-requires-clause-room g c =
-    let wide = c.play_written.ensures.wide in
-    omega (arith, settling_fits c.play_written.new.session.state wide, c.play_written.ensures.leaves.room, c.requires.room)
+    let wide = c.in-Ok.ensures.wide in
+    omega (arith, settling_fits c.play_written.new.session.state wide, c.in-Ok.ensures.leaves.room, c.requires.room)
 
-pub returns-clause-did : goal.returns-clause-did
-returns-clause-did g c =
+pub returns-in-Ok-clause-did : goal.returns-in-Ok-clause-did
+returns-in-Ok-clause-did g c =
     let closed = no_events c.play_written.new.session.state.opened.events
-    (c.play_written.ensures.kinds ∙ (ends_so c.args.session.now.state.opened.depth (kinds_at c.args.session.now.state) (c.args.body.now ++ said.Quit ∷ []) c.args.body.now c.requires.may refl).1) in
+    (c.in-Ok.ensures.kinds ∙ (ends_so c.args.session.now.state.opened.depth (kinds_at c.args.session.now.state) (c.args.body.now ++ said.Quit ∷ []) c.args.body.now c.requires.may refl).1) in
     record {
       over = true;
       did = quit_deeds c.args.admin.now c.args.body.now c.args.session.now c.play_written.new.session c.quit.new.session (g.A.Rows.reached c.args.rows.now) (g.A.Rows.reached c.play_written.new.rows) (g.A.Rows.reached c.quit.new.rows)
-          c.play_written.ensures.played
-          (subst (λ (a : Administration). HasActed (Quitting a) c.play_written.new.session c.quit.new.session (g.A.Rows.reached c.play_written.new.rows) (g.A.Rows.reached c.quit.new.rows)) c.play_written.ensures.admin c.quit.ensures.acted) closed;
+          c.in-Ok.ensures.played
+          (subst (λ (a : Administration). HasActed (Quitting a) c.play_written.new.session c.quit.new.session (g.A.Rows.reached c.play_written.new.rows) (g.A.Rows.reached c.quit.new.rows)) c.in-Ok.ensures.admin c.quit.ensures.acted) closed;
       after_is = c.quit.ensures.admin
-          ∙ (ap (λ n. has_quit c.play_written.new.admin n) (ap (λ (s : State). s.number) c.play_written.ensures.rest)
-          ∙ ap (λ (a : Administration). has_quit a c.args.session.now.state.number) (c.play_written.ensures.admin ∙ sym (quit_admin c.args.admin.now c.args.body.now)));
+          ∙ (ap (λ n. has_quit c.play_written.new.admin n) (ap (λ (s : State). s.number) c.in-Ok.ensures.rest)
+          ∙ ap (λ (a : Administration). has_quit a c.args.session.now.state.number) (c.in-Ok.ensures.admin ∙ sym (quit_admin c.args.admin.now c.args.body.now)));
     }
 
-pub returns-clause-kinds : goal.returns-clause-kinds
-returns-clause-kinds g c =
+pub returns-in-Ok-clause-kinds : goal.returns-in-Ok-clause-kinds
+returns-in-Ok-clause-kinds g c =
     ap (λ (s : State). kinds_at s) c.quit.ensures.rest
-    ∙ (c.play_written.ensures.kinds ∙ (ends_so c.args.session.now.state.opened.depth (kinds_at c.args.session.now.state) (c.args.body.now ++ said.Quit ∷ []) c.args.body.now c.requires.may refl).1)
+    ∙ (c.in-Ok.ensures.kinds ∙ (ends_so c.args.session.now.state.opened.depth (kinds_at c.args.session.now.state) (c.args.body.now ++ said.Quit ∷ []) c.args.body.now c.requires.may refl).1)
 
-pub returns-clause-drawn : goal.returns-clause-drawn
-returns-clause-drawn g c = let e = ap (λ (s : State). s.drawn) c.quit.ensures.rest in omega (arith, e, c.play_written.ensures.drawn)
+pub returns-in-Ok-clause-drawn : goal.returns-in-Ok-clause-drawn
+returns-in-Ok-clause-drawn g c = let e = ap (λ (s : State). s.drawn) c.quit.ensures.rest in omega (arith, e, c.in-Ok.ensures.drawn)
 
-pub returns-clause-number : goal.returns-clause-number
-returns-clause-number g c = ap (λ (s : State). s.number) c.quit.ensures.rest ∙ ap (λ (s : State). s.number) c.play_written.ensures.rest
+pub returns-in-Ok-clause-number : goal.returns-in-Ok-clause-number
+returns-in-Ok-clause-number g c = ap (λ (s : State). s.number) c.quit.ensures.rest ∙ ap (λ (s : State). s.number) c.in-Ok.ensures.rest
 
-pub returns-clause-depth : goal.returns-clause-depth
-returns-clause-depth g c = ap (λ (s : State). s.opened.depth) c.quit.ensures.rest ∙ c.play_written.ensures.depth
+pub returns-in-Ok-clause-depth : goal.returns-in-Ok-clause-depth
+returns-in-Ok-clause-depth g c = ap (λ (s : State). s.opened.depth) c.quit.ensures.rest ∙ c.in-Ok.ensures.depth
 
-pub returns-clause-actions : goal.returns-clause-actions
-returns-clause-actions g c =
+pub returns-in-Ok-clause-actions : goal.returns-in-Ok-clause-actions
+returns-in-Ok-clause-actions g c =
     let e = ap (λ (s : State). s.actions) c.quit.ensures.rest in
-    omega (arith, e, c.play_written.ensures.actions)
+    omega (arith, e, c.in-Ok.ensures.actions)
 
-pub returns-clause-counted : goal.returns-clause-counted
-returns-clause-counted g c =
+pub returns-in-Ok-clause-counted : goal.returns-in-Ok-clause-counted
+returns-in-Ok-clause-counted g c =
     let e = ap (λ (s : Administration). s.actions) c.quit.ensures.admin in
-    omega (arith, e, c.play_written.ensures.counted)
+    omega (arith, e, c.in-Ok.ensures.counted)
 
-pub returns-clause-wide : goal.returns-clause-wide
-returns-clause-wide g c = ap (λ (s : State). length s.held) c.quit.ensures.rest ∙ none_wide
+pub returns-in-Ok-clause-wide : goal.returns-in-Ok-clause-wide
+returns-in-Ok-clause-wide g c = ap (λ (s : State). length s.held) c.quit.ensures.rest ∙ none_wide
 
-pub returns-clause-leaves : goal.returns-clause-leaves
-returns-clause-leaves g c =
-    let wide = c.play_written.ensures.wide in
+pub returns-in-Ok-clause-leaves : goal.returns-in-Ok-clause-leaves
+returns-in-Ok-clause-leaves g c =
+    let wide = c.in-Ok.ensures.wide in
     record {
-      hand = λ r. c.quit.ensures.leaves.hand r ∙ c.play_written.ensures.leaves.hand r;
-      left = omega (arith, owed_fits c.play_written.new.session.state wide, c.play_written.ensures.leaves.left, c.quit.ensures.leaves.left);
-      draws = omega (arith, c.play_written.ensures.leaves.draws, c.quit.ensures.leaves.draws);
-      name = c.quit.ensures.leaves.name ∙ c.play_written.ensures.leaves.name;
-      room = omega (arith, settling_fits c.play_written.new.session.state wide, c.play_written.ensures.leaves.room, c.quit.ensures.leaves.room);
+      hand = λ r. c.quit.ensures.leaves.hand r ∙ c.in-Ok.ensures.leaves.hand r;
+      left = omega (arith, owed_fits c.play_written.new.session.state wide, c.in-Ok.ensures.leaves.left, c.quit.ensures.leaves.left);
+      draws = omega (arith, c.in-Ok.ensures.leaves.draws, c.quit.ensures.leaves.draws);
+      name = c.quit.ensures.leaves.name ∙ c.in-Ok.ensures.leaves.name;
+      room = omega (arith, settling_fits c.play_written.new.session.state wide, c.in-Ok.ensures.leaves.room, c.quit.ensures.leaves.room);
     }

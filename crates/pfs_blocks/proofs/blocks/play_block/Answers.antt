@@ -60,25 +60,25 @@ play_to_end-requires-clause-room g c =
     omega (arith, m, c.connect_by.ensures.leaves.room, c.requires.room)
 
 pub pause-requires-clause-alone : goal.pause-requires-clause-alone
-pause-requires-clause-alone g c = λ r some. c.play_to_end.ensures.leaves.hand r ∙ (c.connect_by.ensures.leaves.hand r ∙ c.requires.idle r)
+pause-requires-clause-alone g c = λ r some. c.in-Ok.ensures.leaves.hand r ∙ (c.connect_by.ensures.leaves.hand r ∙ c.requires.idle r)
 
 pub pause-requires-clause-spare : goal.pause-requires-clause-spare
 pause-requires-clause-spare g c =
     let n = ap (λ (l : List BlockLine). length (written_out l)) c.as_slice.ensures in
     let k = ap (λ (l : List BlockLine). actions_on (written_out l)) c.as_slice.ensures in
-    omega (arith, n, k, owed_fits c.play_to_end.new.session.state c.play_to_end.ensures.wide, c.connect_by.ensures.leaves.left, c.play_to_end.ensures.leaves.left, c.requires.spare)
+    omega (arith, n, k, owed_fits c.play_to_end.new.session.state c.in-Ok.ensures.wide, c.connect_by.ensures.leaves.left, c.in-Ok.ensures.leaves.left, c.requires.spare)
 
 pub pause-requires-clause-room : goal.pause-requires-clause-room
 pause-requires-clause-room g c =
     let m = ap (λ (l : List BlockLine). cost_on (written_out l)) c.as_slice.ensures in
-    omega (arith, m, settling_fits c.play_to_end.new.session.state c.play_to_end.ensures.wide, c.connect_by.ensures.leaves.room, c.play_to_end.ensures.leaves.room, c.requires.room)
+    omega (arith, m, settling_fits c.play_to_end.new.session.state c.in-Ok.ensures.wide, c.connect_by.ensures.leaves.room, c.in-Ok.ensures.leaves.room, c.requires.room)
 
-pub returns-clause-did : goal.returns-clause-did
-returns-clause-did g c few =
+pub returns-in-Ok-clause-did : goal.returns-in-Ok-clause-did
+returns-in-Ok-clause-did g c few =
     let old = c.args.session in
     let one = c.connect_by.new.session in
     let two = c.play_to_end.new.session in
-    let p = c.play_to_end.ensures.did in
+    let p = c.in-Ok.ensures.did in
     let admin : Administration = c.args.admin.now in
     let number : ℕ = c.args.session.state.number in
     let numbers : c.connect_by.new.session.state.number ≡ c.args.session.state.number = ap (λ (s : State). s.number) c.connect_by.ensures.rest in
@@ -96,53 +96,53 @@ returns-clause-did g c few =
           ∙ ap (λ n. ended_by (admin_after (connected_by admin number c.args.block.now.connect) (written_out c.args.block.now.lines)) n p.over) numbers));
     }
 
-pub returns-clause-kinds : goal.returns-clause-kinds
-returns-clause-kinds g c =
+pub returns-in-Ok-clause-kinds : goal.returns-in-Ok-clause-kinds
+returns-in-Ok-clause-kinds g c =
     ap (λ (s : State). kinds_at s) c.pause.ensures.state
-    ∙ (c.play_to_end.ensures.kinds ∙ (ap (λ (l : List BlockLine). kinds_after (kinds_at c.connect_by.new.session.state) (written_out l)) c.as_slice.ensures ∙ ap (λ (k : List EventKind). kinds_after k (written_out c.args.block.now.lines)) (ap (λ (s : State). kinds_at s) c.connect_by.ensures.rest)))
+    ∙ (c.in-Ok.ensures.kinds ∙ (ap (λ (l : List BlockLine). kinds_after (kinds_at c.connect_by.new.session.state) (written_out l)) c.as_slice.ensures ∙ ap (λ (k : List EventKind). kinds_after k (written_out c.args.block.now.lines)) (ap (λ (s : State). kinds_at s) c.connect_by.ensures.rest)))
 
-pub returns-clause-lie : goal.returns-clause-lie
-returns-clause-lie g c = subst StagesLie (sym (ap (λ (s : State). kinds_at s) c.pause.ensures.state)) c.play_to_end.ensures.lie
+pub returns-in-Ok-clause-lie : goal.returns-in-Ok-clause-lie
+returns-in-Ok-clause-lie g c = subst StagesLie (sym (ap (λ (s : State). kinds_at s) c.pause.ensures.state)) c.in-Ok.ensures.lie
 
-pub returns-clause-free : goal.returns-clause-free
-returns-clause-free g c = ap (λ (s : State). s.held) c.pause.ensures.state
+pub returns-in-Ok-clause-free : goal.returns-in-Ok-clause-free
+returns-in-Ok-clause-free g c = ap (λ (s : State). s.held) c.pause.ensures.state
 
-pub returns-clause-drawn : goal.returns-clause-drawn
-returns-clause-drawn g c =
+pub returns-in-Ok-clause-drawn : goal.returns-in-Ok-clause-drawn
+returns-in-Ok-clause-drawn g c =
     let e = ap (λ (s : State). s.drawn) c.pause.ensures.state in
     let f = ap (λ (s : State). s.drawn) c.connect_by.ensures.rest in
     let n = ap (λ (l : List BlockLine). length (written_out l)) c.as_slice.ensures in
-    omega (arith, e, f, n, c.play_to_end.ensures.drawn)
+    omega (arith, e, f, n, c.in-Ok.ensures.drawn)
 
-pub returns-clause-number : goal.returns-clause-number
-returns-clause-number g c = ap (λ (s : State). s.number) c.pause.ensures.state ∙ (c.play_to_end.ensures.number ∙ ap (λ (s : State). s.number) c.connect_by.ensures.rest)
+pub returns-in-Ok-clause-number : goal.returns-in-Ok-clause-number
+returns-in-Ok-clause-number g c = ap (λ (s : State). s.number) c.pause.ensures.state ∙ (c.in-Ok.ensures.number ∙ ap (λ (s : State). s.number) c.connect_by.ensures.rest)
 
-pub returns-clause-depth : goal.returns-clause-depth
-returns-clause-depth g c = ap (λ (s : State). s.opened.depth) c.pause.ensures.state ∙ (c.play_to_end.ensures.depth ∙ ap (λ (s : State). s.opened.depth) c.connect_by.ensures.rest)
+pub returns-in-Ok-clause-depth : goal.returns-in-Ok-clause-depth
+returns-in-Ok-clause-depth g c = ap (λ (s : State). s.opened.depth) c.pause.ensures.state ∙ (c.in-Ok.ensures.depth ∙ ap (λ (s : State). s.opened.depth) c.connect_by.ensures.rest)
 
-pub returns-clause-actions : goal.returns-clause-actions
-returns-clause-actions g c =
+pub returns-in-Ok-clause-actions : goal.returns-in-Ok-clause-actions
+returns-in-Ok-clause-actions g c =
     let e = ap (λ (s : State). s.actions) c.pause.ensures.state in
     let k = ap (λ (l : List BlockLine). actions_on (written_out l)) c.as_slice.ensures in
-    omega (arith, e, k, c.connect_by.ensures.actions, c.play_to_end.ensures.actions)
+    omega (arith, e, k, c.connect_by.ensures.actions, c.in-Ok.ensures.actions)
 
-pub returns-clause-counted : goal.returns-clause-counted
-returns-clause-counted g c =
+pub returns-in-Ok-clause-counted : goal.returns-in-Ok-clause-counted
+returns-in-Ok-clause-counted g c =
     let k = ap (λ (l : List BlockLine). actions_on (written_out l)) c.as_slice.ensures in
-    omega (arith, k, c.connect_by.ensures.counted, c.play_to_end.ensures.counted)
+    omega (arith, k, c.connect_by.ensures.counted, c.in-Ok.ensures.counted)
 
-pub returns-clause-leaves : goal.returns-clause-leaves
-returns-clause-leaves g c =
+pub returns-in-Ok-clause-leaves : goal.returns-in-Ok-clause-leaves
+returns-in-Ok-clause-leaves g c =
     let n = ap (λ (l : List BlockLine). length (written_out l)) c.as_slice.ensures in
     let m = ap (λ (l : List BlockLine). cost_on (written_out l)) c.as_slice.ensures in
     let k = ap (λ (l : List BlockLine). actions_on (written_out l)) c.as_slice.ensures in
     record {
-      hand = λ r. c.pause.ensures.leaves.hand r ∙ (c.play_to_end.ensures.leaves.hand r ∙ c.connect_by.ensures.leaves.hand r);
-      left = omega (arith, n, k, owed_fits c.play_to_end.new.session.state c.play_to_end.ensures.wide, c.connect_by.ensures.leaves.left, c.play_to_end.ensures.leaves.left, c.pause.ensures.leaves.left);
-      draws = omega (arith, n, c.connect_by.ensures.leaves.draws, c.play_to_end.ensures.leaves.draws, c.pause.ensures.leaves.draws);
-      name = c.pause.ensures.leaves.name ∙ (c.play_to_end.ensures.leaves.name ∙ c.connect_by.ensures.leaves.name);
-      room = omega (arith, m, settling_fits c.play_to_end.new.session.state c.play_to_end.ensures.wide, c.connect_by.ensures.leaves.room, c.play_to_end.ensures.leaves.room, c.pause.ensures.leaves.room);
+      hand = λ r. c.pause.ensures.leaves.hand r ∙ (c.in-Ok.ensures.leaves.hand r ∙ c.connect_by.ensures.leaves.hand r);
+      left = omega (arith, n, k, owed_fits c.play_to_end.new.session.state c.in-Ok.ensures.wide, c.connect_by.ensures.leaves.left, c.in-Ok.ensures.leaves.left, c.pause.ensures.leaves.left);
+      draws = omega (arith, n, c.connect_by.ensures.leaves.draws, c.in-Ok.ensures.leaves.draws, c.pause.ensures.leaves.draws);
+      name = c.pause.ensures.leaves.name ∙ (c.in-Ok.ensures.leaves.name ∙ c.connect_by.ensures.leaves.name);
+      room = omega (arith, m, settling_fits c.play_to_end.new.session.state c.in-Ok.ensures.wide, c.connect_by.ensures.leaves.room, c.in-Ok.ensures.leaves.room, c.pause.ensures.leaves.room);
     }
 
-pub returns-clause-lent : goal.returns-clause-lent
-returns-clause-lent g c = c.pause.ensures.words ∙ c.play_to_end.ensures.lent
+pub returns-in-Ok-clause-lent : goal.returns-in-Ok-clause-lent
+returns-in-Ok-clause-lent g c = c.pause.ensures.words ∙ c.in-Ok.ensures.lent

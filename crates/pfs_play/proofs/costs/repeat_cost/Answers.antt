@@ -15,24 +15,24 @@ rounds_cost-requires-in-None c =
     let w = ap length (open_cost c.args.times c.args.lines.now (sym c.done_in.ensures ∙ c.in-None.is)) in
     record { short = omega (arith, w, c.requires.short) }
 
-pub returns-in-Some-clause-cost : goal.returns-in-Some-clause-cost
-returns-in-Some-clause-cost c =
+pub returns-in-Ok-clause-cost : goal.returns-in-Ok-clause-cost
+returns-in-Ok-clause-cost c =
     let r = round_cost c.args.times c.in-Some.end c.args.lines.now (sym c.done_in.ensures ∙ c.in-Some.is) in
-    r.cost ∙ ap (λ n. n + cost_on (written_out (drop (c.in-Some.end + 1) c.args.lines.now))) (sym c.rounds_cost.ensures)
+    r.cost ∙ ap (λ n. n + cost_on (written_out (drop (c.in-Some.end + 1) c.args.lines.now))) (sym c.in-Ok.ensures)
 
-pub returns-in-Some-clause-shorter : goal.returns-in-Some-clause-shorter
-returns-in-Some-clause-shorter c =
+pub returns-in-Ok-clause-shorter : goal.returns-in-Ok-clause-shorter
+returns-in-Ok-clause-shorter c =
     let r = round_cost c.args.times c.in-Some.end c.args.lines.now (sym c.done_in.ensures ∙ c.in-Some.is) in
     omega (arith, r.lengths)
 
-pub returns-in-None-clause-cost : goal.returns-in-None-clause-cost
-returns-in-None-clause-cost c =
+pub returns-in-Ok-rounds_cost-clause-cost : goal.returns-in-Ok-rounds_cost-clause-cost
+returns-in-Ok-rounds_cost-clause-cost c =
     let w = ap cost_on (open_cost c.args.times c.args.lines.now (sym c.done_in.ensures ∙ c.in-None.is)) in
     let none = ap cost_on (nothing_behind c.args.lines.now) in
-    let its = c.rounds_cost-in-None.ensures in
+    let its = c.in-Ok-rounds_cost.ensures in
     omega (arith, w, none, its)
 
-pub returns-in-None-clause-shorter : goal.returns-in-None-clause-shorter
-returns-in-None-clause-shorter c =
+pub returns-in-Ok-rounds_cost-clause-shorter : goal.returns-in-Ok-rounds_cost-clause-shorter
+returns-in-Ok-rounds_cost-clause-shorter c =
     let none = ap length (nothing_behind c.args.lines.now) in
     omega (arith, none)

@@ -12,4 +12,4 @@ pub overflow_add-entries : goal.overflow_add-entries
 overflow_add-entries c =
     let some : 0 < c.args.times = omega (arith, c.if-times-eq0.false) in
     let most = few_each c.args.times (length c.args.body.now) some c.requires.short in
-    omega (arith, most, c.loop-line.invariant.few, c.loop-line-test.true, c.line_cost-entries.ensures.few)
+    omega (arith, most, c.loop-line.invariant.few, c.loop-line-test.true, c.in-Ok.ensures.few)

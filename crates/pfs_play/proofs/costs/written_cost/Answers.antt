@@ -11,15 +11,15 @@ pub overflow_add-entries : goal.overflow_add-entries
 overflow_add-entries c =
     let lines : List BlockLine = c.args.lines.now in
     let here = ap (λ (l : List BlockLine). cost_on (written_out l)) (to_the_end c.loop-at.at lines) in
-    omega (arith, here, c.loop-at.invariant.cost, c.next_cost-next.ensures.cost, costs_few (written_out lines), once_each (written_out lines), c.requires.short)
+    omega (arith, here, c.loop-at.invariant.cost, c.in-Ok.ensures.cost, costs_few (written_out lines), once_each (written_out lines), c.requires.short)
 
 pub loop-at-preserved : goal.loop-at-preserved
 loop-at-preserved c =
     let lines : List BlockLine = c.args.lines.now in
     let at : ℕ = c.loop-at.at in
-    let n : ℕ = c.next_cost-next.result.lines in
+    let n : ℕ = c.in-Ok.next.lines in
     let before = c.loop-at.invariant in
-    let now = c.next_cost-next.ensures in
+    let now = c.in-Ok.ensures in
     let here : take (length lines - at) (drop at lines) ≡ drop at lines = to_the_end at lines in
     let there : drop n (take (length lines - at) (drop at lines)) ≡ drop (at + n) lines = ap (λ (l : List BlockLine). drop n l) here ∙ drop_both at n lines in
     let cost_here = ap (λ (l : List BlockLine). cost_on (written_out l)) here in

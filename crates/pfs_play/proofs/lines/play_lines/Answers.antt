@@ -55,7 +55,7 @@ play-requires-clause-may g c =
     let split = splits c.args.lines.now i line c.loop-line-test.true c.line-item.is in
     let can : CanPlay 62 c.loop-line.session.state.opened.depth (kinds_at c.loop-line.session.state) (line ∷ drop (i + 1) c.args.lines.now) =
     subst (CanPlay 62 c.loop-line.session.state.opened.depth (kinds_at c.loop-line.session.state)) split c.loop-line.invariant.can in
-    subst (λ (errand : Errand). MayRun errand c.loop-line.session.state.opened) (sym c.errand_of.ensures.asks) (may_run c.loop-line.session.state.opened line c.loop-line.invariant.lie can.0)
+    subst (λ (errand : Errand). MayRun errand c.loop-line.session.state.opened) (sym c.in-Ok.ensures.asks) (may_run c.loop-line.session.state.opened line c.loop-line.invariant.lie can.0)
 
 pub play-requires-clause-rare : goal.play-requires-clause-rare
 play-requires-clause-rare g c =
@@ -63,8 +63,8 @@ play-requires-clause-rare g c =
     let i = c.loop-line.line-index in
     let lines = c.args.lines.now in
     let split = splits lines i line c.loop-line-test.true c.line-item.is in
-    let acts = ap actions_of c.errand_of.ensures.asks in
-    let cost = ap cost_of c.errand_of.ensures.asks in
+    let acts = ap actions_of c.in-Ok.ensures.asks in
+    let cost = ap cost_of c.in-Ok.ensures.asks in
     let left_acts : actions_on (drop i lines) ≡ actions_of (errand_on line) + actions_on (drop (i + 1) lines) = ap actions_on split in
     let left_cost : cost_on (drop i lines) ≡ cost_of (errand_on line) + cost_on (drop (i + 1) lines) = ap cost_on split in
     omega (arith, acts, left_acts, c.loop-line.invariant.actions, c.requires.rare)
@@ -75,8 +75,8 @@ play-requires-clause-few g c =
     let i = c.loop-line.line-index in
     let lines = c.args.lines.now in
     let split = splits lines i line c.loop-line-test.true c.line-item.is in
-    let acts = ap actions_of c.errand_of.ensures.asks in
-    let cost = ap cost_of c.errand_of.ensures.asks in
+    let acts = ap actions_of c.in-Ok.ensures.asks in
+    let cost = ap cost_of c.in-Ok.ensures.asks in
     let left_acts : actions_on (drop i lines) ≡ actions_of (errand_on line) + actions_on (drop (i + 1) lines) = ap actions_on split in
     let left_cost : cost_on (drop i lines) ≡ cost_of (errand_on line) + cost_on (drop (i + 1) lines) = ap cost_on split in
     omega (arith, acts, left_acts, c.loop-line.invariant.counted, c.requires.few)
@@ -90,8 +90,8 @@ play-requires-clause-spare g c =
     let i = c.loop-line.line-index in
     let lines = c.args.lines.now in
     let split = splits lines i line c.loop-line-test.true c.line-item.is in
-    let acts = ap actions_of c.errand_of.ensures.asks in
-    let cost = ap cost_of c.errand_of.ensures.asks in
+    let acts = ap actions_of c.in-Ok.ensures.asks in
+    let cost = ap cost_of c.in-Ok.ensures.asks in
     let left_acts : actions_on (drop i lines) ≡ actions_of (errand_on line) + actions_on (drop (i + 1) lines) = ap actions_on split in
     let left_cost : cost_on (drop i lines) ≡ cost_of (errand_on line) + cost_on (drop (i + 1) lines) = ap cost_on split in
     omega (arith, acts, left_acts, c.loop-line.invariant.left, c.loop-line-test.true, c.requires.spare)
@@ -102,8 +102,8 @@ play-requires-clause-room g c =
     let i = c.loop-line.line-index in
     let lines = c.args.lines.now in
     let split = splits lines i line c.loop-line-test.true c.line-item.is in
-    let acts = ap actions_of c.errand_of.ensures.asks in
-    let cost = ap cost_of c.errand_of.ensures.asks in
+    let acts = ap actions_of c.in-Ok.ensures.asks in
+    let cost = ap cost_of c.in-Ok.ensures.asks in
     let left_acts : actions_on (drop i lines) ≡ actions_of (errand_on line) + actions_on (drop (i + 1) lines) = ap actions_on split in
     let left_cost : cost_on (drop i lines) ≡ cost_of (errand_on line) + cost_on (drop (i + 1) lines) = ap cost_on split in
     omega (arith, cost, left_cost, c.loop-line.invariant.room, c.requires.room)
@@ -122,17 +122,17 @@ loop-line-preserved g c =
     let front = fronts lines i line c.loop-line-test.true c.line-item.is in
     let can : CanPlay 62 at.state.opened.depth (kinds_at at.state) (line ∷ drop (i + 1) lines) = subst (CanPlay 62 at.state.opened.depth (kinds_at at.state)) split before.can in
     let run_here : HasActed (deed_of c.loop-line.admin (errand_on line)) at new (g.A.Rows.reached c.loop-line.rows) (g.A.Rows.reached c.play.new.rows) =
-    subst (λ (errand : Errand). HasActed (deed_of c.loop-line.admin errand) at new (g.A.Rows.reached c.loop-line.rows) (g.A.Rows.reached c.play.new.rows)) c.errand_of.ensures.asks now.run in
+    subst (λ (errand : Errand). HasActed (deed_of c.loop-line.admin errand) at new (g.A.Rows.reached c.loop-line.rows) (g.A.Rows.reached c.play.new.rows)) c.in-Ok.ensures.asks now.run in
     let run : HasActed (deed_of (admin_after admin (take i lines)) (errand_on line)) at new (g.A.Rows.reached c.loop-line.rows) (g.A.Rows.reached c.play.new.rows) =
     subst (λ (a : Administration). HasActed (deed_of a (errand_on line)) at new (g.A.Rows.reached c.loop-line.rows) (g.A.Rows.reached c.play.new.rows)) before.admin run_here in
     let kinds : kinds_at new.state ≡ kinds_behind (mark_of line) (kinds_at at.state) = run_kinds c.loop-line.admin line at new (g.A.Rows.reached c.loop-line.rows) (g.A.Rows.reached c.play.new.rows) run_here in
-    let acts : actions_of c.errand_of.result ≡ actions_of (errand_on line) = ap actions_of c.errand_of.ensures.asks in
-    let cost : cost_of c.errand_of.result ≡ cost_of (errand_on line) = ap cost_of c.errand_of.ensures.asks in
+    let acts : actions_of c.in-Ok.errand ≡ actions_of (errand_on line) = ap actions_of c.in-Ok.ensures.asks in
+    let cost : cost_of c.in-Ok.errand ≡ cost_of (errand_on line) = ap cost_of c.in-Ok.ensures.asks in
     let left_acts : actions_on (drop i lines) ≡ actions_of (errand_on line) + actions_on (drop (i + 1) lines) = ap actions_on split in
     let left_cost : cost_on (drop i lines) ≡ cost_of (errand_on line) + cost_on (drop (i + 1) lines) = ap cost_on split in
     let behind : c.play.new.admin ≡ admin_behind (admin_after admin (take i lines)) (errand_on line) =
-    now.admin ∙ (ap (admin_behind c.loop-line.admin) c.errand_of.ensures.asks ∙ ap (λ (a : Administration). admin_behind a (errand_on line)) before.admin) in
-    let stepped : c.play.new.admin.actions ≡ c.loop-line.admin.actions + actions_of c.errand_of.result = ap (λ (a : Administration). a.actions) now.admin ∙ one_counted c.loop-line.admin c.errand_of.result in
+    now.admin ∙ (ap (admin_behind c.loop-line.admin) c.in-Ok.ensures.asks ∙ ap (λ (a : Administration). admin_behind a (errand_on line)) before.admin) in
+    let stepped : c.play.new.admin.actions ≡ c.loop-line.admin.actions + actions_of c.in-Ok.errand = ap (λ (a : Administration). a.actions) now.admin ∙ one_counted c.loop-line.admin c.in-Ok.errand in
     record {
       played = subst (λ (z : List BlockLine). HavePlayed z admin c.args.session.now new (g.A.Rows.reached c.args.rows.now) (g.A.Rows.reached c.play.new.rows)) (sym front)
           (played_more (take i lines) line admin c.args.session.now at new (g.A.Rows.reached c.args.rows.now) (g.A.Rows.reached c.loop-line.rows) (g.A.Rows.reached c.play.new.rows) can.0.quits before.played run);

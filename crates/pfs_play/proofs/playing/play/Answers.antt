@@ -5,7 +5,7 @@ use Rattle.pfs_session.specs.States.{State}
 use Rattle.pfs_play.specs.declared.errands.Errand.{Errand}
 use Rattle.pfs_play.specs.declared.errands.Errand.TheVariants as ask
 use Rattle.pfs_play.specs.Errands.{deed_of}
-use Rattle.pfs_play.proofs.Running.{ran, stage_ran, spend_ran, stage_depth}
+use Rattle.pfs_play.proofs.Running.{ran, refuse_ran, stage_ran, spend_ran, stage_depth}
 use Rattle.pfs_play.proofs.Width.{acted_wide, none_wide}
 use Rattle.pfs_play.proofs.playing.play.Goals as goal
 
@@ -47,3 +47,16 @@ returns-in-Truncate-clause-run g c =
 
 pub returns-in-Truncate-clause-wide : goal.returns-in-Truncate-clause-wide
 returns-in-Truncate-clause-wide g c = ap (λ (s : State). length s.held) c.truncate_table.ensures.rest ∙ none_wide
+
+pub returns-in-Change-clause-run : goal.returns-in-Change-clause-run
+returns-in-Change-clause-run g c =
+    subst (λ (errand : Errand). HasActed (deed_of c.args.admin.now errand) c.args.session.now c.change_table.new.session (g.A.Rows.reached c.args.rows.now) (g.A.Rows.reached c.change_table.new.rows)) (sym c.in-Change.is)
+    c.change_table.ensures.run
+
+pub returns-in-Change-clause-wide : goal.returns-in-Change-clause-wide
+returns-in-Change-clause-wide g c = ap (λ (s : State). length s.held) c.change_table.ensures.rest ∙ none_wide
+
+pub returns-in-Refuse-clause-run : goal.returns-in-Refuse-clause-run
+returns-in-Refuse-clause-run g c =
+    subst (λ (errand : Errand). HasActed (deed_of c.args.admin.now errand) c.args.session.now c.append.new.self (g.A.Rows.reached c.args.rows.now) (g.A.Rows.reached c.args.rows.now)) (sym c.in-Refuse.is)
+    (refuse_ran c.in-Refuse.error c.args.session.now c.append.new.self (g.A.Rows.reached c.args.rows.now) c.append.ensures.does c.append.ensures.entries)

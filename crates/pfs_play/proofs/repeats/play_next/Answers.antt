@@ -59,77 +59,77 @@ play_lines-requires-clause-room g c =
     let p = played 62 c.args.session.now.state.opened.depth (kinds_at c.args.session.now.state) c.args.lines.now c.in-Some.first.now c.in-Some.others.now c.in-Some.ensures.cases.0 (sym c.times_of.ensures ∙ c.in-None.is) c.requires.may in
     omega (arith, p.costs, c.requires.room)
 
-pub returns-in-Some-times_of-clause-gone : goal.returns-in-Some-times_of-clause-gone
-returns-in-Some-times_of-clause-gone g c =
+pub returns-in-Ok-clause-gone : goal.returns-in-Ok-clause-gone
+returns-in-Ok-clause-gone g c =
     let b = begun 62 c.args.session.now.state.opened.depth (kinds_at c.args.session.now.state) c.in-Some-times_of.times c.args.lines.now c.in-Some.first.now c.in-Some.others.now c.in-Some.ensures.cases.0 (sym c.times_of.ensures ∙ c.in-Some-times_of.is) c.requires.may in
-    let gone = c.play_repeat.ensures.gone in
+    let gone = c.in-Ok.ensures.gone in
     record {
       first = gone.first;
-      are = b.written ∙ (gone.are ∙ ap (λ (l : List BlockLine). gone.first ++ written_out l) (sym (b.behind c.play_repeat.result)));
+      are = b.written ∙ (gone.are ∙ ap (λ (l : List BlockLine). gone.first ++ written_out l) (sym (b.behind c.in-Ok.taken)));
       played = gone.played;
       after_is = gone.after_is;
     }
 
-pub returns-in-Some-times_of-clause-kinds : goal.returns-in-Some-times_of-clause-kinds
-returns-in-Some-times_of-clause-kinds g c =
+pub returns-in-Ok-clause-kinds : goal.returns-in-Ok-clause-kinds
+returns-in-Ok-clause-kinds g c =
     let b = begun 62 c.args.session.now.state.opened.depth (kinds_at c.args.session.now.state) c.in-Some-times_of.times c.args.lines.now c.in-Some.first.now c.in-Some.others.now c.in-Some.ensures.cases.0 (sym c.times_of.ensures ∙ c.in-Some-times_of.is) c.requires.may in
-    ap (λ (l : List BlockLine). kinds_after (kinds_at c.play_repeat.new.session.state) (written_out l)) (b.behind c.play_repeat.result)
-    ∙ (c.play_repeat.ensures.kinds ∙ ap (kinds_after (kinds_at c.args.session.now.state)) (sym b.written))
+    ap (λ (l : List BlockLine). kinds_after (kinds_at c.play_repeat.new.session.state) (written_out l)) (b.behind c.in-Ok.taken)
+    ∙ (c.in-Ok.ensures.kinds ∙ ap (kinds_after (kinds_at c.args.session.now.state)) (sym b.written))
 
-pub returns-in-Some-times_of-clause-drawn : goal.returns-in-Some-times_of-clause-drawn
-returns-in-Some-times_of-clause-drawn g c =
+pub returns-in-Ok-clause-drawn : goal.returns-in-Ok-clause-drawn
+returns-in-Ok-clause-drawn g c =
     let b = begun 62 c.args.session.now.state.opened.depth (kinds_at c.args.session.now.state) c.in-Some-times_of.times c.args.lines.now c.in-Some.first.now c.in-Some.others.now c.in-Some.ensures.cases.0 (sym c.times_of.ensures ∙ c.in-Some-times_of.is) c.requires.may in
     let w = ap length b.written in
-    let n = ap (λ (l : List BlockLine). length (written_out l)) (b.behind c.play_repeat.result) in
-    omega (arith, w, n, c.play_repeat.ensures.drawn)
+    let n = ap (λ (l : List BlockLine). length (written_out l)) (b.behind c.in-Ok.taken) in
+    omega (arith, w, n, c.in-Ok.ensures.drawn)
 
-pub returns-in-Some-times_of-clause-leaves : goal.returns-in-Some-times_of-clause-leaves
-returns-in-Some-times_of-clause-leaves g c =
+pub returns-in-Ok-clause-leaves : goal.returns-in-Ok-clause-leaves
+returns-in-Ok-clause-leaves g c =
     let b = begun 62 c.args.session.now.state.opened.depth (kinds_at c.args.session.now.state) c.in-Some-times_of.times c.args.lines.now c.in-Some.first.now c.in-Some.others.now c.in-Some.ensures.cases.0 (sym c.times_of.ensures ∙ c.in-Some-times_of.is) c.requires.may in
     let w = ap length b.written in
-    let n = ap (λ (l : List BlockLine). length (written_out l)) (b.behind c.play_repeat.result) in
+    let n = ap (λ (l : List BlockLine). length (written_out l)) (b.behind c.in-Ok.taken) in
     let v = ap cost_on b.written in
-    let m = ap (λ (l : List BlockLine). cost_on (written_out l)) (b.behind c.play_repeat.result) in
+    let m = ap (λ (l : List BlockLine). cost_on (written_out l)) (b.behind c.in-Ok.taken) in
     let k = ap actions_on b.written in
-    let z = ap (λ (l : List BlockLine). actions_on (written_out l)) (b.behind c.play_repeat.result) in
+    let z = ap (λ (l : List BlockLine). actions_on (written_out l)) (b.behind c.in-Ok.taken) in
     record {
-      hand = c.play_repeat.ensures.leaves.hand;
-      left = omega (arith, w, n, k, z, c.play_repeat.ensures.leaves.left);
-      draws = omega (arith, w, n, c.play_repeat.ensures.leaves.draws);
-      name = c.play_repeat.ensures.leaves.name;
-      room = omega (arith, v, m, c.play_repeat.ensures.leaves.room);
+      hand = c.in-Ok.ensures.leaves.hand;
+      left = omega (arith, w, n, k, z, c.in-Ok.ensures.leaves.left);
+      draws = omega (arith, w, n, c.in-Ok.ensures.leaves.draws);
+      name = c.in-Ok.ensures.leaves.name;
+      room = omega (arith, v, m, c.in-Ok.ensures.leaves.room);
     }
 
-pub returns-in-None-clause-gone : goal.returns-in-None-clause-gone
-returns-in-None-clause-gone g c =
+pub returns-in-Ok-play_lines-clause-gone : goal.returns-in-Ok-play_lines-clause-gone
+returns-in-Ok-play_lines-clause-gone g c =
     let p = played 62 c.args.session.now.state.opened.depth (kinds_at c.args.session.now.state) c.args.lines.now c.in-Some.first.now c.in-Some.others.now c.in-Some.ensures.cases.0 (sym c.times_of.ensures ∙ c.in-None.is) c.requires.may in
-    record { first = take 1 c.args.lines.now; are = p.written; played = c.play_lines.ensures.played; after_is = c.play_lines.ensures.admin }
+    record { first = take 1 c.args.lines.now; are = p.written; played = c.in-Ok-play_lines.ensures.played; after_is = c.in-Ok-play_lines.ensures.admin }
 
-pub returns-in-None-clause-may : goal.returns-in-None-clause-may
-returns-in-None-clause-may g c =
+pub returns-in-Ok-play_lines-clause-may : goal.returns-in-Ok-play_lines-clause-may
+returns-in-Ok-play_lines-clause-may g c =
     let p = played 62 c.args.session.now.state.opened.depth (kinds_at c.args.session.now.state) c.args.lines.now c.in-Some.first.now c.in-Some.others.now c.in-Some.ensures.cases.0 (sym c.times_of.ensures ∙ c.in-None.is) c.requires.may in
-    subst (λ (k : List EventKind). AllMayPlay 62 c.args.session.now.state.opened.depth k None (drop 1 c.args.lines.now)) (sym c.play_lines.ensures.kinds) p.others
+    subst (λ (k : List EventKind). AllMayPlay 62 c.args.session.now.state.opened.depth k None (drop 1 c.args.lines.now)) (sym c.in-Ok-play_lines.ensures.kinds) p.others
 
-pub returns-in-None-clause-kinds : goal.returns-in-None-clause-kinds
-returns-in-None-clause-kinds g c =
+pub returns-in-Ok-play_lines-clause-kinds : goal.returns-in-Ok-play_lines-clause-kinds
+returns-in-Ok-play_lines-clause-kinds g c =
     let p = played 62 c.args.session.now.state.opened.depth (kinds_at c.args.session.now.state) c.args.lines.now c.in-Some.first.now c.in-Some.others.now c.in-Some.ensures.cases.0 (sym c.times_of.ensures ∙ c.in-None.is) c.requires.may in
-    ap (λ (k : List EventKind). kinds_after k (written_out (drop 1 c.args.lines.now))) c.play_lines.ensures.kinds
+    ap (λ (k : List EventKind). kinds_after k (written_out (drop 1 c.args.lines.now))) c.in-Ok-play_lines.ensures.kinds
     ∙ sym (ap (kinds_after (kinds_at c.args.session.now.state)) p.written ∙ kinds_then (kinds_at c.args.session.now.state) (take 1 c.args.lines.now) (written_out (drop 1 c.args.lines.now)))
 
-pub returns-in-None-clause-drawn : goal.returns-in-None-clause-drawn
-returns-in-None-clause-drawn g c =
+pub returns-in-Ok-play_lines-clause-drawn : goal.returns-in-Ok-play_lines-clause-drawn
+returns-in-Ok-play_lines-clause-drawn g c =
     let p = played 62 c.args.session.now.state.opened.depth (kinds_at c.args.session.now.state) c.args.lines.now c.in-Some.first.now c.in-Some.others.now c.in-Some.ensures.cases.0 (sym c.times_of.ensures ∙ c.in-None.is) c.requires.may in
-    omega (arith, p.lengths, c.play_lines.ensures.drawn)
+    omega (arith, p.lengths, c.in-Ok-play_lines.ensures.drawn)
 
-pub returns-in-None-clause-leaves : goal.returns-in-None-clause-leaves
-returns-in-None-clause-leaves g c =
+pub returns-in-Ok-play_lines-clause-leaves : goal.returns-in-Ok-play_lines-clause-leaves
+returns-in-Ok-play_lines-clause-leaves g c =
     let p = played 62 c.args.session.now.state.opened.depth (kinds_at c.args.session.now.state) c.args.lines.now c.in-Some.first.now c.in-Some.others.now c.in-Some.ensures.cases.0 (sym c.times_of.ensures ∙ c.in-None.is) c.requires.may in
     record {
-      hand = c.play_lines.ensures.leaves.hand;
-      left = omega (arith, p.lengths, p.actions, c.play_lines.ensures.leaves.left);
-      draws = omega (arith, p.lengths, c.play_lines.ensures.leaves.draws);
-      name = c.play_lines.ensures.leaves.name;
-      room = omega (arith, p.costs, c.play_lines.ensures.leaves.room);
+      hand = c.in-Ok-play_lines.ensures.leaves.hand;
+      left = omega (arith, p.lengths, p.actions, c.in-Ok-play_lines.ensures.leaves.left);
+      draws = omega (arith, p.lengths, c.in-Ok-play_lines.ensures.leaves.draws);
+      name = c.in-Ok-play_lines.ensures.leaves.name;
+      room = omega (arith, p.costs, c.in-Ok-play_lines.ensures.leaves.room);
     }
 
 pub play_repeat-requires-clause-rare : goal.play_repeat-requires-clause-rare
@@ -154,37 +154,37 @@ play_lines-requires-clause-few g c =
     let p = played 62 c.args.session.now.state.opened.depth (kinds_at c.args.session.now.state) c.args.lines.now c.in-Some.first.now c.in-Some.others.now c.in-Some.ensures.cases.0 (sym c.times_of.ensures ∙ c.in-None.is) c.requires.may in
     omega (arith, p.actions, c.requires.few)
 
-pub returns-in-Some-times_of-clause-actions : goal.returns-in-Some-times_of-clause-actions
-returns-in-Some-times_of-clause-actions g c =
+pub returns-in-Ok-clause-actions : goal.returns-in-Ok-clause-actions
+returns-in-Ok-clause-actions g c =
     let b = begun 62 c.args.session.now.state.opened.depth (kinds_at c.args.session.now.state) c.in-Some-times_of.times c.args.lines.now c.in-Some.first.now c.in-Some.others.now c.in-Some.ensures.cases.0 (sym c.times_of.ensures ∙ c.in-Some-times_of.is) c.requires.may in
     let k = ap actions_on b.written in
-    let z = ap (λ (l : List BlockLine). actions_on (written_out l)) (b.behind c.play_repeat.result) in
-    omega (arith, k, z, c.play_repeat.ensures.actions)
+    let z = ap (λ (l : List BlockLine). actions_on (written_out l)) (b.behind c.in-Ok.taken) in
+    omega (arith, k, z, c.in-Ok.ensures.actions)
 
-pub returns-in-None-clause-actions : goal.returns-in-None-clause-actions
-returns-in-None-clause-actions g c =
+pub returns-in-Ok-play_lines-clause-actions : goal.returns-in-Ok-play_lines-clause-actions
+returns-in-Ok-play_lines-clause-actions g c =
     let p = played 62 c.args.session.now.state.opened.depth (kinds_at c.args.session.now.state) c.args.lines.now c.in-Some.first.now c.in-Some.others.now c.in-Some.ensures.cases.0 (sym c.times_of.ensures ∙ c.in-None.is) c.requires.may in
-    omega (arith, p.actions, c.play_lines.ensures.actions)
+    omega (arith, p.actions, c.in-Ok-play_lines.ensures.actions)
 
-pub returns-in-Some-times_of-clause-counted : goal.returns-in-Some-times_of-clause-counted
-returns-in-Some-times_of-clause-counted g c =
+pub returns-in-Ok-clause-counted : goal.returns-in-Ok-clause-counted
+returns-in-Ok-clause-counted g c =
     let b = begun 62 c.args.session.now.state.opened.depth (kinds_at c.args.session.now.state) c.in-Some-times_of.times c.args.lines.now c.in-Some.first.now c.in-Some.others.now c.in-Some.ensures.cases.0 (sym c.times_of.ensures ∙ c.in-Some-times_of.is) c.requires.may in
     let k = ap actions_on b.written in
-    let z = ap (λ (l : List BlockLine). actions_on (written_out l)) (b.behind c.play_repeat.result) in
-    omega (arith, k, z, c.play_repeat.ensures.counted)
+    let z = ap (λ (l : List BlockLine). actions_on (written_out l)) (b.behind c.in-Ok.taken) in
+    omega (arith, k, z, c.in-Ok.ensures.counted)
 
-pub returns-in-None-clause-counted : goal.returns-in-None-clause-counted
-returns-in-None-clause-counted g c =
+pub returns-in-Ok-play_lines-clause-counted : goal.returns-in-Ok-play_lines-clause-counted
+returns-in-Ok-play_lines-clause-counted g c =
     let p = played 62 c.args.session.now.state.opened.depth (kinds_at c.args.session.now.state) c.args.lines.now c.in-Some.first.now c.in-Some.others.now c.in-Some.ensures.cases.0 (sym c.times_of.ensures ∙ c.in-None.is) c.requires.may in
-    omega (arith, p.actions, c.play_lines.ensures.counted)
+    omega (arith, p.actions, c.in-Ok-play_lines.ensures.counted)
 
-pub returns-in-Some-times_of-clause-last : goal.returns-in-Some-times_of-clause-last
-returns-in-Some-times_of-clause-last g c free =
+pub returns-in-Ok-clause-last : goal.returns-in-Ok-clause-last
+returns-in-Ok-clause-last g c free =
     let b = begun 62 c.args.session.now.state.opened.depth (kinds_at c.args.session.now.state) c.in-Some-times_of.times c.args.lines.now c.in-Some.first.now c.in-Some.others.now c.in-Some.ensures.cases.0 (sym c.times_of.ensures ∙ c.in-Some-times_of.is) c.requires.may in
     let k = ap actions_on b.written in
-    c.play_repeat.ensures.last (omega (arith, k, free))
+    c.in-Ok.ensures.last (omega (arith, k, free))
 
-pub returns-in-None-clause-last : goal.returns-in-None-clause-last
-returns-in-None-clause-last g c free =
+pub returns-in-Ok-play_lines-clause-last : goal.returns-in-Ok-play_lines-clause-last
+returns-in-Ok-play_lines-clause-last g c free =
     let p = played 62 c.args.session.now.state.opened.depth (kinds_at c.args.session.now.state) c.args.lines.now c.in-Some.first.now c.in-Some.others.now c.in-Some.ensures.cases.0 (sym c.times_of.ensures ∙ c.in-None.is) c.requires.may in
-    c.play_lines.ensures.last (omega (arith, p.actions, free))
+    c.in-Ok-play_lines.ensures.last (omega (arith, p.actions, free))

@@ -59,64 +59,64 @@ play_lines-requires-clause-room g c =
     let w = ap cost_on (written_open c.args.times c.args.lines.now (not_found c.args.lines.now (sym c.done_in.ensures ∙ c.in-None.is))) in
     omega (arith, w, c.requires.room)
 
-pub returns-in-Some-clause-count : goal.returns-in-Some-clause-count
-returns-in-Some-clause-count g c = (rounds_at 62 c.args.session.now.state.opened.depth (kinds_at c.args.session.now.state) c.args.times c.in-Some.end c.args.lines.now (sym c.done_in.ensures ∙ c.in-Some.is) c.requires.may).count
+pub returns-in-Ok-clause-count : goal.returns-in-Ok-clause-count
+returns-in-Ok-clause-count g c = (rounds_at 62 c.args.session.now.state.opened.depth (kinds_at c.args.session.now.state) c.args.times c.in-Some.end c.args.lines.now (sym c.done_in.ensures ∙ c.in-Some.is) c.requires.may).count
 
-pub returns-in-Some-clause-gone : goal.returns-in-Some-clause-gone
-returns-in-Some-clause-gone g c =
+pub returns-in-Ok-clause-gone : goal.returns-in-Ok-clause-gone
+returns-in-Ok-clause-gone g c =
     let r = rounds_at 62 c.args.session.now.state.opened.depth (kinds_at c.args.session.now.state) c.args.times c.in-Some.end c.args.lines.now (sym c.done_in.ensures ∙ c.in-Some.is) c.requires.may in
-    record { first = copies c.args.times (take c.in-Some.end c.args.lines.now); are = r.written; played = c.play_times.ensures.played; after_is = c.play_times.ensures.admin }
+    record { first = copies c.args.times (take c.in-Some.end c.args.lines.now); are = r.written; played = c.in-Ok.ensures.played; after_is = c.in-Ok.ensures.admin }
 
-pub returns-in-Some-clause-may : goal.returns-in-Some-clause-may
-returns-in-Some-clause-may g c =
+pub returns-in-Ok-clause-may : goal.returns-in-Ok-clause-may
+returns-in-Ok-clause-may g c =
     let r = rounds_at 62 c.args.session.now.state.opened.depth (kinds_at c.args.session.now.state) c.args.times c.in-Some.end c.args.lines.now (sym c.done_in.ensures ∙ c.in-Some.is) c.requires.may in
-    subst (λ (k : List EventKind). AllMayPlay 62 c.args.session.now.state.opened.depth k None (drop (c.in-Some.end + 1) c.args.lines.now)) (sym c.play_times.ensures.kinds) r.others
+    subst (λ (k : List EventKind). AllMayPlay 62 c.args.session.now.state.opened.depth k None (drop (c.in-Some.end + 1) c.args.lines.now)) (sym c.in-Ok.ensures.kinds) r.others
 
-pub returns-in-Some-clause-kinds : goal.returns-in-Some-clause-kinds
-returns-in-Some-clause-kinds g c =
+pub returns-in-Ok-clause-kinds : goal.returns-in-Ok-clause-kinds
+returns-in-Ok-clause-kinds g c =
     let r = rounds_at 62 c.args.session.now.state.opened.depth (kinds_at c.args.session.now.state) c.args.times c.in-Some.end c.args.lines.now (sym c.done_in.ensures ∙ c.in-Some.is) c.requires.may in
-    ap (λ (k : List EventKind). kinds_after k (written_out (drop (c.in-Some.end + 1) c.args.lines.now))) c.play_times.ensures.kinds ∙ sym r.kinds_behind_it
+    ap (λ (k : List EventKind). kinds_after k (written_out (drop (c.in-Some.end + 1) c.args.lines.now))) c.in-Ok.ensures.kinds ∙ sym r.kinds_behind_it
 
-pub returns-in-Some-clause-drawn : goal.returns-in-Some-clause-drawn
-returns-in-Some-clause-drawn g c =
+pub returns-in-Ok-clause-drawn : goal.returns-in-Ok-clause-drawn
+returns-in-Ok-clause-drawn g c =
     let r = rounds_at 62 c.args.session.now.state.opened.depth (kinds_at c.args.session.now.state) c.args.times c.in-Some.end c.args.lines.now (sym c.done_in.ensures ∙ c.in-Some.is) c.requires.may in
-    omega (arith, r.lengths, c.play_times.ensures.drawn)
+    omega (arith, r.lengths, c.in-Ok.ensures.drawn)
 
-pub returns-in-Some-clause-leaves : goal.returns-in-Some-clause-leaves
-returns-in-Some-clause-leaves g c =
+pub returns-in-Ok-clause-leaves : goal.returns-in-Ok-clause-leaves
+returns-in-Ok-clause-leaves g c =
     let r = rounds_at 62 c.args.session.now.state.opened.depth (kinds_at c.args.session.now.state) c.args.times c.in-Some.end c.args.lines.now (sym c.done_in.ensures ∙ c.in-Some.is) c.requires.may in
     record {
-      hand = c.play_times.ensures.leaves.hand;
-      left = omega (arith, r.lengths, r.actions, c.play_times.ensures.leaves.left);
-      draws = omega (arith, r.lengths, c.play_times.ensures.leaves.draws);
-      name = c.play_times.ensures.leaves.name;
-      room = omega (arith, r.costs, c.play_times.ensures.leaves.room);
+      hand = c.in-Ok.ensures.leaves.hand;
+      left = omega (arith, r.lengths, r.actions, c.in-Ok.ensures.leaves.left);
+      draws = omega (arith, r.lengths, c.in-Ok.ensures.leaves.draws);
+      name = c.in-Ok.ensures.leaves.name;
+      room = omega (arith, r.costs, c.in-Ok.ensures.leaves.room);
     }
 
-pub returns-in-None-clause-gone : goal.returns-in-None-clause-gone
-returns-in-None-clause-gone g c =
+pub returns-in-Ok-play_lines-clause-gone : goal.returns-in-Ok-play_lines-clause-gone
+returns-in-Ok-play_lines-clause-gone g c =
     let lines : List BlockLine = c.args.lines.now in
     let written : repeated c.args.times lines ≡ lines = written_open c.args.times lines (not_found lines (sym c.done_in.ensures ∙ c.in-None.is)) in
-    record { first = lines; are = written ∙ (sym (append-nil lines) ∙ ap (λ (r : List BlockLine). lines ++ r) (sym (nothing_behind lines))); played = c.play_lines.ensures.played; after_is = c.play_lines.ensures.admin }
+    record { first = lines; are = written ∙ (sym (append-nil lines) ∙ ap (λ (r : List BlockLine). lines ++ r) (sym (nothing_behind lines))); played = c.in-Ok-play_lines.ensures.played; after_is = c.in-Ok-play_lines.ensures.admin }
 
-pub returns-in-None-clause-may : goal.returns-in-None-clause-may
-returns-in-None-clause-may g c = may_behind 62 c.args.session.now.state.opened.depth (kinds_at c.play_lines.new.session.state) c.args.lines.now
+pub returns-in-Ok-play_lines-clause-may : goal.returns-in-Ok-play_lines-clause-may
+returns-in-Ok-play_lines-clause-may g c = may_behind 62 c.args.session.now.state.opened.depth (kinds_at c.play_lines.new.session.state) c.args.lines.now
 
-pub returns-in-None-clause-kinds : goal.returns-in-None-clause-kinds
-returns-in-None-clause-kinds g c =
+pub returns-in-Ok-play_lines-clause-kinds : goal.returns-in-Ok-play_lines-clause-kinds
+returns-in-Ok-play_lines-clause-kinds g c =
     let lines : List BlockLine = c.args.lines.now in
     let written : repeated c.args.times lines ≡ lines = written_open c.args.times lines (not_found lines (sym c.done_in.ensures ∙ c.in-None.is)) in
-    ap (kinds_after (kinds_at c.play_lines.new.session.state)) (nothing_behind lines) ∙ (c.play_lines.ensures.kinds ∙ ap (kinds_after (kinds_at c.args.session.now.state)) (sym written))
+    ap (kinds_after (kinds_at c.play_lines.new.session.state)) (nothing_behind lines) ∙ (c.in-Ok-play_lines.ensures.kinds ∙ ap (kinds_after (kinds_at c.args.session.now.state)) (sym written))
 
-pub returns-in-None-clause-drawn : goal.returns-in-None-clause-drawn
-returns-in-None-clause-drawn g c =
+pub returns-in-Ok-play_lines-clause-drawn : goal.returns-in-Ok-play_lines-clause-drawn
+returns-in-Ok-play_lines-clause-drawn g c =
     let lines : List BlockLine = c.args.lines.now in
     let w = ap length (written_open c.args.times lines (not_found lines (sym c.done_in.ensures ∙ c.in-None.is))) in
     let n = ap length (nothing_behind lines) in
-    omega (arith, w, n, c.play_lines.ensures.drawn)
+    omega (arith, w, n, c.in-Ok-play_lines.ensures.drawn)
 
-pub returns-in-None-clause-leaves : goal.returns-in-None-clause-leaves
-returns-in-None-clause-leaves g c =
+pub returns-in-Ok-play_lines-clause-leaves : goal.returns-in-Ok-play_lines-clause-leaves
+returns-in-Ok-play_lines-clause-leaves g c =
     let lines : List BlockLine = c.args.lines.now in
     let written : repeated c.args.times lines ≡ lines = written_open c.args.times lines (not_found lines (sym c.done_in.ensures ∙ c.in-None.is)) in
     let w = ap length written in
@@ -126,11 +126,11 @@ returns-in-None-clause-leaves g c =
     let k = ap actions_on written in
     let z = ap actions_on (nothing_behind lines) in
     record {
-      hand = c.play_lines.ensures.leaves.hand;
-      left = omega (arith, w, n, k, z, c.play_lines.ensures.leaves.left);
-      draws = omega (arith, w, n, c.play_lines.ensures.leaves.draws);
-      name = c.play_lines.ensures.leaves.name;
-      room = omega (arith, v, m, c.play_lines.ensures.leaves.room);
+      hand = c.in-Ok-play_lines.ensures.leaves.hand;
+      left = omega (arith, w, n, k, z, c.in-Ok-play_lines.ensures.leaves.left);
+      draws = omega (arith, w, n, c.in-Ok-play_lines.ensures.leaves.draws);
+      name = c.in-Ok-play_lines.ensures.leaves.name;
+      room = omega (arith, v, m, c.in-Ok-play_lines.ensures.leaves.room);
     }
 
 pub play_times-requires-clause-rare : goal.play_times-requires-clause-rare
@@ -159,41 +159,41 @@ play_lines-requires-clause-few g c =
     let z = ap actions_on (nothing_behind c.args.lines.now) in
     omega (arith, k, c.requires.few)
 
-pub returns-in-Some-clause-actions : goal.returns-in-Some-clause-actions
-returns-in-Some-clause-actions g c =
+pub returns-in-Ok-clause-actions : goal.returns-in-Ok-clause-actions
+returns-in-Ok-clause-actions g c =
     let r = rounds_at 62 c.args.session.now.state.opened.depth (kinds_at c.args.session.now.state) c.args.times c.in-Some.end c.args.lines.now (sym c.done_in.ensures ∙ c.in-Some.is) c.requires.may in
-    omega (arith, r.actions, c.play_times.ensures.actions)
+    omega (arith, r.actions, c.in-Ok.ensures.actions)
 
-pub returns-in-Some-clause-counted : goal.returns-in-Some-clause-counted
-returns-in-Some-clause-counted g c =
+pub returns-in-Ok-clause-counted : goal.returns-in-Ok-clause-counted
+returns-in-Ok-clause-counted g c =
     let r = rounds_at 62 c.args.session.now.state.opened.depth (kinds_at c.args.session.now.state) c.args.times c.in-Some.end c.args.lines.now (sym c.done_in.ensures ∙ c.in-Some.is) c.requires.may in
-    omega (arith, r.actions, c.play_times.ensures.counted)
+    omega (arith, r.actions, c.in-Ok.ensures.counted)
 
-pub returns-in-None-clause-actions : goal.returns-in-None-clause-actions
-returns-in-None-clause-actions g c =
+pub returns-in-Ok-play_lines-clause-actions : goal.returns-in-Ok-play_lines-clause-actions
+returns-in-Ok-play_lines-clause-actions g c =
     let w = ap length (written_open c.args.times c.args.lines.now (not_found c.args.lines.now (sym c.done_in.ensures ∙ c.in-None.is))) in
     let k = ap actions_on (written_open c.args.times c.args.lines.now (not_found c.args.lines.now (sym c.done_in.ensures ∙ c.in-None.is))) in
     let n = ap length (nothing_behind c.args.lines.now) in
     let z = ap actions_on (nothing_behind c.args.lines.now) in
-    omega (arith, k, z, c.play_lines.ensures.actions)
+    omega (arith, k, z, c.in-Ok-play_lines.ensures.actions)
 
-pub returns-in-None-clause-counted : goal.returns-in-None-clause-counted
-returns-in-None-clause-counted g c =
+pub returns-in-Ok-play_lines-clause-counted : goal.returns-in-Ok-play_lines-clause-counted
+returns-in-Ok-play_lines-clause-counted g c =
     let w = ap length (written_open c.args.times c.args.lines.now (not_found c.args.lines.now (sym c.done_in.ensures ∙ c.in-None.is))) in
     let k = ap actions_on (written_open c.args.times c.args.lines.now (not_found c.args.lines.now (sym c.done_in.ensures ∙ c.in-None.is))) in
     let n = ap length (nothing_behind c.args.lines.now) in
     let z = ap actions_on (nothing_behind c.args.lines.now) in
-    omega (arith, k, z, c.play_lines.ensures.counted)
+    omega (arith, k, z, c.in-Ok-play_lines.ensures.counted)
 
-pub returns-in-Some-clause-last : goal.returns-in-Some-clause-last
-returns-in-Some-clause-last g c free =
+pub returns-in-Ok-clause-last : goal.returns-in-Ok-clause-last
+returns-in-Ok-clause-last g c free =
     let r = rounds_at 62 c.args.session.now.state.opened.depth (kinds_at c.args.session.now.state) c.args.times c.in-Some.end c.args.lines.now (sym c.done_in.ensures ∙ c.in-Some.is) c.requires.may in
-    c.play_times.ensures.last (omega (arith, r.actions, free))
+    c.in-Ok.ensures.last (omega (arith, r.actions, free))
 
-pub returns-in-None-clause-last : goal.returns-in-None-clause-last
-returns-in-None-clause-last g c free =
+pub returns-in-Ok-play_lines-clause-last : goal.returns-in-Ok-play_lines-clause-last
+returns-in-Ok-play_lines-clause-last g c free =
     let w = ap length (written_open c.args.times c.args.lines.now (not_found c.args.lines.now (sym c.done_in.ensures ∙ c.in-None.is))) in
     let k = ap actions_on (written_open c.args.times c.args.lines.now (not_found c.args.lines.now (sym c.done_in.ensures ∙ c.in-None.is))) in
     let n = ap length (nothing_behind c.args.lines.now) in
     let z = ap actions_on (nothing_behind c.args.lines.now) in
-    c.play_lines.ensures.last (omega (arith, k, free))
+    c.in-Ok-play_lines.ensures.last (omega (arith, k, free))

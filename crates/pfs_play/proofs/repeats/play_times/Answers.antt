@@ -65,21 +65,21 @@ loop-round-preserved g c =
     record {
       played = subst (λ (lines : List BlockLine). HavePlayed lines admin c.args.session.now new (g.A.Rows.reached c.args.rows.now) (g.A.Rows.reached c.play_lines.new.rows)) (sym (copies_more round body))
           (played_both (copies round body) body admin c.args.session.now c.loop-round.session new (g.A.Rows.reached c.args.rows.now) (g.A.Rows.reached c.loop-round.rows) (g.A.Rows.reached c.play_lines.new.rows) before.played
-          (subst (λ (a : Administration). HavePlayed body a c.loop-round.session new (g.A.Rows.reached c.loop-round.rows) (g.A.Rows.reached c.play_lines.new.rows)) before.admin c.play_lines.ensures.played));
-      admin = c.play_lines.ensures.admin ∙ (ap (λ (a : Administration). admin_after a body) before.admin ∙ (sym (after_then admin (copies round body) body) ∙ ap (admin_after admin) (sym (copies_more round body))));
-      kinds = c.play_lines.ensures.kinds ∙ (ap (λ k. kinds_after k body) before.kinds ∙ c.requires.same);
-      lie = c.play_lines.ensures.lie;
-      drawn = omega (arith, before.drawn, c.play_lines.ensures.drawn);
-      actions = omega (arith, before.actions, c.play_lines.ensures.actions);
-      counted = omega (arith, before.counted, c.play_lines.ensures.counted);
-      rest = c.play_lines.ensures.rest ∙ ap (λ (s : State). record s { clock = new.state.clock; drawn = new.state.drawn; opened = new.state.opened; held = new.state.held; actions = new.state.actions; last = new.state.last; nexts = new.state.nexts }) before.rest;
-      last = λ none. c.play_lines.ensures.last (omega (arith, none)) ∙ before.last (omega (arith, none));
-      wide = c.play_lines.ensures.wide;
-      depth = c.play_lines.ensures.depth ∙ before.depth;
-      hand = λ r. c.play_lines.ensures.leaves.hand r ∙ before.hand r;
-      left = omega (arith, before.left, c.play_lines.ensures.leaves.left);
-      draws = omega (arith, before.draws, c.play_lines.ensures.leaves.draws);
-      name = c.play_lines.ensures.leaves.name ∙ before.name;
-      lent = c.play_lines.ensures.lent;
-      room = omega (arith, before.room, c.play_lines.ensures.leaves.room);
+          (subst (λ (a : Administration). HavePlayed body a c.loop-round.session new (g.A.Rows.reached c.loop-round.rows) (g.A.Rows.reached c.play_lines.new.rows)) before.admin c.in-Ok.ensures.played));
+      admin = c.in-Ok.ensures.admin ∙ (ap (λ (a : Administration). admin_after a body) before.admin ∙ (sym (after_then admin (copies round body) body) ∙ ap (admin_after admin) (sym (copies_more round body))));
+      kinds = c.in-Ok.ensures.kinds ∙ (ap (λ k. kinds_after k body) before.kinds ∙ c.requires.same);
+      lie = c.in-Ok.ensures.lie;
+      drawn = omega (arith, before.drawn, c.in-Ok.ensures.drawn);
+      actions = omega (arith, before.actions, c.in-Ok.ensures.actions);
+      counted = omega (arith, before.counted, c.in-Ok.ensures.counted);
+      rest = c.in-Ok.ensures.rest ∙ ap (λ (s : State). record s { clock = new.state.clock; drawn = new.state.drawn; opened = new.state.opened; held = new.state.held; actions = new.state.actions; last = new.state.last; nexts = new.state.nexts }) before.rest;
+      last = λ none. c.in-Ok.ensures.last (omega (arith, none)) ∙ before.last (omega (arith, none));
+      wide = c.in-Ok.ensures.wide;
+      depth = c.in-Ok.ensures.depth ∙ before.depth;
+      hand = λ r. c.in-Ok.ensures.leaves.hand r ∙ before.hand r;
+      left = omega (arith, before.left, c.in-Ok.ensures.leaves.left);
+      draws = omega (arith, before.draws, c.in-Ok.ensures.leaves.draws);
+      name = c.in-Ok.ensures.leaves.name ∙ before.name;
+      lent = c.in-Ok.ensures.lent;
+      room = omega (arith, before.room, c.in-Ok.ensures.leaves.room);
     }

@@ -31,42 +31,42 @@ loop-at-init g c = record {
   room = omega arith;
 }
 
-pub play_next-at-requires-clause-may : goal.play_next-at-requires-clause-may
-play_next-at-requires-clause-may g c = subst (λ (l : List BlockLine). AllMayPlay 62 c.loop-at.session.state.opened.depth (kinds_at c.loop-at.session.state) None l) (sym (to_the_end c.loop-at.at c.args.lines.now)) c.loop-at.invariant.may
+pub play_next-requires-clause-may : goal.play_next-requires-clause-may
+play_next-requires-clause-may g c = subst (λ (l : List BlockLine). AllMayPlay 62 c.loop-at.session.state.opened.depth (kinds_at c.loop-at.session.state) None l) (sym (to_the_end c.loop-at.at c.args.lines.now)) c.loop-at.invariant.may
 
-pub play_next-at-requires-clause-early : goal.play_next-at-requires-clause-early
-play_next-at-requires-clause-early g c =
+pub play_next-requires-clause-early : goal.play_next-requires-clause-early
+play_next-requires-clause-early g c =
     let e = ap (λ (l : List BlockLine). length (written_out l)) (to_the_end c.loop-at.at c.args.lines.now) in
     omega (arith, e, c.loop-at.invariant.drawn, c.requires.early)
 
-pub play_next-at-requires-clause-rare : goal.play_next-at-requires-clause-rare
-play_next-at-requires-clause-rare g c =
+pub play_next-requires-clause-rare : goal.play_next-requires-clause-rare
+play_next-requires-clause-rare g c =
     let e = ap (λ (l : List BlockLine). actions_on (written_out l)) (to_the_end c.loop-at.at c.args.lines.now) in
     omega (arith, e, c.loop-at.invariant.actions, c.requires.rare)
 
-pub play_next-at-requires-clause-few : goal.play_next-at-requires-clause-few
-play_next-at-requires-clause-few g c =
+pub play_next-requires-clause-few : goal.play_next-requires-clause-few
+play_next-requires-clause-few g c =
     let e = ap (λ (l : List BlockLine). actions_on (written_out l)) (to_the_end c.loop-at.at c.args.lines.now) in
     omega (arith, e, c.loop-at.invariant.counted, c.requires.few)
 
-pub play_next-at-requires-clause-idle : goal.play_next-at-requires-clause-idle
-play_next-at-requires-clause-idle g c = λ r. c.loop-at.invariant.hand r ∙ c.requires.idle r
+pub play_next-requires-clause-idle : goal.play_next-requires-clause-idle
+play_next-requires-clause-idle g c = λ r. c.loop-at.invariant.hand r ∙ c.requires.idle r
 
-pub play_next-at-requires-clause-tickets : goal.play_next-at-requires-clause-tickets
-play_next-at-requires-clause-tickets g c =
+pub play_next-requires-clause-tickets : goal.play_next-requires-clause-tickets
+play_next-requires-clause-tickets g c =
     let e = ap (λ (l : List BlockLine). length (written_out l)) (to_the_end c.loop-at.at c.args.lines.now) in
     let less = gone_less (written_out c.args.lines.now) (written_out (drop c.loop-at.at c.args.lines.now)) c.args.admin.now c.loop-at.admin c.args.session.now c.loop-at.session (g.A.Rows.reached c.args.rows.now) (g.A.Rows.reached c.loop-at.rows) c.loop-at.invariant.gone in
     omega (arith, e, less.lines, c.loop-at.invariant.draws, c.requires.tickets)
 
-pub play_next-at-requires-clause-spare : goal.play_next-at-requires-clause-spare
-play_next-at-requires-clause-spare g c =
+pub play_next-requires-clause-spare : goal.play_next-requires-clause-spare
+play_next-requires-clause-spare g c =
     let e = ap (λ (l : List BlockLine). length (written_out l)) (to_the_end c.loop-at.at c.args.lines.now) in
     let less = gone_less (written_out c.args.lines.now) (written_out (drop c.loop-at.at c.args.lines.now)) c.args.admin.now c.loop-at.admin c.args.session.now c.loop-at.session (g.A.Rows.reached c.args.rows.now) (g.A.Rows.reached c.loop-at.rows) c.loop-at.invariant.gone in
     let k = ap (λ (l : List BlockLine). actions_on (written_out l)) (to_the_end c.loop-at.at c.args.lines.now) in
     omega (arith, e, k, less.lines, less.actions, c.loop-at.invariant.left, c.requires.spare)
 
-pub play_next-at-requires-clause-room : goal.play_next-at-requires-clause-room
-play_next-at-requires-clause-room g c =
+pub play_next-requires-clause-room : goal.play_next-requires-clause-room
+play_next-requires-clause-room g c =
     let e = ap (λ (l : List BlockLine). cost_on (written_out l)) (to_the_end c.loop-at.at c.args.lines.now) in
     let less = gone_less (written_out c.args.lines.now) (written_out (drop c.loop-at.at c.args.lines.now)) c.args.admin.now c.loop-at.admin c.args.session.now c.loop-at.session (g.A.Rows.reached c.args.rows.now) (g.A.Rows.reached c.loop-at.rows) c.loop-at.invariant.gone in
     omega (arith, e, less.costs, c.loop-at.invariant.room, c.requires.room)
@@ -75,20 +75,20 @@ pub loop-at-preserved : goal.loop-at-preserved
 loop-at-preserved g c =
     let lines : List BlockLine = c.args.lines.now in
     let at : ℕ = c.loop-at.at in
-    let n : ℕ = c.play_next-at.result in
-    let new = c.play_next-at.new.session in
+    let n : ℕ = c.in-Ok.taken in
+    let new = c.play_next.new.session in
     let before = c.loop-at.invariant in
-    let now = c.play_next-at.ensures in
+    let now = c.in-Ok.ensures in
     let whole : List BlockLine = written_out lines in
     let mid : List BlockLine = written_out (drop at lines) in
     let rest : List BlockLine = written_out (drop (at + n) lines) in
     let here : take (length lines - at) (drop at lines) ≡ drop at lines = to_the_end at lines in
     let there : drop n (take (length lines - at) (drop at lines)) ≡ drop (at + n) lines = ap (λ (l : List BlockLine). drop n l) here ∙ drop_both at n lines in
-    let one : HaveGone mid rest c.loop-at.admin c.play_next-at.new.admin c.loop-at.session new (g.A.Rows.reached c.loop-at.rows) (g.A.Rows.reached c.play_next-at.new.rows) =
-    subst (λ (l : List BlockLine). HaveGone mid (written_out l) c.loop-at.admin c.play_next-at.new.admin c.loop-at.session new (g.A.Rows.reached c.loop-at.rows) (g.A.Rows.reached c.play_next-at.new.rows)) there
-    (subst (λ (l : List BlockLine). HaveGone (written_out l) (written_out (drop n (take (length lines - at) (drop at lines)))) c.loop-at.admin c.play_next-at.new.admin c.loop-at.session new (g.A.Rows.reached c.loop-at.rows) (g.A.Rows.reached c.play_next-at.new.rows)) here now.gone) in
+    let one : HaveGone mid rest c.loop-at.admin c.play_next.new.admin c.loop-at.session new (g.A.Rows.reached c.loop-at.rows) (g.A.Rows.reached c.play_next.new.rows) =
+    subst (λ (l : List BlockLine). HaveGone mid (written_out l) c.loop-at.admin c.play_next.new.admin c.loop-at.session new (g.A.Rows.reached c.loop-at.rows) (g.A.Rows.reached c.play_next.new.rows)) there
+    (subst (λ (l : List BlockLine). HaveGone (written_out l) (written_out (drop n (take (length lines - at) (drop at lines)))) c.loop-at.admin c.play_next.new.admin c.loop-at.session new (g.A.Rows.reached c.loop-at.rows) (g.A.Rows.reached c.play_next.new.rows)) here now.gone) in
     let less = gone_less whole mid c.args.admin.now c.loop-at.admin c.args.session.now c.loop-at.session (g.A.Rows.reached c.args.rows.now) (g.A.Rows.reached c.loop-at.rows) before.gone in
-    let less_one = gone_less mid rest c.loop-at.admin c.play_next-at.new.admin c.loop-at.session new (g.A.Rows.reached c.loop-at.rows) (g.A.Rows.reached c.play_next-at.new.rows) one in
+    let less_one = gone_less mid rest c.loop-at.admin c.play_next.new.admin c.loop-at.session new (g.A.Rows.reached c.loop-at.rows) (g.A.Rows.reached c.play_next.new.rows) one in
     let size_here = ap (λ (l : List BlockLine). length (written_out l)) here in
     let size_there = ap (λ (l : List BlockLine). length (written_out l)) there in
     let cost_here = ap (λ (l : List BlockLine). cost_on (written_out l)) here in
@@ -101,7 +101,7 @@ loop-at-preserved g c =
     record {
       count = omega (arith, before.count, shorter, left_over, few);
       may = subst (λ (l : List BlockLine). AllMayPlay 62 new.state.opened.depth (kinds_at new.state) None l) there (subst (λ d. AllMayPlay 62 d (kinds_at new.state) None (drop n (take (length lines - at) (drop at lines)))) (sym now.depth) now.may);
-      gone = gone_both whole mid rest c.args.admin.now c.loop-at.admin c.play_next-at.new.admin c.args.session.now c.loop-at.session new (g.A.Rows.reached c.args.rows.now) (g.A.Rows.reached c.loop-at.rows) (g.A.Rows.reached c.play_next-at.new.rows) before.gone one;
+      gone = gone_both whole mid rest c.args.admin.now c.loop-at.admin c.play_next.new.admin c.args.session.now c.loop-at.session new (g.A.Rows.reached c.args.rows.now) (g.A.Rows.reached c.loop-at.rows) (g.A.Rows.reached c.play_next.new.rows) before.gone one;
       kinds = ap (λ (l : List BlockLine). kinds_after (kinds_at new.state) (written_out l)) (sym there) ∙ (now.kinds ∙ (ap (λ (l : List BlockLine). kinds_after (kinds_at c.loop-at.session.state) (written_out l)) here ∙ before.kinds));
       lie = now.lie;
       drawn = omega (arith, size_here, size_there, before.drawn, now.drawn);

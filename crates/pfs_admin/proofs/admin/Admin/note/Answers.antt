@@ -1,9 +1,13 @@
-use Rattle.std.proofs.Common.{rules}
-use Rattle.pfs_admin.proofs.Folding.{note_keeps, follows}
+use Rattle.std.proofs.Common.{rules, refl}
+use Rattle.pfs_admin.specs.Changing.{words_changed}
+use Rattle.pfs_admin.specs.declared.changes.SetupStatement.TheVariants.{Show}
+use Rattle.pfs_admin.proofs.Folding.{changed_keeps, follows}
 use Rattle.pfs_admin.proofs.admin.Admin.note.Goals as goal
 
 pub invariant_of-self : goal.invariant_of-self
-invariant_of-self c = note_keeps _ c.self.invariant
+unfolding words_changed
+invariant_of-self c = changed_keeps _ Show _ _ _ c.self.invariant refl
 
 pub returns-clause-stands : goal.returns-clause-stands
+unfolding words_changed
 returns-clause-stands c = λ session. follows session _ _ _ (search rules)

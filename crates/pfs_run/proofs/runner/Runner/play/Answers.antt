@@ -38,70 +38,70 @@ written_cost-requires c =
     let here = is_here c.playable.ensures c.few.ensures c.named.ensures c.actions.ensures c.requires.script.0 c.args.setting.now c.args.phases.now h.0 h.1 c.args.block.now h.2 h.3 c.requires.script.1 h.4 in
     record { short = subst (λ (l : List BlockLine). length (written_out l) ≤ 200000) (sym c.as_slice.ensures) here.playable.short }
 
-pub overflow_add-written_cost : goal.overflow_add-written_cost
-overflow_add-written_cost c =
+pub overflow_add-cost : goal.overflow_add-cost
+overflow_add-cost c =
     let h = c.requires.here in
     let here = is_here c.playable.ensures c.few.ensures c.named.ensures c.actions.ensures c.requires.script.0 c.args.setting.now c.args.phases.now h.0 h.1 c.args.block.now h.2 h.3 c.requires.script.1 h.4 in
     let short = subst (λ (l : List BlockLine). length (written_out l) ≤ 200000) (sym c.as_slice.ensures) here.playable.short in
-    let rare = subst (λ (l : List BlockLine). actions_on (written_out l) ≤ 250) (sym c.as_slice.ensures) here.rare in
-    omega (arith, c.written_cost.ensures.small, short, rare)
+    let rare = subst (λ (l : List BlockLine). actions_on (written_out l) ≤ 16666) (sym c.as_slice.ensures) here.rare in
+    omega (arith, c.in_ok-cost.ensures.small, short, rare)
 
-pub play_block-paused-requires-clause-connects : goal.play_block-paused-requires-clause-connects
-play_block-paused-requires-clause-connects c =
+pub play_block-requires-clause-connects : goal.play_block-requires-clause-connects
+play_block-requires-clause-connects c =
     let h = c.requires.here in
     let here = is_here c.playable.ensures c.few.ensures c.named.ensures c.actions.ensures c.requires.script.0 c.args.setting.now c.args.phases.now h.0 h.1 c.args.block.now h.2 h.3 c.requires.script.1 h.4 in
     let is = ready_at c.args.setting.now c.args.phases.now h.0 h.1 c.args.block.now h.2 h.3 _ _ _ _ _ c.args.self.now.admin c.args.self.now.seats.items c.args.self.now.lost _ _ h.5 here c.in_ok-session.session c.in_ok-session.ensures.session in
     subst (λ (s : State). IfSome c.args.block.now.connect (λ names. MayConnect s c.args.self.now.admin names)) (sym c.reserve.ensures.state) is.connects
 
-pub play_block-paused-requires-clause-may : goal.play_block-paused-requires-clause-may
-play_block-paused-requires-clause-may c =
+pub play_block-requires-clause-may : goal.play_block-requires-clause-may
+play_block-requires-clause-may c =
     let h = c.requires.here in
     let here = is_here c.playable.ensures c.few.ensures c.named.ensures c.actions.ensures c.requires.script.0 c.args.setting.now c.args.phases.now h.0 h.1 c.args.block.now h.2 h.3 c.requires.script.1 h.4 in
     let is = ready_at c.args.setting.now c.args.phases.now h.0 h.1 c.args.block.now h.2 h.3 _ _ _ _ _ c.args.self.now.admin c.args.self.now.seats.items c.args.self.now.lost _ _ h.5 here c.in_ok-session.session c.in_ok-session.ensures.session in
     subst (λ (s : State). MayEnd s.opened.depth (kinds_at s) c.args.block.now.lines) (sym c.reserve.ensures.state) is.may
 
-pub play_block-paused-requires-clause-lie : goal.play_block-paused-requires-clause-lie
-play_block-paused-requires-clause-lie c =
+pub play_block-requires-clause-lie : goal.play_block-requires-clause-lie
+play_block-requires-clause-lie c =
     let h = c.requires.here in
     let here = is_here c.playable.ensures c.few.ensures c.named.ensures c.actions.ensures c.requires.script.0 c.args.setting.now c.args.phases.now h.0 h.1 c.args.block.now h.2 h.3 c.requires.script.1 h.4 in
     let is = ready_at c.args.setting.now c.args.phases.now h.0 h.1 c.args.block.now h.2 h.3 _ _ _ _ _ c.args.self.now.admin c.args.self.now.seats.items c.args.self.now.lost _ _ h.5 here c.in_ok-session.session c.in_ok-session.ensures.session in
     subst (λ (s : State). StagesLie (kinds_at s)) (sym c.reserve.ensures.state) is.lie
 
-pub play_block-paused-requires-clause-free : goal.play_block-paused-requires-clause-free
-play_block-paused-requires-clause-free c =
+pub play_block-requires-clause-free : goal.play_block-requires-clause-free
+play_block-requires-clause-free c =
     let h = c.requires.here in
     let here = is_here c.playable.ensures c.few.ensures c.named.ensures c.actions.ensures c.requires.script.0 c.args.setting.now c.args.phases.now h.0 h.1 c.args.block.now h.2 h.3 c.requires.script.1 h.4 in
     let is = ready_at c.args.setting.now c.args.phases.now h.0 h.1 c.args.block.now h.2 h.3 _ _ _ _ _ c.args.self.now.admin c.args.self.now.seats.items c.args.self.now.lost _ _ h.5 here c.in_ok-session.session c.in_ok-session.ensures.session in
     ap (λ (s : State). s.held) c.reserve.ensures.state ∙ is.free
 
-pub play_block-paused-requires-clause-early : goal.play_block-paused-requires-clause-early
-play_block-paused-requires-clause-early c =
+pub play_block-requires-clause-early : goal.play_block-requires-clause-early
+play_block-requires-clause-early c =
     let h = c.requires.here in
     let here = is_here c.playable.ensures c.few.ensures c.named.ensures c.actions.ensures c.requires.script.0 c.args.setting.now c.args.phases.now h.0 h.1 c.args.block.now h.2 h.3 c.requires.script.1 h.4 in
     let is = ready_at c.args.setting.now c.args.phases.now h.0 h.1 c.args.block.now h.2 h.3 _ _ _ _ _ c.args.self.now.admin c.args.self.now.seats.items c.args.self.now.lost _ _ h.5 here c.in_ok-session.session c.in_ok-session.ensures.session in
     let same = ap (λ (s : State). s.drawn) c.reserve.ensures.state in omega (arith, same, is.drawn, here.few, here.playable.short)
 
-pub play_block-paused-requires-clause-rare : goal.play_block-paused-requires-clause-rare
-play_block-paused-requires-clause-rare c =
+pub play_block-requires-clause-rare : goal.play_block-requires-clause-rare
+play_block-requires-clause-rare c =
     let h = c.requires.here in
     let here = is_here c.playable.ensures c.few.ensures c.named.ensures c.actions.ensures c.requires.script.0 c.args.setting.now c.args.phases.now h.0 h.1 c.args.block.now h.2 h.3 c.requires.script.1 h.4 in
     let is = ready_at c.args.setting.now c.args.phases.now h.0 h.1 c.args.block.now h.2 h.3 _ _ _ _ _ c.args.self.now.admin c.args.self.now.seats.items c.args.self.now.lost _ _ h.5 here c.in_ok-session.session c.in_ok-session.ensures.session in
     let same = ap (λ (s : State). s.actions) c.reserve.ensures.state in omega (arith, same, is.actions, here.few, here.rare)
 
-pub play_block-paused-requires-clause-few : goal.play_block-paused-requires-clause-few
-play_block-paused-requires-clause-few c =
+pub play_block-requires-clause-few : goal.play_block-requires-clause-few
+play_block-requires-clause-few c =
     let h = c.requires.here in
     let here = is_here c.playable.ensures c.few.ensures c.named.ensures c.actions.ensures c.requires.script.0 c.args.setting.now c.args.phases.now h.0 h.1 c.args.block.now h.2 h.3 c.requires.script.1 h.4 in
     actions_at c.args.setting.now c.args.phases.now h.0 h.1 c.args.block.now h.2 h.3 _ _ _ _ _ c.args.self.now.admin c.args.self.now.seats.items c.args.self.now.lost _ _ h.5 here
 
-pub play_block-paused-requires-clause-tickets : goal.play_block-paused-requires-clause-tickets
-play_block-paused-requires-clause-tickets c =
+pub play_block-requires-clause-tickets : goal.play_block-requires-clause-tickets
+play_block-requires-clause-tickets c =
     let h = c.requires.here in
     let here = is_here c.playable.ensures c.few.ensures c.named.ensures c.actions.ensures c.requires.script.0 c.args.setting.now c.args.phases.now h.0 h.1 c.args.block.now h.2 h.3 c.requires.script.1 h.4 in
     tickets_at c.args.setting.now c.args.phases.now h.0 h.1 c.args.block.now h.2 h.3 _ _ _ _ _ c.args.self.now.admin c.args.self.now.seats.items c.args.self.now.lost _ _ h.5 here
 
-pub play_block-paused-requires-clause-spare : goal.play_block-paused-requires-clause-spare
-play_block-paused-requires-clause-spare c =
+pub play_block-requires-clause-spare : goal.play_block-requires-clause-spare
+play_block-requires-clause-spare c =
     let h = c.requires.here in
     let here = is_here c.playable.ensures c.few.ensures c.named.ensures c.actions.ensures c.requires.script.0 c.args.setting.now c.args.phases.now h.0 h.1 c.args.block.now h.2 h.3 c.requires.script.1 h.4 in
     spare_at c.args.setting.now c.args.phases.now h.0 h.1 c.args.block.now h.2 h.3 _ _ _ _ _ c.args.self.now.admin c.args.self.now.seats.items c.args.self.now.lost _ _ h.5 here
@@ -143,14 +143,14 @@ returns c before first others after is along =
     let empty : c.reserve.new.self.journal.entries ≡ c.in_ok-session.session.journal.entries = ap (λ (j : Journal). j.entries) c.in_ok-reserve.ensures.ok in
     let begun = ready_same c.args.setting.now c.args.phases.now _ (along.earlier ++ along.current) c.args.self.now.admin c.args.block.now c.in_ok-session.session c.reserve.new.self c.reserve.ensures.state empty taken in
     let few = slots_at c.args.setting.now c.args.phases.now before first c.args.block.now others after _ _ _ _ _ c.args.self.now.admin c.args.self.now.seats.items c.args.self.now.lost _ _ along here in
-    let done = is_done c.args.setting.now c.args.phases.now before first c.args.block.now others after (along.earlier ++ along.current) c.args.self.now.admin c.play_block-paused.new.admin c.reserve.new.self c.play_block-paused.result along.start along.calls _ _
-    here along.course along.none_over begun.state begun.entries (c.play_block-paused.ensures.did few) along.opens along.led along.alike (λ more r. r.answers) here.playable.short in
-    let text : c.as_slice-2.result.now ≡ c.play_block-paused.result.journal.entries = c.as_slice-2.ensures.value ∙ (c.into_entries-entries.ensures ∙ ap (λ (j : Journal). j.entries) c.take_log.ensures.journal) in
+    let done = is_done c.args.setting.now c.args.phases.now before first c.args.block.now others after (along.earlier ++ along.current) c.args.self.now.admin c.play_block.new.admin c.reserve.new.self c.in_ok-paused.paused along.start along.calls _ _
+    here along.course along.none_over begun.state begun.entries (c.in_ok-paused.ensures.did few) along.opens along.led along.alike (λ more r. r.answers) here.playable.short in
+    let text : c.as_slice-2.result.now ≡ c.in_ok-paused.paused.journal.entries = c.as_slice-2.ensures.value ∙ (c.into_entries-entries.ensures ∙ ap (λ (j : Journal). j.entries) c.take_log.ensures.journal) in
     let report : BlockReport = record { session = c.args.block.now.session; entries = c.new.result; answers = c.new-3.result } in
-    next_along c.args.setting.now c.args.phases.now before first c.args.block.now others after _ _ _ _ _ _ _ _ _ _ c.args.self.now.admin c.play_block-paused.new.admin c.args.self.now.seats.items c.keep_seat.new.seats.items c.args.self.now.lost c.count_lost-self.result
-    _ c.args.self.now.blocks.items c.push.new.self.items report c.reserve.new.self c.play_block-paused.result c.take_log.new.self here along begun done
-    (ap (λ (b : Book). b.state) c.take_log.ensures.rest) (ap (λ (b : Book). b.journal.entries) c.take_log.ensures.rest) c.play_block-paused.ensures.free c.play_block-paused.ensures.kinds c.play_block-paused.ensures.lie c.play_block-paused.ensures.drawn
-    c.play_block-paused.ensures.depth c.play_block-paused.ensures.actions c.play_block-paused.ensures.leaves.hand c.play_block-paused.ensures.leaves.left c.play_block-paused.ensures.leaves.draws c.play_block-paused.ensures.lent c.play_block-paused.ensures.counted
+    next_along c.args.setting.now c.args.phases.now before first c.args.block.now others after _ _ _ _ _ _ _ _ _ _ c.args.self.now.admin c.play_block.new.admin c.args.self.now.seats.items c.keep_seat.new.seats.items c.args.self.now.lost c.count_lost-self.result
+    _ c.args.self.now.blocks.items c.push.new.self.items report c.reserve.new.self c.in_ok-paused.paused c.take_log.new.self here along begun done
+    (ap (λ (b : Book). b.state) c.take_log.ensures.rest) (ap (λ (b : Book). b.journal.entries) c.take_log.ensures.rest) c.in_ok-paused.ensures.free c.in_ok-paused.ensures.kinds c.in_ok-paused.ensures.lie c.in_ok-paused.ensures.drawn
+    c.in_ok-paused.ensures.depth c.in_ok-paused.ensures.actions c.in_ok-paused.ensures.leaves.hand c.in_ok-paused.ensures.leaves.left c.in_ok-paused.ensures.leaves.draws c.in_ok-paused.ensures.lent c.in_ok-paused.ensures.counted
     (c.keep_seat.ensures ∙ ap (λ (z : List (Option Book)). slice_set z (c.args.block.now.session - 1) (Some c.take_log.new.self)) c.in_ok-session.ensures.seats)
     (c.count_lost-self.ensures.digests ∙ ap (λ (es : List Entry). c.args.self.now.lost.digests + lost_digests es) text)
     (c.count_lost-self.ensures.statements ∙ ap (λ (es : List Entry). c.args.self.now.lost.statements + lost_statements es) text) (c.count_lost-self.ensures.waits ∙ ap (λ (es : List Entry). c.args.self.now.lost.waits + lost_waits es) text)

@@ -39,7 +39,7 @@ returns-clause-played g c =
 
 pub returns-clause-answer : goal.returns-clause-answer
 returns-clause-answer g c =
-    let P : Book → Type 0 = λ b. SaysStart (record { event = c.begin-number.result; verdict = c.judge-verdict.result; current = c.place-current.result }) b.journal.entries c.place-current.new.self.journal.entries in
+    let P : Book → Type 0 = λ b. SaysStart (record { event = c.begin-number.result; verdict = c.judge-verdict.result; seen = c.load-seen.result; current = c.place-current.result }) b.journal.entries c.place-current.new.self.journal.entries in
     subst P c.self.view_is
     (start_says c.load-seen.result c.judge-verdict.result _ c.start_entry.result c.opened-event.result c.begin-number.result c.place-current.result _ c.begin-number.new.self.journal.entries _
     c.begin-number.ensures.answer c.opened-event.ensures.verdict_is c.opened-event.ensures.number c.start_entry.ensures

@@ -1,0 +1,8 @@
+use Rattle.pfs_requests.proofs.Commands.{command_said, none_said}
+use Rattle.pfs_requests.proofs.laws.commands_are_said.Goals as goal
+
+pub returns-clause-said : goal.returns-clause-said
+returns-clause-said c = command_said
+
+pub returns-clause-none : goal.returns-clause-none
+returns-clause-none c = none_said

@@ -1,0 +1,11 @@
+use Rattle.std.proofs.Common.{Some, ap, sym, ◌∙◌}
+use Rattle.pfs_admin.specs.States.{State as Administration}
+use Rattle.pfs_session.proofs.Turning.{shown_words, shown_work}
+use Rattle.pfs_session.proofs.statements.state.Goals as goal
+
+pub returns-in-Show-clause-worked : goal.returns-in-Show-clause-worked
+returns-in-Show-clause-worked g c = shown_work c.args.admin.now c.args.what _ _ c.in-Show.is
+
+pub returns-in-Show-clause-lent : goal.returns-in-Show-clause-lent
+returns-in-Show-clause-lent g c =
+    c.requires.lent ∙ ap Some (sym (ap (λ (z : Administration). z.words) c.note.ensures.step ∙ shown_words c.args.admin.now))
