@@ -1,6 +1,6 @@
 -- A whole action at a desk: what its calls leave of its beginning, and that its actor keeps to the words of its labels.
 use Rattle.std.specs.Prelude.{IfSome, option_map, unwrap_or}
-use Rattle.std.proofs.Common.{ℕ, zero, suc, ◌≡◌, ◌+◌, ◌<◌, true, cond, List, [], ◌∷◌, ◌++◌, ◌⊎◌, Option, None, Some, inl, inr, length, slice_set, refl, ap, sym, ◌∙◌, subst, arith, append_assoc, eq-eqb}
+use Rattle.std.proofs.Common.{ℕ, zero, suc, ◌≡◌, ◌+◌, ◌<◌, true, cond, List, [], ◌∷◌, ◌++◌, ◌⊎◌, Option, None, Some, inl, inr, length, slice_set, refl, ap, sym, ◌∙◌, subst, arith, append_assoc, append-nil, eq-eqb}
 use Rattle.atomic_table.specs.Seated.{TableId}
 use Rattle.pfs_admin.specs.declared.changes.Change.{Change}
 use Rattle.pfs_admin.specs.Asks.{connect_work, placed_of}
@@ -22,9 +22,12 @@ use Rattle.pfs_seats.specs.Shared.{has_met}
 use Rattle.pfs_switches.specs.declared.view.View.{View}
 use Rattle.pfs_switches.specs.Known.{Known}
 use Rattle.pfs_desk.specs.Acted.{HasActed}
-use Rattle.pfs_desk.specs.Desks.{IsDesk}
+use Rattle.pfs_desk.specs.Desks.{IsDesk, sets_by, sets_of, work_of_change}
 use Rattle.pfs_desk.specs.Following.{version_after, AllKeepWords, AreAsKnown}
 use Rattle.pfs_desk.proofs.Keeping.{AreQuiet, quiet_both, signs_quiet, moves_quiet, begun, work, left}
+use Rattle.pfs_desk.proofs.Setting.{flags_set, one_more_set, quiet_sets}
+use Rattle.pfs_seats.specs.Pen.{sets_since_met}
+use Rattle.pfs_switches.specs.declared.view.Setting.{Setting as WordSetting}
 
 -- the calls of an action, newest first, that begins it and meets the writer
 abbrev pub calls_of : Label → List Label → List ℕ → List Call → List Call → List Call
@@ -60,6 +63,24 @@ its_inside words flags made moves calls =
     let q = quiet_inside quiet calls (quiet_both (signs_calls made) (moves_calls moves) (signs_quiet made) (moves_quiet moves)) in
     let f = flags_inside words flags (quiet ++ calls) in
     record { label = ap label_in e ∙ (f.label ∙ q.label); labels = ap labels_in e ∙ (f.labels ∙ q.labels) }
+
+-- behind a meet such calls made the sets of these flags
+pub its_sets : (words : List Word) (flags : List Flagging) (made : List Made) (moves : List Move) (calls : List Call)
+    → sets_since_met (its_of words flags made moves ++ calls) ≡ sets_by words flags ++ sets_since_met calls
+its_sets words flags made moves calls =
+    let quiet : List Call = signs_calls made ++ moves_calls moves in
+    ap sets_since_met (append_assoc (flagging_calls words flags) quiet calls)
+    ∙ (flags_set words flags (quiet ++ calls) ∙ ap (λ ss. sets_by words flags ++ ss) (quiet_sets quiet calls (quiet_both (signs_calls made) (moves_calls moves) (signs_quiet made) (moves_quiet moves))))
+
+-- the sets that a hold gives back, where the one that it was lent had these
+pub returned : (lent : Option Known) (words : List Word) (flags : List Flagging) (made : List Made) (moves : List Move) (seen : List ℕ) (calls : List Call) (had before : List WordSetting)
+    → IfSome lent (λ (x : Known). x.view.sets ≡ sets_since_met (its_of words flags made moves ++ Meets seen ∷ calls) ++ had) → had ≡ before
+    → IfSome lent (λ (x : Known). x.view.sets ≡ sets_by words flags ++ before)
+returned None words flags made moves seen calls had before tells is = tt
+returned (Some x) words flags made moves seen calls had before tells is =
+    tells
+    ∙ (ap (λ ss. ss ++ had) (its_sets words flags made moves (Meets seen ∷ calls) ∙ append-nil (sets_by words flags))
+    ∙ ap (λ ss. sets_by words flags ++ ss) is)
 
 words_wide : (n i : ℕ) (w : View) → length (words_from n i w) ≡ n
 unfolding words_from
@@ -107,12 +128,13 @@ connect_sets words flags after (Some seat) low = inr (1 + seat.slot, flags, omeg
 -- the administration, and the writer that a hold gave back, are a desk again
 pub again : (setting : Setting) (change : Label → Change) (switches : TableId) (labels : List Label) (admin next : State) (later w : Known) (lent : Option Known) (told : Option (List Word))
     → StandsFor setting change labels admin → next ≡ admin → later ≡ w → lent ≡ Some w → option_map (λ (x : Known). words_of x.view) lent ≡ told → told ≡ Some admin.words
-    → IfSome lent (λ (x : Known). x.switches ≡ switches) → IsDesk setting change switches labels next later
-again setting change switches labels admin next later w lent told stands last mine some tells known from =
+    → IfSome lent (λ (x : Known). x.switches ≡ switches) → IfSome lent (λ (x : Known). x.view.sets ≡ sets_of setting change labels) → IsDesk setting change switches labels next later
+again setting change switches labels admin next later w lent told stands last mine some tells known from made =
     let e : Some (words_of w.view) ≡ Some admin.words = ap (λ (o : Option Known). option_map (λ (x : Known). words_of x.view) o) (sym some) ∙ (tells ∙ known) in
     record {
       stands = last ∙ stands;
       words_are = ap (λ (x : Known). words_of x.view) mine ∙ (ap (λ (o : Option (List Word)). unwrap_or o []) e ∙ ap (λ (s : State). s.words) (sym last));
+      sets = ap (λ (x : Known). x.view.sets) mine ∙ subst (λ (o : Option Known). IfSome o (λ (x : Known). x.view.sets ≡ sets_of setting change labels)) some made;
       same = ap (λ (x : Known). x.switches) mine ∙ subst (λ (o : Option Known). IfSome o (λ (x : Known). x.switches ≡ switches)) some from;
     }
 
@@ -121,6 +143,7 @@ module _ (setting : Setting) (change : Label → Change) (switches : TableId) (l
   same_desk is a p ea ep = record {
     stands = ea ∙ is.stands;
     words_are = ap (λ (w : Known). words_of w.view) ep ∙ (is.words_are ∙ ap (λ (s : State). s.words) (sym ea));
+    sets = ap (λ (w : Known). w.view.sets) ep ∙ is.sets;
     same = ap (λ (w : Known). w.switches) ep ∙ is.same;
   }
 
@@ -130,9 +153,11 @@ module _ (setting : Setting) (change : Label → Change) (switches : TableId) (l
   -- behind the step of the label's change, with the writer that a hold gave back
   pub followed : IsDesk setting change switches labels admin pen → (label : Label) → (what : Change) → (b next : State) → (later w : Known) → (lent : Option Known) → (told : Option (List Word))
       → change label ≡ what → Follows label.session what admin b → next ≡ b → later ≡ w → lent ≡ Some w → option_map (λ (x : Known). words_of x.view) lent ≡ told → told ≡ Some b.words
-      → IfSome lent (λ (x : Known). x.switches ≡ switches) → IsDesk setting change switches (labels ++ label ∷ []) next later
-  followed is label what b next later w lent told whose step last mine some tells known from =
+      → IfSome lent (λ (x : Known). x.switches ≡ switches) → IfSome lent (λ (x : Known). x.view.sets ≡ sets_by admin.words (work_of_change admin label.session what).flags ++ sets_of setting change labels)
+      → IsDesk setting change switches (labels ++ label ∷ []) next later
+  followed is label what b next later w lent told whose step last mine some tells known from made =
       again setting change switches (labels ++ label ∷ []) b next later w lent told (step.stands setting change labels label refl whose is.stands) last mine some tells known from
+      (subst (λ (ss : List WordSetting). IfSome lent (λ (x : Known). x.view.sets ≡ ss)) (sym (one_more_set setting change labels label what admin whose is.stands)) made)
 
 -- a desk for one label more stands for what the action's own calls say
 pub ended : (setting : Setting) (change : Label → Change) (switches : TableId) (label : Label) (labels : List Label) (next : State) (later : Known) (words : List Word) (flags : List Flagging) (made : List Made) (moves : List Move) (seen : List ℕ) (calls : List Call)

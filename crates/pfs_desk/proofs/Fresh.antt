@@ -17,7 +17,7 @@ use Rattle.pfs_switches.specs.declared.view.View.{View}
 use Rattle.pfs_switches.specs.History.{flags_at}
 use Rattle.pfs_switches.specs.Known.{Known}
 use Rattle.pfs_switches.specs.Opening.{opening_words}
-use Rattle.pfs_desk.specs.Desks.{IsDesk, opening_pen}
+use Rattle.pfs_desk.specs.Desks.{IsDesk, opening_pen, sets_from}
 
 zero_at : (n k : ℕ) → slice_index (replicate n 0) k ≡ 0
 zero_at zero k = refl
@@ -48,10 +48,11 @@ fresh_words flags count =
 
 pub fresh_desk : (setting : Setting) (change : Label → Change) (switches : TableId) (admin : State) (pen : Known) → admin ≡ opened setting
     → pen.view ≡ opening_pen (opening_flags setting opening_objects) → pen.switches ≡ switches → IsDesk setting change switches [] admin pen
-unfolding state_from
+unfolding state_from sets_from
 fresh_desk setting change switches admin pen is fresh same = record {
   stands = is;
   words_are = ap words_of fresh
       ∙ (fresh_words (opening_flags setting opening_objects) (flags_count setting opening_objects) ∙ sym (ap (λ (s : State). s.words) is));
+  sets = ap (λ (v : View). v.sets) fresh;
   same = same;
 }

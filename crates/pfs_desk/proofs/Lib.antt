@@ -6,6 +6,7 @@ pub mod Balance
 pub mod Knowing
 pub mod Sharing
 pub mod Keeping
+pub mod Setting
 pub mod Acted
 pub mod Later
 pub mod Examples

@@ -3,11 +3,13 @@ use Rattle.std.proofs.Common.{ℕ, zero, suc, ◌≡◌, ◌+◌, ◌==◌, ◌<
 use Rattle.std.proofs.lemmas.List.{take_all, length-append}
 use Rattle.atomic_table.specs.Seated.{TableId}
 use Rattle.pfs_admin.specs.declared.changes.Change.{Change as Action}
-use Rattle.pfs_admin.specs.declared.changes.Change.TheVariants.{Connect, Quit, Truncate, Show}
+use Rattle.pfs_admin.specs.declared.changes.Change.TheVariants.{Connect, Quit, Truncate, Setup}
 use Rattle.pfs_admin.specs.Fold.{stepped, state_of}
 use Rattle.pfs_admin.specs.Opening.{opening_flags}
 use Rattle.pfs_admin.specs.States.{State, words_by, thread_flags, seat_at, seat_in}
-use Rattle.pfs_admin.specs.Truncations.{off_up_to, off_words, words_behind}
+use Rattle.pfs_admin.specs.Changing.{changed_up_to, words_changed}
+use Rattle.pfs_admin.specs.Setups.{first_of, flags_after, most_of}
+use Rattle.pfs_admin.specs.Truncations.{off, words_behind}
 use Rattle.pfs_admin.specs.Works.{word_at, set_word}
 use Rattle.pfs_admin.proofs.Costs.{early_at}
 use Rattle.pfs_admin.proofs.Folding.{step_law, count_law}
@@ -66,15 +68,17 @@ rise_by : (flags q : ℕ) (words : List Word) (seat : Option Seated) → (word_a
 rise_by flags q words None = omega arith
 rise_by flags q words (Some seat) = rise_if ((word_at words (1 + seat.slot)).flags == flags) (1 + seat.slot) q flags words
 
-rise_off : (q n : ℕ) (words : List Word) → (word_at words q).version ≤ (word_at (off_up_to words n) q).version
-rise_off q zero words = omega arith
-rise_off q (suc n) words =
-    let step : (word_at (off_up_to words n) q).version ≤ (word_at (off_up_to words (suc n)) q).version = rise_if ((word_at (off_up_to words n) (96 + n)).flags == 0) (96 + n) q 0 (off_up_to words n) in
-    omega (arith, rise_off q n words, step)
+rise_to : (change : ℕ → ℕ → ℕ) (q first n : ℕ) (words : List Word) → (word_at words q).version ≤ (word_at (changed_up_to change words first n) q).version
+rise_to change q first zero words = omega arith
+rise_to change q first (suc n) words =
+    let flags : ℕ = change (first + n) (word_at words (first + n)).flags in
+    let before : List Word = changed_up_to change words first n in
+    let step : (word_at before q).version ≤ (word_at (changed_up_to change words first (suc n)) q).version = rise_if ((word_at before (first + n)).flags == flags) (first + n) q flags before in
+    omega (arith, rise_to change q first n words, step)
 
-rise_all_off : (q : ℕ) (words : List Word) → (word_at words q).version ≤ (word_at (off_words words) q).version
-unfolding off_words
-rise_all_off q words = rise_off q 64 words
+rise_changed : (change : ℕ → ℕ → ℕ) (q first count : ℕ) (words : List Word) → (word_at words q).version ≤ (word_at (words_changed change words first count) q).version
+unfolding words_changed
+rise_changed change q first count words = rise_to change q first count words
 
 rise_behind : (q : ℕ) (words : List Word) (what : Truncation) → (word_at words q).version ≤ (word_at (words_behind what words) q).version
 rise_behind q words (Summary kind table) = omega arith
@@ -84,13 +88,13 @@ rise_behind q words Users = omega arith
 rise_behind q words Hosts = omega arith
 rise_behind q words DigestSummary = omega arith
 rise_behind q words SetupActors = omega arith
-rise_behind q words SetupObjects = rise_all_off q words
+rise_behind q words SetupObjects = rise_changed off q 96 64 words
 
 rise_step : (s : State) (session q : ℕ) (action : Action) → (word_at s.words q).version ≤ (word_at (stepped s session action).words q).version
 rise_step s session q (Connect user host) = rise_by (thread_flags s user host) q s.words (seat_at s session user host)
 rise_step s session q Quit = rise_by 0 q s.words (seat_in s session)
 rise_step s session q (Truncate what) = rise_behind q s.words what
-rise_step s session q Show = omega arith
+rise_step s session q (Setup what) = rise_changed (flags_after s what) q (first_of what) (most_of what) s.words
 
 module _ (setting : Setting) (change : Label → Action) where
   abbrev versions : List Label → ℕ → ℕ

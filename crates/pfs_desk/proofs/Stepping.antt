@@ -1,17 +1,21 @@
 -- One label more, and what a desk's labels count.
-use Rattle.std.proofs.Common.{◌≡◌, ◌≤◌, ◌+◌, Some, List, length, slice_index, refl, ap, sym, ◌∙◌, arith}
+use Rattle.std.proofs.Common.{◌≡◌, ◌≤◌, ◌+◌, ◌++◌, Some, List, length, slice_index, refl, ap, sym, ◌∙◌, arith}
 use Rattle.pfs_admin.specs.Works.{word_at}
 use Rattle.pfs_admin.proofs.Costs.{early_at}
 use Rattle.pfs_admin.proofs.Folding.{count_law}
 use Rattle.pfs_levels.specs.declared.answers.Word.{Word}
 use Rattle.pfs_levels.specs.Calls.{known_version}
 use Rattle.pfs_seats.proofs.Pens.{known_word}
+use Rattle.pfs_desk.proofs.Setting.{one_more_set}
+use Rattle.pfs_desk.specs.Desks.{sets_by, work_of_change}
 use Rattle.pfs_desk.specs.Laws.{StepLaw, NumberLaw, NeverSpentLaw}
 
 pub one_more : StepLaw
-one_more setting change switches labels label admin next pen later is step words same = record {
+one_more setting change switches labels label admin next pen later is step words sets same = record {
   stands = step.stands setting change labels label refl refl is.stands;
   words_are = words;
+  sets = sets ∙ (ap (λ ss. sets_by admin.words (work_of_change admin label.session (change label)).flags ++ ss) is.sets
+      ∙ sym (one_more_set setting change labels label (change label) admin refl is.stands));
   same = same;
 }
 

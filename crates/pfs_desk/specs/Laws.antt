@@ -31,13 +31,14 @@ use Rattle.pfs_switches.specs.Known.{Known}
 use Rattle.pfs_switches.specs.Knowledge.{last_version, met}
 use Rattle.pfs_switches.specs.Opening.{opening_words}
 use Rattle.pfs_tickets.specs.declared.view.View.{View as TicketView}
-use Rattle.pfs_desk.specs.Desks.{IsDesk}
+use Rattle.pfs_desk.specs.Desks.{IsDesk, sets_by, work_of_change}
 use Rattle.pfs_desk.specs.Following.{version_after, AllKeepWords, AreAsKnown, AreBehind}
 
 abbrev pub StepLaw : Type 0
 StepLaw = (setting : Setting) → (change : Label → Change) → (switches : TableId) → (labels : List Label)
     → (label : Label) → (admin next : State) → (pen later : Known) → IsDesk setting change switches labels admin pen
     → Follows label.session (change label) admin next → words_of later.view ≡ next.words
+    → later.view.sets ≡ sets_by admin.words (work_of_change admin label.session (change label)).flags ++ pen.view.sets
     → later.switches ≡ switches → IsDesk setting change switches (labels ++ label ∷ []) next later
 
 abbrev pub NumberLaw : Type 0

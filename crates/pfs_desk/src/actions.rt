@@ -3,7 +3,8 @@
 ghost use Rattle.std.specs.Prelude.{◌≡◌, ◌<◌, ◌≤◌, ◌+◌, ◌∷◌, [], ℕ, List, None, length};
 ghost use Rattle.pfs_board.specs.declared.view.Label.{Label};
 ghost use Rattle.pfs_admin.specs.Asks.{connect_entry, placed_of, work_of_connect};
-ghost use Rattle.pfs_admin.specs.declared.changes.Change.TheVariants.{Connect, Show};
+ghost use Rattle.pfs_admin.specs.declared.changes.Change.TheVariants.{Connect, Setup};
+ghost use Rattle.pfs_admin.specs.declared.changes.SetupStatement.TheVariants.{Show};
 ghost use Rattle.pfs_admin.specs.States.{State, seat_at};
 ghost use Rattle.pfs_levels.specs.Calls.{Call, Enters, Leaves, Opening};
 ghost use Rattle.pfs_desk.specs.Acted.{HasActed};
@@ -23,7 +24,7 @@ pub fn empty_action<'a, R: Wait, N: Shared>(
     rows: &mut BoardRows<'a, Desk<N>>,
     label: Label,
 ) -> u64
-    requires named { N.change label ≡ Show }
+    requires named { N.change label ≡ Setup Show }
     requires alone { (r : ℕ) → ⟦<BoardRows<'a, Desk<N>> as Rows>⟧.hand rows.old r ≡ None }
     requires room { 0 < ⟦<BoardRows<'a, Desk<N>> as Rows>⟧.left rows.old }
     requires begun { (start : Opening) × (calls : List Call)

@@ -15,15 +15,17 @@ use Rattle.pfs_board.specs.declared.view.Label.{Label}
 use Rattle.pfs_classes.specs.declared.setting.Setting.{Setting}
 use Rattle.pfs_containers.specs.declared.containers.Seated.{Seated}
 use Rattle.pfs_containers.specs.Administration.{Containers}
-use Rattle.pfs_desk.specs.Desks.{IsDesk}
+use Rattle.pfs_desk.specs.Desks.{IsDesk, sets_by, sets_of, work_of_change}
 use Rattle.pfs_desk.specs.Following.{version_after, AllKeepWords, AreAsKnown}
-use Rattle.pfs_desk.proofs.Acted.{IsInside, SetsOne, desk_wide, its_inside, its_of, no_flag, quiet_inside, worked}
+use Rattle.pfs_desk.proofs.Acted.{IsInside, SetsOne, desk_wide, its_inside, its_of, its_sets, no_flag, quiet_inside, worked}
 use Rattle.pfs_desk.proofs.Keeping.{AreQuiet, begun, still}
+use Rattle.pfs_desk.proofs.Setting.{one_more_set, quiet_sets}
 use Rattle.pfs_levels.specs.declared.answers.Word.{Word}
 use Rattle.pfs_levels.specs.Calls.{Call, Opening, Enters, Leaves, Meets, known_version, label_in}
 use Rattle.pfs_levels.specs.Moves.{Move}
 use Rattle.pfs_parts.proofs.Inverting.{OneTurn, TwoTurns, one_turn, two_turns}
 use Rattle.pfs_parts.proofs.Written.{does_at}
+use Rattle.pfs_seats.specs.Pen.{sets_since_met}
 use Rattle.pfs_seats.specs.Reached.{labels_in}
 use Rattle.pfs_session.specs.Settles.{Settles, Paid, paid_calls}
 use Rattle.pfs_session.specs.States.{State, Book}
@@ -97,6 +99,15 @@ work_inside words flags its calls w =
     let i = its_inside words flags w.made w.moves (w.quiet ++ calls) in
     record { label = ap label_in e ∙ (i.label ∙ q.label); labels = ap labels_in e ∙ (i.labels ∙ q.labels) }
 
+-- behind a meet such calls made the sets of these flags
+work_sets : (words : List Word) (flags : List Flagging) (its : List Call) (seen : List ℕ) (calls : List Call) → AreWork words flags its → sets_since_met (its ++ Meets seen ∷ calls) ≡ sets_by words flags
+work_sets words flags its seen calls w =
+    let first : List Call = Meets seen ∷ calls in
+    ap (λ z. sets_since_met (z ++ first)) w.is
+    ∙ (ap sets_since_met (append_assoc (its_of words flags w.made w.moves) w.quiet first)
+    ∙ (its_sets words flags w.made w.moves (w.quiet ++ first)
+    ∙ (ap (λ ss. sets_by words flags ++ ss) (quiet_sets w.quiet first w.is_quiet) ∙ append-nil (sets_by words flags))))
+
 module _ (setting : Setting) (change : Label → Change) (switches : TableId) (label : Label) (labels : List Label) (admin : Administration) (pen : Known) (calls : List Call) where
   abbrev pub first : List Call
   first = Meets pen.view.seen ∷ Enters label labels ∷ calls
@@ -127,6 +138,25 @@ module _ (setting : Setting) (change : Label → Change) (switches : TableId) (l
       let i = work_inside admin.words flags its first w in
       let P : List Label → Label → Type 0 = λ ls l. StandsFor setting change (ls ++ l ∷ []) next in
       subst (λ ls. P ls (label_in (its ++ first))) (sym i.labels) (subst (λ l. P labels l) (sym i.label) stands)
+
+  -- what the labels that they tell make of the sets: the calls' own, then those of the labels found
+  pub sets_behind : (s : State) (what : Change) (its : List Call) → label ≡ label_of s → change (label_of s) ≡ what → IsDesk setting change switches labels admin pen
+      → AreWork admin.words (work_of_change admin s.number what).flags its
+      → (sets_of setting change (labels_in (its ++ first) ++ label_in (its ++ first) ∷ []) ≡ sets_since_met (its ++ first) ++ sets_of setting change (labels_in (its ++ first)))
+      × (labels_in (its ++ first) ≡ labels)
+  sets_behind s what its e names is w =
+      let flags : List Flagging = (work_of_change admin s.number what).flags in
+      let i = work_inside admin.words flags its first w in
+      let next : sets_of setting change (labels ++ label ∷ []) ≡ sets_by admin.words (work_of_change admin label.session what).flags ++ sets_of setting change labels =
+      one_more_set setting change labels label what admin (ap change e ∙ names) is.stands in
+      let same : sets_by admin.words (work_of_change admin label.session what).flags ≡ sets_by admin.words flags = ap (λ (l : Label). sets_by admin.words (work_of_change admin l.session what).flags) e in (
+        ap (λ l. sets_of setting change (labels_in (its ++ first) ++ l ∷ [])) i.label
+            ∙ (ap (λ ls. sets_of setting change (ls ++ label ∷ [])) i.labels
+            ∙ (next
+            ∙ (ap (λ ss. ss ++ sets_of setting change labels) (same ∙ sym (work_sets admin.words flags its pen.view.seen (Enters label labels ∷ calls) w))
+            ∙ ap (λ ls. sets_since_met (its ++ first) ++ sets_of setting change ls) (sym i.labels)))),
+        i.labels,
+      )
 
   pub keeps_behind : (flags : List Flagging) (its : List Call) (next : Administration) → IsDesk setting change switches labels admin pen → AreWork admin.words flags its → SetsOne admin.words flags next.words
       → StandsFor setting change (labels ++ label ∷ []) next → KeepsToWords setting change calls (Leaves ∷ (its ++ first))

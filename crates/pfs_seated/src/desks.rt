@@ -3,8 +3,9 @@
 ghost use Rattle.std.specs.Prelude.{◌≡◌, ◌<◌, ◌≤◌, ◌+◌, ◌^◌, ◌∷◌, ◌++◌, [], ℕ, List, None, Some, IsSome};
 ghost use Rattle.pfs_admin.specs.Fold.{StandsFor};
 ghost use Rattle.pfs_board.specs.declared.view.Label.{Label};
-ghost use Rattle.pfs_desk.specs.Desks.{IsDesk};
+ghost use Rattle.pfs_desk.specs.Desks.{IsDesk, sets_of};
 ghost use Rattle.pfs_levels.specs.Calls.{Call, Enters, Goes, Leaves, Meets, Opening, label_in};
+ghost use Rattle.pfs_seats.specs.Pen.{number_of, sets_since_met};
 ghost use Rattle.pfs_seats.specs.Reached.{labels_in};
 ghost use Rattle.pfs_switches.specs.Known.{Known};
 
@@ -28,8 +29,9 @@ pub(crate) fn begin<'a, 'b, R: Wait, N: Shared>(
     ensures call { (start : Opening) → (calls : List Call)
         → ⟦<BoardRows<'b, Desk<N>> as Rows>⟧.reached rows.entry start calls → (labels : List Label) × (pen : Known)
         × IsDesk N.setting N.change N.switches labels result.0 pen
-        × ⟦<BoardHold<'a, 'b, R, Desk<N>> as Rows>⟧.reached result.1 start
-        (Meets pen.view.seen ∷ Enters label labels ∷ calls) }
+        × (⟦<BoardHold<'a, 'b, R, Desk<N>> as Rows>⟧.reached result.1 start
+        (Meets pen.view.seen ∷ Enters label labels ∷ calls))
+        × (⟦<BoardHold<'a, 'b, R, Desk<N>> as Rows>⟧.name result.1 ≡ number_of (sets_of N.setting N.change labels)) }
     ensures few { result.0.actions < 2 ^ 47 }
     ensures lent { ⟦<BoardHold<'a, 'b, R, Desk<N>> as Rows>⟧.words result.1 ≡ Some result.0.words }
     ensures inside { IsSome (⟦<BoardHold<'a, 'b, R, Desk<N>> as Rows>⟧.hand result.1 0) }
@@ -54,7 +56,11 @@ pub(crate) fn finish<'a, 'b, R: Wait, N: Shared>(
     requires stands { (start : Opening) × (calls : List Call)
         × (⟦<BoardHold<'a, 'b, R, Desk<N>> as Rows>⟧.reached hold start calls)
         × (start.switches.table ≡ N.switches)
-        × StandsFor N.setting N.change (labels_in calls ++ label_in calls ∷ []) admin }
+        × StandsFor N.setting N.change (labels_in calls ++ label_in calls ∷ []) admin
+        × (sets_of N.setting N.change (labels_in calls ++ label_in calls ∷ [])
+        ≡ sets_since_met calls ++ sets_of N.setting N.change (labels_in calls))
+        × (⟦<BoardHold<'a, 'b, R, Desk<N>> as Rows>⟧.name hold
+        ≡ number_of (sets_of N.setting N.change (labels_in calls))) }
     ensures call { Goes (⟦<BoardHold<'a, 'b, R, Desk<N>> as Rows>⟧.reached hold.entry)
         (⟦<BoardRows<'b, Desk<N>> as Rows>⟧.reached result) (Leaves ∷ []) }
     ensures hand { (r : ℕ) → ⟦<BoardRows<'b, Desk<N>> as Rows>⟧.hand result r ≡ None }

@@ -5,6 +5,8 @@ pub mod Words
 pub mod Acting
 pub mod Waits
 pub mod Pens
+pub mod Numbers
+pub mod Lent
 pub mod Gathering
 pub mod Histories
 pub mod Labels

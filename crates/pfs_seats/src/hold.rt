@@ -1,10 +1,11 @@
 //! What an actor does inside an action, and as it pauses.
 
-ghost use Rattle.std.specs.Prelude.{◌≡◌, ◌≤◌, [], ℕ, List, Option, Some, None, IfSome, IsSome, length, option_map};
+ghost use Rattle.std.specs.Prelude.{◌≡◌, ◌≤◌, ◌++◌, [], ℕ, List, Option, Some, None, IfSome, IsSome, length, option_map};
 ghost use Rattle.std.proofs.Props.{props};
 ghost use Rattle.pfs_levels.specs.Calls.{Call, Opening, Goes};
 ghost use Rattle.pfs_board.specs.Knowledge.{corner};
-ghost use Rattle.pfs_seats.specs.Pen.{meeting, words_of};
+ghost use Rattle.pfs_seats.specs.Pen.{HasSet, meeting, number_of, sets_in, sets_since_met, words_of};
+ghost use Rattle.pfs_switches.specs.declared.view.Setting.{Setting};
 ghost use Rattle.pfs_seats.specs.Reached.{in_hand};
 
 use crate::rows::BoardRows;
@@ -13,6 +14,7 @@ use pfs_levels::{Added, Hold, RingPut, Rows};
 use pfs_rows::Seen;
 use pfs_stat::Stat;
 use pfs_switches::Writer;
+use std::snapshot::Snapshot;
 use std::sync::Wait;
 
 /// The store of an actor that may also wait for rows and hold them, and set words where it was lent their writer.
@@ -21,6 +23,8 @@ pub struct BoardHold<'a, 'b, R: Wait, V: Kept> {
     rt: &'a R,
     rows: BoardRows<'b, V>,
     writer: Option<Writer>,
+    // The writer as it was lent, for clauses alone.
+    lent: Snapshot<Option<Writer>>,
     ghost same: { IfSome writer (λ w. w.switches ≡ rows.switches.now.id) } by { Prim.hlevel props },
     ghost wide: { IfSome writer (λ w. 160 ≤ length w.view.seen) } by { Prim.hlevel props },
     ghost inside: { IfSome writer (λ _. IsSome (in_hand (corner rows.seat.view 0).stage)) } by { Prim.hlevel props },
@@ -39,7 +43,9 @@ impl<'a, 'b, R: Wait, V: Kept> BoardHold<'a, 'b, R, V> {
         ensures draws { ⟦<BoardHold<'a, 'b, R, V> as Rows>⟧.draws result ≡ ⟦<BoardRows<'b, V> as Rows>⟧.draws rows.entry }
         ensures hand { (r : ℕ) → ⟦<BoardHold<'a, 'b, R, V> as Rows>⟧.hand result r ≡ ⟦<BoardRows<'b, V> as Rows>⟧.hand rows.entry r }
         ensures words { ⟦<BoardHold<'a, 'b, R, V> as Rows>⟧.words result ≡ option_map (λ w. words_of w.view) writer }
+        ensures name { ⟦<BoardHold<'a, 'b, R, V> as Rows>⟧.name result ≡ number_of (sets_in writer) }
     {
+        let lent = Snapshot::of(&writer);
         match writer {
             Some(pen) => {
                 let mut rows = rows;
@@ -48,17 +54,20 @@ impl<'a, 'b, R: Wait, V: Kept> BoardHold<'a, 'b, R, V> {
                     rt,
                     rows,
                     writer: Some(pen),
+                    lent,
                 }
             }
             None => BoardHold {
                 rt,
                 rows,
                 writer: None,
+                lent,
             },
         }
     }
 
-    /// Gives back the store, behind the hold's calls, and the writer, where it was lent one.
+    /// Gives back the store, behind the hold's calls, and the writer, where it was lent one. Its sets are those of the
+    /// calls behind its meet, then those that it had as it was lent, which the hold's name tells.
     pub fn into_parts(self) -> (BoardRows<'b, V>, Option<Writer>)
         ensures call { Goes (⟦<BoardHold<'a, 'b, R, V> as Rows>⟧.reached self.entry) (⟦<BoardRows<'b, V> as Rows>⟧.reached result.0) [] }
         ensures left { ⟦<BoardRows<'b, V> as Rows>⟧.left result.0 ≡ ⟦<BoardHold<'a, 'b, R, V> as Rows>⟧.left self.entry }
@@ -67,18 +76,23 @@ impl<'a, 'b, R: Wait, V: Kept> BoardHold<'a, 'b, R, V> {
         ensures words { option_map (λ w. words_of w.view) result.1 ≡ ⟦<BoardHold<'a, 'b, R, V> as Rows>⟧.words self.entry }
         ensures same { (start : Opening) → (calls : List Call) → ⟦<BoardHold<'a, 'b, R, V> as Rows>⟧.reached self.entry start calls → IfSome result.1 (λ w. w.switches ≡ start.switches.table) }
         ensures wide { IfSome result.1 (λ w. 160 ≤ length w.view.seen) }
+        ensures sets { (start : Opening) → (calls : List Call) → ⟦<BoardHold<'a, 'b, R, V> as Rows>⟧.reached self.entry start calls
+            → (had : List Setting) → ⟦<BoardHold<'a, 'b, R, V> as Rows>⟧.name self.entry ≡ number_of had
+            → IfSome result.1 (λ w. w.view.sets ≡ sets_since_met calls ++ had) }
     {
         let BoardHold {
             rt: _,
             rows,
             writer,
+            lent: _,
         } = self;
         (rows, writer)
     }
 }
 
 impl<'a, 'b, R: Wait, V: Kept> Rows for BoardHold<'a, 'b, R, V> {
-    ghost reached = { λ s. ⟦<BoardRows<'b, V> as Rows>⟧.reached s.rows };
+    ghost reached = { λ s start calls. (⟦<BoardRows<'b, V> as Rows>⟧.reached s.rows start calls)
+        × HasSet s.lent.value calls s.writer };
 
     ghost left = { λ s. ⟦<BoardRows<'b, V> as Rows>⟧.left s.rows };
 
@@ -88,7 +102,7 @@ impl<'a, 'b, R: Wait, V: Kept> Rows for BoardHold<'a, 'b, R, V> {
 
     ghost words = { λ s. option_map (λ w. words_of w.view) s.writer };
 
-    ghost name = { λ s. 0 };
+    ghost name = { λ s. number_of (sets_in s.lent.value) };
 
     fn add_try(&mut self, row: u64, amount: &Stat) -> Added {
         self.rows.add_try(row, amount)

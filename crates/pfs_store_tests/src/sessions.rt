@@ -19,6 +19,8 @@ use pfs_stat::Stat;
 use std::alloc::Global;
 use std::test::Fail;
 
+mod actions;
+mod looks;
 mod rings;
 
 const LONG_HISTORY: u64 = 10_242;
@@ -160,6 +162,8 @@ fn record<R: Rows>(
     ensures left { R.left rows.old ≤ R.left rows.new + 6 }
     ensures draws { R.draws rows.old ≤ R.draws rows.new + 1 }
     ensures room { session.old.journal.room ≤ session.new.journal.room + 8 }
+    ensures actions { session.new.state.actions ≡ session.old.state.actions }
+    ensures words { R.words rows.new ≡ R.words rows.old }
 {
     let started = session.start(rows, what);
     session.spend(time);

@@ -7,7 +7,7 @@ use Rattle.pfs_admin.specs.States.{State, connected, seat_at, thread_flags}
 use Rattle.pfs_levels.specs.declared.answers.Word.{Word}
 use Rattle.pfs_levels.specs.Calls.{Enters}
 use Rattle.pfs_switches.specs.Known.{Known}
-use Rattle.pfs_desk.proofs.Acted.{SetsOne, acted, connect_sets, ended, followed, named, same_desk}
+use Rattle.pfs_desk.proofs.Acted.{SetsOne, acted, connect_sets, ended, followed, named, returned, same_desk}
 use Rattle.pfs_desk.proofs.Shown.{few_actions}
 use Rattle.pfs_desk.proofs.actions.connect.Goals as goal
 
@@ -42,8 +42,10 @@ leave-requires-clause-value g c =
     let worked = c.connect-placed.ensures.worked in
     let done = worked.did.goes begun.0 _ met in
     let from = subst (λ (t : TableId). IfSome c.into_parts-rows.result.1 (λ (x : Known). x.switches ≡ t)) begun.3 (c.into_parts-rows.ensures.same begun.0 _ done) in
+    let sets = returned c.into_parts-rows.result.1 old.words what.flags worked.made worked.moves c.into_parts-admin.result.1.view.seen (Enters c.args.label entered.0 ∷ begun.1) _ _
+    (c.into_parts-rows.ensures.sets begun.0 _ done c.into_parts-admin.result.1.view.sets (c.connect-placed.ensures.leaves.name ∙ c.new-hold.ensures.name)) is.sets in
     let then = followed g.N.Named.setting g.N.Named.change g.N.Shared.switches entered.0 _ _ is c.args.label _ _ _ _ _ _ _ c.requires.named c.connect-placed.ensures.stands c.new.ensures.admin c.new.ensures.writer c.in-Some.is
-    c.into_parts-rows.ensures.words c.connect-placed.ensures.lent from in (
+    c.into_parts-rows.ensures.words c.connect-placed.ensures.lent from sets in (
       begun.0,
       _,
       c.into_parts-rows.ensures.call begun.0 _ done,
@@ -54,18 +56,20 @@ pub returns-clause-acted : goal.returns-clause-acted
 returns-clause-acted g c = λ start calls reached.
     let begun = c.requires.begun in
     let old = c.into_parts-admin.result.0 in
+    let what = work_of_connect old c.args.label.session c.args.user c.args.host in
     let entered = c.enter-desk.ensures.call start calls reached in
     let is = same_desk g.N.Named.setting g.N.Named.change g.N.Shared.switches entered.0 _ _ entered.1.1 _ _ c.into_parts-admin.ensures.admin c.into_parts-admin.ensures.writer in
     let worked = c.connect-placed.ensures.worked in
     let before = c.enter-desk.ensures.call begun.0 begun.1 begun.2 in
     let known = worked.did.goes begun.0 _ (c.new-hold.ensures.call begun.0 (Enters c.args.label before.0 ∷ begun.1) before.1.2) in
     let from = subst (λ (t : TableId). IfSome c.into_parts-rows.result.1 (λ (x : Known). x.switches ≡ t)) begun.3 (c.into_parts-rows.ensures.same begun.0 _ known) in
+    let sets = returned c.into_parts-rows.result.1 old.words what.flags worked.made worked.moves c.into_parts-admin.result.1.view.seen (Enters c.args.label before.0 ∷ begun.1) _ _
+    (c.into_parts-rows.ensures.sets begun.0 _ known c.into_parts-admin.result.1.view.sets (c.connect-placed.ensures.leaves.name ∙ c.new-hold.ensures.name)) is.sets in
     let then = followed g.N.Named.setting g.N.Named.change g.N.Shared.switches entered.0 _ _ is c.args.label _ _ _ _ _ _ _ c.requires.named c.connect-placed.ensures.stands c.new.ensures.admin c.new.ensures.writer c.in-Some.is
-    c.into_parts-rows.ensures.words c.connect-placed.ensures.lent from in
+    c.into_parts-rows.ensures.words c.connect-placed.ensures.lent from sets in
     let done = worked.did.goes start _ (c.new-hold.ensures.call start (Enters c.args.label entered.0 ∷ calls) entered.1.2) in
     let low = subst (λ (p : Placed). IfSome p.thread (λ n. n < 32)) c.connect-placed.ensures.placed c.connect-placed.ensures.slot in
     let words = ap (λ (s : State). s.words) (c.new.ensures.admin ∙ c.connect-placed.ensures.step) in
-    let what = work_of_connect old c.args.label.session c.args.user c.args.host in
     let one = subst (λ (ws : List Word). SetsOne old.words what.flags ws) (sym words)
     (connect_sets old.words (thread_flags old c.args.user c.args.host) (connected old c.args.label.session c.args.user c.args.host).kept.now (seat_at old c.args.label.session c.args.user c.args.host) low) in (
       _,

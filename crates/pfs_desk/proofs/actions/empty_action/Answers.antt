@@ -1,7 +1,7 @@
 use Rattle.std.proofs.Common.{◌∷◌, ap, ◌∙◌}
 use Rattle.pfs_admin.specs.States.{State}
 use Rattle.pfs_levels.specs.Calls.{Enters}
-use Rattle.pfs_desk.proofs.Shown.{few_actions, shown}
+use Rattle.pfs_desk.proofs.Shown.{few_actions, shown, shows_words}
 use Rattle.pfs_desk.proofs.actions.empty_action.Goals as goal
 
 pub note-requires : goal.note-requires
@@ -18,7 +18,7 @@ leave-requires-clause-value g c =
       Enters c.args.label entered.0 ∷ begun.1,
       entered.1.2,
       shown g.N.Named.setting g.N.Named.change g.N.Shared.switches entered.0 _ _ entered.1.1 c.args.label c.requires.named _ _ _ _
-          c.into_parts-admin.ensures.admin (c.note.ensures.stands c.args.label.session) (ap (λ (s : State). s.words) c.note.ensures.step)
+          c.into_parts-admin.ensures.admin (c.note.ensures.stands c.args.label.session) (ap (λ (s : State). s.words) c.note.ensures.step ∙ shows_words c.into_parts-admin.result.0)
           c.new.ensures.admin (c.new.ensures.writer ∙ c.into_parts-admin.ensures.writer),
     )
 

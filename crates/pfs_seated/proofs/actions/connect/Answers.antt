@@ -1,12 +1,14 @@
-use Rattle.std.proofs.Common.{◌<◌, List, ap, subst, sym, arith}
+use Rattle.std.proofs.Common.{◌<◌, List, ap, subst, sym, arith, ◌∙◌}
 use Rattle.std.specs.Prelude.{IfSome}
 use Rattle.pfs_admin.specs.Asks.{placed_of, work_of_connect}
 use Rattle.pfs_admin.specs.declared.admin.Placed.{Placed}
 use Rattle.pfs_admin.specs.declared.changes.Change.TheVariants.{Connect}
 use Rattle.pfs_admin.specs.States.{State as Administration, connected, seat_at, thread_flags}
 use Rattle.pfs_desk.proofs.Acted.{SetsOne, connect_sets, named}
+use Rattle.pfs_desk.specs.Desks.{sets_of}
 use Rattle.pfs_levels.specs.declared.answers.Word.{Word}
-use Rattle.pfs_seated.proofs.Acting.{acted, connect_calls, keeps_behind, stands_behind, stood}
+use Rattle.pfs_seats.specs.Pen.{number_of}
+use Rattle.pfs_seated.proofs.Acting.{acted, connect_calls, keeps_behind, sets_behind, stands_behind, stood}
 use Rattle.pfs_seated.proofs.actions.connect.Goals as goal
 
 pub connect-requires-clause-user : goal.connect-requires-clause-user
@@ -29,12 +31,15 @@ finish-requires-clause-stands g c =
     let met = c.begin-admin.ensures.call begun.0 begun.1 begun.2 in
     let p = c.connect.ensures.played in
     let work = connect_calls old p.turns admin c.args.user c.args.host p.are_turns p.steps_are in
-    let behind = stood g.N.Named.setting g.N.Named.change g.N.Shared.switches _ met.0 admin met.1 begun.1 old (Connect c.args.user c.args.host) _ c.label.ensures c.requires.named met.2 c.connect.ensures.admin in (
+    let behind = stood g.N.Named.setting g.N.Named.change g.N.Shared.switches _ met.0 admin met.1 begun.1 old (Connect c.args.user c.args.host) _ c.label.ensures c.requires.named met.2 c.connect.ensures.admin in
+    let sets = sets_behind g.N.Named.setting g.N.Named.change g.N.Shared.switches _ met.0 admin met.1 begun.1 old (Connect c.args.user c.args.host) _ c.label.ensures c.requires.named met.2 work in (
       begun.0,
       _,
       p.did.goes begun.0 _ met.3,
       begun.3,
       stands_behind g.N.Named.setting g.N.Named.change g.N.Shared.switches _ met.0 admin met.1 begun.1 _ _ _ work behind,
+      sets.0,
+      c.connect.ensures.leaves.name ∙ met.4 ∙ ap (λ ls. number_of (sets_of g.N.Named.setting g.N.Named.change ls)) (sym sets.1),
     )
 
 pub returns-clause-acted : goal.returns-clause-acted

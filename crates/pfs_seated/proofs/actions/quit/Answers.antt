@@ -1,10 +1,12 @@
-use Rattle.std.proofs.Common.{List, ap, subst, sym}
+use Rattle.std.proofs.Common.{List, ap, subst, sym, ◌∙◌}
 use Rattle.pfs_admin.specs.Asks.{work_of_quit}
 use Rattle.pfs_admin.specs.declared.changes.Change.TheVariants.{Quit}
 use Rattle.pfs_admin.specs.States.{State as Administration, has_quit, seat_in}
 use Rattle.pfs_desk.proofs.Acted.{SetsOne, desk_wide}
+use Rattle.pfs_desk.specs.Desks.{sets_of}
 use Rattle.pfs_levels.specs.declared.answers.Word.{Word}
-use Rattle.pfs_seated.proofs.Acting.{acted, keeps_behind, quit_calls, quit_sets, stands_behind, stood}
+use Rattle.pfs_seats.specs.Pen.{number_of}
+use Rattle.pfs_seated.proofs.Acting.{acted, keeps_behind, quit_calls, quit_sets, sets_behind, stands_behind, stood}
 use Rattle.pfs_seated.proofs.actions.quit.Goals as goal
 
 pub finish-requires-clause-stands : goal.finish-requires-clause-stands
@@ -15,12 +17,15 @@ finish-requires-clause-stands g c =
     let met = c.begin-admin.ensures.call begun.0 begun.1 begun.2 in
     let p = c.quit.ensures.played in
     let work = quit_calls old p.turns admin p.are_turns p.steps_are in
-    let behind = stood g.N.Named.setting g.N.Named.change g.N.Shared.switches _ met.0 admin met.1 begun.1 old Quit _ c.label.ensures c.requires.named met.2 c.quit.ensures.admin in (
+    let behind = stood g.N.Named.setting g.N.Named.change g.N.Shared.switches _ met.0 admin met.1 begun.1 old Quit _ c.label.ensures c.requires.named met.2 c.quit.ensures.admin in
+    let sets = sets_behind g.N.Named.setting g.N.Named.change g.N.Shared.switches _ met.0 admin met.1 begun.1 old Quit _ c.label.ensures c.requires.named met.2 work in (
       begun.0,
       _,
       p.did.goes begun.0 _ met.3,
       begun.3,
       stands_behind g.N.Named.setting g.N.Named.change g.N.Shared.switches _ met.0 admin met.1 begun.1 _ _ _ work behind,
+      sets.0,
+      c.quit.ensures.leaves.name ∙ met.4 ∙ ap (λ ls. number_of (sets_of g.N.Named.setting g.N.Named.change ls)) (sym sets.1),
     )
 
 pub returns-clause-acted : goal.returns-clause-acted

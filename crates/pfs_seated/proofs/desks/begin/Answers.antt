@@ -1,3 +1,5 @@
+use Rattle.std.proofs.Common.{ap, ◌∙◌}
+use Rattle.pfs_seats.specs.Pen.{number_of}
 use Rattle.pfs_desk.proofs.Acted.{same_desk}
 use Rattle.pfs_desk.proofs.Shown.{few_actions}
 use Rattle.pfs_seated.proofs.desks.begin.Goals as goal
@@ -5,11 +7,13 @@ use Rattle.pfs_seated.proofs.desks.begin.Goals as goal
 pub returns-clause-call : goal.returns-clause-call
 returns-clause-call g c = λ start calls reached.
     let entered = c.enter-desk.ensures.call start calls reached in
-    let parts = c.into_parts-admin.ensures in (
+    let parts = c.into_parts-admin.ensures in
+    let is = same_desk g.N.Named.setting g.N.Named.change g.N.Shared.switches entered.0 _ _ entered.1.1 _ _ parts.admin parts.writer in (
       entered.0,
       c.into_parts-admin.result.1,
-      same_desk g.N.Named.setting g.N.Named.change g.N.Shared.switches entered.0 _ _ entered.1.1 _ _ parts.admin parts.writer,
+      is,
       c.new.ensures.call start _ entered.1.2,
+      c.new.ensures.name ∙ ap number_of is.sets,
     )
 
 pub returns-clause-few : goal.returns-clause-few
