@@ -4,7 +4,6 @@ ghost use Rattle.pfs_changes.specs.Inserts.{table_of};
 
 use crate::TestList;
 use pfs_matching::{ActorRow, FlagChange, ObjectRow};
-use pfs_names::NameId;
 use pfs_rows::Table;
 
 /// New values for the flags of each row that meets the conditions.
@@ -54,17 +53,12 @@ impl Insert {
     }
 }
 
-/// What a session asks of the administration.
+/// What a text of SQL asks of the administration, a SELECT aside.
 #[derive(Debug, Drop)]
 pub enum Change {
-    /// The session begins, with the names of its user and its host.
-    Connect { user: NameId, host: NameId },
-    /// The session ends.
-    Quit,
+    /// This table is emptied.
     Truncate(Table),
     Update(Update),
     Insert(Insert),
     Delete(Delete),
-    /// `setup_actors` or `setup_objects` is read. It changes nothing, and has its place among the changes.
-    Show,
 }

@@ -116,3 +116,11 @@ none_said text none = on (tokens_from (suc (length text)) text) refl where
   on : (o : Option (List Token)) → tokens_from (suc (length text)) text ≡ o → (o >>= command_of) ≡ None
   on None q = refl
   on (Some tokens) q = by_tokens tokens q (command_of tokens) refl
+
+-- the command that is read is said
+pub command_read : (text : List ℕ) (command : Command) → command_in text ≡ Some command → Says text command
+unfolding command_in
+command_read text command e = on (tokens_from (suc (length text)) text) refl e where
+  on : (o : Option (List Token)) → tokens_from (suc (length text)) text ≡ o → (o >>= command_of) ≡ Some command → Says text command
+  on None q h = absurd cc
+  on (Some tokens) q h = says text tokens command (read_so (suc (length text)) text tokens q) h

@@ -1,2 +1,4 @@
+pub mod Asked
 pub mod Commands
 pub mod Planned
+pub mod Rows

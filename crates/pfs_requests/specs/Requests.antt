@@ -4,7 +4,7 @@ use Rattle.std.specs.List.{find, list_all, prefix_len}
 use Rattle.pfs_catalogue.specs.Names.{is_same_name, without_schema}
 use Rattle.pfs_catalogue.specs.declared.tables.TheConstants.{TABLES}
 use Rattle.pfs_changes.specs.declared.changes.Change.{Change}
-use Rattle.pfs_changes.specs.declared.changes.Change.TheVariants.{Connect, Quit, Truncate, Update, Insert, Delete, Show}
+use Rattle.pfs_changes.specs.declared.changes.Change.TheVariants.{Truncate, Update, Insert, Delete}
 use Rattle.pfs_exec.specs.Planning.{fault_of, plan_of, table_text}
 use Rattle.pfs_exec.specs.declared.query.Plan.{Plan}
 use Rattle.pfs_exec.specs.declared.query.Plan.TheVariants.{Select as PlanSelect, Change as PlanChange}
@@ -20,8 +20,8 @@ use Rattle.pfs_sql.specs.declared.command.Command.{Command}
 use Rattle.pfs_sql.specs.declared.faults.SqlError.{SqlError}
 use Rattle.pfs_sql.specs.declared.faults.SqlError.TheVariants.{Parse, NoSuchTable}
 use Rattle.pfs_sql.specs.declared.token.Token.{Token}
+use Rattle.pfs_truncations.specs.Texts.{truncation_on}
 use Rattle.pfs_truncations.specs.declared.truncations.Truncation.{Truncation}
-use Rattle.pfs_truncations.specs.declared.truncations.Truncation.TheVariants as truncations
 use Rattle.pfs_requests.specs.declared.requests.Request.{Request}
 use Rattle.pfs_requests.specs.declared.requests.Request.TheVariants as requests
 
@@ -43,20 +43,6 @@ command_in text = tokens_from (suc (length text)) text >>= command_of
 unfoldable pub table_in : List ℕ → Option Table
 table_in name = find (λ table. is_same_name (table_name table) (without_schema name)) TABLES
 
--- no other table is truncated
-abbrev pub truncation_on : Table → Option Truncation
-truncation_on (tables.Summary kind table) = Some (truncations.Summary kind table)
-truncation_on (tables.Events kind table) = Some (truncations.Events kind table)
-truncation_on tables.DigestSummary = Some truncations.DigestSummary
-truncation_on tables.Accounts = Some truncations.Accounts
-truncation_on tables.Users = Some truncations.Users
-truncation_on tables.Hosts = Some truncations.Hosts
-truncation_on tables.SetupActors = Some truncations.SetupActors
-truncation_on tables.SetupObjects = Some truncations.SetupObjects
-truncation_on tables.SetupInstruments = None
-truncation_on tables.SetupConsumers = None
-truncation_on tables.Threads = None
-
 abbrev pub refused : SqlError → Request
 refused error = requests.Refused (number_of error)
 
@@ -64,15 +50,11 @@ abbrev pub truncating : Option Truncation → Request
 truncating None = refused Parse
 truncating (Some what) = requests.Truncate what
 
--- no text plans a connect, a quit or the reading of a setup table as a change
 abbrev pub asks_change : Change → Request
 asks_change (Truncate table) = truncating (truncation_on table)
 asks_change (Update update) = requests.Update update
 asks_change (Insert insert) = requests.Insert insert
 asks_change (Delete delete) = requests.Delete delete
-asks_change (Connect user host) = refused Parse
-asks_change Quit = refused Parse
-asks_change Show = refused Parse
 
 -- the rows of the two rule tables are the administration's own, those of every other table are read of the store
 abbrev pub asks_rows : Table → Select → Request

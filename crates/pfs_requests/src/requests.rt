@@ -1,7 +1,7 @@
 //! From a text of SQL to what it asks for.
 
 ghost use Rattle.std.specs.Prelude.{◌≡◌, IfOk};
-ghost use Rattle.pfs_requests.specs.Requests.{asks_change as spec_asks_change, asks_rows as spec_asks_rows, refused as spec_refused, request_of, truncating, truncation_on};
+ghost use Rattle.pfs_requests.specs.Requests.{asks_change as spec_asks_change, asks_rows as spec_asks_rows, refused as spec_refused, request_of, truncating};
 
 use crate::NoMemory;
 use pfs_changes::{Change, Delete, Insert, Update};
@@ -22,14 +22,17 @@ pub enum Request {
     Show(Select),
     /// A TRUNCATE, an action.
     Truncate(Truncation),
-    /// Each of these changes a setup table, an action.
+    /// An UPDATE of rows of a setup table or of `threads`, an action.
     Update(Update),
+    /// An INSERT of a row into `setup_actors` or `setup_objects`, an action.
     Insert(Insert),
+    /// A DELETE of rows of `setup_actors` or `setup_objects`, an action.
     Delete(Delete),
 }
 
 /// What a text asks for: it is read, its table is found, and it is planned there. Refused with the first reason that
-/// holds, by MySQL's numbers: 1064, 1146, 1142, 1054, 1064 and 1683 in this order, which is our own.
+/// holds, by MySQL's numbers: 1064, 1146, 1142, 1054, 1064 and 1683 in this order, which is our own. Err is `NoMemory`
+/// alone.
 pub fn request_of(alloc: Global, text: &[u8]) -> Result<Request, NoMemory>
     ensures { IfOk result (λ request. request ≡ request_of text.now) }
 {
@@ -67,12 +70,10 @@ fn asks_change(change: Change) -> Request
     ensures { result ≡ spec_asks_change change }
 {
     match change {
-        Change::Truncate(table) => truncating(truncation_on(table)),
+        Change::Truncate(table) => truncating(Truncation::on(table)),
         Change::Update(update) => Request::Update(update),
         Change::Insert(insert) => Request::Insert(insert),
         Change::Delete(delete) => Request::Delete(delete),
-        // No text plans these.
-        Change::Connect { .. } | Change::Quit | Change::Show => refused(SqlError::Parse),
     }
 }
 
@@ -82,21 +83,5 @@ fn truncating(what: Option<Truncation>) -> Request
     match what {
         Some(what) => Request::Truncate(what),
         None => refused(SqlError::Parse),
-    }
-}
-
-fn truncation_on(table: Table) -> Option<Truncation>
-    ensures { result ≡ truncation_on table }
-{
-    match table {
-        Table::Summary(kind, table) => Some(Truncation::Summary(kind, table)),
-        Table::Events(kind, table) => Some(Truncation::Events(kind, table)),
-        Table::DigestSummary => Some(Truncation::DigestSummary),
-        Table::Accounts => Some(Truncation::Accounts),
-        Table::Users => Some(Truncation::Users),
-        Table::Hosts => Some(Truncation::Hosts),
-        Table::SetupActors => Some(Truncation::SetupActors),
-        Table::SetupObjects => Some(Truncation::SetupObjects),
-        Table::SetupInstruments | Table::SetupConsumers | Table::Threads => None,
     }
 }

@@ -1,11 +1,7 @@
--- The texts that ask for a truncation: `TRUNCATE` and the table's name in lower case.
-use Rattle.std.specs.Prelude.{ℕ, ◌≡◌, if◌then◌else◌, List, ◌++◌, Option, Some, None, codes, take, drop}
-use Rattle.std.specs.List.{find}
-use Rattle.std.specs.Str.{bytes_eq}
+-- The tables that are truncated.
+use Rattle.std.specs.Prelude.{◌≡◌, Option, Some, None}
 use Rattle.pfs_rows.specs.declared.table.Table.{Table}
 use Rattle.pfs_rows.specs.declared.table.Table.TheVariants as tables
-use Rattle.pfs_rows.specs.Tables.{table_name}
-use Rattle.pfs_truncations.specs.declared.texts.TheConstants.{TRUNCATIONS}
 use Rattle.pfs_truncations.specs.declared.truncations.Truncation.{Truncation}
 use Rattle.pfs_truncations.specs.declared.truncations.Truncation.TheVariants.{Events, Summary, DigestSummary, Accounts, Users, Hosts, SetupActors, SetupObjects}
 
@@ -19,25 +15,21 @@ table_of Hosts = tables.Hosts
 table_of SetupActors = tables.SetupActors
 table_of SetupObjects = tables.SetupObjects
 
--- the text that asks for it
-abbrev pub text_of : Truncation → List ℕ
-text_of what = codes "TRUNCATE " ++ table_name (table_of what)
+-- the truncation of a table, none where it isn't truncated
+abbrev pub truncation_on : Table → Option Truncation
+truncation_on (tables.Summary kind table) = Some (Summary kind table)
+truncation_on (tables.Events kind table) = Some (Events kind table)
+truncation_on tables.DigestSummary = Some DigestSummary
+truncation_on tables.Accounts = Some Accounts
+truncation_on tables.Users = Some Users
+truncation_on tables.Hosts = Some Hosts
+truncation_on tables.SetupActors = Some SetupActors
+truncation_on tables.SetupObjects = Some SetupObjects
+truncation_on tables.SetupInstruments = None
+truncation_on tables.SetupConsumers = None
+truncation_on tables.Threads = None
 
--- what stands behind `TRUNCATE`
-unfoldable pub name_in : List ℕ → Option (List ℕ)
-name_in text = if bytes_eq (take 9 text) (codes "TRUNCATE ") then Some (drop 9 text) else None
-
-abbrev pub named : Option (List ℕ) → Option Truncation
-named None = None
-named (Some name) = find (λ what. bytes_eq (table_name (table_of what)) name) TRUNCATIONS
-
--- the truncation that a text asks for
-unfoldable pub truncation_of : List ℕ → Option Truncation
-truncation_of text = named (name_in text)
-
--- of each its text asks for it, and no other text does
-abbrev pub TextLaw : Type 0
-TextLaw = (text : List ℕ) (what : Truncation) → truncation_of text ≡ Some what → text ≡ text_of what
-
-abbrev pub FoundLaw : Type 0
-FoundLaw = (what : Truncation) → truncation_of (text_of what) ≡ Some what
+-- the truncation of a table is the one whose table it is: it has no other, and each truncation is its table's
+pub record TableLaw : Type 0 where
+  pub its_table : (table : Table) (what : Truncation) → truncation_on table ≡ Some what → table_of what ≡ table
+  pub found : (table : Table) (what : Truncation) → table_of what ≡ table → truncation_on table ≡ Some what

@@ -1,13 +1,8 @@
-//! Laws of the texts.
+//! A law of the truncations.
 
-ghost use Rattle.pfs_truncations.specs.Texts.{FoundLaw, TextLaw};
+ghost use Rattle.pfs_truncations.specs.Texts.{TableLaw};
 
-/// A text that asks for a truncation is the one that does.
-pub fn no_other_text()
-    ensures { TextLaw }
-{}
-
-/// Each truncation is asked for by its text.
-pub fn all_are_found()
-    ensures { FoundLaw }
+/// The truncation of a table is the one whose table it is, and it has one where there is such a truncation.
+pub fn each_has_its_table()
+    ensures { TableLaw }
 {}

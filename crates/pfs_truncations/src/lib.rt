@@ -1,9 +1,7 @@
-//! The tables that are truncated, and the texts that ask for it.
+//! The tables that are truncated.
 #![tactic(auto)]
 
 pub mod laws;
-mod texts;
 mod truncations;
 
-pub use texts::truncation_of;
 pub use truncations::Truncation;

@@ -1,7 +1,7 @@
 //! The tables that are truncated.
 
 ghost use Rattle.std.specs.Prelude.{◌≡◌};
-ghost use Rattle.pfs_truncations.specs.Texts.{table_of};
+ghost use Rattle.pfs_truncations.specs.Texts.{table_of, truncation_on};
 
 use pfs_rows::{EventTable, SummaryTable, Table, TableKind};
 
@@ -35,6 +35,23 @@ impl Truncation {
             Truncation::Hosts => Table::Hosts,
             Truncation::SetupActors => Table::SetupActors,
             Truncation::SetupObjects => Table::SetupObjects,
+        }
+    }
+
+    /// The truncation of a table; None where it isn't truncated.
+    pub fn on(table: Table) -> Option<Truncation>
+        ensures { result ≡ truncation_on table }
+    {
+        match table {
+            Table::Summary(kind, table) => Some(Truncation::Summary(kind, table)),
+            Table::Events(kind, table) => Some(Truncation::Events(kind, table)),
+            Table::DigestSummary => Some(Truncation::DigestSummary),
+            Table::Accounts => Some(Truncation::Accounts),
+            Table::Users => Some(Truncation::Users),
+            Table::Hosts => Some(Truncation::Hosts),
+            Table::SetupActors => Some(Truncation::SetupActors),
+            Table::SetupObjects => Some(Truncation::SetupObjects),
+            Table::SetupInstruments | Table::SetupConsumers | Table::Threads => None,
         }
     }
 }
