@@ -4,7 +4,6 @@ use Rattle.std.proofs.lemmas.Bool.Decides.{nat_tests}
 use Rattle.pfs_event.specs.declared.kind.EventKind.{EventKind}
 use Rattle.pfs_script.specs.declared.forms.Form.{Form}
 use Rattle.pfs_script.specs.declared.forms.Form.TheVariants as lines
-use Rattle.pfs_script.specs.declared.reasons.Extent.TheVariants.{Whole}
 use Rattle.pfs_script.specs.Brackets.{kinds_behind}
 use Rattle.pfs_script.specs.Sessions.{is_phase, is_session, ends_block}
 use Rattle.pfs_script.specs.Next.{is_out_of_place, is_bad_number, is_bad_session, is_unknown, is_bad_limit, is_bad_nesting, is_bad_statement, is_blockless, kinds_open, mark_of_form, weight_of}
@@ -66,9 +65,8 @@ pub record IsFitting (before : List Form) (line : Form) : Type 0 where
   pub nesting : is_bad_nesting before line ≡ false
   pub statement : is_bad_statement line ≡ false
 
-passes : (before : List Form) (line : Form) → IsFitting before line → HasRoom before line → Passes Whole before line
+passes : (before : List Form) (line : Form) → IsFitting before line → HasRoom before line → Passes before line
 passes before line f r = record {
-  let_in = refl;
   place = f.place;
   number = f.number;
   session = f.session;

@@ -7,7 +7,6 @@ use Rattle.pfs_event.specs.declared.kind.EventKind.{EventKind}
 use Rattle.pfs_event.specs.declared.kind.EventKind.TheVariants as kinds
 use Rattle.pfs_script.specs.declared.forms.Form.{Form}
 use Rattle.pfs_script.specs.declared.forms.Form.TheVariants as lines
-use Rattle.pfs_script.specs.declared.reasons.Extent.TheVariants.{Whole}
 use Rattle.pfs_script.specs.Marks.{Opens, Ends}
 use Rattle.pfs_script.specs.Brackets.{may_stand}
 use Rattle.pfs_script.specs.declared.blocks.Phase.{Phase}
@@ -15,8 +14,7 @@ use Rattle.pfs_script.specs.Counts.{is_in_repeat}
 use Rattle.pfs_script.specs.Blocks.{sense_of, phases_of}
 use Rattle.pfs_script.specs.Scripts.{parts_of, lines_from, IsText, IsScript}
 use Rattle.pfs_script.proofs.Steps.{says_all}
-use Rattle.pfs_script.proofs.Exactness.{found_text}
-use Rattle.pfs_script.proofs.Wholly.{script_made}
+use Rattle.pfs_script.proofs.Exactness.{found_text, script_made}
 use Rattle.pfs_gen.specs.Draws.{draw}
 use Rattle.pfs_gen.specs.Generated.{statement_line, wait_line, spend_line, unit_text, unit_at, units_text, session_line, session_text, connect_line, script_text}
 use Rattle.pfs_gen.proofs.Goes.{Goes}
@@ -176,17 +174,17 @@ script_leads number =
 read_whole : (number : ℕ) → Reaches [] (script_text number) (between 2 158408 8 8)
 read_whole number = script_leads number [] (record { counts = counts_none; course = course_none; fixes = fixes_none })
 
-text_read : (text : List ℕ) (lines : List Form) → Goes [] text lines → is_in_repeat lines ≡ false → IsText Whole text lines
+text_read : (text : List ℕ) (lines : List Form) → Goes [] text lines → is_in_repeat lines ≡ false → IsText text lines
 text_read text lines goes alone =
-    found_text Whole text lines
-    (ap (λ whole. lines_from Whole [] (parts_of whole)) (sym (append-nil text)) ∙ (goes [] ∙ says_all Whole lines [] refl alone))
+    found_text text lines
+    (ap (λ whole. lines_from [] (parts_of whole)) (sym (append-nil text)) ∙ (goes [] ∙ says_all lines [] refl alone))
 
 -- what is generated is a script
-pub is_script : (number : ℕ) → (setting : Setting) × (phases : List Phase) × IsScript Whole (script_text number) setting phases
+pub is_script : (number : ℕ) → (setting : Setting) × (phases : List Phase) × IsScript (script_text number) setting phases
 is_script number =
     let all = read_whole number in
     let fixed = setting_of all.lines all.stands.fixes all.stands.counts.tables in (
       fixed.0,
       phases_of (sense_of all.lines) all.lines,
-      script_made Whole (script_text number) all.lines fixed.0 (phases_of (sense_of all.lines) all.lines) (text_read (script_text number) all.lines all.goes all.stands.counts.alone) fixed.1 refl,
+      script_made (script_text number) all.lines fixed.0 (phases_of (sense_of all.lines) all.lines) (text_read (script_text number) all.lines all.goes all.stands.counts.alone) fixed.1 refl,
     )

@@ -9,7 +9,6 @@ use Rattle.pfs_script.specs.declared.forms.Form.{Form}
 use Rattle.pfs_script.specs.declared.forms.Form.TheVariants as form
 use Rattle.pfs_script.specs.declared.blocks.BlockLine.{BlockLine}
 use Rattle.pfs_script.specs.declared.blocks.BlockLine.TheVariants as said
-use Rattle.pfs_script.specs.declared.reasons.Extent.TheVariants.{Whole}
 use Rattle.pfs_script.specs.Headings.{head_of, resolved, is_known, is_builtin, is_class_named}
 use Rattle.pfs_script.specs.Finds.{digest_place}
 use Rattle.pfs_script.specs.Sessions.{is_phase, ends_block}
@@ -33,13 +32,13 @@ use Rattle.pfs_script.proofs.Taking.{next_none}
 -- behind the lines before them, none of these lines has a fault
 abbrev pub Stand : List Form → List Form → Type 0
 Stand before [] = Unit {0}
-Stand before (line ∷ lines) = Passes Whole before line × Stand (before ++ line ∷ []) lines
+Stand before (line ∷ lines) = Passes before line × Stand (before ++ line ∷ []) lines
 
-pub stand_of : (before : List Form) (raws : List (List ℕ)) (lines : List Form) → Begins Whole before raws lines → Stand before lines
+pub stand_of : (before : List Form) (raws : List (List ℕ)) (lines : List Form) → Begins before raws lines → Stand before lines
 stand_of before [] [] b = tt
 stand_of before [] (line ∷ lines) b = absurd b
 stand_of before (raw ∷ raws) [] b = absurd b
-stand_of before (raw ∷ raws) (line ∷ lines) b = (passes Whole before line (next_none Whole before raw line b.0), stand_of (before ++ line ∷ []) raws lines b.1)
+stand_of before (raw ∷ raws) (line ∷ lines) b = (passes before line (next_none before raw line b.0), stand_of (before ++ line ∷ []) raws lines b.1)
 
 bool_cases : (b : Bool) → (b ≡ true) ⊎ (b ≡ false)
 bool_cases true = inl refl
@@ -211,7 +210,7 @@ module _ (all : List Form) where
       let given = (are_tables all).given (length before) class schema name ref.0 here ref.1 in
       (ref.0, given.0, given.1)
 
-  nest_front : (before lines : List Form) (line : Form) (more : List BlockLine) → Passes Whole before line → ends_block line ≡ false → all ≡ before ++ line ∷ lines
+  nest_front : (before lines : List Form) (line : Form) (more : List BlockLine) → Passes before line → ends_block line ≡ false → all ≡ before ++ line ∷ lines
       → Nests (before ++ line ∷ []) more → Nests before (with_front (block_line (sense_of all) line) more)
   nest_front before lines (form.Wait class) more p n e rest =
       let line = form.Wait class in
@@ -256,7 +255,7 @@ module _ (all : List Form) where
         | inr p ↦ rw p (nest_front before lines line (block_lines (sense_of all) lines) s.0 p e (nest (before ++ line ∷ []) lines s.1 (e ∙ sym (append_assoc before (line ∷ []) lines))))
       ]
 
-  along_front : (before lines : List Form) (line : Form) (kinds : List EventKind) (more : List BlockLine) → Passes Whole before line → ends_block line ≡ false → all ≡ before ++ line ∷ lines
+  along_front : (before lines : List Form) (line : Form) (kinds : List EventKind) (more : List BlockLine) → Passes before line → ends_block line ≡ false → all ≡ before ++ line ∷ lines
       → kinds_along kinds (with_front (block_line (sense_of all) line) more) ≡ kinds_along (kinds_behind (mark_of_form line) kinds) more
   along_front before lines (form.Wait class) kinds more p n e = let ref = class_found before lines (form.Wait class) class e p.known in rw ref.1 refl
   along_front before lines (form.TableWait class schema name) kinds more p n e = let found = wait_found before lines class schema name e p.known in rw found.2 refl
@@ -272,7 +271,7 @@ module _ (all : List Form) where
   along_front before lines line kinds more p n e = refl
 
   -- a line of a block leaves the kinds that the block's lines go on from
-  pub along_more : (before lines : List Form) (line : Form) (kinds : List EventKind) → Passes Whole before line → ends_block line ≡ false → all ≡ before ++ line ∷ lines
+  pub along_more : (before lines : List Form) (line : Form) (kinds : List EventKind) → Passes before line → ends_block line ≡ false → all ≡ before ++ line ∷ lines
       → kinds_along kinds (block_lines (sense_of all) (line ∷ lines)) ≡ kinds_along (kinds_behind (mark_of_form line) kinds) (block_lines (sense_of all) lines)
   unfolding block_lines
   along_more before lines line kinds p n e = rw n (along_front before lines line kinds (block_lines (sense_of all) lines) p n e)

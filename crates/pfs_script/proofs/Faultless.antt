@@ -1,14 +1,12 @@
 -- What holds of a line that has no fault where it stands.
 use Rattle.std.proofs.Common.{◌≡◌, Bool, false, true, ◌||◌, cond, List, Option, Some, None, refl}
 use Rattle.pfs_script.specs.declared.forms.Form.{Form}
-use Rattle.pfs_script.specs.declared.reasons.Extent.{Extent}
 use Rattle.pfs_script.specs.declared.reasons.Reason.{Reason}
-use Rattle.pfs_script.specs.declared.reasons.Reason.TheVariants.{OutOfPlace, BadNumber, BadSession, UnknownName, BadLimit, BadNesting, BadStatement, TooLong, TooMuch, NotBuilt}
-use Rattle.pfs_script.specs.Next.{is_let_in, is_out_of_place, is_bad_number, is_bad_session, is_unknown, is_bad_limit, is_bad_nesting, is_bad_statement, is_too_long, is_too_much, is_table_too_many, least_reason, fault_of}
+use Rattle.pfs_script.specs.declared.reasons.Reason.TheVariants.{OutOfPlace, BadNumber, BadSession, UnknownName, BadLimit, BadNesting, BadStatement, TooLong, TooMuch}
+use Rattle.pfs_script.specs.Next.{is_out_of_place, is_bad_number, is_bad_session, is_unknown, is_bad_limit, is_bad_nesting, is_bad_statement, is_too_long, is_too_much, is_table_too_many, fault_of}
 
 -- each test for a fault fails
-pub record Passes (extent : Extent) (before : List Form) (line : Form) : Type 0 where
-  pub let_in : is_let_in extent line ≡ true
+pub record Passes (before : List Form) (line : Form) : Type 0 where
   pub place : is_out_of_place before line ≡ false
   pub number : is_bad_number line ≡ false
   pub session : is_bad_session before line ≡ false
@@ -32,15 +30,10 @@ unless : (test : Bool) (reason : Reason) (rest : Option Reason) → cond test (S
 unless true reason rest h = cc
 unless false reason rest h = (refl, h)
 
-when : (test : Bool) (rest : Option Reason) (reason : Reason) → cond test rest (Some reason) ≡ None → (test ≡ true) × (rest ≡ None)
-when true rest reason h = (refl, h)
-when false rest reason h = cc
-
-pub passes : (extent : Extent) (before : List Form) (line : Form) → fault_of extent before line ≡ None → Passes extent before line
-unfolding fault_of least_reason
-passes extent before line h =
-    let a = when (is_let_in extent line) _ NotBuilt h in
-    let b = unless (is_out_of_place before line) OutOfPlace _ a.1 in
+pub passes : (before : List Form) (line : Form) → fault_of before line ≡ None → Passes before line
+unfolding fault_of
+passes before line h =
+    let b = unless (is_out_of_place before line) OutOfPlace _ h in
     let c = unless (is_bad_number line) BadNumber _ b.1 in
     let d = unless (is_bad_session before line) BadSession _ c.1 in
     let e = unless (is_unknown before line) UnknownName _ d.1 in
@@ -49,4 +42,4 @@ passes extent before line h =
     let s = unless (is_bad_statement line) BadStatement _ g.1 in
     let i = unless (is_too_long before line) TooLong _ s.1 in
     let j = unless (is_too_much before line || is_table_too_many before line) TooMuch _ i.1 in
-    record { let_in = a.0; place = b.0; number = c.0; session = d.0; known = e.0; limit = f.0; nesting = g.0; statement = s.0; long = i.0; much = first_false (is_too_much before line) (is_table_too_many before line) j.0; tables = second_false (is_too_much before line) (is_table_too_many before line) j.0 }
+    record { place = b.0; number = c.0; session = d.0; known = e.0; limit = f.0; nesting = g.0; statement = s.0; long = i.0; much = first_false (is_too_much before line) (is_table_too_many before line) j.0; tables = second_false (is_too_much before line) (is_table_too_many before line) j.0 }

@@ -15,7 +15,6 @@ use Rattle.pfs_script.specs.declared.known.KnownLines.{KnownLines}
 use Rattle.pfs_script.specs.declared.reading.Reader.{Reader}
 use Rattle.pfs_script.specs.declared.reading.ScriptFault.{ScriptFault}
 use Rattle.pfs_script.specs.declared.reading.ScriptFault.TheVariants.{Bad, NoMemory}
-use Rattle.pfs_script.specs.declared.reasons.Extent.{Extent}
 use Rattle.pfs_script.specs.declared.reasons.Reason.{Reason}
 use Rattle.pfs_script.specs.Finds.{with_table, with_digest, digests_of}
 use Rattle.pfs_script.specs.Forms as forms
@@ -66,18 +65,18 @@ module _ (old new : Reader) (before : List Form) (line : Form) (b : IsBehind old
   found_known bytes (Some one) idle k = known_by bytes one idle k
 
   -- those that are known stay so
-  pub known_more : (known : KnownLines) (extent : Extent) → fault_of extent before line ≡ None → AreKnown old.heading old.finds before known → AreKnown new.heading new.finds (before ++ line ∷ []) known
-  known_more known extent none k bytes = found_known bytes (known_line known bytes) (idles extent before line (passes extent before line none)) (k bytes)
+  pub known_more : (known : KnownLines) → fault_of before line ≡ None → AreKnown old.heading old.finds before known → AreKnown new.heading new.finds (before ++ line ∷ []) known
+  known_more known none k bytes = found_known bytes (known_line known bytes) (idles before line (passes before line none)) (k bytes)
 
   -- and the line is known
-  pub known_new : (bytes : List ℕ) (class : Option ClassRef) (number : Option ℕ) (extent : Extent) → fault_of extent before line ≡ None → forms.form bytes ≡ Ok line → forms.HasItsKind line
+  pub known_new : (bytes : List ℕ) (class : Option ClassRef) (number : Option ℕ) → fault_of before line ≡ None → forms.form bytes ≡ Ok line → forms.HasItsKind line
       → class ≡ class_in (resolved old.heading) line → (starts many : Bool) → (new.place.front.has_phase && (starts || many)) ≡ true → number ≡ number_in new.finds.tables new.finds.digests line
       → IsKnown new.heading new.finds (before ++ line ∷ []) bytes (record { form = line; class = class; number = number })
-  known_new bytes class number extent none said kind c starts many wanted n = record {
+  known_new bytes class number none said kind c starts many wanted n = record {
     said = said;
     kind = kind;
     class = c ∙ (ap (λ (h : Head). class_in (resolved h) line) b.head ∙ (class_stays before line ∙ ap (λ (h : Head). class_in (resolved h) line) (sym m.head)));
-    found = (sym n, settled_last new.heading.limits.digests new.finds before line m.settled, (passes extent before line none).statement);
+    found = (sym n, settled_last new.heading.limits.digests new.finds before line m.settled, (passes before line none).statement);
     behind = sym m.place.front.phase ∙ first_true new.place.front.has_phase (starts || many) wanted;
   }
 
@@ -106,18 +105,18 @@ known_kept new before known more bytes line keeps k one other =
 
 -- what the answer to a line tells of its bytes
 
-pub next_says : (extent : Extent) (before : List Form) (bytes : List ℕ) (line : Form) → forms.form bytes ≡ Ok line → fault_of extent before line ≡ None → next extent before bytes ≡ Ok line
+pub next_says : (before : List Form) (bytes : List ℕ) (line : Form) → forms.form bytes ≡ Ok line → fault_of before line ≡ None → next before bytes ≡ Ok line
 unfolding next
-next_says extent before bytes line f none = rw (f, none) refl
+next_says before bytes line f none = rw (f, none) refl
 
-next_some : (extent : Extent) (before : List Form) (bytes : List ℕ) (line : Form) (reason : Reason) → forms.form bytes ≡ Ok line → fault_of extent before line ≡ Some reason → next extent before bytes ≡ Err reason
+next_some : (before : List Form) (bytes : List ℕ) (line : Form) (reason : Reason) → forms.form bytes ≡ Ok line → fault_of before line ≡ Some reason → next before bytes ≡ Err reason
 unfolding next
-next_some extent before bytes line reason f some = rw (f, some) refl
+next_some before bytes line reason f some = rw (f, some) refl
 
-pub next_unsaid : (extent : Extent) (before : List Form) (bytes : List ℕ) (reason : Reason) → forms.form bytes ≡ Err reason → next extent before bytes ≡ Err reason
+pub next_unsaid : (before : List Form) (bytes : List ℕ) (reason : Reason) → forms.form bytes ≡ Err reason → next before bytes ≡ Err reason
 unfolding next
-next_unsaid extent before bytes reason f = rw f refl
+next_unsaid before bytes reason f = rw f refl
 
-pub says_fault : (old new after : Reader) (known : KnownLines) (before : List Form) (bytes : List ℕ) (line : Form) (fault : ScriptFault) → forms.form bytes ≡ Ok line → Takes old new before line (Err fault) → Says old after known before bytes (Err fault)
-says_fault old new after known before bytes line (Bad number reason) f t = (t.0, next_some old.extent before bytes line reason f t.1)
-says_fault old new after known before bytes line NoMemory f t = tt
+pub says_fault : (new after : Reader) (known : KnownLines) (before : List Form) (bytes : List ℕ) (line : Form) (fault : ScriptFault) → forms.form bytes ≡ Ok line → Takes new before line (Err fault) → Says after known before bytes (Err fault)
+says_fault new after known before bytes line (Bad number reason) f t = (t.0, next_some before bytes line reason f t.1)
+says_fault new after known before bytes line NoMemory f t = tt

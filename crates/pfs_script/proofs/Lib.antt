@@ -2,7 +2,6 @@ pub mod AppearanceLemmas
 pub mod BaseLemmas
 pub mod Behind
 pub mod BlockNesting
-pub mod BuiltLemmas
 pub mod CountLemmas
 pub mod Counting
 pub mod Clean
@@ -44,5 +43,4 @@ pub mod Steps
 pub mod Taking
 pub mod Totalling
 pub mod Turns
-pub mod Wholly
 pub mod Writing

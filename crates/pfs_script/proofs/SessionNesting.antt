@@ -12,8 +12,6 @@ use Rattle.pfs_script.specs.declared.blocks.Block.{Block}
 use Rattle.pfs_script.specs.declared.blocks.BlockLine.{BlockLine}
 use Rattle.pfs_script.specs.declared.blocks.BlockLine.TheVariants as said
 use Rattle.pfs_script.specs.declared.blocks.Phase.{Phase}
-use Rattle.pfs_script.specs.declared.reasons.Extent.{Extent}
-use Rattle.pfs_script.specs.declared.reasons.Extent.TheVariants.{Whole}
 use Rattle.pfs_event.specs.declared.kind.EventKind.{EventKind}
 use Rattle.pfs_script.specs.Marks.{Mark, mark_of, Repeated, copies, written_from, written_out}
 use Rattle.pfs_script.specs.Brackets.{brackets_from, open_in, kinds_of, kinds_behind, may_stand, Follows}
@@ -30,7 +28,6 @@ use Rattle.pfs_script.proofs.Turns.{now_none, now_more, now_same, lines_ends, li
 use Rattle.pfs_script.proofs.Nesting.{kinds_more, follows_append, repeats}
 use Rattle.pfs_script.proofs.Faultless.{Passes}
 use Rattle.pfs_script.proofs.BlockNesting.{Stand, stand_of, start_session, nest, kinds_along, along_more}
-use Rattle.pfs_script.proofs.Wholly.{is_whole}
 
 -- lines that nest may stand one after another, with each repeat written out
 
@@ -118,7 +115,7 @@ none_block sense lines (form.Resume session) h = cc
 none_block sense lines _ h = refl
 
 -- before the first phase no session may stand
-not_yet : (before : List Form) (line : Form) → Passes Whole before line → list_any is_phase before ≡ false → is_session line ≡ false
+not_yet : (before : List Form) (line : Form) → Passes before line → list_any is_phase before ≡ false → is_session line ≡ false
 not_yet before (form.Connect session user host) p none = let q = p.place in absurd (cc)
 not_yet before (form.Resume session) p none = let q = p.place in absurd (cc)
 not_yet before _ p none = refl
@@ -186,12 +183,12 @@ module _ (number : ℕ) (some : 1 ≤ number) (all : List Form) where
   abbrev kinds_ahead : List Form → List Form → List EventKind
   kinds_ahead before lines = kinds_by (session_now before == number) before lines
 
-  ahead_by : (before lines : List Form) (line : Form) (b : Bool) → (session_now before == number) ≡ b → Passes Whole before line → ends_block line ≡ false → all ≡ before ++ line ∷ lines → kinds_by b before (line ∷ lines) ≡ kinds_by b (before ++ line ∷ []) lines
+  ahead_by : (before lines : List Form) (line : Form) (b : Bool) → (session_now before == number) ≡ b → Passes before line → ends_block line ≡ false → all ≡ before ++ line ∷ lines → kinds_by b before (line ∷ lines) ≡ kinds_by b (before ++ line ∷ []) lines
   ahead_by before lines line true here p e is =
       along_more all before lines line (session_kinds number before) p e is ∙ ap (λ kinds. kinds_along kinds (block_lines (sense_of all) lines)) (sym (kinds_own number before line here e))
   ahead_by before lines line false other p e is = ap (λ lines. kinds_of (open_in (map mark_of_form lines))) (sym (lines_other number before line other))
 
-  ahead_inside : (before lines : List Form) (line : Form) → Passes Whole before line → ends_block line ≡ false → all ≡ before ++ line ∷ lines → kinds_ahead before (line ∷ lines) ≡ kinds_ahead (before ++ line ∷ []) lines
+  ahead_inside : (before lines : List Form) (line : Form) → Passes before line → ends_block line ≡ false → all ≡ before ++ line ∷ lines → kinds_ahead before (line ∷ lines) ≡ kinds_ahead (before ++ line ∷ []) lines
   ahead_inside before lines line p e is =
       ahead_by before lines line (session_now before == number) refl p e is
       ∙ ap (λ session. kinds_by (session == number) (before ++ line ∷ []) lines) (sym (now_same before line e))
@@ -249,7 +246,7 @@ module _ (number : ℕ) (some : 1 ≤ number) (all : List Form) where
         | inr other ↦ go_apart before lines line session e now other (come_apart session block lines (blocks_from number (sense_of all) (line ∷ lines)) from other) goes
       ]
 
-  go_end : (before lines : List Form) (line : Form) → Passes Whole before line → ends_block line ≡ true → Stand (before ++ line ∷ []) lines → all ≡ (before ++ line ∷ []) ++ lines → Goes (before ++ line ∷ []) lines → Goes before (line ∷ lines)
+  go_end : (before lines : List Form) (line : Form) → Passes before line → ends_block line ≡ true → Stand (before ++ line ∷ []) lines → all ≡ (before ++ line ∷ []) ++ lines → Goes (before ++ line ∷ []) lines → Goes before (line ∷ lines)
   go_end before lines form.Phase p e s is goes =
       go_apart before lines form.Phase 0 refl (now_more before form.Phase) not_zero (ap (λ blocks. flat_map (λ (block : Block). written_out block.lines) blocks) (from_phase number (sense_of all) lines)) goes
   go_end before lines (form.Connect (Some session) user host) p e s is goes =
@@ -293,7 +290,7 @@ some_nest number lines some s =
 not_outside : (session : ℕ) (bad : Bool) → (not (nat_le 1 session && nat_le session 64) || bad) ≡ false → (session == 0) ≡ false
 not_outside session bad h = grind (arith, nat_tests, h)
 
-zero_step : (sense : Sense) (before lines : List Form) (line : Form) → Passes Whole before line → blocks_from 0 sense (line ∷ lines) ≡ blocks_from 0 sense lines
+zero_step : (sense : Sense) (before lines : List Form) (line : Form) → Passes before line → blocks_from 0 sense (line ∷ lines) ≡ blocks_from 0 sense lines
 zero_step sense before lines form.Phase p = from_phase 0 sense lines
 zero_step sense before lines (form.Connect (Some session) user host) p = from_connect 0 sense session user host lines ∙ rw (not_outside session (list_any (is_block_of session) before) p.session) refl
 zero_step sense before lines (form.Resume (Some session)) p =
@@ -317,8 +314,6 @@ nests zero lines s = zero_nests lines s
 nests (suc number) lines s = some_nest (suc number) lines (omega arith) s
 
 -- the lines of a session nest over all phases
-pub nested_over_phases : (extent : Extent) (text : List ℕ) (setting : Setting) (phases : List Phase) (number : ℕ) → IsScript extent text setting phases → Follows [] (map mark_of (lines_for number phases))
+pub nested_over_phases : (text : List ℕ) (setting : Setting) (phases : List Phase) (number : ℕ) → IsScript text setting phases → Follows [] (map mark_of (lines_for number phases))
 unfolding IsScript
-nested_over_phases extent text setting phases number s =
-    let whole = is_whole extent text setting phases s in
-    rw whole.3 (nests number whole.0 (stand_of [] whole.1.0 whole.0 whole.1.2))
+nested_over_phases text setting phases number s = rw s.3 (nests number s.0 (stand_of [] s.1.0 s.0 s.1.2))

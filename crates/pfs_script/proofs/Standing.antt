@@ -12,7 +12,6 @@ use Rattle.pfs_script.specs.declared.drafts.Drafts.{Drafts}
 use Rattle.pfs_script.specs.declared.finds.Finds.{Finds}
 use Rattle.pfs_script.specs.declared.forms.Form.{Form}
 use Rattle.pfs_script.specs.declared.forms.Form.TheVariants as form
-use Rattle.pfs_script.specs.declared.reasons.Extent.{Extent}
 use Rattle.pfs_script.specs.Blocks.{Sense, sense_of, block_line, phases_of}
 use Rattle.pfs_script.specs.Counts.{is_repeat, is_in_repeat}
 use Rattle.pfs_script.specs.Drafts.{phases_behind}
@@ -124,13 +123,13 @@ abbrev pub Idles : List Form → Form → Type 0
 Idles before line = (head_of before ≡ head_of (before ++ line ∷ []))
     ⊎ ((list_any is_phase before ≡ false) × ((most : ℕ) (tables : List TableName) (digests : List DigestText) → IsSettled most tables digests line))
 
-pub idles : (extent : Extent) (before : List Form) (line : Form) → Passes extent before line → Idles before line
-idles extent before (form.Limit name value) p = inr (limits_ahead before (not_so (list_all is_before_limits before) p.place), λ most tables digests. tt)
-idles extent before (form.Class name kind enabled timed) p = inr (p.place, λ most tables digests. tt)
-idles extent before (form.Consumer name on) p = inr (p.place, λ most tables digests. tt)
-idles extent before (form.Instrument pattern enabled timed) p = inr (p.place, λ most tables digests. tt)
-idles extent before form.Silent p = inl (idle_push before form.Silent (λ limits. refl, λ word. refl, λ naming. refl))
-idles extent before line p = inl (idle_push before line (λ limits. refl, λ word. refl, λ naming. refl))
+pub idles : (before : List Form) (line : Form) → Passes before line → Idles before line
+idles before (form.Limit name value) p = inr (limits_ahead before (not_so (list_all is_before_limits before) p.place), λ most tables digests. tt)
+idles before (form.Class name kind enabled timed) p = inr (p.place, λ most tables digests. tt)
+idles before (form.Consumer name on) p = inr (p.place, λ most tables digests. tt)
+idles before (form.Instrument pattern enabled timed) p = inr (p.place, λ most tables digests. tt)
+idles before form.Silent p = inl (idle_push before form.Silent (λ limits. refl, λ word. refl, λ naming. refl))
+idles before line p = inl (idle_push before line (λ limits. refl, λ word. refl, λ naming. refl))
 
 -- what the line's class stands for stays
 pub class_stays : (before : List Form) (line : Form) → class_in (resolved (head_of before)) line ≡ class_in (resolved (head_of (before ++ line ∷ []))) line

@@ -8,7 +8,6 @@ use Rattle.pfs_classes.specs.declared.classes.ClassRef.{ClassRef}
 use Rattle.pfs_classes.specs.Kinds.{is_fixed}
 use Rattle.pfs_script.specs.declared.forms.Form.{Form}
 use Rattle.pfs_script.specs.declared.forms.Form.TheVariants as form
-use Rattle.pfs_script.specs.declared.reasons.Extent.{Extent}
 use Rattle.pfs_script.specs.declared.reasons.Reason.{Reason}
 use Rattle.pfs_script.specs.Forms.{HasItsKind, form}
 use Rattle.pfs_script.specs.Headings.{named_limit, is_before_limits, head_of, resolved, is_known, IsAllowed, MayCome, StandsIn}
@@ -36,30 +35,30 @@ none_there : (o : Option ClassRef) → is_some o ≡ false → o ≡ None
 none_there None h = refl
 none_there (Some one) h = cc
 
-pub may_come : (extent : Extent) (before : List Form) (line : Form) → Passes extent before line → HasItsKind line → MayCome (head_of before) line
-may_come extent before (form.Limit name (Some value)) p k = allowed (named_limit name) value (list_any (gives (named_limit name)) before) p.limit
-may_come extent before (form.Limit name None) p k = allowed_none (named_limit name)
-may_come extent before (form.Class name kind enabled timed) p k =
+pub may_come : (before : List Form) (line : Form) → Passes before line → HasItsKind line → MayCome (head_of before) line
+may_come before (form.Limit name (Some value)) p k = allowed (named_limit name) value (list_any (gives (named_limit name)) before) p.limit
+may_come before (form.Limit name None) p k = allowed_none (named_limit name)
+may_come before (form.Class name kind enabled timed) p k =
     (k, first_false (is_fixed kind) (is_known before name) p.known, none_there (resolved (head_of before) name) (knows_resolved before name ∙ second_false (is_fixed kind) (is_known before name) p.known))
-may_come extent before _ p k = tt
+may_come before _ p k = tt
 
 is_so : (b : Bool) → not b ≡ false → IsTrue b
 is_so true h = refl
 is_so false h = cc
 
-pub stands_in : (extent : Extent) (before : List Form) (line : Form) → Passes extent before line → StandsIn before line
-stands_in extent before (form.Limit name value) p = is_so (list_all is_before_limits before) p.place
-stands_in extent before _ p = tt
+pub stands_in : (before : List Form) (line : Form) → Passes before line → StandsIn before line
+stands_in before (form.Limit name value) p = is_so (list_all is_before_limits before) p.place
+stands_in before _ p = tt
 
-unless_none : (extent : Extent) (before : List Form) (one line : Form) (fault : Option Reason) → fault_of extent before one ≡ fault → unless_fault one fault ≡ Ok line → fault_of extent before line ≡ None
-unless_none extent before one line None h e = let q : one ≡ line = cc in rw (sym q) h
-unless_none extent before one line (Some reason) h e = cc
+unless_none : (before : List Form) (one line : Form) (fault : Option Reason) → fault_of before one ≡ fault → unless_fault one fault ≡ Ok line → fault_of before line ≡ None
+unless_none before one line None h e = let q : one ≡ line = cc in rw (sym q) h
+unless_none before one line (Some reason) h e = cc
 
-placed_none : (extent : Extent) (before : List Form) (said : Result Form Reason) (line : Form) → placed extent before said ≡ Ok line → fault_of extent before line ≡ None
-placed_none extent before (Ok one) line e = unless_none extent before one line (fault_of extent before one) refl e
-placed_none extent before (Err reason) line e = cc
+placed_none : (before : List Form) (said : Result Form Reason) (line : Form) → placed before said ≡ Ok line → fault_of before line ≡ None
+placed_none before (Ok one) line e = unless_none before one line (fault_of before one) refl e
+placed_none before (Err reason) line e = cc
 
 -- what the next line says has no fault there
-pub next_none : (extent : Extent) (before : List Form) (bytes : List ℕ) (line : Form) → next extent before bytes ≡ Ok line → fault_of extent before line ≡ None
+pub next_none : (before : List Form) (bytes : List ℕ) (line : Form) → next before bytes ≡ Ok line → fault_of before line ≡ None
 unfolding next
-next_none extent before bytes line e = placed_none extent before (form bytes) line e
+next_none before bytes line e = placed_none before (form bytes) line e

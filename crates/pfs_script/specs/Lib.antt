@@ -8,7 +8,6 @@ pub mod Nested
 pub mod Counts
 pub mod Sessions
 pub mod Commands
-pub mod Built
 pub mod Finds
 pub mod Next
 pub mod Places

@@ -1,7 +1,7 @@
 -- Whether a line may stand behind the lines before it, by counts and tests of them all; else the least reason why not.
-use Rattle.std.specs.Prelude.{ℕ, ◌==◌, ◌&&◌, ◌||◌, Bool, true, false, not, nat_lt, nat_le, if◌then◌else◌, List, [], ◌∷◌, ◌++◌, length, map, take, drop, codes, Option, Some, None, is_none, is_some, option_map, unwrap_or, Result, Ok, Err, count_by, position}
+use Rattle.std.specs.Prelude.{ℕ, ◌==◌, ◌&&◌, ◌||◌, Bool, true, false, not, nat_lt, nat_le, if◌then◌else◌, List, [], ◌∷◌, ◌++◌, length, map, codes, Option, Some, None, is_none, is_some, Result, Ok, Err, count_by}
 use Rattle.std.specs.List.{list_any, list_all}
-use Rattle.std.specs.Str.{bytes_eq, str_eq_ignore_ascii_case}
+use Rattle.std.specs.Str.{bytes_eq}
 use Rattle.pfs_rows.specs.declared.limits.Limit.{Limit}
 use Rattle.pfs_rows.specs.Limits.{order_of, least_of, most_of}
 use Rattle.pfs_classes.specs.Kinds.{is_fixed}
@@ -10,16 +10,13 @@ use Rattle.pfs_event.specs.declared.kind.EventKind.TheVariants as kinds
 use Rattle.pfs_script.specs.declared.forms.Form.{Form}
 use Rattle.pfs_script.specs.declared.forms.Form.TheVariants as form
 use Rattle.pfs_script.specs.declared.reasons.Reason.{Reason}
-use Rattle.pfs_script.specs.declared.reasons.Reason.TheVariants.{OutOfPlace, BadNumber, BadSession, UnknownName, BadLimit, BadNesting, BadStatement, TooLong, TooMuch, NotBuilt}
+use Rattle.pfs_script.specs.declared.reasons.Reason.TheVariants.{OutOfPlace, BadNumber, BadSession, UnknownName, BadLimit, BadNesting, BadStatement, TooLong, TooMuch}
 use Rattle.pfs_script.specs.Headings.{named_limit, named_consumer, is_before_limits, is_known}
 use Rattle.pfs_script.specs.Marks.{Mark, Opens, Ends, EndsStage, Passes}
 use Rattle.pfs_script.specs.Brackets.{open_in, kinds_of, innermost, may_stand, is_in_statement}
 use Rattle.pfs_script.specs.Sessions.{is_phase, phase_of, is_block_of, session_now, lines_of, has_quit}
 use Rattle.pfs_script.specs.Finds.{is_refused, tables_of}
-use Rattle.pfs_script.specs.Built.{is_built}
 use Rattle.pfs_script.specs.Commands.{begins_with}
-use Rattle.pfs_script.specs.declared.reasons.Extent.{Extent}
-use Rattle.pfs_script.specs.declared.reasons.Extent.TheVariants.{Whole, Built}
 use Rattle.pfs_script.specs.Counts.{ahead_of_last, is_repeat, is_in_repeat, counted}
 use Rattle.pfs_script.specs.declared.forms.Numbers.{Numbers}
 use Rattle.pfs_script.specs.Forms.{form}
@@ -230,8 +227,8 @@ is_bad_statement (form.Statement class text) = is_refused text
 is_bad_statement _ = false
 
 -- the least reason for which a line may not stand there
-unfoldable pub least_reason : List Form → Form → Option Reason
-least_reason before line =
+unfoldable pub fault_of : List Form → Form → Option Reason
+fault_of before line =
     if is_out_of_place before line then Some OutOfPlace
     else (if is_bad_number line then Some BadNumber
     else (if is_bad_session before line then Some BadSession
@@ -243,25 +240,16 @@ least_reason before line =
     else (if is_too_much before line || is_table_too_many before line then Some TooMuch
     else None))))))))
 
--- whether a line is let in at all: into a script any is, and into one for the engine what the engine runs
-abbrev pub is_let_in : Extent → Form → Bool
-is_let_in Whole line = true
-is_let_in Built line = is_built line
-
--- why the line may not stand behind those before it; one that isn't let in is tested for nothing else
-unfoldable pub fault_of : Extent → List Form → Form → Option Reason
-fault_of extent before line = if is_let_in extent line then least_reason before line else Some NotBuilt
-
 -- the line, where it has no fault
 abbrev pub unless_fault : Form → Option Reason → Result Form Reason
 unless_fault line None = Ok line
 unless_fault line (Some reason) = Err reason
 
 -- the form, where it may stand behind the lines before it
-abbrev pub placed : Extent → List Form → Result Form Reason → Result Form Reason
-placed extent before (Ok line) = unless_fault line (fault_of extent before line)
-placed extent before (Err reason) = Err reason
+abbrev pub placed : List Form → Result Form Reason → Result Form Reason
+placed before (Ok line) = unless_fault line (fault_of before line)
+placed before (Err reason) = Err reason
 
 -- what the next line says, or its least fault: first of its bytes, then of its place
-unfoldable pub next : Extent → List Form → List ℕ → Result Form Reason
-next extent before bytes = placed extent before (form bytes)
+unfoldable pub next : List Form → List ℕ → Result Form Reason
+next before bytes = placed before (form bytes)

@@ -10,7 +10,6 @@ use Rattle.pfs_script.specs.declared.drafts.Drafts.{Drafts}
 use Rattle.pfs_script.specs.declared.drafts.Owner.{Owner}
 use Rattle.pfs_script.specs.declared.forms.Form.{Form}
 use Rattle.pfs_script.specs.declared.forms.Form.TheVariants as form
-use Rattle.pfs_script.specs.declared.reasons.Extent.{Extent}
 use Rattle.pfs_script.specs.declared.scripts.Script.{Script}
 use Rattle.pfs_script.specs.Blocks.{Sense, sense_of, block_line, phases_of}
 use Rattle.pfs_script.specs.Drafts.{phases_behind, with_owner}
@@ -65,31 +64,31 @@ pub record IsBehind (reader : Reader) (before : List Form) : Type 0 where
   pub settled : AreSettled reader.heading.limits.digests reader.finds before
 
 -- the line was taken behind these, or it is faulty there
-abbrev pub Takes : Reader → Reader → List Form → Form → Result (Option ℕ) ScriptFault → Type 0
-Takes old new before line (Ok number) =
-    (fault_of old.extent before line ≡ None) × IsBehind new (before ++ line ∷ [])
+abbrev pub Takes : Reader → List Form → Form → Result (Option ℕ) ScriptFault → Type 0
+Takes new before line (Ok number) =
+    (fault_of before line ≡ None) × IsBehind new (before ++ line ∷ [])
     × (number ≡ number_in new.finds.tables new.finds.digests line)
-Takes old new before line (Err (Bad number reason)) =
-    (number ≡ length before + 1) × (fault_of old.extent before line ≡ Some reason)
-Takes old new before line (Err NoMemory) = Unit {0}
+Takes new before line (Err (Bad number reason)) =
+    (number ≡ length before + 1) × (fault_of before line ≡ Some reason)
+Takes new before line (Err NoMemory) = Unit {0}
 
 -- behind these lines the answer is what the bytes of the next line say, or its fault
-abbrev pub Says : Reader → Reader → KnownLines → List Form → List ℕ → Result (Unit {0}) ScriptFault → Type 0
-Says old new known before bytes (Ok done) =
-    (line : Form) × (next old.extent before bytes ≡ Ok line) × IsBehind new (before ++ line ∷ [])
+abbrev pub Says : Reader → KnownLines → List Form → List ℕ → Result (Unit {0}) ScriptFault → Type 0
+Says new known before bytes (Ok done) =
+    (line : Form) × (next before bytes ≡ Ok line) × IsBehind new (before ++ line ∷ [])
     × AreKnown new.heading new.finds (before ++ line ∷ []) known
-Says old new known before bytes (Err (Bad number reason)) =
-    (number ≡ length before + 1) × (next old.extent before bytes ≡ Err reason)
-Says old new known before bytes (Err NoMemory) = Unit {0}
+Says new known before bytes (Err (Bad number reason)) =
+    (number ≡ length before + 1) × (next before bytes ≡ Err reason)
+Says new known before bytes (Err NoMemory) = Unit {0}
 
 -- the answer is what the text's lines make and fix, or their first fault
-abbrev pub Reads : Extent → List ℕ → Result Reader ScriptFault → Type 0
-Reads extent text (Ok reader) = (lines : List Form) × (script_of extent text ≡ Ok lines) × IsBehind reader lines
-Reads extent text (Err (Bad number reason)) = script_of extent text ≡ Err (record { number = number; reason = reason })
-Reads extent text (Err NoMemory) = Unit {0}
+abbrev pub Reads : List ℕ → Result Reader ScriptFault → Type 0
+Reads text (Ok reader) = (lines : List Form) × (script_of text ≡ Ok lines) × IsBehind reader lines
+Reads text (Err (Bad number reason)) = script_of text ≡ Err (record { number = number; reason = reason })
+Reads text (Err NoMemory) = Unit {0}
 
 -- the answer is the text's script, or its first fault
-abbrev pub Gives : Extent → List ℕ → Result Script ScriptFault → Type 0
-Gives extent text (Ok script) = IsScript extent text script.setting script.phases
-Gives extent text (Err (Bad number reason)) = IsFirstFault extent text number reason
-Gives extent text (Err NoMemory) = Unit {0}
+abbrev pub Gives : List ℕ → Result Script ScriptFault → Type 0
+Gives text (Ok script) = IsScript text script.setting script.phases
+Gives text (Err (Bad number reason)) = IsFirstFault text number reason
+Gives text (Err NoMemory) = Unit {0}

@@ -4,7 +4,6 @@ use Rattle.std.specs.List.{slice_split, list_all}
 use Rattle.pfs_classes.specs.declared.setting.Setting.{Setting}
 use Rattle.pfs_script.specs.declared.blocks.Phase.{Phase}
 use Rattle.pfs_script.specs.declared.forms.Form.{Form}
-use Rattle.pfs_script.specs.declared.reasons.Extent.{Extent}
 use Rattle.pfs_script.specs.declared.reasons.Reason.{Reason}
 use Rattle.pfs_script.specs.declared.reasons.Reason.TheVariants.{BadByte, OpenLine, OutOfPlace}
 use Rattle.pfs_script.specs.Words.{is_script_byte}
@@ -20,16 +19,15 @@ abbrev pub parts_of : List ℕ → List (List ℕ)
 parts_of text = slice_split (λ byte. byte == 10) text
 
 -- behind the lines before it, each of these says the line beside it
-abbrev pub Begins : Extent → List Form → List (List ℕ) → List Form → Type 0
-Begins extent before [] [] = Unit {0}
-Begins extent before (raw ∷ raws) (line ∷ lines) =
-    (next extent before raw ≡ Ok line) × Begins extent (before ++ line ∷ []) raws lines
-Begins extent before [] (line ∷ lines) = ⊥
-Begins extent before (raw ∷ raws) [] = ⊥
+abbrev pub Begins : List Form → List (List ℕ) → List Form → Type 0
+Begins before [] [] = Unit {0}
+Begins before (raw ∷ raws) (line ∷ lines) = (next before raw ≡ Ok line) × Begins (before ++ line ∷ []) raws lines
+Begins before [] (line ∷ lines) = ⊥
+Begins before (raw ∷ raws) [] = ⊥
 
 -- the text says these lines: each is ended, each may stand where it does, and each repeat is done
-abbrev pub IsText : Extent → List ℕ → List Form → Type 0
-IsText extent text lines = (raws : List (List ℕ)) × (parts_of text ≡ raws ++ [] ∷ []) × Begins extent [] raws lines
+abbrev pub IsText : List ℕ → List Form → Type 0
+IsText text lines = (raws : List (List ℕ)) × (parts_of text ≡ raws ++ [] ∷ []) × Begins [] raws lines
     × (is_in_repeat lines ≡ false)
 
 -- why a line that isn't ended is faulty
@@ -38,10 +36,10 @@ open_reason bytes = if list_all is_script_byte bytes then OpenLine else BadByte
 
 -- the part is faulty behind these lines: as a line, as what has no line feed, or as the end of a text in which a
 -- repeat isn't done
-abbrev pub IsBad : Extent → List Form → List ℕ → List (List ℕ) → Reason → Type 0
-IsBad extent before [] [] reason = (is_in_repeat before ≡ true) × (reason ≡ OutOfPlace)
-IsBad extent before (byte ∷ bytes) [] reason = reason ≡ open_reason (byte ∷ bytes)
-IsBad extent before bad (part ∷ parts) reason = next extent before bad ≡ Err reason
+abbrev pub IsBad : List Form → List ℕ → List (List ℕ) → Reason → Type 0
+IsBad before [] [] reason = (is_in_repeat before ≡ true) × (reason ≡ OutOfPlace)
+IsBad before (byte ∷ bytes) [] reason = reason ≡ open_reason (byte ∷ bytes)
+IsBad before bad (part ∷ parts) reason = next before bad ≡ Err reason
 
 -- the setting has what the lines before the first phase fix, and the names, tables and digest texts of all lines
 pub record IsSetting (lines : List Form) (setting : Setting) : Type 0 where
@@ -53,18 +51,17 @@ pub record IsSetting (lines : List Form) (setting : Setting) : Type 0 where
   pub consumers : setting.consumers ≡ (head_of lines).consumers
 
 -- the text is a script with this setting and these phases: they are what its lines fix and say
-unfoldable pub IsScript : Extent → List ℕ → Setting → List Phase → Type 0
-IsScript extent text setting phases =
-    (lines : List Form) × IsText extent text lines × IsSetting lines setting
-    × (phases ≡ phases_of (sense_of lines) lines)
+unfoldable pub IsScript : List ℕ → Setting → List Phase → Type 0
+IsScript text setting phases =
+    (lines : List Form) × IsText text lines × IsSetting lines setting × (phases ≡ phases_of (sense_of lines) lines)
 
 -- the first faulty line, counted from 1, with its least reason: the lines before it begin a script, and with it they
 -- don't; where a repeat isn't done at the end, that is the line behind the last
-unfoldable pub IsFirstFault : Extent → List ℕ → ℕ → Reason → Type 0
-IsFirstFault extent text number reason =
+unfoldable pub IsFirstFault : List ℕ → ℕ → Reason → Type 0
+IsFirstFault text number reason =
     (raws : List (List ℕ)) × (lines : List Form) × (bad : List ℕ) × (more : List (List ℕ))
-    × (number ≡ length raws + 1) × (parts_of text ≡ raws ++ bad ∷ more) × Begins extent [] raws lines
-    × IsBad extent lines bad more reason
+    × (number ≡ length raws + 1) × (parts_of text ≡ raws ++ bad ∷ more) × Begins [] raws lines
+    × IsBad lines bad more reason
 
 -- a faulty line and its reason
 pub record Fault : Type 0 where
@@ -85,16 +82,16 @@ last_of before [] = if is_in_repeat before then Err (record {
 last_of before (byte ∷ bytes) = Err (record { number = length before + 1; reason = open_reason (byte ∷ bytes) })
 
 -- what the parts of a text say behind these lines, in one pass
-unfoldable pub lines_from : Extent → List Form → List (List ℕ) → Result (List Form) Fault
-lines_from extent before [] = Ok before
-lines_from extent before (bytes ∷ []) = last_of before bytes
-lines_from extent before (bytes ∷ (more ∷ parts)) =
-    on_line (next extent before bytes) (length before + 1)
-    (λ line. lines_from extent (before ++ line ∷ []) (more ∷ parts))
+unfoldable pub lines_from : List Form → List (List ℕ) → Result (List Form) Fault
+lines_from before [] = Ok before
+lines_from before (bytes ∷ []) = last_of before bytes
+lines_from before (bytes ∷ (more ∷ parts)) =
+    on_line (next before bytes) (length before + 1)
+    (λ line. lines_from (before ++ line ∷ []) (more ∷ parts))
 
 -- what the text says
-abbrev pub script_of : Extent → List ℕ → Result (List Form) Fault
-script_of extent text = lines_from extent [] (parts_of text)
+abbrev pub script_of : List ℕ → Result (List Form) Fault
+script_of text = lines_from [] (parts_of text)
 
 -- two settings that agree in all that they fix
 pub record AreAlike (a b : Setting) : Type 0 where
@@ -107,9 +104,9 @@ pub record AreAlike (a b : Setting) : Type 0 where
 
 -- a text that is a script has no fault; it has one first fault at most, and is at most one script
 pub record IsExact : Type 0 where
-  pub excludes : (extent : Extent) (text : List ℕ) (setting : Setting) (phases : List Phase) (number : ℕ)
-      (reason : Reason) → IsScript extent text setting phases → ¬ IsFirstFault extent text number reason
-  pub one_fault : (extent : Extent) (text : List ℕ) (m n : ℕ) (r s : Reason) → IsFirstFault extent text m r
-      → IsFirstFault extent text n s → (m ≡ n) × (r ≡ s)
-  pub one_script : (extent : Extent) (text : List ℕ) (a b : Setting) (p q : List Phase) → IsScript extent text a p
-      → IsScript extent text b q → AreAlike a b × (p ≡ q)
+  pub excludes : (text : List ℕ) (setting : Setting) (phases : List Phase) (number : ℕ) (reason : Reason)
+      → IsScript text setting phases → ¬ IsFirstFault text number reason
+  pub one_fault : (text : List ℕ) (m n : ℕ) (r s : Reason) → IsFirstFault text m r → IsFirstFault text n s
+      → (m ≡ n) × (r ≡ s)
+  pub one_script : (text : List ℕ) (a b : Setting) (p q : List Phase) → IsScript text a p → IsScript text b q
+      → AreAlike a b × (p ≡ q)

@@ -1,7 +1,6 @@
 //! What holds of all texts, lines and names, and of events as brackets.
 
 ghost use Rattle.std.specs.Prelude.{◌≡◌, ◌++◌, ◌∷◌, [], List, ℕ, is_some, false, length, map, take, drop, Some, codes, ◌<◌};
-ghost use Rattle.std.specs.List.{All};
 ghost use Rattle.std.specs.Str.{bytes_eq};
 ghost use Rattle.pfs_classes.specs.declared.classes.ClassRef.TheVariants as refs;
 ghost use Rattle.pfs_script.specs.declared.forms.Form.{Form};
@@ -11,11 +10,7 @@ ghost use Rattle.pfs_script.specs.Brackets.{open_in, closed_at, kinds_of, ended_
 ghost use Rattle.pfs_script.specs.Scripts.{IsExact, IsScript};
 ghost use Rattle.pfs_script.specs.Finds.{tables_of, digests_of};
 ghost use Rattle.pfs_classes.specs.declared.setting.Setting.{Setting};
-ghost use Rattle.pfs_script.specs.declared.blocks.Block.{Block};
 ghost use Rattle.pfs_script.specs.declared.blocks.Phase.{Phase};
-ghost use Rattle.pfs_script.specs.declared.reasons.Extent.{Extent};
-ghost use Rattle.pfs_script.specs.declared.reasons.Extent.TheVariants.{Built};
-ghost use Rattle.pfs_script.specs.Built.{IsBuiltLine};
 ghost use Rattle.pfs_script.specs.Events.{lines_for, events_for};
 ghost use Rattle.pfs_script.specs.EventRules.{AreEvents};
 ghost use Rattle.pfs_script.specs.SessionNames.{names_of};
@@ -63,8 +58,8 @@ pub fn repeats()
 /// written out, open and end events where they may. So what a phase leaves open is still open in a later
 /// one, and may be ended there.
 pub fn over_phases()
-    ensures { (extent : Extent) (text : List ℕ) (setting : Setting) (phases : List Phase) (number : ℕ)
-        → IsScript extent text setting phases → Follows [] (map mark_of (lines_for number phases)) }
+    ensures { (text : List ℕ) (setting : Setting) (phases : List Phase) (number : ℕ) → IsScript text setting phases
+        → Follows [] (map mark_of (lines_for number phases)) }
 {}
 
 /// The tables of lines are exactly those that a line names, none twice, in the order of their first
@@ -92,10 +87,4 @@ pub fn session_names()
 /// come in the order of their openings, and lie before or inside one another.
 pub fn events()
     ensures { (number : ℕ) (phases : List Phase) → AreEvents (lines_for number phases) (events_for number phases) }
-{}
-
-/// No command of a script that the engine runs is a SELECT.
-pub fn built()
-    ensures { (text : List ℕ) (setting : Setting) (phases : List Phase) → IsScript Built text setting phases
-        → All (λ (phase : Phase). All (λ (block : Block). All IsBuiltLine block.lines) phase.blocks) phases }
 {}

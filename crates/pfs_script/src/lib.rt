@@ -31,5 +31,5 @@ pub use blocks::{
     Access, Block, BlockLine, BlockLineList, BlockList, Connect, Phase, PhaseList, StatementNumbers,
 };
 pub use reading::ScriptFault;
-pub use reasons::{Extent, Reason};
+pub use reasons::Reason;
 pub use scripts::Script;

@@ -3,19 +3,16 @@
 ghost use Rattle.std.specs.Prelude.{◌≡◌, ◌≤◌, List, ◌∷◌, ◌++◌, [], None, is_some};
 ghost use Rattle.pfs_script.specs.declared.forms.Form.{Form};
 ghost use Rattle.pfs_script.specs.Headings.{head_of, resolved};
-ghost use Rattle.pfs_script.specs.Built.{is_built};
-ghost use Rattle.pfs_script.specs.declared.reasons.Extent.{Extent};
-ghost use Rattle.pfs_script.specs.Next.{has_bad_number, is_no_count, is_out_of_place, is_bad_number, is_unknown, is_event_class, is_bad_statement, is_table_too_many, is_let_in, fault_of, least_reason};
+ghost use Rattle.pfs_script.specs.Next.{has_bad_number, is_no_count, is_out_of_place, is_bad_number, is_unknown, is_event_class, is_bad_statement, is_table_too_many, fault_of};
 ghost use Rattle.pfs_script.specs.Sensing.{class_in};
 ghost use Rattle.pfs_script.specs.Places.{Knows, KnowsCounted, KnowsFinds};
 
-use crate::commands::is_select;
 use crate::courses::{Course, no_course};
 use crate::finds::Finds;
 use crate::forms::{Form, Number, Numbers};
 use crate::fronts::{Front, no_front};
 use crate::heading::{Heading, find_consumer, find_limit};
-use crate::reasons::{Extent, Reason};
+use crate::reasons::Reason;
 use crate::totals::{Totals, no_lines};
 
 /// What the lines so far amount to, as far as the next line depends on it.
@@ -48,11 +45,10 @@ impl Place {
     }
 
     /// Why the line, which is counted, may not stand behind the lines so far: the least reason, or none. Its class
-    /// may be there, and the lexer may have refused its text. One that isn't let in is tested for nothing else.
+    /// may be there, and the lexer may have refused its text.
     #[tactic(auto, unfolding(crate::specs::Next::fault_of))]
     pub fn fault(
         &self,
-        extent: Extent,
         heading: &Heading,
         finds: &Finds,
         line: &Form,
@@ -62,28 +58,7 @@ impl Place {
         requires named { is_named ≡ is_some (class_in (resolved heading.now) line.now) }
         requires refused { refused ≡ is_bad_statement line.now }
         ensures { (before : List Form) → KnowsCounted self.now before line.now → heading.now ≡ head_of before
-            → KnowsFinds finds.now before → result ≡ fault_of extent before line.now }
-    {
-        if is_let_in(extent, line) {
-            self.least_reason(heading, finds, line, is_named, refused)
-        } else {
-            Some(Reason::NotBuilt)
-        }
-    }
-
-    #[tactic(auto, unfolding(crate::specs::Next::least_reason))]
-    fn least_reason(
-        &self,
-        heading: &Heading,
-        finds: &Finds,
-        line: &Form,
-        is_named: bool,
-        refused: bool,
-    ) -> Option<Reason>
-        requires named { is_named ≡ is_some (class_in (resolved heading.now) line.now) }
-        requires refused { refused ≡ is_bad_statement line.now }
-        ensures { (before : List Form) → KnowsCounted self.now before line.now → heading.now ≡ head_of before
-            → KnowsFinds finds.now before → result ≡ least_reason before line.now }
+            → KnowsFinds finds.now before → result ≡ fault_of before line.now }
     {
         if self.is_out_of_place(line) {
             Some(Reason::OutOfPlace)
@@ -110,8 +85,8 @@ impl Place {
 
     /// The place behind one more line, which is counted and may stand there.
     pub fn pass(&mut self, line: &Form)
-        ensures { (extent : Extent) (before : List Form) → KnowsCounted self.old before line.now
-            → fault_of extent before line.now ≡ None → Knows self.new (before ++ line.now ∷ []) }
+        ensures { (before : List Form) → KnowsCounted self.old before line.now → fault_of before line.now ≡ None
+            → Knows self.new (before ++ line.now ∷ []) }
     {
         self.front.pass(line);
         self.course.pass(line);
@@ -154,26 +129,6 @@ fn is_table_too_many(finds: &Finds, line: &Form) -> bool
     ensures { (before : List Form) → KnowsFinds finds.now before → result ≡ is_table_too_many before line.now }
 {
     finds.is_table_too_many(line)
-}
-
-// Whether the line is let in at all.
-fn is_let_in(extent: Extent, line: &Form) -> bool
-    ensures { result ≡ is_let_in extent line.now }
-{
-    match extent {
-        Extent::Whole => true,
-        Extent::Built => is_built(line),
-    }
-}
-
-// Whether the engine runs the line.
-fn is_built(line: &Form) -> bool
-    ensures { result ≡ is_built line.now }
-{
-    match line {
-        Form::Sql { text } => !is_select(text.bytes()),
-        _ => true,
-    }
 }
 
 // Whether a number of the line is over 2^64 - 1, or it repeats no time.

@@ -7,8 +7,7 @@ ghost use Rattle.pfs_script.specs.Headings.{resolved};
 ghost use Rattle.pfs_script.specs.Next.{is_bad_statement};
 ghost use Rattle.pfs_script.specs.Sensing.{class_in, IsFound};
 ghost use Rattle.pfs_script.specs.Known.{AreKnown};
-ghost use Rattle.pfs_script.specs.Scripts.{parts_of, open_reason, IsScript};
-ghost use Rattle.pfs_script.specs.declared.reasons.Extent.TheVariants.{Whole, Built};
+ghost use Rattle.pfs_script.specs.Scripts.{parts_of, open_reason};
 ghost use Rattle.pfs_script.specs.Readings.{IsBehind, Takes, Says, Reads, Gives};
 
 use crate::drafts::Drafts;
@@ -17,7 +16,7 @@ use crate::forms::{Form, parse_line};
 use crate::heading::Heading;
 use crate::known::{KnownLine, KnownLines};
 use crate::places::{Place, start};
-use crate::reasons::{Extent, Reason};
+use crate::reasons::Reason;
 use crate::saying::block_line;
 use crate::scripts::Script;
 use crate::words::is_clean;
@@ -49,7 +48,6 @@ impl From<NoMemory> for ScriptFault {
 #[derive(Drop)]
 pub struct Reader<'a> {
     pub alloc: Global,
-    pub extent: Extent,
     pub count: usize,
     pub place: Place,
     pub heading: Heading,
@@ -61,50 +59,33 @@ impl Script {
     /// The script that these bytes are; else the first faulty line, counted from 1, with its least
     /// reason. The rules are our own; the names, classes and limits are MySQL's. One pass over the bytes.
     pub fn read(alloc: Global, bytes: &[u8]) -> Result<Script, ScriptFault>
-        ensures { Gives Whole bytes.now result }
+        ensures { Gives bytes.now result }
     {
-        read_script(alloc, Extent::Whole, bytes)
+        let reader = match read_lines(alloc, bytes) {
+            Ok(reader) => reader,
+            Err(fault) => return Err(fault),
+        };
+        let Reader {
+            mut heading,
+            finds,
+            drafts,
+            ..
+        } = reader;
+        heading.name_owners(drafts.owners.as_slice())?;
+        let phases = drafts.into_phases(alloc, &heading)?;
+        let Finds { tables, digests } = finds;
+        let setting = heading.into_setting(tables, digests);
+        Ok(Script { setting, phases })
     }
-
-    /// The same for a script that the engine runs: the first line that it doesn't run yet is refused with
-    /// NotBuilt, where no line before it is faulty. What it reads, `read` reads too.
-    pub fn read_built(alloc: Global, bytes: &[u8]) -> Result<Script, ScriptFault>
-        ensures gives { Gives Built bytes.now result }
-        ensures whole { IfOk result (λ script. IsScript Whole bytes.now script.setting script.phases) }
-    {
-        read_script(alloc, Extent::Built, bytes)
-    }
-}
-
-fn read_script(alloc: Global, extent: Extent, bytes: &[u8]) -> Result<Script, ScriptFault>
-    ensures { Gives extent bytes.now result }
-{
-    let reader = match read_lines(alloc, extent, bytes) {
-        Ok(reader) => reader,
-        Err(fault) => return Err(fault),
-    };
-    let Reader {
-        mut heading,
-        finds,
-        drafts,
-        ..
-    } = reader;
-    heading.name_owners(drafts.owners.as_slice())?;
-    let phases = drafts.into_phases(alloc, &heading)?;
-    let Finds { tables, digests } = finds;
-    let setting = heading.into_setting(tables, digests);
-    Ok(Script { setting, phases })
 }
 
 impl<'a> Reader<'a> {
     /// No line.
-    fn begin(alloc: Global, extent: Extent) -> Result<Reader<'a>, NoMemory>
-        ensures extent { IfOk result (λ reader. reader.extent ≡ extent) }
-        ensures behind { IfOk result (λ reader. IsBehind reader []) }
+    fn begin(alloc: Global) -> Result<Reader<'a>, NoMemory>
+        ensures { IfOk result (λ reader. IsBehind reader []) }
     {
         Ok(Reader {
             alloc,
-            extent,
             count: 0,
             place: start(),
             heading: Heading::begin(alloc)?,
@@ -140,20 +121,14 @@ impl<'a> Reader<'a> {
         requires class { class ≡ class_in (resolved self.old.heading) line.now }
         requires refused { refused ≡ is_bad_statement line.now }
         requires found { IsFound self.old.heading.limits.digests self.old.finds line.now found }
-        ensures extent { self.new.extent ≡ self.old.extent }
-        ensures took { (before : List Form) → IsBehind self.old before → Takes self.old self.new before line.now result }
+        ensures { (before : List Form) → IsBehind self.old before → Takes self.new before line.now result }
     {
         let alloc = self.alloc;
         let is_named = class.is_some();
         self.place.count(line);
-        let fault = self.place.fault(
-            self.extent,
-            &self.heading,
-            &self.finds,
-            line,
-            is_named,
-            refused,
-        );
+        let fault = self
+            .place
+            .fault(&self.heading, &self.finds, line, is_named, refused);
         if let Some(reason) = fault {
             return Err(bad(self.count, reason));
         }
@@ -176,10 +151,9 @@ fn read_line<'a>(
 ) -> Result<(), ScriptFault>
     requires { (before : List Form) × IsBehind reader.old before
         × AreKnown reader.old.heading reader.old.finds before known.old }
-    ensures extent { reader.new.extent ≡ reader.old.extent }
-    ensures says { (before : List Form) → IsBehind reader.old before
+    ensures { (before : List Form) → IsBehind reader.old before
         → AreKnown reader.old.heading reader.old.finds before known.old
-        → Says reader.old reader.new known.new before bytes.now result }
+        → Says reader.new known.new before bytes.now result }
 {
     if let Some(line) = known.find(bytes) {
         let found = Found::Before(line.number);
@@ -199,10 +173,9 @@ fn read_new<'a>(
 ) -> Result<(), ScriptFault>
     requires { (before : List Form) × IsBehind reader.old before
         × AreKnown reader.old.heading reader.old.finds before known.old }
-    ensures extent { reader.new.extent ≡ reader.old.extent }
-    ensures says { (before : List Form) → IsBehind reader.old before
+    ensures { (before : List Form) → IsBehind reader.old before
         → AreKnown reader.old.heading reader.old.finds before known.old
-        → Says reader.old reader.new known.new before bytes.now result }
+        → Says reader.new known.new before bytes.now result }
 {
     let form = match parse_line(bytes) {
         Ok(form) => form,
@@ -268,10 +241,10 @@ fn bad(count: usize, reason: Reason) -> ScriptFault
 }
 
 /// All lines, in one pass.
-fn read_lines(alloc: Global, extent: Extent, bytes: &[u8]) -> Result<Reader, ScriptFault>
-    ensures { Reads extent bytes.now result }
+fn read_lines(alloc: Global, bytes: &[u8]) -> Result<Reader, ScriptFault>
+    ensures { Reads bytes.now result }
 {
-    let mut reader = Reader::begin(alloc, extent)?;
+    let mut reader = Reader::begin(alloc)?;
     let mut known = KnownLines::none(alloc);
     let mut rest = bytes;
     while let Some((line, after)) = split_line(rest) {

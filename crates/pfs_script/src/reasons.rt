@@ -30,14 +30,4 @@ pub enum Reason {
     /// With this line a script has more phases, classes, tables or SELECTs, or more weight, than it may have; a
     /// repeat weighs in full at its `done`.
     TooMuch = 12,
-    /// The engine doesn't run the line yet.
-    NotBuilt = 13,
-}
-
-/// What is read as a script: all that is one, or what the engine runs so far. A line that isn't let in is
-/// tested for nothing but its bytes and its form.
-#[derive(Clone, Copy, Debug, PartialEq, Eq)]
-pub enum Extent {
-    Whole,
-    Built,
 }

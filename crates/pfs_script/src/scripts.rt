@@ -1,7 +1,6 @@
 //! A script in hand.
 
 ghost use Rattle.std.specs.Prelude.{List, ℕ};
-ghost use Rattle.pfs_script.specs.declared.reasons.Extent.TheVariants.{Whole};
 ghost use Rattle.pfs_script.specs.Scripts.{IsScript};
 
 use crate::blocks::PhaseList;
@@ -15,5 +14,5 @@ pub struct Script {
     pub setting: Setting,
     /// The phases, in order.
     pub phases: PhaseList,
-    pub ghost given: { ∥ ((text : List ℕ) × IsScript Whole text setting phases) ∥₁ },
+    pub ghost given: { ∥ ((text : List ℕ) × IsScript text setting phases) ∥₁ },
 }

@@ -7,27 +7,27 @@ use Rattle.pfs_script.proofs.reading.read_new.Goals as goal
 pub bad-requires : goal.bad-requires
 bad-requires c = omega (arith, few_count c.args.reader.now c.requires.0 c.requires.1)
 
-pub returns-in-Err-clause-says : goal.returns-in-Err-clause-says
-returns-in-Err-clause-says c before b k = rw c.bad.ensures (ap (λ n. n + 1) b.count, next_unsaid c.args.reader.now.extent before c.args.bytes.now c.in-Err.reason (sym c.in-Err.ensures.form))
+pub returns-in-Err : goal.returns-in-Err
+returns-in-Err c before b k = rw c.bad.ensures (ap (λ n. n + 1) b.count, next_unsaid before c.args.bytes.now c.in-Err.reason (sym c.in-Err.ensures.form))
 
-pub returns-in-Err-take-clause-says : goal.returns-in-Err-take-clause-says
-returns-in-Err-take-clause-says c before b k =
-    says_fault c.args.reader.now c.take.new.self c.take.new.self c.args.known.now before c.args.bytes.now c.in-Ok.form c.in-Err-take.fault (sym c.in-Ok.ensures.form) (c.in-Err-take.ensures.took before b)
+pub returns-in-Err-take : goal.returns-in-Err-take
+returns-in-Err-take c before b k =
+    says_fault c.take.new.self c.take.new.self c.args.known.now before c.args.bytes.now c.in-Ok.form c.in-Err-take.fault (sym c.in-Ok.ensures.form) (c.in-Err-take.ensures before b)
 
-pub returns-in_ok-keep-clause-says : goal.returns-in_ok-keep-clause-says
-returns-in_ok-keep-clause-says c before b k =
+pub returns-in_ok-keep : goal.returns-in_ok-keep
+returns-in_ok-keep c before b k =
     let old = c.args.reader.now in
     let new = c.take.new.self in
     let line = c.in-Ok.form in
     let said = sym c.in-Ok.ensures.form in
-    let took = c.in-Ok-take.ensures.took before b in
-    let more = known_more old new before line b took.1 c.args.known.now old.extent took.0 k in
-    let own = known_new old new before line b took.1 c.args.bytes.now c.class_of-class.result c.in-Ok-take.number old.extent took.0 said c.in-Ok.ensures.kind c.class_of-class.ensures c.is_some.result (nat_lt (hash_map_len c.args.known.now.lines) 4096) (sym c.wants.ensures ∙ c.if-wants.true) took.2 in
-    (line, next_says old.extent before c.args.bytes.now line said took.0, took.1, known_kept new (before ++ line ∷ []) c.args.known.now c.keep.new.self c.args.bytes.now _ c.in_ok-keep.ensures more own)
+    let took = c.in-Ok-take.ensures before b in
+    let more = known_more old new before line b took.1 c.args.known.now took.0 k in
+    let own = known_new old new before line b took.1 c.args.bytes.now c.class_of-class.result c.in-Ok-take.number took.0 said c.in-Ok.ensures.kind c.class_of-class.ensures c.is_some.result (nat_lt (hash_map_len c.args.known.now.lines) 4096) (sym c.wants.ensures ∙ c.if-wants.true) took.2 in
+    (line, next_says before c.args.bytes.now line said took.0, took.1, known_kept new (before ++ line ∷ []) c.args.known.now c.keep.new.self c.args.bytes.now _ c.in_ok-keep.ensures more own)
 
-pub returns-else-wants-clause-says : goal.returns-else-wants-clause-says
-returns-else-wants-clause-says c before b k =
+pub returns-else-wants : goal.returns-else-wants
+returns-else-wants c before b k =
     let old = c.args.reader.now in
     let line = c.in-Ok.form in
-    let took = c.in-Ok-take.ensures.took before b in
-    (line, next_says old.extent before c.args.bytes.now line (sym c.in-Ok.ensures.form) took.0, took.1, known_more old c.take.new.self before line b took.1 c.args.known.now old.extent took.0 k)
+    let took = c.in-Ok-take.ensures before b in
+    (line, next_says before c.args.bytes.now line (sym c.in-Ok.ensures.form) took.0, took.1, known_more old c.take.new.self before line b took.1 c.args.known.now took.0 k)

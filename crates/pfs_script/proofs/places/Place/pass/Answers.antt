@@ -5,9 +5,9 @@ use Rattle.pfs_script.proofs.Writing.{length_counted}
 use Rattle.pfs_script.proofs.places.Place.pass.Goals as goal
 
 pub returns : goal.returns
-returns c extent before knows none =
+returns c before knows none =
     let line = c.args.line.now in
-    let p = passes extent before line none in
+    let p = passes before line none in
     let totals = knows.totals.knows p.place p.long p.much in
     record {
       front = c.pass.ensures before knows.front;

@@ -4,8 +4,8 @@ use Rattle.pfs_script.specs.Drafts.{with_owner}
 use Rattle.pfs_script.proofs.Finding.{none_finds}
 use Rattle.pfs_script.proofs.reading.Reader.begin.Goals as goal
 
-pub returns-clause-behind : goal.returns-clause-behind
-returns-clause-behind c = record {
+pub returns : goal.returns
+returns c = record {
   count = refl;
   drafted = λ sense lines alike. c.none-2.ensures.phases sense lines;
   owners = λ names. ap (λ all. fold with_owner names all) c.none-2.ensures.owners;

@@ -25,20 +25,19 @@ pub pass-requires : goal.pass-requires
 pass-requires c =
     let before = c.requires.behind.0 in
     let b = c.requires.behind.1 in
-    let none : fault_of c.args.self.now.extent before c.args.line.now ≡ None = sym (c.fault-fault.ensures before (c.count.ensures before b.place) b.head b.finds) ∙ c.in_default.is in
-    rw b.head (may_come c.args.self.now.extent before c.args.line.now (passes c.args.self.now.extent before c.args.line.now none) c.requires.kind)
+    let none : fault_of before c.args.line.now ≡ None = sym (c.fault-fault.ensures before (c.count.ensures before b.place) b.head b.finds) ∙ c.in_default.is in
+    rw b.head (may_come before c.args.line.now (passes before c.args.line.now none) c.requires.kind)
 
-pub returns-clause-took : goal.returns-clause-took
-returns-clause-took c before b =
-    let extent = c.args.self.now.extent in
+pub returns : goal.returns
+returns c before b =
     let line = c.args.line.now in
     let finds = c.args.self.now.finds in
     let after = c.note.new.self in
     let behind = before ++ line ∷ [] in
-    let none : fault_of extent before line ≡ None = sym (c.fault-fault.ensures before (c.count.ensures before b.place) b.head b.finds) ∙ c.in_default.is in
-    let p = passes extent before line none in
-    let stands = stands_in extent before line p in
-    let idle = idles extent before line p in
+    let none : fault_of before line ≡ None = sym (c.fault-fault.ensures before (c.count.ensures before b.place) b.head b.finds) ∙ c.in_default.is in
+    let p = passes before line none in
+    let stands = stands_in before line p in
+    let idle = idles before line p in
     let most = c.args.self.now.heading.limits.digests in
     let head = c.in_ok-pass.ensures before stands b.head in
     let tables = c.in_ok-number.ensures.tables in
@@ -55,7 +54,7 @@ returns-clause-took c before b =
         drafted = drafted_more c.args.self.now.drafts c.pass-3.new.self before line c.in_ok-said.said b.drafted stays (c.in_ok-said.ensures (sense_of behind) class number) c.in_ok-pass-2.ensures.phases;
         owners = λ names. c.in_ok-pass-2.ensures.owners names ∙ (ap (λ all. with_session all line) (b.owners names) ∙ sym (fold_push with_session names before line));
         ahead = ahead_more before line p.place b.ahead;
-        place = c.pass-2.ensures extent before (c.count.ensures before b.place) none;
+        place = c.pass-2.ensures before (c.count.ensures before b.place) none;
         head = head;
         finds = found;
         settled = settled_behind most c.pass.new.self.limits.digests finds after before line idle (λ same. ap (λ (one : Head). one.limits.digests) (head ∙ (sym same ∙ sym b.head))) b.ahead tables digests b.settled;
