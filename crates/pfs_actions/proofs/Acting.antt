@@ -5,6 +5,7 @@ use Rattle.std.proofs.lemmas.List.{append-nil}
 use Rattle.pfs_admin.specs.Asks.{placed_of}
 use Rattle.pfs_admin.specs.States.{State as Administration, seat_at}
 use Rattle.pfs_alone.specs.Spells.{around, doings_calls, label_of}
+use Rattle.pfs_admin.specs.declared.changes.SetupStatement.TheVariants.{Show}
 use Rattle.pfs_board.specs.declared.view.Label.{Label}
 use Rattle.pfs_containers.specs.Administration.{Containers, lowest_free}
 use Rattle.pfs_containers.specs.Kept.{seat_by}
@@ -12,9 +13,13 @@ use Rattle.pfs_containers.proofs.Keeping.{free_inside}
 use Rattle.pfs_event.specs.declared.entry.Entry.{Entry}
 use Rattle.pfs_levels.specs.Calls.{Call, Opening, Goes, Begins, Enters, Leaves}
 use Rattle.pfs_model.specs.Journals.{joined}
-use Rattle.pfs_parts.specs.Deeds.{Connecting, Deed, MayDo, Part, Quitting, action_of, part_calls, part_entries, steps_for}
+use Rattle.pfs_parts.specs.Deeds.{Connecting, Deed, MayDo, Part, Quitting, Showing, action_of, part_calls, part_entries, remark, steps_for}
 use Rattle.pfs_session.specs.States.{State, Book, nothing_held}
-use Rattle.pfs_session.specs.Turns.{Played, turns_calls}
+use Rattle.pfs_session.proofs.Playing.{played_one, played_then}
+use Rattle.pfs_session.specs.Inquiries.{Remarks, remark_entry}
+use Rattle.pfs_session.specs.Turns.{Changes, Does, Inquires, Played, SettlesHeld, turns_calls}
+use Rattle.pfs_session.specs.declared.remarks.Remark.{Remark}
+use Rattle.pfs_session.specs.declared.remarks.Remark.TheVariants.{Rows}
 use Rattle.pfs_actions.specs.Done.{HasActed}
 
 joined_one : (entries : List Entry) → joined (entries ∷ []) ≡ entries
@@ -52,6 +57,17 @@ acted deed number answer old new was begun did now acts begins played leaves =
   where
     one_doing : (its : Part) (labels : List Label) → action_of its.deed ≡ Some number → doings_calls ((record { part = its; label = label_of old.state; labels = labels }) ∷ []) ≡ Leaves ∷ (part_calls its ++ Enters (label_of old.state) labels ∷ [])
     one_doing its labels is = ap (λ (n : Option ℕ). around (label_of old.state) labels n (part_calls its)) is
+
+-- a remark is one step
+pub remarked : (what : Remark) (old new : Book) (was : Opening → List Call → Type 0) → Does old.state (Inquires (Remarks what)) [] (remark_entry what ∷ []) new.state → new.journal.entries ≡ old.journal.entries ++ remark_entry what ∷ []
+    → Played (remark what ∷ []) old new was was
+remarked what old new was does entries =
+    played_one (Inquires (Remarks what)) [] (remark_entry what ∷ []) new.state old new was was does refl (record { entries_are = entries; goes = λ start calls h. h })
+
+-- inside an action: what is held is settled, the administration notes that it is asked, and how many rows answer
+pub shown : (admin : Administration) (count : ℕ) (old at new : Book) (was now : Opening → List Call → Type 0) → Played (SettlesHeld ∷ Changes admin Show ∷ []) old at was now → Played (remark (Rows count) ∷ []) at new now now
+    → Played (steps_for old.state (Showing admin count)) old new was now
+shown admin count old at new was now acts tells = played_then (SettlesHeld ∷ Changes admin Show ∷ []) (remark (Rows count) ∷ []) old at new was now now acts tells
 
 -- a session gets one of the slots
 seat_inside : (most : ℕ) (now : Containers) (number user host : ℕ) (slot : Option ℕ) → IfSome slot (λ n. n < most) → IfSome (placed_of (seat_by now number user host slot)).thread (λ n. n < most)

@@ -1,19 +1,27 @@
 //! Actions of a session: it enters with its label, does what it asks for, and leaves.
 
-ghost use Rattle.std.specs.Prelude.{◌≡◌, ◌<◌, ◌≤◌, ◌+◌, ◌^◌, ℕ, [], None, Some, length};
+ghost use Rattle.std.specs.Prelude.{◌≡◌, ◌<◌, ◌≤◌, ◌+◌, ◌^◌, ℕ, [], None, Some, IfOk, length};
 ghost use Rattle.pfs_admin.specs.Setups.{has_changed, most_of};
 ghost use Rattle.pfs_admin.specs.States.{connected, has_quit};
 ghost use Rattle.pfs_admin.specs.Truncations.{has_truncated, truncation_cost};
 ghost use Rattle.pfs_admin.specs.Works.{Leaves};
-ghost use Rattle.pfs_parts.specs.Deeds.{Changing, Connecting, IsReplied, Quitting, Truncating};
+ghost use Rattle.pfs_admin.specs.declared.changes.SetupStatement.TheVariants.{Show};
+ghost use Rattle.pfs_exec.specs.Selecting.{IsAnswer};
+ghost use Rattle.pfs_parts.specs.Deeds.{Changing, Connecting, IsReplied, Quitting, Showing, Truncating};
 ghost use Rattle.pfs_session.specs.Settles.{owed_by_state, settle_cost};
 ghost use Rattle.pfs_session.specs.States.{no_place, nothing_held};
+ghost use Rattle.pfs_show.specs.Rows.{IsHeld, held_rows};
 ghost use Rattle.pfs_actions.specs.Done.{HasActed};
 
+use crate::NoMemory;
 use pfs_admin::{Admin, SetupStatement, Truncation};
+use pfs_exec::Select;
 use pfs_levels::Acts;
 use pfs_names::NameId;
-use pfs_session::Session;
+use pfs_session::{Remark, Session};
+use pfs_show::show;
+use pfs_values::Rowset;
+use std::alloc::Global;
 
 /// Connects a session, its first action: the store gives the action its number, and the session gets the places that the
 /// administration finds for this user and this host.
@@ -134,4 +142,51 @@ pub fn act<A: Acts>(session: &mut Session, rows: &mut A, admin: &mut Admin, what
     rows.enter(session.label());
     session.act(rows, admin, what);
     rows.leave();
+}
+
+/// Answers a SELECT on `setup_actors` or `setup_objects` by the rows that the administration holds, an action that changes
+/// nothing: what the session holds is settled first. The journal gets how many rows answer. Err is NoMemory alone; the
+/// action has ended then too.
+pub fn show_held<A: Acts>(
+    alloc: Global,
+    session: &mut Session,
+    rows: &mut A,
+    admin: &mut Admin,
+    query: &Select,
+) -> Result<Rowset, NoMemory>
+    requires held { IsHeld query.now.table }
+    requires early { session.old.state.actions + 1 < 2 ^ 64 }
+    requires few { admin.old.actions < 2 ^ 47 }
+    requires idle { (r : ℕ) → A.hand rows.old r ≡ None }
+    requires lent { A.words rows.old ≡ Some admin.old.words }
+    requires spare { length (owed_by_state session.old.state) + 1 ≤ A.left rows.old }
+    requires room { settle_cost (owed_by_state session.old.state) + 3 ≤ session.old.journal.room }
+    ensures acted { IfOk result (λ answer. HasActed (Showing admin.old (length answer)) session.old session.new
+        (A.reached rows.old) (A.reached rows.new)) }
+    ensures answered { IfOk result (IsAnswer query.now (held_rows query.now.table admin.old.actors admin.old.objects)) }
+    ensures admin { admin.new ≡ has_changed admin.old Show }
+    ensures rest { session.new.state ≡ record session.old.state {
+      held = nothing_held;
+      actions = session.old.state.actions + 1;
+      last = session.new.state.last;
+    } }
+    ensures leaves { Leaves (length (owed_by_state session.old.state) + 1)
+        (settle_cost (owed_by_state session.old.state) + 3) (A.hand rows.old) (A.hand rows.new)
+        (A.left rows.old) (A.left rows.new) (A.draws rows.old) (A.draws rows.new) (A.name rows.old)
+        (A.name rows.new) session.old.journal session.new.journal }
+    ensures lent { A.words rows.new ≡ Some admin.new.words }
+{
+    rows.enter(session.label());
+    session.act(rows, admin, SetupStatement::Show);
+    match show(alloc, query, admin.actors(), admin.objects()) {
+        Ok(answer) => {
+            session.append(Remark::Rows(answer.as_slice().len() as u64));
+            rows.leave();
+            Ok(answer)
+        }
+        Err(fault) => {
+            rows.leave();
+            Err(fault)
+        }
+    }
 }

@@ -27,7 +27,7 @@ pub enum SetupStatement {
     Show,
 }
 
-/// What an action answers: how many rows it changed, or the number of an error.
+/// What an action answers: how many rows it met, or the number of an error.
 #[derive(Clone, Copy, Debug, PartialEq, Eq)]
 pub enum Reply {
     Changed(u64),

@@ -70,7 +70,7 @@ rooms_of found = record {
   host = found.host;
 }
 
--- what a change is answered: how many rows it changed, or the number of an error
+-- what a change is answered: how many rows it met, or the number of an error
 abbrev pub answer_by : Reply → Answer
 answer_by (replies.Changed count) = Replied count
 answer_by (replies.Error error) = Failed error

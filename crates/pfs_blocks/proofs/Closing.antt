@@ -1,21 +1,25 @@
 -- A session that plays the lines of a block and quits, and the end of a block.
-use Rattle.std.proofs.Common.{ℕ, ◌≡◌, ◌+◌, Bool, true, false, List, [], ◌∷◌, ◌++◌, length, Option, refl, ap, sym, ◌∙◌, subst, append_assoc, arith}
-use Rattle.std.proofs.lemmas.List.{append-nil}
+use Rattle.std.proofs.Common.{ℕ, ◌≡◌, ◌+◌, Bool, true, false, List, [], ◌∷◌, ◌++◌, length, map, Option, Some, None, refl, ap, sym, ◌∙◌, subst, append_assoc, arith}
+use Rattle.std.proofs.lemmas.List.{append-nil, map-append}
 use Rattle.std.proofs.Common.{length-append}
 use Rattle.pfs_actions.specs.Done.{HasActed, HasDone}
 use Rattle.pfs_actions.proofs.Acting.{may_quit}
 use Rattle.pfs_actions.proofs.Joining.{then}
 use Rattle.pfs_admin.specs.States.{State as Administration}
+use Rattle.pfs_classes.specs.declared.setting.Setting.{Setting}
 use Rattle.pfs_event.specs.declared.entry.Entry.{Entry}
 use Rattle.pfs_event.specs.declared.kind.EventKind.{EventKind}
 use Rattle.pfs_event.specs.declared.open.Open.{Open}
+use Rattle.pfs_facts.specs.Answers.{Answers}
 use Rattle.pfs_facts.specs.Steps.{kinds_in}
 use Rattle.pfs_levels.specs.Calls.{Call, Opening}
 use Rattle.pfs_model.specs.Journals.{joined}
 use Rattle.pfs_parts.specs.Deeds.{Deed, Part, Closing, Quitting, part_entries}
 use Rattle.pfs_play.specs.Errands.{HavePlayed, StagesLie, actions_on, admin_after, cost_on, kinds_after}
+use Rattle.pfs_play.proofs.Following.{answers_on}
 use Rattle.pfs_play.proofs.Repeating.{after_then}
 use Rattle.pfs_play.proofs.Writing.{actions_then, cost_then, kinds_then}
+use Rattle.pfs_runs.specs.Answers.{Answer, AreAnswers, Selection, connect_selections, selection_on}
 use Rattle.pfs_script.specs.declared.blocks.BlockLine.{BlockLine}
 use Rattle.pfs_script.specs.declared.blocks.BlockLine.TheVariants as said
 use Rattle.pfs_script.specs.declared.blocks.Connect.{Connect}
@@ -57,8 +61,10 @@ closing_done old new was now played =
       };
     }
 
-pub closed_deeds : (deeds : List Deed) (over : Bool) (old at new : Book) (was mid now : Opening → List Call → Type 0) → HasDeeds deeds over old at was mid → Played (SettlesHeld ∷ []) at new mid now → HasDeeds (deeds ++ Closing ∷ []) over old new was now
-closed_deeds deeds over old at new was mid now p played =
+-- where its SELECTs are those of lines: behind them a quit, which is none, stands for the end
+pub closed_deeds : (setting : Setting) (lines : List BlockLine) (deeds : List Deed) (over : Bool) (old at new : Book) (answers behind : List Answer) (was mid now : Opening → List Call → Type 0)
+    → HasDeeds setting (map selection_on lines) deeds over old at answers behind was mid → Played (SettlesHeld ∷ []) at new mid now → HasDeeds setting (map selection_on lines ++ None ∷ []) (deeds ++ Closing ∷ []) over old new answers behind was now
+closed_deeds setting lines deeds over old at new answers behind was mid now p played =
     let its : Part = record { deed = Closing; turns = played.turns } in
     let ps : List Part = p.parts in
     record {
@@ -66,6 +72,10 @@ closed_deeds deeds over old at new was mid now p played =
       deeds_are = in_then ps (its ∷ []) ∙ ap (λ (z : List Deed). z ++ Closing ∷ []) p.deeds_are;
       may = may_then false old.state ps (its ∷ []) p.may (tt, tt);
       over_is = over_then false ps (its ∷ []) ∙ p.over_is;
+      given = p.given ++ [];
+      given_are = p.given_are ∙ ap (λ (z : List Answer). answers ++ z) (sym (append-nil p.given));
+      answered = subst (λ (z : List (Option Selection)). AreAnswers (Answers setting) z (ps ++ its ∷ []) (p.given ++ [])) (map-append selection_on lines (said.Quit ∷ []))
+          (answers_on setting lines (said.Quit ∷ []) ps (its ∷ []) p.given [] p.answered refl);
       done = then ps (its ∷ []) old at new was mid now p.done (closing_done at new mid now played);
     }
 
@@ -73,23 +83,50 @@ closed_deeds deeds over old at new was mid now p played =
 pub quit_admin : (admin : Administration) (body : List BlockLine) → admin_after admin (written_out (body ++ said.Quit ∷ [])) ≡ admin_after admin (written_out body)
 quit_admin admin body = ap (admin_after admin) (written_quit body) ∙ after_then admin (written_out body) (said.Quit ∷ [])
 
-pub quit_deeds : (admin : Administration) (body : List BlockLine) (old mid new : Book) (was at now : Opening → List Call → Type 0) → HavePlayed (written_out body) admin old mid was at
-    → HasActed (Quitting (admin_after admin (written_out body))) mid new at now → mid.state.opened.events ≡ [] → HasDeeds (deeds_along admin (written_out (body ++ said.Quit ∷ []))) true old new was now
-quit_deeds admin body old mid new was at now played quit closed =
+pub quit_deeds : (setting : Setting) (admin : Administration) (body : List BlockLine) (old mid new : Book) (answers behind : List Answer) (was at now : Opening → List Call → Type 0) → HavePlayed setting (written_out body) admin old mid answers behind was at
+    → HasActed (Quitting (admin_after admin (written_out body))) mid new at now → mid.state.opened.events ≡ []
+    → HasDeeds setting (map selection_on (written_out (body ++ said.Quit ∷ []))) (deeds_along admin (written_out (body ++ said.Quit ∷ []))) true old new answers behind was now
+quit_deeds setting admin body old mid new answers behind was at now played quit closed =
     let lines : List BlockLine = written_out body in
-    let behind : Administration = admin_after admin lines in
-    let first : HasDeeds (deeds_along admin lines) false old mid was at = played_deeds admin lines old mid was at played in
-    let last : HasDeeds (Quitting behind ∷ []) true mid new at now = one_deed (Quitting behind) mid new at now (may_quit mid.state behind closed) quit in
-    let both : HasDeeds (deeds_along admin lines ++ Quitting behind ∷ []) true old new was now = deeds_then (deeds_along admin lines) (Quitting behind ∷ []) true old mid new was at now first last in
-    subst (λ (ds : List Deed). HasDeeds ds true old new was now) (sym (ap (deeds_along admin) (written_quit body) ∙ along_then admin lines (said.Quit ∷ []))) both
+    let after : Administration = admin_after admin lines in
+    let first : HasDeeds setting (map selection_on lines) (deeds_along admin lines) false old mid answers behind was at = played_deeds setting admin lines old mid answers behind was at played in
+    let last : HasDeeds setting (None ∷ []) (Quitting after ∷ []) true mid new behind behind at now = one_deed setting (Quitting after) mid new behind at now refl (may_quit mid.state after closed) quit in
+    let both : HasDeeds setting (map selection_on (lines ++ said.Quit ∷ [])) (deeds_along admin lines ++ Quitting after ∷ []) true old new answers behind was now =
+    deeds_then setting lines (said.Quit ∷ []) (deeds_along admin lines) (Quitting after ∷ []) true old mid new answers behind behind was at now first last in
+    subst (λ (ls : List BlockLine). HasDeeds setting (map selection_on ls) (deeds_along admin ls) true old new answers behind was now) (sym (written_quit body))
+    (subst (λ (ds : List Deed). HasDeeds setting (map selection_on (lines ++ said.Quit ∷ [])) ds true old new answers behind was now) (sym (along_then admin lines (said.Quit ∷ []))) both)
+
+-- a connect is no SELECT, nor is a quit, which stands for it here
+abbrev stand_in : Option Connect → List BlockLine
+stand_in None = []
+stand_in (Some names) = said.Quit ∷ []
+
+connects_none : (names : Option Connect) → connect_selections names ≡ map selection_on (stand_in names)
+connects_none None = refl
+connects_none (Some names) = refl
+
+-- what the lines of a block select, between its connect and its end
+block_selects : (names : Option Connect) (lines : List BlockLine) → map selection_on (stand_in names ++ lines) ++ None ∷ [] ≡ connect_selections names ++ (map selection_on lines ++ None ∷ [])
+block_selects names lines =
+    ap (λ (z : List (Option Selection)). z ++ None ∷ []) (map-append selection_on (stand_in names) lines)
+    ∙ (append_assoc (map selection_on (stand_in names)) (map selection_on lines) (None ∷ []) ∙ ap (λ (z : List (Option Selection)). z ++ (map selection_on lines ++ None ∷ [])) (sym (connects_none names)))
 
 -- a connect, lines to their end, and the end of the block
-pub block_deeds : (admin : Administration) (number : ℕ) (names : Option Connect) (lines : List BlockLine) (over : Bool) (old one two new : Book) (was at mid now : Opening → List Call → Type 0) → HasDeeds (connecting admin names) false old one was at
-    → HasDeeds (deeds_along (connected_by admin number names) (written_out lines)) over one two at mid → Played (SettlesHeld ∷ []) two new mid now → HasDeeds (deeds_of admin number names (written_out lines)) over old new was now
-block_deeds admin number names lines over old one two new was at mid now connect play close =
-    let deeds : List Deed = deeds_along (connected_by admin number names) (written_out lines) in
-    let both : HasDeeds (connecting admin names ++ deeds) over old two was mid = deeds_then (connecting admin names) deeds over old one two was at mid connect play in
-    subst (λ (ds : List Deed). HasDeeds ds over old new was now) (append_assoc (connecting admin names) deeds (Closing ∷ [])) (closed_deeds (connecting admin names ++ deeds) over old two new was mid now both close)
+pub block_deeds : (setting : Setting) (admin : Administration) (number : ℕ) (names : Option Connect) (lines : List BlockLine) (over : Bool) (old one two new : Book) (answers behind : List Answer) (was at mid now : Opening → List Call → Type 0)
+    → HasDeeds setting (connect_selections names) (connecting admin names) false old one answers answers was at
+    → HasDeeds setting (map selection_on (written_out lines)) (deeds_along (connected_by admin number names) (written_out lines)) over one two answers behind at mid → Played (SettlesHeld ∷ []) two new mid now
+    → HasDeeds setting (connect_selections names ++ (map selection_on (written_out lines) ++ None ∷ [])) (deeds_of admin number names (written_out lines)) over old new answers behind was now
+block_deeds setting admin number names lines over old one two new answers behind was at mid now connect play close =
+    let entry : List BlockLine = stand_in names in
+    let written : List BlockLine = written_out lines in
+    let deeds : List Deed = deeds_along (connected_by admin number names) written in
+    let first : HasDeeds setting (map selection_on entry) (connecting admin names) false old one answers answers was at =
+    subst (λ (xs : List (Option Selection)). HasDeeds setting xs (connecting admin names) false old one answers answers was at) (connects_none names) connect in
+    let both : HasDeeds setting (map selection_on (entry ++ written)) (connecting admin names ++ deeds) over old two answers behind was mid =
+    deeds_then setting entry written (connecting admin names) deeds over old one two answers answers behind was at mid first play in
+    subst (λ (xs : List (Option Selection)). HasDeeds setting xs (deeds_of admin number names written) over old new answers behind was now) (block_selects names written)
+    (subst (λ (ds : List Deed). HasDeeds setting (map selection_on (entry ++ written) ++ None ∷ []) ds over old new answers behind was now) (append_assoc (connecting admin names) deeds (Closing ∷ []))
+    (closed_deeds setting (entry ++ written) (connecting admin names ++ deeds) over old two new answers behind was mid now both close))
 
 -- what a quit behind lines adds to them
 pub quit_length : (body : List BlockLine) → length (written_out (body ++ said.Quit ∷ [])) ≡ length (written_out body) + 1

@@ -1,42 +1,51 @@
 -- What a session does at a block of a script.
-use Rattle.std.specs.Prelude.{ℕ, ◌≡◌, ◌<◌, Bool, true, false, List, [], ◌++◌, length, None}
+use Rattle.std.specs.Prelude.{ℕ, ◌≡◌, ◌<◌, Bool, true, false, List, [], ◌++◌, length, map, Option, None}
 use Rattle.pfs_actions.specs.Done.{HasDone}
 use Rattle.pfs_admin.specs.States.{State as Administration}
+use Rattle.pfs_classes.specs.declared.setting.Setting.{Setting}
 use Rattle.pfs_course.specs.Course.{connected_by, deeds_along, deeds_in, deeds_of, ended_by}
 use Rattle.pfs_event.specs.declared.kind.EventKind.{EventKind}
+use Rattle.pfs_facts.specs.Answers.{Answers}
 use Rattle.pfs_levels.specs.Calls.{Call, Opening}
 use Rattle.pfs_parts.specs.Deeds.{Deed, Part}
 use Rattle.pfs_parts.specs.Shaped.{MayDoAll, over_behind}
 use Rattle.pfs_play.specs.Errands.{admin_after, kinds_after}
 use Rattle.pfs_play.specs.Repeats.{AllMayPlay}
 use Rattle.pfs_playable.specs.Playable.{end_of}
+use Rattle.pfs_runs.specs.Answers.{Answer, Selection, AreAnswers, selection_on, selections_in}
 use Rattle.pfs_script.specs.declared.blocks.Block.{Block}
 use Rattle.pfs_script.specs.declared.blocks.BlockLine.{BlockLine}
 use Rattle.pfs_script.specs.declared.blocks.Connect.{Connect}
 use Rattle.pfs_script.specs.Marks.{written_out}
 use Rattle.pfs_session.specs.States.{State, Book, no_place, nothing_held}
 
--- a session did parts of these deeds, which it might do, and nothing else; `over` says whether it is over then
-pub record HasDeeds (deeds : List Deed) (over : Bool) (old new : Book) (was now : Opening → List Call → Type 0)
-    : Type 0 where
+-- a session did parts of these deeds, which it might do, and nothing else; `over` says whether it is over then. The
+-- answers of its SELECTs stand behind those before
+pub record HasDeeds (setting : Setting) (selections : List (Option Selection)) (deeds : List Deed) (over : Bool)
+    (old new : Book) (before after : List Answer) (was now : Opening → List Call → Type 0) : Type 0 where
   pub parts : List Part
   pub deeds_are : deeds_in parts ≡ deeds
   pub may : MayDoAll false old.state parts
   pub over_is : over_behind false parts ≡ over
+  pub given : List Answer
+  pub given_are : after ≡ before ++ given
+  pub answered : AreAnswers (Answers setting) selections parts given
   pub done : HasDone parts old new was now
 
 -- it did its lines with each repeat written out, and has quit just where it is over
-pub record HasEnded (lines : List BlockLine) (admin after : Administration) (old new : Book) (was now : Opening
-    → List Call → Type 0) : Type 0 where
+pub record HasEnded (setting : Setting) (lines : List BlockLine) (admin after : Administration) (old new : Book)
+    (answers behind : List Answer) (was now : Opening → List Call → Type 0) : Type 0 where
   pub over : Bool
-  pub did : HasDeeds (deeds_along admin (written_out lines)) over old new was now
+  pub did : HasDeeds setting (map selection_on (written_out lines)) (deeds_along admin (written_out lines)) over old new
+      answers behind was now
   pub after_is : after ≡ ended_by (admin_after admin (written_out lines)) old.state.number over
 
 -- and it did a whole block
-pub record HasPlayed (block : Block) (admin after : Administration) (old new : Book) (was now : Opening → List Call
-    → Type 0) : Type 0 where
+pub record HasPlayed (setting : Setting) (block : Block) (admin after : Administration) (old new : Book)
+    (answers behind : List Answer) (was now : Opening → List Call → Type 0) : Type 0 where
   pub over : Bool
-  pub did : HasDeeds (deeds_of admin old.state.number block.connect (written_out block.lines)) over old new was now
+  pub did : HasDeeds setting (selections_in block)
+      (deeds_of admin old.state.number block.connect (written_out block.lines)) over old new answers behind was now
   pub after_is : after ≡ ended_by
       (admin_after (connected_by admin old.state.number block.connect) (written_out block.lines)) old.state.number over
 

@@ -9,15 +9,19 @@ ghost use Rattle.pfs_script.specs.declared.blocks.BlockLine.{BlockLine as Line};
 ghost use Rattle.pfs_script.specs.declared.blocks.BlockLine.TheVariants as said;
 ghost use Rattle.pfs_session.specs.States.{nothing_held};
 ghost use Rattle.pfs_session.specs.Using.{Uses};
+ghost use Rattle.pfs_classes.specs.declared.setting.Setting.{Setting as Fixed};
+ghost use Rattle.pfs_runs.specs.Answers.{Answer, connect_selections};
 ghost use Rattle.pfs_course.specs.Course.{connected_by, connecting};
 ghost use Rattle.pfs_blocks.specs.Played.{HasDeeds, HasEnded, HasPlayed, MayConnect, MayEnd};
 
 use pfs_actions::{connect, quit};
 use pfs_admin::Admin;
+use pfs_classes::Setting;
 use pfs_levels::Acts;
 use pfs_play::{NoMemory, play_written};
 use pfs_script::{Block, BlockLine, Connect};
 use pfs_session::{Paused, Session};
+use pfs_values::Rowset;
 use std::alloc::Global;
 
 // Connects the session, where its block gives names.
@@ -34,8 +38,9 @@ fn connect_by<A: Acts>(
     requires spare { 5 ≤ A.left rows.old }
     requires room { 6 ≤ session.old.journal.room }
     ensures did { length admin.old.kept.now.places.threads ≤ 32
-        → HasDeeds (connecting admin.old names) false session.old session.new (A.reached rows.old)
-        (A.reached rows.new) }
+        → (setting : Fixed) → (answers : List Answer)
+        → HasDeeds setting (connect_selections names) (connecting admin.old names) false session.old session.new answers
+        answers (A.reached rows.old) (A.reached rows.new) }
     ensures admin { admin.new ≡ connected_by admin.old session.old.state.number names }
     ensures rest { session.new.state ≡ record session.old.state {
       place = session.new.state.place;
@@ -72,9 +77,11 @@ fn before_quit(lines: &[BlockLine]) -> Option<&[BlockLine]>
 // Plays lines, and then ends the session.
 fn play_and_quit<A: Acts>(
     alloc: Global,
+    setting: &Setting,
     session: &mut Session,
     rows: &mut A,
     admin: &mut Admin,
+    answers: &mut Vec<Rowset>,
     body: &[BlockLine],
 ) -> Result<(), NoMemory>
     requires may { MayEnd session.old.state.opened.depth (kinds_at session.old.state)
@@ -90,8 +97,8 @@ fn play_and_quit<A: Acts>(
     requires spare { 11 * length (written_out body.now) + 20192 * actions_on (written_out body.now) + 446
         ≤ A.left rows.old }
     requires room { cost_on (written_out body.now) + 448 ≤ session.old.journal.room }
-    ensures did { OnOk result (HasEnded (body.now ++ said.Quit ∷ []) admin.old admin.new session.old session.new
-        (A.reached rows.old) (A.reached rows.new)) }
+    ensures did { OnOk result (HasEnded setting.now (body.now ++ said.Quit ∷ []) admin.old admin.new session.old
+        session.new answers.old.items answers.new.items (A.reached rows.old) (A.reached rows.new)) }
     ensures kinds { OnOk result (kinds_at session.new.state ≡ []) }
     ensures drawn { OnOk result (session.new.state.drawn ≤ session.old.state.drawn + length (written_out body.now)) }
     ensures number { OnOk result (session.new.state.number ≡ session.old.state.number) }
@@ -106,7 +113,7 @@ fn play_and_quit<A: Acts>(
         (A.name rows.new) session.old.journal session.new.journal) }
     ensures lent { OnOk result (A.words rows.new ≡ Some admin.new.words) }
 {
-    match play_written(alloc, session, rows, admin, body) {
+    match play_written(alloc, setting, session, rows, admin, answers, body) {
         Ok(()) => {
             quit(session, rows, admin);
             Ok(())
@@ -118,9 +125,11 @@ fn play_and_quit<A: Acts>(
 // Plays the lines of a block, and ends the session where the last line says so.
 fn play_to_end<A: Acts>(
     alloc: Global,
+    setting: &Setting,
     session: &mut Session,
     rows: &mut A,
     admin: &mut Admin,
+    answers: &mut Vec<Rowset>,
     lines: &[BlockLine],
 ) -> Result<(), NoMemory>
     requires may { MayEnd session.old.state.opened.depth (kinds_at session.old.state) lines.now }
@@ -135,8 +144,8 @@ fn play_to_end<A: Acts>(
     requires spare { 11 * length (written_out lines.now) + 20192 * actions_on (written_out lines.now) + 446
         ≤ A.left rows.old }
     requires room { cost_on (written_out lines.now) + 448 ≤ session.old.journal.room }
-    ensures did { OnOk result (HasEnded lines.now admin.old admin.new session.old session.new (A.reached rows.old)
-        (A.reached rows.new)) }
+    ensures did { OnOk result (HasEnded setting.now lines.now admin.old admin.new session.old session.new
+        answers.old.items answers.new.items (A.reached rows.old) (A.reached rows.new)) }
     ensures kinds { OnOk result (kinds_at session.new.state ≡ kinds_after (kinds_at session.old.state)
         (written_out lines.now)) }
     ensures lie { OnOk result (StagesLie (kinds_at session.new.state)) }
@@ -155,18 +164,21 @@ fn play_to_end<A: Acts>(
     ensures lent { OnOk result (A.words rows.new ≡ Some admin.new.words) }
 {
     match before_quit(lines) {
-        Some(body) => play_and_quit(alloc, session, rows, admin, body),
-        None => play_written(alloc, session, rows, admin, lines),
+        Some(body) => play_and_quit(alloc, setting, session, rows, admin, answers, body),
+        None => play_written(alloc, setting, session, rows, admin, answers, lines),
     }
 }
 
 /// Plays a block of a script in its session: it connects where the block gives names, plays the lines, each repeat so
-/// many times as it says, ends where the last line says so, and settles at the block's end what it still holds.
+/// many times as it says, ends where the last line says so, and settles at the block's end what it still holds. The
+/// answers of its SELECTs come behind the others. Err is NoMemory alone.
 pub fn play_block<A: Acts>(
     alloc: Global,
+    setting: &Setting,
     session: Session,
     rows: &mut A,
     admin: &mut Admin,
+    answers: &mut Vec<Rowset>,
     block: &Block,
 ) -> Result<Paused, NoMemory>
     requires connects { IfSome block.now.connect (λ connect. MayConnect session.state admin.old connect) }
@@ -183,7 +195,8 @@ pub fn play_block<A: Acts>(
         ≤ A.left rows.old }
     requires room { cost_on (written_out block.now.lines) + 648 ≤ session.journal.room }
     ensures did { IfOk result (λ paused. length admin.old.kept.now.places.threads ≤ 32
-        → HasPlayed block.now admin.old admin.new session paused (A.reached rows.old) (A.reached rows.new)) }
+        → HasPlayed setting.now block.now admin.old admin.new session paused answers.old.items answers.new.items
+        (A.reached rows.old) (A.reached rows.new)) }
     ensures kinds { IfOk result (λ paused. kinds_at paused.state ≡ kinds_after (kinds_at session.state)
         (written_out block.now.lines)) }
     ensures lie { IfOk result (λ paused. StagesLie (kinds_at paused.state)) }
@@ -205,7 +218,15 @@ pub fn play_block<A: Acts>(
 {
     let mut session = session;
     connect_by(&mut session, rows, admin, block.connect);
-    match play_to_end(alloc, &mut session, rows, admin, block.lines.as_slice()) {
+    match play_to_end(
+        alloc,
+        setting,
+        &mut session,
+        rows,
+        admin,
+        answers,
+        block.lines.as_slice(),
+    ) {
         Ok(()) => Ok(session.pause(rows)),
         Err(fault) => Err(fault),
     }

@@ -144,7 +144,7 @@ sql_named count (requests.Update update) = All-cons (IsNamedChange count) (chang
 sql_named count (requests.Insert insert) = All-cons (IsNamedChange count) (changes.Setup (statements.Insert insert)) [] tt (All-nil (IsNamedChange count))
 sql_named count (requests.Delete delete) = All-cons (IsNamedChange count) (changes.Setup (statements.Delete delete)) [] tt (All-nil (IsNamedChange count))
 sql_named count (requests.Query select) = All-nil (IsNamedChange count)
-sql_named count (requests.Show select) = All-nil (IsNamedChange count)
+sql_named count (requests.Show select) = All-cons (IsNamedChange count) (changes.Setup statements.Show) [] tt (All-nil (IsNamedChange count))
 
 line_named : (count : ℕ) (line : BlockLine) → All (IsNamedChange count) (changes_on line)
 line_named count said.Quit = All-cons (IsNamedChange count) changes.Quit [] tt (All-nil (IsNamedChange count))

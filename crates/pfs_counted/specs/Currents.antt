@@ -13,7 +13,6 @@ use Rattle.pfs_model.specs.declared.changes.Change.{Change}
 use Rattle.pfs_orderly.specs.Orderly.{run_of}
 use Rattle.pfs_runs.specs.Runs.{IsRun, AreFinal}
 use Rattle.pfs_script.specs.declared.blocks.Phase.{Phase}
-use Rattle.pfs_script.specs.declared.reasons.Extent.TheVariants.{Whole}
 use Rattle.pfs_script.specs.Scripts.{IsScript}
 use Rattle.pfs_tagged.specs.Premises.{AreKept, IsOrderly}
 use Rattle.pfs_tagged.specs.Runs.{Run, entries_to}
@@ -56,5 +55,5 @@ AllHaveCurrents setting phases report run = AreFinal (HasCurrents (run_of settin
 -- of any script
 abbrev pub CurrentsLaw : Type 0
 CurrentsLaw = (text : List ℕ) (setting : Setting) (phases : List Phase) (report : ReportParts)
-    → IsScript Whole text setting phases → (run : IsRun setting phases report)
+    → IsScript text setting phases → (run : IsRun setting phases report)
     → AllHaveCurrents setting phases report run

@@ -6,7 +6,6 @@ use Rattle.pfs_orderly.specs.Orderly.{run_of}
 use Rattle.pfs_runs.specs.Runs.{IsRun}
 use Rattle.pfs_script.specs.Scripts.{IsScript}
 use Rattle.pfs_script.specs.declared.blocks.Phase.{Phase}
-use Rattle.pfs_script.specs.declared.reasons.Extent.TheVariants.{Whole}
 use Rattle.pfs_counted.specs.Counted.{past_to}
 use Rattle.pfs_counted.specs.Counts.{Past}
 use Rattle.pfs_counted.specs.Digested.{digested_events, digested_at}
@@ -22,5 +21,5 @@ pub record AreDigestNumbers (past : Past) (digest : Option ℕ) : Type 0 where
 -- of each digest's place and of the texts without one, under the end of each phase of a run of a script
 abbrev pub DigestNumbersLaw : Type 0
 DigestNumbersLaw = (text : List ℕ) (setting : Setting) (phases : List Phase) (report : ReportParts)
-    → IsScript Whole text setting phases → (run : IsRun setting phases report) → (phase : ℕ) (digest : Option ℕ)
+    → IsScript text setting phases → (run : IsRun setting phases report) → (phase : ℕ) (digest : Option ℕ)
     → AreDigestNumbers (past_to (run_of setting phases report run) phase) digest

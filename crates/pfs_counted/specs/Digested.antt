@@ -16,7 +16,6 @@ use Rattle.pfs_rows.specs.declared.table.Table.TheVariants.{DigestSummary}
 use Rattle.pfs_runs.specs.Runs.{IsRun, AreFinal}
 use Rattle.pfs_script.specs.Scripts.{IsScript}
 use Rattle.pfs_script.specs.declared.blocks.Phase.{Phase}
-use Rattle.pfs_script.specs.declared.reasons.Extent.TheVariants.{Whole}
 use Rattle.pfs_stat.specs.Stat.{merge_all}
 use Rattle.pfs_stat.specs.declared.Stat.{Stat}
 use Rattle.pfs_summaries.specs.Digests.{digest_heading, null_heading}
@@ -82,5 +81,5 @@ AllAreDigested setting phases report run = AreFinal (AreDigested (run_of setting
 
 abbrev pub DigestedLaw : Type 0
 DigestedLaw = (text : List ℕ) (setting : Setting) (phases : List Phase) (report : ReportParts)
-    → IsScript Whole text setting phases → (run : IsRun setting phases report)
+    → IsScript text setting phases → (run : IsRun setting phases report)
     → AllAreDigested setting phases report run

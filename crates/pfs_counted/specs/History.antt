@@ -13,7 +13,6 @@ use Rattle.pfs_model.specs.Rings.{history_of, is_history_row, shown_at}
 use Rattle.pfs_orderly.specs.Orderly.{run_of}
 use Rattle.pfs_runs.specs.Runs.{IsRun, AreFinal}
 use Rattle.pfs_script.specs.declared.blocks.Phase.{Phase}
-use Rattle.pfs_script.specs.declared.reasons.Extent.TheVariants.{Whole}
 use Rattle.pfs_script.specs.Scripts.{IsScript}
 use Rattle.pfs_tagged.specs.Ends.{given_by, quits_at}
 use Rattle.pfs_tagged.specs.Premises.{AreKept, IsOrderly}
@@ -56,5 +55,5 @@ AllHaveHistories setting phases report run = AreFinal (HasHistories (run_of sett
 -- of any script
 abbrev pub HistoriesLaw : Type 0
 HistoriesLaw = (text : List ℕ) (setting : Setting) (phases : List Phase) (report : ReportParts)
-    → IsScript Whole text setting phases → (run : IsRun setting phases report)
+    → IsScript text setting phases → (run : IsRun setting phases report)
     → AllHaveHistories setting phases report run

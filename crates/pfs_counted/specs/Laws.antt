@@ -7,7 +7,6 @@ use Rattle.pfs_orderly.specs.Orderly.{run_of}
 use Rattle.pfs_rows.specs.declared.table.TableKind.{TableKind}
 use Rattle.pfs_runs.specs.Runs.{IsRun, IsPlainRun, AreFinal}
 use Rattle.pfs_script.specs.declared.blocks.Phase.{Phase}
-use Rattle.pfs_script.specs.declared.reasons.Extent.TheVariants.{Whole}
 use Rattle.pfs_script.specs.Scripts.{IsScript}
 use Rattle.pfs_tagged.specs.Board.{cells_of}
 use Rattle.pfs_tagged.specs.Premises.{AreKept, IsOrderly}
@@ -33,7 +32,7 @@ AllAreCounted setting phases report run = AreFinal (AreCounted (run_of setting p
 
 abbrev pub CountedLaw : Type 0
 CountedLaw = (text : List ℕ) (setting : Setting) (phases : List Phase) (report : ReportParts)
-    → IsScript Whole text setting phases → (run : IsRun setting phases report)
+    → IsScript text setting phases → (run : IsRun setting phases report)
     → AllAreCounted setting phases report run
 
 -- a plain run whose summaries, that by digest among them, show what counts there, whose histories show just the last

@@ -11,7 +11,6 @@ use Rattle.pfs_model.specs.Rings.{Ticketed, is_kept, shown_at, ticketed_at}
 use Rattle.pfs_orderly.specs.Orderly.{run_of}
 use Rattle.pfs_runs.specs.Runs.{IsRun, AreFinal}
 use Rattle.pfs_script.specs.declared.blocks.Phase.{Phase}
-use Rattle.pfs_script.specs.declared.reasons.Extent.TheVariants.{Whole}
 use Rattle.pfs_script.specs.Scripts.{IsScript}
 use Rattle.pfs_tagged.specs.Premises.{AreKept, IsOrderly}
 use Rattle.pfs_tagged.specs.Runs.{Run, entries_to}
@@ -55,5 +54,5 @@ AllHaveLongs setting phases report run = AreFinal (HasLongs (run_of setting phas
 -- of any script
 abbrev pub LongsLaw : Type 0
 LongsLaw = (text : List ℕ) (setting : Setting) (phases : List Phase) (report : ReportParts)
-    → IsScript Whole text setting phases → (run : IsRun setting phases report)
+    → IsScript text setting phases → (run : IsRun setting phases report)
     → AllHaveLongs setting phases report run

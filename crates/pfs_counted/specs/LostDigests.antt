@@ -12,7 +12,6 @@ use Rattle.pfs_orderly.specs.Orderly.{run_of}
 use Rattle.pfs_runs.specs.Runs.{IsRun, AreFinal}
 use Rattle.pfs_script.specs.Scripts.{IsScript}
 use Rattle.pfs_script.specs.declared.blocks.Phase.{Phase}
-use Rattle.pfs_script.specs.declared.reasons.Extent.TheVariants.{Whole}
 use Rattle.pfs_tagged.specs.Ends.{Ended, all_ended}
 use Rattle.pfs_tagged.specs.Runs.{Run}
 use Rattle.pfs_counted.specs.Counted.{past_to}
@@ -38,5 +37,5 @@ AreLostDigests run phase =
 -- under the end of each phase of a run of a script
 abbrev pub LostDigestsLaw : Type 0
 LostDigestsLaw = (text : List ℕ) (setting : Setting) (phases : List Phase) (report : ReportParts)
-    → IsScript Whole text setting phases → (run : IsRun setting phases report)
+    → IsScript text setting phases → (run : IsRun setting phases report)
     → AreFinal (AreLostDigests (run_of setting phases report run)) report.phases

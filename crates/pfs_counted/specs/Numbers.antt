@@ -11,7 +11,6 @@ use Rattle.pfs_rows.specs.declared.table.TableKind.TheVariants.{Waits, Stages, S
 use Rattle.pfs_runs.specs.Runs.{IsRun}
 use Rattle.pfs_script.specs.Scripts.{IsScript}
 use Rattle.pfs_script.specs.declared.blocks.Phase.{Phase}
-use Rattle.pfs_script.specs.declared.reasons.Extent.TheVariants.{Whole}
 use Rattle.pfs_stat.specs.Stat.{merge_of}
 use Rattle.pfs_stat.specs.declared.Stat.{Stat}
 use Rattle.pfs_summaries.specs.RowValues.{count_of}
@@ -53,6 +52,6 @@ pub record AreNumbers (past : Past) (kind : TableKind) (key : Key) (id : ℕ) : 
 -- of each key and class, under the end of each phase of a run of a script
 abbrev pub NumbersLaw : Type 0
 NumbersLaw = (text : List ℕ) (setting : Setting) (phases : List Phase) (report : ReportParts)
-    → IsScript Whole text setting phases → (run : IsRun setting phases report) → (phase : ℕ) (kind : TableKind)
+    → IsScript text setting phases → (run : IsRun setting phases report) → (phase : ℕ) (kind : TableKind)
     (key : Key) (id : ℕ) → is_class_of kind (class_at setting.classes id) ≡ true
     → AreNumbers (past_to (run_of setting phases report run) phase) kind key id

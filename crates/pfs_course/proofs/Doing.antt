@@ -3,7 +3,7 @@ use Rattle.std.proofs.Common.{ℕ, ◌≡◌, ◌==◌, Bool, true, false, cond,
 use Rattle.std.specs.List.{flat_map}
 use Rattle.pfs_admin.specs.States.{State as Administration}
 use Rattle.pfs_alone.specs.Spells.{Spell, parts_in, stints_of}
-use Rattle.pfs_facts.specs.Deeds.{deed_on, sql_deed, IsNext, AreDeeds}
+use Rattle.pfs_facts.specs.Deeds.{bare, deed_on, sql_deed, IsNext, AreDeeds}
 use Rattle.pfs_parts.specs.Deeds.{Deed, Connecting, Starting, Staging, StageEnding, Ending, Spending, Quitting, Truncating, Changing, Showing, Querying, Refusing, Closing, Part}
 use Rattle.pfs_parts.specs.Stints.{parts_by}
 use Rattle.pfs_play.specs.Errands.{admin_behind, errand_on}
@@ -20,12 +20,12 @@ use Rattle.pfs_script.specs.Marks.{written_out}
 use Rattle.pfs_course.specs.Course.{PhasedBlock, numbered, own_blocks, connected_by, deeds_along, deeds_of, deeds_in, IsSpellOf, AreSpellsOf}
 use Rattle.pfs_course.proofs.Changing.{own_numbered}
 
--- deeds do lines as parts do
+-- deeds do lines as parts do, and as they are without what a SELECT read and showed
 abbrev Do : List BlockLine → List Deed → Type 0
 Do lines [] = lines ≡ []
 Do lines (deed ∷ deeds) = IsNext lines deed (λ rest. Do rest deeds)
 
-next_as : (lines : List BlockLine) (deed : Deed) (some other : List BlockLine → Type 0) → ((rest : List BlockLine) → some rest → other rest) → IsNext lines deed some → IsNext lines deed other
+next_as : (lines : List BlockLine) (deed : Deed) (some other : List BlockLine → Type 0) → ((rest : List BlockLine) → some rest → other rest) → IsNext lines (bare deed) some → IsNext lines deed other
 next_as lines (Connecting admin user host) some other f n = f lines n
 next_as lines Closing some other f n = f lines n
 next_as [] (Starting subject) some other f n = absurd n
@@ -47,8 +47,8 @@ next_as (line ∷ lines) (Spending time) some other f n = (n.0, f lines n.1)
 next_as (line ∷ lines) (Quitting admin) some other f n = (n.0, f lines n.1)
 next_as (line ∷ lines) (Truncating admin what) some other f n = (n.0, f lines n.1)
 next_as (line ∷ lines) (Changing admin what) some other f n = (n.0, f lines n.1)
-next_as (line ∷ lines) (Showing admin count) some other f n = (n.0, f lines n.1)
-next_as (line ∷ lines) (Querying found count) some other f n = (n.0, f lines n.1)
+next_as (line ∷ lines) (Showing admin count) some other f n = (record { admin = n.0.admin; is = n.0.is }, f lines n.1)
+next_as (line ∷ lines) (Querying found count) some other f n = (record { admin = n.0.admin; is = n.0.is }, f lines n.1)
 next_as (line ∷ lines) (Refusing error) some other f n = (n.0, f lines n.1)
 
 next_then : (lines more : List BlockLine) (deed : Deed) (some other : List BlockLine → Type 0) → ((rest : List BlockLine) → some rest → other (rest ++ more)) → IsNext lines deed some

@@ -1,14 +1,23 @@
 -- The worked script of pfs_runs, two sessions in two phases, as a course has it.
-use Rattle.std.proofs.Common.{◌≡◌, List, [], ◌∷◌, true, false, refl}
+use Rattle.std.proofs.Common.{ℕ, ◌≡◌, List, [], ◌∷◌, true, false, None, refl, sym, subst}
 use Rattle.pfs_admin.specs.States.{connected, has_quit}
 use Rattle.pfs_admin.specs.States.{State as Administration}
 use Rattle.pfs_admin.specs.declared.changes.Change.TheVariants as changes
-use Rattle.pfs_alone.specs.Spells.{Doing, Spell}
+use Rattle.pfs_alone.specs.Spells.{Doing, Spell, parts_in}
+use Rattle.pfs_classes.specs.declared.setting.Setting.{Setting}
+use Rattle.pfs_event.specs.declared.entry.Entry.{Entry}
 use Rattle.pfs_event.specs.declared.entry.Entry.TheVariants as says
+use Rattle.pfs_exec.specs.declared.query.Select.{Select}
+use Rattle.pfs_facts.specs.Answers.{Answers, IsShow}
 use Rattle.pfs_journal.specs.declared.report.PhaseParts.{PhaseParts}
 use Rattle.pfs_model.specs.Journals.{joined}
 use Rattle.pfs_parts.specs.Deeds.{Connecting, Starting, Ending, Spending, Quitting, Closing}
+use Rattle.pfs_requests.specs.Requests.{request_of}
+use Rattle.pfs_requests.specs.declared.requests.Request.TheVariants as requests
+use Rattle.pfs_runs.specs.Answers.{Answer, AreAnswers, selection_in, selections_in}
 use Rattle.pfs_runs.specs.Examples.{waiting, connecting, quitting, asking, phases, wait}
+use Rattle.pfs_script.specs.declared.blocks.Block.{Block}
+use Rattle.pfs_script.specs.declared.blocks.BlockLine.TheVariants as said
 use Rattle.pfs_script.specs.Marks.{written_from, written_out}
 use Rattle.pfs_session.specs.Ends.{no_numbers}
 use Rattle.pfs_session.specs.States.{fresh}
@@ -57,18 +66,26 @@ quitting_behind : (admin : Administration) → behind_block admin quitting true 
 unfolding written_from
 quitting_behind admin = refl
 
--- what is told of four spells: one wrote an entry, the others nothing
-settled : Doing
-settled = record {
-  part = record { deed = Closing; turns = record { step = SettlesHeld; calls = []; entries = says.Settle ∷ []; after = fresh 1 1 1 } ∷ [] };
+-- what is told of three spells, two of the first session and one of the other, whose blocks have no SELECT: one wrote an
+-- entry, the others nothing
+abbrev doing : List Entry → Doing
+doing entries = record {
+  part = record { deed = Closing; turns = record { step = SettlesHeld; calls = []; entries = entries; after = fresh 1 1 1 } ∷ [] };
   label = record { session = 1; line = 1 };
   labels = [];
 }
 
-abbrev spells : List Spell
-spells =
-    record { phase = 1; session = 1; doings = settled ∷ [] } ∷ record { phase = 1; session = 2; doings = [] }
-    ∷ record { phase = 2; session = 1; doings = [] } ∷ record { phase = 2; session = 2; doings = [] } ∷ []
+abbrev quiet : Doing
+quiet = doing []
+
+abbrev at_wait : Spell
+at_wait = record { phase = 1; session = 1; doings = quiet ∷ quiet ∷ quiet ∷ quiet ∷ quiet ∷ doing (says.Settle ∷ []) ∷ [] }
+
+abbrev at_connect : Spell
+at_connect = record { phase = 1; session = 2; doings = quiet ∷ quiet ∷ [] }
+
+abbrev at_quit : Spell
+at_quit = record { phase = 2; session = 1; doings = quiet ∷ quiet ∷ [] }
 
 abbrev reports : List PhaseParts
 reports =
@@ -78,39 +95,44 @@ reports =
       tables = [];
       lost = [];
     }
-    ∷ record {
-      number = 2;
-      blocks = record { session = 1; entries = []; answers = [] } ∷ record { session = 2; entries = []; answers = [] } ∷ [];
-      tables = [];
-      lost = [];
-    } ∷ []
+    ∷ record { number = 2; blocks = record { session = 1; entries = []; answers = [] } ∷ []; tables = []; lost = [] } ∷ []
 
-told : ArePhasesTold 1 phases reports spells
-unfolding joined settled
-told = (
-  record { phase = 1; session = 1; doings = settled ∷ [] } ∷ record { phase = 1; session = 2; doings = [] } ∷ [],
-  record { phase = 2; session = 1; doings = [] } ∷ record { phase = 2; session = 2; doings = [] } ∷ [],
+told : (setting : Setting) → ArePhasesTold setting 1 (record { blocks = waiting ∷ connecting ∷ [] } ∷ record { blocks = quitting ∷ [] } ∷ []) reports (at_wait ∷ at_connect ∷ at_quit ∷ [])
+unfolding joined written_from
+told setting = (
+  at_wait ∷ at_connect ∷ [],
+  at_quit ∷ [],
   record {
     split = refl;
     numbered = refl;
     blocks = (record { phase = refl; session = refl; reported = refl; entries = refl; answers = refl }, (record { phase = refl; session = refl; reported = refl; entries = refl; answers = refl }, tt));
   },
-  (
-    record { phase = 2; session = 1; doings = [] } ∷ record { phase = 2; session = 2; doings = [] } ∷ [],
-    [],
-    record {
-      split = refl;
-      numbered = refl;
-      blocks = (record { phase = refl; session = refl; reported = refl; entries = refl; answers = refl }, (record { phase = refl; session = refl; reported = refl; entries = refl; answers = refl }, tt));
-    },
-    refl,
-  ),
+  (at_quit ∷ [], [], record { split = refl; numbered = refl; blocks = (record { phase = refl; session = refl; reported = refl; entries = refl; answers = refl }, tt) }, refl),
 )
 
--- a report of the other session tells nothing of a block, and one of too many blocks nothing of a phase
-not_told : AreTold 1 (waiting ∷ []) (record { phase = 1; session = 1; doings = [] } ∷ []) (record { session = 2; entries = []; answers = [] } ∷ []) → ⊥
-not_told are = let other : 2 ≡ 1 = are.0.reported in absurd (cc)
+-- a report of the other session tells nothing of a block, nor one that answers what no line asks, and one of too many
+-- blocks nothing of a phase
+not_told : (setting : Setting) → AreTold setting 1 (waiting ∷ []) (at_wait ∷ []) (record { session = 2; entries = []; answers = [] } ∷ []) → ⊥
+not_told setting are = let other : 2 ≡ 1 = are.0.reported in absurd (cc)
 
-not_more : AreTold 1 (waiting ∷ []) (record { phase = 1; session = 1; doings = [] } ∷ [])
-    (record { session = 1; entries = []; answers = [] } ∷ record { session = 2; entries = []; answers = [] } ∷ []) → ⊥
-not_more are = are.1
+not_asked : (setting : Setting) (answer : Answer) → AreTold setting 1 (connecting ∷ []) (at_connect ∷ []) (record { session = 2; entries = []; answers = answer ∷ [] } ∷ []) → ⊥
+unfolding written_from
+not_asked setting answer are = let nothing : answer ∷ [] ≡ [] = are.0.answers in absurd (cc)
+
+not_more : (setting : Setting) → AreTold setting 1 (waiting ∷ []) (at_wait ∷ []) (record { session = 1; entries = []; answers = [] } ∷ record { session = 2; entries = []; answers = [] } ∷ []) → ⊥
+not_more setting are = are.1
+
+-- a SELECT on the administration's tables is told by its answer, and not without one
+abbrev selecting : List ℕ → Block
+selecting text = record { session = 1; connect = None; lines = said.Sql text ∷ [] }
+
+answered : (setting : Setting) (text : List ℕ) (select : Select) (answer : Answer) (shows : Doing) → request_of text ≡ requests.Show select → IsShow select answer shows.part.deed
+    → AreAnswers (Answers setting) (selections_in (selecting text)) (parts_in (shows ∷ quiet ∷ [])) (answer ∷ [])
+unfolding written_from
+answered setting text select answer shows asks is =
+    subst (λ z. AreAnswers (Answers setting) (selection_in z ∷ None ∷ []) (parts_in (shows ∷ quiet ∷ [])) (answer ∷ [])) (sym asks) (is, refl)
+
+not_answered : (setting : Setting) (text : List ℕ) (select : Select) (shows : Doing) → request_of text ≡ requests.Show select
+    → AreAnswers (Answers setting) (selections_in (selecting text)) (parts_in (shows ∷ quiet ∷ [])) [] → ⊥
+unfolding written_from
+not_answered setting text select shows asks are = subst (λ z. AreAnswers (Answers setting) (selection_in z ∷ None ∷ []) (parts_in (shows ∷ quiet ∷ [])) []) asks are

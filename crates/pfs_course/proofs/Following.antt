@@ -16,6 +16,7 @@ use Rattle.pfs_admin.specs.declared.changes.SetupStatement.TheVariants.{Show}
 use Rattle.pfs_alone.specs.Spells.{Doing, Spell, parts_in, label_of, IsEntered, AreEntered}
 use Rattle.pfs_board.specs.declared.view.Label.{Label}
 use Rattle.pfs_classes.specs.declared.setting.Setting.{Setting}
+use Rattle.pfs_facts.specs.Deeds.{bare}
 use Rattle.pfs_parts.proofs.Journaling.{turns_number}
 use Rattle.pfs_parts.specs.Deeds.{Deed, Connecting, Starting, Staging, StageEnding, Ending, Spending, Quitting, Truncating, Changing, Showing, Querying, Refusing, Closing, Part, action_of, is_over}
 use Rattle.pfs_parts.specs.Shaped.{AreParts, state_behind, over_behind}
@@ -78,6 +79,37 @@ Names change session point Closing = Unit {0}
 abbrev pub AllName : (Label → Change) → ℕ → Point → List Deed → Type 0
 AllName change session point [] = Unit {0}
 AllName change session point (deed ∷ deeds) = Names change session point deed × AllName change session (point_by session point deed) deeds
+
+-- what a SELECT read, and how many rows it showed, leads nowhere and names nothing
+point_bare : (session : ℕ) (point : Point) (deed : Deed) → point_by session point (bare deed) ≡ point_by session point deed
+point_bare session point (Connecting at user host) = refl
+point_bare session point (Starting subject) = refl
+point_bare session point (Staging subject) = refl
+point_bare session point StageEnding = refl
+point_bare session point (Ending numbers) = refl
+point_bare session point (Spending time) = refl
+point_bare session point (Quitting at) = refl
+point_bare session point (Truncating at what) = refl
+point_bare session point (Changing at what) = refl
+point_bare session point (Showing at count) = refl
+point_bare session point (Querying found count) = refl
+point_bare session point (Refusing error) = refl
+point_bare session point Closing = refl
+
+names_bare : (change : Label → Change) (session : ℕ) (point : Point) (deed : Deed) → Names change session point (bare deed) → Names change session point deed
+names_bare change session point (Connecting at user host) n = n
+names_bare change session point (Starting subject) n = n
+names_bare change session point (Staging subject) n = n
+names_bare change session point StageEnding n = n
+names_bare change session point (Ending numbers) n = n
+names_bare change session point (Spending time) n = n
+names_bare change session point (Quitting at) n = n
+names_bare change session point (Truncating at what) n = n
+names_bare change session point (Changing at what) n = n
+names_bare change session point (Showing at count) n = n
+names_bare change session point (Querying found count) n = n
+names_bare change session point (Refusing error) n = n
+names_bare change session point Closing n = n
 
 -- one deed
 record Follows (setting : Setting) (change : Label → Change) (session : ℕ) (admin : Administration) (labels : List Label) (s : State) (label : Label) (own : List Label) (deed : Deed) : Type 0 where
@@ -179,23 +211,27 @@ all_follow setting change session point labels s [] number actions are labelled 
 all_follow setting change session point labels s (d ∷ ds) number actions are labelled behind stands names =
     let deed : Deed = d.part.deed in
     let own : List Label = label_by (action_of deed) d.label in
-    let one : Follows setting change session point.admin labels s d.label d.labels deed = follows_one setting change session point labels s d.label d.labels deed number actions labelled.0 behind.0 stands names.0 in
+    let one : Follows setting change session point.admin labels s d.label d.labels deed =
+    follows_one setting change session point labels s d.label d.labels deed number actions labelled.0 behind.0 stands (names_bare change session point deed names.0) in
     let next : Point = point_by session point deed in
+    let same : point_by session point (bare deed) ≡ next = point_bare session point deed in
+    let named : AllName change session next (deeds_in (parts_in ds)) = subst (λ (at : Point). AllName change session at (deeds_in (parts_in ds))) same names.1 in
     let rest : AllFollow setting change session next (labels ++ own) (state_after s d.part.turns) ds =
     all_follow setting change session next (labels ++ own) (state_after s d.part.turns) ds (turns_number s d.part.turns are.0.are_turns ∙ number)
-    (part_actions s d.part are.0 ∙ ap (λ n. made_by n deed) actions) are.1 labelled.1 behind.1 one.admin_is names.1 in
+    (part_actions s d.part are.0 ∙ ap (λ n. made_by n deed) actions) are.1 labelled.1 behind.1 one.admin_is named in
     record {
       folded = (one.folded, rest.folded);
       entered = (one.entered, rest.entered);
       first = (one.first, rest.first);
-      admin_is = rest.admin_is ∙ ap (λ z. state_of setting change z) (append_assoc labels own (labels_in ds));
-      actions = rest.actions;
+      admin_is = ap (λ (at : Point). (point_behind session at (deeds_in (parts_in ds))).admin) same
+          ∙ (rest.admin_is ∙ ap (λ z. state_of setting change z) (append_assoc labels own (labels_in ds)));
+      actions = rest.actions ∙ sym (ap (λ (at : Point). (point_behind session at (deeds_in (parts_in ds))).made) same);
     }
 
 -- whether the session is over behind them
 pub over_there : (session : ℕ) (point : Point) (ps : List Part) → over_behind point.over ps ≡ (point_behind session point (deeds_in ps)).over
 over_there session point [] = refl
-over_there session point (p ∷ ps) = over_there session (point_by session point p.deed) ps
+over_there session point (p ∷ ps) = over_there session (point_by session point p.deed) ps ∙ sym (ap (λ (at : Point). (point_behind session at (deeds_in ps)).over) (point_bare session point p.deed))
 
 -- the last spell's actions entered behind those of the others
 pub last_behind : (before : List Label) (spells : List Spell) (spell : Spell) → AllBehind before (spells ++ spell ∷ []) → AreBehind (before ++ all_labels spells) spell.doings

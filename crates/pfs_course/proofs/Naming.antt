@@ -104,7 +104,7 @@ sql_names change session point (requests.Update update) asked = (refl, asked.0)
 sql_names change session point (requests.Insert insert) asked = (refl, asked.0)
 sql_names change session point (requests.Delete delete) asked = (refl, asked.0)
 sql_names change session point (requests.Query select) asked = tt
-sql_names change session point (requests.Show select) asked = tt
+sql_names change session point (requests.Show select) asked = (refl, asked.0)
 
 one_names : (change : Label → Change) (session : ℕ) (point : Point) (line : BlockLine) → is_quit line ≡ false → AreAsked change session point.made (changes_on line) → Names change session point (deed_on point.admin line)
 one_names change session point said.Quit q asked = cc

@@ -1,7 +1,7 @@
 -- The deeds of a block, put together from its connect, its lines as they were played, its quit and its end.
 use Rattle.std.proofs.Common.{ℕ, ◌≡◌, Bool, List, [], ◌∷◌, ◌++◌, Option, refl, ap, sym, ◌∙◌}
 use Rattle.pfs_admin.specs.States.{State as Administration}
-use Rattle.pfs_facts.specs.Deeds.{deed_on}
+use Rattle.pfs_facts.specs.Deeds.{bare, deed_on}
 use Rattle.pfs_parts.specs.Deeds.{Closing, Part}
 use Rattle.pfs_play.specs.Errands.{AreOf, admin_after, admin_behind, errand_on}
 use Rattle.pfs_playable.specs.Playable.{end_of}
@@ -14,7 +14,7 @@ use Rattle.pfs_course.proofs.QuietLines.{written_end}
 
 pub deeds_both : (ps qs : List Part) → deeds_in (ps ++ qs) ≡ deeds_in ps ++ deeds_in qs
 deeds_both [] qs = refl
-deeds_both (p ∷ ps) qs = ap (λ z. p.deed ∷ z) (deeds_both ps qs)
+deeds_both (p ∷ ps) qs = ap (λ z. bare p.deed ∷ z) (deeds_both ps qs)
 
 pub played_deeds : (admin : Administration) (lines : List BlockLine) (ps : List Part) → AreOf admin lines ps → deeds_in ps ≡ deeds_along admin lines
 played_deeds admin [] [] are = refl

@@ -5,6 +5,7 @@ use Rattle.pfs_admin.specs.declared.changes.Change.{Change}
 use Rattle.pfs_alone.proofs.Stinted.{AreTogether, together}
 use Rattle.pfs_alone.specs.Alone.{printed}
 use Rattle.pfs_alone.specs.Spells.{stints_of}
+use Rattle.pfs_answered.specs.Answered.{AnsweredLaw, IsAnsweredBy, IsShownIn}
 use Rattle.pfs_asked.specs.Takes.{all_taken, counted_by}
 use Rattle.pfs_board.specs.declared.view.Label.{Label}
 use Rattle.pfs_facts.specs.Deeds.{SessionLaw}
@@ -20,11 +21,12 @@ use Rattle.pfs_parts.specs.Stints.{Stint, blocks_of, parts_by}
 use Rattle.pfs_ruled.proofs.Counted.{none_made, all_lined}
 use Rattle.pfs_ruled.proofs.Placing.{all_placed}
 use Rattle.pfs_ruled.specs.Ruled.{RuledLaw, IsRuled, journals_of, entries_of, labels_of, contents_of}
-use Rattle.pfs_runs.specs.Labels.{AreLabels, terms_of}
+use Rattle.pfs_runs.specs.Answers.{IsAnswered}
+use Rattle.pfs_runs.specs.Labels.{AreLabels, before_action, terms_of}
 use Rattle.pfs_runs.specs.Lines.{change_in, facts_in}
 use Rattle.pfs_runs.specs.Rules.{AreRules, flags_by}
 use Rattle.pfs_model.specs.Puts.{AreBrought}
-use Rattle.pfs_runs.specs.Runs.{AreFinal, all_blocks}
+use Rattle.pfs_runs.specs.Runs.{ArePhasesAnswered, AreFinal, all_blocks}
 use Rattle.pfs_script.proofs.EventLemmas.{session_events}
 use Rattle.pfs_script.specs.Events.{lines_for, events_for}
 use Rattle.pfs_course.specs.Whole.{WholeLaw, IsFinalBy, RunLaw}
@@ -49,8 +51,8 @@ placed_each slots (stint ∷ stints) placed = (
   placed_each slots stints (λ session. placed_back (slots session) session (cond (stint.session == session) stint.parts []) (parts_by session stints) (placed session)),
 )
 
-pub whole : RuledLaw → SessionLaw → WholeLaw
-whole ruled session_law = λ setting phases report depths spells admin c told format.
+pub whole : AnsweredLaw → RuledLaw → SessionLaw → WholeLaw
+whole answered ruled session_law = λ setting phases report depths spells admin c told format.
     (let flags : List ℕ = opening_flags setting opening_objects in
     let stack : ℕ = setting.limits.statement_stack in
     let change : Label → Change = change_in phases in
@@ -64,7 +66,9 @@ whole ruled session_law = λ setting phases report depths spells admin c told fo
     all_placed session empty none_made spells refl (done stack depths stints c.are_spells.stints) (all_lined stack depths spells c.are_spells.stints c.are_spells.entered) c.first in
     let once : AreBrought (flags_by (terms_of setting change (facts_in phases) (labels_of spells)) (entries_of spells)) (entries_of spells) =
     brought (printed flags (entries_of spells)) slots stack depths stints setting.in_range.statement_stack c.are_spells.stints t.loads (placed_each slots stints placed) in
-    let h : HaveJournals 1 phases report.phases spells = have_journals 1 phases report.phases spells told c.blocks in
+    let each : Each (IsShownIn setting change (facts_in phases) spells) spells = answered setting change (facts_in phases) depths spells c.are_spells c.answer c.folded in
+    let h : HaveJournals (IsAnsweredBy setting change (facts_in phases) spells) 1 phases report.phases spells =
+    have_journals setting (IsAnsweredBy setting change (facts_in phases) spells) 1 phases report.phases spells told c.blocks each in
     let same : journals_of spells ≡ all_blocks h.blocks = sym h.all in
     record {
       format = format;
@@ -75,6 +79,8 @@ whole ruled session_law = λ setting phases report depths spells admin c told fo
       rules = subst (AreRules (terms_of setting change (facts_in phases) (labels_of spells)) (counted_by (contents_of spells) (all_taken stints)) (contents_of spells)) same is.rules;
       brought = subst (λ z. AreBrought (flags_by (terms_of setting change (facts_in phases) (labels_of spells)) (places z)) (places z)) same once;
       plain = subst (λ z. IsPlain (places z)) same is.plain;
+      answered = subst (λ z. ArePhasesAnswered (IsAnswered setting (contents_of spells) (flags_by (terms_of setting change (facts_in phases) (labels_of spells)) (places z))
+          (before_action setting change (labels_of spells))) phases report.phases h.blocks) same h.answered;
     })
 
 pub run_of : RunLaw
@@ -89,6 +95,7 @@ run_of = λ setting phases report spells r finals. record {
     labelled = r.labelled;
     rules = r.rules;
     brought = r.brought;
+    answered = r.answered;
     finals = subst (λ z. AreFinal (IsFinalBy setting phases spells (places z)) report.phases) (sym r.journals) finals;
   };
   plain = r.plain;

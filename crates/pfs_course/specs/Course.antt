@@ -9,7 +9,7 @@ use Rattle.pfs_admin.specs.declared.changes.Change.{Change}
 use Rattle.pfs_alone.specs.Spells.{Spell, AreSpells, calls_of, parts_in, stints_of}
 use Rattle.pfs_board.specs.declared.view.Label.{Label}
 use Rattle.pfs_classes.specs.declared.setting.Setting.{Setting}
-use Rattle.pfs_facts.specs.Deeds.{deed_on}
+use Rattle.pfs_facts.specs.Deeds.{bare, deed_on}
 use Rattle.pfs_levels.specs.Plain.{AllAnswer}
 use Rattle.pfs_matching.specs.ObjectRules.{opening_objects}
 use Rattle.pfs_parts.specs.Deeds.{Deed, Connecting, Closing, Part}
@@ -45,9 +45,10 @@ abbrev pub deeds_of : Administration → ℕ → Option Connect → List BlockLi
 deeds_of admin number connect lines =
     connecting admin connect ++ (deeds_along (connected_by admin number connect) lines ++ Closing ∷ [])
 
+-- the deeds of parts as their lines ask for them: without what a SELECT read and showed
 abbrev pub deeds_in : List Part → List Deed
 deeds_in [] = []
-deeds_in (p ∷ ps) = p.deed ∷ deeds_in ps
+deeds_in (p ∷ ps) = bare p.deed ∷ deeds_in ps
 
 -- a block of a script in its phase
 pub record PhasedBlock : Type 0 where

@@ -11,11 +11,12 @@ use Rattle.pfs_model.specs.Places.{Block, Placed, places, up_to_phase}
 use Rattle.pfs_model.specs.Plain.{IsPlain}
 use Rattle.pfs_ruled.specs.Ruled.{journals_of, entries_of, labels_of, contents_of}
 use Rattle.pfs_runs.specs.Finals.{IsFinal}
-use Rattle.pfs_runs.specs.Labels.{AreLabels, terms_of}
+use Rattle.pfs_runs.specs.Answers.{IsAnswered}
+use Rattle.pfs_runs.specs.Labels.{AreLabels, before_action, terms_of}
 use Rattle.pfs_runs.specs.Lines.{change_in, facts_in}
 use Rattle.pfs_runs.specs.Rules.{AreRules, flags_by}
 use Rattle.pfs_model.specs.Puts.{AreBrought}
-use Rattle.pfs_runs.specs.Runs.{ArePhasesOf, AreFinal, IsPlainRun, all_blocks}
+use Rattle.pfs_runs.specs.Runs.{ArePhasesAnswered, ArePhasesOf, AreFinal, IsPlainRun, all_blocks}
 use Rattle.pfs_script.specs.declared.blocks.Phase.{Phase}
 use Rattle.pfs_course.specs.Course.{IsCourse, numbered}
 use Rattle.pfs_course.specs.Told.{ArePhasesTold}
@@ -34,11 +35,15 @@ pub record IsRunButFinals (setting : Setting) (phases : List Phase) (report : Re
   pub brought : AreBrought (flags_by (terms_of setting (change_in phases) (facts_in phases) (labels_of spells))
       (places (all_blocks blocks))) (places (all_blocks blocks))
   pub plain : IsPlain (places (all_blocks blocks))
+  pub answered : ArePhasesAnswered (IsAnswered setting (contents_of spells)
+      (flags_by (terms_of setting (change_in phases) (facts_in phases) (labels_of spells)) (places (all_blocks blocks)))
+      (before_action setting (change_in phases) (labels_of spells))) phases report.phases blocks
 
 abbrev pub WholeLaw : Type 0
 WholeLaw = (setting : Setting) (phases : List Phase) (report : ReportParts) (depths : ℕ → ℕ) (spells : List Spell)
     (admin : Administration) → IsCourse setting (change_in phases) depths (numbered 1 phases) spells admin
-    → ArePhasesTold 1 phases report.phases spells → report.format ≡ 0 → IsRunButFinals setting phases report spells
+    → ArePhasesTold setting 1 phases report.phases spells → report.format ≡ 0
+    → IsRunButFinals setting phases report spells
 
 -- what stands under the end of a phase is what these entries make of it
 abbrev pub IsFinalBy : Setting → List Phase → List Spell → List Placed → PhaseParts → Type 0

@@ -33,6 +33,7 @@ pub fn told()
 pub fn whole()
     ensures { WholeLaw }
 {
+    pfs_answered::laws::answered();
     pfs_ruled::laws::ruled();
     pfs_facts::laws::session();
 }

@@ -9,7 +9,8 @@ use Rattle.pfs_event.specs.declared.kind.EventKind.{EventKind}
 use Rattle.pfs_model.specs.Contents.{Facts}
 use Rattle.pfs_parts.proofs.Stinting.{IfOwn, AreOwn, own_stints}
 use Rattle.pfs_parts.specs.Amounts.{Clocked, at_first, stepped, all_stepped, AreFacts, AllFacts, clock_behind}
-use Rattle.pfs_parts.specs.Deeds.{Deed, Connecting, Starting, Staging, StageEnding, Ending, Spending, Quitting, Truncating, Changing, Showing, Querying, Refusing, Closing, Part, IsPart, remark, steps_for}
+use Rattle.pfs_parts.specs.Deeds.{Deed, Connecting, Starting, Staging, StageEnding, Ending, Spending, Quitting, Truncating, Changing, Showing, Querying, Refusing, Closing, Part, IsPart, looks, remark, steps_for}
+use Rattle.pfs_rows.specs.declared.table.Reading.{Reading}
 use Rattle.pfs_parts.specs.Shaped.{AreParts, state_behind, over_behind}
 use Rattle.pfs_parts.specs.Stints.{Stint, resumed, parts_by}
 use Rattle.pfs_requests.specs.Requests.{request_of}
@@ -24,15 +25,15 @@ use Rattle.pfs_script.specs.Events.{Event}
 use Rattle.pfs_script.specs.Marks.{Mark, mark_of}
 use Rattle.pfs_script.proofs.Nesting.{open_is_run, kinds_more}
 use Rattle.pfs_session.specs.States.{State, fresh}
-use Rattle.pfs_session.specs.declared.remarks.Remark.TheVariants.{Refused}
+use Rattle.pfs_session.specs.declared.remarks.Remark.TheVariants.{Refused, Rows}
 use Rattle.pfs_truncations.specs.declared.truncations.Truncation.{Truncation}
 use Rattle.pfs_session.specs.Ends.{no_numbers}
 use Rattle.pfs_session.specs.Turns.{Step, StartsEvent, EndsEvent, Spends, SettlesHeld, Connects, Quits, Truncates, Changes, state_after, steps_of}
-use Rattle.pfs_facts.specs.Deeds.{IsLine, IsNext, AreDeeds, deed_on, sql_deed, SessionLaw}
+use Rattle.pfs_facts.specs.Deeds.{IsLine, IsNext, AreDeeds, bare, deed_on, sql_deed, SessionLaw}
 use Rattle.pfs_facts.specs.Steps.{numbers_in, steps_on}
 use Rattle.pfs_facts.specs.Tracks.{marks_of, Tracks, IsTold}
 use Rattle.pfs_facts.specs.Steps.{kinds_at}
-use Rattle.pfs_facts.proofs.OpenKinds.{line_kinds, kinds_stepped, all_kinds_stepped, kinds_turns, stage_ends_are}
+use Rattle.pfs_facts.proofs.OpenKinds.{line_kinds, kinds_bare, kinds_stepped, all_kinds_stepped, kinds_turns, stage_ends_are}
 use Rattle.pfs_facts.proofs.Tracking.{facts_by, first, line_law}
 
 -- steps that tell what those of the line tell: they are those, or start and end nothing and let no time pass
@@ -82,14 +83,43 @@ same_steps s clocked passed e admin said.Quit = same_quit clocked (kinds_at s) a
 same_steps s clocked passed e admin (said.Sql text) = by_text (request_of text) where
   by_text : (what : Request) → Same clocked (kinds_at s) (steps_for s (sql_deed admin what)) []
   by_text (requests.Refused error) = same_refusal clocked (kinds_at s) error
-  by_text (requests.Query select) = same_still clocked (kinds_at s) passed e
-  by_text (requests.Show select) = same_still clocked (kinds_at s) passed e
+  by_text (requests.Query select) = record { facts = λ facts are. (tt, (tt, tt)); behind = refl; open_there = refl }
+  by_text (requests.Show select) = record { facts = λ facts are. (tt, (tt, (tt, tt))); behind = refl; open_there = refl }
   by_text (requests.Truncate what) = same_truncation clocked (kinds_at s) admin what
   by_text (requests.Update update) = same_change clocked (kinds_at s) admin (statements.Update update)
   by_text (requests.Insert insert) = same_change clocked (kinds_at s) admin (statements.Insert insert)
   by_text (requests.Delete delete) = same_change clocked (kinds_at s) admin (statements.Delete delete)
 same_steps s clocked passed e admin (said.Repeat times) = same_still clocked (kinds_at s) passed e
 same_steps s clocked passed e admin said.Done = same_still clocked (kinds_at s) passed e
+
+-- and so where it reads and shows besides: that starts and ends nothing, and lets no time pass
+facts_looked : (facts : ℕ → Facts) (clocked : Clocked) (readings : List Reading) (steps : List Step) → AreFacts facts clocked steps → AreFacts facts clocked (looks readings ++ steps)
+facts_looked facts clocked [] steps are = are
+facts_looked facts clocked (reading ∷ readings) steps are = (tt, facts_looked facts clocked readings steps are)
+
+stepped_looked : (clocked : Clocked) (readings : List Reading) (steps : List Step) → all_stepped clocked (looks readings ++ steps) ≡ all_stepped clocked steps
+stepped_looked clocked [] steps = refl
+stepped_looked clocked (reading ∷ readings) steps = stepped_looked clocked readings steps
+
+same_bare : (s : State) (clocked : Clocked) (deed : Deed) (told : List Step) → Same clocked (kinds_at s) (steps_for s (bare deed)) told → Same clocked (kinds_at s) (steps_for s deed) told
+same_bare s clocked (Connecting admin user host) told same = same
+same_bare s clocked (Starting subject) told same = same
+same_bare s clocked (Staging subject) told same = same
+same_bare s clocked StageEnding told same = same
+same_bare s clocked (Ending numbers) told same = same
+same_bare s clocked (Spending time) told same = same
+same_bare s clocked (Quitting admin) told same = same
+same_bare s clocked (Truncating admin what) told same = same
+same_bare s clocked (Changing admin what) told same = same
+same_bare s clocked (Showing admin count) told same =
+    record { facts = λ facts are. same.facts facts are; behind = same.behind; open_there = same.open_there }
+same_bare s clocked (Querying readings count) told same = record {
+  facts = λ facts are. (tt, facts_looked facts clocked readings (remark (Rows count) ∷ []) (tt, tt));
+  behind = stepped_looked clocked readings (remark (Rows count) ∷ []) ∙ same.behind;
+  open_there = kinds_bare (kinds_at s) s (Querying readings count) ∙ same.open_there;
+}
+same_bare s clocked (Refusing error) told same = same
+same_bare s clocked Closing told same = same
 
 -- a session stands behind lines, and what its steps have told of it
 record Stands (done : List BlockLine) (clocked : Clocked) (s : State) : Type 0 where
@@ -105,9 +135,10 @@ part_goes : (events : List Event) (done : List BlockLine) (line : BlockLine) (mo
     → AreEvents (done ++ line ∷ more) events → Stands done clocked s → IsPart s p → IsLine line p.deed → Goes events (done ++ line ∷ []) clocked s p
 part_goes events done line more clocked s p are stands is said_there =
     let told : IsTold events done line clocked = line_law events done line more clocked are stands.tracks in
-    let steps_are : steps_of p.turns ≡ steps_for s (deed_on said_there.admin line) = is.steps_are ∙ ap (λ (deed : Deed). steps_for s deed) said_there.is in
+    let asked : Same clocked (kinds_at s) (steps_for s (bare p.deed)) (steps_on (kinds_at s) line) =
+    subst (λ (deed : Deed). Same clocked (kinds_at s) (steps_for s deed) (steps_on (kinds_at s) line)) (sym said_there.is) (same_steps s clocked _ stands.tracks.clock said_there.admin line) in
     let same : Same clocked (kinds_at s) (steps_of p.turns) (steps_on (kinds_at s) line) =
-    subst (λ (z : List Step). Same clocked (kinds_at s) z (steps_on (kinds_at s) line)) (sym steps_are) (same_steps s clocked _ stands.tracks.clock said_there.admin line) in
+    subst (λ (z : List Step). Same clocked (kinds_at s) z (steps_on (kinds_at s) line)) (sym is.steps_are) (same_bare s clocked p.deed _ asked) in
     let on : steps_on (kinds_at s) line ≡ steps_on (kinds_of (open_in (marks_of done))) line = ap (λ (kinds : List EventKind). steps_on kinds line) stands.kinds in
     let marks : marks_of (done ++ line ∷ []) ≡ marks_of done ++ mark_of line ∷ [] = map-append mark_of done (line ∷ []) in
     record {

@@ -13,10 +13,12 @@ use Rattle.pfs_session.specs.Ends.{EndsIn, no_numbers}
 use Rattle.pfs_session.specs.States.{State}
 use Rattle.pfs_session.specs.Turns.{Step, StartsEvent, EndsEvent, Spends, SettlesHeld, Connects, Quits, Truncates, Changes, Inquires, Turn, Does, AreTurns, state_after, steps_of, stage_ends}
 use Rattle.pfs_session.specs.declared.events.Numbers.{Numbers}
+use Rattle.pfs_session.specs.declared.remarks.Remark.TheVariants.{Rows}
 use Rattle.std.proofs.lemmas.List.{append-nil}
 use Rattle.pfs_admin.specs.States.{State as Administration}
 use Rattle.pfs_classes.specs.declared.classes.ClassRef.{ClassRef}
-use Rattle.pfs_parts.specs.Deeds.{Deed, Part, IsPart, steps_for}
+use Rattle.pfs_parts.specs.Deeds.{Deed, Connecting, Starting, Staging, StageEnding, Ending, Spending, Quitting, Truncating, Changing, Showing, Querying, Refusing, Closing, Part, IsPart, looks, remark, steps_for}
+use Rattle.pfs_rows.specs.declared.table.Reading.{Reading}
 use Rattle.pfs_runs.specs.Lines.{stage_on}
 use Rattle.pfs_script.specs.declared.blocks.BlockLine.{BlockLine}
 use Rattle.pfs_script.specs.declared.blocks.BlockLine.TheVariants as said
@@ -25,7 +27,7 @@ use Rattle.pfs_script.specs.Marks.{Opens, Ends, EndsStage, mark_of}
 use Rattle.pfs_requests.specs.Requests.{request_of}
 use Rattle.pfs_requests.specs.declared.requests.Request.{Request}
 use Rattle.pfs_requests.specs.declared.requests.Request.TheVariants as requests
-use Rattle.pfs_facts.specs.Deeds.{deed_on, sql_deed}
+use Rattle.pfs_facts.specs.Deeds.{bare, deed_on, sql_deed}
 use Rattle.pfs_facts.specs.Steps.{kinds_in, kinds_at, numbers_in, stage_ends_in, steps_on}
 
 -- what a step makes of them
@@ -148,6 +150,27 @@ kinds_deed s admin (said.Sql text) = by_text (request_of text) where
 kinds_deed s admin (said.Repeat times) = refl
 kinds_deed s admin said.Done = refl
 
-pub kinds_part : (s : State) (admin : Administration) (line : BlockLine) (p : Part) → IsPart s p → p.deed ≡ deed_on admin line → kinds_at (state_after s p.turns) ≡ kinds_behind (mark_of line) (kinds_at s)
+-- what was read opens nothing
+kinds_looked : (kinds : List EventKind) (readings : List Reading) (steps : List Step) → all_kinds_stepped kinds (looks readings ++ steps) ≡ all_kinds_stepped kinds steps
+kinds_looked kinds [] steps = refl
+kinds_looked kinds (reading ∷ readings) steps = kinds_looked kinds readings steps
+
+pub kinds_bare : (kinds : List EventKind) (s : State) (deed : Deed) → all_kinds_stepped kinds (steps_for s deed) ≡ all_kinds_stepped kinds (steps_for s (bare deed))
+kinds_bare kinds s (Connecting admin user host) = refl
+kinds_bare kinds s (Starting subject) = refl
+kinds_bare kinds s (Staging subject) = refl
+kinds_bare kinds s StageEnding = refl
+kinds_bare kinds s (Ending numbers) = refl
+kinds_bare kinds s (Spending time) = refl
+kinds_bare kinds s (Quitting admin) = refl
+kinds_bare kinds s (Truncating admin what) = refl
+kinds_bare kinds s (Changing admin what) = refl
+kinds_bare kinds s (Showing admin count) = refl
+kinds_bare kinds s (Querying readings count) = kinds_looked kinds readings (remark (Rows count) ∷ [])
+kinds_bare kinds s (Refusing error) = refl
+kinds_bare kinds s Closing = refl
+
+pub kinds_part : (s : State) (admin : Administration) (line : BlockLine) (p : Part) → IsPart s p → bare p.deed ≡ deed_on admin line → kinds_at (state_after s p.turns) ≡ kinds_behind (mark_of line) (kinds_at s)
 kinds_part s admin line p is deed =
-    kinds_turns s p.turns is.are_turns ∙ (ap (λ (z : List Step). all_kinds_stepped (kinds_at s) z) (is.steps_are ∙ ap (λ (d : Deed). steps_for s d) deed) ∙ kinds_deed s admin line)
+    kinds_turns s p.turns is.are_turns ∙ (ap (λ (z : List Step). all_kinds_stepped (kinds_at s) z) is.steps_are ∙ (kinds_bare (kinds_at s) s p.deed
+    ∙ (ap (λ (d : Deed). all_kinds_stepped (kinds_at s) (steps_for s d)) deed ∙ kinds_deed s admin line)))

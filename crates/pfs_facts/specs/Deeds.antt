@@ -3,7 +3,7 @@ use Rattle.std.specs.Prelude.{ℕ, ◌≡◌, List, [], ◌∷◌, None, Some, s
 use Rattle.pfs_admin.specs.States.{State as Administration}
 use Rattle.pfs_admin.specs.declared.changes.SetupStatement.TheVariants as statements
 use Rattle.pfs_parts.specs.Amounts.{at_first, AllFacts}
-use Rattle.pfs_parts.specs.Deeds.{Deed, Connecting, Starting, Staging, StageEnding, Ending, Spending, Quitting, Truncating, Changing, Refusing, Closing, Part}
+use Rattle.pfs_parts.specs.Deeds.{Deed, Connecting, Starting, Staging, StageEnding, Ending, Spending, Quitting, Truncating, Changing, Showing, Querying, Refusing, Closing, Part}
 use Rattle.pfs_parts.specs.Stints.{Stint, AreStints, parts_by}
 use Rattle.pfs_runs.specs.Lines.{facts_if, wait_on, statement_on, transaction_on, stage_on}
 use Rattle.pfs_script.specs.declared.blocks.BlockLine.{BlockLine}
@@ -16,15 +16,15 @@ use Rattle.pfs_requests.specs.declared.requests.Request.{Request}
 use Rattle.pfs_requests.specs.declared.requests.Request.TheVariants as requests
 use Rattle.pfs_facts.specs.Steps.{numbers_in}
 
--- a text that is refused is no action; no SELECT runs yet: there no time passes
+-- a text that is refused is no action; what a SELECT reads and shows stands in no script
 abbrev pub sql_deed : Administration → Request → Deed
 sql_deed admin (requests.Refused error) = Refusing error
 sql_deed admin (requests.Truncate what) = Truncating admin what
 sql_deed admin (requests.Update update) = Changing admin (statements.Update update)
 sql_deed admin (requests.Insert insert) = Changing admin (statements.Insert insert)
 sql_deed admin (requests.Delete delete) = Changing admin (statements.Delete delete)
-sql_deed admin (requests.Query select) = Spending 0
-sql_deed admin (requests.Show select) = Spending 0
+sql_deed admin (requests.Query select) = Querying [] 0
+sql_deed admin (requests.Show select) = Showing admin 0
 
 -- a line of a script, repeats written out, as a deed of its session, before this administration. No line that begins
 -- or ends a repeat stands among lines that are written out: there no time passes
@@ -43,10 +43,26 @@ deed_on admin (said.Sql text) = sql_deed admin (request_of text)
 deed_on admin (said.Repeat times) = Spending 0
 deed_on admin said.Done = Spending 0
 
+-- a deed as a line asks for it: without what a SELECT read, and how many rows it showed
+abbrev pub bare : Deed → Deed
+bare (Showing admin count) = Showing admin 0
+bare (Querying readings count) = Querying [] 0
+bare (Connecting admin user host) = Connecting admin user host
+bare (Starting subject) = Starting subject
+bare (Staging subject) = Staging subject
+bare StageEnding = StageEnding
+bare (Ending numbers) = Ending numbers
+bare (Spending time) = Spending time
+bare (Quitting admin) = Quitting admin
+bare (Truncating admin what) = Truncating admin what
+bare (Changing admin what) = Changing admin what
+bare (Refusing error) = Refusing error
+bare Closing = Closing
+
 -- it is the next of these lines
 pub record IsLine (line : BlockLine) (deed : Deed) : Type 0 where
   pub admin : Administration
-  pub is : deed ≡ deed_on admin line
+  pub is : bare deed ≡ deed_on admin line
 
 -- a deed is the next line, and the rest holds of those behind it; a connect, and the end of a block, is none
 abbrev pub IsNext : List BlockLine → Deed → (List BlockLine → Type 0) → Type 0

@@ -1,3 +1,4 @@
 pub mod Steps
 pub mod Tracks
 pub mod Deeds
+pub mod Answers

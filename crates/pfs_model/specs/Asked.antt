@@ -75,7 +75,7 @@ pub record Rooms : Type 0 where
   pub user : Option ℕ
   pub host : Option ℕ
 
--- what a change by SQL is answered: how many rows it changed, or the number of an error
+-- what a change by SQL is answered: how many rows it met, or the number of an error
 pub data Answer : Type 0 where
   Replied : ℕ → Answer
   Failed : ℕ → Answer

@@ -41,6 +41,7 @@ module _ (change : Label → Change) (session : ℕ) where
   sql_asked made (requests.Update update) ls go a = ((λ q. subst (IsChangeOf told.Change) (sym a.0) tt), go (made + 1) a.1)
   sql_asked made (requests.Insert insert) ls go a = ((λ q. subst (IsChangeOf told.Change) (sym a.0) tt), go (made + 1) a.1)
   sql_asked made (requests.Delete delete) ls go a = ((λ q. subst (IsChangeOf told.Change) (sym a.0) tt), go (made + 1) a.1)
+  sql_asked made (requests.Show select) ls go a = ((λ q. subst (IsChangeOf told.Show) (sym a.0) tt), go (made + 1) a.1)
   sql_asked made _ ls go a = ((λ q. absurd (cc)), go made a)
 
   lines_asked : (made : ℕ) (ls : List BlockLine) → AreAsked change session made (flat_map changes_on ls)

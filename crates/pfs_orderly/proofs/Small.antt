@@ -19,7 +19,6 @@ use Rattle.pfs_script.specs.declared.blocks.BlockLine.{BlockLine}
 use Rattle.pfs_script.specs.declared.blocks.BlockLine.TheVariants as said
 use Rattle.pfs_script.specs.declared.blocks.Connect.{Connect}
 use Rattle.pfs_script.specs.declared.blocks.Phase.{Phase}
-use Rattle.pfs_script.specs.declared.reasons.Extent.TheVariants.{Whole}
 use Rattle.pfs_script.specs.Brackets.{kinds_behind}
 use Rattle.pfs_script.specs.Events.{blocks_for}
 use Rattle.pfs_script.specs.Marks.{mark_of, Repeated, copies, written_from, written_out}
@@ -149,7 +148,7 @@ blocks_small before after (block ∷ blocks) p = (
   within k n low = omega (arith, low)
 
 module _ (playable : PlayableLaw) (text : List ℕ) (setting : Setting) (whole : List Phase)
-    (script : IsScript Whole text setting whole) where
+    (script : IsScript text setting whole) where
   phases_small : (before phases : List Phase) → whole ≡ before ++ phases → Each (OfPhase AreSmallOf) phases
   phases_small before [] e = tt
   phases_small before (phase ∷ phases) e = (

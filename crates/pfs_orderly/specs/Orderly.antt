@@ -8,7 +8,6 @@ use Rattle.pfs_runs.specs.Lines.{change_in, facts_in}
 use Rattle.pfs_runs.specs.Rules.{flags_by}
 use Rattle.pfs_runs.specs.Runs.{IsRun, all_blocks}
 use Rattle.pfs_script.specs.declared.blocks.Phase.{Phase}
-use Rattle.pfs_script.specs.declared.reasons.Extent.TheVariants.{Whole}
 use Rattle.pfs_script.specs.Scripts.{IsScript}
 use Rattle.pfs_tagged.specs.Premises.{AreActionsOf, AreKept, AreClosed, AreFirstBehind, AreLastBehind, AreSmall, AreTexted, IsOrderly}
 use Rattle.pfs_tagged.specs.Runs.{Run}
@@ -41,24 +40,24 @@ ClosedLaw = (setting : Setting) (phases : List Phase) (report : ReportParts) (ru
 -- what a line starts counts in one of 64 cells
 abbrev pub SmallLaw : Type 0
 SmallLaw = (text : List ℕ) (setting : Setting) (phases : List Phase) (report : ReportParts)
-    → IsScript Whole text setting phases → (run : IsRun setting phases report) → AreSmall (all_blocks run.blocks)
+    → IsScript text setting phases → (run : IsRun setting phases report) → AreSmall (all_blocks run.blocks)
 
 -- a statement's digest text is one of the setting's, or has no place
 abbrev pub TextedLaw : Type 0
 TextedLaw = (text : List ℕ) (setting : Setting) (phases : List Phase) (report : ReportParts)
-    → IsScript Whole text setting phases → (run : IsRun setting phases report)
+    → IsScript text setting phases → (run : IsRun setting phases report)
     → AreTexted (length setting.digests) (all_blocks run.blocks)
 
 -- a session's connect is its first entry, so it connects once
 abbrev pub FirstLaw : Type 0
 FirstLaw = (text : List ℕ) (setting : Setting) (phases : List Phase) (report : ReportParts)
-    → IsScript Whole text setting phases → (run : IsRun setting phases report)
+    → IsScript text setting phases → (run : IsRun setting phases report)
     → AreFirstBehind [] (places (all_blocks run.blocks))
 
 -- behind a session's quit is nothing but what the quit does
 abbrev pub LastLaw : Type 0
 LastLaw = (text : List ℕ) (setting : Setting) (phases : List Phase) (report : ReportParts)
-    → IsScript Whole text setting phases → (run : IsRun setting phases report)
+    → IsScript text setting phases → (run : IsRun setting phases report)
     → AreLastBehind [] (places (all_blocks run.blocks))
 
 -- an action does what its line does: that of a connect's connects, that of a quit's quits, and that of no other line
@@ -74,5 +73,5 @@ ActionsLaw = (setting : Setting) (phases : List Phase) (report : ReportParts) (r
 -- so a run of a script meets all that conservation asks of its order
 abbrev pub OrderlyLaw : Type 0
 OrderlyLaw = (text : List ℕ) (setting : Setting) (phases : List Phase) (report : ReportParts)
-    → IsScript Whole text setting phases → (run : IsRun setting phases report)
+    → IsScript text setting phases → (run : IsRun setting phases report)
     → IsOrderly (run_of setting phases report run)

@@ -23,14 +23,14 @@ use Rattle.pfs_parts.proofs.Inverting.{snoc_nil}
 use Rattle.pfs_parts.specs.Deeds.{looks, remark}
 
 -- the last of steps that are all inquiries
-record Front (asked : List Inquiry) (steps : List Step) (step : Step) : Type 0 where
+pub record Front (asked : List Inquiry) (steps : List Step) (step : Step) : Type 0 where
   pub front : List Inquiry
   pub last : Inquiry
   pub is : asked ≡ front ++ last ∷ []
   pub steps_are : steps ≡ map Inquires front
   pub step_is : step ≡ Inquires last
 
-front_of : (asked : List Inquiry) (steps : List Step) (step : Step) → steps ++ step ∷ [] ≡ map Inquires asked → Front asked steps step
+pub front_of : (asked : List Inquiry) (steps : List Step) (step : Step) → steps ++ step ∷ [] ≡ map Inquires asked → Front asked steps step
 front_of [] steps step e = absurd (snoc_nil steps step e)
 front_of (i ∷ []) [] step e = record { front = []; last = i; is = refl; steps_are = refl; step_is = cc }
 front_of (i ∷ j ∷ is) [] step e = absurd (cc)

@@ -12,7 +12,7 @@ use Rattle.pfs_play.specs.Errands.{actions_of, actions_on, cost_of, cost_on, err
 use Rattle.pfs_play.specs.Repeats.{repeated}
 use Rattle.pfs_play.proofs.Writing.{place, found, not_found, written_round, written_open, written_begin, begins, cost_then, cost_copies, length_copies}
 
-sql_cost : (what : Request) → cost_of (sql_errand what) ≤ 14 + 20182 * actions_of (sql_errand what)
+sql_cost : (what : Request) → cost_of (sql_errand what) ≤ 14405 + 5791 * actions_of (sql_errand what)
 sql_cost (requests.Refused error) = omega arith
 sql_cost (requests.Query select) = omega arith
 sql_cost (requests.Show select) = omega arith
@@ -21,7 +21,7 @@ sql_cost (requests.Update update) = omega arith
 sql_cost (requests.Insert insert) = omega arith
 sql_cost (requests.Delete delete) = omega arith
 
-one_cost : (line : BlockLine) → cost_of (errand_on line) ≤ 14 + 20182 * actions_of (errand_on line)
+one_cost : (line : BlockLine) → cost_of (errand_on line) ≤ 14405 + 5791 * actions_of (errand_on line)
 one_cost (said.Wait class) = omega arith
 one_cost (said.TableWait class table) = omega arith
 one_cost (said.Statement class digest) = omega arith
@@ -65,7 +65,7 @@ pub once_each : (lines : List BlockLine) → actions_on lines ≤ length lines
 once_each [] = omega arith
 once_each (line ∷ lines) = omega (arith, one_once line, once_each lines)
 
-pub costs_few : (lines : List BlockLine) → cost_on lines ≤ 14 * length lines + 20182 * actions_on lines
+pub costs_few : (lines : List BlockLine) → cost_on lines ≤ 14405 * length lines + 5791 * actions_on lines
 costs_few [] = omega arith
 costs_few (line ∷ lines) = omega (arith, one_cost line, costs_few lines)
 

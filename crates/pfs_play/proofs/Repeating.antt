@@ -3,15 +3,18 @@ use Rattle.std.proofs.Common.{ℕ, zero, suc, ◌≡◌, ◌+◌, Bool, false, L
 use Rattle.std.proofs.lemmas.List.{append-nil}
 use Rattle.pfs_actions.proofs.Joining.{then}
 use Rattle.pfs_admin.specs.States.{State as Administration}
+use Rattle.pfs_classes.specs.declared.setting.Setting.{Setting}
 use Rattle.pfs_levels.specs.Calls.{Call, Opening}
 use Rattle.pfs_parts.specs.Deeds.{Part, is_over}
 use Rattle.pfs_parts.specs.Shaped.{MayDoAll, state_behind, over_behind}
+use Rattle.pfs_runs.specs.Answers.{Answer}
 use Rattle.pfs_script.specs.declared.blocks.BlockLine.{BlockLine}
 use Rattle.pfs_script.specs.Marks.{copies}
 use Rattle.pfs_session.specs.States.{State, Book}
 use Rattle.pfs_session.specs.Turns.{state_after}
 use Rattle.pfs_play.specs.declared.errands.Errand.{Errand}
 use Rattle.pfs_play.specs.declared.errands.Errand.TheVariants as ask
+use Rattle.pfs_play.proofs.Following.{answers_on}
 use Rattle.pfs_play.specs.Errands.{HavePlayed, AreOf, actions_of, admin_after, admin_behind, errand_on}
 
 of_then : (admin : Administration) (xs ys : List BlockLine) (ps qs : List Part) → AreOf admin xs ps → AreOf (admin_after admin xs) ys qs → AreOf admin (xs ++ ys) (ps ++ qs)
@@ -37,6 +40,8 @@ one_counted admin (ask.Spend time) = omega arith
 one_counted admin ask.Quit = omega arith
 one_counted admin (ask.Truncate what) = omega arith
 one_counted admin (ask.Change what) = omega arith
+one_counted admin (ask.Query select) = omega arith
+one_counted admin (ask.Show select) = omega arith
 one_counted admin (ask.Refuse error) = omega arith
 
 -- the administration behind lines, and then others
@@ -45,9 +50,9 @@ after_then admin [] ys = refl
 after_then admin (x ∷ xs) ys = after_then (admin_behind admin (errand_on x)) xs ys
 
 -- lines, and then others
-pub played_both : (xs ys : List BlockLine) (admin : Administration) (old at new : Book) (was mid now : Opening → List Call → Type 0) → HavePlayed xs admin old at was mid → HavePlayed ys (admin_after admin xs) at new mid now
-    → HavePlayed (xs ++ ys) admin old new was now
-played_both xs ys admin old at new was mid now p q =
+pub played_both : (setting : Setting) (xs ys : List BlockLine) (admin : Administration) (old at new : Book) (answers behind more : List Answer) (was mid now : Opening → List Call → Type 0)
+    → HavePlayed setting xs admin old at answers behind was mid → HavePlayed setting ys (admin_after admin xs) at new behind more mid now → HavePlayed setting (xs ++ ys) admin old new answers more was now
+played_both setting xs ys admin old at new answers behind more was mid now p q =
     let ps : List Part = p.parts in
     let qs : List Part = q.parts in
     record {
@@ -55,6 +60,9 @@ played_both xs ys admin old at new was mid now p q =
       are_of = of_then admin xs ys ps qs p.are_of q.are_of;
       may = may_then false old.state ps qs p.may (subst (λ (s : State). MayDoAll (over_behind false ps) s qs) p.done.state (subst (λ (b : Bool). MayDoAll b at.state qs) (sym p.goes_on) q.may));
       goes_on = over_then false ps qs ∙ (ap (λ (b : Bool). over_behind b qs) p.goes_on ∙ q.goes_on);
+      given = p.given ++ q.given;
+      given_are = q.given_are ∙ (ap (λ (z : List Answer). z ++ q.given) p.given_are ∙ append_assoc answers p.given q.given);
+      answered = answers_on setting xs ys ps qs p.given q.given p.answered q.answered;
       done = then ps qs old at new was mid now p.done q.done;
     }
 

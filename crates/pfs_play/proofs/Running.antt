@@ -16,7 +16,14 @@ use Rattle.pfs_event.specs.declared.open.Open.{Open}
 use Rattle.pfs_levels.specs.Calls.{Call, Opening}
 use Rattle.pfs_model.specs.Journals.{joined}
 use Rattle.pfs_model.specs.declared.lines.Subject.{Subject}
-use Rattle.pfs_parts.specs.Deeds.{Deed, Ending, Part, Refusing, Spending, Staging, StageEnding, action_of, part_calls, part_entries, steps_for}
+use Rattle.pfs_classes.specs.declared.setting.Setting.{Setting}
+use Rattle.pfs_parts.specs.Deeds.{Deed, Ending, Part, Querying, Refusing, Showing, Spending, Staging, StageEnding, action_of, looks, part_calls, part_entries, remark, steps_for}
+use Rattle.pfs_readsets.specs.Places.{scope_of}
+use Rattle.pfs_readsets.specs.ReadSets.{IsReadSet}
+use Rattle.pfs_rows.specs.declared.table.Reading.{Reading}
+use Rattle.pfs_runs.specs.Answers.{Answer, Selection, AnswersHeld, AnswersRead, AreAnswers}
+use Rattle.pfs_facts.specs.Answers.{Answers, IsQuery, IsShow}
+use Rattle.pfs_facts.specs.Deeds.{bare}
 use Rattle.pfs_runs.specs.Lines.{class_in}
 use Rattle.pfs_script.specs.declared.blocks.BlockLine.{BlockLine}
 use Rattle.pfs_script.specs.declared.blocks.BlockLine.TheVariants as said
@@ -24,18 +31,32 @@ use Rattle.pfs_script.specs.Brackets.{innermost, ended_by}
 use Rattle.pfs_script.specs.Marks.{Opens}
 use Rattle.pfs_script.specs.Runnable.{IsKnownClass}
 use Rattle.pfs_session.specs.Inquiries.{Remarks, remark_entry}
-use Rattle.pfs_session.specs.declared.remarks.Remark.TheVariants.{Refused}
+use Rattle.pfs_session.specs.declared.remarks.Remark.TheVariants.{Query, Refused, Rows}
 use Rattle.pfs_session.specs.Leaving.{HasStaged}
 use Rattle.pfs_session.specs.States.{Book, without_stage}
 use Rattle.pfs_session.specs.Turns.{Step, EndsEvent, Spends, Inquires, Does, Played, stage_ends, stage_steps}
 use Rattle.pfs_session.specs.declared.events.Numbers.{Numbers}
 use Rattle.pfs_session.proofs.Playing.{played_one, played_then}
 use Rattle.pfs_facts.specs.Steps.{kinds_in}
+use Rattle.pfs_play.specs.declared.errands.Errand.{Errand}
 use Rattle.pfs_play.specs.declared.errands.Errand.TheVariants as ask
-use Rattle.pfs_requests.specs.Requests.{request_of}
+use Rattle.pfs_changes.specs.declared.changes.Change.{Change}
+use Rattle.pfs_changes.specs.declared.changes.Change.TheVariants as changes
+use Rattle.pfs_exec.specs.Planning.{fault_of, plan_of, table_text}
+use Rattle.pfs_exec.specs.declared.query.Plan.{Plan}
+use Rattle.pfs_exec.specs.declared.query.Plan.TheVariants as plans
+use Rattle.pfs_exec.specs.declared.query.Select.{Select}
+use Rattle.pfs_requests.specs.Requests.{asks_change, asks_for, asks_on, asks_plan, asks_rows, command_in, request_of, table_in, truncating, unless}
 use Rattle.pfs_requests.specs.declared.requests.Request.{Request}
 use Rattle.pfs_requests.specs.declared.requests.Request.TheVariants as requests
-use Rattle.pfs_play.specs.Errands.{deed_of, errand_on, sql_errand, MayBegin, MayRun, MayPlay, StagesLie}
+use Rattle.pfs_rows.specs.declared.table.Table.{Table}
+use Rattle.pfs_rows.specs.declared.table.Table.TheVariants as tables
+use Rattle.pfs_show.specs.Rows.{IsHeld}
+use Rattle.pfs_sql.specs.declared.command.Command.{Command}
+use Rattle.pfs_sql.specs.declared.faults.SqlError.{SqlError}
+use Rattle.pfs_truncations.specs.declared.truncations.Truncation.{Truncation}
+use Rattle.pfs_truncations.specs.Texts.{truncation_on}
+use Rattle.pfs_play.specs.Errands.{HasRun, deed_of, errand_on, selection_of, sql_errand, MayBegin, MayRun, MayPlay, StagesLie}
 
 joined_one : (entries : List Entry) → joined (entries ∷ []) ≡ entries
 unfolding joined
@@ -91,6 +112,48 @@ refuse_ran error old new was does entries =
     ran (Refusing error) _ old new was was refl refl
     (played_one (Inquires (Remarks (Refused error))) [] (remark_entry (Refused error) ∷ []) new.state old new was was does refl (record { entries_are = entries; goes = λ start calls h. h }))
 
+-- what isn't a SELECT has no answer
+pub acted_ran : (setting : Setting) (admin : Administration) (errand : Errand) (old new : Book) (answers : List Answer) (was now : Opening → List Call → Type 0) → selection_of errand ≡ None
+    → bare (deed_of admin errand) ≡ deed_of admin errand → HasActed (deed_of admin errand) old new was now → HasRun setting admin errand old new answers answers was now
+acted_ran setting admin errand old new answers was now none plain acted = record {
+  part = acted.part;
+  asked = ap bare acted.deed_is ∙ plain;
+  given = [];
+  given_are = sym (append-nil answers);
+  answered = subst (λ (one : Option Selection). AreAnswers (Answers setting) (one ∷ []) (acted.part ∷ []) []) (sym none) refl;
+  done = acted.done;
+}
+
+pub stage_plain : (admin : Administration) (subject : Option Subject) → bare (deed_of admin (ask.Stage subject)) ≡ deed_of admin (ask.Stage subject)
+stage_plain admin None = refl
+stage_plain admin (Some subject) = refl
+
+-- a SELECT's answer stands behind the others
+pub query_ran : (setting : Setting) (admin : Administration) (select : Select) (readings : List Reading) (answer : Answer) (old new : Book) (answers behind : List Answer) (was now : Opening → List Call → Type 0)
+    → IsReadSet (scope_of setting) select.table readings → AnswersRead setting select readings answer → behind ≡ answers ++ answer ∷ [] → Played (remark Query ∷ (looks readings ++ remark (Rows (length answer)) ∷ [])) old new was now
+    → HasRun setting admin (ask.Query select) old new answers behind was now
+query_ran setting admin select readings answer old new answers behind was now whole answered are played =
+    let acted : HasActed (Querying readings (length answer)) old new was now = ran (Querying readings (length answer)) _ old new was now refl refl played in
+    record {
+      part = acted.part;
+      asked = ap bare acted.deed_is;
+      given = answer ∷ [];
+      given_are = are;
+      answered = (subst (IsQuery setting select answer) (sym acted.deed_is) (record { whole = whole; answered = answered; counted = refl }), refl);
+      done = acted.done;
+    }
+
+pub show_ran : (setting : Setting) (admin : Administration) (select : Select) (answer : Answer) (old new : Book) (answers behind : List Answer) (was now : Opening → List Call → Type 0) → AnswersHeld select admin.actors admin.objects answer
+    → behind ≡ answers ++ answer ∷ [] → HasActed (Showing admin (length answer)) old new was now → HasRun setting admin (ask.Show select) old new answers behind was now
+show_ran setting admin select answer old new answers behind was now answered are acted = record {
+  part = acted.part;
+  asked = ap bare acted.deed_is;
+  given = answer ∷ [];
+  given_are = are;
+  answered = (subst (IsShow select answer) (sym acted.deed_is) (answered, refl), refl);
+  done = acted.done;
+}
+
 pub stage_depth : (subject : Option Subject) (old new : OpenEvents) → HasStaged subject old new → new.depth ≡ old.depth
 stage_depth None old new staged = ap (λ (nest : OpenEvents). nest.depth) staged
 stage_depth (Some subject) old new staged = staged.depth
@@ -145,14 +208,62 @@ some_open (what ∷ events) lie stands = at what.kind events refl lie
     at Statement events e lie = rw e (omega arith)
     at Transaction events e lie = rw e (omega arith)
 
-sql_may_run : (nest : OpenEvents) (what : Request) → MayRun (sql_errand what) nest
-sql_may_run nest (requests.Refused error) = tt
-sql_may_run nest (requests.Query select) = tt
-sql_may_run nest (requests.Show select) = tt
-sql_may_run nest (requests.Truncate what) = tt
-sql_may_run nest (requests.Update update) = tt
-sql_may_run nest (requests.Insert insert) = tt
-sql_may_run nest (requests.Delete delete) = tt
+-- a text that asks for what the administration holds names one of its tables
+abbrev IsAsked : Request → Type 0
+IsAsked (requests.Show select) = IsHeld select.table
+IsAsked _ = Unit {0}
+
+rows_asked : (table : Table) (select : Select) → select.table ≡ table → IsAsked (asks_rows table select)
+rows_asked tables.SetupActors select on = subst IsHeld (sym on) tt
+rows_asked tables.SetupObjects select on = subst IsHeld (sym on) tt
+rows_asked (tables.Summary kind which) select on = tt
+rows_asked (tables.Events kind which) select on = tt
+rows_asked tables.DigestSummary select on = tt
+rows_asked tables.Accounts select on = tt
+rows_asked tables.Users select on = tt
+rows_asked tables.Hosts select on = tt
+rows_asked tables.SetupInstruments select on = tt
+rows_asked tables.SetupConsumers select on = tt
+rows_asked tables.Threads select on = tt
+
+truncation_asked : (what : Option Truncation) → IsAsked (truncating what)
+truncation_asked None = tt
+truncation_asked (Some what) = tt
+
+change_asked : (change : Change) → IsAsked (asks_change change)
+change_asked (changes.Truncate table) = truncation_asked (truncation_on table)
+change_asked (changes.Update update) = tt
+change_asked (changes.Insert insert) = tt
+change_asked (changes.Delete delete) = tt
+
+plan_asked : (plan : Plan) → IsAsked (asks_plan plan)
+plan_asked (plans.Select select) = rows_asked select.table select refl
+plan_asked (plans.Change change) = change_asked change
+
+unless_asked : (fault : Option SqlError) (table : Table) (command : Command) → IsAsked (unless fault table command)
+unless_asked (Some error) table command = tt
+unless_asked None table command = plan_asked (plan_of table command)
+
+on_asked : (table : Option Table) (command : Command) → IsAsked (asks_on table command)
+on_asked None command = tt
+on_asked (Some table) command = unless_asked (fault_of table command) table command
+
+command_asked : (command : Option Command) → IsAsked (asks_for command)
+command_asked None = tt
+command_asked (Some command) = on_asked (table_in (table_text command)) command
+
+text_asked : (text : List ℕ) → IsAsked (request_of text)
+unfolding request_of
+text_asked text = command_asked (command_in text)
+
+sql_may_run : (nest : OpenEvents) (what : Request) → IsAsked what → MayRun (sql_errand what) nest
+sql_may_run nest (requests.Refused error) asked = tt
+sql_may_run nest (requests.Query select) asked = tt
+sql_may_run nest (requests.Show select) asked = asked
+sql_may_run nest (requests.Truncate what) asked = tt
+sql_may_run nest (requests.Update update) asked = tt
+sql_may_run nest (requests.Insert insert) asked = tt
+sql_may_run nest (requests.Delete delete) asked = tt
 
 pub may_run : (nest : OpenEvents) (line : BlockLine) → StagesLie (kinds_in nest.events) → MayPlay 62 nest.depth (kinds_in nest.events) line → MayRun (errand_on line) nest
 may_run nest (said.Wait class) lie may = begins nest _ may.stands (omega (arith, may.shallow, kinds_long nest.events)) (known_class class may.known) tt tt
@@ -167,6 +278,6 @@ may_run nest (said.Spend time) lie may = tt
 may_run nest said.End lie may = some_open nest.events lie may.stands
 may_run nest (said.EndStatement numbers) lie may = some_open nest.events lie may.stands
 may_run nest said.Quit lie may = let quits = may.quits in cc
-may_run nest (said.Sql text) lie may = sql_may_run nest (request_of text)
+may_run nest (said.Sql text) lie may = sql_may_run nest (request_of text) (text_asked text)
 may_run nest (said.Repeat times) lie may = tt
 may_run nest said.Done lie may = tt

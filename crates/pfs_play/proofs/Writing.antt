@@ -11,6 +11,8 @@ use Rattle.pfs_script.specs.declared.blocks.BlockLine.{BlockLine}
 use Rattle.pfs_script.specs.declared.blocks.BlockLine.TheVariants as said
 use Rattle.pfs_script.specs.Brackets.{kinds_behind}
 use Rattle.pfs_script.specs.Marks.{Repeated, mark_of, is_done, repeats_of, copies, written_from, written_out}
+use Rattle.pfs_classes.specs.declared.setting.Setting.{Setting}
+use Rattle.pfs_runs.specs.Answers.{Answer}
 use Rattle.pfs_play.specs.Errands.{CanPlay, HavePlayed, MayPlay, actions_of, actions_on, admin_after, cost_on, cost_of, errand_on, kinds_after}
 use Rattle.pfs_session.specs.States.{Book}
 use Rattle.pfs_play.specs.Repeats.{AllMayPlay, HaveGone, repeated}
@@ -390,14 +392,14 @@ pub drop_both : (at n : ℕ) (lines : List BlockLine) → drop n (drop at lines)
 drop_both at n lines = grind (arith, common_steps)
 
 -- one front behind another
-pub gone_both : (whole mid rest : List BlockLine) (admin between after : Administration) (old at new : Book) (was then now : Opening → List Call → Type 0) → HaveGone whole mid admin between old at was then
-    → HaveGone mid rest between after at new then now → HaveGone whole rest admin after old new was now
-gone_both whole mid rest admin between after old at new was then now p q =
-    let more : HavePlayed q.first (admin_after admin p.first) at new then now = subst (λ (a : Administration). HavePlayed q.first a at new then now) p.after_is q.played in
+pub gone_both : (setting : Setting) (whole mid rest : List BlockLine) (admin between after : Administration) (old at new : Book) (answers behind last : List Answer) (was then now : Opening → List Call → Type 0)
+    → HaveGone setting whole mid admin between old at answers behind was then → HaveGone setting mid rest between after at new behind last then now → HaveGone setting whole rest admin after old new answers last was now
+gone_both setting whole mid rest admin between after old at new answers behind last was then now p q =
+    let more : HavePlayed setting q.first (admin_after admin p.first) at new behind last then now = subst (λ (a : Administration). HavePlayed setting q.first a at new behind last then now) p.after_is q.played in
     record {
       first = p.first ++ q.first;
       are = p.are ∙ (ap (λ (l : List BlockLine). p.first ++ l) q.are ∙ sym (append_assoc p.first q.first rest));
-      played = played_both p.first q.first admin old at new was then now p.played more;
+      played = played_both setting p.first q.first admin old at new answers behind last was then now p.played more;
       after_is = q.after_is ∙ (ap (λ (a : Administration). admin_after a q.first) p.after_is ∙ sym (after_then admin p.first q.first));
     }
 
@@ -407,8 +409,8 @@ pub record IsLess (whole rest : List BlockLine) : Type 0 where
   pub costs : cost_on rest ≤ cost_on whole
   pub actions : actions_on rest ≤ actions_on whole
 
-pub gone_less : (whole rest : List BlockLine) (admin after : Administration) (old new : Book) (was now : Opening → List Call → Type 0) → HaveGone whole rest admin after old new was now → IsLess whole rest
-gone_less whole rest admin after old new was now p =
+pub gone_less : (setting : Setting) (whole rest : List BlockLine) (admin after : Administration) (old new : Book) (answers behind : List Answer) (was now : Opening → List Call → Type 0) → HaveGone setting whole rest admin after old new answers behind was now → IsLess whole rest
+gone_less setting whole rest admin after old new answers behind was now p =
     let n : length whole ≡ length p.first + length rest = ap length p.are ∙ length-append p.first rest in
     let m : cost_on whole ≡ cost_on p.first + cost_on rest = ap cost_on p.are ∙ cost_then p.first rest in
     let k : actions_on whole ≡ actions_on p.first + actions_on rest = ap actions_on p.are ∙ actions_then p.first rest in
@@ -417,15 +419,15 @@ gone_less whole rest admin after old new was now p =
 pub at_the_end : (at : ℕ) (lines : List BlockLine) → length lines ≤ at → written_out (drop at lines) ≡ []
 at_the_end at lines most = ap written_out (drop_all at lines most) ∙ written_none
 
-pub gone_nowhere : (whole : List BlockLine) (admin : Administration) (old : Book) (was : Opening → List Call → Type 0) → HaveGone whole whole admin admin old old was was
-gone_nowhere whole admin old was = record { first = []; are = refl; played = played_nothing admin old was; after_is = refl }
+pub gone_nowhere : (setting : Setting) (whole : List BlockLine) (admin : Administration) (old : Book) (answers : List Answer) (was : Opening → List Call → Type 0) → HaveGone setting whole whole admin admin old old answers answers was was
+gone_nowhere setting whole admin old answers was = record { first = []; are = refl; played = played_nothing setting admin old answers was; after_is = refl }
 
 -- all were played where nothing is left
 pub gone_all : (whole rest first : List BlockLine) → rest ≡ [] → whole ≡ first ++ rest → first ≡ whole
 gone_all whole rest first none are = sym (are ∙ (ap (λ (l : List BlockLine). first ++ l) none ∙ append-nil first))
 
-pub gone_whole : (whole rest : List BlockLine) (admin after : Administration) (old new : Book) (was now : Opening → List Call → Type 0) → rest ≡ [] → HaveGone whole rest admin after old new was now → HavePlayed whole admin old new was now
-gone_whole whole rest admin after old new was now none p = subst (λ (l : List BlockLine). HavePlayed l admin old new was now) (gone_all whole rest p.first none p.are) p.played
+pub gone_whole : (setting : Setting) (whole rest : List BlockLine) (admin after : Administration) (old new : Book) (answers behind : List Answer) (was now : Opening → List Call → Type 0) → rest ≡ [] → HaveGone setting whole rest admin after old new answers behind was now → HavePlayed setting whole admin old new answers behind was now
+gone_whole setting whole rest admin after old new answers behind was now none p = subst (λ (l : List BlockLine). HavePlayed setting l admin old new answers behind was now) (gone_all whole rest p.first none p.are) p.played
 
-pub gone_after : (whole rest : List BlockLine) (admin after : Administration) (old new : Book) (was now : Opening → List Call → Type 0) → rest ≡ [] → HaveGone whole rest admin after old new was now → after ≡ admin_after admin whole
-gone_after whole rest admin after old new was now none p = p.after_is ∙ ap (admin_after admin) (gone_all whole rest p.first none p.are)
+pub gone_after : (setting : Setting) (whole rest : List BlockLine) (admin after : Administration) (old new : Book) (answers behind : List Answer) (was now : Opening → List Call → Type 0) → rest ≡ [] → HaveGone setting whole rest admin after old new answers behind was now → after ≡ admin_after admin whole
+gone_after setting whole rest admin after old new answers behind was now none p = p.after_is ∙ ap (admin_after admin) (gone_all whole rest p.first none p.are)

@@ -1,16 +1,17 @@
 -- What lines of a script ask their session to do, and what it does.
-use Rattle.std.specs.Prelude.{ℕ, ◌≡◌, ◌<◌, ◌+◌, Bool, true, false, List, [], ◌∷◌, length, Some, None, IfSome}
+use Rattle.std.specs.Prelude.{ℕ, ◌≡◌, ◌<◌, ◌+◌, Bool, true, false, List, [], ◌∷◌, ◌++◌, length, map, Option, Some, None, IfSome}
 use Rattle.pfs_actions.specs.Done.{HasDone}
 use Rattle.pfs_admin.specs.States.{State as Administration}
 use Rattle.pfs_admin.specs.Setups.{has_changed}
 use Rattle.pfs_admin.specs.Truncations.{has_truncated}
 use Rattle.pfs_admin.specs.declared.changes.SetupStatement.TheVariants as statements
+use Rattle.pfs_classes.specs.declared.setting.Setting.{Setting}
 use Rattle.pfs_event.specs.Nesting.{OpenEvents, MayStart}
 use Rattle.pfs_event.specs.declared.kind.EventKind.{EventKind}
 use Rattle.pfs_event.specs.declared.kind.EventKind.TheVariants.{Wait, Stage, Statement, Transaction}
 use Rattle.pfs_levels.specs.Calls.{Call, Opening}
 use Rattle.pfs_model.specs.declared.lines.Subject.{Subject}
-use Rattle.pfs_parts.specs.Deeds.{Deed, Starting, Staging, StageEnding, Ending, Spending, Quitting, Truncating, Changing, Refusing, IsReplied, Part}
+use Rattle.pfs_parts.specs.Deeds.{Deed, Starting, Staging, StageEnding, Ending, Spending, Quitting, Truncating, Changing, Showing, Querying, Refusing, IsReplied, Part}
 use Rattle.pfs_parts.specs.Shaped.{MayDoAll, over_behind}
 use Rattle.pfs_script.specs.declared.blocks.BlockLine.{BlockLine}
 use Rattle.pfs_script.specs.declared.blocks.BlockLine.TheVariants as said
@@ -21,23 +22,26 @@ use Rattle.pfs_session.specs.States.{Book, without_stage}
 use Rattle.pfs_session.specs.Turns.{StageMayStart}
 use Rattle.pfs_session.specs.Ends.{no_numbers}
 use Rattle.pfs_runs.specs.Lines.{wait_on, statement_on, transaction_on, stage_on}
-use Rattle.pfs_facts.specs.Deeds.{deed_on}
+use Rattle.pfs_runs.specs.Answers.{Answer, Selection, Stored, Held, AreAnswers, selection_on}
+use Rattle.pfs_facts.specs.Answers.{Answers}
+use Rattle.pfs_facts.specs.Deeds.{bare, deed_on}
 use Rattle.pfs_facts.specs.Steps.{numbers_in}
 use Rattle.pfs_requests.specs.Requests.{request_of}
 use Rattle.pfs_requests.specs.declared.requests.Request.{Request}
 use Rattle.pfs_requests.specs.declared.requests.Request.TheVariants as requests
+use Rattle.pfs_show.specs.Rows.{IsHeld}
 use Rattle.pfs_play.specs.declared.errands.Errand.{Errand}
 use Rattle.pfs_play.specs.declared.errands.Errand.TheVariants as ask
 
--- a text that is refused is no action; no SELECT runs yet: there no time passes
+-- a text that is refused is no action, and neither is a SELECT whose rows are read of the store
 abbrev pub sql_errand : Request → Errand
 sql_errand (requests.Refused error) = ask.Refuse error
 sql_errand (requests.Truncate what) = ask.Truncate what
 sql_errand (requests.Update update) = ask.Change (statements.Update update)
 sql_errand (requests.Insert insert) = ask.Change (statements.Insert insert)
 sql_errand (requests.Delete delete) = ask.Change (statements.Delete delete)
-sql_errand (requests.Query select) = ask.Spend 0
-sql_errand (requests.Show select) = ask.Spend 0
+sql_errand (requests.Query select) = ask.Query select
+sql_errand (requests.Show select) = ask.Show select
 
 -- what a line asks its session to do. No line that begins or ends a repeat stands among lines that are written out:
 -- these let no time pass
@@ -57,7 +61,8 @@ errand_on (said.Repeat times) = ask.Spend 0
 errand_on said.Done = ask.Spend 0
 
 -- how many entries it writes at most, where it isn't the session's end: for an action 194 to settle what is held; for
--- what a truncation changes, its action and its answer 20,000 more, and for those of a statement 66
+-- what a truncation changes, its action and its answer 20,000 more, and for those of a statement 66; for a query one for
+-- each of 14,242 rows and 160 words, and three more
 abbrev pub cost_of : Errand → ℕ
 cost_of (ask.Start subject) = 2
 cost_of (ask.Stage subject) = 8
@@ -66,6 +71,8 @@ cost_of (ask.Spend time) = 0
 cost_of ask.Quit = 0
 cost_of (ask.Truncate what) = 20196
 cost_of (ask.Change what) = 260
+cost_of (ask.Query select) = 14405
+cost_of (ask.Show select) = 260
 cost_of (ask.Refuse error) = 1
 
 abbrev pub cost_on : List BlockLine → ℕ
@@ -81,6 +88,8 @@ actions_of (ask.Spend time) = 0
 actions_of ask.Quit = 0
 actions_of (ask.Truncate what) = 1
 actions_of (ask.Change what) = 1
+actions_of (ask.Query select) = 0
+actions_of (ask.Show select) = 1
 actions_of (ask.Refuse error) = 0
 
 abbrev pub actions_on : List BlockLine → ℕ
@@ -96,13 +105,15 @@ admin_behind admin (ask.Spend time) = admin
 admin_behind admin ask.Quit = admin
 admin_behind admin (ask.Truncate what) = has_truncated admin what
 admin_behind admin (ask.Change what) = has_changed admin what
+admin_behind admin (ask.Query select) = admin
+admin_behind admin (ask.Show select) = has_changed admin statements.Show
 admin_behind admin (ask.Refuse error) = admin
 
 abbrev pub admin_after : Administration → List BlockLine → Administration
 admin_after admin [] = admin
 admin_after admin (line ∷ lines) = admin_after (admin_behind admin (errand_on line)) lines
 
--- the deed that an errand is to its session, before this administration
+-- the deed that an errand is to its session, before this administration; what a SELECT reads and shows stands in none
 abbrev pub deed_of : Administration → Errand → Deed
 deed_of admin (ask.Start subject) = Starting subject
 deed_of admin (ask.Stage (Some subject)) = Staging subject
@@ -112,7 +123,22 @@ deed_of admin (ask.Spend time) = Spending time
 deed_of admin ask.Quit = Quitting admin
 deed_of admin (ask.Truncate what) = Truncating admin what
 deed_of admin (ask.Change what) = Changing admin what
+deed_of admin (ask.Query select) = Querying [] 0
+deed_of admin (ask.Show select) = Showing admin 0
 deed_of admin (ask.Refuse error) = Refusing error
+
+-- the SELECT that it is
+abbrev pub selection_of : Errand → Option Selection
+selection_of (ask.Query select) = Some (Stored select)
+selection_of (ask.Show select) = Some (Held select)
+selection_of (ask.Start subject) = None
+selection_of (ask.Stage subject) = None
+selection_of (ask.End numbers) = None
+selection_of (ask.Spend time) = None
+selection_of ask.Quit = None
+selection_of (ask.Truncate what) = None
+selection_of (ask.Change what) = None
+selection_of (ask.Refuse error) = None
 
 -- what a start asks of its session
 pub record MayBegin (nest : OpenEvents) (subject : Subject) : Type 0 where
@@ -131,6 +157,8 @@ MayRun (ask.Spend time) nest = Unit {0}
 MayRun ask.Quit nest = ⊥
 MayRun (ask.Truncate what) nest = Unit {0}
 MayRun (ask.Change what) nest = IsReplied what
+MayRun (ask.Query select) nest = Unit {0}
+MayRun (ask.Show select) nest = IsHeld select.table
 MayRun (ask.Refuse error) nest = Unit {0}
 
 -- a statement lies around each stage
@@ -183,14 +211,29 @@ kinds_after kinds (line ∷ lines) = kinds_after (kinds_behind (mark_of line) ki
 abbrev pub AreOf : Administration → List BlockLine → List Part → Type 0
 AreOf admin [] [] = Unit {0}
 AreOf admin (line ∷ lines) (p ∷ ps) =
-    (p.deed ≡ deed_on admin line) × AreOf (admin_behind admin (errand_on line)) lines ps
+    (bare p.deed ≡ deed_on admin line) × AreOf (admin_behind admin (errand_on line)) lines ps
 AreOf _ _ _ = ⊥
 
--- a session did these lines, one after another, the first before this administration, and nothing else
-pub record HavePlayed (lines : List BlockLine) (admin : Administration) (old new : Book) (was now : Opening
-    → List Call → Type 0) : Type 0 where
+-- a session did an errand, before this administration, in one part; where it is a SELECT its answer stands behind those
+-- before
+pub record HasRun (setting : Setting) (admin : Administration) (errand : Errand) (old new : Book)
+    (before after : List Answer) (was now : Opening → List Call → Type 0) : Type 0 where
+  pub part : Part
+  pub asked : bare part.deed ≡ deed_of admin errand
+  pub given : List Answer
+  pub given_are : after ≡ before ++ given
+  pub answered : AreAnswers (Answers setting) (selection_of errand ∷ []) (part ∷ []) given
+  pub done : HasDone (part ∷ []) old new was now
+
+-- a session did these lines, one after another, the first before this administration, and nothing else; the answers of
+-- its SELECTs stand behind those before
+pub record HavePlayed (setting : Setting) (lines : List BlockLine) (admin : Administration) (old new : Book)
+    (before after : List Answer) (was now : Opening → List Call → Type 0) : Type 0 where
   pub parts : List Part
   pub are_of : AreOf admin lines parts
   pub may : MayDoAll false old.state parts
   pub goes_on : over_behind false parts ≡ false
+  pub given : List Answer
+  pub given_are : after ≡ before ++ given
+  pub answered : AreAnswers (Answers setting) (map selection_on lines) parts given
   pub done : HasDone parts old new was now

@@ -1,6 +1,7 @@
 -- The lines of a block with their repeats, as they may be played.
 use Rattle.std.specs.Prelude.{ℕ, ◌≡◌, List, [], ◌∷◌, ◌++◌, Option, Some, None}
 use Rattle.pfs_admin.specs.States.{State as Administration}
+use Rattle.pfs_classes.specs.declared.setting.Setting.{Setting}
 use Rattle.pfs_event.specs.declared.kind.EventKind.{EventKind}
 use Rattle.pfs_script.specs.declared.blocks.BlockLine.{BlockLine}
 use Rattle.pfs_script.specs.declared.blocks.BlockLine.TheVariants as said
@@ -8,6 +9,7 @@ use Rattle.pfs_script.specs.Brackets.{kinds_behind}
 use Rattle.pfs_script.specs.Marks.{mark_of}
 use Rattle.pfs_levels.specs.Calls.{Call, Opening}
 use Rattle.pfs_script.specs.Marks.{written_from}
+use Rattle.pfs_runs.specs.Answers.{Answer}
 use Rattle.pfs_session.specs.States.{Book}
 use Rattle.pfs_play.specs.Errands.{HavePlayed, MayPlay, admin_after}
 
@@ -22,11 +24,11 @@ AllMayPlay classes depth kinds start (line ∷ rest) =
     MayPlay classes depth kinds line × AllMayPlay classes depth (kinds_behind (mark_of line) kinds) start rest
 
 -- of lines that are written out, those before the others were played, from the one administration to the other
-pub record HaveGone (whole rest : List BlockLine) (admin after : Administration) (old new : Book) (was now : Opening
-    → List Call → Type 0) : Type 0 where
+pub record HaveGone (setting : Setting) (whole rest : List BlockLine) (admin after : Administration) (old new : Book)
+    (answers behind : List Answer) (was now : Opening → List Call → Type 0) : Type 0 where
   pub first : List BlockLine
   pub are : whole ≡ first ++ rest
-  pub played : HavePlayed first admin old new was now
+  pub played : HavePlayed setting first admin old new answers behind was now
   pub after_is : after ≡ admin_after admin first
 
 -- the lines of a repeat, from here on, written out

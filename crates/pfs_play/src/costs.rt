@@ -25,7 +25,7 @@ pub fn written_cost(alloc: Global, lines: &[BlockLine]) -> Result<u64, NoMemory>
     requires short { length (written_out lines.now) ≤ 200000 }
     ensures cost { IfOk result (λ entries. entries ≡ cost_on (written_out lines.now)) }
     ensures small { IfOk result (λ entries. entries
-        ≤ 14 * length (written_out lines.now) + 20182 * actions_on (written_out lines.now)) }
+        ≤ 14405 * length (written_out lines.now) + 5791 * actions_on (written_out lines.now)) }
 {
     let mut entries = 0;
     let mut at = 0;
@@ -155,8 +155,8 @@ fn request_cost(request: &Request) -> u64
 {
     match request {
         Request::Truncate(_) => 20_196,
-        Request::Update(_) | Request::Insert(_) | Request::Delete(_) => 260,
+        Request::Query(_) => 14_405,
+        Request::Update(_) | Request::Insert(_) | Request::Delete(_) | Request::Show(_) => 260,
         Request::Refused(_) => 1,
-        Request::Query(_) | Request::Show(_) => 0,
     }
 }

@@ -11,6 +11,7 @@ use crate::NoMemory;
 use pfs_admin::{SetupStatement, Truncation};
 use pfs_classes::{ClassId, ClassRef};
 use pfs_event::EventKind;
+use pfs_exec::Select;
 use pfs_model::Subject;
 use pfs_requests::{Request, request_of};
 use pfs_script::{Access, BlockLine, StatementNumbers};
@@ -40,6 +41,10 @@ pub enum Errand {
     Truncate(Truncation),
     /// A setup table is changed, an action.
     Change(SetupStatement),
+    /// A SELECT whose rows are read of the store, no action.
+    Query(Select),
+    /// A SELECT on `setup_actors` or `setup_objects`, an action.
+    Show(Select),
     /// A text is refused with the number of this error, no action.
     Refuse(u64),
 }
@@ -127,7 +132,6 @@ fn numbers_in(numbers: &StatementNumbers) -> Numbers
     }
 }
 
-// A text that is refused is no action; no SELECT runs yet: there no time passes.
 fn sql_errand(what: Request) -> Errand
     ensures { result ≡ sql_errand what }
 {
@@ -137,7 +141,8 @@ fn sql_errand(what: Request) -> Errand
         Request::Update(update) => Errand::Change(SetupStatement::Update(update)),
         Request::Insert(insert) => Errand::Change(SetupStatement::Insert(insert)),
         Request::Delete(delete) => Errand::Change(SetupStatement::Delete(delete)),
-        Request::Query(_) | Request::Show(_) => Errand::Spend(0),
+        Request::Query(select) => Errand::Query(select),
+        Request::Show(select) => Errand::Show(select),
     }
 }
 

@@ -5,6 +5,7 @@ mod costs;
 mod errands;
 mod lines;
 mod playing;
+mod queries;
 mod repeats;
 
 pub use costs::written_cost;

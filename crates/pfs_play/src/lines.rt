@@ -9,17 +9,22 @@ use crate::NoMemory;
 use crate::errands::errand_of;
 use crate::playing::play;
 use pfs_admin::Admin;
+use pfs_classes::Setting;
 use pfs_levels::Acts;
 use pfs_script::BlockLine;
 use pfs_session::Session;
+use pfs_values::Rowset;
 use std::alloc::Global;
 
-/// Plays lines in their session, repeats written out, none of which ends it.
+/// Plays lines in their session, repeats written out, none of which ends it. The answers of their SELECTs come behind the
+/// others. Err is NoMemory alone.
 pub fn play_lines<A: Acts>(
     alloc: Global,
+    setting: &Setting,
     session: &mut Session,
     rows: &mut A,
     admin: &mut Admin,
+    answers: &mut Vec<Rowset>,
     lines: &[BlockLine],
 ) -> Result<(), NoMemory>
     requires can { CanPlay 62 session.old.state.opened.depth (kinds_at session.old.state) lines.now }
@@ -33,8 +38,8 @@ pub fn play_lines<A: Acts>(
     requires tickets { 2 * length lines.now ≤ A.draws rows.old }
     requires spare { 11 * length lines.now + 20192 * actions_on lines.now ≤ A.left rows.old }
     requires room { cost_on lines.now ≤ session.old.journal.room }
-    ensures played { OnOk result (HavePlayed lines.now admin.old session.old session.new (A.reached rows.old)
-        (A.reached rows.new)) }
+    ensures played { OnOk result (HavePlayed setting.now lines.now admin.old session.old session.new
+        answers.old.items answers.new.items (A.reached rows.old) (A.reached rows.new)) }
     ensures admin { OnOk result (admin.new ≡ admin_after admin.old lines.now) }
     ensures kinds { OnOk result (kinds_at session.new.state ≡ kinds_after (kinds_at session.old.state) lines.now) }
     ensures lie { OnOk result (StagesLie (kinds_at session.new.state)) }
@@ -60,7 +65,10 @@ pub fn play_lines<A: Acts>(
 {
     for line in lines {
         match errand_of(alloc, line) {
-            Ok(errand) => play(session, rows, admin, errand),
+            Ok(errand) => match play(alloc, setting, session, rows, admin, answers, errand) {
+                Ok(()) => {}
+                Err(fault) => return Err(fault),
+            },
             Err(fault) => return Err(fault),
         }
     }

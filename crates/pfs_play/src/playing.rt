@@ -1,6 +1,6 @@
 //! Running one errand of a session.
 
-ghost use Rattle.std.specs.Prelude.{◌≡◌, ◌<◌, ◌≤◌, ◌+◌, ◌*◌, ◌^◌, ℕ, None, Some, length};
+ghost use Rattle.std.specs.Prelude.{◌≡◌, ◌<◌, ◌≤◌, ◌+◌, ◌*◌, ◌^◌, ℕ, None, Some, OnOk, length};
 ghost use Rattle.pfs_actions.specs.Done.{HasActed};
 ghost use Rattle.pfs_admin.specs.Setups.{has_changed};
 ghost use Rattle.pfs_admin.specs.Truncations.{has_truncated};
@@ -9,16 +9,30 @@ ghost use Rattle.pfs_parts.specs.Deeds.{Changing, Ending, IsReplied, Truncating}
 ghost use Rattle.pfs_session.specs.Settles.{owed_by_state};
 ghost use Rattle.pfs_session.specs.States.{nothing_held};
 ghost use Rattle.pfs_session.specs.Using.{Uses};
-ghost use Rattle.pfs_play.specs.Errands.{MayRun, actions_of, admin_behind, cost_of, deed_of};
+ghost use Rattle.pfs_play.specs.Errands.{HasRun, MayRun, actions_of, admin_behind, cost_of};
 
+use crate::NoMemory;
 use crate::errands::Errand;
+use crate::queries::{query, show_table};
 use pfs_actions::{act, truncate};
 use pfs_admin::{Admin, SetupStatement, Truncation};
+use pfs_classes::Setting;
 use pfs_levels::{Acts, Rows};
 use pfs_session::{Numbers, Remark, Session};
+use pfs_values::Rowset;
+use std::alloc::Global;
 
-/// Runs an errand of a session that isn't its end.
-pub fn play<A: Acts>(session: &mut Session, rows: &mut A, admin: &mut Admin, errand: Errand)
+/// Runs an errand of a session that isn't its end, and puts the answer of a SELECT behind the others. Err is NoMemory
+/// alone.
+pub fn play<A: Acts>(
+    alloc: Global,
+    setting: &Setting,
+    session: &mut Session,
+    rows: &mut A,
+    admin: &mut Admin,
+    answers: &mut Vec<Rowset>,
+    errand: Errand,
+) -> Result<(), NoMemory>
     requires may { MayRun errand session.old.state.opened }
     requires early { session.old.state.drawn + 1 < 2 ^ 64 }
     requires rare { session.old.state.actions + actions_of errand < 2 ^ 64 }
@@ -29,12 +43,12 @@ pub fn play<A: Acts>(session: &mut Session, rows: &mut A, admin: &mut Admin, err
     requires tickets { 2 ≤ A.draws rows.old }
     requires spare { 11 + 20192 * actions_of errand ≤ A.left rows.old }
     requires room { cost_of errand ≤ session.old.journal.room }
-    ensures run { HasActed (deed_of admin.old errand) session.old session.new (A.reached rows.old)
-        (A.reached rows.new) }
-    ensures admin { admin.new ≡ admin_behind admin.old errand }
-    ensures drawn { session.new.state.drawn ≤ session.old.state.drawn + 1 }
-    ensures actions { session.new.state.actions ≡ session.old.state.actions + actions_of errand }
-    ensures rest { session.new.state ≡ record session.old.state {
+    ensures run { OnOk result (HasRun setting.now admin.old errand session.old session.new answers.old.items
+        answers.new.items (A.reached rows.old) (A.reached rows.new)) }
+    ensures admin { OnOk result (admin.new ≡ admin_behind admin.old errand) }
+    ensures drawn { OnOk result (session.new.state.drawn ≤ session.old.state.drawn + 1) }
+    ensures actions { OnOk result (session.new.state.actions ≡ session.old.state.actions + actions_of errand) }
+    ensures rest { OnOk result (session.new.state ≡ record session.old.state {
       clock = session.new.state.clock;
       drawn = session.new.state.drawn;
       opened = session.new.state.opened;
@@ -42,15 +56,16 @@ pub fn play<A: Acts>(session: &mut Session, rows: &mut A, admin: &mut Admin, err
       actions = session.new.state.actions;
       last = session.new.state.last;
       nexts = session.new.state.nexts;
-    } }
-    ensures last { actions_of errand ≡ 0 → session.new.state.last ≡ session.old.state.last }
-    ensures depth { session.new.state.opened.depth ≡ session.old.state.opened.depth }
-    ensures wide { length session.new.state.held ≡ 193 }
-    ensures owed { length (owed_by_state session.new.state) ≤ length (owed_by_state session.old.state) + 4 }
-    ensures leaves { Uses (11 + 20192 * actions_of errand) 2 (cost_of errand) (A.hand rows.old)
+    }) }
+    ensures last { OnOk result (actions_of errand ≡ 0 → session.new.state.last ≡ session.old.state.last) }
+    ensures depth { OnOk result (session.new.state.opened.depth ≡ session.old.state.opened.depth) }
+    ensures wide { OnOk result (length session.new.state.held ≡ 193) }
+    ensures owed { OnOk result (length (owed_by_state session.new.state)
+        ≤ length (owed_by_state session.old.state) + 4) }
+    ensures leaves { OnOk result (Uses (11 + 20192 * actions_of errand) 2 (cost_of errand) (A.hand rows.old)
         (A.hand rows.new) (A.left rows.old) (A.left rows.new) (A.draws rows.old) (A.draws rows.new)
-        (A.name rows.old) (A.name rows.new) session.old.journal session.new.journal }
-    ensures lent { A.words rows.new ≡ Some admin.new.words }
+        (A.name rows.old) (A.name rows.new) session.old.journal session.new.journal) }
+    ensures lent { OnOk result (A.words rows.new ≡ Some admin.new.words) }
 {
     match errand {
         Errand::Start(subject) => {
@@ -63,9 +78,12 @@ pub fn play<A: Acts>(session: &mut Session, rows: &mut A, admin: &mut Admin, err
         Errand::Spend(time) => session.spend(time),
         Errand::Truncate(what) => truncate_table(session, rows, admin, what),
         Errand::Change(what) => change_table(session, rows, admin, what),
+        Errand::Query(what) => return query(alloc, setting, session, rows, answers, what),
+        Errand::Show(what) => return show_table(alloc, session, rows, admin, answers, what),
         Errand::Refuse(error) => session.append(Remark::Refused(error)),
         Errand::Quit => unreachable!(),
     }
+    Ok(())
 }
 
 // Ends the innermost event, and its statement too where that is a stage.

@@ -11,18 +11,22 @@ ghost use Rattle.pfs_play.specs.Errands.{CanPlay, HavePlayed, StagesLie, actions
 use crate::NoMemory;
 use crate::lines::play_lines;
 use pfs_admin::Admin;
+use pfs_classes::Setting;
 use pfs_levels::Acts;
 use pfs_script::BlockLine;
 use pfs_session::Session;
+use pfs_values::Rowset;
 use std::alloc::Global;
 
 /// Plays the lines of a repeat so many times, each time as they stand: none of them ends the session, and at their end
 /// events of the same kinds are open as at their beginning.
 pub fn play_times<A: Acts>(
     alloc: Global,
+    setting: &Setting,
     session: &mut Session,
     rows: &mut A,
     admin: &mut Admin,
+    answers: &mut Vec<Rowset>,
     body: &[BlockLine],
     times: u64,
 ) -> Result<(), NoMemory>
@@ -38,8 +42,8 @@ pub fn play_times<A: Acts>(
     requires tickets { 2 * (times * length body.now) ≤ A.draws rows.old }
     requires spare { 11 * (times * length body.now) + 20192 * (times * actions_on body.now) ≤ A.left rows.old }
     requires room { times * cost_on body.now ≤ session.old.journal.room }
-    ensures played { OnOk result (HavePlayed (copies times body.now) admin.old session.old session.new
-        (A.reached rows.old) (A.reached rows.new)) }
+    ensures played { OnOk result (HavePlayed setting.now (copies times body.now) admin.old session.old session.new
+        answers.old.items answers.new.items (A.reached rows.old) (A.reached rows.new)) }
     ensures admin { OnOk result (admin.new ≡ admin_after admin.old (copies times body.now)) }
     ensures kinds { OnOk result (kinds_at session.new.state ≡ kinds_at session.old.state) }
     ensures drawn { OnOk result (session.new.state.drawn ≤ session.old.state.drawn + times * length body.now) }
@@ -70,7 +74,7 @@ pub fn play_times<A: Acts>(
     }
     for round in 0..times {
         let _ = round;
-        match play_lines(alloc, session, rows, admin, body) {
+        match play_lines(alloc, setting, session, rows, admin, answers, body) {
             Ok(()) => {}
             Err(fault) => return Err(fault),
         }
@@ -105,9 +109,11 @@ pub(crate) fn done_in(lines: &[BlockLine]) -> Option<usize>
 // the lines it took.
 fn play_repeat<A: Acts>(
     alloc: Global,
+    setting: &Setting,
     session: &mut Session,
     rows: &mut A,
     admin: &mut Admin,
+    answers: &mut Vec<Rowset>,
     lines: &[BlockLine],
     times: u64,
 ) -> Result<usize, NoMemory>
@@ -125,8 +131,9 @@ fn play_repeat<A: Acts>(
         ≤ A.left rows.old }
     requires room { cost_on (repeated times lines.now) ≤ session.old.journal.room }
     ensures count { IfOk result (λ taken. taken ≤ length lines.now) }
-    ensures gone { IfOk result (λ taken. HaveGone (repeated times lines.now) (written_out (drop taken lines.now))
-        admin.old admin.new session.old session.new (A.reached rows.old) (A.reached rows.new)) }
+    ensures gone { IfOk result (λ taken. HaveGone setting.now (repeated times lines.now) (written_out (drop taken lines.now))
+        admin.old admin.new session.old session.new answers.old.items answers.new.items (A.reached rows.old)
+        (A.reached rows.new)) }
     ensures may { IfOk result (λ taken. AllMayPlay 62 session.old.state.opened.depth (kinds_at session.new.state) None
         (drop taken lines.now)) }
     ensures kinds { IfOk result (λ taken. kinds_after (kinds_at session.new.state) (written_out (drop taken lines.now))
@@ -161,11 +168,20 @@ fn play_repeat<A: Acts>(
     ensures lent { OnOk result (A.words rows.new ≡ Some admin.new.words) }
 {
     match done_in(lines) {
-        Some(end) => match play_times(alloc, session, rows, admin, &lines[..end], times) {
+        Some(end) => match play_times(
+            alloc,
+            setting,
+            session,
+            rows,
+            admin,
+            answers,
+            &lines[..end],
+            times,
+        ) {
             Ok(()) => Ok(end + 1),
             Err(fault) => Err(fault),
         },
-        None => match play_lines(alloc, session, rows, admin, lines) {
+        None => match play_lines(alloc, setting, session, rows, admin, answers, lines) {
             Ok(()) => Ok(lines.len()),
             Err(fault) => Err(fault),
         },
@@ -175,9 +191,11 @@ fn play_repeat<A: Acts>(
 // Plays the line that stands first, or the repeat that it begins. So many of the lines it took.
 fn play_next<A: Acts>(
     alloc: Global,
+    setting: &Setting,
     session: &mut Session,
     rows: &mut A,
     admin: &mut Admin,
+    answers: &mut Vec<Rowset>,
     lines: &[BlockLine],
 ) -> Result<usize, NoMemory>
     requires some { 0 < length lines.now }
@@ -194,8 +212,9 @@ fn play_next<A: Acts>(
         ≤ A.left rows.old }
     requires room { cost_on (written_out lines.now) ≤ session.old.journal.room }
     ensures count { IfOk result (λ taken. (0 < taken) × (taken ≤ length lines.now)) }
-    ensures gone { IfOk result (λ taken. HaveGone (written_out lines.now) (written_out (drop taken lines.now))
-        admin.old admin.new session.old session.new (A.reached rows.old) (A.reached rows.new)) }
+    ensures gone { IfOk result (λ taken. HaveGone setting.now (written_out lines.now) (written_out (drop taken lines.now))
+        admin.old admin.new session.old session.new answers.old.items answers.new.items (A.reached rows.old)
+        (A.reached rows.new)) }
     ensures may { IfOk result (λ taken. AllMayPlay 62 session.old.state.opened.depth (kinds_at session.new.state) None
         (drop taken lines.now)) }
     ensures kinds { IfOk result (λ taken. kinds_after (kinds_at session.new.state) (written_out (drop taken lines.now))
@@ -233,11 +252,13 @@ fn play_next<A: Acts>(
         return Ok(0);
     };
     match times_of(first) {
-        Some(times) => match play_repeat(alloc, session, rows, admin, others, times) {
+        Some(times) => match play_repeat(
+            alloc, setting, session, rows, admin, answers, others, times,
+        ) {
             Ok(taken) => Ok(1 + taken),
             Err(fault) => Err(fault),
         },
-        None => match play_lines(alloc, session, rows, admin, &lines[..1]) {
+        None => match play_lines(alloc, setting, session, rows, admin, answers, &lines[..1]) {
             Ok(()) => Ok(1),
             Err(fault) => Err(fault),
         },
@@ -248,9 +269,11 @@ fn play_next<A: Acts>(
 /// the session.
 pub fn play_written<A: Acts>(
     alloc: Global,
+    setting: &Setting,
     session: &mut Session,
     rows: &mut A,
     admin: &mut Admin,
+    answers: &mut Vec<Rowset>,
     lines: &[BlockLine],
 ) -> Result<(), NoMemory>
     requires may { AllMayPlay 62 session.old.state.opened.depth (kinds_at session.old.state) None lines.now }
@@ -265,8 +288,8 @@ pub fn play_written<A: Acts>(
     requires spare { 11 * length (written_out lines.now) + 20192 * actions_on (written_out lines.now)
         ≤ A.left rows.old }
     requires room { cost_on (written_out lines.now) ≤ session.old.journal.room }
-    ensures played { OnOk result (HavePlayed (written_out lines.now) admin.old session.old session.new
-        (A.reached rows.old) (A.reached rows.new)) }
+    ensures played { OnOk result (HavePlayed setting.now (written_out lines.now) admin.old session.old session.new
+        answers.old.items answers.new.items (A.reached rows.old) (A.reached rows.new)) }
     ensures admin { OnOk result (admin.new ≡ admin_after admin.old (written_out lines.now)) }
     ensures kinds { OnOk result (kinds_at session.new.state ≡ kinds_after (kinds_at session.old.state)
         (written_out lines.now)) }
@@ -297,7 +320,7 @@ pub fn play_written<A: Acts>(
 {
     let mut at = 0;
     while at < lines.len() {
-        match play_next(alloc, session, rows, admin, &lines[at..]) {
+        match play_next(alloc, setting, session, rows, admin, answers, &lines[at..]) {
             Ok(taken) => at += taken,
             Err(fault) => return Err(fault),
         }

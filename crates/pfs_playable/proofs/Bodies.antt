@@ -9,7 +9,6 @@ use Rattle.pfs_script.specs.declared.forms.Form.{Form}
 use Rattle.pfs_script.specs.declared.forms.Form.TheVariants as form
 use Rattle.pfs_script.specs.declared.blocks.BlockLine.{BlockLine}
 use Rattle.pfs_script.specs.declared.blocks.BlockLine.TheVariants as said
-use Rattle.pfs_script.specs.declared.reasons.Extent.TheVariants.{Whole}
 use Rattle.pfs_script.specs.Headings.{head_of, resolved}
 use Rattle.pfs_script.specs.Finds.{table_number, tables_of, digest_place}
 use Rattle.pfs_script.specs.Counts.{is_in_repeat}
@@ -85,7 +84,7 @@ resumes_not number session before true e p quit =
     absurd (both_ways (has_quit number before) quit (subst (λ number. has_quit number before ≡ false) same none))
 resumes_not number session before false e p quit = refl
 
-begins_not : (number : ℕ) (before : List Form) (line : Form) → Passes Whole before line
+begins_not : (number : ℕ) (before : List Form) (line : Form) → Passes before line
     → has_quit number before ≡ true → list_any (is_block_of number) before ≡ true → is_block_of number line ≡ false
 begins_not number before (form.Connect (Some session) user host) p quit has =
     connects_not number session before (session == number) refl p.session has
@@ -109,7 +108,7 @@ never_again number before (line ∷ lines) s quit has =
 
 module _ (sense : Sense) where
   -- each line that says something is refused there
-  says_none : (before : List Form) (line : Form) → Passes Whole before line → ends_block line ≡ false
+  says_none : (before : List Form) (line : Form) → Passes before line → ends_block line ≡ false
       → has_quit (session_now before) before ≡ true → is_in_repeat before ≡ false
       → (block_line sense line ≡ None) × (is_in_repeat (before ++ line ∷ []) ≡ false)
   says_none before (form.Limit name value) p e quit out =
@@ -205,7 +204,7 @@ module _ (all : List Form) (stands : Stand [] all) where
   such_table before class schema name more (Some ref) (Some number) p e t h =
       ((refl, class_known before class ref p e, table_known all schema name number stands t, tt), h)
 
-  such_front : (before : List Form) (line : Form) (more : List BlockLine) → Passes Whole before line
+  such_front : (before : List Form) (line : Form) (more : List BlockLine) → Passes before line
       → sessions.is_quit line ≡ false → AreSuch more → AreSuch (with_front (block_line (sense_of all) line) more)
   such_front before (form.Wait class) more p q h =
       such_class before class said.Wait more (resolved (head_of all) class) p.known refl (λ one k. (refl, k, tt, tt)) h
@@ -255,7 +254,7 @@ module _ (all : List Form) (stands : Stand [] all) where
   none_open (kind ∷ kinds) h = cc
 
   said_quit : (number : ℕ) (before lines : List Form) → (session_now before == number) ≡ true
-      → list_any (is_block_of number) before ≡ true → Passes Whole before form.Quit
+      → list_any (is_block_of number) before ≡ true → Passes before form.Quit
       → Stand (before ++ form.Quit ∷ []) lines → Said number before (form.Quit ∷ lines)
   said_quit number before lines own has p s =
       let behind = before ++ form.Quit ∷ [] in
@@ -281,7 +280,7 @@ module _ (all : List Form) (stands : Stand [] all) where
             ∙ none_begun number (sense_of all) behind lines s (never_again number behind lines s quit still);
       }
 
-  said_more : (number : ℕ) (before lines : List Form) (line : Form) → Passes Whole before line
+  said_more : (number : ℕ) (before lines : List Form) (line : Form) → Passes before line
       → ends_block line ≡ false → sessions.is_quit line ≡ false → all ≡ before ++ line ∷ lines
       → Said number (before ++ line ∷ []) lines → Said number before (line ∷ lines)
   said_more number before lines line p e q is rest = record {
@@ -315,7 +314,7 @@ module _ (all : List Form) (stands : Stand [] all) where
               | inl q ↦
                   let same = quit_is line q in
                   subst (λ one. Said number before (one ∷ lines)) (sym same)
-                  (said_quit number before lines own has (subst (λ one. Passes Whole before one) same s.0)
+                  (said_quit number before lines own has (subst (λ one. Passes before one) same s.0)
                   (subst (λ one. Stand (before ++ one ∷ []) lines) same s.1))
               | inr q ↦
                   let now = ap (λ session. session == number) (now_same before line e) ∙ own in

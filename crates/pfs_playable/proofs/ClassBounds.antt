@@ -24,7 +24,6 @@ use Rattle.pfs_script.proofs.BlockNesting.{Stand}
 use Rattle.pfs_script.proofs.Faultless.{Passes}
 use Rattle.pfs_script.proofs.CountLemmas.{count-cons, count-push}
 use Rattle.pfs_script.proofs.PassLemmas.{limits_push}
-use Rattle.pfs_script.specs.declared.reasons.Extent.TheVariants.{Whole}
 use Rattle.pfs_playable.proofs.Bools.{first_false, not_false}
 
 -- the limits
@@ -62,7 +61,7 @@ limit_given : (l : Limits) (one : Option Limit) (value : ℕ) → is_within one 
 limit_given l (Some one) value h r = limit_set l one value (within_least one value h) (within_most one value h) r
 limit_given l None value h r = r
 
-limit_next : (before : List Form) (line : Form) (l : Limits) → Passes Whole before line → AreInRange l
+limit_next : (before : List Form) (line : Form) (l : Limits) → Passes before line → AreInRange l
     → AreInRange (limits_behind l line)
 limit_next before (form.Limit name (Some value)) l p r =
     limit_given l (named_limit name) value

@@ -7,7 +7,6 @@ use Rattle.pfs_script.specs.declared.forms.Form.{Form}
 use Rattle.pfs_script.specs.declared.forms.Form.TheVariants as form
 use Rattle.pfs_script.specs.declared.blocks.Block.{Block}
 use Rattle.pfs_script.specs.declared.blocks.Phase.{Phase}
-use Rattle.pfs_script.specs.declared.reasons.Extent.TheVariants.{Whole}
 use Rattle.pfs_script.specs.Sessions.{is_phase, is_session, is_block_of, ends_block}
 use Rattle.pfs_script.specs.SessionNames.{connect_of}
 use Rattle.pfs_script.specs.Blocks.{Sense, block_lines, block_behind, blocks_of, phases_of}
@@ -24,7 +23,7 @@ none_block sense lines (form.Resume session) h = cc
 none_block sense lines _ h = refl
 
 -- before the first phase no session may stand
-not_yet : (before : List Form) (line : Form) → Passes Whole before line → list_any is_phase before ≡ false
+not_yet : (before : List Form) (line : Form) → Passes before line → list_any is_phase before ≡ false
     → is_session line ≡ false
 not_yet before (form.Connect session user host) p none = let q = p.place in absurd (cc)
 not_yet before (form.Resume session) p none = let q = p.place in absurd (cc)
@@ -111,7 +110,7 @@ module _ (number : ℕ) (sense : Sense) where
   none_by true block more e h = cc
   none_by false block more e h = h
 
-  none_step : (before lines : List Form) (line : Form) → Passes Whole before line → is_block_of number line ≡ false
+  none_step : (before lines : List Form) (line : Form) → Passes before line → is_block_of number line ≡ false
       → blocks_from lines ≡ [] → blocks_from (line ∷ lines) ≡ []
   none_step before lines form.Phase p e h = from_phase lines ∙ h
   none_step before lines (form.Connect (Some session) user host) p e h =
@@ -150,7 +149,7 @@ module _ (number : ℕ) (sense : Sense) where
   some_here (form.Resume None) lines e h = cc
   some_here _ lines e h = cc
 
-  some_step : (before lines : List Form) (line : Form) → Passes Whole before line → blocks_from (line ∷ lines) ≡ []
+  some_step : (before lines : List Form) (line : Form) → Passes before line → blocks_from (line ∷ lines) ≡ []
       → blocks_from lines ≡ []
   some_step before lines form.Phase p h = sym (from_phase lines) ∙ h
   some_step before lines (form.Connect (Some session) user host) p h =

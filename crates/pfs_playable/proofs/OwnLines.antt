@@ -5,7 +5,6 @@ use Rattle.pfs_script.specs.declared.forms.Form.{Form}
 use Rattle.pfs_script.specs.declared.forms.Form.TheVariants as form
 use Rattle.pfs_script.specs.declared.blocks.Block.{Block}
 use Rattle.pfs_script.specs.declared.blocks.BlockLine.{BlockLine}
-use Rattle.pfs_script.specs.declared.reasons.Extent.TheVariants.{Whole}
 use Rattle.pfs_script.specs.Sessions.{ends_block}
 use Rattle.pfs_script.specs.Blocks.{Sense, with_front, block_line, block_lines}
 use Rattle.pfs_script.proofs.BlockNesting.{Stand}
@@ -46,7 +45,7 @@ module _ (number : ℕ) (sense : Sense) where
       rw (from, stop_said sense line lines e)
       (omega (arith, few, with_few b block (blocks_from number sense lines), ap {B = ℕ} length says))
 
-  end_few : (before lines : List Form) (line : Form) → Passes Whole before line → ends_block line ≡ true → Few lines
+  end_few : (before lines : List Form) (line : Form) → Passes before line → ends_block line ≡ true → Few lines
       → Few (line ∷ lines)
   end_few before lines form.Phase p e few =
       rw (from_phase number sense lines, stop_said sense form.Phase lines refl) (omega (arith, few))

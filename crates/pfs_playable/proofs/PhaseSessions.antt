@@ -6,7 +6,6 @@ use Rattle.std.proofs.lemmas.Bool.Decides.{nat_tests}
 use Rattle.pfs_script.specs.declared.forms.Form.{Form}
 use Rattle.pfs_script.specs.declared.forms.Form.TheVariants as form
 use Rattle.pfs_script.specs.declared.blocks.Block.{Block}
-use Rattle.pfs_script.specs.declared.reasons.Extent.TheVariants.{Whole}
 use Rattle.pfs_script.specs.Brackets.{open_in, kinds_of}
 use Rattle.pfs_script.specs.Counts.{behind_last}
 use Rattle.pfs_script.specs.Runnable.{AreDistinct}
@@ -48,17 +47,17 @@ last_none test last (line ∷ before) h =
     (last_none test last before (second_false (test line) (list_any test before) h))
 
 pub connect_new : (before : List Form) (number : ℕ) (user host : List ℕ)
-    → Passes Whole before (form.Connect (Some number) user host) → list_any (is_block_of number) before ≡ false
+    → Passes before (form.Connect (Some number) user host) → list_any (is_block_of number) before ≡ false
 connect_new before number user host p =
     second_false (is_outside number) (list_any (is_block_of number) before) p.session
 
 pub connect_free : (before : List Form) (number : ℕ) (user host : List ℕ)
-    → Passes Whole before (form.Connect (Some number) user host)
+    → Passes before (form.Connect (Some number) user host)
     → list_any (is_block_of number) (phase_of before) ≡ false
 connect_free before number user host p =
     last_none (is_block_of number) is_phase before (connect_new before number user host p)
 
-pub resume_old : (before : List Form) (number : ℕ) → Passes Whole before (form.Resume (Some number))
+pub resume_old : (before : List Form) (number : ℕ) → Passes before (form.Resume (Some number))
     → list_any (is_block_of number) before ≡ true
 resume_old before number p =
     let none = not (list_any (is_block_of number) before) in
@@ -66,7 +65,7 @@ resume_old before number p =
     not_false (list_any (is_block_of number) before)
     (first_false none busy (second_false (is_outside number) (none || busy) p.session))
 
-pub resume_free : (before : List Form) (number : ℕ) → Passes Whole before (form.Resume (Some number))
+pub resume_free : (before : List Form) (number : ℕ) → Passes before (form.Resume (Some number))
     → list_any (is_block_of number) (phase_of before) ≡ false
 resume_free before number p =
     let none = not (list_any (is_block_of number) before) in
@@ -131,7 +130,7 @@ apart_none : (before : List Form) → Apart before []
 apart_none before = record { distinct = tt; free = λ number h. absurd (contains_none number h) }
 
 apart_front : (sense : Sense) (before : List Form) (line : Form) (lines : List Form) (blocks : List Block)
-    → Passes Whole before line → is_phase line ≡ false → Apart (before ++ line ∷ []) (sessions_of blocks)
+    → Passes before line → is_phase line ≡ false → Apart (before ++ line ∷ []) (sessions_of blocks)
     → Apart before (sessions_of (with_front (block_behind sense lines line) blocks))
 apart_front sense before (form.Connect (Some number) user host) lines blocks p h a =
     apart_more before (form.Connect (Some number) user host) number (sessions_of blocks) h (same_itself number)

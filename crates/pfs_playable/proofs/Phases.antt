@@ -7,7 +7,6 @@ use Rattle.pfs_script.specs.declared.forms.Form.{Form}
 use Rattle.pfs_script.specs.declared.forms.Form.TheVariants as form
 use Rattle.pfs_script.specs.declared.blocks.Block.{Block}
 use Rattle.pfs_script.specs.declared.blocks.Phase.{Phase}
-use Rattle.pfs_script.specs.declared.reasons.Extent.TheVariants.{Whole}
 use Rattle.pfs_script.specs.Brackets.{open_in, kinds_of}
 use Rattle.pfs_script.specs.Counts.{is_repeat, is_done, is_in_repeat}
 use Rattle.pfs_script.specs.Nested.{IsNested}
@@ -173,7 +172,7 @@ module _ (all front rest : List Form) (stands : Stand [] all) (are : all ≡ fro
       }
 
   connect_may : (before lines : List Form) (number : ℕ) (user host : List ℕ)
-      → Passes Whole before (form.Connect (Some number) user host) → AreAsBefore front before
+      → Passes before (form.Connect (Some number) user host) → AreAsBefore front before
       → length front ≤ length (before ++ form.Connect (Some number) user host ∷ [])
       → Stand (before ++ form.Connect (Some number) user host ∷ []) lines
       → all ≡ (before ++ form.Connect (Some number) user host ∷ []) ++ lines
@@ -187,7 +186,7 @@ module _ (all front rest : List Form) (stands : Stand [] all) (are : all ≡ fro
       refl refl refl p.place (now_more before line) (same_itself number) was.kinds
       (none_before number (sym was.begun ∙ connect_new before number user host p)) long s is
 
-  resume_may : (before lines : List Form) (number : ℕ) → Passes Whole before (form.Resume (Some number))
+  resume_may : (before lines : List Form) (number : ℕ) → Passes before (form.Resume (Some number))
       → AreAsBefore front before → length front ≤ length (before ++ form.Resume (Some number) ∷ [])
       → Stand (before ++ form.Resume (Some number) ∷ []) lines
       → all ≡ (before ++ form.Resume (Some number) ∷ []) ++ lines
@@ -204,7 +203,7 @@ module _ (all front rest : List Form) (stands : Stand [] all) (are : all ≡ fro
   abbrev May : List Block → Type 0
   May blocks = All (IsPlayableBlock earlier later) blocks
 
-  front_may : (before lines : List Form) (line : Form) (blocks : List Block) → Passes Whole before line
+  front_may : (before lines : List Form) (line : Form) (blocks : List Block) → Passes before line
       → AreAsBefore front before → length front ≤ length (before ++ line ∷ []) → Stand (before ++ line ∷ []) lines
       → all ≡ (before ++ line ∷ []) ++ lines → phases_of sense lines ≡ later → May blocks
       → May (with_front (block_behind sense lines line) blocks)

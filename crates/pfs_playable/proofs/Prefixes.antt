@@ -6,7 +6,6 @@ use Rattle.pfs_event.specs.declared.kind.EventKind.{EventKind}
 use Rattle.pfs_script.specs.declared.forms.Form.{Form}
 use Rattle.pfs_script.specs.declared.forms.Form.TheVariants as form
 use Rattle.pfs_script.specs.declared.blocks.Block.{Block}
-use Rattle.pfs_script.specs.declared.reasons.Extent.TheVariants.{Whole}
 use Rattle.pfs_script.specs.Brackets.{brackets_from, open_in, kinds_of, kinds_behind}
 use Rattle.pfs_script.specs.Counts.{is_repeat, is_done, is_in_repeat}
 use Rattle.pfs_script.specs.Nested.{IsNested}
@@ -49,7 +48,7 @@ module _ (number : ℕ) (some : 1 ≤ number) (all front rest : List Form) where
   abbrev kinds_ahead : List Form → List Form → List EventKind
   kinds_ahead before lines = kinds_by (session_now before == number) before lines
 
-  along_cut : (before lines : List Form) (line : Form) (kinds : List EventKind) → Passes Whole before line
+  along_cut : (before lines : List Form) (line : Form) (kinds : List EventKind) → Passes before line
       → ends_block line ≡ false → all ≡ before ++ line ∷ more lines
       → kinds_along kinds (block_lines sense (line ∷ lines))
       ≡ kinds_along (kinds_behind (mark_of_form line) kinds) (block_lines sense lines)
@@ -60,7 +59,7 @@ module _ (number : ℕ) (some : 1 ≤ number) (all front rest : List Form) where
       (block_cut sense lines rest))
 
   ahead_by : (before lines : List Form) (line : Form) (b : Bool) → (session_now before == number) ≡ b
-      → Passes Whole before line → ends_block line ≡ false → all ≡ before ++ line ∷ more lines
+      → Passes before line → ends_block line ≡ false → all ≡ before ++ line ∷ more lines
       → kinds_by b before (line ∷ lines) ≡ kinds_by b (before ++ line ∷ []) lines
   ahead_by before lines line true here p e is =
       along_cut before lines line (session_kinds number before) p e is
@@ -68,7 +67,7 @@ module _ (number : ℕ) (some : 1 ≤ number) (all front rest : List Form) where
   ahead_by before lines line false other p e is =
       ap (λ lines. kinds_of (open_in (map mark_of_form lines))) (sym (lines_other number before line other))
 
-  ahead_inside : (before lines : List Form) (line : Form) → Passes Whole before line → ends_block line ≡ false
+  ahead_inside : (before lines : List Form) (line : Form) → Passes before line → ends_block line ≡ false
       → all ≡ before ++ line ∷ more lines → kinds_ahead before (line ∷ lines) ≡ kinds_ahead (before ++ line ∷ []) lines
   ahead_inside before lines line p e is =
       ahead_by before lines line (session_now before == number) refl p e is
@@ -176,7 +175,7 @@ module _ (number : ℕ) (some : 1 ≤ number) (all front rest : List Form) where
             (from ∙ with_other (session == number) block (blocks_from number sense lines) other) goes
       ]
 
-  go_end : (before lines : List Form) (line : Form) → Passes Whole before line → ends_block line ≡ true
+  go_end : (before lines : List Form) (line : Form) → Passes before line → ends_block line ≡ true
       → Stand (before ++ line ∷ []) (more lines) → all ≡ (before ++ line ∷ []) ++ more lines
       → Goes (before ++ line ∷ []) lines → Goes before (line ∷ lines)
   go_end before lines form.Phase p e s is goes =

@@ -74,7 +74,7 @@ request_light text (requests.Insert insert) e = omega (arith, least_weight text)
 request_light text (requests.Delete delete) e = omega (arith, least_weight text)
 request_light text (requests.Refused error) e = omega arith
 request_light text (requests.Query select) e = omega arith
-request_light text (requests.Show select) e = omega arith
+request_light text (requests.Show select) e = omega (arith, least_weight text)
 
 sql_light : (text : List ℕ) → heft_of (sql_errand (request_of text)) ≤ sql_weight text
 sql_light text = request_light text (request_of text) refl

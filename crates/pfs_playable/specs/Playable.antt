@@ -7,7 +7,6 @@ use Rattle.pfs_script.specs.declared.blocks.Block.{Block}
 use Rattle.pfs_script.specs.declared.blocks.BlockLine.{BlockLine}
 use Rattle.pfs_script.specs.declared.blocks.BlockLine.TheVariants as said
 use Rattle.pfs_script.specs.declared.blocks.Phase.{Phase}
-use Rattle.pfs_script.specs.declared.reasons.Extent.TheVariants.{Whole}
 use Rattle.pfs_script.specs.Brackets.{open_in, kinds_of}
 use Rattle.pfs_script.specs.Events.{blocks_for, lines_for}
 use Rattle.pfs_script.specs.Marks.{mark_of, written_out}
@@ -102,28 +101,28 @@ pub record IsPlayable (before : List Phase) (phase : Phase) (after : List Phase)
 -- of each phase of any script
 abbrev pub PlayableLaw : Type 0
 PlayableLaw = (text : List ℕ) (setting : Setting) (phases before : List Phase) (phase : Phase) (after : List Phase)
-    → IsScript Whole text setting phases → phases ≡ before ++ phase ∷ after → IsPlayable before phase after
+    → IsScript text setting phases → phases ≡ before ++ phase ∷ after → IsPlayable before phase after
 
 -- with each repeat written out all blocks of a script have at most 200,000 lines together
 abbrev pub TotalLaw : Type 0
-TotalLaw = (text : List ℕ) (setting : Setting) (phases : List Phase) → IsScript Whole text setting phases
+TotalLaw = (text : List ℕ) (setting : Setting) (phases : List Phase) → IsScript text setting phases
     → written_in phases ≤ 200000
 
 -- and of the weight of a script, 5,000,000, each action among them has 300, a truncation 20,000: so these are at most
 -- 16,666 actions, and 250 truncations
 abbrev pub ActionsLaw : Type 0
-ActionsLaw = (text : List ℕ) (setting : Setting) (phases : List Phase) → IsScript Whole text setting phases
+ActionsLaw = (text : List ℕ) (setting : Setting) (phases : List Phase) → IsScript text setting phases
     → 300 * actions_in phases + 19700 * truncations_in phases ≤ 5000000
 
 -- each block is begun by a line, so there are as few
 abbrev pub FewLaw : Type 0
-FewLaw = (text : List ℕ) (setting : Setting) (phases : List Phase) → IsScript Whole text setting phases
+FewLaw = (text : List ℕ) (setting : Setting) (phases : List Phase) → IsScript text setting phases
     → blocks_in phases ≤ 200000
 
 -- and a session has as few lines, those of a repeat once
 abbrev pub LinesLaw : Type 0
 LinesLaw = (text : List ℕ) (setting : Setting) (phases : List Phase) (session : ℕ)
-    → IsScript Whole text setting phases → lines_among (blocks_for session phases) ≤ 200000
+    → IsScript text setting phases → lines_among (blocks_for session phases) ≤ 200000
 
 -- a block that connects its session gives names of the setting
 abbrev pub IsNamed : Setting → Block → Type 0
@@ -131,7 +130,7 @@ IsNamed setting block =
     IfSome block.connect (λ names. (names.user < length setting.names) × (names.host < length setting.names))
 
 abbrev pub NamedLaw : Type 0
-NamedLaw = (text : List ℕ) (setting : Setting) (phases : List Phase) → IsScript Whole text setting phases
+NamedLaw = (text : List ℕ) (setting : Setting) (phases : List Phase) → IsScript text setting phases
     → All (λ phase. All (IsNamed setting) phase.blocks) phases
 
 -- a statement's digest text is one of so many that have a place, or has none
@@ -145,5 +144,5 @@ AreTextedLines places (line ∷ lines) = IsTextedLine places line × AreTextedLi
 
 -- the lines of a script name digest texts of the setting
 abbrev pub TextedLaw : Type 0
-TextedLaw = (text : List ℕ) (setting : Setting) (phases : List Phase) → IsScript Whole text setting phases
+TextedLaw = (text : List ℕ) (setting : Setting) (phases : List Phase) → IsScript text setting phases
     → All (λ phase. All (λ (block : Block). AreTextedLines (length setting.digests) block.lines) phase.blocks) phases

@@ -10,7 +10,6 @@ use Rattle.pfs_script.specs.declared.blocks.BlockLine.{BlockLine}
 use Rattle.pfs_script.specs.declared.blocks.BlockLine.TheVariants as said
 use Rattle.pfs_script.specs.declared.blocks.Phase.{Phase}
 use Rattle.pfs_script.specs.declared.blocks.StatementNumbers.{StatementNumbers}
-use Rattle.pfs_script.specs.declared.reasons.Extent.TheVariants.{Whole}
 use Rattle.pfs_script.specs.Blocks.{sense_of}
 use Rattle.pfs_script.specs.EventRules.{AreEvents}
 use Rattle.pfs_script.specs.Events.{Event, no_numbers, numbers_on, numbers_for, numbers_at, line_at, lines_for, events_for}
@@ -66,6 +65,6 @@ unfolding IsScript
 in_range text setting phases s session index =
     let lines = s.0 in
     let low : Each IsLowPhase phases = subst (λ (z : List Phase). Each IsLowPhase z) (sym s.3)
-    (phases_low (sense_of lines) lines (forms_low Whole [] s.1.0 lines s.1.2)) in
+    (phases_low (sense_of lines) lines (forms_low [] s.1.0 lines s.1.2)) in
     facts_low (lines_for session phases) (events_for session phases) (session_events session phases)
     (session_low session phases low) index (slice_get (events_for session phases) index) refl

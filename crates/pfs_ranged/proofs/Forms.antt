@@ -11,7 +11,6 @@ use Rattle.pfs_classes.specs.Kinds.{kind_of}
 use Rattle.pfs_script.specs.declared.forms.Form.{Form}
 use Rattle.pfs_script.specs.declared.forms.Form.TheVariants as form
 use Rattle.pfs_script.specs.declared.forms.Numbers.{Numbers}
-use Rattle.pfs_script.specs.declared.reasons.Extent.{Extent}
 use Rattle.pfs_script.specs.declared.reasons.Reason.{Reason}
 use Rattle.pfs_script.specs.declared.reasons.Reason.TheVariants.{BadByte}
 use Rattle.pfs_script.specs.Forms.{form as form_read, is_silent, limit_form, class_kind_of, class_form, consumer_form, instrument_form, connect_form, session_of, session_form, start_of_kind, start_class, transaction_form, table_wait_form, start_of_kind_with, start_class_with, start_of, start_form, stage_of, stage_form, spend_form, end_form, sql_form, repeat_form, bare_form, block_form, long_form, form_of, words_form, or_bad_form}
@@ -242,16 +241,16 @@ form_low bytes = on (list_all is_script_byte bytes) (is_silent bytes) (words_for
   on true false (Some line) h = h
   on false b o h = tt
 
-next_low : (extent : Extent) (before : List Form) (raw : List ℕ) (line : Form) → next extent before raw ≡ Ok line
+next_low : (before : List Form) (raw : List ℕ) (line : Form) → next before raw ≡ Ok line
     → IsLowForm line
 unfolding next
-next_low extent before raw line e = at (form_read raw) (form_low raw) e where
+next_low before raw line e = at (form_read raw) (form_low raw) e where
   by : (one : Form) (fault : Option Reason) → IsLowForm one → unless_fault one fault ≡ Ok line → IsLowForm line
   by one None low e = subst IsLowForm (let same : one ≡ line = cc in same) low
   by one (Some reason) low e = absurd (cc)
 
-  at : (r : Result Form Reason) → HoldsRead r → placed extent before r ≡ Ok line → IsLowForm line
-  at (Ok one) low e = by one (fault_of extent before one) low e
+  at : (r : Result Form Reason) → HoldsRead r → placed before r ≡ Ok line → IsLowForm line
+  at (Ok one) low e = by one (fault_of before one) low e
   at (Err reason) low e = absurd (cc)
 
 -- all lines of a script
@@ -259,10 +258,10 @@ abbrev pub AreLowForms : List Form → Type 0
 AreLowForms [] = Unit {0}
 AreLowForms (line ∷ lines) = IsLowForm line × AreLowForms lines
 
-pub forms_low : (extent : Extent) (before : List Form) (raws : List (List ℕ)) (lines : List Form)
-    → Begins extent before raws lines → AreLowForms lines
-forms_low extent before [] [] b = tt
-forms_low extent before [] (line ∷ lines) b = absurd b
-forms_low extent before (raw ∷ raws) [] b = absurd b
-forms_low extent before (raw ∷ raws) (line ∷ lines) b =
-    (next_low extent before raw line b.0, forms_low extent (before ++ line ∷ []) raws lines b.1)
+pub forms_low : (before : List Form) (raws : List (List ℕ)) (lines : List Form)
+    → Begins before raws lines → AreLowForms lines
+forms_low before [] [] b = tt
+forms_low before [] (line ∷ lines) b = absurd b
+forms_low before (raw ∷ raws) [] b = absurd b
+forms_low before (raw ∷ raws) (line ∷ lines) b =
+    (next_low before raw line b.0, forms_low (before ++ line ∷ []) raws lines b.1)

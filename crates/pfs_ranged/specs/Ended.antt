@@ -5,7 +5,6 @@ use Rattle.pfs_journal.specs.declared.report.ReportParts.{ReportParts}
 use Rattle.pfs_orderly.specs.Orderly.{run_of}
 use Rattle.pfs_runs.specs.Runs.{IsRun}
 use Rattle.pfs_script.specs.declared.blocks.Phase.{Phase}
-use Rattle.pfs_script.specs.declared.reasons.Extent.TheVariants.{Whole}
 use Rattle.pfs_script.specs.Scripts.{IsScript}
 use Rattle.pfs_tagged.specs.Ends.{all_ended}
 use Rattle.pfs_tagged.specs.Runs.{entries_to}
@@ -13,5 +12,5 @@ use Rattle.pfs_tagged.specs.Runs.{entries_to}
 -- a run of a script has fewer than 2^64 events that have ended up to each phase's end
 abbrev pub FewEndedLaw : Type 0
 FewEndedLaw = (text : List ℕ) (setting : Setting) (phases : List Phase) (report : ReportParts)
-    → IsScript Whole text setting phases → (run : IsRun setting phases report) → (phase : ℕ)
+    → IsScript text setting phases → (run : IsRun setting phases report) → (phase : ℕ)
     → length (all_ended (entries_to (run_of setting phases report run) phase)) < 2 ^ 64

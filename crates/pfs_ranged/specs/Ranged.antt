@@ -7,18 +7,17 @@ use Rattle.pfs_rows.specs.declared.table.TableKind.{TableKind}
 use Rattle.pfs_runs.specs.Lines.{facts_in}
 use Rattle.pfs_runs.specs.Runs.{IsRun}
 use Rattle.pfs_script.specs.declared.blocks.Phase.{Phase}
-use Rattle.pfs_script.specs.declared.reasons.Extent.TheVariants.{Whole}
 use Rattle.pfs_script.specs.Scripts.{IsScript}
 use Rattle.pfs_tagged.specs.Premises.{AreInRange}
 use Rattle.pfs_tagged.specs.Runs.{events_to}
 
 -- what a script says of each event are numbers of 64 bits
 abbrev pub InRangeLaw : Type 0
-InRangeLaw = (text : List ℕ) (setting : Setting) (phases : List Phase) → IsScript Whole text setting phases
+InRangeLaw = (text : List ℕ) (setting : Setting) (phases : List Phase) → IsScript text setting phases
     → AreInRange (facts_in phases)
 
 -- a run of a script has fewer than 2^64 events of each kind up to each phase's end
 abbrev pub FewLaw : Type 0
 FewLaw = (text : List ℕ) (setting : Setting) (phases : List Phase) (report : ReportParts)
-    → IsScript Whole text setting phases → (run : IsRun setting phases report) → (kind : TableKind) (phase : ℕ)
+    → IsScript text setting phases → (run : IsRun setting phases report) → (kind : TableKind) (phase : ℕ)
     → length (events_to (run_of setting phases report run) kind phase) < 2 ^ 64

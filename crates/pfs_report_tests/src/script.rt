@@ -12,16 +12,7 @@ mod nesting;
 
 /// The first faulty line and its reason's number; zeros where the bytes are a script.
 fn fault(alloc: Global, bytes: &[u8]) -> Option<(u64, u64)> {
-    told(Script::read(alloc, bytes))
-}
-
-/// The same where the engine is to run the script.
-fn built_fault(alloc: Global, bytes: &[u8]) -> Option<(u64, u64)> {
-    told(Script::read_built(alloc, bytes))
-}
-
-fn told(read: Result<Script, ScriptFault>) -> Option<(u64, u64)> {
-    match read {
+    match Script::read(alloc, bytes) {
         Ok(_) => Some((0, 0)),
         Err(ScriptFault::Bad { line, reason }) => Some((line, reason as u64)),
         Err(ScriptFault::NoMemory) => None,
@@ -258,8 +249,8 @@ fn the_heaviest_repeats(rt: HostRuntime) {
 }
 
 #[test]
-fn forms_that_are_not_built(rt: HostRuntime) {
-    let cases: [(&[u8], u64, u64); 19] = [
+fn commands_and_other_forms(rt: HostRuntime) {
+    let cases: [(&[u8], u64, u64); 20] = [
         (b"phase\nphase\n", 0, 0),
         (b"limit users 99\n", 1, 8),
         (b"limit digests 9\n", 0, 0),
@@ -267,11 +258,16 @@ fn forms_that_are_not_built(rt: HostRuntime) {
         (b"limit no_such 18446744073709551616\n", 1, 5),
         (b"start statement/sql/select SELECT 1\n", 1, 4),
         (b"start wait/io/table/sql/handler a.b\n", 1, 4),
-        (b"sql SELECT\n", 1, 13),
+        (b"sql SELECT\n", 1, 4),
         (b"sql TRUNCATE accounts\n", 1, 4),
         (b"sql truncate accounts\n", 1, 4),
         (b"sql TRUNCATE threads\n", 1, 4),
-        (b"sql \tseLECTed\n", 1, 13),
+        (b"sql \tseLECTed\n", 1, 4),
+        (
+            b"phase\nsession 1 u h\nsql SELECT * FROM threads\nsql \tseLECTed\nquit\n",
+            0,
+            0,
+        ),
         (
             b"phase\nsession 1 u h\nsql TRUNCATE TABLE performance_schema.accounts\n",
             0,
@@ -296,9 +292,7 @@ fn forms_that_are_not_built(rt: HostRuntime) {
         (b"session 99\n", 1, 4),
         (b"phase\nsession 1 u h\nrepeat 2\nquit\n", 4, 4),
     ];
-    for (bytes, line, reason) in &cases {
-        assert_eq!(rt; built_fault(rt.alloc(), bytes), Some((*line, *reason)));
-    }
+    expect_all(&rt, rt.alloc(), cases.as_slice());
 }
 
 #[test]
@@ -498,7 +492,6 @@ fn the_most_of_each(rt: HostRuntime) -> Result<(), Fail> {
     for (count, line, reason) in [(64, 0, 0), (65, 66, 6)] {
         let lines = sessions(alloc, count)?;
         assert_eq!(rt; fault(alloc, lines.as_slice()), Some((line, reason)));
-        assert_eq!(rt; built_fault(alloc, lines.as_slice()), Some((line, reason)));
     }
     for (times, line, reason) in [(64, 0, 0), (65, 65, 12)] {
         let lines = many(alloc, b"", b"phase\n", times)?;

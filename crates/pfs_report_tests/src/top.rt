@@ -6,6 +6,7 @@ use pfs_top::*;
 use std::alloc::{AllocError, Global};
 use std::test::Fail;
 
+mod queries;
 mod rings;
 mod statements;
 

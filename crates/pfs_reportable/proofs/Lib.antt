@@ -1,4 +1,9 @@
-pub mod Answerless
-pub mod Named
+pub mod Counted
+pub mod Held
 pub mod Hexed
+pub mod Listed
+pub mod Named
+pub mod Reported
+pub mod Requested
+pub mod Selected
 pub mod Tabled

@@ -30,17 +30,17 @@ use Rattle.pfs_script.specs.Words.{is_dot, is_script_byte, is_space, word_of, re
 use Rattle.pfs_script.specs.declared.blocks.Access.TheVariants.{ReadWrite, ReadOnly}
 use Rattle.pfs_script.specs.declared.forms.Form.{Form}
 use Rattle.pfs_script.specs.declared.forms.Form.TheVariants.{Silent, Limit, Class, Consumer, Instrument, Phase, Connect, TableWait, Statement, Transaction, StageEnd, Spend, End, EndStatement, Sql, Quit, Repeat, Done}
-use Rattle.pfs_script.specs.declared.reasons.Extent.{Extent}
 use Rattle.pfs_script.specs.declared.reasons.Reason.{Reason}
 use Rattle.pfs_script.specs.declared.reasons.Reason.TheVariants.{BadByte}
 use Rattle.pfs_reportable.specs.Reportable.{IsNamedTable, NamesLaw, TableNamesLaw, TextsLaw}
 
--- the names that a line gives, those of its table, and its statement, are texts
-abbrev IsClean : Form → Type 0
+-- the names that a line gives, those of its table, its statement and its text of SQL, are texts
+abbrev pub IsClean : Form → Type 0
 IsClean (Class name kind enabled timed) = IsText name
 IsClean (Connect session user host) = IsText user × IsText host
 IsClean (Statement class text) = IsText text
 IsClean (TableWait class schema name) = IsText schema × IsText name
+IsClean (Sql text) = IsText text
 IsClean _ = Unit {0}
 
 -- ---- parts of a text
@@ -206,9 +206,9 @@ end_keeps : (words : List ℕ) → Keeps (end_form words)
 unfolding end_form
 end_keeps words = made_by EndStatement (numbers_of words) (λ numbers. tt)
 
-sql_keeps : (text : List ℕ) → Keeps (sql_form text)
+sql_keeps : (words : List ℕ) → IsText words → Keeps (sql_form words)
 unfolding sql_form
-sql_keeps text = chosen (is_word text) (Sql text) tt
+sql_keeps words text = chosen (is_word words) (Sql words) text
 
 repeat_keeps : (word : List ℕ) → Keeps (repeat_form word)
 unfolding repeat_form
@@ -222,13 +222,13 @@ bare_keeps word =
     (either (bytes_eq word (codes "quit")) (Some Quit) _ tt
     (chosen (bytes_eq word (codes "done")) Done tt)))
 
-block_keeps : (word words : List ℕ) → Keeps (block_form word words)
+block_keeps : (word words : List ℕ) → IsText words → Keeps (block_form word words)
 unfolding block_form
-block_keeps word words =
+block_keeps word words text =
     either (bytes_eq word (codes "stage")) (stage_form words) _ (stage_keeps words)
     (either (bytes_eq word (codes "spend")) (spend_form words) _ (spend_keeps words)
     (either (bytes_eq word (codes "end")) (end_form words) _ (end_keeps words)
-    (either (bytes_eq word (codes "sql")) (sql_form words) _ (sql_keeps words)
+    (either (bytes_eq word (codes "sql")) (sql_form words) _ (sql_keeps words text)
     (either (bytes_eq word (codes "repeat")) (repeat_form words) None (repeat_keeps words) tt))))
 
 long_keeps : (word words : List ℕ) → IsText words → Keeps (long_form word words)
@@ -239,7 +239,7 @@ long_keeps word words text =
     (either (bytes_eq word (codes "consumer")) (consumer_form words) _ (consumer_keeps words)
     (either (bytes_eq word (codes "instrument")) (instrument_form words) _ (instrument_keeps words)
     (either (bytes_eq word (codes "session")) (session_form words) _ (session_keeps words text)
-    (either (bytes_eq word (codes "start")) (start_form words) (block_form word words) (start_keeps words text) (block_keeps word words))))))
+    (either (bytes_eq word (codes "start")) (start_form words) (block_form word words) (start_keeps words text) (block_keeps word words text))))))
 
 form_of_keeps : (word : List ℕ) (rest : Option (List ℕ)) → IfSome rest IsText → Keeps (form_of word rest)
 form_of_keeps word None text = bare_keeps word
@@ -275,18 +275,18 @@ unless_clean : (line : Form) (fault : Option Reason) → IsClean line → SaysCl
 unless_clean line None k = k
 unless_clean line (Some reason) k = tt
 
-placed_clean : (extent : Extent) (before : List Form) (said : Result Form Reason) → SaysClean said → SaysClean (placed extent before said)
-placed_clean extent before (Ok line) k = unless_clean line (fault_of extent before line) k
-placed_clean extent before (Err reason) k = tt
+placed_clean : (before : List Form) (said : Result Form Reason) → SaysClean said → SaysClean (placed before said)
+placed_clean before (Ok line) k = unless_clean line (fault_of before line) k
+placed_clean before (Err reason) k = tt
 
-next_clean : (extent : Extent) (before : List Form) (bytes : List ℕ) → SaysClean (next extent before bytes)
+next_clean : (before : List Form) (bytes : List ℕ) → SaysClean (next before bytes)
 unfolding next
-next_clean extent before bytes = placed_clean extent before (form bytes) (form_clean bytes)
+next_clean before bytes = placed_clean before (form bytes) (form_clean bytes)
 
-lines_clean : (extent : Extent) (before : List Form) (raws : List (List ℕ)) (lines : List Form) → Begins extent before raws lines → Each IsClean lines
-lines_clean extent before raws [] b = tt
-lines_clean extent before [] (line ∷ lines) b = absurd b
-lines_clean extent before (raw ∷ raws) (line ∷ lines) b = (subst SaysClean b.0 (next_clean extent before raw), lines_clean extent (before ++ line ∷ []) raws lines b.1)
+pub lines_clean : (before : List Form) (raws : List (List ℕ)) (lines : List Form) → Begins before raws lines → Each IsClean lines
+lines_clean before raws [] b = tt
+lines_clean before [] (line ∷ lines) b = absurd b
+lines_clean before (raw ∷ raws) (line ∷ lines) b = (subst SaysClean b.0 (next_clean before raw), lines_clean (before ++ line ∷ []) raws lines b.1)
 
 -- ---- names
 
@@ -339,7 +339,7 @@ names_texts lines each = session_texts (head_of lines).names lines (head_texts l
 
 pub all_texts : NamesLaw
 unfolding IsScript
-all_texts = λ extent text setting phases is. All-same IsText setting.names (names_of is.0) is.2.names (names_texts is.0 (lines_clean extent [] is.1.0 is.0 is.1.2))
+all_texts = λ text setting phases is. All-same IsText setting.names (names_of is.0) is.2.names (names_texts is.0 (lines_clean [] is.1.0 is.0 is.1.2))
 
 -- ---- digest texts
 
@@ -374,8 +374,8 @@ digests_textual most lines each = lines_textual most [] lines (All-nil IsTextual
 
 pub all_digests : TextsLaw
 unfolding IsScript
-all_digests = λ extent text setting phases is.
-    All-same IsTextual setting.digests (digests_of (limits_of is.0).digests is.0) is.2.digests (digests_textual (limits_of is.0).digests is.0 (lines_clean extent [] is.1.0 is.0 is.1.2))
+all_digests = λ text setting phases is.
+    All-same IsTextual setting.digests (digests_of (limits_of is.0).digests is.0) is.2.digests (digests_textual (limits_of is.0).digests is.0 (lines_clean [] is.1.0 is.0 is.1.2))
 
 -- ---- tables
 
@@ -396,5 +396,5 @@ tables_named lines each = lines_named [] lines (All-nil IsNamedTable) each
 
 pub all_tables_named : TableNamesLaw
 unfolding IsScript
-all_tables_named = λ extent text setting phases is.
-    All-same IsNamedTable setting.tables (tables_of is.0) is.2.tables (tables_named is.0 (lines_clean extent [] is.1.0 is.0 is.1.2))
+all_tables_named = λ text setting phases is.
+    All-same IsNamedTable setting.tables (tables_of is.0) is.2.tables (tables_named is.0 (lines_clean [] is.1.0 is.0 is.1.2))

@@ -56,7 +56,7 @@ use Rattle.pfs_reportable.specs.Reportable.{IsNamedTable, TablesLaw}
 
 -- ---- texts and names
 
-passed : (test : ℕ → Bool) (xs : List ℕ) → list_all test xs ≡ true → All (λ b. test b ≡ true) xs
+pub passed : (test : ℕ → Bool) (xs : List ℕ) → list_all test xs ≡ true → All (λ b. test b ≡ true) xs
 passed test [] e = All-nil (λ b. test b ≡ true)
 passed test (x ∷ xs) e = let h = and_parts (test x) (list_all test xs) e in All-cons (λ b. test b ≡ true) x xs h.0 (passed test xs h.1)
 
@@ -82,10 +82,10 @@ text_at names i all = at (slice_get names i) (found_text names i all)
     at (Some text) h = h
 
 -- a row whose values are such as a report can have
-abbrev IsLegible : List RowValue → Type 0
+abbrev pub IsLegible : List RowValue → Type 0
 IsLegible row = AllByRecursion IsValue row
 
-flag_text : (b : Bool) → IsValue (flag_value b)
+pub flag_text : (b : Bool) → IsValue (flag_value b)
 flag_text true = passed is_text_byte (codes "YES") refl
 flag_text false = passed is_text_byte (codes "NO") refl
 
@@ -95,15 +95,15 @@ then_if : {A B : Type 0} (P : A → Type 0) (Q : B → Type 0) (f : A → Option
 then_if P Q f None h so = tt
 then_if P Q f (Some x) h so = so x h
 
-mapped_if : {A B : Type 0} (P : A → Type 0) (Q : B → Type 0) (f : A → B) (o : Option A) → IfSome o P → ((x : A) → P x → Q (f x)) → IfSome (option_map f o) Q
+pub mapped_if : {A B : Type 0} (P : A → Type 0) (Q : B → Type 0) (f : A → B) (o : Option A) → IfSome o P → ((x : A) → P x → Q (f x)) → IfSome (option_map f o) Q
 mapped_if P Q f None h so = tt
 mapped_if P Q f (Some x) h so = so x h
 
-tested : {A : Type 0} (Q : A → Type 0) (b : Bool) (o : Option A) → IfSome o Q → IfSome (cond b o None) Q
+pub tested : {A : Type 0} (Q : A → Type 0) (b : Bool) (o : Option A) → IfSome o Q → IfSome (cond b o None) Q
 tested Q true o h = h
 tested Q false o h = tt
 
-listed : {K : Type 0} (P : List RowValue → Type 0) (o : Option (K × List RowValue)) → IfSome o (λ (row : K × List RowValue). P row.1) → AllByRecursion P (values_of (option_to_list o))
+pub listed : {K : Type 0} (P : List RowValue → Type 0) (o : Option (K × List RowValue)) → IfSome o (λ (row : K × List RowValue). P row.1) → AllByRecursion P (values_of (option_to_list o))
 listed P None h = tt
 listed P (Some row) h = (h, tt)
 
@@ -115,7 +115,7 @@ each_good {A} {K} P f so (x ∷ xs) =
 
 -- ---- threads, accounts, users and hosts
 
-abbrev IsLegibleRow : Keyed → Type 0
+abbrev pub IsLegibleRow : Keyed → Type 0
 IsLegibleRow row = IsLegible row.1
 
 module _ (setting : Setting) (all : All IsText setting.names) where
@@ -140,25 +140,25 @@ module _ (setting : Setting) (all : All IsText setting.names) where
       mapped_if IsText IsLegibleRow (λ name. (name_key name [] place, name_values info name)) (slice_get setting.names info.name) (found_text setting.names info.name all) (λ name n. (n, (tt, (tt, tt))))
 
   -- what a table whose rows each show one place asks for
-  record IsPlainGood (table : Table) : Type 0 where
-    words : (readings : List Reading) (row : ℕ) (words : List ℕ) → IfSome (words_row setting table readings row words) IsLegibleRow
-    loads : (word flags : ℕ) → word_rows setting table word flags ≡ []
+  pub record IsPlainGood (table : Table) : Type 0 where
+    pub words : (readings : List Reading) (row : ℕ) (words : List ℕ) → IfSome (words_row setting table readings row words) IsLegibleRow
+    pub loads : (word flags : ℕ) → AllByRecursion IsLegible (values_of (word_rows setting table word flags))
 
-  threads : IsPlainGood Threads
+  pub threads : IsPlainGood Threads
   unfolding words_row
-  threads = record { words = λ readings row words. thread_good row (flags_at readings row) (infos.thread_of words); loads = λ word flags. refl }
+  threads = record { words = λ readings row words. thread_good row (flags_at readings row) (infos.thread_of words); loads = λ word flags. tt }
 
-  accounts : IsPlainGood Accounts
+  pub accounts : IsPlainGood Accounts
   unfolding words_row
-  accounts = record { words = λ readings row words. account_good row (infos.account_of words); loads = λ word flags. refl }
+  accounts = record { words = λ readings row words. account_good row (infos.account_of words); loads = λ word flags. tt }
 
-  users : IsPlainGood Users
+  pub users : IsPlainGood Users
   unfolding words_row
-  users = record { words = λ readings row words. name_good row (infos.name_of words); loads = λ word flags. refl }
+  users = record { words = λ readings row words. name_good row (infos.name_of words); loads = λ word flags. tt }
 
-  hosts : IsPlainGood Hosts
+  pub hosts : IsPlainGood Hosts
   unfolding words_row
-  hosts = record { words = λ readings row words. name_good row (infos.name_of words); loads = λ word flags. refl }
+  hosts = record { words = λ readings row words. name_good row (infos.name_of words); loads = λ word flags. tt }
 
   slot_good : (table : Table) → IsPlainGood table → (readings : List Reading) (row : ℕ) (seen : Seen) → IfSome (slot_row setting table readings row seen) IsLegibleRow
   unfolding slot_row
@@ -169,9 +169,9 @@ module _ (setting : Setting) (all : All IsText setting.names) where
 
   reading_good : (table : Table) → IsPlainGood table → (readings : List Reading) (reading : Reading) → AllByRecursion IsLegible (values_of (rows_of setting table readings reading))
   reading_good table good readings (found.Slot row seen) = listed IsLegible (slot_row setting table readings row seen) (slot_good table good readings row seen)
-  reading_good table good readings (found.Word word version flags) = subst (λ (z : List Keyed). AllByRecursion IsLegible (values_of z)) (sym (good.loads word flags)) tt
+  reading_good table good readings (found.Word word version flags) = good.loads word flags
 
-  plain_good : (table : Table) → IsPlainGood table → (readings : List Reading) → AllByRecursion IsLegible (plain_rows_of setting table readings)
+  pub plain_good : (table : Table) → IsPlainGood table → (readings : List Reading) → AllByRecursion IsLegible (plain_rows_of setting table readings)
   unfolding plain_rows_of
   plain_good table good readings =
       values_puts row_cmp IsLegible [] (flat_map (rows_of setting table readings) readings) tt (each_good IsLegible (rows_of setting table readings) (reading_good table good readings) readings)
@@ -254,7 +254,7 @@ module _ (setting : Setting) (all : All IsText setting.names) where
       values_puts summary_cmp IsLegible [] (flat_map (place_rows setting kind which infos tally) (range_with_len 0 (places_of which))) tt
       (each_good IsLegible (place_rows setting kind which infos tally) (λ place. head_rows_good kind which place (tally place) (head_of which setting.names infos place) (head_good which infos place)) (range_with_len 0 (places_of which)))
 
-  summary_good : (kind : TableKind) (which : SummaryTable) (readings : List Reading) → AllByRecursion IsLegible (summary_rows_of setting kind which readings)
+  pub summary_good : (kind : TableKind) (which : SummaryTable) (readings : List Reading) → AllByRecursion IsLegible (summary_rows_of setting kind which readings)
   unfolding summary_rows_of
   summary_good kind which readings = at (list_any (is_hidden_by which) readings)
     where
@@ -312,7 +312,7 @@ module _ (setting : Setting) (texts : All (λ (digest : DigestText). IsText dige
   each_digest_good contents (place ∷ places) =
       both IsLegible (digest_row setting.digests contents place) (flat_map (digest_row setting.digests contents) places) (digest_good contents place) (each_digest_good contents places)
 
-  digests_good : (readings : List Reading) → AllByRecursion IsLegible (digests_of setting readings)
+  pub digests_good : (readings : List Reading) → AllByRecursion IsLegible (digests_of setting readings)
   unfolding digests_of
   digests_good readings =
       both IsLegible (counted_row null_heading (info_at (contents_of 8385 65 readings) 0)) (flat_map (digest_row setting.digests (contents_of 8385 65 readings)) (range_with_len 0 64))
@@ -394,7 +394,7 @@ module _ (setting : Setting) (all : All IsText setting.names) (texts : All (λ (
       mapped_if IsLegible IsLegible (λ digest. statement_values event ++ digest) (digest_of setting event.link) (link_good event.link) (λ digest g. (tt, (tt, (tt, (tt, (tt, (tt, g)))))))
   tail_good Transactions event = (access_good event.read_only, tt)
 
-  class_named : (class : Option Class) → IfSome (option_and_then (λ (class : Class). slice_get setting.names class.name) class) IsText
+  pub class_named : (class : Option Class) → IfSome (option_and_then (λ (class : Class). slice_get setting.names class.name) class) IsText
   class_named None = tt
   class_named (Some class) = found_text setting.names class.name all
 
@@ -410,9 +410,9 @@ module _ (setting : Setting) (all : All IsText setting.names) (texts : All (λ (
       then_if (λ (event : Fields). Unit {0}) IsLegibleRow (keyed_event setting kind which place) (event_in words) (any_if (event_in words))
       (λ event u. mapped_if IsLegible IsLegibleRow (λ values. (event_key which event place, values)) (event_values setting kind event) (event_values_good kind event) (λ values g. g))
 
-  events : (kind : TableKind) (which : EventTable) → IsPlainGood setting all (Events kind which)
+  pub events : (kind : TableKind) (which : EventTable) → IsPlainGood setting all (Events kind which)
   unfolding words_row
-  events kind which = record { words = λ readings row words. event_good kind which row words; loads = λ word flags. refl }
+  events kind which = record { words = λ readings row words. event_good kind which row words; loads = λ word flags. tt }
 
 event_name : (kind : TableKind) (which : EventTable) → IsName (table_name (Events kind which))
 event_name Waits Current = is_name (table_name (Events Waits Current)) refl refl

@@ -23,9 +23,10 @@ pub fn tables()
     ensures { TablesLaw }
 {}
 
-/// Of sessions that run one after another, those without SELECTs have no entry that tells how many rows an answer has.
+/// Of sessions that run one after another, what their SELECTs answer goes with their journals as a report can have it.
 pub fn blocks()
     ensures { BlocksLaw }
 {
     pfs_alone::laws::alone();
+    pfs_requests::laws::rows_are_of_the_text();
 }

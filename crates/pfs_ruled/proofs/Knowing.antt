@@ -77,7 +77,7 @@ one_less n m e = omega (arith, e)
 label_here : (all labels : List Label) (label : Label) (n : ℕ) → n ≡ length labels + 1 → StandsAmong all label labels → label_at all n ≡ Some label
 label_here all labels label n e is = ap (label_at all) (e ∙ add-one (length labels)) ∙ is.here
 
-state_here : (setting : Setting) (change : Label → Change) (all labels : List Label) (label : Label) (n : ℕ) → n ≡ length labels + 1 → StandsAmong all label labels
+pub state_here : (setting : Setting) (change : Label → Change) (all labels : List Label) (label : Label) (n : ℕ) → n ≡ length labels + 1 → StandsAmong all label labels
     → before_action setting change all n ≡ state_of setting change labels
 state_here setting change all labels label n e is = ap (λ z. state_of setting change (take z all)) (one_less n (length labels) e) ∙ ap (state_of setting change) is.before
 

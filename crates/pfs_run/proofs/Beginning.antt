@@ -62,8 +62,8 @@ begun setting phases reached hand left draws words admin seats lost ended told l
       current = [];
       course = subst (IsCourse setting (change_in phases) (depth_of phases) [] []) (nothing_done setting phases ∙ sym is_open) is.course;
       none_over = none_yet (numbered 1 phases);
-      phases_told = subst (λ z. ArePhasesTold 1 [] z []) (sym none) refl;
-      blocks_told = subst (AreTold 1 [] []) (sym nothing) tt;
+      phases_told = subst (λ z. ArePhasesTold setting 1 [] z []) (sym none) refl;
+      blocks_told = subst (AreTold setting 1 [] []) (sym nothing) tt;
       finals = subst (AreFinal (HasEnded setting (change_in phases) [])) (sym none) tt;
       numbers = subst (AreFinal (λ (report : PhaseParts). report.number ≤ 0)) (sym none) tt;
       good = subst (All IsPhase) (sym none) (All-nil IsPhase);

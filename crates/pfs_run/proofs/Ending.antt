@@ -39,11 +39,11 @@ use Rattle.pfs_session.specs.States.{Book}
 use Rattle.pfs_run.specs.Along.{IsAlong, Sits, depth_of, seat_of}
 
 -- the reports of phases are as many as these
-told_long : (number : ℕ) (phases : List Phase) (reports : List PhaseParts) (spells : List Spell) → ArePhasesTold number phases reports spells → length reports ≡ length phases
-told_long number [] [] spells are = refl
-told_long number [] (y ∷ ys) spells are = absurd are
-told_long number (x ∷ xs) [] spells are = absurd are
-told_long number (x ∷ xs) (y ∷ ys) spells are = ap suc (told_long (number + 1) xs ys are.1 are.3)
+told_long : (setting : Setting) (number : ℕ) (phases : List Phase) (reports : List PhaseParts) (spells : List Spell) → ArePhasesTold setting number phases reports spells → length reports ≡ length phases
+told_long setting number [] [] spells are = refl
+told_long setting number [] (y ∷ ys) spells are = absurd are
+told_long setting number (x ∷ xs) [] spells are = absurd are
+told_long setting number (x ∷ xs) (y ∷ ys) spells are = ap suc (told_long setting (number + 1) xs ys are.1 are.3)
 
 -- and their spells stand in them
 abbrev AreUpTo : ℕ → List Spell → Type 0
@@ -53,23 +53,23 @@ up_to_then : (most : ℕ) (xs ys : List Spell) → AreUpTo most xs → AreUpTo m
 up_to_then most [] ys a b = b
 up_to_then most (x ∷ xs) ys a b = (a.0, up_to_then most xs ys a.1 b)
 
-told_up_to : (most number : ℕ) (blocks : List Block) (spells : List Spell) (reports : List BlockReport) → number ≤ most → AreTold number blocks spells reports → AreUpTo most spells
-told_up_to most number [] [] [] low are = tt
-told_up_to most number [] [] (z ∷ zs) low are = absurd are
-told_up_to most number [] (y ∷ ys) reports low are = absurd are
-told_up_to most number (x ∷ xs) [] reports low are = absurd are
-told_up_to most number (x ∷ xs) (y ∷ ys) [] low are = absurd are
-told_up_to most number (x ∷ xs) (y ∷ ys) (z ∷ zs) low are = (below y.phase are.0.phase, told_up_to most number xs ys zs low are.1) where
+told_up_to : (setting : Setting) (most number : ℕ) (blocks : List Block) (spells : List Spell) (reports : List BlockReport) → number ≤ most → AreTold setting number blocks spells reports → AreUpTo most spells
+told_up_to setting most number [] [] [] low are = tt
+told_up_to setting most number [] [] (z ∷ zs) low are = absurd are
+told_up_to setting most number [] (y ∷ ys) reports low are = absurd are
+told_up_to setting most number (x ∷ xs) [] reports low are = absurd are
+told_up_to setting most number (x ∷ xs) (y ∷ ys) [] low are = absurd are
+told_up_to setting most number (x ∷ xs) (y ∷ ys) (z ∷ zs) low are = (below y.phase are.0.phase, told_up_to setting most number xs ys zs low are.1) where
   below : (n : ℕ) → n ≡ number → n ≤ most
   below n e = omega (arith, e, low)
 
-phases_up_to : (most number : ℕ) (phases : List Phase) (reports : List PhaseParts) (spells : List Spell) → number + length phases ≤ most + 1 → ArePhasesTold number phases reports spells → AreUpTo most spells
-phases_up_to most number [] [] spells low are = subst (AreUpTo most) (sym are) tt
-phases_up_to most number [] (y ∷ ys) spells low are = absurd are
-phases_up_to most number (x ∷ xs) [] spells low are = absurd are
-phases_up_to most number (x ∷ xs) (y ∷ ys) spells low are =
+phases_up_to : (setting : Setting) (most number : ℕ) (phases : List Phase) (reports : List PhaseParts) (spells : List Spell) → number + length phases ≤ most + 1 → ArePhasesTold setting number phases reports spells → AreUpTo most spells
+phases_up_to setting most number [] [] spells low are = subst (AreUpTo most) (sym are) tt
+phases_up_to setting most number [] (y ∷ ys) spells low are = absurd are
+phases_up_to setting most number (x ∷ xs) [] spells low are = absurd are
+phases_up_to setting most number (x ∷ xs) (y ∷ ys) spells low are =
     subst (AreUpTo most) (sym are.2.split)
-    (up_to_then most are.0 are.1 (told_up_to most number x.blocks are.0 y.blocks (here number (length xs) low) are.2.blocks) (phases_up_to most (number + 1) xs ys are.1 (later number (length xs) low) are.3)) where
+    (up_to_then most are.0 are.1 (told_up_to setting most number x.blocks are.0 y.blocks (here number (length xs) low) are.2.blocks) (phases_up_to setting most (number + 1) xs ys are.1 (later number (length xs) low) are.3)) where
       here : (n m : ℕ) → n + suc m ≤ most + 1 → n ≤ most
       here n m h = omega (arith, h)
 
@@ -123,12 +123,12 @@ phase_ended setting phases before first after was now hand_old hand_new left_old
     let same : spells ≡ spells ++ [] = sym (append-nil spells) in
     let behind : done ≡ done_before all [] = sym (done_phase before phase) in
     let long : length all ≡ length before + 1 = length-append before (phase ∷ []) in
-    let number : report.number ≡ 1 + length before = omega (arith, e.number, told_long 1 before ended a.earlier a.phases_told) in
+    let number : report.number ≡ 1 + length before = omega (arith, e.number, told_long setting 1 before ended a.earlier a.phases_told) in
     let read : List Call = calls_of_readings (all_readings e.tables.reads) in
     let led : now a.start (read ++ a.calls) = e.tables.calls a.start a.calls a.led in
     let low : AreUpTo report.number spells =
-    up_to_then report.number a.earlier a.current (phases_up_to report.number 1 before ended a.earlier (omega (arith, number)) a.phases_told)
-    (told_up_to report.number (1 + length before) first a.current told (omega (arith, number)) a.blocks_told) in
+    up_to_then report.number a.earlier a.current (phases_up_to setting report.number 1 before ended a.earlier (omega (arith, number)) a.phases_told)
+    (told_up_to setting report.number (1 + length before) first a.current told (omega (arith, number)) a.blocks_told) in
     let counted : AreCounted admin.kept.now spells e.counters_of = record {
       threads = e.threads;
       accounts = e.accounts;
@@ -143,8 +143,8 @@ phase_ended setting phases before first after was now hand_old hand_new left_old
     end_of setting (change_in phases) spells a.calls report was now admin e.counters_of a.alike e.tables answers a.course.admin_is counted e.lost_are in
     let finals : AreFinal (HasEnded setting (change_in phases) spells) (ended ++ report ∷ []) =
     ended_last setting (change_in phases) spells ended report a.finals (ended_now setting (change_in phases) spells a.calls report low is_end) in
-    let told_now : AreTold report.number first a.current report.blocks =
-    subst (λ z. AreTold report.number first a.current z) (sym e.blocks) (subst (λ n. AreTold n first a.current told) (sym number) a.blocks_told) in
+    let told_now : AreTold setting report.number first a.current report.blocks =
+    subst (λ z. AreTold setting report.number first a.current z) (sym e.blocks) (subst (λ n. AreTold setting n first a.current told) (sym number) a.blocks_told) in
     record {
       limits = a.limits;
       earlier = spells;
@@ -153,7 +153,7 @@ phase_ended setting phases before first after was now hand_old hand_new left_old
           (subst (λ z. IsCourse setting (change_in phases) (depth_of phases) z spells admin) behind a.course);
       none_over = subst (λ z. NoneIsOver z (numbered (1 + length all) after)) same
           (subst (λ n. NoneIsOver spells (numbered n after)) (one_further (length before) (length all) long) a.none_over);
-      phases_told = phases_more 1 before ended a.earlier phase report a.current a.phases_told number told_now;
+      phases_told = phases_more setting 1 before ended a.earlier phase report a.current a.phases_told number told_now;
       blocks_told = tt;
       finals = subst (λ z. AreFinal (HasEnded setting (change_in phases) z) (ended ++ report ∷ [])) same finals;
       numbers = numbers_more (length before) (length all) ended report (omega (arith, long)) (omega (arith, long, number)) a.numbers;

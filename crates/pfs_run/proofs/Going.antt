@@ -110,17 +110,17 @@ pub next_along : (setting : Setting) (phases before : List Phase) (first : List 
     → IsHere setting phases before first block others after
     → (along : IsAlong setting phases before first (block_at before block ∷ ahead_of before others after) was hand_old left_old draws_old words_old admin seats lost ended told)
     → IsReady setting phases (done_before before first) (along.earlier ++ along.current) admin block book
-    → IsDone setting phases before first block others after (along.earlier ++ along.current) admin new_admin book paused along.start along.calls now
+    → IsDone setting phases before first block others after (along.earlier ++ along.current) admin new_admin book paused report.answers along.start along.calls now
     → waiting.state ≡ paused.state → waiting.journal.entries ≡ [] → paused.state.held ≡ nothing_held
     → kinds_at paused.state ≡ kinds_after (kinds_at book.state) (written_out block.lines) → StagesLie (kinds_at paused.state) → paused.state.drawn ≤ book.state.drawn + length (written_out block.lines)
     → paused.state.opened.depth ≡ book.state.opened.depth → paused.state.actions ≤ book.state.actions + actions_on (written_out block.lines) + 2
     → ((r : ℕ) → hand_new r ≡ hand_old r) → left_old ≤ left_new + (11 * length (written_out block.lines) + 20192 * actions_on (written_out block.lines) + 644) → draws_old ≤ draws_new + 2 * length (written_out block.lines) → words_new ≡ Some new_admin.words → new_admin.actions ≤ admin.actions + actions_on (written_out block.lines) + 2
     → new_seats ≡ slice_set (slice_set seats (block.session - 1) None) (block.session - 1) (Some waiting)
     → new_lost.digests ≡ lost.digests + lost_digests paused.journal.entries → new_lost.statements ≡ lost.statements + lost_statements paused.journal.entries → new_lost.waits ≡ lost.waits + lost_waits paused.journal.entries
-    → report.session ≡ block.session → report.entries ≡ paused.journal.entries → report.answers ≡ [] → new_told ≡ told ++ report ∷ []
+    → report.session ≡ block.session → report.entries ≡ paused.journal.entries → new_told ≡ told ++ report ∷ []
     → IsAlong setting phases before (first ++ block ∷ []) (ahead_of before others after) now hand_new left_new draws_new words_new new_admin new_seats new_lost ended new_told
 next_along setting phases before first block others after was now hand_old hand_new left_old left_new draws_old draws_new words_old words_new admin new_admin seats new_seats lost new_lost ended told new_told report book paused waiting
-    here along ready done same empty free kinds lie drawn depth actions hand left draws words counted seats_are digests statements waits reported entries answers told_is =
+    here along ready done same empty free kinds lie drawn depth actions hand left draws words counted seats_are digests statements waits reported entries told_is =
     let spells : List Spell = along.earlier ++ along.current in
     let spell : Spell = spell_at (block_at before block) done.doings in
     let all : spells ++ spell ∷ [] ≡ along.earlier ++ (along.current ++ spell ∷ []) = append_assoc along.earlier along.current (spell ∷ []) in
@@ -145,8 +145,8 @@ next_along setting phases before first block others after was now hand_old hand_
       course = course;
       none_over = subst (λ (ss : List Spell). NoneIsOver ss (ahead_of before others after)) all done.ahead;
       phases_told = along.phases_told;
-      blocks_told = subst (λ (reports : List BlockReport). AreTold (1 + length before) (first ++ block ∷ []) (along.current ++ spell ∷ []) reports) (sym told_is)
-          (told_more (1 + length before) first along.current told block spell report along.blocks_told (record { phase = refl; session = refl; reported = reported; entries = entries ∙ done.entries; answers = answers }));
+      blocks_told = subst (λ (reports : List BlockReport). AreTold setting (1 + length before) (first ++ block ∷ []) (along.current ++ spell ∷ []) reports) (sym told_is)
+          (told_more setting (1 + length before) first along.current told block spell report along.blocks_told (record { phase = refl; session = refl; reported = reported; entries = entries ∙ done.entries; answers = done.answered }));
       finals = subst (λ (ss : List Spell). AreFinal (HasEnded setting (change_in phases) ss) ended) all (all_ended_more setting (change_in phases) spells spell ended along.finals (lower (length before) (1 + length before) ended refl along.numbers));
       numbers = along.numbers;
       good = along.good;

@@ -15,7 +15,6 @@ use Rattle.pfs_script.specs.Marks.{written_out}
 use Rattle.pfs_script.specs.Scripts.{IsScript}
 use Rattle.pfs_script.specs.declared.blocks.Block.{Block}
 use Rattle.pfs_script.specs.declared.blocks.Phase.{Phase}
-use Rattle.pfs_script.specs.declared.reasons.Extent.TheVariants.{Whole}
 use Rattle.pfs_run.specs.Along.{depth_of}
 
 pub record IsHere (setting : Setting) (phases before : List Phase) (first : List Block) (block : Block) (others : List Block) (after : List Phase) : Type 0 where
@@ -62,7 +61,7 @@ at_seam P xs x ys all is h =
       within : (n m l : ℕ) → l ≡ n + suc m → n < l
       within n m l e = omega (arith, e)
 
-pub is_here : PlayableLaw → FewLaw → NamedLaw → ActionsLaw → (text : List ℕ) (setting : Setting) (phases before : List Phase) (first : List Block) (block : Block) (others : List Block) (after : List Phase) → IsScript Whole text setting phases
+pub is_here : PlayableLaw → FewLaw → NamedLaw → ActionsLaw → (text : List ℕ) (setting : Setting) (phases before : List Phase) (first : List Block) (block : Block) (others : List Block) (after : List Phase) → IsScript text setting phases
     → phases ≡ before ++ record { blocks = first ++ block ∷ others } ∷ after → IsHere setting phases before first block others after
 is_here playable few named actions text setting phases before first block others after script is =
     let phase : Phase = record { blocks = first ++ block ∷ others } in

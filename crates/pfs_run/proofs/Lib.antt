@@ -12,4 +12,4 @@ pub mod Running
 pub mod Slots
 pub mod Standing
 pub mod Stepping
-pub mod Rowless
+pub mod Asked

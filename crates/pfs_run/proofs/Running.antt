@@ -65,10 +65,10 @@ past {A} xs ys i same low =
     record { taken = take_all i ys long; dropped = drop_of_length-le ys long }
 
 -- no block told, no spell
-none_told : (number : ℕ) (spells : List Spell) (reports : List BlockReport) → AreTold number [] spells reports → spells ≡ []
-none_told number [] [] are = refl
-none_told number [] (z ∷ zs) are = absurd are
-none_told number (y ∷ ys) reports are = absurd are
+none_told : (setting : Setting) (number : ℕ) (spells : List Spell) (reports : List BlockReport) → AreTold setting number [] spells reports → spells ≡ []
+none_told setting number [] [] are = refl
+none_told setting number [] (z ∷ zs) are = absurd are
+none_told setting number (y ∷ ys) reports are = absurd are
 
 -- behind all phases, what is reported of them is a run of the script
 pub run_is : WholeLaw → RunLaw → AllEndLaw → (setting : Setting) (phases : List Phase) (report : ReportParts) (reached : Opening → List Call → Type 0) (hand : ℕ → Option ℕ) (left draws : ℕ)
@@ -77,13 +77,13 @@ pub run_is : WholeLaw → RunLaw → AllEndLaw → (setting : Setting) (phases :
 run_is whole run all_end setting phases report reached hand left draws words admin seats lost ended told a format is =
     let change = change_in phases in
     let spells : List Spell = a.earlier in
-    let same : a.earlier ++ a.current ≡ spells = ap (λ z. a.earlier ++ z) (none_told (1 + length phases) a.current told a.blocks_told) ∙ append-nil a.earlier in
+    let same : a.earlier ++ a.current ≡ spells = ap (λ z. a.earlier ++ z) (none_told setting (1 + length phases) a.current told a.blocks_told) ∙ append-nil a.earlier in
     let course : IsCourse setting change (depth_of phases) (numbered 1 phases) spells admin =
     subst (λ z. IsCourse setting change (depth_of phases) z spells admin) (done_whole phases)
     (subst (λ z. IsCourse setting change (depth_of phases) (numbered 1 phases ++ []) z admin) same a.course) in
     let finals : AreFinal (HasEnded setting change spells) report.phases =
     subst (AreFinal (HasEnded setting change spells)) (sym is) (subst (λ z. AreFinal (HasEnded setting change z) ended) same a.finals) in
     let but : IsRunButFinals setting phases report spells =
-    whole setting phases report (depth_of phases) spells admin course (subst (λ z. ArePhasesTold 1 phases z spells) (sym is) a.phases_told) format in
+    whole setting phases report (depth_of phases) spells admin course (subst (λ z. ArePhasesTold setting 1 phases z spells) (sym is) a.phases_told) format in
     run setting phases report spells but
     (all_end setting change (facts_in phases) (depth_of phases) spells report.phases course.are_spells course.answer finals)

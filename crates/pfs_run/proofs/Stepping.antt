@@ -16,6 +16,7 @@ use Rattle.pfs_course.proofs.Changing.{own_more}
 use Rattle.pfs_course.proofs.More.{one_more}
 use Rattle.pfs_ends.specs.Counts.{lost_digests, lost_statements, lost_waits}
 use Rattle.pfs_event.specs.declared.entry.Entry.{Entry}
+use Rattle.pfs_facts.specs.Answers.{Answers}
 use Rattle.pfs_facts.specs.Steps.{kinds_at}
 use Rattle.pfs_levels.specs.Calls.{Call, Opening}
 use Rattle.pfs_levels.specs.Plain.{AllAnswer}
@@ -27,6 +28,7 @@ use Rattle.pfs_parts.specs.Stints.{resumed}
 use Rattle.pfs_play.specs.Errands.{StagesLie, actions_on, admin_after, kinds_after}
 use Rattle.pfs_playable.specs.Playable.{kinds_left}
 use Rattle.pfs_ruled.proofs.Quiet.{LeadAlike, answers_more}
+use Rattle.pfs_runs.specs.Answers.{Answer, AreAnswers, selections_in}
 use Rattle.pfs_runs.specs.Lines.{change_in}
 use Rattle.pfs_script.specs.Marks.{written_out}
 use Rattle.pfs_script.specs.declared.blocks.Block.{Block}
@@ -40,7 +42,7 @@ use Rattle.pfs_run.proofs.Here.{IsHere}
 use Rattle.pfs_run.proofs.Ready.{IsReady}
 
 -- what the session did at its block, as the course has it
-pub record IsDone (setting : Setting) (phases before : List Phase) (first : List Block) (block : Block) (others : List Block) (after : List Phase) (spells : List Spell) (admin new_admin : Administration) (book paused : Book) (start : Opening) (calls : List Call)
+pub record IsDone (setting : Setting) (phases before : List Phase) (first : List Block) (block : Block) (others : List Block) (after : List Phase) (spells : List Spell) (admin new_admin : Administration) (book paused : Book) (answers : List Answer) (start : Opening) (calls : List Call)
     (now : Opening → List Call → Type 0) : Type 0 where
   pub doings : List Doing
   pub more : IsOneMore setting (change_in phases) (depth_of phases) (done_before before first) spells admin (block_at before block) doings
@@ -53,13 +55,14 @@ pub record IsDone (setting : Setting) (phases before : List Phase) (first : List
   pub digests : lost_digests paused.journal.entries ≤ 1200012
   pub statements : lost_statements paused.journal.entries ≤ 200002
   pub waits : lost_waits paused.journal.entries ≤ 200002
+  pub answered : AreAnswers (Answers setting) (selections_in block) (parts_in doings) answers
 
-pub is_done : (setting : Setting) (phases before : List Phase) (first : List Block) (block : Block) (others : List Block) (after : List Phase) (spells : List Spell) (admin new_admin : Administration) (book paused : Book) (start : Opening) (calls : List Call)
+pub is_done : (setting : Setting) (phases before : List Phase) (first : List Block) (block : Block) (others : List Block) (after : List Phase) (spells : List Spell) (admin new_admin : Administration) (book paused : Book) (answers : List Answer) (start : Opening) (calls : List Call)
     (was now : Opening → List Call → Type 0) → IsHere setting phases before first block others after → IsCourse setting (change_in phases) (depth_of phases) (done_before before first) spells admin
-    → NoneIsOver spells (block_at before block ∷ ahead_of before others after) → book.state ≡ session_at setting (depth_of phases) spells block.session → book.journal.entries ≡ [] → HasPlayed block admin new_admin book paused was now
+    → NoneIsOver spells (block_at before block ∷ ahead_of before others after) → book.state ≡ session_at setting (depth_of phases) spells block.session → book.journal.entries ≡ [] → HasPlayed setting block admin new_admin book paused [] answers was now
     → start.flags ≡ opening_flags setting opening_objects → was start calls → LeadAlike calls (calls_of spells) → ((more : List Call) → now start more → AllAnswer start.flags more) → length (written_out block.lines) ≤ 200000
-    → IsDone setting phases before first block others after spells admin new_admin book paused start calls now
-is_done setting phases before first block others after spells admin new_admin book paused start calls was now here course none is empty played opens led alike answers short =
+    → IsDone setting phases before first block others after spells admin new_admin book paused answers start calls now
+is_done setting phases before first block others after spells admin new_admin book paused answers start calls was now here course none is empty played opens led alike plain short =
     let one : PhasedBlock = block_at before block in
     let number : ℕ = block.session in
     let at : State = session_at setting (depth_of phases) spells number in
@@ -71,7 +74,7 @@ is_done setting phases before first block others after spells admin new_admin bo
     let parts : parts_in doings ≡ ps = way.parts_are in
     let deeds : deeds_in ps ≡ deeds_of admin number block.connect (written_out block.lines) = did.deeds_are ∙ ap (λ n. deeds_of admin n block.connect (written_out block.lines)) numbers in
     let are : AreParts at ps = subst (λ (s : State). AreParts s ps) is did.done.are_parts in
-    let flags : AllAnswer (opening_flags setting opening_objects) (doings_calls doings ++ calls) = subst (λ (f : List ℕ). AllAnswer f (doings_calls doings ++ calls)) opens (answers (doings_calls doings ++ calls) way.reached) in
+    let flags : AllAnswer (opening_flags setting opening_objects) (doings_calls doings ++ calls) = subst (λ (f : List ℕ). AllAnswer f (doings_calls doings ++ calls)) opens (plain (doings_calls doings ++ calls) way.reached) in
     let done : IsPlayed setting (depth_of phases) spells admin one doings = record {
       goes_on = here.reached.goes_on spells none;
       are_parts = subst (λ (z : List Part). AreParts at z) (sym parts) are;
@@ -95,7 +98,16 @@ is_done setting phases before first block others after spells admin new_admin bo
       digests = subst (λ (es : List Entry). lost_digests es ≤ 1200012) (sym text) (block_digests at ps admin number block.connect (written_out block.lines) are deeds short);
       statements = subst (λ (es : List Entry). lost_statements es ≤ 200002) (sym text) (block_few _ at ps admin number block.connect (written_out block.lines) are deeds short);
       waits = subst (λ (es : List Entry). lost_waits es ≤ 200002) (sym text) (block_few _ at ps admin number block.connect (written_out block.lines) are deeds short);
+      answered = subst (λ (z : List Part). AreAnswers (Answers setting) (selections_in block) z answers) (sym parts)
+          (subst (AreAnswers (Answers setting) (selections_in block) ps) (sym did.given_are) did.answered);
     }
+
+-- a block that was played with no answers yet, and what is shown of those that came
+pub from_none : (setting : Setting) (block : Block) (admin new_admin : Administration) (book paused : Book) (before after shown : List Answer) (was now : Opening → List Call → Type 0)
+    → HasPlayed setting block admin new_admin book paused before after was now → before ≡ [] → shown ≡ after → HasPlayed setting block admin new_admin book paused [] shown was now
+from_none setting block admin new_admin book paused before after shown was now played none same =
+    subst (λ (z : List Answer). HasPlayed setting block admin new_admin book paused [] z was now) (sym same)
+    (subst (λ (z : List Answer). HasPlayed setting block admin new_admin book paused z after was now) none played)
 
 -- the blocks so far, with one more
 pub more_done : (before : List Phase) (first : List Block) (block : Block) → length (done_before before (first ++ block ∷ [])) ≡ length (done_before before first) + 1

@@ -86,8 +86,8 @@ pub record IsAlong (setting : Setting) (phases before : List Phase) (first : Lis
   pub course : IsCourse setting (change_in phases) (depth_of phases) (done_before before first) (earlier ++ current)
       admin
   pub none_over : NoneIsOver (earlier ++ current) ahead
-  pub phases_told : ArePhasesTold 1 before ended earlier
-  pub blocks_told : AreTold (1 + length before) first current told
+  pub phases_told : ArePhasesTold setting 1 before ended earlier
+  pub blocks_told : AreTold setting (1 + length before) first current told
   pub finals : AreFinal (HasEnded setting (change_in phases) (earlier ++ current)) ended
   pub numbers : AreFinal (λ (report : PhaseParts). report.number ≤ length before) ended
   pub good : All IsPhase ended

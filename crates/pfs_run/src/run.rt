@@ -4,7 +4,6 @@ ghost use Rattle.std.specs.Prelude.{◌≡◌, ◌+◌, ◌++◌, ◌∷◌, [],
 ghost use Rattle.pfs_course.specs.Course.{numbered};
 ghost use Rattle.pfs_script.specs.Scripts.{IsScript};
 ghost use Rattle.pfs_script.specs.declared.blocks.Phase.{Phase as SaidPhase};
-ghost use Rattle.pfs_script.specs.declared.reasons.Extent.TheVariants.{Whole};
 ghost use Rattle.pfs_runs.specs.Runs.{IsPlainRun};
 ghost use Rattle.pfs_run.specs.Along.{IsAlong};
 
@@ -21,7 +20,7 @@ const FORMAT: u64 = 0;
 
 /// Runs a script on one thread, its sessions one after another in the order of its blocks, and reports it.
 pub fn run_plain(alloc: Global, setting: &Setting, phases: &[Phase]) -> Result<Report, NoMemory>
-    requires { (text : List ℕ) × IsScript Whole text setting.now phases.now }
+    requires { (text : List ℕ) × IsScript text setting.now phases.now }
     ensures { IfOk result (λ report. IsPlainRun setting.now phases.now report) }
 {
     pfs_course::laws::whole();
@@ -47,7 +46,7 @@ fn run_phase(
     phases: &[Phase],
     phase: &Phase,
 ) -> Result<(), NoMemory>
-    requires script { (text : List ℕ) × IsScript Whole text setting.now phases.now }
+    requires script { (text : List ℕ) × IsScript text setting.now phases.now }
     requires here { (before : List SaidPhase) × (after : List SaidPhase)
         × (phases.now ≡ before ++ phase.now ∷ after)
         × IsAlong setting.now phases.now before [] (numbered (1 + length before) (phase.now ∷ after))

@@ -9,7 +9,6 @@ ghost use Rattle.pfs_reportable.specs.Reportable.{IsNamedTable};
 ghost use Rattle.pfs_script.specs.Scripts.{IsScript};
 ghost use Rattle.pfs_script.specs.declared.blocks.Block.{Block as Said};
 ghost use Rattle.pfs_script.specs.declared.blocks.Phase.{Phase as SaidPhase};
-ghost use Rattle.pfs_script.specs.declared.reasons.Extent.TheVariants.{Whole};
 ghost use Rattle.pfs_run.specs.Along.{IsAlong};
 
 use crate::NoMemory;
@@ -68,14 +67,14 @@ impl Runner {
         })
     }
 
-    /// Plays the next block of the script in its session, and reports its journal.
+    /// Plays the next block of the script in its session, and reports its journal and its answers.
     pub fn play(
         &mut self,
         setting: &Setting,
         phases: &[Phase],
         block: &Block,
     ) -> Result<(), NoMemory>
-        requires script { (text : List ℕ) × IsScript Whole text setting.now phases.now }
+        requires script { (text : List ℕ) × IsScript text setting.now phases.now }
         requires here { (before : List SaidPhase) × (first : List Said) × (others : List Said)
             × (after : List SaidPhase)
             × (phases.now ≡ before ++ record { blocks = first ++ block.now ∷ others } ∷ after)
@@ -106,14 +105,23 @@ impl Runner {
         let mut session = take_seat(self.alloc, setting, phases, &mut self.seats, block.session)?;
         let cost = written_cost(self.alloc, block.lines.as_slice())?;
         session.reserve(AT_ENDS + cost)?;
-        let mut paused = play_block(self.alloc, session, &mut self.rows, &mut self.admin, block)?;
+        let mut answers = Vec::new(self.alloc);
+        let mut paused = play_block(
+            self.alloc,
+            setting,
+            session,
+            &mut self.rows,
+            &mut self.admin,
+            &mut answers,
+            block,
+        )?;
         let entries = paused.take_log().into_entries();
         keep_seat(&mut self.seats, block.session, paused);
         self.lost = count_lost(entries.as_slice(), self.lost);
         self.blocks.push(BlockReport {
             session: block.session,
             entries: EntryList::new(entries),
-            answers: AnswerList::new(Vec::new(self.alloc)),
+            answers: AnswerList::new(answers),
         })?;
         Ok(())
     }
@@ -123,8 +131,9 @@ impl Runner {
         requires named { All IsText setting.now.names }
         requires texts { All (λ digest. IsText digest.text) setting.now.digests }
         requires tables { All IsNamedTable setting.now.tables }
-        requires here { (phases : List SaidPhase) × (before : List SaidPhase) × (first : List Said)
-            × (after : List SaidPhase) × IsAlong setting.now phases before first (ahead_of before [] after)
+        requires here { (text : List ℕ) × (phases : List SaidPhase) × (before : List SaidPhase) × (first : List Said)
+            × (after : List SaidPhase) × IsScript text setting.now phases
+            × IsAlong setting.now phases before first (ahead_of before [] after)
             (⟦<PlainRows as Rows>⟧.reached self.old.rows) (⟦<PlainRows as Rows>⟧.hand self.old.rows)
             (⟦<PlainRows as Rows>⟧.left self.old.rows) (⟦<PlainRows as Rows>⟧.draws self.old.rows)
             (⟦<PlainRows as Rows>⟧.words self.old.rows) self.old.admin

@@ -5,11 +5,11 @@ use Rattle.pfs_script.specs.Events.{events_of}
 use Rattle.pfs_script.specs.Marks.{written_from}
 use Rattle.pfs_requests.specs.Requests.{command_in, request_of, table_in, tokens_from}
 use Rattle.pfs_sql.specs.Cutting.{inner_of, inside_of, token_of}
-use Rattle.pfs_sql.specs.Readings.{assignment_at, change_at, command_at, command_of, delete_at, many, past_table, removal_at, truncate_at, update_at, whole}
+use Rattle.pfs_sql.specs.Readings.{assignment_at, change_at, columns_at, command_at, command_of, delete_at, many, past_table, removal_at, select_at, truncate_at, update_at, whole}
 use Rattle.pfs_runs.specs.Examples.{WorkedScript}
 
 pub worked : WorkedScript
-unfolding events_of brackets_from closing_from written_from request_of command_in tokens_from token_of inner_of inside_of table_in command_of whole command_at change_at removal_at truncate_at past_table update_at delete_at assignment_at many
+unfolding events_of brackets_from closing_from written_from request_of command_in tokens_from token_of inner_of inside_of table_in command_of whole command_at select_at columns_at change_at removal_at truncate_at past_table update_at delete_at assignment_at many
 worked = record {
   waits = refl;
   quits = refl;
@@ -18,6 +18,7 @@ worked = record {
   second = refl;
   other = refl;
   truncates = refl;
+  shows = refl;
   updates = refl;
   nobody = refl;
   lasts = refl;

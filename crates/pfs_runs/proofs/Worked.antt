@@ -25,16 +25,16 @@ unfolding joined written_from
 phased = (
   refl,
   (
-    record { phase_is = refl; session = refl; reported = refl; lines = refl; entries = refl; answers = refl },
-    (record { phase_is = refl; session = refl; reported = refl; lines = refl; entries = refl; answers = refl }, tt),
+    record { phase_is = refl; session = refl; reported = refl; lines = refl; entries = refl },
+    (record { phase_is = refl; session = refl; reported = refl; lines = refl; entries = refl }, tt),
   ),
   (
     refl,
     (
-      record { phase_is = refl; session = refl; reported = refl; lines = refl; entries = refl; answers = refl },
-      (record { phase_is = refl; session = refl; reported = refl; lines = refl; entries = refl; answers = refl }, tt),
+      record { phase_is = refl; session = refl; reported = refl; lines = refl; entries = refl },
+      (record { phase_is = refl; session = refl; reported = refl; lines = refl; entries = refl }, tt),
     ),
-    (refl, (record { phase_is = refl; session = refl; reported = refl; lines = refl; entries = refl; answers = refl }, tt), tt),
+    (refl, (record { phase_is = refl; session = refl; reported = refl; lines = refl; entries = refl }, tt), tt),
   ),
 )
 

@@ -2,6 +2,8 @@ pub mod Rules
 pub mod Labels
 pub mod Lines
 pub mod Finals
+pub mod Answers
 pub mod Runs
 pub mod Examples
 pub mod Worked
+pub mod WorkedAnswers

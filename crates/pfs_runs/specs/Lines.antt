@@ -83,15 +83,15 @@ transaction_on access = subject_in (record {
 abbrev pub stage_on : ClassRef → Subject
 stage_on class = subject_in (plain_subject kinds.Stage class)
 
--- a text that is refused is no action; no SELECT runs yet, and asks for nothing
+-- a text that is refused is no action, and neither is a SELECT whose rows are read of the store
 abbrev pub sql_line : Request → Line
 sql_line (requests.Refused error) = told.Refused error
 sql_line (requests.Truncate what) = told.Change
 sql_line (requests.Update update) = told.Change
 sql_line (requests.Insert insert) = told.Change
 sql_line (requests.Delete delete) = told.Change
-sql_line (requests.Query select) = told.Spend
-sql_line (requests.Show select) = told.Spend
+sql_line (requests.Query select) = told.Query
+sql_line (requests.Show select) = told.Show
 
 -- a line of a block, repeats written out. The lines that begin and end a repeat stand nowhere among lines that are
 -- written out: these ask for nothing
@@ -119,7 +119,8 @@ connect_lines (Some names) = told.Connect ∷ []
 abbrev pub lines_in : Block → List Line
 lines_in block = connect_lines block.connect ++ (map line_in (written_out block.lines) ++ told.Close ∷ [])
 
--- the administration lines of a block: its connect, its changes by SQL and a quit
+-- the administration lines of a block: its connect, its actions by SQL and a quit; a SELECT on the administration's own
+-- tables changes nothing, and has its place among the actions
 abbrev pub connect_changes : Option Connect → List Change
 connect_changes None = []
 connect_changes (Some names) = changes.Connect names.user names.host ∷ []
@@ -131,7 +132,7 @@ sql_changes (requests.Insert insert) = changes.Setup (statements.Insert insert) 
 sql_changes (requests.Delete delete) = changes.Setup (statements.Delete delete) ∷ []
 sql_changes (requests.Refused error) = []
 sql_changes (requests.Query select) = []
-sql_changes (requests.Show select) = []
+sql_changes (requests.Show select) = changes.Setup statements.Show ∷ []
 
 abbrev pub changes_on : BlockLine → List Change
 changes_on said.Quit = changes.Quit ∷ []

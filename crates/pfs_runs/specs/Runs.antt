@@ -2,6 +2,7 @@
 use Rattle.std.specs.Prelude.{ℕ, ◌≡◌, ◌+◌, Bool, List, [], ◌∷◌, ◌++◌}
 use Rattle.pfs_board.specs.declared.view.Label.{Label}
 use Rattle.pfs_classes.specs.declared.setting.Setting.{Setting}
+use Rattle.pfs_event.specs.declared.entry.Entry.{Entry}
 use Rattle.pfs_journal.specs.declared.blocks.BlockReport.{BlockReport}
 use Rattle.pfs_journal.specs.declared.report.PhaseParts.{PhaseParts}
 use Rattle.pfs_journal.specs.declared.report.ReportParts.{ReportParts}
@@ -11,20 +12,19 @@ use Rattle.pfs_model.specs.Plain.{IsPlain}
 use Rattle.pfs_model.specs.Puts.{AreBrought}
 use Rattle.pfs_script.specs.declared.blocks.Block.{Block as Said}
 use Rattle.pfs_script.specs.declared.blocks.Phase.{Phase}
+use Rattle.pfs_runs.specs.Answers.{Answer, Selection, AreAnswers, IsAnswered, selections_in}
 use Rattle.pfs_runs.specs.Finals.{IsFinal}
-use Rattle.pfs_runs.specs.Labels.{AreLabels, terms_of}
+use Rattle.pfs_runs.specs.Labels.{AreLabels, before_action, terms_of}
 use Rattle.pfs_runs.specs.Lines.{lines_in, change_in, facts_in}
 use Rattle.pfs_runs.specs.Rules.{AreRules, flags_by}
 
--- A block of a report is that of the script: of the same session, its journal cut by the block's lines. No SELECT is
--- answered yet.
+-- A block of a report is that of the script: of the same session, its journal cut by the block's lines.
 pub record IsBlockOf (phase : ℕ) (said : Said) (report : BlockReport) (block : Block) : Type 0 where
   pub phase_is : block.phase ≡ phase
   pub session : block.session ≡ said.session
   pub reported : report.session ≡ said.session
   pub lines : block.lines ≡ lines_in said
   pub entries : joined block.parts ≡ report.entries
-  pub answers : report.answers ≡ []
 
 abbrev pub AreBlocksOf : ℕ → List Said → List BlockReport → List Block → Type 0
 AreBlocksOf phase [] [] [] = Unit {0}
@@ -40,6 +40,21 @@ ArePhasesOf number (phase ∷ phases) (report ∷ reports) (blocks ∷ others) =
     × ArePhasesOf (number + 1) phases reports others
 ArePhasesOf number _ _ _ = ⊥
 
+-- the answers of each block are those of its SELECTs, as is asked of an answer
+abbrev pub AreBlocksAnswered : (Selection → List Entry → Answer → Type 0) → List Said → List BlockReport → List Block
+    → Type 0
+AreBlocksAnswered answers [] [] [] = Unit {0}
+AreBlocksAnswered answers (said ∷ others) (report ∷ reports) (block ∷ blocks) =
+    AreAnswers answers (selections_in said) block.parts report.answers × AreBlocksAnswered answers others reports blocks
+AreBlocksAnswered answers _ _ _ = ⊥
+
+abbrev pub ArePhasesAnswered : (Selection → List Entry → Answer → Type 0) → List Phase → List PhaseParts
+    → List (List Block) → Type 0
+ArePhasesAnswered answers [] [] [] = Unit {0}
+ArePhasesAnswered answers (phase ∷ phases) (report ∷ reports) (blocks ∷ others) =
+    AreBlocksAnswered answers phase.blocks report.blocks blocks × ArePhasesAnswered answers phases reports others
+ArePhasesAnswered answers _ _ _ = ⊥
+
 -- the blocks of all phases
 abbrev pub all_blocks : List (List Block) → List Block
 all_blocks [] = []
@@ -51,9 +66,9 @@ AreFinal final (report ∷ reports) = final report × AreFinal final reports
 
 -- The report's phases and blocks are the script's; its journals keep the rules of a run, by the actions that the
 -- script's lines ask for and the facts that it says of their events; each event is brought to its summary row, a
--- digested statement to the row of its digest too, and to the places of rings that it is offered to; and under each
--- phase's end stands what the journals so far make of rows, words and counters. Its format is the one of a report in
--- part: no SELECT is in it yet.
+-- digested statement to the row of its digest too, and to the places of rings that it is offered to; each SELECT is
+-- answered by what it read, or by what the administration holds at its action; and under each phase's end stands what
+-- the journals so far make of rows, words and counters. Its format is the one of a report in part.
 pub record IsRun (setting : Setting) (phases : List Phase) (report : ReportParts) : Type 0 where
   pub format : report.format ≡ 0
   pub blocks : List (List Block)
@@ -66,6 +81,9 @@ pub record IsRun (setting : Setting) (phases : List Phase) (report : ReportParts
       counted content (all_blocks blocks)
   pub brought : AreBrought (flags_by (terms_of setting (change_in phases) (facts_in phases) labels)
       (places (all_blocks blocks))) (places (all_blocks blocks))
+  pub answered : ArePhasesAnswered (IsAnswered setting content
+      (flags_by (terms_of setting (change_in phases) (facts_in phases) labels) (places (all_blocks blocks)))
+      (before_action setting (change_in phases) labels)) phases report.phases blocks
   pub finals : AreFinal (λ (phase : PhaseParts). IsFinal setting (change_in phases) labels
       content (flags_by (terms_of setting (change_in phases) (facts_in phases) labels)
       (places (all_blocks blocks))) (up_to_phase phase.number (places (all_blocks blocks))) phase) report.phases

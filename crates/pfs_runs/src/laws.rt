@@ -2,6 +2,7 @@
 
 ghost use Rattle.pfs_runs.specs.Examples.{WorkedScript};
 ghost use Rattle.pfs_runs.specs.Worked.{WorkedBlocks, WorkedEnds};
+ghost use Rattle.pfs_runs.specs.WorkedAnswers.{WorkedAnswers};
 
 /// A script of two sessions and two phases, worked: which lines its journals go by, what each action is, and the facts
 /// of its event.
@@ -18,4 +19,10 @@ pub fn worked_blocks()
 /// What stands in rows, words and counters of the worked run under each phase's end.
 pub fn worked_end()
     ensures { WorkedEnds }
+{}
+
+/// A SELECT on the rows of `setup_actors`, worked: which answer stands at its line, and that none is missing there, has
+/// another number of rows or stands elsewhere.
+pub fn worked_answers()
+    ensures { WorkedAnswers }
 {}

@@ -11,7 +11,6 @@ use Rattle.pfs_top.specs.declared.commands.Status.{Status}
 use Rattle.pfs_top.specs.declared.commands.Status.TheVariants.{Done, Usage, BadScript, ReadFault, WriteFault, NoMemory}
 use Rattle.pfs_classes.specs.declared.setting.Setting.{Setting}
 use Rattle.pfs_script.specs.declared.blocks.Phase.{Phase}
-use Rattle.pfs_script.specs.declared.reasons.Extent.TheVariants.{Built}
 use Rattle.pfs_script.specs.declared.reasons.Reason.{Reason}
 use Rattle.pfs_script.specs.declared.reasons.Reason.TheVariants.{TooLong}
 use Rattle.pfs_script.specs.Scripts.{IsScript, IsFirstFault, IsExact}
@@ -70,7 +69,7 @@ ends_as Ran Goes P Q before after R W WriteFault g f t = tells_as P Q before aft
 ends_as Ran Goes P Q before after R W NoMemory g f t = tells_as P Q before after W NoMemory f t
 
 -- the text of a script's phases is that of its bytes
-pub read_ran : (bytes : List ℕ) (setting : Setting) (phases : List Phase) → IsScript Built bytes setting phases → (status : Status) (due : List ℕ) → HasRun setting phases status due → HasRead bytes status due
+pub read_ran : (bytes : List ℕ) (setting : Setting) (phases : List Phase) → IsScript bytes setting phases → (status : Status) (due : List ℕ) → HasRun setting phases status due → HasRead bytes status due
 read_ran bytes setting phases script Done due h = (setting, phases, script, h)
 read_ran bytes setting phases script Usage due h = absurd h
 read_ran bytes setting phases script (BadScript line reason) due h = absurd h
@@ -79,7 +78,7 @@ read_ran bytes setting phases script WriteFault due h = absurd h
 read_ran bytes setting phases script NoMemory due h = absurd h
 
 -- the text of a fault is that of the bytes that have it
-pub read_faulty : (bytes : List ℕ) (line : ℕ) (reason : Reason) → IsFirstFault Built bytes line reason → (status : Status) (due : List ℕ) → HasFault line reason status due → HasRead bytes status due
+pub read_faulty : (bytes : List ℕ) (line : ℕ) (reason : Reason) → IsFirstFault bytes line reason → (status : Status) (due : List ℕ) → HasFault line reason status due → HasRead bytes status due
 read_faulty bytes line reason fault Done due h = absurd h
 read_faulty bytes line reason fault Usage due h = absurd h
 read_faulty bytes line reason fault (BadScript number cause) due h = (rw (h.0, h.1) fault, rw (h.0, h.1) h.2)
@@ -113,7 +112,7 @@ told_long : (input : Option (List ℕ)) (text : List ℕ) → input ≡ Some tex
 told_long input text e h = rw e at h
 
 -- what was told of a valid script that was read and written without a failure is its report
-pub completes : IsExact → (input : Option (List ℕ)) (before after : Option (List ℕ)) (R W : Type 0) (status : Status) → Ends (Unit {0}) (HasInput input) before after R W status → (text : List ℕ) (setting : Setting) (phases : List Phase) → input ≡ Some text → length text ≤ most_bytes → IsScript Built text setting phases → ¬ R → ¬ W → (status ≡ Done) ⊎ (status ≡ NoMemory)
+pub completes : IsExact → (input : Option (List ℕ)) (before after : Option (List ℕ)) (R W : Type 0) (status : Status) → Ends (Unit {0}) (HasInput input) before after R W status → (text : List ℕ) (setting : Setting) (phases : List Phase) → input ≡ Some text → length text ≤ most_bytes → IsScript text setting phases → ¬ R → ¬ W → (status ≡ Done) ⊎ (status ≡ NoMemory)
 completes exact input before after R W Done t text setting phases e short script no_read no_write = inl refl
 completes exact input before after R W NoMemory t text setting phases e short script no_read no_write = inr refl
 completes exact input before after R W Usage t text setting phases e short script no_read no_write = absurd t.1
@@ -122,7 +121,7 @@ completes exact input before after R W WriteFault t text setting phases e short 
 completes exact input before after R W (BadScript line reason) t text setting phases e short script no_read no_write =
     elim t.1 [
       | inl h ↦ let long = told_long input text e h.3 in absurd (omega (arith, short, long))
-      | inr h ↦ absurd (exact.excludes Built text setting phases line reason script (subst (λ b. IsFirstFault Built b line reason) (told_bytes input h.0 text e h.1) h.3.0))
+      | inr h ↦ absurd (exact.excludes text setting phases line reason script (subst (λ b. IsFirstFault b line reason) (told_bytes input h.0 text e h.1) h.3.0))
     ]
 
 -- a list of one

@@ -7,9 +7,8 @@ use Rattle.pfs_outside.specs.declared.writing.WriteStop.{WriteStop}
 use Rattle.pfs_outside.specs.declared.writing.WriteStop.TheVariants as stop
 use Rattle.pfs_classes.specs.declared.setting.Setting.{Setting}
 use Rattle.pfs_script.specs.declared.blocks.Phase.{Phase}
-use Rattle.pfs_script.specs.declared.reasons.Extent.TheVariants.{Built}
 use Rattle.pfs_script.specs.declared.reasons.Reason.{Reason}
-use Rattle.pfs_script.specs.declared.reasons.Reason.TheVariants.{BadByte, OpenLine, BadForm, OutOfPlace, BadNumber, BadSession, UnknownName, BadLimit, BadNesting, BadStatement, TooLong, TooMuch, NotBuilt}
+use Rattle.pfs_script.specs.declared.reasons.Reason.TheVariants.{BadByte, OpenLine, BadForm, OutOfPlace, BadNumber, BadSession, UnknownName, BadLimit, BadNesting, BadStatement, TooLong, TooMuch}
 use Rattle.pfs_script.specs.Scripts.{IsScript, IsFirstFault}
 use Rattle.pfs_counted.specs.Laws.{IsCountedRun}
 use Rattle.pfs_journal.specs.declared.report.ReportParts.{ReportParts}
@@ -39,7 +38,6 @@ reason_number BadNesting = 9
 reason_number BadStatement = 10
 reason_number TooLong = 11
 reason_number TooMuch = 12
-reason_number NotBuilt = 13
 
 -- the exit status that a status is
 abbrev pub status_number : Status → ℕ
@@ -70,9 +68,9 @@ HasFault line reason _ due = ⊥
 
 -- of bytes that were read
 abbrev pub HasRead : List ℕ → Status → List ℕ → Type 0
-HasRead bytes Done due = (setting : Setting) × (phases : List Phase) × IsScript Built bytes setting phases
+HasRead bytes Done due = (setting : Setting) × (phases : List Phase) × IsScript bytes setting phases
     × HasRun setting phases Done due
-HasRead bytes (BadScript line reason) due = IsFirstFault Built bytes line reason × (due ≡ fault_text line reason)
+HasRead bytes (BadScript line reason) due = IsFirstFault bytes line reason × (due ≡ fault_text line reason)
 HasRead bytes _ due = ⊥
 
 -- of a source with these bytes left, where it tells them
@@ -123,7 +121,7 @@ status_after (Err stop.NoMemory) status = NoMemory
 abbrev pub Completes : List (String Global) → Option (List ℕ) → Type 0 → Type 0 → Status → Type 0
 Completes words input ReadRose WriteRose status =
     (text : List ℕ) (setting : Setting) (phases : List Phase) → IsCommand words → input ≡ Some text
-    → length text ≤ most_bytes → IsScript Built text setting phases
+    → length text ≤ most_bytes → IsScript text setting phases
     → ¬ ReadRose → ¬ WriteRose → (status ≡ Done) ⊎ (status ≡ NoMemory)
 
 -- at the end the source has nothing left

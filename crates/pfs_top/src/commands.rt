@@ -4,7 +4,6 @@ ghost use Rattle.std.specs.Prelude.{ℕ, ◌≡◌, ◌∷◌, [], List, ◌↔�
 ghost use Rattle.pfs_outside.specs.Outside.{Rose};
 ghost use Rattle.pfs_outside.specs.Streams.{Puts};
 ghost use Rattle.pfs_script.specs.Scripts.{IsScript};
-ghost use Rattle.pfs_script.specs.declared.reasons.Extent.TheVariants.{Whole};
 ghost use Rattle.pfs_top.specs.Commands.{IsCommand, reason_number, status_number, usage_text, fault_text, HasRun, HasFault, HasRead, HasInput, HasUsage, Has, Tells, Ends, status_after, Completes, LeavesNothing};
 
 use crate::NoMemory;
@@ -108,7 +107,7 @@ fn complain<K: Sink>(alloc: Global, sink: &mut K, line: u64, reason: Reason) -> 
 
 /// Runs a script and writes the report.
 fn report<K: Sink>(alloc: Global, sink: &mut K, script: &Script) -> Status
-    requires { (text : List ℕ) × IsScript Whole text script.now.setting script.now.phases }
+    requires { (text : List ℕ) × IsScript text script.now.setting script.now.phases }
     ensures { Tells (HasRun script.now.setting script.now.phases) (K.written sink.old) (K.written sink.new)
         (Rose (K.faults sink.old) (K.faults sink.new)) result }
 {
@@ -133,7 +132,7 @@ fn run_bytes<K: Sink>(alloc: Global, sink: &mut K, bytes: &[u8]) -> Status
     ensures { Tells (HasRead bytes.now) (K.written sink.old) (K.written sink.new)
         (Rose (K.faults sink.old) (K.faults sink.new)) result }
 {
-    match Script::read_built(alloc, bytes) {
+    match Script::read(alloc, bytes) {
         Ok(script) => report(alloc, sink, &script),
         Err(ScriptFault::Bad { line, reason }) => complain(alloc, sink, line, reason),
         Err(ScriptFault::NoMemory) => Status::NoMemory,

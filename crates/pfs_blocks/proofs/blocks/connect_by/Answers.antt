@@ -1,6 +1,7 @@
-use Rattle.std.proofs.Common.{false, Option, IfSome, sym, subst}
+use Rattle.std.proofs.Common.{false, Option, IfSome, refl, sym, subst}
 use Rattle.pfs_actions.proofs.Acting.{may_connect}
 use Rattle.pfs_parts.specs.Deeds.{Connecting}
+use Rattle.pfs_runs.specs.Answers.{connect_selections}
 use Rattle.pfs_script.specs.declared.blocks.Connect.{Connect}
 use Rattle.pfs_course.specs.Course.{connecting}
 use Rattle.pfs_blocks.specs.Played.{HasDeeds, MayConnect}
@@ -8,13 +9,13 @@ use Rattle.pfs_blocks.proofs.Doing.{no_deeds, one_deed}
 use Rattle.pfs_blocks.proofs.blocks.connect_by.Goals as goal
 
 pub returns-in-Some-clause-did : goal.returns-in-Some-clause-did
-returns-in-Some-clause-did g c few =
+returns-in-Some-clause-did g c few setting answers =
     let may = subst (λ (names : Option Connect). IfSome names (λ connect. MayConnect c.args.session.now.state c.args.admin.now connect)) c.in-Some.is c.requires.may in
-    subst (λ (names : Option Connect). HasDeeds (connecting c.args.admin.now names) false c.args.session.now c.connect.new.session (g.A.Rows.reached c.args.rows.now) (g.A.Rows.reached c.connect.new.rows)) (sym c.in-Some.is)
-    (one_deed (Connecting c.args.admin.now c.in-Some.names.user c.in-Some.names.host) c.args.session.now c.connect.new.session (g.A.Rows.reached c.args.rows.now) (g.A.Rows.reached c.connect.new.rows)
+    subst (λ (names : Option Connect). HasDeeds setting (connect_selections names) (connecting c.args.admin.now names) false c.args.session.now c.connect.new.session answers answers (g.A.Rows.reached c.args.rows.now) (g.A.Rows.reached c.connect.new.rows)) (sym c.in-Some.is)
+    (one_deed setting (Connecting c.args.admin.now c.in-Some.names.user c.in-Some.names.host) c.args.session.now c.connect.new.session answers (g.A.Rows.reached c.args.rows.now) (g.A.Rows.reached c.connect.new.rows) refl
     (may_connect c.args.session.now.state c.args.admin.now c.in-Some.names.user c.in-Some.names.host may.closed may.free few) c.connect.ensures.acted)
 
 pub returns-in-None-clause-did : goal.returns-in-None-clause-did
-returns-in-None-clause-did g c few =
-    subst (λ (names : Option Connect). HasDeeds (connecting c.args.admin.now names) false c.args.session.now c.args.session.now (g.A.Rows.reached c.args.rows.now) (g.A.Rows.reached c.args.rows.now)) (sym c.in-None.is)
-    (no_deeds c.args.session.now (g.A.Rows.reached c.args.rows.now))
+returns-in-None-clause-did g c few setting answers =
+    subst (λ (names : Option Connect). HasDeeds setting (connect_selections names) (connecting c.args.admin.now names) false c.args.session.now c.args.session.now answers answers (g.A.Rows.reached c.args.rows.now) (g.A.Rows.reached c.args.rows.now)) (sym c.in-None.is)
+    (no_deeds setting c.args.session.now answers (g.A.Rows.reached c.args.rows.now))

@@ -1,9 +1,10 @@
-use Rattle.std.proofs.Common.{◌≡◌, ◌∙◌, ℕ, List, ap, sym, subst, length, arith}
+use Rattle.std.proofs.Common.{◌≡◌, ◌∙◌, ℕ, List, map, ap, sym, subst, length, arith}
 use Rattle.pfs_admin.specs.States.{State as Administration}
 use Rattle.pfs_event.specs.declared.kind.EventKind.{EventKind}
 use Rattle.pfs_event.specs.Nesting.{OpenEvents}
 use Rattle.pfs_facts.specs.Steps.{kinds_at, kinds_in}
 use Rattle.pfs_play.specs.Errands.{StagesLie, actions_on, admin_after, cost_on, kinds_after}
+use Rattle.pfs_runs.specs.Answers.{selection_on}
 use Rattle.pfs_script.specs.declared.blocks.BlockLine.{BlockLine}
 use Rattle.pfs_script.specs.Marks.{written_out}
 use Rattle.pfs_session.specs.States.{State}
@@ -82,14 +83,20 @@ returns-in-Ok-clause-did g c few =
     let admin : Administration = c.args.admin.now in
     let number : ℕ = c.args.session.state.number in
     let numbers : c.connect_by.new.session.state.number ≡ c.args.session.state.number = ap (λ (s : State). s.number) c.connect_by.ensures.rest in
-    let its : HasDeeds (deeds_along c.connect_by.new.admin (written_out c.args.block.now.lines)) p.over c.connect_by.new.session c.play_to_end.new.session (g.A.Rows.reached c.connect_by.new.rows) (g.A.Rows.reached c.play_to_end.new.rows) =
-    subst (λ (l : List BlockLine). HasDeeds (deeds_along c.connect_by.new.admin (written_out l)) p.over c.connect_by.new.session c.play_to_end.new.session (g.A.Rows.reached c.connect_by.new.rows) (g.A.Rows.reached c.play_to_end.new.rows)) c.as_slice.ensures p.did in
-    let lines : HasDeeds (deeds_along (connected_by admin number c.args.block.now.connect) (written_out c.args.block.now.lines)) p.over c.connect_by.new.session c.play_to_end.new.session (g.A.Rows.reached c.connect_by.new.rows) (g.A.Rows.reached c.play_to_end.new.rows) =
-    subst (λ (a : Administration). HasDeeds (deeds_along a (written_out c.args.block.now.lines)) p.over c.connect_by.new.session c.play_to_end.new.session (g.A.Rows.reached c.connect_by.new.rows) (g.A.Rows.reached c.play_to_end.new.rows)) c.connect_by.ensures.admin its in
+    let setting = c.args.setting.now in
+    let answers = c.args.answers.now.items in
+    let behind = c.play_to_end.new.answers.items in
+    let from = g.A.Rows.reached c.connect_by.new.rows in
+    let to = g.A.Rows.reached c.play_to_end.new.rows in
+    let said : List BlockLine = c.args.block.now.lines in
+    let its : HasDeeds setting (map selection_on (written_out said)) (deeds_along c.connect_by.new.admin (written_out said)) p.over one two answers behind from to =
+    subst (λ (l : List BlockLine). HasDeeds setting (map selection_on (written_out l)) (deeds_along c.connect_by.new.admin (written_out l)) p.over one two answers behind from to) c.as_slice.ensures p.did in
+    let lines : HasDeeds setting (map selection_on (written_out said)) (deeds_along (connected_by admin number c.args.block.now.connect) (written_out said)) p.over one two answers behind from to =
+    subst (λ (a : Administration). HasDeeds setting (map selection_on (written_out said)) (deeds_along a (written_out said)) p.over one two answers behind from to) c.connect_by.ensures.admin its in
     record {
       over = p.over;
-      did = block_deeds admin number c.args.block.now.connect c.args.block.now.lines p.over c.args.session c.connect_by.new.session c.play_to_end.new.session c.pause.result (g.A.Rows.reached c.args.rows.now) (g.A.Rows.reached c.connect_by.new.rows)
-          (g.A.Rows.reached c.play_to_end.new.rows) (g.A.Rows.reached c.pause.new.rows) (c.connect_by.ensures.did few) lines c.pause.ensures.played;
+      did = block_deeds setting admin number c.args.block.now.connect said p.over old one two c.pause.result answers behind (g.A.Rows.reached c.args.rows.now) from to (g.A.Rows.reached c.pause.new.rows)
+          (c.connect_by.ensures.did few setting answers) lines c.pause.ensures.played;
       after_is = p.after_is
           ∙ (ap (λ (l : List BlockLine). ended_by (admin_after c.connect_by.new.admin (written_out l)) c.connect_by.new.session.state.number p.over) c.as_slice.ensures
           ∙ (ap (λ (a : Administration). ended_by (admin_after a (written_out c.args.block.now.lines)) c.connect_by.new.session.state.number p.over) c.connect_by.ensures.admin

@@ -1,7 +1,6 @@
 use Rattle.std.proofs.Common.{◌≡◌, ◌<◌, ◌+◌, ◌++◌, ◌∷◌, [], List, ℕ, refl, ap, sym, ◌∙◌, subst, take, drop, suc, length, get_or, arith}
 use Rattle.std.proofs.Math.Seq.{drop-cons}
 use Rattle.std.proofs.lemmas.List.{take_more}
-use Rattle.pfs_actions.specs.Done.{HasActed}
 use Rattle.pfs_admin.specs.States.{State as Administration}
 use Rattle.pfs_event.specs.declared.kind.EventKind.{EventKind}
 use Rattle.pfs_facts.specs.Steps.{kinds_at}
@@ -10,7 +9,7 @@ use Rattle.pfs_script.specs.Brackets.{kinds_behind}
 use Rattle.pfs_script.specs.Marks.{mark_of}
 use Rattle.pfs_session.specs.States.{State}
 use Rattle.pfs_play.specs.declared.errands.Errand.{Errand}
-use Rattle.pfs_play.specs.Errands.{CanPlay, MayRun, HavePlayed, StagesLie, actions_of, actions_on, admin_after, admin_behind, cost_of, cost_on, deed_of, errand_on, kinds_after}
+use Rattle.pfs_play.specs.Errands.{CanPlay, MayRun, HasRun, HavePlayed, StagesLie, actions_of, actions_on, admin_after, admin_behind, cost_of, cost_on, errand_on, kinds_after}
 use Rattle.pfs_play.proofs.Running.{may_run}
 use Rattle.pfs_play.proofs.Following.{played_nothing, played_more, run_kinds, still_lies}
 use Rattle.pfs_play.proofs.Repeating.{after_then, one_counted}
@@ -27,7 +26,7 @@ fronts lines i line lt is = take_more lines i line lt ∙ ap (λ (l : BlockLine)
 
 pub loop-line-init : goal.loop-line-init
 loop-line-init g c = record {
-  played = played_nothing c.args.admin.now c.args.session.now (g.A.Rows.reached c.args.rows.now);
+  played = played_nothing c.args.setting.now c.args.admin.now c.args.session.now c.args.answers.now.items (g.A.Rows.reached c.args.rows.now);
   admin = refl;
   can = c.requires.can;
   kinds = refl;
@@ -117,15 +116,15 @@ loop-line-preserved g c =
     let new = c.play.new.session in
     let admin : Administration = c.args.admin.now in
     let before = c.loop-line.invariant in
-    let now = c.play.ensures in
+    let now = c.in-Ok-play.ensures in
     let split = splits lines i line c.loop-line-test.true c.line-item.is in
     let front = fronts lines i line c.loop-line-test.true c.line-item.is in
     let can : CanPlay 62 at.state.opened.depth (kinds_at at.state) (line ∷ drop (i + 1) lines) = subst (CanPlay 62 at.state.opened.depth (kinds_at at.state)) split before.can in
-    let run_here : HasActed (deed_of c.loop-line.admin (errand_on line)) at new (g.A.Rows.reached c.loop-line.rows) (g.A.Rows.reached c.play.new.rows) =
-    subst (λ (errand : Errand). HasActed (deed_of c.loop-line.admin errand) at new (g.A.Rows.reached c.loop-line.rows) (g.A.Rows.reached c.play.new.rows)) c.in-Ok.ensures.asks now.run in
-    let run : HasActed (deed_of (admin_after admin (take i lines)) (errand_on line)) at new (g.A.Rows.reached c.loop-line.rows) (g.A.Rows.reached c.play.new.rows) =
-    subst (λ (a : Administration). HasActed (deed_of a (errand_on line)) at new (g.A.Rows.reached c.loop-line.rows) (g.A.Rows.reached c.play.new.rows)) before.admin run_here in
-    let kinds : kinds_at new.state ≡ kinds_behind (mark_of line) (kinds_at at.state) = run_kinds c.loop-line.admin line at new (g.A.Rows.reached c.loop-line.rows) (g.A.Rows.reached c.play.new.rows) run_here in
+    let run_here : HasRun c.args.setting.now c.loop-line.admin (errand_on line) at new c.loop-line.answers.items c.play.new.answers.items (g.A.Rows.reached c.loop-line.rows) (g.A.Rows.reached c.play.new.rows) =
+    subst (λ (errand : Errand). HasRun c.args.setting.now c.loop-line.admin errand at new c.loop-line.answers.items c.play.new.answers.items (g.A.Rows.reached c.loop-line.rows) (g.A.Rows.reached c.play.new.rows)) c.in-Ok.ensures.asks now.run in
+    let run : HasRun c.args.setting.now (admin_after admin (take i lines)) (errand_on line) at new c.loop-line.answers.items c.play.new.answers.items (g.A.Rows.reached c.loop-line.rows) (g.A.Rows.reached c.play.new.rows) =
+    subst (λ (a : Administration). HasRun c.args.setting.now a (errand_on line) at new c.loop-line.answers.items c.play.new.answers.items (g.A.Rows.reached c.loop-line.rows) (g.A.Rows.reached c.play.new.rows)) before.admin run_here in
+    let kinds : kinds_at new.state ≡ kinds_behind (mark_of line) (kinds_at at.state) = run_kinds c.args.setting.now c.loop-line.admin line at new c.loop-line.answers.items c.play.new.answers.items (g.A.Rows.reached c.loop-line.rows) (g.A.Rows.reached c.play.new.rows) run_here in
     let acts : actions_of c.in-Ok.errand ≡ actions_of (errand_on line) = ap actions_of c.in-Ok.ensures.asks in
     let cost : cost_of c.in-Ok.errand ≡ cost_of (errand_on line) = ap cost_of c.in-Ok.ensures.asks in
     let left_acts : actions_on (drop i lines) ≡ actions_of (errand_on line) + actions_on (drop (i + 1) lines) = ap actions_on split in
@@ -134,8 +133,8 @@ loop-line-preserved g c =
     now.admin ∙ (ap (admin_behind c.loop-line.admin) c.in-Ok.ensures.asks ∙ ap (λ (a : Administration). admin_behind a (errand_on line)) before.admin) in
     let stepped : c.play.new.admin.actions ≡ c.loop-line.admin.actions + actions_of c.in-Ok.errand = ap (λ (a : Administration). a.actions) now.admin ∙ one_counted c.loop-line.admin c.in-Ok.errand in
     record {
-      played = subst (λ (z : List BlockLine). HavePlayed z admin c.args.session.now new (g.A.Rows.reached c.args.rows.now) (g.A.Rows.reached c.play.new.rows)) (sym front)
-          (played_more (take i lines) line admin c.args.session.now at new (g.A.Rows.reached c.args.rows.now) (g.A.Rows.reached c.loop-line.rows) (g.A.Rows.reached c.play.new.rows) can.0.quits before.played run);
+      played = subst (λ (z : List BlockLine). HavePlayed c.args.setting.now z admin c.args.session.now new c.args.answers.now.items c.play.new.answers.items (g.A.Rows.reached c.args.rows.now) (g.A.Rows.reached c.play.new.rows)) (sym front)
+          (played_more c.args.setting.now (take i lines) line admin c.args.session.now at new c.args.answers.now.items c.loop-line.answers.items c.play.new.answers.items (g.A.Rows.reached c.args.rows.now) (g.A.Rows.reached c.loop-line.rows) (g.A.Rows.reached c.play.new.rows) can.0.quits before.played run);
       admin = behind ∙ (sym (after_then admin (take i lines) (line ∷ [])) ∙ ap (admin_after admin) (sym front));
       can = subst (λ (k : List EventKind). CanPlay 62 new.state.opened.depth k (drop (i + 1) lines)) (sym kinds)
           (subst (λ d. CanPlay 62 d (kinds_behind (mark_of line) (kinds_at at.state)) (drop (i + 1) lines)) (sym now.depth) can.1);

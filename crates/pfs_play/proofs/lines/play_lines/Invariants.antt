@@ -5,7 +5,7 @@ use Rattle.pfs_play.proofs.lines.play_lines.Given as goal
 
 abbrev pub invariant-loop-line : goal.invariant-loop-line
 invariant-loop-line g l = record {
-  played : HavePlayed (take l.line-index l.lines) l.fn.admin l.fn.session l.session (g.A.Rows.reached l.fn.rows) (g.A.Rows.reached l.rows);
+  played : HavePlayed l.setting (take l.line-index l.lines) l.fn.admin l.fn.session l.session l.fn.answers.items l.answers.items (g.A.Rows.reached l.fn.rows) (g.A.Rows.reached l.rows);
   admin : l.admin ≡ admin_after l.fn.admin (take l.line-index l.lines);
   can : CanPlay 62 l.session.state.opened.depth (kinds_at l.session.state) (drop l.line-index l.lines);
   kinds : kinds_after (kinds_at l.session.state) (drop l.line-index l.lines) ≡ kinds_after (kinds_at l.fn.session.state) l.lines;

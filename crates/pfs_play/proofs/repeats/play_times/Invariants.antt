@@ -6,7 +6,7 @@ use Rattle.pfs_play.proofs.repeats.play_times.Given as goal
 
 abbrev pub invariant-loop-round : goal.invariant-loop-round
 invariant-loop-round g l = record {
-  played : HavePlayed (copies l.round l.body) l.fn.admin l.fn.session l.session (g.A.Rows.reached l.fn.rows) (g.A.Rows.reached l.rows);
+  played : HavePlayed l.setting (copies l.round l.body) l.fn.admin l.fn.session l.session l.fn.answers.items l.answers.items (g.A.Rows.reached l.fn.rows) (g.A.Rows.reached l.rows);
   admin : l.admin ≡ admin_after l.fn.admin (copies l.round l.body);
   kinds : kinds_at l.session.state ≡ kinds_at l.fn.session.state;
   lie : StagesLie (kinds_at l.session.state);

@@ -9,7 +9,7 @@ abbrev pub invariant-loop-at : goal.invariant-loop-at
 invariant-loop-at g l = record {
   count : l.at ≤ length l.lines;
   may : AllMayPlay 62 l.session.state.opened.depth (kinds_at l.session.state) None (drop l.at l.lines);
-  gone : HaveGone (written_out l.lines) (written_out (drop l.at l.lines)) l.fn.admin l.admin l.fn.session l.session (g.A.Rows.reached l.fn.rows) (g.A.Rows.reached l.rows);
+  gone : HaveGone l.setting (written_out l.lines) (written_out (drop l.at l.lines)) l.fn.admin l.admin l.fn.session l.session l.fn.answers.items l.answers.items (g.A.Rows.reached l.fn.rows) (g.A.Rows.reached l.rows);
   kinds : kinds_after (kinds_at l.session.state) (written_out (drop l.at l.lines)) ≡ kinds_after (kinds_at l.fn.session.state) (written_out l.lines);
   lie : StagesLie (kinds_at l.session.state);
   drawn : l.session.state.drawn + length (written_out (drop l.at l.lines)) ≤ l.fn.session.state.drawn + length (written_out l.lines);

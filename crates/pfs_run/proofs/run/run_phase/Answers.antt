@@ -3,7 +3,6 @@ use Rattle.std.proofs.lemmas.Result.{on_ok_weaker}
 use Rattle.pfs_course.specs.Ahead.{ahead_of}
 use Rattle.pfs_course.specs.Course.{PhasedBlock}
 use Rattle.pfs_script.specs.declared.blocks.Block.{Block}
-use Rattle.pfs_script.specs.declared.reasons.Extent.TheVariants.{Whole}
 use Rattle.pfs_run.proofs.Running.{there, past}
 use Rattle.pfs_run.proofs.Standing.{Stands, behind}
 use Rattle.pfs_run.proofs.run.run_phase.Goals as goal
@@ -44,14 +43,16 @@ end_phase-requires c =
     let h = c.requires.here in
     let p = past c.as_slice-block-items.result.now phase.blocks i c.as_slice-block-items.ensures c.loop-block-test.false in
     record {
-      named = c.names.ensures Whole c.requires.script.0 c.args.setting.now c.args.phases.now c.requires.script.1;
-      texts = c.texts.ensures Whole c.requires.script.0 c.args.setting.now c.args.phases.now c.requires.script.1;
-      tables = c.table_names.ensures Whole c.requires.script.0 c.args.setting.now c.args.phases.now c.requires.script.1;
+      named = c.names.ensures c.requires.script.0 c.args.setting.now c.args.phases.now c.requires.script.1;
+      texts = c.texts.ensures c.requires.script.0 c.args.setting.now c.args.phases.now c.requires.script.1;
+      tables = c.table_names.ensures c.requires.script.0 c.args.setting.now c.args.phases.now c.requires.script.1;
       here = (
+        c.requires.script.0,
         c.args.phases.now,
         h.0,
         phase.blocks,
         h.1,
+        c.requires.script.1,
         behind c.args.setting.now c.args.phases.now h.0 phase h.1 i c.loop-block.runner p (c.loop-block.invariant h.0 h.1 h.2 h.3),
       );
     }

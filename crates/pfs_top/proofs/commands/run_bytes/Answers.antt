@@ -4,4 +4,4 @@ use Rattle.pfs_top.proofs.commands.run_bytes.Goals as goal
 
 pub returns-in-Ok : goal.returns-in-Ok
 returns-in-Ok g c =
-    tells_as (HasRun c.in-Ok.script.setting c.in-Ok.script.phases) (HasRead c.args.bytes.now) _ _ _ c.report.result (read_ran c.args.bytes.now c.in-Ok.script.setting c.in-Ok.script.phases c.in-Ok.ensures.gives) c.report.ensures
+    tells_as (HasRun c.in-Ok.script.setting c.in-Ok.script.phases) (HasRead c.args.bytes.now) _ _ _ c.report.result (read_ran c.args.bytes.now c.in-Ok.script.setting c.in-Ok.script.phases c.in-Ok.ensures) c.report.ensures

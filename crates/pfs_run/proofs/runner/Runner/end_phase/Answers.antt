@@ -7,14 +7,14 @@ use Rattle.pfs_run.proofs.Reporting.{blocks_good, tables_good}
 use Rattle.pfs_run.proofs.runner.Runner.end_phase.Goals as goal
 
 pub final_tables-requires : goal.final_tables-requires
-final_tables-requires c = record { away = λ row high. c.requires.here.4.idle row }
+final_tables-requires c = record { away = λ row high. c.requires.here.6.idle row }
 
 pub new-report-requires : goal.new-report-requires
 new-report-requires c =
     let h = c.requires.here in
     let told = c.new.ensures ∙ ap (λ z. z.items) c.replace-blocks.ensures.value in
     record {
-      blocks = subst (All IsBlock) (sym told) (blocks_good c.blocks-2.ensures c.args.setting.now h.0 h.1 h.2 h.3 _ _ _ _ _ _ _ _ _ _ h.4);
+      blocks = subst (All IsBlock) (sym told) (blocks_good c.blocks-2.ensures h.0 c.args.setting.now h.1 h.2 h.3 h.4 _ _ _ _ _ _ _ _ _ _ h.5 h.6);
       tables = tables_good c.tables.ensures c.args.setting.now c.in_ok-tables.tables _ _ c.requires.named c.requires.texts c.requires.tables c.in_ok-tables.ensures.tables;
       lost = c.in_ok-lost.ensures.good;
     }
@@ -23,6 +23,7 @@ pub returns : goal.returns
 returns c =
     let report : PhaseParts = record { number = c.len.result + 1; blocks = c.new.result; tables = c.in_ok-tables.tables; lost = c.in_ok-lost.lost } in
     let kept = c.in_ok-tables.ensures.kept in
+    let h = c.requires.here in
     let told = c.new.ensures ∙ ap (λ z. z.items) c.replace-blocks.ensures.value in
     λ phases before first after a. ended_along c.args.setting.now phases before first after _ _ _ _ _ _ _ _ _ _ _ _ _ _ _ _ _ report a (record {
       answers = λ start calls at. at.answers;
@@ -42,7 +43,7 @@ returns c =
       statements = c.counters.ensures.statements;
       waits = c.counters.ensures.waits;
       good = record {
-        blocks = subst (All IsBlock) (sym told) (blocks_good c.blocks-2.ensures c.args.setting.now phases before first after _ _ _ _ _ _ _ _ _ _ a);
+        blocks = subst (All IsBlock) (sym told) (blocks_good c.blocks-2.ensures h.0 c.args.setting.now h.1 h.2 h.3 h.4 _ _ _ _ _ _ _ _ _ _ h.5 h.6);
         tables = tables_good c.tables.ensures c.args.setting.now c.in_ok-tables.tables _ _ c.requires.named c.requires.texts c.requires.tables c.in_ok-tables.ensures.tables;
         lost = c.in_ok-lost.ensures.good;
       };

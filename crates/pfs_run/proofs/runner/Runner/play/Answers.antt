@@ -13,7 +13,7 @@ use Rattle.pfs_run.proofs.At.{ready_at, slots_at, spare_at, tickets_at, actions_
 use Rattle.pfs_run.proofs.Going.{next_along}
 use Rattle.pfs_run.proofs.Here.{is_here}
 use Rattle.pfs_run.proofs.Ready.{ready_same}
-use Rattle.pfs_run.proofs.Stepping.{is_done}
+use Rattle.pfs_run.proofs.Stepping.{from_none, is_done}
 use Rattle.pfs_run.proofs.runner.Runner.play.Goals as goal
 
 pub take_seat-requires-clause-low : goal.take_seat-requires-clause-low
@@ -143,10 +143,12 @@ returns c before first others after is along =
     let empty : c.reserve.new.self.journal.entries ≡ c.in_ok-session.session.journal.entries = ap (λ (j : Journal). j.entries) c.in_ok-reserve.ensures.ok in
     let begun = ready_same c.args.setting.now c.args.phases.now _ (along.earlier ++ along.current) c.args.self.now.admin c.args.block.now c.in_ok-session.session c.reserve.new.self c.reserve.ensures.state empty taken in
     let few = slots_at c.args.setting.now c.args.phases.now before first c.args.block.now others after _ _ _ _ _ c.args.self.now.admin c.args.self.now.seats.items c.args.self.now.lost _ _ along here in
-    let done = is_done c.args.setting.now c.args.phases.now before first c.args.block.now others after (along.earlier ++ along.current) c.args.self.now.admin c.play_block.new.admin c.reserve.new.self c.in_ok-paused.paused along.start along.calls _ _
-    here along.course along.none_over begun.state begun.entries (c.in_ok-paused.ensures.did few) along.opens along.led along.alike (λ more r. r.answers) here.playable.short in
     let text : c.as_slice-2.result.now ≡ c.in_ok-paused.paused.journal.entries = c.as_slice-2.ensures.value ∙ (c.into_entries-entries.ensures ∙ ap (λ (j : Journal). j.entries) c.take_log.ensures.journal) in
-    let report : BlockReport = record { session = c.args.block.now.session; entries = c.new.result; answers = c.new-3.result } in
+    let report : BlockReport = record { session = c.args.block.now.session; entries = c.new.result; answers = c.new-2.result } in
+    let played = from_none c.args.setting.now c.args.block.now c.args.self.now.admin c.play_block.new.admin c.reserve.new.self c.in_ok-paused.paused c.new-answers.result.items c.play_block.new.answers.items report.answers _ _
+    (c.in_ok-paused.ensures.did few) c.new-answers.ensures.items c.new-2.ensures in
+    let done = is_done c.args.setting.now c.args.phases.now before first c.args.block.now others after (along.earlier ++ along.current) c.args.self.now.admin c.play_block.new.admin c.reserve.new.self c.in_ok-paused.paused report.answers along.start along.calls _ _
+    here along.course along.none_over begun.state begun.entries played along.opens along.led along.alike (λ more r. r.answers) here.playable.short in
     next_along c.args.setting.now c.args.phases.now before first c.args.block.now others after _ _ _ _ _ _ _ _ _ _ c.args.self.now.admin c.play_block.new.admin c.args.self.now.seats.items c.keep_seat.new.seats.items c.args.self.now.lost c.count_lost-self.result
     _ c.args.self.now.blocks.items c.push.new.self.items report c.reserve.new.self c.in_ok-paused.paused c.take_log.new.self here along begun done
     (ap (λ (b : Book). b.state) c.take_log.ensures.rest) (ap (λ (b : Book). b.journal.entries) c.take_log.ensures.rest) c.in_ok-paused.ensures.free c.in_ok-paused.ensures.kinds c.in_ok-paused.ensures.lie c.in_ok-paused.ensures.drawn
@@ -154,4 +156,4 @@ returns c before first others after is along =
     (c.keep_seat.ensures ∙ ap (λ (z : List (Option Book)). slice_set z (c.args.block.now.session - 1) (Some c.take_log.new.self)) c.in_ok-session.ensures.seats)
     (c.count_lost-self.ensures.digests ∙ ap (λ (es : List Entry). c.args.self.now.lost.digests + lost_digests es) text)
     (c.count_lost-self.ensures.statements ∙ ap (λ (es : List Entry). c.args.self.now.lost.statements + lost_statements es) text) (c.count_lost-self.ensures.waits ∙ ap (λ (es : List Entry). c.args.self.now.lost.waits + lost_waits es) text)
-    refl (c.new.ensures ∙ (sym c.as_slice-2.ensures.value ∙ text)) (c.new-3.ensures ∙ c.new-2.ensures.items) c.in_ok-push.ensures.items
+    refl (c.new.ensures ∙ (sym c.as_slice-2.ensures.value ∙ text)) c.in_ok-push.ensures.items

@@ -1,0 +1,4 @@
+pub mod Looking
+pub mod Holding
+pub mod Answering
+mod Examples

@@ -1,0 +1,34 @@
+use Rattle.std.proofs.Common.{ℕ, ◌≡◌, List, [], ◌∷◌, ap, ◌∙◌, arith, subst, length}
+use Rattle.pfs_actions.proofs.Acting.{remarked}
+use Rattle.pfs_exec.specs.Selecting.{IsAnswer}
+use Rattle.pfs_parts.specs.Deeds.{remark}
+use Rattle.pfs_rows.specs.declared.table.Reading.{Reading}
+use Rattle.pfs_runs.specs.Answers.{Answer}
+use Rattle.pfs_session.specs.Turns.{Played}
+use Rattle.pfs_session.specs.declared.remarks.Remark.TheVariants.{Query, Rows}
+use Rattle.pfs_tables.specs.Shown.{listed_rows}
+use Rattle.pfs_play.proofs.Asking.{queried}
+use Rattle.pfs_play.proofs.Running.{query_ran}
+use Rattle.pfs_play.proofs.queries.query.Goals as goal
+
+pub append-requires-2 : goal.append-requires-2
+append-requires-2 g c = record { room = omega (arith, c.append.ensures.room, c.in_ok-readings.ensures.uses.room, c.requires.room) }
+
+pub returns-clause-run : goal.returns-clause-run
+returns-clause-run g c =
+    let readings : List Reading = c.in_ok-readings.readings in
+    let answer : Answer = c.in_ok-answer.answer in
+    let listed : c.in_ok-shown.shown ≡ listed_rows c.args.setting.now c.args.what.table readings = c.in_ok-shown.ensures.rows ∙ ap (listed_rows c.args.setting.now c.args.what.table) c.as_slice.ensures in
+    let begin : Played (remark Query ∷ []) c.args.session.now c.append.new.self (g.R.Rows.reached c.args.rows.now) (g.R.Rows.reached c.args.rows.now) =
+    remarked Query c.args.session.now c.append.new.self (g.R.Rows.reached c.args.rows.now) c.append.ensures.does c.append.ensures.entries in
+    let end : Played (remark (Rows (length answer)) ∷ []) c.look_at.new.session c.append-2.new.self (g.R.Rows.reached c.look_at.new.rows) (g.R.Rows.reached c.look_at.new.rows) =
+    subst (λ (n : ℕ). Played (remark (Rows n) ∷ []) c.look_at.new.session c.append-2.new.self (g.R.Rows.reached c.look_at.new.rows) (g.R.Rows.reached c.look_at.new.rows)) (ap length c.as_slice-2.ensures)
+    (remarked (Rows (length c.as_slice-2.result.now)) c.look_at.new.session c.append-2.new.self (g.R.Rows.reached c.look_at.new.rows) c.append-2.ensures.does c.append-2.ensures.entries) in
+    λ admin. query_ran c.args.setting.now admin c.args.what readings answer c.args.session.now c.append-2.new.self c.args.answers.now.items c.push.new.self.items (g.R.Rows.reached c.args.rows.now) (g.R.Rows.reached c.look_at.new.rows)
+    c.in_ok-readings.ensures.whole (subst (λ (rows : Answer). IsAnswer c.args.what rows answer) listed c.in_ok-answer.ensures) c.in_ok-push.ensures.items
+    (queried readings (length answer) c.args.session.now c.append.new.self c.look_at.new.session c.append-2.new.self (g.R.Rows.reached c.args.rows.now) (g.R.Rows.reached c.look_at.new.rows) begin c.in_ok-readings.ensures.played end)
+
+pub returns-clause-uses : goal.returns-clause-uses
+returns-clause-uses g c =
+    let used = c.in_ok-readings.ensures.uses in
+    record { hand = used.hand; left = used.left; draws = used.draws; name = used.name; room = omega (arith, c.append.ensures.room, used.room, c.append-2.ensures.room) }

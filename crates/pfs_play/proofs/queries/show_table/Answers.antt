@@ -1,0 +1,40 @@
+use Rattle.std.proofs.Common.{◌+◌, ◌≤◌, arith, ap, length}
+use Rattle.pfs_session.proofs.Owed.{nothing_owed}
+use Rattle.pfs_session.specs.Settles.{owed_by_state}
+use Rattle.pfs_session.specs.States.{State}
+use Rattle.pfs_play.proofs.Running.{show_ran}
+use Rattle.pfs_play.proofs.Width.{owed_fits, settling_fits}
+use Rattle.pfs_play.proofs.queries.show_table.Goals as goal
+
+pub show_held-requires-clause-spare : goal.show_held-requires-clause-spare
+show_held-requires-clause-spare g c =
+    let owed = owed_fits c.args.session.now.state c.requires.wide in
+    omega (arith, owed, c.requires.spare)
+
+pub show_held-requires-clause-room : goal.show_held-requires-clause-room
+show_held-requires-clause-room g c =
+    let owed = settling_fits c.args.session.now.state c.requires.wide in
+    omega (arith, owed, c.requires.room)
+
+pub returns-clause-run : goal.returns-clause-run
+returns-clause-run g c = λ setting.
+    show_ran setting c.args.admin.now c.args.what c.in_ok-answer.answer c.args.session.now c.show_held.new.session c.args.answers.now.items c.push.new.self.items (g.A.Rows.reached c.args.rows.now) (g.A.Rows.reached c.show_held.new.rows)
+    c.in_ok-answer.ensures.answered c.in_ok-push.ensures.items c.in_ok-answer.ensures.acted
+
+pub returns-clause-owed : goal.returns-clause-owed
+returns-clause-owed g c =
+    let same = ap (λ (s : State). length (owed_by_state s)) c.show_held.ensures.rest in
+    let none = ap length (nothing_owed c.args.session.now.state.place.thread) in
+    omega (arith, same, none)
+
+pub returns-clause-leaves : goal.returns-clause-leaves
+returns-clause-leaves g c =
+    let owed = owed_fits c.args.session.now.state c.requires.wide in
+    let settling = settling_fits c.args.session.now.state c.requires.wide in
+    record {
+      hand = c.show_held.ensures.leaves.hand;
+      left = omega (arith, owed, c.show_held.ensures.leaves.left);
+      draws = c.show_held.ensures.leaves.draws;
+      name = c.show_held.ensures.leaves.name;
+      room = omega (arith, settling, c.show_held.ensures.leaves.room);
+    }

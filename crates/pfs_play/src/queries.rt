@@ -1,0 +1,126 @@
+//! SELECTs of a session: what is read of the store, and what is held by the administration.
+
+ghost use Rattle.std.specs.Prelude.{◌≡◌, ◌<◌, ◌≤◌, ◌+◌, ◌^◌, ℕ, None, Some, IfOk, OnOk, length};
+ghost use Rattle.pfs_admin.specs.Setups.{has_changed};
+ghost use Rattle.pfs_admin.specs.States.{State as Administration};
+ghost use Rattle.pfs_admin.specs.Works.{Leaves};
+ghost use Rattle.pfs_admin.specs.declared.changes.SetupStatement.TheVariants.{Show};
+ghost use Rattle.pfs_classes.specs.declared.setting.Setting.{Setting as AnySetting};
+ghost use Rattle.pfs_parts.specs.Deeds.{looks};
+ghost use Rattle.pfs_reader.specs.Readings.{HoldsNone};
+ghost use Rattle.pfs_readsets.specs.Places.{scope_of};
+ghost use Rattle.pfs_readsets.specs.ReadSets.{IsReadSet};
+ghost use Rattle.pfs_session.specs.Settles.{owed_by_state};
+ghost use Rattle.pfs_session.specs.States.{nothing_held};
+ghost use Rattle.pfs_session.specs.Turns.{Played};
+ghost use Rattle.pfs_session.specs.Using.{Uses};
+ghost use Rattle.pfs_show.specs.Rows.{IsHeld};
+ghost use Rattle.pfs_play.specs.Errands.{HasRun};
+ghost use Rattle.pfs_play.specs.declared.errands.Errand.TheVariants as ask;
+
+use crate::NoMemory;
+use pfs_actions::show_held;
+use pfs_admin::Admin;
+use pfs_classes::Setting;
+use pfs_exec::{Select, select};
+use pfs_levels::{Acts, Rows};
+use pfs_reader::{Reader, ReadingList};
+use pfs_rows::Table;
+use pfs_session::{Remark, Session};
+use pfs_tables::listed;
+use pfs_values::Rowset;
+use std::alloc::Global;
+
+// All readings of a table's read set, one after another.
+fn look_at<R: Rows>(
+    alloc: Global,
+    setting: &Setting,
+    session: &mut Session,
+    rows: &mut R,
+    table: Table,
+) -> Result<ReadingList, NoMemory>
+    requires away { HoldsNone (R.hand rows.old) }
+    requires room { 14403 ≤ session.old.journal.room }
+    ensures whole { IfOk result (λ readings. IsReadSet (scope_of setting.now) table readings) }
+    ensures played { IfOk result (λ readings. Played (looks readings) session.old session.new (R.reached rows.old)
+        (R.reached rows.new)) }
+    ensures state { session.new.state ≡ session.old.state }
+    ensures uses { OnOk result (Uses 0 0 14403 (R.hand rows.old) (R.hand rows.new) (R.left rows.old)
+        (R.left rows.new) (R.draws rows.old) (R.draws rows.new) (R.name rows.old) (R.name rows.new)
+        session.old.journal session.new.journal) }
+    ensures words { R.words rows.new ≡ R.words rows.old }
+{
+    let mut reader = Reader::open(setting, table);
+    let mut readings = Vec::new(alloc);
+    while let Some(reading) = session.look(rows, &mut reader) {
+        readings.push(reading)?;
+    }
+    Ok(ReadingList::new(readings))
+}
+
+/// Answers a SELECT by what is read of the store: its table's read set, each row and word once, whatever was recorded.
+/// Err is NoMemory alone.
+pub(crate) fn query<R: Rows>(
+    alloc: Global,
+    setting: &Setting,
+    session: &mut Session,
+    rows: &mut R,
+    answers: &mut Vec<Rowset>,
+    what: Select,
+) -> Result<(), NoMemory>
+    requires away { HoldsNone (R.hand rows.old) }
+    requires room { 14405 ≤ session.old.journal.room }
+    ensures run { OnOk result ((admin : Administration) → HasRun setting.now admin (ask.Query what) session.old
+        session.new answers.old.items answers.new.items (R.reached rows.old) (R.reached rows.new)) }
+    ensures state { OnOk result (session.new.state ≡ session.old.state) }
+    ensures uses { OnOk result (Uses 0 0 14405 (R.hand rows.old) (R.hand rows.new) (R.left rows.old)
+        (R.left rows.new) (R.draws rows.old) (R.draws rows.new) (R.name rows.old) (R.name rows.new)
+        session.old.journal session.new.journal) }
+    ensures words { OnOk result (R.words rows.new ≡ R.words rows.old) }
+{
+    session.append(Remark::Query);
+    let readings = look_at(alloc, setting, session, rows, what.table)?;
+    let shown = listed(alloc, setting, what.table, readings.as_slice())?;
+    let answer = select(alloc, &what, &shown)?;
+    session.append(Remark::Rows(answer.as_slice().len() as u64));
+    answers.push(answer)?;
+    Ok(())
+}
+
+/// Answers a SELECT by what the administration holds, an action. Whatever is held, it takes no more than this. Err is
+/// NoMemory alone.
+pub(crate) fn show_table<A: Acts>(
+    alloc: Global,
+    session: &mut Session,
+    rows: &mut A,
+    admin: &mut Admin,
+    answers: &mut Vec<Rowset>,
+    what: Select,
+) -> Result<(), NoMemory>
+    requires held { IsHeld what.table }
+    requires rare { session.old.state.actions + 1 < 2 ^ 64 }
+    requires wide { length session.old.state.held ≡ 193 }
+    requires few { admin.old.actions < 2 ^ 47 }
+    requires idle { (r : ℕ) → A.hand rows.old r ≡ None }
+    requires lent { A.words rows.old ≡ Some admin.old.words }
+    requires spare { 194 ≤ A.left rows.old }
+    requires room { 260 ≤ session.old.journal.room }
+    ensures run { OnOk result ((setting : AnySetting) → HasRun setting admin.old (ask.Show what) session.old session.new
+        answers.old.items answers.new.items (A.reached rows.old) (A.reached rows.new)) }
+    ensures admin { OnOk result (admin.new ≡ has_changed admin.old Show) }
+    ensures rest { OnOk result (session.new.state ≡ record session.old.state {
+      held = nothing_held;
+      actions = session.old.state.actions + 1;
+      last = session.new.state.last;
+    }) }
+    ensures owed { OnOk result (length (owed_by_state session.new.state)
+        ≤ length (owed_by_state session.old.state)) }
+    ensures leaves { OnOk result (Leaves 194 260 (A.hand rows.old) (A.hand rows.new) (A.left rows.old)
+        (A.left rows.new) (A.draws rows.old) (A.draws rows.new) (A.name rows.old) (A.name rows.new)
+        session.old.journal session.new.journal) }
+    ensures lent { OnOk result (A.words rows.new ≡ Some admin.new.words) }
+{
+    let answer = show_held(alloc, session, rows, admin, &what)?;
+    answers.push(answer)?;
+    Ok(())
+}

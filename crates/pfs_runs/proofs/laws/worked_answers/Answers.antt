@@ -1,0 +1,5 @@
+use Rattle.pfs_runs.proofs.WorkedAnswers.{answered}
+use Rattle.pfs_runs.proofs.laws.worked_answers.Goals as goal
+
+pub returns : goal.returns
+returns c = answered
