@@ -40,8 +40,8 @@ use Rattle.pfs_facts.proofs.OpenKinds.{kinds_part}
 use Rattle.pfs_requests.specs.Requests.{request_of}
 use Rattle.pfs_requests.specs.declared.requests.Request.{Request}
 use Rattle.pfs_requests.specs.declared.requests.Request.TheVariants as requests
-use Rattle.pfs_play.specs.declared.errands.Errand.{Errand}
-use Rattle.pfs_play.specs.declared.errands.Errand.TheVariants as ask
+use Rattle.pfs_play.specs.Errand.{Errand}
+use Rattle.pfs_play.specs.Errand as ask
 use Rattle.pfs_play.specs.Errands.{admin_after, admin_behind, deed_of, errand_on, selection_of, sql_errand, is_quit, HasRun, HavePlayed, AreOf, StagesLie}
 
 sql_same : (admin : Administration) (what : Request) → deed_of admin (sql_errand what) ≡ sql_deed admin what

@@ -12,8 +12,8 @@ use Rattle.pfs_script.specs.declared.blocks.BlockLine.{BlockLine}
 use Rattle.pfs_script.specs.Marks.{copies}
 use Rattle.pfs_session.specs.States.{State, Book}
 use Rattle.pfs_session.specs.Turns.{state_after}
-use Rattle.pfs_play.specs.declared.errands.Errand.{Errand}
-use Rattle.pfs_play.specs.declared.errands.Errand.TheVariants as ask
+use Rattle.pfs_play.specs.Errand.{Errand}
+use Rattle.pfs_play.specs.Errand as ask
 use Rattle.pfs_play.proofs.Following.{answers_on}
 use Rattle.pfs_play.specs.Errands.{HavePlayed, AreOf, actions_of, admin_after, admin_behind, errand_on}
 

@@ -17,7 +17,7 @@ use Rattle.pfs_levels.specs.Calls.{Call, Opening}
 use Rattle.pfs_model.specs.Journals.{joined}
 use Rattle.pfs_model.specs.declared.lines.Subject.{Subject}
 use Rattle.pfs_classes.specs.declared.setting.Setting.{Setting}
-use Rattle.pfs_parts.specs.Deeds.{Deed, Ending, Part, Querying, Refusing, Showing, Spending, Staging, StageEnding, action_of, looks, part_calls, part_entries, remark, steps_for}
+use Rattle.pfs_parts.specs.Deeds.{Deed, Ending, Part, Querying, Refusing, Showing, Spending, Staging, StageEnding, Starting, action_of, looks, part_calls, part_entries, remark, steps_for}
 use Rattle.pfs_readsets.specs.Places.{scope_of}
 use Rattle.pfs_readsets.specs.ReadSets.{IsReadSet}
 use Rattle.pfs_rows.specs.declared.table.Reading.{Reading}
@@ -34,12 +34,12 @@ use Rattle.pfs_session.specs.Inquiries.{Remarks, remark_entry}
 use Rattle.pfs_session.specs.declared.remarks.Remark.TheVariants.{Query, Refused, Rows}
 use Rattle.pfs_session.specs.Leaving.{HasStaged}
 use Rattle.pfs_session.specs.States.{Book, without_stage}
-use Rattle.pfs_session.specs.Turns.{Step, EndsEvent, Spends, Inquires, Does, Played, stage_ends, stage_steps}
+use Rattle.pfs_session.specs.Turns.{Step, EndsEvent, Spends, StartsEvent, Inquires, Does, Played, stage_ends, stage_steps}
 use Rattle.pfs_session.specs.declared.events.Numbers.{Numbers}
 use Rattle.pfs_session.proofs.Playing.{played_one, played_then}
 use Rattle.pfs_facts.specs.Steps.{kinds_in}
-use Rattle.pfs_play.specs.declared.errands.Errand.{Errand}
-use Rattle.pfs_play.specs.declared.errands.Errand.TheVariants as ask
+use Rattle.pfs_play.specs.Errand.{Errand}
+use Rattle.pfs_play.specs.Errand as ask
 use Rattle.pfs_changes.specs.declared.changes.Change.{Change}
 use Rattle.pfs_changes.specs.declared.changes.Change.TheVariants as changes
 use Rattle.pfs_exec.specs.Planning.{fault_of, plan_of, table_text}
@@ -127,6 +127,31 @@ acted_ran setting admin errand old new answers was now none plain acted = record
 pub stage_plain : (admin : Administration) (subject : Option Subject) → bare (deed_of admin (ask.Stage subject)) ≡ deed_of admin (ask.Stage subject)
 stage_plain admin None = refl
 stage_plain admin (Some subject) = refl
+
+-- a line that starts an event, changes the stage, ends an event or lets time pass is run
+pub started_ran : (setting : Setting) (admin : Administration) (line : BlockLine) (subject : Subject) (old new : Book) (answers : List Answer) (was now : Opening → List Call → Type 0) → errand_on line ≡ ask.Start subject
+    → Played (StartsEvent subject ∷ []) old new was now → HasRun setting admin (errand_on line) old new answers answers was now
+started_ran setting admin line subject old new answers was now is played =
+    subst (λ (errand : Errand). HasRun setting admin errand old new answers answers was now) (sym is)
+    (acted_ran setting admin (ask.Start subject) old new answers was now refl refl (ran (Starting subject) _ old new was now refl refl played))
+
+pub staged_ran : (setting : Setting) (admin : Administration) (line : BlockLine) (subject : Option Subject) (old new : Book) (answers : List Answer) (was now : Opening → List Call → Type 0) → errand_on line ≡ ask.Stage subject
+    → Played (stage_steps old.state.opened.events subject) old new was now → HasRun setting admin (errand_on line) old new answers answers was now
+staged_ran setting admin line subject old new answers was now is played =
+    subst (λ (errand : Errand). HasRun setting admin errand old new answers answers was now) (sym is)
+    (acted_ran setting admin (ask.Stage subject) old new answers was now refl (stage_plain admin subject) (stage_ran admin subject old new was now played))
+
+pub ended_ran : (setting : Setting) (admin : Administration) (line : BlockLine) (numbers : Numbers) (old new : Book) (answers : List Answer) (was now : Opening → List Call → Type 0) → errand_on line ≡ ask.End numbers
+    → HasActed (Ending numbers) old new was now → HasRun setting admin (errand_on line) old new answers answers was now
+ended_ran setting admin line numbers old new answers was now is acted =
+    subst (λ (errand : Errand). HasRun setting admin errand old new answers answers was now) (sym is)
+    (acted_ran setting admin (ask.End numbers) old new answers was now refl refl acted)
+
+pub spent_ran : (setting : Setting) (admin : Administration) (line : BlockLine) (time : ℕ) (old new : Book) (answers : List Answer) (was : Opening → List Call → Type 0) → errand_on line ≡ ask.Spend time
+    → Does old.state (Spends time) [] [] new.state → new.journal ≡ old.journal → HasRun setting admin (errand_on line) old new answers answers was was
+spent_ran setting admin line time old new answers was is does same =
+    subst (λ (errand : Errand). HasRun setting admin errand old new answers answers was was) (sym is)
+    (acted_ran setting admin (ask.Spend time) old new answers was was refl refl (spend_ran time old new was does same))
 
 -- a SELECT's answer stands behind the others
 pub query_ran : (setting : Setting) (admin : Administration) (select : Select) (readings : List Reading) (answer : Answer) (old new : Book) (answers behind : List Answer) (was now : Opening → List Call → Type 0)

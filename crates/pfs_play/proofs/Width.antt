@@ -8,7 +8,7 @@ use Rattle.pfs_admin.specs.declared.changes.SetupStatement.TheVariants as statem
 use Rattle.pfs_admin.specs.States.{State as Administration}
 use Rattle.pfs_classes.specs.declared.setting.Setting.{Setting}
 use Rattle.pfs_runs.specs.Answers.{Answer}
-use Rattle.pfs_play.specs.declared.errands.Errand.{Errand}
+use Rattle.pfs_play.specs.Errand.{Errand}
 use Rattle.pfs_play.specs.Errands.{HasRun}
 use Rattle.pfs_changes.specs.Inserts.{table_of}
 use Rattle.pfs_event.specs.Verdicts.{is_let_through}
@@ -22,7 +22,7 @@ use Rattle.pfs_rows.specs.declared.table.Table.TheVariants as tables
 use Rattle.pfs_session.specs.Ends.{EndsIn, DigestsIn}
 use Rattle.pfs_session.specs.Settles.{owed_from, owed_in, owed_by_state, settle_cost}
 use Rattle.pfs_session.specs.States.{State, Book, Owed, nothing_held}
-use Rattle.pfs_session.specs.Turns.{Step, StartsEvent, EndsEvent, Spends, SettlesHeld, Connects, Quits, Truncates, Changes, Inquires, Does, Turn, AreTurns, state_after}
+use Rattle.pfs_session.specs.Turns.{Step, StartsEvent, EndsEvent, Spends, SettlesHeld, Connects, Quits, Truncates, Changes, Inquires, Does, Played, Turn, AreTurns, state_after}
 use Rattle.pfs_session.specs.declared.events.Numbers.{Numbers}
 use Rattle.pfs_stat.specs.declared.Stat.{Stat}
 
@@ -103,7 +103,11 @@ words_fit (statements.Insert insert) = table_words (table_of insert.row)
 words_fit (statements.Delete delete) = table_words delete.table
 words_fit statements.Show = omega arith
 
--- so it is behind what it did in one part
+-- so it is behind steps that were played
+pub played_wide : (steps : List Step) (old new : Book) (was now : Opening → List Call → Type 0) → Played steps old new was now → width old.state ≡ 193 → width new.state ≡ 193
+played_wide steps old new was now p wide = ap width p.state_is ∙ turns_wide old.state p.turns p.are_turns wide
+
+-- and behind what it did in one part
 pub acted_wide : (deed : Deed) (old new : Book) (was now : Opening → List Call → Type 0) → HasActed deed old new was now → width old.state ≡ 193 → width new.state ≡ 193
 acted_wide deed old new was now run wide = ap width run.done.state ∙ parts_wide old.state (run.part ∷ []) run.done.are_parts wide
 

@@ -30,8 +30,8 @@ use Rattle.pfs_requests.specs.Requests.{request_of}
 use Rattle.pfs_requests.specs.declared.requests.Request.{Request}
 use Rattle.pfs_requests.specs.declared.requests.Request.TheVariants as requests
 use Rattle.pfs_show.specs.Rows.{IsHeld}
-use Rattle.pfs_play.specs.declared.errands.Errand.{Errand}
-use Rattle.pfs_play.specs.declared.errands.Errand.TheVariants as ask
+use Rattle.pfs_play.specs.Errand.{Errand}
+use Rattle.pfs_play.specs.Errand as ask
 
 -- a text that is refused is no action, and neither is a SELECT whose rows are read of the store
 abbrev pub sql_errand : Request → Errand
@@ -176,6 +176,10 @@ StagesLie (Transaction ∷ kinds) = StagesLie kinds
 abbrev pub is_quit : BlockLine → Bool
 is_quit said.Quit = true
 is_quit _ = false
+
+abbrev pub is_sql : BlockLine → Bool
+is_sql (said.Sql text) = true
+is_sql _ = false
 
 -- the table that a line names
 abbrev pub IsKnownTable : BlockLine → Type 0

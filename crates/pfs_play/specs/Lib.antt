@@ -1,2 +1,3 @@
+pub mod Errand
 pub mod Errands
 pub mod Repeats

@@ -2,16 +2,14 @@
 #![tactic(auto)]
 
 mod costs;
-mod errands;
+mod events;
 mod lines;
-mod playing;
 mod queries;
 mod repeats;
+mod requests;
 
 pub use costs::written_cost;
-pub use errands::{Errand, errand_of};
-pub use lines::play_lines;
-pub use playing::play;
+pub use lines::{play_line, play_lines};
 pub use repeats::{play_times, play_written};
 
 /// Memory ran out.

@@ -1,20 +1,79 @@
 //! Playing lines of a script one after another.
 
-ghost use Rattle.std.specs.Prelude.{◌≡◌, ◌<◌, ◌≤◌, ◌+◌, ◌*◌, ◌^◌, ℕ, None, Some, OnOk, length};
+ghost use Rattle.std.specs.Prelude.{◌≡◌, ◌<◌, ◌≤◌, ◌+◌, ◌*◌, ◌^◌, ℕ, None, Some, OnOk, false, length};
 ghost use Rattle.pfs_session.specs.Using.{Uses};
-ghost use Rattle.pfs_play.specs.Errands.{CanPlay, HavePlayed, StagesLie, actions_on, admin_after, cost_on, kinds_after};
+ghost use Rattle.pfs_session.specs.Settles.{owed_by_state};
+ghost use Rattle.pfs_play.specs.Errands.{CanPlay, HasRun, HavePlayed, MayRun, StagesLie, actions_of, actions_on, admin_after, admin_behind, cost_of, cost_on, errand_on, is_quit, kinds_after};
 ghost use Rattle.pfs_facts.specs.Steps.{kinds_at};
 
 use crate::NoMemory;
-use crate::errands::errand_of;
-use crate::playing::play;
+use crate::events::play_event;
+use crate::requests::play_request;
 use pfs_admin::Admin;
 use pfs_classes::Setting;
 use pfs_levels::Acts;
+use pfs_requests::request_of;
 use pfs_script::BlockLine;
 use pfs_session::Session;
 use pfs_values::Rowset;
 use std::alloc::Global;
+
+/// Plays a line that doesn't end its session. The answer of a SELECT comes behind the others. Err is NoMemory alone.
+pub fn play_line<A: Acts>(
+    alloc: Global,
+    setting: &Setting,
+    session: &mut Session,
+    rows: &mut A,
+    admin: &mut Admin,
+    answers: &mut Vec<Rowset>,
+    line: &BlockLine,
+) -> Result<(), NoMemory>
+    requires stays { is_quit line.now ≡ false }
+    requires may { MayRun (errand_on line.now) session.old.state.opened }
+    requires early { session.old.state.drawn + 1 < 2 ^ 64 }
+    requires rare { session.old.state.actions + actions_of (errand_on line.now) < 2 ^ 64 }
+    requires wide { length session.old.state.held ≡ 193 }
+    requires few { admin.old.actions + actions_of (errand_on line.now) ≤ 2 ^ 47 }
+    requires idle { (r : ℕ) → A.hand rows.old r ≡ None }
+    requires lent { A.words rows.old ≡ Some admin.old.words }
+    requires tickets { 2 ≤ A.draws rows.old }
+    requires spare { 11 + 20192 * actions_of (errand_on line.now) ≤ A.left rows.old }
+    requires room { cost_of (errand_on line.now) ≤ session.old.journal.room }
+    ensures run { OnOk result (HasRun setting.now admin.old (errand_on line.now) session.old session.new answers.old.items
+        answers.new.items (A.reached rows.old) (A.reached rows.new)) }
+    ensures admin { OnOk result (admin.new ≡ admin_behind admin.old (errand_on line.now)) }
+    ensures drawn { OnOk result (session.new.state.drawn ≤ session.old.state.drawn + 1) }
+    ensures actions { OnOk result (session.new.state.actions ≡ session.old.state.actions + actions_of (errand_on line.now)) }
+    ensures rest { OnOk result (session.new.state ≡ record session.old.state {
+      clock = session.new.state.clock;
+      drawn = session.new.state.drawn;
+      opened = session.new.state.opened;
+      held = session.new.state.held;
+      actions = session.new.state.actions;
+      last = session.new.state.last;
+      nexts = session.new.state.nexts;
+    }) }
+    ensures last { OnOk result (actions_of (errand_on line.now) ≡ 0 → session.new.state.last ≡ session.old.state.last) }
+    ensures depth { OnOk result (session.new.state.opened.depth ≡ session.old.state.opened.depth) }
+    ensures wide { OnOk result (length session.new.state.held ≡ 193) }
+    ensures owed { OnOk result (length (owed_by_state session.new.state)
+        ≤ length (owed_by_state session.old.state) + 4) }
+    ensures leaves { OnOk result (Uses (11 + 20192 * actions_of (errand_on line.now)) 2 (cost_of (errand_on line.now)) (A.hand rows.old)
+        (A.hand rows.new) (A.left rows.old) (A.left rows.new) (A.draws rows.old) (A.draws rows.new)
+        (A.name rows.old) (A.name rows.new) session.old.journal session.new.journal) }
+    ensures lent { OnOk result (A.words rows.new ≡ Some admin.new.words) }
+{
+    match line {
+        BlockLine::Sql(text) => match request_of(alloc, text.as_bytes()) {
+            Ok(what) => play_request(alloc, setting, session, rows, admin, answers, what),
+            Err(fault) => Err(fault),
+        },
+        _ => {
+            play_event(session, rows, line);
+            Ok(())
+        }
+    }
+}
 
 /// Plays lines in their session, repeats written out, none of which ends it. The answers of their SELECTs come behind the
 /// others. Err is NoMemory alone.
@@ -64,11 +123,8 @@ pub fn play_lines<A: Acts>(
     ensures lent { OnOk result (A.words rows.new ≡ Some admin.new.words) }
 {
     for line in lines {
-        match errand_of(alloc, line) {
-            Ok(errand) => match play(alloc, setting, session, rows, admin, answers, errand) {
-                Ok(()) => {}
-                Err(fault) => return Err(fault),
-            },
+        match play_line(alloc, setting, session, rows, admin, answers, line) {
+            Ok(()) => {}
             Err(fault) => return Err(fault),
         }
     }

@@ -16,7 +16,7 @@ ghost use Rattle.pfs_session.specs.Turns.{Played};
 ghost use Rattle.pfs_session.specs.Using.{Uses};
 ghost use Rattle.pfs_show.specs.Rows.{IsHeld};
 ghost use Rattle.pfs_play.specs.Errands.{HasRun};
-ghost use Rattle.pfs_play.specs.declared.errands.Errand.TheVariants as ask;
+ghost use Rattle.pfs_play.specs.Errand as ask;
 
 use crate::NoMemory;
 use pfs_actions::show_held;

@@ -7,7 +7,7 @@ use Rattle.std.proofs.lemmas.Bool.Decides.{nat_tests}
 use Rattle.std.proofs.lemmas.List.Sums.{sum_by-cons}
 use Rattle.pfs_classes.specs.declared.classes.ClassRef.{ClassRef}
 use Rattle.pfs_play.specs.Errands.{actions_of, actions_on, errand_on, sql_errand}
-use Rattle.pfs_play.specs.declared.errands.Errand.{Errand}
+use Rattle.pfs_play.specs.Errand.{Errand}
 use Rattle.pfs_play.proofs.Writing.{actions_then, actions_copies}
 use Rattle.pfs_script.specs.declared.forms.Form.{Form}
 use Rattle.pfs_script.specs.declared.forms.Form.TheVariants as form

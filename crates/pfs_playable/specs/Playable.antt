@@ -14,8 +14,8 @@ use Rattle.pfs_script.specs.Runnable.{AreDistinct}
 use Rattle.pfs_script.specs.Scripts.{IsScript}
 use Rattle.pfs_play.specs.Errands.{actions_on, errand_on, kinds_after}
 use Rattle.pfs_play.specs.Repeats.{AllMayPlay}
-use Rattle.pfs_play.specs.declared.errands.Errand.{Errand}
-use Rattle.pfs_play.specs.declared.errands.Errand.TheVariants as ask
+use Rattle.pfs_play.specs.Errand.{Errand}
+use Rattle.pfs_play.specs.Errand as ask
 
 -- the kinds of the events that lines leave open, from the innermost on
 abbrev pub kinds_left : List BlockLine → List EventKind

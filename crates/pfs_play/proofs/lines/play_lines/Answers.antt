@@ -8,7 +8,6 @@ use Rattle.pfs_script.specs.declared.blocks.BlockLine.{BlockLine}
 use Rattle.pfs_script.specs.Brackets.{kinds_behind}
 use Rattle.pfs_script.specs.Marks.{mark_of}
 use Rattle.pfs_session.specs.States.{State}
-use Rattle.pfs_play.specs.declared.errands.Errand.{Errand}
 use Rattle.pfs_play.specs.Errands.{CanPlay, MayRun, HasRun, HavePlayed, StagesLie, actions_of, actions_on, admin_after, admin_behind, cost_of, cost_on, errand_on, kinds_after}
 use Rattle.pfs_play.proofs.Running.{may_run}
 use Rattle.pfs_play.proofs.Following.{played_nothing, played_more, run_kinds, still_lies}
@@ -47,65 +46,66 @@ loop-line-init g c = record {
   room = omega arith;
 }
 
-pub play-requires-clause-may : goal.play-requires-clause-may
-play-requires-clause-may g c =
+pub play_line-requires-clause-may : goal.play_line-requires-clause-may
+play_line-requires-clause-may g c =
     let line = c.line-item.result in
     let i = c.loop-line.line-index in
     let split = splits c.args.lines.now i line c.loop-line-test.true c.line-item.is in
     let can : CanPlay 62 c.loop-line.session.state.opened.depth (kinds_at c.loop-line.session.state) (line ∷ drop (i + 1) c.args.lines.now) =
     subst (CanPlay 62 c.loop-line.session.state.opened.depth (kinds_at c.loop-line.session.state)) split c.loop-line.invariant.can in
-    subst (λ (errand : Errand). MayRun errand c.loop-line.session.state.opened) (sym c.in-Ok.ensures.asks) (may_run c.loop-line.session.state.opened line c.loop-line.invariant.lie can.0)
+    may_run c.loop-line.session.state.opened line c.loop-line.invariant.lie can.0
 
-pub play-requires-clause-rare : goal.play-requires-clause-rare
-play-requires-clause-rare g c =
+pub play_line-requires-clause-stays : goal.play_line-requires-clause-stays
+play_line-requires-clause-stays g c =
+    let line = c.line-item.result in
+    let i = c.loop-line.line-index in
+    let split = splits c.args.lines.now i line c.loop-line-test.true c.line-item.is in
+    let can : CanPlay 62 c.loop-line.session.state.opened.depth (kinds_at c.loop-line.session.state) (line ∷ drop (i + 1) c.args.lines.now) =
+    subst (CanPlay 62 c.loop-line.session.state.opened.depth (kinds_at c.loop-line.session.state)) split c.loop-line.invariant.can in
+    can.0.quits
+
+pub play_line-requires-clause-rare : goal.play_line-requires-clause-rare
+play_line-requires-clause-rare g c =
     let line = c.line-item.result in
     let i = c.loop-line.line-index in
     let lines = c.args.lines.now in
     let split = splits lines i line c.loop-line-test.true c.line-item.is in
-    let acts = ap actions_of c.in-Ok.ensures.asks in
-    let cost = ap cost_of c.in-Ok.ensures.asks in
     let left_acts : actions_on (drop i lines) ≡ actions_of (errand_on line) + actions_on (drop (i + 1) lines) = ap actions_on split in
     let left_cost : cost_on (drop i lines) ≡ cost_of (errand_on line) + cost_on (drop (i + 1) lines) = ap cost_on split in
-    omega (arith, acts, left_acts, c.loop-line.invariant.actions, c.requires.rare)
+    omega (arith, left_acts, c.loop-line.invariant.actions, c.requires.rare)
 
-pub play-requires-clause-few : goal.play-requires-clause-few
-play-requires-clause-few g c =
+pub play_line-requires-clause-few : goal.play_line-requires-clause-few
+play_line-requires-clause-few g c =
     let line = c.line-item.result in
     let i = c.loop-line.line-index in
     let lines = c.args.lines.now in
     let split = splits lines i line c.loop-line-test.true c.line-item.is in
-    let acts = ap actions_of c.in-Ok.ensures.asks in
-    let cost = ap cost_of c.in-Ok.ensures.asks in
     let left_acts : actions_on (drop i lines) ≡ actions_of (errand_on line) + actions_on (drop (i + 1) lines) = ap actions_on split in
     let left_cost : cost_on (drop i lines) ≡ cost_of (errand_on line) + cost_on (drop (i + 1) lines) = ap cost_on split in
-    omega (arith, acts, left_acts, c.loop-line.invariant.counted, c.requires.few)
+    omega (arith, left_acts, c.loop-line.invariant.counted, c.requires.few)
 
-pub play-requires-clause-tickets : goal.play-requires-clause-tickets
-play-requires-clause-tickets g c = omega (arith, c.loop-line.invariant.draws, c.loop-line-test.true, c.requires.tickets)
+pub play_line-requires-clause-tickets : goal.play_line-requires-clause-tickets
+play_line-requires-clause-tickets g c = omega (arith, c.loop-line.invariant.draws, c.loop-line-test.true, c.requires.tickets)
 
-pub play-requires-clause-spare : goal.play-requires-clause-spare
-play-requires-clause-spare g c =
+pub play_line-requires-clause-spare : goal.play_line-requires-clause-spare
+play_line-requires-clause-spare g c =
     let line = c.line-item.result in
     let i = c.loop-line.line-index in
     let lines = c.args.lines.now in
     let split = splits lines i line c.loop-line-test.true c.line-item.is in
-    let acts = ap actions_of c.in-Ok.ensures.asks in
-    let cost = ap cost_of c.in-Ok.ensures.asks in
     let left_acts : actions_on (drop i lines) ≡ actions_of (errand_on line) + actions_on (drop (i + 1) lines) = ap actions_on split in
     let left_cost : cost_on (drop i lines) ≡ cost_of (errand_on line) + cost_on (drop (i + 1) lines) = ap cost_on split in
-    omega (arith, acts, left_acts, c.loop-line.invariant.left, c.loop-line-test.true, c.requires.spare)
+    omega (arith, left_acts, c.loop-line.invariant.left, c.loop-line-test.true, c.requires.spare)
 
-pub play-requires-clause-room : goal.play-requires-clause-room
-play-requires-clause-room g c =
+pub play_line-requires-clause-room : goal.play_line-requires-clause-room
+play_line-requires-clause-room g c =
     let line = c.line-item.result in
     let i = c.loop-line.line-index in
     let lines = c.args.lines.now in
     let split = splits lines i line c.loop-line-test.true c.line-item.is in
-    let acts = ap actions_of c.in-Ok.ensures.asks in
-    let cost = ap cost_of c.in-Ok.ensures.asks in
     let left_acts : actions_on (drop i lines) ≡ actions_of (errand_on line) + actions_on (drop (i + 1) lines) = ap actions_on split in
     let left_cost : cost_on (drop i lines) ≡ cost_of (errand_on line) + cost_on (drop (i + 1) lines) = ap cost_on split in
-    omega (arith, cost, left_cost, c.loop-line.invariant.room, c.requires.room)
+    omega (arith, left_cost, c.loop-line.invariant.room, c.requires.room)
 
 pub loop-line-preserved : goal.loop-line-preserved
 loop-line-preserved g c =
@@ -113,28 +113,25 @@ loop-line-preserved g c =
     let i = c.loop-line.line-index in
     let lines = c.args.lines.now in
     let at = c.loop-line.session in
-    let new = c.play.new.session in
+    let new = c.play_line.new.session in
     let admin : Administration = c.args.admin.now in
     let before = c.loop-line.invariant in
-    let now = c.in-Ok-play.ensures in
+    let now = c.in-Ok.ensures in
     let split = splits lines i line c.loop-line-test.true c.line-item.is in
     let front = fronts lines i line c.loop-line-test.true c.line-item.is in
     let can : CanPlay 62 at.state.opened.depth (kinds_at at.state) (line ∷ drop (i + 1) lines) = subst (CanPlay 62 at.state.opened.depth (kinds_at at.state)) split before.can in
-    let run_here : HasRun c.args.setting.now c.loop-line.admin (errand_on line) at new c.loop-line.answers.items c.play.new.answers.items (g.A.Rows.reached c.loop-line.rows) (g.A.Rows.reached c.play.new.rows) =
-    subst (λ (errand : Errand). HasRun c.args.setting.now c.loop-line.admin errand at new c.loop-line.answers.items c.play.new.answers.items (g.A.Rows.reached c.loop-line.rows) (g.A.Rows.reached c.play.new.rows)) c.in-Ok.ensures.asks now.run in
-    let run : HasRun c.args.setting.now (admin_after admin (take i lines)) (errand_on line) at new c.loop-line.answers.items c.play.new.answers.items (g.A.Rows.reached c.loop-line.rows) (g.A.Rows.reached c.play.new.rows) =
-    subst (λ (a : Administration). HasRun c.args.setting.now a (errand_on line) at new c.loop-line.answers.items c.play.new.answers.items (g.A.Rows.reached c.loop-line.rows) (g.A.Rows.reached c.play.new.rows)) before.admin run_here in
-    let kinds : kinds_at new.state ≡ kinds_behind (mark_of line) (kinds_at at.state) = run_kinds c.args.setting.now c.loop-line.admin line at new c.loop-line.answers.items c.play.new.answers.items (g.A.Rows.reached c.loop-line.rows) (g.A.Rows.reached c.play.new.rows) run_here in
-    let acts : actions_of c.in-Ok.errand ≡ actions_of (errand_on line) = ap actions_of c.in-Ok.ensures.asks in
-    let cost : cost_of c.in-Ok.errand ≡ cost_of (errand_on line) = ap cost_of c.in-Ok.ensures.asks in
+    let run_here : HasRun c.args.setting.now c.loop-line.admin (errand_on line) at new c.loop-line.answers.items c.play_line.new.answers.items (g.A.Rows.reached c.loop-line.rows) (g.A.Rows.reached c.play_line.new.rows) = now.run in
+    let run : HasRun c.args.setting.now (admin_after admin (take i lines)) (errand_on line) at new c.loop-line.answers.items c.play_line.new.answers.items (g.A.Rows.reached c.loop-line.rows) (g.A.Rows.reached c.play_line.new.rows) =
+    subst (λ (a : Administration). HasRun c.args.setting.now a (errand_on line) at new c.loop-line.answers.items c.play_line.new.answers.items (g.A.Rows.reached c.loop-line.rows) (g.A.Rows.reached c.play_line.new.rows)) before.admin run_here in
+    let kinds : kinds_at new.state ≡ kinds_behind (mark_of line) (kinds_at at.state) = run_kinds c.args.setting.now c.loop-line.admin line at new c.loop-line.answers.items c.play_line.new.answers.items (g.A.Rows.reached c.loop-line.rows) (g.A.Rows.reached c.play_line.new.rows) run_here in
     let left_acts : actions_on (drop i lines) ≡ actions_of (errand_on line) + actions_on (drop (i + 1) lines) = ap actions_on split in
     let left_cost : cost_on (drop i lines) ≡ cost_of (errand_on line) + cost_on (drop (i + 1) lines) = ap cost_on split in
-    let behind : c.play.new.admin ≡ admin_behind (admin_after admin (take i lines)) (errand_on line) =
-    now.admin ∙ (ap (admin_behind c.loop-line.admin) c.in-Ok.ensures.asks ∙ ap (λ (a : Administration). admin_behind a (errand_on line)) before.admin) in
-    let stepped : c.play.new.admin.actions ≡ c.loop-line.admin.actions + actions_of c.in-Ok.errand = ap (λ (a : Administration). a.actions) now.admin ∙ one_counted c.loop-line.admin c.in-Ok.errand in
+    let behind : c.play_line.new.admin ≡ admin_behind (admin_after admin (take i lines)) (errand_on line) =
+    now.admin ∙ ap (λ (a : Administration). admin_behind a (errand_on line)) before.admin in
+    let stepped : c.play_line.new.admin.actions ≡ c.loop-line.admin.actions + actions_of (errand_on line) = ap (λ (a : Administration). a.actions) now.admin ∙ one_counted c.loop-line.admin (errand_on line) in
     record {
-      played = subst (λ (z : List BlockLine). HavePlayed c.args.setting.now z admin c.args.session.now new c.args.answers.now.items c.play.new.answers.items (g.A.Rows.reached c.args.rows.now) (g.A.Rows.reached c.play.new.rows)) (sym front)
-          (played_more c.args.setting.now (take i lines) line admin c.args.session.now at new c.args.answers.now.items c.loop-line.answers.items c.play.new.answers.items (g.A.Rows.reached c.args.rows.now) (g.A.Rows.reached c.loop-line.rows) (g.A.Rows.reached c.play.new.rows) can.0.quits before.played run);
+      played = subst (λ (z : List BlockLine). HavePlayed c.args.setting.now z admin c.args.session.now new c.args.answers.now.items c.play_line.new.answers.items (g.A.Rows.reached c.args.rows.now) (g.A.Rows.reached c.play_line.new.rows)) (sym front)
+          (played_more c.args.setting.now (take i lines) line admin c.args.session.now at new c.args.answers.now.items c.loop-line.answers.items c.play_line.new.answers.items (g.A.Rows.reached c.args.rows.now) (g.A.Rows.reached c.loop-line.rows) (g.A.Rows.reached c.play_line.new.rows) can.0.quits before.played run);
       admin = behind ∙ (sym (after_then admin (take i lines) (line ∷ [])) ∙ ap (admin_after admin) (sym front));
       can = subst (λ (k : List EventKind). CanPlay 62 new.state.opened.depth k (drop (i + 1) lines)) (sym kinds)
           (subst (λ d. CanPlay 62 d (kinds_behind (mark_of line) (kinds_at at.state)) (drop (i + 1) lines)) (sym now.depth) can.1);
@@ -142,16 +139,16 @@ loop-line-preserved g c =
       lie = subst StagesLie (sym kinds) (still_lies (mark_of line) (kinds_at at.state) before.lie can.0.stands);
       drawn = omega (arith, before.drawn, now.drawn);
       few = omega (arith, before.few, left_acts);
-      actions = omega (arith, before.actions, now.actions, acts, left_acts);
-      counted = omega (arith, before.counted, stepped, acts, left_acts);
+      actions = omega (arith, before.actions, now.actions, left_acts);
+      counted = omega (arith, before.counted, stepped, left_acts);
       rest = now.rest ∙ ap (λ (s : State). record s { clock = new.state.clock; drawn = new.state.drawn; opened = new.state.opened; held = new.state.held; actions = new.state.actions; last = new.state.last; nexts = new.state.nexts }) before.rest;
-      last = λ none. now.last (omega (arith, none, before.few, acts, left_acts)) ∙ before.last none;
+      last = λ none. now.last (omega (arith, none, before.few, left_acts)) ∙ before.last none;
       wide = now.wide;
       depth = now.depth ∙ before.depth;
       hand = λ r. now.leaves.hand r ∙ before.hand r;
-      left = omega (arith, before.left, now.leaves.left, acts, left_acts);
+      left = omega (arith, before.left, now.leaves.left, left_acts);
       draws = omega (arith, before.draws, now.leaves.draws);
       name = now.leaves.name ∙ before.name;
       lent = now.lent;
-      room = omega (arith, before.room, now.leaves.room, cost, left_cost);
+      room = omega (arith, before.room, now.leaves.room, left_cost);
     }
