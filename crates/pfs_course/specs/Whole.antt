@@ -25,7 +25,7 @@ use Rattle.pfs_course.specs.Told.{ArePhasesTold}
 -- of the journals are the report's
 pub record IsRunButFinals (setting : Setting) (phases : List Phase) (report : ReportParts) (spells : List Spell) : Type
     0 where
-  pub format : report.format ≡ 0
+  pub format : report.format ≡ 1
   pub blocks : List (List Block)
   pub journals : all_blocks blocks ≡ journals_of spells
   pub phases_are : ArePhasesOf 1 phases report.phases blocks
@@ -42,7 +42,7 @@ pub record IsRunButFinals (setting : Setting) (phases : List Phase) (report : Re
 abbrev pub WholeLaw : Type 0
 WholeLaw = (setting : Setting) (phases : List Phase) (report : ReportParts) (depths : ℕ → ℕ) (spells : List Spell)
     (admin : Administration) → IsCourse setting (change_in phases) depths (numbered 1 phases) spells admin
-    → ArePhasesTold setting 1 phases report.phases spells → report.format ≡ 0
+    → ArePhasesTold setting 1 phases report.phases spells → report.format ≡ 1
     → IsRunButFinals setting phases report spells
 
 -- what stands under the end of a phase is what these entries make of it

@@ -20,4 +20,4 @@ pub use reading::ReadStop;
 pub use report::{PhaseList, PhaseParts, PhaseReport, Report, ReportParts};
 pub use std::alloc::AllocError as NoMemory;
 pub use values::{LostList, LostReport, TableList, TableReport};
-pub use writing::write;
+pub use writing::{write, write_table};

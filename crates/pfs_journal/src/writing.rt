@@ -302,6 +302,20 @@ fn put_first_line<K: Sink>(line: &mut Vec<u8>, sink: &mut K, format: u64) -> Res
     offer(sink, line, built)
 }
 
+/// Writes a table's line and its rows to a sink, line by line, each line built in a buffer. The rest of
+/// a line that was taken in part is offered again. On a refusal a front of these lines was written.
+pub fn write_table<K: Sink>(
+    alloc: Global,
+    table: &TableReport,
+    sink: &mut K,
+) -> Result<(), WriteStop>
+    ensures { Puts (K.written sink.old) (K.written sink.new) (K.faults sink.old) (K.faults sink.new)
+        (table_text table.now) result }
+{
+    let mut line = Vec::new(alloc);
+    table.put(&mut line, sink)
+}
+
 /// Writes a report to a sink, line by line, each line built in a buffer. The rest of a line that
 /// was taken in part is offered again. On a refusal a front of the report was written.
 #[tactic(auto, using(pfs_outside::proofs::Writes::puts_then, pfs_outside::proofs::Writes::puts_stop), unfolding(crate::specs::Spelling::spelling))]

@@ -10,8 +10,9 @@ use std::env::FillError;
 use std::process::ExitCode;
 use std::rt::Env;
 
-// The most bytes of a word. The limit is our own: no command has a longer one.
-const MOST_BYTES: usize = 4096;
+// The room for a word: Linux hands over none that is longer. Zeros may lead the number of a load, so a command may be
+// as long.
+const MOST_BYTES: usize = 131_072;
 
 // The words behind the program's name. A list in which one is no UTF-8 or too long is no command, as the empty list is
 // none, and is answered as that one.

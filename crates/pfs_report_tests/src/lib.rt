@@ -1,4 +1,4 @@
-//! Tests of scripts, reports and the top call, by public calls alone.
+//! Tests of scripts, reports and the top calls, by public calls alone.
 #![tactic(auto)]
 
 #[cfg(test)]

@@ -73,7 +73,7 @@ none_told setting number (y ∷ ys) reports are = absurd are
 -- behind all phases, what is reported of them is a run of the script
 pub run_is : WholeLaw → RunLaw → AllEndLaw → (setting : Setting) (phases : List Phase) (report : ReportParts) (reached : Opening → List Call → Type 0) (hand : ℕ → Option ℕ) (left draws : ℕ)
     (words : Option (List Word)) (admin : Administration) (seats : List (Option Book)) (lost : LostEvents) (ended : List PhaseParts) (told : List BlockReport)
-    → IsAlong setting phases phases [] [] reached hand left draws words admin seats lost ended told → report.format ≡ 0 → report.phases ≡ ended → IsPlainRun setting phases report
+    → IsAlong setting phases phases [] [] reached hand left draws words admin seats lost ended told → report.format ≡ 1 → report.phases ≡ ended → IsPlainRun setting phases report
 run_is whole run all_end setting phases report reached hand left draws words admin seats lost ended told a format is =
     let change = change_in phases in
     let spells : List Spell = a.earlier in

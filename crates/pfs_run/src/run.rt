@@ -15,8 +15,8 @@ use pfs_levels::{PlainRows, Rows};
 use pfs_script::Phase;
 use std::alloc::Global;
 
-/// The number of the report's format: parts of the report are not built yet.
-const FORMAT: u64 = 0;
+/// The number of the report's format: that of a whole report.
+const FORMAT: u64 = 1;
 
 /// Runs a script on one thread, its sessions one after another in the order of its blocks, and reports it.
 pub fn run_plain(alloc: Global, setting: &Setting, phases: &[Phase]) -> Result<Report, NoMemory>

@@ -68,9 +68,9 @@ AreFinal final (report ∷ reports) = final report × AreFinal final reports
 -- script's lines ask for and the facts that it says of their events; each event is brought to its summary row, a
 -- digested statement to the row of its digest too, and to the places of rings that it is offered to; each SELECT is
 -- answered by what it read, or by what the administration holds at its action; and under each phase's end stands what
--- the journals so far make of rows, words and counters. Its format is the one of a report in part.
+-- the journals so far make of rows, words and counters. Its format is that of a whole report.
 pub record IsRun (setting : Setting) (phases : List Phase) (report : ReportParts) : Type 0 where
-  pub format : report.format ≡ 0
+  pub format : report.format ≡ 1
   pub blocks : List (List Block)
   pub labels : List Label
   pub counted : ℕ → ℕ → Bool

@@ -1,20 +1,21 @@
 -- How a call ends, from how its parts end.
-use Rattle.std.proofs.Common.{ℕ, ◌≡◌, ◌≤◌, ◌<◌, ◌⊎◌, inl, inr, List, [], ◌∷◌, length, get_or, Option, Some, IfSome, Result, Ok, Err, sym, ap, ◌∙◌, subst, refl, arith}
-use Rattle.std.specs.Prelude.{map, Bool, IsTrue, ◌↔◌}
-use Rattle.std.specs.Str.{bytes_eq}
-use Rattle.std.proofs.lemmas.Slice.Eq.{bytes_eq-Decides}
+use Rattle.std.proofs.Common.{ℕ, ◌≡◌, ◌≤◌, ◌<◌, ◌⊎◌, inl, inr, List, length, Option, Some, IfSome, Result, Ok, Err, ap, subst, refl, arith}
+use Rattle.std.specs.Prelude.{String}
+use Rattle.std.specs.declared.alloc.Global.{Global}
 use Rattle.pfs_outside.specs.Outside.{Rose, Added}
 use Rattle.pfs_outside.specs.Streams.{Puts}
 use Rattle.pfs_outside.specs.declared.writing.WriteStop.{WriteStop}
 use Rattle.pfs_outside.specs.declared.writing.WriteStop.TheVariants as stop
-use Rattle.pfs_top.specs.declared.commands.Status.{Status}
-use Rattle.pfs_top.specs.declared.commands.Status.TheVariants.{Done, Usage, BadScript, ReadFault, WriteFault, NoMemory}
+use Rattle.pfs_top.specs.declared.statuses.Status.{Status}
+use Rattle.pfs_top.specs.declared.statuses.Status.TheVariants.{Done, Usage, BadScript, ReadFault, WriteFault, NoMemory}
 use Rattle.pfs_classes.specs.declared.setting.Setting.{Setting}
 use Rattle.pfs_script.specs.declared.blocks.Phase.{Phase}
 use Rattle.pfs_script.specs.declared.reasons.Reason.{Reason}
 use Rattle.pfs_script.specs.declared.reasons.Reason.TheVariants.{TooLong}
 use Rattle.pfs_script.specs.Scripts.{IsScript, IsFirstFault, IsExact}
-use Rattle.pfs_top.specs.Commands.{most_bytes, HasRun, HasFault, HasRead, HasInput, ToldPart, Tells, Ends, status_after}
+use Rattle.pfs_gen.specs.Generated.{script_text}
+use Rattle.pfs_top.specs.Commands.{most_bytes, HasReport, HasSummaries, HasLoad, HasFault, HasRead, HasInput, HasPlain, Has, ToldPart, Tells, Ends, status_after}
+use Rattle.pfs_top.specs.Words.{AsksRun, AsksPlain, AsksScript, AsksLoad}
 
 -- a status that goes with a text of its own
 abbrev pub HasOwnText : Status → Type 0
@@ -60,16 +61,16 @@ ends_told Ran P before after R W WriteFault t = t
 ends_told Ran P before after R W NoMemory t = t
 
 -- a call that ended in one sense ended in another
-pub ends_as : (Ran Goes : Type 0) (P Q : Status → List ℕ → Type 0) (before after : Option (List ℕ)) (R W : Type 0) (status : Status) → Goes → ((s : Status) (due : List ℕ) → P s due → Q s due) → Ends Ran P before after R W status → Ends Goes Q before after R W status
+pub ends_as : (Ran Goes : Type 0) (P Q : Status → List ℕ → Type 0) (before after : Option (List ℕ)) (R W : Type 0) (status : Status) → (Ran → Goes) → ((s : Status) (due : List ℕ) → P s due → Q s due) → Ends Ran P before after R W status → Ends Goes Q before after R W status
 ends_as Ran Goes P Q before after R W Done g f t = tells_as P Q before after W Done f t
 ends_as Ran Goes P Q before after R W Usage g f t = tells_as P Q before after W Usage f t
 ends_as Ran Goes P Q before after R W (BadScript line reason) g f t = tells_as P Q before after W (BadScript line reason) f t
-ends_as Ran Goes P Q before after R W ReadFault g f t = (g, t.1, t.2)
+ends_as Ran Goes P Q before after R W ReadFault g f t = (g t.0, t.1, t.2)
 ends_as Ran Goes P Q before after R W WriteFault g f t = tells_as P Q before after W WriteFault f t
 ends_as Ran Goes P Q before after R W NoMemory g f t = tells_as P Q before after W NoMemory f t
 
 -- the text of a script's phases is that of its bytes
-pub read_ran : (bytes : List ℕ) (setting : Setting) (phases : List Phase) → IsScript bytes setting phases → (status : Status) (due : List ℕ) → HasRun setting phases status due → HasRead bytes status due
+pub read_ran : (bytes : List ℕ) (setting : Setting) (phases : List Phase) → IsScript bytes setting phases → (status : Status) (due : List ℕ) → HasReport setting phases status due → HasRead bytes status due
 read_ran bytes setting phases script Done due h = (setting, phases, script, h)
 read_ran bytes setting phases script Usage due h = absurd h
 read_ran bytes setting phases script (BadScript line reason) due h = absurd h
@@ -94,6 +95,15 @@ input_read input bytes came short (BadScript line reason) due h = inr (bytes, ca
 input_read input bytes came short ReadFault due h = absurd h
 input_read input bytes came short WriteFault due h = absurd h
 input_read input bytes came short NoMemory due h = absurd h
+
+-- the summaries of a generated script's phases are a load's
+pub load_shown : (number : ℕ) (setting : Setting) (phases : List Phase) → IsScript (script_text number) setting phases → (status : Status) (due : List ℕ) → HasSummaries setting phases status due → HasLoad number status due
+load_shown number setting phases script Done due h = (setting, phases, script, h)
+load_shown number setting phases script Usage due h = absurd h
+load_shown number setting phases script (BadScript line reason) due h = absurd h
+load_shown number setting phases script ReadFault due h = absurd h
+load_shown number setting phases script WriteFault due h = absurd h
+load_shown number setting phases script NoMemory due h = absurd h
 
 -- too many bytes are the fault of the source
 pub input_long : (input : Option (List ℕ)) → IfSome input (λ text. most_bytes < length text) → (status : Status) (due : List ℕ) → HasFault 0 TooLong status due → HasInput input status due
@@ -124,15 +134,62 @@ completes exact input before after R W (BadScript line reason) t text setting ph
       | inr h ↦ absurd (exact.excludes text setting phases line reason script (subst (λ b. IsFirstFault b line reason) (told_bytes input h.0 text e h.1) h.3.0))
     ]
 
--- a list of one
-pub map_one : {A B : Type 0} (f : A → B) (xs : List A) (d : A) → length xs ≡ 1 → map f xs ≡ f (get_or xs 0 d) ∷ []
-map_one f [] d h = absurd (omega arith)
-map_one f (x ∷ []) d h = refl
-map_one f (x ∷ (y ∷ xs)) d h = absurd (omega arith)
+-- what is told of a source is so of the words that ask for its script
+pub plain_told : (words : List (String Global)) (input : Option (List ℕ)) → AsksPlain words → (status : Status) (due : List ℕ) → HasInput input status due → HasPlain words input status due
+plain_told words input asks Done due h = (asks, h)
+plain_told words input asks Usage due h = absurd h
+plain_told words input asks (BadScript line reason) due h = (asks, h)
+plain_told words input asks ReadFault due h = absurd h
+plain_told words input asks WriteFault due h = absurd h
+plain_told words input asks NoMemory due h = absurd h
 
--- the words are one exactly where their one word is it
-pub one_word : {W : Type 0} (f : W → List ℕ) (words : List W) (word : W) (command : List ℕ) (same : Bool) → map f words ≡ f word ∷ [] → same ≡ bytes_eq (f word) command → IsTrue same ↔ (map f words ≡ command ∷ [])
-one_word f words word command same m e = (
-  λ t. m ∙ ap (λ (z : List ℕ). z ∷ []) ((bytes_eq-Decides (f word) command).0 (sym e ∙ t)),
-  λ h. let q : f word ≡ command = cc in e ∙ (bytes_eq-Decides (f word) command).1 q,
+pub script_told : (words : List (String Global)) (input : Option (List ℕ)) → AsksScript words → (status : Status) (due : List ℕ) → HasInput input status due → Has words input status due
+script_told words input asks Done due h = inl (asks, h)
+script_told words input asks Usage due h = absurd h
+script_told words input asks (BadScript line reason) due h = inl (asks, h)
+script_told words input asks ReadFault due h = absurd h
+script_told words input asks WriteFault due h = absurd h
+script_told words input asks NoMemory due h = absurd h
+
+-- what a load tells
+pub load_told : (words : List (String Global)) (input : Option (List ℕ)) (number : ℕ) → AsksLoad words number → (status : Status) (due : List ℕ) → HasLoad number status due → Has words input status due
+load_told words input number asks Done due h = inr (number, asks, h)
+load_told words input number asks Usage due h = absurd h
+load_told words input number asks (BadScript line reason) due h = absurd h
+load_told words input number asks ReadFault due h = absurd h
+load_told words input number asks WriteFault due h = absurd h
+load_told words input number asks NoMemory due h = absurd h
+
+-- what is told of other words than `run` and a load
+pub handed_told : (words : List (String Global)) (input : Option (List ℕ)) → ¬ AsksRun words → ((number : ℕ) → ¬ AsksLoad words number) → (status : Status) (due : List ℕ) → HasPlain words input status due → Has words input status due
+handed_told words input run load Done due h = inl (inr h.0, h.1)
+handed_told words input run load Usage due h = (
+  λ command. elim command [
+    | inl asks ↦ elim asks [
+      | inl asks_run ↦ run asks_run
+      | inr asks_plain ↦ h.0 asks_plain
+    ]
+    | inr asks ↦ load asks.0 asks.1
+  ],
+  h.1,
 )
+handed_told words input run load (BadScript line reason) due h = inl (inr h.0, h.1)
+handed_told words input run load ReadFault due h = inl (inr h.0, h.1)
+handed_told words input run load WriteFault due h = inl (inr h.0, h.1)
+handed_told words input run load NoMemory due h = inl (inr h.0, h.1)
+
+-- a load asks for no script of the source
+pub load_alone : (words : List (String Global)) (number : ℕ) → AsksLoad words number → ¬ AsksScript words
+load_alone words number load asks = elim asks [
+  | inl run ↦ let lengths = ap length run in let two = ap length load.are in absurd (omega (arith, lengths, two))
+  | inr plain ↦ let lengths = ap length plain in let two = ap length load.are in absurd (omega (arith, lengths, two))
+]
+
+-- what was told of a load that was written without a failure is its summaries
+pub load_completes : (number : ℕ) (before after : Option (List ℕ)) (W : Type 0) (status : Status) → Tells (HasLoad number) before after W status → ¬ W → (status ≡ Done) ⊎ (status ≡ NoMemory)
+load_completes number before after W Done t no_write = inl refl
+load_completes number before after W NoMemory t no_write = inr refl
+load_completes number before after W Usage t no_write = absurd t.1
+load_completes number before after W ReadFault t no_write = absurd t
+load_completes number before after W WriteFault t no_write = absurd (no_write t.0)
+load_completes number before after W (BadScript line reason) t no_write = absurd t.1

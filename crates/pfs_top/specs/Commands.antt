@@ -1,5 +1,5 @@
 -- What a top call answers, and the text that goes with each answer.
-use Rattle.std.specs.Prelude.{ℕ, ◌≡◌, ◌≤◌, ◌<◌, ◌⊎◌, List, [], ◌∷◌, ◌++◌, length, map, codes, decimal, Option, Some, IfSome, Result, Ok, Err, string_bytes, String}
+use Rattle.std.specs.Prelude.{ℕ, ◌≡◌, ◌≤◌, ◌<◌, ◌⊎◌, List, [], ◌++◌, length, codes, decimal, Option, Some, IfSome, Result, Ok, Err, String}
 use Rattle.std.specs.declared.alloc.Global.{Global}
 use Rattle.pfs_outside.specs.Outside.{Added}
 use Rattle.pfs_outside.specs.Streams.{AddedPart}
@@ -14,12 +14,11 @@ use Rattle.pfs_counted.specs.Laws.{IsCountedRun}
 use Rattle.pfs_journal.specs.declared.report.ReportParts.{ReportParts}
 use Rattle.pfs_journal.specs.Reports.{IsReport}
 use Rattle.pfs_journal.specs.Spelling.{spelling}
-use Rattle.pfs_top.specs.declared.commands.Status.{Status}
-use Rattle.pfs_top.specs.declared.commands.Status.TheVariants.{Done, Usage, BadScript, ReadFault, WriteFault, NoMemory}
-
--- the words are the one command
-abbrev pub IsCommand : List (String Global) → Type 0
-IsCommand words = map string_bytes words ≡ codes "run" ∷ []
+use Rattle.pfs_gen.specs.Generated.{script_text}
+use Rattle.pfs_top.specs.Loads.{load_text}
+use Rattle.pfs_top.specs.Words.{AsksPlain, AsksScript, AsksLoad, IsCommand}
+use Rattle.pfs_top.specs.declared.statuses.Status.{Status}
+use Rattle.pfs_top.specs.declared.statuses.Status.TheVariants.{Done, Usage, BadScript, ReadFault, WriteFault, NoMemory}
 
 -- how many bytes a script may have
 abbrev pub most_bytes : ℕ
@@ -49,17 +48,32 @@ status_number WriteFault = 4
 status_number NoMemory = 5
 
 unfoldable pub usage_text : List ℕ
-usage_text = codes "usage: run\n"
+usage_text = codes "usage: run | plain | load N\n"
 
 unfoldable pub fault_text : ℕ → Reason → List ℕ
 fault_text line reason =
     codes "bad script: line " ++ decimal line ++ codes " reason " ++ decimal (reason_number reason) ++ codes "\n"
 
--- which statuses have which text: of phases that were run
-abbrev pub HasRun : Setting → List Phase → Status → List ℕ → Type 0
-HasRun setting phases Done due = (report : ReportParts) × IsReport report × IsCountedRun setting phases report
-    × (due ≡ spelling report)
-HasRun setting phases _ due = ⊥
+-- the text due for phases that were run, at Done alone: what is written of a report that is a plain run of them, in
+-- which summaries and rings show what counts there
+abbrev pub HasRun : (ReportParts → List ℕ) → Setting → List Phase → Status → List ℕ → Type 0
+HasRun written setting phases Done due = (report : ReportParts) × IsReport report × IsCountedRun setting phases report
+    × (due ≡ written report)
+HasRun written setting phases _ due = ⊥
+
+-- `run` and `plain` write the whole report
+abbrev pub HasReport : Setting → List Phase → Status → List ℕ → Type 0
+HasReport setting phases status due = HasRun spelling setting phases status due
+
+-- `load` writes the summaries of its last phase
+abbrev pub HasSummaries : Setting → List Phase → Status → List ℕ → Type 0
+HasSummaries setting phases status due = HasRun load_text setting phases status due
+
+-- the text due to `load` with this number, by the script generated of it
+abbrev pub HasLoad : ℕ → Status → List ℕ → Type 0
+HasLoad number Done due = (setting : Setting) × (phases : List Phase) × IsScript (script_text number) setting phases
+    × HasSummaries setting phases Done due
+HasLoad number _ due = ⊥
 
 -- of a fault
 abbrev pub HasFault : ℕ → Reason → Status → List ℕ → Type 0
@@ -69,7 +83,7 @@ HasFault line reason _ due = ⊥
 -- of bytes that were read
 abbrev pub HasRead : List ℕ → Status → List ℕ → Type 0
 HasRead bytes Done due = (setting : Setting) × (phases : List Phase) × IsScript bytes setting phases
-    × HasRun setting phases Done due
+    × HasReport setting phases Done due
 HasRead bytes (BadScript line reason) due = IsFirstFault bytes line reason × (due ≡ fault_text line reason)
 HasRead bytes _ due = ⊥
 
@@ -88,10 +102,16 @@ abbrev pub HasUsage : Status → List ℕ → Type 0
 HasUsage Usage due = due ≡ usage_text
 HasUsage _ due = ⊥
 
--- of words and a source
+-- the text due to `pfs_plain`: that of its one command, or the usage line
+abbrev pub HasPlain : List (String Global) → Option (List ℕ) → Status → List ℕ → Type 0
+HasPlain words input Usage due = (¬ AsksPlain words) × HasUsage Usage due
+HasPlain words input status due = AsksPlain words × HasInput input status due
+
+-- the text due to `pfs`: that of each command, or the usage line
 abbrev pub Has : List (String Global) → Option (List ℕ) → Status → List ℕ → Type 0
-Has words input Usage due = (¬ IsCommand words) × (due ≡ usage_text)
-Has words input status due = IsCommand words × HasInput input status due
+Has words input Usage due = (¬ IsCommand words) × HasUsage Usage due
+Has words input status due = (AsksScript words × HasInput input status due)
+    ⊎ ((number : ℕ) × AsksLoad words number × HasLoad number status due)
 
 -- a front of the text of some status was written
 abbrev pub ToldPart : (Status → List ℕ → Type 0) → Option (List ℕ) → Option (List ℕ) → Type 0
@@ -105,11 +125,11 @@ Tells HasText before after WriteRose WriteFault = WriteRose × ToldPart HasText 
 Tells HasText before after WriteRose NoMemory = (after ≡ before) ⊎ ToldPart HasText before after
 Tells HasText before after WriteRose status = (due : List ℕ) × HasText status due × Added before after due
 
--- how a call ends: a read failed and nothing was written, or a status was told
+-- how a call ends: a script was asked for, a read failed and nothing was written; or a status was told
 abbrev pub Ends : Type 0 → (Status → List ℕ → Type 0) → Option (List ℕ) → Option (List ℕ) → Type 0 → Type 0 → Status
     → Type 0
-Ends Ran HasText before after ReadRose WriteRose ReadFault = Ran × ReadRose × (after ≡ before)
-Ends Ran HasText before after ReadRose WriteRose status = Tells HasText before after WriteRose status
+Ends Asked HasText before after ReadRose WriteRose ReadFault = Asked × ReadRose × (after ≡ before)
+Ends Asked HasText before after ReadRose WriteRose status = Tells HasText before after WriteRose status
 
 -- the status where a text with this status was offered
 abbrev pub status_after : Result (Unit {0}) WriteStop → Status → Status
@@ -118,13 +138,23 @@ status_after (Err stop.Failed) status = WriteFault
 status_after (Err stop.NoMemory) status = NoMemory
 
 -- a valid script, read and written without a failure, is done unless memory runs out
-abbrev pub Completes : List (String Global) → Option (List ℕ) → Type 0 → Type 0 → Status → Type 0
-Completes words input ReadRose WriteRose status =
-    (text : List ℕ) (setting : Setting) (phases : List Phase) → IsCommand words → input ≡ Some text
+abbrev pub Completes : Type 0 → Option (List ℕ) → Type 0 → Type 0 → Status → Type 0
+Completes Asked input ReadRose WriteRose status =
+    (text : List ℕ) (setting : Setting) (phases : List Phase) → Asked → input ≡ Some text
     → length text ≤ most_bytes → IsScript text setting phases
     → ¬ ReadRose → ¬ WriteRose → (status ≡ Done) ⊎ (status ≡ NoMemory)
+
+-- and so is the script of a number
+abbrev pub CompletesLoad : List (String Global) → Type 0 → Status → Type 0
+CompletesLoad words WriteRose status =
+    (number : ℕ) → AsksLoad words number → ¬ WriteRose → (status ≡ Done) ⊎ (status ≡ NoMemory)
 
 -- at the end the source has nothing left
 abbrev pub LeavesNothing : Option (List ℕ) → Status → Type 0
 LeavesNothing left Done = IfSome left (λ rest. rest ≡ [])
 LeavesNothing left _ = Unit {0}
+
+-- what was read: at the end of a script's run all that there was; of a source that wasn't asked nothing
+pub record LeavesSource (Asked : Type 0) (before after : Option (List ℕ)) (status : Status) : Type 0 where
+  pub all : Asked → LeavesNothing after status
+  pub none : ¬ Asked → after ≡ before

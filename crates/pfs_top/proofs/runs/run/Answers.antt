@@ -1,7 +1,7 @@
 use Rattle.pfs_script.specs.declared.reasons.Reason.TheVariants.{TooLong}
 use Rattle.pfs_top.specs.Commands.{HasFault, HasRead, HasInput}
 use Rattle.pfs_top.proofs.Outcomes.{tells_as, ends_told, input_read, input_long}
-use Rattle.pfs_top.proofs.commands.run.Goals as goal
+use Rattle.pfs_top.proofs.runs.run.Goals as goal
 
 pub returns-in-Ok-clause-ends : goal.returns-in-Ok-clause-ends
 returns-in-Ok-clause-ends g c =

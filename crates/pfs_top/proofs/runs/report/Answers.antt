@@ -1,0 +1,16 @@
+use Rattle.std.proofs.Common.{refl, sym, subst}
+use Rattle.pfs_outside.specs.Outside.{Rose}
+use Rattle.pfs_top.specs.declared.statuses.Status.{Status}
+use Rattle.pfs_top.specs.declared.statuses.Status.TheVariants.{Done}
+use Rattle.pfs_top.specs.Commands.{HasReport, Tells}
+use Rattle.pfs_journal.specs.Spelling.{spelling}
+use Rattle.pfs_top.proofs.Outcomes.{told}
+use Rattle.pfs_top.proofs.runs.report.Goals as goal
+
+pub returns-in-Ok : goal.returns-in-Ok
+returns-in-Ok g c =
+    let written = g.K.Sink.written in
+    let faults = g.K.Sink.faults in
+    let P = HasReport c.args.script.now.setting c.args.script.now.phases in
+    let t = told P (written c.args.sink.now) (written c.write.new.sink) (faults c.args.sink.now) (faults c.write.new.sink) (spelling c.in-Ok.report) Done c.write.result tt (c.in-Ok.report, c.parts.ensures.good, c.in-Ok.ensures, refl) c.write.ensures in
+    subst (λ (s : Status). Tells P (written c.args.sink.now) (written c.write.new.sink) (Rose (faults c.args.sink.now) (faults c.write.new.sink)) s) (sym c.status_after.ensures) t
