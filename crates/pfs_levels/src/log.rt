@@ -62,6 +62,7 @@ impl Log {
     }
 
     /// Adds an entry at the end.
+    #[inline(always)]
     pub fn push(&mut self, entry: Entry)
         requires { 0 < self.old.room }
         ensures { self.new ≡ record { entries = self.old.entries ++ entry ∷ []; room = self.old.room - 1 } }

@@ -19,6 +19,7 @@ pub enum WriteStop {
 
 /// Offers a text to a sink, and the rest of a part that was taken again, until all is taken. It takes
 /// no memory.
+#[inline(always)]
 pub fn write_all<K: Sink>(sink: &mut K, text: &[u8]) -> Result<(), WriteStop>
     ensures puts { Puts (K.written sink.old) (K.written sink.new) (K.faults sink.old) (K.faults sink.new) text.now
         result }

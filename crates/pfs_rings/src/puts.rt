@@ -112,6 +112,7 @@ fn words_with(event: &Event, ticket: u64) -> Content
 }
 
 // Offers an event to a place of a thread.
+#[inline(always)]
 fn offer<R: Rows>(rows: &mut R, row: u64, event: &Event) -> Put
     requires low { 8450 ≤ row }
     requires high { row < 10242 }

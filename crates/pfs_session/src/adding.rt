@@ -36,6 +36,7 @@ fn with_held(held: Option<Stat>, amount: Stat) -> Stat
 }
 
 /// Adds an amount, with what is held for its row, or holds both where another actor has the row in hand.
+#[inline(always)]
 pub(crate) fn bring<R: Rows>(
     rows: &mut R,
     slot: u64,

@@ -16,6 +16,7 @@ use pfs_model::Subject;
 use pfs_rings::{Put, Ring, put_event};
 
 /// Puts an event to a ring, where it is offered there. The log gets what became of it.
+#[inline(always)]
 pub(crate) fn offer<R: Rows>(
     rows: &mut R,
     due: bool,
