@@ -4,7 +4,7 @@ use Rattle.pfs_containers.specs.Connections.{State}
 use Rattle.pfs_levels.specs.declared.answers.Word.{Word}
 use Rattle.pfs_levels.specs.declared.places.Level.{Level}
 use Rattle.pfs_levels.specs.Calls.{Call, Opening}
-use Rattle.pfs_levels.specs.Journal.{Journal}
+use Rattle.pfs_event.specs.Journal.{Journal}
 use Rattle.pfs_levels.specs.Moves.{Ask, ask, Moved, Stays, cost}
 use Rattle.pfs_rows.specs.declared.place.Place.TheVariants.{GlobalCell}
 use Rattle.pfs_rows.specs.Rows.{row_number}

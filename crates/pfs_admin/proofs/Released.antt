@@ -1,7 +1,7 @@
 -- Rows that are released one after another.
 use Rattle.std.proofs.Common.{ℕ, ◌≡◌, ◌≤◌, Bool, List, Option, ap, arith}
 use Rattle.pfs_levels.specs.declared.answers.Word.{Word}
-use Rattle.pfs_levels.specs.Journal.{Journal}
+use Rattle.pfs_event.specs.Journal.{Journal}
 use Rattle.pfs_levels.specs.Moves.{Stays}
 use Rattle.pfs_admin.specs.Changing.{up_to}
 use Rattle.pfs_admin.specs.Truncations.{freed_at, free_rows, free_slot, free_threads}

@@ -5,7 +5,7 @@ use Rattle.pfs_event.specs.declared.entry.Entry.{Entry}
 use Rattle.pfs_event.specs.declared.entry.Entry.TheVariants as says
 use Rattle.pfs_levels.specs.declared.answers.Word.{Word}
 use Rattle.pfs_levels.specs.Calls.{Call, Sets, Opening}
-use Rattle.pfs_levels.specs.Journal.{Journal}
+use Rattle.pfs_event.specs.Journal.{Journal}
 use Rattle.pfs_levels.specs.Moves.{Did}
 use Rattle.pfs_levels.proofs.Moving.{did_as, did_then}
 use Rattle.pfs_containers.specs.Kept.{Kept}

@@ -1,10 +1,10 @@
 //! How many events were lost for too many were open, and how many digests for there was no place for their texts.
 
-ghost use Rattle.std.specs.Prelude.{◌≡◌, ◌+◌, ◌<◌, ◌≤◌, ◌^◌, cond, if◌then◌else◌, false, [], ◌∷◌, length};
+ghost use Rattle.std.specs.Prelude.{◌≡◌, ◌+◌, ◌<◌, ◌^◌, cond, if◌then◌else◌, [], ◌∷◌};
 ghost use Rattle.pfs_runs.specs.Finals.{is_lost_nested, is_lost_locker, is_unplaced};
 ghost use Rattle.pfs_ends.specs.Counts as spec;
 
-use pfs_event::{Entry, KeptEntry, Verdict};
+use pfs_event::{Entry, Log, Verdict};
 
 // The row of the digests without a place.
 const UNPLACED: u64 = 8_385;
@@ -48,21 +48,21 @@ fn lost_by(verdict: Verdict) -> LostEvents
 }
 
 // What is lost by an entry.
-fn lost_at(entry: &KeptEntry) -> LostEvents
+fn lost_at(entry: &Entry) -> LostEvents
     ensures statements { result.statements ≡ spec.lost_statements (entry.now ∷ []) }
     ensures waits { result.waits ≡ spec.lost_waits (entry.now ∷ []) }
 {
-    match entry.entry() {
+    match *entry {
         Entry::Start { verdict, .. } => lost_by(verdict),
         _ => LostEvents::NONE,
     }
 }
 
 // Whether additions bring an event behind this entry, where they do before it or not.
-fn ends_behind(ends: bool, entry: &KeptEntry) -> bool
+fn ends_behind(ends: bool, entry: &Entry) -> bool
     ensures is { result ≡ spec.ends_behind ends entry.now }
 {
-    match entry.entry() {
+    match *entry {
         Entry::End { .. } => true,
         Entry::Settle | Entry::Act { .. } | Entry::Connect { .. } => false,
         _ => ends,
@@ -70,10 +70,10 @@ fn ends_behind(ends: bool, entry: &KeptEntry) -> bool
 }
 
 // How many statements an entry brings to the row of the digests without a place.
-fn unplaced_at(ends: bool, entry: &KeptEntry) -> u64
+fn unplaced_at(ends: bool, entry: &Entry) -> u64
     ensures is { result ≡ cond (is_unplaced ends entry.now) 1 0 }
 {
-    match entry.entry() {
+    match *entry {
         Entry::Add { row, .. } | Entry::Held { row, .. } => {
             if ends && row == UNPLACED { 1 } else { 0 }
         }
@@ -81,41 +81,28 @@ fn unplaced_at(ends: bool, entry: &KeptEntry) -> u64
     }
 }
 
-// How many digests these entries say were lost.
-fn count_digests(entries: &[KeptEntry]) -> u64
-    requires few { length entries.now < 2 ^ 64 }
-    ensures is { result ≡ spec.lost_digests entries.now }
-    ensures few { result ≤ length entries.now }
+/// What was lost so far, with what these entries of a session, from the beginning of a block on, say was lost.
+pub fn count_lost(entries: &Log, so_far: LostEvents) -> LostEvents
+    requires digests { so_far.digests < 2 ^ 63 }
+    requires statements { so_far.statements < 2 ^ 63 }
+    requires waits { so_far.waits < 2 ^ 63 }
+    ensures digests { result.digests ≡ so_far.digests + spec.lost_digests entries.now.entries }
+    ensures statements { result.statements ≡ so_far.statements + spec.lost_statements entries.now.entries }
+    ensures waits { result.waits ≡ so_far.waits + spec.lost_waits entries.now.entries }
 {
     let mut ends = false;
-    let mut digests = 0;
-    for entry in entries {
-        let unplaced = unplaced_at(ends, entry);
-        let behind = ends_behind(ends, entry);
-        digests += unplaced;
-        ends = behind;
-    }
-    digests
-}
-
-/// What was lost so far, with what these entries of a session, from the beginning of a block on, say was lost. It goes
-/// over them twice.
-pub fn count_lost(entries: &[KeptEntry], so_far: LostEvents) -> LostEvents
-    requires digests { so_far.digests + length entries.now < 2 ^ 64 }
-    requires statements { so_far.statements + length entries.now < 2 ^ 64 }
-    requires waits { so_far.waits + length entries.now < 2 ^ 64 }
-    ensures digests { result.digests ≡ so_far.digests + spec.lost_digests entries.now }
-    ensures statements { result.statements ≡ so_far.statements + spec.lost_statements entries.now }
-    ensures waits { result.waits ≡ so_far.waits + spec.lost_waits entries.now }
-{
-    let unplaced = count_digests(entries);
-    let digests = so_far.digests + unplaced;
+    let mut digests = so_far.digests;
     let mut statements = so_far.statements;
     let mut waits = so_far.waits;
-    for entry in entries {
-        let lost = lost_at(entry);
+    for at in 0..entries.count() {
+        let entry = entries.entry(at);
+        let unplaced = unplaced_at(ends, &entry);
+        let lost = lost_at(&entry);
+        let behind = ends_behind(ends, &entry);
+        digests += unplaced;
         statements += lost.statements;
         waits += lost.waits;
+        ends = behind;
     }
     LostEvents {
         digests,

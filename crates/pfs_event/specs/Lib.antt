@@ -6,3 +6,4 @@ pub mod Verdicts
 pub mod Words
 pub mod Kinds
 pub mod Packing
+pub mod Journal

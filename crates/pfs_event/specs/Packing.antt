@@ -1,15 +1,18 @@
 -- The entry that a packed entry is.
-use Rattle.std.specs.Prelude.{ℕ, Bool, true, false, Option, Some, None}
+use Rattle.std.specs.Prelude.{ℕ, Bool, true, false, Option, Some, None, List, map, ◌≡◌, ◌<◌, slice_index_or}
 use Rattle.pfs_event.specs.declared.entry.Entry.{Entry}
 use Rattle.pfs_event.specs.declared.entry.Entry.TheVariants as says
+use Rattle.pfs_event.specs.Verdicts.{is_let_through}
+use Rattle.pfs_event.specs.declared.short.Short.{Short}
+use Rattle.pfs_event.specs.declared.short.Short.TheVariants as short
 use Rattle.pfs_event.specs.declared.packed.Packed.{Packed}
 use Rattle.pfs_event.specs.declared.packed.Packed.TheVariants as packed
-use Rattle.pfs_event.specs.declared.packed.Single.{Single}
-use Rattle.pfs_event.specs.declared.packed.Single.TheVariants as single
-use Rattle.pfs_event.specs.declared.packed.Pair.{Pair}
-use Rattle.pfs_event.specs.declared.packed.Pair.TheVariants as pair
-use Rattle.pfs_event.specs.declared.packed.Triple.{Triple}
-use Rattle.pfs_event.specs.declared.packed.Triple.TheVariants as triple
+use Rattle.pfs_event.specs.declared.short.Single.{Single}
+use Rattle.pfs_event.specs.declared.short.Single.TheVariants as single
+use Rattle.pfs_event.specs.declared.short.Pair.{Pair}
+use Rattle.pfs_event.specs.declared.short.Pair.TheVariants as pair
+use Rattle.pfs_event.specs.declared.short.Triple.{Triple}
+use Rattle.pfs_event.specs.declared.short.Triple.TheVariants as triple
 
 -- a number, where the flag says that it is there
 abbrev pub optional : Bool → ℕ → Option ℕ
@@ -56,3 +59,31 @@ entry_of (packed.Pair which first second) = pair_of which first second
 entry_of (packed.Triple which first second third) = triple_of which first second third
 entry_of packed.Settle = says.Settle
 entry_of packed.Query = says.Query
+
+-- the entry of a short form, where those without one are these
+abbrev pub short_of : List Packed → Short → Entry
+short_of others (short.Start verdict has_words has_table event consumers thread class table) =
+    says.Start (optional (is_let_through verdict) event) verdict (optional has_words consumers)
+    (optional has_words thread) (optional has_words class) (optional has_table table)
+short_of others (short.End is_through consumers thread event last) =
+    says.End (optional is_through event) (optional is_through last) (optional is_through consumers)
+    (optional is_through thread)
+short_of others (short.Single which number) = single_of which number
+short_of others (short.Pair which row version) = pair_of which row version
+short_of others (short.Triple which row second third) = triple_of which row second third
+short_of others short.Settle = says.Settle
+short_of others short.Query = says.Query
+short_of others (short.Long place) = entry_of (slice_index_or others place packed.Settle)
+
+abbrev pub entries_of : List Packed → List Short → List Entry
+entries_of others shorts = map (short_of others) shorts
+
+-- a short form of an entry that stands among so many others, where it has none of its own
+abbrev pub IsAmong : ℕ → Short → Type 0
+IsAmong others (short.Long place) = place < others
+IsAmong others _ = Unit {0}
+
+-- a short form of its own, of this entry
+pub record IsShort (entry : Entry) (form : Short) : Type 0 where
+  pub is : (others : List Packed) → short_of others form ≡ entry
+  pub alone : (others : ℕ) → IsAmong others form

@@ -5,18 +5,19 @@
 mod entry;
 mod event;
 mod form;
-mod kept;
 mod kind;
 pub mod laws;
+mod log;
 mod nest;
 mod open;
 mod packed;
+mod short;
 mod verdict;
 
 pub use entry::Entry;
 pub use event::Event;
-pub use kept::KeptEntry;
 pub use kind::EventKind;
+pub use log::Log;
 pub use nest::{Nest, Refused};
 pub use open::Open;
 pub use verdict::Verdict;

@@ -1,45 +1,12 @@
 //! The entries as a journal keeps them: flags beside numbers, where options would take twice the room.
 
-ghost use Rattle.std.specs.Prelude.{◌≡◌, Option};
-ghost use Rattle.pfs_event.specs.declared.entry.Entry.{Entry};
+ghost use Rattle.std.specs.Prelude.{◌≡◌};
 ghost use Rattle.pfs_event.specs.declared.entry.Entry.TheVariants as says;
-ghost use Rattle.pfs_event.specs.Packing.{optional, single_of, pair_of, triple_of, entry_of};
+ghost use Rattle.pfs_event.specs.Packing.{entry_of};
 
 use crate::entry::Entry;
+use crate::short::{Pair, Single, Triple, optional, pair_entry, single_entry, triple_entry};
 use crate::verdict::Verdict;
-
-/// Which entry of one number it is.
-#[derive(Clone, Copy)]
-pub enum Single {
-    Act,
-    Reply,
-    Error,
-    Vacant,
-    Rows,
-}
-
-/// Which entry of two numbers it is.
-#[derive(Clone, Copy)]
-pub enum Pair {
-    Add,
-    Ring,
-    Take,
-    Tag,
-    Free,
-    Seen,
-    Saw,
-}
-
-/// Which entry of three numbers it is.
-#[derive(Clone, Copy)]
-pub enum Triple {
-    Held,
-    Long,
-    Busy,
-    Late,
-    Give,
-    Set,
-}
 
 /// An entry in half of its room. Fields lie in the order of the source, so what is small stands first, and nothing is
 /// lost to alignment. A number counts only where the flag of its name is true.
@@ -84,13 +51,6 @@ pub enum Packed {
     Triple(Triple, u64, u64, u64),
     Settle,
     Query,
-}
-
-/// A number that may have nothing to say.
-fn optional(is_there: bool, number: u64) -> Option<u64>
-    ensures { result ≡ optional is_there number }
-{
-    if is_there { Some(number) } else { None }
 }
 
 fn pack_connect(
@@ -225,70 +185,8 @@ pub fn pack(entry: Entry) -> Packed
     }
 }
 
-fn unpack_single(which: Single, number: u64) -> Entry
-    ensures { result ≡ single_of which number }
-{
-    match which {
-        Single::Act => Entry::Act { action: number },
-        Single::Reply => Entry::Reply { number },
-        Single::Error => Entry::Error { number },
-        Single::Vacant => Entry::Vacant { row: number },
-        Single::Rows => Entry::Rows { number },
-    }
-}
-
-fn unpack_pair(which: Pair, row: u64, version: u64) -> Entry
-    ensures { result ≡ pair_of which row version }
-{
-    match which {
-        Pair::Add => Entry::Add { row, version },
-        Pair::Ring => Entry::Ring { row, version },
-        Pair::Take => Entry::Take { row, version },
-        Pair::Tag => Entry::Tag { row, version },
-        Pair::Free => Entry::Free { row, version },
-        Pair::Seen => Entry::Seen { row, version },
-        Pair::Saw => Entry::Saw { word: row, version },
-    }
-}
-
-fn unpack_triple(which: Triple, row: u64, second: u64, third: u64) -> Entry
-    ensures { result ≡ triple_of which row second third }
-{
-    match which {
-        Triple::Held => Entry::Held {
-            row,
-            first: second,
-            second: third,
-        },
-        Triple::Long => Entry::Long {
-            row,
-            version: second,
-            ticket: third,
-        },
-        Triple::Busy => Entry::Busy {
-            row,
-            first: second,
-            second: third,
-        },
-        Triple::Late => Entry::Late {
-            row,
-            ticket: second,
-            greater: third,
-        },
-        Triple::Give => Entry::Give {
-            row,
-            version: second,
-            source: third,
-        },
-        Triple::Set => Entry::Set {
-            word: row,
-            version: second,
-            flags: third,
-        },
-    }
-}
-
 /// The entry that was packed.
+#[inline(always)]
 pub fn unpack(packed: &Packed) -> Entry
     ensures { result ≡ entry_of packed.now }
 {
@@ -345,9 +243,9 @@ pub fn unpack(packed: &Packed) -> Entry
             consumers: optional(has_consumers, consumers),
             thread: optional(has_thread, thread),
         },
-        Packed::Single(which, number) => unpack_single(which, number),
-        Packed::Pair(which, row, version) => unpack_pair(which, row, version),
-        Packed::Triple(which, row, second, third) => unpack_triple(which, row, second, third),
+        Packed::Single(which, number) => single_entry(which, number),
+        Packed::Pair(which, row, version) => pair_entry(which, row, version),
+        Packed::Triple(which, row, second, third) => triple_entry(which, row, second, third),
         Packed::Settle => Entry::Settle,
         Packed::Query => Entry::Query,
     }

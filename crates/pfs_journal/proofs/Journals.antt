@@ -1,7 +1,8 @@
 -- A journal that is written entry by entry.
 use Rattle.std.proofs.Common.{ℕ, ◌≡◌, ◌+◌, ◌≤◌, ◌<◌, Bool, List, [], ◌∷◌, ◌++◌, length, drop, Option, Err, true, false, sym, ap, subst, ◌∙◌, refl, append_assoc, append-nil, arith}
-use Rattle.std.specs.Prelude.{if◌then◌else◌}
-use Rattle.std.proofs.lemmas.List.{drop-drop, drop_all}
+use Rattle.std.specs.Prelude.{if◌then◌else◌, slice_get, Some}
+use Rattle.std.proofs.lemmas.List.{drop-drop, drop_all, drop_more}
+use Rattle.std.proofs.lemmas.Option.{get_or_from_slice_get}
 use Rattle.pfs_outside.specs.Outside.{Added}
 use Rattle.pfs_outside.specs.Streams.{Puts}
 use Rattle.pfs_outside.specs.declared.writing.WriteStop.{WriteStop}
@@ -9,6 +10,10 @@ use Rattle.pfs_outside.proofs.Writes.{added_more, puts_then, puts_stop}
 use Rattle.pfs_event.specs.declared.entry.Entry.{Entry}
 use Rattle.pfs_values.specs.declared.RowValue.{RowValue}
 use Rattle.pfs_journal.specs.Spelling.{is_answered, answered_text, journal_text}
+
+-- what is left from a place on begins with the entry there
+pub from_there : (xs : List Entry) (i : ℕ) (there : Entry) → i < length xs → slice_get xs i ≡ Some there → drop i xs ≡ there ∷ drop (i + 1) xs
+from_there xs i there within stands = drop_more xs i there within ∙ ap (λ (entry : Entry). entry ∷ drop (i + 1) xs) (get_or_from_slice_get xs i there there stands)
 
 abbrev pub Answers : Type 0
 Answers = List (List (List RowValue))

@@ -1,15 +1,15 @@
 //! What is reported of a block of a phase: the session's journal, and the answers of its SELECTs.
 
-ghost use Rattle.std.specs.Prelude.{◌≡◌};
+ghost use Rattle.std.specs.Prelude.{◌≡◌, ◌<◌, length, slice_get, Some};
 
-use pfs_event::KeptEntry;
+use pfs_event::{Entry, Log};
 use pfs_values::Rowset;
 use std::marker::Model;
 
 /// The entries of a journal, in order.
 #[derive(Drop)]
 pub struct EntryList {
-    items: Vec<KeptEntry>,
+    log: Log,
 }
 
 impl Model for EntryList {
@@ -18,29 +18,31 @@ impl Model for EntryList {
 
     ghost Value = { List Entry };
 
-    ghost view = { λ list. list.items.items };
+    ghost view = { λ list. list.log.entries };
 }
 
 impl EntryList {
-    /// The list of these entries. It takes no memory.
-    pub fn new(items: Vec<KeptEntry>) -> EntryList
-        ensures { result ≡ items.items }
+    /// The list of the entries of a log. It takes no memory.
+    pub fn new(log: Log) -> EntryList
+        ensures { result ≡ log.entries }
     {
-        EntryList { items }
+        EntryList { log }
     }
 
-    /// The entries, in order.
-    pub fn as_slice(&self) -> &[KeptEntry]
-        ensures { result.now ≡ self.now }
+    /// How many entries there are.
+    pub fn count(&self) -> usize
+        ensures { result ≡ length self.now }
     {
-        self.items.as_slice()
+        self.log.count()
     }
 
-    /// The entries, given back without taking memory.
-    pub fn into_vec(self) -> Vec<KeptEntry>
-        ensures { result.items ≡ self }
+    /// The entry at a place.
+    #[inline(always)]
+    pub fn entry(&self, place: usize) -> Entry
+        requires { place < length self.now }
+        ensures { slice_get self.now place ≡ Some result }
     {
-        self.items
+        self.log.entry(place)
     }
 }
 

@@ -5,10 +5,10 @@ ghost use Rattle.std.specs.List.{All};
 ghost use Rattle.pfs_event.specs.declared.entry.Entry.{Entry};
 ghost use Rattle.pfs_journal.specs.Reports.{is_text_byte, is_name_byte, IsText, IsName, IsValue, IsRow, IsTable, IsLost, IsBlock, IsPhase, AreAnswered, rows_asked, sizes_of};
 
-use crate::blocks::BlockReport;
+use crate::blocks::{BlockReport, EntryList};
 use crate::report::PhaseParts;
 use crate::values::{LostReport, TableReport};
-use pfs_event::{Entry, KeptEntry};
+use pfs_event::Entry;
 use pfs_values::{Row, RowValue, Rowset};
 
 /// Whether a text may have the byte.
@@ -99,14 +99,14 @@ fn has_rows(answers: &[Rowset], place: usize, number: u64) -> bool
 }
 
 /// The place of the next answer behind an entry, or None where the one that is due isn't there.
-fn place_behind(entry: &KeptEntry, answers: &[Rowset], place: usize) -> Option<usize>
+fn place_behind(entry: &Entry, answers: &[Rowset], place: usize) -> Option<usize>
     requires { place ≤ length answers.now }
     ensures { (rest : List Entry)
         → MatchOption result (¬ AreAnswered (entry.now ∷ rest) (drop place answers.now))
         (λ next. (next ≤ length answers.now)
         × (AreAnswered (entry.now ∷ rest) (drop place answers.now) ↔ AreAnswered rest (drop next answers.now))) }
 {
-    match rows_asked(&entry.entry()) {
+    match rows_asked(entry) {
         Some(number) => {
             if has_rows(answers, place, number) {
                 Some(place + 1)
@@ -119,12 +119,12 @@ fn place_behind(entry: &KeptEntry, answers: &[Rowset], place: usize) -> Option<u
 }
 
 /// Whether each answer has so many rows as its entry says.
-fn are_answered(entries: &[KeptEntry], answers: &[Rowset]) -> bool
+fn are_answered(entries: &EntryList, answers: &[Rowset]) -> bool
     ensures { IsTrue result ↔ AreAnswered entries.now answers.now }
 {
     let mut place = 0usize;
-    for entry in entries {
-        match place_behind(entry, answers, place) {
+    for at in 0..entries.count() {
+        match place_behind(&entries.entry(at), answers, place) {
             Some(next) => place = next,
             None => return false,
         }
@@ -135,8 +135,7 @@ fn are_answered(entries: &[KeptEntry], answers: &[Rowset]) -> bool
 fn is_block(block: &BlockReport) -> bool
     ensures { IsTrue result ↔ IsBlock block.now }
 {
-    are_answered(block.entries.as_slice(), block.answers.as_slice())
-        && are_answers(block.answers.as_slice())
+    are_answered(&block.entries, block.answers.as_slice()) && are_answers(block.answers.as_slice())
 }
 
 fn are_blocks(blocks: &[BlockReport]) -> bool

@@ -1,7 +1,7 @@
 //! Reading the parts of a report. A part begins with a line that was taken already, and the line
 //! behind it is given back with it.
 
-ghost use Rattle.std.specs.Prelude.{ℕ, List, ◌≡◌, ◌≢◌, ◌++◌, ◌∷◌, [], ◌<◌, ◌≤◌, length, IfOk, Some};
+ghost use Rattle.std.specs.Prelude.{ℕ, List, ◌≡◌, ◌≢◌, ◌++◌, ◌∷◌, [], ◌<◌, ◌≤◌, length, IfOk, OnOk, Some};
 ghost use Rattle.std.specs.List.{All, flat_map};
 ghost use Rattle.pfs_journal.specs.declared.line.Line.TheVariants as says;
 ghost use Rattle.pfs_journal.specs.Lines.{line_text, IsLine};
@@ -15,7 +15,7 @@ use crate::checks::rows_asked;
 use crate::line::Line;
 use crate::reading::{Lines, ReadStop, next, push};
 use crate::values::{LostList, LostReport, TableList, TableReport};
-use pfs_event::{Entry, KeptEntry};
+use pfs_event::{Entry, Log};
 use pfs_text::Text;
 use pfs_values::{Row, Rowset};
 use std::alloc::Global;
@@ -233,22 +233,36 @@ fn take_answer_if(
     }
 }
 
+/// Appends an entry to a journal.
+fn push_entry(entries: &mut Log, entry: Entry) -> Result<(), ReadStop>
+    ensures pushed { OnOk result (entries.new.entries ≡ entries.old.entries ++ entry ∷ []) }
+    ensures memory { IfBad result (λ at. ⊥) }
+{
+    match entries.reserve(1) {
+        Ok(()) => {
+            entries.push(entry);
+            Ok(())
+        }
+        Err(_) => Err(ReadStop::NoMemory),
+    }
+}
+
 fn take_entry(
     alloc: Global,
     lines: &mut Lines<'_>,
-    entries: &mut Vec<KeptEntry>,
+    entries: &mut Log,
     answers: &mut Vec<Rowset>,
     entry: Entry,
 ) -> Result<Line, ReadStop>
     ensures grows { IfOk result
-        (λ line. JournalGrows entry entries.old.items entries.new.items answers.old.items answers.new.items
+        (λ line. JournalGrows entry entries.old.entries entries.new.entries answers.old.items answers.new.items
         lines.old.rest.now line lines.new.rest.now) }
     ensures leads { IfOk result (λ line. Leads (Some (Journal (rows_due (rows_asked entry))))
         lines.old.rest.now lines.old.taken (step (Journal 0) line) lines.new.rest.now lines.new.taken) }
     ensures stops { IfBad result (λ at. StopsAfter (Some (Journal (rows_due (rows_asked entry))))
         lines.old.rest.now lines.old.taken at) }
 {
-    push(entries, KeptEntry::new(entry))?;
+    push_entry(entries, entry)?;
     let first = next(alloc, lines)?;
     take_answer_if(alloc, lines, answers, rows_asked(&entry), first)
 }
@@ -265,7 +279,7 @@ pub fn read_journal(
         lines.old.rest.now lines.old.taken (step Blocks x.2) lines.new.rest.now lines.new.taken) }
     ensures stops { IfBad result (λ at. StopsAfter (step (Journal 0) first) lines.old.rest.now lines.old.taken at) }
 {
-    let mut entries = Vec::new(alloc);
+    let mut entries = Log::new(alloc);
     let mut answers = Vec::new(alloc);
     let mut line = first;
     'entries: loop {

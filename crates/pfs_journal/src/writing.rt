@@ -6,11 +6,11 @@ ghost use Rattle.pfs_outside.specs.Streams.{Puts};
 ghost use Rattle.pfs_journal.specs.Spelling.{entry_text, is_answered, answered_text, journal_text, block_text, session_line, row_text, table_line, table_text, lost_text, results_text, final_line, final_text, body_text, phase_line, phase_text, phases_text, first_line, spelling};
 
 use crate::NoMemory;
-use crate::blocks::BlockReport;
+use crate::blocks::{BlockReport, EntryList};
 use crate::lines::{ENTRY, entry_before, lost_line, one_line, row_line, table_line};
 use crate::report::{PhaseParts, PhaseReport, Report};
 use crate::values::{LostReport, TableReport};
-use pfs_event::{Entry, KeptEntry};
+use pfs_event::Entry;
 use pfs_outside::{Sink, WriteStop, write_all};
 use pfs_values::{Row, Rowset};
 use std::alloc::Global;
@@ -86,7 +86,7 @@ fn is_answered(entry: &Entry) -> bool
 
 /// The place of the next answer behind an entry.
 fn place_behind(entry: &Entry, place: usize) -> usize
-    requires { place < 2 ^ 63 }
+    requires { place + 1 < 2 ^ 64 }
     ensures { result ≡ (if is_answered entry.now then place + 1 else place) }
 {
     if is_answered(entry) { place + 1 } else { place }
@@ -143,7 +143,7 @@ fn put_entry<K: Sink>(
 fn put_journal<K: Sink>(
     line: &mut Vec<u8>,
     sink: &mut K,
-    entries: &[KeptEntry],
+    entries: &EntryList,
     answers: &[Rowset],
 ) -> Result<(), WriteStop>
     ensures { Puts (K.written sink.old) (K.written sink.new) (K.faults sink.old) (K.faults sink.new)
@@ -151,8 +151,8 @@ fn put_journal<K: Sink>(
 {
     let mut buffer = [b'\n'; ENTRY];
     let mut place = 0usize;
-    for entry in entries {
-        let said = entry.entry();
+    for at in 0..entries.count() {
+        let said = entries.entry(at);
         match put_entry(&mut buffer, line, sink, &said, answers, place) {
             Ok(()) => {}
             Err(stop) => return Err(stop),
@@ -177,7 +177,7 @@ impl Spelled for BlockReport {
     #[tactic(auto, using(pfs_outside::proofs::Writes::puts_then, pfs_outside::proofs::Writes::puts_stop), unfolding(crate::specs::Spelling::block_text))]
     fn put<K: Sink>(&self, line: &mut Vec<u8>, sink: &mut K) -> Result<(), WriteStop> {
         put_session_line(line, sink, self.session)?;
-        put_journal(line, sink, self.entries.as_slice(), self.answers.as_slice())
+        put_journal(line, sink, &self.entries, self.answers.as_slice())
     }
 }
 

@@ -7,7 +7,7 @@ use Rattle.pfs_levels.specs.declared.answers.Word.{Word}
 use Rattle.pfs_levels.specs.declared.flushes.Source.{Source}
 use Rattle.pfs_levels.specs.Calls.{Call, Opening}
 use Rattle.pfs_levels.specs.Flushes.{Ascends, asks_of, CellsAreAway}
-use Rattle.pfs_levels.specs.Journal.{Journal}
+use Rattle.pfs_event.specs.Journal.{Journal}
 use Rattle.pfs_levels.specs.Moves.{Ask, ask, Moved, Stays, cost, AreAway}
 use Rattle.pfs_levels.proofs.Moving.{moved_then}
 

@@ -5,7 +5,7 @@ use Rattle.pfs_event.specs.declared.entry.Entry.{Entry}
 use Rattle.pfs_event.specs.declared.entry.Entry.TheVariants as says
 use Rattle.pfs_stat.specs.declared.Stat.{Stat}
 use Rattle.pfs_levels.specs.Calls.{Call, Puts, Takes, Frees, Opening, Goes}
-use Rattle.pfs_levels.specs.Journal.{Journal}
+use Rattle.pfs_event.specs.Journal.{Journal}
 use Rattle.pfs_levels.specs.Moves.{Ask, ask, Gift, Move, AreGifts, receivers, IsMove, gift_calls, gift_entries, empty_calls, move_calls, move_entries, AreMoves, moves_calls, moves_entries, Did, Moved, Emptied, Given, Purged}
 
 pub did_none : (log : Journal) (was : Opening → List Call → Type 0) → Did [] [] log log was was

@@ -2,7 +2,6 @@ pub mod Calls
 pub mod Contents
 pub mod Flushes
 pub mod Joint
-pub mod Journal
 pub mod Moves
 pub mod Order
 pub mod Plain

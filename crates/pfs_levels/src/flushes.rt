@@ -5,11 +5,10 @@ ghost use Rattle.pfs_levels.specs.declared.flushes.Source.{Source};
 ghost use Rattle.pfs_levels.specs.Flushes.{cells_of, beyond, upper, ask_of, asks_of, sources_of, flushed, IsBelow, IsUp, IsSource, ArePlaces, CellsAreAway, AllAreAway};
 ghost use Rattle.pfs_levels.specs.Moves.{Moved, Stays, cost, targets_of};
 
-use crate::log::Log;
 use crate::moves::move_up;
 use crate::places::{Level, Places, Targets, Up};
 use crate::store::Hold;
-use pfs_event::EventKind;
+use pfs_event::{EventKind, Log};
 use pfs_rows::{Place, row_of};
 
 /// A thread, an account, a user or a host, whose cells are moved.

@@ -4,7 +4,6 @@
 pub mod answers;
 pub mod flushes;
 pub mod laws;
-pub mod log;
 pub mod moves;
 pub mod places;
 pub mod plain;
@@ -12,9 +11,9 @@ pub mod store;
 
 pub use answers::{Added, RingPut, Word};
 pub use flushes::{Source, flush, flush_cells};
-pub use log::Log;
 pub use moves::{clear, move_up, purge};
 pub use pfs_board::{Content, Label};
+pub use pfs_event::Log;
 pub use places::{Level, NumberList, Places, Targets, Up, UpList};
 pub use plain::PlainRows;
 pub use store::{Acts, Hold, Rows};

@@ -4,10 +4,9 @@ ghost use Rattle.std.specs.Prelude.{◌≡◌, ◌<◌, ◌≤◌, ◌+◌, ◌�
 ghost use Rattle.pfs_rows.specs.Rows.{IsPlace, row_number};
 ghost use Rattle.pfs_levels.specs.Moves.{ask, targets_of, some_list, Moved, Emptied, Given, Purged, AskIsAway, IsAway, AreAway, Stays};
 
-use crate::log::Log;
 use crate::places::Targets;
 use crate::store::Hold;
-use pfs_event::Entry;
+use pfs_event::{Entry, Log};
 use pfs_rows::{Place, row_of};
 use pfs_stat::{Stat, zero};
 

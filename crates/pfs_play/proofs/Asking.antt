@@ -3,7 +3,7 @@ use Rattle.std.proofs.Common.{ℕ, zero, suc, ◌≡◌, ◌≤◌, ◌+◌, Boo
 use Rattle.std.specs.Prelude.{Some, None}
 use Rattle.std.proofs.lemmas.List.{append-nil, length-append, length-map}
 use Rattle.pfs_levels.specs.Calls.{Call, Opening}
-use Rattle.pfs_levels.specs.Journal.{Journal}
+use Rattle.pfs_event.specs.Journal.{Journal}
 use Rattle.pfs_parts.specs.Deeds.{looks, remark}
 use Rattle.pfs_readsets.proofs.Passing.{passing_none, passing_no, passing_yes}
 use Rattle.pfs_readsets.specs.Places.{Scope}

@@ -75,6 +75,7 @@ impl Put {
 /// which is drawn first. Busy and Late are the store's answers: the row is in another actor's hands, or the place of
 /// the long history holds the greater ticket given. Then nothing was written, and the event is dropped: that a put never
 /// waits is our own rule, as the tickets are. The event's own ticket is no matter.
+#[inline(always)]
 pub fn put_event<R: Rows>(rows: &mut R, ring: Ring, event: &Event) -> Put
     requires ring { IsRing ring }
     requires alone { (r : ℕ) → 0 < r → R.hand rows.old r ≡ None }

@@ -86,6 +86,7 @@ pub fn row_of(place: Place) -> u64
 }
 
 /// The place of a row; none exactly from row 14,242 on.
+#[inline(always)]
 pub fn place_of(row: u64) -> Option<Place>
     ensures value { result ≡ place_at row }
     ensures place { MatchOption result (14242 ≤ row) (λ p. IsPlace p × (row_number p ≡ row)) }

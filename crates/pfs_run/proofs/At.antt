@@ -46,11 +46,11 @@ module _ (setting : Setting) (phases before : List Phase) (first : List Block) (
   pub actions_at : admin.actions + actions_on (written_out block.lines) + 1 < 2 ^ 47
   actions_at = omega (arith, along.acted, here.few, here.rare)
 
-  pub digests_at : (n : ℕ) → n < 2 ^ 63 → lost.digests + n < 2 ^ 64
-  digests_at n less = omega (arith, along.few_digests, here.few, less)
+  pub digests_at : lost.digests < 2 ^ 63
+  digests_at = omega (arith, along.few_digests, here.few)
 
-  pub statements_at : (n : ℕ) → n < 2 ^ 63 → lost.statements + n < 2 ^ 64
-  statements_at n less = omega (arith, along.few_statements, here.few, less)
+  pub statements_at : lost.statements < 2 ^ 63
+  statements_at = omega (arith, along.few_statements, here.few)
 
-  pub waits_at : (n : ℕ) → n < 2 ^ 63 → lost.waits + n < 2 ^ 64
-  waits_at n less = omega (arith, along.few_waits, here.few, less)
+  pub waits_at : lost.waits < 2 ^ 63
+  waits_at = omega (arith, along.few_waits, here.few)

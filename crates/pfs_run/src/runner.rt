@@ -115,12 +115,12 @@ impl Runner {
             &mut answers,
             block,
         )?;
-        let entries = paused.take_log().into_entries();
+        let log = paused.take_log();
         keep_seat(&mut self.seats, block.session, paused);
-        self.lost = count_lost(entries.as_slice(), self.lost);
+        self.lost = count_lost(&log, self.lost);
         self.blocks.push(BlockReport {
             session: block.session,
-            entries: EntryList::new(entries),
+            entries: EntryList::new(log),
             answers: AnswerList::new(answers),
         })?;
         Ok(())

@@ -5,7 +5,7 @@ ghost use Rattle.std.specs.Prelude.{◌≡◌, IfOk};
 use crate::actors::{Run, actor, fresh_run};
 use crate::stories::{Gone, Settled, Truncated, come_and_go, settle_behind, truncate_waits};
 use pfs_admin::Reply;
-use pfs_event::{Entry, KeptEntry, Verdict};
+use pfs_event::{Entry, Log, Verdict};
 use pfs_levels::Added;
 use pfs_rows::Seen;
 use std::alloc::{AllocError, Global};
@@ -83,12 +83,12 @@ fn whole(version: u64, words: [u64; 6]) -> Seen {
 }
 
 // The entries as they were recorded.
-fn said(alloc: Global, entries: &[KeptEntry]) -> Result<Vec<Entry>, AllocError>
-    ensures { IfOk result (λ list. list.items ≡ entries.now) }
+fn said(alloc: Global, log: &Log) -> Result<Vec<Entry>, AllocError>
+    ensures { IfOk result (λ list. list.items ≡ log.now.entries) }
 {
     let mut list = Vec::new(alloc);
-    for entry in entries {
-        list.push(entry.entry())?;
+    for at in 0..log.count() {
+        list.push(log.entry(at))?;
     }
     Ok(list)
 }
@@ -169,7 +169,7 @@ fn what_another_actor_holds_back_is_settled_at_a_pause(rt: HostRuntime) -> Resul
     } = settle_behind(&rt, rows, other, writer, admin, session);
     assert_eq!(rt; (summary, put), (Some(HELD), 1));
     assert_eq!(rt; cell, whole(2, [1, 5, 5, 5, 0, 0]));
-    let list = said(rt.alloc(), log.entries())?;
+    let list = said(rt.alloc(), &log)?;
     assert_eq!(rt; list.as_slice(), SETTLED.as_slice());
     Ok(())
 }

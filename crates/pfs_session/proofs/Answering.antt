@@ -5,7 +5,7 @@ use Rattle.pfs_event.specs.declared.entry.Entry.TheVariants as says
 use Rattle.pfs_event.specs.declared.open.Open.{Open}
 use Rattle.pfs_event.specs.declared.verdict.Verdict.{Verdict}
 use Rattle.pfs_levels.specs.Calls.{Call, Opening}
-use Rattle.pfs_levels.specs.Journal.{Journal}
+use Rattle.pfs_event.specs.Journal.{Journal}
 use Rattle.pfs_model.specs.declared.lines.Subject.{Subject}
 use Rattle.pfs_session.specs.Answers.{SaysStart, SaysEnd, SaysStage, SaysStageEnd, SaysStageStart, is_in_stage}
 use Rattle.std.proofs.lemmas.List.{append_assoc}

@@ -5,7 +5,7 @@ use Rattle.pfs_event.specs.declared.event.Event.{Event}
 use Rattle.pfs_event.specs.declared.entry.Entry.{Entry}
 use Rattle.pfs_event.specs.declared.kind.EventKind.{EventKind}
 use Rattle.pfs_levels.specs.Calls.{Call, Opening, Goes, Rings}
-use Rattle.pfs_levels.specs.Journal.{Journal}
+use Rattle.pfs_event.specs.Journal.{Journal}
 use Rattle.pfs_levels.specs.declared.answers.RingPut.{RingPut}
 use Rattle.pfs_levels.specs.declared.answers.RingPut.TheVariants as told
 use Rattle.pfs_rings.specs.Offers.{IsOffered, Offers, Says, offered, put_entry}

@@ -21,7 +21,7 @@ use Rattle.pfs_event.specs.declared.kind.EventKind.{EventKind}
 use Rattle.pfs_event.specs.declared.open.Open.{Open}
 use Rattle.pfs_event.specs.declared.verdict.Verdict.{Verdict}
 use Rattle.pfs_levels.specs.Calls.{Call, Opening, Goes, Loads, Adds}
-use Rattle.pfs_levels.specs.Journal.{Journal}
+use Rattle.pfs_event.specs.Journal.{Journal}
 use Rattle.pfs_levels.specs.Moves.{Did, moves_calls, moves_entries}
 use Rattle.pfs_levels.proofs.Moving.{did_none, did_then}
 use Rattle.pfs_levels.specs.declared.answers.Added.{Added}

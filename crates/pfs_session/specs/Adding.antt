@@ -1,7 +1,7 @@
 -- An amount that is brought to its row, with what is held for it.
 use Rattle.std.specs.Prelude.{ℕ, ◌≡◌, List, [], ◌∷◌, Option, slice_set}
 use Rattle.pfs_levels.specs.Calls.{Opening, Call, Adds, row_in}
-use Rattle.pfs_levels.specs.Journal.{Journal}
+use Rattle.pfs_event.specs.Journal.{Journal}
 use Rattle.pfs_levels.specs.Moves.{Did}
 use Rattle.pfs_levels.specs.declared.answers.Added.{Added}
 use Rattle.pfs_stat.specs.declared.Stat.{Stat}

@@ -9,7 +9,7 @@ use Rattle.pfs_event.specs.declared.kind.EventKind.TheVariants as kinds
 use Rattle.pfs_event.specs.declared.open.Open.{Open}
 use Rattle.pfs_event.specs.declared.verdict.Verdict.{Verdict}
 use Rattle.pfs_levels.specs.Calls.{Call, Opening, Rings, Draws}
-use Rattle.pfs_levels.specs.Journal.{Journal}
+use Rattle.pfs_event.specs.Journal.{Journal}
 use Rattle.pfs_levels.specs.Moves.{Did}
 use Rattle.pfs_levels.specs.declared.answers.RingPut.{RingPut}
 use Rattle.pfs_model.specs.Causes.{long_row}

@@ -8,7 +8,7 @@ use Rattle.pfs_event.specs.Verdicts.{is_let_through}
 use Rattle.pfs_event.specs.declared.kind.EventKind.{EventKind}
 use Rattle.pfs_event.specs.declared.kind.EventKind.TheVariants as kinds
 use Rattle.pfs_event.specs.declared.open.Open.{Open}
-use Rattle.pfs_levels.specs.Journal.{Journal}
+use Rattle.pfs_event.specs.Journal.{Journal}
 use Rattle.pfs_model.specs.Shapes.{is_stage}
 use Rattle.pfs_stat.specs.declared.Stat.{Stat}
 use Rattle.pfs_session.specs.declared.nexts.Nexts.{Nexts}

@@ -1,6 +1,6 @@
 -- What a call of a session may use up, and what it leaves as it was.
 use Rattle.std.specs.Prelude.{ℕ, ◌≡◌, ◌+◌, ◌≤◌, Option}
-use Rattle.pfs_levels.specs.Journal.{Journal}
+use Rattle.pfs_event.specs.Journal.{Journal}
 
 -- so many publications, tickets and entries at most; no row is in hand that wasn't
 pub record Uses (count tickets entries : ℕ) (hand_old hand_new : ℕ

@@ -1,10 +1,10 @@
 //! What an event's start loads of the setup, and what it decides by that.
 
-ghost use Rattle.std.specs.Prelude.{◌≡◌, ◌<◌, ◌∷◌, [], ℕ, Option, Some, None, IfSome};
+ghost use Rattle.std.specs.Prelude.{◌≡◌, ◌<◌, ◌∷◌, [], ℕ, IfSome, is_some};
 ghost use Rattle.std.specs.Option.{option_map};
 ghost use Rattle.pfs_levels.specs.Calls.{Goes, Loads};
 ghost use Rattle.pfs_model.specs.Setups.{is_enabled, has_time, verdict_by};
-ghost use Rattle.pfs_session.specs.Starts.{IsLoaded, load_calls, setup_calls, table_calls, flags_in, flags_of, verdict_seen, is_timed_by, is_digested_by, if_through, start_entry, version_of};
+ghost use Rattle.pfs_session.specs.Starts.{IsLoaded, load_calls, table_calls, flags_in, flags_of, verdict_seen, is_timed_by, is_digested_by, if_through, start_entry, version_of};
 
 use crate::events::{is_statement, is_wait};
 use pfs_consumers::{Consumer, Flags, acts};
@@ -39,39 +39,46 @@ pub(crate) fn load<R: Rows>(rows: &mut R, slot: Option<u64>, subject: &Subject) 
     ensures words { R.words rows.new ≡ R.words rows.old }
     ensures name { R.name rows.new ≡ R.name rows.old }
 {
-    match slot {
-        Some(slot) => match subject.class {
-            Some(class) => Some(load_setup(rows, slot, class, subject.table)),
-            None => None,
+    let Some(slot) = slot else {
+        return None;
+    };
+    let Some(class) = subject.class else {
+        return None;
+    };
+    let (consumers_version, consumers) = rows.load(0);
+    let (thread_version, thread) = rows.load(1 + slot);
+    let (class_version, class) = rows.load(33 + class);
+    Some(Setup {
+        consumers: Word {
+            version: consumers_version,
+            flags: consumers,
         },
-        None => None,
-    }
+        thread: Word {
+            version: thread_version,
+            flags: thread,
+        },
+        class: Word {
+            version: class_version,
+            flags: class,
+        },
+        table: load_table(rows, subject.table),
+    })
 }
 
-fn load_setup<R: Rows>(rows: &mut R, slot: u64, class: u64, table: Option<u64>) -> Setup
-    requires slot { slot < 32 }
-    requires class { class < 63 }
-    requires table { IfSome table (λ n. n < 64) }
-    ensures loaded { IsLoaded (Some slot) (Some class) table (Some result) }
-    ensures goes { Goes (R.reached rows.old) (R.reached rows.new) (setup_calls slot class table result) }
+// The word of a table, of an event of a table.
+fn load_table<R: Rows>(rows: &mut R, table: Option<u64>) -> Option<Word>
+    requires { IfSome table (λ n. n < 64) }
+    ensures loaded { is_some result ≡ is_some table }
+    ensures goes { Goes (R.reached rows.old) (R.reached rows.new) (table_calls table result) }
     ensures left { R.left rows.new ≡ R.left rows.old }
     ensures draws { R.draws rows.new ≡ R.draws rows.old }
     ensures hand { (r : ℕ) → R.hand rows.new r ≡ R.hand rows.old r }
     ensures words { R.words rows.new ≡ R.words rows.old }
     ensures name { R.name rows.new ≡ R.name rows.old }
 {
-    let consumers = load_word(rows, 0);
-    let thread = load_word(rows, 1 + slot);
-    let class = load_word(rows, 33 + class);
-    let table = match table {
+    match table {
         Some(table) => Some(load_word(rows, 96 + table)),
         None => None,
-    };
-    Setup {
-        consumers,
-        thread,
-        class,
-        table,
     }
 }
 

@@ -61,10 +61,10 @@ fn a_session_connects_and_quits(rt: HostRuntime) -> Result<(), Fail> {
     let mut log = Log::with_room(alloc, 259)?;
     let placed = admin.connect(&mut rows, 7, NameId(0), NameId(1), &mut log);
     assert_eq!(rt; placed.thread, Some(0));
-    assert_eq!(rt; log.entries().len(), 6);
+    assert_eq!(rt; log.count(), 6);
     admin.quit(&mut rows, 7, &mut log);
     // Its 26 cells, its own row, those of its account, user and host, 56 places of rings, and its word.
-    assert_eq!(rt; log.entries().len(), 6 + 26 + 1 + 3 + 56 + 1);
+    assert_eq!(rt; log.count(), 6 + 26 + 1 + 3 + 56 + 1);
     assert_eq!(rt; admin.lost().threads, 0);
     Ok(())
 }

@@ -2,7 +2,7 @@
 
 ghost use Rattle.std.specs.Prelude.{◌≡◌, IfOk};
 
-use pfs_event::{Entry, EventKind, KeptEntry};
+use pfs_event::{Entry, EventKind};
 use pfs_levels::*;
 use pfs_rows::{Place, Seen};
 use pfs_stat::{Measure, Stat, of_event, zero};
@@ -10,12 +10,12 @@ use std::alloc::{AllocError, Global};
 use std::test::Fail;
 
 // The entries as they were recorded.
-pub(crate) fn said(alloc: Global, entries: &[KeptEntry]) -> Result<Vec<Entry>, AllocError>
-    ensures { IfOk result (λ list. list.items ≡ entries.now) }
+pub(crate) fn said(alloc: Global, log: &Log) -> Result<Vec<Entry>, AllocError>
+    ensures { IfOk result (λ list. list.items ≡ log.now.entries) }
 {
     let mut list = Vec::new(alloc);
-    for entry in entries {
-        list.push(entry.entry())?;
+    for at in 0..log.count() {
+        list.push(log.entry(at))?;
     }
     Ok(list)
 }
@@ -47,7 +47,7 @@ fn a_move_without_targets_logs_the_take(rt: HostRuntime) -> Result<(), Fail> {
         row: 129,
         version: 1,
     }];
-    assert_eq!(rt; said(alloc, log.entries())?.as_slice(), due.as_slice());
+    assert_eq!(rt; said(alloc, &log)?.as_slice(), due.as_slice());
     Ok(())
 }
 
@@ -92,7 +92,7 @@ fn a_move_gives_what_it_found(rt: HostRuntime) -> Result<(), Fail> {
         },
         Entry::Free { row: 1, version: 0 },
     ];
-    assert_eq!(rt; said(alloc, log.entries())?.as_slice(), due.as_slice());
+    assert_eq!(rt; said(alloc, &log)?.as_slice(), due.as_slice());
     let left = rows.read(129);
     assert_eq!(rt;
         left,
@@ -194,6 +194,6 @@ fn a_flush_ascends(rt: HostRuntime) -> Result<(), Fail> {
             version: 1,
         },
     ];
-    assert_eq!(rt; said(alloc, log.entries())?.as_slice(), due.as_slice());
+    assert_eq!(rt; said(alloc, &log)?.as_slice(), due.as_slice());
     Ok(())
 }

@@ -242,7 +242,7 @@ fn session_records(
     let mut paused = session.pause(&mut rows);
     let log = paused.take_log();
     let mut again = paused.resume().pause(&mut rows);
-    if !again.take_log().entries().is_empty() {
+    if again.take_log().count() != 0 {
         return Err(Fail::from("something was settled twice"));
     }
     match rows.read(row) {
@@ -329,7 +329,7 @@ const HELD: Entry = Entry::Held {
 #[test]
 fn a_wait_is_counted(rt: HostRuntime) -> Result<(), Fail> {
     let ran = record_waits(rt.alloc(), 0, &[120])?;
-    let list = said(rt.alloc(), ran.log.entries())?;
+    let list = said(rt.alloc(), &ran.log)?;
     let entries = list.as_slice();
     assert_eq!(rt; entries.len(), 9);
     assert_eq!(rt; &entries[..6], connected().as_slice());
@@ -346,7 +346,7 @@ fn a_wait_is_counted(rt: HostRuntime) -> Result<(), Fail> {
 #[test]
 fn what_is_held_is_added_with_the_next(rt: HostRuntime) -> Result<(), Fail> {
     let ran = record_waits(rt.alloc(), 2, &[5, 7, 9])?;
-    let list = said(rt.alloc(), ran.log.entries())?;
+    let list = said(rt.alloc(), &ran.log)?;
     let entries = list.as_slice();
     assert_eq!(rt; entries.len(), 15);
     assert_eq!(rt; &entries[6..8], waited(1).as_slice());
@@ -366,7 +366,7 @@ fn what_is_held_is_added_with_the_next(rt: HostRuntime) -> Result<(), Fail> {
 #[test]
 fn what_is_held_is_settled_at_a_pause(rt: HostRuntime) -> Result<(), Fail> {
     let ran = record_waits(rt.alloc(), 1, &[5])?;
-    let list = said(rt.alloc(), ran.log.entries())?;
+    let list = said(rt.alloc(), &ran.log)?;
     let entries = list.as_slice();
     assert_eq!(rt; entries.len(), 11);
     assert_eq!(rt; &entries[8..], [HELD, Entry::Settle, ADDED].as_slice());

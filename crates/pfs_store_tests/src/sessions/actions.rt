@@ -65,7 +65,7 @@ fn what_is_held_is_settled_before_a_quit(rt: HostRuntime) -> Result<(), Fail> {
     let mut session = waiting(alloc, &mut rows, &mut admin)?;
     session.quit(&mut rows, &mut admin);
     let log = session.pause(&mut rows).take_log();
-    let list = said(alloc, log.entries())?;
+    let list = said(alloc, &log)?;
     let entries = list.as_slice();
     // Behind the action: 26 cells, of which one gives what it counted, and 61 of the session's places and its word.
     assert_eq!(rt; entries.len(), 12 + 26 + 1 + 61);

@@ -42,7 +42,7 @@ fn the_users_of_a_fresh_store_are_vacant(rt: HostRuntime) -> Result<(), Fail> {
     assert_eq!(rt; looked(&mut session, &mut rows, &mut reader), 32);
     session.append(Remark::Rows(0));
     let log = session.pause(&mut rows).take_log();
-    let list = said(alloc, log.entries())?;
+    let list = said(alloc, &log)?;
     let entries = list.as_slice();
     assert_eq!(rt; entries.len(), 34);
     assert_eq!(rt; entries[0], Entry::Query);

@@ -69,7 +69,7 @@ const fn busy(row: u64) -> Entry {
 #[test]
 fn a_statement_stands_in_its_current_place_and_its_history(rt: HostRuntime) -> Result<(), Fail> {
     let ran = record_statements(rt.alloc(), Flags::OPENING.0, 0, &[5], 8486)?;
-    let list = said(rt.alloc(), ran.log.entries())?;
+    let list = said(rt.alloc(), &ran.log)?;
     assert_eq!(rt; list.len(), 6 + 7);
     let (before, entries) = list.as_slice().split_at(6);
     let due = [
@@ -103,7 +103,7 @@ fn a_statement_stands_in_its_current_place_and_its_history(rt: HostRuntime) -> R
 #[test]
 fn a_put_that_is_dropped_leaves_its_place_to_the_next(rt: HostRuntime) -> Result<(), Fail> {
     let ran = record_statements(rt.alloc(), Flags::OPENING.0, 3, &[5, 7], 8486)?;
-    let list = said(rt.alloc(), ran.log.entries())?;
+    let list = said(rt.alloc(), &ran.log)?;
     let due = [
         start(1),
         busy(8455),
@@ -130,7 +130,7 @@ fn a_put_that_is_dropped_leaves_its_place_to_the_next(rt: HostRuntime) -> Result
 #[test]
 fn a_late_put_of_the_long_history_is_dropped(rt: HostRuntime) -> Result<(), Fail> {
     let ran = record_statements(rt.alloc(), WITH_LONG, 4, &[5, 7], 12_243)?;
-    let list = said(rt.alloc(), ran.log.entries())?;
+    let list = said(rt.alloc(), &ran.log)?;
     let entries = list.as_slice();
     assert_eq!(rt; entries.len(), 6 + 16);
     let late = Entry::Late {

@@ -7,11 +7,11 @@ use Rattle.pfs_journal.proofs.Stopping.{passed, along, journal_end}
 use Rattle.pfs_journal.proofs.parts.read_journal.Goals as goal
 
 pub entries-init : goal.entries-init
-entries-init c = (rw (c.new-entries.ensures.items, c.new-answers.ensures.items) (journal_none c.args.first c.args.lines.now.rest.now (search rules) c.requires), λ at stop. stop)
+entries-init c = (rw (c.new-entries.ensures, c.new-answers.ensures.items) (journal_none c.args.first c.args.lines.now.rest.now (search rules) c.requires), λ at stop. stop)
 
 pub entries-preserved : goal.entries-preserved
 entries-preserved c = (
-  journal_more c.entries.entries.items c.take_entry.new.entries.items c.entries.answers.items c.take_entry.new.answers.items c.in-Entry.entry c.args.first c.args.lines.now.rest.now c.entries.lines.rest.now c.entries.line c.in_ok-line-in-Entry.line c.take_entry.new.lines.rest.now c.in-Entry.is c.entries.invariant.0 c.in_ok-line-in-Entry.ensures.grows,
+  journal_more c.entries.entries.entries c.take_entry.new.entries.entries c.entries.answers.items c.take_entry.new.answers.items c.in-Entry.entry c.args.first c.args.lines.now.rest.now c.entries.lines.rest.now c.entries.line c.in_ok-line-in-Entry.line c.take_entry.new.lines.rest.now c.in-Entry.is c.entries.invariant.0 c.in_ok-line-in-Entry.ensures.grows,
   λ at stop. c.entries.invariant.1 at (subst (λ (line : Line). StopsAfter (step (Journal 0) line) c.entries.lines.rest.now c.entries.lines.taken at) (sym c.in-Entry.is) (c.in_ok-line-in-Entry.ensures.leads at stop)),
 )
 

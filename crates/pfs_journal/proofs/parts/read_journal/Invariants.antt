@@ -4,7 +4,7 @@ use Rattle.pfs_journal.specs.Readings.{IsJournalRead}
 use Rattle.pfs_journal.proofs.parts.read_journal.Given as goal
 
 abbrev pub invariant-entries : goal.invariant-entries
-invariant-entries l = (IsJournalRead l.entries.items l.answers.items l.initial.line l.initial.lines.rest.now l.line l.lines.rest.now) × (Leads (step (Journal 0) l.initial.line) l.initial.lines.rest.now l.initial.lines.taken (step (Journal 0) l.line) l.lines.rest.now l.lines.taken)
+invariant-entries l = (IsJournalRead l.entries.entries l.answers.items l.initial.line l.initial.lines.rest.now l.line l.lines.rest.now) × (Leads (step (Journal 0) l.initial.line) l.initial.lines.rest.now l.initial.lines.taken (step (Journal 0) l.line) l.lines.rest.now l.lines.taken)
 
 abbrev pub decreases-entries : goal.decreases-entries
 decreases-entries l = length l.lines.rest.now

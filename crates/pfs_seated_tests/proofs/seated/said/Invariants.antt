@@ -1,5 +1,5 @@
 use Rattle.std.proofs.Common.{◌≡◌, take}
 use Rattle.pfs_seated_tests.proofs.seated.said.Given as goal
 
-abbrev pub invariant-loop-entry : goal.invariant-loop-entry
-invariant-loop-entry l = l.list.items ≡ take l.entry-index l.entries
+abbrev pub invariant-loop-at : goal.invariant-loop-at
+invariant-loop-at l = l.list.items ≡ take l.at l.log.entries

@@ -4,7 +4,7 @@ use Rattle.pfs_event.specs.declared.entry.Entry.{Entry}
 use Rattle.pfs_ends.specs.Counts.{lost_digests, lost_statements, lost_waits}
 use Rattle.pfs_facts.specs.Steps.{kinds_at}
 use Rattle.pfs_journal.specs.declared.blocks.BlockReport.{BlockReport}
-use Rattle.pfs_levels.specs.Journal.{Journal}
+use Rattle.pfs_event.specs.Journal.{Journal}
 use Rattle.pfs_play.specs.Errands.{StagesLie, actions_on}
 use Rattle.pfs_script.specs.Marks.{written_out}
 use Rattle.pfs_script.specs.declared.blocks.BlockLine.{BlockLine}
@@ -122,19 +122,19 @@ pub count_lost-self-requires-clause-digests : goal.count_lost-self-requires-clau
 count_lost-self-requires-clause-digests c =
     let h = c.requires.here in
     let here = is_here c.playable.ensures c.few.ensures c.named.ensures c.actions.ensures c.requires.script.0 c.args.setting.now c.args.phases.now h.0 h.1 c.args.block.now h.2 h.3 c.requires.script.1 h.4 in
-    digests_at c.args.setting.now c.args.phases.now h.0 h.1 c.args.block.now h.2 h.3 _ _ _ _ _ c.args.self.now.admin c.args.self.now.seats.items c.args.self.now.lost _ _ h.5 here (length c.as_slice-2.result.now) (omega (arith, c.as_slice-2.ensures.len))
+    digests_at c.args.setting.now c.args.phases.now h.0 h.1 c.args.block.now h.2 h.3 _ _ _ _ _ c.args.self.now.admin c.args.self.now.seats.items c.args.self.now.lost _ _ h.5 here
 
 pub count_lost-self-requires-clause-statements : goal.count_lost-self-requires-clause-statements
 count_lost-self-requires-clause-statements c =
     let h = c.requires.here in
     let here = is_here c.playable.ensures c.few.ensures c.named.ensures c.actions.ensures c.requires.script.0 c.args.setting.now c.args.phases.now h.0 h.1 c.args.block.now h.2 h.3 c.requires.script.1 h.4 in
-    statements_at c.args.setting.now c.args.phases.now h.0 h.1 c.args.block.now h.2 h.3 _ _ _ _ _ c.args.self.now.admin c.args.self.now.seats.items c.args.self.now.lost _ _ h.5 here (length c.as_slice-2.result.now) (omega (arith, c.as_slice-2.ensures.len))
+    statements_at c.args.setting.now c.args.phases.now h.0 h.1 c.args.block.now h.2 h.3 _ _ _ _ _ c.args.self.now.admin c.args.self.now.seats.items c.args.self.now.lost _ _ h.5 here
 
 pub count_lost-self-requires-clause-waits : goal.count_lost-self-requires-clause-waits
 count_lost-self-requires-clause-waits c =
     let h = c.requires.here in
     let here = is_here c.playable.ensures c.few.ensures c.named.ensures c.actions.ensures c.requires.script.0 c.args.setting.now c.args.phases.now h.0 h.1 c.args.block.now h.2 h.3 c.requires.script.1 h.4 in
-    waits_at c.args.setting.now c.args.phases.now h.0 h.1 c.args.block.now h.2 h.3 _ _ _ _ _ c.args.self.now.admin c.args.self.now.seats.items c.args.self.now.lost _ _ h.5 here (length c.as_slice-2.result.now) (omega (arith, c.as_slice-2.ensures.len))
+    waits_at c.args.setting.now c.args.phases.now h.0 h.1 c.args.block.now h.2 h.3 _ _ _ _ _ c.args.self.now.admin c.args.self.now.seats.items c.args.self.now.lost _ _ h.5 here
 
 pub returns : goal.returns
 returns c before first others after is along =
@@ -143,17 +143,17 @@ returns c before first others after is along =
     let empty : c.reserve.new.self.journal.entries ≡ c.in_ok-session.session.journal.entries = ap (λ (j : Journal). j.entries) c.in_ok-reserve.ensures.ok in
     let begun = ready_same c.args.setting.now c.args.phases.now _ (along.earlier ++ along.current) c.args.self.now.admin c.args.block.now c.in_ok-session.session c.reserve.new.self c.reserve.ensures.state empty taken in
     let few = slots_at c.args.setting.now c.args.phases.now before first c.args.block.now others after _ _ _ _ _ c.args.self.now.admin c.args.self.now.seats.items c.args.self.now.lost _ _ along here in
-    let text : c.as_slice-2.result.now ≡ c.in_ok-paused.paused.journal.entries = c.as_slice-2.ensures.value ∙ (c.into_entries-entries.ensures ∙ ap (λ (j : Journal). j.entries) c.take_log.ensures.journal) in
+    let text : c.take_log-log.result.entries ≡ c.in_ok-paused.paused.journal.entries = ap (λ (j : Journal). j.entries) c.take_log-log.ensures.journal in
     let report : BlockReport = record { session = c.args.block.now.session; entries = c.new.result; answers = c.new-2.result } in
     let played = from_none c.args.setting.now c.args.block.now c.args.self.now.admin c.play_block.new.admin c.reserve.new.self c.in_ok-paused.paused c.new-answers.result.items c.play_block.new.answers.items report.answers _ _
     (c.in_ok-paused.ensures.did few) c.new-answers.ensures.items c.new-2.ensures in
     let done = is_done c.args.setting.now c.args.phases.now before first c.args.block.now others after (along.earlier ++ along.current) c.args.self.now.admin c.play_block.new.admin c.reserve.new.self c.in_ok-paused.paused report.answers along.start along.calls _ _
     here along.course along.none_over begun.state begun.entries played along.opens along.led along.alike (λ more r. r.answers) here.playable.short in
     next_along c.args.setting.now c.args.phases.now before first c.args.block.now others after _ _ _ _ _ _ _ _ _ _ c.args.self.now.admin c.play_block.new.admin c.args.self.now.seats.items c.keep_seat.new.seats.items c.args.self.now.lost c.count_lost-self.result
-    _ c.args.self.now.blocks.items c.push.new.self.items report c.reserve.new.self c.in_ok-paused.paused c.take_log.new.self here along begun done
-    (ap (λ (b : Book). b.state) c.take_log.ensures.rest) (ap (λ (b : Book). b.journal.entries) c.take_log.ensures.rest) c.in_ok-paused.ensures.free c.in_ok-paused.ensures.kinds c.in_ok-paused.ensures.lie c.in_ok-paused.ensures.drawn
+    _ c.args.self.now.blocks.items c.push.new.self.items report c.reserve.new.self c.in_ok-paused.paused c.take_log-log.new.self here along begun done
+    (ap (λ (b : Book). b.state) c.take_log-log.ensures.rest) (ap (λ (b : Book). b.journal.entries) c.take_log-log.ensures.rest) c.in_ok-paused.ensures.free c.in_ok-paused.ensures.kinds c.in_ok-paused.ensures.lie c.in_ok-paused.ensures.drawn
     c.in_ok-paused.ensures.depth c.in_ok-paused.ensures.actions c.in_ok-paused.ensures.leaves.hand c.in_ok-paused.ensures.leaves.left c.in_ok-paused.ensures.leaves.draws c.in_ok-paused.ensures.lent c.in_ok-paused.ensures.counted
-    (c.keep_seat.ensures ∙ ap (λ (z : List (Option Book)). slice_set z (c.args.block.now.session - 1) (Some c.take_log.new.self)) c.in_ok-session.ensures.seats)
+    (c.keep_seat.ensures ∙ ap (λ (z : List (Option Book)). slice_set z (c.args.block.now.session - 1) (Some c.take_log-log.new.self)) c.in_ok-session.ensures.seats)
     (c.count_lost-self.ensures.digests ∙ ap (λ (es : List Entry). c.args.self.now.lost.digests + lost_digests es) text)
     (c.count_lost-self.ensures.statements ∙ ap (λ (es : List Entry). c.args.self.now.lost.statements + lost_statements es) text) (c.count_lost-self.ensures.waits ∙ ap (λ (es : List Entry). c.args.self.now.lost.waits + lost_waits es) text)
-    refl (c.new.ensures ∙ (sym c.as_slice-2.ensures.value ∙ text)) c.in_ok-push.ensures.items
+    refl (c.new.ensures ∙ text) c.in_ok-push.ensures.items
