@@ -156,6 +156,7 @@ fn put_word(
     }
 }
 
+#[tactic(auto, unfolding(crate::specs::Plain::slot_row))]
 fn put_reading(
     alloc: Global,
     setting: &Setting,
@@ -168,6 +169,11 @@ fn put_reading(
         ≡ put_rows rows.old.entries (spec.rows_of setting.now table readings.now reading.now)) }
 {
     match reading {
+        // Most places of the rings are free: nothing is built for them.
+        Reading::Slot {
+            seen: Seen::Free { .. },
+            ..
+        } => Ok(()),
         Reading::Slot { row, seen } => {
             let row = slot_row(alloc, setting, table, readings, *row, seen)?;
             put_option(rows, row)
