@@ -11,6 +11,7 @@ mod LineEnds
 mod LinesRead
 mod OneLine
 mod OneReport
+mod Paged
 mod PartsRead
 mod PhasesRead
 mod ReportRuns

@@ -1,6 +1,6 @@
 //! The lines of a report, each built in a buffer that serves for many of them.
 
-ghost use Rattle.std.specs.Prelude.{◌≡◌, ◌≤◌, ◌+◌, ◌++◌, ◌∷◌, [], Some, OnOk, codes, drop, length};
+ghost use Rattle.std.specs.Prelude.{◌≡◌, ◌<◌, ◌≤◌, ◌+◌, ◌++◌, ◌∷◌, [], Some, OnOk, codes, drop, length};
 ghost use Rattle.std.specs.List.{All, flat_map};
 ghost use Rattle.pfs_event.specs.Verdicts.{verdict_name};
 ghost use Rattle.pfs_text.specs.Quotes.{quoted};
@@ -134,14 +134,16 @@ fn word_before(buffer: &mut [u8], end: usize, word: &[u8]) -> usize
     start
 }
 
-/// Puts a line's end at the end of the buffer, and tells where it stands.
+/// Puts a line's end before what stands in the buffer from a place on, and tells where it stands.
 #[inline(always)]
-fn end_of_line(buffer: &mut [u8; ENTRY]) -> usize
-    ensures text { drop result buffer.new ≡ codes "\n" }
-    ensures place { result + 1 ≡ ENTRY }
+fn end_of_line(buffer: &mut [u8], end: usize) -> usize
+    requires room { 0 < end }
+    requires within { end ≤ length buffer.old }
+    ensures text { drop result buffer.new ≡ codes "\n" ++ drop end buffer.old }
+    ensures place { result + 1 ≡ end }
 {
-    buffer[ENTRY - 1] = b'\n';
-    ENTRY - 1
+    buffer[end - 1] = b'\n';
+    end - 1
 }
 
 /// Ends a line.
@@ -163,27 +165,33 @@ pub fn one_line(line: &mut Vec<u8>, word: &[u8], first: u64) -> Result<(), NoMem
     end_line(line)
 }
 
-/// Puts a line of a word alone at the end of the buffer, and tells where it begins.
+/// Puts a line of a word alone before what stands in the buffer from a place on, and tells where it begins.
 #[tactic(auto, unfolding(crate::specs::Spelling::numbers_text))]
-fn bare_before(buffer: &mut [u8; ENTRY], word: &[u8]) -> usize
-    requires { length word.now ≤ WORD }
-    ensures text { drop result buffer.new ≡ numbers_text word.now [] }
-    ensures within { result ≤ ENTRY }
+fn bare_before(buffer: &mut [u8], end: usize, word: &[u8]) -> usize
+    requires short { length word.now ≤ WORD }
+    requires room { ENTRY ≤ end }
+    requires within { end ≤ length buffer.old }
+    ensures text { drop result buffer.new ≡ numbers_text word.now [] ++ drop end buffer.old }
+    ensures low { end ≤ result + ENTRY }
+    ensures high { result ≤ end }
     ensures fits { All FitsField [] }
 {
-    let end = end_of_line(buffer);
+    let end = end_of_line(buffer, end);
     word_before(buffer, end, word)
 }
 
 /// The same of a word and a number.
 #[tactic(auto, unfolding(crate::specs::Spelling::numbers_text))]
-fn one_before(buffer: &mut [u8; ENTRY], word: &[u8], first: u64) -> usize
-    requires { length word.now ≤ WORD }
-    ensures text { drop result buffer.new ≡ numbers_text word.now (Some first ∷ []) }
-    ensures within { result ≤ ENTRY }
+fn one_before(buffer: &mut [u8], end: usize, word: &[u8], first: u64) -> usize
+    requires short { length word.now ≤ WORD }
+    requires room { ENTRY ≤ end }
+    requires within { end ≤ length buffer.old }
+    ensures text { drop result buffer.new ≡ numbers_text word.now (Some first ∷ []) ++ drop end buffer.old }
+    ensures low { end ≤ result + ENTRY }
+    ensures high { result ≤ end }
     ensures fits { All FitsField (Some first ∷ []) }
 {
-    let end = end_of_line(buffer);
+    let end = end_of_line(buffer, end);
     let end = optional_before(buffer, end, Some(first));
     word_before(buffer, end, word)
 }
@@ -191,13 +199,16 @@ fn one_before(buffer: &mut [u8; ENTRY], word: &[u8], first: u64) -> usize
 /// The same of a word and two numbers.
 #[inline(always)]
 #[tactic(auto, unfolding(crate::specs::Spelling::numbers_text))]
-fn two_before(buffer: &mut [u8; ENTRY], word: &[u8], first: u64, second: u64) -> usize
-    requires { length word.now ≤ WORD }
-    ensures text { drop result buffer.new ≡ numbers_text word.now (Some first ∷ Some second ∷ []) }
-    ensures within { result ≤ ENTRY }
+fn two_before(buffer: &mut [u8], end: usize, word: &[u8], first: u64, second: u64) -> usize
+    requires short { length word.now ≤ WORD }
+    requires room { ENTRY ≤ end }
+    requires within { end ≤ length buffer.old }
+    ensures text { drop result buffer.new ≡ numbers_text word.now (Some first ∷ Some second ∷ []) ++ drop end buffer.old }
+    ensures low { end ≤ result + ENTRY }
+    ensures high { result ≤ end }
     ensures fits { All FitsField (Some first ∷ Some second ∷ []) }
 {
-    let end = end_of_line(buffer);
+    let end = end_of_line(buffer, end);
     let end = optional_before(buffer, end, Some(second));
     let end = optional_before(buffer, end, Some(first));
     word_before(buffer, end, word)
@@ -205,14 +216,24 @@ fn two_before(buffer: &mut [u8; ENTRY], word: &[u8], first: u64, second: u64) ->
 
 /// The same of a word and three numbers.
 #[tactic(auto, unfolding(crate::specs::Spelling::numbers_text))]
-fn three_before(buffer: &mut [u8; ENTRY], word: &[u8], first: u64, second: u64, third: u64) -> usize
-    requires { length word.now ≤ WORD }
+fn three_before(
+    buffer: &mut [u8],
+    end: usize,
+    word: &[u8],
+    first: u64,
+    second: u64,
+    third: u64,
+) -> usize
+    requires short { length word.now ≤ WORD }
+    requires room { ENTRY ≤ end }
+    requires within { end ≤ length buffer.old }
     ensures text { drop result buffer.new
-        ≡ numbers_text word.now (Some first ∷ Some second ∷ Some third ∷ []) }
-    ensures within { result ≤ ENTRY }
+        ≡ numbers_text word.now (Some first ∷ Some second ∷ Some third ∷ []) ++ drop end buffer.old }
+    ensures low { end ≤ result + ENTRY }
+    ensures high { result ≤ end }
     ensures fits { All FitsField (Some first ∷ Some second ∷ Some third ∷ []) }
 {
-    let end = end_of_line(buffer);
+    let end = end_of_line(buffer, end);
     let end = optional_before(buffer, end, Some(third));
     let end = optional_before(buffer, end, Some(second));
     let end = optional_before(buffer, end, Some(first));
@@ -236,6 +257,7 @@ fn start_before(buffer: &mut [u8], end: usize, event: Option<u64>, verdict: Verd
     ensures text { drop result buffer.new
         ≡ (codes "start" ++ optional_text event ++ codes " " ++ verdict_name verdict) ++ drop end buffer.old }
     ensures fits { FitsField event }
+    ensures low { end ≤ result + 5 + FIELD + 1 + NAME }
     ensures high { result ≤ end }
 {
     let end = word_before(buffer, end, verdict_text(verdict));
@@ -248,7 +270,8 @@ fn start_before(buffer: &mut [u8], end: usize, event: Option<u64>, verdict: Verd
 #[inline(always)]
 #[tactic(auto, unfolding(crate::specs::Spelling::numbers_text))]
 fn started_before(
-    buffer: &mut [u8; ENTRY],
+    buffer: &mut [u8],
+    end: usize,
     event: Option<u64>,
     verdict: Verdict,
     consumers: Option<u64>,
@@ -256,13 +279,16 @@ fn started_before(
     class: Option<u64>,
     table: Option<u64>,
 ) -> usize
+    requires room { ENTRY ≤ end }
+    requires within { end ≤ length buffer.old }
     ensures text { drop result buffer.new
         ≡ numbers_text (codes "start" ++ optional_text event ++ codes " " ++ verdict_name verdict)
-        (consumers ∷ thread ∷ class ∷ table ∷ []) }
-    ensures within { result ≤ ENTRY }
+        (consumers ∷ thread ∷ class ∷ table ∷ []) ++ drop end buffer.old }
+    ensures low { end ≤ result + ENTRY }
+    ensures high { result ≤ end }
     ensures fits { All FitsField (event ∷ consumers ∷ thread ∷ class ∷ table ∷ []) }
 {
-    let end = end_of_line(buffer);
+    let end = end_of_line(buffer, end);
     let end = optional_before(buffer, end, table);
     let end = optional_before(buffer, end, class);
     let end = optional_before(buffer, end, thread);
@@ -273,19 +299,23 @@ fn started_before(
 /// The line of a connect.
 #[tactic(auto, unfolding(crate::specs::Spelling::numbers_text))]
 fn connect_before(
-    buffer: &mut [u8; ENTRY],
+    buffer: &mut [u8],
+    end: usize,
     action: u64,
     thread: Option<u64>,
     account: Option<u64>,
     user: Option<u64>,
     host: Option<u64>,
 ) -> usize
+    requires room { ENTRY ≤ end }
+    requires within { end ≤ length buffer.old }
     ensures text { drop result buffer.new
-        ≡ numbers_text (codes "connect") (Some action ∷ thread ∷ account ∷ user ∷ host ∷ []) }
-    ensures within { result ≤ ENTRY }
+        ≡ numbers_text (codes "connect") (Some action ∷ thread ∷ account ∷ user ∷ host ∷ []) ++ drop end buffer.old }
+    ensures low { end ≤ result + ENTRY }
+    ensures high { result ≤ end }
     ensures fits { All FitsField (Some action ∷ thread ∷ account ∷ user ∷ host ∷ []) }
 {
-    let end = end_of_line(buffer);
+    let end = end_of_line(buffer, end);
     let end = optional_before(buffer, end, host);
     let end = optional_before(buffer, end, user);
     let end = optional_before(buffer, end, account);
@@ -298,18 +328,22 @@ fn connect_before(
 #[inline(always)]
 #[tactic(auto, unfolding(crate::specs::Spelling::numbers_text))]
 fn ended_before(
-    buffer: &mut [u8; ENTRY],
+    buffer: &mut [u8],
+    end: usize,
     event: Option<u64>,
     last: Option<u64>,
     consumers: Option<u64>,
     thread: Option<u64>,
 ) -> usize
+    requires room { ENTRY ≤ end }
+    requires within { end ≤ length buffer.old }
     ensures text { drop result buffer.new
-        ≡ numbers_text (codes "end") (event ∷ last ∷ consumers ∷ thread ∷ []) }
-    ensures within { result ≤ ENTRY }
+        ≡ numbers_text (codes "end") (event ∷ last ∷ consumers ∷ thread ∷ []) ++ drop end buffer.old }
+    ensures low { end ≤ result + ENTRY }
+    ensures high { result ≤ end }
     ensures fits { All FitsField (event ∷ last ∷ consumers ∷ thread ∷ []) }
 {
-    let end = end_of_line(buffer);
+    let end = end_of_line(buffer, end);
     let end = optional_before(buffer, end, thread);
     let end = optional_before(buffer, end, consumers);
     let end = optional_before(buffer, end, last);
@@ -317,12 +351,15 @@ fn ended_before(
     word_before(buffer, end, b"end")
 }
 
-/// Puts the line of an entry at the end of the buffer, and tells where it begins. It is made from its end to its front,
-/// so that no number needs its length beforehand.
+/// Puts the line of an entry before what stands in the buffer from a place on, and tells where it begins. It is made
+/// from its end to its front, so that no number needs its length beforehand.
 #[inline(always)]
-pub fn entry_before(buffer: &mut [u8; ENTRY], entry: &Entry) -> usize
-    ensures text { drop result buffer.new ≡ entry_text entry.now }
-    ensures within { result ≤ ENTRY }
+pub fn entry_before(buffer: &mut [u8], end: usize, entry: &Entry) -> usize
+    requires room { ENTRY ≤ end }
+    requires within { end ≤ length buffer.old }
+    ensures text { drop result buffer.new ≡ entry_text entry.now ++ drop end buffer.old }
+    ensures low { end ≤ result + ENTRY }
+    ensures high { result ≤ end }
     ensures fits { All FitsField (entry_numbers entry.now) }
 {
     match entry {
@@ -332,7 +369,7 @@ pub fn entry_before(buffer: &mut [u8; ENTRY], entry: &Entry) -> usize
             account,
             user,
             host,
-        } => connect_before(buffer, *action, *thread, *account, *user, *host),
+        } => connect_before(buffer, end, *action, *thread, *account, *user, *host),
         Entry::Start {
             event,
             verdict,
@@ -341,50 +378,54 @@ pub fn entry_before(buffer: &mut [u8; ENTRY], entry: &Entry) -> usize
             class,
             table,
         } => started_before(
-            buffer, *event, *verdict, *consumers, *thread, *class, *table,
+            buffer, end, *event, *verdict, *consumers, *thread, *class, *table,
         ),
         Entry::End {
             event,
             last,
             consumers,
             thread,
-        } => ended_before(buffer, *event, *last, *consumers, *thread),
-        Entry::Add { row, version } => two_before(buffer, b"add", *row, *version),
-        Entry::Held { row, first, second } => three_before(buffer, b"held", *row, *first, *second),
-        Entry::Ring { row, version } => two_before(buffer, b"ring", *row, *version),
+        } => ended_before(buffer, end, *event, *last, *consumers, *thread),
+        Entry::Add { row, version } => two_before(buffer, end, b"add", *row, *version),
+        Entry::Held { row, first, second } => three_before(
+            buffer, end, b"held", *row, *first, *second,
+        ),
+        Entry::Ring { row, version } => two_before(buffer, end, b"ring", *row, *version),
         Entry::Long {
             row,
             version,
             ticket,
-        } => three_before(buffer, b"long", *row, *version, *ticket),
-        Entry::Busy { row, first, second } => three_before(buffer, b"busy", *row, *first, *second),
+        } => three_before(buffer, end, b"long", *row, *version, *ticket),
+        Entry::Busy { row, first, second } => three_before(
+            buffer, end, b"busy", *row, *first, *second,
+        ),
         Entry::Late {
             row,
             ticket,
             greater,
-        } => three_before(buffer, b"late", *row, *ticket, *greater),
-        Entry::Settle => bare_before(buffer, b"settle"),
-        Entry::Act { action } => one_before(buffer, b"act", *action),
-        Entry::Take { row, version } => two_before(buffer, b"take", *row, *version),
+        } => three_before(buffer, end, b"late", *row, *ticket, *greater),
+        Entry::Settle => bare_before(buffer, end, b"settle"),
+        Entry::Act { action } => one_before(buffer, end, b"act", *action),
+        Entry::Take { row, version } => two_before(buffer, end, b"take", *row, *version),
         Entry::Give {
             row,
             version,
             source,
-        } => three_before(buffer, b"give", *row, *version, *source),
-        Entry::Tag { row, version } => two_before(buffer, b"tag", *row, *version),
-        Entry::Free { row, version } => two_before(buffer, b"free", *row, *version),
+        } => three_before(buffer, end, b"give", *row, *version, *source),
+        Entry::Tag { row, version } => two_before(buffer, end, b"tag", *row, *version),
+        Entry::Free { row, version } => two_before(buffer, end, b"free", *row, *version),
         Entry::Set {
             word,
             version,
             flags,
-        } => three_before(buffer, b"set", *word, *version, *flags),
-        Entry::Reply { number } => one_before(buffer, b"reply", *number),
-        Entry::Error { number } => one_before(buffer, b"error", *number),
-        Entry::Query => bare_before(buffer, b"query"),
-        Entry::Seen { row, version } => two_before(buffer, b"seen", *row, *version),
-        Entry::Vacant { row } => one_before(buffer, b"vacant", *row),
-        Entry::Saw { word, version } => two_before(buffer, b"saw", *word, *version),
-        Entry::Rows { number } => one_before(buffer, b"rows", *number),
+        } => three_before(buffer, end, b"set", *word, *version, *flags),
+        Entry::Reply { number } => one_before(buffer, end, b"reply", *number),
+        Entry::Error { number } => one_before(buffer, end, b"error", *number),
+        Entry::Query => bare_before(buffer, end, b"query"),
+        Entry::Seen { row, version } => two_before(buffer, end, b"seen", *row, *version),
+        Entry::Vacant { row } => one_before(buffer, end, b"vacant", *row),
+        Entry::Saw { word, version } => two_before(buffer, end, b"saw", *word, *version),
+        Entry::Rows { number } => one_before(buffer, end, b"rows", *number),
     }
 }
 
@@ -394,7 +435,7 @@ pub fn entry_line(line: &mut Vec<u8>, entry: &Entry) -> Result<(), NoMemory>
     ensures fits { OnOk result (All FitsField (entry_numbers entry.now)) }
 {
     let mut buffer = [b'\n'; ENTRY];
-    let start = entry_before(&mut buffer, entry);
+    let start = entry_before(&mut buffer, ENTRY, entry);
     begin(line, &buffer[start..])
 }
 

@@ -1,18 +1,13 @@
-use Rattle.std.proofs.Common.{◌<◌, length, arith}
-use Rattle.pfs_journal.proofs.Journals.{from_there, leaves_more, leaves_stop, leaves_none}
+use Rattle.std.proofs.Common.{ℕ, List, ◌≡◌, ◌∙◌, [], ap, sym, subst}
+use Rattle.pfs_outside.specs.Streams.{Puts}
+use Rattle.pfs_journal.specs.Spelling.{journal_text}
+use Rattle.pfs_journal.proofs.Journals.{Answers}
+use Rattle.pfs_journal.proofs.Paged.{unanswered}
+use Rattle.pfs_journal.proofs.PartsRead.{is_empty}
 use Rattle.pfs_journal.proofs.writing.put_journal.Goals as goal
 
-pub loop-at-preserved : goal.loop-at-preserved
-loop-at-preserved g c =
-    let within : c.loop-at.at < length c.args.entries.now = omega (arith, c.loop-at-test.true, c.count-at-end.ensures) in
-    leaves_more _ _ _ _ _ _ c.args.entries.now c.args.answers.now c.loop-at.at c.loop-at.place c.entry-said.result within (from_there c.args.entries.now c.loop-at.at c.entry-said.result within c.entry-said.ensures)
-    c.loop-at.invariant c.in-Ok.ensures c.place_behind-place.result c.place_behind-place.ensures
-
-pub returns-in-Err : goal.returns-in-Err
-returns-in-Err g c =
-    let within : c.loop-at.at < length c.args.entries.now = omega (arith, c.loop-at-test.true, c.count-at-end.ensures) in
-    leaves_stop _ _ _ _ _ _ c.args.entries.now c.args.answers.now c.loop-at.at c.loop-at.place c.entry-said.result c.in-Err.stop within (from_there c.args.entries.now c.loop-at.at c.entry-said.result within c.entry-said.ensures)
-    c.loop-at.invariant c.in-Err.ensures
-
-pub returns : goal.returns
-returns g c = leaves_none _ _ _ _ c.args.entries.now c.args.answers.now c.loop-at.at c.loop-at.place (omega (arith, c.loop-at-test.false, c.count-at-end.ensures)) c.loop-at.invariant
+pub returns-then-is_empty : goal.returns-then-is_empty
+returns-then-is_empty g c =
+    let none : c.args.answers.now ≡ [] = is_empty c.args.answers.now (sym (c.if-is_empty.ensures)) in
+    subst (λ (z : List ℕ). Puts (g.K.Sink.written c.args.sink.now) (g.K.Sink.written c.put_entries.new.sink) (g.K.Sink.faults c.args.sink.now) (g.K.Sink.faults c.put_entries.new.sink) z c.put_entries.result)
+    (sym (ap (λ (answers : Answers). journal_text c.args.entries.now answers) none ∙ unanswered c.args.entries.now)) c.put_entries.ensures

@@ -1,5 +1,5 @@
 use Rattle.pfs_journal.proofs.Journals.{Leaves}
-use Rattle.pfs_journal.proofs.writing.put_journal.Given as goal
+use Rattle.pfs_journal.proofs.writing.put_answered.Given as goal
 
 abbrev pub invariant-loop-at : goal.invariant-loop-at
 invariant-loop-at g l =
