@@ -24,7 +24,7 @@ fn whole_of(seen: &Seen) -> Option<Content>
 fn no_contents(alloc: Global, count: usize) -> Result<Vec<Option<Content>>, NoMemory>
     ensures { IfOk result (λ contents. contents.items ≡ replicate count None) }
 {
-    let mut contents = Vec::new(alloc);
+    let mut contents = Vec::with_capacity(alloc, count)?;
     for _row in 0..count {
         contents.push(None)?;
     }

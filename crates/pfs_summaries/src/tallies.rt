@@ -188,7 +188,7 @@ fn cell_of(place: Place) -> u64
 fn no_tallies(alloc: Global, count: usize) -> Result<Vec<Tally>, NoMemory>
     ensures { IfOk result (λ tallies. tallies.items ≡ replicate count none_of) }
 {
-    let mut tallies = Vec::new(alloc);
+    let mut tallies = Vec::with_capacity(alloc, count)?;
     for _number in 0..count {
         tallies.push(Tally::none())?;
     }
