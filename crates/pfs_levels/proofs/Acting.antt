@@ -1,5 +1,5 @@
 -- A plain store's actions: row 0 counts them, and is in hand inside one.
-use Rattle.std.proofs.Common.{ℕ, ◌≡◌, ◌<◌, ◌+◌, cond, false, true, List, [], ◌∷◌, None, IsSome, slice_set, slice_index_or, length, refl, ap, sym, ◌∙◌, arith, ne_eqb, length-append}
+use Rattle.std.proofs.Common.{ℕ, ◌≡◌, ◌<◌, ◌+◌, cond, false, true, List, [], ◌∷◌, None, IsSome, slice_set, length, refl, ap, sym, ◌∙◌, arith, ne_eqb, length-append}
 use Rattle.pfs_board.specs.declared.view.Label.{Label}
 use Rattle.pfs_levels.specs.declared.answers.Added.TheVariants.{Counted, Held}
 use Rattle.pfs_levels.specs.declared.answers.RingPut.TheVariants.{Done, Busy, Late}
@@ -7,7 +7,7 @@ use Rattle.pfs_levels.specs.declared.answers.Word.{Word}
 use Rattle.pfs_levels.specs.declared.plain.Slot.{Slot}
 use Rattle.pfs_levels.specs.Calls.{Call, Adds, Rings, Reads, Loads, Draws, Takes, Puts, Frees, Sets, Enters, Leaves, Meets, label_in}
 use Rattle.pfs_levels.specs.Plain.{Merges, Becomes, Holds, Renews, Releases, Op, op, ops_of, slot, slot_by, slot_after, slot_at, in_hand, AllAnswer, IsAt, labels_after}
-use Rattle.pfs_levels.proofs.Steps.{at_row, here, read_is, away, held, ring_high}
+use Rattle.pfs_levels.proofs.Steps.{at_row, here, idle, taken, ring_high}
 
 -- something done to another row
 pub elsewhere : (o : Op) (os : List Op) → 0 < o.row → slot_after (o ∷ os) 0 ≡ slot_after os 0
@@ -34,25 +34,21 @@ labels_count flags (Sets w to v ∷ calls) a = labels_count flags calls a.1
 labels_count flags (Enters label labels ∷ calls) a = labels_count flags calls a.1
 labels_count flags (Leaves ∷ calls) a = length-append (labels_after calls) (label_in calls ∷ []) ∙ ap (λ n. n + 1) (labels_count flags calls a.1)
 
-pub at_enter : (slots : List Slot) (words : List Word) (tickets flags : List ℕ) (calls : List Call) (label : Label) (x : Slot) → length slots ≡ 14242 → x ≡ slice_index_or slots 0 x → in_hand (slot_at slots 0) ≡ None
-    → IsAt slots words tickets flags calls → (labels : List Label) × ((x.version + 1 ≡ length labels + 1) × IsAt (slice_set slots 0 (slot x.version true x.allocated x.content)) words tickets flags (Enters label labels ∷ calls))
-at_enter slots words tickets flags calls label x wide read free at =
-    let is = read_is slots 0 x (omega arith) wide read in
-    let now = here slots words tickets flags calls 0 x (omega arith) wide read at in
-    let idle : x.taken ≡ false = ap (λ (s : Slot). s.taken) is ∙ away _ _ free in (
-      labels_after calls,
-      (
-        ap (λ (s : Slot). s.version + 1) now ∙ ap (λ n. n + 1) (sym (labels_count flags calls at.answers)),
-        at_row slots words tickets flags calls (Enters label (labels_after calls)) 0 Holds (slot x.version true x.allocated x.content) refl refl refl (omega arith) wide (ap (slot_by Holds) is)
-            (sym (ap (λ (s : Slot). s.taken) now) ∙ idle, refl) at,
-      ),
-    )
+pub at_enter : (slots after : List Slot) (words : List Word) (tickets flags : List ℕ) (calls : List Call) (label : Label) (version : ℕ) → length slots ≡ 14242 → in_hand (slot_at slots 0) ≡ None → version ≡ (slot_at slots 0).version
+    → after ≡ slice_set slots 0 (slot_by Holds (slot_at slots 0)) → IsAt slots words tickets flags calls
+    → (labels : List Label) × ((version + 1 ≡ length labels + 1) × IsAt after words tickets flags (Enters label labels ∷ calls))
+at_enter slots after words tickets flags calls label version wide free read is at = (
+  labels_after calls,
+  (
+    ap (λ n. n + 1) (here (λ s. s.version) slots words tickets flags calls 0 version (omega arith) read at ∙ sym (labels_count flags calls at.answers)),
+    at_row slots after words tickets flags calls (Enters label (labels_after calls)) 0 Holds refl refl refl (omega arith) wide is
+        (idle slots words tickets flags calls 0 (omega arith) free at, refl) at,
+  ),
+)
 
-pub at_leave : (slots : List Slot) (words : List Word) (tickets flags : List ℕ) (calls : List Call) (x : Slot) → length slots ≡ 14242 → x ≡ slice_index_or slots 0 x → IsSome (in_hand (slot_at slots 0))
-    → IsAt slots words tickets flags calls → IsAt (slice_set slots 0 (slot (x.version + 1) false true x.content)) words tickets flags (Leaves ∷ calls)
-at_leave slots words tickets flags calls x wide read mine at =
-    let is = read_is slots 0 x (omega arith) wide read in
-    let now = here slots words tickets flags calls 0 x (omega arith) wide read at in
-    let taken : x.taken ≡ true = ap (λ (s : Slot). s.taken) is ∙ held _ _ mine in
-    at_row slots words tickets flags calls Leaves 0 Renews (slot (x.version + 1) false true x.content) refl refl refl (omega arith) wide (ap (slot_by Renews) is)
-    (sym (ap (λ (s : Slot). s.taken) now) ∙ taken) at
+pub at_leave : (slots after : List Slot) (words : List Word) (tickets flags : List ℕ) (calls : List Call) (content : List ℕ) → length slots ≡ 14242 → IsSome (in_hand (slot_at slots 0)) → content ≡ (slot_at slots 0).content
+    → after ≡ slice_set slots 0 (slot_by (Becomes content) (slot_at slots 0)) → IsAt slots words tickets flags calls → IsAt after words tickets flags (Leaves ∷ calls)
+at_leave slots after words tickets flags calls content wide mine was is at =
+    at_row slots after words tickets flags calls Leaves 0 Renews refl refl refl (omega arith) wide
+    (is ∙ ap (λ z. slice_set slots 0 (slot ((slot_at slots 0).version + 1) false true z)) was)
+    (taken slots words tickets flags calls 0 (omega arith) mine at) at

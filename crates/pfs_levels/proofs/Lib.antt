@@ -5,6 +5,7 @@ pub mod Flushing
 pub mod Meeting
 pub mod Moving
 mod Opening
+mod Placing
 mod PlainFloors
 pub mod PlainJoint
 pub mod PlainKept

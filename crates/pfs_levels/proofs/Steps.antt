@@ -9,7 +9,6 @@ use Rattle.pfs_levels.specs.declared.answers.RingPut.TheVariants.{Done, Late}
 use Rattle.pfs_levels.specs.declared.answers.Word.{Word}
 use Rattle.pfs_levels.specs.declared.plain.Slot.{Slot}
 use Rattle.pfs_levels.specs.Calls.{Call, Adds, Rings, Reads, Loads, Draws, Takes, Puts, Frees, Sets, IsRow, IsCell, IsRing}
-use Rattle.pfs_levels.specs.Contents.{merged}
 use Rattle.pfs_levels.specs.Joint.{sets_by, sets_of, draws_by, draws_of, drawn}
 use Rattle.pfs_levels.specs.Plain.{Effect, Merges, Becomes, Holds, Releases, Op, op, ops_by, ops_of, slot, slot_by, slot_after, slot_at, in_hand, word, word_at, word_after, Answers, IsAt, IsFresh}
 
@@ -33,21 +32,21 @@ number_read xs x at row k = elim (cases_eq at row) [
 ]
 
 -- the fold with one more
-moved_to : (slots : List Slot) (os : List Op) (row : ℕ) (effect : Effect) (x : Slot) → row < 14242 → length slots ≡ 14242 → x ≡ slot_by effect (slot_at slots row)
-    → ((r : ℕ) → r < 14242 → slot_at slots r ≡ slot_after os r) → (r : ℕ) → r < 14242 → slot_at (slice_set slots row x) r ≡ slot_after (op row effect ∷ os) r
+moved_to : (slots after : List Slot) (os : List Op) (row : ℕ) (effect : Effect) → row < 14242 → length slots ≡ 14242 → after ≡ slice_set slots row (slot_by effect (slot_at slots row))
+    → ((r : ℕ) → r < 14242 → slot_at slots r ≡ slot_after os r) → (r : ℕ) → r < 14242 → slot_at after r ≡ slot_after (op row effect ∷ os) r
 unfolding slot_after
-moved_to slots os row effect x known wide is all r low = set_read slots x row r (omega arith) ∙ elim (cases_eq row r) [
-  | inl e ↦ rw (eq-eqb row r e) (is ∙ ap (slot_by effect) (ap (slot_at slots) e ∙ all r low))
+moved_to slots after os row effect known wide is all r low = ap (λ s. slot_at s r) is ∙ set_read slots (slot_by effect (slot_at slots row)) row r (omega arith) ∙ elim (cases_eq row r) [
+  | inl e ↦ rw (eq-eqb row r e) (ap (slot_by effect) (ap (slot_at slots) e ∙ all r low))
   | inr e ↦ rw (ne_eqb row r e) (all r low)
 ]
 
 -- a call that changes, takes or releases a row
-pub at_row : (slots : List Slot) (words : List Word) (tickets flags : List ℕ) (calls : List Call) (call : Call) (row : ℕ) (effect : Effect) (x : Slot)
-    → ops_by call ≡ op row effect ∷ [] → sets_by call ≡ [] → draws_by call ≡ [] → row < 14242 → length slots ≡ 14242 → x ≡ slot_by effect (slot_at slots row)
-    → Answers flags calls call → IsAt slots words tickets flags calls → IsAt (slice_set slots row x) words tickets flags (call ∷ calls)
+pub at_row : (slots after : List Slot) (words : List Word) (tickets flags : List ℕ) (calls : List Call) (call : Call) (row : ℕ) (effect : Effect)
+    → ops_by call ≡ op row effect ∷ [] → sets_by call ≡ [] → draws_by call ≡ [] → row < 14242 → length slots ≡ 14242 → after ≡ slice_set slots row (slot_by effect (slot_at slots row))
+    → Answers flags calls call → IsAt slots words tickets flags calls → IsAt after words tickets flags (call ∷ calls)
 unfolding ops_of sets_of draws_of
-at_row slots words tickets flags calls call row effect x o s d known wide is answer at = record {
-  slots_are = λ r low. moved_to slots (ops_of calls) row effect x known wide is at.slots_are r low ∙ ap (λ z. slot_after (z ++ ops_of calls) r) (sym o);
+at_row slots after words tickets flags calls call row effect o s d known wide is answer at = record {
+  slots_are = λ r low. moved_to slots after (ops_of calls) row effect known wide is at.slots_are r low ∙ ap (λ z. slot_after (z ++ ops_of calls) r) (sym o);
   words_are = λ w low. at.words_are w low ∙ ap (λ z. word_after flags (z ++ sets_of calls) w) (sym s);
   tickets_are = λ k low. at.tickets_are k low ∙ ap (λ z. drawn (z ++ draws_of calls) k) (sym d);
   answers = (answer, at.answers);
@@ -76,85 +75,79 @@ kept_at : (b : Bool) (v k : ℕ) → cond b (Some v) None ≡ Some k → (b ≡ 
 kept_at true v k e = (refl, cc)
 kept_at false v k e = cc
 
--- the slot that was read is the fold's
-pub here : (slots : List Slot) (words : List Word) (tickets flags : List ℕ) (calls : List Call) (row : ℕ) (x : Slot) → row < 14242 → length slots ≡ 14242 → x ≡ slice_index_or slots row x → IsAt slots words tickets flags calls → x ≡ slot_after (ops_of calls) row
-here slots words tickets flags calls row x known wide read at = get_or_read slots row x (omega arith) read (slot 0 false false []) ∙ at.slots_are row known
+-- what was read of a row is the fold's
+pub here : {A : Type 0} (f : Slot → A) (slots : List Slot) (words : List Word) (tickets flags : List ℕ) (calls : List Call) (row : ℕ) (x : A) → row < 14242 → x ≡ f (slot_at slots row) → IsAt slots words tickets flags calls → x ≡ f (slot_after (ops_of calls) row)
+here f slots words tickets flags calls row x known read at = read ∙ ap f (at.slots_are row known)
 
-pub read_is : (slots : List Slot) (row : ℕ) (x : Slot) → row < 14242 → length slots ≡ 14242 → x ≡ slice_index_or slots row x → x ≡ slot_at slots row
-read_is slots row x known wide read = get_or_read slots row x (omega arith) read (slot 0 false false [])
+-- a row in nobody's hand, and one in hand
+pub idle : (slots : List Slot) (words : List Word) (tickets flags : List ℕ) (calls : List Call) (row : ℕ) → row < 14242 → in_hand (slot_at slots row) ≡ None → IsAt slots words tickets flags calls → (slot_after (ops_of calls) row).taken ≡ false
+idle slots words tickets flags calls row known free at = sym (ap (λ (s : Slot). s.taken) (at.slots_are row known)) ∙ away _ _ free
 
-pub at_add : (slots : List Slot) (words : List Word) (tickets flags : List ℕ) (calls : List Call) (row : ℕ) (amount : Stat) (content : List ℕ) (x : Slot) → IsCell row → length slots ≡ 14242
-    → x ≡ slice_index_or slots row x → in_hand (slot_at slots row) ≡ None → content ≡ merged x.content amount → IsAt slots words tickets flags calls
-    → IsAt (slice_set slots row (slot (x.version + 1) false true content)) words tickets flags (Adds row amount (Counted row (x.version + 1)) ∷ calls)
-at_add slots words tickets flags calls row amount content x cell wide read free sum at =
+pub taken : (slots : List Slot) (words : List Word) (tickets flags : List ℕ) (calls : List Call) (row : ℕ) → row < 14242 → IsSome (in_hand (slot_at slots row)) → IsAt slots words tickets flags calls → (slot_after (ops_of calls) row).taken ≡ true
+taken slots words tickets flags calls row known mine at = sym (ap (λ (s : Slot). s.taken) (at.slots_are row known)) ∙ held _ _ mine
+
+pub at_add : (slots after : List Slot) (words : List Word) (tickets flags : List ℕ) (calls : List Call) (row : ℕ) (amount : Stat) (version : ℕ) → IsCell row → length slots ≡ 14242
+    → in_hand (slot_at slots row) ≡ None → version ≡ (slot_at slots row).version → after ≡ slice_set slots row (slot_by (Merges amount) (slot_at slots row))
+    → IsAt slots words tickets flags calls → IsAt after words tickets flags (Adds row amount (Counted row (version + 1)) ∷ calls)
+at_add slots after words tickets flags calls row amount version cell wide free read is at =
     let low : row < 14242 = omega arith in
-    let is = read_is slots row x low wide read in
-    let now = here slots words tickets flags calls row x low wide read at in
-    let idle : x.taken ≡ false = ap (λ (s : Slot). s.taken) is ∙ away _ _ free in
-    at_row slots words tickets flags calls (Adds row amount (Counted row (x.version + 1))) row (Merges amount) (slot (x.version + 1) false true content) refl refl refl low wide
-    (ap (λ z. slot (x.version + 1) false true z) sum ∙ ap (slot_by (Merges amount)) is)
-    (cell, refl, sym (ap (λ (s : Slot). s.taken) now) ∙ idle, ap (λ (s : Slot). s.version + 1) now) at
+    at_row slots after words tickets flags calls (Adds row amount (Counted row (version + 1))) row (Merges amount) refl refl refl low wide is
+    (cell, refl, idle slots words tickets flags calls row low free at, ap (λ v. v + 1) (here (λ s. s.version) slots words tickets flags calls row version low read at)) at
 
-pub at_ring : (slots : List Slot) (words : List Word) (tickets flags : List ℕ) (calls : List Call) (row : ℕ) (content : List ℕ) (x : Slot) → IsRing row content → row < 14242 → length slots ≡ 14242
-    → x ≡ slice_index_or slots row x → in_hand (slot_at slots row) ≡ None → IsFresh row x content → IsAt slots words tickets flags calls
-    → IsAt (slice_set slots row (slot (x.version + 1) false true content)) words tickets flags (Rings row content (Done (x.version + 1)) ∷ calls)
-at_ring slots words tickets flags calls row content x ring low wide read free newer at =
-    let is = read_is slots row x low wide read in
-    let now = here slots words tickets flags calls row x low wide read at in
-    let idle : x.taken ≡ false = ap (λ (s : Slot). s.taken) is ∙ away _ _ free in
-    at_row slots words tickets flags calls (Rings row content (Done (x.version + 1))) row (Becomes content) (slot (x.version + 1) false true content) refl refl refl low wide
-    (ap (slot_by (Becomes content)) is)
-    (ring, sym (ap (λ (s : Slot). s.taken) now) ∙ idle, ap (λ (s : Slot). s.version + 1) now, subst (λ (s : Slot). IsFresh row s content) now newer) at
+pub at_ring : (slots after : List Slot) (words : List Word) (tickets flags : List ℕ) (calls : List Call) (row version : ℕ) (content : List ℕ) → IsRing row content → row < 14242 → length slots ≡ 14242
+    → in_hand (slot_at slots row) ≡ None → version ≡ (slot_at slots row).version → IsFresh row (slot_at slots row) content → after ≡ slice_set slots row (slot_by (Becomes content) (slot_at slots row))
+    → IsAt slots words tickets flags calls → IsAt after words tickets flags (Rings row content (Done (version + 1)) ∷ calls)
+at_ring slots after words tickets flags calls row version content ring low wide free read newer is at =
+    at_row slots after words tickets flags calls (Rings row content (Done (version + 1))) row (Becomes content) refl refl refl low wide is
+    (ring, idle slots words tickets flags calls row low free at, ap (λ v. v + 1) (here (λ s. s.version) slots words tickets flags calls row version low read at), subst (λ (s : Slot). IsFresh row s content) (at.slots_are row low) newer) at
 
-pub at_late : (slots : List Slot) (words : List Word) (tickets flags : List ℕ) (calls : List Call) (row ticket : ℕ) (content : List ℕ) (x : Slot) → IsRing row content → row < 14242 → length slots ≡ 14242
-    → x ≡ slice_index_or slots row x → x.allocated ≡ true → 10242 ≤ row → slice_index x.content 15 ≡ ticket + 1 → slice_index content 15 ≤ ticket → IsAt slots words tickets flags calls
+pub at_late : (slots : List Slot) (words : List Word) (tickets flags : List ℕ) (calls : List Call) (row ticket : ℕ) (content : List ℕ) → IsRing row content → row < 14242 → (slot_at slots row).allocated ≡ true → 10242 ≤ row
+    → slice_index (slot_at slots row).content 15 ≡ ticket + 1 → slice_index content 15 ≤ ticket → IsAt slots words tickets flags calls
     → IsAt slots words tickets flags (Rings row content (Late ticket) ∷ calls)
-at_late slots words tickets flags calls row ticket content x ring low wide read whole far holds less at =
-    let now = here slots words tickets flags calls row x low wide read at in
+at_late slots words tickets flags calls row ticket content ring low whole far holds less at =
     at_look slots words tickets flags calls (Rings row content (Late ticket)) refl refl refl
-    (ring, sym (ap (λ (s : Slot). s.allocated) now) ∙ whole, far, sym (ap (λ (s : Slot). slice_index s.content 15) now) ∙ holds, less) at
+    (ring, sym (here (λ s. s.allocated) slots words tickets flags calls row true low (sym whole) at), far, sym (here (λ s. slice_index s.content 15) slots words tickets flags calls row (ticket + 1) low (sym holds) at), less) at
 
-pub at_whole : (slots : List Slot) (words : List Word) (tickets flags : List ℕ) (calls : List Call) (row : ℕ) (x : Slot) → IsRow row → length slots ≡ 14242 → x ≡ slice_index_or slots row x → x.allocated ≡ true
-    → IsAt slots words tickets flags calls → IsAt slots words tickets flags (Reads row (Whole x.version x.content) ∷ calls)
-at_whole slots words tickets flags calls row x known wide read whole at =
-    let now = here slots words tickets flags calls row x known.1 wide read at in
-    at_look slots words tickets flags calls (Reads row (Whole x.version x.content)) refl refl refl
-    (known, sym (ap (λ (s : Slot). s.allocated) now) ∙ whole, ap (λ (s : Slot). s.version) now, ap (λ (s : Slot). s.content) now) at
+pub at_whole : (slots : List Slot) (words : List Word) (tickets flags : List ℕ) (calls : List Call) (row version : ℕ) (content : List ℕ) → IsRow row → (slot_at slots row).allocated ≡ true → version ≡ (slot_at slots row).version
+    → content ≡ (slot_at slots row).content → IsAt slots words tickets flags calls → IsAt slots words tickets flags (Reads row (Whole version content) ∷ calls)
+at_whole slots words tickets flags calls row version content known whole read was at =
+    at_look slots words tickets flags calls (Reads row (Whole version content)) refl refl refl (
+      known,
+      sym (here (λ s. s.allocated) slots words tickets flags calls row true known.1 (sym whole) at),
+      here (λ s. s.version) slots words tickets flags calls row version known.1 read at,
+      here (λ s. s.content) slots words tickets flags calls row content known.1 was at,
+    ) at
 
-pub at_vacant : (slots : List Slot) (words : List Word) (tickets flags : List ℕ) (calls : List Call) (row : ℕ) (x : Slot) → IsRow row → length slots ≡ 14242 → x ≡ slice_index_or slots row x → x.allocated ≡ false
-    → IsAt slots words tickets flags calls → IsAt slots words tickets flags (Reads row (Free (4 * x.version)) ∷ calls)
-at_vacant slots words tickets flags calls row x known wide read free at =
-    let now = here slots words tickets flags calls row x known.1 wide read at in
-    at_look slots words tickets flags calls (Reads row (Free (4 * x.version))) refl refl refl
-    (known, sym (ap (λ (s : Slot). s.allocated) now) ∙ free, ap (λ (s : Slot). 4 * s.version) now) at
+pub at_vacant : (slots : List Slot) (words : List Word) (tickets flags : List ℕ) (calls : List Call) (row version : ℕ) → IsRow row → (slot_at slots row).allocated ≡ false → version ≡ (slot_at slots row).version
+    → IsAt slots words tickets flags calls → IsAt slots words tickets flags (Reads row (Free (4 * version)) ∷ calls)
+at_vacant slots words tickets flags calls row version known free read at =
+    at_look slots words tickets flags calls (Reads row (Free (4 * version))) refl refl refl
+    (known, sym (here (λ s. s.allocated) slots words tickets flags calls row false known.1 (sym free) at), ap (λ v. 4 * v) (here (λ s. s.version) slots words tickets flags calls row version known.1 read at)) at
 
-pub at_take : (slots : List Slot) (words : List Word) (tickets flags : List ℕ) (calls : List Call) (row : ℕ) (x : Slot) → IsRow row → length slots ≡ 14242 → x ≡ slice_index_or slots row x → in_hand (slot_at slots row) ≡ None
-    → IsAt slots words tickets flags calls → IsAt (slice_set slots row (slot x.version true x.allocated x.content)) words tickets flags (Takes row x.version x.content ∷ calls)
-at_take slots words tickets flags calls row x known wide read free at =
-    let is = read_is slots row x known.1 wide read in
-    let now = here slots words tickets flags calls row x known.1 wide read at in
-    let idle : x.taken ≡ false = ap (λ (s : Slot). s.taken) is ∙ away _ _ free in
-    at_row slots words tickets flags calls (Takes row x.version x.content) row Holds (slot x.version true x.allocated x.content) refl refl refl known.1 wide (ap (slot_by Holds) is)
-    (known, sym (ap (λ (s : Slot). s.taken) now) ∙ idle, ap (λ (s : Slot). s.version) now, ap (λ (s : Slot). s.content) now) at
+pub at_take : (slots after : List Slot) (words : List Word) (tickets flags : List ℕ) (calls : List Call) (row version : ℕ) (content : List ℕ) → IsRow row → length slots ≡ 14242 → in_hand (slot_at slots row) ≡ None
+    → version ≡ (slot_at slots row).version → content ≡ (slot_at slots row).content → after ≡ slice_set slots row (slot_by Holds (slot_at slots row))
+    → IsAt slots words tickets flags calls → IsAt after words tickets flags (Takes row version content ∷ calls)
+at_take slots after words tickets flags calls row version content known wide free read was is at =
+    at_row slots after words tickets flags calls (Takes row version content) row Holds refl refl refl known.1 wide is (
+      known,
+      idle slots words tickets flags calls row known.1 free at,
+      here (λ s. s.version) slots words tickets flags calls row version known.1 read at,
+      here (λ s. s.content) slots words tickets flags calls row content known.1 was at,
+    ) at
 
-pub at_put : (slots : List Slot) (words : List Word) (tickets flags : List ℕ) (calls : List Call) (row : ℕ) (content : List ℕ) (x : Slot) → IsRow row → length slots ≡ 14242 → x ≡ slice_index_or slots row x → IsSome (in_hand (slot_at slots row))
-    → IsAt slots words tickets flags calls → IsAt (slice_set slots row (slot (x.version + 1) false true content)) words tickets flags (Puts row content (x.version + 1) ∷ calls)
-at_put slots words tickets flags calls row content x known wide read mine at =
-    let is = read_is slots row x known.1 wide read in
-    let now = here slots words tickets flags calls row x known.1 wide read at in
-    let taken : x.taken ≡ true = ap (λ (s : Slot). s.taken) is ∙ held _ _ mine in
-    at_row slots words tickets flags calls (Puts row content (x.version + 1)) row (Becomes content) (slot (x.version + 1) false true content) refl refl refl known.1 wide (ap (slot_by (Becomes content)) is)
-    (known, sym (ap (λ (s : Slot). s.taken) now) ∙ taken, ap (λ (s : Slot). s.version + 1) now) at
+pub at_put : (slots after : List Slot) (words : List Word) (tickets flags : List ℕ) (calls : List Call) (row version : ℕ) (content : List ℕ) → IsRow row → length slots ≡ 14242 → IsSome (in_hand (slot_at slots row))
+    → version ≡ (slot_at slots row).version → after ≡ slice_set slots row (slot_by (Becomes content) (slot_at slots row))
+    → IsAt slots words tickets flags calls → IsAt after words tickets flags (Puts row content (version + 1) ∷ calls)
+at_put slots after words tickets flags calls row version content known wide mine read is at =
+    at_row slots after words tickets flags calls (Puts row content (version + 1)) row (Becomes content) refl refl refl known.1 wide is
+    (known, taken slots words tickets flags calls row known.1 mine at, ap (λ v. v + 1) (here (λ s. s.version) slots words tickets flags calls row version known.1 read at)) at
 
-pub at_free : (slots : List Slot) (words : List Word) (tickets flags : List ℕ) (calls : List Call) (row v : ℕ) (x : Slot) → IsRow row → length slots ≡ 14242 → x ≡ slice_index_or slots row x → in_hand (slot_at slots row) ≡ Some v
-    → IsAt slots words tickets flags calls → IsAt (slice_set slots row (slot x.version false false x.content)) words tickets flags (Frees row v ∷ calls)
-at_free slots words tickets flags calls row v x known wide read mine at =
-    let is = read_is slots row x known.1 wide read in
-    let now = here slots words tickets flags calls row x known.1 wide read at in
+pub at_free : (slots after : List Slot) (words : List Word) (tickets flags : List ℕ) (calls : List Call) (row v : ℕ) → IsRow row → length slots ≡ 14242 → in_hand (slot_at slots row) ≡ Some v
+    → after ≡ slice_set slots row (slot_by Releases (slot_at slots row)) → IsAt slots words tickets flags calls → IsAt after words tickets flags (Frees row v ∷ calls)
+at_free slots after words tickets flags calls row v known wide mine is at =
     let both = kept_at _ _ _ mine in
-    let taken : x.taken ≡ true = ap (λ (s : Slot). s.taken) is ∙ both.0 in
-    at_row slots words tickets flags calls (Frees row v) row Releases (slot x.version false false x.content) refl refl refl known.1 wide (ap (slot_by Releases) is)
-    (known, sym (ap (λ (s : Slot). s.taken) now) ∙ taken, sym both.1 ∙ ap (λ (s : Slot). s.version) (sym is) ∙ ap (λ (s : Slot). s.version) now) at
+    at_row slots after words tickets flags calls (Frees row v) row Releases refl refl refl known.1 wide is
+    (known, sym (here (λ s. s.taken) slots words tickets flags calls row true known.1 (sym both.0) at), here (λ s. s.version) slots words tickets flags calls row v known.1 (sym both.1) at) at
 
 pub at_load : (slots : List Slot) (words : List Word) (tickets flags : List ℕ) (calls : List Call) (w : ℕ) (x : Word) → w < 160 → length words ≡ 160 → x ≡ slice_index_or words w x → IsAt slots words tickets flags calls
     → IsAt slots words tickets flags (Loads w x.version x.flags ∷ calls)

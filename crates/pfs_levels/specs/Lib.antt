@@ -2,6 +2,7 @@ pub mod Calls
 pub mod Contents
 pub mod Flushes
 pub mod Joint
+pub mod Keeping
 pub mod Moves
 pub mod Order
 pub mod Plain

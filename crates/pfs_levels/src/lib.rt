@@ -7,6 +7,7 @@ pub mod laws;
 pub mod moves;
 pub mod places;
 pub mod plain;
+pub(crate) mod slots;
 pub mod store;
 
 pub use answers::{Added, RingPut, Word};

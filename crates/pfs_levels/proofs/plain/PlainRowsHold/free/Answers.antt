@@ -2,4 +2,4 @@ use Rattle.pfs_levels.proofs.Steps.{at_free}
 use Rattle.pfs_levels.proofs.plain.PlainRowsHold.free.Goals as goal
 
 pub returns-clause-call : goal.returns-clause-call
-returns-clause-call c = λ v mine start calls at. at_free _ _ _ start.flags calls c.args.row v c.index-found.result.now c.requires.known c.args.self.now.room.slots_wide c.index-found.ensures mine at
+returns-clause-call c = λ v mine start calls at. at_free _ _ _ _ start.flags calls c.args.row v c.requires.known c.args.self.now.room.slots_wide mine c.release.ensures at

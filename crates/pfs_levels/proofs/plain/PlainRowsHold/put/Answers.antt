@@ -2,4 +2,4 @@ use Rattle.pfs_levels.proofs.Steps.{at_put}
 use Rattle.pfs_levels.proofs.plain.PlainRowsHold.put.Goals as goal
 
 pub returns-clause-call : goal.returns-clause-call
-returns-clause-call c = λ start calls at. at_put _ _ _ start.flags calls c.args.row c.args.content.now c.index-found.result.now c.requires.known c.args.self.now.room.slots_wide c.index-found.ensures c.requires.held at
+returns-clause-call c = λ start calls at. at_put _ _ _ _ start.flags calls c.args.row c.version-version.result c.args.content.now c.requires.known c.args.self.now.room.slots_wide c.requires.held c.version-version.ensures c.publish.ensures at
