@@ -203,7 +203,8 @@ fn two_before(buffer: &mut [u8], end: usize, word: &[u8], first: u64, second: u6
     requires short { length word.now ≤ WORD }
     requires room { ENTRY ≤ end }
     requires within { end ≤ length buffer.old }
-    ensures text { drop result buffer.new ≡ numbers_text word.now (Some first ∷ Some second ∷ []) ++ drop end buffer.old }
+    ensures text { drop result buffer.new
+        ≡ numbers_text word.now (Some first ∷ Some second ∷ []) ++ drop end buffer.old }
     ensures low { end ≤ result + ENTRY }
     ensures high { result ≤ end }
     ensures fits { All FitsField (Some first ∷ Some second ∷ []) }
@@ -310,7 +311,8 @@ fn connect_before(
     requires room { ENTRY ≤ end }
     requires within { end ≤ length buffer.old }
     ensures text { drop result buffer.new
-        ≡ numbers_text (codes "connect") (Some action ∷ thread ∷ account ∷ user ∷ host ∷ []) ++ drop end buffer.old }
+        ≡ numbers_text (codes "connect") (Some action ∷ thread ∷ account ∷ user ∷ host ∷ [])
+        ++ drop end buffer.old }
     ensures low { end ≤ result + ENTRY }
     ensures high { result ≤ end }
     ensures fits { All FitsField (Some action ∷ thread ∷ account ∷ user ∷ host ∷ []) }

@@ -1,4 +1,4 @@
-//! Writing a report: its lines, offered to a sink one by one.
+//! Writing a report: its lines, offered to a sink in order, those of a journal many at a time.
 
 ghost use Rattle.std.specs.Prelude.{ℕ, List, ◌≡◌, ◌+◌, ◌^◌, ◌≤◌, ◌-◌, ◌<◌, OnOk, [], drop, length, take, if◌then◌else◌};
 ghost use Rattle.std.specs.List.{flat_map, slice_index_or};
@@ -25,7 +25,7 @@ const PAGE: usize = MANY * ENTRY;
 trait Spelled {
     ghost text: { Self → List ℕ };
 
-    /// Offers the lines to a sink, one by one. Those that may be of any length are built in this buffer.
+    /// Offers the lines to a sink, in order. Those that may be of any length are built in this buffer.
     fn put<K: Sink>(&self, line: &mut Vec<u8>, sink: &mut K) -> Result<(), WriteStop>
         ensures { Puts (K.written sink.old) (K.written sink.new) (K.faults sink.old) (K.faults sink.new)
             (text self.now) result };
@@ -388,8 +388,9 @@ pub fn write_table<K: Sink>(
     table.put(&mut line, sink)
 }
 
-/// Writes a report to a sink, line by line, each line built in a buffer. The rest of a line that
-/// was taken in part is offered again. On a refusal a front of the report was written.
+/// Writes a report to a sink: the entries of a journal without answers up to 64 lines at a time, all else line by
+/// line, each built in a buffer. The rest of what was taken in part is offered again. On a refusal a front of the
+/// report was written.
 #[tactic(auto, using(pfs_outside::proofs::Writes::puts_then, pfs_outside::proofs::Writes::puts_stop), unfolding(crate::specs::Spelling::spelling))]
 pub fn write<K: Sink>(alloc: Global, report: &Report, sink: &mut K) -> Result<(), WriteStop>
     ensures { Puts (K.written sink.old) (K.written sink.new) (K.faults sink.old) (K.faults sink.new)

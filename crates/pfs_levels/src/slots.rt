@@ -220,7 +220,8 @@ fn keep(contents: &mut Vec<Kept>, home: Home, row: usize, words: &[u64; 16]) -> 
     requires own { IsOwn contents.old.items row home }
     requires few { vec_len contents.old + to_place home ≤ 14242 }
     requires room { 14242 ≤ vec_capacity contents.old }
-    ensures items { contents.new.items ≡ contents_with contents.old.items home (record { row = row; words = words.now }) }
+    ensures items { contents.new.items
+        ≡ contents_with contents.old.items home (record { row = row; words = words.now }) }
     ensures place { result ≡ place_with contents.old.items home }
     ensures capacity { vec_capacity contents.new ≡ vec_capacity contents.old }
 {
@@ -239,7 +240,10 @@ fn merge_kept(contents: &mut Vec<Kept>, home: Home, row: usize, amount: &Stat) -
     requires own { IsOwn contents.old.items row home }
     requires few { vec_len contents.old + to_place home ≤ 14242 }
     requires room { 14242 ≤ vec_capacity contents.old }
-    ensures items { contents.new.items ≡ contents_with contents.old.items home (record { row = row; words = merged (words_at contents.old.items home) amount.now }) }
+    ensures items { contents.new.items ≡ contents_with contents.old.items home (record {
+      row = row;
+      words = merged (words_at contents.old.items home) amount.now;
+    }) }
     ensures place { result ≡ place_with contents.old.items home }
     ensures capacity { vec_capacity contents.new ≡ vec_capacity contents.old }
 {

@@ -12,8 +12,8 @@ use Rattle.pfs_run.specs.declared.runner.Runner.{Runner}
 
 abbrev pub Stands : Setting → List Phase → List Phase → List Block → List PhasedBlock → Runner → Type 0
 Stands setting phases before first ahead runner =
-    IsAlong setting phases before first ahead (λ start calls. IsAt runner.rows.slots.items runner.rows.words.items runner.rows.tickets start.flags calls)
-    (λ row. in_hand (slot_at runner.rows.slots.items row)) runner.rows.left runner.rows.draws (Some runner.rows.words.items) runner.admin runner.seats.items runner.lost runner.phases.items
+    IsAlong setting phases before first ahead (λ start calls. IsAt runner.rows.slots runner.rows.words.items runner.rows.tickets start.flags calls)
+    (λ row. in_hand (slot_at runner.rows.slots row)) runner.rows.left runner.rows.draws (Some runner.rows.words.items) runner.admin runner.seats.items runner.lost runner.phases.items
     runner.blocks.items
 
 -- behind the last block of a phase
