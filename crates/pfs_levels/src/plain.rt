@@ -50,6 +50,7 @@ impl Rows for PlainRows {
 
     ghost name = { λ s. 0 };
 
+    #[inline(always)]
     fn add_try(&mut self, row: u64, amount: &Stat) -> Added {
         let at = row as usize;
         let version = self.slots.version(at) + 1;
