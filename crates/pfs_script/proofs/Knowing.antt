@@ -1,9 +1,10 @@
 -- The lines that are known with one line more.
-use Rattle.std.proofs.Common.{ℕ, ◌≡◌, ◌&&◌, ◌||◌, inl, inr, Bool, true, false, cond, List, [], ◌∷◌, ◌++◌, Option, Some, None, Ok, Err, refl, sym, ap, ◌∙◌, subst, Bor}
-use Rattle.std.specs.Prelude.{IfSome, option_copied}
-use Rattle.std.specs.Str.{bytes_eq}
+use Rattle.std.proofs.Common.{ℕ, ◌≡◌, ◌<◌, ◌&&◌, ◌||◌, inl, inr, Bool, true, false, List, [], ◌∷◌, ◌++◌, Option, Some, None, Ok, Err, get_or, length, refl, sym, ap, ◌∙◌, subst}
+use Rattle.std.specs.Prelude.{◌==◌, All, slice_get}
+use Rattle.std.specs.Cmp.Lexicographic.{pointwise, bytes_decides}
 use Rattle.std.proofs.lemmas.Bool.{false≢true}
-use Rattle.std.proofs.lemmas.Slice.Eq.{bytes_eq-Decides}
+use Rattle.std.proofs.lemmas.List.Elements.{All-push}
+use Rattle.std.proofs.lemmas.Option.{get_or_from_slice_get}
 use Rattle.pfs_rows.specs.declared.limits.Limits.{Limits}
 use Rattle.pfs_classes.specs.declared.classes.ClassRef.{ClassRef}
 use Rattle.pfs_classes.specs.declared.setting.TableName.{TableName}
@@ -19,7 +20,7 @@ use Rattle.pfs_script.specs.declared.reasons.Reason.{Reason}
 use Rattle.pfs_script.specs.Finds.{with_table, with_digest, digests_of}
 use Rattle.pfs_script.specs.Forms as forms
 use Rattle.pfs_script.specs.Headings.{Head, head_of, limits_of, resolved}
-use Rattle.pfs_script.specs.Known.{known_line, Keeps, IsKnown, AreKnown}
+use Rattle.pfs_script.specs.Known.{IsAt, IsKnown, AreKnown}
 use Rattle.pfs_script.specs.Next.{fault_of, next}
 use Rattle.pfs_script.specs.Readings.{IsBehind, Takes, Says}
 use Rattle.pfs_script.specs.Sensing.{class_in, number_in}
@@ -60,48 +61,45 @@ module _ (old new : Reader) (before : List Form) (line : Form) (b : IsBehind old
         behind = any_stays is_phase before line k.behind;
       }
 
-  found_known : (bytes : List ℕ) (found : Option KnownLine) → Idles before line → IfSome found (IsKnown old.heading old.finds before bytes) → IfSome found (IsKnown new.heading new.finds (before ++ line ∷ []) bytes)
-  found_known bytes None idle k = tt
-  found_known bytes (Some one) idle k = known_by bytes one idle k
-
   -- those that are known stay so
   pub known_more : (known : KnownLines) → fault_of before line ≡ None → AreKnown old.heading old.finds before known → AreKnown new.heading new.finds (before ++ line ∷ []) known
-  known_more known none k bytes = found_known bytes (known_line known bytes) (idles before line (passes before line none)) (k bytes)
+  known_more known none k i one within = let stands = get_or known.lines.items i one in known_by stands.text stands (idles before line (passes before line none)) (k i one within)
 
   -- and the line is known
-  pub known_new : (bytes : List ℕ) (class : Option ClassRef) (number : Option ℕ) → fault_of before line ≡ None → forms.form bytes ≡ Ok line → forms.HasItsKind line
+  pub known_new : (bytes text : List ℕ) (class : Option ClassRef) (number : Option ℕ) → fault_of before line ≡ None → forms.form bytes ≡ Ok line → forms.HasItsKind line
       → class ≡ class_in (resolved old.heading) line → (starts many : Bool) → (new.place.front.has_phase && (starts || many)) ≡ true → number ≡ number_in new.finds.tables new.finds.digests line
-      → IsKnown new.heading new.finds (before ++ line ∷ []) bytes (record { form = line; class = class; number = number })
-  known_new bytes class number none said kind c starts many wanted n = record {
+      → text ≡ bytes → IsKnown new.heading new.finds (before ++ line ∷ []) text (record { text = text; form = line; class = class; number = number })
+  known_new bytes text class number none said kind c starts many wanted n same = subst (λ (t : List ℕ). IsKnown new.heading new.finds (before ++ line ∷ []) t (record { text = t; form = line; class = class; number = number })) (sym same) (record {
     said = said;
     kind = kind;
     class = c ∙ (ap (λ (h : Head). class_in (resolved h) line) b.head ∙ (class_stays before line ∙ ap (λ (h : Head). class_in (resolved h) line) (sym m.head)));
     found = (sym n, settled_last new.heading.limits.digests new.finds before line m.settled, (passes before line none).statement);
     behind = sym m.place.front.phase ∙ first_true new.place.front.has_phase (starts || many) wanted;
-  }
+  })
 
--- what is known of a line that is found
-pub known_is : (heading : Head) (finds : Finds) (before : List Form) (known : KnownLines) (bytes : List ℕ) (line : KnownLine) → known_line known bytes ≡ Some line → AreKnown heading finds before known → IsKnown heading finds before bytes line
-known_is heading finds before known bytes line e k = subst (λ (found : Option KnownLine). IfSome found (IsKnown heading finds before bytes)) e (k bytes)
+-- what is known of the line at a place
+pub known_is : (heading : Head) (finds : Finds) (before : List Form) (known : KnownLines) (bytes : List ℕ) (place : ℕ) (line : KnownLine) → IsAt known bytes place → slice_get known.lines.items place ≡ Some line
+    → AreKnown heading finds before known → IsKnown heading finds before bytes line
+known_is heading finds before known bytes place line at stands k =
+    let there : IsKnown heading finds before line.text line = subst (λ (one : KnownLine). IsKnown heading finds before one.text one) (get_or_from_slice_get known.lines.items place line line stands) (k place line at.0) in
+    subst (λ (text : List ℕ). IsKnown heading finds before text line) (at.1 line stands) there
 
--- what a look-up tells of the line that it finds
-pub found_so : (found : Option (Bor KnownLine)) (known : Option KnownLine) → option_copied found ≡ known → IfSome found (λ line. known ≡ Some line.now)
-found_so None known e = tt
-found_so (Some line) known e = sym e
+-- the same lines are known
+pub known_same : (heading : Head) (finds : Finds) (before : List Form) (known more : KnownLines) → more.lines.items ≡ known.lines.items → AreKnown heading finds before known → AreKnown heading finds before more
+known_same heading finds before known more same k = subst (λ (lines : List KnownLine). All (λ (line : KnownLine). IsKnown heading finds before line.text line) lines) (sym same) k
 
 -- with a line that is kept
-pub kept_so : (known more : KnownLines) (text bytes : List ℕ) (line : KnownLine) → text ≡ bytes → Keeps known more text line → Keeps known more bytes line
-kept_so known more text bytes line e keeps = subst (λ (one : List ℕ). Keeps known more one line) e keeps
+pub known_kept : (new : Reader) (before : List Form) (known more : KnownLines) (line : KnownLine) → more.lines.items ≡ known.lines.items ++ line ∷ [] → AreKnown new.heading new.finds before known
+    → IsKnown new.heading new.finds before line.text line → AreKnown new.heading new.finds before more
+known_kept new before known more line keeps k one =
+    subst (λ (lines : List KnownLine). All (λ (line : KnownLine). IsKnown new.heading new.finds before line.text line) lines) (sym keeps) (All-push (λ (line : KnownLine). IsKnown new.heading new.finds before line.text line) known.lines.items line k one)
 
-kept_by : (heading : Head) (finds : Finds) (before : List Form) (known : KnownLines) (bytes other : List ℕ) (line : KnownLine) (same : Bool) → bytes_eq bytes other ≡ same → AreKnown heading finds before known → IsKnown heading finds before bytes line
-    → IfSome (cond same (Some line) (known_line known other)) (IsKnown heading finds before other)
-kept_by heading finds before known bytes other line true e k one = subst (λ (text : List ℕ). IsKnown heading finds before text line) ((bytes_eq-Decides bytes other).0 e) one
-kept_by heading finds before known bytes other line false e k one = k other
-
-pub known_kept : (new : Reader) (before : List Form) (known more : KnownLines) (bytes : List ℕ) (line : KnownLine) → Keeps known more bytes line → AreKnown new.heading new.finds before known → IsKnown new.heading new.finds before bytes line
-    → AreKnown new.heading new.finds before more
-known_kept new before known more bytes line keeps k one other =
-    subst (λ (found : Option KnownLine). IfSome found (IsKnown new.heading new.finds before other)) (sym (keeps other)) (kept_by new.heading new.finds before known bytes other line (bytes_eq bytes other) refl k one)
+-- a line at a place whose text is the same
+pub is_there : (known : KnownLines) (bytes : List ℕ) (place : ℕ) (line : KnownLine) → place < length known.lines.items → line ≡ get_or known.lines.items place line → pointwise ◌==◌ line.text bytes ≡ true → IsAt known bytes place
+is_there known bytes place line within stands same = (
+  within,
+  λ (other : KnownLine) is. ap (λ (one : KnownLine). one.text) (sym (get_or_from_slice_get known.lines.items place other line is) ∙ sym stands) ∙ (bytes_decides line.text bytes).0 same,
+)
 
 -- what the answer to a line tells of its bytes
 

@@ -1,8 +1,6 @@
 -- The lines behind the first phase, each read once.
-use Rattle.std.specs.Prelude.{ℕ, ◌≡◌, true, if◌then◌else◌, List, Option, Some, IfSome, Ok}
+use Rattle.std.specs.Prelude.{ℕ, ◌≡◌, ◌<◌, true, List, All, length, slice_get, Some, Ok}
 use Rattle.std.specs.List.{list_any}
-use Rattle.std.specs.Str.{bytes_eq}
-use Rattle.std.specs.HashMap.{get_by}
 use Rattle.pfs_script.specs.declared.finds.Finds.{Finds}
 use Rattle.pfs_script.specs.declared.finds.Found.TheVariants.{Before}
 use Rattle.pfs_script.specs.declared.forms.Form.{Form}
@@ -13,14 +11,11 @@ use Rattle.pfs_script.specs.Headings.{Head, resolved}
 use Rattle.pfs_script.specs.Sensing.{class_in, IsFound}
 use Rattle.pfs_script.specs.Sessions.{is_phase}
 
--- the line that has these bytes
-abbrev pub known_line : KnownLines → List ℕ → Option KnownLine
-known_line known bytes = get_by (bytes_eq bytes) known.lines
-
--- a line more is known
-abbrev pub Keeps : KnownLines → KnownLines → List ℕ → KnownLine → Type 0
-Keeps known more bytes line =
-    (other : List ℕ) → known_line more other ≡ (if bytes_eq bytes other then Some line else known_line known other)
+-- at the place stands a line that has these bytes
+abbrev pub IsAt : KnownLines → List ℕ → ℕ → Type 0
+IsAt known bytes place =
+    (place < length known.lines.items)
+    × ((line : KnownLine) → slice_get known.lines.items place ≡ Some line → line.text ≡ bytes)
 
 -- behind these lines, what is known of a line is what its bytes say, and what names and texts stand for
 pub record IsKnown (heading : Head) (finds : Finds) (before : List Form) (bytes : List ℕ) (line : KnownLine) : Type 0
@@ -34,4 +29,4 @@ pub record IsKnown (heading : Head) (finds : Finds) (before : List Form) (bytes 
 -- so of all lines that are known
 abbrev pub AreKnown : Head → Finds → List Form → KnownLines → Type 0
 AreKnown heading finds before known =
-    (bytes : List ℕ) → IfSome (known_line known bytes) (IsKnown heading finds before bytes)
+    All (λ (line : KnownLine). IsKnown heading finds before line.text line) known.lines.items

@@ -19,6 +19,7 @@ use crate::places::{Place, start};
 use crate::reasons::Reason;
 use crate::saying::block_line;
 use crate::scripts::Script;
+use crate::texts::Text;
 use crate::words::is_clean;
 use memchr::memchr;
 use pfs_classes::{ClassRef, NoMemory};
@@ -155,7 +156,8 @@ fn read_line<'a>(
         → AreKnown reader.old.heading reader.old.finds before known.old
         → Says reader.new known.new before bytes.now result }
 {
-    if let Some(line) = known.find(bytes) {
+    if let Some(place) = known.find(bytes) {
+        let line = known.line(place);
         let found = Found::Before(line.number);
         return match reader.take(&line.form, line.class, false, found) {
             Ok(_) => Ok(()),
@@ -189,12 +191,12 @@ fn read_new<'a>(
         Err(fault) => return Err(fault),
     };
     if known.wants(reader.place.front.has_phase, class.is_some()) {
-        let line = KnownLine {
+        known.keep(KnownLine {
+            text: Text::new(bytes),
             form,
             class,
             number,
-        };
-        known.keep(bytes, line)?;
+        })?;
     }
     Ok(())
 }

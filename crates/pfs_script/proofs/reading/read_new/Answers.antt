@@ -1,5 +1,4 @@
-use Rattle.std.proofs.Common.{arith, sym, ap, ◌∙◌, ◌+◌, ◌++◌, ◌∷◌, [], nat_lt}
-use Rattle.std.specs.HashMap.{hash_map_len}
+use Rattle.std.proofs.Common.{arith, sym, ap, ◌∙◌, ◌+◌, ◌++◌, ◌∷◌, [], nat_lt, length}
 use Rattle.pfs_script.proofs.Counting.{few_count}
 use Rattle.pfs_script.proofs.Knowing.{known_more, known_new, known_kept, next_says, next_unsaid, says_fault}
 use Rattle.pfs_script.proofs.reading.read_new.Goals as goal
@@ -22,8 +21,8 @@ returns-in_ok-keep c before b k =
     let said = sym c.in-Ok.ensures.form in
     let took = c.in-Ok-take.ensures before b in
     let more = known_more old new before line b took.1 c.args.known.now took.0 k in
-    let own = known_new old new before line b took.1 c.args.bytes.now c.class_of-class.result c.in-Ok-take.number took.0 said c.in-Ok.ensures.kind c.class_of-class.ensures c.is_some.result (nat_lt (hash_map_len c.args.known.now.lines) 4096) (sym c.wants.ensures ∙ c.if-wants.true) took.2 in
-    (line, next_says before c.args.bytes.now line said took.0, took.1, known_kept new (before ++ line ∷ []) c.args.known.now c.keep.new.self c.args.bytes.now _ c.in_ok-keep.ensures more own)
+    let own = known_new old new before line b took.1 c.args.bytes.now c.new.result c.class_of-class.result c.in-Ok-take.number took.0 said c.in-Ok.ensures.kind c.class_of-class.ensures c.is_some.result (nat_lt (length c.args.known.now.lines.items) 4096) (sym c.wants.ensures ∙ c.if-wants.true) took.2 c.new.ensures in
+    (line, next_says before c.args.bytes.now line said took.0, took.1, known_kept new (before ++ line ∷ []) c.args.known.now c.keep.new.self _ c.in_ok-keep.ensures more own)
 
 pub returns-else-wants : goal.returns-else-wants
 returns-else-wants c before b k =
