@@ -132,11 +132,6 @@ are_few s reach cells = record {
   global = cleared_few reach.global cells;
 }
 
-pub reach_few : (s : Places) (reach : Reach) (cells : List ℕ) → cost (reach_asks s reach cells) ≤ 289 * length cells
-reach_few s reach cells =
-    let few : AreFew s reach cells = are_few s reach cells in
-    omega (arith, reach_cost s reach cells, few.threads, few.accounts, few.users, few.hosts, few.global)
-
 pub all_cost : (s : Places) (table : SummaryTable) (kinds : KindCells) → cost (all_asks kinds s table)
     ≡ cost (summary_asks s table kinds.waits) + (cost (summary_asks s table kinds.stages)
     + (cost (summary_asks s table kinds.statements) + cost (summary_asks s table kinds.transactions)))

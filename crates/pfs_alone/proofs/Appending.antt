@@ -1,20 +1,9 @@
 -- One part more, and one spell more, for whoever runs sessions.
 use Rattle.std.proofs.Common.{ℕ, ◌≡◌, ◌≤◌, Bool, false, List, [], ◌∷◌, ◌++◌, refl, ap, sym, ◌∙◌, subst}
 use Rattle.std.proofs.lemmas.List.{append_assoc, append-nil}
-use Rattle.pfs_session.specs.States.{State, fresh}
-use Rattle.pfs_session.specs.Turns.{state_after}
-use Rattle.pfs_parts.specs.Deeds.{Part, IsPart, MayDo, is_over}
-use Rattle.pfs_parts.specs.Shaped.{AreParts, MayDoAll, state_behind, over_behind}
+use Rattle.pfs_session.specs.States.{fresh}
 use Rattle.pfs_parts.specs.Stints.{Stint, state_by, over_by, IsStint, AreStintsBehind}
-use Rattle.pfs_alone.specs.Spells.{Doing, Spell, doing_calls, doings_calls, parts_in, stint_of, stints_of, calls_of, IsEntered, AreEntered, AllEntered, AreSpells}
-
-pub parts_more : (ds : List Doing) (d : Doing) → parts_in (ds ++ d ∷ []) ≡ parts_in ds ++ d.part ∷ []
-parts_more [] d = refl
-parts_more (x ∷ xs) d = ap (λ z. x.part ∷ z) (parts_more xs d)
-
-pub doings_more : (ds : List Doing) (d : Doing) → doings_calls (ds ++ d ∷ []) ≡ doing_calls d ++ doings_calls ds
-doings_more [] d = sym (append-nil (doing_calls d))
-doings_more (x ∷ xs) d = ap (λ z. z ++ doing_calls x) (doings_more xs d) ∙ append_assoc (doing_calls d) (doings_calls xs) (doing_calls x)
+use Rattle.pfs_alone.specs.Spells.{Spell, doings_calls, parts_in, stint_of, stints_of, calls_of, AreEntered, AllEntered, AreSpells}
 
 pub calls_more : (spells : List Spell) (spell : Spell) → calls_of (spells ++ spell ∷ []) ≡ doings_calls spell.doings ++ calls_of spells
 calls_more [] spell = sym (append-nil (doings_calls spell.doings))
@@ -23,28 +12,6 @@ calls_more (x ∷ xs) spell = ap (λ z. z ++ doings_calls x.doings) (calls_more 
 pub stints_of_more : (spells : List Spell) (spell : Spell) → stints_of (spells ++ spell ∷ []) ≡ stints_of spells ++ stint_of spell ∷ []
 stints_of_more [] spell = refl
 stints_of_more (x ∷ xs) spell = ap (λ z. stint_of x ∷ z) (stints_of_more xs spell)
-
-are_parts_more : (s : State) (ps : List Part) (p : Part) → AreParts s ps → IsPart (state_behind s ps) p → AreParts s (ps ++ p ∷ [])
-are_parts_more s [] p are one = (one, tt)
-are_parts_more s (x ∷ xs) p are one = (are.0, are_parts_more (state_after s x.turns) xs p are.1 one)
-
-may_more : (over : Bool) (s : State) (ps : List Part) (p : Part) → MayDoAll over s ps → MayDo (over_behind over ps) (state_behind s ps) p.deed → MayDoAll over s (ps ++ p ∷ [])
-may_more over s [] p may one = (one, tt)
-may_more over s (x ∷ xs) p may one = (may.0, may_more (is_over over x.deed) (state_after s x.turns) xs p may.1 one)
-
-pub none_done : (over : Bool) (s : State) → IsStint over s []
-none_done over s = record { are_parts = tt; may = tt }
-
-pub one_done : (over : Bool) (s : State) (ds : List Doing) (d : Doing) → IsStint over s (parts_in ds) → IsPart (state_behind s (parts_in ds)) d.part
-    → MayDo (over_behind over (parts_in ds)) (state_behind s (parts_in ds)) d.part.deed → IsStint over s (parts_in (ds ++ d ∷ []))
-one_done over s ds d is part may = record {
-  are_parts = subst (AreParts s) (sym (parts_more ds d)) (are_parts_more s (parts_in ds) d.part is.are_parts part);
-  may = subst (MayDoAll over s) (sym (parts_more ds d)) (may_more over s (parts_in ds) d.part is.may may);
-}
-
-pub entered_more : (s : State) (ds : List Doing) (d : Doing) → AreEntered s ds → IsEntered (state_behind s (parts_in ds)) d.label d.labels d.part.deed → AreEntered s (ds ++ d ∷ [])
-entered_more s [] d are one = (one, tt)
-entered_more s (x ∷ xs) d are one = (are.0, entered_more (state_after s x.part.turns) xs d are.1 one)
 
 -- the phase of the last stint
 abbrev pub last_phase : ℕ → List Stint → ℕ

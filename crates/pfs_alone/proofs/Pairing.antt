@@ -81,10 +81,6 @@ grows : (b : Bool) (n : ℕ) → n ≤ count_if b n
 grows true n = omega arith
 grows false n = omega arith
 
-drawn_more : (kind ticket other : ℕ) (calls : List Call) → drawn (draws_of calls) other ≤ drawn (draws_of (Draws kind ticket ∷ calls)) other
-unfolding draws_of drawn
-drawn_more kind ticket other calls = grows (kind == other) (drawn (draws_of calls) other)
-
 drawn_own : (kind ticket other : ℕ) (calls : List Call) → kind ≡ other → drawn (draws_of (Draws kind ticket ∷ calls)) other ≡ drawn (draws_of calls) other + 1
 unfolding draws_of drawn
 drawn_own kind ticket other calls e = ap (λ b. count_if b (drawn (draws_of calls) other)) (eq-eqb kind other e)

@@ -84,9 +84,6 @@ loads_same slot class (Some table) None c t k cf tf kf e = absurd (cc)
 loads_same slot class None (Some w) c t k cf tf kf e = absurd (cc)
 loads_same slot class None None c t k cf tf kf e = refl
 
-abbrev StartNotes : Option Subject → Context → Verdict → ℕ → Option Setup → List Note
-StartNotes subject context v n seen = notes_in subject context (start_entry v n seen ∷ [])
-
 start_loads : (slot class table : Option ℕ) (seen : Option Setup) (v : Verdict) (n : ℕ) (what : Subject) (context : Context) → what.class ≡ class → what.table ≡ table
     → IsLoaded slot class table seen → ((thread : ℕ) → slot ≡ Some thread → context.slot ≡ Some thread)
     → notes_in (Some what) context (start_entry v n seen ∷ []) ≡ all_told (load_calls slot class table seen)

@@ -42,10 +42,6 @@ joined_one : (entries : List Entry) → joined (entries ∷ []) ≡ entries
 unfolding joined
 joined_one entries = append-nil entries
 
--- the end of a block, behind deeds
-closing_part : (old new : Book) (was now : Opening → List Call → Type 0) → Played (SettlesHeld ∷ []) old new was now → Part
-closing_part old new was now played = record { deed = Closing; turns = played.turns }
-
 closing_done : (old new : Book) (was now : Opening → List Call → Type 0) (played : Played (SettlesHeld ∷ []) old new was now) → HasDone ((record { deed = Closing; turns = played.turns }) ∷ []) old new was now
 closing_done old new was now played =
     let its : Part = record { deed = Closing; turns = played.turns } in

@@ -41,9 +41,6 @@ corner_in z y start v q a = let i = a.inside in let w = a.wide in omega arith
 pub word_in : (z y : TableId) (start : List ℕ) (v : View) (q i : ℕ) → IsAt z y start v q → i < 16 → word_at q i < y.words
 word_in z y start v q i a low = let h = a.inside in let w = a.wide in omega arith
 
-pub turned_self : (v : View) (r : ℕ) → turned v r (corner v r) ≡ v
-turned_self v r = ap (λ rows. record v { rows = rows }) (set-get_or v.rows r newcomer)
-
 pub turned_again : (v : View) (r : ℕ) (c d : Corner) → turned (turned v r c) r d ≡ turned v r d
 turned_again v r c d = ap (λ rows. record v { rows = rows }) (set-set v.rows r c d)
 
@@ -103,10 +100,6 @@ looked_twice n (Busy first second) f = two_looks first second (λ e. f.1 (e ∙ 
 -- all is as it is said but the looks, whose number is its own
 any_looks : (w u : View) → w ≡ u → w ≡ record u { looks = w.looks }
 any_looks w u e = e ∙ ap (λ (x : View). record u { looks = x.looks }) (sym e)
-
-pub take_dirty : (v : View) (q n : ℕ) (w : View) → is_holding (corner v q).stage ≡ false → IsLook v n q → n % 4 ≡ 1 → w ≡ tried v q n → IsTaken v q (Busy n n) w
-take_dirty v q n w free look d is = let l = look.later in
-    (inl (d, refl), look.later, omega arith, look.state, (λ whole. look.clean whole free d), any_looks w (missed v q n n) (is ∙ ap (λ s. record (turned v q (sighted Idle n)) { looks = v.looks + 1; sights = s }) (if_true (eqb (n % 4) 1) (sight_of v q n n ∷ v.sights) v.sights (eq-eqb (n % 4) 1 d))), look.later, look.state, λ free. absurd (omega (arith, free, d)))
 
 -- what the exchange answers
 pub seize_hit : (v : View) (q word : ℕ) (content found : List ℕ) (w : View) → (word % 4 < 3) → word % 4 ≢ 1 → IsLook v word q → length found ≡ 16 → content ≡ found → w ≡ took v q word found → IsTaken v q (Mine word content) w

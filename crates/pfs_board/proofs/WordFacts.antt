@@ -7,11 +7,7 @@ use native.Mathlib.Decide.{dec_lt}
 use lib.ListN.{get_elem?, get_or-append}
 use lib.Seq.{get_or-take, get_or-drop, get_or-append_right}
 use Rattle.pfs_board.specs.declared.answers.FinalRow.{FinalRow}
-use Rattle.pfs_board.specs.declared.answers.Opening.{Opening}
-use Rattle.pfs_board.specs.History.{lock_at}
 use Rattle.pfs_board.specs.Known.{final_words}
-use Rattle.pfs_board.specs.Opening.{IsOpening, lock_of}
-use Rattle.pfs_board.proofs.HistoryFacts.{if_true, if_false, either_way}
 
 pub elem_get : (l : List ℕ) (i a : ℕ) → get_elem? l i ≡ some a → get_or l i 0 ≡ a
 elem_get [] i a e = absurd (some-ne-none a (sym e))
@@ -26,26 +22,6 @@ row_words ws content w r n is wide first rest (suc i) h = get_or-take n (drop (1
 pub row_slice : (ws content : List ℕ) (w r : ℕ) → 17 * r + 17 ≤ length ws → length content ≡ 16 → get_or ws (17 * r) 0 ≡ w → ((j : ℕ) → j < 16 → get_or content j 0 ≡ get_or ws (17 * r + j + 1) 0) → slice_range ws (17 * r) (17 * r + 17) ≡ w ∷ content
 row_slice ws content w r inside wide first rest = let n : ℕ = 17 * r + 17 - 17 * r in let d = length-drop (17 * r) ws in let l = length-take-le n (drop (17 * r) ws) (omega arith) in
     ext_get_or 0 (take n (drop (17 * r) ws)) (w ∷ content) (omega arith) (λ i h. row_words ws content w r n (omega arith) wide first rest i (omega arith))
-
-pub opening_first : (content : List ℕ) → length content ≡ 16 → IsOpening (2 ∷ content) 1
-opening_first content wide = record { long = omega arith; locks = λ r h. inr (ap (λ k. get_or (2 ∷ content) k 0) (let z : lock_at r ≡ 0 = omega arith in z)) }
-
-dec_elim : (ws content : List ℕ) (n lock : ℕ) → IsOpening ws n → (lock ≡ 0) ⊎ (lock ≡ 2) → (r : ℕ) → r < n + 1 → Dec (r < n) → (get_or (ws ++ lock ∷ content) (lock_at r) 0 ≡ 0) ⊎ (get_or (ws ++ lock ∷ content) (lock_at r) 0 ≡ 2)
-dec_elim ws content n lock o two r h (yes low) = let b = o.long in let e : get_or (ws ++ lock ∷ content) (lock_at r) 0 ≡ get_or ws (lock_at r) 0 = get_or-append ws (lock ∷ content) 0 (lock_at r) (omega arith) in
-    ⊎_elim (λ z. inl (e ∙ z)) (λ z. inr (e ∙ z)) (o.locks r low)
-dec_elim ws content n lock o two r h (no high) = let b = o.long in let z : lock_at r - length ws ≡ 0 = omega arith in
-    let e : get_or (ws ++ lock ∷ content) (lock_at r) 0 ≡ lock = get_or-append_right ws (lock ∷ content) (lock_at r) 0 (omega arith) ∙ ap (λ k. get_or (lock ∷ content) k 0) z in
-    ⊎_elim (λ z. inl (e ∙ z)) (λ z. inr (e ∙ z)) two
-
--- one row more
-pub opening_more : (ws content : List ℕ) (n lock : ℕ) → IsOpening ws n → length content ≡ 16 → (lock ≡ 0) ⊎ (lock ≡ 2) → IsOpening (ws ++ lock ∷ content) (n + 1)
-opening_more ws content n lock o wide two = let a = length-append ws (lock ∷ content) in let b = o.long in record {
-  long = omega arith;
-  locks = λ r h. dec_elim ws content n lock o two r h (dec_lt r n);
-}
-
-pub lock_two : (o : Opening) → (lock_of o ≡ 0) ⊎ (lock_of o ≡ 2)
-lock_two o = ⊎_elim (λ e. inr (if_true o.allocated 2 0 e)) (λ e. inl (if_false o.allocated 2 0 e)) (either_way o.allocated)
 
 pub final_append : (xs ys : List FinalRow) → final_words (xs ++ ys) ≡ final_words xs ++ final_words ys
 final_append [] ys = refl

@@ -1,7 +1,7 @@
 -- What a connect makes stands right after it; a session's and an account's places hold their names, at all times.
 use Rattle.std.proofs.Common.{◌⊎◌, inl, inr, ◌≡◌, ℕ, zero, suc, ◌+◌, ◌≤◌, ◌==◌, ◌&&◌, Bool, true, false, cond, List, [], ◌∷◌, Option, Some, None, refl, sym, ap, ◌∙◌, subst, arith}
 use Rattle.pfs_conservation.specs.Folds.{Session, Entry, entry_of, State, Line, Connects, Quits, Truncates, FreesAccounts, FreesUsers, FreesHosts, Others, entry_at, fill_at, fill, emptied_at, in_use, stepped, quits, Lives}
-use Rattle.pfs_conservation.specs.Administration.{Action, Connect, Quit, Truncate, Other, Summary, Accounts, Users, Hosts, Found, one_up, found_where, next_place, lowest_free, found_or, named_place, is_account, session_by, session_of, connect_line, quit_line, line_of, state_after, Admin, advanced, admin_after, connect_at}
+use Rattle.pfs_conservation.specs.Administration.{Action, Connect, Quit, Truncate, Other, Summary, Accounts, Users, Hosts, Found, one_up, found_where, next_place, lowest_free, found_or, named_place, is_account, session_by, session_of, connect_line, quit_line, line_of, state_after}
 use Rattle.pfs_conservation.proofs.Folding.{clash, differ, fill_at_keeps, fill_keeps, emptied_is, same, used, User_of, user_of, kept_used, Was, kept_was, lives_on}
 
 some_is : {X : Type 0} (a b : X) → ◌≡◌ {A = Option X} (Some a) (Some b) → a ≡ b
@@ -152,9 +152,6 @@ sound_frees : (s : State) (line : Line) → ((t : ℕ) → quits t line ≡ fals
     → ((a : ℕ) (e : Entry) (u : ℕ) → entry_at (stepped s line).accounts a ≡ Some e → e.host ≡ Some u → entry_at (stepped s line).hosts u ≡ Some e.host_name) → Sound s → Sound (stepped s line)
 sound_frees s line none was users hosts ok = record { lives = λ t x h. lives_on s line t x (none t) (ok.lives t x (was t x h)); user = users; host = hosts }
 
-acc : State → ℕ → Bool
-acc s = in_use (λ x. x.account) s.threads
-
 -- what a resolved line does to a sound state
 pub sound_line : (s : State) → Sound s → (line : Line) → ((slot : ℕ) (x : Session) → line ≡ Connects slot x → Lives (stepped s (Connects slot x)) slot x) → Sound (stepped s line)
 sound_line s ok (Connects slot x) new = sound_connects s ok slot x (new slot x refl)
@@ -277,25 +274,3 @@ lives_until opening ok action slot x connect here (suc more) stays =
   where
     plus : (a b : ℕ) → suc (a + b) ≡ a + suc b
     plus a b = omega arith
-
--- the places of the whole state are the fold of the places
-pub places_same : (a : Admin) (action : Action) → (advanced a action).places ≡ stepped a.places (line_of 0 a.places action)
-places_same a (Connect number user host) = at (lowest_free a.places.threads)
-  where
-    at : (o : Option ℕ) → (connect_at a number user host o).places ≡ stepped a.places (connect_line a.places number user host o)
-    at None = refl
-    at (Some slot) = refl
-places_same a (Quit number) = refl
-places_same a (Truncate (Summary number level)) = sym (at (number == 0))
-  where
-    at : (b : Bool) → stepped a.places (cond b (Truncates level) Others) ≡ a.places
-    at true = refl
-    at false = refl
-places_same a (Truncate Accounts) = refl
-places_same a (Truncate Users) = refl
-places_same a (Truncate Hosts) = refl
-places_same a Other = refl
-
-pub places_after : (a : Admin) (action : ℕ → Action) (n : ℕ) → (admin_after a action n).places ≡ state_after a.places action n
-places_after a action zero = refl
-places_after a action (suc n) = places_same (admin_after a action n) (action (suc n)) ∙ ap (λ s. stepped s (line_of 0 s (action (suc n)))) (places_after a action n)

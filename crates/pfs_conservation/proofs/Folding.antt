@@ -2,7 +2,7 @@
 use Rattle.std.proofs.Common.{◌≡◌, ℕ, zero, suc, ◌+◌, ◌==◌, ◌||◌, Bool, true, false, cond, List, [], ◌∷◌, Option, Some, None, refl, sym, ap, ◌∙◌, arith}
 use Rattle.pfs_conservation.specs.Journeys.{is_from}
 use Rattle.pfs_conservation.specs.Tenures.{Owner}
-use Rattle.pfs_conservation.specs.Folds.{Place, Thread, Account, User, Host, Global, Elsewhere, Session, entry_of, State, ByThread, ByAccount, ByUser, ByHost, ByAll, Line, Connects, Quits, Truncates, FreesAccounts, FreesUsers, FreesHosts, Others, line_takes, entry_at, fill_at, fill, emptied_at, kept_from, has_by, in_use, kept_if, stepped, CellRows, thread_owner, account_owner, user_owner, host_owner, owner_of, holder_in, quits, Lives}
+use Rattle.pfs_conservation.specs.Folds.{Place, Thread, Account, User, Host, Global, Elsewhere, Session, entry_of, State, ByThread, ByAccount, ByUser, ByHost, ByAll, Line, Connects, Quits, Truncates, FreesAccounts, FreesUsers, FreesHosts, Others, line_takes, entry_at, fill_at, fill, emptied_at, kept_from, in_use, kept_if, stepped, CellRows, thread_owner, account_owner, user_owner, host_owner, owner_of, holder_in, quits, Lives}
 
 pub clash : {X Y : Type 0} (x : X) → ◌≡◌ {A = Option X} None (Some x) → Y
 clash x h = absurd (cc)
@@ -112,20 +112,6 @@ self a = grind arith
 pub same : (a b : ℕ) → (a == b) ≡ true → a ≡ b
 same a b q = grind (arith, q)
 
-or_left : (a b : Bool) → a ≡ true → (a || b) ≡ true
-or_left true b h = refl
-or_left false b h = differ (sym h)
-
-or_right : (a b : Bool) → b ≡ true → (a || b) ≡ true
-or_right true b h = refl
-or_right false b h = h
-
--- what a connected session has is in use
-pub used : (which : Session → Option ℕ) (threads : List (Option Session)) (slot place : ℕ) (x : Session) → entry_at threads slot ≡ Some x → which x ≡ Some place → in_use which threads place ≡ true
-used which [] slot place x t w = clash x t
-used which (y ∷ ys) zero place x t w = or_left (has_by which place y) (in_use which ys place) (ap (has_by which place) t ∙ (ap (is_from place) w ∙ self place))
-used which (y ∷ ys) (suc slot) place x t w = or_right (has_by which place y) (in_use which ys place) (used which ys slot place x t w)
-
 -- and what is in use a session has
 pub record User_of (which : Session → Option ℕ) (threads : List (Option Session)) (place : ℕ) : Type 0 where
   pub slot : ℕ
@@ -189,16 +175,6 @@ lives_on s FreesHosts slot x q l = record {
   user = l.user;
   host = λ a w. kept_used (in_use (λ x. x.host) s.threads) s.hosts a x.host_name (used (λ x. x.host) s.threads slot a x l.thread w) (l.host a w);
 }
-
--- what takes an account's row takes every thread's; what takes a user's or host's takes every account's; what takes the global row takes every host's
-pub account_thread : (line : Line) (a t : ℕ) → line_takes line (Account a) ≡ true → line_takes line (Thread t) ≡ true
-account_thread (Truncates level) a t h = refl
-account_thread FreesAccounts a t h = refl
-account_thread FreesUsers a t h = refl
-account_thread FreesHosts a t h = refl
-account_thread (Connects at new) a t h = differ (sym h)
-account_thread (Quits other) a t h = differ (sym h)
-account_thread Others a t h = differ (sym h)
 
 pub host_account : (line : Line) (h a : ℕ) → line_takes line (Host h) ≡ true → line_takes line (Account a) ≡ true
 host_account (Truncates ByHost) h a q = refl

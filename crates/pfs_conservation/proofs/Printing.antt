@@ -132,11 +132,6 @@ move_kind action (Adds es) m = absurd m
 move_kind action Takes m = (refl, refl)
 move_kind action (Gives r) m = (refl, refl)
 
-kind_move : (action : ℕ) (k : Kind) → is_move k ≡ true → IsMove (as_change action k)
-kind_move action (Adds es) q = differ (sym q)
-kind_move action Takes q = tt
-kind_move action (Gives r) q = tt
-
 and_left : (a b : Bool) → (a && b) ≡ true → a ≡ true
 and_left true b h = refl
 and_left false b h = h

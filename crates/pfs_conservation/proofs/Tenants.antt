@@ -7,15 +7,11 @@ use Rattle.pfs_conservation.specs.Journeys.{is_from, first_from_one, leaves_afte
 use Rattle.pfs_conservation.specs.Moves.{Move, AreMoved, sends}
 use Rattle.pfs_conservation.specs.Ways.{Step, before_by, leave_by, Leads, IsPlaced}
 use Rattle.pfs_conservation.specs.Conservation.{first_moving, counts_after, AtMost, Follows, Nested, NestedFrom, last_of, last_moving, waits, Journals, IsEvent, IsSummary}
-use Rattle.pfs_conservation.specs.Tenures.{Owner, Keeps, IsBy, IsTenant, HasTenants, IsTable}
+use Rattle.pfs_conservation.specs.Tenures.{Owner, Keeps, IsTenant, HasTenants, IsTable}
 use Rattle.pfs_conservation.proofs.Totals.{bit_yes, bit_no}
 use Rattle.pfs_conservation.proofs.Tokens.{count_cons, late_take, late_following, Late}
 use Rattle.pfs_conservation.proofs.Faring.{home_leaves, way_leaves, starts_at, climbs_before}
 use Rattle.pfs_conservation.proofs.Conserving.{moving_from, moving_least, moved_next}
-
-by_earlier : (quit : Option ℕ) (a b : ℕ) → a ≤ b → IsBy quit b → IsBy quit a
-by_earlier None a b l h = tt
-by_earlier (Some q) a b l h = omega arith
 
 at_most_later : (t : Option ℕ) (a b : ℕ) → a ≤ b → AtMost t a → AtMost t b
 at_most_later None a b l h = absurd h

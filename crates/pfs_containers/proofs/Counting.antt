@@ -13,11 +13,3 @@ counted_from which (x ∷ xs) place n = omega arith ∙ (counted_from which xs p
 pub current_is : (which : Connection → Option ℕ) (threads : List (Option Connection)) (place : ℕ)
     → current which threads place ≡ count_by (λ entry. has_by which place entry) threads
 current_is which threads place = omega arith ∙ (counted_from which threads place 0)
-
-one_at_most : (b : Bool) → cond b 1 0 ≤ 1
-one_at_most true = omega arith
-one_at_most false = omega arith
-
-pub current_few : (which : Connection → Option ℕ) (threads : List (Option Connection)) (place : ℕ) → current which threads place ≤ length threads
-current_few which [] place = omega arith
-current_few which (x ∷ xs) place = omega (arith, one_at_most (has_by which place x), current_few which xs place)

@@ -4,8 +4,8 @@ use Rattle.pfs_rows.specs.declared.limits.Limits.{Limits}
 use Rattle.pfs_containers.specs.declared.containers.Account.{Account}
 use Rattle.pfs_containers.specs.declared.containers.Connection.{Connection}
 use Rattle.pfs_containers.specs.Connections.{State, Connects, Quits, entry_of, fill, fill_at, emptied_at, stepped}
-use Rattle.pfs_containers.specs.Administration.{Found, found_where, one_up, next_place, lowest_free, found_or, named_place, is_account, session_by, session_of, quit_line, lost_by, missing, added_from, connected, connect_at}
-use Rattle.pfs_containers.specs.Kept.{Kept, AllEntries, HasPlaces, HasUppers, IsSeated, IsInRange, AreWell, AreCounted, opening, opening_places, with_connect, with_quit, as_found}
+use Rattle.pfs_containers.specs.Administration.{Found, found_where, one_up, next_place, lowest_free, found_or, named_place, is_account, session_by, session_of, quit_line, lost_by, missing, added_from, connected}
+use Rattle.pfs_containers.specs.Kept.{Kept, AllEntries, HasPlaces, HasUppers, IsSeated, IsInRange, AreWell, AreCounted, opening, opening_places, with_quit, as_found}
 use Rattle.pfs_containers.proofs.Filling.{emptied_is, up_to_wider, up_to_added, zeroes_are}
 use Rattle.pfs_containers.proofs.Sharing.{within_seat, within_empty, within_free}
 
@@ -257,12 +257,6 @@ quit_found k (Some found) are = record {
 
 pub quit_counts : (k : Kept) (number : ℕ) → AreCounted k → AreCounted (with_quit k number)
 quit_counts k number are = quit_found k (found_where (λ x. x.number == number) k.now.places.threads) are
-
--- a connect that takes the lowest free slot, and one that finds none
-pub connect_is : (k : Kept) (number user host slot : ℕ) → lowest_free k.now.places.threads ≡ Some slot
-    → with_connect k number user host
-    ≡ record { now = connected k.now slot (session_of k.now.places number user host) (found_where (is_account user host) k.now.places.accounts); connects = k.connects + 1 }
-connect_is k number user host slot free = ap (λ z. record { now = connect_at k.now number user host z; connects = k.connects + 1 }) free
 
 -- an empty slot
 pub quit_keeps_set : (s : State) (slot : ℕ) → AreWell s → AreWell (record s { threads = slice_set s.threads slot None })

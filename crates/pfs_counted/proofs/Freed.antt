@@ -34,16 +34,6 @@ use Rattle.pfs_tagged.specs.Premises.{AreKept}
 use Rattle.pfs_tagged.specs.Runs.{Run, entries_to}
 use Rattle.pfs_truncations.specs.declared.truncations.Truncation.{Truncation}
 
--- ---- what actions release
-
-among_then : {A : Type 0} (x : A) (xs ys : List A) → IsAmong x (xs ++ ys) → IsAmong x xs ⊎ IsAmong x ys
-among_then x [] ys m = inr m
-among_then {A} x (y ∷ xs) ys (inl e) = inl (inl e)
-among_then {A} x (y ∷ xs) ys (inr m) = by (among_then x xs ys m) where
-  by : IsAmong x xs ⊎ IsAmong x ys → IsAmong x (y ∷ xs) ⊎ IsAmong x ys
-  by (inl m) = inl (inr m)
-  by (inr m) = inr m
-
 tag_frees : (row info : ℕ) (content : Option (List ℕ)) (rest : List Said) → IsAmong (Frees row) (signs_asked (tag_of info content ++ rest)) → IsAmong (Frees row) (signs_asked rest)
 tag_frees row info None rest m = m
 tag_frees row info (Some content) rest (inl e) = absurd (cc)

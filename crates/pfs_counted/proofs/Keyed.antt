@@ -71,10 +71,6 @@ stands_and : {X : Type 0} (o : Option X) (b : Bool) (f : X → Bool) → ((x : X
 stands_and None b f h = refl
 stands_and (Some x) b f h = h x refl
 
-stands_not : {X : Type 0} (o : Option X) → (is_some o && false) ≡ false
-stands_not None = refl
-stands_not (Some x) = refl
-
 module _ (back : AreBack) (places : ArePlaces) (seen : ℕ → Seen) (versions flags : ℕ → ℕ) (scope : Scope) (kind : TableKind) (which : SummaryTable) (found : List Reading)
     (is : IsShown seen versions flags scope (Summary kind which) found) (c : Containers) (told : AreTold seen c) (well : AreWell c.places) (cell : ℕ) (low : cell < 64)
     (is_cell : has_cell scope (Summary kind which) cell ≡ true) where

@@ -58,9 +58,6 @@ split_here before phase after first block others e =
 pub none_yet : (ahead : List PhasedBlock) → NoneIsOver [] ahead
 none_yet ahead = λ session over. absurd (false≢true over)
 
-pub ahead_whole : (phase : Phase) (after : List Phase) → ahead_of [] phase.blocks after ≡ numbered 1 (phase ∷ after)
-ahead_whole phase after = refl
-
 pub done_whole : (phases : List Phase) → done_before phases [] ≡ numbered 1 phases
 done_whole phases = append-nil (numbered 1 phases)
 
@@ -75,13 +72,6 @@ done_phase before phase =
     let n : ℕ = 1 + length before in
     done_whole (before ++ phase ∷ [])
     ∙ (numbered_then 1 before (phase ∷ []) ∙ ap (λ z. numbered 1 before ++ z) (append-nil (phased n phase.blocks)))
-
--- and what is ahead of it
-pub ahead_phase : (before : List Phase) (phase next : Phase) (after : List Phase) → ahead_of (before ++ phase ∷ []) next.blocks after ≡ ahead_of before [] (next ∷ after)
-ahead_phase before phase next after =
-    ap (λ n. phased n next.blocks ++ numbered (n + 1) after) (one_more (length before) (length (before ++ phase ∷ [])) (length-append before (phase ∷ []))) where
-      one_more : (n m : ℕ) → m ≡ n + 1 → 1 + m ≡ 1 + n + 1
-      one_more n m e = omega (arith, e)
 
 -- they stand in no later phase
 abbrev AreUpTo : ℕ → List PhasedBlock → Type 0

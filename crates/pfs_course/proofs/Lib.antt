@@ -15,5 +15,4 @@ pub mod Leading
 pub mod Carrying
 pub mod Whole
 pub mod Ahead
-pub mod Playing
 mod Examples

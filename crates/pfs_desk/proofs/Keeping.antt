@@ -69,9 +69,6 @@ still versions (Puts row content version ∷ xs) calls q = let i = still version
 still versions (Frees row version ∷ xs) calls q = let i = still versions xs calls q in record { keeps = λ k. (tt, i.keeps k); met = i.met; same = i.same }
 still versions (x ∷ xs) calls q = absurd q
 
-no_word : Word
-no_word = record { version = 0; flags = 0 }
-
 set_known : (versions : List Label → ℕ → ℕ) (calls : List Call) (words : List Word) (at to q : ℕ) → at < length words → ((z : ℕ) → z < 160 → present versions calls z ≡ known_version (Some words) z) → at < 160 → q < 160
     → present versions (Sets at to (known_version (Some words) at + 1) ∷ calls) q ≡ known_version (Some (slice_set words at (set_word (word_at words at) to))) q
 set_known versions calls words at to q low known here less =

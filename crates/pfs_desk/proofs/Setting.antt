@@ -49,7 +49,3 @@ one_more_set setting change labels label what admin named stands =
     sets_next change (opened setting) labels label
     ∙ (ap (λ (s : State). sets_by s.words (work_of_change s label.session (change label)).flags ++ sets_of setting change labels) (sym stands)
     ∙ ap (λ (c : Change). sets_by admin.words (work_of_change admin label.session c).flags ++ sets_of setting change labels) named)
-
-pub none_set : (setting : Setting) (change : Label → Change) → sets_of setting change [] ≡ []
-unfolding sets_from
-none_set setting change = refl

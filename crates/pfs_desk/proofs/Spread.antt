@@ -89,10 +89,6 @@ flags_here : (flags : List ℕ) (s : Setting) (ss : List Setting) → flags_at f
 unfolding flags_at
 flags_here flags s ss = rw (eq-eqb s.word s.word refl, eq-eqb s.version s.version refl) refl
 
-and_off : (a b : Bool) → (a ≡ true → b ≡ false) → (a && b) ≡ false
-and_off true b e = e refl
-and_off false b e = refl
-
 flags_away : (flags : List ℕ) (s q : Setting) (ss : List Setting) → (s.word ≡ q.word → s.version ≢ q.version) → flags_at flags (s ∷ ss) q.word q.version ≡ flags_at flags ss q.word q.version
 unfolding flags_at
 flags_away flags s q ss apart = elim (cases_eq s.word q.word) [

@@ -21,11 +21,6 @@ put-run shape old cut new two at end here =
     ap reverse end ∙ reverse-push cut (Run shape) ∙ ap (λ ys. Run shape ∷ reverse ys) at ∙ ap (λ ys. Run shape ∷ ys) (reverse-cut 2 old two)
     ∙ sym (ap (λ t. if t then Run shape ∷ drop 2 (reverse old) else One shape ∷ reverse old) here)
 
-pub put-one : (shape : Shape) (old new : List Piece) → new ≡ old ++ One shape ∷ [] → awaits shape (reverse old) ≡ false → reverse new ≡ put shape (reverse old)
-put-one shape old new end here =
-    ap reverse end ∙ reverse-push old (One shape)
-    ∙ sym (ap (λ t. if t then Run shape ∷ drop 2 (reverse old) else One shape ∷ reverse old) here)
-
 pub close-brackets : (shape : Shape) (old cut new : List Piece) → 2 ≤ length old → cut ≡ take (length old - 2) old → brackets (reverse old) ≡ Some shape → reverse new ≡ put shape (reverse cut) → reverse new ≡ closed_by (brackets (reverse old)) (reverse old)
 close-brackets shape old cut new two at here is =
     is ∙ ap (λ ys. put shape (reverse ys)) at ∙ ap (put shape) (reverse-cut 2 old two)

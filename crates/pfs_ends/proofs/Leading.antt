@@ -2,14 +2,13 @@
 use Rattle.std.proofs.Common.{ℕ, ◌≡◌, List, [], ◌∷◌, ◌++◌, sym, subst}
 use Rattle.pfs_alone.specs.Spells.{Spell, doings_calls, calls_of}
 use Rattle.pfs_levels.specs.Calls.{Call}
-use Rattle.pfs_levels.specs.Plain.{AllAnswer}
 use Rattle.pfs_reader.proofs.Reading.{calls_then as readings_then}
 use Rattle.pfs_reader.specs.Readings.{call_of}
 use Rattle.pfs_reader.specs.Readings.{calls_of as calls_of_readings}
 use Rattle.pfs_rows.specs.declared.table.Reading.{Reading}
 use Rattle.pfs_rows.specs.declared.table.Reading.TheVariants as readings
 use Rattle.pfs_ruled.proofs.Fronts.{calls_then}
-use Rattle.pfs_ruled.proofs.Quiet.{OnlyReads, AllOnlyRead, LeadAlike, reads_more, calls_more, answers_more}
+use Rattle.pfs_ruled.proofs.Quiet.{OnlyReads, AllOnlyRead, LeadAlike, reads_more, calls_more}
 
 -- readings only read
 only_then : (xs ys : List Call) → AllOnlyRead xs → AllOnlyRead ys → AllOnlyRead (xs ++ ys)
@@ -37,9 +36,3 @@ last_calls spells spell = calls_then spells (spell ∷ [])
 pub leads_more : (spells : List Spell) (spell : Spell) (calls : List Call) → LeadAlike calls (calls_of spells) → LeadAlike (doings_calls spell.doings ++ calls) (calls_of (spells ++ spell ∷ []))
 leads_more spells spell calls alike =
     subst (LeadAlike (doings_calls spell.doings ++ calls)) (sym (last_calls spells spell)) (calls_more (doings_calls spell.doings) calls (calls_of spells) alike)
-
--- and what the store answered to it, it answers without what was read
-pub answers_spell : (flags : List ℕ) (spells : List Spell) (spell : Spell) (calls : List Call) → LeadAlike calls (calls_of spells) → AllAnswer flags (calls_of spells)
-    → AllAnswer flags (doings_calls spell.doings ++ calls) → AllAnswer flags (calls_of (spells ++ spell ∷ []))
-answers_spell flags spells spell calls alike there here =
-    subst (AllAnswer flags) (sym (last_calls spells spell)) (answers_more flags (doings_calls spell.doings) calls (calls_of spells) alike there here)

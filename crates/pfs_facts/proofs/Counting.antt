@@ -101,11 +101,6 @@ pub each_reverse : {A : Type 0} (P : A → Type 0) (xs : List A) → Each P xs �
 each_reverse P [] are = tt
 each_reverse P (x ∷ xs) are = subst (Each P) (sym (reverse-append (x ∷ []) xs)) (each_then P (reverse xs) (x ∷ []) (each_reverse P xs are.1) (are.0, tt))
 
-pub each_take : {A : Type 0} (P : A → Type 0) (n : ℕ) (xs : List A) → Each P xs → Each P (take n xs)
-each_take P zero xs are = tt
-each_take P (suc n) [] are = tt
-each_take P (suc n) (x ∷ xs) are = (are.0, each_take P n xs are.1)
-
 -- each of a list stands somewhere in it
 pub each_at : {A : Type 0} (xs : List A) → Each (λ x. (i : ℕ) × (slice_get xs i ≡ Some x)) xs
 each_at [] = tt

@@ -26,9 +26,6 @@ pub record Leaves (before after : Option (List ℕ)) (old now : ℕ) (entries : 
   pub whole : journal_text entries answers ≡ front ++ journal_text (drop index entries) (drop place answers)
   pub few : place ≤ index
 
-pub leaves_all : (before : Option (List ℕ)) (old : ℕ) (entries : List Entry) (answers : Answers) → Added before before [] → Leaves before before old old entries answers 0 0
-leaves_all before old entries answers none = record { front = []; added = none; rose = omega arith; whole = refl; few = omega arith }
-
 place_more : (answers : Answers) (place : ℕ) (b : Bool) → (if b then drop 1 (drop place answers) else drop place answers) ≡ drop (if b then place + 1 else place) answers
 place_more answers place true = drop-drop 1 place answers
 place_more answers place false = refl

@@ -7,10 +7,7 @@ use Rattle.pfs_event.specs.declared.entry.Entry.TheVariants as entry
 use Rattle.pfs_event.specs.Verdicts.{verdict_name}
 use Rattle.pfs_journal.specs.declared.line.Line.{Line}
 use Rattle.pfs_journal.specs.declared.line.Line.TheVariants as says
-use Rattle.pfs_journal.specs.declared.reading.ReadStop.{ReadStop}
-use Rattle.pfs_journal.specs.declared.reading.ReadStop.TheVariants.{Bad, NoMemory}
 use Rattle.pfs_journal.specs.Lines.{line_text, IsLine}
-use Rattle.pfs_journal.specs.Readings.{IfBad}
 use Rattle.pfs_journal.specs.Reports.{IsValue, is_name_byte}
 use Rattle.pfs_journal.specs.Spelling.{optional_text, value_text}
 use Rattle.pfs_journal.specs.Words.{is_line_byte, entry_word, entry_numbers, entry_rest, line_word, line_rest}
@@ -76,7 +73,3 @@ line_found line rest more at good is same =
     let size = ap length (line_is line) in
     let count : at + 1 ≡ length (line_text line) = omega (arith, is, here, inner, size) in
     ap (take (at + 1)) same ∙ take_front (line_text line) (at + 1) more count
-
-pub bad_by : (Answer : Type 0) (stop : ReadStop) (Holds : ℕ → Type 0) → ((at : ℕ) → Holds at) → IfBad {Answer = Answer} (Err stop) Holds
-bad_by Answer (Bad at) Holds all = all at
-bad_by Answer NoMemory Holds all = tt

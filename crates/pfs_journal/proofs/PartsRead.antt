@@ -7,16 +7,12 @@ use Rattle.pfs_journal.specs.declared.line.Line.{Line}
 use Rattle.pfs_journal.specs.declared.line.Line.TheVariants as says
 use Rattle.pfs_values.specs.declared.RowValue.{RowValue}
 use Rattle.pfs_journal.specs.declared.values.LostReport.{LostReport}
-use Rattle.pfs_journal.specs.Lines.{line_text, IsLine}
+use Rattle.pfs_journal.specs.Lines.{line_text}
 use Rattle.pfs_journal.specs.Readings.{IsTaken, IsRead, Grows}
 use Rattle.std.proofs.lemmas.Bool.{false≢true}
 use Rattle.std.proofs.lemmas.Bool.Decides.{Decides-eqb}
 use Rattle.pfs_journal.specs.Reports.{IsName, IsRow, IsTable}
 use Rattle.pfs_journal.specs.Spelling.{row_text, lost_text, table_line, table_text}
-
--- nothing was read yet
-pub read_none : {Part : Type 0} (part_text : Part → List ℕ) (IsGood : Part → Type 0) (first : Line) (before : List ℕ) → All IsGood [] → IsLine first → IsRead (flat_map part_text []) (All IsGood []) first before first before
-read_none part_text IsGood first before none good = record { good = none; same = refl; next_good = good; shorter = omega arith }
 
 -- one part more
 pub read_more : {Part : Type 0} (part_text : Part → List ℕ) (IsGood : Part → Type 0) (old new : List Part) (first : Line) (before : List ℕ) (line : Line) (mid : List ℕ) (next : Line) (after : List ℕ)
@@ -77,8 +73,3 @@ table_read name rows shown b before mid after first line good t r is test false_
   next_good = r.next_good;
   shorter = omega (arith, t.shorter, r.shorter);
 }
-
--- a part that was read is pushed
-pub grows_read : {Part : Type 0} (part_text : Part → List ℕ) (IsGood : Part → Type 0) (old new : List Part) (part : Part) (first : Line) (before : List ℕ) (line : Line) (after : List ℕ)
-    → IsRead (part_text part) (IsGood part) first before line after → length after < length before → new ≡ old ++ part ∷ [] → Grows part_text IsGood old new first before line after
-grows_read part_text IsGood old new part first before line after r shorter pushed = record { part = part; pushed = pushed; good = r.good; same = r.same; next_good = r.next_good; shorter = shorter }

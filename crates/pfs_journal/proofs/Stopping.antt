@@ -101,10 +101,6 @@ abbrev pub rows_place : List (List RowValue) → Place
 rows_place [] = Named
 rows_place (row ∷ rows) = Rows
 
-pub ok_so : {Answer Stop : Type 0} (r : Result Answer Stop) (Told Holds : Answer → Type 0) → ((answer : Answer) → Told answer → Holds answer) → IfOk r Told → IfOk r Holds
-ok_so (Ok answer) Told Holds so told = so answer told
-ok_so (Err stop) Told Holds so told = tt
-
 pub bad_of : {Here : Type 0} (r : Result Here ReadStop) (Told Holds : ℕ → Type 0) → ((at : ℕ) → Told at → Holds at) → IfBad r Told → IfBad r Holds
 bad_of (Ok answer) Told Holds so told = tt
 bad_of (Err (Bad at)) Told Holds so told = so at told
@@ -114,9 +110,6 @@ bad_of (Err NoMemory) Told Holds so told = tt
 pub passed : {There : Type 0} (r : Result There ReadStop) (stop : ReadStop) (Told Holds : ℕ → Type 0) → IsErr r × IsErrAnd r (λ e. e ≡ stop) → ((at : ℕ) → Told at → Holds at) → IfBad {Answer = ℕ} (Err stop) Told → IfBad r Holds
 passed (Ok answer) stop Told Holds is so told = absurd is.1
 passed {There} (Err e) stop Told Holds is so told = subst (λ (s : ReadStop). IfBad {Answer = There} (Err s) Holds) (sym is.1) (bad_so stop Told Holds so told)
-
-pub never : (Holds : ℕ → Type 0) (at : ℕ) → ⊥ → Holds at
-never Holds at h = absurd h
 
 -- a row of a table leads to its rows
 pub after_row : (rows : List (List RowValue)) (line : Line) (row : List RowValue) (rest : List ℕ) (number at : ℕ) → line ≡ says.Row row → Stops Rows rest (number + 1) at → StopsAfter (step (rows_place rows) line) rest number at
@@ -158,16 +151,6 @@ lost_end line apart = refl
 pub journal_end : (line : Line) → ((e : Entry) → line ≢ says.Entry e) → step (Journal 0) line ≡ step Blocks line
 journal_end (says.Entry e) apart = absurd (apart e refl)
 journal_end line apart = refl
-
-pub blocks_wrong : (line : Line) → ((session : ℕ) → line ≢ says.Session session) → line ≢ says.Final → step Blocks line ≡ None
-blocks_wrong (says.Session n) apart other = absurd (apart n refl)
-blocks_wrong says.Final apart other = absurd (other refl)
-blocks_wrong line apart other = refl
-
-pub phases_wrong : (line : Line) → ((number : ℕ) → line ≢ says.Phase number) → line ≢ says.End → step Phases line ≡ None
-phases_wrong (says.Phase n) apart other = absurd (apart n refl)
-phases_wrong says.End apart other = absurd (other refl)
-phases_wrong line apart other = refl
 
 pub start_wrong : (line : Line) → ((format : ℕ) → line ≢ says.Head format) → step Start line ≡ None
 start_wrong (says.Head format) apart = absurd (apart format refl)

@@ -328,9 +328,6 @@ no_comment bytes line comment (rest, inr (inl dashes)) =
     let is : begins_line_comment bytes ≡ true = ap begins_line_comment dashes.0 ∙ dashes_begin rest dashes.1 in false≢true (sym line ∙ is)
 no_comment bytes line comment (rest, inr (inr slash)) = let is : begins_comment bytes ≡ true = ap begins_comment slash in false≢true (sym comment ∙ is)
 
-blank_place : (bytes : List ℕ) (len : ℕ) → FrontIs bytes (fronts.Blank len) → PlaceIs bytes (fronts.Blank len)
-blank_place bytes len is = is
-
 commented_place : (bytes : List ℕ) (o : Option ℕ) → FrontIs bytes (commented o) → PlaceIs bytes (commented o)
 commented_place bytes None is = is
 commented_place bytes (Some n) is = is

@@ -26,18 +26,9 @@ run_all test (x ∷ xs) =
     rw one (ap (λ t. t && list_all test (take (prefix_len test xs) xs)) passes ∙ run_all test xs))
     (λ _. refl)
 
--- what follows a run isn't of its class
-pub Stops : (ℕ → Bool) → List ℕ → Type 0
-Stops test [] = Unit {0}
-Stops test (x ∷ xs) = test x ≡ false
-
 run_digits : (test : ℕ → Bool) (xs : List ℕ) → 0 < prefix_len test xs → AreDigits test (take (prefix_len test xs) xs)
 run_digits test xs some =
     (omega (arith, length-take-le (prefix_len test xs) xs (prefix_len-le-length test xs)), run_all test xs)
-
--- a part of no bytes
-take_none : (xs : List ℕ) → take 0 xs ≡ []
-take_none xs = refl
 
 first_is : (xs : List ℕ) (b : ℕ) → 0 < b → byte_at xs 0 ≡ b → xs ≡ b ∷ drop 1 xs
 first_is [] b some e = absurd (omega (arith, e))

@@ -7,10 +7,6 @@ use Rattle.std.proofs.lemmas.Bool.{lt-ltb, ltb-true, ne_eqb, eq-eqb, cases_lt, a
 use Rattle.pfs_lexer.specs.Quotes.{is_pair, more, quoted_len, pair_at}
 use Rattle.pfs_lexer.specs.Comments.{comment_len}
 
-pub more-zero : (o : Option ℕ) → more 0 o ≡ o
-more-zero None = refl
-more-zero (Some k) = ap Some (omega arith)
-
 pub more-more : (m n : ℕ) (o : Option ℕ) → more m (more n o) ≡ more (m + n) o
 more-more m n None = refl
 more-more m n (Some k) = ap Some (omega arith)

@@ -134,9 +134,6 @@ no_more : (own rest : List Entry) → [] ≡ own ++ rest → own ≡ []
 no_more [] rest s = refl
 no_more (x ∷ xs) rest s = absurd (cc)
 
-step_none : (often : Often) (ask : Ask) → step Maybe ask [] ≡ Ok []
-step_none often ask = refl
-
 many_alone : (ask : Ask) (es own rest : List Entry) → behind ask es ≡ own ++ rest → Taken Many ask es own rest
 unfolding behind
 many_alone ask [] own rest s = record { all = []; is = s ∙ ap (λ z. z ++ rest) (no_more own rest s); alone = rw (no_more own rest s) refl }

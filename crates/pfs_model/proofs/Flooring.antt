@@ -38,14 +38,6 @@ pub each_map : {A : Type 0} (P Q : A → Type 0) → ((x : A) → P x → Q x) �
 each_map P Q go [] a = tt
 each_map P Q go (x ∷ xs) a = (go x a.0, each_map P Q go xs a.1)
 
--- what places give is facts of each, whichever are chosen
-each_chosen : (P : Change → Type 0) (f : Entry → List Change) (test : Placed → Bool) (ps : List Placed) → ((p : Placed) → test p ≡ true → Each P (f p.entry)) → Each P (each_of f (chosen test ps))
-each_chosen P f test [] h = tt
-each_chosen P f test (p ∷ ps) h = at (test p) refl (each_chosen P f test ps h) where
-  at : (b : Bool) → test p ≡ b → Each P (each_of f (chosen test ps)) → Each P (each_of f (cond b (p ∷ []) [] ++ chosen test ps))
-  at true q r = each_append P (f p.entry) (each_of f (chosen test ps)) (h p q) r
-  at false q r = r
-
 -- the same where the facts are known along a list
 abbrev pub EachPlace : (Placed → Type 0) → List Placed → Type 0
 EachPlace P ps = Each P ps

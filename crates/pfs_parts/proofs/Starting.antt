@@ -115,14 +115,6 @@ abbrev pub table_flags : Option Setup → ℕ
 table_flags None = 0
 table_flags (Some seen) = flags_in seen.table
 
-abbrev pub thread_flags : Option Setup → ℕ
-thread_flags None = 0
-thread_flags (Some seen) = seen.thread.flags
-
-abbrev pub consumers_flags : Option Setup → ℕ
-consumers_flags None = 0
-consumers_flags (Some seen) = seen.consumers.flags
-
 class_told : (flags : ℕ → ℕ → ℕ) (slot class table : Option ℕ) (seen : Option Setup) → IsLoaded slot class table seen → LoadsAgree flags (load_calls slot class table seen)
     → flags_seen flags class_word class (class_in seen) ≡ class_flags seen
 class_told flags None class table None l agree = none class where
@@ -191,9 +183,6 @@ event_of subject verdict index number seen = record {
 timed_as : (a b : ℕ) (c d : ℕ) (n : Bool) → a ≡ c → b ≡ d → (has_time a && (n || has_time b)) ≡ (has_time c && (n || has_time d))
 timed_as a b c d n p q = ap (λ z. has_time z && (n || has_time b)) p ∙ ap (λ z. has_time c && (n || has_time z)) q
 
-timed_seen : (subject : Subject) (seen : Setup) → is_timed_by subject (Some seen) ≡ (has_time seen.class.flags && (is_none subject.table || has_time (flags_in seen.table)))
-timed_seen subject seen = refl
-
 pub start_timed : (flags : ℕ → ℕ → ℕ) (slot : Option ℕ) (subject : Subject) (verdict : Verdict) (index number : ℕ) (seen : Setup)
     → IsLoaded slot subject.class subject.table (Some seen) → LoadsAgree flags (load_calls slot subject.class subject.table (Some seen))
     → is_timed flags slot (event_of subject verdict index number (Some seen)) ≡ is_timed_by subject (Some seen)
@@ -241,10 +230,6 @@ start_judged flags stack (Some slot) subject verdict index number (Some seen) op
     ∙ (ap (λ z. verdict_by stack subject z (open_through is_statement opened) (open_through is_wait opened))
     (seen_as flags slot subject verdict index number seen class e l agree)
     ∙ (ap (λ z. verdict_by stack subject (flags_of seen) z (open_through is_wait opened)) a ∙ ap (λ z. verdict_by stack subject (flags_of seen) statements z) b)))
-
--- an event that is let through has a slot, a class and what was loaded
-silent_thread : (stack : ℕ) (subject : Subject) (seen : Option Setup) (statements waits : ℕ) → is_let_through (verdict_seen stack None subject seen statements waits) ≡ false
-silent_thread stack subject seen statements waits = refl
 
 cell_as : (cell class number : ℕ) (kind : EventKind) (only : Bool) → only ≡ (cell == 63) → number ≡ class → (cell ≡ class) ⊎ ((cell ≡ 63) × (kind ≡ kinds.Transaction)) → cell ≡ (if only then 63 else number)
 cell_as cell class number kind only o n is = by_test (cell == 63) refl where

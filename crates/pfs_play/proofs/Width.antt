@@ -5,11 +5,6 @@ use Rattle.pfs_actions.specs.Done.{HasActed}
 use Rattle.pfs_admin.specs.Setups.{most_of, word_count}
 use Rattle.pfs_admin.specs.declared.changes.SetupStatement.{SetupStatement}
 use Rattle.pfs_admin.specs.declared.changes.SetupStatement.TheVariants as statements
-use Rattle.pfs_admin.specs.States.{State as Administration}
-use Rattle.pfs_classes.specs.declared.setting.Setting.{Setting}
-use Rattle.pfs_runs.specs.Answers.{Answer}
-use Rattle.pfs_play.specs.Errand.{Errand}
-use Rattle.pfs_play.specs.Errands.{HasRun}
 use Rattle.pfs_changes.specs.Inserts.{table_of}
 use Rattle.pfs_event.specs.Verdicts.{is_let_through}
 use Rattle.pfs_event.specs.declared.entry.Entry.{Entry}
@@ -110,7 +105,3 @@ played_wide steps old new was now p wide = ap width p.state_is ∙ turns_wide ol
 -- and behind what it did in one part
 pub acted_wide : (deed : Deed) (old new : Book) (was now : Opening → List Call → Type 0) → HasActed deed old new was now → width old.state ≡ 193 → width new.state ≡ 193
 acted_wide deed old new was now run wide = ap width run.done.state ∙ parts_wide old.state (run.part ∷ []) run.done.are_parts wide
-
-pub run_wide : (setting : Setting) (admin : Administration) (errand : Errand) (old new : Book) (answers behind : List Answer) (was now : Opening → List Call → Type 0) → HasRun setting admin errand old new answers behind was now → width old.state ≡ 193
-    → width new.state ≡ 193
-run_wide setting admin errand old new answers behind was now run wide = ap width run.done.state ∙ parts_wide old.state (run.part ∷ []) run.done.are_parts wide

@@ -1,7 +1,6 @@
 -- Calls that only read change nothing: without them the calls round them answer the same.
 use Rattle.std.proofs.Common.{ℕ, ◌≡◌, ◌+◌, ◌*◌, ◌<◌, ◌≤◌, true, false, List, [], ◌∷◌, ◌++◌, slice_index, refl, ap, ◌∙◌, subst}
 use Rattle.pfs_board.specs.declared.view.Label.{Label}
-use Rattle.pfs_levels.proofs.PlainKept.{answers_rest}
 use Rattle.pfs_levels.specs.Calls.{Call, Adds, Rings, Reads, Loads, Draws, Takes, Puts, Frees, Sets, Enters, Leaves, Meets, IsRow, IsCell, IsRing, label_in}
 use Rattle.pfs_levels.specs.Joint.{Setting, sets_by, sets_of, Draw, draws_by, draws_of, drawn}
 use Rattle.pfs_levels.specs.Plain.{Op, ops_by, ops_of, slot_after, word_after, word, labels_after, IsFresh, Answers, AllAnswer}
@@ -123,11 +122,3 @@ pub answers_more : (flags : List ℕ) (calls some others : List Call) → LeadAl
 answers_more flags [] some others l there a = there
 answers_more flags (call ∷ calls) some others l there a =
     (answers_alike flags (calls ++ some) (calls ++ others) call (calls_more calls some others l) a.0, answers_more flags calls some others l there a.1)
-
--- without calls that only read the same was done, and the others answered the same
-pub without_reads : (calls reads before : List Call) → AllOnlyRead reads → LeadAlike (calls ++ (reads ++ before)) (calls ++ before)
-without_reads calls reads before r = calls_more calls (reads ++ before) before (reads_more reads before before r (alike_none before))
-
-pub answers_without : (flags : List ℕ) (calls reads before : List Call) → AllOnlyRead reads → AllAnswer flags (calls ++ (reads ++ before)) → AllAnswer flags (calls ++ before)
-answers_without flags calls reads before r a =
-    answers_more flags calls (reads ++ before) before (reads_more reads before before r (alike_none before)) (answers_rest flags reads before (answers_rest flags calls (reads ++ before) a)) a

@@ -76,9 +76,6 @@ module _ (id : ℕ) where
 class_ids : map (λ (class : Class). class.name) (map (class_of builtin_names) builtins) ≡ numbers 0 24
 class_ids = refl
 
-transaction_id : id_of builtin_names (codes "transaction") ≡ 24
-transaction_id = refl
-
 one_more : (id : ℕ) (last : Bool) → eqb 24 id ≡ last → count_by (λ n. eqb n id) (numbers 0 24) ≡ cond {A = ℕ} (nat_lt id 24) 1 0 → cond {A = ℕ} last 1 0 + 0 + 0 + count_by (λ n. eqb n id) (numbers 0 24) ≡ cond {A = ℕ} (nat_lt id 25) 1 0
 one_more id true e counted =
     let here : 24 ≡ id = eqb-true 24 id e in

@@ -194,7 +194,3 @@ more_none = refl
 pub pending_none : (measure : Form → ℕ) → pending measure [] ≡ 0
 unfolding pending
 pending_none measure = refl
-
--- each line counts once at least
-pub counted_grows : (measure : Form → ℕ) (before : List Form) (line : Form) → counted measure before + measure line ≤ counted measure (before ++ line ∷ [])
-counted_grows measure before line = omega (arith, counted_with measure before line (pending measure before) refl)

@@ -183,9 +183,6 @@ nests_done before more within same h =
     let kinds : kinds_open (before ++ form.Done ∷ []) ≡ kinds_open before = open_more before form.Done refl in
     rw within (done_nested (kinds_open before) (kinds_open (ahead_of_last is_repeat before)) more (same_all (kinds_open before) (kinds_open (ahead_of_last is_repeat before)) same) (rw (kinds, start_done before) at h))
 
-all_none : {A : Type 0} (P : A → Type 0) → All P []
-all_none P k d h = absurd (omega (arith, h))
-
 -- the kinds of the events that are open behind a block's lines, by those open before it
 abbrev pub kinds_along : List EventKind → List BlockLine → List EventKind
 kinds_along kinds [] = kinds

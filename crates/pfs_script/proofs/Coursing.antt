@@ -222,9 +222,6 @@ none_knows course s n h m p r = record {
   first = rw r tt;
 }
 
-same_first : (repeat : Option OpenKinds) (a b : List EventKind) → a ≡ b → IfSome repeat (λ events. kinds_in events ≡ a) → IfSome repeat (λ events. kinds_in events ≡ b)
-same_first repeat a b e h = subst (λ kinds. IfSome repeat (λ events. kinds_in events ≡ kinds)) e h
-
 first_same : (course : Course) (before : List Form) (line : Form) → KnowsCourse course before → is_repeat line ≡ false → IfSome course.repeat (λ events. kinds_in events ≡ kinds_open (ahead_of_last is_repeat (before ++ line ∷ [])))
 first_same course before line k r = rw (ahead_more is_repeat before line, r) k.first
 

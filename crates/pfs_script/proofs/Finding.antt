@@ -119,19 +119,6 @@ pub few_digests : (most : ℕ) (lines : List Form) → length (digests_of most l
 unfolding digests_of
 few_digests most lines = few_fold most [] lines (omega arith)
 
--- one table more is one too many where it is new
-table_length : (tables : List TableName) (one : TableName) → length (tables ++ one ∷ []) ≡ length tables + 1
-table_length [] one = refl
-table_length (first ∷ tables) one = omega (arith, table_length tables one)
-
-and_no : (b : Bool) → (b && false) ≡ false
-and_no true = refl
-and_no false = refl
-
-pub too_many : (tables : List TableName) (one : TableName) (number : Option ℕ) → nat_lt 64 (length tables) ≡ false → (nat_le 64 (length tables) && is_none number) ≡ nat_lt 64 (length (cond (is_some number) tables (tables ++ one ∷ [])))
-too_many tables one (Some number) few = rw few (and_no (nat_le 64 (length tables)))
-too_many tables one None few = rw (table_length tables one) (grind (arith, nat_tests))
-
 few_not : (most number : ℕ) → number ≤ most → nat_lt most number ≡ false
 few_not most number h = grind (arith, nat_tests, h)
 

@@ -100,12 +100,6 @@ chosen_deeper mark deepens test place depth [] marks = refl
 chosen_deeper mark deepens test place depth (event ∷ opens) marks =
     rw (deeper_suc event.kind depth, deepens place event.kind depth marks, chosen_deeper mark deepens test place (deeper event.kind depth) opens marks) refl
 
-inside_ends_stage : (depth : ℕ) → depth_behind EndsStage (suc depth) ≡ suc depth
-inside_ends_stage depth = refl
-
-inside_stage : (depth : ℕ) → depth_behind (Opens Stage) (suc depth) ≡ suc depth
-inside_stage depth = refl
-
 -- what an end does to the statement of a stage
 end_below : (test : Option ℕ → Bool) (place here : ℕ) (kind : EventKind) (opens : List Opening) (marks : List Mark) → test (Some place) ≡ false → stages_first (kind ∷ kinds_of opens) ≡ 0 → chosen test place 0 (record { place = here; kind = kind } ∷ opens) (Ends ∷ marks) ≡ chosen test (place + 1) 0 opens marks
 unfolding closing_from
@@ -206,10 +200,6 @@ carried_one test place (Opens Wait) marks opens shut apart = open_deeper test pl
 carried_one test place (Opens Statement) marks opens shut apart = open_deeper test place Statement marks opens close_statement refl
 carried_one test place (Opens Transaction) marks opens shut apart = open_deeper test place Transaction marks opens close_transaction refl
 carried_one test place (Opens Stage) marks opens shut apart = open_stage test place marks opens shut apart
-
--- no stage lies right inside a stage, also behind a mark
-apart_tail : (event : Opening) (opens : List Opening) → IsApart (event ∷ opens) → IsApart opens
-apart_tail event opens apart = apart.1
 
 end_apart : (here : ℕ) (kind : EventKind) (opens : List Opening) → IsApart (record { place = here; kind = kind } ∷ opens) → IsApart (drop (ended_by Ends (kinds_of (record { place = here; kind = kind } ∷ opens))) (record { place = here; kind = kind } ∷ opens))
 end_apart here Wait opens apart = apart.1

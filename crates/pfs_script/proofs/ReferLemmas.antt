@@ -23,17 +23,9 @@ use Rattle.pfs_script.proofs.NameLemmas.{interns}
 use Rattle.pfs_script.proofs.BaseLemmas.{builtin_names, names-builtin}
 use Rattle.pfs_script.proofs.HeadLemmas.{knows_resolved}
 
-from_test : (o : Option ClassRef) → is_some o ≡ false → o ≡ None
-from_test None e = refl
-from_test (Some ref) e = absurd (false≢true (sym e))
-
 there : (o : Option ClassRef) → is_some o ≡ true → (ref : ClassRef) × (o ≡ Some ref)
 there None e = absurd (false≢true e)
 there (Some ref) e = (ref, refl)
-
--- an unknown name stands for nothing, and a known one for something
-pub unknown_resolved : (lines : List Form) (name : List ℕ) → is_known lines name ≡ false → resolved (head_of lines) name ≡ None
-unknown_resolved lines name unknown = from_test (resolved (head_of lines) name) (knows_resolved lines name ∙ unknown)
 
 pub known_resolved : (lines : List Form) (name : List ℕ) → is_known lines name ≡ true → (ref : ClassRef) × (resolved (head_of lines) name ≡ Some ref)
 known_resolved lines name known = there (resolved (head_of lines) name) (knows_resolved lines name ∙ known)

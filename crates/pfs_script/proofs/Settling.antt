@@ -71,27 +71,3 @@ pub settled_new : (most : ℕ) (tables : List TableName) (digests : List DigestT
 settled_new most tables digests (form.TableWait class schema name) = table_new tables schema name (table_number tables schema name) refl
 settled_new most tables digests (form.Statement class text) = due_new most digests (digest_text_of text)
 settled_new most tables digests _ = tt
-
--- a settled line adds nothing
-
-table_same : (tables : List TableName) (one : TableName) (found : Option ℕ) → IsSome found → tables ≡ cond (is_some found) tables (tables ++ one ∷ [])
-table_same tables one (Some number) some = refl
-table_same tables one None some = absurd (false≢true some)
-
-pub same_tables : (most : ℕ) (tables : List TableName) (digests : List DigestText) (line : Form) → IsSettled most tables digests line → tables ≡ with_table tables line
-same_tables most tables digests (form.TableWait class schema name) s = table_same tables (record { schema = schema; name = name }) (table_number tables schema name) s
-same_tables most tables digests _ s = refl
-
-text_same : (most : ℕ) (digests : List DigestText) (one : DigestText) (found : Option ℕ) (room : Bool) → nat_lt (length digests) most ≡ room → (found ≡ None → nat_lt (length digests) most ≡ false)
-    → digests ≡ cond (is_some found) digests (cond room (digests ++ one ∷ []) digests)
-text_same most digests one (Some place) room f full = refl
-text_same most digests one None true f full = absurd (false≢true (sym (full refl) ∙ f))
-text_same most digests one None false f full = refl
-
-due_same : (most : ℕ) (digests : List DigestText) (due : Result (List ℕ) LexFault) → IsPlaced most digests due → digests ≡ add_digest most digests due
-due_same most digests (Ok shown) placed = text_same most digests (of_text shown) (position (has_text shown) digests) (nat_lt (length digests) most) refl placed
-due_same most digests (Err fault) placed = refl
-
-pub same_digests : (most : ℕ) (tables : List TableName) (digests : List DigestText) (line : Form) → IsSettled most tables digests line → digests ≡ with_digest most digests line
-same_digests most tables digests (form.Statement class text) s = due_same most digests (digest_text_of text) s
-same_digests most tables digests _ s = refl

@@ -31,10 +31,6 @@ use Rattle.pfs_script.proofs.Settling.{settled_more, settled_new}
 any_push : (test : Form → Bool) (before : List Form) (line : Form) (here : Bool) → list_any test before ≡ here → list_any test (before ++ line ∷ []) ≡ (here || (test line || false))
 any_push test before line here e = list_any-append test before (line ∷ []) ∙ ap (λ (b : Bool). b || (test line || false)) e
 
-or_true : (b : Bool) → (b || true) ≡ true
-or_true true = refl
-or_true false = refl
-
 pub any_stays : (test : Form → Bool) (before : List Form) (line : Form) → list_any test before ≡ true → list_any test (before ++ line ∷ []) ≡ true
 any_stays test before line e = any_push test before line true e
 

@@ -7,7 +7,7 @@ use Rattle.std.proofs.lemmas.List.Sums.{fold_push}
 use Rattle.pfs_script.specs.declared.forms.Form.{Form}
 use Rattle.pfs_script.specs.declared.forms.Form.TheVariants as form
 use Rattle.pfs_script.specs.Brackets.{kinds_behind}
-use Rattle.pfs_script.specs.Sessions.{is_block_of, ends_block, session_behind, session_now, own_line, lines_in, lines_of}
+use Rattle.pfs_script.specs.Sessions.{ends_block, session_behind, session_now, own_line, lines_in, lines_of}
 use Rattle.pfs_script.specs.Next.{mark_of_form, session_kinds, kinds_open}
 use Rattle.pfs_script.proofs.Nesting.{kinds_more}
 
@@ -81,34 +81,3 @@ pub open_more : (before : List Form) (line : Form) → ends_block line ≡ false
 unfolding kinds_open
 open_more before line e =
     ap (λ number. session_kinds number (before ++ line ∷ [])) (now_same before line e) ∙ kinds_own (session_now before) before line (same_number (session_now before) (session_now before) refl) e
-
--- a session that has had no block has no lines
-
-first_false : (a b : Bool) → (a || b) ≡ false → a ≡ false
-first_false true b h = cc
-first_false false b h = refl
-
-second_false : (a b : Bool) → (a || b) ≡ false → b ≡ false
-second_false true b h = cc
-second_false false b h = h
-
-no_zero : (number : ℕ) → 1 ≤ number → (0 == number) ≡ false
-no_zero number h = grind (arith, nat_tests, h)
-
-behind_other : (number session : ℕ) (line : Form) → 1 ≤ number → (session == number) ≡ false → is_block_of number line ≡ false → (session_behind session line == number) ≡ false
-behind_other number session form.Phase h o b = no_zero number h
-behind_other number session (form.Connect (Some other) user host) h o b = b
-behind_other number session (form.Connect None user host) h o b = no_zero number h
-behind_other number session (form.Resume (Some other)) h o b = b
-behind_other number session (form.Resume None) h o b = no_zero number h
-behind_other number session _ h o b = o
-
-in_none : (number session : ℕ) (lines : List Form) → 1 ≤ number → (session == number) ≡ false → list_any (is_block_of number) lines ≡ false → lines_in number session lines ≡ []
-unfolding lines_in
-in_none number session [] h o b = refl
-in_none number session (line ∷ lines) h o b =
-    rw (own_other number session line o)
-    (in_none number (session_behind session line) lines h (behind_other number session line h o (first_false (is_block_of number line) (list_any (is_block_of number) lines) b)) (second_false (is_block_of number line) (list_any (is_block_of number) lines) b))
-
-pub lines_none : (number : ℕ) (lines : List Form) → 1 ≤ number → list_any (is_block_of number) lines ≡ false → lines_of number lines ≡ []
-lines_none number lines h b = in_none number 0 lines h (no_zero number h) b

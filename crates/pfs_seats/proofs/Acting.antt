@@ -11,12 +11,12 @@ use Rattle.pfs_board.specs.declared.view.Stage.TheVariants.{Idle, Reading, Holdi
 use Rattle.pfs_board.specs.declared.view.View.{View}
 use Rattle.pfs_board.specs.Acting.{HasBegun}
 use Rattle.pfs_board.specs.Known.{IsPoised}
-use Rattle.pfs_board.specs.Knowledge.{corner, newcomer, is_holding, held, found_in, weighed, sighted, settled, stale, change_of, ended, stake}
-use Rattle.pfs_levels.specs.Calls.{Call, Enters, Leaves, Start, action_in, hand_in}
+use Rattle.pfs_board.specs.Knowledge.{corner, newcomer, is_holding, held, found_in, sighted, settled, stale, stake}
+use Rattle.pfs_levels.specs.Calls.{Call, Enters, Start, hand_in}
 use Rattle.pfs_levels.specs.Order.{top_in}
 use Rattle.pfs_seats.specs.Reached.{OnBoard, IsFresh, in_hand}
 use Rattle.pfs_seats.proofs.Shown.{all_within, one_more, shown_more}
-use Rattle.pfs_seats.proofs.Turned.{reach, away_if}
+use Rattle.pfs_seats.proofs.Turned.{away_if}
 use Rattle.pfs_seats.proofs.Made.{held_is, no_true, tied_as, shown_as}
 
 pub holding_not : (s : Stage) → in_hand s ≡ None → is_holding s ≡ false
@@ -80,39 +80,11 @@ entered start calls v w label wide b stk r =
       ];
     }
 
-pub left_it : (start : Start) (calls : List Call) (v w : View) → 0 < length v.rows → w ≡ ended (weighed v) → 0 < v.action → stake w ≡ stake v → OnBoard start calls v → OnBoard start (Leaves ∷ calls) w
-left_it start calls v w wide is acting stk r = let more : List Call = Leaves ∷ calls in let found : List ℕ = found_in (corner v 0).stage in
-    reach start calls more v w 0 (sighted Idle (4 * v.action + 2)) wide (ap (λ (z : View). z.rows) is) (ap (λ (z : View). z.number) is) (ap (λ (z : View). z.base) is) stk r
-    (tied_as start more (change_of v 0 v.action true v.label found found ∷ v.made) w.made (ap (λ (z : View). z.made) is)
-    (omega (arith, acting, r.action), record { by_is = r.number_is; base_is = r.base_is; action_is = r.action; after_is = r.after; row_is = refl; version_is = r.action; puts_is = refl }, r.label, r.tied))
-    (shown_as start more v.reads w.reads v.sights w.sights v.entered w.entered (ap (λ (z : View). z.reads) is) (ap (λ (z : View). z.sights) is) (ap (λ (z : View). z.entered) is) (tt, r.shown))
-    (λ h. absurd (no_true false refl h)) (λ q n. refl) (λ z. absurd (omega (arith, z))) (λ q n. away_if 0 q None (hand_in calls q) n) (λ q n. away_if 0 q (action_in calls) (top_in calls q) n)
-    (omega (arith, r.action)) (ap (λ (z : View). z.action) is) (ap (λ (z : View). z.after) is ∙ r.action) (ap (λ (z : View). z.label) is) (λ h. absurd (omega (arith, h)))
-
 pub fresh_hand : (v : View) → IsFresh v → (r : ℕ) → in_hand (corner v r).stage ≡ None
 fresh_hand v f r = ap in_hand (f.idle r)
 
 pub fresh_held : (v : View) → IsFresh v → held v.rows ≡ 0
 fresh_held v f = held_none v.rows (fresh_hand v f)
-
-idle_not : (s : Stage) → s ≡ Idle → is_holding s ≡ true → ⊥
-idle_not s e h = no_true false refl (subst (λ z. is_holding z ≡ true) e h)
-
-pub fresh_on : (v : View) → IsFresh v → (table : _) → OnBoard (record { table = table; number = v.number; stake = stake v; base = v.base }) [] v
-fresh_on v f table = record {
-  number_is = refl;
-  base_is = refl;
-  stake_is = refl;
-  tied = f.made;
-  shown = tt;
-  taken = λ r some h. absurd (idle_not (corner v r).stage (f.idle r) h);
-  hand = λ r some. ap in_hand (f.idle r);
-  action = f.action;
-  after = f.after;
-  label = f.label;
-  labels = λ h. absurd (omega (arith, h));
-  seen = λ r. omega arith;
-}
 
 -- a seat that doesn't hold row 0 is in no action
 pub outside_is : (v : View) → IsPoised v → in_hand (corner v 0).stage ≡ None → v.action ≡ 0

@@ -7,15 +7,14 @@ use Rattle.pfs_board.specs.declared.view.Sight.{Sight}
 use Rattle.pfs_board.specs.declared.view.Stage.{Stage}
 use Rattle.pfs_board.specs.declared.view.Stage.TheVariants.{Idle, Reading, Holding}
 use Rattle.pfs_board.specs.declared.view.View.{View}
-use Rattle.pfs_board.specs.Knowledge.{corner, turned, is_holding, version_held, weighed, sighted, sight_of, read_of, change_of, no_label, published_at, freed_at, took, stake}
-use Rattle.pfs_levels.specs.Calls.{Call, Adds, Rings, Takes, Puts, Frees, Start, action_in, after_in, label_in, hand_in}
+use Rattle.pfs_board.specs.Knowledge.{corner, turned, is_holding, weighed, sighted, sight_of, read_of, change_of, no_label, published_at, took, stake}
+use Rattle.pfs_levels.specs.Calls.{Call, Adds, Takes, Start, action_in, after_in, label_in, hand_in}
 use Rattle.pfs_levels.specs.Contents.{merged}
 use Rattle.pfs_levels.specs.Order.{top_in}
 use Rattle.pfs_levels.specs.declared.answers.Added.TheVariants.{Counted}
-use Rattle.pfs_levels.specs.declared.answers.RingPut.TheVariants.{Done}
 use Rattle.pfs_stat.specs.declared.Stat.{Stat}
 use Rattle.pfs_seats.specs.Reached.{OnBoard, in_hand, labels_in}
-use Rattle.pfs_seats.specs.Ties.{AreAnothers, IsTied, IsSighted, IsFinished, WasOlder, AreShown, last_found}
+use Rattle.pfs_seats.specs.Ties.{AreAnothers, IsTied, IsSighted, IsFinished, AreShown, last_found}
 use Rattle.pfs_seats.proofs.Shown.{all_within, one_more, shown_more}
 use Rattle.pfs_seats.proofs.Turned.{reach, here_if, away_if}
 
@@ -66,28 +65,6 @@ taken start calls v w row word looks found some low is a stk away r = let k : �
     (λ z. sym (here_if row (Some k) (hand_in calls row))) (λ q n. away_if row q (Some k) (hand_in calls q) n) (λ q n. away_if row q k (top_in calls q) n)
     (omega (arith, here_if row k (top_in calls row))) (ap (λ (z : View). z.action) is ∙ r.action) (ap (λ (z : View). z.after) is ∙ r.after) (ap (λ (z : View). z.label) is ∙ r.label) (λ h. ap (λ (z : View). z.labels) is ∙ r.labels h)
 
--- a row in hand was published
-pub put_done : (start : Start) (calls : List Call) (v w : View) (row version k : ℕ) (content found : List ℕ) → 0 < row → row < length v.rows → w ≡ published_at (weighed v) row k found content → version ≡ k + 1
-    → found ≡ last_found calls row → stake w ≡ stake v → in_hand (corner v row).stage ≡ Some k → OnBoard start calls v → OnBoard start (Puts row content version ∷ calls) w
-put_done start calls v w row version k content found some low is next was stk stage r = let more : List Call = Puts row content version ∷ calls in
-    reach start calls more v w row (sighted Idle (4 * (k + 1) + 2)) low (ap (λ (z : View). z.rows) is) (ap (λ (z : View). z.number) is) (ap (λ (z : View). z.base) is) stk r
-    (tied_as start more (change_of v row (k + 1) true no_label found content ∷ v.made) w.made (ap (λ (z : View). z.made) is)
-    (some, record { by_is = r.number_is; base_is = r.base_is; action_is = r.action; after_is = r.after; row_is = refl; version_is = sym next; puts_is = refl }, (refl, was), (k, sym (r.hand row some) ∙ stage, next), r.tied))
-    (shown_as start more v.reads w.reads v.sights w.sights v.entered w.entered (ap (λ (z : View). z.reads) is) (ap (λ (z : View). z.sights) is) (ap (λ (z : View). z.entered) is) (tt, r.shown))
-    (λ h. absurd (no_true false refl h)) (λ q n. refl) (λ z. sym (here_if row None (hand_in calls row))) (λ q n. away_if row q None (hand_in calls q) n) (λ q n. away_if row q version (top_in calls q) n)
-    (omega (arith, here_if row version (top_in calls row), next)) (ap (λ (z : View). z.action) is ∙ r.action) (ap (λ (z : View). z.after) is ∙ r.after) (ap (λ (z : View). z.label) is ∙ r.label) (λ h. ap (λ (z : View). z.labels) is ∙ r.labels h)
-
--- a row in hand was released
-pub free_done : (start : Start) (calls : List Call) (v w : View) (row k : ℕ) (found : List ℕ) → 0 < row → row < length v.rows → w ≡ freed_at (weighed v) row k found
-    → found ≡ last_found calls row → stake w ≡ stake v → in_hand (corner v row).stage ≡ Some k → OnBoard start calls v → OnBoard start (Frees row k ∷ calls) w
-free_done start calls v w row k found some low is was stk stage r = let more : List Call = Frees row k ∷ calls in
-    reach start calls more v w row (sighted Idle (4 * k)) low (ap (λ (z : View). z.rows) is) (ap (λ (z : View). z.number) is) (ap (λ (z : View). z.base) is) stk r
-    (tied_as start more (change_of v row k false no_label found found ∷ v.made) w.made (ap (λ (z : View). z.made) is)
-    (some, record { by_is = r.number_is; base_is = r.base_is; action_is = r.action; after_is = r.after; row_is = refl; version_is = refl; puts_is = refl }, was, sym (r.hand row some) ∙ stage, r.tied))
-    (shown_as start more v.reads w.reads v.sights w.sights v.entered w.entered (ap (λ (z : View). z.reads) is) (ap (λ (z : View). z.sights) is) (ap (λ (z : View). z.entered) is) (tt, r.shown))
-    (λ h. absurd (no_true false refl h)) (λ q n. refl) (λ z. sym (here_if row None (hand_in calls row))) (λ q n. away_if row q None (hand_in calls q) n) (λ q n. away_if row q k (top_in calls q) n)
-    (omega (arith, here_if row k (top_in calls row))) (ap (λ (z : View). z.action) is ∙ r.action) (ap (λ (z : View). z.after) is ∙ r.after) (ap (λ (z : View). z.label) is ∙ r.label) (λ h. ap (λ (z : View). z.labels) is ∙ r.labels h)
-
 -- what a take found was published with an amount merged into it, as one call
 pub add_done : (start : Start) (calls : List Call) (v w : View) (row version k at : ℕ) (amount : Stat) (found taken_at put : List ℕ) → 0 < row → row < length v.rows → w ≡ published_at (weighed v) row k found put → version ≡ k + 1
     → put ≡ merged found amount → stake w ≡ stake v → OnBoard start (Takes row at taken_at ∷ calls) v → OnBoard start (Adds row amount (Counted row version) ∷ calls) w
@@ -100,29 +77,11 @@ add_done start calls v w row version k at amount found taken_at put some low is 
     (λ q n. away_if row q version (top_in calls q) n ∙ sym (away_if row q at (top_in calls q) n))
     (omega (arith, here_if row version (top_in calls row), next)) (ap (λ (z : View). z.action) is ∙ r.action) (ap (λ (z : View). z.after) is ∙ r.after) (ap (λ (z : View). z.label) is ∙ r.label) (λ h. ap (λ (z : View). z.labels) is ∙ r.labels h)
 
--- an event was written over what a take found, as one call
-pub ring_done : (start : Start) (calls : List Call) (v w : View) (row version k at : ℕ) (found taken_at put : List ℕ) → 0 < row → row < length v.rows → w ≡ published_at (weighed v) row k found put → version ≡ k + 1
-    → stake w ≡ stake v → (10242 ≤ row → (n : ℕ) × (version ≡ n + 1) × WasOlder start v.reads v.sights row n put (action_in calls) (after_in calls))
-    → OnBoard start (Takes row at taken_at ∷ calls) v → OnBoard start (Rings row put (Done version) ∷ calls) w
-ring_done start calls v w row version k at found taken_at put some low is next stk older r = let more : List Call = Rings row put (Done version) ∷ calls in
-    reach start (Takes row at taken_at ∷ calls) more v w row (sighted Idle (4 * (k + 1) + 2)) low (ap (λ (z : View). z.rows) is) (ap (λ (z : View). z.number) is) (ap (λ (z : View). z.base) is) stk r
-    (tied_as start more (change_of v row (k + 1) true no_label found put ∷ v.made) w.made (ap (λ (z : View). z.made) is)
-    (some, record { by_is = r.number_is; base_is = r.base_is; action_is = r.action; after_is = r.after; row_is = refl; version_is = sym next; puts_is = refl }, refl, r.tied.2))
-    (shown_as start more v.reads w.reads v.sights w.sights v.entered w.entered (ap (λ (z : View). z.reads) is) (ap (λ (z : View). z.sights) is) (ap (λ (z : View). z.entered) is) (older, r.shown.1))
-    (λ h. absurd (no_true false refl h)) (λ q n. sym (away_if row q taken_at (last_found calls q) n)) (λ z. sym r.tied.1) (λ q n. sym (away_if row q (Some at) (hand_in calls q) n))
-    (λ q n. away_if row q version (top_in calls q) n ∙ sym (away_if row q at (top_in calls q) n))
-    (omega (arith, here_if row version (top_in calls row), next)) (ap (λ (z : View). z.action) is ∙ r.action) (ap (λ (z : View). z.after) is ∙ r.after) (ap (λ (z : View). z.label) is ∙ r.label) (λ h. ap (λ (z : View). z.labels) is ∙ r.labels h)
-
 -- of a row in hand
 pub held_is : (s : Stage) → IsSome (in_hand s) → is_holding s ≡ true
 held_is Idle h = absurd (no_true false refl h)
 held_is (Reading k xs) h = absurd (no_true false refl h)
 held_is (Holding k found put) h = refl
-
-pub hand_held : (s : Stage) → IsSome (in_hand s) → in_hand s ≡ Some (version_held s)
-hand_held Idle h = absurd (no_true false refl h)
-hand_held (Reading k xs) h = absurd (no_true false refl h)
-hand_held (Holding k found put) h = refl
 
 -- a call that names no row of the board
 pub apart : (start : Start) (calls : List Call) (v : View) (call : Call) → OnBoard start calls v → IsTied start (call ∷ calls) v.made → AreShown start v.reads v.sights v.entered (call ∷ calls)

@@ -81,14 +81,6 @@ owed_fit slot xs i =
     subst (λ z. length (owed_from slot 0 (take i xs)) ≤ length (owed_from slot 0 z)) (take-append-drop i xs)
     (omega (arith, ap length (owed_then slot 0 (take i xs) (drop i xs)), length-append (owed_from slot 0 (take i xs)) (owed_from slot (0 + length (take i xs)) (drop i xs))))
 
--- nothing is owed where nothing is held
-pub owed_none : (slot cell : ℕ) (xs : List (Option Stat)) → ((i : ℕ) → i < length xs → slice_index_or xs i None ≡ None) → owed_from slot cell xs ≡ []
-unfolding owed_from
-owed_none slot cell [] none = refl
-owed_none slot cell (x ∷ xs) none =
-    ap (λ z. owed_of slot cell z ++ owed_from slot (cell + 1) xs) (none 0 (omega arith))
-    ∙ owed_none slot (cell + 1) xs (λ i lt. none (suc i) (omega (arith, lt)))
-
 pub no_option : {A : Type 0} (x : Option A) → is_some x ≡ false → x ≡ None
 no_option None e = refl
 no_option (Some x) e = absurd (true≢false e)

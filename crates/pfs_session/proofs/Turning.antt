@@ -618,10 +618,6 @@ kept_elsewhere s after statements waits e nowhere low o h d n k = record {
   nexts_few = subst AreNexts (sym n) k.nexts_few;
 }
 
--- a session in a slot may hold what it likes
-pub held_in_slot : (thread : Option ℕ) (slot : ℕ) (held : List (Option Stat)) → thread ≡ Some slot → AreHeldFor thread held
-held_in_slot thread slot held e = subst (λ t. AreHeldFor t held) (sym e) tt
-
 pub stage_from : (old mid new : Book) (what : Option Subject) (subject : Subject) (was at now : Opening → List Call → Type 0) → what ≡ Some subject
     → Played (stage_ends old.state.opened.events) old mid was at → Played (StartsEvent subject ∷ []) mid new at now
     → Played (stage_steps old.state.opened.events what) old new was now

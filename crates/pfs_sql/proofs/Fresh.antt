@@ -18,10 +18,6 @@ lower = map to_ascii_lowercase
 abbrev pub fresh : (List ℕ → Bool) → List (List ℕ) → Bool
 fresh seen names = list_all (λ n. not (seen (lower n))) names && are_apart names
 
-none_seen : (names : List (List ℕ)) → list_all (λ n. not false) names ≡ true
-none_seen [] = refl
-none_seen (n ∷ names) = none_seen names
-
 pub fresh_none : (seen : List ℕ → Bool) (names : List (List ℕ)) → ((q : List ℕ) → seen q ≡ false) → are_apart names ≡ fresh seen names
 fresh_none seen names none = sym (rw (all_none names) refl)
   where
@@ -32,16 +28,6 @@ fresh_none seen names none = sym (rw (all_none names) refl)
 regroup : (a b c : Bool) → (a && not b) && c ≡ a && (not b && c)
 regroup true b c = refl
 regroup false b c = refl
-
-apart_or : (a b : Bool) → not (a || b) ≡ not a && not b
-apart_or true b = refl
-apart_or false b = refl
-
-swap_in : (a b p q : Bool) → (a && b) && (p && q) ≡ (a && p) && (b && q)
-swap_in true true p q = refl
-swap_in true false true q = refl
-swap_in true false false q = refl
-swap_in false b p q = refl
 
 with_one : (seen next : List ℕ → Bool) (n : List ℕ) (names : List (List ℕ)) → ((q : List ℕ) → next q ≡ cond (bytes_eq (lower n) q) true (seen q))
     → list_all (λ m. not (next (lower m))) names ≡ list_all (λ m. not (seen (lower m))) names && not (list_any (λ m. str_eq_ignore_ascii_case n m) names)
@@ -64,11 +50,3 @@ pub fresh_more : (all names : List (List ℕ)) (i : ℕ) (n : List ℕ) (seen ne
 fresh_more all names i n seen next within at same new h =
     let here : drop i names ≡ n ∷ drop (i + 1) names = drop_more names i n within ∙ ap (λ (x : List ℕ). x ∷ drop (i + 1) names) (sym at) in
     same ∙ ap (fresh seen) here ∙ fresh_step seen next n (drop (i + 1) names) (not-true (seen (lower n)) new) (λ q. h q ∙ ap (λ (b : Bool). cond b true (seen q)) (is_eq-slice_cmp (lower n) q))
-
-pub fresh_fails : (all names : List (List ℕ)) (i : ℕ) (n : List ℕ) (seen : List ℕ → Bool) → i < length names → n ≡ get_or names i n → are_apart all ≡ fresh seen (drop i names) → not (seen (lower n)) ≡ false → false ≡ are_apart all
-fresh_fails all names i n seen within at same old =
-    let here : drop i names ≡ n ∷ drop (i + 1) names = drop_more names i n within ∙ ap (λ (x : List ℕ). x ∷ drop (i + 1) names) (sym at) in
-    sym (same ∙ ap (fresh seen) here ∙ rw old refl)
-
-pub fresh_all : (all names : List (List ℕ)) (i : ℕ) (seen : List ℕ → Bool) → length names ≤ i → are_apart all ≡ fresh seen (drop i names) → true ≡ are_apart all
-fresh_all all names i seen past same = sym (same ∙ rw (drop_all i names past) refl)

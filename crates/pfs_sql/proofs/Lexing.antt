@@ -17,7 +17,7 @@ use Rattle.pfs_sql.specs.Grammar.{Refuses}
 use Rattle.pfs_sql.specs.declared.faults.SqlFault.{SqlFault}
 use Rattle.pfs_sql.specs.declared.faults.SqlFault.TheVariants as faults
 use Rattle.pfs_sql.specs.Cutting.{inside_of, quoted_of, word_of, less_of, greater_of, unequal_of, sign_of, mark_of, token_of}
-use Rattle.pfs_sql.proofs.Quoting.{body, inside_takes, inside_again}
+use Rattle.pfs_sql.proofs.Quoting.{inside_takes, inside_again}
 
 -- which way a test went
 chosen : {A : Type 0} (b : Bool) (x y z : A) → cond b x y ≡ z → ((b ≡ true) × (x ≡ z)) ⊎ ((b ≡ false) × (y ≡ z))
@@ -312,9 +312,6 @@ pub record Cut (text : List ℕ) (tokens : List Token) (rest : List ℕ) : Type 
   pub rest_is : rest ≡ skip left
   pub found : (ts : List Token) → AreTokens left ts → AreTokens text (tokens ++ ts)
   pub only : (ts : List Token) → AreTokens text ts → (more : List Token) × (ts ≡ tokens ++ more) × AreTokens left more
-
-pub cut_none : (text : List ℕ) → Cut text [] (skip text)
-cut_none text = record { left = text; rest_is = refl; found = λ ts h. h; only = λ ts h. (ts, refl, h) }
 
 only_more : (left : List ℕ) (t : Token) (behind : List ℕ) (ts : List Token) → token_of (skip left) ≡ Some (t, behind) → AreTokens left ts → (more : List Token) × (ts ≡ t ∷ more) × AreTokens behind more
 only_more left t behind [] e h = let f = sym (no_token left h) ∙ e in absurd cc

@@ -52,9 +52,6 @@ body text = flat_map doubled text ++ 39 ∷ []
 body_plain : (b : ℕ) (text : List ℕ) → eqb b 39 ≡ false → body (b ∷ text) ≡ b ∷ body text
 body_plain b text t = rw t refl
 
-body_quote : (text : List ℕ) → body (39 ∷ text) ≡ 39 ∷ 39 ∷ body text
-body_quote text = refl
-
 pub inside_takes : (bytes text rest : List ℕ) → inside_of bytes ≡ Some (text, rest) → (bytes ≡ body text ++ rest) × EndsAt (Quoted text) rest
 unfolding inside_of
 inside_takes [] text rest e = absurd cc

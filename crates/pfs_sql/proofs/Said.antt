@@ -13,10 +13,6 @@ use Rattle.pfs_sql.proofs.Whole.{one_spelled, spells_takes, spells_again}
 pub says : (text : List ℕ) (tokens : List Token) (c : Command) → AreTokens text tokens → command_of tokens ≡ Some c → Says text c
 says text tokens c are read = (tokens, are, spells_takes tokens c read)
 
-pub not_cut : (fault : SqlFault) (text : List ℕ) → Refuses fault ((tokens : List Token) → ¬ AreTokens text tokens) → Refuses fault ((c : Command) → ¬ Says text c)
-not_cut faults.NoMemory text h = tt
-not_cut (faults.Error error) text h = (h.0, λ c s. h.1 s.0 s.1)
-
 pub not_spelled : (fault : SqlFault) (text : List ℕ) (tokens : List Token) → AreTokens text tokens → Fails fault (command_of tokens) → Refuses fault ((c : Command) → ¬ Says text c)
 not_spelled faults.NoMemory text tokens are h = tt
 not_spelled (faults.Error error) text tokens are h = (

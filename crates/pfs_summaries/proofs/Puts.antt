@@ -21,10 +21,6 @@ pub weaker : {X : Type 0} (P Q : X → Type 0) → ((x : X) → P x → Q x) →
 weaker P Q so [] h = tt
 weaker P Q so (x ∷ xs) h = (so x h.0, weaker P Q so xs h.1)
 
-pub every : {X : Type 0} (P : X → Type 0) → ((x : X) → P x) → (xs : List X) → AllByRecursion P xs
-every P so [] = tt
-every P so (x ∷ xs) = (so x, every P so xs)
-
 pub both : {X : Type 0} (P : X → Type 0) (xs ys : List X) → AllByRecursion P xs → AllByRecursion P ys → AllByRecursion P (xs ++ ys)
 both P [] ys h k = k
 both P (x ∷ xs) ys h k = (h.0, both P xs ys h.1 k)

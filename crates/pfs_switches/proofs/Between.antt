@@ -3,9 +3,9 @@ use Rattle.std.proofs.Common.{◌≡◌, ℕ, subst, List, [], ◌∷◌, length
 use lib.Seq.{set-get_or}
 use Rattle.atomic_table.specs.Seated.{TableId}
 use Rattle.pfs_switches.specs.declared.view.View.{View}
-use Rattle.pfs_switches.specs.Knowledge.{whole, reader, writer, joined, met, gathered, loaded}
+use Rattle.pfs_switches.specs.Knowledge.{reader, writer, joined, met, gathered, loaded}
 use Rattle.pfs_switches.specs.Known.{Known, known, first_view, IsReady, IsWriting}
-use Rattle.pfs_switches.proofs.ViewFacts.{length_merged, length_zeros}
+use Rattle.pfs_switches.proofs.ViewFacts.{length_merged}
 
 -- the view of a seat that a badge became
 pub view_of_seat : (z : TableId) (views views' : List View) (v : View) (k : Known) → views' ≡ v ∷ [] → views' ≡ views → known z (first_view views) ≡ k → v ≡ k.view
@@ -33,9 +33,3 @@ reader_loaded z v w q k flags r = λ i. loaded (record (met v w) { writes = sym 
 
 pub writer_loaded : (z : TableId) (v w : View) (q k flags : ℕ) → IsWriting z (w ∷ []) → w.start ≡ v.start → k ≡ get_or w.seen q 0 → writer (loaded (gathered v w) q k flags) ≡ w
 writer_loaded z v w q k flags r same knew = let e : set w.seen q k ≡ w.seen = ap (set w.seen q) knew ∙ set-get_or w.seen q 0 in (λ i. record (writer w) { start = sym same i; seen = e i }) ∙ sym r.own
-
-pub ready_reader : (z : TableId) (start : List ℕ) → z.words ≡ length start → IsReady z (reader (whole start) ∷ [])
-ready_reader z start e = record { one = refl; live = refl; sits = refl; reads = refl; bare = refl; wide = length_zeros (length start) ∙ sym e }
-
-pub ready_writer : (z : TableId) (start : List ℕ) → z.words ≡ length start → IsWriting z (writer (whole start) ∷ [])
-ready_writer z start e = record { one = refl; live = refl; stands = refl; writes = refl; own = refl; wide = length_zeros (length start) ∙ sym e }

@@ -11,10 +11,6 @@ if_true b x y e = subst (λ c. cond c x y ≡ x) (sym e) refl
 pub if_false : {A : Type 0} (b : Bool) (x y : A) → b ≡ false → cond b x y ≡ y
 if_false b x y e = subst (λ c. cond c x y ≡ y) (sym e) refl
 
-pub either_way : (b : Bool) → (b ≡ true) ⊎ (b ≡ false)
-either_way true = inl refl
-either_way false = inr refl
-
 pub true_not_false : (b : Bool) → b ≡ true → b ≡ false → ⊥
 true_not_false b e f = let g : true ≡ false = sym e ∙ f in cc
 

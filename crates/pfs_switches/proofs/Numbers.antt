@@ -10,7 +10,7 @@ use Rattle.pfs_switches.specs.declared.view.Met.{Met}
 use Rattle.pfs_switches.specs.declared.view.View.{View}
 use Rattle.pfs_switches.specs.History.{Each}
 use Rattle.pfs_switches.specs.Knowledge.{split_left, split_right, joined, spent}
-use Rattle.pfs_switches.specs.Order.{Makers, IsRising, Numbers}
+use Rattle.pfs_switches.specs.Order.{Makers, Numbers}
 use Rattle.pfs_switches.proofs.HistoryFacts.{each_map, each_append, true_not_false}
 use Rattle.pfs_switches.proofs.ViewFacts.{at_below}
 
@@ -160,13 +160,3 @@ numbers_first v sits first no_loads no_meets = let none : (P : ℕ → Type 0) �
   only_is : (v : View) (j : ℕ) (u : View) → get_elem? (v ∷ []) j ≡ some u → v ≡ u
   only_is v zero u e = some-injective _ _ e
   only_is v (suc j) u e = absurd (some-ne-none u (sym e))
-
--- Two loads of word 1 under number 0, and the same in the wrong order
-abbrev load_at : ℕ → ℕ → Loaded
-load_at place k = record { by = 0; place = place; word = 1; version = k; flags = 0; first = 0; least = 0 }
-
-pub example_rising : IsRising (load_at 1 4 ∷ load_at 0 3 ∷ [])
-example_rising = ((λ a b. omega arith, tt), (tt, tt))
-
-pub example_falling : ¬ (IsRising (load_at 1 3 ∷ load_at 0 4 ∷ []))
-example_falling r = let n : 4 ≤ 3 = r.0.0 refl refl in absurd (omega arith)

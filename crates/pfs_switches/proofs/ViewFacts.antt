@@ -11,11 +11,6 @@ at_below [] i v e = absurd (some-ne-none v (sym e))
 at_below (x ∷ xs) zero v e = omega arith
 at_below (x ∷ xs) (suc i) v e = let h = at_below xs i v e in omega arith
 
-pub elem_get : (l : List ℕ) (i a : ℕ) → get_elem? l i ≡ some a → get_or l i 0 ≡ a
-elem_get [] i a e = absurd (some-ne-none a (sym e))
-elem_get (x ∷ xs) zero a e = some-injective x a e
-elem_get (x ∷ xs) (suc i) a e = elem_get xs i a e
-
 pub length_merged : (cs ds : List ℕ) → length (merged cs ds) ≡ length cs
 length_merged [] ds = refl
 length_merged (c ∷ cs) [] = let e = length_merged cs [] in omega arith

@@ -7,7 +7,7 @@ use Rattle.pfs_conservation.specs.Folds.{Session, entry_at}
 use Rattle.pfs_conservation.specs.Lines.{Stands, IsMove, action_of, Adding, QuitAbove, IsAdded, AreAdded, times_added, AllOnce}
 use Rattle.pfs_conservation.specs.Prints.{AreActed}
 use Rattle.pfs_conservation.specs.Seats.{opened_by}
-use Rattle.pfs_conservation.specs.Tables.{Whose, home_at}
+use Rattle.pfs_conservation.specs.Tables.{home_at}
 use Rattle.pfs_conservation.specs.Tenures.{IsBy}
 use Rattle.pfs_event.specs.Verdicts.{is_let_through}
 use Rattle.pfs_event.specs.declared.verdict.Verdict.{Verdict}
@@ -50,13 +50,6 @@ counted_some slot _ n q = absurd (cc)
 
 swap : (a b : ℕ) → (a == b) ≡ (b == a)
 swap a b = grind arith
-
-bit_one : (b : Bool) → 1 ≤ cond {A = ℕ} b 1 0 → b ≡ true
-bit_one true l = refl
-bit_one false l = absurd (omega (arith, l))
-
-positive_bit : (n : ℕ) (b : Bool) → 1 ≤ n → n ≡ cond {A = ℕ} b 1 0 → b ≡ true
-positive_bit n b l e = bit_one b (omega (arith, l, e))
 
 module _ (back : AreBack) (found : AreFound) (none : AreNone) (run : Run) (kind : TableKind) (phase : ℕ) (kept : AreKept run) (orderly : IsOrderly run)
     (acted : AreActed run.counted (moves_at run.setting kind (actions_to run phase)) (length (actions_to run phase)) (lines_to run kind phase)) where

@@ -170,19 +170,6 @@ name_level row l h = above_threads row (omega (arith, l)) ∙ (ap (λ b. cond b 
 global_level : (row : ℕ) → 8321 ≤ row → row_level row ≡ 3
 global_level row l = above_threads row (omega (arith, l)) ∙ (ap (λ b. cond b 1 (cond {A = ℕ} (nat_lt row 8321) 2 3)) (more row 4225 (omega (arith, l))) ∙ ap (λ b. cond {A = ℕ} b 2 3) (more row 8321 l))
 
--- a row of a level above the lowest is above all rows of threads
-pub above_lowest : (row : ℕ) → 1 ≤ row_level row → 2177 ≤ row
-above_lowest row l = at (nat_lt row 2177) refl where
-  past : (a b : ℕ) → nat_lt a b ≡ false → b ≤ a
-  past a b q = grind arith
-
-  low : (a b : ℕ) → nat_lt a b ≡ true → a < b
-  low a b q = grind arith
-
-  at : (b : Bool) → nat_lt row 2177 ≡ b → 2177 ≤ row
-  at true q = let e : row_level row ≡ 0 = thread_level row (low row 2177 q) in absurd (omega (arith, e, l))
-  at false q = past row 2177 q
-
 -- what goes from a row goes to higher levels
 abbrev pub Climbs : ℕ → List ℕ → Type 0
 Climbs from to = Each (λ row. suc (row_level from) ≤ row_level row) to

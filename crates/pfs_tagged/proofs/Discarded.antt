@@ -84,9 +84,6 @@ in_cell is_cell home cell low (x ∷ xs) h =
           ∙ (ap (λ b. cond b (number_of x ∷ filter (λ event. home event == cell) (map number_of (filter (counts_in is_cell) xs))) (filter (λ event. home event == cell) (map number_of (filter (counts_in is_cell) xs)))) q ∙ ih)
       at true false q false r ih = ih
 
-one_cell : (cell c : ℕ) → count_by (λ x. x == c) (cell ∷ []) ≤ 1
-one_cell cell c = grind arith
-
 module _ (back : AreBack) (found : AreFound) (none : AreNone) (words : WordsAgree) (monoid : MergeIsMonoid) (run : Run) (kind : TableKind) (phase : ℕ) (kept : AreKept run) (orderly : IsOrderly run)
     (cell : ℕ) (low : cells_of run.setting kind cell ≡ true) where
   abbrev so_far : List Placed

@@ -59,10 +59,6 @@ times_ended number ends = times (is_number number) ends
 abbrev pub IsOnce : ℕ → ℕ → ℕ → ℕ → Type 0
 IsOnce i begun opened ended = (i < begun → ended ≤ opened) × (ended ≤ 1)
 
--- a step that neither starts nor ends one
-step_kept : (i b o p t : ℕ) → p ≡ o → o ≤ 1 → (b ≤ i → o ≡ 0) → (p ≤ 1 → (b ≤ i → p ≡ 0) → IsOnce i b p t) → IsOnce i b o t
-step_kept i b o p t e few out go = subst (λ n. IsOnce i b n t) e (go (omega (arith, e, few)) (λ l. e ∙ out l))
-
 pub which : (a b : ℕ) → (a ≤ b) ⊎ (b < a)
 which a b = at (nat_le a b) refl where
   low : (a b : ℕ) → nat_le a b ≡ true → a ≤ b

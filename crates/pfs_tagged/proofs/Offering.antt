@@ -32,10 +32,6 @@ Near at d (p ∷ ps) = (is_head p.entry ≡ false → (p.session ≡ at) × (p.c
 abbrev pub AreNear : List Placed → Type 0
 AreNear ps = (at : ℕ) (d : Context) → Near at d ps
 
-near_headed : (ps : List Placed) (at : ℕ) (d : Context) → IsHeaded ps → Near at d ps → AreNear ps
-near_headed [] at d h n a e = tt
-near_headed (p ∷ ps) at d h n a e = ((λ q. absurd (let k : true ≡ false = sym h ∙ q in cc)), n.1)
-
 near_part : (phase session : ℕ) (line : Line) (c : Context) (part : List Entry) (rest : List Placed) → AreNear rest → Near session c (placed_part phase session line c part ++ rest)
 near_part phase session line c [] rest n = n session c
 near_part phase session line c (e ∷ es) rest n = ((λ q. (refl, refl)), near_part phase session line (noted (subject_of line) c e) es rest n)
@@ -191,10 +187,6 @@ kept_ended line c _ f = refl
 pub tail_ended : (p : Placed) (e : Entry) → is_head e ≡ false → ended_at p e ≡ []
 tail_ended p (says.End event last consumers thread) f = absurd (cc)
 tail_ended p _ f = refl
-
--- only the rows of its cell and of its digest are owed
-owed_none : (row : ℕ) (dues : List Due) → dues ≡ [] → owed row dues ≡ 0
-owed_none row dues e = ap (owed row) e
 
 pub owed_if : (row : ℕ) (asked : Bool) (due : Due) → owes_to row due ≡ false → owed row (due_if asked due) ≡ 0
 owed_if row true due n = omega (arith, bit_no (owes_to row due) n)

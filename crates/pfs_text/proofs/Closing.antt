@@ -119,11 +119,6 @@ scanned_first (b ∷ bytes) some first = record {
   complete = λ n front. let found = (closes_from_front b bytes n front).1 in (found.0, omega (arith, found.1), found.2);
 }
 
--- no quote opens
-pub not_opened : (bytes : List ℕ) → ¬ ((0 < length bytes) × (get_or bytes 0 0 ≡ 39)) → (n : ℕ) → ¬ IsQuotedFront bytes n
-not_opened [] none n (text, rest, split, size, plain) = cc
-not_opened (b ∷ bytes) none n front = none (omega arith, (closes_from_front b bytes n front).0)
-
 module _ (bytes : List ℕ) (at : ℕ) (scanned : Scanned bytes at) where
   pub scanned_more : at < length bytes → get_or bytes at 0 ≢ 39 → Scanned bytes (at + 1)
   scanned_more within differs =

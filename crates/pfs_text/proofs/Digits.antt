@@ -20,9 +20,6 @@ pub record Reads (text : List ℕ) (i number : ℕ) : Type 0 where
   pub rest : AllDigits 10 text → AllDigits 10 (drop i text)
   pub whole : AllDigits 10 (drop i text) → AllDigits 10 text
 
-pub reads_none : (text : List ℕ) → Reads text 0 0
-reads_none text = record { value = refl; rest = λ all. all; whole = λ all. all }
-
 pub reads_more : (text : List ℕ) (i number next : ℕ) → i < length text → 48 ≤ get_or text i 0 → get_or text i 0 < 58 → next ≡ number * 10 + (get_or text i 0 - 48) → Reads text i number → Reads text (i + 1) next
 reads_more text i number next within low high is reads =
     let here : drop i text ≡ get_or text i 0 ∷ drop (i + 1) text = drop_more text i 0 within in
@@ -39,10 +36,6 @@ pub reads_all : (text : List ℕ) (i number : ℕ) → length text ≤ i → Rea
 reads_all text i number past reads =
     let nothing : drop i text ≡ [] = drop_all i text past in
     (reads.whole (subst (λ ds. AllDigits 10 ds) (sym nothing) tt), rw nothing at reads.value)
-
--- a byte that is no digit
-pub reads_no_digit : (text : List ℕ) (i number : ℕ) → i < length text → ¬ (digit_value (get_or text i 0) < 10) → Reads text i number → ¬ AllDigits 10 text
-reads_no_digit text i number within none reads all = none (subst (λ ds. AllDigits 10 ds) (drop_more text i 0 within) (reads.rest all)).0
 
 -- a number that is too large with the next digit
 pub reads_too_large : (text : List ℕ) (i number : ℕ) → i < length text → 48 ≤ get_or text i 0 → get_or text i 0 < 58 → Reads text i number → number * 10 + (get_or text i 0 - 48) ≤ digits_value 10 text

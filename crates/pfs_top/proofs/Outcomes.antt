@@ -10,9 +10,8 @@ use Rattle.pfs_top.specs.declared.statuses.Status.{Status}
 use Rattle.pfs_top.specs.declared.statuses.Status.TheVariants.{Done, Usage, BadScript, ReadFault, WriteFault, NoMemory}
 use Rattle.pfs_classes.specs.declared.setting.Setting.{Setting}
 use Rattle.pfs_script.specs.declared.blocks.Phase.{Phase}
-use Rattle.pfs_script.specs.declared.reasons.Reason.{Reason}
 use Rattle.pfs_script.specs.declared.reasons.Reason.TheVariants.{TooLong}
-use Rattle.pfs_script.specs.Scripts.{IsScript, IsFirstFault, IsExact}
+use Rattle.pfs_script.specs.Scripts.{IsScript}
 use Rattle.pfs_gen.specs.Generated.{script_text}
 use Rattle.pfs_top.specs.Commands.{most_bytes, HasReport, HasSummaries, HasLoad, HasFault, HasRead, HasInput, HasPlain, Has, ToldPart, Tells, Ends, status_after}
 use Rattle.pfs_top.specs.Words.{AsksRun, AsksPlain, AsksScript, AsksLoad}
@@ -78,15 +77,6 @@ read_ran bytes setting phases script ReadFault due h = absurd h
 read_ran bytes setting phases script WriteFault due h = absurd h
 read_ran bytes setting phases script NoMemory due h = absurd h
 
--- the text of a fault is that of the bytes that have it
-pub read_faulty : (bytes : List ℕ) (line : ℕ) (reason : Reason) → IsFirstFault bytes line reason → (status : Status) (due : List ℕ) → HasFault line reason status due → HasRead bytes status due
-read_faulty bytes line reason fault Done due h = absurd h
-read_faulty bytes line reason fault Usage due h = absurd h
-read_faulty bytes line reason fault (BadScript number cause) due h = (rw (h.0, h.1) fault, rw (h.0, h.1) h.2)
-read_faulty bytes line reason fault ReadFault due h = absurd h
-read_faulty bytes line reason fault WriteFault due h = absurd h
-read_faulty bytes line reason fault NoMemory due h = absurd h
-
 -- the text of the bytes that came is that of the source
 pub input_read : (input : Option (List ℕ)) (bytes : List ℕ) → IfSome input (λ text. bytes ≡ text) → length bytes ≤ most_bytes → (status : Status) (due : List ℕ) → HasRead bytes status due → HasInput input status due
 input_read input bytes came short Done due h = (bytes, came, short, h)
@@ -113,26 +103,6 @@ input_long input long (BadScript line reason) due h = inl (h.0, h.1, rw (h.0, h.
 input_long input long ReadFault due h = absurd h
 input_long input long WriteFault due h = absurd h
 input_long input long NoMemory due h = absurd h
-
--- the bytes of a told source
-told_bytes : (input : Option (List ℕ)) (bytes text : List ℕ) → input ≡ Some text → IfSome input (λ t. bytes ≡ t) → bytes ≡ text
-told_bytes input bytes text e h = rw e at h
-
-told_long : (input : Option (List ℕ)) (text : List ℕ) → input ≡ Some text → IfSome input (λ t. most_bytes < length t) → most_bytes < length text
-told_long input text e h = rw e at h
-
--- what was told of a valid script that was read and written without a failure is its report
-pub completes : IsExact → (input : Option (List ℕ)) (before after : Option (List ℕ)) (R W : Type 0) (status : Status) → Ends (Unit {0}) (HasInput input) before after R W status → (text : List ℕ) (setting : Setting) (phases : List Phase) → input ≡ Some text → length text ≤ most_bytes → IsScript text setting phases → ¬ R → ¬ W → (status ≡ Done) ⊎ (status ≡ NoMemory)
-completes exact input before after R W Done t text setting phases e short script no_read no_write = inl refl
-completes exact input before after R W NoMemory t text setting phases e short script no_read no_write = inr refl
-completes exact input before after R W Usage t text setting phases e short script no_read no_write = absurd t.1
-completes exact input before after R W ReadFault t text setting phases e short script no_read no_write = absurd (no_read t.1)
-completes exact input before after R W WriteFault t text setting phases e short script no_read no_write = absurd (no_write t.0)
-completes exact input before after R W (BadScript line reason) t text setting phases e short script no_read no_write =
-    elim t.1 [
-      | inl h ↦ let long = told_long input text e h.3 in absurd (omega (arith, short, long))
-      | inr h ↦ absurd (exact.excludes text setting phases line reason script (subst (λ b. IsFirstFault b line reason) (told_bytes input h.0 text e h.1) h.3.0))
-    ]
 
 -- what is told of a source is so of the words that ask for its script
 pub plain_told : (words : List (String Global)) (input : Option (List ℕ)) → AsksPlain words → (status : Status) (due : List ℕ) → HasInput input status due → HasPlain words input status due
@@ -177,19 +147,3 @@ handed_told words input run load (BadScript line reason) due h = inl (inr h.0, h
 handed_told words input run load ReadFault due h = inl (inr h.0, h.1)
 handed_told words input run load WriteFault due h = inl (inr h.0, h.1)
 handed_told words input run load NoMemory due h = inl (inr h.0, h.1)
-
--- a load asks for no script of the source
-pub load_alone : (words : List (String Global)) (number : ℕ) → AsksLoad words number → ¬ AsksScript words
-load_alone words number load asks = elim asks [
-  | inl run ↦ let lengths = ap length run in let two = ap length load.are in absurd (omega (arith, lengths, two))
-  | inr plain ↦ let lengths = ap length plain in let two = ap length load.are in absurd (omega (arith, lengths, two))
-]
-
--- what was told of a load that was written without a failure is its summaries
-pub load_completes : (number : ℕ) (before after : Option (List ℕ)) (W : Type 0) (status : Status) → Tells (HasLoad number) before after W status → ¬ W → (status ≡ Done) ⊎ (status ≡ NoMemory)
-load_completes number before after W Done t no_write = inl refl
-load_completes number before after W NoMemory t no_write = inr refl
-load_completes number before after W Usage t no_write = absurd t.1
-load_completes number before after W ReadFault t no_write = absurd t
-load_completes number before after W WriteFault t no_write = absurd (no_write t.0)
-load_completes number before after W (BadScript line reason) t no_write = absurd t.1
