@@ -10,6 +10,7 @@ use Rattle.pfs_levels.specs.Calls.{Call, Adds, Rings, Reads, Loads, Draws, Takes
 use Rattle.pfs_levels.specs.Joint.{total, sets_of, word_version, all_calls}
 use Rattle.pfs_levels.specs.Order.{Mark, mark, marks_by, marks_of, all_marks, word_marks_by, word_marks_of, all_word_marks, marked, AreMarked, reaching, freed, IsFloored, AreFloored, AllCalls}
 use Rattle.pfs_levels.specs.Plain.{ops_of, slot_after, AllAnswer, puts_in, labels_after}
+use Rattle.pfs_levels.specs.PlainCalls.{AllOutside}
 use Rattle.pfs_levels.proofs.PlainFloors.{not_past, above_more, reaching_more, none_above, none_reaching, KnowUpTo, know_more, all_know_more, floors_kept, all_floors_kept, marks_later, word_marks_later, unfreed_put, unfreed_hold, unfreed_free}
 use Rattle.pfs_levels.proofs.PlainJoint.{plain_words}
 use Rattle.pfs_levels.proofs.PlainOrder.{marks_count, word_marks_count, IsInside, inside, after_low, at_count, marks_chain, word_marks_chain, ended_more}
@@ -181,9 +182,6 @@ left_none flags = record {
   word_chain = tt;
   unfreed = λ row after whole. refl;
 }
-
-abbrev pub AllOutside : List (List Call) → Type 0
-AllOutside actors = AllCalls (λ calls. action_in calls ≡ 0) actors
 
 pub record Stood (flags : List ℕ) (actors : List (List Call)) : Type 0 where
   pub left : Left flags (all_calls actors) (all_marks actors) (all_word_marks actors)

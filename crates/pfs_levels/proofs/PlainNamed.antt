@@ -12,9 +12,10 @@ use Rattle.pfs_levels.specs.Calls.{Call, Adds, Rings, Reads, Loads, Draws, Takes
 use Rattle.pfs_levels.specs.Joint.{all_calls}
 use Rattle.pfs_levels.specs.Order.{Mark, marks_by, marks_of, all_marks, all_word_marks, marked, above, IsOverdue, HasCause, AreCaused, IsNamed, AreNamed, AllCalls, AreFloored, AreRising, Order}
 use Rattle.pfs_levels.specs.Plain.{ops_by, ops_of, slot_after, Answers, AllAnswer, puts_in, content_at, labels_after}
+use Rattle.pfs_levels.specs.PlainCalls.{AllOutside}
 use Rattle.pfs_levels.proofs.Acting.{labels_count}
 use Rattle.pfs_levels.proofs.PlainFloors.{AllLater, not_past, above_more, none_above, KnowUpTo, marks_later, marked_more}
-use Rattle.pfs_levels.proofs.PlainKept.{Left, floors_of, later_is, stood, AllOutside, answers_rest}
+use Rattle.pfs_levels.proofs.PlainKept.{Left, floors_of, later_is, stood, answers_rest}
 use Rattle.pfs_levels.proofs.PlainOrder.{marks_count, inside, leaving, marks_chain}
 use Rattle.pfs_levels.proofs.PlainOrdered.{ordered}
 use Rattle.pfs_levels.proofs.PlainRising.{top_low, rising}

@@ -7,7 +7,8 @@ use Rattle.pfs_levels.specs.Calls.{Call, Adds, Rings, Reads, Loads, Draws, Takes
 use Rattle.pfs_levels.specs.Joint.{total, one_if, all_calls}
 use Rattle.pfs_levels.specs.Order.{Mark, mark, marks_by, marks_of, all_marks, falls, AreOrdered}
 use Rattle.pfs_levels.specs.Plain.{ops_of, slot_after, AllAnswer, labels_after}
-use Rattle.pfs_levels.proofs.PlainKept.{labels_grow, AllOutside, answers_rest, stood}
+use Rattle.pfs_levels.specs.PlainCalls.{AllOutside}
+use Rattle.pfs_levels.proofs.PlainKept.{labels_grow, answers_rest, stood}
 use Rattle.pfs_levels.proofs.PlainOrder.{IsInside, inside}
 use Rattle.pfs_levels.proofs.PlainRowsFacts.{not_lt}
 

@@ -6,4 +6,5 @@ pub mod Keeping
 pub mod Moves
 pub mod Order
 pub mod Plain
+pub mod PlainCalls
 pub mod Since
