@@ -4,6 +4,7 @@ use Rattle.std.specs.Prelude.{filter, slice_get}
 use Rattle.std.specs.List.{range_with_len}
 use Rattle.std.proofs.lemmas.List.Elements.{filter-append}
 use Rattle.std.proofs.lemmas.List.FromFn.{length-range_with_len}
+use Rattle.pfs_lemmas.proofs.Bools.{cond_at_most_one}
 use Rattle.pfs_classes.specs.declared.classes.Class.{Class}
 use Rattle.pfs_classes.specs.declared.kind.Kind.{Kind}
 use Rattle.pfs_classes.specs.declared.kind.Kind.TheVariants as kinds
@@ -42,13 +43,9 @@ len_if : {X : Type 0} (b : Bool) (x : X) (xs : List X) → length (cond b (x ∷
 len_if true x xs = omega arith
 len_if false x xs = omega arith
 
-pub one_most : (b : Bool) → cond b 1 0 ≤ 1
-one_most true = omega arith
-one_most false = omega arith
-
 few_chosen : {X : Type 0} (p : X → Bool) (xs : List X) → length (filter p xs) ≤ length xs
 few_chosen p [] = omega arith
-few_chosen p (x ∷ xs) = omega (arith, len_if (p x) x (filter p xs), one_most (p x), few_chosen p xs)
+few_chosen p (x ∷ xs) = omega (arith, len_if (p x) x (filter p xs), cond_at_most_one (p x), few_chosen p xs)
 
 -- a class is of one kind
 one_kind : (k : Kind) (name : ℕ) (enabled timed : Bool)

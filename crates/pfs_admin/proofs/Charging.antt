@@ -3,6 +3,7 @@ use Rattle.std.proofs.Common.{ℕ, zero, suc, ◌≡◌, ◌≤◌, ◌+◌, ◌
 use Rattle.std.specs.Option.{option_map}
 use Rattle.std.specs.List.{slice_index_or}
 use Rattle.std.proofs.Math.Nat.{mul-suc, mul-zero, suc-mul}
+use Rattle.pfs_lemmas.proofs.Bools.{cond_at_most_one}
 use Rattle.pfs_containers.specs.declared.containers.Account.{Account}
 use Rattle.pfs_containers.specs.declared.containers.Connection.{Connection}
 use Rattle.pfs_containers.specs.Connections.{State as Places}
@@ -17,7 +18,6 @@ use Rattle.pfs_rows.specs.declared.place.Place.TheVariants.{GlobalCell}
 use Rattle.pfs_rows.specs.declared.table.SummaryTable.{SummaryTable}
 use Rattle.pfs_rows.specs.Rows.{row_number}
 use Rattle.pfs_admin.specs.declared.summaries.Reach.{Reach}
-use Rattle.pfs_admin.proofs.Celling.{one_most}
 use Rattle.pfs_admin.specs.States.{KindCells}
 use Rattle.pfs_truncations.specs.declared.truncations.Truncation.{Truncation}
 use Rattle.pfs_truncations.specs.declared.truncations.Truncation.TheVariants.{Events, Summary, DigestSummary, Accounts, Users, Hosts, SetupActors, SetupObjects}
@@ -145,7 +145,7 @@ all_cost s table kinds =
 
 pub count_few : (test : ℕ → Bool) (n : ℕ) → count_up_to test n ≤ n
 count_few test zero = omega arith
-count_few test (suc n) = omega (arith, one_most (test n), count_few test n)
+count_few test (suc n) = omega (arith, cond_at_most_one (test n), count_few test n)
 
 pub level_most : (s : Places) (cells : List ℕ) (level : Level) → cost (level_asks s cells level) ≤ 96 * length cells
 level_most s cells levels.Thread = omega (arith, level_few s cells levels.Thread)

@@ -3,6 +3,7 @@
 use Rattle.std.proofs.Common.{ℕ, inl, inr, ◌≡◌, ◌≤◌, ◌+◌, ◌-◌, ◌==◌, Bool, true, false, cond, List, [], ◌∷◌, ◌++◌, replicate, Option, Some, None, eq-eqb, ne_eqb, refl, ap, sym, ◌∙◌, subst, arith}
 use Rattle.std.specs.Prelude.{if◌then◌else◌, slice_index}
 use Rattle.std.proofs.lemmas.List.{append-nil, append_assoc}
+use Rattle.std.proofs.lemmas.Bool.{eqb-true}
 use Rattle.pfs_levels.specs.declared.answers.Added.TheVariants.{Counted, Held}
 use Rattle.pfs_levels.specs.declared.answers.RingPut.TheVariants.{Done, Busy, Late}
 use Rattle.pfs_levels.specs.declared.plain.Slot.{Slot}
@@ -110,14 +111,11 @@ written_word : (b : Bool) (content : List ℕ) (s : Slot) (most : ℕ) → (b �
 written_word true content s most a b = a refl
 written_word false content s most a b = b
 
-same_row : (a b : ℕ) → (a == b) ≡ true → a ≡ b
-same_row a b e = grind arith
-
 -- what a put that waits writes is at most what is drawn then
 own_word : (flags : List ℕ) (at word row : ℕ) (calls : List Call) → AllAnswer flags calls → ArePaired (pending at word) calls → at ≡ row → word ≤ drawn (draws_of calls) (kind_of_row row)
 own_word flags at word row calls a p e = by_word (word == 0) refl p where
   by_word : (b : Bool) → (word == 0) ≡ b → ArePaired (cond b None (Some (record { row = at; word = word }))) calls → word ≤ drawn (draws_of calls) (kind_of_row row)
-  by_word true z q = omega (arith, same_row word 0 z)
+  by_word true z q = omega (arith, eqb-true word 0 z)
   by_word false z q = by_calls calls a q where
     by_calls : (calls : List Call) → AllAnswer flags calls → ArePaired (Some (record { row = at; word = word })) calls → word ≤ drawn (draws_of calls) (kind_of_row row)
     by_calls [] a q = absurd q
@@ -147,7 +145,7 @@ stored flags None (Adds at amount (Counted r v) ∷ calls) a q row up =
 stored flags None (Adds at amount (Held r v w) ∷ calls) a q row up = absurd a.0
 stored flags None (Rings at content (Done v) ∷ calls) a q row up =
     written_word (at == row) content (slot_after (ops_of calls) row) (drawn (draws_of calls) (kind_of_row row))
-    (λ e. own_word flags at (slice_index content 15) row calls a.1 q (same_row at row e)) (stored flags (pending at (slice_index content 15)) calls a.1 q row up)
+    (λ e. own_word flags at (slice_index content 15) row calls a.1 q (eqb-true at row e)) (stored flags (pending at (slice_index content 15)) calls a.1 q row up)
 stored flags None (Rings at content (Busy v w) ∷ calls) a q row up = absurd a.0
 stored flags None (Rings at content (Late t) ∷ calls) a q row up = stored flags (pending at (slice_index content 15)) calls a.1 q row up
 stored flags None (Reads at seen ∷ calls) a q row up = stored flags None calls a.1 q row up

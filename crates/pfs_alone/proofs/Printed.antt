@@ -1,6 +1,7 @@
 -- The flags that the printed sets of words give are those of the store's sets.
 use Rattle.std.proofs.Common.{ℕ, inl, inr, ◌≡◌, ◌<◌, ◌+◌, ◌==◌, ◌&&◌, Bool, true, false, cond, List, [], ◌∷◌, ◌++◌, Option, refl, ap, sym, ◌∙◌, subst, arith, eq-eqb, ne_eqb, slice_index_or}
-use Rattle.std.proofs.lemmas.Bool.{cases_eq}
+use Rattle.std.proofs.lemmas.Bool.{cases_eq, eqb-true as same}
+use Rattle.pfs_lemmas.proofs.Bools.{and_false, and_first, and_second}
 use Rattle.pfs_event.specs.declared.entry.Entry.{Entry}
 use Rattle.pfs_event.specs.declared.entry.Entry.TheVariants as says
 use Rattle.pfs_levels.specs.Calls.{Call, Adds, Rings, Reads, Loads, Draws, Takes, Puts, Frees, Sets, Enters, Leaves, Meets}
@@ -87,10 +88,6 @@ sets_first (Sets at to v ∷ calls) d word version =
 sets_first (Enters label labels ∷ calls) d word version = first_then d (all_told calls) (told (Enters label labels)) word version ∙ sets_first calls d word version
 sets_first (Leaves ∷ calls) d word version = first_then d (all_told calls) [] word version ∙ sets_first calls d word version
 
-and_false : (b : Bool) → (b && false) ≡ false
-and_false true = refl
-and_false false = refl
-
 -- no set goes above the last version
 none_first : (ss : List Setting) (x word version : ℕ) → AreWordsCounted ss → word_version ss word < version → first_set x ss word version ≡ x
 unfolding word_version
@@ -105,17 +102,6 @@ none_first (s ∷ ss) x word version c low = elim (cases_eq s.word word) [
       ap (λ z. first_set (cond (z && (s.version == version)) s.flags x) ss word version) (ne_eqb s.word word e) ∙ none_first ss x word version c.1 same
 ]
 
-same : (a b : ℕ) → (a == b) ≡ true → a ≡ b
-same a b q = grind arith
-
-and_left : (a b : Bool) → (a && b) ≡ true → a ≡ true
-and_left true b e = refl
-and_left false b e = e
-
-and_right : (a b : Bool) → (a && b) ≡ true → b ≡ true
-and_right true b e = e
-and_right false b e = absurd (cc)
-
 counted_first : (flags : List ℕ) (ss : List Setting) (word version : ℕ) → AreWordsCounted ss → first_set (slice_index_or flags word 0) ss word version ≡ flags_at flags ss word version
 unfolding flags_at
 counted_first flags [] word version c = refl
@@ -123,8 +109,8 @@ counted_first flags (s ∷ ss) word version c = by_test (counted_first flags ss 
   by_test : first_set (slice_index_or flags word 0) ss word version ≡ flags_at flags ss word version → (b : Bool) → ((s.word == word) && (s.version == version)) ≡ b
       → first_set (cond b s.flags (slice_index_or flags word 0)) ss word version ≡ cond b s.flags (flags_at flags ss word version)
   by_test rest true e =
-      let at : s.word ≡ word = same s.word word (and_left (s.word == word) (s.version == version) e) in
-      let v : s.version ≡ version = same s.version version (and_right (s.word == word) (s.version == version) e) in
+      let at : s.word ≡ word = same s.word word (and_first (s.word == word) (s.version == version) e) in
+      let v : s.version ≡ version = same s.version version (and_second (s.word == word) (s.version == version) e) in
       let n : s.version ≡ word_version ss word + 1 = c.0 ∙ ap (λ z. word_version ss z + 1) at in
       none_first ss s.flags word version c.1 (omega (arith, n, v))
   by_test rest false e = rest

@@ -1,7 +1,7 @@
 -- What the calls of a plain store tell: each note goes by those before it.
 use Rattle.std.proofs.Common.{ℕ, inl, inr, ◌≡◌, ◌<◌, ◌+◌, ◌==◌, false, true, Bool, cond, List, [], ◌∷◌, ◌++◌, length, refl, ap, sym, ◌∙◌, subst, arith, ne_eqb, length-append, ◌&&◌}
 use Rattle.std.specs.Prelude.{not}
-use Rattle.std.proofs.lemmas.Bool.{false≢true}
+use Rattle.std.proofs.lemmas.Bool.{false≢true, eqb-true}
 use Rattle.std.proofs.lemmas.Bool.Decides.{nat_tests}
 use Rattle.pfs_levels.specs.declared.answers.Added.TheVariants.{Counted, Held}
 use Rattle.pfs_levels.specs.declared.answers.RingPut.TheVariants.{Done, Busy, Late}
@@ -58,11 +58,8 @@ writes_are (Sets at to v ∷ calls) = writes_are calls
 writes_are (Enters label labels ∷ calls) = writes_are calls
 writes_are (Leaves ∷ calls) = writes_are calls
 
-same : (a b : ℕ) → (a == b) ≡ true → a ≡ b
-same a b q = grind arith
-
 by_row : (b : Bool) (xs : List At) (at row v last : ℕ) → (at == row) ≡ b → v ≡ count xs at + 1 → last ≡ count xs row → cond b v last ≡ cond b (count xs row + 1) (count xs row)
-by_row true xs at row v last e n m = n ∙ ap (λ z. count xs z + 1) (same at row e)
+by_row true xs at row v last e n m = n ∙ ap (λ z. count xs z + 1) (eqb-true at row e)
 by_row false xs at row v last e n m = m
 
 counted : (log : List At) (row : ℕ) → IsCounted log → last_of row (puts_of log) ≡ count log row
@@ -120,7 +117,7 @@ unfolding word_version
 words_counted [] word c = refl
 words_counted (s ∷ ss) word c = by_word (words_counted ss word c.1) (s.word == word) refl where
   by_word : last_of word (set_changes ss) ≡ word_version ss word → (b : Bool) → (s.word == word) ≡ b → cond b s.version (last_of word (set_changes ss)) ≡ cond b (word_version ss word + 1) (word_version ss word)
-  by_word rest true e = c.0 ∙ ap (λ z. word_version ss z + 1) (same s.word word e)
+  by_word rest true e = c.0 ∙ ap (λ z. word_version ss z + 1) (eqb-true s.word word e)
   by_word rest false e = rest
 
 pub words_are : (flags : List ℕ) (calls : List Call) (word : ℕ) → AllAnswer flags calls → last_of word (switches (newest calls)) ≡ word_version (sets_of calls) word

@@ -3,6 +3,8 @@ use Rattle.std.proofs.Common.{ℕ, ◌≡◌, ◌≤◌, ◌+◌, ◌==◌, ◌<
 use Rattle.std.specs.Prelude.{◌&&◌, nat_lt, IfSome}
 use Rattle.std.proofs.lemmas.Bool.{false≢true, eqb-true, ltb-true, ltb-false}
 use Rattle.std.proofs.lemmas.List.{append_assoc, append-nil, map-append}
+use Rattle.pfs_model.proofs.EachLists.{each_join}
+use Rattle.pfs_lemmas.proofs.Bools.{and_false}
 use Rattle.pfs_admin.proofs.Rows.{quit_rows}
 use Rattle.pfs_admin.specs.Asks.{connect_entry, connect_work, quit_work, work_of_connect, work_of_quit}
 use Rattle.pfs_admin.specs.States.{seat_at, seat_in, has_quit, connected, thread_flags}
@@ -31,7 +33,7 @@ use Rattle.pfs_session.specs.Inquiries.{Remarks}
 use Rattle.pfs_session.specs.States.{State}
 use Rattle.pfs_session.specs.declared.remarks.Remark.TheVariants.{Rows, Refused}
 use Rattle.pfs_session.specs.Turns.{Step, Connects, Quits, Truncates, Changes, Inquires, SettlesHeld, Changed, Does, Turn, AreTurns, state_after, steps_of, turns_entries, reply_entries}
-use Rattle.pfs_asked.proofs.Bits.{each_then, is_calm, AreCalm}
+use Rattle.pfs_asked.proofs.Bits.{is_calm, AreCalm}
 use Rattle.pfs_asked.proofs.Calming.{AreIdleSteps, IsIdleDeed, does_calm, turns_calm, deed_idle}
 use Rattle.pfs_asked.proofs.Parting.{work_entries}
 use Rattle.pfs_asked.specs.Asking.{number_of, work_of}
@@ -317,10 +319,6 @@ all_own action [] = tt
 all_own action (says.Take row version ∷ es) = (refl, all_own action es)
 all_own action (_ ∷ es) = all_own action es
 
-and_false : (b : Bool) → (b && false) ≡ false
-and_false true = refl
-and_false false = refl
-
 -- one row among others: the others are not it
 rest_no_row : (row : ℕ) (rows : List ℕ) → (times (λ n. n == row) (row ∷ rows)) ≤ 1 → times (λ n. n == row) rows ≡ 0
 rest_no_row row rows few = at (row == row) (eq-eqb row row refl) few where
@@ -354,7 +352,7 @@ away_all action taken (t ∷ ts) e a = (ap (λ z. (z == t.action) && (taken.row 
 
 apart_then : (action : ℕ) (xs ys : List Taken) → Each (λ taken. taken.action ≡ action) xs → AreApart xs → AreApart ys → Away action ys → AreApart (xs ++ ys)
 apart_then action [] ys own a b w = b
-apart_then action (x ∷ xs) ys own a b w = (each_then (λ other. is_of other.action other.row x ≡ false) xs ys a.0 (away_all action x ys own.0 w), apart_then action xs ys own.1 a.1 b w)
+apart_then action (x ∷ xs) ys own a b w = (each_join (λ other. is_of other.action other.row x ≡ false) xs ys a.0 (away_all action x ys own.0 w), apart_then action xs ys own.1 a.1 b w)
 
 -- takes of actions with these numbers
 record IsApart (ns : List ℕ) (ts : List Taken) : Type 0 where
@@ -407,7 +405,7 @@ part_more a xs ns ts own apart none u r = record { apart = at (nat_lt 0 a) refl;
   aways : (number : ℕ) → times (λ n. n == number) (a ∷ ns) ≡ 0 → Away number (xs ++ ts)
   aways number e =
       let q : NotThis a number ns = not_this a number ns e in
-      each_then (λ taken. (number == taken.action) ≡ false) xs ts (own_away a number xs q.first own) (r.away number q.rest)
+      each_join (λ taken. (number == taken.action) ≡ false) xs ts (own_away a number xs q.first own) (r.away number q.rest)
 
 parts_apart : (number : ℕ) (s : State) (parts : List Part) (ns : List ℕ) (ts : List Taken) → s.number ≡ number → AreParts s parts → AreSeated number parts
     → IsUnique (numbers_of parts ++ ns) → IsApart ns ts → IsApart (numbers_of parts ++ ns) (taken_by parts ++ ts)

@@ -2,6 +2,7 @@
 use Rattle.std.proofs.Common.{ℕ, ◌≡◌, ◌==◌, Bool, true, false, cond, List, [], ◌∷◌, ◌++◌, Option, refl, ap, sym, ◌∙◌}
 use Rattle.std.proofs.lemmas.Bool.{false≢true}
 use Rattle.std.proofs.lemmas.List.{append_assoc}
+use Rattle.pfs_model.proofs.EachLists.{each_join}
 use Rattle.pfs_event.specs.declared.entry.Entry.{Entry}
 use Rattle.pfs_event.specs.declared.entry.Entry.TheVariants as says
 use Rattle.pfs_model.specs.Actions.{is_acted}
@@ -16,10 +17,6 @@ use Rattle.pfs_parts.proofs.Ringing.{ring_keeps}
 use Rattle.pfs_asked.proofs.Deeds.{dids}
 use Rattle.pfs_asked.specs.Asking.{Orders}
 use Rattle.pfs_asked.specs.Done.{IsMade, AreMade}
-
-pub each_then : {A : Type 0} (P : A → Type 0) (xs ys : List A) → Each P xs → Each P ys → Each P (xs ++ ys)
-each_then P [] ys a b = b
-each_then P (x ∷ xs) ys a b = (a.0, each_then P xs ys a.1 b)
 
 pub placed_then : (phase session : ℕ) (line : Line) (context : Context) (es fs : List Entry)
     → placed_part phase session line context (es ++ fs) ≡ placed_part phase session line context es ++ placed_part phase session line (after_entries (subject_of line) context es) fs
@@ -87,7 +84,7 @@ pub bit_then : (orders : Orders) (given : Given) (content : ℕ → ℕ → List
     → IsBit orders given content (λ n. due n ++ more n) (xs ++ ys)
 bit_then orders given content due more xs ys a b = record {
   done = λ n. ap (each_of did) (chosen_then n xs ys) ∙ (each_of_then (of_action n xs) (of_action n ys) ∙ (ap (λ z. z ++ each_of did (of_action n ys)) (a.done n) ∙ ap (λ z. due n ++ z) (b.done n)));
-  facts = each_then (Fact orders given content) xs ys a.facts b.facts;
+  facts = each_join (Fact orders given content) xs ys a.facts b.facts;
 }
 
 -- entries that say nothing was done

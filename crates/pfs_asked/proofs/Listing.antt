@@ -1,6 +1,7 @@
 -- Lines of a session one after another.
 use Rattle.std.proofs.Common.{ℕ, ◌≡◌, ◌+◌, ◌==◌, ◌<◌, Bool, true, false, cond, List, [], ◌∷◌, ◌++◌, refl, ap, sym, ◌∙◌, subst, arith}
 use Rattle.std.proofs.lemmas.List.{append_assoc, append-nil}
+use Rattle.pfs_model.proofs.EachLists.{each_join}
 use Rattle.pfs_model.specs.Asked.{Did, did, of_action, asked_of}
 use Rattle.pfs_model.specs.Chains.{Each, each_of, times}
 use Rattle.pfs_model.specs.Contents.{Given}
@@ -12,7 +13,7 @@ use Rattle.pfs_parts.specs.Deeds.{Part, line_of, part_entries}
 use Rattle.pfs_parts.specs.Shaped.{AreParts, lines_of, entries_of}
 use Rattle.pfs_session.specs.States.{State}
 use Rattle.pfs_session.specs.Turns.{state_after}
-use Rattle.pfs_asked.proofs.Bits.{each_then, each_of_then, chosen_then, Fact}
+use Rattle.pfs_asked.proofs.Bits.{each_of_then, chosen_then, Fact}
 use Rattle.pfs_asked.proofs.Parting.{owes, IsPaid, paid_part}
 use Rattle.pfs_asked.specs.Asking.{Orders, AreOrders, number_of}
 use Rattle.pfs_asked.specs.Runs.{AllOrders, numbers_of}
@@ -37,7 +38,7 @@ paid_then orders given content ns ms xs ys a b = record {
   done = λ n p. ap (each_of did) (chosen_then n xs ys)
       ∙ (each_of_then (of_action n xs) (of_action n ys)
       ∙ (ap (λ z. z ++ each_of did (of_action n ys)) (a.done n p) ∙ (ap (λ z. owed orders n ns ++ z) (b.done n p) ∙ sym (owed_then orders n ns ms))));
-  facts = each_then (Fact orders given content) xs ys a.facts b.facts;
+  facts = each_join (Fact orders given content) xs ys a.facts b.facts;
 }
 
 pub lines_paid : (orders : Orders) (given : Given) (content : ℕ → ℕ → List ℕ) (phase session number : ℕ) (context : Context) (s : State) (parts : List Part) → s.number ≡ number → AreParts s parts

@@ -2,6 +2,7 @@
 use Rattle.std.proofs.Common.{ℕ, ◌≡◌, ◌+◌, ◌==◌, ◌<◌, Bool, true, false, cond, List, [], ◌∷◌, ◌++◌, Option, Some, None, ne_eqb, refl, ap, sym, ◌∙◌, subst, arith}
 use Rattle.std.proofs.lemmas.Bool.{eqb-true}
 use Rattle.std.proofs.lemmas.List.{append_assoc, append-nil}
+use Rattle.pfs_model.proofs.EachLists.{each_join}
 use Rattle.pfs_admin.specs.Asks.{connect_entry, placed_of, work_of_connect, work_of_quit}
 use Rattle.pfs_admin.specs.States.{seat_at}
 use Rattle.pfs_admin.specs.States.{State as Administration}
@@ -34,7 +35,7 @@ use Rattle.pfs_session.specs.Inquiries.{Remarks}
 use Rattle.pfs_session.specs.States.{State}
 use Rattle.pfs_session.specs.declared.remarks.Remark.TheVariants.{Rows, Refused}
 use Rattle.pfs_session.specs.Turns.{Step, Connects, Quits, Truncates, Changes, Inquires, SettlesHeld, Changed, Does, Turn, AreTurns, steps_of, turns_calls, turns_entries, reply_entry, reply_entries}
-use Rattle.pfs_asked.proofs.Bits.{each_then, placed_then, AreActed, acted_then, all_keep, acted_at, Fact, IsBit, bit_then, still_bit, AreCalm, calm_bit, calm_idle, all_of, each_placed, all_found, all_made, all_answered}
+use Rattle.pfs_asked.proofs.Bits.{placed_then, AreActed, acted_then, all_keep, acted_at, Fact, IsBit, bit_then, still_bit, AreCalm, calm_bit, calm_idle, all_of, each_placed, all_found, all_made, all_answered}
 use Rattle.pfs_asked.proofs.Calming.{AreIdleSteps, IsIdleDeed, does_calm, turns_calm, deed_idle}
 use Rattle.pfs_asked.proofs.Deeds.{dids, dids_then, signs_done, sets_done}
 use Rattle.pfs_asked.proofs.Working.{contents_front, contents_back, counted_front, counted_back, moves_acted, signs_acted, sets_acted, MovesAre, moves_are, signs_facts, sets_facts}
@@ -76,8 +77,8 @@ work_bit orders given content phase session line action work words moves made co
       done = λ number. ap (each_of did) (all_of number action ps (acted_at phase session line context action rest acted at))
           ∙ by_test number ps (action == number) refl (each_placed phase session line context rest ∙ (told ∙ ap (asked_of counted) (sym asks)));
       facts = subst (Each (Fact orders given content)) (sym (placed_then phase session line context M (S ++ F)))
-          (each_then (Fact orders given content) _ _ m.facts (subst (Each (Fact orders given content)) (sym (placed_then phase session line behind S F))
-          (each_then (Fact orders given content) _ _
+          (each_join (Fact orders given content) _ _ m.facts (subst (Each (Fact orders given content)) (sym (placed_then phase session line behind S F))
+          (each_join (Fact orders given content) _ _
           (signs_facts orders given content phase session line action made behind (all_keep (subject_of line) context M (moves_acted moves) ∙ at) (subst (AreWords (given.info_words action)) (sym signs) infos)
           (contents_front content (signs_calls made) (moves_calls moves) later))
           (sets_facts orders given content phase session line words work.flags last))));

@@ -1,6 +1,7 @@
 -- Each take is found by its action and its row.
 use Rattle.std.proofs.Common.{ℕ, ◌≡◌, ◌==◌, Bool, true, false, List, [], ◌∷◌, ◌++◌, eq-eqb, refl, ap, ◌∙◌}
 use Rattle.std.specs.Prelude.{◌&&◌, if◌then◌else◌}
+use Rattle.pfs_model.proofs.EachLists.{each_behind, each_front}
 use Rattle.pfs_event.specs.declared.entry.Entry.{Entry}
 use Rattle.pfs_event.specs.declared.entry.Entry.TheVariants as says
 use Rattle.pfs_model.specs.Chains.{Each}
@@ -12,14 +13,6 @@ use Rattle.pfs_asked.specs.Takes.{Taken, taken_at, taken_in, taken_by, all_taken
 
 abbrev IsHeld : (ℕ → ℕ → List ℕ) → (ℕ → ℕ → Bool) → Taken → Type 0
 IsHeld content counted taken = counted taken.action taken.row ≡ found_counted content taken
-
-pub each_front : {A : Type 0} (P : A → Type 0) (xs ys : List A) → Each P (xs ++ ys) → Each P xs
-each_front P [] ys a = tt
-each_front P (x ∷ xs) ys a = (a.0, each_front P xs ys a.1)
-
-pub each_back : {A : Type 0} (P : A → Type 0) (xs ys : List A) → Each P (xs ++ ys) → Each P ys
-each_back P [] ys a = a
-each_back P (x ∷ xs) ys a = each_back P xs ys a.1
 
 -- behind another take that isn't the same
 still_held : (content : ℕ → ℕ → List ℕ) (taken : Taken) (others some : List Taken) → Each (λ other. is_of other.action other.row taken ≡ false) some
@@ -44,7 +37,7 @@ entries_counted : (content : ℕ → ℕ → List ℕ) (counted : ℕ → ℕ �
 entries_counted content counted action [] a = tt
 entries_counted content counted action (e ∷ es) a = (
   one_counted content counted action e (each_front (IsHeld content counted) (taken_at action e) (taken_in action es) a),
-  entries_counted content counted action es (each_back (IsHeld content counted) (taken_at action e) (taken_in action es) a),
+  entries_counted content counted action es (each_behind (IsHeld content counted) (taken_at action e) (taken_in action es) a),
 )
 
 parts_counted : (content : ℕ → ℕ → List ℕ) (counted : ℕ → ℕ → Bool) (ps : List Part) → Each (IsHeld content counted) (taken_by ps) → CountedIn content counted ps
@@ -52,14 +45,14 @@ parts_counted content counted [] a = tt
 parts_counted content counted (p ∷ ps) a =
     let own : List Taken = taken_in (number_of p.deed) (part_entries p) in (
       entries_counted content counted (number_of p.deed) (part_entries p) (each_front (IsHeld content counted) own (taken_by ps) a),
-      parts_counted content counted ps (each_back (IsHeld content counted) own (taken_by ps) a),
+      parts_counted content counted ps (each_behind (IsHeld content counted) own (taken_by ps) a),
     )
 
 stints_counted : (content : ℕ → ℕ → List ℕ) (counted : ℕ → ℕ → Bool) (stints : List Stint) → Each (IsHeld content counted) (all_taken stints) → AllCounted content counted stints
 stints_counted content counted [] a = tt
 stints_counted content counted (stint ∷ stints) a = (
   parts_counted content counted stint.parts (each_front (IsHeld content counted) (taken_by stint.parts) (all_taken stints) a),
-  stints_counted content counted stints (each_back (IsHeld content counted) (taken_by stint.parts) (all_taken stints) a),
+  stints_counted content counted stints (each_behind (IsHeld content counted) (taken_by stint.parts) (all_taken stints) a),
 )
 
 pub counted : CountedLaw

@@ -2,6 +2,7 @@
 use Rattle.std.proofs.Common.{ℕ, ◌≡◌, ◌≤◌, ◌+◌, ◌==◌, ◌<◌, Bool, true, false, cond, List, [], ◌∷◌, ◌++◌, map, Option, Some, None, inl, inr, ne_eqb, eq-eqb, refl, ap, sym, ◌∙◌, subst, arith}
 use Rattle.std.specs.Prelude.{nat_lt, if◌then◌else◌, IfSome, ◌⊎◌}
 use Rattle.std.proofs.lemmas.Bool.{false≢true, ltb-true, ltb-false}
+use Rattle.pfs_model.proofs.EachLists.{each_behind, each_front}
 use Rattle.pfs_admin.proofs.Rows.{connect_rows, quit_rows, higher}
 use Rattle.pfs_admin.specs.Asks.{connect_work, quit_work}
 use Rattle.pfs_admin.specs.Laws.{row_of}
@@ -18,7 +19,7 @@ use Rattle.pfs_parts.specs.Deeds.{Deed, Connecting, Starting, Staging, StageEndi
 use Rattle.pfs_parts.specs.Stints.{Stint}
 use Rattle.pfs_asked.proofs.Aparting.{apart}
 use Rattle.pfs_asked.proofs.Running.{run}
-use Rattle.pfs_asked.proofs.Taking.{counted, each_front, each_back}
+use Rattle.pfs_asked.proofs.Taking.{counted}
 use Rattle.pfs_asked.specs.Asking.{AreAnswers, AreOrders, AreRooms, AreWords, no_rows, number_of, work_of}
 use Rattle.pfs_asked.specs.Runs.{AllOrders, IsOrdered, numbers_of, all_numbers, nothing_asked}
 use Rattle.pfs_asked.specs.Takes.{AreSeated, IsSeated, IsSeatedStint, AllCounted, CountedIn}
@@ -196,7 +197,7 @@ stints_are given content all (stint ∷ stints) info are calls a r n w c =
         contents = calls.0;
         told = parts_orders given content all stint.session stint.parts info are.0.seated (each_front _ xs ys a) (each_front _ xs ys r) (each_front _ xs ys n) (each_front _ xs ys w) c.0;
       },
-      stints_are given content all stints info are.1 calls.1 (each_back _ xs ys a) (each_back _ xs ys r) (each_back _ xs ys n) (each_back _ xs ys w) c.1,
+      stints_are given content all stints info are.1 calls.1 (each_behind _ xs ys a) (each_behind _ xs ys r) (each_behind _ xs ys n) (each_behind _ xs ys w) c.1,
     )
 
 pub whole : WholeLaw

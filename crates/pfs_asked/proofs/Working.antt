@@ -1,6 +1,7 @@
 -- The work of an action: what its entries say was done, and that each makes its row's content.
 use Rattle.std.proofs.Common.{ℕ, ◌≡◌, ◌+◌, ◌-◌, ◌==◌, Bool, true, List, [], ◌∷◌, ◌++◌, Some, refl, ap, sym, ◌∙◌, subst, arith}
 use Rattle.std.specs.Prelude.{not}
+use Rattle.pfs_model.proofs.EachLists.{each_join}
 use Rattle.pfs_admin.specs.Works.{Sign, Releases, Tags, Made, Flagging, signs_of, signs_calls, sign_calls, made_calls, signs_entries, made_entries, sign_entry, flagging_entries}
 use Rattle.pfs_event.specs.declared.entry.Entry.{Entry}
 use Rattle.pfs_event.specs.declared.entry.Entry.TheVariants as says
@@ -18,7 +19,7 @@ use Rattle.pfs_model.specs.declared.lines.Line.{Line}
 use Rattle.pfs_parts.specs.Amounts.{ContentsAgree}
 use Rattle.pfs_stat.specs.Stat.{stat_of_words, merge_of, words_of}
 use Rattle.pfs_stat.specs.declared.Stat.{Stat}
-use Rattle.pfs_asked.proofs.Bits.{each_then, placed_then, AreActed, acted_then, all_keep, Fact}
+use Rattle.pfs_asked.proofs.Bits.{placed_then, AreActed, acted_then, all_keep, Fact}
 use Rattle.pfs_asked.proofs.Deeds.{dids, dids_then, move_done, moved_then, asked_then}
 use Rattle.pfs_asked.specs.Asking.{Orders, AreWords, AreCounted, moves_asked}
 
@@ -134,7 +135,7 @@ moves_are orders given content phase session line action asks (m ∷ ms) context
           ∙ (sym (moved_then counted (moves_asked before) (moves_asked (last ∷ [])))
           ∙ (ap (moved_by counted) (sym (asked_then before (last ∷ []))) ∙ ap (λ z. moved_by counted (moves_asked z)) (sym are.1.1.0)))));
       facts = subst (Each (Fact orders given content)) (sym (placed_then phase session line context (moves_entries ms) (move_entries m)))
-          (each_then (Fact orders given content) _ _ rest.facts
+          (each_join (Fact orders given content) _ _ rest.facts
           (move_facts orders given content phase session line action last m mid (all_keep (subject_of line) context (moves_entries ms) (moves_acted ms) ∙ at) is own counts_own));
     }
 
@@ -156,7 +157,7 @@ signs_facts orders given content phase session line action [] context at words c
 signs_facts orders given content phase session line action (m ∷ ms) context at words calls =
     let mid : Context = after_entries (subject_of line) context (signs_entries ms) in
     subst (Each (Fact orders given content)) (sym (placed_then phase session line context (signs_entries ms) (made_entries m)))
-    (each_then (Fact orders given content) _ _
+    (each_join (Fact orders given content) _ _
     (signs_facts orders given content phase session line action ms context at (words_front (given.info_words action) (signs_of ms) (m.sign ∷ []) words) (contents_back content (made_calls m) (signs_calls ms) calls)) (
       sign_fact orders given content phase session line action m.sign m.version m.found mid (all_keep (subject_of line) context (signs_entries ms) (signs_acted ms) ∙ at)
           (words_back (given.info_words action) (signs_of ms) (m.sign ∷ []) words) (contents_front content (made_calls m) (signs_calls ms) calls),

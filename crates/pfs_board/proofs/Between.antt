@@ -1,6 +1,7 @@
 -- What holds of a seat between calls, after it was split or joined, or a board opened.
 use Rattle.std.proofs.Common.{◌≡◌, ℕ, subst, ◌+◌, ◌*◌, ◌/◌, ◌%◌, ◌<◌, ◌≤◌, true, false, List, [], ◌∷◌, length, get_or, max, set, replicate, sym, refl, ap, ◌∙◌, arith, length-set}
 use Rattle.std.specs.Prelude.{Some}
+use Rattle.pfs_lemmas.proofs.Options.{some_same}
 use Rattle.atomic_table.specs.Seated.{TableId}
 use Rattle.pfs_board.specs.declared.answers.Seen.{Seen}
 use Rattle.pfs_board.specs.declared.answers.Seen.TheVariants as seen
@@ -13,7 +14,6 @@ use Rattle.pfs_board.specs.Knowledge.{newcomer, corner, is_holding, settled, tol
 use Rattle.pfs_board.specs.Known.{Known, known, first_view, IsReady, HasSeenItsOwn, split_off, given}
 use Rattle.pfs_board.specs.Seeing.{IsSeenAs}
 use Rattle.pfs_board.specs.Sitting.{IsCalm}
-use Rattle.pfs_board.proofs.Looks.{some_same}
 use Rattle.pfs_board.proofs.OwnFacts.{own_left, own_both, own_seen}
 use Rattle.pfs_board.proofs.ViewFacts.{corners_set, corners_stale, corners_start, corners_merged, length_stale, length_start, length_merged, corner_new, settled_holds}
 

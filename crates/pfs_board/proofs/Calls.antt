@@ -1,6 +1,8 @@
 -- The steps as the calls make them.
 use Rattle.std.proofs.Common.{◌≡◌, ℕ, eqb, subst, ◌+◌, ◌*◌, ◌/◌, ◌%◌, ◌<◌, ◌≤◌, ◌≢◌, true, false, eq-eqb, ne_eqb, List, [], ◌∷◌, ◌++◌, length, get_or, set, sym, refl, ap, ◌∙◌, inl, inr, arith, length-set, get_or-set_other, get_or-set_same}
 use Rattle.std.specs.Prelude.{Option, Some, if◌then◌else◌, ◌==◌}
+use Rattle.std.proofs.lemmas.Bool.{cond-false, cond-true}
+use Rattle.pfs_lemmas.proofs.Options.{some_same}
 use mathlib.Core.Logic.{dite}
 use mathlib.Core.Option.{none}
 use native.Mathlib.Decide.{ℕ_discrete}
@@ -23,9 +25,8 @@ use Rattle.pfs_board.specs.declared.answers.Taken.{Taken}
 use Rattle.pfs_board.specs.declared.answers.Taken.TheVariants.{Mine, Busy}
 use Rattle.pfs_board.specs.Seeing.{IsSeenAs}
 use Rattle.pfs_board.specs.Taking.{IsTaken, IsFrom, take_looks}
-use Rattle.pfs_board.proofs.HistoryFacts.{if_true, if_false}
 use Rattle.pfs_board.proofs.ViewFacts.{held_set, one}
-use Rattle.pfs_board.proofs.Looks.{some_same, recall_keeps, gather_keeps, finish_keeps, begun_at, begun_not}
+use Rattle.pfs_board.proofs.Looks.{recall_keeps, gather_keeps, finish_keeps, begun_at, begun_not}
 use Rattle.pfs_board.proofs.Moves.{store_keeps}
 use Rattle.pfs_board.proofs.Publishes.{publish_keeps, free_keeps}
 use Rattle.pfs_word.specs.declared.State.{State as RowState}
@@ -59,7 +60,7 @@ pub at_next : (z z' y : TableId) (start : List ℕ) (v w : View) (q : ℕ) → I
 at_next z z' y start v w q a e l live = let b = a.wide in record { same = e ∙ a.same; words = a.words; small = a.small; wide = omega arith; live = live ∙ a.live; inside = a.inside }
 
 pub held_look : (v : View) (q n : ℕ) (st : Stage) → q < length v.rows → is_holding (corner v q).stage ≡ false → is_holding st ≡ false → held (set v.rows q (sighted st n)) ≡ held v.rows
-held_look v q n st h a b = let e = held_set v.rows q (sighted st n) h in let x : one (sighted st n) ≡ 0 = if_false {A = ℕ} (is_holding st) 1 0 b in let y : one (corner v q) ≡ 0 = if_false {A = ℕ} (is_holding (corner v q).stage) 1 0 a in omega arith
+held_look v q n st h a b = let e = held_set v.rows q (sighted st n) h in let x : one (sighted st n) ≡ 0 = cond-false {A = ℕ} (is_holding st) 1 0 b in let y : one (corner v q) ≡ 0 = cond-false {A = ℕ} (is_holding (corner v q).stage) 1 0 a in omega arith
 
 -- after its first look a take may go on
 pub may_seize : (z z' y : TableId) (start : List ℕ) (v w : View) (q n : ℕ) → IsAt z y start v q → z' ≡ z → w ≡ tried v q n → (0 < q) × (is_holding (corner v q).stage ≡ false) × (held v.rows < v.allowance) → IsLook v n q → n % 4 ≢ 1
@@ -73,7 +74,7 @@ may_seize z z' y start v w q n a e is r look clean = let h = corner_in z y start
 
 -- the sights are as they were where the word was not dirty
 tried_clean : (v : View) (q n : ℕ) → n % 4 ≢ 1 → tried v q n ≡ record (turned v q (sighted Idle n)) { looks = v.looks + 1 }
-tried_clean v q n c = ap (λ s. record (turned v q (sighted Idle n)) { looks = v.looks + 1; sights = s }) (if_false (eqb (n % 4) 1) (sight_of v q n n ∷ v.sights) v.sights (ne_eqb (n % 4) 1 c))
+tried_clean v q n c = ap (λ s. record (turned v q (sighted Idle n)) { looks = v.looks + 1; sights = s }) (cond-false (eqb (n % 4) 1) (sight_of v q n n ∷ v.sights) v.sights (ne_eqb (n % 4) 1 c))
 
 took_again : (v : View) (q n looks word : ℕ) (content : List ℕ) → record (took (record (turned v q (sighted Idle n)) { looks = v.looks + 1 }) q word content) { looks = looks } ≡ record (took v q word content) { looks = looks }
 took_again v q n looks word content = ap (λ rows. record (took v q word content) { looks = looks; rows = rows }) (set-set v.rows q (sighted Idle n) (sighted (Holding (word / 4) content []) (4 * (word / 4) + 1)))
@@ -90,7 +91,7 @@ take_answer v q n (Busy first second) w h look c a = let s = corner_turned v q (
 
 -- an answer shows two words where there were two looks that differ
 pub two_looks : (first second : ℕ) → second ≢ first → ◌≡◌ {A = ℕ} (if first == second then 1 else 2) 2
-two_looks first second differ = if_false {A = ℕ} (eqb first second) 1 2 (ne_eqb first second (λ e. differ (sym e)))
+two_looks first second differ = cond-false {A = ℕ} (eqb first second) 1 2 (ne_eqb first second (λ e. differ (sym e)))
 
 -- a take that began from a word which was not dirty has looked twice
 pub looked_twice : (n : ℕ) (x : Taken) → IsFrom x n → take_looks x ≡ 2
@@ -201,7 +202,7 @@ whole_answer v v1 w q first n xs h e f two same seen last wide = let k : ℕ = f
     let A : View = record (turned u q (sighted Idle n)) { looks = u.looks + 1; reads = read_of u q k xs ∷ u.reads } in let B : View = record (turned u q (sighted Idle n)) { looks = u.looks + 1; sights = sight_of u q (4 * k + 2) n ∷ u.sights } in (
       seen,
       wide,
-      any_looks w (record (turned v q (sighted Idle (4 * k + 2))) { looks = v.looks + 1; reads = read_of v q k xs ∷ v.reads }) (f ∙ (finished_is v v1 q n k xs h e ∙ (if_true (eqb n (4 * k + 2)) A B (eq-eqb n (4 * k + 2) is)
+      any_looks w (record (turned v q (sighted Idle (4 * k + 2))) { looks = v.looks + 1; reads = read_of v q k xs ∷ v.reads }) (f ∙ (finished_is v v1 q n k xs h e ∙ (cond-true (eqb n (4 * k + 2)) A B (eq-eqb n (4 * k + 2) is)
           ∙ (ap (λ rows. record v { looks = v.looks + 1; rows = rows; reads = read_of v q k xs ∷ v.reads }) (set-set v.rows q c (sighted Idle n)) ∙ ap (λ z. record (turned v q (sighted Idle z)) { looks = v.looks + 1; reads = read_of v q k xs ∷ v.reads }) is)))),
       (λ _ j _ other. let e : first ≡ j = some_same first j (sym last ∙ other) in omega arith),
     )
@@ -217,17 +218,17 @@ busy_answer v v1 w q first n xs h e f two differ seen fresh last look = let k : 
       look.after first fresh1 last1,
       look.state,
       (λ whole. differ (look.same (subst IsWhole (sym e) whole) first fresh1 last1)),
-      any_looks w (record (turned v q (sighted Idle n)) { looks = v.looks + 1; sights = sight_of v q first n ∷ v.sights }) (f ∙ (finished_is v v1 q n k xs h e ∙ (if_false (eqb n (4 * k + 2)) A B (ne_eqb n (4 * k + 2) not)
+      any_looks w (record (turned v q (sighted Idle n)) { looks = v.looks + 1; sights = sight_of v q first n ∷ v.sights }) (f ∙ (finished_is v v1 q n k xs h e ∙ (cond-false (eqb n (4 * k + 2)) A B (ne_eqb n (4 * k + 2) not)
           ∙ (ap (λ rows. record v { looks = v.looks + 1; rows = rows; sights = sight_of v q (4 * k + 2) n ∷ v.sights }) (set-set v.rows q c (sighted Idle n)) ∙ ap (λ z. record (turned v q (sighted Idle n)) { looks = v.looks + 1; sights = sight_of v q z n ∷ v.sights }) first_is)))),
     )
 
 looked_two : (v : View) (q n : ℕ) → n % 4 ≡ 2 → looked v q n ≡ record (turned v q (sighted (Reading (n / 4) []) n)) { looks = v.looks + 1 }
 looked_two v q n e = ap (λ (st : Stage). record (turned v q (sighted st n)) { looks = v.looks + 1; sights = if n % 4 == 2 then v.sights else sight_of v q n n ∷ v.sights }) (begun_at n e)
-    ∙ ap (λ s. record (turned v q (sighted (Reading (n / 4) []) n)) { looks = v.looks + 1; sights = s }) (if_true (eqb (n % 4) 2) v.sights (sight_of v q n n ∷ v.sights) (eq-eqb (n % 4) 2 e))
+    ∙ ap (λ s. record (turned v q (sighted (Reading (n / 4) []) n)) { looks = v.looks + 1; sights = s }) (cond-true (eqb (n % 4) 2) v.sights (sight_of v q n n ∷ v.sights) (eq-eqb (n % 4) 2 e))
 
 looked_else : (v : View) (q n : ℕ) → n % 4 ≢ 2 → looked v q n ≡ record (turned v q (sighted Idle n)) { looks = v.looks + 1; sights = sight_of v q n n ∷ v.sights }
 looked_else v q n e = ap (λ (st : Stage). record (turned v q (sighted st n)) { looks = v.looks + 1; sights = if n % 4 == 2 then v.sights else sight_of v q n n ∷ v.sights }) (begun_not n e)
-    ∙ ap (λ s. record (turned v q (sighted Idle n)) { looks = v.looks + 1; sights = s }) (if_false (eqb (n % 4) 2) v.sights (sight_of v q n n ∷ v.sights) (ne_eqb (n % 4) 2 e))
+    ∙ ap (λ s. record (turned v q (sighted Idle n)) { looks = v.looks + 1; sights = s }) (cond-false (eqb (n % 4) 2) v.sights (sight_of v q n n ∷ v.sights) (ne_eqb (n % 4) 2 e))
 
 pub free_answer : (v w : View) (q n : ℕ) → w ≡ looked v q n → n % 4 ≡ 0 → IsLook v n q → IsSeenAs v q (seen.Free n) w
 free_answer v w q n e nil look = (nil, look.later, any_looks w (missed v q n n) (e ∙ looked_else v q n (λ g. omega arith)), look.same)
@@ -265,4 +266,4 @@ pub finished_looks : (v v1 w : View) (q n k : ℕ) (xs : List ℕ) → q < lengt
 finished_looks v v1 w q n k xs h e f = let u : View = turned v q (restaged (corner v q) (Reading k xs)) in
     let A : View = record (turned u q (sighted Idle n)) { looks = u.looks + 1; reads = read_of u q k xs ∷ u.reads } in let B : View = record (turned u q (sighted Idle n)) { looks = u.looks + 1; sights = sight_of u q (4 * k + 2) n ∷ u.sights } in
     ap (λ (x : View). x.looks) (f ∙ finished_is v v1 q n k xs h e)
-    ∙ dite (ℕ_discrete n (4 * k + 2)) (λ g. ap (λ (x : View). x.looks) (if_true (eqb n (4 * k + 2)) A B (eq-eqb n (4 * k + 2) g))) (λ g. ap (λ (x : View). x.looks) (if_false (eqb n (4 * k + 2)) A B (ne_eqb n (4 * k + 2) g)))
+    ∙ dite (ℕ_discrete n (4 * k + 2)) (λ g. ap (λ (x : View). x.looks) (cond-true (eqb n (4 * k + 2)) A B (eq-eqb n (4 * k + 2) g))) (λ g. ap (λ (x : View). x.looks) (cond-false (eqb n (4 * k + 2)) A B (ne_eqb n (4 * k + 2) g)))

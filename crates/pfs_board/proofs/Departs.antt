@@ -1,6 +1,7 @@
 -- The last step of an action: row 0 is published with its label, and the value goes home.
 use Rattle.std.proofs.Common.{◌≡◌, ℕ, subst, ◌+◌, ◌-◌, ◌*◌, ◌/◌, ◌%◌, ◌<◌, ◌≤◌, ◌≢◌, true, false, List, [], ◌∷◌, ◌++◌, length, set, sym, refl, ap, ◌∙◌, inl, inr, ⊎_elim, arith, length-set, get_or-set_same}
 use Rattle.std.specs.Prelude.{Option, Some}
+use Rattle.pfs_lemmas.proofs.Bools.{true_not_false}
 use mathlib.Core.Logic.{dite}
 use mathlib.Core.Option.{some, none}
 use native.Mathlib.Decide.{ℕ_discrete}
@@ -19,7 +20,7 @@ use Rattle.pfs_board.specs.Rule.{Moment, lock, Knows, IsRead, IsKnown, IsSight, 
 use Rattle.pfs_board.specs.Plays.{leaves}
 use Rattle.pfs_board.proofs.HistoryFacts.{each_map, each_both, stands_put, labels_put, version_here, actions_below}
 use Rattle.pfs_board.proofs.ViewFacts.{held_some, corners_set}
-use Rattle.pfs_board.proofs.Keeps.{true_not_false, Later, own_row, seats_set}
+use Rattle.pfs_board.proofs.Keeps.{Later, own_row, seats_set}
 use Rattle.pfs_board.proofs.Looks.{here}
 use Rattle.pfs_board.proofs.Publishes.{after_entry, had_long, Leaves, left_row, own_left, later_left, Adds, joint_left, row_left, rows_left, held_left}
 use Rattle.pfs_board.proofs.Lends.{holding_is, out_once}

@@ -1,6 +1,8 @@
 -- The opening, and what is known at the end.
 use Rattle.std.proofs.Common.{◌≡◌, ℕ, subst, zero, suc, ◌+◌, ◌*◌, ◌/◌, ◌%◌, ◌<◌, ◌≤◌, ◌≢◌, true, false, List, [], ◌∷◌, length, get_or, replicate, sym, refl, ap, ◌∙◌, inl, ⊎_elim, arith, eq-eqb, ne_eqb}
 use Rattle.std.specs.Prelude.{Option, Some}
+use Rattle.std.proofs.lemmas.Bool.{cases_Bool}
+use Rattle.pfs_lemmas.proofs.Bools.{true_not_false}
 use mathlib.Core.Logic.{dite}
 use mathlib.Core.Option.{some, some-injective, some-ne-none}
 use native.Mathlib.Decide.{ℕ_discrete}
@@ -15,9 +17,9 @@ use Rattle.pfs_board.specs.Knowledge.{newcomer, corner, is_holding, IsWhole, roo
 use Rattle.pfs_board.specs.Rule.{Moment, moment, lock, now, Fits, IsRow, Joint, Ruled}
 use Rattle.pfs_board.specs.Opening.{IsOpening}
 use Rattle.pfs_board.specs.Closing.{IsFinalRow, History}
-use Rattle.pfs_board.proofs.HistoryFacts.{either_way, each_both, length_labels, actions_below, rises, afters_below, above_actions}
+use Rattle.pfs_board.proofs.HistoryFacts.{each_both, length_labels, actions_below, rises, afters_below, above_actions}
 use Rattle.pfs_board.proofs.ViewFacts.{corner_new, held_new}
-use Rattle.pfs_board.proofs.Keeps.{true_not_false, whole_is_one}
+use Rattle.pfs_board.proofs.Keeps.{whole_is_one}
 use Rattle.pfs_board.proofs.Looks.{here}
 
 length_new : (n : ℕ) → length (replicate n newcomer) ≡ n
@@ -102,7 +104,7 @@ module _ {K : Type 0} (means : K → List Label → Type 0) (start : List ℕ) w
 
   silent : (s : State (Option K) View) (r : Ruled means start s) (id : ℕ) (v : View) → get_elem? s.views id ≡ some v → v.live ≡ true → IsWhole v → (h : Change → ℕ) (j : ℕ) (u : View) → j ≢ id → get_elem? s.views j ≡ some u → total h u.made ≡ 0
   silent s r id v at live whole h j u n there = ⊎_elim (λ u_live. absurd (n (sym (whole_is_one means start (here means start s r) s.homes s.views r.joint j id u v there (r.seats j u there u_live).some_left at whole))))
-      (λ dead. ap (λ (x : View). total h x.made) (r.joint.spent_is j u there dead)) (either_way u.live)
+      (λ dead. ap (λ (x : View). total h x.made) (r.joint.spent_is j u there dead)) (cases_Bool u.live)
 
   module _ (s : State (Option K) View) (r : Ruled means start s) (id : ℕ) (v : View) (at : get_elem? s.views id ≡ some v) (live : v.live ≡ true) (whole : IsWhole v) where
     abbrev t : Moment

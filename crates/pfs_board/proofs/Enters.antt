@@ -1,6 +1,9 @@
 -- The steps of a seat that waits to begin an action: it looks at row 0, and takes it with the value.
 use Rattle.std.proofs.Common.{◌≡◌, ℕ, eqb, subst, eq-eqb, ne_eqb, ◌+◌, ◌*◌, ◌/◌, ◌%◌, ◌<◌, ◌≤◌, ◌≢◌, true, false, List, [], length, get_or, set, sym, refl, ap, ◌∙◌, inr, ⊎_elim, arith, append-nil, length-set, get_or-set_other, get_or-set_same}
 use Rattle.std.specs.Prelude.{Option, Some}
+use Rattle.std.proofs.lemmas.Bool.{cases_Bool, cond-false, cond-true}
+use Rattle.pfs_lemmas.proofs.Options.{some_same}
+use Rattle.pfs_lemmas.proofs.Bools.{true_not_false}
 use mathlib.Core.Logic.{dite}
 use mathlib.Core.Option.{some, none, some-injective}
 use native.Mathlib.Decide.{ℕ_discrete}
@@ -17,10 +20,10 @@ use Rattle.pfs_board.specs.History.{lock_at, word_at, version, stands, labels_of
 use Rattle.pfs_board.specs.Knowledge.{newcomer, corner, is_holding, held, IsWhole, sighted, stale, waited, label_told, begun_with, halfway}
 use Rattle.pfs_board.specs.Rule.{Moment, lock, now, IsRead, IsSight, IsEntered, FitsRow, Fits, IsRow, Ruled}
 use Rattle.pfs_board.specs.Plays.{waits, enters}
-use Rattle.pfs_board.proofs.HistoryFacts.{if_true, if_false, either_way, each_map, length_labels, below_all, floor_new}
+use Rattle.pfs_board.proofs.HistoryFacts.{each_map, length_labels, below_all, floor_new}
 use Rattle.pfs_board.proofs.ViewFacts.{held_set, held_stale, length_stale, one, at_below, corners_set, corners_stale, settled_holds}
-use Rattle.pfs_board.proofs.Keeps.{true_not_false, Later, own_row, whole_is_one, moved_on, same_row, holders_set}
-use Rattle.pfs_board.proofs.Looks.{here, sub, look, sees, some_same}
+use Rattle.pfs_board.proofs.Keeps.{Later, own_row, whole_is_one, moved_on, same_row, holders_set}
+use Rattle.pfs_board.proofs.Looks.{here, sub, look, sees}
 use Rattle.pfs_board.proofs.Moves.{listed, length_listed, get_listed, after_set, other_row, last_set, later_set, taker}
 use Rattle.pfs_board.proofs.Seats.{settled_row}
 use Rattle.pfs_board.proofs.Lends.{out_with, spent_home}
@@ -83,7 +86,7 @@ module _ {K : Type 0} (means : K → List Label → Type 0) (start : List ℕ) w
         (λ out. absurd (dite (ℕ_discrete 0 id)
         (λ e. let same : o.0 ≡ v = some-injective _ _ (sym o.1 ∙ (ap (get_elem? s.views) e ∙ at)) in true_not_false v.lent (ap (λ (x : View). x.lent) (sym same) ∙ out) home)
         (λ n. no_other_out 0 o.0 n o.1 out)))
-        (λ in_place. in_place) (either_way o.0.lent)) clean
+        (λ in_place. in_place) (cases_Bool o.0.lent)) clean
 
     wide_now : 0 < length (stale v.rows)
     wide_now = let wide = (r.seats id v at live).wide in let l = length_stale v.rows in omega arith
@@ -92,10 +95,10 @@ module _ {K : Type 0} (means : K → List Label → Type 0) (start : List ℕ) w
     lock_now = let wide = r.joint.wide in get_or-set_same s.words 0 (4 * length L + 1) 0 (omega arith)
 
     stays : (p : ℕ) → p ≢ 0 → hd p ≡ r.holder p
-    stays p n = if_false (eqb p 0) id (r.holder p) (ne_eqb p 0 n)
+    stays p n = cond-false (eqb p 0) id (r.holder p) (ne_eqb p 0 n)
 
     mine : hd 0 ≡ id
-    mine = if_true (eqb 0 0) id (r.holder 0) refl
+    mine = cond-true (eqb 0 0) id (r.holder 0) refl
 
     later_now : Later start id t t'
     later_now = let is = lock_now in later_set start t id 0 0 (4 * length L + 1) hd (omega arith) (omega arith) stays (λ j e. absurd (clean (ap (λ z. z % 4) e ∙ omega arith))) (λ j e. omega arith) (λ by n odd e _. absurd (clean (ap (λ z. z % 4) e ∙ odd)))

@@ -1,5 +1,6 @@
 -- Which rows are in hand after a step.
 use Rattle.std.proofs.Common.{◌≡◌, ℕ, ◌+◌, ◌-◌, ◌*◌, ◌/◌, ◌<◌, true, false, List, [], length, set, refl, ap, ◌∙◌, arith}
+use Rattle.std.proofs.lemmas.Bool.{cond-false, cond-true}
 use Rattle.atomic_table.specs.Seated.{TableId}
 use Rattle.pfs_board.specs.declared.answers.Seen.{Seen}
 use Rattle.pfs_board.specs.declared.answers.Seen.TheVariants as seen
@@ -15,18 +16,18 @@ use Rattle.pfs_board.specs.Knowledge.{corner, is_holding, held, stake, joined, s
 use Rattle.pfs_board.specs.Known.{Known, known, first_view, IsReady}
 use Rattle.pfs_board.specs.Seeing.{IsSeenAs}
 use Rattle.pfs_board.specs.Taking.{IsTaken}
-use Rattle.pfs_board.proofs.HistoryFacts.{if_true, if_false, total_append}
+use Rattle.pfs_board.proofs.HistoryFacts.{total_append}
 use Rattle.pfs_board.proofs.ViewFacts.{held_set, one}
 use Rattle.pfs_board.proofs.Calls.{sight_corner}
 
 -- one row was looked at or let go
 aside : (v w : View) (q n : ℕ) → q < length v.rows → is_holding (corner v q).stage ≡ false → w.rows ≡ set v.rows q (sighted Idle n) → stake w ≡ stake v → IsAside v q w
-aside v w q n h free e k = let s = held_set v.rows q (sighted Idle n) h in let x : one (sighted Idle n) ≡ 0 = refl in let y : one (corner v q) ≡ 0 = if_false {A = ℕ} (is_holding (corner v q).stage) 1 0 free in
+aside v w q n h free e k = let s = held_set v.rows q (sighted Idle n) h in let x : one (sighted Idle n) ≡ 0 = refl in let y : one (corner v q) ≡ 0 = cond-false {A = ℕ} (is_holding (corner v q).stage) 1 0 free in
     let r = ap held e in (ap (λ (c : Corner). c.stage) (sight_corner v w q n Idle h e), omega arith, k)
 
 pub hands_taken : (v : View) (q : ℕ) (x : Taken) (w : View) → q < length v.rows → is_holding (corner v q).stage ≡ false → IsTaken v q x w → IsHandTaken v q x w
 hands_taken v q (Mine word content) w h free a = let st : Stage = Holding (word / 4) content [] in let n : ℕ = 4 * (word / 4) + 1 in let e : w.rows ≡ set v.rows q (sighted st n) = ap (λ (x : View). x.rows) a.4 in
-    let s = held_set v.rows q (sighted st n) h in let x : one (sighted st n) ≡ 1 = refl in let y : one (corner v q) ≡ 0 = if_false {A = ℕ} (is_holding (corner v q).stage) 1 0 free in
+    let s = held_set v.rows q (sighted st n) h in let x : one (sighted st n) ≡ 1 = refl in let y : one (corner v q) ≡ 0 = cond-false {A = ℕ} (is_holding (corner v q).stage) 1 0 free in
     let r = ap held e in (ap (λ (c : Corner). c.stage) (sight_corner v w q n st h e), omega arith, ap stake a.4)
 hands_taken v q (Busy first second) w h free a = aside v w q second h free (ap (λ (x : View). x.rows) a.5) (ap stake a.5)
 
@@ -37,12 +38,12 @@ hands_seen v q (seen.Busy m n) w h free a = aside v w q n h free (ap (λ (x : Vi
 
 pub hands_put : (v w : View) (q : ℕ) (content : List ℕ) → q < length v.rows → 0 < v.allowance → is_holding (corner v q).stage ≡ true → w ≡ published_at (weighed v) q (version_held (corner v q).stage) (found_in (corner v q).stage) content → IsLetGo v q w
 hands_put v w q content h some_left held_it a = let n : ℕ = 4 * (version_held (corner v q).stage + 1) + 2 in let e : w.rows ≡ set v.rows q (sighted Idle n) = ap (λ (x : View). x.rows) a in
-    let s = held_set v.rows q (sighted Idle n) h in let x : one (sighted Idle n) ≡ 0 = refl in let y : one (corner v q) ≡ 1 = if_true {A = ℕ} (is_holding (corner v q).stage) 1 0 held_it in
+    let s = held_set v.rows q (sighted Idle n) h in let x : one (sighted Idle n) ≡ 0 = refl in let y : one (corner v q) ≡ 1 = cond-true {A = ℕ} (is_holding (corner v q).stage) 1 0 held_it in
     let r = ap held e in let b : stake w ≡ (v.allowance - 1) + (1 + total step_of v.made) = ap stake a in let k : stake w ≡ stake v = b ∙ omega arith in (ap (λ (c : Corner). c.stage) (sight_corner v w q n Idle h e), omega arith, k)
 
 pub hands_free : (v w : View) (q : ℕ) → q < length v.rows → is_holding (corner v q).stage ≡ true → w ≡ freed_at (weighed v) q (version_held (corner v q).stage) (found_in (corner v q).stage) → IsLetGo v q w
 hands_free v w q h held_it a = let n : ℕ = 4 * version_held (corner v q).stage in let e : w.rows ≡ set v.rows q (sighted Idle n) = ap (λ (x : View). x.rows) a in
-    let s = held_set v.rows q (sighted Idle n) h in let x : one (sighted Idle n) ≡ 0 = refl in let y : one (corner v q) ≡ 1 = if_true {A = ℕ} (is_holding (corner v q).stage) 1 0 held_it in
+    let s = held_set v.rows q (sighted Idle n) h in let x : one (sighted Idle n) ≡ 0 = refl in let y : one (corner v q) ≡ 1 = cond-true {A = ℕ} (is_holding (corner v q).stage) 1 0 held_it in
     let r = ap held e in let b : stake w ≡ v.allowance + (0 + total step_of v.made) = ap stake a in let k : stake w ≡ stake v = b ∙ omega arith in (ap (λ (c : Corner). c.stage) (sight_corner v w q n Idle h e), omega arith, k)
 
 -- the seat has a corner for each row of its board

@@ -3,21 +3,12 @@ use Rattle.std.proofs.Common.{◌≡◌, ℕ, eqb, subst, eq-eqb, ne_eqb, ◌+�
 use Rattle.std.proofs.Common.{append-nil}
 use Rattle.std.specs.Prelude.{nat_lt}
 use Rattle.std.proofs.lemmas.Bool.Decides.{nat_tests}
+use Rattle.std.proofs.lemmas.Bool.{cases_Bool, cond-false, cond-true, le-ltb}
 use mathlib.Core.Logic.{dite}
 use native.Mathlib.Decide.{ℕ_discrete}
 use Rattle.pfs_board.specs.declared.view.Change.{Change}
 use Rattle.pfs_board.specs.declared.view.Label.{Label}
 use Rattle.pfs_board.specs.History.{total, Each, Some_of, lock_at, step_of, version, stands, stood, is_free, IsFreedAt, labels_of, Follows, IsChain, Rises, oldest, level, version_of, shows_to, Floor}
-
-pub if_true : {A : Type 0} (b : Bool) (x y : A) → b ≡ true → cond b x y ≡ x
-if_true b x y e = subst (λ c. cond c x y ≡ x) (sym e) refl
-
-pub if_false : {A : Type 0} (b : Bool) (x y : A) → b ≡ false → cond b x y ≡ y
-if_false b x y e = subst (λ c. cond c x y ≡ y) (sym e) refl
-
-pub either_way : (b : Bool) → (b ≡ true) ⊎ (b ≡ false)
-either_way true = inl refl
-either_way false = inr refl
 
 module _ {A : Type 0} where
   pub each_map : (P Q : A → Type 0) → ((x : A) → P x → Q x) → (xs : List A) → Each P xs → Each Q xs
@@ -41,39 +32,39 @@ module _ {A : Type 0} where
   total_append h (x ∷ xs) ys = let e = total_append h xs ys in omega arith
 
 pub version_here : (p : Change) (ps : List Change) (r : ℕ) → p.row ≡ r → version (p ∷ ps) r ≡ version ps r + step_of p
-version_here p ps r h = if_true (eqb p.row r) (version ps r + step_of p) (version ps r) (eq-eqb p.row r h)
+version_here p ps r h = cond-true (eqb p.row r) (version ps r + step_of p) (version ps r) (eq-eqb p.row r h)
 
 pub version_other : (p : Change) (ps : List Change) (r : ℕ) → p.row ≢ r → version (p ∷ ps) r ≡ version ps r
-version_other p ps r h = if_false (eqb p.row r) (version ps r + step_of p) (version ps r) (ne_eqb p.row r h)
+version_other p ps r h = cond-false (eqb p.row r) (version ps r + step_of p) (version ps r) (ne_eqb p.row r h)
 
 pub step_put : (p : Change) → p.puts ≡ true → step_of p ≡ 1
-step_put p e = if_true p.puts 1 0 e
+step_put p e = cond-true p.puts 1 0 e
 
 pub step_release : (p : Change) → p.puts ≡ false → step_of p ≡ 0
-step_release p e = if_false p.puts 1 0 e
+step_release p e = cond-false p.puts 1 0 e
 
 pub level_put : (p : Change) → p.puts ≡ true → level p ≡ p.version
-level_put p e = if_true p.puts p.version (p.version + 1) e
+level_put p e = cond-true p.puts p.version (p.version + 1) e
 
 pub level_release : (p : Change) → p.puts ≡ false → level p ≡ p.version + 1
-level_release p e = if_false p.puts p.version (p.version + 1) e
+level_release p e = cond-false p.puts p.version (p.version + 1) e
 
 pub version_more : (p : Change) (ps : List Change) (r : ℕ) → version ps r ≤ version (p ∷ ps) r
 version_more p ps r = dite (ℕ_discrete p.row r) (λ e. let v = version_here p ps r e in omega arith) (λ n. let v = version_other p ps r n in omega arith)
 
 pub labels_other : (p : Change) (ps : List Change) → p.row ≢ 0 → labels_of (p ∷ ps) ≡ labels_of ps
-labels_other p ps n = if_false (eqb p.row 0) _ (labels_of ps) (ne_eqb p.row 0 n)
+labels_other p ps n = cond-false (eqb p.row 0) _ (labels_of ps) (ne_eqb p.row 0 n)
 
 pub labels_release : (p : Change) (ps : List Change) → p.row ≡ 0 → p.puts ≡ false → labels_of (p ∷ ps) ≡ labels_of ps
-labels_release p ps h e = if_true (eqb p.row 0) _ (labels_of ps) (eq-eqb p.row 0 h) ∙ if_false p.puts _ (labels_of ps) e
+labels_release p ps h e = cond-true (eqb p.row 0) _ (labels_of ps) (eq-eqb p.row 0 h) ∙ cond-false p.puts _ (labels_of ps) e
 
 pub labels_put : (p : Change) (ps : List Change) → p.row ≡ 0 → p.puts ≡ true → labels_of (p ∷ ps) ≡ labels_of ps ++ p.label ∷ []
-labels_put p ps h e = if_true (eqb p.row 0) _ (labels_of ps) (eq-eqb p.row 0 h) ∙ if_true p.puts (labels_of ps ++ p.label ∷ []) (labels_of ps) e
+labels_put p ps h e = cond-true (eqb p.row 0) _ (labels_of ps) (eq-eqb p.row 0 h) ∙ cond-true p.puts (labels_of ps ++ p.label ∷ []) (labels_of ps) e
 
 -- an entry takes no label back
 pub labels_more : (p : Change) (ps : List Change) → (more : List Label) × (labels_of (p ∷ ps) ≡ labels_of ps ++ more)
 labels_more p ps = dite (ℕ_discrete p.row 0)
-    (λ e. ⊎_elim (λ puts. (p.label ∷ [], labels_put p ps e puts)) (λ releases. ([], labels_release p ps e releases ∙ sym (append-nil (labels_of ps)))) (either_way p.puts))
+    (λ e. ⊎_elim (λ puts. (p.label ∷ [], labels_put p ps e puts)) (λ releases. ([], labels_release p ps e releases ∙ sym (append-nil (labels_of ps)))) (cases_Bool p.puts))
     (λ n. ([], labels_other p ps n ∙ sym (append-nil (labels_of ps))))
 
 -- there are as many labels as row 0 has publications
@@ -83,7 +74,7 @@ length_labels (p ∷ ps) = let e = length_labels ps in dite (ℕ_discrete p.row 
     (λ h. ⊎_elim
     (λ puts. let l = ap (length {A = Label}) (labels_put p ps h puts) in let a = length-append (labels_of ps) (p.label ∷ []) in let v = version_here p ps 0 h in let s = step_put p puts in omega arith)
     (λ releases. let l = ap (length {A = Label}) (labels_release p ps h releases) in let v = version_here p ps 0 h in let s = step_release p releases in omega arith)
-    (either_way p.puts))
+    (cases_Bool p.puts))
     (λ n. let l = ap (length {A = Label}) (labels_other p ps n) in let v = version_other p ps 0 n in omega arith)
 
 pub version_below_total : (log : List Change) (r : ℕ) → version log r ≤ total step_of log
@@ -94,37 +85,37 @@ version_below_total (p ∷ ps) r = let b = version_below_total ps r in let x : �
 
 module _ (start : List ℕ) where
   pub stands_other : (p : Change) (ps : List Change) (r i : ℕ) → p.row ≢ r → stands start (p ∷ ps) r i ≡ stands start ps r i
-  stands_other p ps r i h = if_false (eqb p.row r) _ (stands start ps r i) (ne_eqb p.row r h)
+  stands_other p ps r i h = cond-false (eqb p.row r) _ (stands start ps r i) (ne_eqb p.row r h)
 
   pub stands_put : (p : Change) (ps : List Change) (r i : ℕ) → p.row ≡ r → p.puts ≡ true → stands start (p ∷ ps) r i ≡ Rattle.std.specs.Prelude.slice_index p.put i
-  stands_put p ps r i h e = if_true (eqb p.row r) _ _ (eq-eqb p.row r h) ∙ if_true p.puts _ _ e
+  stands_put p ps r i h e = cond-true (eqb p.row r) _ _ (eq-eqb p.row r h) ∙ cond-true p.puts _ _ e
 
   pub stands_release : (p : Change) (ps : List Change) (r i : ℕ) → p.row ≡ r → p.puts ≡ false → stands start (p ∷ ps) r i ≡ stands start ps r i
-  stands_release p ps r i h e = if_true (eqb p.row r) _ _ (eq-eqb p.row r h) ∙ if_false p.puts _ (stands start ps r i) e
+  stands_release p ps r i h e = cond-true (eqb p.row r) _ _ (eq-eqb p.row r h) ∙ cond-false p.puts _ (stands start ps r i) e
 
   pub free_other : (p : Change) (ps : List Change) (r : ℕ) → p.row ≢ r → is_free start (p ∷ ps) r ≡ is_free start ps r
-  free_other p ps r h = if_false (eqb p.row r) _ (is_free start ps r) (ne_eqb p.row r h)
+  free_other p ps r h = cond-false (eqb p.row r) _ (is_free start ps r) (ne_eqb p.row r h)
 
   pub free_here : (p : Change) (ps : List Change) (r : ℕ) → p.row ≡ r → is_free start (p ∷ ps) r ≡ not p.puts
-  free_here p ps r h = if_true (eqb p.row r) (not p.puts) _ (eq-eqb p.row r h)
+  free_here p ps r h = cond-true (eqb p.row r) (not p.puts) _ (eq-eqb p.row r h)
 
   stood_other : (p : Change) (ps : List Change) (r k i : ℕ) → p.row ≢ r → stood start (p ∷ ps) r k i ≡ stood start ps r k i
-  stood_other p ps r k i h = if_false (eqb p.row r) _ (stood start ps r k i) (ne_eqb p.row r h)
+  stood_other p ps r k i h = cond-false (eqb p.row r) _ (stood start ps r k i) (ne_eqb p.row r h)
 
   stood_release : (p : Change) (ps : List Change) (r k i : ℕ) → p.row ≡ r → p.puts ≡ false → stood start (p ∷ ps) r k i ≡ stood start ps r k i
-  stood_release p ps r k i h e = if_true (eqb p.row r) _ _ (eq-eqb p.row r h) ∙ if_false p.puts _ (stood start ps r k i) e
+  stood_release p ps r k i h e = cond-true (eqb p.row r) _ _ (eq-eqb p.row r h) ∙ cond-false p.puts _ (stood start ps r k i) e
 
   stood_at : (p : Change) (ps : List Change) (r k i : ℕ) → p.row ≡ r → p.puts ≡ true → p.version ≡ k → stood start (p ∷ ps) r k i ≡ Rattle.std.specs.Prelude.slice_index p.put i
-  stood_at p ps r k i h e v = if_true (eqb p.row r) _ _ (eq-eqb p.row r h) ∙ (if_true p.puts _ _ e ∙ if_true (eqb p.version k) _ _ (eq-eqb p.version k v))
+  stood_at p ps r k i h e v = cond-true (eqb p.row r) _ _ (eq-eqb p.row r h) ∙ (cond-true p.puts _ _ e ∙ cond-true (eqb p.version k) _ _ (eq-eqb p.version k v))
 
   stood_below : (p : Change) (ps : List Change) (r k i : ℕ) → p.row ≡ r → p.puts ≡ true → p.version ≢ k → stood start (p ∷ ps) r k i ≡ stood start ps r k i
-  stood_below p ps r k i h e v = if_true (eqb p.row r) _ _ (eq-eqb p.row r h) ∙ (if_true p.puts _ _ e ∙ if_false (eqb p.version k) _ (stood start ps r k i) (ne_eqb p.version k v))
+  stood_below p ps r k i h e v = cond-true (eqb p.row r) _ _ (eq-eqb p.row r h) ∙ (cond-true p.puts _ _ e ∙ cond-false (eqb p.version k) _ (stood start ps r k i) (ne_eqb p.version k v))
 
   -- an entry changes nothing at versions that were there before
   pub stood_before : (p : Change) (ps : List Change) (r k i : ℕ) → Follows start ps p → k ≤ version ps r → stood start (p ∷ ps) r k i ≡ stood start ps r k i
   stood_before p ps r k i f below = dite (ℕ_discrete p.row r)
       (λ e. ⊎_elim (λ puts. stood_below p ps r k i e puts (λ same. let n = f.numbered in let s = step_put p puts in let a = ap (version ps) e in omega arith))
-      (λ releases. stood_release p ps r k i e releases) (either_way p.puts))
+      (λ releases. stood_release p ps r k i e releases) (cases_Bool p.puts))
       (λ n. stood_other p ps r k i n)
 
   pub stood_now : (log : List Change) (r i : ℕ) → IsChain start log → stood start log r (version log r) i ≡ stands start log r i
@@ -132,7 +123,7 @@ module _ (start : List ℕ) where
   stood_now (p ∷ ps) r i c = let f = c.0 in dite (ℕ_discrete p.row r)
       (λ e. ⊎_elim (λ puts. let v = version_here p ps r e in let a = ap (version ps) e in let n = f.numbered in stood_at p ps r (version (p ∷ ps) r) i e puts (omega arith) ∙ sym (stands_put p ps r i e puts))
       (λ releases. let v : version (p ∷ ps) r ≡ version ps r = version_here p ps r e ∙ (ap (λ z. version ps r + z) (step_release p releases) ∙ omega arith) in
-      stood_release p ps r (version (p ∷ ps) r) i e releases ∙ (ap (λ k. stood start ps r k i) v ∙ (stood_now ps r i c.1 ∙ sym (if_true (eqb p.row r) _ _ (eq-eqb p.row r e) ∙ if_false p.puts _ (stands start ps r i) releases)))) (either_way p.puts))
+      stood_release p ps r (version (p ∷ ps) r) i e releases ∙ (ap (λ k. stood start ps r k i) v ∙ (stood_now ps r i c.1 ∙ sym (cond-true (eqb p.row r) _ _ (eq-eqb p.row r e) ∙ cond-false p.puts _ (stands start ps r i) releases)))) (cases_Bool p.puts))
       (λ n. stood_other p ps r (version (p ∷ ps) r) i n ∙ (ap (λ k. stood start ps r k i) (version_other p ps r n) ∙ (stood_now ps r i c.1 ∙ sym (stands_other p ps r i n))))
 
   pub below_all : (log : List Change) (r : ℕ) → IsChain start log → Each (λ (p : Change). p.row ≡ r → version_of p ≤ version log r) log
@@ -143,7 +134,7 @@ module _ (start : List ℕ) where
   )
 
   pub level_next : (q : Change) → level q ≤ version_of q + 1
-  level_next q = ⊎_elim (λ e. let l = level_put q e in omega arith) (λ e. let l = level_release q e in omega arith) (either_way q.puts)
+  level_next q = ⊎_elim (λ e. let l = level_put q e in omega arith) (λ e. let l = level_release q e in omega arith) (cases_Bool q.puts)
 
   not_true : (b : Bool) → not b ≡ false → b ≡ true
   not_true true e = refl
@@ -177,7 +168,7 @@ module _ (start : List ℕ) where
   freed_last [] r c (inl none) = absurd none
   freed_last [] r c (inr opened) = eq-eqb _ 0 opened.1
   freed_last (p ∷ ps) r c f = dite (ℕ_discrete p.row r)
-      (λ e. ⊎_elim (λ puts. absurd (later e puts f)) (λ releases. free_here p ps r e ∙ ap not releases) (either_way p.puts))
+      (λ e. ⊎_elim (λ puts. absurd (later e puts f)) (λ releases. free_here p ps r e ∙ ap not releases) (cases_Bool p.puts))
       (λ n. free_other p ps r n ∙ freed_last ps r c.1 (subst (IsFreedAt start ps r) (version_other p ps r n) (before n (version (p ∷ ps) r) f))) where
         before : p.row ≢ r → (k : ℕ) → IsFreedAt start (p ∷ ps) r k → IsFreedAt start ps r k
         before n k (inl (inl here)) = absurd (n here.0)
@@ -210,11 +201,8 @@ module _ (start : List ℕ) where
       (λ e. let rel : p.puts ≡ false = not_false p.puts (sym (free_here p ps r e) ∙ f) in inl (inl (e, rel, c.0.numbered ∙ (ap (λ z. version ps z + step_of p) e ∙ sym (version_here p ps r e)))))
       (λ n. subst (λ k. IsFreedAt start (p ∷ ps) r k) (sym (version_other p ps r n)) (freed_more p ps r (version ps r) (freed_now ps r c.1 (sym (free_other p ps r n) ∙ f))))
 
-lt_false : (a b : ℕ) → b ≤ a → nat_lt a b ≡ false
-lt_false a b h = grind (arith, nat_tests)
-
 pub oldest_more : (n : ℕ) (p : Change) (ps : List Change) → n ≤ length ps → oldest n (p ∷ ps) ≡ oldest n ps
-oldest_more n p ps h = if_false (nat_lt (length ps) n) (p ∷ ps) (oldest n ps) (lt_false (length ps) n h)
+oldest_more n p ps h = cond-false (nat_lt (length ps) n) (p ∷ ps) (oldest n ps) (le-ltb (length ps) n h)
 
 pub oldest_append : (n : ℕ) (qs ps : List Change) → n ≤ length ps → oldest n (qs ++ ps) ≡ oldest n ps
 oldest_append n [] ps h = refl
@@ -222,8 +210,8 @@ oldest_append n (q ∷ qs) ps h = let e = length-append qs ps in oldest_more n q
 
 pub each_oldest : (P : Change → Type 0) (n : ℕ) (ps : List Change) → Each P ps → Each P (oldest n ps)
 each_oldest P n [] e = tt
-each_oldest P n (p ∷ ps) e = ⊎_elim (λ t. subst (Each P) (sym (if_true (nat_lt (length ps) n) (p ∷ ps) (oldest n ps) t)) e)
-    (λ t. subst (Each P) (sym (if_false (nat_lt (length ps) n) (p ∷ ps) (oldest n ps) t)) (each_oldest P n ps e.1)) (either_way (nat_lt (length ps) n))
+each_oldest P n (p ∷ ps) e = ⊎_elim (λ t. subst (Each P) (sym (cond-true (nat_lt (length ps) n) (p ∷ ps) (oldest n ps) t)) e)
+    (λ t. subst (Each P) (sym (cond-false (nat_lt (length ps) n) (p ∷ ps) (oldest n ps) t)) (each_oldest P n ps e.1)) (cases_Bool (nat_lt (length ps) n))
 
 -- Of the changes that one seat has nothing is above k where nothing in the history is: how far each is above k is its weight
 module _ (f : Change → ℕ) (r k : ℕ) where
@@ -234,14 +222,14 @@ module _ (f : Change → ℕ) (r k : ℕ) where
   unfolding excess
   none_over [] e = refl
   none_over (p ∷ ps) e = let rest = none_over ps e.1 in dite (ℕ_discrete p.row r)
-      (λ h. let b = e.0 h in let x : excess p ≡ 0 = if_true (eqb p.row r) (f p - k) 0 (eq-eqb p.row r h) ∙ omega arith in omega arith)
-      (λ n. let x : excess p ≡ 0 = if_false (eqb p.row r) (f p - k) 0 (ne_eqb p.row r n) in omega arith)
+      (λ h. let b = e.0 h in let x : excess p ≡ 0 = cond-true (eqb p.row r) (f p - k) 0 (eq-eqb p.row r h) ∙ omega arith in omega arith)
+      (λ n. let x : excess p ≡ 0 = cond-false (eqb p.row r) (f p - k) 0 (ne_eqb p.row r n) in omega arith)
 
   over_none : (ps : List Change) → total excess ps ≤ 0 → Each (λ (p : Change). p.row ≡ r → f p ≤ k) ps
   unfolding excess
   over_none [] e = tt
   over_none (p ∷ ps) e = (
-    (λ h. let x : excess p ≡ f p - k = if_true (eqb p.row r) (f p - k) 0 (eq-eqb p.row r h) in omega arith),
+    (λ h. let x : excess p ≡ f p - k = cond-true (eqb p.row r) (f p - k) 0 (eq-eqb p.row r h) in omega arith),
     over_none ps (omega arith),
   )
 
@@ -297,18 +285,18 @@ module _ (start : List ℕ) where
   )
 
   level_now : (p : Change) (ps : List Change) → Follows start ps p → level p ≡ version ps p.row + 1
-  level_now p ps f = let n = f.numbered in ⊎_elim (λ g. let l = level_put p g in let s = step_put p g in omega arith) (λ g. let l = level_release p g in let s = step_release p g in omega arith) (either_way p.puts)
+  level_now p ps f = let n = f.numbered in ⊎_elim (λ g. let l = level_put p g in let s = step_put p g in omega arith) (λ g. let l = level_release p g in let s = step_release p g in omega arith) (cases_Bool p.puts)
 
   -- an entry is not below those before it
   pub shows_next : (p e : Change) (v : ℕ) → e.version ≤ v → p.version ≡ v + step_of p → shows_to p e ≤ p.version
   shows_next p e v low at = ⊎_elim
-      (λ g. let s = step_put p g in let l = level_next start e in let is : shows_to p e ≡ level e = if_true p.puts (level e) e.version g in omega (arith, s, l, is, at, low))
-      (λ g. let s = step_release p g in let is : shows_to p e ≡ e.version = if_false p.puts (level e) e.version g in omega (arith, s, is, at, low)) (either_way p.puts)
+      (λ g. let s = step_put p g in let l = level_next start e in let is : shows_to p e ≡ level e = cond-true p.puts (level e) e.version g in omega (arith, s, l, is, at, low))
+      (λ g. let s = step_release p g in let is : shows_to p e ≡ e.version = cond-false p.puts (level e) e.version g in omega (arith, s, is, at, low)) (cases_Bool p.puts)
 
   shows_self : (p : Change) → shows_to p p ≤ p.version
   shows_self p = ⊎_elim
-      (λ g. let l = level_put p g in let is : shows_to p p ≡ level p = if_true p.puts (level p) p.version g in omega (arith, l, is))
-      (λ g. let is : shows_to p p ≡ p.version = if_false p.puts (level p) p.version g in omega (arith, is)) (either_way p.puts)
+      (λ g. let l = level_put p g in let is : shows_to p p ≡ level p = cond-true p.puts (level p) p.version g in omega (arith, l, is))
+      (λ g. let is : shows_to p p ≡ p.version = cond-false p.puts (level p) p.version g in omega (arith, is)) (cases_Bool p.puts)
 
   -- no entry is below what the actions did that had ended before it
   pub above_actions : (log : List Change) → IsChain start log → Each (λ (p : Change). Each (λ (e : Change). e.row ≡ p.row → 0 < e.action → e.action ≤ p.after → shows_to p e ≤ p.version) log) log

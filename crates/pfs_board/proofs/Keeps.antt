@@ -1,6 +1,7 @@
 -- What a step that changes no word, or the words of one row, leaves of the rule.
 use Rattle.std.proofs.Common.{◌≡◌, ℕ, subst, ◌+◌, ◌*◌, ◌/◌, ◌%◌, ◌<◌, ◌≤◌, ◌≢◌, Bool, true, false, List, length, get_or, set, sym, refl, ap, ◌∙◌, inl, inr, ⊎_elim, arith, length-set}
 use Rattle.std.specs.Prelude.{Option, None}
+use Rattle.pfs_lemmas.proofs.Bools.{true_not_false}
 use mathlib.Core.Logic.{dite}
 use mathlib.Core.Option.{some, some-injective}
 use mathlib.Core.Option as maybe
@@ -23,9 +24,6 @@ use Rattle.pfs_board.specs.Knowledge.{newcomer, corner, is_holding, held, IsWhol
 use Rattle.pfs_board.specs.Rule.{Moment, moment, lock, now, Knows, IsRead, IsKnown, IsSight, IsEntered, IsLast, IsInside, FitsRow, Fits, IsRow, IsRoot, IsHome, IsCurrent, Joint, Ruled}
 use Rattle.pfs_board.proofs.HistoryFacts.{each_map}
 use Rattle.pfs_board.proofs.ViewFacts.{total_set, total_two, total_plus, at_below, corners_set}
-
-pub true_not_false : (b : Bool) → b ≡ true → b ≡ false → ⊥
-true_not_false b e f = let g : true ≡ false = sym e ∙ f in cc
 
 module _ (start : List ℕ) where
   -- nothing of a row changed

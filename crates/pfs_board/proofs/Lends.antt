@@ -1,6 +1,8 @@
 -- The steps that hand the kept value over and change no word: it is lent, its empty slot goes home and comes back, and the value goes home.
 use Rattle.std.proofs.Common.{◌≡◌, ℕ, subst, ◌+◌, ◌*◌, ◌%◌, ◌<◌, ◌≢◌, ◌⊎◌, Bool, true, false, List, [], ◌∷◌, length, get_or, set, sym, refl, ap, ◌∙◌, inl, inr, ⊎_elim, arith}
 use Rattle.std.specs.Prelude.{Option, Some, None}
+use Rattle.std.proofs.lemmas.Bool.{cases_Bool}
+use Rattle.pfs_lemmas.proofs.Bools.{true_not_false}
 use mathlib.Core.Option.{some, none, some-injective}
 use mathlib.Core.Option as maybe
 use lib.ListN.{get_elem?}
@@ -16,8 +18,7 @@ use Rattle.pfs_board.specs.History.{labels_of}
 use Rattle.pfs_board.specs.Knowledge.{corner, is_holding, IsWhole, version_held, found_in, stored_in, lent_with, restored, halfway}
 use Rattle.pfs_board.specs.Rule.{Moment, lock, Knows, IsInside, Fits, IsHome, Ruled}
 use Rattle.pfs_board.specs.Plays.{hands, fetches, lends, restores}
-use Rattle.pfs_board.proofs.HistoryFacts.{either_way}
-use Rattle.pfs_board.proofs.Keeps.{true_not_false, no_change, whole_is_one, moved_on, same_row, same_everywhere, holders_set}
+use Rattle.pfs_board.proofs.Keeps.{no_change, whole_is_one, moved_on, same_row, same_everywhere, holders_set}
 use Rattle.pfs_board.proofs.Looks.{here}
 use Rattle.pfs_board.proofs.Publishes.{holding_knows}
 use Rattle.pfs_board.proofs.Ends.{ended, value_home}
@@ -46,7 +47,7 @@ module _ {K : Type 0} (means : K → List Label → Type 0) (start : List ℕ) w
   out_with s r id v at live out = let f = r.seats id v at live in ⊎_elim (λ x. inr (x.2 out).0) (λ x. inl (holding_knows start (here means start s r) id 0 (corner v 0).stage x.1 (f.corners 0).knows)) f.inside
 
   pub spent_home : (s : St) (r : Rule s) (j : ℕ) (u : View) → get_elem? s.views j ≡ some u → u.lent ≡ true → u.live ≡ true
-  spent_home s r j u there out = ⊎_elim (λ u_live. u_live) (λ dead. absurd (true_not_false u.lent out (ap (λ (x : View). x.lent) (r.joint.spent_is j u there dead)))) (either_way u.live)
+  spent_home s r j u there out = ⊎_elim (λ u_live. u_live) (λ dead. absurd (true_not_false u.lent out (ap (λ (x : View). x.lent) (r.joint.spent_is j u there dead)))) (cases_Bool u.live)
 
   -- a seat that is alone is the only one that the value can be out with
   pub alone_out : (s : St) (r : Rule s) (id : ℕ) (v : View) → get_elem? s.views id ≡ some v → IsWhole v → (j : ℕ) (u : View) → get_elem? s.views j ≡ some u → u.lent ≡ true → j ≡ id

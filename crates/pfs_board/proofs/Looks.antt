@@ -1,6 +1,9 @@
 -- The steps that change no word: loads of a lock word and of a content word, and the step that tells a number.
 use Rattle.std.proofs.Common.{◌≡◌, ℕ, eqb, subst, eq-eqb, ne_eqb, ◌+◌, ◌*◌, ◌/◌, ◌%◌, ◌<◌, ◌≤◌, ◌≢◌, ◌⊎◌, true, false, cond, List, [], ◌∷◌, ◌++◌, length, get_or, set, sym, refl, ap, ◌∙◌, inl, arith, length-append}
 use Rattle.std.specs.Prelude.{Option, Some}
+use Rattle.std.proofs.lemmas.Bool.{cond-false, cond-true}
+use Rattle.pfs_lemmas.proofs.Options.{some_same}
+use Rattle.pfs_lemmas.proofs.Bools.{true_not_false}
 use mathlib.Core.Logic.{dite}
 use mathlib.Core.Option.{some, none, some-injective}
 use native.Mathlib.Decide.{ℕ_discrete}
@@ -21,21 +24,18 @@ use Rattle.pfs_board.specs.History.{all_changes, total, Each, lock_at, word_at, 
 use Rattle.pfs_board.specs.Knowledge.{newcomer, corner, is_holding, held, IsWhole, turned, sighted, begun, sight_of, read_of, version_read, words_read, version_held, found_in, peeked, restaged, tried, looked, finished_at, finished, weighed, told}
 use Rattle.pfs_board.specs.Rule.{Moment, lock, now, Knows, IsRead, IsKnown, IsSeen, IsSight, IsLast, FitsRow, Fits, Ruled}
 use Rattle.pfs_board.specs.Plays.{IsLook, tries, looks, finishes, gathers, recalls, weighs, tells}
-use Rattle.pfs_board.proofs.HistoryFacts.{if_true, if_false, each_map, version_below_total, stood_now, below_all, level_all, freed_now, freed_last, never_opened, floor_new}
+use Rattle.pfs_board.proofs.HistoryFacts.{each_map, version_below_total, stood_now, below_all, level_all, freed_now, freed_last, never_opened, floor_new}
 use Rattle.pfs_board.proofs.ViewFacts.{total_one, held_set, held_some, corners_set, one}
-use Rattle.pfs_board.proofs.Keeps.{true_not_false, no_change, fits_after, inside_same, at_moment, whole_is_one, unmoved, same_everywhere}
-
-pub some_same : (n k : ℕ) → Some n ≡ Some k → n ≡ k
-some_same n k e = cc
+use Rattle.pfs_board.proofs.Keeps.{no_change, fits_after, inside_same, at_moment, whole_is_one, unmoved, same_everywhere}
 
 pub hold_set : (rows : List Corner) (q : ℕ) (c : Corner) → q < length rows → is_holding c.stage ≡ is_holding (get_or rows q newcomer).stage → (p : ℕ) → is_holding (get_or (set rows q c) p newcomer).stage ≡ is_holding (get_or rows p newcomer).stage
 hold_set rows q c inside e = corners_set (λ p d. is_holding d.stage ≡ is_holding (get_or rows p newcomer).stage) rows q c inside e (λ p n. refl)
 
 pub begun_at : (n : ℕ) → n % 4 ≡ 2 → begun n ≡ Reading (n / 4) []
-begun_at n e = if_true (eqb (n % 4) 2) (Reading (n / 4) []) Idle (eq-eqb (n % 4) 2 e)
+begun_at n e = cond-true (eqb (n % 4) 2) (Reading (n / 4) []) Idle (eq-eqb (n % 4) 2 e)
 
 pub begun_not : (n : ℕ) → n % 4 ≢ 2 → begun n ≡ Idle
-begun_not n e = if_false (eqb (n % 4) 2) (Reading (n / 4) []) Idle (ne_eqb (n % 4) 2 e)
+begun_not n e = cond-false (eqb (n % 4) 2) (Reading (n / 4) []) Idle (ne_eqb (n % 4) 2 e)
 
 module _ {K : Type 0} (means : K → List Label → Type 0) (start : List ℕ) where
   abbrev St : Type 0
@@ -106,7 +106,7 @@ module _ {K : Type 0} (means : K → List Label → Type 0) (start : List ℕ) w
     sees id q looks cs v st reads sights at live inside not_held idle knows tied each_read each_sight =
         let f = r.seats id v at live in let n : ℕ = lock here q in let c : Corner = sighted st n in let w : View = record (turned v q c) { looks = looks; reads = reads; sights = sights } in
         let wide = f.wide in let within : q < length v.rows = omega arith in let same = hold_set v.rows q c within (idle ∙ sym not_held) in
-        let h = held_set v.rows q c within in let x : one c ≡ 0 = if_false {A = ℕ} (is_holding st) 1 0 idle in let y : one (corner v q) ≡ 0 = if_false {A = ℕ} (is_holding (corner v q).stage) 1 0 not_held in
+        let h = held_set v.rows q c within in let x : one c ≡ 0 = cond-false {A = ℕ} (is_holding st) 1 0 idle in let y : one (corner v q) ≡ 0 = cond-false {A = ℕ} (is_holding (corner v q).stage) 1 0 not_held in
         let enough = f.enough in let fits : held (set v.rows q c) ≤ v.allowance = omega arith in
         unmoved means start s r (lock_at q) id cs v w at f.some_left record { sums = record { live_is = live; made_is = refl; allowance_is = refl; seats_is = refl }; lent_is = refl; moving_is = refl } (λ p g. same p ∙ g)
         (fits_after start id here here v w q c f record { rows_are = refl; number_same = refl; start_same = refl; after_same = refl; base_same = refl; whole_before = λ z. z } within (no_change start id here) (λ p _. same_everywhere means start here p)
@@ -145,9 +145,9 @@ module _ {K : Type 0} (means : K → List Label → Type 0) (start : List ℕ) w
     keeps,
     tt,
     dite (ℕ_discrete (n % 4) 1)
-        (λ e. let same = if_true (eqb (n % 4) 1) (sight_of v q n n ∷ v.sights) v.sights (eq-eqb (n % 4) 1 e) in
+        (λ e. let same = cond-true (eqb (n % 4) 1) (sight_of v q n n ∷ v.sights) v.sights (eq-eqb (n % 4) 1 e) in
         sees s r id q (v.looks + 1) me.1 v Idle v.reads w.sights at live inside not_held refl tt (λ k xs is. cc) (r.seats id v at live).reads (subst (Each (IsSight start t)) (sym same) (sight_now s r id q v at live inside not_held (λ z. omega arith), (r.seats id v at live).sights)))
-        (λ e. let same = if_false (eqb (n % 4) 1) (sight_of v q n n ∷ v.sights) v.sights (ne_eqb (n % 4) 1 e) in
+        (λ e. let same = cond-false (eqb (n % 4) 1) (sight_of v q n n ∷ v.sights) v.sights (ne_eqb (n % 4) 1 e) in
         sees s r id q (v.looks + 1) me.1 v Idle v.reads w.sights at live inside not_held refl tt (λ k xs is. cc) (r.seats id v at live).reads (subst (Each (IsSight start t)) (sym same) (r.seats id v at live).sights)),
     λ p e. let is : q ≡ p = omega arith in subst (λ z. (◌≡◌ {A = M} (w, me.1) (tried v z n, me.1)) × IsLook v n z) is (refl, look s r id q v at live inside),
   )
@@ -159,10 +159,10 @@ module _ {K : Type 0} (means : K → List Label → Type 0) (start : List ℕ) w
     keeps,
     tt,
     dite (ℕ_discrete (n % 4) 2)
-        (λ e. let same = if_true (eqb (n % 4) 2) v.sights (sight_of v q n n ∷ v.sights) (eq-eqb (n % 4) 2 e) in let start_is = begun_at n e in
+        (λ e. let same = cond-true (eqb (n % 4) 2) v.sights (sight_of v q n n ∷ v.sights) (eq-eqb (n % 4) 2 e) in let start_is = begun_at n e in
         sees s r id q (v.looks + 1) me.1 v (begun n) v.reads w.sights at live inside not_held (ap is_holding start_is) (subst (Knows start t id q) (sym start_is) (omega arith, omega arith, λ _ i h. absurd (omega arith)))
         (λ k xs is. let g : k ≡ n / 4 = ap version_read (sym is ∙ start_is) in omega arith) f.reads (subst (Each (IsSight start t)) (sym same) f.sights))
-        (λ e. let same = if_false (eqb (n % 4) 2) v.sights (sight_of v q n n ∷ v.sights) (ne_eqb (n % 4) 2 e) in let start_is = begun_not n e in
+        (λ e. let same = cond-false (eqb (n % 4) 2) v.sights (sight_of v q n n ∷ v.sights) (ne_eqb (n % 4) 2 e) in let start_is = begun_not n e in
         sees s r id q (v.looks + 1) me.1 v (begun n) v.reads w.sights at live inside not_held (ap is_holding start_is) (subst (Knows start t id q) (sym start_is) tt)
         (λ k xs is. let g : Reading k xs ≡ Idle = sym is ∙ start_is in cc) f.reads (subst (Each (IsSight start t)) (sym same) (sight_now s r id q v at live inside not_held e, f.sights))),
     λ p e. let is : q ≡ p = omega arith in subst (λ z. (◌≡◌ {A = M} (w, me.1) (looked v z n, me.1)) × IsLook v n z) is (refl, look s r id q v at live inside),
@@ -189,9 +189,9 @@ module _ {K : Type 0} (means : K → List Label → Type 0) (start : List ℕ) w
         keeps,
         tt,
         dite (ℕ_discrete n (4 * k + 2))
-            (λ e. subst (λ (x : View). Rule (stepped s (lock_at q) (get_or s.words (lock_at q) 0) id me.1 x keeps)) (sym (if_true (eqb n (4 * k + 2)) w1 w2 (eq-eqb n (4 * k + 2) e)))
+            (λ e. subst (λ (x : View). Rule (stepped s (lock_at q) (get_or s.words (lock_at q) 0) id me.1 x keeps)) (sym (cond-true (eqb n (4 * k + 2)) w1 w2 (eq-eqb n (4 * k + 2) e)))
             (sees s r id q (v.looks + 1) me.1 v Idle w1.reads v.sights at live inside not_held refl tt (λ k xs is. cc) (read_now s r id q k xs v at live inside (subst (Knows start t id q) reading (f.corners q).knows) wide e, f.reads) f.sights))
-            (λ e. subst (λ (x : View). Rule (stepped s (lock_at q) (get_or s.words (lock_at q) 0) id me.1 x keeps)) (sym (if_false (eqb n (4 * k + 2)) w1 w2 (ne_eqb n (4 * k + 2) e)))
+            (λ e. subst (λ (x : View). Rule (stepped s (lock_at q) (get_or s.words (lock_at q) 0) id me.1 x keeps)) (sym (cond-false (eqb n (4 * k + 2)) w1 w2 (ne_eqb n (4 * k + 2) e)))
             (sees s r id q (v.looks + 1) me.1 v Idle v.reads w2.sights at live inside not_held refl tt (λ k xs is. cc) f.reads (sight_then s r id q (4 * k + 2) v at live inside not_held (λ z. omega arith) e tied.0 tied.1, f.sights))),
         λ p e. let is : q ≡ p = omega arith in subst (λ z. (◌≡◌ {A = M} (finished_at v q n k xs, me.1) (finished v z n, me.1)) × IsLook v n z) is (ap (λ (x : View). (x, me.1)) (sym same), look s r id q v at live inside),
       )

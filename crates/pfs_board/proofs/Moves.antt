@@ -1,6 +1,8 @@
 -- The steps that change the words of one row and no history: the take, and the store of a content word.
 use Rattle.std.proofs.Common.{◌≡◌, ℕ, eqb, subst, eq-eqb, ne_eqb, zero, suc, ◌+◌, ◌*◌, ◌/◌, ◌%◌, ◌<◌, ◌≤◌, ◌≢◌, true, false, cond, List, [], ◌∷◌, ◌++◌, length, get_or, set, sym, refl, ap, ◌∙◌, inl, inr, ⊎_elim, arith, length-set, length-append, get_or-set_other, get_or-set_same}
 use Rattle.std.specs.Prelude.{Option, Some, None}
+use Rattle.std.proofs.lemmas.Bool.{cond-false, cond-true}
+use Rattle.pfs_lemmas.proofs.Options.{some_same}
 use mathlib.Core.Logic.{dite}
 use mathlib.Core.Option.{some, none}
 use native.Mathlib.Decide.{ℕ_discrete}
@@ -19,10 +21,10 @@ use Rattle.pfs_board.specs.History.{lock_at, word_at, version, stands, version_o
 use Rattle.pfs_board.specs.Knowledge.{newcomer, corner, is_holding, held, IsWhole, turned, sighted, stored, restaged, took, missed}
 use Rattle.pfs_board.specs.Rule.{Moment, lock, now, Knows, IsRead, IsKnown, IsSeen, IsSight, IsEntered, IsLast, FitsRow, IsRow, IsCurrent, Ruled}
 use Rattle.pfs_board.specs.Plays.{IsLook, takes, stores}
-use Rattle.pfs_board.proofs.HistoryFacts.{if_true, if_false, each_map, below_all, floor_new}
+use Rattle.pfs_board.proofs.HistoryFacts.{each_map, below_all, floor_new}
 use Rattle.pfs_board.proofs.ViewFacts.{held_set, one, at_below}
 use Rattle.pfs_board.proofs.Keeps.{SameRow, same_knows, same_row, Later, fits_after, inside_same, moved, holders_set}
-use Rattle.pfs_board.proofs.Looks.{hold_set, here, sub, look, sees, sight_then, some_same, again}
+use Rattle.pfs_board.proofs.Looks.{hold_set, here, sub, look, sees, sight_then, again}
 
 -- f of 0 to n - 1
 pub listed : (ℕ → ℕ) → ℕ → List ℕ
@@ -118,8 +120,8 @@ module _ {K : Type 0} (means : K → List Label → Type 0) (start : List ℕ) w
       → held v.rows < v.allowance → lock (here means start s r) q ≡ old → old % 4 ≢ 1 → Rule (stepped s (lock_at q) (4 * (old / 4) + 1) id cs (took v q old (listed (now (here means start s r) q) 16)) keeps)
   taken s r id q old cs v at live inside above not_held room is clean = let t = here means start s r in let found : List ℕ = listed (now t q) 16 in let k : ℕ = old / 4 in let w : View = took v q old found in
       let x : ℕ = 4 * k + 1 in let hd : ℕ → ℕ = taker q id r.holder in let t' : Moment = after_set start t (lock_at q) x hd in let f = r.seats id v at live in let o = f.corners q in let g = r.rows q inside in
-      let stays : (p : ℕ) → p ≢ q → hd p ≡ r.holder p = λ p n. if_false (eqb p q) id (r.holder p) (ne_eqb p q n) in
-      let mine : hd q ≡ id = if_true (eqb q q) id (r.holder q) (eq-eqb q q refl) in
+      let stays : (p : ℕ) → p ≢ q → hd p ≡ r.holder p = λ p n. cond-false (eqb p q) id (r.holder p) (ne_eqb p q n) in
+      let mine : hd q ≡ id = cond-true (eqb q q) id (r.holder q) (eq-eqb q q refl) in
       let same = other_row start t q (lock_at q) x hd (omega arith) (omega arith) stays in
       let wide = f.wide in let words_wide = r.joint.wide in let within : q < length v.rows = omega arith in
       let lock_now : lock t' q ≡ x = get_or-set_same s.words (lock_at q) x 0 (omega arith) in
@@ -131,7 +133,7 @@ module _ {K : Type 0} (means : K → List Label → Type 0) (start : List ℕ) w
       (λ by n odd e _. absurd (clean (ap (λ z. z % 4) (sym is ∙ e) ∙ odd))) in
       let h : held (set v.rows q (corner w q)) + one (corner v q) ≡ held v.rows + one (corner w q) = held_set v.rows q (corner w q) within in
       let c : Corner = sighted (Holding k found []) x in
-      let e : held (set v.rows q c) + one (corner v q) ≡ held v.rows + 1 = held_set v.rows q c within in let y : one (corner v q) ≡ 0 = if_false {A = ℕ} (is_holding (corner v q).stage) 1 0 not_held in
+      let e : held (set v.rows q c) + one (corner v q) ≡ held v.rows + 1 = held_set v.rows q c within in let y : one (corner v q) ≡ 0 = cond-false {A = ℕ} (is_holding (corner v q).stage) 1 0 not_held in
       let fits : held (set v.rows q c) ≤ v.allowance = omega arith in
       let row : FitsRow start t' id q v.after v.base (IsWhole w) c = record {
         knows = (lock_now, sym mine, length_listed (now t q) 16, omega arith, (λ i j. get_listed (now t q) 16 i j ∙ stands_now i j), (λ i j. absurd (omega arith)), (λ i _ j. now_same i j ∙ stands_now i j));

@@ -1,6 +1,8 @@
 -- The steps that add an entry to the history: a publication, and a release, of a row but row 0.
 use Rattle.std.proofs.Common.{◌≡◌, ℕ, eqb, subst, eq-eqb, ne_eqb, ◌+◌, ◌-◌, ◌*◌, ◌/◌, ◌%◌, ◌<◌, ◌≤◌, ◌≢◌, true, false, cond, not, List, [], ◌∷◌, ◌++◌, length, get_or, set, sym, refl, ap, ◌∙◌, inl, inr, ⊎_elim, arith, append_assoc, length-set, get_or-set_other, get_or-set_same}
 use Rattle.std.specs.Prelude.{Option, Some, None}
+use Rattle.std.proofs.lemmas.Bool.{cases_Bool, cond-false, cond-true}
+use Rattle.pfs_lemmas.proofs.Options.{some_same}
 use mathlib.Core.Logic.{dite}
 use mathlib.Core.Option.{some, none}
 use mathlib.Core.Option as maybe
@@ -20,17 +22,17 @@ use Rattle.pfs_board.specs.History.{total, Each, lock_at, word_at, step_of, vers
 use Rattle.pfs_board.specs.Knowledge.{newcomer, corner, is_holding, held, IsWhole, turned, sighted, change_of, no_label, version_held, found_in, stored_in, published_at, published, freed_at, freed}
 use Rattle.pfs_board.specs.Rule.{Moment, lock, now, Knows, IsRead, IsKnown, IsOthers, IsSeen, IsSight, IsEntered, IsLast, IsInside, FitsRow, Fits, IsRow, IsHome, IsCurrent, Joint, Ruled}
 use Rattle.pfs_board.specs.Plays.{publishes, frees}
-use Rattle.pfs_board.proofs.HistoryFacts.{if_true, if_false, either_way, each_map, version_here, version_other, version_more, stands_other, stands_put, stands_release, free_other, free_here, stood_before, below_all, labels_other, labels_more, shows_next, freed_more, oldest_more, of_all, each_oldest, floor_new, floor_log, floor_had}
+use Rattle.pfs_board.proofs.HistoryFacts.{each_map, version_here, version_other, version_more, stands_other, stands_put, stands_release, free_other, free_here, stood_before, below_all, labels_other, labels_more, shows_next, freed_more, oldest_more, of_all, each_oldest, floor_new, floor_log, floor_had}
 use Rattle.pfs_board.proofs.ViewFacts.{total_set, held_set, held_some, one, at_below}
 use Rattle.pfs_board.proofs.Keeps.{SameRow, same_knows, same_row, Later, fits_after, inside_same, root_set, root_home, home_set, lent_set, spent_set, seats_set, holders_set}
-use Rattle.pfs_board.proofs.Looks.{here, sub, some_same}
+use Rattle.pfs_board.proofs.Looks.{here, sub}
 
 -- the root's changes after one of the seat id
 abbrev pub had_after : ℕ → Change → List Change → List Change
 had_after id p had = cond (eqb id 0) (p ∷ had) had
 
 had_either : (P : List Change → Type 0) (id : ℕ) (p : Change) (had : List Change) → P (p ∷ had) → P had → P (had_after id p had)
-had_either P id p had with_it without = ⊎_elim (λ e. subst P (sym (if_true (eqb id 0) (p ∷ had) had e)) with_it) (λ e. subst P (sym (if_false (eqb id 0) (p ∷ had) had e)) without) (either_way (eqb id 0))
+had_either P id p had with_it without = ⊎_elim (λ e. subst P (sym (cond-true (eqb id 0) (p ∷ had) had e)) with_it) (λ e. subst P (sym (cond-false (eqb id 0) (p ∷ had) had e)) without) (cases_Bool (eqb id 0))
 
 pub had_long : (id : ℕ) (p : Change) (had : List Change) → length had ≤ length (had_after id p had)
 had_long id p had = had_either (λ z. length had ≤ length z) id p had (omega arith) (omega arith)
@@ -112,7 +114,7 @@ module _ (start : List ℕ) (t : Moment) (id q k n : ℕ) (p : Change) (x : Leav
     shape = a.shape;
     order = a.order;
     again = a.again;
-    between = λ differ clean. ((λ e _ puts. let row : q ≡ y.row = sym x.row_is ∙ e in let at_row = ap (version t.log) row in let v = x.version_is in let w = x.at_version in let one_up = if_true {A = ℕ} p.puts 1 0 puts in inr (omega arith)), a.between differ clean);
+    between = λ differ clean. ((λ e _ puts. let row : q ≡ y.row = sym x.row_is ∙ e in let at_row = ap (version t.log) row in let v = x.version_is in let w = x.at_version in let one_up = cond-true {A = ℕ} p.puts 1 0 puts in inr (omega arith)), a.between differ clean);
   }
 
   read_left : (f : Finished) → IsRead start t f → IsRead start t' f
@@ -127,7 +129,7 @@ module _ (start : List ℕ) (t : Moment) (id q k n : ℕ) (p : Change) (x : Leav
   knows_left : (j : ℕ) → j ≢ id → (st : Stage) → Knows start t j q st → Knows start t' j q st
   knows_left j ne Idle a = tt
   knows_left j ne (Reading v xs) a = let b = a.0 in let m = version_more p t.log q in let w = x.at_version in let c = x.counts in
-      (omega arith, a.1, λ is. let n_is : n ≡ 4 * v + 2 = sym left_lock ∙ is in let puts = x.puts (omega arith) in let up = if_true {A = ℕ} p.puts 1 0 puts in absurd (omega arith))
+      (omega arith, a.1, λ is. let n_is : n ≡ 4 * v + 2 = sym left_lock ∙ is in let puts = x.puts (omega arith) in let up = cond-true {A = ℕ} p.puts 1 0 puts in absurd (omega arith))
   knows_left j ne (Holding v found put) a = absurd (ne (a.1 ∙ x.mine))
 
   last_left : (j r : ℕ) (v : Option ℕ) → j ≢ id → IsLast start t j r v → IsLast start t' j r v
@@ -214,8 +216,8 @@ module _ {K : Type 0} (means : K → List Label → Type 0) (start : List ℕ) w
       floors = (floors_now, each_map (λ (e : Change). (e.base ≤ length t.had) × Each (λ (c : Change). c.row ≡ e.row → shows_to e c ≤ e.version) (oldest e.base t.had)) (λ (e : Change). (e.base ≤ length u.had) × Each (λ (c : Change). c.row ≡ e.row → shows_to e c ≤ e.version) (oldest e.base u.had)) floors_then r.log o.floors);
       current = current;
       root_is = root_set means start t u homes s.views id v w at
-          (λ y at0 ne root. record { here = root.here; seats = root.seats; made = root.made ∙ sym (if_false (eqb id 0) (p ∷ r.had) r.had (ne_eqb id 0 (λ e. ne (sym e)))) })
-          (λ e root. record { here = adds.live_is; seats = root.seats ∙ ap (λ z. z + 1) (sym adds.seats_is); made = adds.made_is ∙ (ap (λ z. p ∷ z) root.made ∙ sym (if_true (eqb id 0) (p ∷ r.had) r.had (eq-eqb id 0 (sym e)))) })
+          (λ y at0 ne root. record { here = root.here; seats = root.seats; made = root.made ∙ sym (cond-false (eqb id 0) (p ∷ r.had) r.had (ne_eqb id 0 (λ e. ne (sym e)))) })
+          (λ e root. record { here = adds.live_is; seats = root.seats ∙ ap (λ z. z + 1) (sym adds.seats_is); made = adds.made_is ∙ (ap (λ z. p ∷ z) root.made ∙ sym (cond-true (eqb id 0) (p ∷ r.had) r.had (eq-eqb id 0 (sym e)))) })
           home root.0 root.1 root.2;
       empty = empty;
       spent_is = spent_set means start s.views id w adds.live_is o.spent_is;
@@ -231,7 +233,7 @@ module _ {K : Type 0} (means : K → List Label → Type 0) (start : List ℕ) w
       known = λ m fresh e. let is : n ≡ m = some_same n m e in let v_is : version u.log q ≡ m / 4 = omega arith in record {
         state = subst (λ z. z % 4 < 3) is state;
         below = omega arith;
-        opened = λ z. let puts = x.puts (omega (arith, is, z)) in let one_up = if_true {A = ℕ} p.puts 1 0 puts in let c = x.counts in absurd (omega (arith, one_up, c, is, z));
+        opened = λ z. let puts = x.puts (omega (arith, is, z)) in let one_up = cond-true {A = ℕ} p.puts 1 0 puts in let c = x.counts in absurd (omega (arith, one_up, c, is, z));
         free = λ z. inl (inl (x.row_is, x.frees (omega arith), x.version_is ∙ omega arith));
         floor = subst (λ z. Floor version_of u.log u.had q z after v.base) v_is (floor_new version_of u.log u.had q (version u.log q) after v.base ends (omega arith) had_sub (below_all start u.log q chain));
       };
@@ -254,8 +256,8 @@ module _ {K : Type 0} (means : K → List Label → Type 0) (start : List ℕ) w
     -- one row fewer is held, and one publication may be paid for
     pub held_left : (held w.rows ≤ w.allowance) × (0 < w.allowance + total step_of w.made) × (w.allowance + total step_of w.made ≡ v.allowance + total step_of v.made)
     held_left = let f = r.seats id v at live in let wide = f.wide in let within : q < length v.rows = omega arith in let c : Corner = sighted Idle n in let rows = ap held adds.rows_are in let pay = adds.allowance_is in let m : total step_of w.made ≡ step_of p + total step_of v.made = ap (total step_of) adds.made_is in
-        let h : held (set v.rows q c) + one (corner v q) ≡ held v.rows + 0 = held_set v.rows q c within in let y : one (corner v q) ≡ 1 = if_true {A = ℕ} (is_holding (corner v q).stage) 1 0 holding in let enough = f.enough in
-        let unit : step_of p ≤ 1 = ⊎_elim (λ g. let b = if_true {A = ℕ} p.puts 1 0 g in omega arith) (λ g. let b = if_false {A = ℕ} p.puts 1 0 g in omega arith) (either_way p.puts) in
+        let h : held (set v.rows q c) + one (corner v q) ≡ held v.rows + 0 = held_set v.rows q c within in let y : one (corner v q) ≡ 1 = cond-true {A = ℕ} (is_holding (corner v q).stage) 1 0 holding in let enough = f.enough in
+        let unit : step_of p ≤ 1 = ⊎_elim (λ g. let b = cond-true {A = ℕ} p.puts 1 0 g in omega arith) (λ g. let b = cond-false {A = ℕ} p.puts 1 0 g in omega arith) (cases_Bool p.puts) in
         let some_left = f.some_left in (omega arith, omega arith, omega arith)
 
   -- the view of a seat that leaves the row q at the lock word n, with the entry p and the allowance a

@@ -1,6 +1,7 @@
 -- A seat is split off, and taken in again.
 use Rattle.std.proofs.Common.{◌≡◌, ℕ, subst, zero, suc, ◌+◌, ◌*◌, ◌/◌, ◌<◌, ◌≤◌, ◌≢◌, ◌⊎◌, true, false, List, [], ◌∷◌, ◌++◌, length, get_or, set, max, sym, refl, ap, ◌∙◌, inl, inr, ⊎_elim, arith, length-set, length-append}
 use Rattle.std.specs.Prelude.{Option, Some, None}
+use Rattle.pfs_lemmas.proofs.Bools.{true_not_false}
 use mathlib.Core.Logic.{dite}
 use mathlib.Core.Option.{some, some-injective, some-ne-none}
 use native.Mathlib.Decide.{ℕ_discrete}
@@ -18,7 +19,7 @@ use Rattle.pfs_board.specs.Knowledge.{corner, is_holding, held, IsWhole, settled
 use Rattle.pfs_board.specs.Rule.{Moment, Knows, IsRead, IsKnown, IsSeen, IsSight, IsEntered, IsLast, IsInside, FitsRow, Fits, IsRoot, IsHome, Joint, Ruled}
 use Rattle.pfs_board.proofs.HistoryFacts.{each_map, each_append, total_append, oldest_append, floor_had}
 use Rattle.pfs_board.proofs.ViewFacts.{total_set, held_none, settled_holds, corners_stale, corners_start, corners_merged, length_stale, length_start, length_merged, held_stale, held_start, held_merged, at_below}
-use Rattle.pfs_board.proofs.Keeps.{true_not_false, Later, whole_is_one, spent_set, lent_set}
+use Rattle.pfs_board.proofs.Keeps.{Later, whole_is_one, spent_set, lent_set}
 use Rattle.pfs_board.proofs.Looks.{here}
 
 -- the last of a list that is one longer has its length for its place

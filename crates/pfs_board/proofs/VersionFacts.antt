@@ -1,12 +1,11 @@
 -- A chain counts and orders a row's entries; and what holds of each entry of a history holds of each that was made.
 use Rattle.std.proofs.Common.{◌≡◌, ℕ, ◌+◌, ◌<◌, ◌≤◌, ◌==◌, ◌&&◌, Bool, true, false, cond, not, nat_lt, nat_le, List, [], ◌∷◌, sym, refl, ap, subst, arith}
+use Rattle.std.proofs.lemmas.Bool.{and_from, and_parts, eqb-true}
+use Rattle.pfs_lemmas.proofs.Numbers.{eq_self}
 use Rattle.pfs_board.specs.declared.view.Change.{Change}
 use Rattle.pfs_board.specs.History.{total, Each, step_of, version, IsChain}
 use Rattle.pfs_board.specs.Versions.{one_if, publishes, publishes_at, AreBetween, ChainLaw}
 use Rattle.pfs_board.proofs.HistoryFacts.{freed_now, freed_last}
-
-eq_of : (a b : ℕ) → (a == b) ≡ true → a ≡ b
-eq_of a b q = grind arith
 
 count_of : (log : List Change) (r : ℕ) → version log r ≡ total (λ p. one_if (publishes r p)) log
 count_of [] r = refl
@@ -29,7 +28,7 @@ once_of start (p ∷ ps) r k c = at (p.row == r) p.puts refl refl (once_of start
   at true true q u e =
       let n : p.version ≡ version ps p.row + step_of p = c.0.numbered in
       let s : step_of p ≡ 1 = ap (λ z. cond {A = ℕ} z 1 0) u in
-      let same : version ps p.row ≡ version ps r = ap (version ps) (eq_of p.row r q) in
+      let same : version ps p.row ≡ version ps r = ap (version ps) (eqb-true p.row r q) in
       rw e (one_more k (version ps r) p.version (omega (arith, n, s, same)))
   at true false q u e = rw e (same (version ps r)) where
     same : (n : ℕ) → 0 + cond {A = ℕ} (nat_lt 0 k && nat_le k n) 1 0 ≡ cond {A = ℕ} (nat_lt 0 k && nat_le k (n + 0)) 1 0
@@ -60,23 +59,15 @@ same_list [] (y ∷ ys) = false
 same_list (x ∷ xs) [] = false
 same_list (x ∷ xs) (y ∷ ys) = (x == y) && same_list xs ys
 
-eq_self : (n : ℕ) → (n == n) ≡ true
-eq_self n = grind arith
-
 list_self : (xs : List ℕ) → same_list xs xs ≡ true
 list_self [] = refl
 list_self (x ∷ xs) = rw (eq_self x) (list_self xs)
-
-both : (a b : Bool) → a && b ≡ true → (a ≡ true) × (b ≡ true)
-both true true h = (refl, refl)
-both true false h = absurd (cc)
-both false b h = absurd (cc)
 
 list_is : (xs ys : List ℕ) → same_list xs ys ≡ true → xs ≡ ys
 list_is [] [] e = refl
 list_is [] (y ∷ ys) e = absurd (cc)
 list_is (x ∷ xs) [] e = absurd (cc)
-list_is (x ∷ xs) (y ∷ ys) e = let b = both (x == y) (same_list xs ys) e in let h : x ≡ y = eq_of x y b.0 in let t : xs ≡ ys = list_is xs ys b.1 in λ i. h i ∷ t i
+list_is (x ∷ xs) (y ∷ ys) e = let b = and_parts (x == y) (same_list xs ys) e in let h : x ≡ y = eqb-true x y b.0 in let t : xs ≡ ys = list_is xs ys b.1 in λ i. h i ∷ t i
 
 abbrev same_bool : Bool → Bool → Bool
 same_bool true b = b
@@ -101,36 +92,32 @@ same_contents p q = (p.label.session == q.label.session) && ((p.label.line == q.
 abbrev pub same_change : Change → Change → Bool
 same_change p q = same_numbers p q && same_contents p q
 
-all_true : (a b : Bool) → a ≡ true → b ≡ true → a && b ≡ true
-all_true true b x y = y
-all_true false b x y = absurd (cc)
-
 pub change_self : (p : Change) → same_change p p ≡ true
-change_self p = all_true _ _
-    (all_true _ _ (eq_self p.by) (all_true _ _ (eq_self p.row) (all_true _ _ (eq_self p.version) (all_true _ _ (bool_self p.puts) (all_true _ _ (eq_self p.action) (all_true _ _ (eq_self p.after) (eq_self p.base)))))))
-    (all_true _ _ (eq_self p.label.session) (all_true _ _ (eq_self p.label.line) (all_true _ _ (list_self p.found) (list_self p.put))))
+change_self p = and_from _ _
+    (and_from _ _ (eq_self p.by) (and_from _ _ (eq_self p.row) (and_from _ _ (eq_self p.version) (and_from _ _ (bool_self p.puts) (and_from _ _ (eq_self p.action) (and_from _ _ (eq_self p.after) (eq_self p.base)))))))
+    (and_from _ _ (eq_self p.label.session) (and_from _ _ (eq_self p.label.line) (and_from _ _ (list_self p.found) (list_self p.put))))
 
 pub change_is : (p q : Change) → same_change p q ≡ true → p ≡ q
 change_is p q e =
-    let x = both (same_numbers p q) (same_contents p q) e in
-    let a = both _ _ x.0 in
-    let b = both _ _ a.1 in
-    let c = both _ _ b.1 in
-    let d = both _ _ c.1 in
-    let f = both _ _ d.1 in
-    let g = both _ _ f.1 in
-    let l = both _ _ x.1 in
-    let m = both _ _ l.1 in
-    let n = both _ _ m.1 in
-    let by : p.by ≡ q.by = eq_of _ _ a.0 in
-    let row : p.row ≡ q.row = eq_of _ _ b.0 in
-    let version : p.version ≡ q.version = eq_of _ _ c.0 in
+    let x = and_parts (same_numbers p q) (same_contents p q) e in
+    let a = and_parts _ _ x.0 in
+    let b = and_parts _ _ a.1 in
+    let c = and_parts _ _ b.1 in
+    let d = and_parts _ _ c.1 in
+    let f = and_parts _ _ d.1 in
+    let g = and_parts _ _ f.1 in
+    let l = and_parts _ _ x.1 in
+    let m = and_parts _ _ l.1 in
+    let n = and_parts _ _ m.1 in
+    let by : p.by ≡ q.by = eqb-true _ _ a.0 in
+    let row : p.row ≡ q.row = eqb-true _ _ b.0 in
+    let version : p.version ≡ q.version = eqb-true _ _ c.0 in
     let puts : p.puts ≡ q.puts = bool_is p.puts q.puts d.0 in
-    let action : p.action ≡ q.action = eq_of _ _ f.0 in
-    let after : p.after ≡ q.after = eq_of _ _ g.0 in
-    let base : p.base ≡ q.base = eq_of _ _ g.1 in
-    let session : p.label.session ≡ q.label.session = eq_of _ _ l.0 in
-    let line : p.label.line ≡ q.label.line = eq_of _ _ m.0 in
+    let action : p.action ≡ q.action = eqb-true _ _ f.0 in
+    let after : p.after ≡ q.after = eqb-true _ _ g.0 in
+    let base : p.base ≡ q.base = eqb-true _ _ g.1 in
+    let session : p.label.session ≡ q.label.session = eqb-true _ _ l.0 in
+    let line : p.label.line ≡ q.label.line = eqb-true _ _ m.0 in
     let found : p.found ≡ q.found = list_is p.found q.found n.0 in
     let put : p.put ≡ q.put = list_is p.put q.put n.1 in
     λ i. record { by = by i; row = row i; version = version i; puts = puts i; action = action i; after = after i; base = base i; label = record { session = session i; line = line i }; found = found i; put = put i }

@@ -1,5 +1,6 @@
 -- Sums over views, and corners.
 use Rattle.std.proofs.Common.{◌≡◌, ℕ, subst, zero, suc, ◌+◌, ◌<◌, ◌≤◌, ◌≢◌, true, false, cond, List, [], ◌∷◌, length, get_or, set, replicate, max, sym, refl, ap, ◌∙◌, ⊎_elim, arith, get_or-set_other, get_or-set_same}
+use Rattle.std.proofs.lemmas.Bool.{cases_Bool, cond-true}
 use mathlib.Core.Logic.{dite}
 use mathlib.Core.Option.{some, some-injective, some-ne-none}
 use native.Mathlib.Decide.{ℕ_discrete}
@@ -9,7 +10,6 @@ use Rattle.pfs_board.specs.declared.view.Stage.{Stage}
 use Rattle.pfs_board.specs.declared.view.Stage.TheVariants.{Idle, Reading, Holding}
 use Rattle.pfs_board.specs.History.{total}
 use Rattle.pfs_board.specs.Knowledge.{newcomer, is_holding, held, settled, stale, fresh_start, merged}
-use Rattle.pfs_board.proofs.HistoryFacts.{if_true, either_way}
 
 module _ {A : Type 0} (f : A → ℕ) where
   pub total_set : (xs : List A) (i : ℕ) (v w : A) → get_elem? xs i ≡ some v → total f (set xs i w) + f v ≡ total f xs + f w
@@ -48,12 +48,12 @@ held_set (x ∷ xs) (suc r) c h = let e = held_set xs r c (omega arith) in omega
 
 pub held_some : (rows : List Corner) (r : ℕ) → is_holding (get_or rows r newcomer).stage ≡ true → 1 ≤ held rows
 held_some [] r h = cc
-held_some (x ∷ xs) zero h = let o : one x ≡ 1 = if_true {A = ℕ} (is_holding x.stage) 1 0 h in omega arith
+held_some (x ∷ xs) zero h = let o : one x ≡ 1 = cond-true {A = ℕ} (is_holding x.stage) 1 0 h in omega arith
 held_some (x ∷ xs) (suc r) h = let e = held_some xs r h in omega arith
 
 pub held_none : (rows : List Corner) (r : ℕ) → held rows ≡ 0 → is_holding (get_or rows r newcomer).stage ≡ false
 held_none [] r h = refl
-held_none (x ∷ xs) zero h = ⊎_elim (λ t. let o : one x ≡ 1 = if_true (is_holding x.stage) 1 0 t in let h' : one x + held xs ≡ 0 = h in absurd (omega arith)) (λ f. f) (either_way (is_holding x.stage))
+held_none (x ∷ xs) zero h = ⊎_elim (λ t. let o : one x ≡ 1 = cond-true (is_holding x.stage) 1 0 t in let h' : one x + held xs ≡ 0 = h in absurd (omega arith)) (λ f. f) (cases_Bool (is_holding x.stage))
 held_none (x ∷ xs) (suc r) h = let h' : one x + held xs ≡ 0 = h in held_none xs r (omega arith)
 
 -- a fact of each corner, after one was changed

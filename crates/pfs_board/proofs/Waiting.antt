@@ -1,6 +1,8 @@
 -- What a seat knows that waits for row 0, and then has it.
 use Rattle.std.proofs.Common.{◌≡◌, ℕ, ◌+◌, ◌*◌, ◌/◌, ◌%◌, ◌<◌, ◌≤◌, true, false, List, [], ◌∷◌, length, get_or, set, subst, sym, refl, ap, ◌∙◌, arith, length-set, get_or-set_same}
 use Rattle.std.specs.Prelude.{Some}
+use Rattle.std.proofs.lemmas.Bool.{cond-false}
+use Rattle.pfs_lemmas.proofs.Options.{some_same}
 use Rattle.atomic_table.specs.Seated.{TableId}
 use Rattle.pfs_board.specs.declared.view.Corner.{Corner}
 use Rattle.pfs_board.specs.declared.view.Label.{Label}
@@ -12,8 +14,6 @@ use Rattle.pfs_board.specs.Known.{IsReady}
 use Rattle.pfs_board.specs.Sitting.{IsAt, IsCalm}
 use Rattle.pfs_board.proofs.Calls.{at_next}
 use Rattle.pfs_board.proofs.Between.{settled_calm}
-use Rattle.pfs_board.proofs.HistoryFacts.{if_false}
-use Rattle.pfs_board.proofs.Looks.{some_same}
 use Rattle.pfs_board.proofs.OwnFacts.{own_begun}
 use Rattle.pfs_board.proofs.ViewFacts.{held_set, held_stale, length_stale, one, corners_set, corners_stale, settled_holds}
 
@@ -52,7 +52,7 @@ ready_begun z v w label h r b = let n : ℕ = 4 * length w.labels + 1 in let c :
 pub hands_begun : (v w : View) (label : Label) → 0 < length v.rows → is_holding (corner v 0).stage ≡ false → HasBegun v label w → (is_holding (corner w 0).stage ≡ true) × (held w.rows ≡ held v.rows + 1) × (stake w ≡ stake v)
 hands_begun v w label h free b = let c : Corner = sighted (Holding (length w.labels) (found_in (corner w 0).stage) []) (4 * length w.labels + 1) in let l = length_stale v.rows in let inside : 0 < length (stale v.rows) = omega arith in
     let s = held_set (stale v.rows) 0 c inside in let x : one c ≡ 1 = refl in let same = held_stale v.rows in let rows = ap (λ (y : View). held y.rows) b.view_is in
-    let y : one (get_or (stale v.rows) 0 newcomer) ≡ 0 = corners_stale (λ (d : Corner). one d ≡ 0) v.rows 0 (if_false {A = ℕ} (is_holding (settled (corner v 0).stage)) 1 0 (settled_holds (corner v 0).stage ∙ free)) in (
+    let y : one (get_or (stale v.rows) 0 newcomer) ≡ 0 = corners_stale (λ (d : Corner). one d ≡ 0) v.rows 0 (cond-false {A = ℕ} (is_holding (settled (corner v 0).stage)) 1 0 (settled_holds (corner v 0).stage ∙ free)) in (
       ap (λ (y : View). is_holding (corner y 0).stage) b.view_is ∙ ap (λ (d : Corner). is_holding d.stage) (get_or-set_same (stale v.rows) 0 c newcomer inside),
       omega arith,
       ap stake b.view_is,

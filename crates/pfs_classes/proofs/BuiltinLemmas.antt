@@ -3,8 +3,7 @@ use Rattle.std.proofs.Common.{◌≡◌, ℕ, zero, suc, ◌+◌, ◌<◌, ◌�
 use Rattle.std.specs.Prelude.{codes, nat_le, slice_get, fold}
 use Rattle.std.specs.List.{list_all}
 use Rattle.std.specs.Str.{bytes_eq}
-use Rattle.std.proofs.lemmas.Bool.{and_parts}
-use Rattle.std.proofs.lemmas.Bool.Decides.{nat_tests}
+use Rattle.std.proofs.lemmas.Bool.{and_parts, leb-true}
 use Rattle.std.proofs.lemmas.List.Elements.{Contains-append_left}
 use Rattle.std.proofs.lemmas.Option.{same_Some, slice_get-get_or}
 use Rattle.std.proofs.lemmas.Slice.Eq.{bytes_eq-Decides}
@@ -34,15 +33,12 @@ passes_at [] all k row at = cc
 passes_at (first ∷ rows) all zero row at = ap fits_test (sym (same_Some first row at)) ∙ (and_parts (fits_test first) (list_all fits_test rows) all).0
 passes_at (first ∷ rows) all (suc k) row at = passes_at rows (and_parts (fits_test first) (list_all fits_test rows) all).1 k row at
 
-at_most : (m n : ℕ) → nat_le m n ≡ true → m ≤ n
-at_most m n h = grind (arith, nat_tests)
-
 fits_from_test : (row : Row) → fits_test row ≡ true → Fits row.name row.kind
 unfolding fits_test
 fits_from_test row h =
     let both = and_parts (bytes_eq row.name (kind_name row.kind ++ 47 ∷ parts_of row)) (are_parts (parts_of row) && nat_le (length row.name) 128) h in
     let more = and_parts (are_parts (parts_of row)) (nat_le (length row.name) 128) both.1 in
-    inr (parts_of row, (bytes_eq-Decides row.name (kind_name row.kind ++ 47 ∷ parts_of row)).0 both.0, more.0, at_most (length row.name) 128 more.1)
+    inr (parts_of row, (bytes_eq-Decides row.name (kind_name row.kind ++ 47 ∷ parts_of row)).0 both.0, more.0, leb-true (length row.name) 128 more.1)
 
 -- each row has the kind of its name
 pub row_fits : (row : Row) → Contains builtins row → Fits row.name row.kind

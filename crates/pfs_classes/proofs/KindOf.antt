@@ -7,17 +7,10 @@ use Rattle.std.proofs.Math.Seq.{drop-append_seam}
 use Rattle.std.proofs.lemmas.Bool.{and_from, cases_Bool, false≢true}
 use Rattle.std.proofs.lemmas.Bool.Decides.{Decides-eqb, nat_tests}
 use Rattle.std.proofs.lemmas.Slice.Eq.{starts_is, bytes_eq-Decides}
+use Rattle.pfs_lemmas.proofs.Bools.{and_first, and_second}
 use Rattle.pfs_classes.specs.Kinds.{kind_name, are_parts, Fits, is_of_kind, all_kinds, kind_of}
 use Rattle.pfs_classes.specs.declared.kind.Kind.{Kind}
 use Rattle.pfs_classes.specs.declared.kind.Kind.TheVariants.{Mutex, Rwlock, Cond, File, Socket, TableIo, TableLock, Stage, Statement, Transaction}
-
-left_of : (a b : Bool) → (a && b) ≡ true → a ≡ true
-left_of true b h = refl
-left_of false b h = cc
-
-right_of : (a b : Bool) → (a && b) ≡ true → b ≡ true
-right_of true b h = h
-right_of false b h = cc
 
 abbrev HasParts : List ℕ → List ℕ → Type 0
 HasParts name front = (parts : List ℕ) × (name ≡ front ++ 47 ∷ parts) × IsTrue (are_parts parts)
@@ -30,8 +23,8 @@ one_more front = length-append front (47 ∷ [])
 
 parts_found : (name front : List ℕ) → has_parts name front ≡ true → HasParts name front
 parts_found name front h =
-    let starts = left_of (starts_with nat_eq name (front ++ 47 ∷ [])) (are_parts (drop (length front + 1) name)) h in
-    let rest = right_of (starts_with nat_eq name (front ++ 47 ∷ [])) (are_parts (drop (length front + 1) name)) h in
+    let starts = and_first (starts_with nat_eq name (front ++ 47 ∷ [])) (are_parts (drop (length front + 1) name)) h in
+    let rest = and_second (starts_with nat_eq name (front ++ 47 ∷ [])) (are_parts (drop (length front + 1) name)) h in
     let whole : name ≡ (front ++ 47 ∷ []) ++ drop (length (front ++ 47 ∷ [])) name = (starts_is Decides-eqb name (front ++ 47 ∷ []) _ refl).0 starts in
     let at_one : name ≡ (front ++ 47 ∷ []) ++ drop (length front + 1) name = subst (λ n. name ≡ (front ++ 47 ∷ []) ++ drop n name) (one_more front) whole in
     (drop (length front + 1) name, at_one ∙ append_assoc front (47 ∷ []) (drop (length front + 1) name), rest)

@@ -12,6 +12,7 @@ use Rattle.std.proofs.lemmas.List.Folds.{list_any-append, list_any_at}
 use Rattle.std.proofs.lemmas.Map.Lookups.{exact_unsigned}
 use Rattle.std.proofs.lemmas.List.Sums.{sum_by-cons, sum_by-set, sum_by_push}
 use Rattle.std.proofs.lemmas.Option.{same_Some, slice_get-get_or, slice_get_within, get_or_from_slice_get}
+use Rattle.pfs_lemmas.proofs.Bools.{or_false}
 use Rattle.pfs_rows.specs.declared.limits.Limits.{Limits}
 use Rattle.pfs_rows.specs.Limits.{AreInRange}
 use Rattle.pfs_classes.specs.declared.kind.Kind.{Kind}
@@ -176,10 +177,6 @@ class_push_at xs class first old id (inr last) is = (old, ap (λ n. cond (eqb n 
 not_62 : (n : ℕ) → n < 62 → eqb n 62 ≡ false
 not_62 n lt = grind (arith, nat_tests)
 
-or_no : (b : Bool) → (b || false) ≡ b
-or_no true = refl
-or_no false = refl
-
 differs : (a b : ℕ) → b ≢ a → eqb a b ≡ false
 differs a b ne = grind (arith, nat_tests)
 
@@ -207,7 +204,7 @@ within_push r class kind false e room within =
     omega (arith, count_by-push (λ (one : Class). same_kind one.kind kind) r.classes class, ap {B = ℕ} (λ b. cond b 1 0) e)
 
 any_push : (p : Class → Bool) (xs : List Class) (y : Class) → p y ≡ false → list_any p (xs ++ y ∷ []) ≡ list_any p xs
-any_push p xs y e = list_any-append p xs (y ∷ []) ∙ rw e (or_no (list_any p xs))
+any_push p xs y e = list_any-append p xs (y ∷ []) ∙ rw e (or_false (list_any p xs))
 
 -- one more class of a kind that has room
 pub keeps_push : (r : Registry) (before after : BTreeMap ℕ ClassRef) (class : Class) → has_room r class.kind ≡ true → Updated before after class.name (refs.Class (length r.classes)) → Keeps r before → Keeps (record r { classes = r.classes ++ class ∷ [] }) after
@@ -232,7 +229,7 @@ keeps_push r before after class room updated keeps =
     }
 
 lost_push : (p : LostClass → Bool) (xs : List LostClass) (y : LostClass) → p y ≡ false → list_any p (xs ++ y ∷ []) ≡ list_any p xs
-lost_push p xs y e = list_any-append p xs (y ∷ []) ∙ rw e (or_no (list_any p xs))
+lost_push p xs y e = list_any-append p xs (y ∷ []) ∙ rw e (or_false (list_any p xs))
 
 contains_push : (xs : List LostClass) (y one : LostClass) → Contains xs one → Contains (xs ++ y ∷ []) one
 contains_push xs y one has = Contains-append_left xs (y ∷ []) one has

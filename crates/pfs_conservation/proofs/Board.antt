@@ -1,13 +1,14 @@
 -- The board's rows: 64 cells for each of 32 threads from 129 on, accounts from 2177, users from 4225, hosts from 6273, and the global cells from 8321.
 use Rattle.std.proofs.Common.{◌⊎◌, inl, inr, ◌≡◌, ℕ, zero, suc, ◌+◌, ◌-◌, ◌*◌, ◌/◌, ◌%◌, ◌<◌, ◌≤◌, ◌==◌, Bool, true, false, cond, List, [], ◌∷◌, ◌++◌, count_by, refl, sym, ap, ◌∙◌, subst, arith}
 use Rattle.std.specs.Prelude.{nat_lt}
+use Rattle.std.proofs.lemmas.Bool.{eqb-true, le-ltb, lt-ltb, ltb-false, ltb-true}
 use Rattle.pfs_conservation.specs.Folds.{Place, Thread, Account, User, Host, Global, Elsewhere}
 use Rattle.pfs_conservation.specs.Seats.{Seat, Numbering, IsIn, Between, IsNumbering, place_level}
 use Rattle.pfs_conservation.specs.Actions.{RowsAfter, Ranked}
 use Rattle.pfs_conservation.specs.Facts.{IsListing}
 use Rattle.pfs_conservation.proofs.Totals.{bit_yes, bit_no}
 use Rattle.pfs_conservation.proofs.Tokens.{count_cons}
-use Rattle.pfs_conservation.proofs.Folding.{differ, same}
+use Rattle.pfs_conservation.proofs.Folding.{differ}
 
 abbrev pub row_of : ℕ → Place → ℕ
 row_of cell (Thread t) = 129 + 64 * t + cell
@@ -32,18 +33,6 @@ seat_of is_cell row =
 abbrev pub board : (ℕ → Bool) → Numbering
 board is_cell = record { is_cell = is_cell; row = row_of; seat = seat_of is_cell; accounts = 2177; users = 4225; hosts = 6273; globals = 8321 }
 
-no_lt : (a b : ℕ) → b ≤ a → nat_lt a b ≡ false
-no_lt a b h = grind (arith, h)
-
-yes_lt : (a b : ℕ) → a < b → nat_lt a b ≡ true
-yes_lt a b h = grind (arith, h)
-
-is_lt : (a b : ℕ) → nat_lt a b ≡ true → a < b
-is_lt a b q = grind (arith, q)
-
-isnt_lt : (a b : ℕ) → nat_lt a b ≡ false → b ≤ a
-isnt_lt a b q = grind (arith, q)
-
 seat_same : (a b : ℕ) (p q : Place) → a ≡ b → p ≡ q → ◌≡◌ {A = Seat} (record { cell = a; place = p }) (record { cell = b; place = q })
 seat_same a b p q e f = ap (λ n. record { cell = n; place = p }) e ∙ ap (λ (z : Place). record { cell = b; place = z }) f
 
@@ -60,23 +49,23 @@ module _ (is_cell : ℕ → Bool) (low : (cell : ℕ) → is_cell cell ≡ true 
   seats : (cell : ℕ) (p : Place) → is_cell cell ≡ true → IsIn p → seat_of is_cell (row_of cell p) ≡ record { cell = cell; place = p }
   seats cell (Thread t) c i =
       let l : cell < 64 = low cell c in
-      rw (no_lt (129 + 64 * t + cell) 129 (omega arith), yes_lt (129 + 64 * t + cell) 2177 (omega arith))
+      rw (le-ltb (129 + 64 * t + cell) 129 (omega arith), lt-ltb (129 + 64 * t + cell) 2177 (omega arith))
       (known_is cell (((129 + 64 * t + cell) - 129) % 64) (Thread t) (Thread (((129 + 64 * t + cell) - 129) / 64)) c (cell_is 129 t cell (129 + 64 * t + cell) l refl) (ap (λ n. Thread n) (place_is 129 t cell (129 + 64 * t + cell) l refl)))
   seats cell (Account t) c i =
       let l : cell < 64 = low cell c in
-      rw (no_lt (2177 + 64 * t + cell) 129 (omega arith), no_lt (2177 + 64 * t + cell) 2177 (omega arith), yes_lt (2177 + 64 * t + cell) 4225 (omega arith))
+      rw (le-ltb (2177 + 64 * t + cell) 129 (omega arith), le-ltb (2177 + 64 * t + cell) 2177 (omega arith), lt-ltb (2177 + 64 * t + cell) 4225 (omega arith))
       (known_is cell (((2177 + 64 * t + cell) - 2177) % 64) (Account t) (Account (((2177 + 64 * t + cell) - 2177) / 64)) c (cell_is 2177 t cell (2177 + 64 * t + cell) l refl) (ap (λ n. Account n) (place_is 2177 t cell (2177 + 64 * t + cell) l refl)))
   seats cell (User t) c i =
       let l : cell < 64 = low cell c in
-      rw (no_lt (4225 + 64 * t + cell) 129 (omega arith), no_lt (4225 + 64 * t + cell) 2177 (omega arith), no_lt (4225 + 64 * t + cell) 4225 (omega arith), yes_lt (4225 + 64 * t + cell) 6273 (omega arith))
+      rw (le-ltb (4225 + 64 * t + cell) 129 (omega arith), le-ltb (4225 + 64 * t + cell) 2177 (omega arith), le-ltb (4225 + 64 * t + cell) 4225 (omega arith), lt-ltb (4225 + 64 * t + cell) 6273 (omega arith))
       (known_is cell (((4225 + 64 * t + cell) - 4225) % 64) (User t) (User (((4225 + 64 * t + cell) - 4225) / 64)) c (cell_is 4225 t cell (4225 + 64 * t + cell) l refl) (ap (λ n. User n) (place_is 4225 t cell (4225 + 64 * t + cell) l refl)))
   seats cell (Host t) c i =
       let l : cell < 64 = low cell c in
-      rw (no_lt (6273 + 64 * t + cell) 129 (omega arith), no_lt (6273 + 64 * t + cell) 2177 (omega arith), no_lt (6273 + 64 * t + cell) 4225 (omega arith), no_lt (6273 + 64 * t + cell) 6273 (omega arith), yes_lt (6273 + 64 * t + cell) 8321 (omega arith))
+      rw (le-ltb (6273 + 64 * t + cell) 129 (omega arith), le-ltb (6273 + 64 * t + cell) 2177 (omega arith), le-ltb (6273 + 64 * t + cell) 4225 (omega arith), le-ltb (6273 + 64 * t + cell) 6273 (omega arith), lt-ltb (6273 + 64 * t + cell) 8321 (omega arith))
       (known_is cell (((6273 + 64 * t + cell) - 6273) % 64) (Host t) (Host (((6273 + 64 * t + cell) - 6273) / 64)) c (cell_is 6273 t cell (6273 + 64 * t + cell) l refl) (ap (λ n. Host n) (place_is 6273 t cell (6273 + 64 * t + cell) l refl)))
   seats cell Global c i =
       let l : cell < 64 = low cell c in
-      rw (no_lt (8321 + cell) 129 (omega arith), no_lt (8321 + cell) 2177 (omega arith), no_lt (8321 + cell) 4225 (omega arith), no_lt (8321 + cell) 6273 (omega arith), no_lt (8321 + cell) 8321 (omega arith), yes_lt (8321 + cell) 8385 (omega arith))
+      rw (le-ltb (8321 + cell) 129 (omega arith), le-ltb (8321 + cell) 2177 (omega arith), le-ltb (8321 + cell) 4225 (omega arith), le-ltb (8321 + cell) 6273 (omega arith), le-ltb (8321 + cell) 8321 (omega arith), lt-ltb (8321 + cell) 8385 (omega arith))
       (known_is cell ((8321 + cell) - 8321) Global Global c (omega arith) refl)
   seats cell Elsewhere c i = absurd i
 
@@ -103,11 +92,11 @@ module _ (is_cell : ℕ → Bool) (low : (cell : ℕ) → is_cell cell ≡ true 
     where
       at : (a b c d e f : Bool) → nat_lt row 129 ≡ a → nat_lt row 2177 ≡ b → nat_lt row 4225 ≡ c → nat_lt row 6273 ≡ d → nat_lt row 8321 ≡ e → nat_lt row 8385 ≡ f → Range row
       at true b c d e f p q r s t u = Past (rw p refl)
-      at false true c d e f p q r s t u = let l : 129 ≤ row = isnt_lt row 129 p in let h : row < 2177 = is_lt row 2177 q in range_known row ((row - 129) % 64) (Thread ((row - 129) / 64)) (rw (p, q) refl) (within 129 row l (omega arith)) (back 129 row l)
-      at false false true d e f p q r s t u = let l : 2177 ≤ row = isnt_lt row 2177 q in let h : row < 4225 = is_lt row 4225 r in range_known row ((row - 2177) % 64) (Account ((row - 2177) / 64)) (rw (p, q, r) refl) (within 2177 row l (omega arith)) (back 2177 row l)
-      at false false false true e f p q r s t u = let l : 4225 ≤ row = isnt_lt row 4225 r in let h : row < 6273 = is_lt row 6273 s in range_known row ((row - 4225) % 64) (User ((row - 4225) / 64)) (rw (p, q, r, s) refl) (within 4225 row l (omega arith)) (back 4225 row l)
-      at false false false false true f p q r s t u = let l : 6273 ≤ row = isnt_lt row 6273 s in let h : row < 8321 = is_lt row 8321 t in range_known row ((row - 6273) % 64) (Host ((row - 6273) / 64)) (rw (p, q, r, s, t) refl) (within 6273 row l (omega arith)) (back 6273 row l)
-      at false false false false false true p q r s t u = let l : 8321 ≤ row = isnt_lt row 8321 t in range_known row (row - 8321) Global (rw (p, q, r, s, t, u) refl) tt (omega arith)
+      at false true c d e f p q r s t u = let l : 129 ≤ row = ltb-false row 129 p in let h : row < 2177 = ltb-true row 2177 q in range_known row ((row - 129) % 64) (Thread ((row - 129) / 64)) (rw (p, q) refl) (within 129 row l (omega arith)) (back 129 row l)
+      at false false true d e f p q r s t u = let l : 2177 ≤ row = ltb-false row 2177 q in let h : row < 4225 = ltb-true row 4225 r in range_known row ((row - 2177) % 64) (Account ((row - 2177) / 64)) (rw (p, q, r) refl) (within 2177 row l (omega arith)) (back 2177 row l)
+      at false false false true e f p q r s t u = let l : 4225 ≤ row = ltb-false row 4225 r in let h : row < 6273 = ltb-true row 6273 s in range_known row ((row - 4225) % 64) (User ((row - 4225) / 64)) (rw (p, q, r, s) refl) (within 4225 row l (omega arith)) (back 4225 row l)
+      at false false false false true f p q r s t u = let l : 6273 ≤ row = ltb-false row 6273 s in let h : row < 8321 = ltb-true row 8321 t in range_known row ((row - 6273) % 64) (Host ((row - 6273) / 64)) (rw (p, q, r, s, t) refl) (within 6273 row l (omega arith)) (back 6273 row l)
+      at false false false false false true p q r s t u = let l : 8321 ≤ row = ltb-false row 8321 t in range_known row (row - 8321) Global (rw (p, q, r, s, t, u) refl) tt (omega arith)
       at false false false false false false p q r s t u = Past (rw (p, q, r, s, t, u) refl)
 
   pub board_good : IsNumbering (board is_cell)
@@ -212,7 +201,7 @@ module _ (is_cell : ℕ → Bool) (low : (cell : ℕ) → is_cell cell ≡ true 
       by : (b : Bool) → (row == r) ≡ b → (suc row ≤ r → count_by (λ x. x == r) (kind_rows (suc row) more) ≡ 1) → count_by (λ x. x == r) (cond (is_here (seat_of is_cell row).place) (row ∷ []) [] ++ kind_rows (suc row) more) ≡ 1
       by false q ih = at (is_here (seat_of is_cell row).place) q (ih (less row r l q))
       by true q ih =
-          let e : row ≡ r = same row r q in
+          let e : row ≡ r = eqb-true row r q in
           ap (λ b. count_by (λ x. x == r) (cond b (row ∷ []) [] ++ kind_rows (suc row) more)) (ap (λ k. is_here (seat_of is_cell k).place) e ∙ y)
           ∙ omega (arith, count_cons (λ x. x == r) row (kind_rows (suc row) more), bit_yes (row == r) q, none_before (suc row) more r (omega arith))
 

@@ -1,5 +1,6 @@
 -- An event's removal lies between the connect and the quit of its session.
 use Rattle.std.proofs.Common.{◌≡◌, ℕ, suc, ◌+◌, ◌*◌, ◌≤◌, ◌==◌, Bool, true, false, cond, List, [], ◌∷◌, Option, Some, None, count_by, refl, sym, ap, arith}
+use Rattle.pfs_lemmas.proofs.Options.{none_some, some_same}
 use Rattle.pfs_conservation.specs.Chains.{Change, Added, Taken, Given}
 use Rattle.pfs_conservation.specs.Removals.{first_take, following, counts_event, removal, Ascends}
 use Rattle.pfs_conservation.specs.Conservation.{takes_of}
@@ -19,17 +20,11 @@ abbrev pub QuitIn : Option ℕ → List Change → Type 0
 QuitIn None changes = Unit {0}
 QuitIn (Some quit) changes = 1 ≤ count_by (λ t. t == quit) (takes_of changes)
 
-clash : {X : Type 0} (n : ℕ) → ◌≡◌ {A = Option ℕ} None (Some n) → X
-clash n h = absurd (cc)
-
-some_is : (a b : ℕ) → ◌≡◌ {A = Option ℕ} (Some a) (Some b) → a ≡ b
-some_is a b h = cc
-
 after_connect : (connect action : ℕ) (cs : List Change) → AfterAction connect cs → first_take cs ≡ Some action → suc connect ≤ action
-after_connect connect action [] a h = clash action h
+after_connect connect action [] a h = none_some action h
 after_connect connect action (Added es ∷ cs) a h = after_connect connect action cs a h
 after_connect connect action (Given n row ∷ cs) a h = after_connect connect action cs a.1 h
-after_connect connect action (Taken n ∷ cs) a h = let first : suc connect ≤ n = a.0 in omega (arith, some_is n action h)
+after_connect connect action (Taken n ∷ cs) a h = let first : suc connect ≤ n = a.0 in omega (arith, some_same n action h)
 
 takes_from : (key t : ℕ) (cs : List Change) → Ascends key cs → 1 ≤ count_by (λ c. c == t) (takes_of cs) → key ≤ 2 * t + 1
 takes_from key t [] a h = absurd (omega arith)
@@ -45,12 +40,12 @@ takes_from key t (Taken n ∷ cs) a h = at (n == t) refl (takes_from (2 * n + 2)
     at false q ih = let low : key ≤ 2 * n + 1 = a.0 in let rest : 2 * n + 2 ≤ 2 * t + 1 = ih (omega (arith, h, count_cons (λ c. c == t) n (takes_of cs), bit_no (n == t) q)) in omega arith
 
 by_quit : (key quit action : ℕ) (cs : List Change) → Ascends key cs → 1 ≤ count_by (λ t. t == quit) (takes_of cs) → first_take cs ≡ Some action → action ≤ quit
-by_quit key quit action [] a m h = clash action h
+by_quit key quit action [] a m h = none_some action h
 by_quit key quit action (Added es ∷ cs) a m h = by_quit key quit action cs a m h
 by_quit key quit action (Given n row ∷ cs) a m h = by_quit (2 * n) quit action cs a.1 m h
 by_quit key quit action (Taken n ∷ cs) a m h =
     let low : 2 * n ≤ 2 * quit + 1 = takes_from (2 * n) quit (Taken n ∷ cs) (omega arith, a.1) m in
-    omega (arith, some_is n action h)
+    omega (arith, some_same n action h)
 
 ascends_following : (test : Change → Bool) (key : ℕ) (cs : List Change) → Ascends key cs → (k : ℕ) × Ascends k (following test cs)
 ascends_following test key [] a = (0, tt)
@@ -83,7 +78,7 @@ no_takes : (cs : List Change) → first_take cs ≡ None → takes_of cs ≡ []
 no_takes [] h = refl
 no_takes (Added es ∷ cs) h = no_takes cs h
 no_takes (Given n row ∷ cs) h = no_takes cs h
-no_takes (Taken n ∷ cs) h = clash n (sym h)
+no_takes (Taken n ∷ cs) h = none_some n (sym h)
 
 pub unquit_from : (chain : List Change) (event : ℕ) (quit : Option ℕ) → QuitIn quit (following (counts_event event) chain) → removal event chain ≡ None → quit ≡ None
 unquit_from chain event None has h = refl

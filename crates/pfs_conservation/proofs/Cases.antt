@@ -1,15 +1,10 @@
 -- The next rows of each row of a way, in each case of account, user and host.
 use Rattle.std.proofs.Common.{◌≡◌, ℕ, ◌+◌, ◌<◌, ◌≤◌, ◌==◌, false, cond, List, [], ◌∷◌, Option, Some, None, subst, arith}
 use Rattle.std.specs.Prelude.{nat_lt, unwrap_or}
+use Rattle.pfs_lemmas.proofs.Options.{none_some, some_same}
 use Rattle.pfs_conservation.specs.Journeys.{is_from}
 use Rattle.pfs_conservation.specs.Moves.{goes_to}
 use Rattle.pfs_conservation.specs.Ways.{Rows, steps_of, before_by, Leads, StepsClimb}
-
-clash : {X : Type 0} (n : ℕ) → ◌≡◌ {A = Option ℕ} None (Some n) → X
-clash n h = absurd (cc)
-
-some_is : (a b : ℕ) → ◌≡◌ {A = Option ℕ} (Some a) (Some b) → a ≡ b
-some_is a b h = cc
 
 apart : (a b : ℕ) → b < a → (a == b) ≡ false
 apart a b h = grind (arith, h)
@@ -64,9 +59,9 @@ n111g home a u h g row p0 p1 p2 p3 = grind arith
 goes111 : (home a u h g : ℕ) → home < a → a < u → u < h → h < g → GoesAll (record { home = home; account = Some a; user = Some u; host = Some h; global = g })
 goes111 home a u h g p0 p1 p2 p3 = record {
   home = λ row. n111home home a u h g row p0 p1 p2 p3;
-  account = λ x q. subst (λ y. Goes (record { home = home; account = Some a; user = Some u; host = Some h; global = g }) y (u ∷ (h ∷ []))) (some_is a x q) (λ row. n111a home a u h g row p0 p1 p2 p3);
-  user = λ x q. subst (λ y. Goes (record { home = home; account = Some a; user = Some u; host = Some h; global = g }) y []) (some_is u x q) (λ row. n111u home a u h g row p0 p1 p2 p3);
-  host = λ x q. subst (λ y. Goes (record { home = home; account = Some a; user = Some u; host = Some h; global = g }) y (g ∷ [])) (some_is h x q) (λ row. n111h home a u h g row p0 p1 p2 p3);
+  account = λ x q. subst (λ y. Goes (record { home = home; account = Some a; user = Some u; host = Some h; global = g }) y (u ∷ (h ∷ []))) (some_same a x q) (λ row. n111a home a u h g row p0 p1 p2 p3);
+  user = λ x q. subst (λ y. Goes (record { home = home; account = Some a; user = Some u; host = Some h; global = g }) y []) (some_same u x q) (λ row. n111u home a u h g row p0 p1 p2 p3);
+  host = λ x q. subst (λ y. Goes (record { home = home; account = Some a; user = Some u; host = Some h; global = g }) y (g ∷ [])) (some_same h x q) (λ row. n111h home a u h g row p0 p1 p2 p3);
   global = λ row. n111g home a u h g row p0 p1 p2 p3;
 }
 
@@ -88,9 +83,9 @@ n110g home a u g row p0 p1 p2 = grind arith
 goes110 : (home a u g : ℕ) → home < a → a < u → u < g → GoesAll (record { home = home; account = Some a; user = Some u; host = None; global = g })
 goes110 home a u g p0 p1 p2 = record {
   home = λ row. n110home home a u g row p0 p1 p2;
-  account = λ x q. subst (λ y. Goes (record { home = home; account = Some a; user = Some u; host = None; global = g }) y (u ∷ (g ∷ []))) (some_is a x q) (λ row. n110a home a u g row p0 p1 p2);
-  user = λ x q. subst (λ y. Goes (record { home = home; account = Some a; user = Some u; host = None; global = g }) y []) (some_is u x q) (λ row. n110u home a u g row p0 p1 p2);
-  host = λ x q. clash x q;
+  account = λ x q. subst (λ y. Goes (record { home = home; account = Some a; user = Some u; host = None; global = g }) y (u ∷ (g ∷ []))) (some_same a x q) (λ row. n110a home a u g row p0 p1 p2);
+  user = λ x q. subst (λ y. Goes (record { home = home; account = Some a; user = Some u; host = None; global = g }) y []) (some_same u x q) (λ row. n110u home a u g row p0 p1 p2);
+  host = λ x q. none_some x q;
   global = λ row. n110g home a u g row p0 p1 p2;
 }
 
@@ -112,9 +107,9 @@ n101g home a h g row p0 p1 p2 = grind arith
 goes101 : (home a h g : ℕ) → home < a → a < h → h < g → GoesAll (record { home = home; account = Some a; user = None; host = Some h; global = g })
 goes101 home a h g p0 p1 p2 = record {
   home = λ row. n101home home a h g row p0 p1 p2;
-  account = λ x q. subst (λ y. Goes (record { home = home; account = Some a; user = None; host = Some h; global = g }) y (h ∷ [])) (some_is a x q) (λ row. n101a home a h g row p0 p1 p2);
-  user = λ x q. clash x q;
-  host = λ x q. subst (λ y. Goes (record { home = home; account = Some a; user = None; host = Some h; global = g }) y (g ∷ [])) (some_is h x q) (λ row. n101h home a h g row p0 p1 p2);
+  account = λ x q. subst (λ y. Goes (record { home = home; account = Some a; user = None; host = Some h; global = g }) y (h ∷ [])) (some_same a x q) (λ row. n101a home a h g row p0 p1 p2);
+  user = λ x q. none_some x q;
+  host = λ x q. subst (λ y. Goes (record { home = home; account = Some a; user = None; host = Some h; global = g }) y (g ∷ [])) (some_same h x q) (λ row. n101h home a h g row p0 p1 p2);
   global = λ row. n101g home a h g row p0 p1 p2;
 }
 
@@ -133,9 +128,9 @@ n100g home a g row p0 p1 = grind arith
 goes100 : (home a g : ℕ) → home < a → a < g → GoesAll (record { home = home; account = Some a; user = None; host = None; global = g })
 goes100 home a g p0 p1 = record {
   home = λ row. n100home home a g row p0 p1;
-  account = λ x q. subst (λ y. Goes (record { home = home; account = Some a; user = None; host = None; global = g }) y (g ∷ [])) (some_is a x q) (λ row. n100a home a g row p0 p1);
-  user = λ x q. clash x q;
-  host = λ x q. clash x q;
+  account = λ x q. subst (λ y. Goes (record { home = home; account = Some a; user = None; host = None; global = g }) y (g ∷ [])) (some_same a x q) (λ row. n100a home a g row p0 p1);
+  user = λ x q. none_some x q;
+  host = λ x q. none_some x q;
   global = λ row. n100g home a g row p0 p1;
 }
 
@@ -157,9 +152,9 @@ n011g home u h g row p0 p1 p2 = grind arith
 goes011 : (home u h g : ℕ) → home < u → u < h → h < g → GoesAll (record { home = home; account = None; user = Some u; host = Some h; global = g })
 goes011 home u h g p0 p1 p2 = record {
   home = λ row. n011home home u h g row p0 p1 p2;
-  account = λ x q. clash x q;
-  user = λ x q. subst (λ y. Goes (record { home = home; account = None; user = Some u; host = Some h; global = g }) y []) (some_is u x q) (λ row. n011u home u h g row p0 p1 p2);
-  host = λ x q. subst (λ y. Goes (record { home = home; account = None; user = Some u; host = Some h; global = g }) y (g ∷ [])) (some_is h x q) (λ row. n011h home u h g row p0 p1 p2);
+  account = λ x q. none_some x q;
+  user = λ x q. subst (λ y. Goes (record { home = home; account = None; user = Some u; host = Some h; global = g }) y []) (some_same u x q) (λ row. n011u home u h g row p0 p1 p2);
+  host = λ x q. subst (λ y. Goes (record { home = home; account = None; user = Some u; host = Some h; global = g }) y (g ∷ [])) (some_same h x q) (λ row. n011h home u h g row p0 p1 p2);
   global = λ row. n011g home u h g row p0 p1 p2;
 }
 
@@ -178,9 +173,9 @@ n010g home u g row p0 p1 = grind arith
 goes010 : (home u g : ℕ) → home < u → u < g → GoesAll (record { home = home; account = None; user = Some u; host = None; global = g })
 goes010 home u g p0 p1 = record {
   home = λ row. n010home home u g row p0 p1;
-  account = λ x q. clash x q;
-  user = λ x q. subst (λ y. Goes (record { home = home; account = None; user = Some u; host = None; global = g }) y []) (some_is u x q) (λ row. n010u home u g row p0 p1);
-  host = λ x q. clash x q;
+  account = λ x q. none_some x q;
+  user = λ x q. subst (λ y. Goes (record { home = home; account = None; user = Some u; host = None; global = g }) y []) (some_same u x q) (λ row. n010u home u g row p0 p1);
+  host = λ x q. none_some x q;
   global = λ row. n010g home u g row p0 p1;
 }
 
@@ -199,9 +194,9 @@ n001g home h g row p0 p1 = grind arith
 goes001 : (home h g : ℕ) → home < h → h < g → GoesAll (record { home = home; account = None; user = None; host = Some h; global = g })
 goes001 home h g p0 p1 = record {
   home = λ row. n001home home h g row p0 p1;
-  account = λ x q. clash x q;
-  user = λ x q. clash x q;
-  host = λ x q. subst (λ y. Goes (record { home = home; account = None; user = None; host = Some h; global = g }) y (g ∷ [])) (some_is h x q) (λ row. n001h home h g row p0 p1);
+  account = λ x q. none_some x q;
+  user = λ x q. none_some x q;
+  host = λ x q. subst (λ y. Goes (record { home = home; account = None; user = None; host = Some h; global = g }) y (g ∷ [])) (some_same h x q) (λ row. n001h home h g row p0 p1);
   global = λ row. n001g home h g row p0 p1;
 }
 
@@ -217,9 +212,9 @@ n000g home g row p0 = grind arith
 goes000 : (home g : ℕ) → home < g → GoesAll (record { home = home; account = None; user = None; host = None; global = g })
 goes000 home g p0 = record {
   home = λ row. n000home home g row p0;
-  account = λ x q. clash x q;
-  user = λ x q. clash x q;
-  host = λ x q. clash x q;
+  account = λ x q. none_some x q;
+  user = λ x q. none_some x q;
+  host = λ x q. none_some x q;
   global = λ row. n000g home g row p0;
 }
 

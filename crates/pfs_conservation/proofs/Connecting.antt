@@ -1,8 +1,10 @@
 -- What a connect makes stands right after it; a session's and an account's places hold their names, at all times.
 use Rattle.std.proofs.Common.{◌⊎◌, inl, inr, ◌≡◌, ℕ, zero, suc, ◌+◌, ◌≤◌, ◌==◌, ◌&&◌, Bool, true, false, cond, List, [], ◌∷◌, Option, Some, None, refl, sym, ap, ◌∙◌, subst, arith}
+use Rattle.std.proofs.lemmas.Bool.{eqb-true}
+use Rattle.pfs_lemmas.proofs.Bools.{and_first, and_second}
 use Rattle.pfs_conservation.specs.Folds.{Session, Entry, entry_of, State, Line, Connects, Quits, Truncates, FreesAccounts, FreesUsers, FreesHosts, Others, entry_at, fill_at, fill, emptied_at, in_use, stepped, quits, Lives}
 use Rattle.pfs_conservation.specs.Administration.{Action, Connect, Quit, Truncate, Other, Summary, Accounts, Users, Hosts, Found, one_up, found_where, next_place, lowest_free, found_or, named_place, is_account, session_by, session_of, connect_line, quit_line, line_of, state_after}
-use Rattle.pfs_conservation.proofs.Folding.{clash, differ, fill_at_keeps, fill_keeps, emptied_is, same, used, User_of, user_of, kept_used, Was, kept_was, lives_on}
+use Rattle.pfs_conservation.proofs.Folding.{clash, fill_at_keeps, fill_keeps, emptied_is, used, User_of, user_of, kept_used, Was, kept_was, lives_on}
 
 some_is : {X : Type 0} (a b : X) → ◌≡◌ {A = Option X} (Some a) (Some b) → a ≡ b
 some_is a b h = cc
@@ -68,7 +70,7 @@ named_filled name xs u h = at (found_where (λ x. x == name) xs) refl h
     at None q h = ap (λ p. entry_at (fill p name xs) u) h ∙ free_filled xs u name h
     at (Some f) q h =
         let s : Stands (λ x. x == name) xs f = found_is (λ x. x == name) xs f q in
-        let e : entry_at xs u ≡ Some name = ap (entry_at xs) (sym (some_is f.place u h)) ∙ (s.stands ∙ ap (λ (n : ℕ). Some n) (same f.entry name s.passes)) in
+        let e : entry_at xs u ≡ Some name = ap (entry_at xs) (sym (some_is f.place u h)) ∙ (s.stands ∙ ap (λ (n : ℕ). Some n) (eqb-true f.entry name s.passes)) in
         fill_at_keeps f.place name xs u name e
 
 -- at all times: a session stands with its entries, and an account's user and host places hold its names
@@ -77,18 +79,10 @@ pub record Sound (s : State) : Type 0 where
   pub user : (a : ℕ) (e : Entry) (u : ℕ) → entry_at s.accounts a ≡ Some e → e.user ≡ Some u → entry_at s.users u ≡ Some e.user_name
   pub host : (a : ℕ) (e : Entry) (h : ℕ) → entry_at s.accounts a ≡ Some e → e.host ≡ Some h → entry_at s.hosts h ≡ Some e.host_name
 
-pub and_left : (a b : Bool) → (a && b) ≡ true → a ≡ true
-and_left true b h = refl
-and_left false b h = h
-
-pub and_right : (a b : Bool) → (a && b) ≡ true → b ≡ true
-and_right true b h = h
-and_right false b h = differ (sym h)
-
 entry_same : (x : Entry) (user host : ℕ) → is_account user host x ≡ true → x ≡ record { user_name = user; host_name = host; user = x.user; host = x.host }
 entry_same x user host h =
-    ap (λ n. record { user_name = n; host_name = x.host_name; user = x.user; host = x.host }) (same x.user_name user (and_left (x.user_name == user) (x.host_name == host) h))
-    ∙ ap (λ n. record { user_name = user; host_name = n; user = x.user; host = x.host }) (same x.host_name host (and_right (x.user_name == user) (x.host_name == host) h))
+    ap (λ n. record { user_name = n; host_name = x.host_name; user = x.user; host = x.host }) (eqb-true x.user_name user (and_first (x.user_name == user) (x.host_name == host) h))
+    ∙ ap (λ n. record { user_name = user; host_name = n; user = x.user; host = x.host }) (eqb-true x.host_name host (and_second (x.user_name == user) (x.host_name == host) h))
 
 -- right after its connect a session stands with its entries
 pub new_lives : (s : State) → Sound s → (slot number user host : ℕ) → lowest_free s.threads ≡ Some slot → Lives (stepped s (Connects slot (session_of s number user host))) slot (session_of s number user host)
@@ -107,8 +101,8 @@ new_lives s ok slot number user host free = at (found_where (is_account user hos
         record {
           thread = free_filled s.threads slot x free;
           account = λ a w. fill_keeps x.account (entry_of x) s.accounts a (entry_of x) (ap (entry_at s.accounts) (sym (some_is f.place a w)) ∙ (st.stands ∙ ap (λ (e : Entry). Some e) (entry_same f.entry user host st.passes)));
-          user = λ u w. fill_keeps x.user user s.users u user (ok.user f.place f.entry u st.stands w ∙ ap (λ (n : ℕ). Some n) (same f.entry.user_name user (and_left (f.entry.user_name == user) (f.entry.host_name == host) st.passes)));
-          host = λ h w. fill_keeps x.host host s.hosts h host (ok.host f.place f.entry h st.stands w ∙ ap (λ (n : ℕ). Some n) (same f.entry.host_name host (and_right (f.entry.user_name == user) (f.entry.host_name == host) st.passes)));
+          user = λ u w. fill_keeps x.user user s.users u user (ok.user f.place f.entry u st.stands w ∙ ap (λ (n : ℕ). Some n) (eqb-true f.entry.user_name user (and_first (f.entry.user_name == user) (f.entry.host_name == host) st.passes)));
+          host = λ h w. fill_keeps x.host host s.hosts h host (ok.host f.place f.entry h st.stands w ∙ ap (λ (n : ℕ). Some n) (eqb-true f.entry.host_name host (and_second (f.entry.user_name == user) (f.entry.host_name == host) st.passes)));
         }
 
 -- each step keeps it
@@ -214,7 +208,7 @@ pub sound_after : (opening : State) → Sound opening → (action : ℕ → Acti
 sound_after opening ok action zero = ok
 sound_after opening ok action (suc n) = sound_step 0 (state_after opening action n) (sound_after opening ok action n) (action (suc n))
 
--- what an action does to the places is the same for every kind
+-- what an action does to the places is the eqb-true for every kind
 pub same_step : (kind : ℕ) (s : State) (action : Action) → stepped s (line_of kind s action) ≡ stepped s (line_of 0 s action)
 same_step kind s (Connect number user host) = refl
 same_step kind s (Quit number) = refl
@@ -247,8 +241,8 @@ quits_none kind s (Quit number) slot x h other = at (found_where (λ y. y.number
         by : (b : Bool) → (slot == f.place) ≡ b → (slot == f.place) ≡ false
         by false e = e
         by true e =
-            let is : f.entry ≡ x = some_is f.entry x (sym st.stands ∙ (ap (entry_at s.threads) (sym (same slot f.place e)) ∙ h)) in
-            absurd (other (ap (λ n. Quit n) (sym (same f.entry.number number st.passes) ∙ ap (λ (y : Session). y.number) is)))
+            let is : f.entry ≡ x = some_is f.entry x (sym st.stands ∙ (ap (entry_at s.threads) (sym (eqb-true slot f.place e)) ∙ h)) in
+            absurd (other (ap (λ n. Quit n) (sym (eqb-true f.entry.number number st.passes) ∙ ap (λ (y : Session). y.number) is)))
 quits_none kind s (Truncate (Summary number level)) slot x h other = at (number == kind)
   where
     at : (b : Bool) → quits slot (cond b (Truncates level) Others) ≡ false

@@ -1,6 +1,8 @@
 -- Conservation.
 use Rattle.std.proofs.Common.{◌≡◌, ℕ, zero, suc, ◌+◌, ◌*◌, ◌%◌, ◌^◌, ◌<◌, ◌≤◌, ◌==◌, ◌&&◌, Bool, true, false, cond, List, [], ◌∷◌, ◌++◌, length, Option, Some, None, count_by, filter, fold, refl, sym, ap, ◌∙◌, subst, arith}
 use Rattle.std.specs.Prelude.{nat_le, nat_lt}
+use Rattle.std.proofs.lemmas.Bool.{and_parts, le-leb}
+use Rattle.pfs_lemmas.proofs.Options.{some_same}
 use Rattle.pfs_conservation.specs.Chains.{Change, Added, Taken, Given, Sums, with_event, content, found_by, Below}
 use Rattle.pfs_conservation.specs.Removals.{counts_event, removal, first_from, Ascends}
 use Rattle.pfs_conservation.specs.Journeys.{first_from_one, leaves_after, Journey, left, came_from, came}
@@ -77,13 +79,6 @@ from_touches kept n row (m ∷ ms) = at (m.from == row) (goes_to row m.to && kep
 pub moving_from : (kept : ℕ → ℕ → Bool) (chains : ℕ → List Change) (moves : List Move) → AreMoved chains kept moves → (n row : ℕ) → first_from n (chains row) ≡ first_moving n row moves
 moving_from kept chains moves are n row = sym (from_moved n (chains row)) ∙ (ap (first_from n) (are.is row) ∙ from_touches kept n row moves)
 
-parts : (a b : Bool) → (a && b) ≡ true → (a ≡ true) × (b ≡ true)
-parts true b h = (refl, h)
-parts false b h = absurd (cc)
-
-some_is : (a b : ℕ) → ◌≡◌ {A = Option ℕ} (Some a) (Some b) → a ≡ b
-some_is a b h = cc
-
 -- a later start finds the same action, if that isn't before it
 pub moving_least : (n row : ℕ) (ms : List Move) (m : ℕ) → first_moving n row ms ≡ Some m → n ≤ m
 moving_least n row [] m h = absurd (cc)
@@ -93,14 +88,11 @@ moving_least n row (move ∷ ms) m h = at ((move.from == row) && nat_le n move.a
     le a b q = grind (arith, q)
 
     at : (b : Bool) → ((move.from == row) && nat_le n move.action) ≡ b → (first_moving n row ms ≡ Some m → n ≤ m) → n ≤ m
-    at true q ih = omega (arith, le n move.action (parts (move.from == row) (nat_le n move.action) q).1, some_is move.action m (sym (ap (λ (b : Bool). cond b (Some move.action) (first_moving n row ms)) q) ∙ h))
+    at true q ih = omega (arith, le n move.action (and_parts (move.from == row) (nat_le n move.action) q).1, some_same move.action m (sym (ap (λ (b : Bool). cond b (Some move.action) (first_moving n row ms)) q) ∙ h))
     at false q ih = ih (sym (ap (λ (b : Bool). cond b (Some move.action) (first_moving n row ms)) q) ∙ h)
 
 low_le : (n k a : ℕ) → n ≤ k → nat_le n a ≡ false → nat_le k a ≡ false
 low_le n k a l q = grind (arith, q)
-
-high_le : (k a : ℕ) → k ≤ a → nat_le k a ≡ true
-high_le k a l = grind (arith, l)
 
 moving_none : (n k row : ℕ) (ms : List Move) → n ≤ k → first_moving n row ms ≡ None → first_moving k row ms ≡ None
 moving_none n k row [] l h = refl
@@ -121,7 +113,7 @@ moving_more n k row (move ∷ ms) t l g h = at (move.from == row) (nat_le n move
     at false c q r ih = rw q (ih (rw q at h))
     at true true q r ih =
         let here : Some move.action ≡ Some t = rw (q, r) at h in
-        rw (q, high_le k move.action (omega (arith, some_is move.action t here))) here
+        rw (q, le-leb k move.action (omega (arith, some_same move.action t here))) here
     at true false q r ih = rw (q, low_le n k move.action l r) (ih (rw (q, r) at h))
 
 module _ (kept : ℕ → ℕ → Bool) (chains : ℕ → List Change) (moves : List Move) (are : AreMoved chains kept moves) (event home : ℕ) (steps : List Step) (leads : Leads home steps) where

@@ -1,6 +1,7 @@
 -- The digest summary is conserved.
 use Rattle.std.proofs.Common.{◌≡◌, ℕ, suc, ◌^◌, ◌<◌, ◌≤◌, ◌==◌, ◌&&◌, Bool, true, false, cond, List, [], ◌∷◌, length, Option, Some, None, count_by, refl, sym, ap, ◌∙◌, arith}
 use Rattle.std.specs.Prelude.{nat_lt}
+use Rattle.pfs_lemmas.proofs.Numbers.{eq_self}
 use Rattle.pfs_conservation.specs.Chains.{Sums, Finds}
 use Rattle.pfs_conservation.specs.Removals.{removal, counts_event, Ascends}
 use Rattle.pfs_conservation.specs.Moves.{AreMoved, InOrder}
@@ -18,7 +19,7 @@ use Rattle.pfs_conservation.proofs.Conserving.{Sized, moving_from}
 use Rattle.pfs_conservation.proofs.Tenants.{removal_first}
 use Rattle.pfs_conservation.proofs.Acting.{keeps, to_order}
 use Rattle.pfs_conservation.proofs.Whole.{whole}
-use Rattle.pfs_conservation.proofs.Folding.{clash, differ, self}
+use Rattle.pfs_conservation.proofs.Folding.{clash, differ}
 use Rattle.pfs_conservation.proofs.Leading.{those_in, those_has}
 use Rattle.pfs_conservation.proofs.Lining.{times_all, once_chain, lines_moved}
 
@@ -97,7 +98,7 @@ module _ (cleared : ℕ → Bool) (rows : List ℕ) (last : ℕ) (within : (acti
     table : (row : ℕ) → IsTable (digests_of cleared rows last events (chain_of lines) found home) held (clears cleared rows) (λ event r. global_owner) (λ event. 0) (suc last) (λ r owner. r == row) (row ∷ []) (those_to cleared last) (λ event. []) (λ event. home event == row)
     table row = record {
       shows = λ r owner h. turned row r;
-      mine_home = λ event is. ap (λ n. cond (home event == row) n 0) (sym (turned (home event) (home event) ∙ ap (λ c. cond {A = ℕ} c 1 0) (self (home event))));
+      mine_home = λ event is. ap (λ n. cond (home event == row) n 0) (sym (turned (home event) (home event) ∙ ap (λ c. cond {A = ℕ} c 1 0) (eq_self (home event))));
       mine = λ event is r from come. clash from come;
       follows = λ event is. tt;
       covers_are = λ event is lead t. (

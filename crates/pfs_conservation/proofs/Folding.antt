@@ -1,5 +1,6 @@
 -- An owner goes only at an action that takes its row, and not while a session of it is connected.
 use Rattle.std.proofs.Common.{◌≡◌, ℕ, zero, suc, ◌+◌, ◌==◌, ◌||◌, Bool, true, false, cond, List, [], ◌∷◌, Option, Some, None, refl, sym, ap, ◌∙◌, arith}
+use Rattle.std.proofs.lemmas.Bool.{eqb-true}
 use Rattle.pfs_conservation.specs.Journeys.{is_from}
 use Rattle.pfs_conservation.specs.Tenures.{Owner}
 use Rattle.pfs_conservation.specs.Folds.{Place, Thread, Account, User, Host, Global, Elsewhere, Session, entry_of, State, ByThread, ByAccount, ByUser, ByHost, ByAll, Line, Connects, Quits, Truncates, FreesAccounts, FreesUsers, FreesHosts, Others, line_takes, entry_at, fill_at, fill, emptied_at, kept_from, in_use, kept_if, stepped, CellRows, thread_owner, account_owner, user_owner, host_owner, owner_of, holder_in, quits, Lives}
@@ -106,12 +107,6 @@ owner_stays rows s FreesHosts (Host u) o h f = differ f
 owner_stays rows s FreesHosts Global o h f = h
 owner_stays rows s FreesHosts Elsewhere o h f = h
 
-pub self : (a : ℕ) → (a == a) ≡ true
-self a = grind arith
-
-pub same : (a b : ℕ) → (a == b) ≡ true → a ≡ b
-same a b q = grind (arith, q)
-
 -- and what is in use a session has
 pub record User_of (which : Session → Option ℕ) (threads : List (Option Session)) (place : ℕ) : Type 0 where
   pub slot : ℕ
@@ -129,7 +124,7 @@ user_of which (Some y ∷ ys) place h = at (which y) refl h (user_of which ys pl
     at (Some p) q h ih = by (p == place) refl h
       where
         by : (b : Bool) → (p == place) ≡ b → (b || in_use which ys place) ≡ true → User_of which (Some y ∷ ys) place
-        by true e h = record { slot = 0; session = y; stands = refl; has = q ∙ ap (λ (n : ℕ). Some n) (same p place e) }
+        by true e h = record { slot = 0; session = y; stands = refl; has = q ∙ ap (λ (n : ℕ). Some n) (eqb-true p place e) }
         by false e h = let u : User_of which ys place = ih h in record { slot = suc u.slot; session = u.session; stands = u.stands; has = u.has }
 
 pub kept_used : {X : Type 0} (kept : ℕ → Bool) (xs : List (Option X)) (t : ℕ) (x : X) → kept t ≡ true → entry_at xs t ≡ Some x → entry_at (kept_from 0 kept xs) t ≡ Some x

@@ -1,6 +1,9 @@
 -- One event, one thread's cell and one action that gives it to the global cell.
 use Rattle.std.proofs.Common.{◌≡◌, ℕ, suc, ◌+◌, ◌≤◌, ◌==◌, ◌&&◌, Bool, true, false, cond, List, [], ◌∷◌, Option, Some, None, count_by, refl, sym, ap, ◌∙◌, subst, arith}
 use Rattle.std.specs.Prelude.{nat_lt}
+use Rattle.std.proofs.lemmas.Bool.{eqb-true}
+use Rattle.pfs_lemmas.proofs.Options.{none_some, some_same}
+use Rattle.pfs_lemmas.proofs.Numbers.{eq_swap}
 use Rattle.pfs_stat.specs.declared.Stat.{Stat}
 use Rattle.pfs_stat.specs.declared.Measure.{Measure}
 use Rattle.pfs_stat.specs.Stat.{Fits, zero_of, stat_of, merge_of, MergeIsMonoid}
@@ -12,25 +15,13 @@ use Rattle.pfs_conservation.specs.Conservation.{AddsOnce, Journals, AreKept, IsS
 use Rattle.pfs_conservation.specs.Laws.{stats}
 use Rattle.pfs_conservation.proofs.Conserving.{conserved_stats}
 
-pub same : (a b : ℕ) → (a == b) ≡ true → a ≡ b
-same a b h = grind (arith, h)
-
-pub clash : {X : Type 0} (n : ℕ) → ◌≡◌ {A = Option ℕ} None (Some n) → X
-clash n h = absurd (cc)
-
-pub turned : (a b : ℕ) → (a == b) ≡ (b == a)
-turned a b = grind arith
-
 rows : (P : ℕ → Type 0) → P 1 → P 2 → ((row : ℕ) → (1 == row) ≡ false → (2 == row) ≡ false → P row) → (row : ℕ) → P row
 rows P one two other row = at (1 == row) (2 == row) refl refl
   where
     at : (b c : Bool) → (1 == row) ≡ b → (2 == row) ≡ c → P row
-    at true c p q = subst P (same 1 row p) one
-    at false true p q = subst P (same 2 row q) two
+    at true c p q = subst P (eqb-true 1 row p) one
+    at false true p q = subst P (eqb-true 2 row q) two
     at false false p q = other row p q
-
-pub some_is : (a b : ℕ) → ◌≡◌ {A = Option ℕ} (Some a) (Some b) → a ≡ b
-some_is a b h = cc
 
 pub differ : false ≡ true → ⊥
 differ h = cc
@@ -39,7 +30,7 @@ only : (event : ℕ) → 1 ≤ count_by (λ e. event == e) (0 ∷ []) → event 
 only event h = at (event == 0) refl h
   where
     at : (b : Bool) → (event == 0) ≡ b → 1 ≤ 0 + cond b 1 0 → event ≡ 0
-    at true q l = same event 0 q
+    at true q l = eqb-true event 0 q
     at false q l = absurd (omega arith)
 
 pub one_sends : (action row : ℕ) → 1 ≡ action → cond (((1 == action) && true) && goes_to row (2 ∷ [])) 1 0 + 0 ≡ cond (is_from 1 (cond {A = Option ℕ} (2 == row) (Some 1) None)) 1 0
@@ -70,13 +61,13 @@ module _ (m : MergeIsMonoid) (measures : ℕ → Measure) (fits : (event : ℕ) 
 
   placed : IsPlaced chain journals.level journals.moves 0 1 (record { from = 1; to = 2 } ∷ [])
   placed = record {
-    counted = rows (λ row. times_counted 0 (chain row) ≡ cond (row == 1) 1 0) refl refl (λ row p q. rw (p, q) (ap (λ (b : Bool). cond {A = ℕ} b 1 0) (sym (turned row 1 ∙ p))));
+    counted = rows (λ row. times_counted 0 (chain row) ≡ cond (row == 1) 1 0) refl refl (λ row p q. rw (p, q) (ap (λ (b : Bool). cond {A = ℕ} b 1 0) (sym (eq_swap row 1 ∙ p))));
     leads = (refl, refl, tt, tt);
     climb = (omega arith, tt);
     placed = λ from action row went. rows
         (λ f. leave_by chain 0 1 (record { from = 1; to = 2 } ∷ []) f ≡ Some action → sends journals.moves action f row ≡ cond (is_from f (before_by (record { from = 1; to = 2 } ∷ []) row)) 1 0)
-        (λ s. one_sends action row (some_is 1 action s)) (λ s. clash action s)
-        (λ r p q s. (let e : (r == 1) ≡ false = turned r 1 ∙ p in clash action (rw (q, e) at s))) from went;
+        (λ s. one_sends action row (some_same 1 action s)) (λ s. none_some action s)
+        (λ r p q s. (let e : (r == 1) ≡ false = eq_swap r 1 ∙ p in none_some action (rw (q, e) at s))) from went;
   }
 
   kept : AreKept (stats measures) (λ (stat : Stat). stat.count) journals
@@ -98,7 +89,7 @@ module _ (m : MergeIsMonoid) (measures : ℕ → Measure) (fits : (event : ℕ) 
       covered = λ lead least q. refl;
       once = rows (λ row. came 1 (before_by (record { from = 1; to = 2 } ∷ [])) (leave_by chain 0 1 (record { from = 1; to = 2 } ∷ [])) row ≡ 1 → leave_by chain 0 1 (record { from = 1; to = 2 } ∷ []) row ≡ None
           → count_by (λ r. r == row) (2 ∷ []) ≡ cond true (count_by (λ r. r == row) (1 ∷ (2 ∷ []))) 0)
-          (λ c l. clash 1 (sym l)) (λ c l. refl) (λ row p q c l. rw (p, q) refl);
+          (λ c l. none_some 1 (sym l)) (λ c l. refl) (λ row p q c l. rw (p, q) refl);
     });
   }
 

@@ -1,6 +1,9 @@
 -- The rows of an event's way belong to a key where the event leads to it; its path; and the actions that cover it.
 use Rattle.std.proofs.Common.{◌⊎◌, inl, inr, ◌≡◌, ℕ, zero, suc, ◌+◌, ◌<◌, ◌≤◌, ◌==◌, ◌&&◌, Bool, true, false, cond, List, [], ◌∷◌, ◌++◌, length, Option, Some, None, count_by, refl, sym, ap, ◌∙◌, subst, arith}
 use Rattle.std.specs.Prelude.{unwrap_or, is_some}
+use Rattle.std.proofs.lemmas.Bool.{eqb-true}
+use Rattle.pfs_lemmas.proofs.Numbers.{eq_self}
+use Rattle.pfs_lemmas.proofs.Bools.{and_first}
 use Rattle.pfs_conservation.specs.Ways.{steps_of, before_by}
 use Rattle.pfs_conservation.specs.Conservation.{Follows, last_of}
 use Rattle.pfs_conservation.specs.Tenures.{IsBy}
@@ -10,7 +13,7 @@ use Rattle.pfs_conservation.specs.Seats.{Seat, Numbering, IsIn, IsNumbering, row
 use Rattle.pfs_conservation.specs.Tables.{Key, KeyThread, KeyAccount, KeyUser, KeyHost, KeyAll, matches, Shown, shown_by, shows_at, is_of, belongs_to, Whose, OfSession, leads_key, leads_at, opt_row, path_in, path_at, level_covers, covers_key, covers_at, those_to}
 use Rattle.pfs_conservation.proofs.Totals.{bit_yes, bit_no}
 use Rattle.pfs_conservation.proofs.Tokens.{count_cons}
-use Rattle.pfs_conservation.proofs.Folding.{clash, differ, self, same}
+use Rattle.pfs_conservation.proofs.Folding.{clash, differ}
 use Rattle.pfs_conservation.proofs.Connecting.{Sound}
 use Rattle.pfs_conservation.proofs.Tenancy.{Sits, SitsGlobal, SitsHost, SitsUser, SitsAccount, sits, home_seat, Comes, comes_account, comes_user, comes_host, before_global, slot_low, account_low, user_low, host_low}
 use Rattle.pfs_conservation.proofs.Listing.{count_joined, count_if}
@@ -37,7 +40,7 @@ opt_none f (Some y) r h = omega (arith, count_cons (λ x. x == r) (f y) [], bit_
 
 opt_one : (f : ℕ → ℕ) (o : Option ℕ) (r y : ℕ) → o ≡ Some y → f y ≡ r → count_by (λ x. x == r) (opt_row (map_row f o)) ≡ 1
 opt_one f None r y h q = clash y h
-opt_one f (Some z) r y h q = omega (arith, count_cons (λ x. x == r) (f z) [], bit_yes (f z == r) (ap (λ k. f k == r) (some_is z y h) ∙ (ap (λ k. k == r) q ∙ self r)))
+opt_one f (Some z) r y h q = omega (arith, count_cons (λ x. x == r) (f z) [], bit_yes (f z == r) (ap (λ k. f k == r) (some_is z y h) ∙ (ap (λ k. k == r) q ∙ eq_self r)))
   where
     some_is : (a b : ℕ) → ◌≡◌ {A = Option ℕ} (Some a) (Some b) → a ≡ b
     some_is a b h = cc
@@ -111,10 +114,6 @@ data Ends (key : Key) (account user host : Option ℕ) (home global last : ℕ) 
   EndsUser : (u row : ℕ) → key ≡ KeyUser u → user ≡ Some row → last ≡ row → Ends key account user host home global last
   EndsHost : (h row : ℕ) → key ≡ KeyHost h → host ≡ Some row → last ≡ row → Ends key account user host home global last
   EndsAll : key ≡ KeyAll → last ≡ global → Ends key account user host home global last
-
-some_left : (a b : Bool) → (a && b) ≡ true → a ≡ true
-some_left true b h = refl
-some_left false b h = h
 
 ends : (key : Key) (home : ℕ) (account user host : Option ℕ) (global : ℕ) → (((u h : ℕ) → key ≡ KeyAccount u h → is_some account ≡ true)) → ((u : ℕ) → key ≡ KeyUser u → is_some user ≡ true) → ((h : ℕ) → key ≡ KeyHost h → is_some host ≡ true)
     → Ends key account user host home global (last_of home (path_in (shown_by key) account user host global))
@@ -234,7 +233,7 @@ those_in test (suc n) t h = at (test (suc n)) refl (those_in test n t) (let j : 
     at true q ih h = by (suc n == t) refl
       where
         by : (b : Bool) → (suc n == t) ≡ b → (test t ≡ true) × (1 ≤ t) × (t ≤ suc n)
-        by true e = let is : suc n ≡ t = same (suc n) t e in (ap test (sym is) ∙ q, omega arith, omega arith)
+        by true e = let is : suc n ≡ t = eqb-true (suc n) t e in (ap test (sym is) ∙ q, omega arith, omega arith)
         by false e = deep ih (let c : count_by (λ c. c == t) (suc n ∷ []) ≡ cond {A = ℕ} (suc n == t) 1 0 + 0 = count_cons (λ c. c == t) (suc n) [] in omega (arith, c, h, bit_no (suc n == t) e))
 
 pub those_has : (test : ℕ → Bool) (n t : ℕ) → test t ≡ true → 1 ≤ t → t ≤ n → 1 ≤ count_by (λ c. c == t) (those_to test n)
@@ -248,7 +247,7 @@ those_has test (suc n) t q l h =
     at : (b : Bool) → (suc n == t) ≡ b → (t ≤ n → 1 ≤ count_by (λ c. c == t) (those_to test n)) → 1 ≤ count_by (λ c. c == t) (cond (test (suc n)) (suc n ∷ []) []) + count_by (λ c. c == t) (those_to test n)
     at false e ih = let k : 1 ≤ count_by (λ c. c == t) (those_to test n) = ih (apart n t h e) in omega arith
     at true e ih =
-        let is : suc n ≡ t = same (suc n) t e in
+        let is : suc n ≡ t = eqb-true (suc n) t e in
         let c : count_by (λ c. c == t) (suc n ∷ []) ≡ cond {A = ℕ} (suc n == t) 1 0 + 0 = count_cons (λ c. c == t) (suc n) [] in
         let on : count_by (λ c. c == t) (cond (test (suc n)) (suc n ∷ []) []) ≡ count_by (λ c. c == t) (suc n ∷ []) = ap (λ b. count_by (λ c. c == t) (cond b (suc n ∷ []) [])) (ap test is ∙ q) in
         omega (arith, on, c, bit_yes (suc n == t) e)
@@ -309,7 +308,7 @@ module _ (n : Numbering) (good : IsNumbering n) (opening : State) (ok : Sound op
     where
       at : (b : Bool) → (n.row cell q == r) ≡ b → (n.row cell q == r) ≡ false
       at false e = e
-      at true e = absurd (no_same (ap (λ (s : Seat). s.place) (sym seat ∙ (ap n.seat (sym (same (n.row cell q) r e)) ∙ good.seats cell q low within))))
+      at true e = absurd (no_same (ap (λ (s : Seat). s.place) (sym seat ∙ (ap n.seat (sym (eqb-true (n.row cell q) r e)) ∙ good.seats cell q low within))))
 
   not_home : (p : Place) (r : ℕ) → n.seat r ≡ record { cell = cell; place = p } → (p ≡ Thread slot → ⊥) → (r == n.row cell (Thread slot)) ≡ false
   not_home p r seat no_same = turned (n.row cell (Thread slot)) r (other_row r p (Thread slot) (slot_low n good opening ok small action kind cell slot x connect quit low here quiet) seat no_same)
@@ -345,7 +344,7 @@ module _ (n : Numbering) (good : IsNumbering n) (opening : State) (ok : Sound op
       one =
           let c : count_by (λ y. y == n.row cell (Thread slot)) path ≡ cond (shown_by key).accounts 0 0 + (cond (shown_by key).users 0 0 + (cond (shown_by key).hosts 0 0 + cond (shown_by key).global 0 0)) =
           counted (n.row cell (Thread slot)) 0 0 0 0 (a_none (n.row cell (Thread slot)) (Thread slot) home_at_seat (λ k e. absurd (cc))) (u_none (n.row cell (Thread slot)) (Thread slot) home_at_seat (λ k e. absurd (cc))) (h_none (n.row cell (Thread slot)) (Thread slot) home_at_seat (λ k e. absurd (cc))) (g_none (n.row cell (Thread slot)) (Thread slot) home_at_seat (λ e. absurd (cc))) in
-          omega (arith, c, count_cons (λ y. y == n.row cell (Thread slot)) (n.row cell (Thread slot)) path, bit_yes (n.row cell (Thread slot) == n.row cell (Thread slot)) (self (n.row cell (Thread slot))), nil_if (shown_by key).accounts, nil_if (shown_by key).users, nil_if (shown_by key).hosts, nil_if (shown_by key).global)
+          omega (arith, c, count_cons (λ y. y == n.row cell (Thread slot)) (n.row cell (Thread slot)) path, bit_yes (n.row cell (Thread slot) == n.row cell (Thread slot)) (eq_self (n.row cell (Thread slot))), nil_if (shown_by key).accounts, nil_if (shown_by key).users, nil_if (shown_by key).hosts, nil_if (shown_by key).global)
 
   -- a row of the way
   mine_at : (r : ℕ) (p : Place) (shown : Bool) → n.seat r ≡ record { cell = cell; place = p } → (p ≡ Thread slot → ⊥) → shows_at key p ≡ shown → count_by (λ y. y == r) path ≡ cond {A = ℕ} shown 1 0 → (shown ≡ true → matches key (own_place (rows_of n cell) x p) ≡ leads_key key x) → Mine r (n.seat r)
@@ -367,7 +366,7 @@ module _ (n : Numbering) (good : IsNumbering n) (opening : State) (ok : Sound op
 
       at : Sits n good opening ok small action kind cell slot x connect quit low here quiet row from → Mine row (n.seat row)
       at (SitsGlobal q is f) = mine_at row Global (shown_by key).global q (λ e. absurd (cc)) refl
-          (counted row 0 0 0 1 (a_none row Global q (λ k e. absurd (cc))) (u_none row Global q (λ k e. absurd (cc))) (h_none row Global q (λ k e. absurd (cc))) (bit_yes (n.row cell Global == row) (ap (λ z. n.row cell Global == z) is ∙ self (n.row cell Global)))
+          (counted row 0 0 0 1 (a_none row Global q (λ k e. absurd (cc))) (u_none row Global q (λ k e. absurd (cc))) (h_none row Global q (λ k e. absurd (cc))) (bit_yes (n.row cell Global == row) (ap (λ z. n.row cell Global == z) is ∙ eq_self (n.row cell Global)))
           ∙ omega (arith, nil_if (shown_by key).accounts, nil_if (shown_by key).users, nil_if (shown_by key).hosts)) (global_leads key x)
       at (SitsHost h w q is f) = mine_at row (Host h) (shown_by key).hosts q (λ e. absurd (cc)) refl
           (counted row 0 0 1 0 (a_none row (Host h) q (λ k e. absurd (cc))) (u_none row (Host h) q (λ k e. absurd (cc))) (opt_one (rows_of n cell).host x.host row h w (sym is)) (g_none row (Host h) q (λ e. absurd (cc)))
@@ -458,13 +457,13 @@ module _ (n : Numbering) (good : IsNumbering n) (opening : State) (ok : Sound op
       map_some f (Some y) h = refl
 
       has_a : (u h : ℕ) → key ≡ KeyAccount u h → is_some (map_row (rows_of n cell).account x.account) ≡ true
-      has_a u h q = map_some (rows_of n cell).account x.account (some_left (is_some x.account) ((x.user_name == u) && (x.host_name == h)) (ap (λ k. leads_key k x) (sym q) ∙ led))
+      has_a u h q = map_some (rows_of n cell).account x.account (and_first (is_some x.account) ((x.user_name == u) && (x.host_name == h)) (ap (λ k. leads_key k x) (sym q) ∙ led))
 
       has_u : (u : ℕ) → key ≡ KeyUser u → is_some (map_row (rows_of n cell).user x.user) ≡ true
-      has_u u q = map_some (rows_of n cell).user x.user (some_left (is_some x.user) (x.user_name == u) (ap (λ k. leads_key k x) (sym q) ∙ led))
+      has_u u q = map_some (rows_of n cell).user x.user (and_first (is_some x.user) (x.user_name == u) (ap (λ k. leads_key k x) (sym q) ∙ led))
 
       has_h : (u : ℕ) → key ≡ KeyHost u → is_some (map_row (rows_of n cell).host x.host) ≡ true
-      has_h u q = map_some (rows_of n cell).host x.host (some_left (is_some x.host) (x.host_name == u) (ap (λ k. leads_key k x) (sym q) ∙ led))
+      has_h u q = map_some (rows_of n cell).host x.host (and_first (is_some x.host) (x.host_name == u) (ap (λ k. leads_key k x) (sym q) ∙ led))
 
       last : ℕ
       last = last_of (n.row cell (Thread slot)) (path_at n key (OfSession cell slot x connect quit))

@@ -1,6 +1,7 @@
 -- For printed lines that keep the rules, each of the five summaries of a kind is conserved.
 use Rattle.std.proofs.Common.{◌≡◌, ℕ, zero, suc, ◌≤◌, ◌==◌, Bool, cond, List, [], ◌∷◌, length, Some, count_by, refl, sym, ap, ◌∙◌, subst, arith, true}
 use Rattle.std.specs.Prelude.{nat_lt}
+use Rattle.pfs_lemmas.proofs.Numbers.{eq_self}
 use Rattle.pfs_conservation.specs.Chains.{Sums, found_by, Finds, Below}
 use Rattle.pfs_conservation.specs.Removals.{Ascends}
 use Rattle.pfs_conservation.specs.Journeys.{times_counted}
@@ -19,7 +20,6 @@ use Rattle.pfs_conservation.proofs.Natural.{found_is}
 use Rattle.pfs_conservation.proofs.Conserving.{Sized}
 use Rattle.pfs_conservation.proofs.Connecting.{Sound}
 use Rattle.pfs_conservation.proofs.Acting.{to_order}
-use Rattle.pfs_conservation.proofs.Folding.{self}
 use Rattle.pfs_conservation.proofs.Tabled.{Base, acts_rising, order_all, five, all_discarded}
 use Rattle.pfs_conservation.proofs.Lining.{times_all, once_chain, lines_moved, bound_is, unquit_is}
 
@@ -57,7 +57,7 @@ module _ (n : Numbering) (opening : State) (rows : List ℕ) (base : Base n open
   are_of : AreOf n opening actions events (chain_of lines) whose
   are_of = record {
     counted = counted;
-    is_of = λ event is. of_event event (whose event) (counted event is (home_at n (whose event)) ∙ bit_yes (home_at n (whose event) == home_at n (whose event)) (self (home_at n (whose event)))) (added.added event is);
+    is_of = λ event is. of_event event (whose event) (counted event is (home_at n (whose event)) ∙ bit_yes (home_at n (whose event) == home_at n (whose event)) (eq_self (home_at n (whose event)))) (added.added event is);
   }
 
   flat : (row : ℕ) → place_level (n.seat row).place ≤ 3

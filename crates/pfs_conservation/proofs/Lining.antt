@@ -1,6 +1,8 @@
 -- From printed changes to chains that follow the moves, and the five summaries from them.
 use Rattle.std.proofs.Common.{◌⊎◌, inl, inr, ◌≡◌, ℕ, zero, suc, ◌+◌, ◌*◌, ◌<◌, ◌≤◌, ◌==◌, ◌&&◌, Bool, true, false, cond, List, [], ◌∷◌, ◌++◌, length, map, Option, Some, None, count_by, refl, sym, ap, ◌∙◌, subst, arith}
 use Rattle.std.specs.Prelude.{nat_lt, nat_le}
+use Rattle.std.proofs.lemmas.Bool.{eqb-true}
+use Rattle.pfs_lemmas.proofs.Numbers.{eq_self}
 use Rattle.pfs_conservation.specs.Chains.{Change, Added, Taken, Given}
 use Rattle.pfs_conservation.specs.Removals.{removal, following, counts_event, Ascends}
 use Rattle.pfs_conservation.specs.Journeys.{times_counted}
@@ -13,7 +15,7 @@ use Rattle.pfs_conservation.proofs.Tokens.{count_cons}
 use Rattle.pfs_conservation.proofs.Nexts.{Rising, Members}
 use Rattle.pfs_conservation.proofs.Printed.{key_at, AreAt, RowsLow, touches_at, follows_printed}
 use Rattle.pfs_conservation.proofs.Bounds.{AfterAction, QuitIn, bound_from, unquit_from}
-use Rattle.pfs_conservation.proofs.Folding.{differ, self, same}
+use Rattle.pfs_conservation.proofs.Folding.{differ}
 
 -- what stands at a version of a row
 pub among_joined : (c : Change) (xs ys : List Change) → IsAmong c (xs ++ ys) → IsAmong c xs ⊎ IsAmong c ys
@@ -66,7 +68,7 @@ chain_among lines row v (suc k) w c l m s = at (v == w) refl (λ low. chain_amon
     apart a b l q = grind (arith, l, q)
 
     at : (b : Bool) → (v == w) ≡ b → (suc v ≤ w → IsAmong c (chain_from lines row (suc v) k)) → IsAmong c (standing lines row v ++ chain_from lines row (suc v) k)
-    at true q ih = among_left c (standing lines row v) (chain_from lines row (suc v) k) (subst (λ z. IsAmong c (standing lines row z)) (sym (same v w q)) (stands_among lines row w c s))
+    at true q ih = among_left c (standing lines row v) (chain_from lines row (suc v) k) (subst (λ z. IsAmong c (standing lines row z)) (sym (eqb-true v w q)) (stands_among lines row w c s))
     at false q ih = among_right c (standing lines row v) (chain_from lines row (suc v) k) (ih (apart v w l q))
 
 -- each line is within its row's versions
@@ -74,8 +76,8 @@ in_range : (all lines : List Tagged) → Within all lines → (row v : ℕ) (c :
 in_range all [] k row v c h = absurd h
 in_range all (l ∷ ls) k row v c (inr h) = in_range all ls k.2 row v c h
 in_range all (l ∷ ls) k row v c (inl q) =
-    let r : l.row ≡ row = same l.row row (left (l.row == row) (l.version == v) q.0) in
-    let e : l.version ≡ v = same l.version v (right (l.row == row) (l.version == v) q.0) in
+    let r : l.row ≡ row = eqb-true l.row row (left (l.row == row) (l.version == v) q.0) in
+    let e : l.version ≡ v = eqb-true l.version v (right (l.row == row) (l.version == v) q.0) in
     (subst (λ z. 1 ≤ z) e k.0, subst (λ z. v ≤ changes_of all z) r (subst (λ z. z ≤ changes_of all l.row) e k.1))
   where
     left : (a b : Bool) → (a && b) ≡ true → a ≡ true
@@ -159,7 +161,7 @@ times_all e all (l ∷ ls) row k =
 
     at : (b : Bool) → (l.row == row) ≡ b → cond {A = ℕ} (b && (nat_le 1 l.version && nat_lt l.version (1 + changes_of all row))) (times_in e l.kind) 0 ≡ cond {A = ℕ} b (times_in e l.kind) 0
     at false q = refl
-    at true q = ap (λ b. cond {A = ℕ} b (times_in e l.kind) 0) (yes_in l.version (changes_of all row) k.0 (subst (λ z. l.version ≤ changes_of all z) (same l.row row q) k.1))
+    at true q = ap (λ b. cond {A = ℕ} b (times_in e l.kind) 0) (yes_in l.version (changes_of all row) k.0 (subst (λ z. l.version ≤ changes_of all z) (eqb-true l.row row q) k.1))
 
 -- each event that a chain counts is one of the list
 once_joined : (all : List ℕ) (xs ys : List Change) → AddsOnce all xs → AddsOnce all ys → AddsOnce all (xs ++ ys)
@@ -248,12 +250,12 @@ key_among row n [] h = absurd (omega arith)
 key_among row n (c ∷ cs) h = at (key_at row c == n) refl (key_among row n cs)
   where
     at : (b : Bool) → (key_at row c == n) ≡ b → (1 ≤ count_by (λ x. x == n) (map (key_at row) cs) → (d : Change) × IsAmong d cs × (key_at row d ≡ n)) → (d : Change) × IsAmong d (c ∷ cs) × (key_at row d ≡ n)
-    at true q ih = (c, inl refl, same (key_at row c) n q)
+    at true q ih = (c, inl refl, eqb-true (key_at row c) n q)
     at false q ih = let r : (d : Change) × IsAmong d cs × (key_at row d ≡ n) = ih (omega (arith, h, count_cons (λ x. x == n) (key_at row c) (map (key_at row) cs), bit_no (key_at row c == n) q)) in (r.0, inr r.1, r.2)
 
 among_key : (row : ℕ) (cs : List Change) (c : Change) → IsAmong c cs → 1 ≤ count_by (λ x. x == key_at row c) (map (key_at row) cs)
 among_key row [] c h = absurd h
-among_key row (d ∷ cs) c (inl q) = omega (arith, count_cons (λ x. x == key_at row c) (key_at row d) (map (key_at row) cs), bit_yes (key_at row d == key_at row c) (ap (λ z. key_at row z == key_at row c) q ∙ self (key_at row c)))
+among_key row (d ∷ cs) c (inl q) = omega (arith, count_cons (λ x. x == key_at row c) (key_at row d) (map (key_at row) cs), bit_yes (key_at row d == key_at row c) (ap (λ z. key_at row z == key_at row c) q ∙ eq_self (key_at row c)))
 among_key row (d ∷ cs) c (inr h) = let k : 1 ≤ count_by (λ x. x == key_at row c) (map (key_at row) cs) = among_key row cs c h in omega (arith, k, count_cons (λ x. x == key_at row c) (key_at row d) (map (key_at row) cs))
 
 members_by : (row : ℕ) (xs ys : List Change) → ((c : Change) → IsAmong c xs → IsAmong c ys) → Members (map (key_at row) xs) (map (key_at row) ys)
@@ -261,7 +263,7 @@ members_by row xs ys h n some = let r : (c : Change) × IsAmong c xs × (key_at 
 
 rows_low : (kept : ℕ → ℕ → Bool) (row : ℕ) (ms : List Move) → ((r : ℕ) (c : Change) → IsAmong c (touches kept r ms) → r < 16384) → RowsLow kept row ms
 rows_low kept row [] h = tt
-rows_low kept row (m ∷ ms) h = (h m.from (Taken m.action) (among_left (Taken m.action) (touch kept m.from m) (touches kept m.from ms) (rw (self m.from) (inl refl))), rows_low kept row ms (λ r c k. h r c (among_right c (touch kept r m) (touches kept r ms) k)))
+rows_low kept row (m ∷ ms) h = (h m.from (Taken m.action) (among_left (Taken m.action) (touch kept m.from m) (touches kept m.from ms) (rw (eq_self m.from) (inl refl))), rows_low kept row ms (λ r c k. h r c (among_right c (touch kept r m) (touches kept r ms) k)))
 
 module _ (kept : ℕ → ℕ → Bool) (moves : List Move) (order : InOrder (λ r. r) moves) (lines : List Tagged) (ok : AreChained kept moves lines) where
   chain_stands : (row : ℕ) (c : Change) → IsAmong c (chain_of lines row) → (w : ℕ) × Stands lines row w c
@@ -303,7 +305,7 @@ module _ (kept : ℕ → ℕ → Bool) (moves : List Move) (order : InOrder (λ 
 
       at : (b : Bool) → (action_of c == action_of d) ≡ b → suc (key_at row c) ≤ key_at row d
       at true q =
-          let is : action_of c ≡ action_of d = same (action_of c) (action_of d) q in
+          let is : action_of c ≡ action_of d = eqb-true (action_of c) (action_of d) q in
           let less : source_of row c < source_of row d = ok.in_order row v w c d l s t m k is in
           omega (arith, key_is row c m, key_is row d k, is, less)
       at false q =
@@ -407,7 +409,7 @@ module _ (kept : ℕ → ℕ → Bool) (moves : List Move) (order : InOrder (λ 
   taken_in n (Added es ∷ cs) (inr h) = taken_in n cs h
   taken_in n (Given a f ∷ cs) (inl q) = absurd (cc)
   taken_in n (Given a f ∷ cs) (inr h) = taken_in n cs h
-  taken_in n (Taken a ∷ cs) (inl q) = omega (arith, count_cons (λ t. t == n) a (takes_of cs), bit_yes (a == n) (ap (λ z. z == n) (let e : a ≡ n = cc in e) ∙ self n))
+  taken_in n (Taken a ∷ cs) (inl q) = omega (arith, count_cons (λ t. t == n) a (takes_of cs), bit_yes (a == n) (ap (λ z. z == n) (let e : a ≡ n = cc in e) ∙ eq_self n))
   taken_in n (Taken a ∷ cs) (inr h) = let k : 1 ≤ count_by (λ t. t == n) (takes_of cs) = taken_in n cs h in omega (arith, k, count_cons (λ t. t == n) a (takes_of cs))
 
   -- an event's removal lies between the connect and the quit of its session

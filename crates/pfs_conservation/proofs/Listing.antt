@@ -1,13 +1,15 @@
 -- The rows that a key shows are those that belong to it, each once.
 use Rattle.std.proofs.Common.{◌≡◌, ℕ, zero, suc, ◌+◌, ◌*◌, ◌<◌, ◌≤◌, ◌==◌, ◌&&◌, Bool, true, false, cond, List, [], ◌∷◌, ◌++◌, length, Option, Some, None, count_by, refl, sym, ap, ◌∙◌, subst, arith}
 use Rattle.std.specs.Prelude.{nat_lt}
+use Rattle.std.proofs.lemmas.Bool.{eqb-true}
+use Rattle.pfs_lemmas.proofs.Numbers.{eq_self}
 use Rattle.pfs_conservation.specs.Tenures.{Owner}
 use Rattle.pfs_conservation.specs.Folds.{Place, Thread, Account, User, Host, Global, Elsewhere, State, entry_at, CellRows, thread_owner, account_owner, user_owner, host_owner, global_owner, owner_of, holder_in}
 use Rattle.pfs_conservation.specs.Seats.{Seat, Numbering, IsIn, IsNumbering, rows_of, holder_at, IsSmall}
 use Rattle.pfs_conservation.specs.Tables.{AreLow, Key, KeyThread, KeyAccount, KeyUser, KeyHost, KeyAll, matches, Shown, shown_by, shows_at, passes, listed_from, shown_cell, shown_in, belongs_to}
 use Rattle.pfs_conservation.proofs.Totals.{bit_yes, bit_no}
 use Rattle.pfs_conservation.proofs.Tokens.{count_cons}
-use Rattle.pfs_conservation.proofs.Folding.{clash, self, same}
+use Rattle.pfs_conservation.proofs.Folding.{clash}
 use Rattle.pfs_conservation.proofs.Tenancy.{entry_low}
 
 pub count_joined : (r : ℕ) (xs ys : List ℕ) → count_by (λ x. x == r) (xs ++ ys) ≡ count_by (λ x. x == r) xs + count_by (λ x. x == r) ys
@@ -61,7 +63,7 @@ module _ (n : Numbering) (good : IsNumbering n) (r : ℕ) where
       sym (ap (λ (s : Seat). n.row s.cell s.place) q) ∙ good.rows r (subst (λ (s : Seat). IsIn s.place) (sym q) within)
 
   pub seat_is : (cell : ℕ) (place : Place) → n.is_cell cell ≡ true → IsIn place → (n.row cell place == r) ≡ true → n.seat r ≡ record { cell = cell; place = place }
-  seat_is cell place low within q = ap n.seat (sym (same (n.row cell place) r q)) ∙ good.seats cell place low within
+  seat_is cell place low within q = ap n.seat (sym (eqb-true (n.row cell place) r q)) ∙ good.seats cell place low within
 
   pub row_apart : (cell : ℕ) (place : Place) → n.is_cell cell ≡ true → IsIn place → (n.seat r ≡ record { cell = cell; place = place } → ⊥) → (n.row cell place == r) ≡ false
   row_apart cell place low within other = at (n.row cell place == r) refl
@@ -88,7 +90,7 @@ module _ (n : Numbering) (good : IsNumbering n) (r : ℕ) where
       apart a b q h = grind (arith, q, h)
 
       at : (k : ℕ) → k < 32 → (b : Bool) → (k == m) ≡ b → (n.row cell (make k) == r) ≡ (k == 0 + m)
-      at k l true e = ap (λ z. n.row cell (make z) == r) (same k m e) ∙ (ap (λ z. z == r) (row_is cell (make m) low (within m in_range) q) ∙ (self r ∙ (sym e ∙ ap (λ z. k == z) (plus m))))
+      at k l true e = ap (λ z. n.row cell (make z) == r) (eqb-true k m e) ∙ (ap (λ z. z == r) (row_is cell (make m) low (within m in_range) q) ∙ (eq_self r ∙ (sym e ∙ ap (λ z. k == z) (plus m))))
       at k l false e = row_apart cell (make k) low (within k l) (λ h. apart k m e (inj k (seats cell (make m) (make k) (sym q ∙ h)))) ∙ (sym e ∙ ap (λ z. k == z) (plus m))
 
   module _ (key : Key) (s : State) (small : IsSmall s) (cell : ℕ) (low : n.is_cell cell ≡ true) where
@@ -252,7 +254,7 @@ module _ (n : Numbering) (good : IsNumbering n) (r : ℕ) where
     cell_one Global o q h =
         let k : Shown = shown_by key in
         parts 0 0 0 0 1 (count_threads Global q (λ k e. absurd (cc))) (count_accounts Global q (λ k e. absurd (cc))) (count_users Global q (λ k e. absurd (cc))) (count_hosts Global q (λ k e. absurd (cc)))
-        (bit_yes (n.row cell Global == r) (ap (λ z. z == r) (row_is cell Global low tt q) ∙ self r))
+        (bit_yes (n.row cell Global == r) (ap (λ z. z == r) (row_is cell Global low tt q) ∙ eq_self r))
         ∙ (sum (cond k.global 1 0) k.accounts k.users k.hosts ∙ global_if key o h)
       where
         sum : (z : ℕ) (b c d : Bool) → 0 + (cond {A = ℕ} b 0 0 + (cond {A = ℕ} c 0 0 + (cond {A = ℕ} d 0 0 + z))) ≡ z
@@ -292,7 +294,7 @@ shown_count n good r key s small c p o q h (cell ∷ cells) lows = at (cell == c
     at : (b : Bool) → (cell == c) ≡ b → count_by (λ x. x == r) (shown_in n key cells s) ≡ count_by (λ x. x == c) cells * cond {A = ℕ} (shows_at key p && matches key o) 1 0
         → count_by (λ x. x == r) (shown_in n key (cell ∷ cells) s) ≡ count_by (λ x. x == c) (cell ∷ cells) * cond {A = ℕ} (shows_at key p && matches key o) 1 0
     at true e ih =
-        times (count_by (λ x. x == r) (shown_in n key (cell ∷ cells) s)) (count_by (λ x. x == r) (shown_cell key (rows_of n cell) s)) (count_by (λ x. x == r) (shown_in n key cells s)) (count_by (λ x. x == c) cells) (cond {A = ℕ} (shows_at key p && matches key o) 1 0) joined (here cell lows.0 (same cell c e)) ih
+        times (count_by (λ x. x == r) (shown_in n key (cell ∷ cells) s)) (count_by (λ x. x == r) (shown_cell key (rows_of n cell) s)) (count_by (λ x. x == r) (shown_in n key cells s)) (count_by (λ x. x == c) cells) (cond {A = ℕ} (shows_at key p && matches key o) 1 0) joined (here cell lows.0 (eqb-true cell c e)) ih
         ∙ ap (λ k. k * cond {A = ℕ} (shows_at key p && matches key o) 1 0) (let one : cond {A = ℕ} (cell == c) 1 0 ≡ 1 = bit_yes (cell == c) e in let cons : count_by (λ x. x == c) (cell ∷ cells) ≡ cond {A = ℕ} (cell == c) 1 0 + count_by (λ x. x == c) cells = count_cons (λ x. x == c) cell cells in omega arith)
     at false e ih =
         joined ∙ (ap (λ z. z + count_by (λ x. x == r) (shown_in n key cells s)) (cell_none n good r key s small cell lows.0 (λ other k. apart cell c e (ap (λ (t : Seat). t.cell) (sym q ∙ k))))

@@ -1,6 +1,8 @@
 -- Chains that follow the moves of the actions are in order.
 use Rattle.std.proofs.Common.{inl, inr, ◌≡◌, ℕ, ◌+◌, ◌*◌, ◌≤◌, ◌==◌, ◌&&◌, Bool, true, false, cond, List, [], ◌∷◌, ◌++◌, count_by, refl, sym, ap, ◌∙◌, subst, arith}
 use Rattle.std.proofs.lemmas.List.Sums.{sum_by-append}
+use Rattle.std.proofs.lemmas.Bool.{eqb-true}
+use Rattle.pfs_lemmas.proofs.Bools.{and_first}
 use Rattle.pfs_conservation.specs.Chains.{Change, Added, Taken, Given, Below}
 use Rattle.pfs_conservation.specs.Removals.{is_given, Ascends}
 use Rattle.pfs_conservation.specs.Moves.{Move, goes_to, touch, touches, moved, IsLater, AllLater, Climbs, InOrder, sends}
@@ -24,13 +26,6 @@ count_moved n row [] = refl
 count_moved n row (Added es ∷ cs) = omega (arith, count_moved n row cs, count_cons (is_given n row) (Added es) cs)
 count_moved n row (Taken k ∷ cs) = omega (arith, count_moved n row cs, count_cons (is_given n row) (Taken k) cs, count_cons (is_given n row) (Taken k) (moved cs))
 count_moved n row (Given k from ∷ cs) = omega (arith, count_moved n row cs, count_cons (is_given n row) (Given k from) cs, count_cons (is_given n row) (Given k from) (moved cs))
-
-number_is : (a b : ℕ) → (a == b) ≡ true → a ≡ b
-number_is a b h = grind (arith, h)
-
-and_left : (a b : Bool) → (a && b) ≡ true → a ≡ true
-and_left true b h = refl
-and_left false b h = h
 
 module _ (level : ℕ → ℕ) (kept : ℕ → ℕ → Bool) (row : ℕ) where
   -- what a move may still change in the row
@@ -65,8 +60,8 @@ module _ (level : ℕ → ℕ) (kept : ℕ → ℕ → Bool) (row : ℕ) where
   touches_ascend key (m ∷ ms) o a = at (m.from == row) (goes_to row m.to && kept m.action m.from) refl refl (λ k b. touches_ascend k ms o.2 b)
     where
       at : (b c : Bool) → (m.from == row) ≡ b → (goes_to row m.to && kept m.action m.from) ≡ c → ((k : ℕ) → AllAbove k ms → Ascends k (touches kept row ms)) → Ascends key (touch kept row m ++ touches kept row ms)
-      at true c q r ih = rw q (a.0.0 (number_is m.from row q), ih (2 * m.action + 2) (above_taken m ms (number_is m.from row q) o.1 o.2))
-      at false true q r ih = rw (q, r) (a.0.1 (and_left (goes_to row m.to) (kept m.action m.from) r), ih (2 * m.action) (above_given m ms o.1))
+      at true c q r ih = rw q (a.0.0 (eqb-true m.from row q), ih (2 * m.action + 2) (above_taken m ms (eqb-true m.from row q) o.1 o.2))
+      at false true q r ih = rw (q, r) (a.0.1 (and_first (goes_to row m.to) (kept m.action m.from) r), ih (2 * m.action) (above_given m ms o.1))
       at false false q r ih = rw (q, r) (ih key a.1)
 
   above_none : (ms : List Move) → AllAbove 0 ms
@@ -80,7 +75,7 @@ module _ (level : ℕ → ℕ) (kept : ℕ → ℕ → Bool) (row : ℕ) where
     where
       at : (b c : Bool) → (m.from == row) ≡ b → (goes_to row m.to && kept m.action m.from) ≡ c → Below level (level row) (touches kept row ms) → Below level (level row) (touch kept row m ++ touches kept row ms)
       at true c q r ih = rw q ih
-      at false true q r ih = rw (q, r) (o.0 row (and_left (goes_to row m.to) (kept m.action m.from) r), ih)
+      at false true q r ih = rw (q, r) (o.0 row (and_first (goes_to row m.to) (kept m.action m.from) r), ih)
       at false false q r ih = rw (q, r) ih
 
   pub follows_ascends : (ms : List Move) (cs : List Change) → InOrder level ms → moved cs ≡ touches kept row ms → Ascends 0 cs

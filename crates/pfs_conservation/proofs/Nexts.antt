@@ -1,16 +1,12 @@
 -- Rising lists with the same members are the same.
 use Rattle.std.proofs.Common.{◌≡◌, ℕ, suc, ◌≤◌, ◌==◌, Bool, true, false, cond, List, [], ◌∷◌, count_by, refl, sym, ap, ◌∙◌, subst, arith}
+use Rattle.std.proofs.lemmas.Bool.{eqb-true}
+use Rattle.pfs_lemmas.proofs.Numbers.{eq_self}
 use Rattle.pfs_conservation.proofs.Tokens.{count_cons}
 
 abbrev pub Rising : ℕ → List ℕ → Type 0
 Rising low [] = Unit {0}
 Rising low (x ∷ xs) = (low ≤ x) × Rising (suc x) xs
-
-same : (a b : ℕ) → (a == b) ≡ true → a ≡ b
-same a b q = grind (arith, q)
-
-self : (a : ℕ) → (a == a) ≡ true
-self a = grind arith
 
 bit : (b : Bool) → b ≡ true → ◌≡◌ {A = ℕ} (cond b 1 0) 1
 bit b h = ap (λ (c : Bool). cond {A = ℕ} c 1 0) h
@@ -26,14 +22,14 @@ rising_above low [] r n h = absurd (omega arith)
 rising_above low (x ∷ xs) r n h = at (x == n) refl (rising_above (suc x) xs r.1 n)
   where
     at : (b : Bool) → (x == n) ≡ b → (1 ≤ count_by (λ y. y == n) xs → suc x ≤ n) → low ≤ n
-    at true q ih = let first : low ≤ x = r.0 in omega (arith, same x n q)
+    at true q ih = let first : low ≤ x = r.0 in omega (arith, eqb-true x n q)
     at false q ih = let later : suc x ≤ n = ih (omega (arith, h, count_cons (λ y. y == n) x xs, bit_no (x == n) q)) in let first : low ≤ x = r.0 in omega arith
 
 abbrev pub Members : List ℕ → List ℕ → Type 0
 Members xs ys = (n : ℕ) → 1 ≤ count_by (λ x. x == n) xs → 1 ≤ count_by (λ y. y == n) ys
 
 has_first : (x : ℕ) (xs : List ℕ) → 1 ≤ count_by (λ y. y == x) (x ∷ xs)
-has_first x xs = omega (arith, count_cons (λ y. y == x) x xs, bit (x == x) (self x))
+has_first x xs = omega (arith, count_cons (λ y. y == x) x xs, bit (x == x) (eq_self x))
 
 pub rising_same : (low : ℕ) (xs ys : List ℕ) → Rising low xs → Rising low ys → Members xs ys → Members ys xs → xs ≡ ys
 rising_same low [] [] a b m n = refl

@@ -1,13 +1,14 @@
 -- Rows of one cell: threads from 0, accounts from 32, users from 64, hosts from 96, and the global row 128.
 use Rattle.std.proofs.Common.{◌⊎◌, inl, inr, ◌≡◌, ℕ, zero, suc, ◌+◌, ◌-◌, ◌<◌, ◌≤◌, ◌==◌, Bool, true, false, cond, List, [], ◌∷◌, Some, None, count_by, refl, sym, ap, ◌∙◌, subst, arith}
 use Rattle.std.specs.Prelude.{nat_lt}
+use Rattle.std.proofs.lemmas.Bool.{eqb-true, ltb-false, ltb-true}
 use Rattle.pfs_conservation.specs.Actions.{RowsAfter, Ranked}
 use Rattle.pfs_conservation.specs.Folds.{Place, Thread, Account, User, Host, Global, Elsewhere, State, entry_at}
 use Rattle.pfs_conservation.specs.Seats.{Seat, Numbering, IsIn, Between, IsNumbering, place_level}
 use Rattle.pfs_conservation.specs.Facts.{IsListing}
 use Rattle.pfs_conservation.proofs.Totals.{bit_yes, bit_no}
 use Rattle.pfs_conservation.proofs.Tokens.{count_cons}
-use Rattle.pfs_conservation.proofs.Folding.{clash, same}
+use Rattle.pfs_conservation.proofs.Folding.{clash}
 use Rattle.pfs_conservation.proofs.Connecting.{Sound}
 use Rattle.pfs_conservation.proofs.Tabled.{Base}
 
@@ -81,12 +82,6 @@ data Range (row : ℕ) : Type 0 where
   All : row ≡ 128 → place_of row ≡ Global → Range row
   Past : 129 ≤ row → place_of row ≡ Elsewhere → Range row
 
-yes_lt : (a b : ℕ) → nat_lt a b ≡ true → a < b
-yes_lt a b q = grind (arith, q)
-
-no_lt : (a b : ℕ) → nat_lt a b ≡ false → b ≤ a
-no_lt a b q = grind (arith, q)
-
 apart : (a : ℕ) → 128 ≤ a → (a == 128) ≡ false → 129 ≤ a
 apart a l q = grind (arith, l, q)
 
@@ -94,15 +89,15 @@ range : (row : ℕ) → Range row
 range row = at (nat_lt row 32) (nat_lt row 64) (nat_lt row 96) (nat_lt row 128) (row == 128) refl refl refl refl refl
   where
     at : (a b c d e : Bool) → nat_lt row 32 ≡ a → nat_lt row 64 ≡ b → nat_lt row 96 ≡ c → nat_lt row 128 ≡ d → (row == 128) ≡ e → Range row
-    at true b c d e p q r s t = Threads (yes_lt row 32 p) (rw p refl)
-    at false true c d e p q r s t = Accounts (no_lt row 32 p) (yes_lt row 64 q) (rw (p, q) refl)
-    at false false true d e p q r s t = Users (no_lt row 64 q) (yes_lt row 96 r) (rw (p, q, r) refl)
-    at false false false true e p q r s t = Hosts (no_lt row 96 r) (yes_lt row 128 s) (rw (p, q, r, s) refl)
-    at false false false false true p q r s t = All (same row 128 t) (rw (p, q, r, s, t) refl)
-    at false false false false false p q r s t = Past (apart row (no_lt row 128 s) t) (rw (p, q, r, s, t) refl)
+    at true b c d e p q r s t = Threads (ltb-true row 32 p) (rw p refl)
+    at false true c d e p q r s t = Accounts (ltb-false row 32 p) (ltb-true row 64 q) (rw (p, q) refl)
+    at false false true d e p q r s t = Users (ltb-false row 64 q) (ltb-true row 96 r) (rw (p, q, r) refl)
+    at false false false true e p q r s t = Hosts (ltb-false row 96 r) (ltb-true row 128 s) (rw (p, q, r, s) refl)
+    at false false false false true p q r s t = All (eqb-true row 128 t) (rw (p, q, r, s, t) refl)
+    at false false false false false p q r s t = Past (apart row (ltb-false row 128 s) t) (rw (p, q, r, s, t) refl)
 
 is_zero : (cell : ℕ) → (cell == 0) ≡ true → cell ≡ 0
-is_zero cell q = same cell 0 q
+is_zero cell q = eqb-true cell 0 q
 
 pub good : IsNumbering numbering
 good = record {
@@ -160,7 +155,7 @@ upto_one n (suc k) row l h = at (n == row) refl (λ low. upto_one (suc n) k row 
     less a b l q = grind (arith, l, q)
 
     at : (b : Bool) → (n == row) ≡ b → (suc n ≤ row → count_by (λ r. r == row) (upto (suc n) k) ≡ 1) → count_by (λ r. r == row) (upto n (suc k)) ≡ 1
-    at true q ih = let is : n ≡ row = same n row q in omega (arith, count_cons (λ r. r == row) n (upto (suc n) k), bit_yes (n == row) q, upto_none (suc n) k row (omega arith))
+    at true q ih = let is : n ≡ row = eqb-true n row q in omega (arith, count_cons (λ r. r == row) n (upto (suc n) k), bit_yes (n == row) q, upto_none (suc n) k row (omega arith))
     at false q ih = omega (arith, count_cons (λ r. r == row) n (upto (suc n) k), bit_no (n == row) q, ih (less n row l q))
 
 rows_after : (level : ℕ → ℕ) → ((a b : ℕ) → a ≤ b → b < 129 → level a ≤ level b) → (row n k : ℕ) → row < n → n + k ≤ 129 → RowsAfter level row (upto n k)

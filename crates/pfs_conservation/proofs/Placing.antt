@@ -1,13 +1,16 @@
 -- By name or by place: a key of the tables by account, user and host shows the same rows.
 use Rattle.std.proofs.Common.{◌⊎◌, inl, inr, ◌≡◌, ℕ, zero, suc, ◌+◌, ◌==◌, ◌&&◌, Bool, true, false, cond, List, [], ◌∷◌, ◌++◌, Option, Some, None, refl, sym, ap, ◌∙◌, arith}
 use Rattle.std.specs.Prelude.{is_some}
+use Rattle.std.proofs.lemmas.Bool.{eqb-true}
+use Rattle.pfs_lemmas.proofs.Numbers.{eq_self}
+use Rattle.pfs_lemmas.proofs.Bools.{and_first, and_second}
 use Rattle.pfs_conservation.specs.Journeys.{is_from}
 use Rattle.pfs_conservation.specs.Folds.{Session, Entry, entry_of, State, Connects, Truncates, Others, entry_at, fill, kept_from, in_use, stepped, CellRows}
 use Rattle.pfs_conservation.specs.Administration.{Action, Connect, Quit, Truncate, Other, Summary, Accounts, Users, Hosts, Found, one_up, found_where, lowest_free, found_or, named_place, is_account, session_by, session_of, connect_line, quit_line, line_of, state_after}
 use Rattle.pfs_conservation.specs.Tables.{KeyAccount, KeyUser, KeyHost, passes, listed_from, shown_cell}
 use Rattle.pfs_conservation.specs.Places.{account_place, user_place, host_place, IsApart, Names, names_of, AreApart}
-use Rattle.pfs_conservation.proofs.Folding.{clash, differ, self, same, fill_keeps, kept_was}
-use Rattle.pfs_conservation.proofs.Connecting.{Stands, found_is, fill_was, Sound, sound_after, and_left, and_right}
+use Rattle.pfs_conservation.proofs.Folding.{clash, differ, fill_keeps, kept_was}
+use Rattle.pfs_conservation.proofs.Connecting.{Stands, found_is, fill_was, Sound, sound_after}
 
 some_is : {X : Type 0} (a b : X) → ◌≡◌ {A = Option X} (Some a) (Some b) → a ≡ b
 some_is a b h = cc
@@ -63,7 +66,7 @@ named_new name xs i h = at (found_where (λ x. x == name) xs) refl h
   where
     at : (o : Option (Found ℕ)) → found_where (λ x. x == name) xs ≡ o → found_or o (lowest_free xs) ≡ Some i → ((y : ℕ) × (entry_at xs i ≡ Some y)) ⊎ ((j : ℕ) (y : ℕ) → entry_at xs j ≡ Some y → y ≡ name → ⊥)
     at (Some f) q h = inl (f.entry, ap (entry_at xs) (sym (some_is f.place i h)) ∙ (found_is (λ x. x == name) xs f q).stands)
-    at None q h = inr (λ j y e w. differ (sym (self y) ∙ (ap (λ z. y == z) w ∙ found_none (λ x. x == name) xs q j y e)))
+    at None q h = inr (λ j y e w. differ (sym (eq_self y) ∙ (ap (λ z. y == z) w ∙ found_none (λ x. x == name) xs q j y e)))
 
 apart_connects : (s : State) → Sound s → AreApart s → (slot number user host : ℕ) → AreApart (stepped s (Connects slot (session_of s number user host)))
 apart_connects s ok apart slot number user host = at (found_where (is_account user host) s.accounts) refl
@@ -76,7 +79,7 @@ apart_connects s ok apart slot number user host = at (found_where (is_account us
     }
       where
         passes_is : (y : Entry) → names_of y ≡ record { user = user; host = host } → is_account user host y ≡ true
-        passes_is y w = ap (λ (k : Names). (k.user == user) && (k.host == host)) w ∙ (ap (λ b. b && (host == host)) (self user) ∙ self host)
+        passes_is y w = ap (λ (k : Names). (k.user == user) && (k.host == host)) w ∙ (ap (λ b. b && (host == host)) (eq_self user) ∙ eq_self host)
     at (Some f) q =
         let st : Stands (is_account user host) s.accounts f = found_is (is_account user host) s.accounts f q in
         let x : Session = session_by s number user host (Some f) in
@@ -111,7 +114,7 @@ pub apart_after : (opening : State) → Sound opening → AreApart opening → (
 apart_after opening ok apart action zero = apart
 apart_after opening ok apart action (suc n) = apart_step (state_after opening action n) (sound_after opening ok action n) (apart_after opening ok apart action n) (action (suc n))
 
--- tests that agree list the same rows
+-- tests that agree list the eqb-true rows
 listed_same : {X : Type 0} (f g : X → Bool) (row : ℕ → ℕ) (n : ℕ) (xs : List (Option X)) → ((i : ℕ) (x : X) → entry_at xs i ≡ Some x → f x ≡ g x) → listed_from f row n xs ≡ listed_from g row n xs
 listed_same f g row n [] h = refl
 listed_same f g row n (None ∷ xs) h = listed_same f g row (suc n) xs (λ i x e. h (suc i) x e)
@@ -161,8 +164,8 @@ module _ (s : State) (ok : Sound s) (apart : AreApart s) (rows : CellRows) where
       by : (b : Bool) → (other == name) ≡ b → (c : Bool) → (v == u) ≡ c → (other == name) ≡ (v == u)
       by true q true w = q ∙ sym w
       by false q false w = q ∙ sym w
-      by true q false w = differ (sym (ap (λ k. k == u) (is_apart v u other name (holds v refl) at (same other name q)) ∙ self u) ∙ w)
-      by false q true w = differ (sym (ap (λ k. k == name) (some_is other name (sym (holds v refl) ∙ (ap (entry_at xs) (same v u w) ∙ at))) ∙ self name) ∙ q)
+      by true q false w = differ (sym (ap (λ k. k == u) (is_apart v u other name (holds v refl) at (eqb-true other name q)) ∙ eq_self u) ∙ w)
+      by false q true w = differ (sym (ap (λ k. k == name) (some_is other name (sym (holds v refl) ∙ (ap (entry_at xs) (eqb-true v u w) ∙ at))) ∙ eq_self name) ∙ q)
 
   pub user_same : (u name : ℕ) → entry_at s.users u ≡ Some name → shown_cell (KeyUser name) rows s ≡ user_place rows s u
   user_same u name at =
@@ -171,7 +174,7 @@ module _ (s : State) (ok : Sound s) (apart : AreApart s) (rows : CellRows) where
       ∙ (ap (λ z. listed_from (λ x. is_from u x.user) rows.thread 0 s.threads ++ (z ++ (listed_from (λ x. x == name) rows.user 0 s.users ++ [])))
       (listed_same (λ e. is_some e.user && (e.user_name == name)) (λ e. is_from u e.user) rows.account 0 s.accounts (λ i x e. by_place s.users u name x.user_name x.user apart.users at (λ v w. ok.user i x v e w)))
       ∙ ap (λ z. listed_from (λ x. is_from u x.user) rows.thread 0 s.threads ++ (listed_from (λ e. is_from u e.user) rows.account 0 s.accounts ++ z))
-      (nil_right (listed_from (λ x. x == name) rows.user 0 s.users) ∙ (listed_only (λ x. x == name) rows.user 0 u s.users name at (self name) (λ i x e q. apart.users i u x name e at (same x name q)) ∙ ap (λ k. rows.user k ∷ []) (plus u))))
+      (nil_right (listed_from (λ x. x == name) rows.user 0 s.users) ∙ (listed_only (λ x. x == name) rows.user 0 u s.users name at (eq_self name) (λ i x e q. apart.users i u x name e at (eqb-true x name q)) ∙ ap (λ k. rows.user k ∷ []) (plus u))))
     where
       plus : (n : ℕ) → 0 + n ≡ n
       plus n = omega arith
@@ -183,13 +186,13 @@ module _ (s : State) (ok : Sound s) (apart : AreApart s) (rows : CellRows) where
       ∙ (ap (λ z. listed_from (λ x. is_from u x.host) rows.thread 0 s.threads ++ (z ++ (listed_from (λ x. x == name) rows.host 0 s.hosts ++ [])))
       (listed_same (λ e. is_some e.host && (e.host_name == name)) (λ e. is_from u e.host) rows.account 0 s.accounts (λ i x e. by_place s.hosts u name x.host_name x.host apart.hosts at (λ v w. ok.host i x v e w)))
       ∙ ap (λ z. listed_from (λ x. is_from u x.host) rows.thread 0 s.threads ++ (listed_from (λ e. is_from u e.host) rows.account 0 s.accounts ++ z))
-      (nil_right (listed_from (λ x. x == name) rows.host 0 s.hosts) ∙ (listed_only (λ x. x == name) rows.host 0 u s.hosts name at (self name) (λ i x e q. apart.hosts i u x name e at (same x name q)) ∙ ap (λ k. rows.host k ∷ []) (plus u))))
+      (nil_right (listed_from (λ x. x == name) rows.host 0 s.hosts) ∙ (listed_only (λ x. x == name) rows.host 0 u s.hosts name at (eq_self name) (λ i x e q. apart.hosts i u x name e at (eqb-true x name q)) ∙ ap (λ k. rows.host k ∷ []) (plus u))))
     where
       plus : (n : ℕ) → 0 + n ≡ n
       plus n = omega arith
 
   names_same : (x : Entry) (user host : ℕ) → is_account user host x ≡ true → names_of x ≡ record { user = user; host = host }
-  names_same x user host h = ap (λ n. record { user = n; host = x.host_name }) (same x.user_name user (and_left (x.user_name == user) (x.host_name == host) h)) ∙ ap (λ n. record { user = user; host = n }) (same x.host_name host (and_right (x.user_name == user) (x.host_name == host) h))
+  names_same x user host h = ap (λ n. record { user = n; host = x.host_name }) (eqb-true x.user_name user (and_first (x.user_name == user) (x.host_name == host) h)) ∙ ap (λ n. record { user = user; host = n }) (eqb-true x.host_name host (and_second (x.user_name == user) (x.host_name == host) h))
 
   pub account_same : (a : ℕ) (entry : Entry) → entry_at s.accounts a ≡ Some entry → shown_cell (KeyAccount entry.user_name entry.host_name) rows s ≡ account_place rows s a
   account_same a entry at =
@@ -202,7 +205,7 @@ module _ (s : State) (ok : Sound s) (apart : AreApart s) (rows : CellRows) where
       plus n = omega arith
 
       own : is_account entry.user_name entry.host_name entry ≡ true
-      own = ap (λ b. b && (entry.host_name == entry.host_name)) (self entry.user_name) ∙ self entry.host_name
+      own = ap (λ b. b && (entry.host_name == entry.host_name)) (eq_self entry.user_name) ∙ eq_self entry.host_name
 
       of_thread : (x : Session) → ((v : ℕ) → x.account ≡ Some v → entry_at s.accounts v ≡ Some (entry_of x)) → (o : Option ℕ) → x.account ≡ o → (is_some o && ((x.user_name == entry.user_name) && (x.host_name == entry.host_name))) ≡ is_from a o
       of_thread x holds None w = refl
@@ -211,5 +214,5 @@ module _ (s : State) (ok : Sound s) (apart : AreApart s) (rows : CellRows) where
           by : (b : Bool) → is_account entry.user_name entry.host_name (entry_of x) ≡ b → (c : Bool) → (v == a) ≡ c → is_account entry.user_name entry.host_name (entry_of x) ≡ (v == a)
           by true q true k = q ∙ sym k
           by false q false k = q ∙ sym k
-          by true q false k = differ (sym (ap (λ z. z == a) (apart.accounts v a (entry_of x) entry (holds v w) at (names_same (entry_of x) entry.user_name entry.host_name q)) ∙ self a) ∙ k)
-          by false q true k = differ (sym (ap (is_account entry.user_name entry.host_name) (some_is (entry_of x) entry (sym (holds v w) ∙ (ap (entry_at s.accounts) (same v a k) ∙ at))) ∙ own) ∙ q)
+          by true q false k = differ (sym (ap (λ z. z == a) (apart.accounts v a (entry_of x) entry (holds v w) at (names_same (entry_of x) entry.user_name entry.host_name q)) ∙ eq_self a) ∙ k)
+          by false q true k = differ (sym (ap (is_account entry.user_name entry.host_name) (some_is (entry_of x) entry (sym (holds v w) ∙ (ap (entry_at s.accounts) (eqb-true v a k) ∙ at))) ∙ own) ∙ q)

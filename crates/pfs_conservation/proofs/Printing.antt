@@ -1,6 +1,9 @@
 -- Lines that print what each action asks for, in order, are chained.
 use Rattle.std.proofs.Common.{◌⊎◌, inl, inr, ◌≡◌, ℕ, zero, suc, ◌<◌, ◌≤◌, ◌==◌, ◌&&◌, Bool, true, false, cond, List, [], ◌∷◌, ◌++◌, Option, count_by, refl, sym, ap, ◌∙◌, subst, arith}
 use Rattle.std.specs.Prelude.{nat_lt}
+use Rattle.std.proofs.lemmas.Bool.{and_from, eqb-true}
+use Rattle.pfs_lemmas.proofs.Numbers.{eq_self}
+use Rattle.pfs_lemmas.proofs.Bools.{and_first, and_second}
 use Rattle.pfs_conservation.specs.Chains.{Change, Taken, Given}
 use Rattle.pfs_conservation.specs.Moves.{Move, goes_to, touch, touches, Climbs, AllLater, IsLater, InOrder}
 use Rattle.pfs_conservation.specs.Tenures.{Owner}
@@ -9,7 +12,6 @@ use Rattle.pfs_conservation.specs.Lines.{Kind, Adds, Takes, Gives, Tagged, as_ch
 use Rattle.pfs_conservation.specs.Prints.{Print, gives_of, prints_of, prints_all, is_move, printed_by, Above, Rises, AreBy, AreActed}
 use Rattle.pfs_conservation.proofs.Totals.{bit_yes, bit_no}
 use Rattle.pfs_conservation.proofs.Tokens.{count_cons}
-use Rattle.pfs_conservation.proofs.Folding.{differ, same, self}
 use Rattle.pfs_conservation.proofs.Lining.{among_joined, among_left, among_right}
 
 -- a change is printed for a row
@@ -41,7 +43,7 @@ given_is kept m row c [] h = absurd h
 given_is kept m row c (r ∷ to) h = by (prints_joined row c (cond (kept m.action m.from) (record { row = r; change = Given m.action m.from } ∷ []) []) (gives_of kept m to) h) (given_is kept m row c to)
   where
     here : (b : Bool) → kept m.action m.from ≡ b → InPrints row c (cond b (record { row = r; change = Given m.action m.from } ∷ []) []) → (Given m.action m.from ≡ c) × (kept m.action m.from ≡ true) × (1 ≤ count_by (λ x. x == row) (r ∷ to))
-    here true q (inl e) = (e.1, q, omega (arith, count_cons (λ x. x == row) r to, bit_yes (r == row) (ap (λ z. z == row) e.0 ∙ self row)))
+    here true q (inl e) = (e.1, q, omega (arith, count_cons (λ x. x == row) r to, bit_yes (r == row) (ap (λ z. z == row) e.0 ∙ eq_self row)))
     here true q (inr e) = absurd e
     here false q e = absurd e
 
@@ -54,7 +56,7 @@ is_given kept m row [] k h = absurd (omega arith)
 is_given kept m row (r ∷ to) k h = at (r == row) refl (is_given kept m row to k)
   where
     at : (b : Bool) → (r == row) ≡ b → (1 ≤ count_by (λ x. x == row) to → InPrints row (Given m.action m.from) (gives_of kept m to)) → InPrints row (Given m.action m.from) (cond (kept m.action m.from) (record { row = r; change = Given m.action m.from } ∷ []) [] ++ gives_of kept m to)
-    at true q ih = prints_left row (Given m.action m.from) (cond (kept m.action m.from) (record { row = r; change = Given m.action m.from } ∷ []) []) (gives_of kept m to) (rw k (inl (same r row q, refl)))
+    at true q ih = prints_left row (Given m.action m.from) (cond (kept m.action m.from) (record { row = r; change = Given m.action m.from } ∷ []) []) (gives_of kept m to) (rw k (inl (eqb-true r row q, refl)))
     at false q ih = prints_right row (Given m.action m.from) (cond (kept m.action m.from) (record { row = r; change = Given m.action m.from } ∷ []) []) (gives_of kept m to) (ih (omega (arith, h, count_cons (λ x. x == row) r to, bit_no (r == row) q)))
 
 some_goes : (n : ℕ) → 1 ≤ n → nat_lt 0 n ≡ true
@@ -68,7 +70,7 @@ below_apart a b h = grind (arith, h)
 
 -- what a move prints for a row is its touch of the row
 print_touch : (kept : ℕ → ℕ → Bool) (row : ℕ) (m : Move) → Climbs (λ r. r) m → (c : Change) → InPrints row c (prints_of kept m) → IsAmong c (touch kept row m)
-print_touch kept row m climbs c (inl q) = rw (ap (λ z. z == row) q.0 ∙ self row) (inl q.1)
+print_touch kept row m climbs c (inl q) = rw (ap (λ z. z == row) q.0 ∙ eq_self row) (inl q.1)
 print_touch kept row m climbs c (inr h) =
     let g : (Given m.action m.from ≡ c) × (kept m.action m.from ≡ true) × (1 ≤ count_by (λ r. r == row) m.to) = given_is kept m row c m.to h in
     let goes : goes_to row m.to ≡ true = some_goes (count_by (λ r. r == row) m.to) g.2 in
@@ -79,7 +81,7 @@ touch_print : (kept : ℕ → ℕ → Bool) (row : ℕ) (m : Move) (c : Change) 
 touch_print kept row m c h = at (m.from == row) (goes_to row m.to) (kept m.action m.from) refl refl refl h
   where
     at : (a b d : Bool) → (m.from == row) ≡ a → goes_to row m.to ≡ b → kept m.action m.from ≡ d → IsAmong c (cond {A = List Change} a (Taken m.action ∷ []) (cond (b && d) (Given m.action m.from ∷ []) [])) → InPrints row c (prints_of kept m)
-    at true b d p q r (inl e) = inl (same m.from row p, e)
+    at true b d p q r (inl e) = inl (eqb-true m.from row p, e)
     at true b d p q r (inr e) = absurd e
     at false true true p q r (inl e) = inr (subst (λ x. InPrints row x (gives_of kept m m.to)) e (is_given kept m row m.to r (goes_some (count_by (λ x. x == row) m.to) q)))
     at false true true p q r (inr e) = absurd e
@@ -132,19 +134,6 @@ move_kind action (Adds es) m = absurd m
 move_kind action Takes m = (refl, refl)
 move_kind action (Gives r) m = (refl, refl)
 
-and_left : (a b : Bool) → (a && b) ≡ true → a ≡ true
-and_left true b h = refl
-and_left false b h = h
-
-and_right : (a b : Bool) → (a && b) ≡ true → b ≡ true
-and_right true b h = h
-and_right false b h = differ (sym h)
-
-both : (a b : Bool) → a ≡ true → b ≡ true → (a && b) ≡ true
-both true true p q = refl
-both true false p q = q
-both false b p q = p
-
 stands_printed : (lines : List Tagged) (row v : ℕ) (c : Change) → Stands lines row v c → IsMove c → InPrints row c (printed_by lines (action_of c))
 stands_printed [] row v c h m = h
 stands_printed (l ∷ ls) row v c (inr h) m = prints_right row c (cond (is_move l.kind && (l.action == action_of c)) (record { row = l.row; change = change_of l } ∷ []) []) (printed_by ls (action_of c)) (stands_printed ls row v c h m)
@@ -152,14 +141,14 @@ stands_printed (l ∷ ls) row v c (inl q) m =
     let k : (is_move l.kind ≡ true) × (action_of (change_of l) ≡ l.action) = move_kind l.action l.kind (subst IsMove (sym q.1) m) in
     let a : l.action ≡ action_of c = sym k.1 ∙ ap action_of q.1 in
     prints_left row c (cond (is_move l.kind && (l.action == action_of c)) (record { row = l.row; change = change_of l } ∷ []) []) (printed_by ls (action_of c))
-    (rw (both (is_move l.kind) (l.action == action_of c) k.0 (ap (λ z. z == action_of c) a ∙ self (action_of c))) (inl (same l.row row (and_left (l.row == row) (l.version == v) q.0), q.1)))
+    (rw (and_from (is_move l.kind) (l.action == action_of c) k.0 (ap (λ z. z == action_of c) a ∙ eq_self (action_of c))) (inl (eqb-true l.row row (and_first (l.row == row) (l.version == v) q.0), q.1)))
 
 printed_stands : (lines : List Tagged) (n row : ℕ) (c : Change) → InPrints row c (printed_by lines n) → (v : ℕ) × Stands lines row v c
 printed_stands [] n row c h = absurd h
 printed_stands (l ∷ ls) n row c h = by (prints_joined row c (cond (is_move l.kind && (l.action == n)) (record { row = l.row; change = change_of l } ∷ []) []) (printed_by ls n) h) (printed_stands ls n row c)
   where
     here : (b : Bool) → InPrints row c (cond b (record { row = l.row; change = change_of l } ∷ []) []) → (v : ℕ) × Stands (l ∷ ls) row v c
-    here true (inl e) = (l.version, inl (both (l.row == row) (l.version == l.version) (ap (λ z. z == row) e.0 ∙ self row) (self l.version), e.1))
+    here true (inl e) = (l.version, inl (and_from (l.row == row) (l.version == l.version) (ap (λ z. z == row) e.0 ∙ eq_self row) (eq_self l.version), e.1))
     here true (inr e) = absurd e
     here false e = absurd e
 
@@ -195,8 +184,8 @@ above_of l (x ∷ ls) row v c by n a b s r (inr h) m q = above_of l ls row v c b
 above_of l (x ∷ ls) row v c by n a b s r (inl h) m q =
     let k : (is_move x.kind ≡ true) × (action_of (change_of x) ≡ x.action) = move_kind x.action x.kind (subst IsMove (sym h.1) m) in
     let act : x.action ≡ n = sym k.1 ∙ (ap action_of h.1 ∙ q) in
-    let xr : x.row ≡ row = same x.row row (and_left (x.row == row) (x.version == v) h.0) in
-    let xv : x.version ≡ v = same x.version v (and_right (x.row == row) (x.version == v) h.0) in
+    let xr : x.row ≡ row = eqb-true x.row row (and_first (x.row == row) (x.version == v) h.0) in
+    let xv : x.version ≡ v = eqb-true x.version v (and_second (x.row == row) (x.version == v) h.0) in
     let xs : x.session ≡ by n = b.0 k.0 ∙ ap by act in
     let less : l.version < x.version = a.0 (s ∙ sym xs) (r ∙ sym xr) in
     omega arith
@@ -204,21 +193,21 @@ above_of l (x ∷ ls) row v c by n a b s r (inl h) m q =
 order_in : (by : ℕ → ℕ) (ls : List Tagged) (row n : ℕ) → Rises ls → AreBy by ls → Ordered row (printed_by ls n) → (low high : ℕ) (c d : Change) → low < high → Stands ls row low c → Stands ls row high d → IsMove c → IsMove d → action_of c ≡ n → action_of d ≡ n → source_of row c < source_of row d
 order_in by [] row n r b o low high c d l s t m k p q = absurd s
 order_in by (x ∷ ls) row n r b o low high c d l (inl s) (inl t) m k p q =
-    absurd (let e : x.version ≡ low = same x.version low (and_right (x.row == row) (x.version == low) s.0) in let f : x.version ≡ high = same x.version high (and_right (x.row == row) (x.version == high) t.0) in omega arith)
+    absurd (let e : x.version ≡ low = eqb-true x.version low (and_second (x.row == row) (x.version == low) s.0) in let f : x.version ≡ high = eqb-true x.version high (and_second (x.row == row) (x.version == high) t.0) in omega arith)
 order_in by (x ∷ ls) row n r b o low high c d l (inr s) (inr t) m k p q = order_in by ls row n r.1 b.1 (ordered_right row (cond (is_move x.kind && (x.action == n)) (record { row = x.row; change = change_of x } ∷ []) []) (printed_by ls n) o) low high c d l s t m k p q
 order_in by (x ∷ ls) row n r b o low high c d l (inr s) (inl t) m k p q =
     absurd
     (let e : (is_move x.kind ≡ true) × (action_of (change_of x) ≡ x.action) = move_kind x.action x.kind (subst IsMove (sym t.1) k) in
     let act : x.action ≡ n = sym e.1 ∙ (ap action_of t.1 ∙ q) in
-    let xr : x.row ≡ row = same x.row row (and_left (x.row == row) (x.version == high) t.0) in
-    let xv : x.version ≡ high = same x.version high (and_right (x.row == row) (x.version == high) t.0) in
+    let xr : x.row ≡ row = eqb-true x.row row (and_first (x.row == row) (x.version == high) t.0) in
+    let xv : x.version ≡ high = eqb-true x.version high (and_second (x.row == row) (x.version == high) t.0) in
     let less : x.version < low = above_of x ls row low c by n r.0 b.1 (b.0 e.0 ∙ ap by act) xr s m p in
     omega arith)
 order_in by (x ∷ ls) row n r b o low high c d l (inl s) (inr t) m k p q =
     let e : (is_move x.kind ≡ true) × (action_of (change_of x) ≡ x.action) = move_kind x.action x.kind (subst IsMove (sym s.1) m) in
     let act : x.action ≡ n = sym e.1 ∙ (ap action_of s.1 ∙ p) in
-    let xr : x.row ≡ row = same x.row row (and_left (x.row == row) (x.version == low) s.0) in
-    let yes : (is_move x.kind && (x.action == n)) ≡ true = both (is_move x.kind) (x.action == n) e.0 (ap (λ z. z == n) act ∙ self n) in
+    let xr : x.row ≡ row = eqb-true x.row row (and_first (x.row == row) (x.version == low) s.0) in
+    let yes : (is_move x.kind && (x.action == n)) ≡ true = and_from (is_move x.kind) (x.action == n) e.0 (ap (λ z. z == n) act ∙ eq_self n) in
     let o2 : Ordered row (record { row = x.row; change = change_of x } ∷ printed_by ls n) = subst (λ z. Ordered row (cond z (record { row = x.row; change = change_of x } ∷ []) [] ++ printed_by ls n)) yes o in
     let a : AllAbove row (source_of row (change_of x)) (printed_by ls n) = o2.0 xr in
     let there : InPrints row d (printed_by ls n) = subst (λ z. InPrints row d (printed_by ls z)) q (stands_printed ls row high d t k) in
@@ -241,7 +230,7 @@ later_from m x (inr l) e = at (m.from == x.from) refl
     less a b q h = grind (arith, q, h)
 
     at : (b : Bool) → (m.from == x.from) ≡ b → m.from < x.from
-    at true q = absurd (l.2 (same m.from x.from q))
+    at true q = absurd (l.2 (eqb-true m.from x.from q))
     at false q = less m.from x.from q l.1
 
 sources : (kept : ℕ → ℕ → Bool) (row n : ℕ) (m : Move) (ms : List Move) → m.action ≡ n → Alike n ms → AllLater (λ r. r) m ms → (c : Change) → InPrints row c (prints_all kept ms) → m.from < source_of row c
@@ -270,7 +259,7 @@ ordered_gives kept row m (r ∷ to) rest once above o =
       where
         one : r ≡ row → (c : Change) → InPrints row c (gives_of kept m to) ⊎ InPrints row c rest → m.from < source_of row c
         one e c (inr h) = above c h
-        one e c (inl h) = absurd (let g : 1 ≤ count_by (λ x. x == row) to = (given_is kept m row c to h).2 in let l : count_by (λ x. x == row) (r ∷ to) ≤ 1 = once row in omega (arith, g, l, count_cons (λ x. x == row) r to, bit_yes (r == row) (ap (λ z. z == row) e ∙ self row)))
+        one e c (inl h) = absurd (let g : 1 ≤ count_by (λ x. x == row) to = (given_is kept m row c to h).2 in let l : count_by (λ x. x == row) (r ∷ to) ≤ 1 = once row in omega (arith, g, l, count_cons (λ x. x == row) r to, bit_yes (r == row) (ap (λ z. z == row) e ∙ eq_self row)))
 
 pub ordered_all : (kept : ℕ → ℕ → Bool) (row n : ℕ) (ms : List Move) → InOrder (λ r. r) ms → Alike n ms → GiveOnce ms → Ordered row (prints_all kept ms)
 ordered_all kept row n [] o a g = tt
@@ -293,7 +282,7 @@ module _ (kept : ℕ → ℕ → Bool) (holder : ℕ → ℕ → Option Owner) (
       less a b l q = grind (arith, l, q)
 
       at : (b : Bool) → (n == suc more) ≡ b → (n ≤ more → IsAmong c (touches kept row (moves_to holder takes rows more))) → IsAmong c (touches kept row (moves_to holder takes rows more ++ moves_of holder takes (suc more) rows))
-      at true q ih = touches_right kept row (moves_to holder takes rows more) (moves_of holder takes (suc more) rows) c (subst (λ z. IsAmong c (touches kept row (moves_of holder takes z rows))) (same n (suc more) q) k)
+      at true q ih = touches_right kept row (moves_to holder takes rows more) (moves_of holder takes (suc more) rows) c (subst (λ z. IsAmong c (touches kept row (moves_of holder takes z rows))) (eqb-true n (suc more) q) k)
       at false q ih = touches_left kept row (moves_to holder takes rows more) (moves_of holder takes (suc more) rows) c (ih (less n more h q))
 
   from_all : (more row : ℕ) (c : Change) → IsAmong c (touches kept row (moves_to holder takes rows more)) → (n : ℕ) × IsAmong c (touches kept row (moves_of holder takes n rows))

@@ -2,6 +2,9 @@
 -- Rows: 1 and 3 the threads' cells, 2 the global cell.
 use Rattle.std.proofs.Common.{◌≡◌, ℕ, suc, ◌+◌, ◌≤◌, ◌==◌, ◌&&◌, Bool, true, false, cond, List, [], ◌∷◌, Some, None, count_by, refl, sym, ap, ◌∙◌, subst, arith}
 use Rattle.std.specs.Prelude.{nat_lt}
+use Rattle.std.proofs.lemmas.Bool.{eqb-true}
+use Rattle.pfs_lemmas.proofs.Options.{none_some, some_same}
+use Rattle.pfs_lemmas.proofs.Numbers.{eq_swap}
 use Rattle.pfs_stat.specs.declared.Stat.{Stat}
 use Rattle.pfs_stat.specs.declared.Measure.{Measure}
 use Rattle.pfs_stat.specs.Stat.{Fits, zero_of, stat_of, merge_of, MergeIsMonoid}
@@ -12,15 +15,15 @@ use Rattle.pfs_conservation.specs.Ways.{Step, before_by, leave_by, IsPlaced}
 use Rattle.pfs_conservation.specs.Conservation.{AddsOnce, Journals, AreKept, IsSummary, Shows, IsConserved}
 use Rattle.pfs_conservation.specs.Laws.{stats}
 use Rattle.pfs_conservation.proofs.Conserving.{conserved_stats}
-use Rattle.pfs_conservation.proofs.Instance.{same, clash, turned, some_is, differ, one_sends}
+use Rattle.pfs_conservation.proofs.Instance.{differ, one_sends}
 
 rows : (P : ℕ → Type 0) → P 1 → P 2 → P 3 → ((row : ℕ) → (1 == row) ≡ false → (2 == row) ≡ false → (3 == row) ≡ false → P row) → (row : ℕ) → P row
 rows P one two three other row = at (1 == row) (2 == row) (3 == row) refl refl refl
   where
     at : (b c d : Bool) → (1 == row) ≡ b → (2 == row) ≡ c → (3 == row) ≡ d → P row
-    at true c d p q r = subst P (same 1 row p) one
-    at false true d p q r = subst P (same 2 row q) two
-    at false false true p q r = subst P (same 3 row r) three
+    at true c d p q r = subst P (eqb-true 1 row p) one
+    at false true d p q r = subst P (eqb-true 2 row q) two
+    at false false true p q r = subst P (eqb-true 3 row r) three
     at false false false p q r = other row p q r
 
 no : ◌≡◌ {A = ℕ} 0 1 → ⊥
@@ -46,8 +49,8 @@ events : (P : ℕ → Type 0) → P 0 → P 1 → (event : ℕ) → 1 ≤ count_
 events P zero_is one_is event h = at (event == 0) (event == 1) refl refl h
   where
     at : (b c : Bool) → (event == 0) ≡ b → (event == 1) ≡ c → 1 ≤ (0 + cond b 1 0) + cond c 1 0 → P event
-    at true c p q l = subst P (sym (same event 0 p)) zero_is
-    at false true p q l = subst P (sym (same event 1 q)) one_is
+    at true c p q l = subst P (sym (eqb-true event 0 p)) zero_is
+    at false true p q l = subst P (sym (eqb-true event 1 q)) one_is
     at false false p q l = absurd (omega arith)
 
 module _ (m : MergeIsMonoid) (measures : ℕ → Measure) (fits : (event : ℕ) → Fits (stat_of (measures event))) where
@@ -68,24 +71,24 @@ module _ (m : MergeIsMonoid) (measures : ℕ → Measure) (fits : (event : ℕ) 
 
   first_placed : IsPlaced chain journals.level journals.moves 0 1 first_steps
   first_placed = record {
-    counted = rows (λ row. times_counted 0 (chain row) ≡ cond (row == 1) 1 0) refl refl refl (λ row p q r. rw (p, q, r) (ap (λ (b : Bool). cond {A = ℕ} b 1 0) (sym (turned row 1 ∙ p))));
+    counted = rows (λ row. times_counted 0 (chain row) ≡ cond (row == 1) 1 0) refl refl refl (λ row p q r. rw (p, q, r) (ap (λ (b : Bool). cond {A = ℕ} b 1 0) (sym (eq_swap row 1 ∙ p))));
     leads = (refl, refl, tt, tt);
     climb = (omega arith, tt);
     placed = λ from action row went. rows
         (λ f. leave_by chain 0 1 first_steps f ≡ Some action → sends journals.moves action f row ≡ cond (is_from f (before_by first_steps row)) 1 0)
-        (λ s. one_sends action row (some_is 1 action s)) (λ s. clash action s) (λ s. clash action s)
-        (λ r p q k s. (let e : (r == 1) ≡ false = turned r 1 ∙ p in clash action (rw (q, e) at s))) from went;
+        (λ s. one_sends action row (some_same 1 action s)) (λ s. none_some action s) (λ s. none_some action s)
+        (λ r p q k s. (let e : (r == 1) ≡ false = eq_swap r 1 ∙ p in none_some action (rw (q, e) at s))) from went;
   }
 
   second_placed : IsPlaced chain journals.level journals.moves 1 3 second_steps
   second_placed = record {
-    counted = rows (λ row. times_counted 1 (chain row) ≡ cond (row == 3) 1 0) refl refl refl (λ row p q r. rw (p, q, r) (ap (λ (b : Bool). cond {A = ℕ} b 1 0) (sym (turned row 3 ∙ r))));
+    counted = rows (λ row. times_counted 1 (chain row) ≡ cond (row == 3) 1 0) refl refl refl (λ row p q r. rw (p, q, r) (ap (λ (b : Bool). cond {A = ℕ} b 1 0) (sym (eq_swap row 3 ∙ r))));
     leads = (refl, refl, tt, tt);
     climb = (omega arith, tt);
     placed = λ from action row went. rows
         (λ f. leave_by chain 1 3 second_steps f ≡ Some action → sends journals.moves action f row ≡ cond (is_from f (before_by second_steps row)) 1 0)
-        (λ s. clash action s) (λ s. clash action s) (λ s. clash action s)
-        (λ r p q k s. (let e : (r == 3) ≡ false = turned r 3 ∙ k in clash action (rw (q, e) at s))) from went;
+        (λ s. none_some action s) (λ s. none_some action s) (λ s. none_some action s)
+        (λ r p q k s. (let e : (r == 3) ≡ false = eq_swap r 3 ∙ k in none_some action (rw (q, e) at s))) from went;
   }
 
   kept : AreKept (stats measures) (λ (stat : Stat). stat.count) journals
@@ -106,7 +109,7 @@ module _ (m : MergeIsMonoid) (measures : ℕ → Measure) (fits : (event : ℕ) 
         (record {
           follows = tt;
           nested = λ least q. tt;
-          covered = λ lead least q. (let is : 1 ≡ least = some_is 1 least q in subst (λ n. (nat_lt 1 n && true) ≡ false) is refl);
+          covered = λ lead least q. (let is : 1 ≡ least = some_same 1 least q in subst (λ n. (nat_lt 1 n && true) ≡ false) is refl);
           once = rows (λ row. came 1 (before_by first_steps) (leave_by chain 0 1 first_steps) row ≡ 1 → leave_by chain 0 1 first_steps row ≡ None → count_by (λ r. r == row) (1 ∷ []) ≡ cond true (count_by (λ r. r == row) (1 ∷ [])) 0)
               (λ c l. refl) (λ c l. refl) (λ c l. refl) (λ row p q r c l. refl);
         })

@@ -1,5 +1,6 @@
 -- The rows that a summary row shows, together.
 use Rattle.std.proofs.Common.{◌≡◌, ℕ, zero, suc, ◌+◌, ◌*◌, ◌≤◌, ◌==◌, Bool, true, false, cond, List, [], ◌∷◌, Option, Some, None, count_by, filter, fold, refl, sym, ap, ◌∙◌, arith}
+use Rattle.std.proofs.lemmas.Bool.{eqb-true}
 use Rattle.pfs_conservation.specs.Chains.{Change, Sums, with_event, content, found_by, Finds, Below}
 use Rattle.pfs_conservation.specs.Journeys.{first_from_one, leaves_after, Journey, left, came_from, came}
 use Rattle.pfs_conservation.proofs.Totals.{Merges, total, settled_total, before_settled, total_add, total_none, total_same, total_counted, bit_yes, bit_no, times}
@@ -37,16 +38,13 @@ remove_one : ℕ → List ℕ → List ℕ
 remove_one x [] = []
 remove_one x (y ∷ ys) = cond (y == x) ys (y ∷ remove_one x ys)
 
-same_number : (a b : ℕ) → (a == b) ≡ true → a ≡ b
-same_number a b h = grind (arith, h)
-
 sum_removed : (f : ℕ → ℕ) (x : ℕ) (ys : List ℕ) → 1 ≤ count_by (λ y. y == x) ys → sum_of f ys ≡ f x + sum_of f (remove_one x ys)
 unfolding remove_one
 sum_removed f x [] h = absurd (omega arith)
 sum_removed f x (y ∷ ys) h = at (y == x) refl (sum_removed f x ys)
   where
     at : (b : Bool) → (y == x) ≡ b → (1 ≤ count_by (λ z. z == x) ys → sum_of f ys ≡ f x + sum_of f (remove_one x ys)) → f y + sum_of f ys ≡ f x + sum_of f (cond (y == x) ys (y ∷ remove_one x ys))
-    at true q ih = rw q (ap (λ z. f z + sum_of f ys) (same_number y x q))
+    at true q ih = rw q (ap (λ z. f z + sum_of f ys) (eqb-true y x q))
     at false q ih = rw q (omega (arith, ih (omega (arith, count_cons (λ z. z == x) y ys, bit_no (y == x) q))))
 
 count_sum : (x : ℕ) (ys : List ℕ) → count_by (λ y. y == x) ys ≡ sum_of (λ y. cond (y == x) 1 0) ys

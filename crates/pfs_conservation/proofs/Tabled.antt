@@ -1,6 +1,8 @@
 -- The five summaries of a kind are conserved, by the fold of the administration.
 use Rattle.std.proofs.Common.{◌⊎◌, inl, inr, ◌≡◌, ℕ, zero, suc, ◌<◌, ◌≤◌, ◌==◌, ◌&&◌, Bool, true, false, cond, List, [], ◌∷◌, length, Option, Some, None, count_by, refl, sym, ap, ◌∙◌, subst, arith, ◌+◌}
 use Rattle.std.specs.Prelude.{nat_lt}
+use Rattle.std.proofs.lemmas.Bool.{eqb-true}
+use Rattle.pfs_lemmas.proofs.Numbers.{eq_self}
 use Rattle.pfs_conservation.specs.Chains.{Change, Sums}
 use Rattle.pfs_conservation.specs.Removals.{removal, counts_event, Ascends}
 use Rattle.pfs_conservation.specs.Moves.{AreMoved, InOrder, goes_to}
@@ -22,7 +24,7 @@ use Rattle.pfs_conservation.proofs.Tenants.{removal_first, tenants_placed, table
 use Rattle.pfs_conservation.proofs.Acting.{keeps, to_order}
 use Rattle.pfs_conservation.proofs.Whole.{Stores, whole}
 use Rattle.pfs_conservation.proofs.Cases.{climb_way, Has}
-use Rattle.pfs_conservation.proofs.Folding.{clash, differ, self, same, owner_stays}
+use Rattle.pfs_conservation.proofs.Folding.{clash, differ, owner_stays}
 use Rattle.pfs_conservation.proofs.Connecting.{Sound, sound_after, same_step}
 use Rattle.pfs_conservation.proofs.Tenancy.{tenant, leads_all, slot_low, account_low, user_low, host_low, small_after, entry_low}
 use Rattle.pfs_conservation.proofs.Listing.{shown_once}
@@ -108,7 +110,7 @@ module _ (n : Numbering) (opening : State) (rows : List ℕ) (base : Base n open
       second a b c q h = grind (arith, q, h, count_cons (λ r. r == b) a (c ∷ []), count_cons (λ r. r == b) c [])
 
       at : (b : Bool) → (n.row cell (User x) == next) ≡ b → ((u : ℕ) × (Some x ≡ Some u) × (n.row cell (User u) ≡ next)) ⊎ (((h : ℕ) × (None ≡ Some h) × (n.row cell (Host h) ≡ next)) ⊎ (n.row cell Global ≡ next))
-      at true q = inl (x, refl, same (n.row cell (User x)) next q)
+      at true q = inl (x, refl, eqb-true (n.row cell (User x)) next q)
       at false q = inr (inr (second (n.row cell (User x)) next (n.row cell Global) q h))
   in_ups cell (Some x) (Some y) next h = at (n.row cell (User x) == next) refl
     where
@@ -116,7 +118,7 @@ module _ (n : Numbering) (opening : State) (rows : List ℕ) (base : Base n open
       second a b c q h = grind (arith, q, h, count_cons (λ r. r == b) a (c ∷ []), count_cons (λ r. r == b) c [])
 
       at : (b : Bool) → (n.row cell (User x) == next) ≡ b → ((u : ℕ) × (Some x ≡ Some u) × (n.row cell (User u) ≡ next)) ⊎ (((h : ℕ) × (Some y ≡ Some h) × (n.row cell (Host h) ≡ next)) ⊎ (n.row cell Global ≡ next))
-      at true q = inl (x, refl, same (n.row cell (User x)) next q)
+      at true q = inl (x, refl, eqb-true (n.row cell (User x)) next q)
       at false q = inr (inl (y, refl, second (n.row cell (User x)) next (n.row cell (Host y)) q h))
 
   above : (cell : ℕ) → n.is_cell cell ≡ true → (p q : Place) → IsIn p → IsIn q → suc (place_level p) ≤ place_level q → n.row cell p < n.row cell q
@@ -299,7 +301,7 @@ module _ (n : Numbering) (opening : State) (rows : List ℕ) (base : Base n open
     climbs = λ number row owner t h next g. (climbs_row number row owner h next g).0;
   }
 
-  -- the same by the rows' numbers
+  -- the eqb-true by the rows' numbers
   pub acts_rising : Acts holder takes (λ row. row) rows (length actions)
   acts_rising = record {
     within = λ number row t. (let w : (1 ≤ number) × (number ≤ length actions) = takes_within n opening actions kind number row t in (w.0, w.1, taken_once number row t));
@@ -386,7 +388,7 @@ module _ (n : Numbering) (opening : State) (rows : List ℕ) (base : Base n open
             g = n.row cell Global
 
             one : count_by (λ r. r == n.row cell Global) (n.row cell Global ∷ []) ≡ 1
-            one = omega (arith, count_cons (λ r. r == n.row cell Global) (n.row cell Global) [], bit_yes (n.row cell Global == n.row cell Global) (self (n.row cell Global)))
+            one = omega (arith, count_cons (λ r. r == n.row cell Global) (n.row cell Global) [], bit_yes (n.row cell Global == n.row cell Global) (eq_self (n.row cell Global)))
 
             no_and : (b : Bool) → cond {A = ℕ} (b && false) 1 0 ≡ cond {A = ℕ} (b && false) 1 0
             no_and b = refl
@@ -501,7 +503,7 @@ module _ (n : Numbering) (opening : State) (rows : List ℕ) (base : Base n open
     belongs_here : (cell : ℕ) → n.is_cell cell ≡ true → (o : Owner) → belongs_to n KeyAll (cell ∷ []) (n.row cell Global) o ≡ true
     belongs_here cell low o =
         ap (λ (z : Seat). is_of (cell ∷ []) z.cell && (shows_at KeyAll z.place && matches KeyAll o)) (base.good.seats cell Global low tt)
-        ∙ ap (λ b. b && true) (is_one cell cell ∙ self cell)
+        ∙ ap (λ b. b && true) (is_one cell cell ∙ eq_self cell)
 
     -- the way of an event of another cell never comes to this global row
     never_comes : (cell : ℕ) → n.is_cell cell ≡ true → IsTable (journals_of n opening actions kind rows events chains found whose) (holder_of n opening (numbered actions)) (takes_by n opening (numbered actions) kind) (λ event. own_by n (whose event)) (λ event. connect_of (whose event)) (suc (length actions)) (belongs_to n KeyAll (cell ∷ [])) (shown_in n KeyAll (cell ∷ []) (state_after opening (numbered actions) (length actions))) (covers_to kind KeyAll opening (numbered actions) (length actions)) (λ event. path_at n KeyAll (whose event)) (λ event. leads_at KeyAll (cell ∷ []) (whose event))
@@ -516,7 +518,7 @@ module _ (n : Numbering) (opening : State) (rows : List ℕ) (base : Base n open
         away false q = q
         away true q = absurd
             (let mine : belongs_to n KeyAll (cell ∷ []) (home_at n (whose event)) (own_by n (whose event) (home_at n (whose event))) ≡ true =
-            subst (λ r. belongs_to n KeyAll (cell ∷ []) r (own_by n (whose event) (home_at n (whose event))) ≡ true) (same (n.row cell Global) (home_at n (whose event)) q) (belongs_here cell low (own_by n (whose event) (home_at n (whose event)))) in
+            subst (λ r. belongs_to n KeyAll (cell ∷ []) r (own_by n (whose event) (home_at n (whose event))) ≡ true) (eqb-true (n.row cell Global) (home_at n (whose event)) q) (belongs_here cell low (own_by n (whose event) (home_at n (whose event)))) in
             omega (arith, bit_yes (belongs_to n KeyAll (cell ∷ []) (home_at n (whose event)) (own_by n (whose event) (home_at n (whose event)))) mine, t.mine_home event is, none (count_by (λ r. r == home_at n (whose event)) (home_at n (whose event) ∷ path_at n KeyAll (whose event)))))
 
         unstepped : (o : Option ℕ) → before_by (steps_at n (whose event)) (n.row cell Global) ≡ o → before_by (steps_at n (whose event)) (n.row cell Global) ≡ None
@@ -541,5 +543,5 @@ module _ (n : Numbering) (opening : State) (rows : List ℕ) (base : Base n open
               ((table_is (journals_of n opening actions kind rows events chains found whose) (λ action row. nat_lt 0 (size (found action row))) st.moved up (holder_of n opening (numbered actions)) (takes_by n opening (numbered actions) kind) (λ event. own_by n (whose event)) (λ event. connect_of (whose event)) (λ event. quit_of (whose event)) has (suc (length actions)) (belongs_to n KeyAll (cell ∷ []))
               (shown_in n KeyAll (cell ∷ []) (state_after opening (numbered actions) (length actions))) (covers_to kind KeyAll opening (numbered actions) (length actions)) (λ event. path_at n KeyAll (whose event)) (λ event. leads_at KeyAll (cell ∷ []) (whose event)) t).shows event is);
         })
-        (λ event is q. ends_global cell (whose event) (same (home_cell (whose event)) cell q))
+        (λ event is q. ends_global cell (whose event) (eqb-true (home_cell (whose event)) cell q))
         (λ event is q. never_comes cell low t event is (leads_one cell (whose event) ∙ q))

@@ -1,6 +1,8 @@
 -- Every event is shown by the global row or was discarded by one take of its cell.
 use Rattle.std.proofs.Common.{◌≡◌, ℕ, ◌+◌, ◌*◌, ◌≤◌, ◌==◌, Bool, true, false, cond, List, [], ◌∷◌, Option, Some, None, count_by, refl, ap, subst, arith}
 use Rattle.std.specs.Prelude.{nat_le}
+use Rattle.pfs_lemmas.proofs.Options.{none_some, some_same}
+use Rattle.pfs_lemmas.proofs.Numbers.{eq_self}
 use Rattle.pfs_conservation.specs.Chains.{Change, Added, Taken, Given}
 use Rattle.pfs_conservation.specs.Removals.{first_take, following, first_from, Ascends}
 use Rattle.pfs_conservation.specs.Conservation.{takes_of}
@@ -34,30 +36,21 @@ takes_most key (Taken n ∷ cs) t a = at (n == t) refl (takes_most (2 * n + 2) c
     at true q ih = omega (arith, takes_above (2 * n + 2) cs t a.1 (omega (arith, same n t q)), count_cons (λ c. c == t) n (takes_of cs), bit_yes (n == t) q)
     at false q ih = omega (arith, ih, count_cons (λ c. c == t) n (takes_of cs), bit_no (n == t) q)
 
-some_is : (a b : ℕ) → ◌≡◌ {A = Option ℕ} (Some a) (Some b) → a ≡ b
-some_is a b h = cc
-
-clash : {X : Type 0} (n : ℕ) → ◌≡◌ {A = Option ℕ} None (Some n) → X
-clash n h = absurd (cc)
-
-self : (a : ℕ) → (a == a) ≡ true
-self a = grind arith
-
 pub from_takes : (n t : ℕ) (cs : List Change) → first_from n cs ≡ Some t → 1 ≤ count_by (λ c. c == t) (takes_of cs)
-from_takes n t [] h = clash t h
+from_takes n t [] h = none_some t h
 from_takes n t (Added es ∷ cs) h = from_takes n t cs h
 from_takes n t (Given k row ∷ cs) h = from_takes n t cs h
 from_takes n t (Taken k ∷ cs) h = at (nat_le n k) refl (from_takes n t cs)
   where
     at : (b : Bool) → nat_le n k ≡ b → (first_from n cs ≡ Some t → 1 ≤ count_by (λ c. c == t) (takes_of cs)) → 1 ≤ count_by (λ c. c == t) (k ∷ takes_of cs)
-    at true q ih = omega (arith, count_cons (λ c. c == t) k (takes_of cs), bit_yes (k == t) (subst (λ x. (k == x) ≡ true) (some_is k t (rw q at h)) (self k)))
+    at true q ih = omega (arith, count_cons (λ c. c == t) k (takes_of cs), bit_yes (k == t) (subst (λ x. (k == x) ≡ true) (some_same k t (rw q at h)) (eq_self k)))
     at false q ih = omega (arith, ih (rw q at h), count_cons (λ c. c == t) k (takes_of cs))
 
 take_takes : (t : ℕ) (cs : List Change) → first_take cs ≡ Some t → 1 ≤ count_by (λ c. c == t) (takes_of cs)
-take_takes t [] h = clash t h
+take_takes t [] h = none_some t h
 take_takes t (Added es ∷ cs) h = take_takes t cs h
 take_takes t (Given k row ∷ cs) h = take_takes t cs h
-take_takes t (Taken k ∷ cs) h = omega (arith, count_cons (λ c. c == t) k (takes_of cs), bit_yes (k == t) (subst (λ x. (k == x) ≡ true) (some_is k t h) (self k)))
+take_takes t (Taken k ∷ cs) h = omega (arith, count_cons (λ c. c == t) k (takes_of cs), bit_yes (k == t) (subst (λ x. (k == x) ≡ true) (some_same k t h) (eq_self k)))
 
 more_takes : (t : ℕ) (c : Change) (cs : List Change) → 1 ≤ count_by (λ c. c == t) (takes_of cs) → 1 ≤ count_by (λ c. c == t) (takes_of (c ∷ cs))
 more_takes t (Added es) cs h = h
@@ -65,7 +58,7 @@ more_takes t (Given k row) cs h = h
 more_takes t (Taken k) cs h = omega (arith, h, count_cons (λ c. c == t) k (takes_of cs))
 
 pub removal_takes : (test : Change → Bool) (t : ℕ) (cs : List Change) → first_take (following test cs) ≡ Some t → 1 ≤ count_by (λ c. c == t) (takes_of cs)
-removal_takes test t [] h = clash t h
+removal_takes test t [] h = none_some t h
 removal_takes test t (c ∷ cs) h = at (test c) refl (removal_takes test t cs)
   where
     at : (b : Bool) → test c ≡ b → (first_take (following test cs) ≡ Some t → 1 ≤ count_by (λ c. c == t) (takes_of cs)) → 1 ≤ count_by (λ c. c == t) (takes_of (c ∷ cs))

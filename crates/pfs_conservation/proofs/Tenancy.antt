@@ -1,6 +1,9 @@
 -- A connected session is the tenant of its rows.
 use Rattle.std.proofs.Common.{◌⊎◌, inl, inr, ◌≡◌, ℕ, zero, suc, ◌+◌, ◌-◌, ◌<◌, ◌≤◌, ◌==◌, Bool, true, false, cond, List, [], ◌∷◌, ◌++◌, length, Option, Some, None, refl, sym, ap, ◌∙◌, subst, arith}
 use Rattle.std.specs.Prelude.{unwrap_or}
+use Rattle.std.proofs.lemmas.Bool.{eqb-true}
+use Rattle.pfs_lemmas.proofs.Options.{none_some, some_same}
+use Rattle.pfs_lemmas.proofs.Numbers.{eq_self}
 use Rattle.pfs_conservation.specs.Ways.{Step, Rows, steps_of, step_to, before_by, Leads}
 use Rattle.pfs_conservation.specs.Folds.{Place, Thread, Account, User, Host, Global, Session, entry_of, State, ByThread, ByAccount, ByUser, ByHost, ByAll, Line, Connects, Quits, Truncates, FreesAccounts, FreesUsers, FreesHosts, Others, line_takes, entry_at, fill_at, fill, emptied_at, kept_from, stepped, CellRows, ups, thread_ups, thread_owner, account_owner, user_owner, host_owner, owner_of, Lives}
 use Rattle.pfs_conservation.specs.Administration.{Action, Quit, line_of, state_after, state_before}
@@ -14,15 +17,6 @@ use Rattle.pfs_conservation.proofs.Cases.{up_rows, home_rows, Goes, GoesAll, goe
 use Rattle.pfs_conservation.proofs.Folding.{host_account}
 use Rattle.pfs_conservation.proofs.Connecting.{Sound, sound_after, lives_until}
 
-same : (a b : ℕ) → (a == b) ≡ true → a ≡ b
-same a b q = grind (arith, q)
-
-clash : {X : Type 0} (n : ℕ) → ◌≡◌ {A = Option ℕ} None (Some n) → X
-clash n h = absurd (cc)
-
-some_is : (a b : ℕ) → ◌≡◌ {A = Option ℕ} (Some a) (Some b) → a ≡ b
-some_is a b h = cc
-
 before_joined : (xs ys : List Step) (row from : ℕ) → before_by (xs ++ ys) row ≡ Some from → (before_by xs row ≡ Some from) ⊎ (before_by ys row ≡ Some from)
 before_joined [] ys row from h = inr h
 before_joined (x ∷ xs) ys row from h = at (x.to == row) (before_joined xs ys row from) h
@@ -32,12 +26,12 @@ before_joined (x ∷ xs) ys row from h = at (x.to == row) (before_joined xs ys r
     at false ih h = ih h
 
 step_at : (base : ℕ) (to : Option ℕ) (row from : ℕ) → before_by (step_to base to) row ≡ Some from → (to ≡ Some row) × (from ≡ base)
-step_at base None row from h = clash from h
+step_at base None row from h = none_some from h
 step_at base (Some x) row from h = at (x == row) refl h
   where
     at : (b : Bool) → (x == row) ≡ b → cond b (Some base) None ≡ Some from → (Some x ≡ Some row) × (from ≡ base)
-    at true q h = (ap (λ (y : ℕ). Some y) (same x row q), sym (some_is base from h))
-    at false q h = clash from h
+    at true q h = (ap (λ (y : ℕ). Some y) (eqb-true x row q), sym (some_same base from h))
+    at false q h = none_some from h
 
 -- what a row of the way is
 pub data WayRow (rows : Rows) (row from : ℕ) : Type 0 where
@@ -62,7 +56,7 @@ way_row rows row from h = at (rows.global == row) refl h
 
     at : (b : Bool) → (rows.global == row) ≡ b
         → cond b (Some (unwrap_or rows.host (unwrap_or rows.account rows.home))) (before_by (step_to (unwrap_or rows.account rows.home) rows.host ++ (step_to (unwrap_or rows.account rows.home) rows.user ++ step_to rows.home rows.account)) row) ≡ Some from → WayRow rows row from
-    at true q h = AtGlobal (sym (same rows.global row q)) (sym (some_is (unwrap_or rows.host (unwrap_or rows.account rows.home)) from h))
+    at true q h = AtGlobal (sym (eqb-true rows.global row q)) (sym (some_same (unwrap_or rows.host (unwrap_or rows.account rows.home)) from h))
     at false q h = upper (before_joined (step_to (unwrap_or rows.account rows.home) rows.host) (step_to (unwrap_or rows.account rows.home) rows.user ++ step_to rows.home rows.account) row from h)
 
 abbrev pub Comes : List Step → ℕ → Type 0
@@ -79,12 +73,9 @@ comes_right : (xs ys : List Step) (row : ℕ) → Comes ys row → Comes (xs ++ 
 comes_right [] ys row c = c
 comes_right (x ∷ xs) ys row c = comes_later x (xs ++ ys) row (comes_right xs ys row c)
 
-self : (a : ℕ) → (a == a) ≡ true
-self a = grind arith
-
 comes_step : (base : ℕ) (to : Option ℕ) (row : ℕ) (rest : List Step) → to ≡ Some row → Comes (step_to base to ++ rest) row
-comes_step base None row rest h = clash row h
-comes_step base (Some x) row rest h = (base, (let is : x ≡ row = some_is x row h in ap (λ (b : Bool). cond {A = Option ℕ} b (Some base) (before_by rest row)) (subst (λ y. (x == y) ≡ true) is (self x))))
+comes_step base None row rest h = none_some row h
+comes_step base (Some x) row rest h = (base, (let is : x ≡ row = some_same x row h in ap (λ (b : Bool). cond {A = Option ℕ} b (Some base) (before_by rest row)) (subst (λ y. (x == y) ≡ true) is (eq_self x))))
 
 nil_right : (xs : List Step) → xs ++ [] ≡ xs
 nil_right [] = refl
@@ -100,7 +91,7 @@ comes_user rows u q = comes_later (record { from = unwrap_or rows.host (unwrap_o
     (comes_step (unwrap_or rows.account rows.home) rows.user u (step_to rows.home rows.account) q))
 
 pub before_global : (rows : Rows) → before_by (steps_of rows) rows.global ≡ Some (unwrap_or rows.host (unwrap_or rows.account rows.home))
-before_global rows = ap (λ (b : Bool). cond {A = Option ℕ} b (Some (unwrap_or rows.host (unwrap_or rows.account rows.home))) (before_by (step_to (unwrap_or rows.account rows.home) rows.host ++ (step_to (unwrap_or rows.account rows.home) rows.user ++ step_to rows.home rows.account)) rows.global)) (self rows.global)
+before_global rows = ap (λ (b : Bool). cond {A = Option ℕ} b (Some (unwrap_or rows.host (unwrap_or rows.account rows.home))) (before_by (step_to (unwrap_or rows.account rows.home) rows.host ++ (step_to (unwrap_or rows.account rows.home) rows.user ++ step_to rows.home rows.account)) rows.global)) (eq_self rows.global)
 
 pub comes_account : (rows : Rows) (a : ℕ) → rows.account ≡ Some a → Comes (steps_of rows) a
 comes_account rows a q = comes_later (record { from = unwrap_or rows.host (unwrap_or rows.account rows.home); to = rows.global }) (step_to (unwrap_or rows.account rows.home) rows.host ++ (step_to (unwrap_or rows.account rows.home) rows.user ++ step_to rows.home rows.account)) a
@@ -169,8 +160,8 @@ user_account (Quits other) u a q = differ (sym q)
 user_account Others u a q = differ (sym q)
 
 mapped : (f : ℕ → ℕ) (o : Option ℕ) (row : ℕ) → map_row f o ≡ Some row → (x : ℕ) × (o ≡ Some x) × (f x ≡ row)
-mapped f None row h = clash row h
-mapped f (Some x) row h = (x, refl, some_is (f x) row h)
+mapped f None row h = none_some row h
+mapped f (Some x) row h = (x, refl, some_same (f x) row h)
 
 -- how many places there are never changes
 fill_at_long : {X : Type 0} (n : ℕ) (new : X) (xs : List (Option X)) → length (fill_at n new xs) ≡ length xs

@@ -1,6 +1,8 @@
 -- The events of a session on its rows.
 use Rattle.std.proofs.Common.{◌⊎◌, inl, inr, ◌≡◌, ℕ, zero, suc, ◌+◌, ◌-◌, ◌*◌, ◌<◌, ◌≤◌, ◌==◌, ◌&&◌, Bool, true, false, cond, List, [], ◌∷◌, Option, Some, None, count_by, refl, sym, ap, ◌∙◌, subst, arith}
 use Rattle.std.specs.Prelude.{nat_le, nat_lt}
+use Rattle.std.proofs.lemmas.Bool.{le-leb}
+use Rattle.pfs_lemmas.proofs.Options.{none_some, some_same}
 use Rattle.pfs_conservation.specs.Chains.{Change, Added, Taken, Given}
 use Rattle.pfs_conservation.specs.Removals.{first_take, following, counts_event, removal, first_from, Ascends}
 use Rattle.pfs_conservation.specs.Journeys.{is_from, first_from_one, leaves_after, left, came_from, came}
@@ -61,15 +63,6 @@ module _ (holder : ℕ → ℕ → Option Owner) (takes : ℕ → ℕ → Bool) 
       at (inl ok) = ok
       at (inr none) = keeps.lists least row action owner l t (held_to least row action owner h l (λ k low m. none (at_most_later (first_moving least row moves) k action (omega arith) m)))
 
-some_is : (a b : ℕ) → ◌≡◌ {A = Option ℕ} (Some a) (Some b) → a ≡ b
-some_is a b h = cc
-
-clash : {X : Type 0} (n : ℕ) → ◌≡◌ {A = Option ℕ} None (Some n) → X
-clash n h = absurd (cc)
-
-high_le : (k a : ℕ) → k ≤ a → nat_le k a ≡ true
-high_le k a l = grind (arith, l)
-
 low_le : (k a : ℕ) → suc a ≤ k → nat_le k a ≡ false
 low_le k a l = grind (arith, l)
 
@@ -77,12 +70,12 @@ low_le k a l = grind (arith, l)
 take_first : (cs : List Change) (a : ℕ) → first_take cs ≡ Some a → first_from a cs ≡ Some a
 take_first [] a h = h
 take_first (Added es ∷ cs) a h = take_first cs a h
-take_first (Taken k ∷ cs) a h = let same : k ≡ a = some_is k a h in ap (λ (b : Bool). cond {A = Option ℕ} b (Some k) (first_from a cs)) (high_le a k (omega arith)) ∙ h
+take_first (Taken k ∷ cs) a h = let same : k ≡ a = some_same k a h in ap (λ (b : Bool). cond {A = Option ℕ} b (Some k) (first_from a cs)) (le-leb a k (omega arith)) ∙ h
 take_first (Given k row ∷ cs) a h = take_first cs a h
 
 late_is : (t : Option ℕ) (key a : ℕ) → t ≡ Some a → Late 0 (λ x y. 0) (λ c. false) key t → key ≤ 2 * a + 1
-late_is None key a h l = clash a h
-late_is (Some n) key a h l = omega (arith, some_is n a h)
+late_is None key a h l = none_some a h
+late_is (Some n) key a h l = omega (arith, some_same n a h)
 
 pub removal_first : (test : Change → Bool) (key : ℕ) (cs : List Change) (a : ℕ) → Ascends key cs → first_take (following test cs) ≡ Some a → first_from a cs ≡ Some a
 removal_first test key [] a o h = h
@@ -179,7 +172,7 @@ module _ (kept : ℕ → ℕ → Bool) (chains : ℕ → List Change) (level : �
       same a b q = grind (arith, q)
 
       at : (b : Bool) → (row == home) ≡ b → leave row ≡ first_from_one (leave from) (chains row)
-      at true q = clash from (sym (starts_at home steps leads) ∙ (ap (before_by steps) (sym (same row home q)) ∙ come))
+      at true q = none_some from (sym (starts_at home steps leads) ∙ (ap (before_by steps) (sym (same row home q)) ∙ come))
       at false q = way_leaves chains event home steps leads row q ∙ ap (λ b. leaves_after b (leave_by chains event home steps) (chains row)) come
 
   -- after its removal an event leaves each row at the first action that moves the row
@@ -211,7 +204,7 @@ module _ (kept : ℕ → ℕ → Bool) (chains : ℕ → List Change) (level : �
       same a b q = grind (arith, q)
 
       away : (from == home) ≡ false → (b : Option ℕ) → before_by steps from ≡ b → sends moves action from row ≡ cond (is_from from (before_by steps row)) 1 0
-      away q None come = clash action (sym (way_leaves chains event home steps leads from q ∙ ap (λ b. leaves_after b (leave_by chains event home steps) (chains from)) come) ∙ went)
+      away q None come = none_some action (sym (way_leaves chains event home steps leads from q ∙ ap (λ b. leaves_after b (leave_by chains event home steps) (chains from)) come) ∙ went)
       away q (Some p) come =
           let moves_it : first_moving least from moves ≡ Some action = sym (closed_row from p come) ∙ went in
           let free : (k : ℕ) → suc k ≤ action → AtMost (first_moving least from moves) k → ⊥ = λ k low m. (let late : action ≤ k = subst (λ t. AtMost t k) moves_it m in omega arith) in
@@ -222,7 +215,7 @@ module _ (kept : ℕ → ℕ → Bool) (chains : ℕ → List Change) (level : �
       at false q = away q (before_by steps from) refl
       at true q =
           let is : from ≡ home = same from home q in
-          let now : action ≡ least = some_is action least (sym went ∙ (ap (leave_by chains event home steps) is ∙ leave_home)) in
+          let now : action ≡ least = some_same action least (sym went ∙ (ap (leave_by chains event home steps) is ∙ leave_home)) in
           ap (λ a. sends moves a from row) now ∙ (ap (λ f. sends moves least f row) is
           ∙ (keeps.sends least home row (own home) taken_home (tenant.holds_home least (tenant.bound least removed).0 (tenant.bound least removed).1)
           ∙ (ap (λ (b : Bool). cond {A = ℕ} b 1 0) (tenant.nexts_home row) ∙ ap (λ f. cond {A = ℕ} (is_from f (before_by steps row)) 1 0) (sym is))))
@@ -286,7 +279,7 @@ module _ {A : Type 0} (j : Journals A) (kept : ℕ → ℕ → Bool) (are : AreM
   tenants_placed e is = record { counted = has.counted e is; leads = has.leads e is; climb = has.climb e is; placed = λ from action row went. at (removal e (j.chains (j.home e))) refl from action row went }
     where
       at : (t : Option ℕ) → removal e (j.chains (j.home e)) ≡ t → (from action row : ℕ) → leave_by j.chains e (j.home e) (j.steps e) from ≡ Some action → sends j.moves action from row ≡ cond (is_from from (before_by (j.steps e) row)) 1 0
-      at None q from action row went = clash action (sym (none_leaves j.chains e (j.home e) (j.steps e) q from) ∙ went)
+      at None q from action row went = none_some action (sym (none_leaves j.chains e (j.home e) (j.steps e) q from) ∙ went)
       at (Some least) q from action row went = placed_after kept j.chains j.level holder takes j.moves has.keeps are ascends e (j.home e) (j.steps e) (has.leads e is) (λ r f. climbs_before j.level (j.steps e) (has.climb e is) f r) (own e) (connect e) (quit e) (has.tenant e is) least q from action row went
 
   -- a table after the last action is a summary

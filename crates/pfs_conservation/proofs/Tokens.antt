@@ -2,6 +2,8 @@
 use Rattle.std.proofs.Common.{◌≡◌, ℕ, suc, ◌+◌, ◌*◌, ◌≤◌, ◌==◌, ◌&&◌, Bool, true, false, cond, List, [], ◌∷◌, Option, Some, None, count_by, fold, refl, sym, ap, ◌∙◌, subst, arith}
 use Rattle.std.specs.Prelude.{nat_le}
 use Rattle.std.proofs.lemmas.List.Sums.{sum_by-cons}
+use Rattle.std.proofs.lemmas.Bool.{eqb-true}
+use Rattle.pfs_lemmas.proofs.Bools.{and_first}
 use Rattle.pfs_conservation.specs.Chains.{Change, Added, Taken, Given, with_event, changed, found_in}
 use Rattle.pfs_conservation.specs.Removals.{first_take, following, is_given, first_from, Ascends}
 use Rattle.pfs_conservation.proofs.Totals.{bit_no}
@@ -180,13 +182,6 @@ from_all n key (Taken k ∷ cs) a h =
     yes x y h = grind (arith, h)
 from_all n key (Given k row ∷ cs) a h = let first : key ≤ 2 * k = a.0 in from_all n (2 * k) cs a.1 (omega arith)
 
-and_left : (a b : Bool) → (a && b) ≡ true → a ≡ true
-and_left true b h = refl
-and_left false b h = h
-
-number_of : (a b : ℕ) → (a == b) ≡ true → a ≡ b
-number_of a b h = grind (arith, h)
-
 given_above : (n row key : ℕ) (cs : List Change) → Ascends key cs → 1 ≤ count_by (is_given n row) cs → key ≤ 2 * n
 given_above n row key [] a h = absurd (omega arith)
 given_above n row key (Added es ∷ cs) a h = given_above n row key cs a (omega (arith, count_cons (is_given n row) (Added es) cs))
@@ -197,7 +192,7 @@ given_above n row key (Given k from ∷ cs) a h = here (is_given n row (Given k 
   where
     here : (t : Bool) → is_given n row (Given k from) ≡ t → (1 ≤ count_by (is_given n row) cs → 2 * k ≤ 2 * n) → key ≤ 2 * n
     here true q ih =
-        let same : k ≡ n = number_of k n (and_left (k == n) (from == row) q) in
+        let same : k ≡ n = eqb-true k n (and_first (k == n) (from == row) q) in
         let now : key ≤ 2 * k = a.0 in omega arith
     here false q ih =
         let later : 2 * k ≤ 2 * n = ih (omega (arith, count_cons (is_given n row) (Given k from) cs, bit_no (is_given n row (Given k from)) q)) in
@@ -219,7 +214,7 @@ first_after_give n row key (Given k from ∷ cs) a h = here (is_given n row (Giv
     here : (t : Bool) → is_given n row (Given k from) ≡ t → (1 ≤ count_by (is_given n row) cs → first_take (following (is_given n row) cs) ≡ first_from n cs)
         → first_take (cond (is_given n row (Given k from)) cs (following (is_given n row) cs)) ≡ first_from n cs
     here true q ih =
-        let same : k ≡ n = number_of k n (and_left (k == n) (from == row) q) in
+        let same : k ≡ n = eqb-true k n (and_first (k == n) (from == row) q) in
         ap (λ (t : Bool). first_take (cond t cs (following (is_given n row) cs))) q ∙ from_all n (2 * k) cs a.1 (omega arith)
     here false q ih =
         ap (λ (t : Bool). first_take (cond t cs (following (is_given n row) cs))) q

@@ -1,6 +1,7 @@
 -- Two sessions: their connects, a TRUNCATE of the summary by thread, and the first one's quit; the printed lines keep the rules.
 use Rattle.std.proofs.Common.{inl, inr, ◌≡◌, ℕ, zero, suc, ◌+◌, ◌%◌, ◌^◌, ◌<◌, ◌≤◌, ◌==◌, ◌&&◌, Bool, true, false, cond, List, [], ◌∷◌, ◌++◌, length, fold, Some, None, count_by, refl, sym, ap, subst, arith}
 use Rattle.std.specs.Prelude.{nat_lt}
+use Rattle.std.proofs.lemmas.Bool.{eqb-true}
 use Rattle.pfs_conservation.specs.Chains.{Change, Added, Taken, Given, Sums, content, found_by}
 use Rattle.pfs_conservation.specs.Moves.{Move}
 use Rattle.pfs_conservation.specs.Actions.{moves_of, moves_to}
@@ -9,7 +10,7 @@ use Rattle.pfs_conservation.specs.Administration.{Action, Connect, Quit, Truncat
 use Rattle.pfs_conservation.specs.Seats.{holder_of, takes_by}
 use Rattle.pfs_conservation.specs.Tables.{Key, KeyThread, KeyAccount, KeyAll, Whose, OfSession, home_at, shown_in, covers_to}
 use Rattle.pfs_conservation.specs.Lines.{Adds, Takes, Gives, Tagged, change_of, is_at, standing, chain_of, Stands, IsMove, action_of, source_of, times_added, AreChained, Adding, IsAdded, AreAdded}
-use Rattle.pfs_conservation.proofs.Folding.{differ, same}
+use Rattle.pfs_conservation.proofs.Folding.{differ}
 use Rattle.pfs_conservation.proofs.Numbered.{numbering, upto, opened, base}
 use Rattle.pfs_conservation.specs.Facts.{HasSlot}
 use Rattle.pfs_conservation.proofs.Totals.{Merges}
@@ -53,7 +54,7 @@ moves_are : moves ≡ record { action = 3; from = 0; to = 32 ∷ [] } ∷ (recor
 moves_are = refl
 
 is_row : (line : Tagged) (row v : ℕ) → is_at line row v ≡ true → (line.row ≡ row) × (line.version ≡ v)
-is_row line row v h = (same line.row row (left (line.row == row) (line.version == v) h), same line.version v (right (line.row == row) (line.version == v) h))
+is_row line row v h = (eqb-true line.row row (left (line.row == row) (line.version == v) h), eqb-true line.version v (right (line.row == row) (line.version == v) h))
   where
     left : (a b : Bool) → (a && b) ≡ true → a ≡ true
     left true b h = refl
@@ -132,8 +133,8 @@ events : (P : ℕ → Type 0) → P 0 → P 1 → (event : ℕ) → 1 ≤ count_
 events P zero_is one_is event h = at (event == 0) (event == 1) refl refl h
   where
     at : (b c : Bool) → (event == 0) ≡ b → (event == 1) ≡ c → 1 ≤ (0 + cond b 1 0) + cond c 1 0 → P event
-    at true c p q l = subst P (sym (same event 0 p)) zero_is
-    at false true p q l = subst P (sym (same event 1 q)) one_is
+    at true c p q l = subst P (sym (eqb-true event 0 p)) zero_is
+    at false true p q l = subst P (sym (eqb-true event 1 q)) one_is
     at false false p q l = absurd (omega arith)
 
 first_quiet : (k : ℕ) → 2 ≤ k → suc k ≤ 4 → numbered actions k ≡ Quit 1 → ⊥

@@ -1,6 +1,8 @@
 -- Where an event stands: at the row that it came to and hasn't left.
 use Rattle.std.proofs.Common.{◌⊎◌, inl, inr, ◌≡◌, ℕ, suc, ◌+◌, ◌*◌, ◌<◌, ◌≤◌, ◌==◌, ◌&&◌, Bool, true, false, cond, List, [], ◌∷◌, Option, Some, None, count_by, refl, sym, ap, ◌∙◌, subst, arith}
 use Rattle.std.specs.Prelude.{nat_lt}
+use Rattle.std.proofs.lemmas.Bool.{eqb-true}
+use Rattle.pfs_lemmas.proofs.Options.{some_same}
 use Rattle.pfs_conservation.specs.Chains.{Change, Added, Taken, Given, content, found_in, found_by, Below}
 use Rattle.pfs_conservation.specs.Removals.{first_take, following, counts_event, is_given, Ascends}
 use Rattle.pfs_conservation.specs.Journeys.{times_counted, is_from, first_from_one, leaves_after, Journey, left, came_from, came}
@@ -117,15 +119,9 @@ module _ (e : ℕ) (w : ℕ → ℕ → ℕ) (leave : ℕ → Option ℕ) where
   counts_some (Taken n ∷ cs) h = omega (arith, counts_some cs h, count_cons (counts_event e) (Taken n) cs)
   counts_some (Given n row ∷ cs) h = omega (arith, counts_some cs h, count_cons (counts_event e) (Given n row) cs)
 
-same_number : (a b : ℕ) → (a == b) ≡ true → a ≡ b
-same_number a b h = grind (arith, h)
-
 no_test : (cs : List Change) → count_by (λ (c : Change). false) cs ≡ 0
 no_test [] = refl
 no_test (c ∷ cs) = omega (arith, count_cons (λ (x : Change). false) c cs, no_test cs)
-
-some_number : (a b : ℕ) → ◌≡◌ {A = Option ℕ} (Some a) (Some b) → a ≡ b
-some_number a b h = cc
 
 module _ (e : ℕ) (chains : ℕ → List Change) (level : ℕ → ℕ) (rises : (row : ℕ) → Below level (level row) (chains row)) (ascends : (row : ℕ) → Ascends 0 (chains row))
     (is_some : ℕ → ℕ → Type 0) (home : ℕ) (before leave : ℕ → Option ℕ) (j : Journey chains level is_some e home before leave) where
@@ -163,7 +159,7 @@ module _ (e : ℕ) (chains : ℕ → List Change) (level : ℕ → ℕ) (rises :
   from_row row from action other come l some = here (from == other) refl
     where
       here : (b : Bool) → (from == other) ≡ b → from ≡ other
-      here true q = same_number from other q
+      here true q = eqb-true from other q
       here false q = absurd (omega (arith, some, j.gives_only other action row l, ap (λ (b : Option ℕ). cond {A = ℕ} (is_from other b) 1 0) come, bit_no (from == other) q))
 
   from_waiting : (w : ℕ → ℕ → ℕ) (row from : ℕ) → (row == home) ≡ false → Known e w leave (chains row) → before row ≡ Some from → leave from ≡ None → Quiet e w (chains row)
@@ -202,7 +198,7 @@ module _ (e : ℕ) (chains : ℕ → List Change) (level : ℕ → ℕ) (rises :
       once = omega (arith, j.gives from m row come went found, j.gives_only from m row went, ap (λ (b : Option ℕ). cond {A = ℕ} (is_from from b) 1 0) come, bit_yes (from == from) (self from))
 
       action_is : (n other : ℕ) → from ≡ other → leave other ≡ Some n → n ≡ m
-      action_is n other same l = some_number n m (sym l ∙ (ap leave (sym same) ∙ went))
+      action_is n other same l = some_same n m (sym l ∙ (ap leave (sym same) ∙ went))
 
       told : (n other : ℕ) → n ≡ m → from ≡ other → is_given m from (Given n other) ≡ true
       told n other a b = rw (a, ← b) (both m from)
@@ -237,7 +233,7 @@ module _ (e : ℕ) (chains : ℕ → List Change) (level : ℕ → ℕ) (rises :
       away q (Some p) come = from q p (leave p) come refl
 
       at : (b : Bool) → (row == home) ≡ b → Case w row
-      at true q = record { here = inr (subst (λ r. Arrived e w (leave r) (chains r)) (sym (same_number row home q)) (at_home w (subst (λ r. Known e w leave (chains r)) (same_number row home q) known)), ap (λ (b : Bool). cond {A = ℕ} b 1 (came_from (before row) leave)) q) }
+      at true q = record { here = inr (subst (λ r. Arrived e w (leave r) (chains r)) (sym (eqb-true row home q)) (at_home w (subst (λ r. Known e w leave (chains r)) (eqb-true row home q) known)), ap (λ (b : Bool). cond {A = ℕ} b 1 (came_from (before row) leave)) q) }
       at false q = away q (before row) refl
 
   -- what each take of a lower level found of the event

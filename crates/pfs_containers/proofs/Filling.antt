@@ -1,5 +1,6 @@
 -- Filling a place, emptying it and counting there, as writes of one place.
 use Rattle.std.proofs.Common.{ℕ, zero, suc, ◌≡◌, ◌<◌, ◌≤◌, ◌+◌, ◌==◌, Bool, true, false, cond, List, [], ◌∷◌, ◌++◌, length, replicate, take, drop, Option, Some, None, is_none, slice_index_or, slice_set, refl, sym, ap, ◌∙◌, arith}
+use Rattle.pfs_lemmas.proofs.Bools.{cond_at_most_one}
 use Rattle.pfs_containers.specs.Connections.{fill, fill_at, emptied_at, is_from}
 use Rattle.pfs_containers.specs.Administration.{added_from}
 use Rattle.pfs_containers.specs.Kept.{AreUpTo}
@@ -73,13 +74,9 @@ pub up_to_wider : (most wide : ℕ) (xs : List ℕ) → most ≤ wide → AreUpT
 up_to_wider most wide [] le are = tt
 up_to_wider most wide (x ∷ xs) le are = (omega (arith, le, are.0), up_to_wider most wide xs le are.1)
 
-one_at_most : (b : Bool) → cond b 1 0 ≤ 1
-one_at_most true = omega arith
-one_at_most false = omega arith
-
 pub up_to_added : (most n : ℕ) (place : Option ℕ) (xs : List ℕ) → AreUpTo most xs → AreUpTo (most + 1) (added_from n place xs)
 up_to_added most n place [] are = tt
-up_to_added most n place (x ∷ xs) are = (omega (arith, one_at_most (is_from n place), are.0), up_to_added most (suc n) place xs are.1)
+up_to_added most n place (x ∷ xs) are = (omega (arith, cond_at_most_one (is_from n place), are.0), up_to_added most (suc n) place xs are.1)
 
 pub zeroes_are : (most n : ℕ) → AreUpTo most (replicate n 0)
 zeroes_are most zero = tt

@@ -1,15 +1,13 @@
 -- A slot is one session's, and no place has more connections than it has had.
 use Rattle.std.proofs.Common.{ℕ, zero, suc, ◌≡◌, ◌≤◌, ◌<◌, ◌+◌, ◌==◌, Bool, true, false, cond, List, [], ◌∷◌, length, replicate, Option, Some, None, IfSome, slice_index_or, refl, sym, ap, subst, ◌∙◌, arith, ne_eqb, inl, inr, eqb-true}
 use Rattle.std.proofs.lemmas.Bool.{cases_lt}
+use Rattle.pfs_lemmas.proofs.Options.{some_same}
 use Rattle.pfs_containers.specs.declared.containers.Connection.{Connection}
 use Rattle.pfs_containers.specs.declared.containers.Seated.{Seated}
 use Rattle.pfs_containers.specs.Connections.{is_from, has_by, entry_at, fill_at, emptied_at, stepped}
 use Rattle.pfs_containers.specs.Administration.{Containers, Found, found_where, one_up, current, lowest_free, next_place, added_from, session_of, connect_at, quit_line}
 use Rattle.pfs_containers.specs.Kept.{AreWithin, seat_by, seated}
 use Rattle.pfs_containers.specs.Laws.{IsOneMore, ConnectLaw, QuitLaw}
-
-same_some : (a b : ℕ) → ◌≡◌ {A = Option ℕ} (Some a) (Some b) → a ≡ b
-same_some a b h = cc
 
 no_some : (n : ℕ) → ◌≡◌ {A = Option ℕ} None (Some n) → ⊥
 no_some n h = cc
@@ -20,18 +18,18 @@ IsNextFree xs x slot = (t : ℕ) × ((slot ≡ suc t) × (lowest_free xs ≡ Som
 
 next_free : (xs : List (Option Connection)) (x : Connection) (slot : ℕ) (o : Option ℕ) → lowest_free xs ≡ o → next_place o ≡ Some slot → IsNextFree xs x slot
 next_free xs x slot None q h = absurd (no_some slot h)
-next_free xs x slot (Some t) q h = (t, (sym (same_some (suc t) slot h), q))
+next_free xs x slot (Some t) q h = (t, (sym (some_same (suc t) slot h), q))
 
 pub free_none : (slot : ℕ) (xs : List (Option Connection)) → lowest_free xs ≡ Some slot → entry_at xs slot ≡ None
 free_none slot [] h = refl
-free_none slot (None ∷ xs) h = ap (λ n. entry_at (None ∷ xs) n) (sym (same_some 0 slot h))
+free_none slot (None ∷ xs) h = ap (λ n. entry_at (None ∷ xs) n) (sym (some_same 0 slot h))
 free_none slot (Some y ∷ xs) h =
     let next : IsNextFree xs y slot = next_free xs y slot (lowest_free xs) refl h in
     ap (λ n. entry_at (Some y ∷ xs) n) next.1.0 ∙ free_none next.0 xs next.1.1
 
 pub free_filled : (slot : ℕ) (x : Connection) (xs : List (Option Connection)) → lowest_free xs ≡ Some slot → entry_at (fill_at slot x xs) slot ≡ Some x
 free_filled slot x [] h = absurd (no_some slot h)
-free_filled slot x (None ∷ xs) h = ap (λ n. entry_at (fill_at n x (None ∷ xs)) n) (sym (same_some 0 slot h))
+free_filled slot x (None ∷ xs) h = ap (λ n. entry_at (fill_at n x (None ∷ xs)) n) (sym (some_same 0 slot h))
 free_filled slot x (Some y ∷ xs) h =
     let next : IsNextFree xs y slot = next_free xs y slot (lowest_free xs) refl h in
     ap (λ n. entry_at (fill_at n x (Some y ∷ xs)) n) next.1.0 ∙ free_filled next.0 x xs next.1.1
@@ -47,7 +45,7 @@ pub filled_count : (which : Connection → Option ℕ) (place slot : ℕ) (x : C
     → current which (fill_at slot x xs) place ≡ current which xs place + cond (is_from place (which x)) 1 0
 filled_count which place slot x [] h = absurd (no_some slot h)
 filled_count which place slot x (None ∷ xs) h =
-    subst (λ t. current which (fill_at t x (None ∷ xs)) place ≡ current which (None ∷ xs) place + cond (is_from place (which x)) 1 0) (same_some 0 slot h) (omega arith)
+    subst (λ t. current which (fill_at t x (None ∷ xs)) place ≡ current which (None ∷ xs) place + cond (is_from place (which x)) 1 0) (some_same 0 slot h) (omega arith)
 filled_count which place slot x (Some y ∷ xs) h =
     let next : IsNextFree xs y slot = next_free xs y slot (lowest_free xs) refl h in
     subst (λ k. current which (fill_at k x (Some y ∷ xs)) place ≡ current which (Some y ∷ xs) place + cond (is_from place (which x)) 1 0) (sym next.1.0)

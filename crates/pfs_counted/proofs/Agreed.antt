@@ -1,6 +1,7 @@
 -- What counts by conservation's numbers of events is what counts by the journals.
 use Rattle.std.proofs.Common.{◌≡◌, refl, ℕ, ◌<◌, ◌≤◌, ◌==◌, ◌&&◌, not, Bool, true, false, List, [], ◌∷◌, length, Option, Some, None, IfSome, is_some, count_by, sym, ap, subst, ◌∙◌, arith}
 use Rattle.std.specs.Prelude.{nat_le}
+use Rattle.std.proofs.lemmas.Bool.{and_parts, eqb-true}
 use Rattle.pfs_conservation.specs.Administration.{Action, line_of, numbered, state_before}
 use Rattle.pfs_conservation.specs.Chains.{Taken}
 use Rattle.pfs_conservation.specs.Conservation.{counts_after}
@@ -33,7 +34,7 @@ use Rattle.pfs_tagged.proofs.Boarding.{low_cell, seats}
 use Rattle.pfs_tagged.proofs.Indexing.{is_number}
 use Rattle.pfs_tagged.proofs.Lasting.{HasLast, EndsLast, all_lasting, ends_lasting}
 use Rattle.pfs_tagged.proofs.Seating.{AreBack, AreFound}
-use Rattle.pfs_tagged.proofs.Sifting.{eq_of, both_of, bit_yes}
+use Rattle.pfs_tagged.proofs.Sifting.{bit_yes}
 use Rattle.pfs_tagged.specs.Acts.{moves_at, names_by}
 use Rattle.pfs_tagged.specs.Board.{cells_of, board, limits_of, is_kind_row, kind_rows, seat_in}
 use Rattle.pfs_tagged.specs.Ends.{Ended, number_of, all_ended, of_number, counts_in, measure_if, whose_by, whose_if}
@@ -111,7 +112,7 @@ module _ (back : AreBack) (found : AreFound) (none : AreNone) (run : Run) (kind 
     removal_is : counts_in is_cell one ≡ true → removal (number_of one) (chain_of (lines_to run kind phase) (home_at (rows_by run kind) (whose_to run phase (number_of one)))) ≡ removal_in (entries_to run phase) one
     removal_is q =
         ap (λ row. removal (number_of one) (chain_of (lines_to run kind phase) row)) home
-        ∙ removed (is_kind_row is_cell) (entries_to run phase) (own_row one) (passes (both_of (is_let_through one.event.verdict) (is_cell one.event.subject.cell) q).1) acted.within (acted.once (own_row one)) one refl (added_once q)
+        ∙ removed (is_kind_row is_cell) (entries_to run phase) (own_row one) (passes (and_parts (is_let_through one.event.verdict) (is_cell one.event.subject.cell) q).1) acted.within (acted.once (own_row one)) one refl (added_once q)
 
     -- the action that took a session's row takes its slot's cells
     slot_taken : (slot action version : ℕ) → is_cell one.event.subject.cell ≡ true → own_slot one ≡ Some slot → Stands (lines_to run kind phase) (own_row one) version (Taken action)
@@ -150,10 +151,10 @@ module _ (back : AreBack) (found : AreFound) (none : AreNone) (run : Run) (kind 
       seated : (o : Option ℕ) → own_slot one ≡ o → is_some o && (one.session == number) ≡ true → own_slot one ≡ Some slot
       seated None e l = absurd (cc)
       seated (Some n) e l =
-          e ∙ (sym (last n (attributed one.context.slot one.event.verdict n e)) ∙ (ap (slot_in run.blocks) (eq_of one.session number (both_of true (one.session == number) l).1) ∙ i))
+          e ∙ (sym (last n (attributed one.context.slot one.event.verdict n e)) ∙ (ap (slot_in run.blocks) (eqb-true one.session number (and_parts true (one.session == number) l).1) ∙ i))
 
       cells : is_cell one.event.subject.cell ≡ true
-      cells = (both_of (is_let_through one.event.verdict) (is_cell one.event.subject.cell) q).1
+      cells = (and_parts (is_let_through one.event.verdict) (is_cell one.event.subject.cell) q).1
 
       on : (r : Option ℕ) → removal_in (entries_to run phase) one ≡ r
           → counts_after r (covers_all (KeyThread number slot)) ≡ stays_counted (λ action. true) last_action r
@@ -177,7 +178,7 @@ module _ (back : AreBack) (found : AreFound) (none : AreNone) (run : Run) (kind 
       other : is_cell one.event.subject.cell ≡ false → (one.event.subject.cell == cell) ≡ false
       other q = to (one.event.subject.cell == cell) refl where
         to : (b : Bool) → (one.event.subject.cell == cell) ≡ b → b ≡ false
-        to true e = absurd (let z : true ≡ false = sym (ap is_cell (eq_of one.event.subject.cell cell e) ∙ low) ∙ q in cc)
+        to true e = absurd (let z : true ≡ false = sym (ap is_cell (eqb-true one.event.subject.cell cell e) ∙ low) ∙ q in cc)
         to false e = refl
 
       joined : (c l s t : Bool) → (l ≡ true → s ≡ t) → ((c && l) && s) ≡ (c && (l && t))

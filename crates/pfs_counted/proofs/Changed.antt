@@ -1,6 +1,7 @@
 -- A place of a thread's ring is changed by puts alone, of sessions in that slot: of each run.
-use Rattle.std.proofs.Common.{◌≡◌, refl, ℕ, ◌+◌, ◌-◌, ◌*◌, ◌/◌, ◌%◌, ◌<◌, ◌≤◌, ◌==◌, Bool, true, false, cond, nat_le, List, [], ◌∷◌, ◌++◌, length, filter, Option, Some, None, sym, ap, subst, ◌∙◌, inl, inr, arith}
+use Rattle.std.proofs.Common.{◌≡◌, refl, ℕ, ◌+◌, ◌-◌, ◌*◌, ◌/◌, ◌%◌, ◌<◌, ◌≤◌, ◌==◌, Bool, true, false, cond, List, [], ◌∷◌, ◌++◌, length, filter, Option, Some, None, sym, ap, subst, ◌∙◌, inl, inr, arith}
 use Rattle.std.specs.Prelude.{IfSome, ◌⊎◌}
+use Rattle.pfs_lemmas.proofs.Numbers.{eq_self, le_self}
 use Rattle.pfs_event.specs.declared.entry.Entry.{Entry}
 use Rattle.pfs_event.specs.declared.entry.Entry.TheVariants as says
 use Rattle.pfs_model.specs.Actions.{IsAmong, is_acted}
@@ -58,9 +59,6 @@ long_among kind put p (x ∷ ps) (inl e) a =
 long_among kind put p (x ∷ ps) (inr m) a =
     among_back put (filter (λ (z : LongPut). kind_of_row z.row == kind) (long_put x.line x.entry)) (long_puts kind ps) (long_among kind put p ps m a)
 
-eq_self : (n : ℕ) → (n == n) ≡ true
-eq_self n = grind arith
-
 -- so its place lies past the rings, by its ticket
 long_high : (all : List Placed) → ((phase kind : ℕ) → kind < 4 → AreTickets all phase kind) → (p : Placed) → IsAmong p all → (row version ticket : ℕ) → p.entry ≡ says.Long row version ticket → 10242 ≤ row
 long_high all tickets p m row version ticket e = on (which 4 (kind_of_row row)) where
@@ -83,9 +81,6 @@ long_high all tickets p m row version ticket e = on (which 4 (kind_of_row row)) 
 
     at : IsAtOwn (kind_of_row row) own
     at = each_of_among (IsAtOwn (kind_of_row row)) own (long_puts (kind_of_row row) (in_phase p.phase all)) among (tickets p.phase (kind_of_row row) l).own
-
-le_self : (n : ℕ) → nat_le n n ≡ true
-le_self n = grind arith
 
 -- of two changes of one row and version
 same_change : (row version at v : ℕ) → change_at at v ≡ change_at row version → (at ≡ row) × (v ≡ version)

@@ -3,6 +3,7 @@ use Rattle.std.proofs.Common.{ℕ, ◌≡◌, ◌<◌, ◌≤◌, ◌==◌, Bool
 use Rattle.std.specs.Prelude.{nat_lt, fold, slice_get, if◌then◌else◌}
 use Rattle.std.proofs.lemmas.Grind.{not_there}
 use Rattle.std.proofs.lemmas.Option.{slice_get_past}
+use Rattle.std.proofs.lemmas.Bool.{eqb-true}
 use Rattle.pfs_classes.specs.Builtins.{builtins, class_of, start_of}
 use Rattle.pfs_classes.specs.Registry.{Registry, class_at, has_room, registered, with_flags}
 use Rattle.pfs_classes.specs.Settings.{ComesFrom, builtin, register, set}
@@ -21,7 +22,6 @@ use Rattle.pfs_summaries.specs.Summaries.{numbers_of, is_skipped}
 use Rattle.pfs_summaries.specs.declared.numbers.Numbers.TheVariants as numbers
 use Rattle.pfs_summaries.specs.declared.tallies.Tally.{Tally}
 use Rattle.pfs_counted.specs.Summed.{class_numbers}
-use Rattle.pfs_tagged.proofs.Sifting.{eq_of}
 
 still : (r : Registry) (class : Class) → (registered r class).transaction.kind ≡ r.transaction.kind
 unfolding registered
@@ -76,7 +76,7 @@ few_ids setting kind id h = at (id == 62) refl where
   over a b q = grind arith
 
   at : (b : Bool) → (id == 62) ≡ b → id < 63
-  at true q = omega (arith, eq_of id 62 q)
+  at true q = omega (arith, eqb-true id 62 q)
   at false q = on (nat_lt id (length setting.classes.classes)) refl where
     e : is_class_of kind (slice_get setting.classes.classes id) ≡ true
     e = ap (λ (b : Bool). is_class_of kind (if b then Some setting.classes.transaction else slice_get setting.classes.classes id)) (sym q) ∙ h

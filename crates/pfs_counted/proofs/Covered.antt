@@ -1,6 +1,7 @@
 -- What covers an event by the actions' states is what covers it by the actions alone, and it leads where it did.
 use Rattle.std.proofs.Common.{◌≡◌, refl, ℕ, zero, suc, ◌+◌, ◌≤◌, ◌==◌, ◌&&◌, ◌||◌, not, ◌⊎◌, inl, inr, Bool, true, false, cond, nat_lt, nat_le, List, [], ◌∷◌, ◌++◌, Option, Some, None, is_some, count_by, sym, ap, subst, ◌∙◌, arith}
 use Rattle.std.proofs.lemmas.List.Sums.{sum_by-cons}
+use Rattle.std.proofs.lemmas.Bool.{and_parts, eqb-true}
 use Rattle.pfs_conservation.specs.Actions.{moved_by, moves_of}
 use Rattle.pfs_conservation.specs.Chains.{Change, Taken, Given}
 use Rattle.pfs_conservation.specs.Conservation.{counts_after}
@@ -13,7 +14,6 @@ use Rattle.pfs_model.specs.Places.{Placed}
 use Rattle.pfs_model.specs.Summaries.{Names, some_action, stays_counted}
 use Rattle.pfs_tagged.specs.Ends.{Ended, session_of, whose_at, whose_by}
 use Rattle.pfs_counted.specs.Counts.{own_slot, leads_to}
-use Rattle.pfs_tagged.proofs.Sifting.{eq_of, both_of}
 
 -- ---- covering actions
 
@@ -51,7 +51,7 @@ some_here test a (suc n) q l h = at (a == suc n) refl (some_here test a n q l) w
   or_right false y e = e
 
   at : (b : Bool) → (a == suc n) ≡ b → (a ≤ n → some_action test a n ≡ true) → ((nat_le a (suc n) && test (suc n)) || some_action test a n) ≡ true
-  at true e go = rw low (rw (ap test (sym (eq_of a (suc n) e)) ∙ q) refl)
+  at true e go = rw low (rw (ap test (sym (eqb-true a (suc n) e)) ∙ q) refl)
   at false e go = or_right (nat_le a (suc n) && test (suc n)) (some_action test a n) (go (less e))
 
 -- ---- what takes a row
@@ -77,7 +77,7 @@ stands_print row version action (line ∷ lines) (inl q) = by line.kind q.1 wher
 
   by : (kind : Kind) → as_change line.action kind ≡ Taken action → IsPrint row action (cond (is_move kind && (line.action == action)) (record { row = line.row; change = as_change line.action kind } ∷ []) [] ++ printed_by lines action)
   by (Adds es) e = absurd (cc)
-  by Takes e = rw (self line.action action (untake line.action action e)) (inl (eq_of line.row row (both_of (line.row == row) (line.version == version) q.0).0, e))
+  by Takes e = rw (self line.action action (untake line.action action e)) (inl (eqb-true line.row row (and_parts (line.row == row) (line.version == version) q.0).0, e))
   by (Gives from) e = absurd (cc)
 
 gives_not : (kept : ℕ → ℕ → Bool) (m : Move) (row action : ℕ) (to : List ℕ) (rest : List Print) → IsPrint row action (gives_of kept m to ++ rest) → IsPrint row action rest

@@ -1,11 +1,13 @@
 -- No event is added to a place of a ring, or held for one: what is due at an end is a cell's row or a digest's.
-use Rattle.std.proofs.Common.{◌≡◌, refl, ℕ, ◌<◌, ◌==◌, Bool, true, false, cond, nat_lt, List, [], ◌∷◌, ◌++◌, Option, Some, None, sym, ap, subst, ◌∙◌, ◌⊎◌, inl, inr, arith, Less, Equal, Greater}
+use Rattle.std.proofs.Common.{◌≡◌, refl, ℕ, ◌<◌, ◌==◌, Bool, true, false, cond, nat_lt, List, [], ◌∷◌, ◌++◌, Option, Some, None, sym, ap, subst, ◌∙◌, ◌⊎◌, inl, inr, Less, Equal, Greater}
 use Rattle.std.specs.Ordering.{match_ordering, is_eq}
 use Rattle.std.specs.Prelude.{IfSome}
+use Rattle.std.proofs.lemmas.Bool.{eqb-true}
+use Rattle.pfs_model.proofs.EachLists.{each_behind, each_front, each_join}
+use Rattle.pfs_lemmas.proofs.Numbers.{eq_self}
 use Rattle.pfs_event.specs.Verdicts.{is_let_through}
 use Rattle.pfs_event.specs.declared.entry.Entry.{Entry}
 use Rattle.pfs_event.specs.declared.entry.Entry.TheVariants as says
-use Rattle.pfs_model.proofs.Walking.{eq_of}
 use Rattle.pfs_model.specs.Actions.{IsAmong}
 use Rattle.pfs_model.specs.Asks.{cell_row, digest_row, is_head, is_settle}
 use Rattle.pfs_model.specs.Chains.{Each}
@@ -86,8 +88,8 @@ IsLowAdd (Adds row) = row < 8450
 IsLowAdd due = Unit {0}
 
 paid_low : (due : Due) (e : Entry) → IsLowAdd due → is_paid due e ≡ true → IsLowFeed e
-paid_low (Adds row) (says.Add at version) h p = subst (λ n. n < 8450) (sym (eq_of at row p)) h
-paid_low (Adds row) (says.Held at first second) h p = subst (λ n. n < 8450) (sym (eq_of at row p)) h
+paid_low (Adds row) (says.Add at version) h p = subst (λ n. n < 8450) (sym (eqb-true at row p)) h
+paid_low (Adds row) (says.Held at first second) h p = subst (λ n. n < 8450) (sym (eqb-true at row p)) h
 paid_low (Puts row) (says.Add at version) h p = absurd (cc)
 paid_low (Puts row) (says.Held at first second) h p = absurd (cc)
 paid_low (PutsLong kind) (says.Add at version) h p = absurd (cc)
@@ -99,18 +101,6 @@ paid_all [] [] h p = tt
 paid_all [] (e ∷ es) h p = absurd p
 paid_all (due ∷ dues) [] h p = absurd p
 paid_all (due ∷ dues) (e ∷ es) h p = (paid_low due e h.0 p.0, paid_all dues es h.1 p.1)
-
-each_join : {A : Type 0} (P : A → Type 0) (xs ys : List A) → Each P xs → Each P ys → Each P (xs ++ ys)
-each_join P [] ys a b = b
-each_join P (x ∷ xs) ys a b = (a.0, each_join P xs ys a.1 b)
-
-each_front : {A : Type 0} (P : A → Type 0) (xs ys : List A) → Each P (xs ++ ys) → Each P xs
-each_front P [] ys h = tt
-each_front P (x ∷ xs) ys h = (h.0, each_front P xs ys h.1)
-
-each_back : {A : Type 0} (P : A → Type 0) (xs ys : List A) → Each P (xs ++ ys) → Each P ys
-each_back P [] ys h = h
-each_back P (x ∷ xs) ys h = each_back P xs ys h.1
 
 low_if : (asked : Bool) (due : Due) → IsLowAdd due → Each IsLowAdd (due_if asked due)
 low_if true due h = (h, tt)
@@ -160,9 +150,6 @@ LowRows (Some rows) = AreLow rows
 abbrev InReach : Option (List ℕ) → List Placed → Type 0
 InReach rows ps = Each IsLowFeed (behind_it ps) ⊎ LowRows rows
 
-eq_self : (n : ℕ) → (n == n) ≡ true
-eq_self n = grind arith
-
 walk_low : (flags : ℕ → ℕ → ℕ) (told : ℕ → Context) (earlier ps : List Placed) (hand : Bool) (rows : Option (List ℕ)) → ((session : ℕ) → Follow session (told session) ps)
     → ((session : ℕ) → AreLow (told session).held) → Each IsLowHome (all_ended ps) → AreFedPlaces hand ps → AreBroughtBehind flags earlier ps → Settles rows ps → (hand ≡ true → InReach rows ps)
     → Each (λ (p : Placed). IsLowFeed p.entry) ps
@@ -170,7 +157,7 @@ walk_low flags told earlier [] hand rows follow low homes fed brought settles re
 walk_low flags told earlier (p ∷ ps) hand rows follow low homes fed brought settles reach =
     at (is_head p.entry) refl
     (λ here next. walk_low flags (λ session. then_told session (told session) p) (p ∷ earlier) ps (in_reach hand p.entry) (settled_rows rows p.context.held p.entry)
-    (λ session. (follow session).1) (λ session. still session here (p.session == session)) (each_back IsLowHome (ended_at p p.entry) (all_ended ps) homes) fed.1 brought.1 settles.1 next) where
+    (λ session. (follow session).1) (λ session. still session here (p.session == session)) (each_behind IsLowHome (ended_at p p.entry) (all_ended ps) homes) fed.1 brought.1 settles.1 next) where
       own_low : (c : Context) → Comes (told p.session) c → AreLow c.held
       own_low c (inl e) = subst (λ (z : Context). AreLow z.held) (sym e) (low p.session)
       own_low c (inr e) = subst (λ (z : Context). AreLow z.held) (sym e) (low p.session)

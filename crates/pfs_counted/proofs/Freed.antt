@@ -1,6 +1,7 @@
 -- Rows of cells and of digests are never FREE: nothing but info rows is released.
 use Rattle.std.proofs.Common.{◌⊎◌, inl, inr, ◌≡◌, ℕ, ◌+◌, ◌-◌, ◌*◌, ◌<◌, ◌≤◌, ◌==◌, ◌&&◌, Bool, true, false, cond, nat_lt, nat_le, List, [], ◌∷◌, ◌++◌, length, map, take, Option, Some, None, refl, sym, ap, subst, ◌∙◌, arith, append-nil}
 use Rattle.std.specs.Prelude.{IfSome, ◌||◌}
+use Rattle.std.proofs.lemmas.Bool.{eqb-true}
 use Rattle.pfs_admin.proofs.Rows.{frees_ascend}
 use Rattle.pfs_admin.specs.Asks.{account_tag, user_tag, host_tag, upper_tags, tag_of, connect_work, quit_work}
 use Rattle.pfs_admin.specs.Fold.{state_of}
@@ -28,7 +29,6 @@ use Rattle.pfs_ruled.proofs.Truncating.{AreInfosOrRings, signs_split}
 use Rattle.pfs_runs.specs.Labels.{label_at, work_at, work_for, work_of_label}
 use Rattle.pfs_tagged.proofs.AddedFloor.{place_among}
 use Rattle.pfs_tagged.proofs.Saying.{HasNumber, IsSaid, all_said, said_to, said_range}
-use Rattle.pfs_tagged.proofs.Sifting.{eq_of}
 use Rattle.pfs_tagged.proofs.Staying.{fold_well, seat_in_in}
 use Rattle.pfs_tagged.specs.Premises.{AreKept}
 use Rattle.pfs_tagged.specs.Runs.{Run, entries_to}
@@ -227,7 +227,7 @@ none_released row version (p ∷ ps) l u h = by p.entry refl (none_released row 
     nowhere (inr k) s = absurd (omega (arith, k, s, u))
 
     on : (b : Bool) → (at == row) ≡ b → cond {A = ℕ} ((at == row) && (v == version)) 1 0 + times (is_that (change_at row version)) (each_of release_of ps) ≡ 0
-    on true w = absurd (nowhere (h.0 at v q) (eq_of at row w))
+    on true w = absurd (nowhere (h.0 at v q) (eqb-true at row w))
     on false w = ap (λ b. cond {A = ℕ} (b && (v == version)) 1 0 + times (is_that (change_at row version)) (each_of release_of ps)) w ∙ (none (times (is_that (change_at row version)) (each_of release_of ps)) ∙ rest)
   by _ q rest = rest
 

@@ -2,6 +2,7 @@
 use Rattle.std.proofs.Common.{◌≡◌, refl, ℕ, ◌+◌, ◌-◌, ◌<◌, ◌≤◌, ◌==◌, ◌&&◌, ◌||◌, nat_lt, nat_le, Bool, true, false, cond, List, [], ◌∷◌, length, drop, filter, Option, Some, None, sym, ap, subst, ◌∙◌, inl, inr, arith}
 use Rattle.std.specs.Prelude.{◌⊎◌}
 use Rattle.std.proofs.lemmas.Bool.{eqb-true}
+use Rattle.pfs_lemmas.proofs.Options.{some_same}
 use Rattle.pfs_model.specs.Actions.{IsAmong}
 use Rattle.pfs_model.specs.Chains.{Each, times, change_at, row_change, release_of, each_of, is_of, is_that, opens_free, is_free_after}
 use Rattle.pfs_model.specs.Places.{Placed}
@@ -81,12 +82,6 @@ pub not_free : (m v : ℕ) (b : Bool) → m ≡ 0 → 0 < v → nat_lt 0 m || ((
 not_free m v b e l = ap (λ z. nat_lt 0 z || ((v == 0) && b)) e ∙ ap (λ z. z && b) (apart v l) where
   apart : (v : ℕ) → 0 < v → (v == 0) ≡ false
   apart v l = grind (arith, l)
-
-pub some_same : (x y : ℕ) → Some x ≡ Some y → x ≡ y
-some_same x y e = ap or_zero e where
-  or_zero : Option ℕ → ℕ
-  or_zero None = 0
-  or_zero (Some n) = n
 
 module _ (all : List Placed) (session slot kind : ℕ) (h : GoesRound all session slot kind) (row : ℕ) (own : is_history_row slot kind row ≡ true) where
   abbrev puts : List Change

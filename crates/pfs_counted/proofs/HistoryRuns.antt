@@ -1,7 +1,8 @@
 -- The places of a history are its session's, where the session is there: of each run.
 use Rattle.std.proofs.Common.{◌≡◌, refl, ℕ, zero, suc, ◌+◌, ◌*◌, ◌<◌, ◌≤◌, ◌==◌, ◌&&◌, ◌||◌, Bool, true, false, cond, nat_le, nat_lt, List, [], ◌∷◌, ◌++◌, length, Option, Some, None, sym, ap, subst, ◌∙◌, inl, inr, arith}
 use Rattle.std.specs.Prelude.{slice_get, ◌⊎◌}
-use Rattle.std.proofs.lemmas.Bool.{leb-true, ltb-true}
+use Rattle.std.proofs.lemmas.Bool.{leb-true, ltb-true, and_parts, eqb-true}
+use Rattle.pfs_lemmas.proofs.Numbers.{eq_self}
 use Rattle.pfs_event.specs.declared.entry.Entry.{Entry}
 use Rattle.pfs_event.specs.declared.entry.Entry.TheVariants as says
 use Rattle.pfs_model.specs.Actions.{IsAmong}
@@ -17,7 +18,6 @@ use Rattle.pfs_tagged.proofs.AddedRun.{run_acting, run_own}
 use Rattle.pfs_tagged.proofs.AddedSeat.{IsSeated, seated_there, session_in, slot_low}
 use Rattle.pfs_tagged.proofs.AddedTold.{IsFirstConnect, IsKnown, IsOwn, IsTold}
 use Rattle.pfs_tagged.proofs.Indexing.{which}
-use Rattle.pfs_tagged.proofs.Sifting.{eq_of}
 use Rattle.pfs_tagged.specs.Ends.{connects_at, first_of, given_by, quit_in}
 use Rattle.pfs_tagged.specs.Premises.{AreKept, IsOrderly}
 use Rattle.pfs_tagged.specs.Runs.{Run, entries_to}
@@ -75,7 +75,7 @@ putting session slot kind row version (p ∷ ps) m = at (p.session == session) r
   here q None s e is m = absurd m
   here q (Some own) s (says.Ring at v) is m = on (own == slot) refl (is_history_row slot kind at) m where
     on : (a : Bool) → (own == slot) ≡ a → (b : Bool) → IsAmong (change_at row version) (cond (a && b) (change_at at v ∷ []) []) → IsPutting session slot row version (p ∷ ps)
-    on true r true (inl e) = record { place = p; among = inl refl; own = eq_of p.session session q; slot_is = s ∙ ap (λ z. Some z) (eq_of own slot r); entry = is ∙ ring at v e }
+    on true r true (inl e) = record { place = p; among = inl refl; own = eqb-true p.session session q; slot_is = s ∙ ap (λ z. Some z) (eqb-true own slot r); entry = is ∙ ring at v e }
     on true r true (inr m) = absurd m
     on true r false m = absurd m
     on false r b m = absurd m
@@ -87,9 +87,6 @@ putting session slot kind row version (p ∷ ps) m = at (p.session == session) r
     split : IsAmong (change_at row version) (history_put slot kind p.context.slot p.entry) ⊎ IsAmong (change_at row version) (history_puts slot kind (by_session session ps)) → IsPutting session slot row version (p ∷ ps)
     split (inl a) = here q p.context.slot refl p.entry refl a
     split (inr b) = later (go b)
-
-eq_self : (n : ℕ) → (n == n) ≡ true
-eq_self n = grind arith
 
 put_among : (session slot kind row version : ℕ) (p : Placed) (ps : List Placed) → IsAmong p ps → (p.session == session) ≡ true → p.context.slot ≡ Some slot → p.entry ≡ says.Ring row version → is_history_row slot kind row ≡ true
     → IsAmong (change_at row version) (history_puts slot kind (by_session session ps))
@@ -141,15 +138,9 @@ connecting session slot rest (p ∷ ps) e = at (p.session == session) refl e (co
   at true own h go = by own p.entry refl h go
   at false own h go = later (go h)
 
--- where a row stands
-both_of : (a b : Bool) → (a && b) ≡ true → (a ≡ true) × (b ≡ true)
-both_of true true q = (refl, refl)
-both_of true false q = absurd (cc)
-both_of false b q = absurd (cc)
-
 history_range : (slot kind row : ℕ) → is_history_row slot kind row ≡ true → kind < 4 → (8450 + 56 * slot ≤ row) × (row < 8450 + 56 * slot + 56)
 history_range slot kind row q few =
-    let b : (nat_le (8450 + 56 * slot + 16 + 10 * kind) row ≡ true) × (nat_lt row (8450 + 56 * slot + 26 + 10 * kind) ≡ true) = both_of (nat_le (8450 + 56 * slot + 16 + 10 * kind) row) (nat_lt row (8450 + 56 * slot + 26 + 10 * kind)) q in
+    let b : (nat_le (8450 + 56 * slot + 16 + 10 * kind) row ≡ true) × (nat_lt row (8450 + 56 * slot + 26 + 10 * kind) ≡ true) = and_parts (nat_le (8450 + 56 * slot + 16 + 10 * kind) row) (nat_lt row (8450 + 56 * slot + 26 + 10 * kind)) q in
     let l : 8450 + 56 * slot + 16 + 10 * kind ≤ row = leb-true (8450 + 56 * slot + 16 + 10 * kind) row b.0 in
     let h : row < 8450 + 56 * slot + 26 + 10 * kind = ltb-true row (8450 + 56 * slot + 26 + 10 * kind) b.1 in
     (omega (arith, l), omega (arith, h, few))
@@ -206,7 +197,7 @@ module _ (run : Run) (kept : AreKept run) (orderly : IsOrderly run) (phase sessi
     positive = omega arith;
     within = within;
     who = session_in run.setting run.change run.labels connects.place.session seat.user seat.host rooms;
-    number = eq_of connects.place.session session connects.own;
+    number = eqb-true connects.place.session session connects.own;
     stands = seat.stands;
   } where
     says_it : action_change connects.place.entry ≡ change_at 0 (suc k) ∷ []

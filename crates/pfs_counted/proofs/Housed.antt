@@ -1,11 +1,12 @@
 -- Each put to a place of a ring stands in the ring of its session's slot.
 use Rattle.std.proofs.Common.{◌≡◌, refl, ℕ, ◌+◌, ◌*◌, ◌%◌, ◌<◌, ◌≤◌, Bool, true, false, cond, List, [], ◌∷◌, ◌++◌, Option, Some, None, sym, ap, subst, ◌∙◌, arith}
+use Rattle.std.proofs.lemmas.Bool.{eqb-true}
+use Rattle.pfs_model.proofs.EachLists.{each_join}
 use Rattle.pfs_event.specs.Verdicts.{is_let_through}
 use Rattle.pfs_event.specs.declared.entry.Entry.{Entry}
 use Rattle.pfs_event.specs.declared.entry.Entry.TheVariants as says
 use Rattle.pfs_event.specs.declared.kind.EventKind.{EventKind}
 use Rattle.pfs_event.specs.declared.kind.EventKind.TheVariants as kinds
-use Rattle.pfs_model.proofs.Walking.{eq_of}
 use Rattle.pfs_model.specs.Asks.{cell_row, digest_row, is_head}
 use Rattle.pfs_model.specs.Chains.{Each}
 use Rattle.pfs_model.specs.Contexts.{Context, noted, subject_of}
@@ -34,7 +35,7 @@ IsHousedDue slot (Puts row) = IsInRing slot row
 IsHousedDue slot due = Unit {0}
 
 paid_housed : (slot : Option ℕ) (due : Due) (e : Entry) → IsHousedDue slot due → is_paid due e ≡ true → IsHoused slot e
-paid_housed slot (Puts row) (says.Ring at version) h p = subst (IsInRing slot) (sym (eq_of at row p)) h
+paid_housed slot (Puts row) (says.Ring at version) h p = subst (IsInRing slot) (sym (eqb-true at row p)) h
 paid_housed slot (Adds row) (says.Ring at version) h p = absurd (cc)
 paid_housed slot (PutsLong kind) (says.Ring at version) h p = absurd (cc)
 paid_housed slot due _ h p = tt
@@ -44,10 +45,6 @@ paid_all slot [] [] h p = tt
 paid_all slot [] (e ∷ es) h p = absurd p
 paid_all slot (due ∷ dues) [] h p = absurd p
 paid_all slot (due ∷ dues) (e ∷ es) h p = (paid_housed slot due e h.0 p.0, paid_all slot dues es h.1 p.1)
-
-each_join : {A : Type 0} (P : A → Type 0) (xs ys : List A) → Each P xs → Each P ys → Each P (xs ++ ys)
-each_join P [] ys a b = b
-each_join P (x ∷ xs) ys a b = (a.0, each_join P xs ys a.1 b)
 
 housed_if : (slot : Option ℕ) (asked : Bool) (due : Due) → IsHousedDue slot due → Each (IsHousedDue slot) (due_if asked due)
 housed_if slot true due h = (h, tt)

@@ -1,6 +1,8 @@
 -- Where an event is put to a ring, the line has begun no action.
 use Rattle.std.proofs.Common.{◌≡◌, refl, ℕ, Bool, true, false, ◌&&◌, not, cond, List, [], ◌∷◌, ◌++◌, map, sym, ap, subst, ◌∙◌, inl, inr, Option}
 use Rattle.std.specs.Prelude.{Ok, Err, if◌then◌else◌}
+use Rattle.std.proofs.lemmas.Bool.{and_parts}
+use Rattle.pfs_model.proofs.EachLists.{each_join}
 use Rattle.pfs_event.specs.Verdicts.{is_let_through}
 use Rattle.pfs_event.specs.declared.entry.Entry.{Entry}
 use Rattle.pfs_event.specs.declared.entry.Entry.TheVariants as says
@@ -47,11 +49,6 @@ abbrev orders : List Item → Bool
 orders [] = true
 orders (item ∷ items) = cond (begins_ask item.ask) (is_one item.often && bare_items items) (orders items)
 
-both : (a b : Bool) → a && b ≡ true → (a ≡ true) × (b ≡ true)
-both true true h = (refl, refl)
-both true false h = absurd (cc)
-both false b h = absurd (cc)
-
 quiet : (ask : Ask) (e : Entry) → not (asks_ring ask) ≡ true → fits ask e ≡ true → is_ring e ≡ false
 quiet asks.Put e a f = absurd (cc)
 quiet ask (says.Ring row version) a f = none ask a f where
@@ -83,7 +80,7 @@ bare_many ask (e ∷ es) a g = at (fits ask e) refl g (bare_many ask es a) where
 cut_bare : (items : List Item) (part : List Entry) → bare_items items ≡ true → cut items part ≡ Ok [] → AreBare part
 unfolding cut
 cut_bare [] part h s = let none : part ≡ [] = cc in subst AreBare (sym none) tt
-cut_bare (item ∷ items) part h s = by item.often part (both _ _ h).0 s (λ es q. cut_bare items es (both _ _ h).1 q) where
+cut_bare (item ∷ items) part h s = by item.often part (and_parts _ _ h).0 s (λ es q. cut_bare items es (and_parts _ _ h).1 q) where
   by : (often : Often) (part : List Entry) → not (asks_ring item.ask) ≡ true → then_cut (step often item.ask part) (cut items) ≡ Ok [] → ((part : List Entry) → cut items part ≡ Ok [] → AreBare part) → AreBare part
   by One [] a s go = absurd (cc)
   by One (e ∷ es) a s go = at (fits item.ask e) refl s where
@@ -118,12 +115,12 @@ cut_ordered [] part h s = let none : part ≡ [] = cc in subst IsOrdered (sym no
 cut_ordered (item ∷ items) part h s = on (begins_ask item.ask) refl h (λ es k q. cut_bare items es k q) (λ es k q. cut_ordered items es k q) where
   on : (b : Bool) → begins_ask item.ask ≡ b → cond b (is_one item.often && bare_items items) (orders items) ≡ true
       → ((es : List Entry) → bare_items items ≡ true → cut items es ≡ Ok [] → AreBare es) → ((es : List Entry) → orders items ≡ true → cut items es ≡ Ok [] → IsOrdered es) → IsOrdered part
-  on true q h bare go = by item.often part (both _ _ h).0 s where
+  on true q h bare go = by item.often part (and_parts _ _ h).0 s where
     by : (often : Often) (part : List Entry) → is_one often ≡ true → then_cut (step often item.ask part) (cut items) ≡ Ok [] → IsOrdered part
     by One [] o s = absurd (cc)
     by One (e ∷ es) o s = at (fits item.ask e) s where
       at : (b : Bool) → then_cut (if b then Ok es else Err (e ∷ es)) (cut items) ≡ Ok [] → IsOrdered (e ∷ es)
-      at true s = let u : AreBare es = bare es (both _ _ h).1 s in ((λ z. u), bare_ordered es u)
+      at true s = let u : AreBare es = bare es (and_parts _ _ h).1 s in ((λ z. u), bare_ordered es u)
       at false s = absurd (cc)
     by Maybe part o s = absurd (cc)
     by Many part o s = absurd (cc)
@@ -218,10 +215,6 @@ shape_orders context lines.Close = plain_orders (settling context.held) (plain_s
 -- so no action is at hand there
 abbrev pub IsIdle : Placed → Type 0
 IsIdle p = is_ring p.entry ≡ true → p.context.action ≡ 0
-
-each_join : {A : Type 0} (P : A → Type 0) (xs ys : List A) → Each P xs → Each P ys → Each P (xs ++ ys)
-each_join P [] ys a b = b
-each_join P (x ∷ xs) ys a b = (a.0, each_join P xs ys a.1 b)
 
 bare_part : (phase session : ℕ) (line : Line) (c : Context) (part : List Entry) → AreBare part → Each IsIdle (placed_part phase session line c part)
 bare_part phase session line c [] u = tt

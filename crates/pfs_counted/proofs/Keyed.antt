@@ -2,6 +2,9 @@
 use Rattle.std.proofs.Common.{◌≡◌, ℕ, zero, suc, ◌+◌, ◌*◌, ◌<◌, ◌==◌, ◌&&◌, Bool, true, false, cond, List, [], ◌∷◌, ◌++◌, Option, Some, None, refl, sym, ap, ◌∙◌, arith, eq-eqb, ne_eqb}
 use Rattle.std.specs.Prelude.{is_some, option_and_then}
 use Rattle.std.specs.Option.{option_map}
+use Rattle.std.proofs.lemmas.Bool.{eqb-true}
+use Rattle.pfs_lemmas.proofs.Numbers.{zero_plus}
+use Rattle.pfs_lemmas.proofs.Bools.{and_false}
 use Rattle.pfs_conservation.proofs.Connecting.{Sound}
 use Rattle.pfs_conservation.proofs.Placing.{user_same, host_same, account_same}
 use Rattle.pfs_conservation.specs.Folds.{CellRows}
@@ -32,7 +35,6 @@ use Rattle.pfs_counted.proofs.Passed.{picked, picked_nothing, picked_listed, pic
 use Rattle.pfs_counted.proofs.Read.{IsShown}
 use Rattle.pfs_counted.proofs.Tallies.{wanted_thread, wanted_account, wanted_user, wanted_host, wanted_global, key_rows}
 use Rattle.pfs_counted.proofs.Told.{AreBack, ArePlaces, AreTold, thread_stands, thread_is, account_stands, account_is, user_stands, host_stands}
-use Rattle.pfs_tagged.proofs.Sifting.{eq_of}
 
 -- whose rows stand at a place: of the session, account, user or host that is there
 abbrev pub key_at : SummaryTable → State → ℕ → Option Key
@@ -63,9 +65,6 @@ number_from : (key : ℕ) (o : Option ℕ) → is_number key o ≡ is_from key o
 number_from key None = refl
 number_from key (Some other) = refl
 
-zero_add : (i : ℕ) → 0 + i ≡ i
-zero_add i = omega arith
-
 -- what stands at a place, and a test of it
 stands_and : {X : Type 0} (o : Option X) (b : Bool) (f : X → Bool) → ((x : X) → o ≡ Some x → b ≡ f x) → (is_some o && b) ≡ passes f o
 stands_and None b f h = refl
@@ -94,7 +93,7 @@ module _ (back : AreBack) (places : ArePlaces) (seen : ℕ → Seen) (versions f
       → picked (wanted_thread places seen versions flags scope kind which found is cell low is_cell key) rows.thread 0 32 ≡ listed_from f rows.thread 0 threads
   threads_listed key f same =
       picked_listed f (wanted_thread places seen versions flags scope kind which found is cell low is_cell key) rows.thread 0 32 threads well.threads_few
-      (λ i l. ap (wanted_thread places seen versions flags scope kind which found is cell low is_cell key) (zero_add i)
+      (λ i l. ap (wanted_thread places seen versions flags scope kind which found is cell low is_cell key) (zero_plus i)
       ∙ (ap (λ b. b && is_number key (key_of which infos (ThreadCell i cell))) (whole_thread i l)
       ∙ stands_and (entry_at threads i) (is_number key (key_of which infos (ThreadCell i cell))) f (same i l)))
 
@@ -104,17 +103,13 @@ module _ (back : AreBack) (places : ArePlaces) (seen : ℕ → Seen) (versions f
       → picked (wanted_account places seen versions flags scope kind which found is cell low is_cell key) rows.account 0 32 ≡ listed_from f rows.account 0 c.places.accounts
   accounts_listed key f has same =
       picked_listed f (wanted_account places seen versions flags scope kind which found is cell low is_cell key) rows.account 0 32 c.places.accounts well.accounts_few
-      (λ i l. ap (wanted_account places seen versions flags scope kind which found is cell low is_cell key) (zero_add i)
+      (λ i l. ap (wanted_account places seen versions flags scope kind which found is cell low is_cell key) (zero_plus i)
       ∙ (ap (λ b. b && (is_whole found (33 + i) && is_number key (key_of which infos (AccountCell i cell)))) has
       ∙ (ap (λ b. b && is_number key (key_of which infos (AccountCell i cell))) (account_stands back places seen versions flags scope kind which found is c told has i l)
       ∙ stands_and (entry_at c.places.accounts i) (is_number key (key_of which infos (AccountCell i cell))) f (same i l))))
 
   account_there : has_accounts (Summary kind which) ≡ true → (a : ℕ) → a < 32 → account_at infos a ≡ option_map (account_info_of c a) (entry_at c.places.accounts a)
   account_there = account_is back places seen versions flags scope kind which found is c told
-
-and_false : (b : Bool) → (b && false) ≡ false
-and_false true = refl
-and_false false = refl
 
 -- a place alone: it stands, and no other has its number
 only_here : (key i : ℕ) (w : Bool) → (i ≡ key → ⊥) → (w && (i == key)) ≡ false
@@ -146,9 +141,9 @@ module _ (back : AreBack) (places : ArePlaces) (seen : ℕ → Seen) (versions f
       same t y f true true p q = p ∙ sym q
       same t y f false false p q = p ∙ sym q
       same t y f true false p q =
-          let w : x ≡ y = some_is x y (sym e ∙ (ap (entry_at c.places.threads) (sym (eq_of t place p)) ∙ f)) in
+          let w : x ≡ y = some_is x y (sym e ∙ (ap (entry_at c.places.threads) (sym (eqb-true t place p)) ∙ f)) in
           absurd (let z : true ≡ false = sym (eq-eqb y.number x.number (ap (λ (k : Connection). k.number) (sym w))) ∙ q in cc)
-      same t y f false true p q = absurd (let z : true ≡ false = sym (eq-eqb t place (alone t place y x f e (eq_of y.number x.number q))) ∙ p in cc)
+      same t y f false true p q = absurd (let z : true ≡ false = sym (eq-eqb t place (alone t place y x f e (eqb-true y.number x.number q))) ∙ p in cc)
 
   by_account : (is : IsShown seen versions flags scope (Summary kind ByAccount) found) (is_cell : has_cell scope (Summary kind ByAccount) cell ≡ true) (place : ℕ) → place < 32 → (e : Account) → entry_at c.places.accounts place ≡ Some e
       → key_rows places seen versions flags scope kind ByAccount found is cell low is_cell place ≡ shown_cell (KeyAccount e.user_name e.host_name) (rows_at cell) c.places
@@ -219,7 +214,7 @@ module _ (back : AreBack) (places : ArePlaces) (seen : ℕ → Seen) (versions f
       (accounts_listed back places seen versions flags scope kind Global found is c told well cell low is_cell 0 (λ (e : Account). true) refl (λ a b e f. refl))
       (picked_nothing (wanted_user places seen versions flags scope kind Global found is cell low is_cell 0) (rows_at cell).user 0 32 (λ i l. refl))
       (picked_listed (λ (n : ℕ). true) (wanted_host places seen versions flags scope kind Global found is cell low is_cell 0) (rows_at cell).host 0 32 c.places.hosts well.hosts_few
-      (λ i l. ap (wanted_host places seen versions flags scope kind Global found is cell low is_cell 0) (zero_add i)
+      (λ i l. ap (wanted_host places seen versions flags scope kind Global found is cell low is_cell 0) (zero_plus i)
       ∙ (ap (λ b. b && true) (host_stands back places seen versions flags scope kind Global found is c told refl i l) ∙ stands_and (entry_at c.places.hosts i) true (λ n. true) (λ n e. refl)))) refl
 
   some_none : {X : Type 0} (x : X) → ◌≡◌ {A = Option X} None (Some x) → ⊥

@@ -1,12 +1,13 @@
 -- A place past the summaries shows a version just where it is the last of its row, and no release stands at it.
 use Rattle.std.proofs.Common.{◌≡◌, refl, ℕ, ◌≤◌, ◌<◌, ◌==◌, Bool, true, false, cond, List, Some, None, sym, ap, subst, ◌∙◌, inl, inr, arith}
 use Rattle.std.specs.Prelude.{◌⊎◌}
+use Rattle.pfs_lemmas.proofs.Options.{some_same}
 use Rattle.pfs_model.specs.Chains.{Each, change_at, each_of, is_free_after, is_that, opens_free, release_of, times}
 use Rattle.pfs_model.specs.Places.{Placed}
 use Rattle.pfs_model.specs.Rings.{is_kept, shown_at}
 use Rattle.pfs_model.specs.declared.changes.Change.{Change}
 use Rattle.pfs_tagged.proofs.Indexing.{which}
-use Rattle.pfs_counted.proofs.Histories.{is_zero, last_version, none_above, not_free, not_freed, some_same, zero_is}
+use Rattle.pfs_counted.proofs.Histories.{is_zero, last_version, none_above, not_free, not_freed, zero_is}
 use Rattle.pfs_counted.proofs.HistoryRuns.{opening_free}
 
 -- the row's last version, not released

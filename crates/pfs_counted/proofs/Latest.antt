@@ -2,6 +2,7 @@
 use Rattle.std.proofs.Common.{◌≡◌, refl, ℕ, ◌+◌, ◌<◌, ◌≤◌, ◌==◌, ◌&&◌, nat_lt, nat_le, Bool, true, false, cond, List, [], ◌∷◌, ◌++◌, Option, Some, None, sym, ap, subst, ◌∙◌, inl, inr, arith}
 use Rattle.std.specs.Prelude.{◌⊎◌}
 use Rattle.std.proofs.lemmas.Bool.{eqb-true, leb-true, ltb-true}
+use Rattle.pfs_lemmas.proofs.Numbers.{eq_self}
 use Rattle.pfs_event.specs.declared.entry.Entry.{Entry}
 use Rattle.pfs_event.specs.declared.entry.Entry.TheVariants as says
 use Rattle.pfs_model.specs.Actions.{IsAmong}
@@ -49,9 +50,6 @@ puts_changes slot kind session (p ∷ ps) x m = on (p.session == session) m (put
     split : IsAmong x (history_put slot kind p.context.slot p.entry) ⊎ IsAmong x (history_puts slot kind (by_session session ps)) → IsAmong x (row_change p.entry ++ each_of row_change ps)
     split (inl a) = among_front x (row_change p.entry) (each_of row_change ps) (put_change slot kind p.context.slot p.entry x a)
     split (inr b) = among_back x (row_change p.entry) (each_of row_change ps) (go b)
-
-eq_self : (n : ℕ) → (n == n) ≡ true
-eq_self n = grind arith
 
 -- one of a list is there once at least, and what is there is one of the list
 pub among_times : (row version : ℕ) (xs : List Change) → IsAmong (change_at row version) xs → 1 ≤ times (is_that (change_at row version)) xs

@@ -1,6 +1,7 @@
 -- An end of an event stands in a line that ends events, and what is settled in another.
 use Rattle.std.proofs.Common.{◌≡◌, refl, ℕ, Bool, true, false, ◌&&◌, not, List, [], ◌∷◌, ◌++◌, map, sym, subst, ◌∙◌, Option, append_assoc}
 use Rattle.std.specs.Prelude.{Ok, Err, if◌then◌else◌}
+use Rattle.std.proofs.lemmas.Bool.{and_parts}
 use Rattle.pfs_event.specs.Verdicts.{is_let_through}
 use Rattle.pfs_event.specs.declared.entry.Entry.{Entry}
 use Rattle.pfs_event.specs.declared.entry.Entry.TheVariants as says
@@ -24,7 +25,6 @@ use Rattle.pfs_model.specs.declared.shapes.Item.{Item}
 use Rattle.pfs_model.specs.declared.shapes.Often.{Often}
 use Rattle.pfs_model.specs.declared.shapes.Often.TheVariants.{One, Maybe, Many}
 use Rattle.pfs_runs.specs.Finals.{ends_events}
-use Rattle.pfs_tagged.proofs.Sifting.{both_of}
 
 -- an entry that may stand in a line which ends events or not
 abbrev pub IsOfLine : Bool → Entry → Type 0
@@ -68,7 +68,7 @@ many_line ends ask (e ∷ es) a p = at (fits ask e) refl p (many_line ends ask e
 cut_line : (ends : Bool) (items : List Item) (part : List Entry) → all_line ends items ≡ true → cut items part ≡ Ok [] → Each (IsOfLine ends) part
 unfolding cut
 cut_line ends [] part h s = let none : part ≡ [] = cc in subst (Each (IsOfLine ends)) (sym none) tt
-cut_line ends (item ∷ items) part h s = by item.often part (both_of _ _ h).0 (both_of _ _ h).1 s (cut_line ends items) where
+cut_line ends (item ∷ items) part h s = by item.often part (and_parts _ _ h).0 (and_parts _ _ h).1 s (cut_line ends items) where
   Go : Type 0
   Go = (part : List Entry) → all_line ends items ≡ true → cut items part ≡ Ok [] → Each (IsOfLine ends) part
 
@@ -89,7 +89,7 @@ cut_line ends (item ∷ items) part h s = by item.often part (both_of _ _ h).0 (
 
 line_join : (ends : Bool) (xs ys : List Item) → all_line ends xs ≡ true → all_line ends ys ≡ true → all_line ends (xs ++ ys) ≡ true
 line_join ends [] ys c d = d
-line_join ends (x ∷ xs) ys c d = two (asks_line ends x.ask) (all_line ends (xs ++ ys)) (both_of _ _ c).0 (line_join ends xs ys (both_of _ _ c).1 d) where
+line_join ends (x ∷ xs) ys c d = two (asks_line ends x.ask) (all_line ends (xs ++ ys)) (and_parts _ _ c).0 (line_join ends xs ys (and_parts _ _ c).1 d) where
   two : (a b : Bool) → a ≡ true → b ≡ true → a && b ≡ true
   two true b p q = q
   two false b p q = absurd (cc)

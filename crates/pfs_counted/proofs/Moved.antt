@@ -2,6 +2,7 @@
 -- digests.
 use Rattle.std.proofs.Common.{ℕ, ◌≡◌, ◌-◌, ◌<◌, Bool, true, false, cond, List, [], ◌∷◌, ◌++◌, take, Option, Some, None, sym, subst, arith}
 use Rattle.std.specs.Prelude.{IfSome}
+use Rattle.pfs_model.proofs.EachLists.{each_join}
 use Rattle.pfs_admin.proofs.Celling.{kinds_fit}
 use Rattle.pfs_admin.specs.Asks.{quit_work, up_of}
 use Rattle.pfs_admin.specs.Fold.{state_of}
@@ -85,10 +86,6 @@ abbrev pub IsSunk : Did → Type 0
 IsSunk (Took row) = row < 8450
 IsSunk (Gave row from) = row < 8450
 IsSunk _ = Unit {0}
-
-each_join : {A : Type 0} (P : A → Type 0) (xs ys : List A) → Each P xs → Each P ys → Each P (xs ++ ys)
-each_join P [] ys a b = b
-each_join P (x ∷ xs) ys a b = (a.0, each_join P xs ys a.1 b)
 
 given_sunk : (from : ℕ) (to : List ℕ) → AreBelow to → Each IsSunk (given_to from to)
 given_sunk from [] h = tt

@@ -1,5 +1,6 @@
 -- Merging events by their numbers is merging the events.
 use Rattle.std.proofs.Common.{◌≡◌, refl, ℕ, ◌+◌, ◌≤◌, ◌==◌, ◌&&◌, inl, inr, Bool, true, false, cond, List, [], ◌∷◌, map, filter, fold, Some, sym, ap, ◌∙◌, arith}
+use Rattle.pfs_lemmas.proofs.Numbers.{eq_self}
 use Rattle.pfs_conservation.specs.Chains.{Sums, with_event}
 use Rattle.pfs_model.specs.Actions.{IsAmong}
 use Rattle.pfs_model.specs.Chains.{Each, times}
@@ -9,18 +10,15 @@ use Rattle.pfs_tagged.specs.Ends.{Ended, number_of, of_number}
 use Rattle.pfs_tagged.proofs.Indexing.{is_number, times_ended}
 use Rattle.pfs_tagged.proofs.Sifting.{bit_yes}
 
-self : (n : ℕ) → (n == n) ≡ true
-self n = grind arith
-
 among_times : (one : Ended) (xs : List Ended) → IsAmong one xs → 1 ≤ times_ended (number_of one) xs
 among_times one [] m = absurd m
-among_times one (x ∷ xs) (inl e) = omega (arith, bit_yes (number_of x == number_of one) (ap (λ (y : Ended). number_of y == number_of one) e ∙ self (number_of one)))
+among_times one (x ∷ xs) (inl e) = omega (arith, bit_yes (number_of x == number_of one) (ap (λ (y : Ended). number_of y == number_of one) e ∙ eq_self (number_of one)))
 among_times one (x ∷ xs) (inr m) = let l : 1 ≤ times_ended (number_of one) xs = among_times one xs m in omega (arith, l)
 
 -- an event whose number ends once is the one of its number
 pub found_self : (one : Ended) (xs : List Ended) → IsAmong one xs → times_ended (number_of one) xs ≤ 1 → of_number (number_of one) xs ≡ Some one
 found_self one [] m few = absurd m
-found_self one (x ∷ xs) (inl e) few = rw (ap (λ (y : Ended). number_of y == number_of one) e ∙ self (number_of one)) (ap (λ (y : Ended). Some y) e)
+found_self one (x ∷ xs) (inl e) few = rw (ap (λ (y : Ended). number_of y == number_of one) e ∙ eq_self (number_of one)) (ap (λ (y : Ended). Some y) e)
 found_self one (x ∷ xs) (inr m) few = at (number_of x == number_of one) refl few (found_self one xs m) where
   at : (b : Bool) → (number_of x == number_of one) ≡ b → cond {A = ℕ} b 1 0 + times_ended (number_of one) xs ≤ 1 → (times_ended (number_of one) xs ≤ 1 → of_number (number_of one) xs ≡ Some one) → cond b (Some x) (of_number (number_of one) xs) ≡ Some one
   at true q few go = absurd (let l : 1 ≤ times_ended (number_of one) xs = among_times one xs m in omega (arith, l, few))

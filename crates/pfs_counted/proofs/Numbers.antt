@@ -1,6 +1,7 @@
 -- The numbers of rows are those of the events that count there.
 use Rattle.std.proofs.Common.{◌≡◌, refl, ℕ, ◌+◌, ◌%◌, ◌^◌, ◌<◌, ◌≤◌, ◌==◌, ◌&&◌, Bool, true, false, cond, List, [], ◌∷◌, ◌++◌, length, map, filter, sym, ap, ◌∙◌, arith}
 use Rattle.std.specs.Prelude.{◌↔◌}
+use Rattle.std.proofs.lemmas.Bool.{and_parts, eqb-true}
 use Rattle.pfs_classes.specs.Registry.{class_at}
 use Rattle.pfs_conservation.specs.Tables.{Key}
 use Rattle.pfs_event.specs.Verdicts.{is_let_through}
@@ -11,7 +12,6 @@ use Rattle.pfs_rows.specs.declared.table.TableKind.{TableKind}
 use Rattle.pfs_rows.specs.declared.table.TableKind.TheVariants.{Waits, Stages, Statements, Transactions}
 use Rattle.pfs_stat.specs.Stat.{zero_of}
 use Rattle.pfs_summaries.specs.RowValues.{count_of}
-use Rattle.pfs_tagged.proofs.Sifting.{eq_of, both_of}
 use Rattle.pfs_tagged.specs.Board.{cells_of}
 use Rattle.pfs_tagged.specs.Ends.{Ended, number_of, all_ended, counts_in}
 use Rattle.pfs_tagged.specs.Premises.{AreInRange}
@@ -54,12 +54,12 @@ module _ (run : Run) (phase : ℕ) (kind : TableKind) (key : Key) (range : AreIn
   -- an event that counts in a cell of the kind is one of the kind's
   of_kind : (cell : ℕ) → cells_of run.setting kind cell ≡ true → (one : Ended) → counts_at (past_to run phase) kind key cell one ≡ true → counts_in (cells_of run.setting kind) one ≡ true
   of_kind cell is one h =
-      let a : (is_let_through one.event.verdict ≡ true) × (((one.event.subject.cell == cell) && (leads_to (past_to run phase).names key one && stays_in (past_to run phase) kind key one)) ≡ true) = both_of _ _ h in
-      let b : ((one.event.subject.cell == cell) ≡ true) × ((leads_to (past_to run phase).names key one && stays_in (past_to run phase) kind key one) ≡ true) = both_of _ _ a.1 in
-      ap (λ x. x && cells_of run.setting kind one.event.subject.cell) a.0 ∙ (ap (cells_of run.setting kind) (eq_of one.event.subject.cell cell b.0) ∙ is)
+      let a : (is_let_through one.event.verdict ≡ true) × (((one.event.subject.cell == cell) && (leads_to (past_to run phase).names key one && stays_in (past_to run phase) kind key one)) ≡ true) = and_parts _ _ h in
+      let b : ((one.event.subject.cell == cell) ≡ true) × ((leads_to (past_to run phase).names key one && stays_in (past_to run phase) kind key one) ≡ true) = and_parts _ _ a.1 in
+      ap (λ x. x && cells_of run.setting kind one.event.subject.cell) a.0 ∙ (ap (cells_of run.setting kind) (eqb-true one.event.subject.cell cell b.0) ∙ is)
 
   cell_is : (cell : ℕ) (one : Ended) → counts_at (past_to run phase) kind key cell one ≡ true → one.event.subject.cell ≡ cell
-  cell_is cell one h = eq_of one.event.subject.cell cell (both_of _ _ (both_of (is_let_through one.event.verdict) _ h).1).0
+  cell_is cell one h = eqb-true one.event.subject.cell cell (and_parts _ _ (and_parts (is_let_through one.event.verdict) _ h).1).0
 
   few_events : (cell : ℕ) → cells_of run.setting kind cell ≡ true → length (events cell) < 2 ^ 64
   few_events cell is =

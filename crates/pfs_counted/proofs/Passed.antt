@@ -1,11 +1,11 @@
 -- Which rows of cells are passed over in the order of their numbers, and what is merged of them.
 use Rattle.std.proofs.Common.{◌≡◌, ℕ, zero, suc, ◌+◌, ◌*◌, ◌<◌, ◌≤◌, ◌==◌, Bool, true, false, cond, List, [], ◌∷◌, ◌++◌, length, map, Option, Some, None, refl, sym, ap, ◌∙◌, arith}
 use Rattle.std.specs.List.{filter_map}
+use Rattle.std.proofs.lemmas.Bool.{eqb-true}
 use Rattle.pfs_conservation.specs.Folds.{entry_at}
 use Rattle.pfs_conservation.specs.Tables.{passes, listed_from}
 use Rattle.pfs_readsets.specs.ReadSets.{passing}
 use Rattle.pfs_readsets.proofs.Passing.{passing_none, passing_no, passing_yes, passing_split}
-use Rattle.pfs_tagged.proofs.Sifting.{eq_of}
 
 -- none of the numbers passes
 pub passing_nothing : (test : ℕ → Bool) (from count : ℕ) → ((i : ℕ) → i < count → test (from + i) ≡ false) → passing test from count ≡ []
@@ -108,7 +108,7 @@ picked_only wanted row at place (suc more) low high is others =
 
       on : (b : Bool) → (place == at) ≡ b → (place < at → picked wanted row (suc place) more ≡ row at ∷ []) → picked wanted row place (suc more) ≡ row at ∷ []
       on true e back =
-          let same : place ≡ at = eq_of place at e in
+          let same : place ≡ at = eqb-true place at e in
           ap (λ b. cond b (row place ∷ []) [] ++ picked wanted row (suc place) more) (ap wanted same ∙ is)
           ∙ (ap (λ (l : List ℕ). row place ∷ l) (picked_nothing wanted row (suc place) more (λ i l. others (suc place + i) (λ q. absurd (omega (arith, q, same))))) ∙ ap (λ p. row p ∷ []) same)
       on false e back =

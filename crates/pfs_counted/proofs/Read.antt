@@ -5,6 +5,8 @@ use Rattle.std.specs.List.{filter_map, list_any}
 use Rattle.std.proofs.lemmas.List.{reverse-append, map-append}
 use Rattle.std.proofs.lemmas.List.Elements.{All-nil, All-cons, All-head, All-tail, filter_map-append}
 use Rattle.std.proofs.lemmas.List.Folds.{list_any-append}
+use Rattle.std.proofs.lemmas.Bool.{eqb-true}
+use Rattle.pfs_lemmas.proofs.Bools.{or_false}
 use Rattle.pfs_readsets.specs.Places.{Scope}
 use Rattle.pfs_readsets.specs.ReadSets.{IsReadSet, target_of, found_whole, shows_whole, is_whole, passing, row_test, word_test}
 use Rattle.pfs_readsets.specs.declared.target.Target.{Target}
@@ -15,7 +17,6 @@ use Rattle.pfs_rows.specs.declared.table.Reading.TheVariants as readings
 use Rattle.pfs_rows.specs.declared.table.Seen.{Seen}
 use Rattle.pfs_rows.specs.declared.table.Table.{Table}
 use Rattle.pfs_summaries.specs.Contents.{whole_of, is_reading_of, content_in, content_at}
-use Rattle.pfs_tagged.proofs.Sifting.{eq_of}
 
 -- ---- the last reading of a row
 
@@ -83,10 +84,6 @@ last_content : (row : ℕ) (content : Option (List ℕ)) (rs : List Reading) (b 
 last_content row content rs true last h = let s : (r : Reading) × (find (is_reading_of row) (reverse rs) ≡ Some r) × (content_in r ≡ content) = last.some h in ap (option_and_then content_in) s.1 ∙ s.2
 last_content row content rs false last h = ap (option_and_then content_in) (last.none h)
 
-or_off : (b : Bool) → (b || false) ≡ b
-or_off true = refl
-or_off false = refl
-
 -- ---- a table that was read
 
 -- what is read of a row and a word
@@ -148,7 +145,7 @@ module _ (seen : ℕ → Seen) (versions flags : ℕ → ℕ) (scope : Scope) (t
         at : (b : Bool) → (from == row) ≡ b → (from < row → list_any q rest ≡ (test row && p row)) → (row ≤ from → list_any q rest ≡ false) → list_any q (map show (map targets.Row (passing test from (suc count)))) ≡ (test row && p row)
         at true e later none = on (test from) refl where
           same : from ≡ row
-          same = eq_of from row e
+          same = eqb-true from row e
 
           on : (b : Bool) → test from ≡ b → list_any q (map show (map targets.Row (passing test from (suc count)))) ≡ (test row && p row)
           on false t =
@@ -157,7 +154,7 @@ module _ (seen : ℕ → Seen) (versions flags : ℕ → ℕ) (scope : Scope) (t
           on true t =
               ap (λ l. list_any q (map show (map targets.Row l))) (passing_yes test from count t)
               ∙ (ap (λ z. q (show (targets.Row from)) || z) (none (omega (arith, same)))
-              ∙ (or_off (q (show (targets.Row from)))
+              ∙ (or_false (q (show (targets.Row from)))
               ∙ (is_q from ∙ (ap (λ z. z && p from) e ∙ (ap p same ∙ sym (ap (λ z. z && p row) (ap test (sym same) ∙ t)))))))
         at false e later none = on (test from) refl where
           on : (b : Bool) → test from ≡ b → list_any q (map show (map targets.Row (passing test from (suc count)))) ≡ (test row && p row)
@@ -176,7 +173,7 @@ module _ (seen : ℕ → Seen) (versions flags : ℕ → ℕ) (scope : Scope) (t
       ap (list_any q) readings_are
       ∙ (list_any-append q (map show (map targets.Row (passing test 0 14242))) (map show (map targets.Word words))
       ∙ (ap (λ z. list_any q (map show (map targets.Row (passing test 0 14242))) || z) (no_words q none words)
-      ∙ (or_off (list_any q (map show (map targets.Row (passing test 0 14242)))) ∙ any_here p row 0 14242 q is_q (omega arith) low)))
+      ∙ (or_false (list_any q (map show (map targets.Row (passing test 0 14242)))) ∙ any_here p row 0 14242 q is_q (omega arith) low)))
 
   -- a row was found whole where it is read and stands
   pub whole_at : (row : ℕ) → row < 14242 → is_whole found row ≡ (test row && found_whole (seen row))
@@ -192,7 +189,7 @@ module _ (seen : ℕ → Seen) (versions flags : ℕ → ℕ) (scope : Scope) (t
         and_true false = refl
 
         one : (target : Target) → is_reading_of row (show target) ≡ true → content_in (show target) ≡ whole_of (seen row)
-        one (targets.Row other) h = ap (λ r. whole_of (seen r)) (eq_of other row h)
+        one (targets.Row other) h = ap (λ r. whole_of (seen r)) (eqb-true other row h)
         one (targets.Word word) h = absurd (cc)
 
         each : (rs : List Reading) → All (λ r. r ≡ show (target_of r)) rs → All (λ r. is_reading_of row r ≡ true → content_in r ≡ whole_of (seen row)) rs

@@ -1,6 +1,7 @@
 -- Puts that go round ten rows: the last ten of them are those that are the last at their rows.
 use Rattle.std.proofs.Common.{◌≡◌, refl, ℕ, suc, ◌+◌, ◌*◌, ◌-◌, ◌%◌, ◌<◌, ◌≤◌, ◌==◌, Bool, true, false, cond, nat_le, List, [], ◌∷◌, length, drop, Option, Some, None, sym, ap, subst, ◌∙◌, inl, inr, arith}
 use Rattle.std.proofs.lemmas.Bool.{eqb-true, leb-true, leb-false}
+use Rattle.pfs_lemmas.proofs.Options.{some_same}
 use Rattle.pfs_model.specs.Actions.{IsAmong}
 use Rattle.pfs_model.specs.Chains.{change_at}
 use Rattle.pfs_model.specs.declared.changes.Change.{Change}
@@ -22,12 +23,6 @@ GoRound base before (x ∷ xs) = (x.row ≡ base + before % 10) × GoRound base 
 -- the first row of a history
 abbrev pub first_row : ℕ → ℕ → ℕ
 first_row slot kind = 8450 + 56 * slot + 16 + 10 * kind
-
-some_same : (x y : ℕ) → Some x ≡ Some y → x ≡ y
-some_same x y e = ap or_zero e where
-  or_zero : Option ℕ → ℕ
-  or_zero None = 0
-  or_zero (Some n) = n
 
 or_last : (a : Option ℕ) (w : ℕ) (b : Option ℕ) → a ≡ Some w → or_else a b ≡ Some w
 or_last a w b e = ap (λ z. or_else z b) e

@@ -1,6 +1,7 @@
 -- An event's removal by its row's chain is the one by the printed additions and takes.
 use Rattle.std.proofs.Common.{◌≡◌, refl, ℕ, zero, suc, ◌+◌, ◌<◌, ◌≤◌, ◌==◌, ◌&&◌, ◌⊎◌, inl, inr, Bool, true, false, cond, nat_lt, List, [], ◌∷◌, ◌++◌, length, map, filter, count_by, Option, Some, None, sym, ap, subst, ◌∙◌, arith}
 use Rattle.std.proofs.lemmas.List.Sums.{sum_by-cons}
+use Rattle.std.proofs.lemmas.Bool.{and_parts, eqb-true}
 use Rattle.pfs_conservation.specs.Chains.{Change, Added, Taken, Given}
 use Rattle.pfs_conservation.specs.Lines.{Kind, Adds, Takes, Gives, Tagged, as_change, change_of, standing, changes_of, chain_from, chain_of, Stands, Within, times_in, times_added}
 use Rattle.pfs_conservation.specs.Lines.{IsAmong as IsChange}
@@ -15,7 +16,7 @@ use Rattle.pfs_model.specs.declared.lines.Opened.{Opened}
 use Rattle.pfs_tagged.specs.Ends.{event_number, Ended, number_of}
 use Rattle.pfs_tagged.specs.Tagged.{lines_at, all_lines, lines_on}
 use Rattle.pfs_tagged.proofs.Indexing.{number_is}
-use Rattle.pfs_tagged.proofs.Sifting.{eq_of, both_of, sifted, bit_yes, bit_no}
+use Rattle.pfs_tagged.proofs.Sifting.{sifted, bit_yes, bit_no}
 use Rattle.pfs_counted.specs.Counts.{own_row, removal_behind, removal_in}
 use Rattle.pfs_counted.proofs.Takings.{Takes as Takings, IsLeast, least, takes_stand, stands_takes, kept_on, stands_among, among_stands, one_stands, in_range, IsFirst, first_is, which}
 
@@ -42,7 +43,7 @@ adds_of n line es e = by line.kind e where
   by (Gives from) e = absurd (let k : ◌≡◌ {A = Change} (Given line.action from) (Added es) = e in cc)
 
 own_times : (n row : ℕ) (line : Tagged) (v : ℕ) (es : List ℕ) → ((line.row == row) && (line.version == v)) ≡ true → change_of line ≡ Added es → cond (line.row == row) (times_in n line.kind) 0 ≡ count_by (λ x. x == n) es
-own_times n row line v es q e = ap (λ b. cond b (times_in n line.kind) 0) (both_of (line.row == row) (line.version == v) q).0 ∙ adds_of n line es e
+own_times n row line v es q e = ap (λ b. cond b (times_in n line.kind) 0) (and_parts (line.row == row) (line.version == v) q).0 ∙ adds_of n line es e
 
 pub added_times : (n row v : ℕ) (es : List ℕ) (lines : List Tagged) → Stands lines row v (Added es) → 1 ≤ count_by (λ x. x == n) es → 1 ≤ times_added n lines row
 added_times n row v es [] s l = absurd s
@@ -52,7 +53,7 @@ added_times n row v es (line ∷ lines) (inr s) l = let k : 1 ≤ times_added n 
 -- an event that is added once is added at one version
 alone : (n row v w : ℕ) (es fs : List ℕ) (lines : List Tagged) → times_added n lines row ≤ 1 → Stands lines row v (Added es) → 1 ≤ count_by (λ x. x == n) es → Stands lines row w (Added fs) → 1 ≤ count_by (λ x. x == n) fs → v ≡ w
 alone n row v w es fs [] few s l t m = absurd s
-alone n row v w es fs (line ∷ lines) few (inl q) l (inl r) m = sym (eq_of line.version v (both_of (line.row == row) (line.version == v) q.0).1) ∙ eq_of line.version w (both_of (line.row == row) (line.version == w) r.0).1
+alone n row v w es fs (line ∷ lines) few (inl q) l (inl r) m = sym (eqb-true line.version v (and_parts (line.row == row) (line.version == v) q.0).1) ∙ eqb-true line.version w (and_parts (line.row == row) (line.version == w) r.0).1
 alone n row v w es fs (line ∷ lines) few (inl q) l (inr t) m =
     let k : cond (line.row == row) (times_in n line.kind) 0 ≡ count_by (λ x. x == n) es = own_times n row line v es q.0 q.1 in
     let j : 1 ≤ times_added n lines row = added_times n row w fs lines t m in
@@ -162,7 +163,7 @@ module _ (row session index : ℕ) where
       (b.0, omega (arith, l, count_cons (event_number session index) (event_number s e.index) (map (λ (e : Opened). event_number s e.index) events)))
   brought_back s c r v (e ∷ events) x (inl f) q =
       let p : ((r == row) && ((s == session) && (e.index == index))) ≡ true = ap is_own f ∙ q in
-      let b : ((r == row) ≡ true) × (((s == session) && (e.index == index)) ≡ true) = both_of (r == row) ((s == session) && (e.index == index)) p in
+      let b : ((r == row) ≡ true) × (((s == session) && (e.index == index)) ≡ true) = and_parts (r == row) ((s == session) && (e.index == index)) p in
       let n : (event_number s e.index == event_number session index) ≡ true = number_is s e.index session index ∙ b.1 in
       (and_self b.0 (ap (λ (y : Addition). y.version) f), omega (arith, bit_yes (event_number s e.index == event_number session index) n, count_cons (event_number session index) (event_number s e.index) (map (λ (e : Opened). event_number s e.index) events)))
     where
@@ -184,7 +185,7 @@ module _ (row session index : ℕ) where
 
     by : (e : Entry) → Stands (lines_at p e ++ all_lines ps) row v (Added es) → (Stands (all_lines ps) row v (Added es) → IsOwn (additions_of ps)) → IsOwn (additions_at p.session p.context e ++ additions_of ps)
     by (says.Add at w) (inl q) go =
-        here at w (eq_of at row (both_of (at == row) (w == v) q.0).0) (brought p.context at)
+        here at w (eqb-true at row (and_parts (at == row) (w == v) q.0).0) (brought p.context at)
         (brings p.session p.context w (brought p.context at) (subst (λ zs. 1 ≤ count_by (λ x. x == event_number session index) zs) (sym (unadd (map (λ (event : Opened). event_number p.session event.index) (brought p.context at)) es q.1)) l))
     by (says.Add at w) (inr k) go = later (says.Add at w) (go k)
     by (says.Take at w) (inl q) go = absurd (let k : ◌≡◌ {A = Change} (Taken p.context.action) (Added es) = q.1 in cc)
@@ -314,7 +315,7 @@ module _ (test : ℕ → Bool) (ps : List Placed) (row : ℕ) (passes : test row
     by : (x : Addition) → IsAmong x (additions_of ps) × (is_own row one.session one.event.index x ≡ true) → removal (number_of one) (chain_of (lines_on test (all_lines ps)) row) ≡ removal_of ps x
     by x m = with_events (stands_told row one.session one.event.index ps x m.0 m.1) where
       row_is : x.row ≡ row
-      row_is = eq_of x.row row (both_of (x.row == row) ((x.session == one.session) && (x.event.index == one.event.index)) m.1).0
+      row_is = eqb-true x.row row (and_parts (x.row == row) ((x.session == one.session) && (x.event.index == one.event.index)) m.1).0
 
       with_events : (es : List ℕ) × Stands (all_lines ps) row x.version (Added es) × (1 ≤ count_by (λ y. y == number_of one) es) → removal (number_of one) (chain_of (lines_on test (all_lines ps)) row) ≡ removal_of ps x
       with_events s = with_rest (rest x.version (changes_of (lines_on test (all_lines ps)) row) range.1) where
@@ -359,4 +360,4 @@ removal_stands ps one action e = cases (filter (is_own (own_row one) one.session
   cases (x ∷ xs) q e = by (first_passes (own_row one) one.session one.event.index (additions_of ps) x xs q) where
     by : IsAmong x (additions_of ps) × (is_own (own_row one) one.session one.event.index x ≡ true) → (version : ℕ) × Stands (all_lines ps) (own_row one) version (Taken action)
     by m = taken (own_row one) x.version (first_taking (own_row one) x.version (takings_of ps)) (least (own_row one) x.version (takings_of ps))
-        (ap (λ n. action_of (first_taking n x.version (takings_of ps))) (sym (eq_of x.row (own_row one) (both_of (x.row == own_row one) ((x.session == one.session) && (x.event.index == one.event.index)) m.1).0)) ∙ e)
+        (ap (λ n. action_of (first_taking n x.version (takings_of ps))) (sym (eqb-true x.row (own_row one) (and_parts (x.row == own_row one) ((x.session == one.session) && (x.event.index == one.event.index)) m.1).0)) ∙ e)

@@ -1,7 +1,8 @@
 -- A session's puts at a place rise, since each line of a session names versions above those that it has seen.
 use Rattle.std.proofs.Common.{◌≡◌, refl, ℕ, ◌<◌, ◌≤◌, ◌==◌, ◌&&◌, Bool, true, false, cond, List, [], ◌∷◌, ◌++◌, max, Option, Some, None, sym, ap, subst, ◌∙◌, inl, inr, arith}
 use Rattle.std.specs.Prelude.{◌⊎◌}
-use Rattle.std.proofs.lemmas.Bool.{eqb-true}
+use Rattle.std.proofs.lemmas.Bool.{eqb-true, eq-eqb}
+use Rattle.pfs_lemmas.proofs.Options.{some_same}
 use Rattle.pfs_event.specs.declared.entry.Entry.{Entry}
 use Rattle.pfs_event.specs.declared.entry.Entry.TheVariants as says
 use Rattle.pfs_model.specs.Actions.{IsAmong}
@@ -18,12 +19,6 @@ abbrev pub DoRise : List Change → Type 0
 DoRise [] = Unit {0}
 DoRise (x ∷ xs) = IsBelow x xs × DoRise xs
 
-some_same : (m n : ℕ) → Some m ≡ Some n → m ≡ n
-some_same m n q = ap or_zero q where
-  or_zero : Option ℕ → ℕ
-  or_zero None = 0
-  or_zero (Some n) = n
-
 -- what the last version of a row is, by what stands behind the first change
 late_is : (row : ℕ) (x : Change) (xs : List Change) (k v : ℕ) → last_at row xs ≡ Some k → last_at row (x ∷ xs) ≡ Some v → k ≡ v
 late_is row x xs k v q e = some_same k v (sym (ap (λ o. or_else o (cond (x.row == row) (Some x.version) None)) q) ∙ e)
@@ -34,16 +29,13 @@ first_is row x xs v q z e = some_same x.version v (sym (ap (λ t. cond t (Some x
 none_is : (row : ℕ) (x : Change) (xs : List Change) (v : ℕ) → last_at row xs ≡ None → (x.row == row) ≡ false → last_at row (x ∷ xs) ≡ Some v → ⊥
 none_is row x xs v q z e = absurd (let f : None ≡ Some v = sym (ap (λ t. cond t (Some x.version) None) z) ∙ (sym (ap (λ o. or_else o (cond (x.row == row) (Some x.version) None)) q) ∙ e) in cc)
 
-same_is : (a b : ℕ) → a ≡ b → (a == b) ≡ true
-same_is a b q = grind (arith, q)
-
 -- a row that has a change has a last one
 pub has_last : (row w : ℕ) (ys : List Change) → IsAmong (change_at row w) ys → (k : ℕ) × (last_at row ys ≡ Some k)
 has_last row w [] b = absurd b
 has_last row w (y ∷ ys) b = there (last_at row ys) refl b (has_last row w ys) where
   there : (o : Option ℕ) → last_at row ys ≡ o → IsAmong (change_at row w) (y ∷ ys) → (IsAmong (change_at row w) ys → (k : ℕ) × (last_at row ys ≡ Some k)) → (k : ℕ) × (last_at row (y ∷ ys) ≡ Some k)
   there (Some k) p m go = (k, ap (λ o. or_else o (cond (y.row == row) (Some y.version) None)) p)
-  there None p (inl i) go = (y.version, ap (λ o. or_else o (cond (y.row == row) (Some y.version) None)) p ∙ ap (λ t. cond t (Some y.version) None) (same_is y.row row (ap (λ (c : Change). c.row) i)))
+  there None p (inl i) go = (y.version, ap (λ o. or_else o (cond (y.row == row) (Some y.version) None)) p ∙ ap (λ t. cond t (Some y.version) None) (eq-eqb y.row row (ap (λ (c : Change). c.row) i)))
   there None p (inr n) go = absurd (let s : (k : ℕ) × (last_at row ys ≡ Some k) = go n in let f : None ≡ Some s.0 = sym p ∙ s.1 in cc)
 
 above_last : (row : ℕ) (x : Change) (ys : List Change) → IsBelow x ys → x.row ≡ row → (k : ℕ) → last_at row ys ≡ Some k → x.version ≤ k

@@ -1,7 +1,7 @@
 -- A session's puts of a kind go round the ten places of its thread's history, since each end is brought to the next one.
 use Rattle.std.proofs.Common.{◌≡◌, refl, ℕ, suc, ◌+◌, ◌*◌, ◌%◌, ◌<◌, ◌≤◌, ◌==◌, ◌&&◌, Bool, true, false, cond, nat_le, nat_lt, List, [], ◌∷◌, ◌++◌, length, Option, Some, None, sym, ap, subst, ◌∙◌, inl, inr, arith}
 use Rattle.std.specs.Prelude.{◌⊎◌}
-use Rattle.std.proofs.lemmas.Bool.{eqb-true, leb-true, ltb-true}
+use Rattle.std.proofs.lemmas.Bool.{eqb-true, leb-true, ltb-true, and_parts}
 use Rattle.pfs_event.specs.Verdicts.{is_let_through}
 use Rattle.pfs_event.specs.declared.entry.Entry.{Entry}
 use Rattle.pfs_event.specs.declared.entry.Entry.TheVariants as says
@@ -34,15 +34,10 @@ abbrev pub AreFollowing : Option ℕ → List Placed → Type 0
 AreFollowing before [] = Unit {0}
 AreFollowing before (p ∷ ps) = (is_ring p.entry ≡ true → before ≡ Some p.session) × AreFollowing (behind_event before p) ps
 
-both_of : (a b : Bool) → (a && b) ≡ true → (a ≡ true) × (b ≡ true)
-both_of true true q = (refl, refl)
-both_of true false q = absurd (cc)
-both_of false b q = absurd (cc)
-
 -- the histories of two kinds have no row in common
 own_kind : (slot kind other n : ℕ) → is_history_row slot kind (history_row slot other n) ≡ true → other ≡ kind
 own_kind slot kind other n q =
-    let b : (nat_le (8450 + 56 * slot + 16 + 10 * kind) (history_row slot other n) ≡ true) × (nat_lt (history_row slot other n) (8450 + 56 * slot + 26 + 10 * kind) ≡ true) = both_of (nat_le (8450 + 56 * slot + 16 + 10 * kind) (history_row slot other n)) (nat_lt (history_row slot other n) (8450 + 56 * slot + 26 + 10 * kind)) q in
+    let b : (nat_le (8450 + 56 * slot + 16 + 10 * kind) (history_row slot other n) ≡ true) × (nat_lt (history_row slot other n) (8450 + 56 * slot + 26 + 10 * kind) ≡ true) = and_parts (nat_le (8450 + 56 * slot + 16 + 10 * kind) (history_row slot other n)) (nat_lt (history_row slot other n) (8450 + 56 * slot + 26 + 10 * kind)) q in
     let l : 8450 + 56 * slot + 16 + 10 * kind ≤ history_row slot other n = leb-true (8450 + 56 * slot + 16 + 10 * kind) (history_row slot other n) b.0 in
     let h : history_row slot other n < 8450 + 56 * slot + 26 + 10 * kind = ltb-true (history_row slot other n) (8450 + 56 * slot + 26 + 10 * kind) b.1 in
     omega (arith, l, h)

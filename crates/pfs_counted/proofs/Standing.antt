@@ -5,6 +5,8 @@ use Rattle.std.specs.List.{list_any}
 use Rattle.std.specs.Option.{option_map}
 use Rattle.std.proofs.lemmas.List.Elements.{All-nil, All-cons, All-head, All-tail}
 use Rattle.std.proofs.lemmas.List.Folds.{list_any_none}
+use Rattle.std.proofs.lemmas.Bool.{eqb-true, lt-ltb}
+use Rattle.pfs_lemmas.proofs.Bools.{and_first, and_second}
 use Rattle.pfs_classes.specs.Registry.{text_of}
 use Rattle.pfs_classes.specs.declared.setting.Setting.{Setting}
 use Rattle.pfs_conservation.proofs.Connecting.{Sound, Stands, found_is}
@@ -43,7 +45,6 @@ use Rattle.pfs_counted.proofs.Listed.{ArePlaced}
 use Rattle.pfs_counted.proofs.Read.{IsShown, shows}
 use Rattle.pfs_counted.proofs.Tallies.{tally_is}
 use Rattle.pfs_counted.proofs.Told.{AreBack, ArePlaces, AreTold, thread_is, account_is, user_is, host_is}
-use Rattle.pfs_tagged.proofs.Sifting.{eq_of}
 
 -- the names of all that stands are among so many
 pub record AreNamed (count : ℕ) (s : State) : Type 0 where
@@ -64,17 +65,6 @@ pub record AreSettled (setting : Setting) (IsKey : Key → Type 0) (c : Containe
   pub users : (user : ℕ) → IsKey (KeyUser user)
   pub hosts : (host : ℕ) → IsKey (KeyHost host)
   pub all : IsKey KeyAll
-
-lt_true : (a b : ℕ) → a < b → nat_lt a b ≡ true
-lt_true a b h = grind (arith, h)
-
-and_left : (a b : Bool) → (a && b) ≡ true → a ≡ true
-and_left true b h = refl
-and_left false b h = h
-
-and_right : (a b : Bool) → (a && b) ≡ true → b ≡ true
-and_right true b h = h
-and_right false b h = absurd (cc)
 
 if_one : (head : Head) (a : Bool) → a ≡ true → (if a then Some head else None) ≡ Some head
 if_one head true p = refl
@@ -237,7 +227,7 @@ module _ (back : AreBack) (places : ArePlaces) (seen : ℕ → Seen) (versions f
         subst (HasHead ByAccount place) e (
           record { thread_id = 0; user = text_of setting.names x.user_name; host = text_of setting.names x.host_name; stands = not ((account_info_of c place x).current == 0) },
           ap (account_head setting.names) (account_is back places seen versions flags (scope_of setting) kind ByAccount found is c told refl place l ∙ ap (option_map (account_info_of c place)) q)
-              ∙ if_both (record { thread_id = 0; user = text_of setting.names x.user_name; host = text_of setting.names x.host_name; stands = not ((account_info_of c place x).current == 0) }) (nat_lt x.user_name (length setting.names)) (nat_lt x.host_name (length setting.names)) (lt_true x.user_name (length setting.names) (settled.named.account_users place x q)) (lt_true x.host_name (length setting.names) (settled.named.account_hosts place x q)),
+              ∙ if_both (record { thread_id = 0; user = text_of setting.names x.user_name; host = text_of setting.names x.host_name; stands = not ((account_info_of c place x).current == 0) }) (nat_lt x.user_name (length setting.names)) (nat_lt x.host_name (length setting.names)) (lt-ltb x.user_name (length setting.names) (settled.named.account_users place x q)) (lt-ltb x.host_name (length setting.names) (settled.named.account_hosts place x q)),
           refl,
         )
   heads ByUser is place l key h = at (entry_at c.places.users place) refl h where
@@ -248,7 +238,7 @@ module _ (back : AreBack) (places : ArePlaces) (seen : ℕ → Seen) (versions f
         subst (HasHead ByUser place) e (
           record { thread_id = 0; user = text_of setting.names x; host = []; stands = not ((user_info_of c place x).current == 0) },
           ap (user_head setting.names) (user_is back places seen versions flags (scope_of setting) kind ByUser found is c told refl place l ∙ ap (option_map (user_info_of c place)) q)
-              ∙ if_one (record { thread_id = 0; user = text_of setting.names x; host = []; stands = not ((user_info_of c place x).current == 0) }) (nat_lt x (length setting.names)) (lt_true x (length setting.names) (settled.named.users place x q)),
+              ∙ if_one (record { thread_id = 0; user = text_of setting.names x; host = []; stands = not ((user_info_of c place x).current == 0) }) (nat_lt x (length setting.names)) (lt-ltb x (length setting.names) (settled.named.users place x q)),
           refl,
         )
   heads ByHost is place l key h = at (entry_at c.places.hosts place) refl h where
@@ -259,7 +249,7 @@ module _ (back : AreBack) (places : ArePlaces) (seen : ℕ → Seen) (versions f
         subst (HasHead ByHost place) e (
           record { thread_id = 0; user = []; host = text_of setting.names x; stands = not ((host_info_of c place x).current == 0) },
           ap (host_head setting.names) (host_is back places seen versions flags (scope_of setting) kind ByHost found is c told refl place l ∙ ap (option_map (host_info_of c place)) q)
-              ∙ if_one (record { thread_id = 0; user = []; host = text_of setting.names x; stands = not ((host_info_of c place x).current == 0) }) (nat_lt x (length setting.names)) (lt_true x (length setting.names) (settled.named.hosts place x q)),
+              ∙ if_one (record { thread_id = 0; user = []; host = text_of setting.names x; stands = not ((host_info_of c place x).current == 0) }) (nat_lt x (length setting.names)) (lt-ltb x (length setting.names) (settled.named.hosts place x q)),
           refl,
         )
   heads Global is place l key h = let e : KeyAll ≡ key = cc in subst (HasHead Global place) e (record { thread_id = 0; user = []; host = []; stands = true }, refl, refl)
@@ -300,7 +290,7 @@ module _ (back : AreBack) (places : ArePlaces) (seen : ℕ → Seen) (versions f
         (λ cell. ap (λ (l : List ℕ). l ++ []) (listed_nothing (λ (x : Connection). x.number == session) (rows_at cell).thread 0 c.places.threads (nothing_found (λ (x : Connection). x.number == session) c.places.threads q))))
     at (Some f) q =
         let st : Stands (λ (x : Connection). x.number == session) c.places.threads f = found_is (λ (x : Connection). x.number == session) c.places.threads f q in
-        let n : f.entry.number ≡ session = eq_of f.entry.number session st.passes in
+        let n : f.entry.number ≡ session = eqb-true f.entry.number session st.passes in
         let p : slot ≡ f.place = settled.slots session slot f.place h.key (subst (λ k. IsKey (KeyThread k f.place)) n (settled.seated f.place f.entry st.stands)) in
         let b : f.place < length c.places.threads = entry_below c.places.threads f.place f.entry st.stands in
         (f.place, omega (arith, b, settled.well.threads_few), ap (option_map (λ (x : Connection). KeyThread x.number f.place)) st.stands ∙ (ap (λ k. Some (KeyThread k f.place)) n ∙ ap (λ k. Some (KeyThread session k)) (sym p)))
@@ -308,8 +298,8 @@ module _ (back : AreBack) (places : ArePlaces) (seen : ℕ → Seen) (versions f
     at : (o : Option (Found Account)) → found_where (is_account user host) c.places.accounts ≡ o → IsThere ByAccount (KeyAccount user host)
     at (Some f) q =
         let st : Stands (is_account user host) c.places.accounts f = found_is (is_account user host) c.places.accounts f q in
-        let n : f.entry.user_name ≡ user = eq_of f.entry.user_name user (and_left (f.entry.user_name == user) (f.entry.host_name == host) st.passes) in
-        let m : f.entry.host_name ≡ host = eq_of f.entry.host_name host (and_right (f.entry.user_name == user) (f.entry.host_name == host) st.passes) in
+        let n : f.entry.user_name ≡ user = eqb-true f.entry.user_name user (and_first (f.entry.user_name == user) (f.entry.host_name == host) st.passes) in
+        let m : f.entry.host_name ≡ host = eqb-true f.entry.host_name host (and_second (f.entry.user_name == user) (f.entry.host_name == host) st.passes) in
         let b : f.place < length c.places.accounts = entry_below c.places.accounts f.place f.entry st.stands in
         (f.place, omega (arith, b, settled.well.accounts_few), ap (option_map (λ (e : Account). KeyAccount e.user_name e.host_name)) st.stands ∙ (ap (λ k. Some (KeyAccount k f.entry.host_name)) n ∙ ap (λ k. Some (KeyAccount user k)) m))
     at None q = absurd (nothing_counted merged ByAccount (KeyAccount user host) id h (λ cell. two (listed_nothing (λ (x : Connection). is_some x.account && ((x.user_name == user) && (x.host_name == host))) (rows_at cell).thread 0 c.places.threads (λ t x e. thread x (settled.sound.lives t x e).account x.account refl)) (listed_nothing (is_account user host) (rows_at cell).account 0 c.places.accounts none))) where
@@ -327,7 +317,7 @@ module _ (back : AreBack) (places : ArePlaces) (seen : ℕ → Seen) (versions f
     at (Some f) q =
         let st : Stands (λ (n : ℕ). n == user) c.places.users f = found_is (λ (n : ℕ). n == user) c.places.users f q in
         let b : f.place < length c.places.users = entry_below c.places.users f.place f.entry st.stands in
-        (f.place, omega (arith, b, settled.well.users_few), ap (option_map KeyUser) st.stands ∙ ap (λ k. Some (KeyUser k)) (eq_of f.entry user st.passes))
+        (f.place, omega (arith, b, settled.well.users_few), ap (option_map KeyUser) st.stands ∙ ap (λ k. Some (KeyUser k)) (eqb-true f.entry user st.passes))
     at None q =
         absurd (nothing_counted merged ByUser (KeyUser user) id h (λ cell. three (listed_nothing (λ (x : Connection). is_some x.user && (x.user_name == user)) (rows_at cell).thread 0 c.places.threads (λ t x e. named x.user_name x.user (λ u w. (settled.sound.lives t x e).user u w) x.user refl))
         (listed_nothing (λ (x : Account). is_some x.user && (x.user_name == user)) (rows_at cell).account 0 c.places.accounts (λ a x e. named x.user_name x.user (λ u w. settled.sound.user a x u e w) x.user refl))
@@ -346,7 +336,7 @@ module _ (back : AreBack) (places : ArePlaces) (seen : ℕ → Seen) (versions f
     at (Some f) q =
         let st : Stands (λ (n : ℕ). n == host) c.places.hosts f = found_is (λ (n : ℕ). n == host) c.places.hosts f q in
         let b : f.place < length c.places.hosts = entry_below c.places.hosts f.place f.entry st.stands in
-        (f.place, omega (arith, b, settled.well.hosts_few), ap (option_map KeyHost) st.stands ∙ ap (λ k. Some (KeyHost k)) (eq_of f.entry host st.passes))
+        (f.place, omega (arith, b, settled.well.hosts_few), ap (option_map KeyHost) st.stands ∙ ap (λ k. Some (KeyHost k)) (eqb-true f.entry host st.passes))
     at None q =
         absurd (nothing_counted merged ByHost (KeyHost host) id h (λ cell. three (listed_nothing (λ (x : Connection). is_some x.host && (x.host_name == host)) (rows_at cell).thread 0 c.places.threads (λ t x e. named x.host_name x.host (λ u w. (settled.sound.lives t x e).host u w) x.host refl))
         (listed_nothing (λ (x : Account). is_some x.host && (x.host_name == host)) (rows_at cell).account 0 c.places.accounts (λ a x e. named x.host_name x.host (λ u w. settled.sound.host a x u e w) x.host refl))

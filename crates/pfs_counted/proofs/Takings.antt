@@ -1,5 +1,6 @@
 -- The first take above a version, as the printed takes and as a row's chain have it.
 use Rattle.std.proofs.Common.{◌≡◌, refl, ℕ, zero, suc, ◌+◌, ◌<◌, ◌≤◌, ◌==◌, ◌&&◌, ◌⊎◌, inl, inr, Bool, true, false, cond, nat_lt, List, [], ◌∷◌, ◌++◌, length, Option, Some, None, sym, ap, subst, ◌∙◌, arith}
+use Rattle.std.proofs.lemmas.Bool.{and_parts, eq-eqb, eqb-true, lt-ltb, ltb-false, ltb-true}
 use Rattle.pfs_conservation.specs.Chains.{Change, Added, Taken, Given}
 use Rattle.pfs_conservation.specs.Lines.{Tagged, change_of, is_at, standing, changes_of, chain_from, Stands, Within}
 use Rattle.pfs_conservation.specs.Lines.{IsAmong as IsChange}
@@ -9,7 +10,6 @@ use Rattle.pfs_event.specs.declared.entry.Entry.TheVariants as says
 use Rattle.pfs_model.specs.Places.{Placed}
 use Rattle.pfs_model.specs.Summaries.{Taking, taking_at, takings_of, lower_of, first_taking}
 use Rattle.pfs_tagged.specs.Tagged.{lines_at, all_lines, lines_on}
-use Rattle.pfs_tagged.proofs.Sifting.{eq_of, both_of}
 
 -- an action takes a row at a version
 abbrev pub Takes : ℕ → ℕ → ℕ → List Taking → Type 0
@@ -21,32 +21,20 @@ abbrev pub IsLeast : ℕ → ℕ → List Taking → Option Taking → Type 0
 IsLeast row version ts None = (w a : ℕ) → Takes row w a ts → version < w → ⊥
 IsLeast row version ts (Some t) = Takes row t.version t.action ts × (version < t.version) × ((w a : ℕ) → Takes row w a ts → version < w → t.version ≤ w)
 
-under : (a b : ℕ) → nat_lt a b ≡ true → a < b
-under a b q = grind arith
-
-over : (a b : ℕ) → nat_lt a b ≡ false → b ≤ a
-over a b q = grind arith
-
-eq_true : (a b : ℕ) → a ≡ b → (a == b) ≡ true
-eq_true a b e = grind (arith, e)
-
-lt_true : (a b : ℕ) → a < b → nat_lt a b ≡ true
-lt_true a b l = grind (arith, l)
-
 pub least : (row version : ℕ) (ts : List Taking) → IsLeast row version ts (first_taking row version ts)
 least row version [] = λ w a h l. h
 least row version (x ∷ ts) = at ((x.row == row) && nat_lt version x.version) refl (first_taking row version ts) (least row version ts) where
   not_here : (w a : ℕ) → ((x.row == row) && nat_lt version x.version) ≡ false → (x.row ≡ row) × (x.version ≡ w) × (x.action ≡ a) → version < w → ⊥
   not_here w a q h l =
-      let r : (x.row == row) ≡ true = eq_true x.row row h.0 in
-      let v : nat_lt version x.version ≡ true = lt_true version x.version (let e : x.version ≡ w = h.1 in omega (arith, e, l)) in
+      let r : (x.row == row) ≡ true = eq-eqb x.row row h.0 in
+      let v : nat_lt version x.version ≡ true = lt-ltb version x.version (let e : x.version ≡ w = h.1 in omega (arith, e, l)) in
       absurd (let z : true ≡ false = sym (ap (λ b. b && nat_lt version x.version) r ∙ v) ∙ q in cc)
 
   own : ((x.row == row) && nat_lt version x.version) ≡ true → Takes row x.version x.action (x ∷ ts)
-  own q = inl (eq_of x.row row (both_of (x.row == row) (nat_lt version x.version) q).0, refl, refl)
+  own q = inl (eqb-true x.row row (and_parts (x.row == row) (nat_lt version x.version) q).0, refl, refl)
 
   high : ((x.row == row) && nat_lt version x.version) ≡ true → version < x.version
-  high q = under version x.version (both_of (x.row == row) (nat_lt version x.version) q).1
+  high q = ltb-true version x.version (and_parts (x.row == row) (nat_lt version x.version) q).1
 
   alone : ((w a : ℕ) → Takes row w a ts → version < w → ⊥) → (w a : ℕ) → Takes row w a (x ∷ ts) → version < w → x.version ≤ w
   alone f w a (inl h) l = let e : x.version ≡ w = h.1 in omega (arith, e)
@@ -69,8 +57,8 @@ least row version (x ∷ ts) = at ((x.row == row) && nat_lt version x.version) r
   others t q f w a (inr k) l = f w a k l
 
   lower : (t : Taking) → ((x.row == row) && nat_lt version x.version) ≡ true → IsLeast row version ts (Some t) → (c : Bool) → nat_lt t.version x.version ≡ c → IsLeast row version (x ∷ ts) (Some (cond c t x))
-  lower t q f true r = (inr f.0, f.1, later t (under t.version x.version r) f.2)
-  lower t q f false r = (own q, high q, first t (over t.version x.version r) f.2)
+  lower t q f true r = (inr f.0, f.1, later t (ltb-true t.version x.version r) f.2)
+  lower t q f false r = (own q, high q, first t (ltb-false t.version x.version r) f.2)
 
   at : (b : Bool) → ((x.row == row) && nat_lt version x.version) ≡ b → (o : Option Taking) → IsLeast row version ts o → IsLeast row version (x ∷ ts) (cond b (Some (lower_of x o)) o)
   at true q None f = (own q, high q, alone f)
@@ -99,7 +87,7 @@ stands_takes row version action (p ∷ ps) h = by p.entry h (stands_takes row ve
   untake a b e = cc
 
   by : (e : Entry) → Stands (lines_at p e ++ all_lines ps) row version (Taken action) → (Stands (all_lines ps) row version (Taken action) → Takes row version action (takings_of ps)) → Takes row version action (taking_at p.context.action e ++ takings_of ps)
-  by (says.Take at v) (inl q) go = inl (eq_of at row (both_of (at == row) (v == version) q.0).0, eq_of v version (both_of (at == row) (v == version) q.0).1, untake p.context.action action q.1)
+  by (says.Take at v) (inl q) go = inl (eqb-true at row (and_parts (at == row) (v == version) q.0).0, eqb-true v version (and_parts (at == row) (v == version) q.0).1, untake p.context.action action q.1)
   by (says.Take at v) (inr k) go = inr (go k)
   by (says.Add at v) (inl q) go = absurd (let e : ◌≡◌ {A = Change} (Added _) (Taken action) = q.1 in cc)
   by (says.Add at v) (inr k) go = go k
@@ -114,7 +102,7 @@ kept_on test (line ∷ lines) row version change t s = at (test line.row) refl s
   at : (b : Bool) → test line.row ≡ b → ((is_at line row version ≡ true) × (change_of line ≡ change)) ⊎ Stands lines row version change → (Stands lines row version change → Stands (lines_on test lines) row version change) → Stands (cond b (line ∷ []) [] ++ lines_on test lines) row version change
   at true q (inl h) go = inl h
   at true q (inr k) go = inr (go k)
-  at false q (inl h) go = absurd (let e : line.row ≡ row = eq_of line.row row (both_of (line.row == row) (line.version == version) h.0).0 in let z : true ≡ false = sym (ap test e ∙ t) ∙ q in cc)
+  at false q (inl h) go = absurd (let e : line.row ≡ row = eqb-true line.row row (and_parts (line.row == row) (line.version == version) h.0).0 in let z : true ≡ false = sym (ap test e ∙ t) ∙ q in cc)
   at false q (inr k) go = go k
 
 -- ---- what stands at a version
@@ -150,8 +138,8 @@ pub in_range : (all lines : List Tagged) → Within all lines → (row v : ℕ) 
 in_range all [] w row v c s = absurd s
 in_range all (l ∷ ls) w row v c (inr s) = in_range all ls w.2 row v c s
 in_range all (l ∷ ls) w row v c (inl q) =
-    let e : l.row ≡ row = eq_of l.row row (both_of (l.row == row) (l.version == v) q.0).0 in
-    let f : l.version ≡ v = eq_of l.version v (both_of (l.row == row) (l.version == v) q.0).1 in
+    let e : l.row ≡ row = eqb-true l.row row (and_parts (l.row == row) (l.version == v) q.0).0 in
+    let f : l.version ≡ v = eqb-true l.version v (and_parts (l.row == row) (l.version == v) q.0).1 in
     (subst (λ n. 1 ≤ n) f w.0, subst (λ n. n ≤ changes_of all row) f (subst (λ n. l.version ≤ changes_of all n) e w.1))
 
 -- a version from this one on is this one or a later one
@@ -161,7 +149,7 @@ which v w l = on (v == w) refl where
   apart a b l q = grind (arith, l, q)
 
   on : (b : Bool) → (v == w) ≡ b → (v ≡ w) ⊎ (suc v ≤ w)
-  on true q = inl (eq_of v w q)
+  on true q = inl (eqb-true v w q)
   on false q = inr (apart v w l q)
 
 module _ (lines : List Tagged) (row : ℕ) (once : (version : ℕ) → length (standing lines row version) ≤ 1) where

@@ -2,6 +2,7 @@
 -- slot's ring at or above its puts: of each run.
 use Rattle.std.proofs.Common.{◌≡◌, refl, ℕ, zero, suc, ◌+◌, ◌-◌, ◌*◌, ◌<◌, ◌≤◌, ◌==◌, ◌&&◌, Bool, true, false, cond, nat_le, nat_lt, List, [], ◌∷◌, ◌++◌, length, max, take, Option, Some, None, sym, ap, subst, ◌∙◌, inl, inr, arith}
 use Rattle.std.specs.Prelude.{slice_get, ◌⊎◌}
+use Rattle.std.proofs.lemmas.Bool.{eqb-true}
 use Rattle.pfs_admin.specs.Asks.{quit_work, upper_tags, work_of_quit}
 use Rattle.pfs_admin.specs.Fold.{state_of}
 use Rattle.pfs_admin.specs.States.{has_quit, seat_in}
@@ -50,7 +51,7 @@ use Rattle.pfs_tagged.proofs.Indexing.{which}
 use Rattle.pfs_tagged.proofs.Offering.{Near}
 use Rattle.pfs_tagged.proofs.Quitting.{IsThere, found_there}
 use Rattle.pfs_tagged.proofs.Saying.{HasNumber, IsSaid, all_said, zero_rows}
-use Rattle.pfs_tagged.proofs.Sifting.{bit_yes, eq_of}
+use Rattle.pfs_tagged.proofs.Sifting.{bit_yes}
 use Rattle.pfs_tagged.specs.Acts.{action_for}
 use Rattle.pfs_tagged.specs.Board.{limits_of}
 use Rattle.pfs_tagged.specs.Ends.{connects_at, first_of, given_by, is_quit, quit_in, quits_at}
@@ -130,7 +131,7 @@ freeing row action (p ∷ ps) m = on (p.context.action == action) refl m (λ k. 
   on : (b : Bool) → (p.context.action == action) ≡ b → IsAmong (Freed row) (each_of did (cond b (p ∷ []) [] ++ of_action action ps)) → Go → IsFreeing row action (p ∷ ps)
   on true q m go = split (among_split (Freed row) (did p.entry) (each_of did (of_action action ps)) m) where
     split : IsAmong (Freed row) (did p.entry) ⊎ IsAmong (Freed row) (each_of did (of_action action ps)) → IsFreeing row action (p ∷ ps)
-    split (inl m) = here p.entry refl (eq_of p.context.action action q) m
+    split (inl m) = here p.entry refl (eqb-true p.context.action action q) m
     split (inr m) = later (go m)
   on false q m go = later (go m)
 
@@ -443,7 +444,7 @@ module _ (run : Run) (kept : AreKept run) (orderly : IsOrderly run) (phase : ℕ
     says_it = ap action_change x.entry
 
     session_is : x.place.session ≡ session
-    session_is = eq_of x.place.session session x.own
+    session_is = eqb-true x.place.session session x.own
 
     l : (line : ℕ) × (slice_get run.labels k ≡ Some (record { session = x.place.session; line = line }))
     l = label_of x.place k ((run_acting run kept orderly phase).sub x.place x.among) says_it
@@ -503,7 +504,7 @@ module _ (run : Run) (kept : AreKept run) (orderly : IsOrderly run) (phase : ℕ
     at_slot : found.0.place ≡ slot
     at_slot =
         let h : IsThere (λ (z : Session). z.number == session) (state_after opening acts k).threads found.0 = found_there (λ (z : Session). z.number == session) (state_after opening acts k).threads found.0 found.1 in
-        (only_there opening acts session slot action t.who t.number none_free t.stands (λ j user host e. only_connect session action t.first j user host e) k found.0.place found.0.entry h.entry (eq_of found.0.entry.number session h.passes)).1
+        (only_there opening acts session slot action t.who t.number none_free t.stands (λ j user host e. only_connect session action t.first j user host e) k found.0.place found.0.entry h.entry (eqb-true found.0.entry.number session h.passes)).1
 
     seat_is : seat_in (state_of run.setting run.change (take k run.labels)) session ≡ Some (record { slot = found.0.place; connection = found.0.entry })
     seat_is = ap (λ (s : State). seated (found_where (λ (z : Session). z.number == session) s.threads)) places_same ∙ ap seated found.1

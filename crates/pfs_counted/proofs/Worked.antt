@@ -3,6 +3,7 @@ use Rattle.std.proofs.Common.{◌≡◌, ℕ, ◌==◌, ◌&&◌, Bool, true, fa
 use Rattle.std.specs.Prelude.{◌≢◌, All, AllPairs, Contains, slice_index_or}
 use Rattle.std.proofs.lemmas.List.Elements.{All-nil, All-cons, All-contains}
 use Rattle.std.proofs.lemmas.List.Kept.{AllPairs-cons}
+use Rattle.std.proofs.lemmas.Bool.{eqb-true}
 use Rattle.pfs_classes.specs.Registry.{class_at}
 use Rattle.pfs_classes.specs.declared.setting.Setting.{Setting}
 use Rattle.pfs_conservation.specs.Tables.{Key, KeyThread, KeyAccount, KeyUser, KeyHost, KeyAll}
@@ -10,7 +11,6 @@ use Rattle.pfs_readsets.specs.Places.{is_class_of}
 use Rattle.pfs_rows.specs.declared.table.TableKind.TheVariants.{Waits, Statements}
 use Rattle.pfs_stat.specs.Stat.{zero_of}
 use Rattle.pfs_summaries.specs.RowValues.{values_of, times_of, sums_of}
-use Rattle.pfs_tagged.proofs.Sifting.{eq_of}
 use Rattle.pfs_values.specs.declared.RowValue.{RowValue}
 use Rattle.pfs_values.specs.declared.RowValue.TheVariants as value
 use Rattle.pfs_counted.specs.Summed.{summary_row}
@@ -48,7 +48,7 @@ module _ (setting : Setting) (waits : is_class_of Waits (class_at setting.classe
   only_user KeyAll id h = absurd (let w : false ≡ true = h.of_table in cc)
   only_user (KeyUser name) id h = at (name == 24) (id == 6) refl refl h.some where
     at : (a b : Bool) → (name == 24) ≡ a → (id == 6) ≡ b → ((cond ((name == 24) && (id == 6)) two_waits zero_of).count == 0) ≡ false → ◌≡◌ {A = Row} (KeyUser name, id) user
-    at true true p q s = user_is name id (eq_of name 24 p) (eq_of id 6 q)
+    at true true p q s = user_is name id (eqb-true name 24 p) (eqb-true id 6 q)
     at true false p q s = absurd (let w : true ≡ false = sym (ap (λ a. ((cond (a && (id == 6)) two_waits zero_of).count == 0)) p ∙ ap (λ b. ((cond b two_waits zero_of).count == 0)) q) ∙ s in cc)
     at false b p q s = absurd (let w : true ≡ false = sym (ap (λ a. ((cond (a && (id == 6)) two_waits zero_of).count == 0)) p) ∙ s in cc)
 
@@ -72,10 +72,10 @@ module _ (setting : Setting) (waits : is_class_of Waits (class_at setting.classe
     at false r a p b q k s = absurd (let w : true ≡ false = sym (ap (λ c. ((cond c (cond (session == 1) one_statement three_untimed) zero_of).count == 0)) r) ∙ s in cc)
     at true r true p b q k s =
         let e : ◌≡◌ {A = Option ℕ} (Some 0) (Some slot) = sym (ap (λ (a : Bool). cond a (Some 0) (cond (session == 2) (Some 1) None)) p) ∙ k in
-        subst (Contains both) (sym (thread_is session slot id 1 0 (eq_of session 1 p) (sym (some_is 0 slot e)) (eq_of id 17 r))) (first first_one (second_one ∷ []))
+        subst (Contains both) (sym (thread_is session slot id 1 0 (eqb-true session 1 p) (sym (some_is 0 slot e)) (eqb-true id 17 r))) (first first_one (second_one ∷ []))
     at true r false p true q k s =
         let e : ◌≡◌ {A = Option ℕ} (Some 1) (Some slot) = sym (ap (λ (a : Bool). cond a (Some 0) (cond (session == 2) (Some 1) None)) p ∙ ap (λ (b : Bool). cond b (Some 1) None) q) ∙ k in
-        subst (Contains both) (sym (thread_is session slot id 2 1 (eq_of session 2 q) (sym (some_is 1 slot e)) (eq_of id 17 r))) (later first_one (second_one ∷ []) second_one (first second_one []))
+        subst (Contains both) (sym (thread_is session slot id 2 1 (eqb-true session 2 q) (sym (some_is 1 slot e)) (eqb-true id 17 r))) (later first_one (second_one ∷ []) second_one (first second_one []))
     at true r false p false q k s =
         absurd (let e : ◌≡◌ {A = Option ℕ} None (Some slot) = sym (ap (λ (a : Bool). cond a (Some 0) (cond (session == 2) (Some 1) None)) p ∙ ap (λ (b : Bool). cond b (Some 1) None) q) ∙ k in cc)
 

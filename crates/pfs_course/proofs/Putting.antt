@@ -1,6 +1,6 @@
 -- What is due to rings is paid by what a session puts there, and its histories' puts alone are counted.
 use Rattle.std.proofs.Common.{ℕ, ◌≡◌, ◌<◌, ◌≤◌, ◌+◌, ◌*◌, ◌%◌, ◌==◌, ◌&&◌, nat_lt, Bool, true, false, cond, List, [], ◌∷◌, ◌++◌, length, Option, Some, None, eq-eqb, refl, ap, sym, ◌∙◌, subst, zero-add, arith}
-use Rattle.std.proofs.lemmas.Bool.{lt-ltb, le-ltb, le-leb, lt-leb, ltb-false, ltb-true}
+use Rattle.std.proofs.lemmas.Bool.{lt-ltb, le-ltb, le-leb, lt-leb, ltb-false, ltb-true, and_from}
 use Rattle.pfs_event.specs.declared.entry.Entry.{Entry}
 use Rattle.pfs_event.specs.declared.event.Event.{Event}
 use Rattle.pfs_event.specs.declared.kind.EventKind.{EventKind}
@@ -34,9 +34,6 @@ pays_then [] ns (e ∷ es) fs a b = absurd a
 pays_then (d ∷ ds) ns [] fs a b = absurd a
 pays_then (d ∷ ds) ns (e ∷ es) fs a b = (a.0, pays_then ds ns es fs a.1 b)
 
-both_true : (a b : Bool) → a ≡ true → b ≡ true → (a && b) ≡ true
-both_true a b p q = ap (λ z. z && b) p ∙ q
-
 second_false : (a b : Bool) → b ≡ false → (a && b) ≡ false
 second_false true b q = q
 second_false false b q = refl
@@ -56,7 +53,7 @@ long_paid kind event put calls x = by_answer x.at.answer x.at.says where
   by_answer (told.Done version) e = ap (λ (z : Put). is_paid (PutsLong kind) (put_entry z)) e ∙ eq-eqb (long_row kind x.ticket) (long_row kind x.ticket) refl
   by_answer (told.Busy first second) e =
       ap (λ (z : Put). is_paid (PutsLong kind) (put_entry z)) e
-      ∙ both_true _ _ (le-leb (long_row kind 0) (long_row kind x.ticket) (omega arith)) (lt-ltb (long_row kind x.ticket) (long_row (kind + 1) 0) (omega arith))
+      ∙ and_from _ _ (le-leb (long_row kind 0) (long_row kind x.ticket) (omega arith)) (lt-ltb (long_row kind x.ticket) (long_row (kind + 1) 0) (omega arith))
   by_answer (told.Late greater) e = ap (λ (z : Put). is_paid (PutsLong kind) (put_entry z)) e.0 ∙ eq-eqb (long_row kind x.ticket) (long_row kind x.ticket) refl
 
 none_paid : (put : Option Put) → put ≡ None → ArePaid [] (put_entries put)
@@ -83,7 +80,7 @@ long_is_paid true kind event (Some put) calls x = (long_paid (ring_number kind) 
 -- which rows are those of a history
 own_history : (slot kind place : ℕ) → is_history_row slot kind (history_row slot kind place) ≡ true
 own_history slot kind place =
-    both_true _ _ (le-leb (8450 + 56 * slot + 16 + 10 * kind) (history_row slot kind place) (omega arith))
+    and_from _ _ (le-leb (8450 + 56 * slot + 16 + 10 * kind) (history_row slot kind place) (omega arith))
     (lt-ltb (history_row slot kind place) (8450 + 56 * slot + 26 + 10 * kind) (omega arith))
 
 less_by : (n m : ℕ) → m ≤ n → (n ≡ m → ⊥) → m < n

@@ -1,6 +1,6 @@
 -- The sets of one actor's actions, and of all actors, come to those of the labels.
 use Rattle.std.proofs.Common.{ℕ, ◌≡◌, ◌≢◌, ◌+◌, ◌-◌, ◌==◌, ◌<◌, ◌≤◌, nat_lt, ◌&&◌, Bool, true, false, cond, List, [], ◌∷◌, ◌++◌, length, take, get_or, refl, ap, sym, ◌∙◌, subst, arith, ne_eqb, append_assoc}
-use Rattle.std.proofs.lemmas.Bool.{eqb-true}
+use Rattle.std.proofs.lemmas.Bool.{eqb-true, lt-ltb}
 use Rattle.std.proofs.lemmas.List.{take_at, take_more}
 use Rattle.pfs_board.specs.declared.view.Change.{Change}
 use Rattle.pfs_board.specs.declared.view.Label.{Label}
@@ -15,7 +15,7 @@ use Rattle.pfs_seats.specs.Gathered.{Worked, calls_of_all, AreParts, AllDone}
 use Rattle.pfs_seats.specs.Reached.{labels_in}
 use Rattle.pfs_seats.specs.Ties.{IsTied}
 use Rattle.pfs_seats.proofs.Agreeing.{AllFlagged}
-use Rattle.pfs_seats.proofs.Histories.{total_append, yes_lt}
+use Rattle.pfs_seats.proofs.Histories.{total_append}
 use Rattle.pfs_seats.proofs.Together.{each_front, each_back}
 use Rattle.pfs_seats.proofs.Turned.{here_if, away_if}
 use Rattle.pfs_desk.specs.Following.{sets_since, present, AllKeepWords}
@@ -50,7 +50,7 @@ inside all (Sets at to k ∷ calls) n low = let i = inside all calls n.1 low in 
 inside all (Meets versions ∷ calls) n low = let i = inside all calls n.1 low in record { number_is = i.number_is; first = i.first; after_is = i.after_is }
 
 open_if : (n a : ℕ) → 0 < n → cond (nat_lt 0 n) a 0 ≡ a
-open_if n a low = ap (λ b. cond b a 0) (yes_lt 0 n low)
+open_if n a low = ap (λ b. cond b a 0) (lt-ltb 0 n low)
 
 shut_if : (n a : ℕ) → n ≡ 0 → cond (nat_lt 0 n) a 0 ≡ 0
 shut_if n a e = ap (λ z. cond (nat_lt 0 z) a 0) e

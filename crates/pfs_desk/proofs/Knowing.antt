@@ -1,7 +1,6 @@
 -- What an actor met and left of the words is not below what the actions set that it knew as ended.
 use Rattle.std.proofs.Common.{ℕ, zero, suc, ◌≡◌, ◌⊎◌, ◌+◌, ◌==◌, ◌<◌, ◌≤◌, nat_lt, nat_le, ◌&&◌, Bool, true, false, cond, List, [], ◌∷◌, ◌++◌, length, take, slice_index, refl, ap, sym, subst, inl, inr, arith, append_assoc, append-nil}
-use Rattle.std.proofs.lemmas.Bool.{cases_eq, eqb-true}
-use Rattle.std.proofs.lemmas.Bool.Decides.{nat_tests}
+use Rattle.std.proofs.lemmas.Bool.{cases_eq, eqb-true, leb-true, ltb-true}
 use Rattle.pfs_board.specs.declared.view.Change.{Change}
 use Rattle.pfs_board.specs.declared.view.Label.{Label}
 use Rattle.pfs_board.specs.History.{Each}
@@ -18,12 +17,6 @@ use Rattle.pfs_seats.proofs.Together.{each_front, each_back}
 use Rattle.pfs_seats.proofs.Turned.{here_if, away_if}
 use Rattle.pfs_desk.specs.Following.{sets_since, present, AllKeepWords}
 use Rattle.pfs_desk.proofs.Balance.{inside, next_labels, IsLow}
-
-lt_true : (a b : ℕ) → nat_lt a b ≡ true → a < b
-lt_true a b h = grind (arith, nat_tests)
-
-le_true : (a b : ℕ) → nat_le a b ≡ true → a ≤ b
-le_true a b h = grind (arith, nat_tests)
 
 unlike : (a b c d : Bool) → (a ≡ true → c ≡ true → d ≡ true → ⊥) → one_if (((a && b) && c) && d) ≡ 0
 unlike true true true true e = absurd (e refl refl refl)
@@ -74,7 +67,7 @@ module _ (versions : List Label → ℕ → ℕ) (rises : (labels : List Label) 
     none_above [] e at k m le = refl
     none_above (p ∷ marks) e at k m le =
         let none = unlike (p.row == at) (nat_lt 0 p.action) (nat_le p.action m) (nat_lt k p.version) (λ row past high.
-        omega (arith, e.0, ap (version_at p.action) (eqb-true p.row at row), up at p.action m (le_true p.action m past), lt_true k p.version high, le)) in
+        omega (arith, e.0, ap (version_at p.action) (eqb-true p.row at row), up at p.action m (leb-true p.action m past), ltb-true k p.version high, le)) in
         omega (arith, none, none_above marks e.1 at k m le)
 
     -- so far an action's sets are not above the versions behind it

@@ -7,6 +7,7 @@ use Rattle.std.proofs.lemmas.Bool.Decides.{nat_tests}
 use Rattle.std.proofs.lemmas.List.{append_assoc, map-append}
 use Rattle.std.proofs.lemmas.List.Elements.{All-nil, All-cons, All-head, All-tail, All-append, All-map, All-weaker, All-contains_itself}
 use Rattle.std.proofs.lemmas.List.Folds.{list_any-append}
+use Rattle.pfs_lemmas.proofs.Bools.{or_false}
 use Rattle.pfs_admin.specs.Fold.{state_of}
 use Rattle.pfs_admin.specs.Opening.{opening_flags}
 use Rattle.pfs_admin.specs.States.{State}
@@ -67,10 +68,6 @@ whole_is : (b : Bool) (s : Slot) → found_whole (seen_by b s) ≡ b
 whole_is true s = refl
 whole_is false s = refl
 
-or_off : (b : Bool) → (b || false) ≡ b
-or_off true = refl
-or_off false = refl
-
 first_off : (b w r : Bool) → b ≡ false → ((b && w) || r) ≡ r
 first_off b w r e = ap (λ z. (z && w) || r) e
 
@@ -109,7 +106,7 @@ any_in flags calls test info from (suc count) low high = elim (cases_lt from inf
       ap (any_at flags calls info) (passing_yes test from count e)
       ∙ (ap (λ z. ((from == info) && found_whole (seen_by (slot_in calls from).allocated (slot_in calls from))) || z) none
       ∙ (ap (λ z. (z && found_whole (seen_by (slot_in calls from).allocated (slot_in calls from))) || false) (eq-eqb from info at)
-      ∙ (or_off (found_whole (seen_by (slot_in calls from).allocated (slot_in calls from)))
+      ∙ (or_false (found_whole (seen_by (slot_in calls from).allocated (slot_in calls from)))
       ∙ (whole_is (slot_in calls from).allocated (slot_in calls from)
       ∙ (ap (λ z. (slot_in calls z).allocated) at ∙ sym (ap (λ z. z && (slot_in calls info).allocated) (ap test (sym at) ∙ e)))))))
 
@@ -162,7 +159,7 @@ whole_same places scope table flags calls info few =
     ap (list_any (shows_whole info)) (map-append found (map targets.Row rows) (map targets.Word words))
     ∙ (list_any-append (shows_whole info) (map found (map targets.Row rows)) (map found (map targets.Word words))
     ∙ (ap (λ z. any_at flags calls info rows || z) (words_off flags calls info words)
-    ∙ (or_off (any_at flags calls info rows)
+    ∙ (or_false (any_at flags calls info rows)
     ∙ (any_in flags calls (rows_in scope table calls) info 0 14242 (omega arith) (omega arith)
     ∙ ap (λ z. z && (slot_in calls info).allocated) (info_rows places table (has_cell scope table) scope.digests (whole_in scope table calls) (is_whole []) info few)))))
 

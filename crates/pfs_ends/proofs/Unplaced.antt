@@ -2,6 +2,8 @@
 -- those that the journals do.
 use Rattle.std.proofs.Common.{ℕ, suc, ◌≡◌, ◌+◌, ◌≤◌, Bool, true, false, cond, List, [], ◌∷◌, ◌++◌, length, Option, Some, None, refl, ap, sym, ◌∙◌, arith}
 use Rattle.std.proofs.lemmas.Bool.{false≢true}
+use Rattle.pfs_lemmas.proofs.Numbers.{plus_zero_first}
+use Rattle.pfs_lemmas.proofs.Bools.{cond_at_most_one}
 use Rattle.pfs_admin.specs.Asks.{work_of_connect, work_of_quit, connect_entry}
 use Rattle.pfs_admin.specs.Setups.{reply_to, work_of_statement}
 use Rattle.pfs_admin.specs.States.{seat_at}
@@ -57,15 +59,8 @@ use Rattle.pfs_ends.specs.Counts.{ends_behind, unplaced_in, lost_digests, journa
 regroup : (a b c : ℕ) → a + (b + c) ≡ (a + b) + c
 regroup a b c = omega arith
 
-none_first : (n : ℕ) → n ≡ 0 + n
-none_first n = omega arith
-
 sum_none : (a b : ℕ) → a ≡ 0 → b ≡ 0 → a + b ≡ 0
 sum_none a b p q = omega (arith, p, q)
-
-pub one_if : (b : Bool) → cond b 1 0 ≤ 1
-one_if true = omega arith
-one_if false = omega arith
 
 -- what additions behind all these entries bring
 abbrev pub behind_all : Bool → List Entry → Bool
@@ -77,7 +72,7 @@ behind_last ends [] x = refl
 behind_last ends (y ∷ ys) x = behind_last (ends_behind ends y) ys x
 
 pub unplaced_then : (ends : Bool) (xs ys : List Entry) → unplaced_in ends (xs ++ ys) ≡ unplaced_in ends xs + unplaced_in (behind_all ends xs) ys
-unplaced_then ends [] ys = none_first (unplaced_in ends ys)
+unplaced_then ends [] ys = plus_zero_first (unplaced_in ends ys)
 unplaced_then ends (x ∷ xs) ys =
     ap (λ z. cond (is_unplaced ends x) 1 0 + z) (unplaced_then (ends_behind ends x) xs ys)
     ∙ regroup (cond (is_unplaced ends x) 1 0) (unplaced_in (ends_behind ends x) xs) (unplaced_in (behind_all (ends_behind ends x) xs) ys)
@@ -89,7 +84,7 @@ unplaced_last ends xs x = unplaced_then ends xs (x ∷ []) ∙ ap (λ z. unplace
 
 pub unplaced_few : (ends : Bool) (xs : List Entry) → unplaced_in ends xs ≤ length xs
 unplaced_few ends [] = omega arith
-unplaced_few ends (x ∷ xs) = most (cond (is_unplaced ends x) 1 0) (unplaced_in (ends_behind ends x) xs) (length xs) (one_if (is_unplaced ends x)) (unplaced_few (ends_behind ends x) xs) where
+unplaced_few ends (x ∷ xs) = most (cond (is_unplaced ends x) 1 0) (unplaced_in (ends_behind ends x) xs) (length xs) (cond_at_most_one (is_unplaced ends x)) (unplaced_few (ends_behind ends x) xs) where
   most : (a b n : ℕ) → a ≤ 1 → b ≤ n → a + b ≤ suc n
   most a b n p q = omega (arith, p, q)
 
@@ -99,7 +94,7 @@ brought_in ends [] = 0
 brought_in ends (x ∷ xs) = cond (is_unplaced ends x) 1 0 + brought_in ends xs
 
 brought_then : (ends : Bool) (xs ys : List Entry) → brought_in ends (xs ++ ys) ≡ brought_in ends xs + brought_in ends ys
-brought_then ends [] ys = none_first (brought_in ends ys)
+brought_then ends [] ys = plus_zero_first (brought_in ends ys)
 brought_then ends (x ∷ xs) ys =
     ap (λ z. cond (is_unplaced ends x) 1 0 + z) (brought_then ends xs ys) ∙ regroup (cond (is_unplaced ends x) 1 0) (brought_in ends xs) (brought_in ends ys)
 
@@ -273,7 +268,7 @@ sum_of count [] = 0
 sum_of count (step ∷ steps) = count step + sum_of count steps
 
 pub sum_then : (count : Step → ℕ) (xs ys : List Step) → sum_of count (xs ++ ys) ≡ sum_of count xs + sum_of count ys
-sum_then count [] ys = none_first (sum_of count ys)
+sum_then count [] ys = plus_zero_first (sum_of count ys)
 sum_then count (x ∷ xs) ys = ap (λ z. count x + z) (sum_then count xs ys) ∙ regroup (count x) (sum_of count xs) (sum_of count ys)
 
 some_none : ◌≡◌ {A = ℕ} 1 0 → ⊥
@@ -347,13 +342,13 @@ stage_none : (events : List Open) (rest : List Step) → sum_of others_at (stage
 stage_none [] rest = refl
 stage_none (what ∷ events) rest = by_test (is_stage what.kind) where
   by_test : (b : Bool) → sum_of others_at (cond b (EndsEvent no_numbers ∷ []) [] ++ rest) ≡ sum_of others_at rest
-  by_test true = sym (none_first (sum_of others_at rest))
+  by_test true = sym (plus_zero_first (sum_of others_at rest))
   by_test false = refl
 
 -- readings end none
 looks_none : (readings : List Reading) (rest : List Step) → sum_of ends_at (looks readings ++ rest) ≡ sum_of ends_at rest
 looks_none [] rest = refl
-looks_none (reading ∷ readings) rest = sym (none_first (sum_of ends_at (looks readings ++ rest))) ∙ looks_none readings rest
+looks_none (reading ∷ readings) rest = sym (plus_zero_first (sum_of ends_at (looks readings ++ rest))) ∙ looks_none readings rest
 
 pub query_none : (readings : List Reading) (count : ℕ) → sum_of ends_at (remark Query ∷ (looks readings ++ remark (Rows count) ∷ [])) ≡ 0
 query_none readings count = ap (λ z. 0 + z) (looks_none readings (remark (Rows count) ∷ []))

@@ -4,6 +4,7 @@ use Rattle.std.specs.Prelude.{slice_get}
 use Rattle.std.specs.List.{sum_by}
 use Rattle.std.proofs.lemmas.List.{map-append, reverse-append}
 use Rattle.std.proofs.lemmas.List.Sums.{sum_by-append}
+use Rattle.pfs_model.proofs.EachLists.{each_join}
 use Rattle.pfs_model.specs.Chains.{Each}
 use Rattle.pfs_script.specs.declared.blocks.BlockLine.{BlockLine}
 use Rattle.pfs_script.specs.Brackets.{Bracket, closing_from, brackets_from}
@@ -93,13 +94,9 @@ each_filter P test (x ∷ xs) are = at (test x) refl (each_filter P test xs are.
     at true q rest = rw q ((are.0, q), rest)
     at false q rest = rw q rest
 
-pub each_then : {A : Type 0} (P : A → Type 0) (xs ys : List A) → Each P xs → Each P ys → Each P (xs ++ ys)
-each_then P [] ys are more = more
-each_then P (x ∷ xs) ys are more = (are.0, each_then P xs ys are.1 more)
-
 pub each_reverse : {A : Type 0} (P : A → Type 0) (xs : List A) → Each P xs → Each P (reverse xs)
 each_reverse P [] are = tt
-each_reverse P (x ∷ xs) are = subst (Each P) (sym (reverse-append (x ∷ []) xs)) (each_then P (reverse xs) (x ∷ []) (each_reverse P xs are.1) (are.0, tt))
+each_reverse P (x ∷ xs) are = subst (Each P) (sym (reverse-append (x ∷ []) xs)) (each_join P (reverse xs) (x ∷ []) (each_reverse P xs are.1) (are.0, tt))
 
 -- each of a list stands somewhere in it
 pub each_at : {A : Type 0} (xs : List A) → Each (λ x. (i : ℕ) × (slice_get xs i ≡ Some x)) xs

@@ -3,6 +3,7 @@ use Rattle.std.proofs.Common.{ℕ, ◌≡◌, ◌+◌, ◌≤◌, Bool, true, fa
 use Rattle.std.specs.Prelude.{count_by}
 use Rattle.std.specs.List.{list_any}
 use Rattle.std.proofs.lemmas.Bool.Decides.{nat_tests}
+use Rattle.std.proofs.lemmas.Bool.{le-ltb}
 use Rattle.pfs_script.specs.declared.forms.Form.{Form}
 use Rattle.pfs_script.specs.declared.forms.Form.TheVariants as lines
 use Rattle.pfs_script.specs.Counts.{is_repeat, is_done, is_in_repeat, counted}
@@ -151,24 +152,21 @@ counts_more before line phases size c s =
       tables = tables_push before line ∙ (ap (λ tables. with_table tables line) c.tables ∙ s.table);
     }
 
--- so a line that makes them so few has room
+-- so a line that makes them so le-ltb has room
 pub record HasRoom (before : List Form) (line : Form) : Type 0 where
   pub long : is_too_long before line ≡ false
   pub much : is_too_much before line ≡ false
   pub tables : is_table_too_many before line ≡ false
 
-few : (most number : ℕ) → number ≤ most → nat_lt most number ≡ false
-few most number h = grind (arith, nat_tests, h)
-
 pub has_room : (before : List Form) (line : Form) (phases size : ℕ) → Counts (before ++ line ∷ []) phases size → phases ≤ 64 → size ≤ 200000 → HasRoom before line
 has_room before line phases size c p s = record {
-  long = few 200000 (counted one_each (before ++ line ∷ [])) (omega (arith, c.lines));
+  long = le-ltb 200000 (counted one_each (before ++ line ∷ [])) (omega (arith, c.lines));
   much =
       rw (
-        few 64 (count_by is_phase (before ++ line ∷ [])) (omega (arith, c.phases_are)),
-        few 256 (count_by is_class (before ++ line ∷ [])) (omega (arith, c.classes)),
-        few 256 (counted one_select (before ++ line ∷ [])) (omega (arith, c.selects)),
-        few 5000000 (counted weight_of (before ++ line ∷ [])) (omega (arith, c.weight)),
+        le-ltb 64 (count_by is_phase (before ++ line ∷ [])) (omega (arith, c.phases_are)),
+        le-ltb 256 (count_by is_class (before ++ line ∷ [])) (omega (arith, c.classes)),
+        le-ltb 256 (counted one_select (before ++ line ∷ [])) (omega (arith, c.selects)),
+        le-ltb 5000000 (counted weight_of (before ++ line ∷ [])) (omega (arith, c.weight)),
       )
       refl;
   tables = rw c.tables refl;

@@ -3,6 +3,8 @@ use Rattle.std.proofs.Common.{ℕ, ◌≡◌, ◌≤◌, Bool, true, false, ◌|
 use Rattle.std.specs.Prelude.{nat_le}
 use Rattle.std.specs.List.{list_any}
 use Rattle.std.proofs.lemmas.Bool.Decides.{nat_tests}
+use Rattle.pfs_lemmas.proofs.Numbers.{eq_self}
+use Rattle.pfs_lemmas.proofs.Bools.{or_false, or_first, or_second}
 use Rattle.pfs_event.specs.declared.kind.EventKind.{EventKind}
 use Rattle.pfs_script.specs.declared.forms.Form.{Form}
 use Rattle.pfs_script.specs.declared.forms.Form.TheVariants as form
@@ -50,22 +52,8 @@ course_none = record {
   phase_blocks = λ number. rw (behind_none is_phase) (no_number number);
 }
 
--- a line of a block
-
-no_more : (b : Bool) → (b || false) ≡ b
-no_more true = refl
-no_more false = refl
-
 any_same : (test : Form → Bool) (before : List Form) (line : Form) → test line ≡ false → list_any test (before ++ line ∷ []) ≡ list_any test before
-any_same test before line h = rw (any_more test before line, h) (no_more (list_any test before))
-
-first_false : (a b : Bool) → (a || b) ≡ false → a ≡ false
-first_false true b h = cc
-first_false false b h = refl
-
-second_false : (a b : Bool) → (a || b) ≡ false → b ≡ false
-second_false true b h = cc
-second_false false b h = h
+any_same test before line h = rw (any_more test before line, h) (or_false (list_any test before))
 
 quits_by : (number : ℕ) (before : List Form) (line : Form) (b : Bool) → (session_now before == number) ≡ b → ends_block line ≡ false → is_quit line ≡ false → has_quit number before ≡ false → has_quit number (before ++ line ∷ []) ≡ false
 quits_by number before line true t e q h = ap (list_any is_quit) (lines_own number before line t e) ∙ (any_same is_quit (lines_of number before) line q ∙ h)
@@ -79,13 +67,13 @@ open_by number before line kinds false t e k = ap (λ lines. kinds_of (open_in (
 pub course_inside : (before : List Form) (line : Form) (now : ℕ) (kinds : List EventKind) (begun here : ℕ) → Course before now kinds begun here → ends_block line ≡ false → is_quit line ≡ false
     → Course (before ++ line ∷ []) now (kinds_behind (mark_of_form line) kinds) begun here
 course_inside before line now kinds begun here c e q =
-    let none : (number : ℕ) → is_block_of number line ≡ false = λ number. not_block number line (second_false (is_phase line) (is_session line) e) in
+    let none : (number : ℕ) → is_block_of number line ≡ false = λ number. not_block number line (or_second (is_phase line) (is_session line) e) in
     record {
       session = now_same before line e ∙ c.session;
       quits = λ number. quits_by number before line (session_now before == number) refl e q (c.quits number);
       kinds_are = λ number. open_by number before line kinds (now == number) (ap (λ n. n == number) c.session) e (c.kinds_are number);
       blocks = λ number. any_same (is_block_of number) before line (none number) ∙ c.blocks number;
-      phase_blocks = λ number. ap (list_any (is_block_of number)) (phase_same before line (first_false (is_phase line) (is_session line) e)) ∙ (any_same (is_block_of number) (phase_of before) line (none number) ∙ c.phase_blocks number);
+      phase_blocks = λ number. ap (list_any (is_block_of number)) (phase_same before line (or_first (is_phase line) (is_session line) e)) ∙ (any_same (is_block_of number) (phase_of before) line (none number) ∙ c.phase_blocks number);
     }
 
 -- a line that begins a block, in a session in which nothing is open
@@ -111,15 +99,10 @@ course_phase before now begun here c = record {
   phase_blocks = λ number. ap (list_any (is_block_of number)) (phase_new before form.Phase refl) ∙ no_number number;
 }
 
--- what the next line finds
-
-is_now : (number : ℕ) → (number == number) ≡ true
-is_now number = grind (arith, nat_tests)
-
 pub kinds_now : (before : List Form) (now : ℕ) (kinds : List EventKind) (begun here : ℕ) → Course before now kinds begun here → kinds_open before ≡ kinds
 unfolding kinds_open
 kinds_now before now kinds begun here c =
-    ap (λ number. session_kinds number before) c.session ∙ (c.kinds_are now ∙ ap (λ b. cond b kinds []) (is_now now))
+    ap (λ number. session_kinds number before) c.session ∙ (c.kinds_are now ∙ ap (λ b. cond b kinds []) (eq_self now))
 
 no_zero : (number : ℕ) → 1 ≤ number → (number == 0) ≡ false
 no_zero number h = grind (arith, nat_tests, h)

@@ -1,6 +1,7 @@
 -- What the lines of a generated script lead from, and to.
-use Rattle.std.proofs.Common.{ℕ, ◌≡◌, ◌+◌, ◌≤◌, ◌==◌, Bool, true, false, ◌||◌, not, cond, List, [], ◌∷◌, ◌++◌, Some, refl, ap, sym, subst, append_assoc, append-nil, arith}
+use Rattle.std.proofs.Common.{ℕ, ◌≡◌, ◌+◌, ◌≤◌, ◌==◌, false, ◌||◌, not, cond, List, [], ◌∷◌, ◌++◌, Some, refl, ap, sym, subst, append_assoc, append-nil, arith}
 use Rattle.std.proofs.lemmas.Bool.Decides.{nat_tests}
+use Rattle.pfs_lemmas.proofs.Bools.{or_first}
 use Rattle.pfs_event.specs.declared.kind.EventKind.{EventKind}
 use Rattle.pfs_script.specs.declared.forms.Form.{Form}
 use Rattle.pfs_script.specs.declared.forms.Form.TheVariants as lines
@@ -96,16 +97,12 @@ leads_line text line from to says generated phases size few low step = λ before
 abbrev pub inside : ℕ → ℕ → List EventKind → ℕ → State
 inside size now kinds here = record { phases = 2; size = size; now = now; kinds = kinds; begun = 8; here = here }
 
-first_false : (a b : Bool) → (a || b) ≡ false → a ≡ false
-first_false true b h = cc
-first_false false b h = refl
-
 pub leads_inside : (text : List ℕ) (line : Form) (size now here : ℕ) (kinds : List EventKind) → Says text line → IsGenerated line → ends_block line ≡ false → 1 ≤ now → size + weight_of line ≤ 200000
     → ((before : List Form) → is_blockless before ≡ false → kinds_open before ≡ kinds → IsFitting before line)
     → Leads text (inside size now kinds here) (inside (size + weight_of line) now (kinds_behind (mark_of_form line) kinds) here)
 leads_inside text line size now here kinds says generated e some low fits =
     leads_line text line (inside size now kinds here) (inside (size + weight_of line) now (kinds_behind (mark_of_form line) kinds) here) says generated
-    (ap {B = ℕ} (λ b. 2 + cond {A = ℕ} b 1 0) (sym (first_false (is_phase line) (is_session line) e))) refl (omega arith) low
+    (ap {B = ℕ} (λ b. 2 + cond {A = ℕ} b 1 0) (sym (or_first (is_phase line) (is_session line) e))) refl (omega arith) low
     (λ before stands. (
       fits before (in_block before now kinds 8 here stands.course some) (kinds_now before now kinds 8 here stands.course),
       course_inside before line now kinds 8 here stands.course e (simple line generated).quit,

@@ -1,6 +1,7 @@
 -- The info rows of a level, place by place: each has its own row, and is signed once at most.
 use Rattle.std.proofs.Common.{◌≡◌, refl, ℕ, zero, suc, ◌+◌, ◌<◌, ◌≤◌, ◌==◌, Bool, true, false, cond, nat_lt, List, [], ◌∷◌, ◌++◌, map, ne_eqb, Option, Some, None, sym, ap, subst, ◌∙◌, arith}
-use Rattle.std.proofs.lemmas.Bool.{eqb-true}
+use Rattle.std.proofs.lemmas.Bool.{eqb-true, eqb-true as is_equal, ltb-false, ltb-true}
+use Rattle.pfs_lemmas.proofs.Numbers.{eq_self}
 use Rattle.pfs_admin.specs.Laws.{row_of}
 use Rattle.pfs_admin.specs.Changing.{up_to}
 use Rattle.pfs_admin.specs.Truncations.{is_there, event_signs, place_sign, first_row, content_at, sign_at, level_signs, truncation_signs}
@@ -33,20 +34,8 @@ misses_up_to : (row : ℕ) (f : ℕ → List Sign) (n : ℕ) → ((place : ℕ) 
 misses_up_to row f zero m = tt
 misses_up_to row f (suc n) m = misses_then row (up_to f n) (f n) (misses_up_to row f n (λ place l. m place (omega (arith, l)))) (m n (omega arith))
 
-self : (x : ℕ) → (x == x) ≡ true
-self x = grind arith
-
-is_equal : (a b : ℕ) → (a == b) ≡ true → a ≡ b
-is_equal a b q = grind arith
-
 not_equal : (a b : ℕ) → (a == b) ≡ false → a ≡ b → ⊥
-not_equal a b q e = let t : (a == b) ≡ true = subst (λ z. (a == z) ≡ true) e (self a) in absurd (cc)
-
-is_below : (a b : ℕ) → nat_lt a b ≡ true → a < b
-is_below a b q = grind arith
-
-not_below : (a b : ℕ) → nat_lt a b ≡ false → b ≤ a
-not_below a b q = grind arith
+not_equal a b q e = let t : (a == b) ≡ true = subst (λ z. (a == z) ≡ true) e (eq_self a) in absurd (cc)
 
 -- places each of which has its own row
 module _ (first : ℕ) (f : ℕ → List Sign) (own : (place row : ℕ) → (first + place ≡ row → ⊥) → Misses row (f place)) where
@@ -55,10 +44,10 @@ module _ (first : ℕ) (f : ℕ → List Sign) (own : (place row : ℕ) → (fir
   up_news q old (suc n) l = at (nat_lt q n) refl (up_news q old n) where
     at : (b : Bool) → nat_lt q n ≡ b → (q < n → news (up_to f n) (first + q) old ≡ news (f q) (first + q) old) → news (up_to f n ++ f n) (first + q) old ≡ news (f q) (first + q) old
     at true e go =
-        let low : q < n = is_below q n e in
+        let low : q < n = ltb-true q n e in
         news_front (first + q) old (up_to f n) (f n) (own n (first + q) (λ r. omega (arith, low, r))) ∙ go low
     at false e go =
-        let high : n ≤ q = not_below q n e in
+        let high : n ≤ q = ltb-false q n e in
         let same : n ≡ q = omega (arith, high, l) in
         news_miss (first + q) old (up_to f n) (f n) (misses_up_to (first + q) f n (λ place h. own place (first + q) (λ r. omega (arith, high, h, r))))
         ∙ ap (λ z. news (f z) (first + q) old) same
@@ -98,9 +87,9 @@ place_once true true at row (Some words) = one_most (at == row)
 place_news : (written was : Bool) (row : ℕ) (content old : Option (List ℕ)) → (was ≡ false → content ≡ old) → (written ≡ false → (words : List ℕ) → content ≡ Some words → content ≡ old)
     → content ≡ news (place_sign written was row content) row old
 place_news written false row content old free left = free refl
-place_news written true row None old free left = sym (ap (λ b. cond b None old) (self row))
+place_news written true row None old free left = sym (ap (λ b. cond b None old) (eq_self row))
 place_news false true row (Some words) old free left = left refl words refl
-place_news true true row (Some words) old free left = sym (ap (λ b. cond b (Some words) old) (self row))
+place_news true true row (Some words) old free left = sym (ap (λ b. cond b (Some words) old) (eq_self row))
 
 -- the signs of a level
 module _ (written : Bool) (was : ℕ → Bool) (after : Containers) (level : Level) where
@@ -132,8 +121,8 @@ two_once row xs ys a b high low = at (nat_lt row 65) refl where
   both = times_append (signs_at row) xs ys
 
   at : (c : Bool) → nat_lt row 65 ≡ c → times (signs_at row) (xs ++ ys) ≤ 1
-  at true e = let none : times (signs_at row) ys ≡ 0 = times_none row ys (low (is_below row 65 e)) in omega (arith, both, none, a)
-  at false e = let none : times (signs_at row) xs ≡ 0 = times_none row xs (high (not_below row 65 e)) in omega (arith, both, none, b)
+  at true e = let none : times (signs_at row) ys ≡ 0 = times_none row ys (low (ltb-true row 65 e)) in omega (arith, both, none, a)
+  at false e = let none : times (signs_at row) xs ≡ 0 = times_none row xs (high (ltb-false row 65 e)) in omega (arith, both, none, b)
 
 -- rows that ascend: one below them is missed, and each is signed once
 pub ascends_miss : (row low high : ℕ) (signs : List Sign) → row < low → Ascends low high (map row_of signs) → Misses row signs

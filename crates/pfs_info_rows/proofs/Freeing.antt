@@ -2,6 +2,7 @@
 use Rattle.std.proofs.Common.{◌≡◌, refl, ℕ, zero, suc, ◌+◌, Bool, true, false, cond, List, [], ◌∷◌, Option, Some, None, slice_index_or, sym, ap, ◌∙◌, arith}
 use Rattle.std.specs.Option.{option_map}
 use Rattle.std.specs.Prelude.{is_some}
+use Rattle.pfs_lemmas.proofs.Numbers.{zero_plus}
 use Rattle.pfs_containers.specs.Administration.{current, totals_kept_from}
 use Rattle.pfs_containers.specs.Connections.{kept_from}
 use Rattle.pfs_containers.specs.declared.containers.Connection.{Connection}
@@ -21,9 +22,6 @@ totals_stay : (n q : ℕ) (used : ℕ → Bool) (totals : List ℕ) → used (n 
 totals_stay n q used [] e = refl
 totals_stay n zero used (total ∷ totals) e = let same : n ≡ n + 0 = omega arith in ap (λ b. cond {A = ℕ} b total 0) (ap used same ∙ e)
 totals_stay n (suc q) used (total ∷ totals) e = let same : suc n + q ≡ n + suc q = omega arith in totals_stay (suc n) q used totals (ap used same ∙ e)
-
-zero_plus : (q : ℕ) → 0 + q ≡ q
-zero_plus q = omega arith
 
 -- a place that is free stays so
 pub free_stays : {X : Type 0} (q : ℕ) (used : ℕ → Bool) (xs : List (Option X)) → slice_index_or xs q None ≡ None → slice_index_or (kept_from 0 used xs) q None ≡ None

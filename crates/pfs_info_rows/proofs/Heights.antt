@@ -2,10 +2,12 @@
 use Rattle.std.proofs.Common.{◌≡◌, refl, ℕ, ◌≤◌, ◌==◌, Bool, true, false, cond, nat_lt, List, [], ◌∷◌, ◌++◌, Option, Some, None, sym, ap, subst, ◌∙◌, ◌⊎◌, inl, inr, arith, Less, Equal, Greater}
 use Rattle.std.specs.Ordering.{match_ordering, is_eq}
 use Rattle.std.specs.Prelude.{IfSome}
+use Rattle.std.proofs.lemmas.Bool.{eqb-true}
+use Rattle.pfs_model.proofs.EachLists.{each_join}
+use Rattle.pfs_lemmas.proofs.Numbers.{eq_self}
 use Rattle.pfs_event.specs.Verdicts.{is_let_through}
 use Rattle.pfs_event.specs.declared.entry.Entry.{Entry}
 use Rattle.pfs_event.specs.declared.entry.Entry.TheVariants as says
-use Rattle.pfs_model.proofs.Walking.{eq_of}
 use Rattle.pfs_model.specs.Actions.{IsAmong}
 use Rattle.pfs_model.specs.Asks.{is_head, is_settle, cell_row, digest_row}
 use Rattle.pfs_model.specs.Chains.{Each}
@@ -20,7 +22,6 @@ use Rattle.pfs_model.specs.declared.lines.Subject.{Subject}
 use Rattle.pfs_tagged.proofs.AddedWalk.{Comes, then_told, Follow, all_followed}
 use Rattle.pfs_tagged.proofs.Feeding.{is_feed, is_source, in_reach}
 use Rattle.pfs_tagged.proofs.Offering.{AreFedPlaces, all_fed}
-use Rattle.pfs_info_rows.proofs.Raising.{each_join}
 use Rattle.pfs_info_rows.proofs.Settling.{FromHeld, settled_rows, Settles, all_settling}
 
 -- an addition is to a row above the info rows
@@ -86,8 +87,8 @@ IsHighAdd (Adds row) = 129 ≤ row
 IsHighAdd due = Unit {0}
 
 paid_high : (due : Due) (e : Entry) → IsHighAdd due → is_paid due e ≡ true → IsHighFeed e
-paid_high (Adds row) (says.Add at version) h p = subst (λ n. 129 ≤ n) (sym (eq_of at row p)) h
-paid_high (Adds row) (says.Held at first second) h p = subst (λ n. 129 ≤ n) (sym (eq_of at row p)) h
+paid_high (Adds row) (says.Add at version) h p = subst (λ n. 129 ≤ n) (sym (eqb-true at row p)) h
+paid_high (Adds row) (says.Held at first second) h p = subst (λ n. 129 ≤ n) (sym (eqb-true at row p)) h
 paid_high (Puts row) (says.Add at version) h p = absurd (cc)
 paid_high (Puts row) (says.Held at first second) h p = absurd (cc)
 paid_high (PutsLong kind) (says.Add at version) h p = absurd (cc)
@@ -147,9 +148,6 @@ HighRows (Some rows) = AreHigh rows
 
 abbrev InReach : Option (List ℕ) → List Placed → Type 0
 InReach rows ps = Each IsHighFeed (behind_it ps) ⊎ HighRows rows
-
-eq_self : (n : ℕ) → (n == n) ≡ true
-eq_self n = grind arith
 
 walk_high : (flags : ℕ → ℕ → ℕ) (told : ℕ → Context) (earlier ps : List Placed) (hand : Bool) (rows : Option (List ℕ)) → ((session : ℕ) → Follow session (told session) ps)
     → ((session : ℕ) → AreHigh (told session).held) → AreFedPlaces hand ps → AreBroughtBehind flags earlier ps → Settles rows ps → (hand ≡ true → InReach rows ps)

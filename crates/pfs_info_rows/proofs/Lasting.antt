@@ -1,6 +1,7 @@
 -- An info row says under a phase's end what the last action made of it that signed it.
 use Rattle.std.proofs.Common.{◌≡◌, refl, ℕ, zero, suc, ◌<◌, ◌≤◌, ◌==◌, ◌&&◌, ◌||◌, Bool, true, false, cond, nat_lt, nat_le, List, Option, Some, None, sym, ap, subst, ◌∙◌, inl, inr, arith}
 use Rattle.std.specs.Prelude.{IfSome, is_none}
+use Rattle.std.proofs.lemmas.Bool.{leb-false, leb-true}
 use Rattle.pfs_admin.specs.Works.{Sign}
 use Rattle.pfs_asked.specs.Asking.{signs_asked}
 use Rattle.pfs_asked.specs.Whole.{signed_words}
@@ -39,12 +40,6 @@ pub record AreSigned (n : ℕ) (signs : ℕ → List Sign) (words : ℕ → ℕ 
 pub record Says (content : ℕ → ℕ → List ℕ) (ps : List Placed) (row : ℕ) (said : Option (List ℕ)) : Type 0 where
   pub free : is_free_after ps row ≡ is_none said
   pub words : IfSome said (λ words. content row (version_of ps row) ≡ words)
-
-le_of : (a b : ℕ) → nat_le a b ≡ true → a ≤ b
-le_of a b q = grind arith
-
-lt_of : (a b : ℕ) → nat_le a b ≡ false → b < a
-lt_of a b q = grind arith
 
 yes_free : (m v : ℕ) (b : Bool) → 1 ≤ m → nat_lt 0 m || ((v == 0) && b) ≡ true
 yes_free m v b l = ap (λ z. z || ((v == 0) && b)) (positive m l) where
@@ -107,7 +102,7 @@ module _ (n : ℕ) (signs : ℕ → List Sign) (content words : ℕ → ℕ → 
     up v q = grind arith
 
     on : (a : Bool) → nat_lt 0 version ≡ a → (b : Bool) → nat_le version (version_of ps row) ≡ b → times (is_that (change_at row version)) (each_of row_change ps) ≡ cond (a && b) 1 0 → (1 ≤ version) × (version ≤ version_of ps row)
-    on true q true r e = (up version q, le_of version (version_of ps row) r)
+    on true q true r e = (up version q, leb-true version (version_of ps row) r)
     on true q false r e = absurd (omega (arith, l, e))
     on false q b r e = absurd (omega (arith, l, e))
 
@@ -121,8 +116,8 @@ module _ (n : ℕ) (signs : ℕ → List Sign) (content words : ℕ → ℕ → 
     r = by_signs action version releases m
 
     on : (b : Bool) → nat_le action k ≡ b → action ≤ k
-    on true q = le_of action k q
-    on false q = (let z : times (signs_at row) (signs action) ≡ 0 = quiet action (lt_of action k q) r.0.1 in
+    on true q = leb-true action k q
+    on false q = (let z : times (signs_at row) (signs action) ≡ 0 = quiet action (leb-false action k q) r.0.1 in
         let o : 1 ≤ times (signs_at row) (signs action) = r.1 in
         absurd (omega (arith, z, o)))
 
@@ -162,10 +157,10 @@ module _ (n : ℕ) (signs : ℕ → List Sign) (content words : ℕ → ℕ → 
       at : (z : Bool) → nat_le (version_of ps row) version ≡ z → 1 ≤ times (is_that (change_at row (version_of ps row))) (each_of release_of ps)
       at true q =
           let h : version ≤ version_of ps row = b.had in
-          let g : version_of ps row ≤ version = le_of (version_of ps row) version q in
+          let g : version_of ps row ≤ version = leb-true (version_of ps row) version q in
           let e : version ≡ version_of ps row = omega (arith, h, g) in
           subst (λ v. 1 ≤ times (is_that (change_at row v)) (each_of release_of ps)) e b.stands
-      at false q = absurd (last_made k version true quiet b.among (lt_of (version_of ps row) version q))
+      at false q = absurd (last_made k version true quiet b.among (leb-false (version_of ps row) version q))
 
   -- the last that signs it writes it
   written_says : (k : ℕ) → 1 ≤ k → k ≤ n → Quiet k → (new : List ℕ) → IsWritten (signs k) row new → Says content ps row (Some new)
@@ -179,8 +174,8 @@ module _ (n : ℕ) (signs : ℕ → List Sign) (content words : ℕ → ℕ → 
       r = ranged version (deed_change k row version ps b.among)
 
       at : (z : Bool) → nat_le (version_of ps row) version ≡ z → version ≡ version_of ps row
-      at true q = (let g : version_of ps row ≤ version = le_of (version_of ps row) version q in let f : version ≤ version_of ps row = r.1 in omega (arith, f, g))
-      at false q = absurd (last_made k version false quiet b.among (lt_of (version_of ps row) version q))
+      at true q = (let g : version_of ps row ≤ version = leb-true (version_of ps row) version q in let f : version ≤ version_of ps row = r.1 in omega (arith, f, g))
+      at false q = absurd (last_made k version false quiet b.among (leb-false (version_of ps row) version q))
 
       is : version ≡ version_of ps row
       is = at (nat_le (version_of ps row) version) refl
@@ -204,10 +199,10 @@ module _ (n : ℕ) (signs : ℕ → List Sign) (content words : ℕ → ℕ → 
       earlier later a b = at (nat_le later (suc k)) refl where
         at : (z : Bool) → nat_le later (suc k) ≡ z → times (signs_at row) (signs later) ≡ 0
         at true q =
-            let u : later ≤ suc k = le_of later (suc k) q in
+            let u : later ≤ suc k = leb-true later (suc k) q in
             let e : suc k ≡ later = omega (arith, u, a) in
             subst (λ z. times (signs_at row) (signs z) ≡ 0) e c.none
-        at false q = quiet later (lt_of later (suc k) q) b
+        at false q = quiet later (leb-false later (suc k) q) b
     on (inr (inl c)) go = subst (Says content ps row) (sym (step ∙ c.new (said k))) (freed_says (suc k) (omega arith) l quiet c)
     on (inr (inr (new, c))) go = subst (Says content ps row) (sym (step ∙ c.new (said k))) (written_says (suc k) (omega arith) l quiet new c)
 

@@ -1,6 +1,7 @@
 -- What stands at the places of accounts, users and hosts behind a connect and behind a quit.
 use Rattle.std.proofs.Common.{◌≡◌, refl, ℕ, zero, suc, ◌+◌, ◌==◌, Bool, true, false, cond, List, [], ◌∷◌, Option, Some, None, slice_index_or, sym, ap, ◌∙◌, arith}
 use Rattle.std.specs.Option.{option_map}
+use Rattle.std.proofs.lemmas.Bool.{eqb-true}
 use Rattle.pfs_containers.proofs.Sharing.{filled_count, emptied_count}
 use Rattle.pfs_containers.specs.Administration.{current, lowest_free, added_from}
 use Rattle.pfs_containers.specs.Connections.{entry_at, fill_at, fill, emptied_at, is_from, has_by}
@@ -34,14 +35,11 @@ filled_others : {X : Type 0} (place : Option ℕ) (q : ℕ) (new : X) (xs : List
 filled_others None q new xs ne = refl
 filled_others (Some n) q new xs ne = fill_others n q new xs (λ e. ne (ap Some e))
 
-is_place : (a b : ℕ) → (a == b) ≡ true → a ≡ b
-is_place a b q = grind arith
-
 from_others : (q : ℕ) (place : Option ℕ) → (place ≡ Some q → ⊥) → is_from q place ≡ false
 from_others q None ne = refl
 from_others q (Some n) ne = on (n == q) refl where
   on : (b : Bool) → (n == q) ≡ b → b ≡ false
-  on true e = absurd (ne (ap Some (is_place n q e)))
+  on true e = absurd (ne (ap Some (eqb-true n q e)))
   on false e = refl
 
 added_others : (n q : ℕ) (place : Option ℕ) (totals : List ℕ) → (place ≡ Some (n + q) → ⊥) → slice_index_or (added_from n place totals) q 0 ≡ slice_index_or totals q 0

@@ -7,12 +7,13 @@ use Rattle.pfs_asked.specs.Whole.{signed_words}
 use Rattle.pfs_event.specs.declared.entry.Entry.{Entry}
 use Rattle.pfs_event.specs.declared.entry.Entry.TheVariants as says
 use Rattle.pfs_model.proofs.Growing.{times_append}
-use Rattle.pfs_model.proofs.Walking.{eq_of}
 use Rattle.pfs_model.specs.Actions.{is_acted, Deed, deed_at, deeds_of, IsAmong}
 use Rattle.pfs_model.specs.Asked.{Did, Freed, Tagged, Move, Flagging, did, given_to, moved_by, signed_by, flagged_by, asked_of, of_action}
 use Rattle.pfs_model.specs.Chains.{Each, times, each_of}
 use Rattle.pfs_model.specs.Places.{Placed}
 use Rattle.std.specs.Prelude.{if◌then◌else◌, Option, Some, None}
+use Rattle.std.proofs.lemmas.Bool.{eqb-true}
+use Rattle.pfs_lemmas.proofs.Numbers.{eq_self}
 use Rattle.pfs_info_rows.proofs.News.{news}
 
 pub among_front : {A : Type 0} (x : A) (xs ys : List A) → IsAmong x xs → IsAmong x (xs ++ ys)
@@ -99,7 +100,7 @@ classify row [] = inl (record { none = refl; same = λ old. refl })
 classify row (Releases at ∷ signs) = on (at == row) refl (classify row signs) where
   on : (b : Bool) → (at == row) ≡ b → Class signs row → Class (Releases at ∷ signs) row
   on true q c = inr (inl (record {
-    among = inl (ap Freed (eq_of at row q));
+    among = inl (ap Freed (eqb-true at row q));
     new = λ old. ap (λ b. cond b None (news signs row old)) q;
   }))
   on false q (inl c) = inl (record {
@@ -123,7 +124,7 @@ classify row (Tags at content ∷ signs) = on (at == row) refl (classify row sig
   on true q c = inr (inr (
     content,
     record {
-      among = inl (ap Tagged (eq_of at row q));
+      among = inl (ap Tagged (eqb-true at row q));
       says = ap (λ b. if b then content else signed_words signs row) q;
       new = λ old. ap (λ b. cond b (Some content) (news signs row old)) q;
     },
@@ -169,9 +170,6 @@ named_is row action (p ∷ ps) = on (p.context.action == action) (named_is row a
       → times (names row) (each_of did (cond b (p ∷ []) [] ++ of_action action ps)) ≡ cond b (times (names row) (did p.entry)) 0 + named row action ps
   on true e = times_append (names row) (did p.entry) (each_of did (of_action action ps)) ∙ ap (λ n. times (names row) (did p.entry) + n) e
   on false e = (omega (arith, e))
-
-eq_self : (n : ℕ) → (n == n) ≡ true
-eq_self n = grind arith
 
 module _ (row : ℕ) (low : row < 129) where
   -- a deed of the row, in its entry

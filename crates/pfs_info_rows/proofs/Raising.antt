@@ -1,6 +1,7 @@
 -- What an action takes and gives are rows above the info rows: cells of threads, accounts, users and hosts, and global
 -- ones.
 use Rattle.std.proofs.Common.{ℕ, ◌-◌, ◌≤◌, Bool, true, false, cond, List, [], ◌∷◌, ◌++◌, take, Option, Some, None, sym, subst, arith}
+use Rattle.pfs_model.proofs.EachLists.{each_join}
 use Rattle.pfs_admin.specs.Asks.{quit_work, up_of}
 use Rattle.pfs_admin.specs.Fold.{state_of}
 use Rattle.pfs_admin.proofs.Celling.{kinds_fit}
@@ -83,10 +84,6 @@ abbrev pub IsRaised : Did → Type 0
 IsRaised (Took row) = 129 ≤ row
 IsRaised (Gave row from) = 129 ≤ row
 IsRaised _ = Unit {0}
-
-pub each_join : {A : Type 0} (P : A → Type 0) (xs ys : List A) → Each P xs → Each P ys → Each P (xs ++ ys)
-each_join P [] ys a b = b
-each_join P (x ∷ xs) ys a b = (a.0, each_join P xs ys a.1 b)
 
 given_raised : (from : ℕ) (to : List ℕ) → AreAbove to → Each IsRaised (given_to from to)
 given_raised from [] h = tt

@@ -1,6 +1,7 @@
 -- Behind a settle stand additions to rows that the session held, up to the next entry with which a line begins.
 use Rattle.std.proofs.Common.{◌≡◌, refl, ℕ, ◌==◌, ◌&&◌, Bool, true, false, not, cond, List, [], ◌∷◌, ◌++◌, map, Option, Some, None, sym, ap, subst, ◌∙◌, inl, inr}
 use Rattle.std.specs.Prelude.{Ok, Err, if◌then◌else◌, IfSome}
+use Rattle.std.proofs.lemmas.Bool.{and_parts, eqb-true}
 use Rattle.pfs_event.specs.Verdicts.{is_let_through}
 use Rattle.pfs_event.specs.declared.entry.Entry.{Entry}
 use Rattle.pfs_event.specs.declared.entry.Entry.TheVariants as says
@@ -24,7 +25,6 @@ use Rattle.pfs_model.specs.declared.shapes.Ask.TheVariants as asks
 use Rattle.pfs_model.specs.declared.shapes.Item.{Item}
 use Rattle.pfs_model.specs.declared.shapes.Often.{Often}
 use Rattle.pfs_model.specs.declared.shapes.Often.TheVariants.{One, Maybe, Many}
-use Rattle.pfs_model.proofs.Walking.{eq_of}
 
 -- what may stand behind a settle of these rows
 abbrev pub FromHeld : List ℕ → Entry → Type 0
@@ -80,11 +80,6 @@ abbrev unsettled : List Item → Bool
 unsettled [] = true
 unsettled (item ∷ items) = not (asks_settle item.ask) && unsettled items
 
-both_of : (a b : Bool) → a && b ≡ true → (a ≡ true) × (b ≡ true)
-both_of true true h = (refl, refl)
-both_of true false h = absurd (cc)
-both_of false b h = absurd (cc)
-
 quiet : (ask : Ask) (e : Entry) → not (asks_settle ask) ≡ true → fits ask e ≡ true → is_settle e ≡ false
 quiet ask says.Settle a f = none ask a f where
   none : (ask : Ask) → not (asks_settle ask) ≡ true → fits ask says.Settle ≡ true → true ≡ false
@@ -106,7 +101,7 @@ quiet_many ask (e ∷ es) a g = at (fits ask e) refl g (quiet_many ask es a) whe
 cut_quiet : (items : List Item) (part : List Entry) → unsettled items ≡ true → cut items part ≡ Ok [] → AreQuiet part
 unfolding cut
 cut_quiet [] part h s = let none : part ≡ [] = cc in subst AreQuiet (sym none) tt
-cut_quiet (item ∷ items) part h s = by item.often part (both_of _ _ h).0 s (λ es q. cut_quiet items es (both_of _ _ h).1 q) where
+cut_quiet (item ∷ items) part h s = by item.often part (and_parts _ _ h).0 s (λ es q. cut_quiet items es (and_parts _ _ h).1 q) where
   by : (often : Often) (part : List Entry) → not (asks_settle item.ask) ≡ true → then_cut (step often item.ask part) (cut items) ≡ Ok [] → ((part : List Entry) → cut items part ≡ Ok [] → AreQuiet part) → AreQuiet part
   by One [] a s go = absurd (cc)
   by One (e ∷ es) a s go = at (fits item.ask e) refl s where
@@ -167,7 +162,7 @@ module _ (phase session : ℕ) (line : Line) (more : List Item) (clean : unsettl
 
     fitting : (at v : ℕ) (b : Bool) → (at == row) ≡ b → then_cut (if b then Ok es else Err (says.Add at v ∷ es)) (cut (map added rows ++ more)) ≡ Ok [] → Go
         → Settles (Some all) (placed_part phase session line c (says.Add at v ∷ es) ++ rest)
-    fitting at v true f q go = ((λ h. m at (inl (sym (eq_of at row f)))), go (noted (subject_of line) c (says.Add at v)) q)
+    fitting at v true f q go = ((λ h. m at (inl (sym (eqb-true at row f)))), go (noted (subject_of line) c (says.Add at v)) q)
     fitting at v false f q go = absurd (cc)
 
     by : (e : Entry) → then_cut (if fits (added row).ask e then Ok es else Err (e ∷ es)) (cut (map added rows ++ more)) ≡ Ok [] → Go → Settles (Some all) (placed_part phase session line c (e ∷ es) ++ rest)

@@ -3,6 +3,7 @@
 use Rattle.std.proofs.Common.{◌≡◌, refl, ℕ, ◌+◌, ◌*◌, ◌<◌, ◌≤◌, ◌==◌, Bool, true, false, cond, List, [], ◌∷◌, ◌++◌, Option, Some, None, slice_index_or, sym, ap, subst, ◌∙◌, arith}
 use Rattle.std.specs.Option.{option_map}
 use Rattle.std.specs.Prelude.{IfSome}
+use Rattle.std.proofs.lemmas.Bool.{eqb-true}
 use Rattle.pfs_admin.proofs.Rows.{frees_ascend}
 use Rattle.pfs_admin.specs.Asks.{account_tag, user_tag, host_tag, upper_tags, connect_work, quit_work, work_of_connect, work_of_quit}
 use Rattle.pfs_admin.specs.States.{State, seat_at, seat_in, thread_flags, connected, has_quit}
@@ -158,9 +159,6 @@ past_first slot row l h = apart (1 + slot) row (λ e. omega (arith, l, h, e))
 same_slot : (a b : ℕ) → (1 + a == 1 + b) ≡ (a == b)
 same_slot a b = grind arith
 
-is_slot : (a b : ℕ) → (a == b) ≡ true → a ≡ b
-is_slot a b q = grind arith
-
 not_slot : (a b : ℕ) → (a == b) ≡ false → b ≡ a → ⊥
 not_slot a b q e = let t : (a == b) ≡ true = subst (λ z. (a == z) ≡ true) (sym e) (self a) in absurd (let k : true ≡ false = sym t ∙ q in cc) where
   self : (n : ℕ) → (n == n) ≡ true
@@ -190,7 +188,7 @@ module _ (c : Containers) (number user host slot : ℕ) (free : lowest_free c.pl
   seat_thread q l = on (slot == q) refl where
     on : (b : Bool) → (slot == q) ≡ b → thread_said after q ≡ news signs (1 + q) (thread_said c q)
     on true e =
-        ap thread_text (read_at (fill_at slot x c.places.threads) q ∙ (ap (entry_at (fill_at slot x c.places.threads)) (sym (is_slot slot q e)) ∙ free_filled slot x c.places.threads free))
+        ap thread_text (read_at (fill_at slot x c.places.threads) q ∙ (ap (entry_at (fill_at slot x c.places.threads)) (sym (eqb-true slot q e)) ∙ free_filled slot x c.places.threads free))
         ∙ sym (ap (λ b. cond b (Some (thread_words (thread_info_of x))) (news (upper_tags after x) (1 + q) (thread_said c q))) (same_slot slot q ∙ e))
     on false e =
         ap thread_text (read_at (fill_at slot x c.places.threads) q ∙ (filled_others slot q x c.places.threads (not_slot slot q e) ∙ sym (read_at c.places.threads q)))
@@ -241,7 +239,7 @@ module _ (c : Containers) (f : Found Connection) (stands : entry_at c.places.thr
   quit_thread q l = on (f.place == q) refl where
     on : (b : Bool) → (f.place == q) ≡ b → thread_said left q ≡ news quit_signs (1 + q) (thread_said c q)
     on true e =
-        ap thread_text (read_at (emptied_at f.place c.places.threads) q ∙ (ap (entry_at (emptied_at f.place c.places.threads)) (sym (is_slot f.place q e)) ∙ emptied_none f.place c.places.threads))
+        ap thread_text (read_at (emptied_at f.place c.places.threads) q ∙ (ap (entry_at (emptied_at f.place c.places.threads)) (sym (eqb-true f.place q e)) ∙ emptied_none f.place c.places.threads))
         ∙ sym (ap (λ b. cond b None (news (upper_tags left f.entry ++ free_ring f.place) (1 + q) (thread_said c q))) (same_slot f.place q ∙ e))
     on false e =
         ap thread_text (read_at (emptied_at f.place c.places.threads) q ∙ (emptied_others f.place q c.places.threads (not_slot f.place q e) ∙ sym (read_at c.places.threads q)))

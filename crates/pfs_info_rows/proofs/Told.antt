@@ -1,6 +1,7 @@
 -- What the info rows of a run say under a phase's end.
 use Rattle.std.proofs.Common.{◌≡◌, refl, ℕ, suc, ◌+◌, ◌*◌, ◌<◌, ◌≤◌, Bool, true, false, cond, nat_le, List, [], ◌∷◌, ◌++◌, length, Option, Some, None, sym, ap, subst, ◌∙◌, inl, inr, arith}
 use Rattle.std.specs.Prelude.{if◌then◌else◌}
+use Rattle.pfs_lemmas.proofs.Numbers.{le_self}
 use Rattle.pfs_admin.specs.Works.{Sign}
 use Rattle.pfs_event.specs.declared.entry.Entry.{Entry}
 use Rattle.pfs_event.specs.declared.entry.Entry.TheVariants as says
@@ -31,9 +32,6 @@ use Rattle.pfs_info_rows.proofs.News.{news}
 use Rattle.pfs_info_rows.proofs.Raising.{IsRaised, asked_raised}
 use Rattle.pfs_info_rows.proofs.Signing.{behind, signed_once, said_next, opening_unsaid}
 use Rattle.pfs_info_rows.proofs.Tracing.{SaysWords, SaysHad}
-
-le_self : (n : ℕ) → nat_le n n ≡ true
-le_self n = grind arith
 
 below : (a b c : ℕ) → nat_le a b ≡ true → nat_le b c ≡ true → nat_le a c ≡ true
 below a b c q r = grind arith

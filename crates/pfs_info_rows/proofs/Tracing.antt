@@ -1,9 +1,10 @@
 -- From a version of an info row to the action that made it, and back.
 use Rattle.std.proofs.Common.{◌≡◌, refl, ℕ, ◌+◌, ◌<◌, ◌≤◌, ◌==◌, ◌&&◌, Bool, true, false, cond, List, [], ◌∷◌, ◌++◌, sym, ap, subst, ◌∙◌, ◌⊎◌, inl, inr, arith}
+use Rattle.std.proofs.lemmas.Bool.{and_parts, eqb-true}
+use Rattle.pfs_lemmas.proofs.Numbers.{eq_self}
 use Rattle.pfs_event.specs.declared.entry.Entry.{Entry}
 use Rattle.pfs_event.specs.declared.entry.Entry.TheVariants as says
 use Rattle.pfs_model.proofs.Growing.{times_append}
-use Rattle.pfs_model.proofs.Walking.{eq_of}
 use Rattle.pfs_model.specs.Actions.{Deed, deed_at, deeds_of, IsAmong}
 use Rattle.pfs_model.specs.Asked.{Freed, Tagged, did, of_action}
 use Rattle.pfs_model.specs.Chains.{Each, times, change_at, row_change, release_of, each_of, is_that}
@@ -19,14 +20,6 @@ SaysWords content words action _ = Unit {0}
 abbrev pub SaysHad : (ℕ → ℕ) → Entry → Type 0
 SaysHad last (says.Free row version) = version ≤ last row
 SaysHad last _ = Unit {0}
-
-eq_self : (n : ℕ) → (n == n) ≡ true
-eq_self n = grind arith
-
-both_of : (a b : Bool) → (a && b) ≡ true → (a ≡ true) × (b ≡ true)
-both_of true true q = (refl, refl)
-both_of true false q = absurd (cc)
-both_of false b q = absurd (cc)
 
 that_self : (row version : ℕ) → ((row == row) && (version == version)) ≡ true
 that_self row version = ap (λ b. b && (version == version)) (eq_self row) ∙ eq_self version
@@ -63,7 +56,7 @@ module _ (content words : ℕ → ℕ → List ℕ) (row : ℕ) (low : row < 129
     other : (at v : ℕ) → 129 ≤ at → 1 ≤ cond {A = ℕ} ((at == row) && (v == version)) 1 0 + times (is_that (change_at row version)) (each_of row_change ps) → Go → Found
     other at v h l go = on (at == row) refl l where
       on : (b : Bool) → (at == row) ≡ b → 1 ≤ cond {A = ℕ} (b && (v == version)) 1 0 + times (is_that (change_at row version)) (each_of row_change ps) → Found
-      on true q l = (let e : at ≡ row = eq_of at row q in absurd (omega (arith, e, h, low)))
+      on true q l = (let e : at ≡ row = eqb-true at row q in absurd (omega (arith, e, h, low)))
       on false q l = more (go (omega (arith, l)))
 
     tagged : (at v : ℕ) → p.entry ≡ says.Tag at v → content at v ≡ words p.context.action at
@@ -71,8 +64,8 @@ module _ (content words : ℕ → ℕ → List ℕ) (row : ℕ) (low : row < 129
     tagged at v is w l go = on ((at == row) && (v == version)) refl l where
       on : (b : Bool) → ((at == row) && (v == version)) ≡ b → 1 ≤ cond {A = ℕ} b 1 0 + times (is_that (change_at row version)) (each_of row_change ps) → Found
       on true q l =
-          let e : at ≡ row = eq_of at row (both_of (at == row) (v == version) q).0 in
-          let f : v ≡ version = eq_of v version (both_of (at == row) (v == version) q).1 in (
+          let e : at ≡ row = eqb-true at row (and_parts (at == row) (v == version) q).0 in
+          let f : v ≡ version = eqb-true v version (and_parts (at == row) (v == version) q).1 in (
             p.context.action,
             record {
               among = subst (λ z. IsAmong (deed_of p.context.action row version false) (deed_at p.context.action z ++ deeds_of ps)) (sym is) (inl (same_deed p.context.action p.context.action at row v version false refl e f));
@@ -130,7 +123,7 @@ module _ (content words : ℕ → ℕ → List ℕ) (row : ℕ) (low : row < 129
     on : (b : Bool) → (p.context.action == action) ≡ b → IsAmong (Tagged row) (each_of did (cond b (p ∷ []) [] ++ of_action action ps)) → Go → Found
     on true q m go = split (among_split (Tagged row) (did p.entry) (each_of did (of_action action ps)) m) where
       split : IsAmong (Tagged row) (did p.entry) ⊎ IsAmong (Tagged row) (each_of did (of_action action ps)) → Found
-      split (inl m) = here p.entry refl (eq_of p.context.action action q) w.0 m
+      split (inl m) = here p.entry refl (eqb-true p.context.action action q) w.0 m
       split (inr m) = more (go m)
     on false q m go = more (go m)
 
@@ -173,7 +166,7 @@ module _ (last : ℕ → ℕ) (row : ℕ) where
     freed : (at v : ℕ) → p.entry ≡ says.Free at v → v ≤ last at → 1 ≤ cond {A = ℕ} ((at == row) && (v == version)) 1 0 + times (is_that (change_at row version)) (each_of release_of ps) → Go → Found
     freed at v is h l go = on ((at == row) && (v == version)) refl l where
       on : (b : Bool) → ((at == row) && (v == version)) ≡ b → 1 ≤ cond {A = ℕ} b 1 0 + times (is_that (change_at row version)) (each_of release_of ps) → Found
-      on true q l = (p.context.action, freed_here p ps at v version p.context.action is refl (eq_of at row (both_of (at == row) (v == version) q).0) (eq_of v version (both_of (at == row) (v == version) q).1) h)
+      on true q l = (p.context.action, freed_here p ps at v version p.context.action is refl (eqb-true at row (and_parts (at == row) (v == version) q).0) (eqb-true v version (and_parts (at == row) (v == version) q).1) h)
       on false q l = more (go (omega (arith, l)))
 
     by : (e : Entry) → p.entry ≡ e → SaysHad last e → 1 ≤ times (is_that (change_at row version)) (release_of e ++ each_of release_of ps) → Go → Found
@@ -212,7 +205,7 @@ module _ (last : ℕ → ℕ) (row : ℕ) where
     on : (b : Bool) → (p.context.action == action) ≡ b → IsAmong (Freed row) (each_of did (cond b (p ∷ []) [] ++ of_action action ps)) → Go → Found
     on true q m go = split (among_split (Freed row) (did p.entry) (each_of did (of_action action ps)) m) where
       split : IsAmong (Freed row) (did p.entry) ⊎ IsAmong (Freed row) (each_of did (of_action action ps)) → Found
-      split (inl m) = here p.entry refl (eq_of p.context.action action q) h.0 m
+      split (inl m) = here p.entry refl (eqb-true p.context.action action q) h.0 m
       split (inr m) = more (go m)
     on false q m go = more (go m)
 

@@ -4,6 +4,7 @@ use Rattle.std.specs.Prelude.{not, ◌&&◌, if◌then◌else◌}
 use Rattle.std.specs.List.{All}
 use Rattle.std.proofs.lemmas.Bool.Decides.{Decides-eqb}
 use Rattle.std.proofs.lemmas.List.Elements.{All-head, All-tail, All-nil, All-cons, All-append}
+use Rattle.std.proofs.lemmas.Bool.{and_parts, not-true}
 use Rattle.pfs_event.specs.declared.entry.Entry.{Entry}
 use Rattle.pfs_event.specs.declared.entry.Entry.TheVariants as entry
 use Rattle.pfs_journal.specs.declared.line.Line.{Line}
@@ -17,7 +18,7 @@ use Rattle.pfs_journal.specs.Reports.{IsReport, IsValue}
 use Rattle.pfs_journal.specs.Spelling.{spelling}
 use Rattle.pfs_journal.specs.Words.{FitsField, FitsValue, FitsLine, entry_word, line_word, line_rest}
 use Rattle.pfs_journal.proofs.Collected.{report_made}
-use Rattle.pfs_journal.proofs.LastLines.{no_feed, parts_true, not_true}
+use Rattle.pfs_journal.proofs.LastLines.{no_feed}
 use Rattle.pfs_journal.proofs.LineEnds.{feedless}
 use Rattle.pfs_journal.proofs.OneLine.{line_body, front_told, one_line}
 use Rattle.pfs_journal.proofs.ReportRuns.{texts, texts_append, report_can, report_run, spelled}
@@ -153,16 +154,16 @@ first_body : (n : ℕ) (body more : List ℕ) → no_feed body ≡ true → firs
 unfolding no_feed
 first_body n [] more clean = refl
 first_body n (b ∷ body) more clean =
-    let both = parts_true (not (eqb b 10)) (no_feed body) clean in
-    ap (λ (v : Bool). b ∷ first_lines (if v then n else suc n) (body ++ 10 ∷ more)) (not_true (eqb b 10) both.0)
+    let both = and_parts (not (eqb b 10)) (no_feed body) clean in
+    ap (λ (v : Bool). b ∷ first_lines (if v then n else suc n) (body ++ 10 ∷ more)) (not-true (eqb b 10) both.0)
     ∙ ap (λ (z : List ℕ). b ∷ z) (first_body n body more both.1)
 
 whole_body : (body more : List ℕ) → no_feed body ≡ true → whole_lines (body ++ 10 ∷ more) ≡ suc (whole_lines more)
 unfolding no_feed
 whole_body [] more clean = refl
 whole_body (b ∷ body) more clean =
-    let both = parts_true (not (eqb b 10)) (no_feed body) clean in
-    ap (λ (v : Bool). if v then suc (whole_lines (body ++ 10 ∷ more)) else whole_lines (body ++ 10 ∷ more)) (not_true (eqb b 10) both.0)
+    let both = and_parts (not (eqb b 10)) (no_feed body) clean in
+    ap (λ (v : Bool). if v then suc (whole_lines (body ++ 10 ∷ more)) else whole_lines (body ++ 10 ∷ more)) (not-true (eqb b 10) both.0)
     ∙ whole_body body more both.1
 
 line_apart : (line : Line) (lines : List Line) (rest : List ℕ) → texts (line ∷ lines) ++ rest ≡ (line_word line ++ line_rest line) ++ 10 ∷ (texts lines ++ rest)

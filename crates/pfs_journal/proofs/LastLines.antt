@@ -4,7 +4,7 @@ use Rattle.std.specs.Prelude.{codes, not, ◌&&◌, if◌then◌else◌, decimal
 use Rattle.std.specs.Fmt.{digits, digits_onto, digit_glyph}
 use Rattle.std.specs.List.{All, flat_map, slice_index_or}
 use Rattle.std.specs.Str.{bytes_eq}
-use Rattle.std.proofs.lemmas.Bool.{false≢true}
+use Rattle.std.proofs.lemmas.Bool.{false≢true, and_from, and_parts, not-true}
 use Rattle.std.proofs.lemmas.Bool.Decides.{Decides-eqb}
 use Rattle.std.proofs.lemmas.List.Elements.{All-head, All-tail, All-nil}
 use Rattle.pfs_text.specs.Quotes.{doubled, quoted}
@@ -28,29 +28,17 @@ unfoldable pub no_feed : List ℕ → Bool
 no_feed [] = true
 no_feed (b ∷ bs) = not (eqb b 10) && no_feed bs
 
-both_true : (a b : Bool) → a ≡ true → b ≡ true → (a && b) ≡ true
-both_true true b p q = q
-both_true false b p q = p
-
-pub parts_true : (a b : Bool) → (a && b) ≡ true → (a ≡ true) × (b ≡ true)
-parts_true true b e = (refl, e)
-parts_true false b e = absurd (false≢true e)
-
 not_false : (a : Bool) → a ≡ false → not a ≡ true
 not_false a e = ap not e
 
-pub not_true : (a : Bool) → not a ≡ true → a ≡ false
-not_true true e = absurd (false≢true e)
-not_true false e = refl
-
 no_feed_more : (b : ℕ) (bs : List ℕ) → eqb b 10 ≡ false → no_feed bs ≡ true → no_feed (b ∷ bs) ≡ true
 unfolding no_feed
-no_feed_more b bs e h = both_true (not (eqb b 10)) (no_feed bs) (not_false (eqb b 10) e) h
+no_feed_more b bs e h = and_from (not (eqb b 10)) (no_feed bs) (not_false (eqb b 10) e) h
 
 pub clean_append : (a b : List ℕ) → no_feed a ≡ true → no_feed b ≡ true → no_feed (a ++ b) ≡ true
 unfolding no_feed
 clean_append [] b p q = q
-clean_append (x ∷ a) b p q = let h = parts_true (not (eqb x 10)) (no_feed a) p in both_true (not (eqb x 10)) (no_feed (a ++ b)) h.0 (clean_append a b h.1 q)
+clean_append (x ∷ a) b p q = let h = and_parts (not (eqb x 10)) (no_feed a) p in and_from (not (eqb x 10)) (no_feed (a ++ b)) h.0 (clean_append a b h.1 q)
 
 pub clean_flat : {X : Type 0} (f : X → List ℕ) (P : X → Type 0) → ((x : X) → P x → no_feed (f x) ≡ true) → (xs : List X) → All P xs → no_feed (flat_map f xs) ≡ true
 unfolding no_feed
@@ -151,8 +139,8 @@ line_end : (line body s : List ℕ) → no_feed body ≡ true → behind_end lin
 unfolding behind_end no_feed
 line_end line [] s h = ap (λ (z : List ℕ). if bytes_eq z (codes "end") then Some s else behind_end [] s) (sym (append-nil line))
 line_end line (b ∷ body) s h =
-    let p = parts_true (not (eqb b 10)) (no_feed body) h in
-    ap (λ (v : Bool). if v then (if bytes_eq line (codes "end") then Some (body ++ 10 ∷ s) else behind_end [] (body ++ 10 ∷ s)) else behind_end (line ++ b ∷ []) (body ++ 10 ∷ s)) (not_true (eqb b 10) p.0)
+    let p = and_parts (not (eqb b 10)) (no_feed body) h in
+    ap (λ (v : Bool). if v then (if bytes_eq line (codes "end") then Some (body ++ 10 ∷ s) else behind_end [] (body ++ 10 ∷ s)) else behind_end (line ++ b ∷ []) (body ++ 10 ∷ s)) (not-true (eqb b 10) p.0)
     ∙ (line_end (line ++ b ∷ []) body s p.1
     ∙ ap (λ (z : List ℕ). if bytes_eq z (codes "end") then Some s else behind_end [] s) (append_assoc line (b ∷ []) body))
 

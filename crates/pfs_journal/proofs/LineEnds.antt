@@ -1,7 +1,9 @@
 -- A line feed ends each line, and stands nowhere else in it.
-use Rattle.std.proofs.Common.{ℕ, suc, ◌≡◌, ◌≢◌, ◌+◌, ◌≤◌, Bool, true, eqb, cond, List, [], ◌∷◌, ◌++◌, length, take, Some, Err, append_assoc, length-append, ap, ◌∙◌, refl, arith}
+use Rattle.std.proofs.Common.{ℕ, ◌≡◌, ◌≢◌, ◌+◌, ◌≤◌, Bool, true, eqb, cond, List, [], ◌∷◌, ◌++◌, length, take, Some, append_assoc, length-append, ap, ◌∙◌, refl, arith}
 use Rattle.std.specs.Prelude.{codes, not}
 use Rattle.std.specs.List.{flat_map, prefix_len}
+use Rattle.std.proofs.lemmas.Bool.{and_parts}
+use Rattle.pfs_lemmas.proofs.Numbers.{one_plus}
 use Rattle.pfs_event.specs.declared.entry.Entry.{Entry}
 use Rattle.pfs_event.specs.declared.entry.Entry.TheVariants as entry
 use Rattle.pfs_event.specs.Verdicts.{verdict_name}
@@ -11,7 +13,7 @@ use Rattle.pfs_journal.specs.Lines.{line_text, IsLine}
 use Rattle.pfs_journal.specs.Reports.{IsValue, is_name_byte}
 use Rattle.pfs_journal.specs.Spelling.{optional_text, value_text}
 use Rattle.pfs_journal.specs.Words.{is_line_byte, entry_word, entry_numbers, entry_rest, line_word, line_rest}
-use Rattle.pfs_journal.proofs.LastLines.{no_feed, parts_true, clean_append, clean_flat, numbers_clean, optional_clean, verdict_clean, bytes_clean, value_clean}
+use Rattle.pfs_journal.proofs.LastLines.{no_feed, clean_append, clean_flat, numbers_clean, optional_clean, verdict_clean, bytes_clean, value_clean}
 use Rattle.pfs_journal.proofs.LinesRead.{line_is, take_front}
 
 entry_clean : (e : Entry) → no_feed (entry_word e ++ entry_rest e) ≡ true
@@ -37,16 +39,13 @@ feedless (says.Session number) good = clean_append (codes "session") (flat_map o
 feedless says.Final good = refl
 feedless says.End good = refl
 
-one_more : (n : ℕ) → 1 + n ≡ suc n
-one_more n = omega arith
-
 feed_at : (body more : List ℕ) → no_feed body ≡ true → prefix_len is_line_byte (body ++ 10 ∷ more) ≡ length body
 unfolding no_feed
 feed_at [] more clean = refl
 feed_at (b ∷ body) more clean =
-    let both = parts_true (not (eqb b 10)) (no_feed body) clean in
+    let both = and_parts (not (eqb b 10)) (no_feed body) clean in
     ap (λ (v : Bool). cond v (1 + prefix_len is_line_byte (body ++ 10 ∷ more)) 0) both.0
-    ∙ (ap (λ (n : ℕ). 1 + n) (feed_at body more both.1) ∙ one_more (length body))
+    ∙ (ap (λ (n : ℕ). 1 + n) (feed_at body more both.1) ∙ one_plus (length body))
 
 -- where the line feed of a line in front stands
 line_at : (line : Line) (rest more : List ℕ) → IsLine line → rest ≡ line_text line ++ more → prefix_len is_line_byte rest ≡ length (line_word line ++ line_rest line)

@@ -23,9 +23,9 @@ use Rattle.pfs_journal.specs.Words.{front_word, behind_word, IsBehind, Leads, Fi
 use Rattle.pfs_journal.proofs.WordsRead.{word_front, entry_says, dash_no_numeral, field_leads, field_some, fields_behind, name_leads, verdict_told, verdict_leads, clean_told, number_clean}
 use Rattle.pfs_journal.proofs.ValuesRead.{behind_plain, plain_only, text_rest, null_no_number, value_some}
 use Rattle.pfs_journal.proofs.GuessTold.{IsPlain, apart, row_told, table_told, lost_told, start_told, plain_told, line_clean}
-use Rattle.pfs_journal.proofs.LastLines.{no_feed, parts_true}
+use Rattle.pfs_journal.proofs.LastLines.{no_feed}
 use Rattle.pfs_journal.proofs.LineEnds.{feedless}
-use Rattle.std.proofs.lemmas.Bool.{false≢true}
+use Rattle.std.proofs.lemmas.Bool.{false≢true, and_parts}
 use Rattle.pfs_journal.proofs.LinesRead.{values_behind, line_behind, line_is}
 
 -- a word and what stands behind it are told from the text
@@ -198,14 +198,14 @@ unfolding no_feed
 behind_same [] [] more more' p q e = (refl, cc e)
 behind_same [] (b ∷ body') more more' p q e =
     let first : 10 ≡ b = cc e in
-    absurd (false≢true (ap (λ (k : ℕ). not (eqb k 10)) first ∙ (parts_true (not (eqb b 10)) (no_feed body') q).0))
+    absurd (false≢true (ap (λ (k : ℕ). not (eqb k 10)) first ∙ (and_parts (not (eqb b 10)) (no_feed body') q).0))
 behind_same (b ∷ body) [] more more' p q e =
     let first : b ≡ 10 = cc e in
-    absurd (false≢true (sym (ap (λ (k : ℕ). not (eqb k 10)) first) ∙ (parts_true (not (eqb b 10)) (no_feed body) p).0))
+    absurd (false≢true (sym (ap (λ (k : ℕ). not (eqb k 10)) first) ∙ (and_parts (not (eqb b 10)) (no_feed body) p).0))
 behind_same (b ∷ body) (b' ∷ body') more more' p q e =
     let first : b ≡ b' = cc e in
     let rest : body ++ 10 ∷ more ≡ body' ++ 10 ∷ more' = cc e in
-    let told = behind_same body body' more more' (parts_true (not (eqb b 10)) (no_feed body) p).1 (parts_true (not (eqb b' 10)) (no_feed body') q).1 rest in
+    let told = behind_same body body' more more' (and_parts (not (eqb b 10)) (no_feed body) p).1 (and_parts (not (eqb b' 10)) (no_feed body') q).1 rest in
     (ap (λ (k : ℕ). k ∷ body) first ∙ ap (λ (z : List ℕ). b' ∷ z) told.0, told.1)
 
 pub line_body : (line : Line) (more : List ℕ) → line_text line ++ more ≡ (line_word line ++ line_rest line) ++ 10 ∷ more

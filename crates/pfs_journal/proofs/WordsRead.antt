@@ -24,19 +24,17 @@ use Rattle.pfs_journal.specs.Spelling.{field_text, optional_text}
 use Rattle.pfs_journal.proofs.ItemsRead.{ItemsRead, items_more, items_left, items_end}
 use Rattle.std.proofs.Math.Seq.{take-suc-set}
 use Rattle.std.proofs.Math.ListN.{set}
-
-one_more : (n : ℕ) → 1 + n ≡ suc n
-one_more n = omega arith
+use Rattle.pfs_lemmas.proofs.Numbers.{one_plus}
 
 front_step : (x : ℕ) (t : List ℕ) → is_word_byte x ≡ true → front_word (x ∷ t) ≡ x ∷ front_word t
 front_step x t e =
     ap (λ (v : Bool). take (cond v (1 + prefix_len is_word_byte t) 0) (x ∷ t)) e
-    ∙ ap (λ (n : ℕ). take n (x ∷ t)) (one_more (prefix_len is_word_byte t))
+    ∙ ap (λ (n : ℕ). take n (x ∷ t)) (one_plus (prefix_len is_word_byte t))
 
 behind_step : (x : ℕ) (t : List ℕ) → is_word_byte x ≡ true → behind_word (x ∷ t) ≡ behind_word t
 behind_step x t e =
     ap (λ (v : Bool). drop (cond v (1 + prefix_len is_word_byte t) 0) (x ∷ t)) e
-    ∙ ap (λ (n : ℕ). drop n (x ∷ t)) (one_more (prefix_len is_word_byte t))
+    ∙ ap (λ (n : ℕ). drop n (x ∷ t)) (one_plus (prefix_len is_word_byte t))
 
 -- a word in front is found, and what stands behind it
 pub word_front : (w b : List ℕ) → All (λ b. is_word_byte b ≡ true) w → IsBehind b → (front_word (w ++ b) ≡ w) × (behind_word (w ++ b) ≡ b)

@@ -1,7 +1,8 @@
 -- No call of a plain store is below what actions gave that had ended: each names what stands there, and later actions have greater numbers.
 use Rattle.std.proofs.Common.{ℕ, ◌⊎◌, inl, inr, ◌≡◌, ◌<◌, ◌≤◌, ◌+◌, ◌==◌, nat_lt, nat_le, false, true, Bool, cond, not, ◌&&◌, List, [], ◌∷◌, ◌++◌, slice_index, refl, ap, sym, ◌∙◌, subst, arith, eq-eqb, ne_eqb, zero-add}
-use Rattle.std.proofs.lemmas.Bool.{cases_eq}
+use Rattle.std.proofs.lemmas.Bool.{cases_eq, le-ltb}
 use Rattle.std.proofs.lemmas.Bool.Decides.{nat_tests}
+use Rattle.pfs_lemmas.proofs.Bools.{and_false, counted_once_more}
 use Rattle.pfs_rows.specs.declared.table.Seen.TheVariants.{Whole, Free}
 use Rattle.pfs_rows.specs.declared.table.Seen.TheVariants as sees
 use Rattle.pfs_levels.specs.declared.answers.Added.TheVariants.{Counted, Held}
@@ -11,7 +12,6 @@ use Rattle.pfs_levels.specs.Calls.{Call, Adds, Rings, Reads, Loads, Draws, Takes
 use Rattle.pfs_levels.specs.Joint.{total, one_if}
 use Rattle.pfs_levels.specs.Order.{Mark, marks_by, word_marks_by, marked, AreMarked, is_past, above, reaching, freed, IsFloored, AreFloored, AllCalls}
 use Rattle.pfs_levels.specs.Plain.{Holds, Releases, slot_by}
-use Rattle.pfs_levels.proofs.PlainRowsFacts.{not_lt}
 
 not_le : (a b : ℕ) → b < a → nat_le a b ≡ false
 not_le a b h = grind (arith, nat_tests)
@@ -23,12 +23,8 @@ yes_pos a h = grind (arith, nat_tests)
 abbrev pub IsLater : ℕ → Mark → Type 0
 IsLater ended p = (p.action ≡ 0) ⊎ (ended < p.action)
 
-and_false : (b : Bool) → (b && false) ≡ false
-and_false true = refl
-and_false false = refl
-
 pub not_past : (row after ended : ℕ) (p : Mark) → after ≤ ended → IsLater ended p → is_past row after p ≡ false
-not_past row after ended p low (inl e) = ap (λ b. (p.row == row) && b && nat_le p.action after) (not_lt 0 p.action (omega (arith, e))) ∙ ap (λ b. b && nat_le p.action after) (and_false (p.row == row))
+not_past row after ended p low (inl e) = ap (λ b. (p.row == row) && b && nat_le p.action after) (le-ltb 0 p.action (omega (arith, e))) ∙ ap (λ b. b && nat_le p.action after) (and_false (p.row == row))
 not_past row after ended p low (inr e) = ap (λ b. (p.row == row) && nat_lt 0 p.action && b) (not_le p.action after (omega (arith, e, low))) ∙ and_false ((p.row == row) && nat_lt 0 p.action)
 
 -- one such change more
@@ -44,12 +40,6 @@ pub freed_more : (p : Mark) (log : List Mark) (row k after : ℕ) → is_past ro
 unfolding total
 freed_more p log row k after e h = rw e (zero-add (freed log row k after) ∙ h)
 
--- what stands at the newest version is above all
-marked_step : (b p : Bool) (n : ℕ) → n ≤ cond (b && p) (n + 1) n
-marked_step true true n = omega arith
-marked_step true false n = omega arith
-marked_step false p n = omega arith
-
 marked_at : (p : Bool) (v n : ℕ) → v ≡ cond p (n + 1) n → v ≤ cond p (n + 1) n
 marked_at p v n e = omega (arith, e)
 
@@ -59,13 +49,13 @@ mark_low x xs row e f = rw (eq-eqb x.row row f) (marked_at x.puts x.version (mar
 
 pub marked_more : (x : Mark) (xs : List Mark) (row : ℕ) → marked xs row ≤ marked (x ∷ xs) row
 unfolding marked
-marked_more x xs row = marked_step (x.row == row) x.puts (marked xs row)
+marked_more x xs row = counted_once_more (x.row == row) x.puts (marked xs row)
 
 other_row : (row after : ℕ) (p : Mark) → (p.row ≡ row → ⊥) → is_past row after p ≡ false
 other_row row after p e = ap (λ b. b && nat_lt 0 p.action && nat_le p.action after) (ne_eqb p.row row e)
 
 no_above : (b : Bool) (k v : ℕ) → v ≤ k → one_if (b && nat_lt k v) ≡ 0
-no_above b k v low = ap (λ z. one_if (b && z)) (not_lt k v low) ∙ ap one_if (and_false b)
+no_above b k v low = ap (λ z. one_if (b && z)) (le-ltb k v low) ∙ ap one_if (and_false b)
 
 no_reach : (b : Bool) (k v : ℕ) → v < k → one_if (b && nat_le k v) ≡ 0
 no_reach b k v low = ap (λ z. one_if (b && z)) (not_le k v low) ∙ ap one_if (and_false b)

@@ -1,6 +1,6 @@
 -- The calls that led to a plain store have one order: their own.
-use Rattle.std.proofs.Common.{ℕ, inl, inr, ◌≡◌, ◌<◌, ◌≤◌, ◌+◌, ◌*◌, ◌==◌, false, true, Bool, cond, not, ◌&&◌, List, [], ◌∷◌, slice_index, refl, ap, sym, ◌∙◌, subst, arith, eq-eqb, ne_eqb}
-use Rattle.std.proofs.lemmas.Bool.{cases_eq}
+use Rattle.std.proofs.Common.{ℕ, inl, inr, ◌≡◌, ◌<◌, ◌≤◌, ◌+◌, ◌*◌, ◌==◌, false, true, Bool, cond, ◌&&◌, List, [], ◌∷◌, slice_index, refl, ap, sym, ◌∙◌, subst, arith, eq-eqb, ne_eqb}
+use Rattle.std.proofs.lemmas.Bool.{cases_eq, not-false}
 use Rattle.pfs_rows.specs.declared.table.Seen.TheVariants.{Whole, Free}
 use Rattle.pfs_rows.specs.declared.table.Seen.TheVariants as sees
 use Rattle.pfs_levels.specs.declared.answers.Added.TheVariants.{Counted, Held}
@@ -108,10 +108,6 @@ not_put : (b : Bool) (s t : Slot) → t.allocated ≡ true → (cond b t s).allo
 not_put true s t whole free = cc
 not_put false s t whole free = refl
 
-opened_free : (b : Bool) → not b ≡ false → b ≡ true
-opened_free true e = refl
-opened_free false e = cc
-
 -- one more change: that of another row, or a release, which leaves how often the row was published
 put_elsewhere : (b : Bool) (n : ℕ) → b ≡ false → cond (b && true) (n + 1) n ≡ n
 put_elsewhere b n e = ap (λ z. cond (z && true) (n + 1) n) e
@@ -132,7 +128,7 @@ new_freed cs at row v k e f = rw (eq-eqb at row e, eq-eqb v k f) (omega arith)
 
 pub frees : (flags : List ℕ) (calls : List Call) (row : ℕ) → AllAnswer flags calls → 0 < row → (slot_after (ops_of calls) row).allocated ≡ false → 0 < frees_at (changes_of calls) row (puts_in (ops_of calls) row)
 unfolding slot_after ops_of changes_of puts_in
-frees flags [] row a up free = opens_freed row (opened_free (opens_free row) free)
+frees flags [] row a up free = opens_freed row (not-false (opens_free row) free)
 frees flags (Adds at amount (Counted r v) ∷ calls) row a up free =
     let os = ops_of calls in
     let t = slot_by (Merges amount) (slot_after os row) in

@@ -1,5 +1,7 @@
 -- Along a row of a plain store the numbers of the actions never fall.
-use Rattle.std.proofs.Common.{ℕ, ◌⊎◌, inl, inr, ◌≡◌, ◌≤◌, ◌+◌, ◌==◌, nat_lt, false, true, Bool, ◌&&◌, List, [], ◌∷◌, ◌++◌, length, refl, ap, sym, ◌∙◌, subst, arith, append_assoc, zero-add}
+use Rattle.std.proofs.Common.{ℕ, ◌⊎◌, inl, inr, ◌≡◌, ◌≤◌, ◌+◌, ◌==◌, nat_lt, false, true, ◌&&◌, List, [], ◌∷◌, ◌++◌, length, refl, ap, sym, ◌∙◌, subst, arith, append_assoc, zero-add}
+use Rattle.std.proofs.lemmas.Bool.{le-ltb}
+use Rattle.pfs_lemmas.proofs.Bools.{and_false}
 use Rattle.pfs_levels.specs.declared.answers.Added.TheVariants.{Counted, Held}
 use Rattle.pfs_levels.specs.declared.answers.RingPut.TheVariants.{Done, Busy, Late}
 use Rattle.pfs_levels.specs.declared.plain.Slot.{Slot}
@@ -10,7 +12,6 @@ use Rattle.pfs_levels.specs.Plain.{ops_of, slot_after, AllAnswer, labels_after}
 use Rattle.pfs_levels.specs.PlainCalls.{AllOutside}
 use Rattle.pfs_levels.proofs.PlainKept.{labels_grow, answers_rest, stood}
 use Rattle.pfs_levels.proofs.PlainOrder.{IsInside, inside}
-use Rattle.pfs_levels.proofs.PlainRowsFacts.{not_lt}
 
 abbrev UpTo : ℕ → List Mark → Type 0
 UpTo n [] = Unit {0}
@@ -20,13 +21,9 @@ up_more : (m n : ℕ) (log : List Mark) → m ≤ n → UpTo m log → UpTo n lo
 up_more m n [] low u = tt
 up_more m n (p ∷ ps) low u = (omega (arith, low, u.0), up_more m n ps low u.1)
 
-and_false : (b : Bool) → (b && false) ≡ false
-and_false true = refl
-and_false false = refl
-
 no_fall : (x p : Mark) (n : ℕ) → p.action ≤ n → (x.action ≡ 0) ⊎ (n ≤ x.action) → falls x p ≡ false
-no_fall x p n low (inl e) = ap (λ b. (p.row == x.row) && b && nat_lt x.action p.action) (not_lt 0 x.action (omega (arith, e))) ∙ ap (λ b. b && nat_lt x.action p.action) (and_false (p.row == x.row))
-no_fall x p n low (inr e) = ap (λ b. (p.row == x.row) && nat_lt 0 x.action && b) (not_lt x.action p.action (omega (arith, low, e))) ∙ and_false ((p.row == x.row) && nat_lt 0 x.action)
+no_fall x p n low (inl e) = ap (λ b. (p.row == x.row) && b && nat_lt x.action p.action) (le-ltb 0 x.action (omega (arith, e))) ∙ ap (λ b. b && nat_lt x.action p.action) (and_false (p.row == x.row))
+no_fall x p n low (inr e) = ap (λ b. (p.row == x.row) && nat_lt 0 x.action && b) (le-ltb x.action p.action (omega (arith, low, e))) ∙ and_false ((p.row == x.row) && nat_lt 0 x.action)
 
 none_falls : (x : Mark) (log : List Mark) (n : ℕ) → UpTo n log → (x.action ≡ 0) ⊎ (n ≤ x.action) → total (λ p. one_if (falls x p)) log ≡ 0
 unfolding total

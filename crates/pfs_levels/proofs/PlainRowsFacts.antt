@@ -1,17 +1,11 @@
 -- What the fold of a plain store's calls says of versions, contents and releases.
 use Rattle.std.proofs.Common.{ℕ, inl, inr, ◌≡◌, ◌<◌, ◌≤◌, ◌+◌, ◌==◌, nat_lt, false, true, Bool, cond, ◌&&◌, List, [], ◌∷◌, ◌++◌, refl, ap, sym, ◌∙◌, arith, eq-eqb, ne_eqb}
-use Rattle.std.proofs.lemmas.Bool.{cases_eq}
-use Rattle.std.proofs.lemmas.Bool.Decides.{nat_tests}
+use Rattle.std.proofs.lemmas.Bool.{cases_eq, le-ltb, lt-ltb}
+use Rattle.pfs_lemmas.proofs.Bools.{counted_once_more}
 use Rattle.pfs_levels.specs.declared.plain.Slot.{Slot}
 use Rattle.pfs_levels.specs.Contents.{merged, opening_content}
 use Rattle.pfs_levels.specs.Joint.{total, At, count, Setting, word_version, flags_at, AreWordsCounted, frees_at}
 use Rattle.pfs_levels.specs.Plain.{Effect, Merges, Becomes, Renews, Holds, Releases, Op, op, slot_by, slot_after, word_after, is_put, puts_in, content_by, content_at}
-
-pub not_lt : (a b : ℕ) → b ≤ a → nat_lt a b ≡ false
-not_lt a b h = grind (arith, nat_tests)
-
-pub yes_lt : (a b : ℕ) → a < b → nat_lt a b ≡ true
-yes_lt a b h = grind (arith, nat_tests)
 
 -- versions
 step_version : (b : Bool) (e : Effect) (s : Slot) (n : ℕ) → s.version ≡ n → (cond b (slot_by e s) s).version ≡ cond (b && is_put e) (n + 1) n
@@ -30,21 +24,16 @@ versions (o ∷ os) row = step_version (o.row == row) o.effect (slot_after os ro
 -- contents
 step_content : (b : Bool) (e : Effect) (s : Slot) (n k : ℕ) (c : List ℕ) → s.content ≡ c → cond (b && is_put e) (n + 1) n ≤ k → (cond b (slot_by e s) s).content ≡ cond (b && (is_put e && nat_lt n k)) (content_by e c) c
 step_content false e s n k c h up = h
-step_content true (Merges amount) s n k c h up = rw (yes_lt n k (omega arith)) (ap (λ z. merged z amount) h)
-step_content true (Becomes content) s n k c h up = rw (yes_lt n k (omega arith)) refl
-step_content true Renews s n k c h up = rw (yes_lt n k (omega arith)) h
+step_content true (Merges amount) s n k c h up = rw (lt-ltb n k (omega arith)) (ap (λ z. merged z amount) h)
+step_content true (Becomes content) s n k c h up = rw (lt-ltb n k (omega arith)) refl
+step_content true Renews s n k c h up = rw (lt-ltb n k (omega arith)) h
 step_content true Holds s n k c h up = h
 step_content true Releases s n k c h up = h
-
-puts_step : (b p : Bool) (n : ℕ) → n ≤ cond (b && p) (n + 1) n
-puts_step true true n = omega arith
-puts_step true false n = omega arith
-puts_step false p n = omega arith
 
 pub contents : (os : List Op) (row k : ℕ) → puts_in os row ≤ k → (slot_after os row).content ≡ content_at os row k
 unfolding slot_after puts_in content_at
 contents [] row k up = refl
-contents (o ∷ os) row k up = step_content (o.row == row) o.effect (slot_after os row) (puts_in os row) k (content_at os row k) (contents os row k (omega (arith, up, puts_step (o.row == row) (is_put o.effect) (puts_in os row)))) up
+contents (o ∷ os) row k up = step_content (o.row == row) o.effect (slot_after os row) (puts_in os row) k (content_at os row k) (contents os row k (omega (arith, up, counted_once_more (o.row == row) (is_put o.effect) (puts_in os row)))) up
 
 no_choice : {A : Type 0} (b p : Bool) (x y : A) → cond (b && (p && false)) x y ≡ y
 no_choice true true x y = refl
@@ -53,12 +42,12 @@ no_choice false p x y = refl
 
 pub content_kept : (o : Op) (os : List Op) (row k : ℕ) → k ≤ puts_in os row → content_at (o ∷ os) row k ≡ content_at os row k
 unfolding content_at
-content_kept o os row k low = ap (λ b. cond ((o.row == row) && (is_put o.effect && b)) (content_by o.effect (content_at os row k)) (content_at os row k)) (not_lt (puts_in os row) k low) ∙ no_choice (o.row == row) (is_put o.effect) (content_by o.effect (content_at os row k)) (content_at os row k)
+content_kept o os row k low = ap (λ b. cond ((o.row == row) && (is_put o.effect && b)) (content_by o.effect (content_at os row k)) (content_at os row k)) (le-ltb (puts_in os row) k low) ∙ no_choice (o.row == row) (is_put o.effect) (content_by o.effect (content_at os row k)) (content_at os row k)
 
 pub puts_more : (xs os : List Op) (row : ℕ) → puts_in os row ≤ puts_in (xs ++ os) row
 unfolding puts_in
 puts_more [] os row = omega arith
-puts_more (x ∷ xs) os row = omega (arith, puts_more xs os row, puts_step (x.row == row) (is_put x.effect) (puts_in (xs ++ os) row))
+puts_more (x ∷ xs) os row = omega (arith, puts_more xs os row, counted_once_more (x.row == row) (is_put x.effect) (puts_in (xs ++ os) row))
 
 pub contents_kept : (xs os : List Op) (row k : ℕ) → k ≤ puts_in os row → content_at (xs ++ os) row k ≡ content_at os row k
 contents_kept [] os row k low = refl
@@ -72,7 +61,7 @@ content_opens (o ∷ os) row = content_kept o os row 0 (omega arith) ∙ content
 -- the newest publication
 pub put_new : (os : List Op) (row : ℕ) (e : Effect) (v : ℕ) → is_put e ≡ true → v ≡ puts_in os row + 1 → content_at (op row e ∷ os) row v ≡ content_by e (slot_after os row).content
 unfolding content_at
-put_new os row e v put next = rw (eq-eqb row row refl, put, yes_lt (puts_in os row) v (omega arith)) (ap (content_by e) (sym (contents os row v (omega arith))))
+put_new os row e v put next = rw (eq-eqb row row refl, put, lt-ltb (puts_in os row) v (omega arith)) (ap (content_by e) (sym (contents os row v (omega arith))))
 
 -- words
 pub word_versions : (flags : List ℕ) (ss : List Setting) (at : ℕ) → AreWordsCounted ss → (word_after flags ss at).version ≡ word_version ss at
@@ -114,14 +103,10 @@ word_flags flags (s ∷ ss) at a = elim (cases_eq s.word at) [
   | inr e ↦ rw (ne_eqb s.word at e) (word_flags flags ss at a.1)
 ]
 
--- counts of changes
-pub count_step : (b p : Bool) (n : ℕ) → n ≤ cond (b && p) (n + 1) n
-count_step b p n = puts_step b p n
-
 pub count_more : (xs cs : List At) (row : ℕ) → count cs row ≤ count (xs ++ cs) row
 unfolding count
 count_more [] cs row = omega arith
-count_more (x ∷ xs) cs row = omega (arith, count_more xs cs row, puts_step (x.row == row) x.puts (count (xs ++ cs) row))
+count_more (x ∷ xs) cs row = omega (arith, count_more xs cs row, counted_once_more (x.row == row) x.puts (count (xs ++ cs) row))
 
 pub frees_more : (xs cs : List At) (row k : ℕ) → frees_at cs row k ≤ frees_at (xs ++ cs) row k
 unfolding total

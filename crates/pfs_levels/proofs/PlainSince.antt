@@ -1,6 +1,7 @@
 -- No call of a plain store is below what earlier actors left.
 use Rattle.std.proofs.Common.{ℕ, inl, inr, ◌≡◌, ◌<◌, ◌≤◌, ◌+◌, ◌==◌, true, false, Bool, cond, not, ◌&&◌, List, [], ◌∷◌, ◌++◌, slice_index, refl, ap, sym, ◌∙◌, subst, arith, append_assoc, zero-add, eq-eqb, ne_eqb}
 use Rattle.std.proofs.lemmas.Bool.{cases_eq, eqb-true}
+use Rattle.pfs_lemmas.proofs.Bools.{and_false, counted_once_more}
 use Rattle.pfs_rows.specs.declared.table.Seen.TheVariants.{Whole, Free}
 use Rattle.pfs_rows.specs.declared.table.Seen.TheVariants as sees
 use Rattle.pfs_levels.specs.declared.answers.Added.TheVariants.{Counted, Held}
@@ -39,15 +40,6 @@ frees_since xs ys row k = subst (λ z. frees_at (changes_of ys) row k ≤ frees_
 mark_low : (p : Bool) (v n m k : ℕ) → v ≡ cond p (n + 1) n → m ≡ cond p (n + 1) n → m < k → v ≡ k → ⊥
 mark_low p v n m k e f low h = omega (arith, e, f, low, h)
 
-and_no : (b : Bool) → (b && false) ≡ false
-and_no true = refl
-and_no false = refl
-
-step_low : (b p : Bool) (n : ℕ) → n ≤ cond (b && p) (n + 1) n
-step_low true true n = omega arith
-step_low true false n = omega arith
-step_low false p n = omega arith
-
 count_here : (x : At) (cs : List At) (row : ℕ) → x.row ≡ row → count (x ∷ cs) row ≡ cond x.puts (count cs row + 1) (count cs row)
 unfolding count
 count_here x cs row e = ap (λ b. cond (b && x.puts) (count cs row + 1) (count cs row)) (eq-eqb x.row row e)
@@ -61,18 +53,18 @@ elsewhere x cs row k e h = ap (λ b. one_if (b && not x.puts && (x.version == k)
 
 otherwise : (x : At) (cs : List At) (row k : ℕ) → (x.version ≡ k → ⊥) → releases cs row k ≡ 0 → releases (x ∷ cs) row k ≡ 0
 unfolding total
-otherwise x cs row k e h = ap (λ b. one_if ((x.row == row) && not x.puts && b) + releases cs row k) (ne_eqb x.version k e) ∙ ap (λ b. one_if b + releases cs row k) (and_no ((x.row == row) && not x.puts)) ∙ zero-add (releases cs row k) ∙ h
+otherwise x cs row k e h = ap (λ b. one_if ((x.row == row) && not x.puts && b) + releases cs row k) (ne_eqb x.version k e) ∙ ap (λ b. one_if b + releases cs row k) (and_false ((x.row == row) && not x.puts)) ∙ zero-add (releases cs row k) ∙ h
 
 put_not : (x : At) (cs : List At) (row k : ℕ) → x.puts ≡ true → releases cs row k ≡ 0 → releases (x ∷ cs) row k ≡ 0
 unfolding total
-put_not x cs row k e h = ap (λ b. one_if ((x.row == row) && not b && (x.version == k)) + releases cs row k) e ∙ ap (λ b. one_if (b && (x.version == k)) + releases cs row k) (and_no (x.row == row)) ∙ zero-add (releases cs row k) ∙ h
+put_not x cs row k e h = ap (λ b. one_if ((x.row == row) && not b && (x.version == k)) + releases cs row k) e ∙ ap (λ b. one_if (b && (x.version == k)) + releases cs row k) (and_false (x.row == row)) ∙ zero-add (releases cs row k) ∙ h
 
 none_above : (cs : List At) (row k : ℕ) → IsCounted cs → count cs row < k → releases cs row k ≡ 0
 unfolding total count
 none_above [] row k c low = refl
 none_above (x ∷ cs) row k c low = elim (cases_eq x.row row) [
-  | inl e ↦ otherwise x cs row k (mark_low x.puts x.version (count cs row) _ k (c.0 ∙ ap (λ r. cond x.puts (count cs r + 1) (count cs r)) e) (count_here x cs row e) low) (none_above cs row k c.1 (omega (arith, low, step_low (x.row == row) x.puts (count cs row))))
-  | inr e ↦ elsewhere x cs row k e (none_above cs row k c.1 (omega (arith, low, step_low (x.row == row) x.puts (count cs row))))
+  | inl e ↦ otherwise x cs row k (mark_low x.puts x.version (count cs row) _ k (c.0 ∙ ap (λ r. cond x.puts (count cs r + 1) (count cs r)) e) (count_here x cs row e) low) (none_above cs row k c.1 (omega (arith, low, counted_once_more (x.row == row) x.puts (count cs row))))
+  | inr e ↦ elsewhere x cs row k e (none_above cs row k c.1 (omega (arith, low, counted_once_more (x.row == row) x.puts (count cs row))))
 ]
 
 -- a row that is allocated wasn't released at its version

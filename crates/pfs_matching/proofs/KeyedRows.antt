@@ -9,6 +9,7 @@ use Rattle.std.specs.Ordering.{is_eq, is_lt, nat_cmp, ordering_reverse, ordering
 use Rattle.std.proofs.lemmas.Bool.{or_cases, cases_Bool}
 use Rattle.std.proofs.lemmas.Cmp.{tied_itself}
 use Rattle.std.proofs.lemmas.Map.Text.{is_eq-slice_cmp}
+use Rattle.pfs_lemmas.proofs.Numbers.{one_plus}
 use Rattle.pfs_matching.specs.Keyed.{AreOrdered, AreRows, comes_before, key_cmp, with_row}
 
 pub key_total : IsTotalOrder key_cmp
@@ -35,9 +36,6 @@ keys_same (x ∷ a) (y ∷ b) e =
 
 pub keys_itself : (a : List (List ℕ)) → is_eq (key_cmp a a) ≡ true
 keys_itself a = ap is_eq (tied_itself key_total a)
-
-one_more : (n : ℕ) → 1 + n ≡ suc n
-one_more n = omega arith
 
 module _ {R : Type 0} (key : R → List (List ℕ)) where
   -- the test of all rows for a key
@@ -66,7 +64,7 @@ module _ {R : Type 0} (key : R → List (List ℕ)) where
   pub with_row-insert : (new : R) (rows : List R) → insert rows (prefix_len (λ row. comes_before key row new) rows) new ≡ with_row key new rows
   with_row-insert new [] = refl
   with_row-insert new (row ∷ rows) = elim (cases_Bool (comes_before key row new)) [
-    | inl before ↦ rw (before, one_more (prefix_len (λ row. comes_before key row new) rows)) (ap (λ rs. row ∷ rs) (with_row-insert new rows))
+    | inl before ↦ rw (before, one_plus (prefix_len (λ row. comes_before key row new) rows)) (ap (λ rs. row ∷ rs) (with_row-insert new rows))
     | inr after ↦ rw after refl
   ]
 

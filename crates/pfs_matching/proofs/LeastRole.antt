@@ -1,12 +1,12 @@
 -- The first row for a HOST and a USER has the least ROLE.
-use Rattle.std.proofs.Common.{◌≡◌, ◌≢◌, ℕ, ◌<◌, inl, inr, zero, suc, Bool, true, false, List, [], ◌∷◌, ◌&&◌, length, get_or, Contains, IsTrue, Some, sym, subst, ap, ◌∙◌, refl, arith}
+use Rattle.std.proofs.Common.{◌≡◌, ◌≢◌, ℕ, ◌<◌, inl, inr, zero, suc, true, List, [], ◌∷◌, ◌&&◌, length, get_or, Contains, IsTrue, Some, sym, subst, ap, ◌∙◌, refl, arith}
 use Rattle.std.specs.declared.cmp.Ordering.{Ordering}
 use Rattle.std.specs.declared.cmp.Ordering.TheVariants.{Less, Equal, Greater}
 use Rattle.std.specs.Cmp.Lexicographic.{slice_cmp, bytes_decides, nat_list_cmp_total}
 use Rattle.std.specs.List.{AllByRecursion, find}
 use Rattle.std.specs.Ordering.{is_lt, nat_cmp, ordering_then}
 use Rattle.std.specs.Str.{bytes_eq}
-use Rattle.std.proofs.lemmas.Bool.{cases_Bool}
+use Rattle.std.proofs.lemmas.Bool.{cases_Bool, and_parts}
 use Rattle.std.proofs.lemmas.Cmp.{tied_itself}
 use Rattle.std.proofs.lemmas.Option.{same_Some}
 use Rattle.pfs_matching.specs.declared.actor_rows.ActorRow.{ActorRow}
@@ -18,10 +18,6 @@ pub all_at : {R : Type 0} (P : R → Type 0) (rows : List R) (k : ℕ) (d : R) �
 all_at P [] k d within all = absurd (omega arith)
 all_at P (row ∷ rows) zero d within all = all.0
 all_at P (row ∷ rows) (suc k) d within all = all_at P rows k d (omega arith) all.1
-
-pub both_true : (a b : Bool) → (a && b) ≡ true → (a ≡ true) × (b ≡ true)
-both_true true b e = (refl, e)
-both_true false b e = cc
 
 -- a row of a HOST and a USER is found by them
 is_for-own : (host user : List ℕ) (row : ActorRow) → row.host ≡ host → row.user ≡ user → actor_has (host, user) row ≡ true
@@ -50,7 +46,7 @@ first_is_least (r ∷ rows) host user row ordered found zero other within is sam
 first_is_least (r ∷ rows) host user row ordered found (suc k) other within is same_host same_user = elim (cases_Bool (actor_has (host, user) r)) [
   | inl named ↦
       let here : r ≡ row = same_Some r row (rw named at found) in
-      let parts = both_true (bytes_eq r.host host) (bytes_eq r.user user) named in
+      let parts = and_parts (bytes_eq r.host host) (bytes_eq r.user user) named in
       let before : comes_before actor_key r other ≡ true = subst (λ o. comes_before actor_key r o ≡ true) is (all_at (λ later. IsTrue (comes_before actor_key r later)) rows k other (omega arith) ordered.0) in
       subst (λ o. slice_cmp nat_cmp o.role other.role ≢ Greater) here (role_before r other ((bytes_decides r.host host).0 parts.0 ∙ sym same_host) ((bytes_decides r.user user).0 parts.1 ∙ sym same_user) before)
   | inr differs ↦ first_is_least rows host user row ordered.1 (rw differs at found) k other (omega arith) is same_host same_user
@@ -58,7 +54,7 @@ first_is_least (r ∷ rows) host user row ordered found (suc k) other within is 
 
 actors_lead : (rows : List ActorRow) → AreOrdered actor_key rows → (way : List ℕ × List ℕ) (row other : ActorRow) → find (actor_has way) rows ≡ Some row → Contains rows other → actor_has way other ≡ true → HasLesserRole row other
 actors_lead rows ordered way row other found has passes =
-    let parts = both_true (bytes_eq other.host way.0) (bytes_eq other.user way.1) passes in
+    let parts = and_parts (bytes_eq other.host way.0) (bytes_eq other.user way.1) passes in
     first_is_least rows way.0 way.1 row ordered found has.0 other has.1 has.2 ((bytes_decides other.host way.0).0 parts.0) ((bytes_decides other.user way.1).0 parts.1)
 
 pub actors_decide_best : ActorsDecideBest

@@ -5,6 +5,7 @@ use Rattle.std.specs.List.Sorted.{IsStrictlyIncreasing}
 use Rattle.std.proofs.lemmas.Bool.{cases_Bool, cases_lt, ne_eqb}
 use Rattle.std.proofs.lemmas.List.{drop_more, get_or-drop, get_or-take, length-take-le, take_more}
 use Rattle.std.proofs.lemmas.List.Kept.{AllPairs-from_increasing}
+use Rattle.pfs_lemmas.proofs.Numbers.{eq_self}
 use Rattle.pfs_matching.specs.Keyed.{AreOrdered, AreRows, changed_from, comes_before, is_named, unnamed_from, with_named_changed, without_named}
 
 -- a fact at each index is a fact of each element
@@ -22,9 +23,6 @@ places_below places i rises within = all_from_index (λ q. q < get_or places i 0
     (λ k inside.
     let below : k < i = omega (arith, length-take-le i places (omega arith)) in
     rw (get_or-take i places k 0 below) (AllPairs-from_increasing places rises k i 0 below within))
-
-eqb_same : (n : ℕ) → eqb n n ≡ true
-eqb_same n = grind arith
 
 -- a place below all the named ones, or above them, isn't named
 not_named_below : (n p : ℕ) (places : List ℕ) → n ≤ p → AllByRecursion (λ q. p < q) places → is_named places n ≡ false
@@ -63,7 +61,7 @@ module _ {R : Type 0} where
       at_here : p ≡ n → (unnamed_from n (p ∷ places) (row ∷ rows) ≡ remove (unnamed_from n places (row ∷ rows)) (p - n)) × (p - n < length (unnamed_from n places (row ∷ rows)))
       at_here is =
           let none : p - n ≡ zero = omega arith in
-          let named : eqb p n ≡ true = subst (λ m. eqb p m ≡ true) is (eqb_same p) in
+          let named : eqb p n ≡ true = subst (λ m. eqb p m ≡ true) is (eq_self p) in
           let rest : unnamed_from (n + 1) (p ∷ places) rows ≡ unnamed_from (n + 1) places rows = unnamed_past rows (n + 1) p places (omega arith) in
           (rw (named, free, none) rest, rw (free, none) (omega arith))
 
@@ -110,7 +108,7 @@ module _ {R : Type 0} (change : R → R) where
   named_push (q ∷ places) p n differs = rw (named_push places p n differs) refl
 
   named_last : (places : List ℕ) (p : ℕ) → is_named (places ++ p ∷ []) p ≡ true
-  named_last [] p = rw (eqb_same p) refl
+  named_last [] p = rw (eq_self p) refl
   named_last (q ∷ places) p = elim (cases_Bool (eqb q p)) as (λ _. is_named ((q ∷ places) ++ p ∷ []) p ≡ true) [ inl same ↦ rw same refl | inr other ↦ rw (other, named_last places p) refl ]
 
   changed_past : (rows : List R) (n p : ℕ) (places : List ℕ) → p < n → changed_from change n (places ++ p ∷ []) rows ≡ changed_from change n places rows

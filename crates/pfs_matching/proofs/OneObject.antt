@@ -6,7 +6,7 @@ use Rattle.std.specs.Cmp.Lexicographic.{bytes_decides}
 use Rattle.std.specs.List.{find}
 use Rattle.std.specs.Ordering.{is_lt}
 use Rattle.std.specs.Str.{bytes_eq}
-use Rattle.std.proofs.lemmas.Bool.{cases_Bool, false≢true}
+use Rattle.std.proofs.lemmas.Bool.{cases_Bool, false≢true, and_parts}
 use Rattle.std.proofs.lemmas.Cmp.{tied_itself}
 use Rattle.std.proofs.lemmas.Option.{same_Some}
 use Rattle.pfs_matching.specs.declared.object_rows.ObjectKind.{ObjectKind}
@@ -16,7 +16,7 @@ use Rattle.pfs_matching.specs.Keyed.{AreOrdered, comes_before, key_cmp}
 use Rattle.pfs_matching.specs.ObjectRules.{IsAlone, KindNamesDiffer, ObjectsDecideBest, is_table, kind_name, object_key, object_says, table_has, table_ways}
 use Rattle.pfs_matching.proofs.BestRow.{decides_best}
 use Rattle.pfs_matching.proofs.KeyedRows.{key_total}
-use Rattle.pfs_matching.proofs.LeastRole.{all_at, both_true}
+use Rattle.pfs_matching.proofs.LeastRole.{all_at}
 
 table_is : (kind : ObjectKind) → is_table kind ≡ true → kind_name kind ≡ kind_name Table
 table_is Table e = refl
@@ -28,8 +28,8 @@ table_is Trigger e = absurd (false≢true e)
 -- rows that have one way have one key
 key_of_way : (way : List ℕ × List ℕ) (row : ObjectRow) → table_has way row ≡ true → object_key row ≡ kind_name Table ∷ way.0 ∷ way.1 ∷ []
 key_of_way way row passes =
-    let front = both_true (is_table row.kind && bytes_eq row.schema way.0) (bytes_eq row.name way.1) passes in
-    let parts = both_true (is_table row.kind) (bytes_eq row.schema way.0) front.0 in
+    let front = and_parts (is_table row.kind && bytes_eq row.schema way.0) (bytes_eq row.name way.1) passes in
+    let parts = and_parts (is_table row.kind) (bytes_eq row.schema way.0) front.0 in
     let kind = table_is row.kind parts.0 in
     let schema = (bytes_decides row.schema way.0).0 parts.1 in
     let name = (bytes_decides row.name way.1).0 front.1 in

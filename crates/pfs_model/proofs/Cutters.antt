@@ -2,6 +2,7 @@
 use Rattle.std.proofs.Common.{◌≡◌, refl, Bool, true, false, ◌&&◌, List, [], ◌∷◌, ◌++◌, ◌∙◌, ap, arith}
 use Rattle.std.specs.Prelude.{Result, Ok, Err, if◌then◌else◌}
 use Rattle.std.proofs.lemmas.List.{take_at, length-append}
+use Rattle.std.proofs.lemmas.Bool.{and_parts}
 use Rattle.pfs_event.specs.declared.entry.Entry.{Entry}
 use Rattle.pfs_event.specs.declared.entry.Entry.TheVariants as says
 use Rattle.pfs_model.specs.declared.shapes.Ask.{Ask}
@@ -101,18 +102,13 @@ step_more Maybe ask [] rest left c h s = let same : [] ≡ left = cc in rw (← 
 step_more Maybe ask (e ∷ es) rest left c h s = maybe_more (fits ask e) e es rest left s
 step_more Many ask part rest left c h s = let same : behind ask part ≡ left = cc in rw (behind_more ask part rest c h, same) refl
 
-both : (a b : Bool) → a && b ≡ true → (a ≡ true) × (b ≡ true)
-both true true h = (refl, refl)
-both true false h = absurd (cc)
-both false b h = absurd (cc)
-
 -- what a shape takes, it takes too where more follows
 pub cut_more : (items : List Item) (part rest left : List Entry) → are_closed items ≡ true → is_headed rest ≡ true → cut items part ≡ Ok left → cut items (part ++ rest) ≡ Ok (left ++ rest)
 unfolding cut
 cut_more [] part rest left c h s = let same : part ≡ left = cc in rw same refl
-cut_more (item ∷ items) part rest left c h s = at (step item.often item.ask part) refl s (λ mid q. cut_more items mid rest left (both _ _ c).1 h q) where
+cut_more (item ∷ items) part rest left c h s = at (step item.often item.ask part) refl s (λ mid q. cut_more items mid rest left (and_parts _ _ c).1 h q) where
   at : (r : Result (List Entry) (List Entry)) → step item.often item.ask part ≡ r → then_cut r (cut items) ≡ Ok left → ((mid : List Entry) → cut items mid ≡ Ok left → cut items (mid ++ rest) ≡ Ok (left ++ rest)) → then_cut (step item.often item.ask (part ++ rest)) (cut items) ≡ Ok (left ++ rest)
-  at (Ok mid) q s go = rw (step_more item.often item.ask part rest mid (both _ _ c).0 h q) (go mid s)
+  at (Ok mid) q s go = rw (step_more item.often item.ask part rest mid (and_parts _ _ c).0 h q) (go mid s)
   at (Err mid) q s go = absurd (cc)
 
 -- what was taken, alone

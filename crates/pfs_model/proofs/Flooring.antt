@@ -1,6 +1,9 @@
 -- Where lines agree plainly, what a line names is at or above its floor, and above what was released.
 use Rattle.std.proofs.Common.{◌≡◌, refl, ℕ, ◌+◌, ◌<◌, ◌≤◌, ◌==◌, Bool, true, false, ◌&&◌, cond, nat_lt, nat_le, List, [], ◌∷◌, ◌++◌, sym, ◌∙◌, ap, subst, ◌⊎◌, inl, inr, arith}
 use Rattle.std.proofs.Math.Nat.{max-le}
+use Rattle.std.proofs.lemmas.Bool.{eqb-true}
+use Rattle.pfs_model.proofs.EachLists.{each_join}
+use Rattle.pfs_lemmas.proofs.Numbers.{eq_self}
 use Rattle.pfs_event.specs.declared.entry.Entry.{Entry}
 use Rattle.pfs_event.specs.declared.entry.Entry.TheVariants as says
 use Rattle.pfs_model.specs.declared.changes.Change.{Change}
@@ -9,7 +12,7 @@ use Rattle.pfs_model.specs.Chains.{Each, times, each_of, row_change, word_change
 use Rattle.pfs_model.specs.Floors.{rows_known, by_actions, greatest}
 use Rattle.pfs_model.specs.Plain.{last_of, AreNext, AreLast, Agrees, AgreesWith, AgreeBehind, is_free, stands_free}
 use Rattle.pfs_model.proofs.Growing.{IsGrown, grown_more, row_short, word_short, action_short, onto, times_append}
-use Rattle.pfs_model.proofs.Walking.{top, Walk, Comes, number_next, top_step, Rising, eq_of}
+use Rattle.pfs_model.proofs.Walking.{top, Walk, Comes, number_next, top_step, Rising}
 use Rattle.pfs_model.proofs.Ordering.{last_grows, row_one, word_one}
 
 -- lines that agree, the last first
@@ -29,11 +32,6 @@ pub grown_actions : (earlier : List Placed) → Agreed earlier → IsGrown (each
 grown_actions [] a = tt
 grown_actions (p ∷ earlier) a = grown_more (each_of action_change earlier) (action_change p.entry) (action_short p.entry) a.0.numbers (grown_actions earlier a.1)
 
--- facts of each, over lists that are put together
-pub each_append : {A : Type 0} (P : A → Type 0) (xs ys : List A) → Each P xs → Each P ys → Each P (xs ++ ys)
-each_append P [] ys a b = b
-each_append P (x ∷ xs) ys a b = (a.0, each_append P xs ys a.1 b)
-
 pub each_map : {A : Type 0} (P Q : A → Type 0) → ((x : A) → P x → Q x) → (xs : List A) → Each P xs → Each Q xs
 each_map P Q go [] a = tt
 each_map P Q go (x ∷ xs) a = (go x a.0, each_map P Q go xs a.1)
@@ -46,7 +44,7 @@ pub each_chosen_of : (P : Change → Type 0) (f : Entry → List Change) (test :
 each_chosen_of P f test [] h = tt
 each_chosen_of P f test (p ∷ ps) h = at (test p) refl (each_chosen_of P f test ps h.1) where
   at : (b : Bool) → test p ≡ b → Each P (each_of f (chosen test ps)) → Each P (each_of f (cond b (p ∷ []) [] ++ chosen test ps))
-  at true q r = each_append P (f p.entry) (each_of f (chosen test ps)) (h.0 q) r
+  at true q r = each_join P (f p.entry) (each_of f (chosen test ps)) (h.0 q) r
   at false q r = r
 
 each_onto : (P : Placed → Type 0) (earlier ps : List Placed) → Each P earlier → Each P ps → Each P (onto earlier ps)
@@ -57,7 +55,7 @@ pub greatest_most : (row n : ℕ) (cs : List Change) → Each (λ c. c.row ≡ r
 greatest_most row n [] a = omega arith
 greatest_most row n (c ∷ cs) a = max-le (at (c.row == row) refl) (greatest_most row n cs a.1) where
   at : (b : Bool) → (c.row == row) ≡ b → cond b c.version 0 ≤ n
-  at true q = a.0 (eq_of c.row row q)
+  at true q = a.0 (eqb-true c.row row q)
   at false q = omega arith
 
 -- what changed is at or below the last version
@@ -75,9 +73,6 @@ grows_words earlier p a row = last_grows (each_of word_change earlier) (word_cha
 
 past_more : (before behind : List Change) → GrowsTo before behind → (cs : List Change) → Each (IsPast before) cs → Each (IsPast behind) cs
 past_more before behind g cs a = each_map (IsPast before) (IsPast behind) (λ c h. let x : last_of c.row before ≤ last_of c.row behind = g c.row in omega (arith, h, x)) cs a
-
-eq_self : (n : ℕ) → (n == n) ≡ true
-eq_self n = grind arith
 
 -- a change is at the last version behind it
 pub change_past : (before : List Change) (cs : List Change) → (cs ≡ []) ⊎ ((c : Change) × (cs ≡ c ∷ [])) → Each (IsPast (cs ++ before)) cs
@@ -245,7 +240,7 @@ strict (p ∷ earlier) row a f = on (strict earlier row a.1) (leaves p.entry row
   changed go c q r true e f =
       let n : AreNext (each_of row_change earlier) (c ∷ []) = subst (AreNext (each_of row_change earlier)) q a.0.rows in
       let v : c.version ≡ last_of c.row (each_of row_change earlier) + 1 = n.0 in
-      let s : c.row ≡ row = eq_of c.row row e in
+      let s : c.row ≡ row = eqb-true c.row row e in
       let l : last_of c.row (each_of row_change earlier) ≡ last_of row (each_of row_change earlier) = ap (λ r. last_of r (each_of row_change earlier)) s in
       let now : last_of row behind ≡ c.version = ap (λ cs. last_of row (cs ++ each_of row_change earlier)) q ∙ ap (λ b. cond b c.version (last_of row (each_of row_change earlier))) e in
       (nothing r, each_map (λ q. Each (IsPast (each_of row_change earlier)) (release_of q.entry)) (Goal behind) (λ q g. each_map (IsPast (each_of row_change earlier)) (λ d. d.row ≡ row → d.version < last_of row behind) (λ d k e. let x : last_of d.row (each_of row_change earlier) ≡ last_of row (each_of row_change earlier) = ap (λ r. last_of r (each_of row_change earlier)) e in let y : d.version ≤ last_of d.row (each_of row_change earlier) = k in omega (arith, x, y, now, v, l)) (release_of q.entry) g) earlier old)

@@ -1,6 +1,7 @@
 -- In what a line asks for, nothing of an action stands before the action's number.
 use Rattle.std.proofs.Common.{◌≡◌, refl, ℕ, Bool, true, false, ◌&&◌, ◌||◌, not, List, [], ◌∷◌, ◌++◌, map, sym, subst, Option}
 use Rattle.std.specs.Prelude.{Ok, Err, if◌then◌else◌}
+use Rattle.std.proofs.lemmas.Bool.{and_parts}
 use Rattle.pfs_event.specs.declared.entry.Entry.{Entry}
 use Rattle.pfs_event.specs.declared.entry.Entry.TheVariants as says
 use Rattle.pfs_event.specs.declared.kind.EventKind.{EventKind}
@@ -94,11 +95,6 @@ begun asks.Act (says.Act _) b f = refl
 begun asks.Act _ b f = absurd (cc)
 begun _ e b f = absurd (cc)
 
-both : (a b : Bool) → a && b ≡ true → (a ≡ true) × (b ≡ true)
-both true true h = (refl, refl)
-both true false h = absurd (cc)
-both false b h = absurd (cc)
-
 guarded_many : (ask : Ask) (part : List Entry) → not (acts ask) ≡ true → Guarded false (behind ask part) → Guarded false part
 unfolding behind
 guarded_many ask [] a g = tt
@@ -110,7 +106,7 @@ guarded_many ask (e ∷ es) a g = at (fits ask e) refl g (guarded_many ask es a)
 pub cut_guarded : (items : List Item) (part : List Entry) → guards items ≡ true → cut items part ≡ Ok [] → Guarded false part
 unfolding cut
 cut_guarded [] part h s = let none : part ≡ [] = cc in subst (Guarded false) (sym none) tt
-cut_guarded (item ∷ items) part h s = by item.often refl part (both _ _ h).0 (both _ _ h).1 s (cut_guarded items) where
+cut_guarded (item ∷ items) part h s = by item.often refl part (and_parts _ _ h).0 (and_parts _ _ h).1 s (cut_guarded items) where
   taken : (e : Entry) (es : List Entry) (many : Bool) → not (acts item.ask) ≡ true → (many || guards items ≡ true) → (many ≡ true → begins_ask item.ask ≡ true) → fits item.ask e ≡ true → (guards items ≡ true → Guarded false es) → Guarded false (e ∷ es)
   taken e es true a g b f go = (quiet item.ask e a f, rw (begun item.ask e (b refl) f) (guarded_true es))
   taken e es false a g b f go = (quiet item.ask e a f, guarded_more (begins e) es (go g))

@@ -17,3 +17,4 @@ pub mod ShapeExamples
 pub mod Shaping
 pub mod Walking
 pub mod Worked
+pub mod EachLists

@@ -1,5 +1,6 @@
 -- Where lines agree plainly, the numbers of actions rise along a session, and never fall along a row or a switch word.
 use Rattle.std.proofs.Common.{◌≡◌, refl, ℕ, ◌+◌, ◌<◌, ◌≤◌, ◌==◌, Bool, true, false, cond, List, [], ◌∷◌, ◌++◌, sym, ◌∙◌, ap, subst, ◌⊎◌, inl, inr, arith}
+use Rattle.pfs_lemmas.proofs.Numbers.{eq_self}
 use Rattle.pfs_event.specs.declared.entry.Entry.{Entry}
 use Rattle.pfs_event.specs.declared.entry.Entry.TheVariants as says
 use Rattle.pfs_model.specs.declared.changes.Change.{Change}
@@ -152,9 +153,6 @@ never_fall f g earlier (p ∷ ps) w first next m n s = on (among_split first own
       omega (arith, x, y, t)
   on (inr m) (inl n) go = back n m
   on (inr m) (inr n) go = go m n s
-
-eq_self : (n : ℕ) → (n == n) ≡ true
-eq_self n = grind arith
 
 last_here : (row version : ℕ) (before : List Change) → last_of row (change_at row version ∷ before) ≡ version
 last_here row version before = ap (λ b. cond b version (last_of row before)) (eq_self row)

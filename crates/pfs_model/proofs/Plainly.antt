@@ -1,6 +1,8 @@
 -- Journals of the right shape whose lines agree plainly keep all that journals owe one another.
 use Rattle.std.proofs.Common.{◌≡◌, refl, ℕ, ◌+◌, ◌<◌, ◌≤◌, ◌==◌, Bool, true, false, ◌&&◌, ◌||◌, cond, nat_lt, nat_le, List, [], ◌∷◌, ◌++◌, sym, ◌∙◌, ap, subst, ◌⊎◌, inl, inr, arith}
 use Rattle.std.proofs.Math.Nat.{max-le}
+use Rattle.std.proofs.lemmas.Bool.{eqb-true}
+use Rattle.pfs_model.proofs.EachLists.{each_join}
 use Rattle.pfs_event.specs.declared.entry.Entry.{Entry}
 use Rattle.pfs_event.specs.declared.entry.Entry.TheVariants as says
 use Rattle.pfs_model.specs.declared.changes.Change.{Change}
@@ -11,9 +13,9 @@ use Rattle.pfs_model.specs.Actions.{deed_at, set_at}
 use Rattle.pfs_model.specs.Floors.{Changes, Sees, Frees, namings_of, rows_known, by_actions, greatest, loads_in, floor_of, word_floor_of, AllBelow, KeepsAbove, NamingsKeep, LoadsKeep, AreFlooredBehind}
 use Rattle.pfs_model.specs.Plain.{last_of, AreNext, AreLast, Agrees, AgreesWith, AgreeBehind, is_free, IsHeldBack, NoneHeldBack, PlainKeeps}
 use Rattle.pfs_model.proofs.Growing.{IsGrown, grown_count, grown_chained, onto, times_append}
-use Rattle.pfs_model.proofs.Walking.{top, Walk, IsState, past, walk_blocks, Rising, rising_blocks, eq_of}
+use Rattle.pfs_model.proofs.Walking.{top, Walk, IsState, past, walk_blocks, Rising, rising_blocks}
 use Rattle.pfs_model.proofs.Ordering.{rising_numbers, never_fall, deed_walk, set_walk, row_one, word_one}
-use Rattle.pfs_model.proofs.Flooring.{Agreed, grown_rows, grown_words, grown_actions, each_append, each_map, each_chosen_of, greatest_most, IsPast, grows_rows, grows_words, change_past, last_past, known_past, release_past, all_past, past_at, AllLater, all_later, by_done, times_onto, times_most, times_all, times_none, rising_all, AllUpTo, up_to_all, up_to_more, strict, opened_free}
+use Rattle.pfs_model.proofs.Flooring.{Agreed, grown_rows, grown_words, grown_actions, each_map, each_chosen_of, greatest_most, IsPast, grows_rows, grows_words, change_past, last_past, known_past, release_past, all_past, past_at, AllLater, all_later, by_done, times_onto, times_most, times_all, times_none, rising_all, AllUpTo, up_to_all, up_to_more, strict, opened_free}
 
 -- a place among all lines, with what is known there
 pub record IsAt (earlier : List Placed) (p : Placed) (ps : List Placed) : Type 0 where
@@ -70,13 +72,13 @@ floor_most row earlier p ps i =
 
 -- what a line loads or sets of words is past behind it
 loads_past : (earlier : List Placed) (p : Placed) → AgreesWith earlier p → Each (IsPast (each_of word_change (p ∷ earlier))) (loads_of p ++ word_change p.entry)
-loads_past earlier p w = each_append (IsPast (each_of word_change (p ∷ earlier))) (loads_of p) (word_change p.entry) (last_past (each_of word_change earlier) (each_of word_change (p ∷ earlier)) (grows_words earlier p w) (loads_of p) w.loads) (change_past (each_of word_change earlier) (word_change p.entry) (word_one p.entry))
+loads_past earlier p w = each_join (IsPast (each_of word_change (p ∷ earlier))) (loads_of p) (word_change p.entry) (last_past (each_of word_change earlier) (each_of word_change (p ∷ earlier)) (grows_words earlier p w) (loads_of p) w.loads) (change_past (each_of word_change earlier) (word_change p.entry) (word_one p.entry))
 
 each_loads : (P : Change → Type 0) (test : Placed → Bool) (ps : List Placed) → Each (λ p. Each P (loads_of p ++ word_change p.entry)) ps → Each P (loads_in (chosen test ps))
 each_loads P test [] h = tt
 each_loads P test (p ∷ ps) h = at (test p) (each_loads P test ps h.1) where
   at : (b : Bool) → Each P (loads_in (chosen test ps)) → Each P (loads_in (cond b (p ∷ []) [] ++ chosen test ps))
-  at true r = each_append P (loads_of p ++ word_change p.entry) (loads_in (chosen test ps)) h.0 r
+  at true r = each_join P (loads_of p ++ word_change p.entry) (loads_in (chosen test ps)) h.0 r
   at false r = r
 
 word_floor_most : (word : ℕ) (earlier : List Placed) (p : Placed) (ps : List Placed) → IsAt earlier p ps → word_floor_of (onto earlier (p ∷ ps)) earlier p word ≤ last_of word (each_of word_change earlier)
@@ -135,7 +137,7 @@ stood_below row earlier p ps i n h = at (nat_lt count (last_of row (each_of row_
 
   flat : (v : ℕ) (qs : List Placed) → Each (λ q. Each (λ c. c.row ≡ row → c.version < v) (release_of q.entry)) qs → Each (λ c. c.row ≡ row → c.version < v) (each_of release_of qs)
   flat v [] a = tt
-  flat v (q ∷ qs) a = each_append (λ c. c.row ≡ row → c.version < v) (release_of q.entry) (each_of release_of qs) a.0 (flat v qs a.1)
+  flat v (q ∷ qs) a = each_join (λ c. c.row ≡ row → c.version < v) (release_of q.entry) (each_of release_of qs) a.0 (flat v qs a.1)
 
   no_release : (v : ℕ) → v ≡ last_of row (each_of row_change earlier) → times (is_that (change_at row v)) (each_of release_of before) ≡ 0
   no_release v e =
@@ -163,7 +165,7 @@ stood_below row earlier p ps i n h = at (nat_lt count (last_of row (each_of row_
       positive : (x : ℕ) → x ≡ 0 → nat_lt 0 x ≡ true → ⊥
       positive x z q = grind arith
     on (inr q) =
-        let k : count ≡ 0 = eq_of count 0 (both (count == 0) (opens_free row) q).0 in
+        let k : count ≡ 0 = eqb-true count 0 (both (count == 0) (opens_free row) q).0 in
         let c : last_of row (each_of row_change earlier) ≡ times (is_of row) (each_of row_change earlier) = grown_count row (each_of row_change earlier) (grown_rows earlier i.agreed) in
         let f : is_free earlier row ≡ true = opened_free earlier row (omega (arith, c, e, k)) (both (count == 0) (opens_free row) q).1 in
         let g : true ≡ false = sym f ∙ n in
@@ -212,7 +214,7 @@ namings_keep earlier p ps i = by p.entry i.own.rows i.own.others (known_past ear
   by _ n w k = tt
 
 loads_keep : (earlier : List Placed) (p : Placed) (ps : List Placed) → IsAt earlier p ps → LoadsKeep (onto earlier (p ∷ ps)) earlier p (loads_of p ++ word_change p.entry)
-loads_keep earlier p ps i = all (loads_of p ++ word_change p.entry) (each_append Low (loads_of p) (word_change p.entry) (low_loads (loads_of p) i.own.loads) (low_sets (word_change p.entry) (word_one p.entry) i.own.words)) (loads_past earlier p i.own) where
+loads_keep earlier p ps i = all (loads_of p ++ word_change p.entry) (each_join Low (loads_of p) (word_change p.entry) (low_loads (loads_of p) i.own.loads) (low_sets (word_change p.entry) (word_one p.entry) i.own.words)) (loads_past earlier p i.own) where
   Low : Change → Type 0
   Low c = last_of c.row (each_of word_change earlier) ≤ c.version
 

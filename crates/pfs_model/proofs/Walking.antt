@@ -1,6 +1,7 @@
 -- Journals of the right shape whose lines agree plainly, line by line: which action a line is in, and in which phase.
 use Rattle.std.proofs.Common.{◌≡◌, refl, ℕ, ◌+◌, ◌<◌, ◌≤◌, ◌==◌, Bool, true, false, cond, List, [], ◌∷◌, ◌++◌, sym, ◌∙◌, ap, subst, ◌⊎◌, inl, inr, arith}
 use Rattle.std.specs.Prelude.{Option}
+use Rattle.std.proofs.lemmas.Bool.{eqb-true}
 use Rattle.pfs_event.specs.declared.entry.Entry.{Entry}
 use Rattle.pfs_event.specs.declared.entry.Entry.TheVariants as says
 use Rattle.pfs_model.specs.declared.lines.Line.{Line}
@@ -202,9 +203,6 @@ told_more : (session : ℕ) (c : Context) (blocks : List Block) (block : Block) 
 told_more session c [] block = refl
 told_more session c (b ∷ blocks) block = told_more session (cond (b.session == session) (after_lines c b.lines b.parts) c) blocks block
 
-pub eq_of : (a b : ℕ) → (a == b) ≡ true → a ≡ b
-eq_of a b q = grind arith
-
 pub walk_blocks : (before blocks : List Block) (phase : ℕ) (earlier : List Placed) → AreShapedBehind before phase blocks
     → ((session : ℕ) → IsLow earlier (told_by session fresh before)) → AgreeBehind earlier (places_behind before blocks) → Walk earlier (places_behind before blocks)
 unfolding places_behind
@@ -217,7 +215,7 @@ walk_blocks before (b ∷ blocks) phase earlier s l a =
     walk_join earlier xs ys w.walk (walk_blocks (before ++ b ∷ []) blocks b.phase (past earlier xs) s.2 (λ session. low session xs both.0 w.low) both.1) where
       at : (session : ℕ) (xs : List Placed) → AgreeBehind earlier xs → IsLow (past earlier xs) (after_lines (told_by b.session fresh before) b.lines b.parts)
           → (q : Bool) → (b.session == session) ≡ q → IsLow (past earlier xs) (cond q (after_lines (told_by session fresh before) b.lines b.parts) (told_by session fresh before))
-      at session xs a w true q = let P : ℕ → Type 0 = λ z. IsLow (past earlier xs) (after_lines (told_by z fresh before) b.lines b.parts) in subst P (eq_of b.session session q) w
+      at session xs a w true q = let P : ℕ → Type 0 = λ z. IsLow (past earlier xs) (after_lines (told_by z fresh before) b.lines b.parts) in subst P (eqb-true b.session session q) w
       at session xs a w false q =
           let g : top earlier ≤ top (past earlier xs) = top_grows earlier xs a in
           let x : (told_by session fresh before).done ≤ top earlier = (l session).0 in

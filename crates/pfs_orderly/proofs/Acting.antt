@@ -1,5 +1,6 @@
 -- A line that asks for an action has one in its journal, and another line has none.
 use Rattle.std.proofs.Common.{ℕ, ◌≡◌, ◌+◌, Bool, true, false, if◌then◌else◌, cond, List, [], ◌∷◌, ◌++◌, map, Option, Ok, Err, refl, sym, ap, ◌∙◌, arith}
+use Rattle.std.proofs.lemmas.Bool.{and_parts}
 use Rattle.pfs_event.specs.declared.entry.Entry.{Entry}
 use Rattle.pfs_event.specs.declared.entry.Entry.TheVariants as says
 use Rattle.pfs_event.specs.declared.kind.EventKind.{EventKind}
@@ -20,7 +21,6 @@ use Rattle.pfs_model.specs.declared.shapes.Often.{Often}
 use Rattle.pfs_model.specs.declared.shapes.Often.TheVariants.{One, Maybe, Many}
 use Rattle.pfs_model.proofs.Growing.{times_append}
 use Rattle.pfs_model.proofs.Shaping.{shape_closed}
-use Rattle.pfs_tagged.proofs.Sifting.{both_of}
 
 -- an entry that begins an action, what asks for one, and a line that has one
 abbrev pub acts : Entry → Bool
@@ -92,7 +92,7 @@ cut_acts : (items : List Item) (part : List Entry) → are_closed items ≡ true
 unfolding cut
 cut_acts [] part c s = ap (times acts) (let none : part ≡ [] = cc in none)
 cut_acts (item ∷ items) part c s =
-    by item.often part (both_of _ _ c).0 s (λ es q. cut_acts items es (both_of _ _ c).1 q) where
+    by item.often part (and_parts _ _ c).0 s (λ es q. cut_acts items es (and_parts _ _ c).1 q) where
       by : (often : Often) (part : List Entry) → is_closed often item.ask ≡ true
           → then_cut (step often item.ask part) (cut items) ≡ Ok []
           → ((es : List Entry) → cut items es ≡ Ok [] → times acts es ≡ times item_acts items)

@@ -1,5 +1,7 @@
 -- Where sessions connect first, their connects are their first entries.
 use Rattle.std.proofs.Common.{ℕ, ◌≡◌, ◌==◌, ◌&&◌, not, Bool, true, false, if◌then◌else◌, cond, List, [], ◌∷◌, ◌++◌, map, Option, Ok, Err, refl, sym, subst, ◌∙◌, ap}
+use Rattle.std.proofs.lemmas.Bool.{and_parts}
+use Rattle.pfs_model.proofs.EachLists.{each_join}
 use Rattle.pfs_event.specs.declared.entry.Entry.{Entry}
 use Rattle.pfs_event.specs.declared.entry.Entry.TheVariants as says
 use Rattle.pfs_event.specs.declared.kind.EventKind.{EventKind}
@@ -22,7 +24,6 @@ use Rattle.pfs_model.specs.declared.shapes.Often.{Often}
 use Rattle.pfs_model.specs.declared.shapes.Often.TheVariants.{One, Maybe, Many}
 use Rattle.pfs_tagged.specs.Premises.{IsFirst, AreFirstBehind}
 use Rattle.pfs_orderly.specs.Begun.{is_connect, AreUnconnected, NoneOf, Begins, AreBegunBehind, BegunLaw}
-use Rattle.pfs_orderly.proofs.Closing.{each_then}
 
 -- an entry that connects, and what asks for it
 abbrev connects : Entry → Bool
@@ -39,11 +40,6 @@ AreCalm es = Each (λ e. connects e ≡ false) es
 abbrev calm_items : List Item → Bool
 calm_items [] = true
 calm_items (item ∷ items) = not (asks_connect item.ask) && calm_items items
-
-both : (a b : Bool) → a && b ≡ true → (a ≡ true) × (b ≡ true)
-both true true h = (refl, refl)
-both true false h = absurd (cc)
-both false b h = absurd (cc)
 
 calm : (ask : Ask) (e : Entry) → not (asks_connect ask) ≡ true → fits ask e ≡ true → connects e ≡ false
 calm ask (says.Connect action thread account user host) a f = none ask a f where
@@ -63,7 +59,7 @@ calm_many ask (e ∷ es) a g = at (fits ask e) refl g (calm_many ask es a) where
 cut_calm : (items : List Item) (part : List Entry) → calm_items items ≡ true → cut items part ≡ Ok [] → AreCalm part
 unfolding cut
 cut_calm [] part h s = let none : part ≡ [] = cc in subst AreCalm (sym none) tt
-cut_calm (item ∷ items) part h s = by item.often part (both _ _ h).0 s (λ es q. cut_calm items es (both _ _ h).1 q) where
+cut_calm (item ∷ items) part h s = by item.often part (and_parts _ _ h).0 s (λ es q. cut_calm items es (and_parts _ _ h).1 q) where
   by : (often : Often) (part : List Entry) → not (asks_connect item.ask) ≡ true → then_cut (step often item.ask part) (cut items) ≡ Ok [] → ((part : List Entry) → cut items part ≡ Ok [] → AreCalm part) → AreCalm part
   by One [] a s go = absurd (cc)
   by One (e ∷ es) a s go = at (fits item.ask e) refl s where
@@ -206,7 +202,7 @@ pub lines_others : (s phase session : ℕ) (c : Context) (ls : List Line) (parts
 lines_others s phase session c [] parts q = tt
 lines_others s phase session c (line ∷ ls) [] q = tt
 lines_others s phase session c (line ∷ ls) (part ∷ parts) q =
-    each_then (λ (p : Placed). (p.session == s) ≡ false) (placed_part phase session line (turned c) part) (placed_lines phase session (after c line part) ls parts)
+    each_join (λ (p : Placed). (p.session == s) ≡ false) (placed_part phase session line (turned c) part) (placed_lines phase session (after c line part) ls parts)
     (part_others s phase session line (turned c) part q) (lines_others s phase session (after c line part) ls parts q)
 
 none_split : (session : ℕ) (before : List Block) (b : Block) → NoneOf session (before ++ b ∷ []) → NoneOf session before × ((b.session == session) ≡ false)

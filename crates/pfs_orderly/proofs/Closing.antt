@@ -1,6 +1,7 @@
 -- What holds of the blocks of a run because it does of the script's: each ends with the end of a block.
 use Rattle.std.proofs.Common.{ℕ, ◌≡◌, ◌+◌, true, List, [], ◌∷◌, ◌++◌, refl, ap, sym, subst, ◌∙◌, map}
 use Rattle.std.proofs.lemmas.List.{append_assoc}
+use Rattle.pfs_model.proofs.EachLists.{each_join}
 use Rattle.pfs_journal.specs.declared.blocks.BlockReport.{BlockReport}
 use Rattle.pfs_journal.specs.declared.report.PhaseParts.{PhaseParts}
 use Rattle.pfs_model.specs.Chains.{Each}
@@ -14,10 +15,6 @@ use Rattle.pfs_script.specs.declared.blocks.Phase.{Phase}
 use Rattle.pfs_script.specs.Marks.{written_out}
 use Rattle.pfs_tagged.specs.Premises.{is_closed}
 use Rattle.pfs_orderly.specs.Orderly.{ClosedLaw}
-
-pub each_then : {A : Type 0} (fact : A → Type 0) (xs ys : List A) → Each fact xs → Each fact ys → Each fact (xs ++ ys)
-each_then fact [] ys a b = b
-each_then fact (x ∷ xs) ys a b = (a.0, each_then fact xs ys a.1 b)
 
 -- what holds of the lines of each of the script's blocks holds of those of the run's
 module _ (fact : List Line → Type 0) where
@@ -44,7 +41,7 @@ module _ (fact : List Line → Type 0) where
       → ArePhasesOf number phases reports blocks → Each OfPhase phases → Each OfBlock (all_blocks blocks)
   of_phases number [] [] [] are holds = tt
   of_phases number (phase ∷ phases) (report ∷ reports) (blocks ∷ others) are holds =
-      each_then OfBlock blocks (all_blocks others) (of_blocks number phase.blocks report.blocks blocks are.1 holds.0)
+      each_join OfBlock blocks (all_blocks others) (of_blocks number phase.blocks report.blocks blocks are.1 holds.0)
       (of_phases (number + 1) phases reports others are.2 holds.1)
   of_phases number [] [] (blocks ∷ others) are holds = absurd are
   of_phases number [] (report ∷ reports) blocks are holds = absurd are

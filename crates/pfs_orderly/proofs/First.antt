@@ -1,6 +1,7 @@
 -- The sessions of a script connect in their first blocks, so their connects are their first entries.
 use Rattle.std.proofs.Common.{ℕ, ◌≡◌, ◌+◌, ◌==◌, Bool, true, false, cond, List, [], ◌∷◌, ◌++◌, map, Option, Some, None, refl, sym, subst, ◌∙◌, ap, append_assoc, append-nil}
 use Rattle.std.specs.Prelude.{IfSome}
+use Rattle.pfs_model.proofs.EachLists.{each_join}
 use Rattle.pfs_course.specs.Ahead.{ReachedLaw, done_before, block_at}
 use Rattle.pfs_course.specs.Course.{PhasedBlock, own_blocks}
 use Rattle.pfs_course.proofs.Ahead.{done_block, done_phase}
@@ -24,7 +25,6 @@ use Rattle.pfs_script.specs.declared.blocks.Phase.{Phase}
 use Rattle.pfs_script.specs.Marks.{written_out}
 use Rattle.pfs_orderly.specs.Begun.{is_connect, AreUnconnected, NoneOf, Begins, AreBegunBehind}
 use Rattle.pfs_orderly.specs.Orderly.{FirstLaw}
-use Rattle.pfs_orderly.proofs.Closing.{each_then}
 use Rattle.pfs_orderly.proofs.Begun.{begun_law}
 
 sql_plain : (request : Request) → is_connect (sql_line request) ≡ false
@@ -77,7 +77,7 @@ covers_more : (done : List PhasedBlock) (one : PhasedBlock) (earlier : List Bloc
 covers_more done one earlier block e covers session none =
     at (own_blocks session done) (one.block.session == session) refl refl (sym (own_more session done one) ∙ none) where
       at : (xs : List Said) (b : Bool) → own_blocks session done ≡ xs → (one.block.session == session) ≡ b → xs ++ cond b (one.block ∷ []) [] ≡ [] → NoneOf session (earlier ++ block ∷ [])
-      at [] false x q h = each_then (λ (other : Block). (other.session == session) ≡ false) earlier (block ∷ []) (covers session x) (ap (λ s. s == session) e ∙ q, tt)
+      at [] false x q h = each_join (λ (other : Block). (other.session == session) ≡ false) earlier (block ∷ []) (covers session x) (ap (λ s. s == session) e ∙ q, tt)
       at [] true x q h = absurd (cc)
       at (y ∷ ys) b x q h = absurd (cc)
 

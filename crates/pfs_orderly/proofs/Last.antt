@@ -2,6 +2,8 @@
 use Rattle.std.proofs.Common.{ℕ, zero, suc, ◌≡◌, ◌≤◌, ◌<◌, ◌+◌, ◌==◌, Bool, true, false, cond, List, [], ◌∷◌, ◌++◌, length, map, Option, Some, None, refl, sym, subst, ◌∙◌, ap, arith, append_assoc, append-nil}
 use Rattle.std.specs.Prelude.{Contains, filter}
 use Rattle.std.specs.List.{All, flat_map}
+use Rattle.std.proofs.lemmas.Bool.{eqb-true}
+use Rattle.pfs_model.proofs.EachLists.{each_join}
 use Rattle.pfs_event.specs.declared.kind.EventKind.{EventKind}
 use Rattle.pfs_journal.specs.declared.blocks.BlockReport.{BlockReport}
 use Rattle.pfs_journal.specs.declared.report.PhaseParts.{PhaseParts}
@@ -27,11 +29,9 @@ use Rattle.pfs_script.specs.Events.{blocks_for}
 use Rattle.pfs_script.specs.Marks.{mark_of, Repeated, copies, written_from, written_out}
 use Rattle.pfs_script.specs.Runnable.{AreDistinct}
 use Rattle.pfs_tagged.specs.Ends.{is_quit}
-use Rattle.pfs_tagged.proofs.Sifting.{eq_of}
 use Rattle.pfs_orderly.specs.Begun.{NoneOf}
 use Rattle.pfs_orderly.specs.Orderly.{LastLaw}
 use Rattle.pfs_orderly.specs.Quits.{Quits, AreQuit}
-use Rattle.pfs_orderly.proofs.Closing.{each_then}
 use Rattle.pfs_orderly.proofs.Quitting.{quit_law}
 
 -- lines of a script of which none quits
@@ -71,7 +71,7 @@ may_stay depth kinds (Some start) (line ∷ lines) may =
 copies_stay : (times : ℕ) (lines : List BlockLine) → Stay lines → Stay (copies times lines)
 unfolding copies
 copies_stay zero lines q = tt
-copies_stay (suc times) lines q = each_then Stays lines (copies times lines) q (copies_stay times lines q)
+copies_stay (suc times) lines q = each_join Stays lines (copies times lines) q (copies_stay times lines q)
 
 abbrev LoopStays : Option Repeated → Type 0
 LoopStays None = Unit {0}
@@ -85,12 +85,12 @@ written_stay (Some loop) [] l q = l
 written_stay None (said.Repeat times ∷ lines) l q =
     written_stay (Some (record { times = times; body = [] })) lines tt q.1
 written_stay (Some loop) (said.Done ∷ lines) l q =
-    each_then Stays (copies loop.times loop.body) (written_from None lines) (copies_stay loop.times loop.body l)
+    each_join Stays (copies loop.times loop.body) (written_from None lines) (copies_stay loop.times loop.body l)
     (written_stay None lines tt q.1)
 written_stay None (line ∷ lines) l q = (q.0, written_stay None lines tt q.1)
 written_stay (Some loop) (line ∷ lines) l q =
     written_stay (Some (record { times = loop.times; body = loop.body ++ line ∷ [] })) lines
-    (each_then Stays loop.body (line ∷ []) l (q.0, tt)) q.1
+    (each_join Stays loop.body (line ∷ []) l (q.0, tt)) q.1
 
 -- a quit at the end stays there
 written_quit : (start : Option Repeated) (lines : List BlockLine)
@@ -165,7 +165,7 @@ apart : (session : ℕ) (said : Said) (block : Block) → block.session ≡ said
     → (block.session == session) ≡ false
 apart session said block e none = at (block.session == session) refl where
   at : (b : Bool) → (block.session == session) ≡ b → b ≡ false
-  at true k = absurd (none (sym e ∙ eq_of block.session session k))
+  at true k = absurd (none (sym e ∙ eqb-true block.session session k))
   at false k = refl
 
 others_none : (number session : ℕ) (saids : List Said) (reports : List BlockReport) (blocks : List Block)
@@ -211,7 +211,7 @@ phases_none number session (phase ∷ phases) (report ∷ reports) (blocks ∷ a
     blocks_none number session phase.blocks (flat_map (λ (one : Phase). one.blocks) phases) report.blocks blocks
     are.1 none
     in
-    each_then (λ (block : Block). (block.session == session) ≡ false) blocks (all_blocks all) here.0
+    each_join (λ (block : Block). (block.session == session) ≡ false) blocks (all_blocks all) here.0
     (phases_none (number + 1) session phases reports all are.2 here.1)
 phases_none number session [] [] (blocks ∷ all) are none = absurd are
 phases_none number session [] (report ∷ reports) all are none = absurd are
@@ -228,7 +228,7 @@ blocks_quit number before after (said ∷ saids) (report ∷ reports) (block ∷
   subst (Quits (NoneOf block.session (blocks ++ more))) (sym are.0.lines)
       (block_quits before after said (NoneOf block.session (blocks ++ more)) (play zero said (omega arith)).body
       (λ gone. subst (λ s. NoneOf s (blocks ++ more)) (sym are.0.session)
-      (each_then (λ (one : Block). (one.session == said.session) ≡ false) blocks more
+      (each_join (λ (one : Block). (one.session == said.session) ≡ false) blocks more
       (others_none number said.session saids reports blocks are.1 apart.0) (none said.session gone)))),
   blocks_quit number before after saids reports blocks more are.1
       (λ k d low. play (suc k) d (within k (length saids) low)) apart.1 none quit,

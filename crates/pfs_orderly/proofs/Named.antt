@@ -1,6 +1,7 @@
 -- Where a session's labels in their order say what its lines ask for, each action does its line's change.
-use Rattle.std.proofs.Common.{ℕ, zero, suc, ◌≡◌, ◌+◌, ◌-◌, ◌==◌, Bool, true, false, cond, nat_le, List, [], ◌∷◌, ◌++◌, length, length-append, Some, eq-eqb, refl, sym, subst, ◌∙◌, ap, arith}
+use Rattle.std.proofs.Common.{ℕ, zero, suc, ◌≡◌, ◌+◌, ◌-◌, ◌==◌, Bool, true, false, cond, nat_le, List, [], ◌∷◌, ◌++◌, length, length-append, Some, refl, sym, subst, ◌∙◌, ap, arith}
 use Rattle.std.specs.Prelude.{slice_get}
+use Rattle.pfs_lemmas.proofs.Numbers.{eq_self, le_self}
 use Rattle.pfs_admin.specs.declared.changes.Change.{Change}
 use Rattle.pfs_board.specs.declared.view.Label.{Label}
 use Rattle.pfs_event.specs.declared.entry.Entry.{Entry}
@@ -36,12 +37,6 @@ IsPositive p = action_change p.entry ≡ change_at 0 0 ∷ [] → ⊥
 
 abbrev zeros : List Placed → ℕ
 zeros ps = times (is_that (change_at 0 0)) (each_of action_change ps)
-
-eq_self : (n : ℕ) → (n == n) ≡ true
-eq_self n = eq-eqb n n refl
-
-le_self : (n : ℕ) → nat_le n n ≡ true
-le_self n = grind arith
 
 positive : (ps : List Placed) → ((phase : ℕ) → zeros (up_to_phase phase ps) ≡ 0) → Each IsPositive ps
 positive [] none = tt

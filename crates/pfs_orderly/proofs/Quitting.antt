@@ -2,6 +2,7 @@
 use Rattle.std.proofs.Common.{ℕ, ◌≡◌, ◌==◌, ◌⊎◌, inl, inr, nat_lt, Bool, true, false, cond, List, [], ◌∷◌, ◌++◌, map, Option, None, Less, Equal, Greater, refl, sym, subst, ◌∙◌, ap, arith}
 use Rattle.std.specs.Prelude.{Ok, Err, if◌then◌else◌}
 use Rattle.std.specs.Ordering.{is_eq}
+use Rattle.std.proofs.lemmas.Bool.{eqb-true}
 use Rattle.pfs_event.specs.declared.entry.Entry.{Entry}
 use Rattle.pfs_event.specs.declared.entry.Entry.TheVariants as says
 use Rattle.pfs_model.specs.Actions.{is_acted}
@@ -22,7 +23,6 @@ use Rattle.pfs_model.proofs.Guarding.{acts}
 use Rattle.pfs_model.proofs.Walking.{past, past_join}
 use Rattle.pfs_tagged.specs.Ends.{given_by, is_quit, quits_at}
 use Rattle.pfs_tagged.specs.Premises.{AreLastBehind}
-use Rattle.pfs_tagged.proofs.Sifting.{eq_of}
 use Rattle.pfs_orderly.specs.Begun.{NoneOf}
 use Rattle.pfs_orderly.specs.Quits.{Quits, AreQuit, QuitLaw}
 use Rattle.pfs_orderly.proofs.Begun.{AreOthers, lines_others}
@@ -148,7 +148,7 @@ added_part phase session (row ∷ rows) c (e ∷ es) earlier n h s =
           let e : Entry = says.Add at version in
           let p : Placed = record { phase = phase; session = session; line = told.Quit; context = c; entry = e } in
           let gone : without_row at c.held ≡ rows =
-          ap (without_row at) h ∙ (ap (λ z. without_row z (row ∷ rows)) (eq_of at row f) ∙ without_first row rows)
+          ap (without_row at) h ∙ (ap (λ z. without_row z (row ∷ rows)) (eqb-true at row f) ∙ without_first row rows)
           in
           let rest = go (noted None c e) (p ∷ earlier) (stayed_more session p earlier refl n) gone s in
           (((λ k. n), rest.0), rest.1)
@@ -297,7 +297,7 @@ last_blocks before (b ∷ blocks) low earlier s q ahead =
       next : (session : ℕ) (x : Bool) → (b.session == session) ≡ x
           → HasStayed session (past earlier xs) ⊎ NoneOf session blocks
       next session true k =
-          subst (λ z. HasStayed z (past earlier xs) ⊎ NoneOf z blocks) (eq_of b.session session k) here.1
+          subst (λ z. HasStayed z (past earlier xs) ⊎ NoneOf z blocks) (eqb-true b.session session k) here.1
       next session false k = other session k (ahead session)
 
 pub quit_law : QuitLaw

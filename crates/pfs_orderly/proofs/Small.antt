@@ -1,6 +1,7 @@
 -- What a line of a script starts counts in one of 64 cells: its class is one of 62, or that of transactions.
 use Rattle.std.proofs.Common.{ℕ, zero, suc, ◌≡◌, ◌≤◌, ◌<◌, ◌+◌, Bool, true, false, List, [], ◌∷◌, ◌++◌, length, map, Option, Some, None, refl, sym, subst, ◌∙◌, arith, append_assoc}
 use Rattle.std.specs.List.{All}
+use Rattle.pfs_model.proofs.EachLists.{each_join}
 use Rattle.pfs_classes.specs.declared.classes.ClassRef.TheVariants as refs
 use Rattle.pfs_classes.specs.declared.setting.Setting.{Setting}
 use Rattle.pfs_event.specs.declared.kind.EventKind.{EventKind}
@@ -26,7 +27,7 @@ use Rattle.pfs_script.specs.Runnable.{IsKnown}
 use Rattle.pfs_script.specs.Scripts.{IsScript}
 use Rattle.pfs_tagged.specs.Premises.{IsSmall}
 use Rattle.pfs_orderly.specs.Orderly.{SmallLaw}
-use Rattle.pfs_orderly.proofs.Closing.{each_then, OfSaid, OfPhase, of_phases}
+use Rattle.pfs_orderly.proofs.Closing.{OfSaid, OfPhase, of_phases}
 
 -- of lines of a script
 abbrev SmallLine : BlockLine → Type 0
@@ -80,7 +81,7 @@ may_small depth kinds (Some start) (line ∷ lines) may =
 copies_small : (times : ℕ) (lines : List BlockLine) → AreSmallLines lines → AreSmallLines (copies times lines)
 unfolding copies
 copies_small zero lines q = tt
-copies_small (suc times) lines q = each_then SmallLine lines (copies times lines) q (copies_small times lines q)
+copies_small (suc times) lines q = each_join SmallLine lines (copies times lines) q (copies_small times lines q)
 
 abbrev IsSmallLoop : Option Repeated → Type 0
 IsSmallLoop None = Unit {0}
@@ -94,12 +95,12 @@ written_small (Some loop) [] l q = l
 written_small None (said.Repeat times ∷ lines) l q =
     written_small (Some (record { times = times; body = [] })) lines tt q.1
 written_small (Some loop) (said.Done ∷ lines) l q =
-    each_then SmallLine (copies loop.times loop.body) (written_from None lines) (copies_small loop.times loop.body l)
+    each_join SmallLine (copies loop.times loop.body) (written_from None lines) (copies_small loop.times loop.body l)
     (written_small None lines tt q.1)
 written_small None (line ∷ lines) l q = (q.0, written_small None lines tt q.1)
 written_small (Some loop) (line ∷ lines) l q =
     written_small (Some (record { times = loop.times; body = loop.body ++ line ∷ [] })) lines
-    (each_then SmallLine loop.body (line ∷ []) l (q.0, tt)) q.1
+    (each_join SmallLine loop.body (line ∷ []) l (q.0, tt)) q.1
 
 -- the lines of a block
 map_small : (lines : List BlockLine) → AreSmallLines lines → Each IsSmall (map line_in lines)
@@ -121,7 +122,7 @@ body_small : (before after : List Phase) (block : Said) → HasBody before after
 body_small before after block has =
     let depth : ℕ = lines_among (blocks_for block.session before) + length block.lines in
     subst AreSmallLines (sym has.lines)
-    (each_then SmallLine has.body (end_of has.quits)
+    (each_join SmallLine has.body (end_of has.quits)
     (may_small depth (kinds_before block.session before) None has.body (has.plays depth (itself depth)))
     (end_small has.quits))
 
@@ -131,9 +132,9 @@ AreSmallOf lines = Each IsSmall lines
 block_small : (before after : List Phase) (block : Said) → IsPlayableBlock before after block
     → AreSmallOf (lines_in block)
 block_small before after block p =
-    each_then IsSmall (connect_lines block.connect) (map line_in (written_out block.lines) ++ told.Close ∷ [])
+    each_join IsSmall (connect_lines block.connect) (map line_in (written_out block.lines) ++ told.Close ∷ [])
     (connect_small block.connect)
-    (each_then IsSmall (map line_in (written_out block.lines)) (told.Close ∷ [])
+    (each_join IsSmall (map line_in (written_out block.lines)) (told.Close ∷ [])
     (map_small (written_out block.lines)
     (written_small None block.lines tt (body_small before after block p.body))) (tt, tt))
 

@@ -1,6 +1,7 @@
 -- A statement's digest text is one of the setting's, or has no place.
 use Rattle.std.proofs.Common.{ℕ, zero, suc, ◌<◌, List, [], ◌∷◌, ◌++◌, length, map, Option, Some, None, arith}
 use Rattle.std.specs.List.{All}
+use Rattle.pfs_model.proofs.EachLists.{each_join}
 use Rattle.pfs_model.specs.Chains.{Each}
 use Rattle.pfs_model.specs.declared.lines.Line.{Line}
 use Rattle.pfs_model.specs.declared.lines.Line.TheVariants as told
@@ -18,7 +19,7 @@ use Rattle.pfs_script.specs.declared.blocks.Phase.{Phase}
 use Rattle.pfs_script.specs.Marks.{Repeated, copies, written_from, written_out}
 use Rattle.pfs_tagged.specs.Premises.{IsTexted}
 use Rattle.pfs_orderly.specs.Orderly.{TextedLaw}
-use Rattle.pfs_orderly.proofs.Closing.{each_then, OfSaid, OfPhase, of_phases}
+use Rattle.pfs_orderly.proofs.Closing.{OfSaid, OfPhase, of_phases}
 
 module _ (places : ℕ) where
   sql_texted : (request : Request) → IsTexted places (sql_line request)
@@ -56,7 +57,7 @@ module _ (places : ℕ) where
   copies_texted : (times : ℕ) (lines : List BlockLine) → Each Texted lines → Each Texted (copies times lines)
   unfolding copies
   copies_texted zero lines q = tt
-  copies_texted (suc times) lines q = each_then Texted lines (copies times lines) q (copies_texted times lines q)
+  copies_texted (suc times) lines q = each_join Texted lines (copies times lines) q (copies_texted times lines q)
 
   abbrev IsTextedLoop : Option Repeated → Type 0
   IsTextedLoop None = Unit {0}
@@ -70,12 +71,12 @@ module _ (places : ℕ) where
   written_texted None (said.Repeat times ∷ lines) l q =
       written_texted (Some (record { times = times; body = [] })) lines tt q.1
   written_texted (Some loop) (said.Done ∷ lines) l q =
-      each_then Texted (copies loop.times loop.body) (written_from None lines) (copies_texted loop.times loop.body l)
+      each_join Texted (copies loop.times loop.body) (written_from None lines) (copies_texted loop.times loop.body l)
       (written_texted None lines tt q.1)
   written_texted None (line ∷ lines) l q = (q.0, written_texted None lines tt q.1)
   written_texted (Some loop) (line ∷ lines) l q =
       written_texted (Some (record { times = loop.times; body = loop.body ++ line ∷ [] })) lines
-      (each_then Texted loop.body (line ∷ []) l (q.0, tt)) q.1
+      (each_join Texted loop.body (line ∷ []) l (q.0, tt)) q.1
 
   -- the lines of a block
   map_texted : (lines : List BlockLine) → Each Texted lines → Each (IsTexted places) (map line_in lines)
@@ -91,9 +92,9 @@ module _ (places : ℕ) where
 
   block_texted : (block : Said) → AreTextedLines places block.lines → AreTextedOf (lines_in block)
   block_texted block q =
-      each_then (IsTexted places) (connect_lines block.connect) (map line_in (written_out block.lines) ++ told.Close ∷ [])
+      each_join (IsTexted places) (connect_lines block.connect) (map line_in (written_out block.lines) ++ told.Close ∷ [])
       (connect_texted block.connect)
-      (each_then (IsTexted places) (map line_in (written_out block.lines)) (told.Close ∷ [])
+      (each_join (IsTexted places) (map line_in (written_out block.lines)) (told.Close ∷ [])
       (map_texted (written_out block.lines) (written_texted None block.lines tt (each_texted block.lines q))) (tt, tt))
 
   within : (k n : ℕ) → k < n → suc k < suc n

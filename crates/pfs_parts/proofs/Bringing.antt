@@ -3,6 +3,7 @@ use Rattle.std.proofs.Common.{ℕ, ◌≡◌, ◌<◌, ◌+◌, ◌-◌, ◌%◌
 use Rattle.std.specs.Prelude.{if◌then◌else◌, ◌==◌, IfSome}
 use Rattle.std.proofs.lemmas.Bool.{eqb-true, false≢true}
 use Rattle.std.proofs.lemmas.List.{append-nil, length-set}
+use Rattle.pfs_lemmas.proofs.Bools.{and_first}
 use Rattle.pfs_admin.specs.Asks.{connect_entry}
 use Rattle.pfs_containers.specs.declared.containers.Seated.{Seated}
 use Rattle.pfs_event.specs.Verdicts.{is_let_through}
@@ -273,10 +274,6 @@ attributed_is : (v : Verdict) → is_attributed v ≡ true → v ≡ Attributed
 attributed_is Attributed q = refl
 attributed_is _ q = absurd (false≢true q)
 
-first_true : (a b : Bool) → (a && b) ≡ true → a ≡ true
-first_true true b q = refl
-first_true false b q = absurd (false≢true q)
-
 -- nothing is loaded of a lost class
 abbrev lost_class : Option ℕ
 lost_class = None
@@ -379,7 +376,7 @@ module _ (m : MergeIsMonoid) (flags : ℕ → ℕ → ℕ) (slots : ℕ → Opti
 
     attributed : (seen : Option Setup) → is_placed_by subject v seen ≡ true → v ≡ Attributed
     attributed None q = absurd (false≢true q)
-    attributed (Some seen) q = attributed_is v (first_true (is_attributed v) _ q)
+    attributed (Some seen) q = attributed_is v (and_first (is_attributed v) _ q)
 
     own : v ≡ Attributed
     own = attributed st.seen offered_there

@@ -5,6 +5,7 @@ use Rattle.std.specs.List.{All, flat_map, sum_by}
 use Rattle.std.proofs.lemmas.List.Elements.{All-cons}
 use Rattle.std.proofs.lemmas.List.Sums.{sum_by-cons}
 use Rattle.std.proofs.lemmas.Option.{slice_get_within}
+use Rattle.std.proofs.lemmas.Bool.{cases_Bool}
 use Rattle.pfs_script.specs.declared.forms.Form.{Form}
 use Rattle.pfs_script.specs.declared.forms.Form.TheVariants as form
 use Rattle.pfs_script.specs.declared.blocks.Block.{Block}
@@ -18,7 +19,6 @@ use Rattle.pfs_script.specs.Sessions.{ends_block, is_phase, is_session}
 use Rattle.pfs_script.proofs.BlockNesting.{stand_of}
 use Rattle.pfs_script.proofs.SessionNaming.{are_named}
 use Rattle.pfs_playable.specs.Playable.{blocks_in, lines_among, FewLaw, LinesLaw, NamedLaw}
-use Rattle.pfs_playable.proofs.Bools.{bool_cases}
 use Rattle.pfs_playable.proofs.Bounds.{few_lines}
 use Rattle.pfs_playable.proofs.OwnBlocks.{none_block}
 use Rattle.pfs_playable.proofs.Totals.{counted_first}
@@ -33,7 +33,7 @@ unfolding phases_of blocks_of
 few_behind sense [] = omega arith
 few_behind sense (line ∷ lines) =
     let rest = few_behind sense lines in
-    elim (bool_cases (is_phase line)) [
+    elim (cases_Bool (is_phase line)) [
       | inl p ↦
           let first = sum_by-cons (λ (phase : Phase). length phase.blocks) (record { blocks = blocks_of sense lines })
           (phases_of sense lines) in
@@ -82,9 +82,9 @@ unfolding phases_of blocks_of block_lines
 said_few sense [] = omega arith
 said_few sense (line ∷ lines) =
     let rest = said_few sense lines in
-    elim (bool_cases (ends_block line)) [
+    elim (cases_Bool (ends_block line)) [
       | inl e ↦
-          elim (bool_cases (is_phase line)) [
+          elim (cases_Bool (is_phase line)) [
             | inl p ↦
                 let first = sum_by-cons (λ (phase : Phase). lines_among phase.blocks) (record { blocks = blocks_of sense lines })
                 (phases_of sense lines) in
@@ -203,7 +203,7 @@ module _ (all : List Form) where
   blocks_named before [] is = all_none Named
   blocks_named before (line ∷ lines) is =
       let further = is ∙ sym (append_assoc before (line ∷ []) lines) in
-      elim (bool_cases (is_phase line)) [
+      elim (cases_Bool (is_phase line)) [
         | inl p ↦ rw p (all_none Named)
         | inr p ↦
             rw p (front_named before line lines (blocks_of (sense_of all) lines) is
@@ -220,7 +220,7 @@ module _ (all : List Form) where
   phases_named before (line ∷ lines) is =
       let further = is ∙ sym (append_assoc before (line ∷ []) lines) in
       let rest = phases_named (before ++ line ∷ []) lines further in
-      elim (bool_cases (is_phase line)) [
+      elim (cases_Bool (is_phase line)) [
         | inl p ↦ rw p (All-cons AllNamed _ (phases_of (sense_of all) lines) (blocks_named (before ++ line ∷ []) lines further) rest)
         | inr p ↦ rw p rest
       ]

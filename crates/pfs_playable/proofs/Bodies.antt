@@ -2,7 +2,8 @@
 use Rattle.std.proofs.Common.{ℕ, ◌≡◌, ◌==◌, Bool, true, false, ◌||◌, not, List, [], ◌∷◌, ◌++◌, Option, Some, None, refl, ap, sym, ◌∙◌, subst, inl, inr, arith, append_assoc}
 use Rattle.std.specs.Prelude.{option_map, option_and_then, is_some}
 use Rattle.std.specs.List.{list_any}
-use Rattle.std.proofs.lemmas.Bool.Decides.{nat_tests}
+use Rattle.std.proofs.lemmas.Bool.{cases_Bool, eqb-true}
+use Rattle.pfs_lemmas.proofs.Bools.{or_first, or_second, true_not_false}
 use Rattle.pfs_classes.specs.declared.classes.ClassRef.{ClassRef}
 use Rattle.pfs_classes.specs.declared.classes.ClassRef.TheVariants as refs
 use Rattle.pfs_script.specs.declared.forms.Form.{Form}
@@ -26,7 +27,7 @@ use Rattle.pfs_script.proofs.BlockNesting.{Stand, event_other, kinds_along, alon
 use Rattle.pfs_script.proofs.ReferLemmas.{resolved_within}
 use Rattle.pfs_play.specs.Errands.{is_quit, IsKnownTable, IsKnownDigest}
 use Rattle.pfs_playable.specs.Playable.{end_of}
-use Rattle.pfs_playable.proofs.Bools.{bool_cases, first_false, second_false, both_false, or_true, first_true, both_ways}
+use Rattle.pfs_playable.proofs.Bools.{both_false, or_true, first_true}
 use Rattle.pfs_playable.proofs.Bounds.{table_known}
 use Rattle.pfs_playable.proofs.ClassBounds.{few_classes}
 use Rattle.pfs_playable.proofs.DigestBounds.{digest_known}
@@ -55,18 +56,13 @@ quit_here number before own =
     ∙ (any_more sessions.is_quit (lines_of number before) form.Quit
     ∙ or_true (list_any sessions.is_quit (lines_of number before)) true refl)
 
--- no block of it comes again
-
-same_number : (a b : ℕ) → (a == b) ≡ true → a ≡ b
-same_number a b h = grind (arith, nat_tests, h)
-
 connects_not : (number session : ℕ) (before : List Form) (b : Bool) → (session == number) ≡ b
     → (is_outside session || list_any (is_block_of session) before) ≡ false
     → list_any (is_block_of number) before ≡ true → b ≡ false
 connects_not number session before true e p has =
-    let same = same_number session number e in
-    let none = second_false (is_outside session) (list_any (is_block_of session) before) p in
-    absurd (both_ways (list_any (is_block_of number) before) has
+    let same = eqb-true session number e in
+    let none = or_second (is_outside session) (list_any (is_block_of session) before) p in
+    absurd (true_not_false (list_any (is_block_of number) before) has
     (subst (λ number. list_any (is_block_of number) before ≡ false) same none))
 connects_not number session before false e p has = refl
 
@@ -75,13 +71,13 @@ resumes_not : (number session : ℕ) (before : List Form) (b : Bool) → (sessio
     || (list_any (is_block_of session) (phase_of before) || has_quit session before))) ≡ false
     → has_quit number before ≡ true → b ≡ false
 resumes_not number session before true e p quit =
-    let same = same_number session number e in
+    let same = eqb-true session number e in
     let in_phase = list_any (is_block_of session) (phase_of before) in
-    let none = second_false in_phase (has_quit session before)
-    (second_false (not (list_any (is_block_of session) before)) (in_phase || has_quit session before)
-    (second_false (is_outside session) (not (list_any (is_block_of session) before)
+    let none = or_second in_phase (has_quit session before)
+    (or_second (not (list_any (is_block_of session) before)) (in_phase || has_quit session before)
+    (or_second (is_outside session) (not (list_any (is_block_of session) before)
     || (in_phase || has_quit session before)) p)) in
-    absurd (both_ways (has_quit number before) quit (subst (λ number. has_quit number before ≡ false) same none))
+    absurd (true_not_false (has_quit number before) quit (subst (λ number. has_quit number before ≡ false) same none))
 resumes_not number session before false e p quit = refl
 
 begins_not : (number : ℕ) (before : List Form) (line : Form) → Passes before line
@@ -125,18 +121,18 @@ module _ (sense : Sense) where
   says_none before (form.Resume session) p e quit out = cc
   says_none before form.Done p e quit out = absurd (let q = p.place in cc)
   says_none before form.Quit p e quit out =
-      let blockless = first_false ((session_now before == 0) || has_quit (session_now before) before)
+      let blockless = or_first ((session_now before == 0) || has_quit (session_now before) before)
       (is_in_repeat before) p.place in
-      absurd (both_ways (has_quit (session_now before) before) quit
-      (second_false (session_now before == 0) (has_quit (session_now before) before) blockless))
+      absurd (true_not_false (has_quit (session_now before) before) quit
+      (or_second (session_now before == 0) (has_quit (session_now before) before) blockless))
   says_none before (form.Repeat times) p e quit out =
-      let blockless = first_false ((session_now before == 0) || has_quit (session_now before) before)
+      let blockless = or_first ((session_now before == 0) || has_quit (session_now before) before)
       (is_in_repeat before) p.place in
-      absurd (both_ways (has_quit (session_now before) before) quit
-      (second_false (session_now before == 0) (has_quit (session_now before) before) blockless))
+      absurd (true_not_false (has_quit (session_now before) before) quit
+      (or_second (session_now before == 0) (has_quit (session_now before) before) blockless))
   says_none before _ p e quit out =
-      absurd (both_ways (has_quit (session_now before) before) quit
-      (second_false (session_now before == 0) (has_quit (session_now before) before) p.place))
+      absurd (true_not_false (has_quit (session_now before) before) quit
+      (or_second (session_now before == 0) (has_quit (session_now before) before) p.place))
 
   pub first_said : (line : Form) (lines : List Form) → ends_block line ≡ false
       → block_lines sense (line ∷ lines) ≡ with_front (block_line sense line) (block_lines sense lines)
@@ -155,7 +151,7 @@ module _ (sense : Sense) where
       → is_in_repeat before ≡ false → block_lines sense lines ≡ []
   nothing_said before [] s quit out = last_said
   nothing_said before (line ∷ lines) s quit out =
-      elim (bool_cases (ends_block line)) [
+      elim (cases_Bool (ends_block line)) [
         | inl e ↦ stop_said line lines e
         | inr e ↦
             let here = says_none before line s.0 e quit out in
@@ -260,9 +256,9 @@ module _ (all : List Form) (stands : Stand [] all) where
       let behind = before ++ form.Quit ∷ [] in
       let quit : has_quit number behind ≡ true = quit_here number before own in
       let now : session_now behind ≡ number = now_same before form.Quit refl
-      ∙ same_number (session_now before) number own in
+      ∙ eqb-true (session_now before) number own in
       let out : is_in_repeat behind ≡ false = in_repeat-same before form.Quit refl refl
-      ∙ second_false ((session_now before == 0) || has_quit (session_now before) before) (is_in_repeat before)
+      ∙ or_second ((session_now before == 0) || has_quit (session_now before) before) (is_in_repeat before)
       p.place in
       let none = nothing_said (sense_of all) behind lines s
       (ap (λ session. has_quit session behind) now ∙ quit) out in
@@ -307,10 +303,10 @@ module _ (all : List Form) (stands : Stand [] all) where
       → Said number before lines
   say number before [] s is own has = said_none number before [] (last_said (sense_of all))
   say number before (line ∷ lines) s is own has =
-      elim (bool_cases (ends_block line)) [
+      elim (cases_Bool (ends_block line)) [
         | inl e ↦ said_none number before (line ∷ lines) (stop_said (sense_of all) line lines e)
         | inr e ↦
-            elim (bool_cases (sessions.is_quit line)) [
+            elim (cases_Bool (sessions.is_quit line)) [
               | inl q ↦
                   let same = quit_is line q in
                   subst (λ one. Said number before (one ∷ lines)) (sym same)

@@ -1,7 +1,7 @@
 -- How many lines and tables the lines of a script have.
-use Rattle.std.proofs.Common.{ℕ, ◌≡◌, ◌≤◌, ◌<◌, false, List, [], ◌∷◌, ◌++◌, Some, length, nat_lt, append_assoc, append-nil, arith}
-use Rattle.std.proofs.lemmas.Bool.Decides.{nat_tests}
+use Rattle.std.proofs.Common.{ℕ, ◌≡◌, ◌≤◌, ◌<◌, List, [], ◌∷◌, ◌++◌, Some, length, append_assoc, append-nil, arith}
 use Rattle.std.proofs.lemmas.Option.{slice_get_within}
+use Rattle.std.proofs.lemmas.Bool.{ltb-false}
 use Rattle.pfs_script.specs.declared.forms.Form.{Form}
 use Rattle.pfs_script.specs.Counts.{counted}
 use Rattle.pfs_script.specs.Finds.{table_number, tables_of}
@@ -10,15 +10,12 @@ use Rattle.pfs_script.proofs.Behind.{counted_none}
 use Rattle.pfs_script.proofs.BlockNesting.{Stand}
 use Rattle.pfs_script.proofs.Listing.{are_tables}
 
-few_so : (most number : ℕ) → nat_lt most number ≡ false → number ≤ most
-few_so most number h = grind (arith, nat_tests, h)
-
 lines_behind : (before lines : List Form) → Stand before lines → counted one_each before ≤ 200000
     → counted one_each (before ++ lines) ≤ 200000
 lines_behind before [] s h = rw append-nil h
 lines_behind before (line ∷ lines) s h =
     rw append_assoc at (lines_behind (before ++ line ∷ []) lines s.1
-    (few_so 200000 (counted one_each (before ++ line ∷ [])) s.0.long))
+    (ltb-false 200000 (counted one_each (before ++ line ∷ [])) s.0.long))
 
 -- with each repeat written out
 pub few_lines : (lines : List Form) → Stand [] lines → counted one_each lines ≤ 200000
@@ -29,7 +26,7 @@ tables_behind : (before lines : List Form) → Stand before lines → length (ta
 tables_behind before [] s h = rw append-nil h
 tables_behind before (line ∷ lines) s h =
     rw append_assoc at (tables_behind (before ++ line ∷ []) lines s.1
-    (few_so 64 (length (tables_of (before ++ line ∷ []))) s.0.tables))
+    (ltb-false 64 (length (tables_of (before ++ line ∷ []))) s.0.tables))
 
 no_tables : length (tables_of []) ≤ 64
 unfolding tables_of

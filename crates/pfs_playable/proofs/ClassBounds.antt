@@ -4,6 +4,8 @@ use Rattle.std.specs.Prelude.{fold, slice_get}
 use Rattle.std.specs.List.{list_any}
 use Rattle.std.proofs.lemmas.Bool.Decides.{nat_tests, Decides-eqb}
 use Rattle.std.proofs.lemmas.Option.{same_Some}
+use Rattle.std.proofs.lemmas.Bool.{not-false}
+use Rattle.pfs_lemmas.proofs.Bools.{or_first}
 use Rattle.pfs_rows.specs.declared.limits.Limit.{Limit}
 use Rattle.pfs_rows.specs.declared.limits.Limit.TheVariants as limit
 use Rattle.pfs_rows.specs.declared.limits.Limits.{Limits}
@@ -24,7 +26,6 @@ use Rattle.pfs_script.proofs.BlockNesting.{Stand}
 use Rattle.pfs_script.proofs.Faultless.{Passes}
 use Rattle.pfs_script.proofs.CountLemmas.{count-cons, count-push}
 use Rattle.pfs_script.proofs.PassLemmas.{limits_push}
-use Rattle.pfs_playable.proofs.Bools.{first_false, not_false}
 
 -- the limits
 
@@ -65,7 +66,7 @@ limit_next : (before : List Form) (line : Form) (l : Limits) → Passes before l
     → AreInRange (limits_behind l line)
 limit_next before (form.Limit name (Some value)) l p r =
     limit_given l (named_limit name) value
-    (not_false (is_within (named_limit name) value) (first_false (not (is_within (named_limit name) value))
+    (not-false (is_within (named_limit name) value) (or_first (not (is_within (named_limit name) value))
     (list_any (gives (named_limit name)) before) p.limit)) r
 limit_next before _ l p r = r
 

@@ -3,6 +3,8 @@ use Rattle.std.proofs.Common.{ℕ, ◌≡◌, ◌==◌, Bool, true, false, cond,
 use Rattle.std.specs.Prelude.{filter}
 use Rattle.std.specs.List.{list_any, flat_map}
 use Rattle.std.proofs.lemmas.List.Elements.{filter-append}
+use Rattle.std.proofs.lemmas.Bool.{cases_Bool}
+use Rattle.pfs_lemmas.proofs.Bools.{or_first, or_second}
 use Rattle.pfs_script.specs.declared.forms.Form.{Form}
 use Rattle.pfs_script.specs.declared.forms.Form.TheVariants as form
 use Rattle.pfs_script.specs.declared.blocks.Block.{Block}
@@ -14,7 +16,6 @@ use Rattle.pfs_script.specs.Events.{blocks_for}
 use Rattle.pfs_script.proofs.Behind.{any_more}
 use Rattle.pfs_script.proofs.BlockNesting.{Stand}
 use Rattle.pfs_script.proofs.Faultless.{Passes}
-use Rattle.pfs_playable.proofs.Bools.{bool_cases, first_false, second_false}
 
 pub none_block : (sense : Sense) (lines : List Form) (line : Form) → is_session line ≡ false
     → block_behind sense lines line ≡ None
@@ -52,8 +53,8 @@ module _ (number : ℕ) (sense : Sense) where
   unfolding blocks_of phases_of
   from_other line lines e =
       rw (
-        first_false (is_phase line) (is_session line) e,
-        none_block sense lines line (second_false (is_phase line) (is_session line) e),
+        or_first (is_phase line) (is_session line) e,
+        none_block sense lines line (or_second (is_phase line) (is_session line) e),
       ) refl
 
   abbrev pub with_own : Bool → Block → List Block → List Block
@@ -93,7 +94,7 @@ module _ (number : ℕ) (sense : Sense) where
   unfolding blocks_of
   no_blocks before [] s none = refl
   no_blocks before (line ∷ lines) s none =
-      elim (bool_cases (is_phase line)) [
+      elim (cases_Bool (is_phase line)) [
         | inl p ↦ rw p refl
         | inr p ↦
             let later : list_any is_phase (before ++ line ∷ []) ≡ false = rw (any_more is_phase before line, none) p in
@@ -126,9 +127,9 @@ module _ (number : ℕ) (sense : Sense) where
       → blocks_from lines ≡ []
   none_begun before [] s e = from_none
   none_begun before (line ∷ lines) s e =
-      none_step before lines line s.0 (first_false (is_block_of number line) (list_any (is_block_of number) lines) e)
+      none_step before lines line s.0 (or_first (is_block_of number line) (list_any (is_block_of number) lines) e)
       (none_begun (before ++ line ∷ []) lines s.1
-      (second_false (is_block_of number line) (list_any (is_block_of number) lines) e))
+      (or_second (is_block_of number line) (list_any (is_block_of number) lines) e))
 
   -- and where one does, there is one
   some_by : (b : Bool) (block : Block) (more : List Block) → b ≡ true → with_own b block more ≡ [] → ⊥
@@ -165,7 +166,7 @@ module _ (number : ℕ) (sense : Sense) where
       → blocks_from lines ≡ [] → ⊥
   some_begun before [] s e h = cc
   some_begun before (line ∷ lines) s e h =
-      elim (bool_cases (is_block_of number line)) [
+      elim (cases_Bool (is_block_of number line)) [
         | inl own ↦ some_here line lines own h
         | inr other ↦
             let later : list_any (is_block_of number) lines ≡ true = rw other at e in

@@ -1,6 +1,7 @@
 -- How many lines a session's blocks have.
 use Rattle.std.proofs.Common.{ℕ, ◌≡◌, ◌≤◌, ◌+◌, ◌==◌, Bool, true, false, List, [], ◌∷◌, ◌++◌, Option, Some, None, refl, ap, length, inl, inr, arith}
 use Rattle.std.proofs.lemmas.List.Sums.{sum_by-cons}
+use Rattle.std.proofs.lemmas.Bool.{cases_Bool}
 use Rattle.pfs_script.specs.declared.forms.Form.{Form}
 use Rattle.pfs_script.specs.declared.forms.Form.TheVariants as form
 use Rattle.pfs_script.specs.declared.blocks.Block.{Block}
@@ -11,7 +12,6 @@ use Rattle.pfs_script.proofs.BlockNesting.{Stand}
 use Rattle.pfs_script.proofs.Faultless.{Passes}
 use Rattle.pfs_playable.specs.Playable.{lines_among}
 use Rattle.pfs_playable.proofs.Bodies.{first_said, stop_said, last_said}
-use Rattle.pfs_playable.proofs.Bools.{bool_cases}
 use Rattle.pfs_playable.proofs.OwnBlocks.{blocks_from, from_none, from_phase, from_other, from_connect, from_resume, with_own, connected, resumed}
 
 front_few : (one : Option BlockLine) (more : List BlockLine) → length (with_front one more) ≤ length more + 1
@@ -22,7 +22,7 @@ pub said_few : (sense : Sense) (lines : List Form) → length (block_lines sense
 unfolding block_lines
 said_few sense [] = omega arith
 said_few sense (line ∷ lines) =
-    elim (bool_cases (ends_block line)) [
+    elim (cases_Bool (ends_block line)) [
       | inl e ↦ rw e (omega arith)
       | inr e ↦
           rw e (omega (arith, front_few (block_line sense line) (block_lines sense lines), said_few sense lines))
@@ -63,7 +63,7 @@ module _ (number : ℕ) (sense : Sense) where
   all_few before [] s = rw (last_said sense, from_none number sense) (omega arith)
   all_few before (line ∷ lines) s =
       let few = all_few (before ++ line ∷ []) lines s.1 in
-      elim (bool_cases (ends_block line)) [
+      elim (cases_Bool (ends_block line)) [
         | inl e ↦ end_few before lines line s.0 e few
         | inr e ↦
             rw (from_other number sense line lines e, first_said sense line lines e)

@@ -3,6 +3,9 @@ use Rattle.std.proofs.Common.{ℕ, zero, suc, ◌≡◌, ◌≤◌, ◌<◌, ◌
 use Rattle.std.specs.Prelude.{Contains}
 use Rattle.std.specs.List.{list_any}
 use Rattle.std.proofs.lemmas.Bool.Decides.{nat_tests}
+use Rattle.std.proofs.lemmas.Bool.{cases_Bool, not-false}
+use Rattle.pfs_lemmas.proofs.Numbers.{eq_self}
+use Rattle.pfs_lemmas.proofs.Bools.{or_first, or_second, true_not_false}
 use Rattle.pfs_script.specs.declared.forms.Form.{Form}
 use Rattle.pfs_script.specs.declared.forms.Form.TheVariants as form
 use Rattle.pfs_script.specs.declared.blocks.Block.{Block}
@@ -17,7 +20,6 @@ use Rattle.pfs_script.proofs.BlockNesting.{Stand}
 use Rattle.pfs_script.proofs.Coursing.{phase_same}
 use Rattle.pfs_script.proofs.Faultless.{Passes}
 use Rattle.pfs_script.proofs.Turns.{now_more, lines_ends, lines_other}
-use Rattle.pfs_playable.proofs.Bools.{bool_cases, first_false, second_false, both_ways, not_false}
 
 -- a session's number
 
@@ -27,15 +29,12 @@ low_of number h = grind (arith, nat_tests, h)
 pub high_of : (number : ℕ) → is_outside number ≡ false → number ≤ 64
 high_of number h = grind (arith, nat_tests, h)
 
-pub same_itself : (number : ℕ) → (number == number) ≡ true
-same_itself number = grind (arith, nat_tests)
-
 -- what no line has none of the last ones has
 rest_none : (test last : Form → Bool) (line : Form) (lines : List Form) (a b : Bool)
     → (test line || list_any test lines) ≡ false → list_any test (behind_last last lines) ≡ false
     → list_any test (cond a (behind_last last lines) (cond b lines (line ∷ lines))) ≡ false
 rest_none test last line lines true b h rest = rest
-rest_none test last line lines false true h rest = second_false (test line) (list_any test lines) h
+rest_none test last line lines false true h rest = or_second (test line) (list_any test lines) h
 rest_none test last line lines false false h rest = h
 
 last_none : (test last : Form → Bool) (before : List Form) → list_any test before ≡ false
@@ -44,12 +43,12 @@ unfolding behind_last
 last_none test last [] h = refl
 last_none test last (line ∷ before) h =
     rest_none test last line before (list_any last before) (last line) h
-    (last_none test last before (second_false (test line) (list_any test before) h))
+    (last_none test last before (or_second (test line) (list_any test before) h))
 
 pub connect_new : (before : List Form) (number : ℕ) (user host : List ℕ)
     → Passes before (form.Connect (Some number) user host) → list_any (is_block_of number) before ≡ false
 connect_new before number user host p =
-    second_false (is_outside number) (list_any (is_block_of number) before) p.session
+    or_second (is_outside number) (list_any (is_block_of number) before) p.session
 
 pub connect_free : (before : List Form) (number : ℕ) (user host : List ℕ)
     → Passes before (form.Connect (Some number) user host)
@@ -62,17 +61,17 @@ pub resume_old : (before : List Form) (number : ℕ) → Passes before (form.Res
 resume_old before number p =
     let none = not (list_any (is_block_of number) before) in
     let busy = list_any (is_block_of number) (phase_of before) || has_quit number before in
-    not_false (list_any (is_block_of number) before)
-    (first_false none busy (second_false (is_outside number) (none || busy) p.session))
+    not-false (list_any (is_block_of number) before)
+    (or_first none busy (or_second (is_outside number) (none || busy) p.session))
 
 pub resume_free : (before : List Form) (number : ℕ) → Passes before (form.Resume (Some number))
     → list_any (is_block_of number) (phase_of before) ≡ false
 resume_free before number p =
     let none = not (list_any (is_block_of number) before) in
     let here = list_any (is_block_of number) (phase_of before) in
-    first_false here (has_quit number before)
-    (second_false none (here || has_quit number before)
-    (second_false (is_outside number) (none || (here || has_quit number before)) p.session))
+    or_first here (has_quit number before)
+    (or_second none (here || has_quit number before)
+    (or_second (is_outside number) (none || (here || has_quit number before)) p.session))
 
 -- different sessions
 
@@ -104,7 +103,7 @@ apart_less : (before : List Form) (line : Form) (sessions : List ℕ) → is_pha
 apart_less before line sessions p a = record {
   distinct = a.distinct;
   free = λ number h.
-      first_false (list_any (is_block_of number) (phase_of before)) (is_block_of number line)
+      or_first (list_any (is_block_of number) (phase_of before)) (is_block_of number line)
       (any_line before line number p (a.free number h));
 }
 
@@ -115,8 +114,8 @@ apart_more before line number sessions p own free a =
     let less = apart_less before line sessions p a in
     record {
       distinct = (
-        λ h. both_ways (is_block_of number line) own
-            (second_false (list_any (is_block_of number) (phase_of before)) (is_block_of number line)
+        λ h. true_not_false (is_block_of number line) own
+            (or_second (list_any (is_block_of number) (phase_of before)) (is_block_of number line)
             (any_line before line number p (a.free number h))),
         a.distinct,
       );
@@ -133,12 +132,12 @@ apart_front : (sense : Sense) (before : List Form) (line : Form) (lines : List F
     → Passes before line → is_phase line ≡ false → Apart (before ++ line ∷ []) (sessions_of blocks)
     → Apart before (sessions_of (with_front (block_behind sense lines line) blocks))
 apart_front sense before (form.Connect (Some number) user host) lines blocks p h a =
-    apart_more before (form.Connect (Some number) user host) number (sessions_of blocks) h (same_itself number)
+    apart_more before (form.Connect (Some number) user host) number (sessions_of blocks) h (eq_self number)
     (connect_free before number user host p) a
 apart_front sense before (form.Connect None user host) lines blocks p h a =
     apart_less before (form.Connect None user host) (sessions_of blocks) h a
 apart_front sense before (form.Resume (Some number)) lines blocks p h a =
-    apart_more before (form.Resume (Some number)) number (sessions_of blocks) h (same_itself number)
+    apart_more before (form.Resume (Some number)) number (sessions_of blocks) h (eq_self number)
     (resume_free before number p) a
 apart_front sense before (form.Resume None) lines blocks p h a =
     apart_less before (form.Resume None) (sessions_of blocks) h a
@@ -150,7 +149,7 @@ pub apart : (sense : Sense) (before lines : List Form) → Stand before lines
 unfolding blocks_of
 apart sense before [] s = apart_none before
 apart sense before (line ∷ lines) s =
-    elim (bool_cases (is_phase line)) [
+    elim (cases_Bool (is_phase line)) [
       | inl p ↦ rw p (apart_none before)
       | inr p ↦
           rw p (apart_front sense before line lines (blocks_of sense lines) s.0 p
@@ -195,8 +194,8 @@ pub phase_more : (front before : List Form) (line : Form) → is_phase line ≡ 
     → AreAsBefore front (before ++ line ∷ [])
 phase_more front before line p old = λ number some free.
     let parts = any_line before line number p free in
-    let earlier = first_false (list_any (is_block_of number) (phase_of before)) (is_block_of number line) parts in
-    let here = second_false (list_any (is_block_of number) (phase_of before)) (is_block_of number line) parts in
+    let earlier = or_first (list_any (is_block_of number) (phase_of before)) (is_block_of number line) parts in
+    let here = or_second (list_any (is_block_of number) (phase_of before)) (is_block_of number line) parts in
     let was = old number some earlier in
     record {
       now =

@@ -1,5 +1,6 @@
 -- Where a phase begins among the lines of a script.
 use Rattle.std.proofs.Common.{◌≡◌, true, false, cond, List, [], ◌∷◌, ◌++◌, refl, ap, sym, ◌∙◌, append_assoc, append-nil, inl, inr}
+use Rattle.std.proofs.lemmas.Bool.{cases_Bool}
 use Rattle.pfs_script.specs.declared.forms.Form.{Form}
 use Rattle.pfs_script.specs.declared.forms.Form.TheVariants as form
 use Rattle.pfs_script.specs.declared.blocks.Block.{Block}
@@ -8,7 +9,6 @@ use Rattle.pfs_script.specs.declared.blocks.Phase.{Phase}
 use Rattle.pfs_script.specs.Sessions.{is_phase}
 use Rattle.pfs_script.specs.Blocks.{Sense, with_front, block_lines, block_with, blocks_of, phases_of}
 use Rattle.pfs_script.proofs.BlockNesting.{Stand}
-use Rattle.pfs_playable.proofs.Bools.{bool_cases}
 use Rattle.pfs_playable.proofs.Prefixes.{block_cut}
 
 pub stand_behind : (before lines rest : List Form) → Stand before (lines ++ rest) → Stand (before ++ lines) rest
@@ -110,7 +110,7 @@ module _ (sense : Sense) where
       → phases_of sense lines ≡ before ++ phase ∷ after → Splits lines before phase after
   split [] before phase after e = absurd (no_split before phase after (sym none ∙ e))
   split (line ∷ lines) before phase after e =
-      elim (bool_cases (is_phase line)) [
+      elim (cases_Bool (is_phase line)) [
         | inl p ↦
             split_at line lines before phase after p (λ before h. split lines before phase after h)
             (sym (begins line lines p) ∙ e)

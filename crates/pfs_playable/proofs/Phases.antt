@@ -3,6 +3,9 @@ use Rattle.std.proofs.Common.{ℕ, ◌≡◌, ◌≤◌, ◌+◌, ◌==◌, true
 use Rattle.std.specs.Prelude.{MatchOption, filter}
 use Rattle.std.specs.List.{list_any, All}
 use Rattle.std.proofs.lemmas.List.Elements.{All-cons}
+use Rattle.std.proofs.lemmas.Bool.{cases_Bool}
+use Rattle.pfs_lemmas.proofs.Numbers.{eq_self}
+use Rattle.pfs_lemmas.proofs.Bools.{or_first}
 use Rattle.pfs_script.specs.declared.forms.Form.{Form}
 use Rattle.pfs_script.specs.declared.forms.Form.TheVariants as form
 use Rattle.pfs_script.specs.declared.blocks.Block.{Block}
@@ -23,12 +26,12 @@ use Rattle.pfs_script.proofs.Turns.{now_more, lines_ends}
 use Rattle.pfs_script.proofs.Writing.{length_counted, written_short}
 use Rattle.pfs_playable.specs.Playable.{kinds_before, lines_among, end_of, HasBody, IsPlayableBlock, IsPlayable, PlayableLaw}
 use Rattle.pfs_playable.proofs.Bodies.{say}
-use Rattle.pfs_playable.proofs.Bools.{bool_cases, first_false, or_true}
+use Rattle.pfs_playable.proofs.Bools.{or_true}
 use Rattle.pfs_playable.proofs.Bounds.{few_lines}
 use Rattle.pfs_playable.proofs.OwnBlocks.{is_own, connected, resumed, all_own, none_begun, some_begun}
 use Rattle.pfs_playable.proofs.Prefixes.{stand_front, kinds_are, few_kinds}
 use Rattle.pfs_playable.proofs.OwnLines.{said_few, blocks_few}
-use Rattle.pfs_playable.proofs.PhaseSessions.{low_of, high_of, same_itself, connect_new, connect_free, resume_old, resume_free, apart, AreAsBefore, phase_first, phase_more}
+use Rattle.pfs_playable.proofs.PhaseSessions.{low_of, high_of, connect_new, connect_free, resume_old, resume_free, apart, AreAsBefore, phase_first, phase_more}
 use Rattle.pfs_playable.proofs.PhaseSplits.{stand_behind, Splits, split}
 use Rattle.pfs_playable.proofs.Running.{may_play, along_after, after_end}
 use Rattle.pfs_playable.proofs.Leaving.{block_leaves}
@@ -93,7 +96,7 @@ module _ (all front rest : List Form) (stands : Stand [] all) (are : all ≡ fro
       → all ≡ (before ++ line ∷ []) ++ lines → HasBody earlier (phases_of sense lines) block
   body_may block before lines line some says e r d place now own same s is =
       let number = block.session in
-      let here = ap (λ session. session == number) now ∙ same_itself number in
+      let here = ap (λ session. session == number) now ∙ eq_self number in
       let begun = any_more (is_block_of number) before line
       ∙ or_true (list_any (is_block_of number) before) (is_block_of number line) own in
       let said = say all stands number (before ++ line ∷ []) lines s is here begun in
@@ -179,11 +182,11 @@ module _ (all front rest : List Form) (stands : Stand [] all) (are : all ≡ fro
       → IsPlayableBlock earlier (phases_of sense lines) (connected number sense number user host lines)
   connect_may before lines number user host p old long s is =
       let line = form.Connect (Some number) user host in
-      let within = first_false (is_outside number) (list_any (is_block_of number) before) p.session in
+      let within = or_first (is_outside number) (list_any (is_block_of number) before) p.session in
       let low = low_of number within in
       let was = old number low (connect_free before number user host p) in
       block_may (connected number sense number user host lines) before lines line low (high_of number within) refl
-      refl refl refl p.place (now_more before line) (same_itself number) was.kinds
+      refl refl refl p.place (now_more before line) (eq_self number) was.kinds
       (none_before number (sym was.begun ∙ connect_new before number user host p)) long s is
 
   resume_may : (before lines : List Form) (number : ℕ) → Passes before (form.Resume (Some number))
@@ -193,11 +196,11 @@ module _ (all front rest : List Form) (stands : Stand [] all) (are : all ≡ fro
       → IsPlayableBlock earlier (phases_of sense lines) (resumed number sense number lines)
   resume_may before lines number p old long s is =
       let line = form.Resume (Some number) in
-      let within = first_false (is_outside number) _ p.session in
+      let within = or_first (is_outside number) _ p.session in
       let low = low_of number within in
       let was = old number low (resume_free before number p) in
       block_may (resumed number sense number lines) before lines line low (high_of number within) refl
-      refl refl refl p.place (now_more before line) (same_itself number) was.kinds
+      refl refl refl p.place (now_more before line) (eq_self number) was.kinds
       (some_before number (sym was.begun ∙ resume_old before number p)) long s is
 
   abbrev May : List Block → Type 0
@@ -231,7 +234,7 @@ module _ (all front rest : List Form) (stands : Stand [] all) (are : all ≡ fro
   blocks_may before [] old long s is end = all_none (IsPlayableBlock earlier later)
   blocks_may before (line ∷ lines) old long s is end =
       let further = is ∙ sym (append_assoc before (line ∷ []) lines) in
-      elim (bool_cases (is_phase line)) [
+      elim (cases_Bool (is_phase line)) [
         | inl p ↦ rw p (all_none (IsPlayableBlock earlier later))
         | inr p ↦
             let ended = sym (goes_on line lines p) ∙ end in

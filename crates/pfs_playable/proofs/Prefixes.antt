@@ -2,6 +2,7 @@
 use Rattle.std.proofs.Common.{ℕ, ◌≡◌, ◌≤◌, ◌==◌, Bool, true, false, ◌||◌, not, cond, List, [], ◌∷◌, ◌++◌, Some, None, refl, ap, sym, ◌∙◌, subst, length, map, append_assoc, append-nil, inl, inr, arith}
 use Rattle.std.specs.List.{list_any}
 use Rattle.std.proofs.lemmas.Bool.Decides.{nat_tests}
+use Rattle.std.proofs.lemmas.Bool.{cases_Bool}
 use Rattle.pfs_event.specs.declared.kind.EventKind.{EventKind}
 use Rattle.pfs_script.specs.declared.forms.Form.{Form}
 use Rattle.pfs_script.specs.declared.forms.Form.TheVariants as form
@@ -17,7 +18,6 @@ use Rattle.pfs_script.proofs.Turns.{now_none, now_more, now_same, lines_ends, li
 use Rattle.pfs_script.proofs.Faultless.{Passes}
 use Rattle.pfs_script.proofs.BlockNesting.{Stand, start_session, nest, kinds_along, along_more}
 use Rattle.pfs_playable.specs.Playable.{kinds_before, lines_among}
-use Rattle.pfs_playable.proofs.Bools.{bool_cases}
 use Rattle.pfs_playable.proofs.OwnBlocks.{blocks_from, from_none, from_phase, from_other, from_connect, from_resume, with_own, connected, resumed, all_own}
 use Rattle.pfs_playable.proofs.Leaving.{along_blocks, BlocksNest, blocks_leave, blocks_few}
 
@@ -166,7 +166,7 @@ module _ (number : ℕ) (some : 1 ≤ number) (all front rest : List Form) where
       → block.lines ≡ block_lines sense lines → Stand (before ++ line ∷ []) (more lines)
       → all ≡ (before ++ line ∷ []) ++ more lines → Goes (before ++ line ∷ []) lines → Goes before (line ∷ lines)
   go_block before lines line session block e r d place now from says s is goes =
-      elim (bool_cases (session == number)) [
+      elim (cases_Bool (session == number)) [
         | inl own ↦
             go_own before lines line session block e r d place now own
             (from ∙ with_same (session == number) block (blocks_from number sense lines) own) says s is goes
@@ -200,7 +200,7 @@ module _ (number : ℕ) (some : 1 ≤ number) (all front rest : List Form) where
   go before (line ∷ lines) s is here =
       let further = is ∙ sym (append_assoc before (line ∷ []) (more lines)) in
       let goes = go (before ++ line ∷ []) lines s.1 further (here ∙ sym (append_assoc before (line ∷ []) lines)) in
-      elim (bool_cases (ends_block line)) [
+      elim (cases_Bool (ends_block line)) [
         | inl e ↦ go_end before lines line s.0 e s.1 further goes
         | inr e ↦
             subst (λ blocks. GoOn (kinds_ahead before (line ∷ lines)) blocks)

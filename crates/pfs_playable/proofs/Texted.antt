@@ -3,6 +3,7 @@ use Rattle.std.proofs.Common.{ℕ, ◌<◌, List, [], ◌∷◌, Option, Some, N
 use Rattle.std.specs.Prelude.{option_map, option_and_then}
 use Rattle.std.specs.List.{All}
 use Rattle.std.proofs.lemmas.List.Elements.{All-cons}
+use Rattle.std.proofs.lemmas.Bool.{cases_Bool}
 use Rattle.pfs_classes.specs.declared.classes.ClassRef.{ClassRef}
 use Rattle.pfs_classes.specs.declared.setting.DigestText.{DigestText}
 use Rattle.pfs_script.specs.declared.forms.Form.{Form}
@@ -18,7 +19,6 @@ use Rattle.pfs_script.specs.Sessions.{ends_block, is_phase}
 use Rattle.pfs_script.proofs.TextPlaces.{place_within}
 use Rattle.pfs_playable.specs.Playable.{IsTextedLine, AreTextedLines, TextedLaw}
 use Rattle.pfs_playable.proofs.Blocks.{all_none}
-use Rattle.pfs_playable.proofs.Bools.{bool_cases}
 
 module _ (sense : Sense) (places : ℕ) (known : (text : List ℕ) → IfSome (digest_place sense.digests text) (λ n. n < places)) where
   class_texted : (starts : ClassRef → BlockLine) (ref : Option ClassRef) (more : List BlockLine) → ((one : ClassRef) → IsTextedLine places (starts one)) → AreTextedLines places more
@@ -55,7 +55,7 @@ module _ (sense : Sense) (places : ℕ) (known : (text : List ℕ) → IfSome (d
   lines_texted [] = tt
   lines_texted (line ∷ lines) =
       let rest = lines_texted lines in
-      elim (bool_cases (ends_block line)) [
+      elim (cases_Bool (ends_block line)) [
         | inl e ↦ rw e tt
         | inr e ↦ rw e (line_texted line (block_lines sense lines) rest)
       ]
@@ -75,7 +75,7 @@ module _ (sense : Sense) (places : ℕ) (known : (text : List ℕ) → IfSome (d
   blocks_texted [] = all_none Texted
   blocks_texted (line ∷ lines) =
       let rest = blocks_texted lines in
-      elim (bool_cases (is_phase line)) [
+      elim (cases_Bool (is_phase line)) [
         | inl p ↦ rw p (all_none Texted)
         | inr p ↦ rw p (front_texted line lines (blocks_of sense lines) rest)
       ]
@@ -88,7 +88,7 @@ module _ (sense : Sense) (places : ℕ) (known : (text : List ℕ) → IfSome (d
   phases_texted [] = all_none AllTexted
   phases_texted (line ∷ lines) =
       let rest = phases_texted lines in
-      elim (bool_cases (is_phase line)) [
+      elim (cases_Bool (is_phase line)) [
         | inl p ↦ rw p (All-cons AllTexted _ (phases_of sense lines) (blocks_texted lines) rest)
         | inr p ↦ rw p rest
       ]

@@ -3,6 +3,9 @@ use Rattle.std.proofs.Common.{ℕ, zero, suc, ◌≡◌, ◌≤◌, ◌+◌, ◌
 use Rattle.std.specs.Prelude.{option_map, option_and_then, unwrap_or}
 use Rattle.std.specs.List.{sum_by}
 use Rattle.std.proofs.lemmas.List.Sums.{sum_by-cons}
+use Rattle.std.proofs.lemmas.Bool.{cases_Bool}
+use Rattle.pfs_lemmas.proofs.Numbers.{plus_zero_first}
+use Rattle.pfs_lemmas.proofs.Bools.{or_first, or_second}
 use Rattle.pfs_classes.specs.declared.classes.ClassRef.{ClassRef}
 use Rattle.pfs_script.specs.declared.forms.Form.{Form}
 use Rattle.pfs_script.specs.declared.forms.Form.TheVariants as form
@@ -20,7 +23,6 @@ use Rattle.pfs_script.specs.Scripts.{IsScript}
 use Rattle.pfs_script.proofs.BlockNesting.{stand_of}
 use Rattle.pfs_playable.specs.Playable.{written_among, written_in, TotalLaw}
 use Rattle.pfs_playable.proofs.Bodies.{first_said, stop_said, last_said}
-use Rattle.pfs_playable.proofs.Bools.{bool_cases, first_false, second_false}
 use Rattle.pfs_playable.proofs.Bounds.{few_lines}
 use Rattle.pfs_playable.proofs.OwnBlocks.{none_block, connected, resumed}
 
@@ -94,14 +96,11 @@ sum_ones : (lines : List Form) → sum_by one_each lines ≡ length lines
 sum_ones [] = refl
 sum_ones (line ∷ lines) = omega (arith, sum_by-cons one_each line lines, sum_ones lines)
 
-nothing_added : (n : ℕ) → n ≡ 0 + n
-nothing_added n = omega arith
-
 again_rounds : (times : ℕ) (lines : List Form) (until : Option (List Form)) → until_done lines ≡ until
     → again one_each (form.Repeat (Some times)) lines ≡ rounds times 0 until
 again_rounds times lines None e = rw e refl
 again_rounds times lines (Some more) e =
-    rw e (rw (sum_ones more) (ap (λ n. (times - 1) * n) (nothing_added (length more))))
+    rw e (rw (sum_ones more) (ap (λ n. (times - 1) * n) (plus_zero_first (length more))))
 
 pub until_other : (line : Form) (lines : List Form) → is_done line ≡ false
     → until_done (line ∷ lines) ≡ option_map (λ more. line ∷ more) (until_done lines)
@@ -143,8 +142,8 @@ module _ (sense : Sense) where
   unfolding blocks_of phases_of
   ahead_inside line lines e =
       rw (
-        first_false (is_phase line) (is_session line) e,
-        none_block sense lines line (second_false (is_phase line) (is_session line) e),
+        or_first (is_phase line) (is_session line) e,
+        none_block sense lines line (or_second (is_phase line) (is_session line) e),
       ) refl
 
   ahead_ends : (line : Form) (lines : List Form) → ends_block line ≡ true
@@ -287,13 +286,13 @@ module _ (sense : Sense) where
   short None (form.Repeat (Some times) ∷ lines) =
       repeat_short times lines (short (Some (record { times = times; body = [] })) lines)
   short None (line ∷ lines) =
-      elim (bool_cases (ends_block line)) [
+      elim (cases_Bool (ends_block line)) [
         | inl e ↦ stop_short None line lines e (short None lines)
         | inr e ↦ none_short line lines e (plain line (λ times e. cc)) (short None lines)
       ]
   short (Some loop) (form.Done ∷ lines) = done_short loop lines (short None lines)
   short (Some loop) (line ∷ lines) =
-      elim (bool_cases (ends_block line)) [
+      elim (cases_Bool (ends_block line)) [
         | inl e ↦ stop_short (Some loop) line lines e (short None lines)
         | inr e ↦
             some_short loop line lines e refl (λ body. short (Some (record { times = loop.times; body = body })) lines)

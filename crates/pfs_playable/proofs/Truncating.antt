@@ -5,6 +5,9 @@ use Rattle.std.specs.Prelude.{codes, option_map, option_and_then, unwrap_or, ◌
 use Rattle.std.specs.List.{sum_by}
 use Rattle.std.proofs.lemmas.Bool.Decides.{nat_tests}
 use Rattle.std.proofs.lemmas.List.Sums.{sum_by-cons}
+use Rattle.std.proofs.lemmas.Bool.{cases_Bool}
+use Rattle.pfs_lemmas.proofs.Numbers.{plus_zero_first}
+use Rattle.pfs_lemmas.proofs.Bools.{or_first, or_second}
 use Rattle.pfs_classes.specs.declared.classes.ClassRef.{ClassRef}
 use Rattle.pfs_play.specs.Errands.{actions_of, actions_on, errand_on, sql_errand}
 use Rattle.pfs_play.specs.Errand.{Errand}
@@ -30,7 +33,6 @@ use Rattle.pfs_script.proofs.Behind.{counted_none}
 use Rattle.pfs_script.proofs.BlockNesting.{Stand, stand_of}
 use Rattle.pfs_playable.specs.Playable.{actions_among, actions_in, truncations_of, truncations_on, truncations_among, truncations_in, ActionsLaw}
 use Rattle.pfs_playable.proofs.Bodies.{first_said, stop_said, last_said}
-use Rattle.pfs_playable.proofs.Bools.{bool_cases, first_false, second_false}
 use Rattle.pfs_playable.proofs.OwnBlocks.{none_block, connected, resumed}
 use Rattle.pfs_playable.proofs.Wording.{truncation_weighs}
 use Rattle.pfs_playable.proofs.Totals.{NoRepeat, begins, ends, front_some, no_done, plain, times_more, until_other, with_one}
@@ -127,12 +129,9 @@ counted_first : (line : Form) (lines : List Form) → counted weight_of (line �
 unfolding counted
 counted_first line lines = refl
 
-nothing_added : (n : ℕ) → n ≡ 0 + n
-nothing_added n = omega arith
-
 again_rounds : (times : ℕ) (lines : List Form) (until : Option (List Form)) → until_done lines ≡ until → again weight_of (form.Repeat (Some times)) lines ≡ rounds times 0 until
 again_rounds times lines None e = rw e refl
-again_rounds times lines (Some more) e = rw e (ap (λ n. (times - 1) * n) (nothing_added (sum_by weight_of more)))
+again_rounds times lines (Some more) e = rw e (ap (λ n. (times - 1) * n) (plus_zero_first (sum_by weight_of more)))
 
 module _ (sense : Sense) where
   -- what the blocks that begin among lines, in this phase and in later ones, weigh by their actions
@@ -149,8 +148,8 @@ module _ (sense : Sense) where
   unfolding blocks_of phases_of
   ahead_inside line lines e =
       rw (
-        first_false (is_phase line) (is_session line) e,
-        none_block sense lines line (second_false (is_phase line) (is_session line) e),
+        or_first (is_phase line) (is_session line) e,
+        none_block sense lines line (or_second (is_phase line) (is_session line) e),
       ) refl
 
   ahead_ends : (line : Form) (lines : List Form) → ends_block line ≡ true
@@ -282,13 +281,13 @@ module _ (sense : Sense) where
   few (Some loop) [] = last_few (Some loop)
   few None (form.Repeat (Some times) ∷ lines) = repeat_few times lines (few (Some (record { times = times; body = [] })) lines)
   few None (line ∷ lines) =
-      elim (bool_cases (ends_block line)) [
+      elim (cases_Bool (ends_block line)) [
         | inl e ↦ stop_few None line lines e (few None lines)
         | inr e ↦ none_few line lines e (plain sense line (λ times e. cc)) (few None lines)
       ]
   few (Some loop) (form.Done ∷ lines) = done_few loop lines (few None lines)
   few (Some loop) (line ∷ lines) =
-      elim (bool_cases (ends_block line)) [
+      elim (cases_Bool (ends_block line)) [
         | inl e ↦ stop_few (Some loop) line lines e (few None lines)
         | inr e ↦ some_few loop line lines e refl (λ body. few (Some (record { times = loop.times; body = body })) lines)
       ]
@@ -302,9 +301,9 @@ weight_behind before [] s h = rw append-nil h
 weight_behind before (line ∷ lines) s h =
     let now : List Form = before ++ line ∷ [] in
     let much = s.0.much in
-    let third = second_false (nat_lt 256 (counted one_select now)) (nat_lt 5000000 (counted weight_of now))
-    (second_false (has_over 256 is_class before line) (nat_lt 256 (counted one_select now) || nat_lt 5000000 (counted weight_of now))
-    (second_false (has_over 64 is_phase before line) (has_over 256 is_class before line || (nat_lt 256 (counted one_select now) || nat_lt 5000000 (counted weight_of now))) much)) in
+    let third = or_second (nat_lt 256 (counted one_select now)) (nat_lt 5000000 (counted weight_of now))
+    (or_second (has_over 256 is_class before line) (nat_lt 256 (counted one_select now) || nat_lt 5000000 (counted weight_of now))
+    (or_second (has_over 64 is_phase before line) (has_over 256 is_class before line || (nat_lt 256 (counted one_select now) || nat_lt 5000000 (counted weight_of now))) much)) in
     rw append_assoc at (weight_behind now lines s.1 (weight_so (counted weight_of now) third))
 
 weight_fits : (lines : List Form) → Stand [] lines → counted weight_of lines ≤ 5000000

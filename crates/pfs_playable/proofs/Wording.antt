@@ -4,7 +4,7 @@ use Rattle.std.specs.Prelude.{codes}
 use Rattle.std.specs.Char.{to_ascii_lowercase}
 use Rattle.std.specs.List.{list_all, position_or_len, prefix_len}
 use Rattle.std.specs.Str.{str_eq_ignore_ascii_case}
-use Rattle.std.proofs.lemmas.Bool.{cases_Bool}
+use Rattle.std.proofs.lemmas.Bool.{cases_Bool, le-leb}
 use Rattle.std.proofs.lemmas.Bool.Decides.{nat_tests}
 use Rattle.std.proofs.lemmas.List.{length-append, length-map, take_at}
 use Rattle.std.proofs.lemmas.Slice.Eq.{bytes_eq-Decides}
@@ -137,15 +137,12 @@ first_letter letter word h =
     let same = (bytes_eq-Decides (map to_ascii_lowercase (letter ∷ word)) (map to_ascii_lowercase (codes "truncate"))).0 h in
     cc
 
-room_for : (least long : ℕ) → least ≤ long → nat_le least long ≡ true
-room_for least long h = grind (arith, nat_tests, h)
-
 begins : (word behind text : List ℕ) → str_eq_ignore_ascii_case word (codes "truncate") ≡ true → command_of text ≡ word ++ behind → begins_with (codes "truncate") text ≡ true
 unfolding begins_with
 begins word behind text h e =
     let long = word_length word h in
     let both = length-append word behind in
-    let room : nat_le 8 (length (word ++ behind)) ≡ true = room_for 8 (length (word ++ behind)) (omega (arith, long, both)) in
+    let room : nat_le 8 (length (word ++ behind)) ≡ true = le-leb 8 (length (word ++ behind)) (omega (arith, long, both)) in
     rw (e, room, take_at word behind 8 long) h
 
 begins_else : (word behind text : List ℕ) → str_eq_ignore_ascii_case word (codes "truncate") ≡ true → command_of text ≡ word ++ behind → begins_with (codes "select") text ≡ false
@@ -155,7 +152,7 @@ begins_else (letter ∷ word) behind text h e =
     let other : to_ascii_lowercase letter ≡ 116 = first_letter letter word h in
     let long = word_length (letter ∷ word) h in
     let both = length-append (letter ∷ word) behind in
-    let room : nat_le 6 (length ((letter ∷ word) ++ behind)) ≡ true = room_for 6 (length ((letter ∷ word) ++ behind)) (omega (arith, long, both)) in
+    let room : nat_le 6 (length ((letter ∷ word) ++ behind)) ≡ true = le-leb 6 (length ((letter ∷ word) ++ behind)) (omega (arith, long, both)) in
     rw (e, room, other) refl
 
 word_weighs : (token : Token) (text behind : List ℕ) → is_key (codes "truncate") token ≡ true → Begins token (command_of text) behind → sql_weight text ≡ 20000

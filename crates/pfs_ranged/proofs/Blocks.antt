@@ -2,6 +2,7 @@
 use Rattle.std.proofs.Common.{ℕ, zero, suc, ◌<◌, ◌^◌, ◌==◌, Bool, true, false, cond, List, [], ◌∷◌, ◌++◌, Option, Some, None, IfSome, lit<}
 use Rattle.std.specs.Prelude.{option_map, option_and_then, unwrap_or, filter, if◌then◌else◌}
 use Rattle.std.specs.List.{flat_map}
+use Rattle.pfs_model.proofs.EachLists.{each_join}
 use Rattle.pfs_model.specs.Chains.{Each}
 use Rattle.pfs_script.specs.declared.blocks.Block.{Block}
 use Rattle.pfs_script.specs.declared.blocks.BlockLine.{BlockLine}
@@ -130,16 +131,10 @@ phases_low sense (line ∷ lines) low = at (is_phase line) (blocks_low sense lin
   at true h g = (h, g)
   at false h g = g
 
--- written out
-
-joined : {A : Type 0} (P : A → Type 0) (xs ys : List A) → Each P xs → Each P ys → Each P (xs ++ ys)
-joined P [] ys h g = g
-joined P (x ∷ xs) ys h g = (h.0, joined P xs ys h.1 g)
-
 copies_low : (times : ℕ) (lines : List BlockLine) → AreLowLines lines → AreLowLines (copies times lines)
 unfolding copies
 copies_low zero lines h = tt
-copies_low (suc times) lines h = joined IsLowLine lines (copies times lines) h (copies_low times lines h)
+copies_low (suc times) lines h = each_join IsLowLine lines (copies times lines) h (copies_low times lines h)
 
 abbrev BodyLow : Option Repeated → Type 0
 BodyLow o = IfSome o (λ (loop : Repeated). AreLowLines loop.body)
@@ -150,16 +145,16 @@ written_low None [] b h = tt
 written_low (Some loop) [] b h = b
 written_low None (said.Repeat times ∷ rest) b h = written_low (Some (record { times = times; body = [] })) rest tt h.1
 written_low (Some loop) (said.Done ∷ rest) b h =
-    joined IsLowLine (copies loop.times loop.body) (written_from None rest) (copies_low loop.times loop.body b) (written_low None rest tt h.1)
+    each_join IsLowLine (copies loop.times loop.body) (written_from None rest) (copies_low loop.times loop.body b) (written_low None rest tt h.1)
 written_low None (line ∷ rest) b h = (h.0, written_low None rest tt h.1)
 written_low (Some loop) (line ∷ rest) b h =
     written_low (Some (record { times = loop.times; body = loop.body ++ line ∷ [] })) rest
-    (joined IsLowLine loop.body (line ∷ []) b (h.0, tt)) h.1
+    (each_join IsLowLine loop.body (line ∷ []) b (h.0, tt)) h.1
 
 flat_holds : {A B : Type 0} (P : A → Type 0) (Q : B → Type 0) (f : A → List B) (xs : List A) → Each P xs
     → ((x : A) → P x → Each Q (f x)) → Each Q (flat_map f xs)
 flat_holds P Q f [] h g = tt
-flat_holds P Q f (x ∷ xs) h g = joined Q (f x) (flat_map f xs) (g x h.0) (flat_holds P Q f xs h.1 g)
+flat_holds P Q f (x ∷ xs) h g = each_join Q (f x) (flat_map f xs) (g x h.0) (flat_holds P Q f xs h.1 g)
 
 kept_holds : {A : Type 0} (P : A → Type 0) (test : A → Bool) (xs : List A) → Each P xs → Each P (filter test xs)
 kept_holds P test [] h = tt

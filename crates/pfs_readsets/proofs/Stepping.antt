@@ -5,6 +5,7 @@ use Rattle.std.proofs.lemmas.List.{append_cancel_left, append-nil, map-append}
 use Rattle.std.proofs.lemmas.List.Folds.{list_any-append}
 use Rattle.std.proofs.lemmas.Bool.Decides.{nat_tests}
 use Rattle.std.proofs.lemmas.Bool.{cases_lt, cases_eq}
+use Rattle.pfs_lemmas.proofs.Bools.{and_false, or_true}
 use Rattle.pfs_rows.specs.declared.table.Table.{Table}
 use Rattle.pfs_rows.specs.declared.table.Table.TheVariants as tables
 use Rattle.pfs_rows.specs.declared.table.Reading.{Reading}
@@ -148,16 +149,8 @@ or_off : (a b : Bool) → b ≡ false → (a || b) ≡ a
 or_off true b e = refl
 or_off false b e = e
 
-and_off : (a : Bool) → (a && false) ≡ false
-and_off true = refl
-and_off false = refl
-
 apart : (row info : ℕ) (seen : Seen) → (row ≡ info → ⊥) → shows_whole info (readings.Slot row seen) ≡ false
 apart row info seen differ = let e : (row == info) ≡ false = grind (arith, nat_tests) in ap (λ b. b && found_whole seen) e
-
-or_on : (b : Bool) → (b || true) ≡ true
-or_on true = refl
-or_on false = refl
 
 -- the flag of an info after the reading of a row
 flag_after : (flags : List Bool) (before : List Reading) (row : ℕ) (seen : Seen) → length flags ≡ 129
@@ -171,14 +164,14 @@ flag_after flags before row (Whole version content) long known info few = on (ca
         let e : (row == info) ≡ true = grind (arith, nat_tests) in
         let here : slice_index_or (slice_set flags row true) row false ≡ true = get_or-set_same flags row true false (omega arith) in
         ap (λ i. slice_index_or (slice_set flags row true) i false) (sym same)
-        ∙ (here ∙ sym (whole_more before (readings.Slot row (Whole version content)) info ∙ (ap (λ b. is_whole before info || (b && true)) e ∙ or_on (is_whole before info))))
+        ∙ (here ∙ sym (whole_more before (readings.Slot row (Whole version content)) info ∙ (ap (λ b. is_whole before info || (b && true)) e ∙ or_true (is_whole before info))))
     on (inr differ) =
         get_or-set_other flags row info true false (λ e. differ (sym e))
         ∙ (known info few ∙ sym (whole_more before (readings.Slot row (Whole version content)) info ∙ or_off (is_whole before info) _ (apart row info (Whole version content) differ)))
 flag_after flags before row (Free word) long known info few =
-    known info few ∙ sym (whole_more before (readings.Slot row (Free word)) info ∙ or_off (is_whole before info) _ (and_off (row == info)))
+    known info few ∙ sym (whole_more before (readings.Slot row (Free word)) info ∙ or_off (is_whole before info) _ (and_false (row == info)))
 flag_after flags before row (Busy first second) long known info few =
-    known info few ∙ sym (whole_more before (readings.Slot row (Busy first second)) info ∙ or_off (is_whole before info) _ (and_off (row == info)))
+    known info few ∙ sym (whole_more before (readings.Slot row (Busy first second)) info ∙ or_off (is_whole before info) _ (and_false (row == info)))
 
 flags_long : (flags : List Bool) (row : ℕ) (seen : Seen) → length flags ≡ 129 → length (if found_whole seen then slice_set flags row true else flags) ≡ 129
 flags_long flags row (Whole version content) long = length-set flags row true ∙ long

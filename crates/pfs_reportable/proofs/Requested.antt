@@ -4,6 +4,7 @@ use Rattle.std.specs.Prelude.{◌==◌, if◌then◌else◌, filter, option_map,
 use Rattle.std.specs.List.{All, Contains, flat_map, slice_index_or}
 use Rattle.std.specs.Option.{IfSome}
 use Rattle.std.proofs.lemmas.List.Elements.{All-contains, All-weaker}
+use Rattle.pfs_model.proofs.EachLists.{each_join}
 use Rattle.pfs_admin.specs.declared.changes.Change.{Change}
 use Rattle.pfs_admin.specs.declared.changes.Change.TheVariants as changes
 use Rattle.pfs_admin.specs.declared.changes.SetupStatement.{SetupStatement}
@@ -34,16 +35,10 @@ use Rattle.pfs_script.specs.declared.forms.Form.{Form}
 use Rattle.pfs_script.specs.declared.forms.Form.TheVariants as form
 use Rattle.pfs_reportable.proofs.Named.{IsClean, lines_clean}
 
--- ---- lists
-
-joined : {A : Type 0} (P : A → Type 0) (xs ys : List A) → Each P xs → Each P ys → Each P (xs ++ ys)
-joined P [] ys h g = g
-joined P (x ∷ xs) ys h g = (h.0, joined P xs ys h.1 g)
-
 flat_each : {A B : Type 0} (P : A → Type 0) (Q : B → Type 0) (f : A → List B) (xs : List A) → Each P xs
     → ((x : A) → P x → Each Q (f x)) → Each Q (flat_map f xs)
 flat_each P Q f [] h g = tt
-flat_each P Q f (x ∷ xs) h g = joined Q (f x) (flat_map f xs) (g x h.0) (flat_each P Q f xs h.1 g)
+flat_each P Q f (x ∷ xs) h g = each_join Q (f x) (flat_map f xs) (g x h.0) (flat_each P Q f xs h.1 g)
 
 pub kept_each : {A : Type 0} (P : A → Type 0) (test : A → Bool) (xs : List A) → Each P xs → Each P (filter test xs)
 kept_each P test [] h = tt
@@ -161,7 +156,7 @@ script_texted text setting phases is =
 copies_texted : (times : ℕ) (lines : List BlockLine) → Each IsTextedLine lines → Each IsTextedLine (copies times lines)
 unfolding copies
 copies_texted zero lines h = tt
-copies_texted (suc times) lines h = joined IsTextedLine lines (copies times lines) h (copies_texted times lines h)
+copies_texted (suc times) lines h = each_join IsTextedLine lines (copies times lines) h (copies_texted times lines h)
 
 abbrev BodyTexted : Option Repeated → Type 0
 BodyTexted o = IfSome o (λ (loop : Repeated). Each IsTextedLine loop.body)
@@ -174,12 +169,12 @@ written_texted (Some loop) [] b h = b
 written_texted None (said.Repeat times ∷ rest) b h = written_texted
     (Some (record { times = times; body = [] })) rest tt h.1
 written_texted (Some loop) (said.Done ∷ rest) b h =
-    joined IsTextedLine (copies loop.times loop.body) (written_from None rest) (copies_texted loop.times loop.body b)
+    each_join IsTextedLine (copies loop.times loop.body) (written_from None rest) (copies_texted loop.times loop.body b)
     (written_texted None rest tt h.1)
 written_texted None (line ∷ rest) b h = (h.0, written_texted None rest tt h.1)
 written_texted (Some loop) (line ∷ rest) b h =
     written_texted (Some (record { times = loop.times; body = loop.body ++ line ∷ [] })) rest
-    (joined IsTextedLine loop.body (line ∷ []) b (h.0, tt)) h.1
+    (each_join IsTextedLine loop.body (line ∷ []) b (h.0, tt)) h.1
 
 -- ---- the changes that they ask for
 
@@ -232,7 +227,7 @@ module _ (rows : RowLaw) where
 
   block_clean : (block : Block) → IsTextedBlock block → Each IsCleanChange (changes_in block)
   block_clean block texted =
-      joined IsCleanChange (connect_changes block.connect) (flat_map changes_on (written_out block.lines))
+      each_join IsCleanChange (connect_changes block.connect) (flat_map changes_on (written_out block.lines))
       (connect_clean block.connect)
       (flat_each IsTextedLine IsCleanChange changes_on (written_out block.lines)
       (written_texted None block.lines tt texted) line_clean)

@@ -1,8 +1,8 @@
 -- A plain store behind its calls: the contents of its rows, whether they are free, and its words.
 use Rattle.std.proofs.Common.{ℕ, inl, inr, ◌≡◌, ◌<◌, ◌≤◌, ◌+◌, ◌==◌, nat_lt, false, true, Bool, cond, not, ◌&&◌, List, [], ◌∷◌, ◌++◌, refl, ap, sym, ◌∙◌, subst, arith, eq-eqb, ne_eqb}
-use Rattle.std.proofs.lemmas.Bool.{cases_eq}
-use Rattle.std.proofs.lemmas.Bool.Decides.{nat_tests}
+use Rattle.std.proofs.lemmas.Bool.{cases_eq, le-ltb, lt-ltb}
 use Rattle.std.proofs.lemmas.List.{append_assoc}
+use Rattle.pfs_lemmas.proofs.Bools.{counted_once_more}
 use Rattle.pfs_levels.specs.Calls.{Call, Adds, Rings, Reads, Loads, Draws, Takes, Puts, Frees, Sets, Enters, Leaves, Meets}
 use Rattle.pfs_levels.specs.Contents.{merged}
 use Rattle.pfs_levels.specs.Joint.{total, one_if, At, changes_of, count, IsCounted, Setting, sets_by, sets_of, word_version, flags_at, AreWordsCounted, opens_free, frees_at}
@@ -11,30 +11,19 @@ use Rattle.pfs_levels.specs.declared.answers.Added.TheVariants.{Counted, Held}
 use Rattle.pfs_levels.specs.declared.answers.RingPut.TheVariants.{Done, Busy, Late}
 use Rattle.pfs_levels.specs.declared.plain.Slot.{Slot}
 
-not_lt : (a b : ℕ) → b ≤ a → nat_lt a b ≡ false
-not_lt a b h = grind (arith, nat_tests)
-
-yes_lt : (a b : ℕ) → a < b → nat_lt a b ≡ true
-yes_lt a b h = grind (arith, nat_tests)
-
 -- contents
 step_content : (b : Bool) (e : Effect) (s : Slot) (n k : ℕ) (c : List ℕ) → s.content ≡ c → cond (b && is_put e) (n + 1) n ≤ k → (cond b (slot_by e s) s).content ≡ cond (b && (is_put e && nat_lt n k)) (content_by e c) c
 step_content false e s n k c h up = h
-step_content true (Merges amount) s n k c h up = rw (yes_lt n k (omega arith)) (ap (λ z. merged z amount) h)
-step_content true (Becomes content) s n k c h up = rw (yes_lt n k (omega arith)) refl
-step_content true Renews s n k c h up = rw (yes_lt n k (omega arith)) h
+step_content true (Merges amount) s n k c h up = rw (lt-ltb n k (omega arith)) (ap (λ z. merged z amount) h)
+step_content true (Becomes content) s n k c h up = rw (lt-ltb n k (omega arith)) refl
+step_content true Renews s n k c h up = rw (lt-ltb n k (omega arith)) h
 step_content true Holds s n k c h up = h
 step_content true Releases s n k c h up = h
-
-puts_step : (b p : Bool) (n : ℕ) → n ≤ cond (b && p) (n + 1) n
-puts_step true true n = omega arith
-puts_step true false n = omega arith
-puts_step false p n = omega arith
 
 pub contents : (os : List Op) (row k : ℕ) → puts_in os row ≤ k → (slot_after os row).content ≡ content_at os row k
 unfolding slot_after puts_in content_at
 contents [] row k up = refl
-contents (o ∷ os) row k up = step_content (o.row == row) o.effect (slot_after os row) (puts_in os row) k (content_at os row k) (contents os row k (omega (arith, up, puts_step (o.row == row) (is_put o.effect) (puts_in os row)))) up
+contents (o ∷ os) row k up = step_content (o.row == row) o.effect (slot_after os row) (puts_in os row) k (content_at os row k) (contents os row k (omega (arith, up, counted_once_more (o.row == row) (is_put o.effect) (puts_in os row)))) up
 
 no_choice : {A : Type 0} (b p : Bool) (x y : A) → cond (b && (p && false)) x y ≡ y
 no_choice true true x y = refl
@@ -43,12 +32,12 @@ no_choice false p x y = refl
 
 content_kept : (o : Op) (os : List Op) (row k : ℕ) → k ≤ puts_in os row → content_at (o ∷ os) row k ≡ content_at os row k
 unfolding content_at
-content_kept o os row k low = ap (λ b. cond ((o.row == row) && (is_put o.effect && b)) (content_by o.effect (content_at os row k)) (content_at os row k)) (not_lt (puts_in os row) k low) ∙ no_choice (o.row == row) (is_put o.effect) (content_by o.effect (content_at os row k)) (content_at os row k)
+content_kept o os row k low = ap (λ b. cond ((o.row == row) && (is_put o.effect && b)) (content_by o.effect (content_at os row k)) (content_at os row k)) (le-ltb (puts_in os row) k low) ∙ no_choice (o.row == row) (is_put o.effect) (content_by o.effect (content_at os row k)) (content_at os row k)
 
 puts_more : (xs os : List Op) (row : ℕ) → puts_in os row ≤ puts_in (xs ++ os) row
 unfolding puts_in
 puts_more [] os row = omega arith
-puts_more (x ∷ xs) os row = omega (arith, puts_more xs os row, puts_step (x.row == row) (is_put x.effect) (puts_in (xs ++ os) row))
+puts_more (x ∷ xs) os row = omega (arith, puts_more xs os row, counted_once_more (x.row == row) (is_put x.effect) (puts_in (xs ++ os) row))
 
 contents_kept : (xs os : List Op) (row k : ℕ) → k ≤ puts_in os row → content_at (xs ++ os) row k ≡ content_at os row k
 contents_kept [] os row k low = refl
@@ -195,7 +184,7 @@ count_free x xs row e = ap (λ b. cond ((x.row == row) && b) (count xs row + 1) 
 
 count_low : (x : At) (xs : List At) (row : ℕ) → count xs row ≤ count (x ∷ xs) row
 unfolding count
-count_low x xs row = puts_step (x.row == row) x.puts (count xs row)
+count_low x xs row = counted_once_more (x.row == row) x.puts (count xs row)
 
 -- a release is at the count of its row
 freed_at : (x : At) (xs : List At) (row : ℕ) → IsCounted (x ∷ xs) → x.row ≡ row → x.puts ≡ false → x.version ≡ count xs row
@@ -262,4 +251,4 @@ free_is (x ∷ xs) row c = elim (cases_eq x.row row) [
       let one : one_free x row n ≡ 1 = this_free (x.row == row) x.puts (x.version == n) on f (eq-eqb x.version n (freed_at x xs row c e f)) in
       let some : 0 < frees_at (x ∷ xs) row (count (x ∷ xs) row) =
       omega (arith, ap (frees_at (x ∷ xs) row) (count_free x xs row f), frees_split x xs row n, one) in
-      ap (λ b. cond b (not x.puts) (stands_free xs row)) on ∙ (ap not f ∙ sym (yes_lt 0 (frees_at (x ∷ xs) row (count (x ∷ xs) row)) some))
+      ap (λ b. cond b (not x.puts) (stands_free xs row)) on ∙ (ap not f ∙ sym (lt-ltb 0 (frees_at (x ∷ xs) row (count (x ∷ xs) row)) some))

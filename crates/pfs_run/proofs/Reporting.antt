@@ -2,6 +2,7 @@
 use Rattle.std.proofs.Common.{ℕ, ◌+◌, List, [], ◌∷◌, ◌++◌, length, Option, ap, sym, ◌∙◌, subst}
 use Rattle.std.specs.List.{All, AllByRecursion, filter_map}
 use Rattle.std.proofs.lemmas.List.Elements.{All-from_recursion}
+use Rattle.pfs_model.proofs.EachLists.{each_behind}
 use Rattle.pfs_admin.specs.States.{State as Administration}
 use Rattle.pfs_alone.specs.Spells.{Spell, parts_in}
 use Rattle.pfs_classes.specs.declared.setting.DigestText.{DigestText}
@@ -28,10 +29,6 @@ use Rattle.pfs_script.specs.declared.blocks.Phase.{Phase}
 use Rattle.pfs_session.specs.States.{Book}
 use Rattle.pfs_run.specs.Along.{IsAlong, depth_of}
 use Rattle.pfs_run.proofs.Asked.{behind_phases, spell_asked}
-
-each_behind : {A : Type 0} (P : A → Type 0) (xs ys : List A) → Each P (xs ++ ys) → Each P ys
-each_behind P [] ys each = each
-each_behind P (x ∷ xs) ys each = each_behind P xs ys each.1
 
 one_good : (setting : Setting) (number : ℕ) (block : Block) (spell : Spell) (report : BlockReport) → IsTold setting number block spell report → IsSpellOf (record { phase = number; block = block }) spell → IsReportable setting spell → IsBlock report
 one_good setting number block spell report told of good =

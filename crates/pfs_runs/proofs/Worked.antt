@@ -1,7 +1,7 @@
 -- The worked run, by computation.
-use Rattle.std.proofs.Common.{ℕ, zero, suc, ◌≡◌, ◌+◌, ◌<◌, Bool, true, false, cond, nat_lt, ◌&&◌, ne_eqb, refl, ap, sym, ◌∙◌, List, [], ◌∷◌, ◌++◌, length, Some, None, arith}
+use Rattle.std.proofs.Common.{ℕ, zero, suc, ◌≡◌, ◌+◌, ◌<◌, Bool, true, cond, nat_lt, ◌&&◌, ne_eqb, refl, ap, sym, ◌∙◌, List, [], ◌∷◌, ◌++◌, length, Some, None, arith}
 use Rattle.std.specs.Prelude.{◌-◌, slice_get}
-use Rattle.std.proofs.lemmas.Bool.{false≢true}
+use Rattle.std.proofs.lemmas.Bool.{false≢true, and_parts, ltb-true}
 use Rattle.std.proofs.lemmas.Option.{none-some, same_Some}
 use Rattle.pfs_admin.specs.Fold.{state_from}
 use Rattle.pfs_classes.specs.declared.setting.Setting.{Setting}
@@ -64,20 +64,12 @@ abbrev are_of_three : List Placed → Bool
 are_of_three [] = true
 are_of_three (place ∷ places) = nat_lt place.session 4 && are_of_three places
 
-is_lt : (a b : ℕ) → nat_lt a b ≡ true → a < b
-is_lt a b h = grind (arith, h)
-
-both : (a b : Bool) → a && b ≡ true → (a ≡ true) × (b ≡ true)
-both true true h = (refl, refl)
-both true false h = absurd (false≢true h)
-both false b h = absurd (false≢true h)
-
 others_none : (session : ℕ) (places : List Placed) → are_of_three places ≡ true → numbers_by (suc (suc (suc (suc session)))) places ≡ []
 others_none session [] h = refl
 others_none session (place ∷ places) h =
-    let p = both (nat_lt place.session 4) (are_of_three places) h in
+    let p = and_parts (nat_lt place.session 4) (are_of_three places) h in
     ap (λ b. cond b (action_change place.entry) [] ++ numbers_by (suc (suc (suc (suc session)))) places)
-    (ne_eqb place.session (suc (suc (suc (suc session)))) (λ e. absurd (omega (arith, e, is_lt place.session 4 p.0))))
+    (ne_eqb place.session (suc (suc (suc (suc session)))) (λ e. absurd (omega (arith, e, ltb-true place.session 4 p.0))))
     ∙ others_none session places p.1
 
 of_three : are_of_three all ≡ true

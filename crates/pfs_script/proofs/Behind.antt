@@ -4,6 +4,7 @@ use Rattle.std.specs.Prelude.{if◌then◌else◌, count_by, option_map, unwrap_
 use Rattle.std.specs.List.{list_any, sum_by}
 use Rattle.std.proofs.lemmas.List.Folds.{list_any-append}
 use Rattle.std.proofs.lemmas.List.Sums.{sum_by-append}
+use Rattle.pfs_lemmas.proofs.Bools.{and_false, or_false as or_no, or_true}
 use Rattle.pfs_script.specs.declared.forms.Form.{Form}
 use Rattle.pfs_script.specs.declared.forms.Form.TheVariants as form
 use Rattle.pfs_script.specs.Counts.{behind_last, ahead_of_last, is_repeat, is_done, is_in_repeat, until_done, again, counted, once_more, more_times, pending}
@@ -78,26 +79,12 @@ ahead_more test [] line = sym (ahead_first (test line))
 ahead_more test (one ∷ before) line =
     rw (list_any-append test before (line ∷ []), ahead_more test before line) (ahead_choose (list_any test before) (test line) (ahead_of_last test before) before one)
 
--- whether a repeat isn't done
-
-and_true : (b : Bool) → (b || true) ≡ true
-and_true true = refl
-and_true false = refl
-
-or_no : (b : Bool) → (b || false) ≡ b
-or_no true = refl
-or_no false = refl
-
-and_no : (b : Bool) → (b && false) ≡ false
-and_no true = refl
-and_no false = refl
-
 pub in_repeat-begun : (before : List Form) (line : Form) → is_repeat line ≡ true → is_in_repeat (before ++ line ∷ []) ≡ true
-in_repeat-begun before line h = rw (any_more is_repeat before line, behind_more is_repeat before line, h, and_true (list_any is_repeat before)) refl
+in_repeat-begun before line h = rw (any_more is_repeat before line, behind_more is_repeat before line, h, or_true (list_any is_repeat before)) refl
 
 pub in_repeat-done : (before : List Form) → is_in_repeat (before ++ form.Done ∷ []) ≡ false
 in_repeat-done before =
-    rw (behind_more is_repeat before form.Done, any_more is_done (behind_last is_repeat before) form.Done, and_true (list_any is_done (behind_last is_repeat before))) (and_no (list_any is_repeat (before ++ form.Done ∷ [])))
+    rw (behind_more is_repeat before form.Done, any_more is_done (behind_last is_repeat before) form.Done, or_true (list_any is_done (behind_last is_repeat before))) (and_false (list_any is_repeat (before ++ form.Done ∷ [])))
 
 pub in_repeat-same : (before : List Form) (line : Form) → is_repeat line ≡ false → is_done line ≡ false → is_in_repeat (before ++ line ∷ []) ≡ is_in_repeat before
 in_repeat-same before line r d =
@@ -180,12 +167,12 @@ more_more (one ∷ before) line d = rw (any_more is_done before line, d, or_no (
 pub more_done : (before : List Form) → more_times (before ++ form.Done ∷ []) ≡ 0
 unfolding more_times
 more_done [] = refl
-more_done (one ∷ before) = rw (any_more is_done before form.Done, and_true (list_any is_done before)) (omega (arith, more_done before))
+more_done (one ∷ before) = rw (any_more is_done before form.Done, or_true (list_any is_done before)) (omega (arith, more_done before))
 
 pub pending_done : (measure : Form → ℕ) (before : List Form) → pending measure (before ++ form.Done ∷ []) ≡ 0
 unfolding pending
 pending_done measure [] = omega arith
-pending_done measure (one ∷ before) = rw (any_more is_done before form.Done, and_true (list_any is_done before)) (omega (arith, pending_done measure before))
+pending_done measure (one ∷ before) = rw (any_more is_done before form.Done, or_true (list_any is_done before)) (omega (arith, pending_done measure before))
 
 pub more_none : more_times [] ≡ 0
 unfolding more_times

@@ -1,9 +1,11 @@
 -- The events of a block nest, wherever in a script it stands.
-use Rattle.std.proofs.Common.{ℕ, ◌≡◌, Bool, true, false, ◌||◌, ◌&&◌, not, List, [], ◌∷◌, ◌++◌, Option, Some, None, refl, ap, sym, ◌∙◌, length, append_assoc, ◌⊎◌, inl, inr, arith}
+use Rattle.std.proofs.Common.{ℕ, ◌≡◌, Bool, true, false, ◌||◌, ◌&&◌, not, List, [], ◌∷◌, ◌++◌, Option, Some, None, refl, ap, sym, ◌∙◌, length, append_assoc, ◌⊎◌, inl, inr}
 use Rattle.std.specs.Prelude.{if◌then◌else◌, codes, slice_get}
-use Rattle.std.specs.List.{list_any, All}
+use Rattle.std.specs.List.{list_any}
 use Rattle.std.specs.Str.{bytes_eq}
 use Rattle.std.proofs.lemmas.List.Folds.{list_any-append}
+use Rattle.std.proofs.lemmas.Bool.{cases_Bool, not-false, not-true}
+use Rattle.pfs_lemmas.proofs.Bools.{and_first, and_second, or_second}
 use Rattle.pfs_classes.specs.declared.classes.ClassRef.{ClassRef}
 use Rattle.pfs_script.specs.declared.forms.Form.{Form}
 use Rattle.pfs_script.specs.declared.forms.Form.TheVariants as form
@@ -40,30 +42,6 @@ stand_of before [] (line ∷ lines) b = absurd b
 stand_of before (raw ∷ raws) [] b = absurd b
 stand_of before (raw ∷ raws) (line ∷ lines) b = (passes before line (next_none before raw line b.0), stand_of (before ++ line ∷ []) raws lines b.1)
 
-bool_cases : (b : Bool) → (b ≡ true) ⊎ (b ≡ false)
-bool_cases true = inl refl
-bool_cases false = inr refl
-
-second_false : (a b : Bool) → (a || b) ≡ false → b ≡ false
-second_false true b h = cc
-second_false false b h = h
-
-both_first : (a b : Bool) → (a && b) ≡ true → a ≡ true
-both_first true b h = refl
-both_first false b h = cc
-
-both_second : (a b : Bool) → (a && b) ≡ true → b ≡ true
-both_second true b h = h
-both_second false b h = cc
-
-not_false : (b : Bool) → not b ≡ false → b ≡ true
-not_false true h = refl
-not_false false h = cc
-
-not_true : (b : Bool) → not b ≡ true → b ≡ false
-not_true true h = cc
-not_true false h = refl
-
 or_longer : (a b c : Bool) → (a || b) ≡ true → (a || (b || c)) ≡ true
 or_longer true b c h = refl
 or_longer false true c h = refl
@@ -76,10 +54,10 @@ unfolding is_known
 known_longer before more name h = rw (list_any-append (is_class_named name) before more) (or_longer (is_builtin name) (list_any (is_class_named name) before) (list_any (is_class_named name) more) h)
 
 event_known : (before : List Form) (class : List ℕ) → not (is_event_class before class) ≡ false → is_known before class ≡ true
-event_known before class h = both_first (is_known before class) (not (bytes_eq class (codes "transaction"))) (not_false (is_event_class before class) h)
+event_known before class h = and_first (is_known before class) (not (bytes_eq class (codes "transaction"))) (not-false (is_event_class before class) h)
 
 pub event_other : (before : List Form) (class : List ℕ) → not (is_event_class before class) ≡ false → bytes_eq class (codes "transaction") ≡ false
-event_other before class h = not_true (bytes_eq class (codes "transaction")) (both_second (is_known before class) (not (bytes_eq class (codes "transaction"))) (not_false (is_event_class before class) h))
+event_other before class h = not-true (bytes_eq class (codes "transaction")) (and_second (is_known before class) (not (bytes_eq class (codes "transaction"))) (not-false (is_event_class before class) h))
 
 -- events that nest
 
@@ -151,7 +129,7 @@ start_begun before times = rw (in_repeat-begun before (form.Repeat times) refl, 
 -- no repeat goes on in another block
 pub start_session : (before : List Form) (line : Form) → is_repeat line ≡ false → is_done line ≡ false → (not (list_any is_phase before) || is_in_repeat before) ≡ false → start_of (before ++ line ∷ []) ≡ None
 start_session before line r d place =
-    let out : is_in_repeat before ≡ false = second_false (not (list_any is_phase before)) (is_in_repeat before) place in
+    let out : is_in_repeat before ≡ false = or_second (not (list_any is_phase before)) (is_in_repeat before) place in
     start_same before line r d ∙ rw out refl
 
 start_done : (before : List Form) → start_of (before ++ form.Done ∷ []) ≡ None
@@ -233,10 +211,10 @@ module _ (all : List Form) where
   nest_front before lines (form.EndStatement numbers) more p n e rest = nests_more before (form.EndStatement numbers) (said.EndStatement (statement_numbers numbers)) more refl refl refl tt refl p.nesting rest
   nest_front before lines (form.Sql text) more p n e rest = nests_more before (form.Sql text) (said.Sql text) more refl refl refl tt refl p.nesting rest
   nest_front before lines form.Quit more p n e rest = nests_more before form.Quit said.Quit more refl refl refl tt refl p.nesting rest
-  nest_front before lines (form.Repeat (Some times)) more p n e rest = nests_repeat before times more (second_false (is_blockless before) (is_in_repeat before) p.place) rest
+  nest_front before lines (form.Repeat (Some times)) more p n e rest = nests_repeat before times more (or_second (is_blockless before) (is_in_repeat before) p.place) rest
   nest_front before lines (form.Repeat None) more p n e rest = absurd (let q = p.number in cc)
   nest_front before lines form.Done more p n e rest =
-      nests_done before more (not_false (is_in_repeat before) p.place) (not_false (same_kinds (kinds_open before) (kinds_open (ahead_of_last is_repeat before))) p.nesting) rest
+      nests_done before more (not-false (is_in_repeat before) p.place) (not-false (same_kinds (kinds_open before) (kinds_open (ahead_of_last is_repeat before))) p.nesting) rest
   nest_front before lines (form.Resume session) more p n e rest = cc
   nest_front before lines form.Phase more p n e rest = cc
   nest_front before lines (form.Connect session user host) more p n e rest = cc
@@ -247,7 +225,7 @@ module _ (all : List Form) where
   unfolding block_lines
   nest before [] s e = nothing_nested (kinds_open before) (start_of before)
   nest before (line ∷ lines) s e =
-      elim (bool_cases (ends_block line)) [
+      elim (cases_Bool (ends_block line)) [
         | inl p ↦ rw p (nothing_nested (kinds_open before) (start_of before))
         | inr p ↦ rw p (nest_front before lines line (block_lines (sense_of all) lines) s.0 p e (nest (before ++ line ∷ []) lines s.1 (e ∙ sym (append_assoc before (line ∷ []) lines))))
       ]

@@ -1,9 +1,9 @@
 -- The bytes of a script are ASCII, and so are those of a part of it.
-use Rattle.std.proofs.Common.{ℕ, zero, suc, ◌≡◌, Bool, true, ◌&&◌, nat_lt, List, [], ◌∷◌, length, drop, refl, arith}
+use Rattle.std.proofs.Common.{ℕ, zero, suc, ◌≡◌, true, ◌&&◌, nat_lt, List, [], ◌∷◌, length, drop, refl, arith}
 use Rattle.std.specs.Prelude.{nat_le}
 use Rattle.std.specs.List.{list_all}
 use Rattle.std.specs.Str.{IsUtf8}
-use Rattle.std.proofs.lemmas.Bool.{and_parts}
+use Rattle.std.proofs.lemmas.Bool.{and_parts, and_from}
 use Rattle.std.proofs.lemmas.Bool.Decides.{nat_tests}
 use Rattle.std.proofs.lemmas.Str.{IsUtf8-from_ascii}
 use Rattle.pfs_script.specs.Words.{is_script_byte, is_name_byte, is_name}
@@ -12,16 +12,11 @@ use Rattle.pfs_script.proofs.BaseLemmas.{is_low, ascii_from}
 low_byte : (byte : ℕ) → is_script_byte byte ≡ true → is_low byte ≡ true
 low_byte byte h = grind (arith, nat_tests, h)
 
-both_true : (a b : Bool) → a ≡ true → b ≡ true → (a && b) ≡ true
-both_true true true p q = refl
-both_true true _ p q = q
-both_true _ b p q = cc
-
 low_all : (text : List ℕ) → list_all is_script_byte text ≡ true → list_all is_low text ≡ true
 low_all [] h = refl
 low_all (byte ∷ text) h =
     let both = and_parts (is_script_byte byte) (list_all is_script_byte text) h in
-    both_true (is_low byte) (list_all is_low text) (low_byte byte both.0) (low_all text both.1)
+    and_from (is_low byte) (list_all is_low text) (low_byte byte both.0) (low_all text both.1)
 
 pub clean_utf8 : (text : List ℕ) → list_all is_script_byte text ≡ true → IsUtf8 text
 clean_utf8 text h = IsUtf8-from_ascii text (ascii_from text (low_all text h))
@@ -39,7 +34,7 @@ clean_all : (text : List ℕ) → list_all is_name_byte text ≡ true → list_a
 clean_all [] h = refl
 clean_all (byte ∷ text) h =
     let both = and_parts (is_name_byte byte) (list_all is_name_byte text) h in
-    both_true (is_script_byte byte) (list_all is_script_byte text) (clean_byte byte both.0) (clean_all text both.1)
+    and_from (is_script_byte byte) (list_all is_script_byte text) (clean_byte byte both.0) (clean_all text both.1)
 
 pub name_clean : (most : ℕ) (name : List ℕ) → is_name most name ≡ true → list_all is_script_byte name ≡ true
 unfolding is_name

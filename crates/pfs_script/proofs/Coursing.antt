@@ -5,6 +5,8 @@ use Rattle.std.specs.List.{list_any}
 use Rattle.std.proofs.lemmas.Bool.Decides.{nat_tests}
 use Rattle.std.proofs.lemmas.Grind.{get_or-set_at}
 use Rattle.std.proofs.lemmas.List.{get_or-set_other}
+use Rattle.std.proofs.lemmas.Bool.{cases_Bool, eq-eqb, eqb-true, not-false}
+use Rattle.pfs_lemmas.proofs.Bools.{or_false, or_first, or_second}
 use Rattle.pfs_script.specs.declared.forms.Form.{Form}
 use Rattle.pfs_script.specs.declared.forms.Form.TheVariants as form
 use Rattle.pfs_script.specs.declared.courses.Course.{Course}
@@ -26,32 +28,17 @@ phase_new before line h = rw (behind_more is_phase before line, h) refl
 pub phase_same : (before : List Form) (line : Form) → is_phase line ≡ false → phase_of (before ++ line ∷ []) ≡ phase_of before ++ line ∷ []
 phase_same before line h = rw (behind_more is_phase before line, h) refl
 
-first_false : (a b : Bool) → (a || b) ≡ false → a ≡ false
-first_false true b h = cc
-first_false false b h = refl
-
-second_false : (a b : Bool) → (a || b) ≡ false → b ≡ false
-second_false true b h = cc
-second_false false b h = h
-
 pub not_block : (number : ℕ) (line : Form) → is_session line ≡ false → is_block_of number line ≡ false
 not_block number (form.Connect session user host) h = cc
 not_block number (form.Resume session) h = cc
 not_block number _ h = refl
 
-or_none : (a : Bool) → (a || false) ≡ a
-or_none true = refl
-or_none false = refl
-
 any_same : (test : Form → Bool) (before : List Form) (line : Form) → test line ≡ false → list_any test (before ++ line ∷ []) ≡ list_any test before
-any_same test before line h = rw (any_more test before line, h) (or_none (list_any test before))
+any_same test before line h = rw (any_more test before line, h) (or_false (list_any test before))
 
 or_true : (a : Bool) → true ≡ (a || true)
 or_true true = refl
 or_true false = refl
-
-same_number : (number other : ℕ) → number ≡ other → (number == other) ≡ true
-same_number number other e = grind (arith, nat_tests, e)
 
 length_more : (before : List Form) (line : Form) → length (before ++ line ∷ []) ≡ length before + 1
 length_more [] line = refl
@@ -61,16 +48,12 @@ in_statement_open : (kinds : List EventKind) → is_in_statement kinds ≡ true 
 in_statement_open [] h = cc
 in_statement_open (kind ∷ kinds) h = refl
 
-not_false : (b : Bool) → not b ≡ false → b ≡ true
-not_false true h = refl
-not_false false h = cc
-
 -- a line that breaks no rule of opening and ending may stand there
 pub stands : (before : List Form) (line : Form) → is_bad_nesting before line ≡ false → may_stand (kinds_open before) (mark_of_form line) ≡ true
-stands before (form.EndStatement numbers) h = in_statement_open (kinds_open before) (not_false (is_in_statement (kinds_open before)) h)
+stands before (form.EndStatement numbers) h = in_statement_open (kinds_open before) (not-false (is_in_statement (kinds_open before)) h)
 stands before form.Quit h = refl
 stands before form.Done h = refl
-stands before line h = not_false (may_stand (kinds_open before) (mark_of_form line)) h
+stands before line h = not-false (may_stand (kinds_open before) (mark_of_form line)) h
 
 -- one session behind one more line
 
@@ -92,7 +75,7 @@ session_moves : (state after : SessionState) (number : ℕ) (before : List Form)
     → (after.events.has_stage ≡ true → 1 ≤ after.events.statements) → after.events.waits ≤ state.events.waits + 1 → after.events.statements ≤ state.events.statements + 1
     → KnowsSession after number (before ++ line ∷ [])
 session_moves state after number before line k h e b q o i w t = record {
-  begun = b ∙ (k.begun ∙ sym (any_same (is_block_of number) before line (not_block number line (second_false (is_phase line) (is_session line) e))));
+  begun = b ∙ (k.begun ∙ sym (any_same (is_block_of number) before line (not_block number line (or_second (is_phase line) (is_session line) e))));
   quits = rw (lines_own number before line h e, any_more is_quit (lines_of number before) line) (rw (sym k.quits) q);
   kinds = o ∙ (ap (kinds_behind (mark_of_form line)) k.kinds ∙ sym (kinds_own number before line h e));
   inside = i;
@@ -104,7 +87,7 @@ session_moves state after number before line k h e b q o i w t = record {
 session_idles : (state : SessionState) (number : ℕ) (before : List Form) (line : Form) → KnowsSession state number before → (session_now before == number) ≡ true → ends_block line ≡ false
     → is_quit line ≡ false → mark_of_form line ≡ Passes → KnowsSession state number (before ++ line ∷ [])
 session_idles state number before line k h e q m =
-    session_moves state state number before line k h e refl (rw q (sym (or_none state.has_quit))) (rw m refl) k.inside (omega arith) (omega arith)
+    session_moves state state number before line k h e refl (rw q (sym (or_false state.has_quit))) (rw m refl) k.inside (omega arith) (omega arith)
 
 -- a block of it begins
 session_begins : (state : SessionState) (number : ℕ) (before : List Form) (line : Form) → KnowsSession state number before → is_block_of number line ≡ true → ends_block line ≡ true
@@ -120,20 +103,11 @@ session_begins state number before line k b e =
       few_statements = omega (arith, k.few_statements, length_more before line);
     }
 
--- all sessions
-
-bool_cases : (b : Bool) → (b ≡ true) ⊎ (b ≡ false)
-bool_cases true = inl refl
-bool_cases false = inr refl
-
-is_equal : (number other : ℕ) → (number == other) ≡ true → number ≡ other
-is_equal number other e = grind (arith, nat_tests, e)
-
 not_equal : (number other : ℕ) → (number == other) ≡ false → ¬ (other ≡ number)
 not_equal number other e same = absurd (grind (arith, nat_tests, e, same))
 
 set_here : (sessions : List SessionState) (number other : ℕ) (state : SessionState) → (number == other) ≡ true → number < length sessions → state_at (slice_set sessions number state) other ≡ state
-set_here sessions number other state e within = get_or-set_at sessions number other state no_session (sym (is_equal number other e)) within
+set_here sessions number other state e within = get_or-set_at sessions number other state no_session (sym (eqb-true number other e)) within
 
 set_other : (sessions : List SessionState) (number other : ℕ) (state : SessionState) → (number == other) ≡ false → state_at (slice_set sessions number state) other ≡ state_at sessions other
 set_other sessions number other state e = get_or-set_other sessions number other state no_session (not_equal number other e)
@@ -148,14 +122,14 @@ present_test course before number b k e = ap (λ session. session == number) (sy
 all_move : (course : Course) (after : List SessionState) (state : SessionState) (before : List Form) (line : Form) → KnowsCourse course before → ends_block line ≡ false → after ≡ slice_set course.sessions course.present state
     → KnowsSession state course.present (before ++ line ∷ []) → AllKnown after (before ++ line ∷ [])
 all_move course after state before line k e s moved number low =
-    elim (bool_cases (course.present == number)) [
+    elim (cases_Bool (course.present == number)) [
       | inl same ↦
-          subst (λ n. KnowsSession (state_at after n) n (before ++ line ∷ [])) (is_equal course.present number same)
+          subst (λ n. KnowsSession (state_at after n) n (before ++ line ∷ [])) (eqb-true course.present number same)
           (subst (λ one. KnowsSession one course.present (before ++ line ∷ []))
-          (sym (ap (λ sessions. state_at sessions course.present) s ∙ set_here course.sessions course.present course.present state (same_number course.present course.present refl) (omega (arith, k.low, k.numbers)))) moved)
+          (sym (ap (λ sessions. state_at sessions course.present) s ∙ set_here course.sessions course.present course.present state (eq-eqb course.present course.present refl) (omega (arith, k.low, k.numbers)))) moved)
       | inr other ↦
           subst (λ one. KnowsSession one number (before ++ line ∷ [])) (sym (ap (λ sessions. state_at sessions number) s ∙ set_other course.sessions course.present number state other))
-          (session_keeps (state_at course.sessions number) number before line (k.sessions number low) (not_block number line (second_false (is_phase line) (is_session line) e)) (lines_other number before line (present_test course before number false k other)))
+          (session_keeps (state_at course.sessions number) number before line (k.sessions number low) (not_block number line (or_second (is_phase line) (is_session line) e)) (lines_other number before line (present_test course before number false k other)))
     ]
 
 -- the line says nothing to any session's events
@@ -163,9 +137,9 @@ all_idle : (course : Course) (after : List SessionState) (before : List Form) (l
     → AllKnown after (before ++ line ∷ [])
 all_idle course after before line k e q m s number low =
     subst (λ sessions. KnowsSession (state_at sessions number) number (before ++ line ∷ [])) (sym s)
-    (elim (bool_cases (course.present == number)) [
+    (elim (cases_Bool (course.present == number)) [
       | inl same ↦ session_idles (state_at course.sessions number) number before line (k.sessions number low) (present_test course before number true k same) e q m
-      | inr other ↦ session_keeps (state_at course.sessions number) number before line (k.sessions number low) (not_block number line (second_false (is_phase line) (is_session line) e)) (lines_other number before line (present_test course before number false k other))
+      | inr other ↦ session_keeps (state_at course.sessions number) number before line (k.sessions number low) (not_block number line (or_second (is_phase line) (is_session line) e)) (lines_other number before line (present_test course before number false k other))
     ])
 
 -- a phase begins
@@ -178,12 +152,12 @@ all_phase course after before k s number low =
 all_begin : (course : Course) (after : List SessionState) (before : List Form) (line : Form) (first : ℕ) → KnowsCourse course before → first < 65 → ends_block line ≡ true → ((number : ℕ) → is_block_of number line ≡ (first == number))
     → after ≡ slice_set course.sessions first (record (state_at course.sessions first) { has_begun = true }) → AllKnown after (before ++ line ∷ [])
 all_begin course after before line first k within e own s number low =
-    elim (bool_cases (first == number)) [
+    elim (cases_Bool (first == number)) [
       | inl same ↦
-          subst (λ n. KnowsSession (state_at after n) n (before ++ line ∷ [])) (is_equal first number same)
+          subst (λ n. KnowsSession (state_at after n) n (before ++ line ∷ [])) (eqb-true first number same)
           (subst (λ one. KnowsSession one first (before ++ line ∷ []))
-          (sym (ap (λ sessions. state_at sessions first) s ∙ set_here course.sessions first first (record (state_at course.sessions first) { has_begun = true }) (same_number first first refl) (omega (arith, within, k.numbers))))
-          (session_begins (state_at course.sessions first) first before line (k.sessions first within) (own first ∙ same_number first first refl) e))
+          (sym (ap (λ sessions. state_at sessions first) s ∙ set_here course.sessions first first (record (state_at course.sessions first) { has_begun = true }) (eq-eqb first first refl) (omega (arith, within, k.numbers))))
+          (session_begins (state_at course.sessions first) first before line (k.sessions first within) (own first ∙ eq-eqb first first refl) e))
       | inr other ↦
           subst (λ one. KnowsSession one number (before ++ line ∷ [])) (sym (ap (λ sessions. state_at sessions number) s ∙ set_other course.sessions first number (record (state_at course.sessions first) { has_begun = true }) other))
           (session_keeps (state_at course.sessions number) number before line (k.sessions number low) (own number ∙ other) (lines_ends number before line e))
@@ -226,10 +200,10 @@ first_same : (course : Course) (before : List Form) (line : Form) → KnowsCours
 first_same course before line k r = rw (ahead_more is_repeat before line, r) k.first
 
 not_first : (line : Form) → ends_block line ≡ false → is_phase line ≡ false
-not_first line e = first_false (is_phase line) (is_session line) e
+not_first line e = or_first (is_phase line) (is_session line) e
 
 not_second : (line : Form) → ends_block line ≡ false → is_session line ≡ false
-not_second line e = second_false (is_phase line) (is_session line) e
+not_second line e = or_second (is_phase line) (is_session line) e
 
 -- one line more of a block, or a line that says nothing here
 inside_knows : (course after : Course) (before : List Form) (line : Form) → KnowsCourse course before → ends_block line ≡ false → AllKnown after.sessions (before ++ line ∷ []) → length after.sessions ≡ 65
@@ -262,7 +236,7 @@ phase_knows course after before k s h n p r = record {
 }
 
 is_or_not : (number other : ℕ) → (number ≡ other) ⊎ (¬ (number ≡ other))
-is_or_not number other = elim (bool_cases (number == other)) [ inl e ↦ inl (grind (arith, nat_tests, e)) | inr e ↦ inr (λ same. absurd (grind (arith, nat_tests, e, same))) ]
+is_or_not number other = elim (cases_Bool (number == other)) [ inl e ↦ inl (grind (arith, nat_tests, e)) | inr e ↦ inr (λ same. absurd (grind (arith, nat_tests, e, same))) ]
 
 other_number : (number other : ℕ) → ¬ (number ≡ other) → (number == other) ≡ false
 other_number number other e = grind (arith, nat_tests, e)
@@ -270,8 +244,8 @@ other_number number other e = grind (arith, nat_tests, e)
 after_set : (flags : List Bool) (number other : ℕ) (b : Bool) → number < length flags → get_or flags other false ≡ b → get_or (slice_set flags number true) other false ≡ (b || number == other)
 after_set flags number other b within h =
     elim (is_or_not number other) [
-      | inl e ↦ rw (get_or-set_at flags number other true false (sym e) within, same_number number other e) (or_true b)
-      | inr n ↦ rw (get_or-set_other flags number other true false (λ e. n (sym e)), other_number number other n, or_none b) h
+      | inl e ↦ rw (get_or-set_at flags number other true false (sym e) within, eq-eqb number other e) (or_true b)
+      | inr n ↦ rw (get_or-set_other flags number other true false (λ e. n (sym e)), other_number number other n, or_false b) h
     ]
 
 -- a block begins
@@ -356,7 +330,7 @@ moved_knows : (course : Course) (state : SessionState) (before : List Form) (lin
 moved_knows course state before line k short nesting e m =
     let old = k.sessions course.present k.low in
     let may : may_stand (kinds_in (state_at course.sessions course.present).events) (mark_of_form line) ≡ true = rw (open_is course before k) (stands before line nesting) in
-    session_moves (state_at course.sessions course.present) state course.present before line old (present_test course before course.present true k (same_number course.present course.present refl)) e m.begun m.quits
+    session_moves (state_at course.sessions course.present) state course.present before line old (present_test course before course.present true k (eq-eqb course.present course.present refl)) e m.begun m.quits
     (m.kinds (omega (arith, old.few_waits)) (omega (arith, old.few_statements)) may old.inside) (m.inside may old.inside) m.waits m.statements
 
 -- a line of another form starts and ends what it does

@@ -16,6 +16,7 @@ use Rattle.pfs_script.specs.declared.drafts.Drafts.{Drafts}
 use Rattle.pfs_script.specs.Sessions.{is_phase, is_session, ends_block}
 use Rattle.pfs_script.specs.Blocks.{Sense, with_front, block_line, block_lines, block_with, block_behind, blocks_of, with_phase, phases_of}
 use Rattle.std.specs.List.{fold}
+use Rattle.pfs_lemmas.proofs.Bools.{or_first}
 use Rattle.pfs_script.specs.SessionNames.{with_session}
 use Rattle.pfs_script.specs.Drafts.{with_owner, block_of, block_named, phase_named, front_of, blocks_at_hand, blocks_behind, phases_behind}
 
@@ -109,10 +110,6 @@ no_phase_ended sense old mid same none =
     ∙ ap (λ (has : Bool). map (phase_named sense.names) old.phases.items ++ with_phase has (blocks_at_hand sense.names old) []) (sym none ∙ ap (λ (drafts : Drafts). drafts.has_phase) same)
     ∙ sym (no_more_phases sense old)
 
-not_both : (a b : Bool) → a || b ≡ false → a ≡ false
-not_both true b e = e
-not_both false b e = refl
-
 -- the phases at a line that begins none, where the whole phases stay and the blocks move
 pub phases_moved : (sense : Sense) (old new : Drafts) (line : Form) (lines : List Form) → is_phase line ≡ false
     → new.phases.items ≡ old.phases.items → new.has_phase ≡ old.has_phase → blocks_behind sense old (line ∷ lines) ≡ blocks_behind sense new lines
@@ -163,7 +160,7 @@ block_grown sense old new line lines e b f l =
     ∙ sym (append_assoc old.lines.items (with_front said []) (block_lines sense lines))
     ∙ sym (ap (λ (some : List BlockLine). some ++ block_lines sense lines) l) in
     let behind : blocks_of sense (line ∷ lines) ≡ blocks_of sense lines =
-    blocks_first sense line lines (not_both (is_phase line) (is_session line) e)
+    blocks_first sense line lines (or_first (is_phase line) (is_session line) e)
     ∙ ap (λ (block : Option Block). with_front block (blocks_of sense lines)) (begins_none sense lines line e) in
     ap (λ (lines' : List BlockLine). before ++ with_front (closed sense old.front lines') (blocks_of sense (line ∷ lines))) grown
     ∙ ap (λ (more : List Block). before ++ with_front (closed sense old.front (new.lines.items ++ block_lines sense lines)) more) behind
@@ -250,7 +247,7 @@ pub said_passed : {T E : Type 0} (r : Result T E) (said : Option BlockLine) (lin
     → phases_behind sense old (line ∷ lines) ≡ phases_behind sense new lines)
 said_passed (Ok one) said line old new p s r l same = λ sense lines is.
     let ends : ends_block line ≡ false = ends_none line p s r in
-    phases_moved sense old new line lines (not_both (is_phase line) (is_session line) ends) (ap (λ (drafts : Drafts). drafts.phases.items) same)
+    phases_moved sense old new line lines (or_first (is_phase line) (is_session line) ends) (ap (λ (drafts : Drafts). drafts.phases.items) same)
     (ap (λ (drafts : Drafts). drafts.has_phase) same)
     (block_grown sense old new line lines ends (ap (λ (drafts : Drafts). drafts.blocks.items) same) (ap (λ (drafts : Drafts). drafts.front) same)
     (l ∙ ap (λ (some : Option BlockLine). old.lines.items ++ with_front some []) is))

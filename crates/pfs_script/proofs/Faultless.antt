@@ -1,5 +1,6 @@
 -- What holds of a line that has no fault where it stands.
 use Rattle.std.proofs.Common.{◌≡◌, Bool, false, true, ◌||◌, cond, List, Option, Some, None, refl}
+use Rattle.pfs_lemmas.proofs.Bools.{or_first, or_second}
 use Rattle.pfs_script.specs.declared.forms.Form.{Form}
 use Rattle.pfs_script.specs.declared.reasons.Reason.{Reason}
 use Rattle.pfs_script.specs.declared.reasons.Reason.TheVariants.{OutOfPlace, BadNumber, BadSession, UnknownName, BadLimit, BadNesting, BadStatement, TooLong, TooMuch}
@@ -18,14 +19,6 @@ pub record Passes (before : List Form) (line : Form) : Type 0 where
   pub much : is_too_much before line ≡ false
   pub tables : is_table_too_many before line ≡ false
 
-first_false : (a b : Bool) → (a || b) ≡ false → a ≡ false
-first_false true b h = cc
-first_false false b h = refl
-
-second_false : (a b : Bool) → (a || b) ≡ false → b ≡ false
-second_false true b h = cc
-second_false false b h = h
-
 unless : (test : Bool) (reason : Reason) (rest : Option Reason) → cond test (Some reason) rest ≡ None → (test ≡ false) × (rest ≡ None)
 unless true reason rest h = cc
 unless false reason rest h = (refl, h)
@@ -42,4 +35,4 @@ passes before line h =
     let s = unless (is_bad_statement line) BadStatement _ g.1 in
     let i = unless (is_too_long before line) TooLong _ s.1 in
     let j = unless (is_too_much before line || is_table_too_many before line) TooMuch _ i.1 in
-    record { place = b.0; number = c.0; session = d.0; known = e.0; limit = f.0; nesting = g.0; statement = s.0; long = i.0; much = first_false (is_too_much before line) (is_table_too_many before line) j.0; tables = second_false (is_too_much before line) (is_table_too_many before line) j.0 }
+    record { place = b.0; number = c.0; session = d.0; known = e.0; limit = f.0; nesting = g.0; statement = s.0; long = i.0; much = or_first (is_too_much before line) (is_table_too_many before line) j.0; tables = or_second (is_too_much before line) (is_table_too_many before line) j.0 }

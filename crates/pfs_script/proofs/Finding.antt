@@ -1,8 +1,8 @@
 -- The tables and digest texts with one line more.
-use Rattle.std.proofs.Common.{ℕ, ◌≡◌, ◌≤◌, ◌<◌, ◌+◌, Bool, true, false, ◌&&◌, cond, nat_lt, List, [], ◌∷◌, ◌++◌, length, Option, Some, None, Result, Ok, Err, refl, sym, ap, ◌∙◌, arith}
-use Rattle.std.specs.Prelude.{fold, is_some, is_none, position, nat_le}
+use Rattle.std.proofs.Common.{ℕ, ◌≡◌, ◌≤◌, ◌<◌, ◌+◌, Bool, true, false, ◌&&◌, cond, nat_lt, List, [], ◌∷◌, ◌++◌, length, Result, Ok, Err, refl, sym, ap, ◌∙◌, arith}
+use Rattle.std.specs.Prelude.{fold, is_some, position}
 use Rattle.std.specs.List.{list_all}
-use Rattle.std.proofs.lemmas.Bool.{and_parts}
+use Rattle.std.proofs.lemmas.Bool.{and_parts, le-ltb, ltb-false}
 use Rattle.std.proofs.lemmas.Bool.Decides.{nat_tests}
 use Rattle.std.proofs.lemmas.List.Sums.{fold_push}
 use Rattle.pfs_lexer.specs.declared.tokens.LexFault.{LexFault}
@@ -48,9 +48,6 @@ quiet : (most : ℕ) (lines : List Form) → list_all is_before_limits lines ≡
 unfolding digests_of
 quiet most lines q = quiet_fold most [] lines q
 
-few_so : (most number : ℕ) → nat_lt most number ≡ false → number ≤ most
-few_so most number h = grind (arith, nat_tests, h)
-
 same_limits : (before : List Form) (line : Form) → limits_behind (limits_of before) line ≡ limits_of before → limits_of (before ++ line ∷ []) ≡ limits_of before
 same_limits before line e = limits_push before line ∙ e
 
@@ -73,7 +70,7 @@ finds_more finds after before line k stands few most m t d =
     let tables : after.tables ≡ tables_of (before ++ line ∷ []) = t ∙ (ap (λ (all : List TableName). with_table all line) k.tables ∙ sym (tables_push before line)) in
     record {
       tables = tables;
-      few_tables = rw tables (few_so 64 _ few);
+      few_tables = rw tables (ltb-false 64 _ few);
       digests = digests_more before line finds.digests after.digests stands k.digests (d ∙ ap (λ n. with_digest n finds.digests line) (m ∙ ap (λ (limits : Limits). limits.digests) (head_limits before)));
     }
 
@@ -119,14 +116,11 @@ pub few_digests : (most : ℕ) (lines : List Form) → length (digests_of most l
 unfolding digests_of
 few_digests most lines = few_fold most [] lines (omega arith)
 
-few_not : (most number : ℕ) → number ≤ most → nat_lt most number ≡ false
-few_not most number h = grind (arith, nat_tests, h)
-
 -- whether a table is one too many, by what the reader has found
 pub too_many_of : (finds : Finds) (before : List Form) (line : Form) (result : Bool) → KnowsFinds finds before
     → (nat_lt 64 (length finds.tables) ≡ false → result ≡ nat_lt 64 (length (with_table finds.tables line))) → result ≡ is_table_too_many before line
 too_many_of finds before line result k told =
-    told (few_not 64 (length finds.tables) k.few_tables)
+    told (le-ltb 64 (length finds.tables) k.few_tables)
     ∙ (ap (λ (tables : List TableName). nat_lt 64 (length (with_table tables line))) k.tables
     ∙ ap (λ (tables : List TableName). nat_lt 64 (length tables)) (sym (tables_push before line)))
 

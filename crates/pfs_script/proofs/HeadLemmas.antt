@@ -7,6 +7,7 @@ use Rattle.std.proofs.lemmas.Bool.{false≢true, or_right, lt-ltb, le-ltb, eqb-t
 use Rattle.std.proofs.lemmas.Bool.Decides.{nat_tests}
 use Rattle.std.proofs.lemmas.List.Folds.{list_any-append}
 use Rattle.std.proofs.lemmas.Slice.Eq.{bytes_eq-Decides}
+use Rattle.pfs_lemmas.proofs.Bools.{or_false}
 use Rattle.pfs_rows.specs.declared.limits.Limits.{Limits}
 use Rattle.pfs_classes.specs.declared.kind.Kind.{Kind}
 use Rattle.pfs_classes.specs.declared.classes.ClassRef.{ClassRef}
@@ -29,10 +30,6 @@ any_map : (test : List ℕ → Bool) (rows : List Row) → list_any test (map (�
 any_map test [] = refl
 any_map test (row ∷ rows) = ap (λ b. test row.name || b) (any_map test rows)
 
-or_no : (b : Bool) → (b || false) ≡ b
-or_no true = refl
-or_no false = refl
-
 or_assoc : (a b c : Bool) → ((a || b) || c) ≡ (a || (b || c))
 or_assoc true b c = refl
 or_assoc false b c = refl
@@ -43,7 +40,7 @@ builtin_test name =
     let test : List ℕ → Bool = λ one. bytes_eq one name in
     list_any-append test (map (λ row. row.name) builtins) (codes "transaction" ∷ [])
     ∙ (ap (λ b. b || (bytes_eq (codes "transaction") name || false)) (any_map test builtins)
-    ∙ ap (λ b. list_any (λ row. bytes_eq row.name name) builtins || b) (or_no (bytes_eq (codes "transaction") name)))
+    ∙ ap (λ b. list_any (λ row. bytes_eq row.name name) builtins || b) (or_false (bytes_eq (codes "transaction") name)))
 
 some_counted : (b : Bool) → nat_lt 0 (cond {A = ℕ} b 1 0) ≡ b
 some_counted true = refl
@@ -65,7 +62,7 @@ same_test known names name other true e there test =
     let is : name ≡ other = (bytes_eq-Decides name other).0 e in
     let here : list_any (λ one. bytes_eq one other) names ≡ true = ap (λ (text : List ℕ). list_any (λ one. bytes_eq one text) names) (sym is) ∙ there in
     here ∙ sym (or_right (known other) true refl)
-same_test known names name other false e there test = test ∙ sym (or_no (known other))
+same_test known names name other false e there test = test ∙ sym (or_false (known other))
 
 pub length_push : (names : List (List ℕ)) (name : List ℕ) → length (names ++ name ∷ []) ≡ length names + 1
 length_push [] name = refl
@@ -102,7 +99,7 @@ class_by naming known name kind enabled timed names (inr (absent, more)) knows =
   names = λ other.
       subst (λ (all : List (List ℕ)). list_any (λ one. bytes_eq one other) all ≡ (known other || bytes_eq name other)) (sym more)
       (list_any-append (λ one. bytes_eq one other) naming.names (name ∷ [])
-      ∙ (ap (λ b. b || (bytes_eq name other || false)) (knows.names other) ∙ ap (λ b. known other || b) (or_no (bytes_eq name other))));
+      ∙ (ap (λ b. b || (bytes_eq name other || false)) (knows.names other) ∙ ap (λ b. known other || b) (or_false (bytes_eq name other))));
   given = λ id.
       ap (nat_lt 0) (count-registered naming.classes (record { name = id_of names name; kind = kind; enabled = enabled; timed = timed }) id)
       ∙ subst (λ (all : List (List ℕ)). nat_lt 0 (count_named naming.classes id + cond {A = ℕ} (eqb (id_of all name) id) 1 0) ≡ nat_lt id (length all)) (sym more)
@@ -117,11 +114,11 @@ knows_class naming known name kind enabled timed knows =
     class_by naming known name kind enabled timed (interned naming.names name) (interns naming.names name (list_any (λ one. bytes_eq one name) naming.names) refl) knows
 
 knows_none : (naming : Naming) (known : List ℕ → Bool) → Knows naming known → Knows naming (λ other. known other || false)
-knows_none naming known knows = record { names = λ name. knows.names name ∙ sym (or_no (known name)); given = knows.given }
+knows_none naming known knows = record { names = λ name. knows.names name ∙ sym (or_false (known name)); given = knows.given }
 
 knows_flags : (naming : Naming) (known : List ℕ → Bool) (pattern : List ℕ) (enabled timed : Bool) → Knows naming known → Knows (with_flags_like naming pattern enabled timed) (λ other. known other || false)
 knows_flags naming known pattern enabled timed knows = record {
-  names = λ name. knows.names name ∙ sym (or_no (known name));
+  names = λ name. knows.names name ∙ sym (or_false (known name));
   given = λ id. ap (nat_lt 0) (count-flags naming.classes naming.names pattern enabled timed id) ∙ knows.given id;
 }
 

@@ -5,6 +5,7 @@ use Rattle.std.specs.Cmp.Lexicographic.{pointwise, bytes_decides}
 use Rattle.std.proofs.lemmas.Bool.{false≢true}
 use Rattle.std.proofs.lemmas.List.Elements.{All-push}
 use Rattle.std.proofs.lemmas.Option.{get_or_from_slice_get}
+use Rattle.pfs_lemmas.proofs.Bools.{and_first}
 use Rattle.pfs_rows.specs.declared.limits.Limits.{Limits}
 use Rattle.pfs_classes.specs.declared.classes.ClassRef.{ClassRef}
 use Rattle.pfs_classes.specs.declared.setting.TableName.{TableName}
@@ -29,10 +30,6 @@ use Rattle.pfs_script.proofs.Faultless.{passes}
 use Rattle.pfs_script.proofs.Finding.{head_limits, tables_push, digests_push}
 use Rattle.pfs_script.proofs.Settling.{settled_more}
 use Rattle.pfs_script.proofs.Standing.{Idles, idles, any_stays, class_stays, settled_last}
-
-first_true : (a b : Bool) → (a && b) ≡ true → a ≡ true
-first_true true b h = refl
-first_true false b h = cc
 
 module _ (old new : Reader) (before : List Form) (line : Form) (b : IsBehind old before) (m : IsBehind new (before ++ line ∷ [])) where
   more_tables : new.finds.tables ≡ with_table old.finds.tables line
@@ -74,7 +71,7 @@ module _ (old new : Reader) (before : List Form) (line : Form) (b : IsBehind old
     kind = kind;
     class = c ∙ (ap (λ (h : Head). class_in (resolved h) line) b.head ∙ (class_stays before line ∙ ap (λ (h : Head). class_in (resolved h) line) (sym m.head)));
     found = (sym n, settled_last new.heading.limits.digests new.finds before line m.settled, (passes before line none).statement);
-    behind = sym m.place.front.phase ∙ first_true new.place.front.has_phase (starts || many) wanted;
+    behind = sym m.place.front.phase ∙ and_first new.place.front.has_phase (starts || many) wanted;
   })
 
 -- what is known of the line at a place

@@ -1,30 +1,23 @@
 -- The number that a numeral writes.
-use Rattle.std.proofs.Common.{ℕ, ◌≡◌, ◌<◌, ◌^◌, ◌∙◌, Bool, true, false, ◌&&◌, nat_lt, List, [], ◌∷◌, length, Option, Some, None, ap, refl, arith}
+use Rattle.std.proofs.Common.{ℕ, ◌≡◌, ◌<◌, ◌^◌, ◌∙◌, true, ◌&&◌, nat_lt, List, [], ◌∷◌, length, Option, Some, None, ap, arith}
 use Rattle.std.specs.Option.{SomeIff}
 use Rattle.std.specs.List.{list_all}
 use Rattle.std.specs.Str.Parse.{AllDigits, IsNumeral, digits_value}
 use Rattle.std.proofs.lemmas.Bool.Decides.{nat_tests}
+use Rattle.pfs_lemmas.proofs.Bools.{and_first, and_second}
 use Rattle.pfs_script.specs.Numbers.{is_digit, is_numeral, number_below, number_of}
-
-first_true : (a b : Bool) → (a && b) ≡ true → a ≡ true
-first_true true b h = refl
-first_true false b h = cc
-
-second_true : (a b : Bool) → (a && b) ≡ true → b ≡ true
-second_true true b h = h
-second_true false b h = cc
 
 all_digits : (text : List ℕ) → list_all is_digit text ≡ true → AllDigits 10 text
 all_digits [] h = tt
 all_digits (byte ∷ bytes) h =
-    let this = first_true (is_digit byte) (list_all is_digit bytes) h in
-    (grind (arith, nat_tests, this), all_digits bytes (second_true (is_digit byte) (list_all is_digit bytes) h))
+    let this = and_first (is_digit byte) (list_all is_digit bytes) h in
+    (grind (arith, nat_tests, this), all_digits bytes (and_second (is_digit byte) (list_all is_digit bytes) h))
 
 numeral : (text : List ℕ) → is_numeral text ≡ true → IsNumeral 10 text
 unfolding is_numeral
 numeral text h =
-    let some = first_true (nat_lt 0 (length text)) (list_all is_digit text) h in
-    (grind (arith, nat_tests, some), all_digits text (second_true (nat_lt 0 (length text)) (list_all is_digit text) h))
+    let some = and_first (nat_lt 0 (length text)) (list_all is_digit text) h in
+    (grind (arith, nat_tests, some), all_digits text (and_second (nat_lt 0 (length text)) (list_all is_digit text) h))
 
 below : (value : ℕ) (number : Option ℕ) (P : Type 0) → P → SomeIff number (P × (value < 2 ^ 64)) value → number ≡ number_below value
 below value None P p h =

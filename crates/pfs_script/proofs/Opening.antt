@@ -3,6 +3,7 @@ use Rattle.std.proofs.Common.{ℕ, zero, suc, ◌≡◌, Bool, true, false, ◌&
 use mathlib.Core.Bool.{beq}
 use Rattle.std.proofs.lemmas.Bool.{eqb-true, eq-eqb}
 use Rattle.std.proofs.lemmas.Bool.Decides.{nat_tests}
+use Rattle.pfs_lemmas.proofs.Bools.{and_first, and_second}
 use Rattle.pfs_event.specs.declared.kind.EventKind.{EventKind}
 use Rattle.pfs_event.specs.declared.kind.EventKind.TheVariants.{Wait, Stage, Statement, Transaction}
 use Rattle.pfs_script.specs.declared.open_kinds.OpenKinds.{OpenKinds}
@@ -30,21 +31,13 @@ same_one Statement Statement h = refl
 same_one Transaction Transaction h = refl
 same_one _ _ h = cc
 
-both_first : (a b : Bool) → (a && b) ≡ true → a ≡ true
-both_first true b h = refl
-both_first false b h = cc
-
-both_second : (a b : Bool) → (a && b) ≡ true → b ≡ true
-both_second true b h = h
-both_second false b h = cc
-
 pub same_all : (kinds others : List EventKind) → same_kinds kinds others ≡ true → kinds ≡ others
 same_all [] [] h = refl
 same_all [] (other ∷ others) h = cc
 same_all (kind ∷ kinds) [] h = cc
 same_all (kind ∷ kinds) (other ∷ others) h =
-    let first = same_one kind other (both_first (same_kind kind other) (same_kinds kinds others) h) in
-    let rest = same_all kinds others (both_second (same_kind kind other) (same_kinds kinds others) h) in
+    let first = same_one kind other (and_first (same_kind kind other) (same_kinds kinds others) h) in
+    let rest = same_all kinds others (and_second (same_kind kind other) (same_kinds kinds others) h) in
     rw (first, rest) refl
 
 -- the numbers are those of the list
@@ -130,12 +123,12 @@ test a b = eqb a.waits b.waits && (beq a.has_stage b.has_stage && (eqb a.stateme
 
 tested : (a b : OpenKinds) → test a b ≡ true → same_kinds (kinds_in a) (kinds_in b) ≡ true
 tested a b h =
-    let waits = both_first (eqb a.waits b.waits) _ h in
-    let rest = both_second (eqb a.waits b.waits) _ h in
-    let stage = both_first (beq a.has_stage b.has_stage) _ rest in
-    let more = both_second (beq a.has_stage b.has_stage) _ rest in
-    let statements = both_first (eqb a.statements b.statements) _ more in
-    let last = both_second (eqb a.statements b.statements) _ more in
+    let waits = and_first (eqb a.waits b.waits) _ h in
+    let rest = and_second (eqb a.waits b.waits) _ h in
+    let stage = and_first (beq a.has_stage b.has_stage) _ rest in
+    let more = and_second (beq a.has_stage b.has_stage) _ rest in
+    let statements = and_first (eqb a.statements b.statements) _ more in
+    let last = and_second (eqb a.statements b.statements) _ more in
     rw (eqb-true a.waits b.waits waits, same_flag a.has_stage b.has_stage stage, eqb-true a.statements b.statements statements, same_flag a.has_transaction b.has_transaction last) (kinds_same (kinds_in b))
 
 test_of : (a b : OpenKinds) → same_kinds (kinds_in a) (kinds_in b) ≡ true → test a b ≡ true

@@ -5,6 +5,8 @@ use Rattle.std.specs.List.{list_any, flat_map}
 use Rattle.std.proofs.lemmas.Bool.Decides.{nat_tests}
 use Rattle.std.proofs.lemmas.List.{map-append}
 use Rattle.std.proofs.lemmas.List.Elements.{filter-append}
+use Rattle.std.proofs.lemmas.Bool.{cases_Bool}
+use Rattle.pfs_lemmas.proofs.Bools.{or_first, or_second}
 use Rattle.pfs_classes.specs.declared.setting.Setting.{Setting}
 use Rattle.pfs_script.specs.declared.forms.Form.{Form}
 use Rattle.pfs_script.specs.declared.forms.Form.TheVariants as form
@@ -95,20 +97,6 @@ leaves None None (line ∷ rest) marks kinds h n =
 leaves (Some loop) (Some start) (line ∷ rest) marks kinds h n =
     leaves (Some (record { times = loop.times; body = loop.body ++ line ∷ [] })) (Some start) rest marks (kinds_behind (mark_of line) kinds) (h.0, pushed marks kinds loop.body line h.1 n.0) n.1
 
--- the lines of a session's blocks that begin among lines
-
-bool_cases : (b : Bool) → (b ≡ true) ⊎ (b ≡ false)
-bool_cases true = inl refl
-bool_cases false = inr refl
-
-first_false : (a b : Bool) → (a || b) ≡ false → a ≡ false
-first_false true b h = cc
-first_false false b h = refl
-
-second_false : (a b : Bool) → (a || b) ≡ false → b ≡ false
-second_false true b h = cc
-second_false false b h = h
-
 none_block : (sense : Sense) (lines : List Form) (line : Form) → is_session line ≡ false → block_behind sense lines line ≡ None
 none_block sense lines (form.Connect session user host) h = cc
 none_block sense lines (form.Resume session) h = cc
@@ -138,7 +126,7 @@ module _ (number : ℕ) (sense : Sense) where
 
   from_other : (line : Form) (lines : List Form) → ends_block line ≡ false → blocks_from (line ∷ lines) ≡ blocks_from lines
   unfolding blocks_of phases_of
-  from_other line lines e = rw (first_false (is_phase line) (is_session line) e, none_block sense lines line (second_false (is_phase line) (is_session line) e)) refl
+  from_other line lines e = rw (or_first (is_phase line) (is_session line) e, none_block sense lines line (or_second (is_phase line) (is_session line) e)) refl
 
   abbrev with_own : Bool → Block → List Block → List Block
   with_own b block more = cond b (block ∷ more) more
@@ -162,7 +150,7 @@ module _ (number : ℕ) (sense : Sense) where
   unfolding blocks_of
   no_blocks before [] s none = refl
   no_blocks before (line ∷ lines) s none =
-      elim (bool_cases (is_phase line)) [
+      elim (cases_Bool (is_phase line)) [
         | inl p ↦ rw p refl
         | inr p ↦
             let later : list_any is_phase (before ++ line ∷ []) ≡ false = rw (any_more is_phase before line, none) p in
@@ -241,7 +229,7 @@ module _ (number : ℕ) (some : 1 ≤ number) (all : List Form) where
       → blocks_from number (sense_of all) (line ∷ lines) ≡ with_own number (sense_of all) (session == number) block (blocks_from number (sense_of all) lines) → block.lines ≡ block_lines (sense_of all) lines
       → Stand (before ++ line ∷ []) lines → all ≡ (before ++ line ∷ []) ++ lines → Goes (before ++ line ∷ []) lines → Goes before (line ∷ lines)
   go_block before lines line session block e r d place now from says s is goes =
-      elim (bool_cases (session == number)) [
+      elim (cases_Bool (session == number)) [
         | inl own ↦ go_own before lines line session e r d place now own (come_own session block lines (blocks_from number (sense_of all) (line ∷ lines)) from own ∙ ap (λ lines_said. written_out lines_said ++ to_come lines) says) s is goes
         | inr other ↦ go_apart before lines line session e now other (come_apart session block lines (blocks_from number (sense_of all) (line ∷ lines)) from other) goes
       ]
@@ -264,7 +252,7 @@ module _ (number : ℕ) (some : 1 ≤ number) (all : List Form) where
   go before (line ∷ lines) s is =
       let further = is ∙ sym (append_assoc before (line ∷ []) lines) in
       let rest = go (before ++ line ∷ []) lines s.1 further in
-      elim (bool_cases (ends_block line)) [
+      elim (cases_Bool (ends_block line)) [
         | inl e ↦ go_end before lines line s.0 e s.1 further rest
         | inr e ↦ λ marks h.
             subst (λ blocks. Follows marks (map mark_of (flat_map (λ (block : Block). written_out block.lines) blocks))) (sym (from_other number (sense_of all) line lines e))

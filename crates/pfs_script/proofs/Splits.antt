@@ -2,7 +2,7 @@
 use Rattle.std.proofs.Common.{ℕ, ◌≡◌, ◌+◌, ◌<◌, ◌≤◌, ◌-◌, Bool, true, false, not, List, [], ◌∷◌, length, take, drop, subst, refl, sym, ap, ◌∙◌, arith, length-drop}
 use Rattle.std.specs.Prelude.{Option, Some, None, slice_index}
 use Rattle.std.specs.List.{position, position_or_len, slice_split}
-use Rattle.std.proofs.lemmas.Bool.{false≢true}
+use Rattle.std.proofs.lemmas.Bool.{false≢true, not-true}
 use Rattle.std.proofs.lemmas.Bool.Decides.{nat_tests}
 use Rattle.memchr.specs.Find.{IsFirstByte}
 use Rattle.std.proofs.lemmas.List.Quantifiers.{position-Some}
@@ -30,19 +30,15 @@ rest_shorter p xs i e =
 not_found : (p : ℕ → Bool) (xs : List ℕ) → position p xs ≡ None → length xs ≤ position_or_len p xs
 not_found p xs e = grind (arith, nat_tests, e)
 
-not_true : (b : Bool) → not b ≡ true → b ≡ false
-not_true true h = cc
-not_true false h = refl
-
 -- nothing is found: one part
 pub split_missing : (p : ℕ → Bool) (xs : List ℕ) → position p xs ≡ None → slice_split p xs ≡ xs ∷ []
 split_missing p xs e =
     let none = not_found p xs e in
-    slice_split_none p xs (λ k d h. not_true _ (prefix_len_passes (λ x. not (p x)) xs k d (omega arith)))
+    slice_split_none p xs (λ k d h. not-true _ (prefix_len_passes (λ x. not (p x)) xs k d (omega arith)))
 
 -- the first byte that passes, as the search of bytes says it, is the first place
 no_place : (p : ℕ → Bool) (xs : List ℕ) → position p xs ≡ None → (k : ℕ) → k < length xs → p (slice_index xs k) ≡ false
-no_place p xs e k below = not_true _ (prefix_len_passes (λ x. not (p x)) xs k 0 (omega (arith, not_found p xs e, below)))
+no_place p xs e k below = not-true _ (prefix_len_passes (λ x. not (p x)) xs k 0 (omega (arith, not_found p xs e, below)))
 
 pub first_place : (p : ℕ → Bool) (xs : List ℕ) (r : Option ℕ) → IsFirstByte p xs r → r ≡ position p xs
 first_place p xs r first = on p xs r (position p xs) refl first

@@ -2,8 +2,9 @@
 use Rattle.std.proofs.Common.{ℕ, ◌≡◌, ◌⊎◌, inl, inr, Bool, true, false, ◌||◌, not, List, [], ◌∷◌, ◌++◌, Option, refl, sym, ap, ◌∙◌, append_assoc}
 use Rattle.std.specs.Prelude.{fold, option_map, option_and_then}
 use Rattle.std.specs.List.{list_any, list_all}
-use Rattle.std.proofs.lemmas.Bool.{false≢true}
+use Rattle.std.proofs.lemmas.Bool.{false≢true, not-false}
 use Rattle.std.proofs.lemmas.List.Folds.{list_any-append, list_all-append}
+use Rattle.pfs_lemmas.proofs.Bools.{or_first}
 use Rattle.pfs_classes.specs.declared.setting.TableName.{TableName}
 use Rattle.pfs_classes.specs.declared.setting.DigestText.{DigestText}
 use Rattle.pfs_script.specs.declared.blocks.BlockLine.{BlockLine}
@@ -75,16 +76,6 @@ limits_ahead (form.Silent ∷ lines) e = limits_ahead lines e
 limits_ahead (form.Limit name value ∷ lines) e = limits_ahead lines e
 limits_ahead (_ ∷ lines) e = cc
 
--- so before the first phase no other line may come
-
-not_so : (b : Bool) → not b ≡ false → b ≡ true
-not_so true e = refl
-not_so false e = cc
-
-first_no : (a b : Bool) → (a || b) ≡ false → a ≡ false
-first_no true b e = cc
-first_no false b e = refl
-
 no_block : (before : List Form) → list_all is_ahead before ≡ true → is_blockless before ≡ false → ⊥
 no_block before all out = false≢true (sym out ∙ ahead_blockless before all)
 
@@ -96,16 +87,16 @@ ahead_line before (form.Consumer name on) all none place here = refl
 ahead_line before (form.Instrument pattern enabled timed) all none place here = refl
 ahead_line before form.Phase all none place here = cc
 ahead_line before (form.Connect session user host) all none place here =
-    let out = first_no (not (list_any is_phase before)) (is_in_repeat before) place in
-    absurd (false≢true (sym none ∙ not_so (list_any is_phase before) out))
+    let out = or_first (not (list_any is_phase before)) (is_in_repeat before) place in
+    absurd (false≢true (sym none ∙ not-false (list_any is_phase before) out))
 ahead_line before (form.Resume session) all none place here =
-    let out = first_no (not (list_any is_phase before)) (is_in_repeat before) place in
-    absurd (false≢true (sym none ∙ not_so (list_any is_phase before) out))
+    let out = or_first (not (list_any is_phase before)) (is_in_repeat before) place in
+    absurd (false≢true (sym none ∙ not-false (list_any is_phase before) out))
 ahead_line before form.Done all none place here =
     let out : is_in_repeat before ≡ false = rw (ahead_repeat before all) refl in
-    absurd (false≢true (sym out ∙ not_so (is_in_repeat before) place))
-ahead_line before form.Quit all none place here = absurd (no_block before all (first_no (is_blockless before) (is_in_repeat before) place))
-ahead_line before (form.Repeat times) all none place here = absurd (no_block before all (first_no (is_blockless before) (is_in_repeat before) place))
+    absurd (false≢true (sym out ∙ not-false (is_in_repeat before) place))
+ahead_line before form.Quit all none place here = absurd (no_block before all (or_first (is_blockless before) (is_in_repeat before) place))
+ahead_line before (form.Repeat times) all none place here = absurd (no_block before all (or_first (is_blockless before) (is_in_repeat before) place))
 ahead_line before _ all none place here = absurd (no_block before all place)
 
 pub ahead_more : (before : List Form) (line : Form) → is_out_of_place before line ≡ false → (list_any is_phase before ≡ false → list_all is_ahead before ≡ true)
@@ -120,7 +111,7 @@ Idles before line = (head_of before ≡ head_of (before ++ line ∷ []))
     ⊎ ((list_any is_phase before ≡ false) × ((most : ℕ) (tables : List TableName) (digests : List DigestText) → IsSettled most tables digests line))
 
 pub idles : (before : List Form) (line : Form) → Passes before line → Idles before line
-idles before (form.Limit name value) p = inr (limits_ahead before (not_so (list_all is_before_limits before) p.place), λ most tables digests. tt)
+idles before (form.Limit name value) p = inr (limits_ahead before (not-false (list_all is_before_limits before) p.place), λ most tables digests. tt)
 idles before (form.Class name kind enabled timed) p = inr (p.place, λ most tables digests. tt)
 idles before (form.Consumer name on) p = inr (p.place, λ most tables digests. tt)
 idles before (form.Instrument pattern enabled timed) p = inr (p.place, λ most tables digests. tt)

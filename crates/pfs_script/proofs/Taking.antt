@@ -3,6 +3,7 @@ use Rattle.std.proofs.Common.{ℕ, ◌≡◌, Bool, false, true, ◌||◌, not, 
 use Rattle.std.specs.Prelude.{IsTrue, is_some}
 use Rattle.std.specs.List.{list_any, list_all}
 use Rattle.std.proofs.lemmas.Bool.Decides.{nat_tests}
+use Rattle.pfs_lemmas.proofs.Bools.{or_first, or_second}
 use Rattle.pfs_rows.specs.declared.limits.Limit.{Limit}
 use Rattle.pfs_classes.specs.declared.classes.ClassRef.{ClassRef}
 use Rattle.pfs_classes.specs.Kinds.{is_fixed}
@@ -23,14 +24,6 @@ allowed_none : (limit : Option Limit) → IsAllowed limit None
 allowed_none (Some one) = tt
 allowed_none None = tt
 
-first_false : (a b : Bool) → (a || b) ≡ false → a ≡ false
-first_false true b h = cc
-first_false false b h = refl
-
-second_false : (a b : Bool) → (a || b) ≡ false → b ≡ false
-second_false true b h = cc
-second_false false b h = h
-
 none_there : (o : Option ClassRef) → is_some o ≡ false → o ≡ None
 none_there None h = refl
 none_there (Some one) h = cc
@@ -39,7 +32,7 @@ pub may_come : (before : List Form) (line : Form) → Passes before line → Has
 may_come before (form.Limit name (Some value)) p k = allowed (named_limit name) value (list_any (gives (named_limit name)) before) p.limit
 may_come before (form.Limit name None) p k = allowed_none (named_limit name)
 may_come before (form.Class name kind enabled timed) p k =
-    (k, first_false (is_fixed kind) (is_known before name) p.known, none_there (resolved (head_of before) name) (knows_resolved before name ∙ second_false (is_fixed kind) (is_known before name) p.known))
+    (k, or_first (is_fixed kind) (is_known before name) p.known, none_there (resolved (head_of before) name) (knows_resolved before name ∙ or_second (is_fixed kind) (is_known before name) p.known))
 may_come before _ p k = tt
 
 is_so : (b : Bool) → not b ≡ false → IsTrue b

@@ -2,6 +2,7 @@
 use Rattle.std.proofs.Common.{ℕ, ◌≡◌, ◌≤◌, ◌<◌, ◌+◌, ◌-◌, ◌*◌, ◌^◌, Bool, false, true, ◌||◌, cond, List, [], ◌∷◌, ◌++◌, Option, refl, ap, sym, ◌∙◌, nat_lt, arith}
 use Rattle.std.specs.Prelude.{count_by, min, if◌then◌else◌, codes}
 use Rattle.std.proofs.lemmas.Bool.Decides.{nat_tests}
+use Rattle.std.proofs.lemmas.Bool.{ltb-false}
 use Rattle.pfs_script.specs.declared.forms.Form.{Form}
 use Rattle.pfs_script.specs.declared.forms.Form.TheVariants as form
 use Rattle.pfs_script.specs.declared.totals.Tally.{Tally}
@@ -39,9 +40,6 @@ capped most number added high = grind (arith, nat_tests, high)
 exact : (most number added after : ℕ) → most < 2 ^ 64 - 1 → after ≡ min (number + min added (2 ^ 64 - 1)) (2 ^ 64 - 1) → nat_lt most (number + added) ≡ false → after ≡ number + added
 exact most number added after high is few = grind (arith, nat_tests, high, is, few)
 
-few_so : (most number : ℕ) → nat_lt most number ≡ false → number ≤ most
-few_so most number h = grind (arith, nat_tests, h)
-
 tally_with : (tally : Tally) (measure : Form → ℕ) (more : ℕ) (before : List Form) (line : Form) → KnowsTally tally measure more before
     → counted measure (before ++ line ∷ []) ≡ tally.total + (measure line + (if is_done line then more * tally.body else 0))
 tally_with tally measure more before line k =
@@ -73,7 +71,7 @@ first_false false b h = refl
 
 few_now : (test : Form → Bool) (most number after : ℕ) (before : List Form) (line : Form) → number ≡ count_by test before → after ≡ number + (if test line then 1 else 0) → has_over most test before line ≡ false → after ≤ most
 few_now test most number after before line k c h =
-    let few = few_so most (count_by test (before ++ line ∷ [])) h in
+    let few = ltb-false most (count_by test (before ++ line ∷ [])) h in
     omega (arith, few, count_more test before line, k, c)
 
 small : (number after : ℕ) → number < 2 ^ 64 - 1 → after ≡ min number (2 ^ 64 - 1) → after ≡ number
@@ -215,9 +213,9 @@ totals_more totals after before line selects weight k out long much p =
       weight = rw p.more weighed;
       phases = omega (arith, count_more is_phase before line, k.phases, p.phases);
       classes = omega (arith, count_more is_class before line, k.classes, p.classes);
-      few_lines = rw lines.total (few_so 200000 _ long);
-      few_selects = rw chosen.total (few_so 256 _ selected);
-      low_weight = rw weighed.total (few_so 5000000 _ heavy);
+      few_lines = rw lines.total (ltb-false 200000 _ long);
+      few_selects = rw chosen.total (ltb-false 256 _ selected);
+      low_weight = rw weighed.total (ltb-false 5000000 _ heavy);
       few_phases = few_now is_phase 64 totals.phases after.phases before line k.phases p.phases phases;
       few_classes = few_now is_class 256 totals.classes after.classes before line k.classes p.classes classes;
       more = p.more ∙ more_is totals.more before line k.more k.alone out;

@@ -1,9 +1,9 @@
 -- The session of the next line, and a session's lines and open events, with one line more.
-use Rattle.std.proofs.Common.{ℕ, ◌≡◌, ◌≤◌, Bool, false, true, ◌||◌, ◌&&◌, ◌==◌, List, [], ◌∷◌, ◌++◌, Some, None, refl, ap, sym, ◌∙◌, map, arith, append_assoc, append-nil}
+use Rattle.std.proofs.Common.{ℕ, ◌≡◌, ◌≤◌, false, true, ◌||◌, ◌&&◌, ◌==◌, List, [], ◌∷◌, ◌++◌, refl, ap, sym, ◌∙◌, map, append_assoc, append-nil}
 use Rattle.std.specs.Prelude.{fold}
-use Rattle.std.specs.List.{list_any}
-use Rattle.std.proofs.lemmas.Bool.Decides.{nat_tests}
 use Rattle.std.proofs.lemmas.List.Sums.{fold_push}
+use Rattle.std.proofs.lemmas.Bool.{eq-eqb}
+use Rattle.pfs_lemmas.proofs.Bools.{and_false}
 use Rattle.pfs_script.specs.declared.forms.Form.{Form}
 use Rattle.pfs_script.specs.declared.forms.Form.TheVariants as form
 use Rattle.pfs_script.specs.Brackets.{kinds_behind}
@@ -39,12 +39,8 @@ lines_more : (number : ℕ) (before : List Form) (line : Form) → lines_of numb
 unfolding session_now
 lines_more number before line = in_more number 0 before line
 
-and_no : (b : Bool) → (b && false) ≡ false
-and_no true = refl
-and_no false = refl
-
 own_ends : (number session : ℕ) (line : Form) → ends_block line ≡ true → own_line number session line ≡ []
-own_ends number session line e = rw (e, and_no (session == number)) refl
+own_ends number session line e = rw (e, and_false (session == number)) refl
 
 own_other : (number session : ℕ) (line : Form) → (session == number) ≡ false → own_line number session line ≡ []
 own_other number session line o = rw o refl
@@ -74,10 +70,7 @@ pub kinds_own : (number : ℕ) (before : List Form) (line : Form) → (session_n
 kinds_own number before line h e =
     rw (lines_own number before line h e, map_more mark_of_form (lines_of number before) line) (kinds_more (map mark_of_form (lines_of number before)) (mark_of_form line))
 
-same_number : (number other : ℕ) → number ≡ other → (number == other) ≡ true
-same_number number other e = grind (arith, nat_tests, e)
-
 pub open_more : (before : List Form) (line : Form) → ends_block line ≡ false → kinds_open (before ++ line ∷ []) ≡ kinds_behind (mark_of_form line) (kinds_open before)
 unfolding kinds_open
 open_more before line e =
-    ap (λ number. session_kinds number (before ++ line ∷ [])) (now_same before line e) ∙ kinds_own (session_now before) before line (same_number (session_now before) (session_now before) refl) e
+    ap (λ number. session_kinds number (before ++ line ∷ [])) (now_same before line e) ∙ kinds_own (session_now before) before line (eq-eqb (session_now before) (session_now before) refl) e

@@ -1,8 +1,10 @@
 -- How long the lines of a block are with each repeat written out.
-use Rattle.std.proofs.Common.{ℕ, zero, suc, ◌≡◌, ◌≤◌, ◌+◌, ◌-◌, ◌*◌, Bool, true, false, List, [], ◌∷◌, ◌++◌, Option, Some, None, refl, ap, length, length-append, ◌⊎◌, inl, inr, arith}
+use Rattle.std.proofs.Common.{ℕ, zero, suc, ◌≡◌, ◌≤◌, ◌+◌, ◌-◌, ◌*◌, true, false, List, [], ◌∷◌, ◌++◌, Option, Some, None, refl, ap, length, length-append, ◌⊎◌, inl, inr, arith}
 use Rattle.std.specs.Prelude.{option_map, option_and_then, unwrap_or}
 use Rattle.std.specs.List.{sum_by}
 use Rattle.std.proofs.lemmas.List.Sums.{sum_by-cons}
+use Rattle.std.proofs.lemmas.Bool.{cases_Bool}
+use Rattle.pfs_lemmas.proofs.Numbers.{plus_zero_first}
 use Rattle.pfs_classes.specs.declared.classes.ClassRef.{ClassRef}
 use Rattle.pfs_script.specs.declared.forms.Form.{Form}
 use Rattle.pfs_script.specs.declared.forms.Form.TheVariants as form
@@ -152,10 +154,6 @@ some_both starts number None h = tt
 some_both starts None (Some one) h = tt
 some_both starts (Some number) (Some one) h = h one number
 
-bool_cases : (b : Bool) → (b ≡ true) ⊎ (b ≡ false)
-bool_cases true = inl refl
-bool_cases false = inr refl
-
 counted_first : (line : Form) (lines : List Form) → counted one_each (line ∷ lines) ≡ 1 + again one_each line lines + counted one_each lines
 unfolding counted
 counted_first line lines = refl
@@ -169,12 +167,9 @@ sum_ones : (lines : List Form) → sum_by one_each lines ≡ length lines
 sum_ones [] = refl
 sum_ones (line ∷ lines) = omega (arith, sum_by-cons one_each line lines, sum_ones lines)
 
-nothing_added : (n : ℕ) → n ≡ 0 + n
-nothing_added n = omega arith
-
 again_rounds : (times : ℕ) (lines : List Form) (until : Option (List Form)) → until_done lines ≡ until → again one_each (form.Repeat (Some times)) lines ≡ rounds times 0 until
 again_rounds times lines None e = rw e refl
-again_rounds times lines (Some more) e = rw e (rw (sum_ones more) (ap (λ n. (times - 1) * n) (nothing_added (length more))))
+again_rounds times lines (Some more) e = rw e (rw (sum_ones more) (ap (λ n. (times - 1) * n) (plus_zero_first (length more))))
 
 until_other : (line : Form) (lines : List Form) → is_done line ≡ false → until_done (line ∷ lines) ≡ option_map (λ more. line ∷ more) (until_done lines)
 until_other line lines d = rw d refl
@@ -264,13 +259,13 @@ module _ (sense : Sense) where
   short (Some loop) [] = rw (last_said, nothing_more loop) (omega arith)
   short None (form.Repeat (Some times) ∷ lines) = repeat_step times lines (short (Some (record { times = times; body = [] })) lines)
   short None (line ∷ lines) =
-      elim (bool_cases (ends_block line)) [
+      elim (cases_Bool (ends_block line)) [
         | inl n ↦ stop_step None line lines n
         | inr n ↦ none_step line lines n (no_repeat line (λ times e. cc)) (short None lines)
       ]
   short (Some loop) (form.Done ∷ lines) = done_step loop lines (short None lines)
   short (Some loop) (line ∷ lines) =
-      elim (bool_cases (ends_block line)) [
+      elim (cases_Bool (ends_block line)) [
         | inl n ↦ stop_step (Some loop) line lines n
         | inr n ↦ some_step loop line lines n refl (λ body. short (Some (record { times = loop.times; body = body })) lines)
       ]

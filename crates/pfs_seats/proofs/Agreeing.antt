@@ -1,6 +1,7 @@
 -- What each call of an actor found and left, by the contents of the history and the flags of the words.
 use Rattle.std.proofs.Common.{ℕ, ◌≡◌, ◌≢◌, ◌⊎◌, ◌+◌, ◌*◌, ◌/◌, ◌%◌, ◌==◌, ◌<◌, ◌≤◌, nat_lt, ◌&&◌, not, Bool, true, false, cond, List, [], ◌∷◌, ◌++◌, Option, Some, None, slice_index, length, refl, ap, sym, ◌∙◌, subst, inl, inr, arith, eq-eqb, add-zero}
-use Rattle.std.proofs.lemmas.Bool.{cases_eq}
+use Rattle.std.proofs.lemmas.Bool.{cases_eq, lt-ltb}
+use Rattle.pfs_lemmas.proofs.Options.{some_same}
 use Rattle.pfs_board.specs.declared.view.Change.{Change}
 use Rattle.pfs_board.specs.declared.view.Finished.{Finished}
 use Rattle.pfs_board.specs.declared.view.Sight.{Sight}
@@ -20,9 +21,9 @@ use Rattle.pfs_seats.specs.Gathered.{ats_of}
 use Rattle.pfs_seats.specs.Shared.{content_of, IsRunsBoard}
 use Rattle.pfs_seats.specs.Ties.{IsMade, IsTied, IsSighted, IsFinished, WasOlder, AreShown, last_found}
 use Rattle.pfs_seats.proofs.Contents.{Says, whole_is}
-use Rattle.pfs_seats.proofs.Histories.{counts, yes_lt}
+use Rattle.pfs_seats.proofs.Histories.{counts}
 use Rattle.pfs_seats.proofs.Labels.{some_each}
-use Rattle.pfs_seats.proofs.Turned.{away_if, here_if, some_same, none_some}
+use Rattle.pfs_seats.proofs.Turned.{away_if, here_if, none_some}
 
 -- what a call says of the words alone
 abbrev pub Flagged : List ℕ → List Setting → Call → Type 0
@@ -46,7 +47,7 @@ AllFlagged flags sets (call ∷ calls) = Flagged flags sets call × AllFlagged f
 -- how often a row was released at a version
 freed_now : (p : Change) (ps : List Change) (row k : ℕ) → 0 < row → p.row ≡ row → p.puts ≡ false → p.version ≡ k → 0 < total (λ x. one_if ((x.row == row) && not x.puts && (x.version == k))) (ats_of (p ∷ ps))
 unfolding total ats_of
-freed_now p ps row k some r b v = rw (yes_lt 0 p.row (omega (arith, some, r)), eq-eqb p.row row r, b, eq-eqb p.version k v) (omega arith)
+freed_now p ps row k some r b v = rw (lt-ltb 0 p.row (omega (arith, some, r)), eq-eqb p.row row r, b, eq-eqb p.version k v) (omega arith)
 
 freed_later : (p : Change) (ps : List Change) (h : At → ℕ) → total h (ats_of ps) ≤ total h (ats_of (p ∷ ps))
 unfolding total ats_of

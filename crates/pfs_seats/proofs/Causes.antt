@@ -1,7 +1,6 @@
 -- What was held back, busy or late has its cause.
 use Rattle.std.proofs.Common.{ℕ, ◌≡◌, ◌≢◌, ◌⊎◌, ◌+◌, ◌/◌, ◌%◌, ◌==◌, ◌<◌, ◌≤◌, nat_lt, nat_le, ◌&&◌, not, Bool, true, false, List, [], ◌∷◌, slice_index, refl, ap, sym, ◌∙◌, subst, inl, inr, ⊎_elim, arith, eq-eqb}
-use Rattle.std.proofs.lemmas.Bool.{cases_eq, eqb-true}
-use Rattle.std.proofs.lemmas.Bool.Decides.{nat_tests}
+use Rattle.std.proofs.lemmas.Bool.{cases_eq, eqb-true, and_parts, cases_Bool, leb-true, ltb-false, ltb-true}
 use Rattle.pfs_board.specs.declared.view.Change.{Change}
 use Rattle.pfs_board.specs.declared.view.Finished.{Finished}
 use Rattle.pfs_board.specs.declared.view.Sight.{Sight}
@@ -11,7 +10,7 @@ use Rattle.pfs_board.specs.Knowledge.{corner, is_holding}
 use Rattle.pfs_board.specs.Rule.{IsRead, IsSight, lock}
 use Rattle.pfs_board.specs.Rule as rule
 use Rattle.pfs_board.specs.Closing.{History}
-use Rattle.pfs_board.proofs.HistoryFacts.{each_map, each_both, below_all, step_put, step_release, either_way}
+use Rattle.pfs_board.proofs.HistoryFacts.{each_map, each_both, below_all, step_put, step_release}
 use Rattle.pfs_levels.specs.declared.answers.Added.TheVariants.{Counted, Held}
 use Rattle.pfs_levels.specs.declared.answers.RingPut.TheVariants.{Done, Busy, Late}
 use Rattle.pfs_levels.specs.Calls.{Call, Adds, Rings, Reads, Loads, Draws, Takes, Puts, Frees, Sets, Enters, Leaves, Meets, Start, action_in, after_in}
@@ -23,7 +22,7 @@ use Rattle.pfs_seats.specs.Gathered.{marks_in}
 use Rattle.pfs_seats.specs.Shared.{content_of, IsRunsBoard}
 use Rattle.pfs_seats.specs.Ties.{IsTied, IsSighted, IsFinished, WasRefused, AreAnothers, AreShown}
 use Rattle.pfs_seats.proofs.Agreeing.{read_is}
-use Rattle.pfs_seats.proofs.Floors.{mark_of, none_marked, some_marked, both_true, lt_true, le_true, Past, past_map, above_none, level_up, read_floor}
+use Rattle.pfs_seats.proofs.Floors.{mark_of, none_marked, some_marked, Past, past_map, above_none, level_up, read_floor}
 use Rattle.pfs_seats.proofs.Histories.{mark_counts}
 use Rattle.pfs_seats.proofs.Labels.{some_each}
 
@@ -86,7 +85,7 @@ which : (row by k : ℕ) (log : List Change) → Some_of (Left row by k) log →
 which row by k [] s = absurd s
 which row by k (p ∷ ps) (inl e) = ⊎_elim
     (λ puts. inl (inl (e.0, puts, omega (arith, e.2, step_put p puts), e.1)))
-    (λ frees. inr (inl (e.0, frees, omega (arith, e.2, step_release p frees)))) (either_way p.puts)
+    (λ frees. inr (inl (e.0, frees, omega (arith, e.2, step_release p frees)))) (cases_Bool p.puts)
 which row by k (p ∷ ps) (inr s) = ⊎_elim (λ x. inl (inr x)) (λ x. inr (inr x)) (which row by k ps s)
 
 some_map : {A : Type 0} (P Q : A → Type 0) → ((x : A) → P x → Q x) → (xs : List A) → Some_of P xs → Some_of Q xs
@@ -104,12 +103,9 @@ was_published log row k by s =
     let g : Mark → Bool = λ m. (m.row == row) && m.puts && (m.version == k) in
     some_marked g log (some_map (Another row k by) (λ p. g (mark_of p) ≡ true) (λ p e. rw (eq-eqb p.row row e.0, e.1, eq-eqb p.version k e.2) refl) log s)
 
-lt_false : (a b : ℕ) → nat_lt a b ≡ false → b ≤ a
-lt_false a b e = grind (arith, nat_tests)
-
 up_or_at : (a b : ℕ) (c : Bool) → nat_lt b a ≡ c → (a ≤ b) ⊎ (b < a)
-up_or_at a b true e = inr (lt_true b a e)
-up_or_at a b false e = inl (lt_false b a e)
+up_or_at a b true e = inr (ltb-true b a e)
+up_or_at a b false e = inl (ltb-false b a e)
 
 up_or : (a b : ℕ) → (a ≤ b) ⊎ (b < a)
 up_or a b = up_or_at a b (nat_lt b a) refl
@@ -142,8 +138,8 @@ module _ (start words : List ℕ) (v : View) (h : History start words v) (o : Is
         let Own : Change → Type 0 = λ p. p.by ≡ begun.number in
         let B : Change → Type 0 = λ p. g (mark_of p) ≡ true → ⊥ in
         let step : (p : Change) → Own p → Makes row k begun.number p → B p = λ p is m t.
-        let x = both_true ((p.row == row) && p.puts) (p.version == k) t in
-        let y = both_true (p.row == row) p.puts x.0 in
+        let x = and_parts ((p.row == row) && p.puts) (p.version == k) t in
+        let y = and_parts (p.row == row) p.puts x.0 in
         m (eqb-true p.row row y.0) y.1 (eqb-true p.version k x.1) is in
         none_marked g mine (each_both Own (Makes row k begun.number) B step mine own (covers (Makes row k begun.number) (one_maker start log h.chain row k begun.number s)))
 
@@ -163,11 +159,11 @@ module _ (start words : List ℕ) (v : View) (h : History start words v) (o : Is
         let A : Change → Type 0 = λ p. p.row ≡ row → p.by ≡ begun.number → p.puts ≡ true → (p.version ≤ first / 4) ⊎ (second / 4 < p.version) in
         let B : Change → Type 0 = λ p. g (mark_of p) ≡ true → ⊥ in
         let step : (p : Change) → Own p → A p → B p = λ p is f t.
-        let x = both_true ((p.row == row) && p.puts && nat_lt (first / 4) p.version) (nat_le p.version (second / 4)) t in
-        let y = both_true ((p.row == row) && p.puts) (nat_lt (first / 4) p.version) x.0 in
-        let z = both_true (p.row == row) p.puts y.0 in
-        let lo = lt_true (first / 4) p.version y.1 in
-        let hi = le_true p.version (second / 4) x.1 in
+        let x = and_parts ((p.row == row) && p.puts && nat_lt (first / 4) p.version) (nat_le p.version (second / 4)) t in
+        let y = and_parts ((p.row == row) && p.puts) (nat_lt (first / 4) p.version) x.0 in
+        let z = and_parts (p.row == row) p.puts y.0 in
+        let lo = ltb-true (first / 4) p.version y.1 in
+        let hi = leb-true p.version (second / 4) x.1 in
         ⊎_elim (λ d. omega (arith, d, lo)) (λ d. omega (arith, d, hi)) (f (eqb-true p.row row z.0) is z.1) in
         none_marked g mine (each_both Own A B step mine own e)
 

@@ -1,14 +1,14 @@
 -- No call is below what the actions gave that its actor knew as ended.
 use Rattle.std.proofs.Common.{ℕ, ◌≡◌, ◌≢◌, ◌+◌, ◌/◌, ◌==◌, ◌<◌, ◌≤◌, nat_lt, nat_le, ◌&&◌, not, Bool, true, false, cond, List, [], ◌∷◌, length, Option, Some, None, refl, ap, sym, ◌∙◌, subst, inl, inr, ⊎_elim, arith, eq-eqb}
-use Rattle.std.proofs.lemmas.Bool.{cases_eq, eqb-true}
-use Rattle.std.proofs.lemmas.Bool.Decides.{nat_tests}
+use Rattle.std.proofs.lemmas.Bool.{cases_eq, eqb-true, and_parts, cases_Bool, leb-true, ltb-true, not-true}
+use Rattle.pfs_lemmas.proofs.Options.{some_same}
 use Rattle.pfs_board.specs.declared.view.Change.{Change}
 use Rattle.pfs_board.specs.declared.view.Finished.{Finished}
 use Rattle.pfs_board.specs.declared.view.View.{View}
 use Rattle.pfs_board.specs.History.{Each, Some_of, IsChain, version, version_of, step_of, level}
 use Rattle.pfs_board.specs.Rule.{IsRead}
 use Rattle.pfs_board.specs.Closing.{History}
-use Rattle.pfs_board.proofs.HistoryFacts.{each_map, each_both, below_all, afters_below, level_put, level_release, step_put, step_release, either_way}
+use Rattle.pfs_board.proofs.HistoryFacts.{each_map, each_both, below_all, afters_below, level_put, level_release, step_put, step_release}
 use Rattle.pfs_levels.specs.declared.answers.Added.TheVariants.{Counted, Held}
 use Rattle.pfs_levels.specs.declared.answers.RingPut.TheVariants.{Done, Busy, Late}
 use Rattle.pfs_levels.specs.Calls.{Call, Adds, Rings, Reads, Loads, Draws, Takes, Puts, Frees, Sets, Enters, Leaves, Meets, Start, action_in, after_in, hand_in}
@@ -19,7 +19,7 @@ use Rattle.pfs_rows.specs.declared.table.Seen.TheVariants as sees
 use Rattle.pfs_seats.specs.Gathered.{marks_in}
 use Rattle.pfs_seats.specs.Ties.{IsMade, IsTied, IsFinished, AreShown}
 use Rattle.pfs_seats.proofs.Labels.{some_each}
-use Rattle.pfs_seats.proofs.Turned.{away_if, here_if, some_same, none_some}
+use Rattle.pfs_seats.proofs.Turned.{away_if, here_if, none_some}
 
 abbrev pub mark_of : Change → Mark
 mark_of p = mark p.row p.version p.puts p.action p.after
@@ -40,26 +40,11 @@ some_marked g [] s = absurd s
 some_marked g (p ∷ ps) (inl e) = omega (arith, ap one_if e)
 some_marked g (p ∷ ps) (inr s) = omega (arith, some_marked g ps s)
 
-pub both_true : (a b : Bool) → a && b ≡ true → (a ≡ true) × (b ≡ true)
-both_true true true e = (refl, refl)
-both_true true false e = absurd (cc)
-both_true false b e = absurd (cc)
-
-pub lt_true : (a b : ℕ) → nat_lt a b ≡ true → a < b
-lt_true a b h = grind (arith, nat_tests)
-
-pub le_true : (a b : ℕ) → nat_le a b ≡ true → a ≤ b
-le_true a b h = grind (arith, nat_tests)
-
-pub not_true : (b : Bool) → not b ≡ true → b ≡ false
-not_true true e = absurd (cc)
-not_true false e = refl
-
 past_true : (row after : ℕ) (p : Change) → is_past row after (mark_of p) ≡ true → (p.row ≡ row) × (0 < p.action) × (p.action ≤ after)
 past_true row after p e =
-    let x = both_true ((p.row == row) && nat_lt 0 p.action) (nat_le p.action after) e in
-    let y = both_true (p.row == row) (nat_lt 0 p.action) x.0 in
-    (eqb-true p.row row y.0, lt_true 0 p.action y.1, le_true p.action after x.1)
+    let x = and_parts ((p.row == row) && nat_lt 0 p.action) (nat_le p.action after) e in
+    let y = and_parts (p.row == row) (nat_lt 0 p.action) x.0 in
+    (eqb-true p.row row y.0, ltb-true 0 p.action y.1, leb-true p.action after x.1)
 
 -- a fact of each change of the row that an action up to `after` made
 abbrev pub Past : ℕ → ℕ → (Change → Type 0) → List Change → Type 0
@@ -78,9 +63,9 @@ above_none log row k after e =
     let A : Change → Type 0 = λ p. p.row ≡ row → 0 < p.action → p.action ≤ after → p.version ≤ k in
     let B : Change → Type 0 = λ p. g (mark_of p) ≡ true → ⊥ in
     let step : (p : Change) → A p → B p = λ p f t.
-    let x = both_true (is_past row after (mark_of p)) (nat_lt k p.version) t in
+    let x = and_parts (is_past row after (mark_of p)) (nat_lt k p.version) t in
     let y = past_true row after p x.0 in
-    omega (arith, f y.0 y.1 y.2, lt_true k p.version x.1) in
+    omega (arith, f y.0 y.1 y.2, ltb-true k p.version x.1) in
     none_marked g log (each_map A B step log e)
 
 pub reaching_none : (log : List Change) (row k after : ℕ) → Past row after (λ p. p.version < k) log → reaching (marks_in log) row k after ≡ 0
@@ -89,9 +74,9 @@ reaching_none log row k after e =
     let A : Change → Type 0 = λ p. p.row ≡ row → 0 < p.action → p.action ≤ after → p.version < k in
     let B : Change → Type 0 = λ p. g (mark_of p) ≡ true → ⊥ in
     let step : (p : Change) → A p → B p = λ p f t.
-    let x = both_true (is_past row after (mark_of p)) (nat_le k p.version) t in
+    let x = and_parts (is_past row after (mark_of p)) (nat_le k p.version) t in
     let y = past_true row after p x.0 in
-    omega (arith, f y.0 y.1 y.2, le_true k p.version x.1) in
+    omega (arith, f y.0 y.1 y.2, leb-true k p.version x.1) in
     none_marked g log (each_map A B step log e)
 
 pub freed_none : (log : List Change) (row k after : ℕ) → Past row after (λ p. level p ≤ k) log → freed (marks_in log) row k after ≡ 0
@@ -100,15 +85,15 @@ freed_none log row k after e =
     let A : Change → Type 0 = λ p. p.row ≡ row → 0 < p.action → p.action ≤ after → level p ≤ k in
     let B : Change → Type 0 = λ p. g (mark_of p) ≡ true → ⊥ in
     let step : (p : Change) → A p → B p = λ p f t.
-    let x = both_true (is_past row after (mark_of p) && not p.puts) (nat_le k p.version) t in
-    let z = both_true (is_past row after (mark_of p)) (not p.puts) x.0 in
+    let x = and_parts (is_past row after (mark_of p) && not p.puts) (nat_le k p.version) t in
+    let z = and_parts (is_past row after (mark_of p)) (not p.puts) x.0 in
     let y = past_true row after p z.0 in
-    let l : level p ≡ p.version + 1 = level_release p (not_true p.puts z.1) in
-    omega (arith, f y.0 y.1 y.2, le_true k p.version x.1, l) in
+    let l : level p ≡ p.version + 1 = level_release p (not-true p.puts z.1) in
+    omega (arith, f y.0 y.1 y.2, leb-true k p.version x.1, l) in
     none_marked g log (each_map A B step log e)
 
 pub level_up : (p : Change) → p.version ≤ level p
-level_up p = ⊎_elim (λ e. omega (arith, level_put p e)) (λ e. omega (arith, level_release p e)) (either_way p.puts)
+level_up p = ⊎_elim (λ e. omega (arith, level_put p e)) (λ e. omega (arith, level_release p e)) (cases_Bool p.puts)
 
 -- a change of an action that had ended before the other is below it, where that is a publication
 abbrev pub Below : Change → Change → Type 0

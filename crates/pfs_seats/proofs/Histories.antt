@@ -1,7 +1,6 @@
 -- The history of a board gives the order of all actors' changes.
 use Rattle.std.proofs.Common.{ℕ, zero, suc, ◌≡◌, ◌+◌, ◌==◌, ◌<◌, ◌≤◌, nat_lt, ◌&&◌, Bool, true, false, cond, List, [], ◌∷◌, ◌++◌, refl, ap, sym, ◌∙◌, subst, inl, inr, arith, eq-eqb, ne_eqb, append_assoc, zero-add, add_assoc}
-use Rattle.std.proofs.lemmas.Bool.{cases_eq, eqb-true}
-use Rattle.std.proofs.lemmas.Bool.Decides.{nat_tests}
+use Rattle.std.proofs.lemmas.Bool.{cases_eq, eqb-true, lt-ltb, ltb-true}
 use Rattle.pfs_board.specs.declared.view.Change.{Change}
 use Rattle.pfs_board.specs.History as board
 use Rattle.pfs_board.specs.History.{Each, IsChain, Rises, version}
@@ -35,13 +34,10 @@ unfolding changes_of
 changes_append [] ys = refl
 changes_append (x ∷ xs) ys = ap (λ z. changes_by x ++ z) (changes_append xs ys) ∙ sym (append_assoc (changes_by x) (changes_of xs) (changes_of ys))
 
-pub yes_lt : (a b : ℕ) → a < b → nat_lt a b ≡ true
-yes_lt a b h = grind (arith, nat_tests)
-
 made_at : (start : Start) (action after r v : ℕ) (puts : Bool) (p : Change) → 0 < r → IsMade start action after r v puts p → at r v puts ∷ [] ≡ ats_by p
 made_at start action after r v puts p some s =
     ap (λ z. at z v puts ∷ []) (sym s.row_is) ∙ ap (λ z. at p.row z puts ∷ []) (sym s.version_is) ∙ ap (λ z. at p.row p.version z ∷ []) (sym s.puts_is)
-    ∙ sym (ap (λ b. cond b (at p.row p.version p.puts ∷ []) []) (yes_lt 0 p.row (subst (λ z. 0 < z) (sym s.row_is) some)))
+    ∙ sym (ap (λ b. cond b (at p.row p.version p.puts ∷ []) []) (lt-ltb 0 p.row (subst (λ z. 0 < z) (sym s.row_is) some)))
 
 first_at : (p : Change) → p.row ≡ 0 → [] ≡ ats_by p
 first_at p e = sym (ap (λ z. cond (nat_lt 0 z) (at p.row p.version p.puts ∷ []) []) e)
@@ -139,7 +135,7 @@ marks_weigh h (p ∷ ps) = ap (λ n. h (mark p.row p.version p.puts p.action p.a
 count_step : (puts : Bool) (r row v : ℕ) (xs : List At) → 0 < row → count (cond (nat_lt 0 r) (at r v puts ∷ []) [] ++ xs) row ≡ cond (r == row) (count xs row + cond puts 1 0) (count xs row)
 unfolding count
 count_step puts r row v xs some = elim (cases_eq r row) [
-  | inl e ↦ rw (yes_lt 0 r (omega (arith, e, some)), eq-eqb r row e) (here puts (count xs row))
+  | inl e ↦ rw (lt-ltb 0 r (omega (arith, e, some)), eq-eqb r row e) (here puts (count xs row))
   | inr e ↦ rw (ne_eqb r row e) (away (nat_lt 0 r) e)
 ] where
   here : (b : Bool) (n : ℕ) → cond b (n + 1) n ≡ n + cond b 1 0
@@ -157,7 +153,7 @@ counts start (p ∷ ps) row some = count_step p.puts p.row row p.version (ats_of
 
 chain_step : (puts : Bool) (r v : ℕ) (xs : List At) → IsCounted xs → (0 < r → v ≡ cond puts (count xs r + 1) (count xs r)) → IsCounted (cond (nat_lt 0 r) (at r v puts ∷ []) [] ++ xs)
 chain_step puts zero v xs c f = c
-chain_step puts (suc r) v xs c f = subst (λ b. IsCounted (cond b (at (suc r) v puts ∷ []) [] ++ xs)) (sym (yes_lt 0 (suc r) (omega arith))) (f (omega arith), c)
+chain_step puts (suc r) v xs c f = subst (λ b. IsCounted (cond b (at (suc r) v puts ∷ []) [] ++ xs)) (sym (lt-ltb 0 (suc r) (omega arith))) (f (omega arith), c)
 
 as_next : (b : Bool) (v n m : ℕ) → n ≡ m → v ≡ n + cond b 1 0 → v ≡ cond b (m + 1) m
 as_next true v n m e f = omega (arith, e, f)
@@ -190,13 +186,10 @@ three true true false h = refl
 three true false c h = refl
 three false b c h = refl
 
-lt_true : (a b : ℕ) → nat_lt a b ≡ true → a < b
-lt_true a b h = grind (arith, nat_tests)
-
 none_falls : (x : Mark) (ps : List Change) → (0 < x.action → Each (λ (e : Change). e.row ≡ x.row → e.action ≤ x.action) ps) → total (λ p. one_if (falls x p)) (marks_in ps) ≡ 0
 unfolding marks_in total
 none_falls x [] f = refl
-none_falls x (p ∷ ps) f = ap (λ n. n + total (λ m. one_if (falls x m)) (marks_in ps)) (three (p.row == x.row) (nat_lt 0 x.action) (nat_lt x.action p.action) (λ a b c. omega (arith, (f (lt_true 0 x.action b)).0 (eqb-true p.row x.row a), lt_true x.action p.action c)))
+none_falls x (p ∷ ps) f = ap (λ n. n + total (λ m. one_if (falls x m)) (marks_in ps)) (three (p.row == x.row) (nat_lt 0 x.action) (nat_lt x.action p.action) (λ a b c. omega (arith, (f (ltb-true 0 x.action b)).0 (eqb-true p.row x.row a), ltb-true x.action p.action c)))
     ∙ zero-add (total (λ m. one_if (falls x m)) (marks_in ps)) ∙ none_falls x ps (λ some. (f some).1)
 
 order : (log : List Change) → Rises log → AreOrdered (marks_in log)

@@ -2,12 +2,13 @@
 use Rattle.std.proofs.Common.{ℕ, ◌≡◌, ◌+◌, ◌-◌, ◌==◌, ◌<◌, ◌≤◌, ◌&&◌, Bool, true, false, cond, List, [], ◌∷◌, ◌++◌, length, get_or, refl, ap, sym, ◌∙◌, inl, inr, arith, eq-eqb, ne_eqb}
 use Rattle.std.proofs.lemmas.Bool.{cases_eq, eqb-true}
 use Rattle.std.proofs.lemmas.List.{length_push, get_or_push, get_or_append_left}
+use Rattle.pfs_lemmas.proofs.Bools.{and_first, and_second}
 use Rattle.pfs_board.specs.declared.view.Change.{Change}
 use Rattle.pfs_board.specs.declared.view.Entered.{Entered}
 use Rattle.pfs_board.specs.declared.view.Label.{Label}
 use Rattle.pfs_board.specs.declared.view.View.{View}
 use Rattle.pfs_board.specs.History as board
-use Rattle.pfs_board.specs.History.{Each, Some_of, IsChain, version, step_of, labels_of}
+use Rattle.pfs_board.specs.History.{Each, Some_of, IsChain, version, labels_of}
 use Rattle.pfs_board.specs.Knowledge.{no_label}
 use Rattle.pfs_board.specs.Rule.{IsEntered}
 use Rattle.pfs_board.specs.Closing.{History}
@@ -83,14 +84,6 @@ apart_zero : (b : Bool) (n : ℕ) → (b ≡ true → n ≡ 0) → cond b n 0 �
 apart_zero true n f = f refl
 apart_zero false n f = refl
 
-and_left : (a b : Bool) → (a && b) ≡ true → a ≡ true
-and_left true b e = refl
-and_left false b e = cc
-
-and_right : (a b : Bool) → (a && b) ≡ true → b ≡ true
-and_right true b e = e
-and_right false b e = cc
-
 same_odd : (a b : ℕ) → a ≡ b → odd (a == b) ≡ 0
 same_odd a b e = ap odd (eq-eqb a b e)
 
@@ -103,7 +96,7 @@ none_apart start log c =
     let P : Change → Type 0 = λ p. p.row ≡ 0 → p.puts ≡ true → Labelled log p in
     let Q : Change → Type 0 = λ p. apart log p ≡ 0 in
     let step : (p : Change) → P p → Q p = λ p f. apart_zero ((p.row == 0) && p.puts) _ (λ b.
-    let l = f (eqb-true p.row 0 (and_left (p.row == 0) p.puts b)) (and_right (p.row == 0) p.puts b) in
+    let l = f (eqb-true p.row 0 (and_first (p.row == 0) p.puts b)) (and_second (p.row == 0) p.puts b) in
     omega (arith, same_odd _ _ (ap (λ (z : Label). z.session) l.is), same_odd _ _ (ap (λ (z : Label). z.line) l.is))) in
     total_none (apart log) log (each_map P Q step log (all_labelled start log c))
 

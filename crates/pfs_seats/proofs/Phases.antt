@@ -1,16 +1,17 @@
 -- No call of a later phase is below what the actors of earlier phases left.
 use Rattle.std.proofs.Common.{ℕ, ◌≡◌, ◌≢◌, ◌+◌, ◌/◌, ◌==◌, ◌<◌, ◌≤◌, nat_lt, nat_le, ◌&&◌, not, Bool, true, false, cond, List, [], ◌∷◌, ◌++◌, length, slice_index, Option, Some, None, refl, ap, sym, ◌∙◌, subst, inl, inr, ⊎_elim, arith, eq-eqb, length-append, append_assoc}
-use Rattle.std.proofs.lemmas.Bool.{cases_eq, eqb-true}
+use Rattle.std.proofs.lemmas.Bool.{cases_eq, eqb-true, and_parts, cases_Bool, cond-false, cond-true, le-leb, leb-true, lt-ltb, not-true}
 use Rattle.std.proofs.lemmas.Bool.Decides.{nat_tests}
+use Rattle.pfs_lemmas.proofs.Options.{some_same}
 use Rattle.pfs_board.specs.declared.view.Change.{Change}
 use Rattle.pfs_board.specs.declared.view.Finished.{Finished}
 use Rattle.pfs_board.specs.declared.view.Sight.{Sight}
 use Rattle.pfs_board.specs.declared.view.View.{View}
 use Rattle.pfs_board.specs.History as board
-use Rattle.pfs_board.specs.History.{Each, Some_of, IsChain, version, version_of, step_of, level, shows_to, oldest, Floor}
+use Rattle.pfs_board.specs.History.{Each, Some_of, IsChain, version, version_of, level, shows_to, oldest, Floor}
 use Rattle.pfs_board.specs.Rule.{IsRead, IsSight}
 use Rattle.pfs_board.specs.Closing.{History}
-use Rattle.pfs_board.proofs.HistoryFacts.{each_map, if_true, if_false, level_release, either_way}
+use Rattle.pfs_board.proofs.HistoryFacts.{each_map, level_release}
 use Rattle.pfs_board.proofs.HistoryFacts.{total_append}
 use Rattle.pfs_board.proofs.VersionFacts.{each_made}
 use Rattle.pfs_board.specs.History.{lock_at}
@@ -28,12 +29,12 @@ use Rattle.pfs_seats.specs.Shared.{content_of, IsRunsBoard}
 use Rattle.pfs_seats.specs.Ties.{IsMade, IsTied, IsSighted, IsFinished, AreLoaded, AreShown}
 use Rattle.pfs_seats.proofs.Agreeing.{read_is}
 use Rattle.pfs_seats.proofs.Flags.{IsSo}
-use Rattle.pfs_seats.proofs.Floors.{both_true, le_true, not_true, level_up}
-use Rattle.pfs_seats.proofs.Histories.{counts, yes_lt, all_ats, all_marked}
+use Rattle.pfs_seats.proofs.Floors.{level_up}
+use Rattle.pfs_seats.proofs.Histories.{counts, all_ats, all_marked}
 use Rattle.pfs_seats.proofs.Labels.{some_each}
 use Rattle.pfs_seats.proofs.Tickets.{no_and}
 use Rattle.pfs_seats.proofs.Together.{each_front, each_back, word_front, word_back}
-use Rattle.pfs_seats.proofs.Turned.{away_if, here_if, some_same, none_some}
+use Rattle.pfs_seats.proofs.Turned.{away_if, here_if, none_some}
 use Rattle.pfs_switches.specs.declared.view.Loaded.{Loaded}
 use Rattle.pfs_switches.specs.declared.view.Setting.{Setting as Written}
 use Rattle.pfs_switches.specs.History as switches
@@ -67,9 +68,6 @@ AllWordsSince sets (call ∷ calls) = WordsSince sets call × AllWordsSince sets
 abbrev lower : ℕ → ℕ → Change → Bool
 lower r k p = ((p.row == r) && p.puts) && nat_le p.version k
 
-le_yes : (a b : ℕ) → a ≤ b → nat_le a b ≡ true
-le_yes a b h = grind (arith, nat_tests)
-
 -- a chain has no more than k of them, and no more than the row has publications
 few : (start : List ℕ) (log : List Change) (r k : ℕ) → IsChain start log → (board.total (λ p. cond {A = ℕ} (lower r k p) 1 0) log ≤ k) × (board.total (λ p. cond {A = ℕ} (lower r k p) 1 0) log ≤ version log r)
 few start [] r k c = (omega arith, omega arith)
@@ -81,7 +79,7 @@ few start (p ∷ ps) r k c =
       at true true true x y z i =
           let row : p.row ≡ r = eqb-true p.row r x in
           let v : p.version ≡ version ps r + 1 = c.0.numbered ∙ ap (λ b. version ps p.row + cond {A = ℕ} b 1 0) y ∙ ap (λ q. version ps q + 1) row in
-          (omega (arith, v, le_true p.version k z, i.1), omega (arith, i.1))
+          (omega (arith, v, leb-true p.version k z, i.1), omega (arith, i.1))
       at true true false x y z i = (omega (arith, i.0), omega (arith, i.1))
       at true false d x y z i = (omega (arith, i.0), omega (arith, i.1))
       at false b d x y z i = (omega (arith, i.0), omega (arith, i.1))
@@ -92,25 +90,25 @@ many [] r k e = refl
 many (p ∷ ps) r k e = at (p.row == r) p.puts refl refl (many ps r k e.1) where
   at : (a b : Bool) → (p.row == r) ≡ a → p.puts ≡ b → version ps r ≡ board.total (λ q. cond {A = ℕ} (lower r k q) 1 0) ps
       → cond {A = ℕ} a (version ps r + cond {A = ℕ} b 1 0) (version ps r) ≡ cond {A = ℕ} ((a && b) && nat_le p.version k) 1 0 + board.total (λ q. cond {A = ℕ} (lower r k q) 1 0) ps
-  at true true x y i = omega (arith, i, ap (λ d. cond {A = ℕ} d 1 0) (le_yes p.version k (e.0 (eqb-true p.row r x) y)))
+  at true true x y i = omega (arith, i, ap (λ d. cond {A = ℕ} d 1 0) (le-leb p.version k (e.0 (eqb-true p.row r x) y)))
   at true false x y i = omega (arith, i)
   at false b x y i = omega (arith, i)
 
 -- the oldest entries are those behind the later ones
 oldest_all : (xs : List Change) → oldest (length xs) xs ≡ xs
 oldest_all [] = refl
-oldest_all (x ∷ xs) = if_true (nat_lt (length xs) (length (x ∷ xs))) (x ∷ xs) (oldest (length (x ∷ xs)) xs) (yes_lt (length xs) (length (x ∷ xs)) (omega arith))
+oldest_all (x ∷ xs) = cond-true (nat_lt (length xs) (length (x ∷ xs))) (x ∷ xs) (oldest (length (x ∷ xs)) xs) (lt-ltb (length xs) (length (x ∷ xs)) (omega arith))
 
 oldest_back : (xs ys : List Change) → oldest (length ys) (xs ++ ys) ≡ ys
 oldest_back [] ys = oldest_all ys
-oldest_back (x ∷ xs) ys = if_false (nat_lt (length (xs ++ ys)) (length ys)) (x ∷ (xs ++ ys)) (oldest (length ys) (xs ++ ys)) (no (length (xs ++ ys)) (length ys) (omega (arith, length-append xs ys))) ∙ oldest_back xs ys where
+oldest_back (x ∷ xs) ys = cond-false (nat_lt (length (xs ++ ys)) (length ys)) (x ∷ (xs ++ ys)) (oldest (length ys) (xs ++ ys)) (no (length (xs ++ ys)) (length ys) (omega (arith, length-append xs ys))) ∙ oldest_back xs ys where
   no : (a b : ℕ) → b ≤ a → nat_lt a b ≡ false
   no a b h = grind (arith, nat_tests)
 
 shows_up : (p e : Change) → e.version ≤ shows_to p e
 shows_up p e = ⊎_elim
-    (λ g. let is : shows_to p e ≡ level e = if_true p.puts (level e) e.version g in omega (arith, is, level_up e))
-    (λ g. let is : shows_to p e ≡ e.version = if_false p.puts (level e) e.version g in omega (arith, is)) (either_way p.puts)
+    (λ g. let is : shows_to p e ≡ level e = cond-true p.puts (level e) e.version g in omega (arith, is, level_up e))
+    (λ g. let is : shows_to p e ≡ e.version = cond-false p.puts (level e) e.version g in omega (arith, is)) (cases_Bool p.puts)
 
 -- of actors of a later phase, where `rest` are the changes of the earlier ones
 module _ (start words : List ℕ) (v : View) (h : History start words v) (o : IsRunsBoard start) (rest : List Change) (sets : List Setting) (back : oldest (length rest) h.t.had ≡ rest) (part : (g : Change → ℕ) → board.total g rest ≤ board.total g h.t.log) where
@@ -128,7 +126,7 @@ module _ (start words : List ℕ) (v : View) (h : History start words v) (o : Is
 
   under_count : (row k : ℕ) (p : Change) → 0 < row → p.row ≡ row → p.puts ≡ true → p.version ≡ k → ((g : Change → ℕ) → g p + board.total g rest ≤ board.total g h.t.log) → Each (Low row k) rest → count (ats_of rest) row < k
   under_count row k p some at puts is sum e =
-      let here : cond {A = ℕ} (lower row k p) 1 0 ≡ 1 = rw (eq-eqb p.row row at, puts, le_yes p.version k (omega (arith, is))) refl in
+      let here : cond {A = ℕ} (lower row k p) 1 0 ≡ 1 = rw (eq-eqb p.row row at, puts, le-leb p.version k (omega (arith, is))) refl in
       omega (arith, counts start rest row some, many rest row k e, sum (λ q. cond {A = ℕ} (lower row k q) 1 0), here, (few start log row k h.chain).0)
 
   first_is : (f : Change → ℕ) (row k after base : ℕ) → base ≡ length rest → Floor f h.t.log h.t.had row k after base → Each (λ (e : Change). e.row ≡ row → f e ≤ k) rest
@@ -168,9 +166,9 @@ module _ (start words : List ℕ) (v : View) (h : History start words v) (o : Is
     at false c z i = i
     at true false z i = omega (arith, ap one_if z, i)
     at true true z i =
-        let x = both_true ((p.row == row) && not p.puts) (p.version == k) z in
-        let y = both_true (p.row == row) (not p.puts) x.0 in
-        absurd (omega (arith, e.0 (eqb-true p.row row y.0), level_release p (not_true p.puts y.1), eqb-true p.version k x.1))
+        let x = and_parts ((p.row == row) && not p.puts) (p.version == k) z in
+        let y = and_parts (p.row == row) (not p.puts) x.0 in
+        absurd (omega (arith, e.0 (eqb-true p.row row y.0), level_release p (not-true p.puts y.1), eqb-true p.version k x.1))
 
   seen_low : (begun : Start) (row first second action after : ℕ) (x : Sight) → begun.base ≡ length rest → IsSighted begun row first second action after x → IsSight start h.t x → Each (Low row (first / 4)) rest
   seen_low begun row first second action after x b m s =

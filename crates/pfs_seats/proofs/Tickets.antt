@@ -1,12 +1,12 @@
 -- The tickets of all actors, in an order of their own: of each kind 0, 1 and so on.
 use Rattle.std.proofs.Common.{ℕ, zero, suc, ◌≡◌, ◌≢◌, ◌⊎◌, ◌+◌, ◌==◌, ◌<◌, ◌≤◌, nat_lt, ◌&&◌, Bool, true, false, cond, List, [], ◌∷◌, ◌++◌, refl, ap, sym, ◌∙◌, inl, inr, arith, eq-eqb, ne_eqb, append_assoc, zero-add}
-use Rattle.std.proofs.lemmas.Bool.{cases_eq, eqb-true}
+use Rattle.std.proofs.lemmas.Bool.{cases_eq, eqb-true, and_parts}
 use Rattle.std.proofs.lemmas.Bool.Decides.{nat_tests}
+use Rattle.pfs_lemmas.proofs.Numbers.{eq_swap}
 use Rattle.pfs_levels.specs.Calls.{Call, Adds, Rings, Reads, Loads, Draws, Takes, Puts, Frees, Sets, Enters, Leaves, Meets, Start}
 use Rattle.pfs_levels.specs.Joint.{total, one_if, Draw, draws_by, draws_of, drawn, AreDrawn, all_calls}
 use Rattle.pfs_seats.specs.Gathered.{Worked, calls_of_all, AreParts}
 use Rattle.pfs_seats.specs.Ties as ties
-use Rattle.pfs_seats.proofs.Floors.{both_true}
 use Rattle.pfs_seats.proofs.Totals.{total_one, total_nil, same_sums}
 use Rattle.pfs_tickets.specs.declared.view.Drawn.{Drawn}
 use Rattle.pfs_tickets.specs.declared.view.View.{View}
@@ -101,7 +101,7 @@ same a b = (a.kind == b.kind) && (a.ticket == b.ticket)
 
 same_is : (a b : Draw) → same a b ≡ true → a ≡ b
 same_is a b e =
-    let x = both_true (a.kind == b.kind) (a.ticket == b.ticket) e in
+    let x = and_parts (a.kind == b.kind) (a.ticket == b.ticket) e in
     let k : a.kind ≡ b.kind = eqb-true a.kind b.kind x.0 in
     let t : a.ticket ≡ b.ticket = eqb-true a.ticket b.ticket x.1 in
     λ i. record { kind = k i; ticket = t i }
@@ -112,12 +112,9 @@ same_self a = rw (eq-eqb a.kind a.kind refl, eq-eqb a.ticket a.ticket refl) refl
 abbrev stands : Draw → List Draw → ℕ
 stands a xs = total (λ x. one_if (same a x)) xs
 
-flip : (a b : ℕ) → (a == b) ≡ (b == a)
-flip a b = grind (arith, nat_tests)
-
 times_is : (a : Draw) (xs : List Drawn) → stands a (draws_in xs) ≡ times a.kind a.ticket xs
 times_is a [] = total_nil (λ x. one_if (same a x))
-times_is a (x ∷ xs) = total_one (λ z. one_if (same a z)) (draw x.kind x.ticket) (draws_in xs) ∙ rw (flip a.kind x.kind, flip a.ticket x.ticket, times_is a xs) (step (x.kind == a.kind) (x.ticket == a.ticket) (times a.kind a.ticket xs)) where
+times_is a (x ∷ xs) = total_one (λ z. one_if (same a z)) (draw x.kind x.ticket) (draws_in xs) ∙ rw (eq_swap a.kind x.kind, eq_swap a.ticket x.ticket, times_is a xs) (step (x.kind == a.kind) (x.ticket == a.ticket) (times a.kind a.ticket xs)) where
   step : (b c : Bool) (n : ℕ) → one_if (b && c) + n ≡ cond b (cond c (n + 1) n) n
   step true true n = omega arith
   step true false n = omega arith

@@ -26,9 +26,6 @@ here_if row k n = ap (λ b. cond b k n) (eq-eqb row row refl)
 pub away_if : {A : Type 0} (row r : ℕ) (k n : A) → r ≢ row → cond (row == r) k n ≡ n
 away_if row r k n apart = ap (λ b. cond b k n) (ne_eqb row r (λ z. apart (sym z)))
 
-pub some_same : (a b : ℕ) → Some a ≡ Some b → a ≡ b
-some_same a b e = cc
-
 pub none_some : (a : ℕ) → None ≡ Some a → ⊥
 none_some a e = cc
 

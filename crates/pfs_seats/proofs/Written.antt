@@ -1,10 +1,9 @@
 -- The sets of words of all actors, in the order in which the writer made them.
 use Rattle.std.proofs.Common.{ℕ, ◌≡◌, ◌+◌, ◌==◌, ◌<◌, ◌&&◌, Bool, true, false, cond, List, [], ◌∷◌, ◌++◌, refl, ap, sym, ◌∙◌, arith, append_assoc, eq-eqb}
-use Rattle.std.proofs.lemmas.Bool.{eqb-true}
+use Rattle.std.proofs.lemmas.Bool.{eqb-true, and_parts}
 use Rattle.pfs_levels.specs.Calls.{Call, Adds, Rings, Reads, Loads, Draws, Takes, Puts, Frees, Sets, Enters, Leaves, Meets}
 use Rattle.pfs_levels.specs.Joint.{total, one_if, Setting, sets_by, sets_of, word_version, AreWordsCounted, all_calls}
 use Rattle.pfs_levels.specs.Order.{Mark, word_marks_of, all_word_marks, marked, AreMarked, AllCalls, AreFloored}
-use Rattle.pfs_seats.proofs.Floors.{both_true}
 use Rattle.pfs_seats.proofs.Histories.{total_append}
 use Rattle.pfs_seats.proofs.Totals.{total_one, total_nil}
 
@@ -92,8 +91,8 @@ paired (s ∷ ss) marks e =
     let f : Mark → Bool = λ m. (m.row == s.word) && ((m.version == s.version) && same_bits m.puts true) in
     let here : of_set g s ≡ 1 = rw (eq-eqb s.word s.word refl, eq-eqb s.version s.version refl) refl in
     let m = find f marks (omega (arith, e g, here, total_one (of_set g) s ss)) in
-    let x = both_true (m.one.row == s.word) ((m.one.version == s.version) && same_bits m.one.puts true) m.is in
-    let y = both_true (m.one.version == s.version) (same_bits m.one.puts true) x.1 in
+    let x = and_parts (m.one.row == s.word) ((m.one.version == s.version) && same_bits m.one.puts true) m.is in
+    let y = and_parts (m.one.version == s.version) (same_bits m.one.puts true) x.1 in
     let row : m.one.row ≡ s.word = eqb-true m.one.row s.word x.0 in
     let version : m.one.version ≡ s.version = eqb-true m.one.version s.version y.0 in
     let puts : m.one.puts ≡ true = bits_true m.one.puts y.1 in

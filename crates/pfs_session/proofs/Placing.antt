@@ -1,7 +1,8 @@
 -- An event that is offered to its current place has one: a let-through wait or statement lies below few of its kind.
 use Rattle.std.proofs.Common.{ℕ, ◌≡◌, ◌<◌, ◌≤◌, ◌&&◌, nat_le, Bool, true, false, List, Option, Some, None, refl, ap, sym, ◌∙◌, subst, arith}
 use Rattle.std.specs.Prelude.{if◌then◌else◌}
-use Rattle.std.proofs.lemmas.Bool.{false≢true}
+use Rattle.std.proofs.lemmas.Bool.{false≢true, leb-false}
+use Rattle.pfs_lemmas.proofs.Bools.{and_first}
 use Rattle.pfs_consumers.specs.Tree.{acts_of}
 use Rattle.pfs_event.specs.declared.kind.EventKind.{EventKind}
 use Rattle.pfs_event.specs.declared.kind.EventKind.TheVariants as kinds
@@ -41,13 +42,10 @@ neither false false false false true f g q = absurd (false≢true q)
 neither false false false false false true g q = absurd (false≢true q)
 neither false false false false false false g q = record { nested = refl; locker = refl }
 
-below : (most count : ℕ) → nat_le most count ≡ false → count < most
-below most count q = grind arith
-
 kind_deep : (kind : EventKind) (stack : ℕ) (events : List Open) (statements waits : ℕ) → statements ≡ count_open is_statement events → waits ≡ count_open is_wait events
     → stack ≤ 10 → NeitherLost (is_statement kind && nat_le stack statements) (is_wait kind && nat_le 4 waits) → depth_of kind events < depths kind
-kind_deep kinds.Wait stack events statements waits a b k n = omega (arith, b, below 4 waits n.locker)
-kind_deep kinds.Statement stack events statements waits a b k n = omega (arith, a, below stack statements n.nested, k)
+kind_deep kinds.Wait stack events statements waits a b k n = omega (arith, b, leb-false 4 waits n.locker)
+kind_deep kinds.Statement stack events statements waits a b k n = omega (arith, a, leb-false stack statements n.nested, k)
 kind_deep kinds.Stage stack events statements waits a b k n = omega arith
 kind_deep kinds.Transaction stack events statements waits a b k n = omega arith
 
@@ -59,13 +57,9 @@ seen_deep stack events (Some slot) subject None statements waits a b k q = absur
 seen_deep stack events (Some slot) subject (Some seen) statements waits a b k q =
     kind_deep subject.kind stack events statements waits a b k (neither _ _ _ _ (is_statement subject.kind && nat_le stack statements) (is_wait subject.kind && nat_le 4 waits) _ q)
 
-first_true : (a b : Bool) → (a && b) ≡ true → a ≡ true
-first_true true b q = refl
-first_true false b q = absurd (false≢true q)
-
 placed_attributed : (subject : Subject) (verdict : Verdict) (seen : Option Setup) → is_placed_by subject verdict seen ≡ true → is_attributed verdict ≡ true
 placed_attributed subject verdict None q = absurd (false≢true q)
-placed_attributed subject verdict (Some seen) q = first_true (is_attributed verdict) (acts_of seen.consumers.flags (current_consumer subject.kind)) q
+placed_attributed subject verdict (Some seen) q = and_first (is_attributed verdict) (acts_of seen.consumers.flags (current_consumer subject.kind)) q
 
 -- so of an event that starts
 pub start_deep : (stack : ℕ) (events : List Open) (slot : Option ℕ) (subject : Subject) (seen : Option Setup) (verdict : Verdict) (statements waits : ℕ) (placed : Bool) (what : Open)

@@ -1,6 +1,7 @@
 -- What an insertion answers.
-use Rattle.std.proofs.Common.{◌≡◌, ◌≢◌, ◌↔◌, ℕ, true, false, List, length, map, eqb, Contains, Result, Ok, Err, OnOk, OnErr, inl, inr, refl, sym, subst, arith}
+use Rattle.std.proofs.Common.{◌≡◌, ◌≢◌, ◌↔◌, ℕ, true, false, List, length, map, eqb, Contains, Result, Ok, Err, OnOk, OnErr, inl, inr, refl, sym, subst}
 use Rattle.std.proofs.lemmas.Bool.{cases_Bool, ne_eqb}
+use Rattle.pfs_lemmas.proofs.Numbers.{eq_self}
 use Rattle.pfs_matching.specs.declared.faults.MatchFault.{MatchFault}
 use Rattle.pfs_matching.specs.declared.faults.MatchFault.TheVariants.{Duplicate, Full}
 use Rattle.pfs_matching.specs.Keyed.{with_row}
@@ -9,9 +10,6 @@ use Rattle.pfs_matching.specs.ActorRules.{actor_key}
 use Rattle.pfs_matching.specs.ObjectRules.{object_key}
 use Rattle.pfs_setups.specs.Laws.{KeysDecide}
 use Rattle.pfs_setups.specs.Inserts.{has_key, answer_of, answer_on, added}
-
-eqb_same : (n : ℕ) → eqb n n ≡ true
-eqb_same n = grind arith
 
 module _ {R : Type 0} (key : R → List (List ℕ)) where
   absent : (rows : List R) (row : R) → ¬ Contains (map key rows) (key row) → has_key key rows row ≡ false
@@ -29,7 +27,7 @@ module _ {R : Type 0} (key : R → List (List ℕ)) where
   answers rows row (Err Duplicate) duplicate full = rw (any-from_Contains key rows (key row) (duplicate.0 refl)) refl
   answers rows row (Err Full) duplicate full =
       let parts = full.0 refl in
-      let many : eqb (length rows) 100 ≡ true = subst (λ n. eqb n 100 ≡ true) (sym parts.1) (eqb_same 100) in
+      let many : eqb (length rows) 100 ≡ true = subst (λ n. eqb n 100 ≡ true) (sym parts.1) (eq_self 100) in
       rw (absent rows row parts.0, many) refl
 
   pub adds : (rows new : List R) (row : R) (result : Result (Unit {0}) MatchFault) → OnOk result (new ≡ with_row key row rows) → OnErr result (new ≡ rows) → answer_of result ≡ answer_on key rows row → new ≡ added key rows row

@@ -1,8 +1,9 @@
 -- The flag of each consumer behind an update of them.
-use Rattle.std.proofs.Common.{◌≡◌, ◌≢◌, ℕ, ◌+◌, Bool, true, not, cond, eqb, List, [], ◌∷◌, ◌++◌, take, drop, fold, Some, None, inl, inr, refl, ap, sym, subst, ◌∙◌, arith}
+use Rattle.std.proofs.Common.{◌≡◌, ◌≢◌, ℕ, ◌+◌, Bool, true, not, cond, eqb, List, [], ◌∷◌, ◌++◌, take, drop, fold, Some, None, inl, inr, refl, ap, sym, subst, ◌∙◌}
 use Rattle.std.specs.Int.{bit_at}
 use Rattle.std.specs.List.{list_all}
 use Rattle.std.proofs.lemmas.Bool.{cases_Bool, and_parts}
+use Rattle.pfs_lemmas.proofs.Numbers.{eq_self}
 use Rattle.pfs_text.specs.declared.conditions.Test.{Test}
 use Rattle.pfs_consumers.specs.declared.Consumer.{Consumer}
 use Rattle.pfs_consumers.specs.declared.Consumer.TheVariants.{StagesCurrent}
@@ -17,12 +18,9 @@ use Rattle.pfs_setups.specs.Updates.{consumer_step, consumers_behind}
 abbrev are_others : Consumer → List Consumer → Bool
 are_others c cs = list_all (λ d. not (eqb (bit_of d) (bit_of c))) cs
 
-eqb_same : (n : ℕ) → eqb n n ≡ true
-eqb_same n = grind arith
-
 differs : (c d : Consumer) → not (eqb (bit_of d) (bit_of c)) ≡ true → c ≢ d
 differs c d other same =
-    let is : eqb (bit_of d) (bit_of c) ≡ true = subst (λ e. eqb (bit_of d) (bit_of e) ≡ true) (sym same) (eqb_same (bit_of d)) in
+    let is : eqb (bit_of d) (bit_of c) ≡ true = subst (λ e. eqb (bit_of d) (bit_of e) ≡ true) (sym same) (eq_self (bit_of d)) in
     absurd (cc (ap not is, other))
 
 module _ (tests : List Test) (on : Bool) (before : ℕ) where

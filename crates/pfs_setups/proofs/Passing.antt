@@ -4,10 +4,8 @@ use Rattle.std.specs.Prelude.{slice_get}
 use Rattle.std.specs.List.{range_with_len}
 use Rattle.std.proofs.lemmas.Bool.{ne_eqb}
 use Rattle.std.proofs.lemmas.List.Sums.{sum_by-cons}
+use Rattle.pfs_lemmas.proofs.Numbers.{eq_self}
 use Rattle.pfs_matching.specs.Keyed.{changed_from, unnamed_from, with_named_changed, without_named}
-
-eqb_same : (n : ℕ) → eqb n n ≡ true
-eqb_same n = grind arith
 
 count_cons : {X : Type 0} (test : X → Bool) (x : X) (xs : List X) → count_by test (x ∷ xs) ≡ cond (test x) 1 0 + count_by test xs
 count_cons test x xs = sum_by-cons (λ y. cond (test y) 1 0) x xs
@@ -24,7 +22,7 @@ module _ {R : Type 0} where
   removed_at [] rest n k p is within = absurd (omega arith)
   removed_at (x ∷ xs) rest n zero p is within =
       let here : p ≡ n = omega arith in
-      let named : eqb p n ≡ true = subst (λ m. eqb p m ≡ true) here (eqb_same p) in
+      let named : eqb p n ≡ true = subst (λ m. eqb p m ≡ true) here (eq_self p) in
       rw named (unnamed_past rest (n + 1) p (omega arith))
   removed_at (x ∷ xs) rest n (suc k) p is within =
       let differs : p ≢ n = omega arith in
@@ -137,7 +135,7 @@ module _ {R : Type 0} where
       changed_at [] n k p row is there makes = absurd (cc (there))
       changed_at (x ∷ xs) n zero p row is there makes =
           let here : p ≡ n = omega arith in
-          let named : eqb p n ≡ true = subst (λ m. eqb p m ≡ true) here (eqb_same p) in
+          let named : eqb p n ≡ true = subst (λ m. eqb p m ≡ true) here (eq_self p) in
           let same : change x ≡ step x = cc (there, makes) in
           rw (named, changed_past xs (n + 1) p (omega arith), same) refl
       changed_at (x ∷ xs) n (suc k) p row is there makes =

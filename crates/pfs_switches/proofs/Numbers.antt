@@ -1,5 +1,6 @@
 -- That numbers differ, through the steps.
 use Rattle.std.proofs.Common.{◌≡◌, ℕ, subst, zero, suc, ◌+◌, ◌≤◌, ◌≢◌, ◌⊎◌, true, false, List, [], ◌∷◌, ◌++◌, length, set, sym, refl, ap, ◌∙◌, inl, inr, ⊎_elim, arith}
+use Rattle.pfs_lemmas.proofs.Bools.{true_not_false}
 use mathlib.Core.Logic.{dite}
 use mathlib.Core.Option.{some, some-injective, some-ne-none}
 use native.Mathlib.Decide.{ℕ_discrete}
@@ -11,7 +12,7 @@ use Rattle.pfs_switches.specs.declared.view.View.{View}
 use Rattle.pfs_switches.specs.History.{Each}
 use Rattle.pfs_switches.specs.Knowledge.{split_left, split_right, joined, spent}
 use Rattle.pfs_switches.specs.Order.{Makers, Numbers}
-use Rattle.pfs_switches.proofs.HistoryFacts.{each_map, each_append, true_not_false}
+use Rattle.pfs_switches.proofs.HistoryFacts.{each_map, each_append}
 use Rattle.pfs_switches.proofs.ViewFacts.{at_below}
 
 -- the last of a list that is one longer has its length for its place

@@ -1,5 +1,6 @@
 -- Views are cut in two, and put together.
 use Rattle.std.proofs.Common.{◌≡◌, ℕ, subst, ◌<◌, ◌≤◌, ◌≢◌, true, false, List, [], ◌∷◌, ◌++◌, length, get_or, set, sym, refl, ap, ◌∙◌, ⊎_elim, arith}
+use Rattle.pfs_lemmas.proofs.Bools.{true_not_false}
 use mathlib.Core.Logic.{dite}
 use mathlib.Core.Option.{some, some-injective}
 use native.Mathlib.Decide.{dec_lt}
@@ -14,7 +15,7 @@ use Rattle.pfs_switches.specs.History.{Each, version}
 use Rattle.pfs_switches.specs.Knowledge.{reader, writer, split_left, split_right, merged, joined, meet_of, gathered, handed, spent}
 use Rattle.pfs_switches.specs.Order.{Makers, IsRising, IsAbove, IsOrdered, Numbers}
 use Rattle.pfs_switches.specs.Rule.{IsLoad, IsMeet, Fits, IsWriter, Ruled}
-use Rattle.pfs_switches.proofs.HistoryFacts.{each_map, each_both, each_append, true_not_false}
+use Rattle.pfs_switches.proofs.HistoryFacts.{each_map, each_both, each_append}
 use Rattle.pfs_switches.proofs.Keeps.{more_seen, more_met, writer_here, writer_set, only_set, seats_set}
 use Rattle.pfs_switches.proofs.Numbers.{Near, at_end, numbers_set, numbers_more, numbers_less, numbers_cut, numbers_glued, not_root, none_yet}
 use Rattle.pfs_switches.proofs.ViewFacts.{at_below, length_merged, merged_left, merged_right, merged_below, beyond}

@@ -1,7 +1,8 @@
 -- An event's words give its fields, and words of no event none.
 use Rattle.std.proofs.Common.{◌≡◌, ◌≢◌, ℕ, ◌+◌, ◌*◌, ◌/◌, ◌%◌, ◌≤◌, Bool, true, false, List, length, Option, Some, None, MatchOption, refl, sym, ◌∙◌, ap, arith}
 use Rattle.std.specs.Prelude.{◌&&◌, ◌==◌, nat_le, if◌then◌else◌, slice_index}
-use Rattle.std.proofs.lemmas.Bool.Decides.{nat_tests}
+use Rattle.std.proofs.lemmas.Bool.{eqb-true, le-leb, leb-true}
+use Rattle.pfs_lemmas.proofs.Bools.{and_first, and_second}
 use Rattle.pfs_event.specs.declared.event.Event.{Event}
 use Rattle.pfs_event.specs.Form.{bit_of}
 use Rattle.pfs_event.specs.Words.{words_of}
@@ -37,9 +38,6 @@ class_back c x low = omega arith
 link_back : (c x : ℕ) → c ≤ 62 → (c + 64 * x) / 64 ≡ x
 link_back c x low = omega arith
 
-le_test : (m n : ℕ) → m ≤ n → nat_le m n ≡ true
-le_test m n low = grind (arith, nat_tests)
-
 pub some_event : (e : Event) → event_in (words_of e) ≡ Some (fields_of e)
 unfolding are_event fields_in
 some_event e =
@@ -52,27 +50,10 @@ some_event e =
       nesting,
       timed_back e.timed e.read_only e.nesting,
       read_only_back e.timed e.read_only e.nesting,
-      le_test e.class 62 e.class_fits,
-      le_test e.link 64 e.link_fits,
-      le_test e.nesting 4 e.nesting_fits,
+      le-leb e.class 62 e.class_fits,
+      le-leb e.link 64 e.link_fits,
+      le-leb e.nesting 4 e.nesting_fits,
     ) refl
-
-and_left : (a b : Bool) → (a && b) ≡ true → a ≡ true
-and_left true b is = refl
-and_left false b is = is
-
-and_right : (a b : Bool) → (a && b) ≡ true → b ≡ true
-and_right true b is = is
-and_right false b is = absurd (false_true is)
-  where
-    false_true : false ≡ true → ⊥
-    false_true is = cc
-
-test_le : (m n : ℕ) → nat_le m n ≡ true → m ≤ n
-test_le m n is = grind (arith, nat_tests)
-
-test_eq : (m n : ℕ) → (m == n) ≡ true → m ≡ n
-test_eq m n is = grind (arith, nat_tests)
 
 -- what the test of words says
 pub record IsForm (words : List ℕ) : Type 0 where
@@ -88,13 +69,13 @@ form_of words is =
     let link = nat_le (slice_index words 3 / 64) 64 in
     let nesting = nat_le (slice_index words 4 / 4) 4 in
     let spare = slice_index words 5 == 0 in
-    let after = and_right class (link && (nesting && spare)) is in
-    let last = and_right link (nesting && spare) after in
+    let after = and_second class (link && (nesting && spare)) is in
+    let last = and_second link (nesting && spare) after in
     record {
-      class = test_le _ 62 (and_left class (link && (nesting && spare)) is);
-      link = test_le _ 64 (and_left link (nesting && spare) after);
-      nesting = test_le _ 4 (and_left nesting spare last);
-      spare = test_eq _ 0 (and_right nesting spare last);
+      class = leb-true _ 62 (and_first class (link && (nesting && spare)) is);
+      link = leb-true _ 64 (and_first link (nesting && spare) after);
+      nesting = leb-true _ 4 (and_first nesting spare last);
+      spare = eqb-true _ 0 (and_second nesting spare last);
     }
 
 built : (words : List ℕ) → IsForm words → Event

@@ -6,7 +6,7 @@ use Rattle.std.specs.Option.{IfSome, option_map, option_to_list}
 use Rattle.std.specs.List.{AllByRecursion, flat_map, list_any, range_with_len}
 use Rattle.std.specs.Map.{values_of}
 use Rattle.std.specs.Int.{bit_at}
-use Rattle.std.proofs.lemmas.Bool.{false≢true}
+use Rattle.std.proofs.lemmas.Bool.{false≢true, and_parts}
 use Rattle.std.proofs.lemmas.List.{map-append}
 use Rattle.std.proofs.lemmas.List.Elements.{All-from_recursion, All-same, All-weaker}
 use Rattle.pfs_rows.specs.declared.table.Table.{Table}
@@ -114,15 +114,11 @@ fits_all [] (x ∷ xs) = false
 fits_all (c ∷ cs) [] = false
 fits_all (c ∷ cs) (x ∷ xs) = fits x c.kind && fits_all cs xs
 
-both_true : (a b : Bool) → (a && b) ≡ true → (a ≡ true) × (b ≡ true)
-both_true true b h = (refl, h)
-both_true false b h = absurd (false≢true h)
-
 row_by : (cs : List Named) (xs : List RowValue) → fits_all cs xs ≡ true → IsRow cs xs
 row_by [] [] h = tt
 row_by [] (x ∷ xs) h = absurd (false≢true h)
 row_by (c ∷ cs) [] h = absurd (false≢true h)
-row_by (c ∷ cs) (x ∷ xs) h = let b = both_true (fits x c.kind) (fits_all cs xs) h in (b.0, row_by cs xs b.1)
+row_by (c ∷ cs) (x ∷ xs) h = let b = and_parts (fits x c.kind) (fits_all cs xs) h in (b.0, row_by cs xs b.1)
 
 -- ---- events
 

@@ -16,6 +16,7 @@ use Rattle.std.proofs.lemmas.Cmp.{nat_list_cmp_total}
 use Rattle.std.proofs.lemmas.List.{map-append}
 use Rattle.std.proofs.lemmas.List.Elements.{recursion_from_All}
 use Rattle.std.proofs.lemmas.Map.Keys.{IsDistinct-from_sorted}
+use Rattle.pfs_lemmas.proofs.Bools.{and_first, and_second}
 use Rattle.pfs_rows.specs.declared.table.Table.{Table}
 use Rattle.pfs_rows.specs.declared.table.Table.TheVariants.{SetupActors, SetupObjects, SetupInstruments, SetupConsumers, Threads, Accounts, Users, Hosts, Events, Summary, DigestSummary}
 use Rattle.pfs_rows.specs.declared.table.TableKind.{TableKind}
@@ -202,14 +203,6 @@ ascends [] = true
 ascends (k ∷ []) = true
 ascends (k ∷ l ∷ ks) = is_lt (row_cmp k l) && ascends (l ∷ ks)
 
-and_left : (a b : Bool) → (a && b) ≡ true → a ≡ true
-and_left true b h = refl
-and_left false b h = h
-
-and_right : (a b : Bool) → (a && b) ≡ true → b ≡ true
-and_right true b h = h
-and_right false b h = absurd (false≢true h)
-
 lower : (r : Ordering) → is_lt r ≡ true → r ≡ Less
 lower Less h = refl
 lower Equal h = absurd (false≢true h)
@@ -220,8 +213,8 @@ unfolding IsStrictlySortedBy
 sorted_by [] h = tt
 sorted_by (k ∷ []) h = (tt, tt)
 sorted_by (k ∷ l ∷ ks) h =
-    let below = lower (row_cmp k l) (and_left (is_lt (row_cmp k l)) (ascends (l ∷ ks)) h) in
-    let rest = sorted_by (l ∷ ks) (and_right (is_lt (row_cmp k l)) (ascends (l ∷ ks)) h) in
+    let below = lower (row_cmp k l) (and_first (is_lt (row_cmp k l)) (ascends (l ∷ ks)) h) in
+    let rest = sorted_by (l ∷ ks) (and_second (is_lt (row_cmp k l)) (ascends (l ∷ ks)) h) in
     ((below, weaker (λ m. row_cmp l m ≡ Less) (λ m. row_cmp k m ≡ Less) (λ m past. row_cmp_total.trans k l m below past) ks rest.0), rest)
 
 consumers_apart : (word flags : ℕ) → IsDistinct same (keys_of (consumer_rows word flags))

@@ -1,5 +1,6 @@
 -- The lines of a kind are acted.
 use Rattle.std.proofs.Common.{◌≡◌, refl, ℕ, zero, suc, ◌<◌, ◌≤◌, Bool, true, false, nat_lt, nat_le, List, [], length, sym, ap, ◌∙◌, arith}
+use Rattle.std.proofs.lemmas.Bool.{ltb-false, ltb-true}
 use Rattle.pfs_conservation.specs.Lines.{Tagged, standing}
 use Rattle.pfs_conservation.specs.Prints.{AreActed, printed_by, prints_all}
 use Rattle.pfs_model.specs.Actions.{is_acted}
@@ -25,12 +26,6 @@ use Rattle.pfs_tagged.proofs.Rowed as rowed
 use Rattle.pfs_tagged.proofs.Saying.{HasNumber, actor}
 use Rattle.pfs_tagged.proofs.Seating.{AreBack, AreFound}
 use Rattle.pfs_tagged.proofs.Sifting.{sifted}
-
-lt_of : (a b : ℕ) → nat_lt a b ≡ true → a < b
-lt_of a b q = grind arith
-
-le_of : (a b : ℕ) → nat_lt a b ≡ false → b ≤ a
-le_of a b q = grind arith
 
 module _ (back : AreBack) (found : AreFound) (none : AreNone) (run : Run) (kind : TableKind) (phase : ℕ) (kept : AreKept run) where
   abbrev all : List Placed
@@ -86,7 +81,7 @@ module _ (back : AreBack) (found : AreFound) (none : AreNone) (run : Run) (kind 
   asks (suc k) = at (nat_lt k count) refl where
     at : (b : Bool) → nat_lt k count ≡ b → printed_by lines (suc k) ≡ prints_all run.counted (moves_at run.setting kind (actions_to run phase) (suc k))
     at true q =
-        let l : k < count = lt_of k count q in
+        let l : k < count = ltb-true k count q in
         let f : count ≤ length run.labels = few in
         printed (suc k)
         ∙ (ap (λ ds. prints_on test (prints (suc k) ds)) (early_did phase all kept.rules.joint.ordered.numbers (suc k) (omega arith) (omega (arith, l)) said ∙ kept.rules.done (suc k) (omega arith))
@@ -94,7 +89,7 @@ module _ (back : AreBack) (found : AreFound) (none : AreNone) (run : Run) (kind 
         ∙ (on_moves test run.counted (moves_as (suc k) (asked_at run.setting run.change run.labels (suc k)).moves) (alike_are back found run.setting run.change run.labels kind k (omega (arith, l, f)))
         ∙ ap (prints_all run.counted) (asks_are back found run.setting run.change run.labels kind count few k l))))
     at false q =
-        let l : count ≤ k = le_of k count q in
+        let l : count ≤ k = ltb-false k count q in
         let c : length (actions_to run phase) ≡ count = counted in
         nothing (suc k) (λ a h. omega (arith, l, h))
         ∙ sym (ap (prints_all run.counted) (none_are back found run.setting run.change run.labels kind (actions_to run phase) (suc k) (numbered_past (actions_to run phase) k (omega (arith, c, l)))))

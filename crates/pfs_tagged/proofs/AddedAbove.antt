@@ -1,6 +1,7 @@
 -- Above each addition of a session that quits stands the take of its quit.
 use Rattle.std.proofs.Common.{◌≡◌, refl, ℕ, zero, suc, ◌+◌, ◌-◌, ◌<◌, ◌≤◌, ◌==◌, true, false, cond, List, [], ◌∷◌, ◌++◌, length, take, Option, Some, None, sym, ap, subst, ◌∙◌, ◌⊎◌, inl, inr, arith}
 use Rattle.std.specs.Prelude.{slice_get}
+use Rattle.std.proofs.lemmas.Bool.{and_parts, eqb-true}
 use Rattle.pfs_admin.specs.declared.changes.Change.{Change}
 use Rattle.pfs_admin.specs.declared.changes.Change.TheVariants as changes
 use Rattle.pfs_board.specs.declared.view.Label.{Label}
@@ -50,7 +51,7 @@ use Rattle.pfs_tagged.proofs.Folding.{numbered_at, front_get, truncation_connect
 use Rattle.pfs_tagged.proofs.Offering.{home_row}
 use Rattle.pfs_tagged.proofs.Saying.{zero_rows, HasNumber}
 use Rattle.pfs_tagged.proofs.Seating.{AreBack, AreFound, seat_at}
-use Rattle.pfs_tagged.proofs.Sifting.{both_of, sifted, bit_yes, eq_of}
+use Rattle.pfs_tagged.proofs.Sifting.{sifted, bit_yes}
 
 -- at first nobody is connected
 none_free : {X : Type 0} (n j : ℕ) (y : X) → entry_at (all_free n) j ≡ Some y → ⊥
@@ -219,7 +220,7 @@ module _ (back : AreBack) (found : AreFound) (none : AreNone) (run : Run) (kind 
     says_it = ap action_change x.entry
 
     session_is : x.place.session ≡ one.session
-    session_is = eq_of x.place.session one.session x.own
+    session_is = eqb-true x.place.session one.session x.own
 
     within : suc k ≤ length (each_of action_change (entries_to run phase))
     within =
@@ -297,7 +298,7 @@ module _ (back : AreBack) (found : AreFound) (none : AreNone) (run : Run) (kind 
         low = each_among IsLowEnded one (all_ended (entries_to run phase)) m (run_ended_low run kept orderly phase)
 
         is_cell : cells_of run.setting kind one.event.subject.cell ≡ true
-        is_cell = (both_of (is_let_through one.event.verdict) (cells_of run.setting kind one.event.subject.cell) c).1
+        is_cell = (and_parts (is_let_through one.event.verdict) (cells_of run.setting kind one.event.subject.cell) c).1
 
         home : home_row one ≡ cell_row (Some slot) one.event.subject.cell
         home = ap (λ z. cell_row z one.event.subject.cell) q
@@ -337,7 +338,7 @@ module _ (back : AreBack) (found : AreFound) (none : AreNone) (run : Run) (kind 
     x = u.place.place
 
     session_is : x.session ≡ one.session
-    session_is = eq_of u.place.place.session one.session u.place.own
+    session_is = eqb-true u.place.place.session one.session u.place.own
 
     says_it : action_change x.entry ≡ change_at 0 (suc k) ∷ []
     says_it = ap action_change u.place.entry
@@ -349,7 +350,7 @@ module _ (back : AreBack) (found : AreFound) (none : AreNone) (run : Run) (kind 
     r = take_is (home_row one) above (suc k) (entries_to run phase) (sifted (is_kind_row (cells_of run.setting kind)) (all_lines (entries_to run phase)) (home_row one) above (Taken (suc k)) stands).1
 
     test_home : is_kind_row (cells_of run.setting kind) (home_row one) ≡ true
-    test_home = home_kind back (cells_of run.setting kind) one (each_among IsLowEnded one (all_ended (entries_to run phase)) m (run_ended_low run kept orderly phase)) ∙ (both_of (is_let_through one.event.verdict) (cells_of run.setting kind one.event.subject.cell) c).1
+    test_home = home_kind back (cells_of run.setting kind) one (each_among IsLowEnded one (all_ended (entries_to run phase)) m (run_ended_low run kept orderly phase)) ∙ (and_parts (is_let_through one.event.verdict) (cells_of run.setting kind one.event.subject.cell) c).1
 
     -- the take is of the session that quits
     take_session : r.place.session ≡ one.session
@@ -396,7 +397,7 @@ module _ (back : AreBack) (found : AreFound) (none : AreNone) (run : Run) (kind 
     order : version < above
     order = below_behind (is_kind_row (cells_of run.setting kind)) a.place r.place (home_row one) version above s.before (x ∷ s.after)
         (subst (λ qs. Rattle.pfs_conservation.specs.Prints.Rises (lines_on (is_kind_row (cells_of run.setting kind)) (all_lines qs))) s.all acted.rises)
-        added_before (inr taken_behind) a.entry r.entry (eq_of a.place.session one.session a.own ∙ sym take_session) test_home
+        added_before (inr taken_behind) a.entry r.entry (eqb-true a.place.session one.session a.own ∙ sym take_session) test_home
 
   pub quits_above : AreQuitAbove back found none run kind phase kept orderly acted
   quits_above one action m c slot q t version a = on (quit_in (entries_to run phase) one.session) refl where

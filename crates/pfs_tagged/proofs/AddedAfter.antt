@@ -1,5 +1,6 @@
 -- A session's additions stand before its quit, and the takes of its quit behind.
 use Rattle.std.proofs.Common.{◌≡◌, refl, ℕ, ◌+◌, ◌<◌, ◌≤◌, ◌==◌, ◌&&◌, Bool, true, false, cond, nat_lt, List, [], ◌∷◌, ◌++◌, sym, ap, subst, ◌∙◌, ◌⊎◌, inl, inr, arith}
+use Rattle.std.proofs.lemmas.Bool.{and_parts, eqb-true}
 use Rattle.pfs_conservation.specs.Chains.{Change as Moved, Added, Taken, Given}
 use Rattle.pfs_conservation.specs.Lines.{Tagged, Adds, Takes, Stands}
 use Rattle.pfs_conservation.specs.Prints.{Above, Rises}
@@ -20,7 +21,7 @@ use Rattle.pfs_tagged.proofs.AddedWalk.{Comes, Follow, then_told}
 use Rattle.pfs_tagged.proofs.Counting.{that_self}
 use Rattle.pfs_tagged.proofs.Offering.{Near}
 use Rattle.pfs_tagged.proofs.Saying.{says_number, says_by, IsSaid}
-use Rattle.pfs_tagged.proofs.Sifting.{eq_of, both_of, bit_yes}
+use Rattle.pfs_tagged.proofs.Sifting.{bit_yes}
 
 -- an entry among others, and where it stands
 pub record IsSplit (x : Placed) (ps : List Placed) : Type 0 where
@@ -85,7 +86,7 @@ after_quit session quit (p ∷ ps) at d earlier r rs n a e k = on (p.session == 
   tail : (p.session == session) ≡ true → is_head p.entry ≡ false
   tail own = by (is_head p.entry) refl where
     by : (b : Bool) → is_head p.entry ≡ b → b ≡ false
-    by true h = absurd (let z : given_by quits_at session earlier ≡ [] = subst (λ s. given_by quits_at s earlier ≡ []) (eq_of p.session session own) (a.0 h) in let q : r ∷ rs ≡ [] = sym e ∙ z in cc)
+    by true h = absurd (let z : given_by quits_at session earlier ≡ [] = subst (λ s. given_by quits_at s earlier ≡ []) (eqb-true p.session session own) (a.0 h) in let q : r ∷ rs ≡ [] = sym e ∙ z in cc)
     by false h = refl
 
   acted : (p.session == session) ≡ true → p.context.action ≡ quit
@@ -156,7 +157,7 @@ take_is row version action (p ∷ ps) s = by p.entry refl s (take_is row version
   by (says.Take at v) q (inl h) go = record {
     place = p;
     among = inl refl;
-    entry = q ∙ (ap (λ n. says.Take n v) (eq_of at row (both_of (at == row) (v == version) h.0).0) ∙ ap (λ n. says.Take row n) (eq_of v version (both_of (at == row) (v == version) h.0).1));
+    entry = q ∙ (ap (λ n. says.Take n v) (eqb-true at row (and_parts (at == row) (v == version) h.0).0) ∙ ap (λ n. says.Take row n) (eqb-true v version (and_parts (at == row) (v == version) h.0).1));
     action_is = untake p.context.action action h.1;
   } where
     untake : (a b : ℕ) → ◌≡◌ {A = Moved} (Taken a) (Taken b) → a ≡ b
@@ -232,11 +233,11 @@ sayer_is session phase number (p ∷ ps) l = at (says_by session phase number p)
   says_it : (e : Entry) → p.entry ≡ e → says_number number e ≡ true → action_change p.entry ≡ change_at 0 number ∷ []
   says_it (says.Connect action thread account user host) q s = ap action_change q ∙ one ((0 == 0) && (action == number)) refl s where
     one : (b : Bool) → ((0 == 0) && (action == number)) ≡ b → nat_lt 0 (cond {A = ℕ} b 1 0 + 0) ≡ true → change_at 0 action ∷ [] ≡ change_at 0 number ∷ []
-    one true r s = ap (λ n. change_at 0 n ∷ []) (eq_of action number (both_of (0 == 0) (action == number) r).1)
+    one true r s = ap (λ n. change_at 0 n ∷ []) (eqb-true action number (and_parts (0 == 0) (action == number) r).1)
     one false r s = absurd (cc)
   says_it (says.Act action) q s = ap action_change q ∙ one ((0 == 0) && (action == number)) refl s where
     one : (b : Bool) → ((0 == 0) && (action == number)) ≡ b → nat_lt 0 (cond {A = ℕ} b 1 0 + 0) ≡ true → change_at 0 action ∷ [] ≡ change_at 0 number ∷ []
-    one true r s = ap (λ n. change_at 0 n ∷ []) (eq_of action number (both_of (0 == 0) (action == number) r).1)
+    one true r s = ap (λ n. change_at 0 n ∷ []) (eqb-true action number (and_parts (0 == 0) (action == number) r).1)
     one false r s = absurd (cc)
   says_it _ q s = absurd (cc)
 
@@ -245,8 +246,8 @@ sayer_is session phase number (p ∷ ps) l = at (says_by session phase number p)
 
   at : (b : Bool) → says_by session phase number p ≡ b → 1 ≤ cond {A = ℕ} b 1 0 + times (says_by session phase number) ps → (IsSaid ps session phase number → IsSayer session number ps) → IsSayer session number (p ∷ ps)
   at true q l go =
-      let r : (((p.session == session) && (p.phase == phase)) ≡ true) × (says_number number p.entry ≡ true) = both_of ((p.session == session) && (p.phase == phase)) (says_number number p.entry) q in
-      record { place = p; among = inl refl; session_is = eq_of p.session session (both_of (p.session == session) (p.phase == phase) r.0).0; says = says_it p.entry refl r.1 }
+      let r : (((p.session == session) && (p.phase == phase)) ≡ true) × (says_number number p.entry ≡ true) = and_parts ((p.session == session) && (p.phase == phase)) (says_number number p.entry) q in
+      record { place = p; among = inl refl; session_is = eqb-true p.session session (and_parts (p.session == session) (p.phase == phase) r.0).0; says = says_it p.entry refl r.1 }
   at false q l go = later (go (omega (arith, l)))
 
 -- the entry of a quit

@@ -1,6 +1,7 @@
 -- No entry of a connect's line says the number of another action.
 use Rattle.std.proofs.Common.{◌≡◌, refl, ℕ, Bool, true, false, List, [], ◌∷◌, ◌++◌, sym, subst}
 use Rattle.std.specs.Prelude.{Ok, Err, if◌then◌else◌}
+use Rattle.pfs_model.proofs.EachLists.{each_join}
 use Rattle.pfs_event.specs.declared.entry.Entry.{Entry}
 use Rattle.pfs_event.specs.declared.entry.Entry.TheVariants as says
 use Rattle.pfs_model.specs.Asks.{fits, is_connect}
@@ -66,10 +67,6 @@ quiet_connect c (e ∷ es) s = at (is_connect e) refl s where
 -- so an action with a number of its own isn't a connect's
 abbrev pub IsApart : Placed → Type 0
 IsApart p = is_connecting p.line ≡ true → is_act p.entry ≡ false
-
-each_join : {A : Type 0} (P : A → Type 0) (xs ys : List A) → Each P xs → Each P ys → Each P (xs ++ ys)
-each_join P [] ys a b = b
-each_join P (x ∷ xs) ys a b = (a.0, each_join P xs ys a.1 b)
 
 apart_part : (phase session : ℕ) (line : Line) (c : Context) (part : List Entry) → (is_connecting line ≡ true → AreQuiet part) → Each IsApart (placed_part phase session line c part)
 apart_part phase session line c [] h = tt

@@ -1,6 +1,8 @@
 -- Events by their numbers: each ended once, and was added to a row just where it belongs.
 use Rattle.std.proofs.Common.{◌≡◌, refl, ℕ, ◌+◌, ◌≤◌, ◌==◌, ◌&&◌, Bool, true, false, cond, List, [], ◌∷◌, map, filter, Some, count_by, sym, ap, subst, ◌∙◌, inl, inr, arith}
 use Rattle.std.proofs.lemmas.List.Sums.{sum_by-cons}
+use Rattle.std.proofs.lemmas.Bool.{eqb-true}
+use Rattle.pfs_lemmas.proofs.Numbers.{eq_swap}
 use Rattle.pfs_conservation.specs.Lines.{times_added}
 use Rattle.pfs_model.specs.Actions.{IsAmong}
 use Rattle.pfs_model.specs.Chains.{Each, times}
@@ -15,7 +17,7 @@ use Rattle.pfs_tagged.proofs.AddedSettled.{all_settled}
 use Rattle.pfs_tagged.proofs.AddedWalk.{Comes, told_to, IsFollowed, all_followed}
 use Rattle.pfs_tagged.proofs.Indexing.{is_number, times_ended, ends_once}
 use Rattle.pfs_tagged.proofs.Offering.{comes_to, comes_beside, offered, all_near, all_fed, all_offered}
-use Rattle.pfs_tagged.proofs.Sifting.{eq_of, bit_no}
+use Rattle.pfs_tagged.proofs.Sifting.{bit_no}
 
 -- blocks with what is brought there
 pub record AreWhole (flags : ℕ → ℕ → ℕ) (blocks : List Block) : Type 0 where
@@ -49,9 +51,6 @@ numbers_on test ends = map number_of (filter test ends)
 count_cons : (n x : ℕ) (xs : List ℕ) → count_by (λ y. n == y) (x ∷ xs) ≡ cond (n == x) 1 0 + count_by (λ y. n == y) xs
 count_cons n x xs = sum_by-cons (λ y. cond (n == y) 1 0) x xs
 
-swap : (a b : ℕ) → (a == b) ≡ (b == a)
-swap a b = grind arith
-
 pub numbers_count : (n : ℕ) (test : Ended → Bool) (xs : List Ended) → count_by (λ y. n == y) (numbers_on test xs) ≡ times (λ o. is_number n o && test o) xs
 numbers_count n test [] = refl
 numbers_count n test (x ∷ xs) = at (test x) (numbers_count n test xs) where
@@ -59,7 +58,7 @@ numbers_count n test (x ∷ xs) = at (test x) (numbers_count n test xs) where
       → count_by (λ y. n == y) (map number_of (cond b (x ∷ filter test xs) (filter test xs))) ≡ cond {A = ℕ} ((number_of x == n) && b) 1 0 + times (λ o. is_number n o && test o) xs
   at true e =
       let c : count_by (λ y. n == y) (number_of x ∷ numbers_on test xs) ≡ cond (n == number_of x) 1 0 + count_by (λ y. n == y) (numbers_on test xs) = count_cons n (number_of x) (numbers_on test xs) in
-      let s : cond {A = ℕ} (n == number_of x) 1 0 ≡ cond {A = ℕ} ((number_of x == n) && true) 1 0 = ap (λ b. cond {A = ℕ} b 1 0) (swap n (number_of x) ∙ with_true (number_of x == n)) in
+      let s : cond {A = ℕ} (n == number_of x) 1 0 ≡ cond {A = ℕ} ((number_of x == n) && true) 1 0 = ap (λ b. cond {A = ℕ} b 1 0) (eq_swap n (number_of x) ∙ with_true (number_of x == n)) in
       omega (arith, c, s, e) where
         with_true : (b : Bool) → b ≡ (b && true)
         with_true true = refl
@@ -109,7 +108,7 @@ one_is n test (x ∷ xs) few some = at (number_of x == n) refl (test x) refl few
     one = x;
     among = inl refl;
     found = ap (λ b. cond b (Some x) (of_number n xs)) q;
-    number = eq_of (number_of x) n q;
+    number = eqb-true (number_of x) n q;
     passes = r;
     those = λ other. (
         let z : times (λ o. is_number n o && other o) xs ≤ times_ended n xs = times_and n other xs in
@@ -131,7 +130,7 @@ one_of n test xs once l = one_is n test xs (by (some xs many)) many where
   some (x ∷ xs) l = at (number_of x == n) refl l (some xs) where
     at : (b : Bool) → (number_of x == n) ≡ b → 1 ≤ cond {A = ℕ} (b && test x) 1 0 + times (λ o. is_number n o && test o) xs
         → (1 ≤ times (λ o. is_number n o && test o) xs → (one : Ended) × (number_of one ≡ n)) → (one : Ended) × (number_of one ≡ n)
-    at true q l go = (x, eq_of (number_of x) n q)
+    at true q l go = (x, eqb-true (number_of x) n q)
     at false q l go = go (omega (arith, l))
 
   by : (one : Ended) × (number_of one ≡ n) → times_ended n xs ≤ 1

@@ -1,5 +1,6 @@
 -- An addition stands above each change that an action made up to the session's last one that has ended.
 use Rattle.std.proofs.Common.{◌≡◌, refl, ℕ, ◌<◌, ◌≤◌, ◌==◌, ◌&&◌, Bool, true, false, cond, nat_lt, nat_le, List, [], ◌∷◌, ◌++◌, max, sym, ap, subst, ◌∙◌, inl, inr, arith}
+use Rattle.std.proofs.lemmas.Bool.{and_parts, eqb-true}
 use Rattle.pfs_conservation.specs.Chains.{Change as Moved, Added, Taken, Given}
 use Rattle.pfs_conservation.specs.Lines.{Tagged, Stands, IsMove, action_of}
 use Rattle.pfs_event.specs.declared.entry.Entry.{Entry}
@@ -10,7 +11,6 @@ use Rattle.pfs_model.specs.Floors.{by_actions, greatest, floor_of, namings_of, N
 use Rattle.pfs_model.specs.Places.{Placed, chosen}
 use Rattle.pfs_model.specs.declared.changes.Change.{Change}
 use Rattle.pfs_tagged.specs.Tagged.{brought_by, lines_at, all_lines}
-use Rattle.pfs_tagged.proofs.Sifting.{eq_of, both_of}
 
 -- a change of a row that an action up to this one made, among all changes
 greatest_front : (row : ℕ) (xs ys : List Change) → greatest row ys ≤ greatest row (xs ++ ys)
@@ -18,7 +18,7 @@ greatest_front row [] ys = omega arith
 greatest_front row (x ∷ xs) ys = let l : greatest row ys ≤ greatest row (xs ++ ys) = greatest_front row xs ys in omega (arith, l)
 
 own_greatest : (row at version v n : ℕ) → ((at == row) && (v == version)) ≡ true → version ≤ max (cond (at == row) v 0) n
-own_greatest row at version v n q = let e : v ≡ version = eq_of v version (both_of (at == row) (v == version) q).1 in rw (both_of (at == row) (v == version) q).0 (omega (arith, e))
+own_greatest row at version v n q = let e : v ≡ version = eqb-true v version (and_parts (at == row) (v == version) q).1 in rw (and_parts (at == row) (v == version) q).0 (omega (arith, e))
 
 -- moves up to an action are known by then
 pub move_known : (number row version : ℕ) (change : Moved) (ps : List Placed) → Stands (all_lines ps) row version change → IsMove change → 1 ≤ action_of change → action_of change ≤ number → version ≤ greatest row (each_of row_change (by_actions number ps))
@@ -88,14 +88,14 @@ addition_is row version events (p ∷ ps) s = by p.entry refl s (addition_is row
   later a = record { place = a.place; among = inr a.among; entry = a.entry; events_are = a.events_are }
 
   same : (at v : ℕ) → ((at == row) && (v == version)) ≡ true → (says.Add at v ≡ says.Add row version)
-  same at v q = ap (λ n. says.Add n v) (eq_of at row (both_of (at == row) (v == version) q).0) ∙ ap (λ n. says.Add row n) (eq_of v version (both_of (at == row) (v == version) q).1)
+  same at v q = ap (λ n. says.Add n v) (eqb-true at row (and_parts (at == row) (v == version) q).0) ∙ ap (λ n. says.Add row n) (eqb-true v version (and_parts (at == row) (v == version) q).1)
 
   by : (e : Entry) → p.entry ≡ e → Stands (lines_at p e ++ all_lines ps) row version (Added events) → (Stands (all_lines ps) row version (Added events) → IsAddition ps row version events) → IsAddition (p ∷ ps) row version events
   by (says.Add at v) q (inl h) go = record {
     place = p;
     among = inl refl;
     entry = q ∙ same at v h.0;
-    events_are = (let e : brought_by p at ≡ events = unadd (brought_by p at) events h.1 in ap (brought_by p) (sym (eq_of at row (both_of (at == row) (v == version) h.0).0)) ∙ e);
+    events_are = (let e : brought_by p at ≡ events = unadd (brought_by p at) events h.1 in ap (brought_by p) (sym (eqb-true at row (and_parts (at == row) (v == version) h.0).0)) ∙ e);
   } where
     unadd : (xs ys : List ℕ) → ◌≡◌ {A = Moved} (Added xs) (Added ys) → xs ≡ ys
     unadd xs ys e = cc

@@ -1,6 +1,8 @@
 -- The entries up to a phase's end are those of the blocks up to there, and what stands behind begins with a line's
 -- first entry.
 use Rattle.std.proofs.Common.{◌≡◌, refl, ℕ, ◌<◌, ◌≤◌, Bool, true, false, cond, nat_le, List, [], ◌∷◌, ◌++◌, sym, ap, ◌∙◌, arith}
+use Rattle.std.proofs.lemmas.Bool.{leb-false}
+use Rattle.pfs_model.proofs.EachLists.{each_join}
 use Rattle.pfs_event.specs.declared.entry.Entry.{Entry}
 use Rattle.pfs_model.specs.Asks.{is_head}
 use Rattle.pfs_model.specs.Chains.{Each}
@@ -46,10 +48,6 @@ headed_places earlier (b ∷ blocks) low s =
     (headed_lines b.phase b.session (told_by b.session fresh earlier) b.lines b.parts s.1)
     (headed_places (earlier ++ b ∷ []) blocks b.phase s.2)
 
-each_join : {A : Type 0} (P : A → Type 0) (xs ys : List A) → Each P xs → Each P ys → Each P (xs ++ ys)
-each_join P [] ys a b = b
-each_join P (x ∷ xs) ys a b = (a.0, each_join P xs ys a.1 b)
-
 part_phase : (phase session : ℕ) (line : Line) (c : Context) (part : List Entry) → Each (λ (p : Placed). p.phase ≡ phase) (placed_part phase session line c part)
 part_phase phase session line c [] = tt
 part_phase phase session line c (e ∷ es) = (refl, part_phase phase session line (noted (subject_of line) c e) es)
@@ -79,9 +77,6 @@ chosen_then test (x ∷ xs) ys = at (test x) (chosen_then test xs ys) where
 over : (a b : ℕ) → a < b → nat_le b a ≡ false
 over a b l = grind arith
 
-under : (a b : ℕ) → nat_le a b ≡ false → b < a
-under a b q = grind arith
-
 -- no later block stands in the phase
 later_none : (phase low : ℕ) (earlier blocks : List Block) → AreShapedBehind earlier low blocks → phase < low → up_to_phase phase (places_behind earlier blocks) ≡ []
 unfolding places_behind
@@ -110,7 +105,7 @@ front_is phase low earlier [] s = record { same = refl; rest = []; all = refl; h
 front_is phase low earlier (b ∷ blocks) s =
     at (nat_le b.phase phase) refl (front_is phase b.phase (earlier ++ b ∷ []) blocks s.2)
     (chosen_then (λ place. nat_le place.phase phase) (placed_lines b.phase b.session (told_by b.session fresh earlier) b.lines b.parts) (places_behind (earlier ++ b ∷ []) blocks))
-    (λ q. later_none phase b.phase (earlier ++ b ∷ []) blocks s.2 (under b.phase phase q))
+    (λ q. later_none phase b.phase (earlier ++ b ∷ []) blocks s.2 (leb-false b.phase phase q))
     (headed_then (placed_lines b.phase b.session (told_by b.session fresh earlier) b.lines b.parts) (places_behind (earlier ++ b ∷ []) blocks)
     (headed_lines b.phase b.session (told_by b.session fresh earlier) b.lines b.parts s.1) (headed_places (earlier ++ b ∷ []) blocks b.phase s.2)) where
       xs : List Placed

@@ -1,6 +1,8 @@
 -- What is added for a row is what it was offered: nothing is lost or doubled while a session holds it.
 use Rattle.std.proofs.Common.{◌≡◌, refl, ℕ, ◌+◌, ◌==◌, ◌&&◌, Bool, true, false, cond, List, [], ◌∷◌, ◌++◌, map, Option, Some, None, count_by, sym, ap, subst, ◌∙◌, inl, inr, arith}
 use Rattle.std.proofs.lemmas.List.Sums.{sum_by-cons}
+use Rattle.std.proofs.lemmas.Bool.{eqb-true}
+use Rattle.pfs_lemmas.proofs.Numbers.{zero_plus}
 use Rattle.pfs_conservation.specs.Lines.{Tagged, times_in, times_added}
 use Rattle.pfs_event.specs.declared.entry.Entry.{Entry}
 use Rattle.pfs_event.specs.declared.entry.Entry.TheVariants as says
@@ -14,7 +16,7 @@ use Rattle.pfs_tagged.specs.Tagged.{brought_by, lines_at, all_lines, lines_on}
 use Rattle.pfs_tagged.proofs.AddedWalk.{Comes, Follow, then_told, told_to}
 use Rattle.pfs_tagged.proofs.Indexing.{number_is, opened_at}
 use Rattle.pfs_tagged.proofs.Offering.{feeds_at, is_index, offers, offered}
-use Rattle.pfs_tagged.proofs.Sifting.{eq_of, bit_no, apart_of}
+use Rattle.pfs_tagged.proofs.Sifting.{bit_no, apart_of}
 
 -- an event of this position is held for a row
 abbrev pub waits_at : ℕ → ℕ → Waiting → Bool
@@ -29,9 +31,6 @@ count_cons n x xs = sum_by-cons (λ y. cond (y == n) 1 0) x xs
 pub added_then : (n row : ℕ) (xs ys : List Tagged) → times_added n (xs ++ ys) row ≡ times_added n xs row + times_added n ys row
 added_then n row [] ys = omega arith
 added_then n row (x ∷ xs) ys = (let e : times_added n (xs ++ ys) row ≡ times_added n xs row + times_added n ys row = added_then n row xs ys in omega (arith, e))
-
-zero_plus : (n : ℕ) → 0 + n ≡ n
-zero_plus n = omega arith
 
 module _ (session index : ℕ) where
   -- events by their numbers
@@ -116,7 +115,7 @@ module _ (session index : ℕ) where
     numbers : (r : ℕ) → count_by (λ y. y == event_number session index) (brought_by p r) ≡ cond {A = ℕ} (is_index index p.context.ended) 1 0 + times_waiting index r p.context.waiting
     numbers r =
         let s : count_by (λ y. y == event_number session index) (brought_by p r) ≡ count_by (λ y. y == event_number session index) (map (λ (e : Opened). event_number session e.index) (brought p.context r))
-        = ap (λ s. count_by (λ y. y == event_number session index) (map (λ (e : Opened). event_number s e.index) (brought p.context r))) (eq_of p.session session own) in
+        = ap (λ s. count_by (λ y. y == event_number session index) (map (λ (e : Opened). event_number s e.index) (brought p.context r))) (eqb-true p.session session own) in
         let n : count_by (λ y. y == event_number session index) (map (λ (e : Opened). event_number session e.index) (brought p.context r)) ≡ opened_at index (brought p.context r) = numbers_own (brought p.context r) in
         let j : opened_at index (brought p.context r) ≡ opened_at index (own_event p.context.ended) + opened_at index (held_for r p.context.waiting) = times_append (λ (event : Opened). event.index == index) (own_event p.context.ended) (held_for r p.context.waiting) in
         let o : opened_at index (own_event p.context.ended) ≡ cond {A = ℕ} (is_index index p.context.ended) 1 0 = own_index p.context.ended in
@@ -127,8 +126,8 @@ module _ (session index : ℕ) where
         → (cond b (count_by (λ y. y == event_number session index) (brought_by p r)) 0 + 0) + times_waiting index row (held_else r p.context.waiting) ≡ cond {A = ℕ} (offers session index row p) 1 0 + times_waiting index row p.context.waiting
     adds r v true q is =
         let n : count_by (λ y. y == event_number session index) (brought_by p r) ≡ cond {A = ℕ} (is_index index p.context.ended) 1 0 + times_waiting index r p.context.waiting = numbers r in
-        let z : times_waiting index row (held_else r p.context.waiting) ≡ 0 = subst (λ k. times_waiting index row (held_else k p.context.waiting) ≡ 0) (sym (eq_of r row q)) (else_own row p.context.waiting) in
-        let w : times_waiting index r p.context.waiting ≡ times_waiting index row p.context.waiting = ap (λ k. times_waiting index k p.context.waiting) (eq_of r row q) in
+        let z : times_waiting index row (held_else r p.context.waiting) ≡ 0 = subst (λ k. times_waiting index row (held_else k p.context.waiting) ≡ 0) (sym (eqb-true r row q)) (else_own row p.context.waiting) in
+        let w : times_waiting index r p.context.waiting ≡ times_waiting index row p.context.waiting = ap (λ k. times_waiting index k p.context.waiting) (eqb-true r row q) in
         let o : cond {A = ℕ} (offers session index row p) 1 0 ≡ cond {A = ℕ} (is_index index p.context.ended) 1 0 = offering (says.Add r v) true is q in
         omega (arith, n, z, w, o)
     adds r v false q is =
@@ -221,7 +220,7 @@ added_off test n row (line ∷ lines) t = at (test line.row) refl (added_off tes
   other : (a b : ℕ) → test a ≡ true → test b ≡ false → (a == b) ≡ false
   other a b p q = on (a == b) refl where
     on : (c : Bool) → (a == b) ≡ c → c ≡ false
-    on true r = let e : test a ≡ test b = ap test (eq_of a b r) in absurd (let k : true ≡ false = sym p ∙ (e ∙ q) in cc)
+    on true r = let e : test a ≡ test b = ap test (eqb-true a b r) in absurd (let k : true ≡ false = sym p ∙ (e ∙ q) in cc)
     on false r = refl
 
   at : (b : Bool) → test line.row ≡ b → times_added n (lines_on test lines) row ≡ 0 → times_added n (cond b (line ∷ []) [] ++ lines_on test lines) row ≡ 0

@@ -1,6 +1,8 @@
 -- Where events are added or held, the line has begun no action.
 use Rattle.std.proofs.Common.{◌≡◌, refl, ℕ, Bool, true, false, ◌&&◌, not, cond, List, [], ◌∷◌, ◌++◌, map, sym, ap, subst, ◌∙◌, inl, inr, Option}
 use Rattle.std.specs.Prelude.{Ok, Err, if◌then◌else◌}
+use Rattle.std.proofs.lemmas.Bool.{and_parts}
+use Rattle.pfs_model.proofs.EachLists.{each_join}
 use Rattle.pfs_event.specs.Verdicts.{is_let_through}
 use Rattle.pfs_event.specs.declared.entry.Entry.{Entry}
 use Rattle.pfs_event.specs.declared.entry.Entry.TheVariants as says
@@ -46,11 +48,6 @@ abbrev pub orders : List Item → Bool
 orders [] = true
 orders (item ∷ items) = cond (begins_ask item.ask) (is_one item.often && unfed_items items) (orders items)
 
-both : (a b : Bool) → a && b ≡ true → (a ≡ true) × (b ≡ true)
-both true true h = (refl, refl)
-both true false h = absurd (cc)
-both false b h = absurd (cc)
-
 quiet : (ask : Ask) (e : Entry) → not (asks_feed ask) ≡ true → fits ask e ≡ true → is_feed e ≡ false
 quiet ask (says.Add row version) a f = none ask a f where
   none : (ask : Ask) → not (asks_feed ask) ≡ true → fits ask (says.Add row version) ≡ true → true ≡ false
@@ -89,7 +86,7 @@ unfed_many ask (e ∷ es) a g = at (fits ask e) refl g (unfed_many ask es a) whe
 cut_unfed : (items : List Item) (part : List Entry) → unfed_items items ≡ true → cut items part ≡ Ok [] → AreUnfed part
 unfolding cut
 cut_unfed [] part h s = let none : part ≡ [] = cc in subst AreUnfed (sym none) tt
-cut_unfed (item ∷ items) part h s = by item.often part (both _ _ h).0 s (λ es q. cut_unfed items es (both _ _ h).1 q) where
+cut_unfed (item ∷ items) part h s = by item.often part (and_parts _ _ h).0 s (λ es q. cut_unfed items es (and_parts _ _ h).1 q) where
   by : (often : Often) (part : List Entry) → not (asks_feed item.ask) ≡ true → then_cut (step often item.ask part) (cut items) ≡ Ok [] → ((part : List Entry) → cut items part ≡ Ok [] → AreUnfed part) → AreUnfed part
   by One [] a s go = absurd (cc)
   by One (e ∷ es) a s go = at (fits item.ask e) refl s where
@@ -124,12 +121,12 @@ cut_ordered [] part h s = let none : part ≡ [] = cc in subst IsOrdered (sym no
 cut_ordered (item ∷ items) part h s = on (begins_ask item.ask) refl h (λ es k q. cut_unfed items es k q) (λ es k q. cut_ordered items es k q) where
   on : (b : Bool) → begins_ask item.ask ≡ b → cond b (is_one item.often && unfed_items items) (orders items) ≡ true
       → ((es : List Entry) → unfed_items items ≡ true → cut items es ≡ Ok [] → AreUnfed es) → ((es : List Entry) → orders items ≡ true → cut items es ≡ Ok [] → IsOrdered es) → IsOrdered part
-  on true q h unfed go = by item.often part (both _ _ h).0 s where
+  on true q h unfed go = by item.often part (and_parts _ _ h).0 s where
     by : (often : Often) (part : List Entry) → is_one often ≡ true → then_cut (step often item.ask part) (cut items) ≡ Ok [] → IsOrdered part
     by One [] o s = absurd (cc)
     by One (e ∷ es) o s = at (fits item.ask e) s where
       at : (b : Bool) → then_cut (if b then Ok es else Err (e ∷ es)) (cut items) ≡ Ok [] → IsOrdered (e ∷ es)
-      at true s = let u : AreUnfed es = unfed es (both _ _ h).1 s in ((λ z. u), unfed_ordered es u)
+      at true s = let u : AreUnfed es = unfed es (and_parts _ _ h).1 s in ((λ z. u), unfed_ordered es u)
       at false s = absurd (cc)
     by Maybe part o s = absurd (cc)
     by Many part o s = absurd (cc)
@@ -224,10 +221,6 @@ shape_orders context lines.Close = plain_orders (settling context.held) (plain_s
 -- so no action is at hand there
 abbrev pub IsIdle : Placed → Type 0
 IsIdle p = is_feed p.entry ≡ true → p.context.action ≡ 0
-
-each_join : {A : Type 0} (P : A → Type 0) (xs ys : List A) → Each P xs → Each P ys → Each P (xs ++ ys)
-each_join P [] ys a b = b
-each_join P (x ∷ xs) ys a b = (a.0, each_join P xs ys a.1 b)
 
 unfed_part : (phase session : ℕ) (line : Line) (c : Context) (part : List Entry) → AreUnfed part → Each IsIdle (placed_part phase session line c part)
 unfed_part phase session line c [] u = tt

@@ -1,5 +1,6 @@
 -- Each event that is added to a row of the kind is one of its events, and stands there once.
 use Rattle.std.proofs.Common.{◌≡◌, refl, ℕ, ◌+◌, ◌≤◌, ◌==◌, Bool, true, false, cond, List, [], ◌∷◌, ◌++◌, map, count_by, ap, ◌∙◌, arith}
+use Rattle.pfs_lemmas.proofs.Numbers.{eq_self}
 use Rattle.pfs_conservation.specs.Lines.{Tagged, times_added, AllOnce}
 use Rattle.pfs_conservation.specs.Conservation.{Once}
 use Rattle.pfs_event.specs.declared.entry.Entry.{Entry}
@@ -10,7 +11,7 @@ use Rattle.pfs_model.specs.declared.lines.Opened.{Opened}
 use Rattle.pfs_tagged.specs.Ends.{event_number}
 use Rattle.pfs_tagged.specs.Tagged.{brought_by, lines_at, all_lines, lines_on}
 use Rattle.pfs_tagged.proofs.AddedHeld.{numbers_own, added_then}
-use Rattle.pfs_tagged.proofs.Indexing.{opened_at, eq_self}
+use Rattle.pfs_tagged.proofs.Indexing.{opened_at}
 
 -- each of these events is counted once
 once_all : (all : List ℕ) (session : ℕ) (events : List Opened) → ((index : ℕ) → 1 ≤ opened_at index events → count_by (λ y. event_number session index == y) all ≡ 1)

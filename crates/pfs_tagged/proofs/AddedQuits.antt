@@ -1,6 +1,7 @@
 -- A session's quit is its only one, and its connect its only one.
 use Rattle.std.proofs.Common.{◌≡◌, refl, ℕ, zero, suc, ◌+◌, ◌-◌, ◌<◌, ◌≤◌, ◌==◌, ◌&&◌, Bool, true, false, cond, nat_lt, nat_le, List, [], ◌∷◌, ◌++◌, length, take, Option, Some, None, sym, ap, subst, ◌∙◌, ◌⊎◌, inl, inr, arith}
 use Rattle.std.specs.Prelude.{slice_get}
+use Rattle.std.proofs.lemmas.Bool.{and_parts, eqb-true}
 use Rattle.pfs_admin.specs.declared.changes.Change.{Change}
 use Rattle.pfs_admin.specs.declared.changes.Change.TheVariants as changes
 use Rattle.pfs_board.specs.declared.view.Label.{Label}
@@ -22,7 +23,7 @@ use Rattle.pfs_tagged.proofs.AddedFloor.{place_among}
 use Rattle.pfs_tagged.proofs.AddedTold.{IsFirstConnect}
 use Rattle.pfs_tagged.proofs.Folding.{truncation_quits, numbered_at, numbered_past, front_get, front_length, length_as}
 use Rattle.pfs_tagged.proofs.Saying.{zero_rows}
-use Rattle.pfs_tagged.proofs.Sifting.{eq_of, both_of, bit_yes}
+use Rattle.pfs_tagged.proofs.Sifting.{bit_yes}
 
 -- the entry that says a number
 pub record IsSaidBy (number : ℕ) (ps : List Placed) : Type 0 where
@@ -38,7 +39,7 @@ said_place number (p ∷ ps) l = by p.entry refl l (said_place number ps) where
 
   here : (n : ℕ) (b : Bool) → ((0 == 0) && (n == number)) ≡ b → action_change p.entry ≡ change_at 0 n ∷ [] → 1 ≤ cond {A = ℕ} b 1 0 + times (is_that (change_at 0 number)) (each_of action_change ps)
       → (1 ≤ times (is_that (change_at 0 number)) (each_of action_change ps) → IsSaidBy number ps) → IsSaidBy number (p ∷ ps)
-  here n true q e l go = record { place = p; among = inl refl; says = e ∙ ap (λ z. change_at 0 z ∷ []) (eq_of n number (both_of (0 == 0) (n == number) q).1) }
+  here n true q e l go = record { place = p; among = inl refl; says = e ∙ ap (λ z. change_at 0 z ∷ []) (eqb-true n number (and_parts (0 == 0) (n == number) q).1) }
   here n false q e l go = later (go (omega (arith, l)))
 
   by : (e : Entry) → p.entry ≡ e → 1 ≤ times (is_that (change_at 0 number)) (action_change e ++ each_of action_change ps) → (1 ≤ times (is_that (change_at 0 number)) (each_of action_change ps) → IsSaidBy number ps) → IsSaidBy number (p ∷ ps)
@@ -77,7 +78,7 @@ no_quits session earlier (p ∷ ps) q qs a e = at (p.session == session) refl (�
   silent _ h = refl
 
   none : (p.session == session) ≡ true → (b : Bool) → is_head p.entry ≡ b → quits_at p p.entry ≡ []
-  none own true h = absurd (let z : given_by quits_at session earlier ≡ [] = subst (λ s. given_by quits_at s earlier ≡ []) (eq_of p.session session own) (a.0 h) in let k : q ∷ qs ≡ [] = sym e ∙ z in cc)
+  none own true h = absurd (let z : given_by quits_at session earlier ≡ [] = subst (λ s. given_by quits_at s earlier ≡ []) (eqb-true p.session session own) (a.0 h) in let k : q ∷ qs ≡ [] = sym e ∙ z in cc)
   none own false h = silent p.entry h
 
   at : (b : Bool) → (p.session == session) ≡ b → ((r : ℕ) (s : List ℕ) → cond (p.session == session) (quits_at p p.entry) [] ++ given_by quits_at session earlier ≡ r ∷ s → given_by quits_at session ps ≡ [])

@@ -1,5 +1,6 @@
 -- An event's home is the row of its cell, one of the kind's, and the kind's rows are those of cells.
 use Rattle.std.proofs.Common.{◌≡◌, refl, ℕ, ◌<◌, ◌≤◌, ◌==◌, Bool, true, false, cond, List, [], ◌∷◌, ◌++◌, Option, Some, None, IfSome, sym, ap, subst, ◌∙◌, ◌⊎◌, inl, inr, arith}
+use Rattle.pfs_model.proofs.EachLists.{each_join}
 use Rattle.pfs_conservation.specs.Tables.{home_at}
 use Rattle.pfs_event.specs.declared.entry.Entry.{Entry}
 use Rattle.pfs_event.specs.declared.entry.Entry.TheVariants as says
@@ -83,11 +84,6 @@ home_is is_cell names ps one = by (counted_slot one.context.slot one.event.verdi
   by : (o : Option ℕ) → home_at (board is_cell) (whose_at names ps one o) ≡ cell_row o one.event.subject.cell
   by None = refl
   by (Some slot) = refl
-
--- what holds of all lines
-each_join : {A : Type 0} (P : A → Type 0) (xs ys : List A) → Each P xs → Each P ys → Each P (xs ++ ys)
-each_join P [] ys a b = b
-each_join P (x ∷ xs) ys a b = (a.0, each_join P xs ys a.1 b)
 
 module _ (P : Line → Type 0) where
   part_lines : (phase session : ℕ) (line : Line) (c : Context) (part : List Entry) → P line → Each (λ (p : Placed). P p.line) (placed_part phase session line c part)

@@ -1,6 +1,8 @@
 -- What is known of the entries of a run up to a phase's end.
 use Rattle.std.proofs.Common.{◌≡◌, refl, ℕ, zero, suc, ◌+◌, ◌-◌, ◌<◌, ◌≤◌, ◌==◌, Bool, true, false, cond, nat_le, List, [], ◌∷◌, ◌++◌, length, Option, Some, None, sym, ap, subst, ◌∙◌, inl, inr, arith}
 use Rattle.std.specs.Prelude.{slice_get, ◌&&◌, IfSome}
+use Rattle.std.proofs.lemmas.Bool.{eqb-true}
+use Rattle.pfs_model.proofs.EachLists.{each_join}
 use Rattle.pfs_conservation.specs.Lines.{times_added}
 use Rattle.pfs_event.specs.Verdicts.{is_let_through}
 use Rattle.pfs_event.specs.declared.entry.Entry.{Entry}
@@ -37,7 +39,7 @@ use Rattle.pfs_tagged.proofs.AddedConnects.{IsApart, all_apart}
 use Rattle.pfs_tagged.proofs.Offering.{home_row, comes_to, comes_beside, brought_front, AreNear, all_near}
 use Rattle.pfs_tagged.proofs.Saying.{HasNumber, all_said}
 use Rattle.pfs_tagged.proofs.Saying.{zero_rows}
-use Rattle.pfs_tagged.proofs.Sifting.{eq_of, bit_no, bit_yes}
+use Rattle.pfs_tagged.proofs.Sifting.{bit_no, bit_yes}
 
 -- what holds of all entries holds of the first of them
 answered_front : (rooms : ℕ → Rooms) (answers : ℕ → Answer) (xs ys : List Placed) → AreAnswered rooms answers (xs ++ ys) → AreAnswered rooms answers xs
@@ -107,10 +109,6 @@ low_entries rooms answers (p ∷ ps) h a = (by p.entry a.0, low_entries rooms an
 both_each : (P Q : Placed → Type 0) (ps : List Placed) → Each P ps → Each Q ps → Each (λ (p : Placed). P p × Q p) ps
 both_each P Q [] a b = tt
 both_each P Q (p ∷ ps) a b = ((a.0, b.0), both_each P Q ps a.1 b.1)
-
-each_join : {A : Type 0} (P : A → Type 0) (xs ys : List A) → Each P xs → Each P ys → Each P (xs ++ ys)
-each_join P [] ys a b = b
-each_join P (x ∷ xs) ys a b = (a.0, each_join P xs ys a.1 b)
 
 known_ended : (rooms : ℕ → Rooms) (whole ps : List Placed) → Each (λ (p : Placed). IsOwn p.session rooms whole p) ps → Each (λ (one : Ended). IsKnown one.session rooms whole one.context) (all_ended ps)
 known_ended rooms whole [] h = tt
@@ -251,7 +249,7 @@ module _ (run : Run) (kept : AreKept run) (orderly : IsOrderly run) (phase : ℕ
         moved : (s : ℕ) (ps : List Placed) → Each (λ (p : Placed). (p.session == s) ≡ true → IsOwn s (rooms_at run.setting run.change run.labels) (entries_to run phase) p) ps
             → Each (λ (p : Placed). (p.session == s) ≡ true → IsOwn p.session (rooms_at run.setting run.change run.labels) (entries_to run phase) p) ps
         moved s [] h = tt
-        moved s (p ∷ ps) h = ((λ q. own_move s (rooms_at run.setting run.change run.labels) (entries_to run phase) p (eq_of p.session s q) (h.0 q)), moved s ps h.1)
+        moved s (p ∷ ps) h = ((λ q. own_move s (rooms_at run.setting run.change run.labels) (entries_to run phase) p (eqb-true p.session s q) (h.0 q)), moved s ps h.1)
 
   -- the label of a session's first action
   pub run_label : (session action : ℕ) (more : List Change) → numbers_by session (entries_to run phase) ≡ change_at 0 action ∷ more → label_at run.labels action ≡ Some (record { session = session; line = 1 })

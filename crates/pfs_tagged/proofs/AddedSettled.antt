@@ -2,6 +2,7 @@
 use Rattle.std.proofs.Common.{◌≡◌, refl, ℕ, ◌==◌, Bool, true, false, cond, nat_lt, List, [], ◌∷◌, ◌++◌, map, Option, Some, None, sym, ap, subst, ◌∙◌, inl, inr, arith, Less, Equal, Greater}
 use Rattle.std.specs.Prelude.{Ok, Err, if◌then◌else◌}
 use Rattle.std.specs.Ordering.{match_ordering, is_eq}
+use Rattle.std.proofs.lemmas.Bool.{eqb-true}
 use Rattle.pfs_event.specs.declared.entry.Entry.{Entry}
 use Rattle.pfs_event.specs.declared.entry.Entry.TheVariants as says
 use Rattle.pfs_model.specs.Actions.{IsAmong}
@@ -18,7 +19,6 @@ use Rattle.pfs_model.specs.declared.lines.Opened.{Opened}
 use Rattle.pfs_model.specs.declared.lines.Subject.{Subject}
 use Rattle.pfs_tagged.specs.Premises.{is_close, is_closed, AreClosed}
 use Rattle.pfs_tagged.proofs.AddedWalk.{told_more}
-use Rattle.pfs_tagged.proofs.Sifting.{eq_of}
 
 -- what is held is held for one of these rows
 abbrev pub HeldFor : List ℕ → List Waiting → Type 0
@@ -33,7 +33,7 @@ among_new row [] = inl refl
 among_new row (x ∷ xs) = at (nat_lt row x) (row == x) refl (among_new row xs) where
   at : (a b : Bool) → (row == x) ≡ b → IsAmong row (with_row row xs) → IsAmong row (match_ordering (cond a Less (cond b Equal Greater)) (row ∷ x ∷ xs) (x ∷ xs) (x ∷ with_row row xs))
   at true b q r = inl refl
-  at false true q r = inl (sym (eq_of row x q))
+  at false true q r = inl (sym (eqb-true row x q))
   at false false q r = inr r
 
 among_more : (row at : ℕ) (rows : List ℕ) → IsAmong at rows → IsAmong at (with_row row rows)
@@ -54,7 +54,7 @@ among_less row at (x ∷ xs) n m = on (nat_lt row x) (row == x) refl m (λ k. am
   on : (a b : Bool) → (row == x) ≡ b → IsAmong at (x ∷ xs) → (IsAmong at xs → IsAmong at (without_row row xs)) → IsAmong at (cond (is_eq (cond a Less (cond b Equal Greater))) xs (x ∷ without_row row xs))
   on true b q (inl e) go = inl e
   on true b q (inr m) go = inr (go m)
-  on false true q (inl e) go = absurd (let f : (at == row) ≡ true = subst (λ z. (at == z) ≡ true) (sym e ∙ sym (eq_of row x q)) (self at) in cc)
+  on false true q (inl e) go = absurd (let f : (at == row) ≡ true = subst (λ z. (at == z) ≡ true) (sym e ∙ sym (eqb-true row x q)) (self at) in cc)
   on false true q (inr m) go = m
   on false false q (inl e) go = inl e
   on false false q (inr m) go = inr (go m)
@@ -124,7 +124,7 @@ added_all s (row ∷ rows) c (e ∷ es) q h = by e q (λ d k g. added_all s rows
   Go = (d : Context) → cut (map added rows) es ≡ Ok [] → HeldFor rows d.waiting → (after_entries s d es).waiting ≡ []
 
   fitting : (at v : ℕ) (b : Bool) → (at == row) ≡ b → then_cut (if b then Ok es else Err (says.Add at v ∷ es)) (cut (map added rows)) ≡ Ok [] → Go → (after_entries s (noted s c (says.Add at v)) es).waiting ≡ []
-  fitting at v true f q go = go (noted s c (says.Add at v)) q (subst (λ z. HeldFor rows (held_else z c.waiting)) (sym (eq_of at row f)) (rest_held row rows c.waiting h))
+  fitting at v true f q go = go (noted s c (says.Add at v)) q (subst (λ z. HeldFor rows (held_else z c.waiting)) (sym (eqb-true at row f)) (rest_held row rows c.waiting h))
   fitting at v false f q go = absurd (cc)
 
   by : (e : Entry) → then_cut (if fits (added row).ask e then Ok es else Err (e ∷ es)) (cut (map added rows)) ≡ Ok [] → Go → (after_entries s (noted s c e) es).waiting ≡ []
@@ -167,7 +167,7 @@ settled_blocks session earlier (b ∷ blocks) low s k h w =
           → (told_by session (cond x (after_lines now b.lines b.parts) now) blocks).waiting ≡ []
       at true q go e =
           let f : told_by session fresh (earlier ++ b ∷ []) ≡ after_lines now b.lines b.parts = e ∙ ap behind q in
-          let shaped : AreShaped now b.lines b.parts = subst (λ z. AreShaped (told_by z fresh earlier) b.lines b.parts) (eq_of b.session session q) s.1 in
+          let shaped : AreShaped now b.lines b.parts = subst (λ z. AreShaped (told_by z fresh earlier) b.lines b.parts) (eqb-true b.session session q) s.1 in
           ap (λ (z : Context). (told_by session z blocks).waiting) (sym f)
           ∙ go (subst IsHolding (sym f) (holding_lines now b.lines b.parts h)) (ap (λ (z : Context). z.waiting) f ∙ settled_lines now b.lines b.parts k.0 shaped h)
       at false q go e =

@@ -1,5 +1,7 @@
 -- A row that an action takes is printed as taken.
 use Rattle.std.proofs.Common.{◌≡◌, refl, ℕ, zero, suc, ◌+◌, ◌<◌, ◌≤◌, ◌==◌, ◌&&◌, Bool, true, false, cond, List, [], ◌∷◌, ◌++◌, Option, Some, sym, ap, subst, ◌∙◌, inl, inr, arith}
+use Rattle.std.proofs.lemmas.Bool.{eqb-true}
+use Rattle.pfs_lemmas.proofs.Numbers.{eq_self}
 use Rattle.pfs_conservation.specs.Actions.{moved_by, moves_of}
 use Rattle.pfs_conservation.specs.Chains.{Taken}
 use Rattle.pfs_conservation.specs.Lines.{Tagged, change_of, Stands}
@@ -8,7 +10,6 @@ use Rattle.pfs_conservation.specs.Prints.{Print, prints_of, prints_all, is_move,
 use Rattle.pfs_conservation.specs.Tenures.{Owner}
 use Rattle.pfs_model.specs.Actions.{IsAmong}
 use Rattle.pfs_tagged.specs.Board.{is_kind_row, kind_rows_from, kind_rows}
-use Rattle.pfs_tagged.proofs.Sifting.{eq_of}
 
 back : {A : Type 0} (x : A) (xs ys : List A) → IsAmong x ys → IsAmong x (xs ++ ys)
 back x [] ys m = m
@@ -22,7 +23,7 @@ rows_among is_cell target row (suc more) l m k = on (row == target) refl (λ h. 
   apart a b q l = grind arith
 
   on : (b : Bool) → (row == target) ≡ b → (suc row ≤ target → IsAmong target (kind_rows_from is_cell (suc row) more)) → IsAmong target (kind_rows_from is_cell row (suc more))
-  on true q go = subst (λ b. IsAmong target (cond b (row ∷ []) [] ++ kind_rows_from is_cell (suc row) more)) (sym (ap (is_kind_row is_cell) (eq_of row target q) ∙ k)) (inl (eq_of row target q))
+  on true q go = subst (λ b. IsAmong target (cond b (row ∷ []) [] ++ kind_rows_from is_cell (suc row) more)) (sym (ap (is_kind_row is_cell) (eqb-true row target q) ∙ k)) (inl (eqb-true row target q))
   on false q go = back target (cond (is_kind_row is_cell row) (row ∷ []) []) (kind_rows_from is_cell (suc row) more) (go (apart row target q l))
 
 pub in_kind_rows : (is_cell : ℕ → Bool) (target : ℕ) → 129 ≤ target → target < 8385 → is_kind_row is_cell target ≡ true → IsAmong target (kind_rows is_cell)
@@ -50,9 +51,6 @@ module _ (kept : ℕ → ℕ → Bool) (holder : ℕ → ℕ → Option Owner) (
   taken_printed row owner (r ∷ rows) (inr m) t h =
       subst (IsAmong (taken_print row action)) (sym (prints_then kept (cond (takes action r) (moved_by (holder action r) action r) []) (moves_of holder takes action rows)))
       (back (taken_print row action) (prints_all kept (cond (takes action r) (moved_by (holder action r) action r) [])) (prints_all kept (moves_of holder takes action rows)) (taken_printed row owner rows m t h))
-
-eq_self : (n : ℕ) → (n == n) ≡ true
-eq_self n = grind arith
 
 -- and what is printed stands
 pub print_stands : (row action : ℕ) (lines : List Tagged) → IsAmong (taken_print row action) (printed_by lines action) → (version : ℕ) × Stands lines row version (Taken action)

@@ -1,12 +1,12 @@
 -- From its connect on a session stands at its slot, and nowhere else, until it quits.
 use Rattle.std.proofs.Common.{◌≡◌, refl, ℕ, zero, suc, ◌<◌, ◌≤◌, ◌==◌, Bool, true, false, cond, List, [], ◌∷◌, Option, Some, None, sym, ap, subst, ◌∙◌, ◌⊎◌, inl, inr, arith}
 use Rattle.std.specs.Prelude.{unwrap_or}
+use Rattle.std.proofs.lemmas.Bool.{eqb-true}
 use Rattle.pfs_conservation.specs.Administration.{Table, Summary, Accounts, Users, Hosts, Action, Connect, Quit, Truncate, Other, Found, found_where, one_up, lowest_free, session_by, session_of, is_account, connect_line, quit_line, table_line, line_of, state_after}
 use Rattle.pfs_conservation.specs.Folds.{State, Session, Quits, Truncates, Others, entry_at, fill_at, emptied_at, Entry}
 use Rattle.pfs_conservation.specs.Folds.{stepped as then_places}
 use Rattle.pfs_tagged.proofs.Indexing.{which}
 use Rattle.pfs_tagged.proofs.Quitting.{IsThere, found_there}
-use Rattle.pfs_tagged.proofs.Sifting.{eq_of}
 
 -- what stands in a list behind a change
 fill_entry : {X : Type 0} (n : ℕ) (new : X) (xs : List (Option X)) (j : ℕ) (y : X) → entry_at (fill_at n new xs) j ≡ Some y → (entry_at xs j ≡ Some y) ⊎ ((j ≡ n) × (y ≡ new))
@@ -140,7 +140,7 @@ module _ (opening : State) (acts : ℕ → Action) (session slot connect : ℕ) 
         apart : slot ≡ f.place → ⊥
         apart r =
             let same : x ≡ f.entry = (let z : Some x ≡ Some f.entry = sym e ∙ (ap (λ j. entry_at (state_after opening acts k).threads j) r ∙ t.entry) in cc) in
-            let n : session ≡ number = sym own ∙ (ap (λ (z : Session). z.number) same ∙ eq_of f.entry.number number t.passes) in
+            let n : session ≡ number = sym own ∙ (ap (λ (z : Session). z.number) same ∙ eqb-true f.entry.number number t.passes) in
             never (suc k) (omega (arith, h)) m (a ∙ ap (λ z. Quit z) (sym n))
     step (Truncate table) a h e = subst (λ zs. entry_at zs slot ≡ Some x) (sym (table_threads (state_after opening acts k) 0 table)) e
     step Other a h e = e
@@ -158,4 +158,4 @@ module _ (opening : State) (acts : ℕ → Action) (session slot connect : ℕ) 
     on : (f : Found Session) × (found_where (λ (z : Session). z.number == session) (state_after opening acts k).threads ≡ Some f) → line_of kind (state_after opening acts k) (Quit session) ≡ Quits slot
     on (f, q) =
         let t : IsThere (λ (z : Session). z.number == session) (state_after opening acts k).threads f = found_there (λ (z : Session). z.number == session) (state_after opening acts k).threads f q in
-        ap quit_line q ∙ ap (λ z. Quits z) (only_there k f.place f.entry t.entry (eq_of f.entry.number session t.passes)).1
+        ap quit_line q ∙ ap (λ z. Quits z) (only_there k f.place f.entry t.entry (eqb-true f.entry.number session t.passes)).1

@@ -1,5 +1,6 @@
 -- What a session's entries tell of its slot is what its connect printed, which is its first action.
 use Rattle.std.proofs.Common.{◌≡◌, refl, ℕ, ◌<◌, ◌≤◌, ◌==◌, Bool, true, false, cond, List, [], ◌∷◌, ◌++◌, Option, Some, None, sym, ap, subst, ◌∙◌, ◌⊎◌, inl, inr, arith}
+use Rattle.std.proofs.lemmas.Bool.{eqb-true}
 use Rattle.pfs_event.specs.declared.entry.Entry.{Entry}
 use Rattle.pfs_event.specs.declared.entry.Entry.TheVariants as says
 use Rattle.pfs_model.specs.Actions.{numbers_by, AllAbove, AreRising}
@@ -11,7 +12,6 @@ use Rattle.pfs_model.specs.declared.changes.Change.{Change}
 use Rattle.pfs_tagged.specs.Ends.{given_by, connects_at, first_of}
 use Rattle.pfs_tagged.specs.Premises.{IsFirst, AreFirstBehind}
 use Rattle.pfs_tagged.proofs.AddedWalk.{Comes, Follow, then_told}
-use Rattle.pfs_tagged.proofs.Sifting.{eq_of}
 
 abbrev pub rooms_told : Context → Rooms
 rooms_told c = record { thread = c.slot; account = c.account; user = c.user; host = c.host }
@@ -93,7 +93,7 @@ module _ (session : ℕ) (rooms : ℕ → Rooms) (answers : ℕ → Answer) (who
   no_connects earlier [] x xs e f = refl
   no_connects earlier (p ∷ ps) x xs e f = at (p.session == session) refl (λ y ys h. no_connects (p ∷ earlier) ps y ys h f.1) where
     none : (p.session == session) ≡ true → (e : Entry) → IsFirst earlier p e → connects_at p e ≡ []
-    none own (says.Connect action thread account user host) g = absurd (let z : by_session session earlier ≡ [] = subst (λ s. by_session s earlier ≡ []) (eq_of p.session session own) g in let k : x ∷ xs ≡ [] = sym e ∙ z in cc)
+    none own (says.Connect action thread account user host) g = absurd (let z : by_session session earlier ≡ [] = subst (λ s. by_session s earlier ≡ []) (eqb-true p.session session own) g in let k : x ∷ xs ≡ [] = sym e ∙ z in cc)
     none own _ g = refl
 
     at : (b : Bool) → (p.session == session) ≡ b → ((y : Placed) (ys : List Placed) → cond (p.session == session) (p ∷ []) [] ++ by_session session earlier ≡ y ∷ ys → given_by connects_at session ps ≡ []) → cond b (connects_at p p.entry) [] ++ given_by connects_at session ps ≡ []
@@ -129,7 +129,7 @@ module _ (session : ℕ) (rooms : ℕ → Rooms) (answers : ℕ → Answer) (who
     self n = omega arith
 
     both : (given_by connects_at session whole ≡ given_by connects_at session (p ∷ ps)) × (numbers_by session whole ≡ numbers_by session (p ∷ ps))
-    both = w (subst (λ s. by_session s earlier ≡ []) (eq_of p.session session own) none)
+    both = w (subst (λ s. by_session s earlier ≡ []) (eqb-true p.session session own) none)
 
     numbers : numbers_by session whole ≡ change_at 0 action ∷ numbers_by session ps
     numbers = both.1 ∙ (ap (λ b. cond b (action_change p.entry) [] ++ numbers_by session ps) own ∙ ap (λ z. action_change z ++ numbers_by session ps) e)

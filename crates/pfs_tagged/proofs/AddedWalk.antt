@@ -1,10 +1,11 @@
 -- What a session's entries tell, along all entries: each stands where the one before left off, or a line later.
-use Rattle.std.proofs.Common.{◌≡◌, refl, ℕ, ◌==◌, Bool, true, false, cond, List, [], ◌∷◌, ◌++◌, sym, ap, subst, ◌∙◌, ◌⊎◌, inl, inr, arith}
+use Rattle.std.proofs.Common.{◌≡◌, refl, ℕ, ◌==◌, Bool, true, false, cond, List, [], ◌∷◌, ◌++◌, sym, ap, subst, ◌∙◌, ◌⊎◌, inl, inr}
+use Rattle.std.proofs.lemmas.Bool.{eqb-true}
+use Rattle.pfs_lemmas.proofs.Numbers.{eq_self}
 use Rattle.pfs_event.specs.declared.entry.Entry.{Entry}
 use Rattle.pfs_model.specs.Contexts.{Context, fresh, subject_of, noted, turned, after_entries, after}
 use Rattle.pfs_model.specs.Places.{Block, Placed, placed_part, placed_lines, after_lines, told_by, places_behind, places}
 use Rattle.pfs_model.specs.declared.lines.Line.{Line}
-use Rattle.pfs_tagged.proofs.Sifting.{eq_of}
 
 -- the same, or a line later
 abbrev pub Comes : Context → Context → Type 0
@@ -31,9 +32,6 @@ comes_then b c d (inl e) (inl f) = inl (f ∙ e)
 comes_then b c d (inl e) (inr f) = inr (f ∙ ap turned e)
 comes_then b c d (inr e) (inl f) = inr (f ∙ e)
 comes_then b c d (inr e) (inr f) = inr (f ∙ ap turned e)
-
-eq_self : (n : ℕ) → (n == n) ≡ true
-eq_self n = grind arith
 
 module _ (session : ℕ) where
   -- from a line before
@@ -123,7 +121,7 @@ module _ (session : ℕ) where
         let next : Context = after_lines (told_by session fresh earlier) b.lines b.parts in
         let e : told_by session fresh (earlier ++ b ∷ []) ≡ next = told_more fresh earlier b ∙ ap (λ z. cond z (after_lines (told_by session fresh earlier) b.lines b.parts) (told_by session fresh earlier)) q in
         followed_then (told_by session fresh earlier) next (told_by session next blocks) (placed_lines b.phase b.session (told_by b.session fresh earlier) b.lines b.parts) (places_behind (earlier ++ b ∷ []) blocks)
-        (subst (λ s. IsFollowed session (told_by session fresh earlier) (placed_lines b.phase s (told_by s fresh earlier) b.lines b.parts) next) (sym (eq_of b.session session q)) (followed_lines b.phase (told_by session fresh earlier) b.lines b.parts))
+        (subst (λ s. IsFollowed session (told_by session fresh earlier) (placed_lines b.phase s (told_by s fresh earlier) b.lines b.parts) next) (sym (eqb-true b.session session q)) (followed_lines b.phase (told_by session fresh earlier) b.lines b.parts))
         (subst (λ c. IsFollowed session c (places_behind (earlier ++ b ∷ []) blocks) (told_by session c blocks)) e ih)
     at false q ih =
         let e : told_by session fresh (earlier ++ b ∷ []) ≡ told_by session fresh earlier = told_more fresh earlier b ∙ ap (λ z. cond z (after_lines (told_by session fresh earlier) b.lines b.parts) (told_by session fresh earlier)) q in

@@ -1,5 +1,7 @@
 -- Each event of a kind is added once, at its home, between its session's connect and quit.
 use Rattle.std.proofs.Common.{◌≡◌, refl, ℕ, suc, ◌^◌, ◌<◌, ◌≤◌, ◌==◌, ◌&&◌, Bool, true, false, cond, List, [], ◌∷◌, length, Option, Some, None, count_by, sym, ap, subst, ◌∙◌, ◌⊎◌, inl, inr, arith}
+use Rattle.std.proofs.lemmas.Bool.{and_parts, eqb-true}
+use Rattle.pfs_lemmas.proofs.Numbers.{eq_swap}
 use Rattle.pfs_board.specs.declared.view.Label.{Label}
 use Rattle.pfs_conservation.specs.Administration.{Quit, numbered, state_after}
 use Rattle.pfs_conservation.specs.Chains.{Change as Moved, Added}
@@ -42,14 +44,11 @@ use Rattle.pfs_tagged.proofs.Feeding.{is_feed}
 use Rattle.pfs_tagged.proofs.Folding.{length_as, front_length}
 use Rattle.pfs_tagged.proofs.Offering.{home_row, comes_to}
 use Rattle.pfs_tagged.proofs.Seating.{AreBack, AreFound}
-use Rattle.pfs_tagged.proofs.Sifting.{eq_of, both_of, sifted}
+use Rattle.pfs_tagged.proofs.Sifting.{sifted}
 
 pub counted_some : (slot : Option ℕ) (verdict : Verdict) (n : ℕ) → counted_slot slot verdict ≡ Some n → slot ≡ Some n
 counted_some slot Attributed n q = q
 counted_some slot _ n q = absurd (cc)
-
-swap : (a b : ℕ) → (a == b) ≡ (b == a)
-swap a b = grind arith
 
 module _ (back : AreBack) (found : AreFound) (none : AreNone) (run : Run) (kind : TableKind) (phase : ℕ) (kept : AreKept run) (orderly : IsOrderly run)
     (acted : AreActed run.counted (moves_at run.setting kind (actions_to run phase)) (length (actions_to run phase)) (lines_to run kind phase)) where
@@ -71,9 +70,9 @@ module _ (back : AreBack) (found : AreFound) (none : AreNone) (run : Run) (kind 
       let c : times_added (event_number session index) (all_lines (entries_to run phase)) row ≡ times (comes_to (event_number session index) row) (all_ended (entries_to run phase)) = run_counts run kept orderly phase session index row (low_row back found none (cells_of run.setting kind) row t) in
       let o : IsOne (event_number session index) (λ one. is_let_through one.event.verdict && (home_row one == row)) (all_ended (entries_to run phase))
       = one_is (event_number session index) (λ one. is_let_through one.event.verdict && (home_row one == row)) (all_ended (entries_to run phase)) (run_once run kept orderly phase session index) (omega (arith, c, l)) in
-      let p : (is_let_through o.one.event.verdict ≡ true) × ((home_row o.one == row) ≡ true) = both_of (is_let_through o.one.event.verdict) (home_row o.one == row) o.passes in
+      let p : (is_let_through o.one.event.verdict ≡ true) × ((home_row o.one == row) ≡ true) = and_parts (is_let_through o.one.event.verdict) (home_row o.one == row) o.passes in
       let w : IsLowEnded o.one = each_among IsLowEnded o.one (all_ended (entries_to run phase)) o.among (run_ended_low run kept orderly phase) in
-      let h : cells_of run.setting kind o.one.event.subject.cell ≡ true = sym (home_kind back (cells_of run.setting kind) o.one w) ∙ (ap (is_kind_row (cells_of run.setting kind)) (eq_of (home_row o.one) row p.1) ∙ t) in
+      let h : cells_of run.setting kind o.one.event.subject.cell ≡ true = sym (home_kind back (cells_of run.setting kind) o.one w) ∙ (ap (is_kind_row (cells_of run.setting kind)) (eqb-true (home_row o.one) row p.1) ∙ t) in
       numbers_count (event_number session index) (counts_in (cells_of run.setting kind)) (all_ended (entries_to run phase)) ∙ (o.those (counts_in (cells_of run.setting kind)) ∙ one (is_let_through o.one.event.verdict) (cells_of run.setting kind o.one.event.subject.cell) p.0 h) where
         one : (a b : Bool) → a ≡ true → b ≡ true → cond {A = ℕ} (a && b) 1 0 ≡ 1
         one true true q r = refl
@@ -99,25 +98,25 @@ module _ (back : AreBack) (found : AreFound) (none : AreNone) (run : Run) (kind 
   home_in : (event : ℕ) (o : IsOne event (counts_in (cells_of run.setting kind)) (all_ended (entries_to run phase))) → test (home_row o.one) ≡ true
   home_in event o =
       home_kind back (cells_of run.setting kind) o.one (each_among IsLowEnded o.one (all_ended (entries_to run phase)) o.among (run_ended_low run kept orderly phase))
-      ∙ (both_of (is_let_through o.one.event.verdict) (cells_of run.setting kind o.one.event.subject.cell) o.passes).1
+      ∙ (and_parts (is_let_through o.one.event.verdict) (cells_of run.setting kind o.one.event.subject.cell) o.passes).1
 
   -- each event is added at its home, once
   counted_of : (event row : ℕ) (o : IsOne event (counts_in (cells_of run.setting kind)) (all_ended (entries_to run phase))) → times_added event (lines_to run kind phase) row ≡ cond {A = ℕ} (row == home_row o.one) 1 0
   counted_of event row o = at (test row) refl where
     through : is_let_through o.one.event.verdict ≡ true
-    through = (both_of (is_let_through o.one.event.verdict) (cells_of run.setting kind o.one.event.subject.cell) o.passes).0
+    through = (and_parts (is_let_through o.one.event.verdict) (cells_of run.setting kind o.one.event.subject.cell) o.passes).0
 
     at : (b : Bool) → test row ≡ b → times_added event (lines_to run kind phase) row ≡ cond {A = ℕ} (row == home_row o.one) 1 0
     at true t =
         added_on (is_kind_row (cells_of run.setting kind)) event row (all_lines (entries_to run phase)) t
         ∙ (subst (λ n. times_added n (all_lines (entries_to run phase)) row ≡ times (comes_to n row) (all_ended (entries_to run phase))) o.number (run_counts run kept orderly phase o.one.session o.one.event.index row (low_row back found none (cells_of run.setting kind) row t))
         ∙ (o.those (λ one. is_let_through one.event.verdict && (home_row one == row))
-        ∙ (ap (λ b. cond {A = ℕ} (b && (home_row o.one == row)) 1 0) through ∙ ap (λ b. cond {A = ℕ} b 1 0) (swap (home_row o.one) row))))
+        ∙ (ap (λ b. cond {A = ℕ} (b && (home_row o.one == row)) 1 0) through ∙ ap (λ b. cond {A = ℕ} b 1 0) (eq_swap (home_row o.one) row))))
     at false t =
         added_off (is_kind_row (cells_of run.setting kind)) event row (all_lines (entries_to run phase)) t
         ∙ sym (ap (λ b. cond {A = ℕ} b 1 0) (apart (row == home_row o.one) refl)) where
           apart : (b : Bool) → (row == home_row o.one) ≡ b → b ≡ false
-          apart true q = absurd (let e : test row ≡ true = ap (is_kind_row (cells_of run.setting kind)) (eq_of row (home_row o.one) q) ∙ home_in event o in let k : false ≡ true = sym t ∙ e in cc)
+          apart true q = absurd (let e : test row ≡ true = ap (is_kind_row (cells_of run.setting kind)) (eqb-true row (home_row o.one) q) ∙ home_in event o in let k : false ≡ true = sym t ∙ e in cc)
           apart false q = refl
 
   pub counted_all : (event : ℕ) → 1 ≤ count_by (λ y. event == y) (events_to run kind phase) → (row : ℕ) → times_added event (lines_to run kind phase) row ≡ cond {A = ℕ} (row == home_at (rows_by run kind) (whose_to run phase event)) 1 0
@@ -189,7 +188,7 @@ module _ (back : AreBack) (found : AreFound) (none : AreNone) (run : Run) (kind 
   module _ (above : AreQuitAbove) where
     added_at : (one : Ended) → IsAmong one (all_ended (entries_to run phase)) → counts_in (cells_of run.setting kind) one ≡ true → (o : Option ℕ) → counted_slot one.context.slot one.event.verdict ≡ o
         → IsAdded (opened_by (limits_of run.setting)) (actions_to run phase) (lines_to run kind phase) (rows_by run kind) (number_of one) (whose_at (names_by run.change) (entries_to run phase) one o)
-    added_at one m c None q = (both_of (is_let_through one.event.verdict) (cells_of run.setting kind one.event.subject.cell) c).1
+    added_at one m c None q = (and_parts (is_let_through one.event.verdict) (cells_of run.setting kind one.event.subject.cell) c).1
     added_at one m c (Some slot) q = on (each_among (λ (one : Ended). IsKnown one.session (rooms_at run.setting run.change run.labels) (entries_to run phase) one.context) one (all_ended (entries_to run phase)) m (run_known run kept orderly phase)) where
       s : ℕ
       s = one.session
@@ -206,7 +205,7 @@ module _ (back : AreBack) (found : AreFound) (none : AreNone) (run : Run) (kind 
       told : (action : ℕ) → IsTold one.session (rooms_at run.setting run.change run.labels) (entries_to run phase) action one.context
           → IsAdded (opened_by (limits_of run.setting)) (actions_to run phase) (lines_to run kind phase) (rows_by run kind) (number_of one) (Rattle.pfs_conservation.specs.Tables.OfSession one.event.subject.cell slot (session_of (names_by run.change) one) action (quit_in (entries_to run phase) one.session))
       told action t = (
-        (both_of (is_let_through one.event.verdict) (cells_of run.setting kind one.event.subject.cell) c).1,
+        (and_parts (is_let_through one.event.verdict) (cells_of run.setting kind one.event.subject.cell) c).1,
         seat,
         (let n : length (actions_to run phase) ≡ length (each_of action_change (entries_to run phase)) = many_actions in let l : action ≤ length (each_of action_change (entries_to run phase)) = range.1 in omega (arith, n, l)),
         (λ k l b e. no_quit k l e b),

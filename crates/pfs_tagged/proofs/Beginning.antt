@@ -1,6 +1,8 @@
 -- In what a line asks for, no action begins behind what an action does: so none begins behind a take.
 use Rattle.std.proofs.Common.{◌≡◌, refl, ℕ, Bool, true, false, ◌&&◌, ◌||◌, not, List, [], ◌∷◌, ◌++◌, map, sym, ap, subst, ◌∙◌, Option, None}
 use Rattle.std.specs.Prelude.{Ok, Err, if◌then◌else◌}
+use Rattle.std.proofs.lemmas.Bool.{and_from, and_parts}
+use Rattle.pfs_model.proofs.EachLists.{each_join}
 use Rattle.pfs_event.specs.Verdicts.{is_let_through}
 use Rattle.pfs_event.specs.declared.entry.Entry.{Entry}
 use Rattle.pfs_event.specs.declared.entry.Entry.TheVariants as says
@@ -47,15 +49,6 @@ fine Many ask acted = not (begins_ask ask)
 abbrev pub sound : Bool → List Item → Bool
 sound acted [] = true
 sound acted (item ∷ items) = fine item.often item.ask acted && sound (acted || acts item.ask) items
-
-both : (a b : Bool) → a && b ≡ true → (a ≡ true) × (b ≡ true)
-both true true h = (refl, refl)
-both true false h = absurd (cc)
-both false b h = absurd (cc)
-
-two : (a b : Bool) → a ≡ true → b ≡ true → a && b ≡ true
-two true b p q = q
-two false b p q = absurd (cc)
 
 -- what isn't asked as a beginning is none
 calm : (ask : Ask) (e : Entry) → not (begins_ask ask) ≡ true → fits ask e ≡ true → begins e ≡ false
@@ -132,7 +125,7 @@ right_more false b q = q
 pub cut_begun : (items : List Item) (part : List Entry) (acted : Bool) → sound acted items ≡ true → cut items part ≡ Ok [] → AreBegun acted part
 unfolding cut
 cut_begun [] part acted h s = let none : part ≡ [] = cc in subst (AreBegun acted) (sym none) tt
-cut_begun (item ∷ items) part acted h s = by item.often part (both _ _ h).0 (both _ _ h).1 s (cut_begun items) where
+cut_begun (item ∷ items) part acted h s = by item.often part (and_parts _ _ h).0 (and_parts _ _ h).1 s (cut_begun items) where
   Go : Type 0
   Go = (part : List Entry) (acted : Bool) → sound acted items ≡ true → cut items part ≡ Ok [] → AreBegun acted part
 
@@ -160,8 +153,8 @@ is_idle (item ∷ items) = (not (begins_ask item.ask) && not (acts item.ask)) &&
 idle_then : (acted : Bool) (xs ys : List Item) → is_idle xs ≡ true → sound acted ys ≡ true → sound acted (xs ++ ys) ≡ true
 idle_then acted [] ys i s = s
 idle_then acted (x ∷ xs) ys i s =
-    two (fine x.often x.ask acted) (sound (acted || acts x.ask) (xs ++ ys)) (free x.often acted (begins_ask x.ask) (both _ _ (both _ _ i).0).0)
-    (subst (λ b. sound b (xs ++ ys) ≡ true) (still acted (acts x.ask) (both _ _ (both _ _ i).0).1) (idle_then acted xs ys (both _ _ i).1 s)) where
+    and_from (fine x.often x.ask acted) (sound (acted || acts x.ask) (xs ++ ys)) (free x.often acted (begins_ask x.ask) (and_parts _ _ (and_parts _ _ i).0).0)
+    (subst (λ b. sound b (xs ++ ys) ≡ true) (still acted (acts x.ask) (and_parts _ _ (and_parts _ _ i).0).1) (idle_then acted xs ys (and_parts _ _ i).1 s)) where
       free : (often : Often) (acted b : Bool) → not (begins_ask x.ask) ≡ true → fine often x.ask acted ≡ true
       free One acted b n = on acted where
         on : (acted : Bool) → not (acted && begins_ask x.ask) ≡ true
@@ -180,7 +173,7 @@ idle_then acted (x ∷ xs) ys i s =
 
 idle_join : (xs ys : List Item) → is_idle xs ≡ true → is_idle ys ≡ true → is_idle (xs ++ ys) ≡ true
 idle_join [] ys c d = d
-idle_join (x ∷ xs) ys c d = two _ _ (both _ _ c).0 (idle_join xs ys (both _ _ c).1 d)
+idle_join (x ∷ xs) ys c d = and_from _ _ (and_parts _ _ c).0 (idle_join xs ys (and_parts _ _ c).1 d)
 
 idle_added : (rows : List ℕ) → is_idle (map added rows) ≡ true
 idle_added [] = refl
@@ -265,10 +258,6 @@ fresh_part phase session line c (e ∷ es) acted b n = (here acted b.0 n, fresh_
   next true n x q f = absurd (cc)
   next false n true q f = absurd (let g : true ≡ false = sym q ∙ f in cc)
   next false n false q f = source_same (subject_of line) c e q ∙ n refl
-
-each_join : {A : Type 0} (P : A → Type 0) (xs ys : List A) → Each P xs → Each P ys → Each P (xs ++ ys)
-each_join P [] ys a b = b
-each_join P (x ∷ xs) ys a b = (a.0, each_join P xs ys a.1 b)
 
 fresh_lines : (phase session : ℕ) (c : Context) (lines : List Line) (parts : List (List Entry)) → AreShaped c lines parts → Each IsFresh (placed_lines phase session c lines parts)
 fresh_lines phase session c [] parts s = tt

@@ -3,6 +3,7 @@ use Rattle.std.proofs.Common.{◌⊎◌, inl, inr, ◌≡◌, ℕ, zero, suc, �
 use Rattle.std.specs.Prelude.{slice_get}
 use Rattle.std.proofs.lemmas.List.Sums.{sum_by-cons}
 use Rattle.std.proofs.lemmas.Option.{slice_get_past}
+use Rattle.std.proofs.lemmas.Bool.{eqb-true}
 use Rattle.pfs_classes.specs.declared.classes.Class.{Class}
 use Rattle.pfs_classes.specs.declared.setting.Setting.{Setting}
 use Rattle.pfs_conservation.specs.Actions.{RowsAfter, Ranked}
@@ -19,7 +20,6 @@ use Rattle.pfs_ruled.proofs.Classes.{few_classes}
 use Rattle.pfs_tagged.specs.Board.{cells_of, board, row_in, elsewhere, seat_if, seat_by, seat_in, is_somewhere, is_kind_row, kind_rows_from, kind_rows}
 use Rattle.pfs_tagged.proofs.Ranging.{AreNone}
 use Rattle.pfs_tagged.proofs.Seating.{AreBack, AreFound, seat_at}
-use Rattle.pfs_tagged.proofs.Sifting.{eq_of}
 
 -- the cells of a kind are below 64
 pub low_cell : (setting : Setting) (kind : TableKind) (cell : ℕ) → cells_of setting kind cell ≡ true → cell < 64
@@ -203,7 +203,7 @@ module _ (back : AreBack) (found : AreFound) (none : AreNone) (is_cell : ℕ →
     by : (b : Bool) → (row == r) ≡ b → (suc row ≤ r → count_by (λ x. x == r) (kind_rows_from is_cell (suc row) more) ≡ 1) → count_by (λ x. x == r) (cond (is_kind_row is_cell row) (row ∷ []) [] ++ kind_rows_from is_cell (suc row) more) ≡ 1
     by false q ih = at (is_kind_row is_cell row) q (ih (less row r l q))
     by true q ih =
-        let e : row ≡ r = eq_of row r q in
+        let e : row ≡ r = eqb-true row r q in
         ap (λ b. count_by (λ x. x == r) (cond b (row ∷ []) [] ++ kind_rows_from is_cell (suc row) more)) (ap (λ k. is_kind_row is_cell k) e ∙ y)
         ∙ omega (arith, count_cons r row (kind_rows_from is_cell (suc row) more), bit_yes (row == r) q, none_before (suc row) more r (omega arith))
 

@@ -1,5 +1,6 @@
 -- Only a TRUNCATE of the kind's global summary takes a global row.
 use Rattle.std.proofs.Common.{◌≡◌, refl, ℕ, suc, ◌+◌, ◌≤◌, ◌==◌, Bool, true, false, cond, List, [], ◌∷◌, ◌++◌, Option, Some, None, sym, ap, subst, ◌∙◌, inl, inr, arith}
+use Rattle.std.proofs.lemmas.Bool.{eqb-true}
 use Rattle.pfs_conservation.specs.Actions.{moved_by, moves_of}
 use Rattle.pfs_conservation.specs.Administration.{Summary, Accounts, Users, Hosts, Action, Connect, Quit, Truncate, Other, Found, lowest_free, found_where, connect_line, quit_line, line_of, numbered, state_before}
 use Rattle.pfs_conservation.specs.Chains.{Taken}
@@ -28,7 +29,6 @@ use Rattle.pfs_tagged.proofs.Boarding.{low_cell, board_good, row_here}
 use Rattle.pfs_tagged.proofs.Contented.{taken_line}
 use Rattle.pfs_tagged.proofs.Ranging.{AreNone}
 use Rattle.pfs_tagged.proofs.Seating.{AreBack, AreFound}
-use Rattle.pfs_tagged.proofs.Sifting.{eq_of}
 use Rattle.pfs_tagged.proofs.Taking.{is_take, is_take_at, is_taken, two_takes, take_stands, takes_printed, takes_moved}
 use Rattle.pfs_tagged.proofs.Telling.{IsTaken}
 
@@ -44,7 +44,7 @@ cleared_by kind s (Quit number) h = absurd (on (found_where (λ x. x.number == n
   on (Some found) h = cc
 cleared_by kind s (Truncate (Summary number level)) h = at (number == kind) refl level h where
   at : (b : Bool) → (number == kind) ≡ b → (level : Level) → line_takes (cond b (Truncates level) Others) Global ≡ true → Truncate (Summary number level) ≡ Truncate (Summary kind ByAll)
-  at true q ByAll h = ap (λ (n : ℕ). Truncate (Summary n ByAll)) (eq_of number kind q)
+  at true q ByAll h = ap (λ (n : ℕ). Truncate (Summary n ByAll)) (eqb-true number kind q)
   at true q ByThread h = absurd (cc)
   at true q ByAccount h = absurd (cc)
   at true q ByUser h = absurd (cc)
@@ -65,7 +65,7 @@ moved_taken holder takes action row (r ∷ rows) l = at (takes action r) refl (h
   at true q None l go = go l
   at true q (Some owner) l go = own (r == row) refl l where
     own : (b : Bool) → (r == row) ≡ b → 1 ≤ cond {A = ℕ} b 1 0 + times (λ (m : Move). m.from == row) (moves_of holder takes action rows) → takes action row ≡ true
-    own true e l = ap (takes action) (sym (eq_of r row e)) ∙ q
+    own true e l = ap (takes action) (sym (eqb-true r row e)) ∙ q
     own false e l = go (omega (arith, l))
 
 module _ (back : AreBack) (found : AreFound) (none : AreNone) (run : Run) (kind : TableKind) (phase : ℕ) (kept : AreKept run) (cell : ℕ) (low : cells_of run.setting kind cell ≡ true) where

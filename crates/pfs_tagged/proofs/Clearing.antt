@@ -1,5 +1,6 @@
 -- A row that is added to and cleared, and nothing else, shows the events that were added to it and not taken since.
 use Rattle.std.proofs.Common.{◌≡◌, refl, ℕ, ◌+◌, ◌<◌, ◌≤◌, ◌^◌, ◌==◌, ◌&&◌, inl, Bool, true, false, cond, List, [], ◌∷◌, ◌++◌, length, fold, filter, count_by, Some, sym, ap, ◌∙◌, arith}
+use Rattle.pfs_lemmas.proofs.Numbers.{eq_self}
 use Rattle.pfs_conservation.specs.Chains.{Change, Added, Taken, Given, Sums, with_event, changed, content, found_in}
 use Rattle.pfs_conservation.specs.Conservation.{AddsOnce, counts_after, Journals, AreKept, IsSummary, counts_in}
 use Rattle.pfs_conservation.specs.Journeys.{times_counted}
@@ -30,9 +31,6 @@ AreRising [] = Unit {0}
 AreRising (Added events ∷ cs) = AreRising cs
 AreRising (Taken action ∷ cs) = AreLater action cs × AreRising cs
 AreRising (Given action from ∷ cs) = AreRising cs
-
-self : (n : ℕ) → (n == n) ≡ true
-self n = grind arith
 
 -- what the first take takes, behind an addition
 first_plain : (covers : List ℕ) (cs : List Change) (least : ℕ) → Each (IsPlain covers) cs → first_take cs ≡ Some least → counts_after (Some least) covers ≡ false
@@ -140,7 +138,7 @@ module _ (row : ℕ) where
     }
 
     here : cond (row == row) chain [] ≡ chain
-    here = ap (λ b. cond b chain []) (self row)
+    here = ap (λ b. cond b chain []) (eq_self row)
 
     finds : (action r : ℕ) → found action r ≡ found_in (stats measures) found zero_of action (cond (row == r) chain [])
     finds action r = at (row == r) where

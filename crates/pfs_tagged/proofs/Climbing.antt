@@ -5,6 +5,7 @@ use Rattle.std.specs.List.{range_with_len, slice_index_or}
 use Rattle.std.specs.Option.{option_map}
 use Rattle.std.specs.Prelude.{All, filter}
 use Rattle.std.proofs.lemmas.List.Elements.{All-head, All-tail}
+use Rattle.std.proofs.lemmas.Bool.{le-ltb as more, lt-ltb}
 use Rattle.pfs_admin.specs.States.{KindCells, kind_cells}
 use Rattle.pfs_admin.specs.Changing.{up_to}
 use Rattle.pfs_admin.specs.Truncations.{thread_source, account_source, user_source, host_source, place_asks, asks_at, level_asks, emptied, cleared, lower_asks, upper_asks, reach_of, summary_asks, all_asks, digest_ask, digest_asks, truncation_asks}
@@ -149,23 +150,17 @@ level_most row = at (nat_lt row 2177) (nat_lt row 4225) (nat_lt row 8321) where
   at false false true = omega arith
   at false false false = omega arith
 
-less : (a b : ℕ) → a < b → nat_lt a b ≡ true
-less a b l = grind arith
-
-more : (a b : ℕ) → b ≤ a → nat_lt a b ≡ false
-more a b l = grind arith
-
 thread_level : (row : ℕ) → row < 2177 → row_level row ≡ 0
-thread_level row h = ap (λ b. cond b 0 (cond (nat_lt row 4225) 1 (cond {A = ℕ} (nat_lt row 8321) 2 3))) (less row 2177 h)
+thread_level row h = ap (λ b. cond b 0 (cond (nat_lt row 4225) 1 (cond {A = ℕ} (nat_lt row 8321) 2 3))) (lt-ltb row 2177 h)
 
 above_threads : (row : ℕ) → 2177 ≤ row → row_level row ≡ cond (nat_lt row 4225) 1 (cond {A = ℕ} (nat_lt row 8321) 2 3)
 above_threads row l = ap (λ b. cond b 0 (cond (nat_lt row 4225) 1 (cond {A = ℕ} (nat_lt row 8321) 2 3))) (more row 2177 l)
 
 account_level : (row : ℕ) → 2177 ≤ row → row < 4225 → row_level row ≡ 1
-account_level row l h = above_threads row l ∙ ap (λ b. cond b 1 (cond {A = ℕ} (nat_lt row 8321) 2 3)) (less row 4225 h)
+account_level row l h = above_threads row l ∙ ap (λ b. cond b 1 (cond {A = ℕ} (nat_lt row 8321) 2 3)) (lt-ltb row 4225 h)
 
 name_level : (row : ℕ) → 4225 ≤ row → row < 8321 → row_level row ≡ 2
-name_level row l h = above_threads row (omega (arith, l)) ∙ (ap (λ b. cond b 1 (cond {A = ℕ} (nat_lt row 8321) 2 3)) (more row 4225 l) ∙ ap (λ b. cond {A = ℕ} b 2 3) (less row 8321 h))
+name_level row l h = above_threads row (omega (arith, l)) ∙ (ap (λ b. cond b 1 (cond {A = ℕ} (nat_lt row 8321) 2 3)) (more row 4225 l) ∙ ap (λ b. cond {A = ℕ} b 2 3) (lt-ltb row 8321 h))
 
 global_level : (row : ℕ) → 8321 ≤ row → row_level row ≡ 3
 global_level row l = above_threads row (omega (arith, l)) ∙ (ap (λ b. cond b 1 (cond {A = ℕ} (nat_lt row 8321) 2 3)) (more row 4225 (omega (arith, l))) ∙ ap (λ b. cond {A = ℕ} b 2 3) (more row 8321 l))

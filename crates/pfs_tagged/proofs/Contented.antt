@@ -1,5 +1,6 @@
 -- What the lines of a kind make of a row is what stands there, and takes find what stood before them.
 use Rattle.std.proofs.Common.{◌≡◌, refl, ℕ, zero, suc, ◌+◌, ◌-◌, ◌<◌, ◌≤◌, ◌==◌, ◌&&◌, Bool, true, false, not, cond, nat_lt, List, [], ◌∷◌, ◌++◌, length, sym, ap, subst, ◌∙◌, ◌⊎◌, inl, inr, arith}
+use Rattle.std.proofs.lemmas.Bool.{and_parts, eqb-true}
 use Rattle.pfs_conservation.specs.Administration.{numbered}
 use Rattle.pfs_conservation.specs.Chains.{Change, Taken, Sums, changed, content, found_in, found_by}
 use Rattle.pfs_conservation.specs.Lines.{Kind, Adds, Takes, Gives, Tagged, as_change, change_of, is_at, standing, changes_of, chain_of, Stands, Within}
@@ -30,7 +31,7 @@ use Rattle.pfs_tagged.proofs.Contenting as contenting
 use Rattle.pfs_tagged.proofs.Going.{IsWay, asked_ways}
 use Rattle.pfs_tagged.proofs.Ranging.{AreNone, outside, kind_range}
 use Rattle.pfs_tagged.proofs.Seating.{AreBack, AreFound}
-use Rattle.pfs_tagged.proofs.Sifting.{eq_of, both_of, bit_yes, length_if}
+use Rattle.pfs_tagged.proofs.Sifting.{bit_yes, length_if}
 use Rattle.pfs_tagged.proofs.Standing.{IsMade, found_stands}
 use Rattle.pfs_tagged.proofs.Taking.{is_take, is_take_at, is_taken, two_takes, take_stands, none_takes, takes_printed, takes_moved, moved_once}
 use Rattle.pfs_tagged.proofs.Telling.{IsTaken}
@@ -61,7 +62,7 @@ stands_alone (line ∷ lines) row version change s l = at (is_at line row versio
 stood_at : (P : Tagged → Type 0) (lines : List Tagged) (row version : ℕ) (change : Change) → Each P lines → Stands lines row version change
     → (line : Tagged) × (change_of line ≡ change) × (line.row ≡ row) × (line.version ≡ version) × P line
 stood_at P [] row version change h s = absurd s
-stood_at P (line ∷ lines) row version change h (inl s) = (line, s.1, eq_of line.row row (both_of (line.row == row) (line.version == version) s.0).0, eq_of line.version version (both_of (line.row == row) (line.version == version) s.0).1, h.0)
+stood_at P (line ∷ lines) row version change h (inl s) = (line, s.1, eqb-true line.row row (and_parts (line.row == row) (line.version == version) s.0).0, eqb-true line.version version (and_parts (line.row == row) (line.version == version) s.0).1, h.0)
 stood_at P (line ∷ lines) row version change h (inr s) = stood_at P lines row version change h.1 s
 
 -- a take stands as a line

@@ -1,5 +1,6 @@
 -- The versions of lines, from those of the changes that entries are.
 use Rattle.std.proofs.Common.{◌≡◌, refl, ℕ, ◌+◌, ◌≤◌, ◌==◌, ◌&&◌, Bool, true, false, cond, nat_lt, nat_le, List, [], ◌∷◌, ◌++◌, length, ap, ◌∙◌, arith}
+use Rattle.pfs_lemmas.proofs.Numbers.{eq_self}
 use Rattle.pfs_conservation.specs.Chains.{Change as Moved, Added, Taken, Given}
 use Rattle.pfs_conservation.specs.Lines.{Tagged, standing, changes_of}
 use Rattle.pfs_event.specs.declared.entry.Entry.{Entry}
@@ -76,9 +77,6 @@ in_range n v m l e = at (nat_lt 0 v && nat_le v m) refl e where
 -- a change in a chain has a version from 1 to the number of its row's changes
 pub chain_range : (changes : List Change) → IsChained changes → (change : Change) → 1 ≤ times (is_that change) changes → (1 ≤ change.version) × (change.version ≤ times (is_of change.row) changes)
 chain_range changes c change l = in_range (times (is_that change) changes) change.version (times (is_of change.row) changes) l (c change)
-
-eq_self : (n : ℕ) → (n == n) ≡ true
-eq_self n = grind arith
 
 pub that_self : (row version : ℕ) → is_that (change_at row version) (change_at row version) ≡ true
 that_self row version = ap (λ b. b && (version == version)) (eq_self row) ∙ eq_self version

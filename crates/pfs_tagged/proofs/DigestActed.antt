@@ -1,6 +1,7 @@
 -- The lines of digests are acted: a TRUNCATE of their table takes all of their rows, and nothing else takes one.
 use Rattle.std.proofs.Common.{◌≡◌, refl, ℕ, zero, suc, ◌<◌, ◌≤◌, ◌==◌, ◌&&◌, Bool, true, false, cond, nat_lt, nat_le, List, [], ◌∷◌, ◌++◌, length, take, count_by, sym, ap, subst, ◌∙◌, arith}
 use Rattle.std.proofs.lemmas.Option.{slice_get_past}
+use Rattle.std.proofs.lemmas.Bool.{ltb-false, ltb-true}
 use Rattle.pfs_conservation.specs.Actions.{moves_of}
 use Rattle.pfs_conservation.specs.Chains.{Change, Added, Taken, Given}
 use Rattle.pfs_conservation.specs.Digests.{held, clears}
@@ -25,12 +26,6 @@ use Rattle.pfs_tagged.proofs.Printing.{prints, prints_on, moves_as, asked_prints
 use Rattle.pfs_tagged.proofs.Rowed as rowed
 use Rattle.pfs_tagged.proofs.Saying.{actor}
 use Rattle.pfs_tagged.proofs.Sifting.{sifted}
-
-lt_of : (a b : ℕ) → nat_lt a b ≡ true → a < b
-lt_of a b q = grind arith
-
-le_of : (a b : ℕ) → nat_lt a b ≡ false → b ≤ a
-le_of a b q = grind arith
 
 -- a row of no cell is none of a digest either
 pub low : (row : ℕ) → row < 129 → is_digest_row row ≡ false
@@ -73,15 +68,15 @@ module _ (run : Run) (phase : ℕ) (kept : AreKept run) where
   asks (suc k) = at (nat_lt k count) refl where
     at : (b : Bool) → nat_lt k count ≡ b → printed_by lines (suc k) ≡ prints_all run.counted (moves (suc k))
     at true q =
-        let l : k < count = lt_of k count q in
+        let l : k < count = ltb-true k count q in
         printed (suc k)
         ∙ (ap (λ ds. prints_on is_digest_row (prints (suc k) ds)) (early_did phase all kept.rules.joint.ordered.numbers (suc k) (omega arith) (omega (arith, l)) (rowed.said is_digest_row row_above low run phase kept) ∙ kept.rules.done (suc k) (omega arith))
         ∙ (ap (prints_on is_digest_row) (asked_prints run.counted (suc k) (asked_at run.setting run.change run.labels (suc k)))
         ∙ (on_moves is_digest_row run.counted (moves_as (suc k) (asked_at run.setting run.change run.labels (suc k)).moves) (alike_rows run.setting run.change run.labels (suc k))
         ∙ ap (prints_all run.counted) (asked_rows run.setting run.change run.labels (suc k) (clears_to run phase) (early k l)))))
     at false q =
-        nothing (suc k) (λ a h. (let l : count ≤ k = le_of k count q in omega (arith, l, h)))
-        ∙ sym (ap (prints_all run.counted) (none_cleared (suc k) run.setting (clears_to run phase) (late k (le_of k count q))))
+        nothing (suc k) (λ a h. (let l : count ≤ k = ltb-false k count q in omega (arith, l, h)))
+        ∙ sym (ap (prints_all run.counted) (none_cleared (suc k) run.setting (clears_to run phase) (late k (ltb-false k count q))))
 
   pub digest_acted : AreActed run.counted
       (λ action. moves_of held (clears (clears_to run phase) (digest_rows run.setting)) action (digest_rows run.setting))

@@ -1,5 +1,7 @@
 -- Each digested statement is added once, to the row of its digest, which is one of the setting's.
 use Rattle.std.proofs.Common.{◌≡◌, refl, ℕ, ◌≤◌, ◌==◌, ◌&&◌, Bool, true, false, cond, List, length, count_by, sym, ap, subst, ◌∙◌, arith}
+use Rattle.std.proofs.lemmas.Bool.{and_parts, eqb-true}
+use Rattle.pfs_lemmas.proofs.Numbers.{eq_swap}
 use Rattle.pfs_conservation.specs.Lines.{times_added, AllOnce}
 use Rattle.pfs_model.specs.Asks.{digest_row}
 use Rattle.pfs_model.specs.Chains.{times}
@@ -16,10 +18,7 @@ use Rattle.pfs_tagged.proofs.AddedOnce.{all_once}
 use Rattle.pfs_tagged.proofs.AddedRun.{HasText, run_once, run_digests, run_texted}
 use Rattle.pfs_tagged.proofs.DigestRows.{row_range, home_listed, home_inside}
 use Rattle.pfs_tagged.proofs.Offering.{comes_beside}
-use Rattle.pfs_tagged.proofs.Sifting.{eq_of, both_of, bit_yes, bit_no}
-
-swap : (a b : ℕ) → (a == b) ≡ (b == a)
-swap a b = grind arith
+use Rattle.pfs_tagged.proofs.Sifting.{bit_yes, bit_no}
 
 module _ (run : Run) (phase : ℕ) (kept : AreKept run) (orderly : IsOrderly run) where
   abbrev ends : List Ended
@@ -37,7 +36,7 @@ module _ (run : Run) (phase : ℕ) (kept : AreKept run) (orderly : IsOrderly run
   known_once session index row t l =
       let c : times_added (event_number session index) (all_lines (entries_to run phase)) row ≡ times (comes_beside run.flags (event_number session index) row) ends = run_digests run kept orderly phase session index row (row_range row t).0 in
       let o : IsOne (event_number session index) (leads row) ends = one_is (event_number session index) (leads row) ends (run_once run kept orderly phase session index) (omega (arith, c, l)) in
-      let p : (is_digested run.flags o.one.context.slot o.one.event ≡ true) × ((digest_row o.one.event.subject.digest == row) ≡ true) = both_of (is_digested run.flags o.one.context.slot o.one.event) (digest_row o.one.event.subject.digest == row) o.passes in
+      let p : (is_digested run.flags o.one.context.slot o.one.event ≡ true) × ((digest_row o.one.event.subject.digest == row) ≡ true) = and_parts (is_digested run.flags o.one.context.slot o.one.event) (digest_row o.one.event.subject.digest == row) o.passes in
       numbers_count (event_number session index) (is_of_digest run.flags) ends ∙ (o.those (is_of_digest run.flags) ∙ bit_yes (is_digested run.flags o.one.context.slot o.one.event) p.0)
 
   once_all : AllOnce (digested_to run phase) (digest_lines_to run phase)
@@ -62,12 +61,12 @@ module _ (run : Run) (phase : ℕ) (kept : AreKept run) (orderly : IsOrderly run
         added_on is_digest_row event row (all_lines (entries_to run phase)) t
         ∙ (subst (λ n. times_added n (all_lines (entries_to run phase)) row ≡ times (comes_beside run.flags n row) ends) o.number (run_digests run kept orderly phase o.one.session o.one.event.index row (row_range row t).0)
         ∙ (o.those (leads row)
-        ∙ (ap (λ b. cond {A = ℕ} (b && (home == row)) 1 0) o.passes ∙ ap (λ b. cond {A = ℕ} b 1 0) (swap home row))))
+        ∙ (ap (λ b. cond {A = ℕ} (b && (home == row)) 1 0) o.passes ∙ ap (λ b. cond {A = ℕ} b 1 0) (eq_swap home row))))
     at false t =
         added_off is_digest_row event row (all_lines (entries_to run phase)) t
         ∙ sym (bit_no (row == home) (apart (row == home) refl)) where
           apart : (b : Bool) → (row == home) ≡ b → b ≡ false
-          apart true q = absurd (let k : false ≡ true = sym t ∙ (ap is_digest_row (eq_of row home q) ∙ home_inside run.setting o.one.event.subject.digest (text_of event o)) in cc)
+          apart true q = absurd (let k : false ≡ true = sym t ∙ (ap is_digest_row (eqb-true row home q) ∙ home_inside run.setting o.one.event.subject.digest (text_of event o)) in cc)
           apart false q = refl
 
   pub added_once : AreAddedOnce run phase

@@ -2,6 +2,7 @@
 use Rattle.std.proofs.Common.{◌≡◌, refl, ℕ, zero, suc, ◌+◌, ◌<◌, ◌≤◌, ◌==◌, Bool, true, false, cond, nat_lt, nat_le, List, [], ◌∷◌, ◌++◌, length, Option, Some, None, count_by, ap, ◌∙◌, arith}
 use Rattle.std.specs.Prelude.{IfSome}
 use Rattle.std.proofs.lemmas.List.Sums.{sum_by-cons}
+use Rattle.std.proofs.lemmas.Bool.{and_parts}
 use Rattle.pfs_admin.proofs.Celling.{kinds_fit}
 use Rattle.pfs_admin.specs.Opening.{kinds_of}
 use Rattle.pfs_classes.specs.declared.setting.Setting.{Setting}
@@ -9,7 +10,7 @@ use Rattle.pfs_model.specs.Asks.{digest_row}
 use Rattle.pfs_model.specs.Chains.{Each, times}
 use Rattle.pfs_model.specs.Summaries.{is_digest_row}
 use Rattle.pfs_tagged.specs.Digests.{rows_from, digest_rows}
-use Rattle.pfs_tagged.proofs.Sifting.{both_of, bit_yes}
+use Rattle.pfs_tagged.proofs.Sifting.{bit_yes}
 
 pub row_above : (row : ℕ) → 8450 ≤ row → is_digest_row row ≡ false
 row_above row l = grind arith
@@ -21,7 +22,7 @@ pub row_inside : (row : ℕ) → 8385 ≤ row → row < 8450 → is_digest_row r
 row_inside row l h = grind arith
 
 pub row_range : (row : ℕ) → is_digest_row row ≡ true → (8385 ≤ row) × (row < 8450)
-row_range row q = let b : (nat_le 8385 row ≡ true) × (nat_lt row 8450 ≡ true) = both_of (nat_le 8385 row) (nat_lt row 8450) q in (low row b.0, high row b.1) where
+row_range row q = let b : (nat_le 8385 row ≡ true) × (nat_lt row 8450 ≡ true) = and_parts (nat_le 8385 row) (nat_lt row 8450) q in (low row b.0, high row b.1) where
   low : (r : ℕ) → nat_le 8385 r ≡ true → 8385 ≤ r
   low r q = grind arith
 

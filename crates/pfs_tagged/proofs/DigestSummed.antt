@@ -2,6 +2,9 @@
 -- the table took.
 use Rattle.std.proofs.Common.{◌≡◌, refl, ℕ, zero, suc, ◌+◌, ◌<◌, ◌≤◌, ◌^◌, ◌==◌, ◌&&◌, inl, inr, Bool, true, false, cond, nat_lt, nat_le, List, [], ◌∷◌, ◌++◌, length, fold, filter, count_by, Some, sym, ap, subst, ◌∙◌, arith}
 use Rattle.std.proofs.lemmas.List.Sums.{sum_by-cons}
+use Rattle.std.proofs.lemmas.Bool.{and_parts, eqb-true}
+use Rattle.pfs_model.proofs.EachLists.{each_join}
+use Rattle.pfs_lemmas.proofs.Numbers.{eq_self, eq_swap}
 use Rattle.pfs_conservation.specs.Actions.{moves_of}
 use Rattle.pfs_conservation.specs.Chains.{Change, Added, Taken, Given, with_event}
 use Rattle.pfs_conservation.specs.Conservation.{Once, AddsOnce, counts_after}
@@ -26,28 +29,18 @@ use Rattle.pfs_tagged.proofs.DigestAdded.{added_once}
 use Rattle.pfs_tagged.proofs.DigestContent.{contented}
 use Rattle.pfs_tagged.proofs.DigestRows.{rows_once}
 use Rattle.pfs_tagged.proofs.Rowed.{each_map, each_both}
-use Rattle.pfs_tagged.proofs.Sifting.{eq_of, both_of, bit_yes, bit_most}
+use Rattle.pfs_tagged.proofs.Sifting.{bit_yes, bit_most}
 use Rattle.pfs_tagged.proofs.Summed.{fitting, lines_stand}
 use Rattle.pfs_tagged.proofs.Taking.{is_take, is_take_at, is_taken, two_takes, take_stands, takes_printed, takes_moved, moves_few}
 use Rattle.pfs_tagged.proofs.Unordered as unordered
-
-self : (n : ℕ) → (n == n) ≡ true
-self n = grind arith
-
-swap : (a b : ℕ) → (a == b) ≡ (b == a)
-swap a b = grind arith
 
 -- each change of a row's chain stands there as a line
 standing_each : (P : Change → Type 0) (row version : ℕ) (lines : List Tagged) → Each (λ (line : Tagged). line.row ≡ row → P (change_of line)) lines → Each P (standing lines row version)
 standing_each P row version [] h = tt
 standing_each P row version (line ∷ lines) h = at (is_at line row version) refl (standing_each P row version lines h.1) where
   at : (b : Bool) → is_at line row version ≡ b → Each P (standing lines row version) → Each P (cond b (change_of line ∷ []) [] ++ standing lines row version)
-  at true q r = (h.0 (eq_of line.row row (both_of (line.row == row) (line.version == version) q).0), r)
+  at true q r = (h.0 (eqb-true line.row row (and_parts (line.row == row) (line.version == version) q).0), r)
   at false q r = r
-
-each_join : {A : Type 0} (P : A → Type 0) (xs ys : List A) → Each P xs → Each P ys → Each P (xs ++ ys)
-each_join P [] ys a b = b
-each_join P (x ∷ xs) ys a b = (a.0, each_join P xs ys a.1 b)
 
 chain_each : (P : Change → Type 0) (row : ℕ) (lines : List Tagged) → Each (λ (line : Tagged). line.row ≡ row → P (change_of line)) lines → (version more : ℕ) → Each P (chain_from lines row version more)
 chain_each P row lines h version zero = tt
@@ -160,7 +153,7 @@ filter_count test n (x ∷ xs) = at (test x) refl (test n) refl (filter_count te
   apart : (a b : Bool) → test x ≡ a → test n ≡ b → (a ≡ b → ⊥) → (n == x) ≡ false
   apart a b q r d = on (n == x) refl where
     on : (c : Bool) → (n == x) ≡ c → c ≡ false
-    on true e = absurd (d (sym q ∙ (ap test (sym (eq_of n x e)) ∙ r)))
+    on true e = absurd (d (sym q ∙ (ap test (sym (eqb-true n x e)) ∙ r)))
     on false e = refl
 
   at : (a : Bool) → test x ≡ a → (b : Bool) → test n ≡ b → count_by (λ y. n == y) (filter test xs) ≡ cond b (count_by (λ y. n == y) xs) 0
@@ -205,8 +198,8 @@ those_covered cleared (suc last) action q l h = at (action == suc last) refl (cl
 
   at : (a : Bool) → (action == suc last) ≡ a → (b : Bool) → cleared (suc last) ≡ b → (action ≤ last → counts_after (Some action) (those_to cleared last) ≡ false)
       → counts_after (Some action) (cond b (suc last ∷ []) [] ++ those_to cleared last) ≡ false
-  at true e true c go = ap (λ n. nat_lt (suc last) n && counts_after (Some action) (those_to cleared last)) (eq_of action (suc last) e) ∙ ap (λ b. b && counts_after (Some action) (those_to cleared last)) (less (suc last))
-  at true e false c go = absurd (let z : false ≡ true = sym c ∙ (ap cleared (sym (eq_of action (suc last) e)) ∙ q) in cc)
+  at true e true c go = ap (λ n. nat_lt (suc last) n && counts_after (Some action) (those_to cleared last)) (eqb-true action (suc last) e) ∙ ap (λ b. b && counts_after (Some action) (those_to cleared last)) (less (suc last))
+  at true e false c go = absurd (let z : false ≡ true = sym c ∙ (ap cleared (sym (eqb-true action (suc last) e)) ∙ q) in cc)
   at false e true c go = ap (λ b. nat_lt (suc last) action && b) (go (past action last h e)) ∙ none (nat_lt (suc last) action)
   at false e false c go = go (past action last h e)
 
@@ -279,7 +272,7 @@ module _ (words : WordsAgree) (monoid : MergeIsMonoid) (conserved : Conserved) (
     at : (b : Bool) → (first == next) ≡ b → first < next
     at false q = past first next never q
     at true q =
-        let v : Stands lines row high (Taken first) = subst (λ n. Stands lines row high (Taken n)) (sym (eq_of first next q)) u in
+        let v : Stands lines row high (Taken first) = subst (λ n. Stands lines row high (Taken n)) (sym (eqb-true first next q)) u in
         let a : 1 ≤ times (is_take_at first row low) lines = take_stands first row low lines s in
         let b : 1 ≤ times (is_take_at first row high) lines = take_stands first row high lines v in
         let c : times (is_take_at first row low) lines + times (is_take_at first row high) lines ≤ times (is_take first row) lines = two_takes first row low high lines l in
@@ -298,7 +291,7 @@ module _ (words : WordsAgree) (monoid : MergeIsMonoid) (conserved : Conserved) (
   counted_here event l =
       let c : count_by (λ e. event == e) events ≡ cond (leads event) (count_by (λ e. event == e) (digested_to run phase)) 0 = filter_count leads event (digested_to run phase) in
       let p : (leads event ≡ true) × (1 ≤ count_by (λ e. event == e) (digested_to run phase)) = positive (leads event) (count_by (λ e. event == e) (digested_to run phase)) (omega (arith, c, l)) in
-      times_chain event row lines ranged ∙ (added.counted event p.1 row ∙ bit_yes (row == digest_home_to run phase event) (swap row (digest_home_to run phase event) ∙ p.0))
+      times_chain event row lines ranged ∙ (added.counted event p.1 row ∙ bit_yes (row == digest_home_to run phase event) (eq_swap row (digest_home_to run phase event) ∙ p.0))
 
   -- and no other is added to it
   abbrev AddsBelow : List Tagged → Type 0
@@ -307,7 +300,7 @@ module _ (words : WordsAgree) (monoid : MergeIsMonoid) (conserved : Conserved) (
   below : (some : List Tagged) → AddsBelow some → Each (λ (line : Tagged). line.row ≡ row → (n : ℕ) → times_in n line.kind ≤ times_added n lines row) some
   below [] h = tt
   below (line ∷ some) h = (
-    (λ e n. (let l : cond (line.row == row) (times_in n line.kind) 0 + times_added n some row ≤ times_added n lines row = h n in let k : cond (line.row == row) (times_in n line.kind) 0 ≡ times_in n line.kind = ap (λ b. cond b (times_in n line.kind) 0) (ap (λ r. r == row) e ∙ self row) in omega (arith, l, k))),
+    (λ e n. (let l : cond (line.row == row) (times_in n line.kind) 0 + times_added n some row ≤ times_added n lines row = h n in let k : cond (line.row == row) (times_in n line.kind) 0 ≡ times_in n line.kind = ap (λ b. cond b (times_in n line.kind) 0) (ap (λ r. r == row) e ∙ eq_self row) in omega (arith, l, k))),
     below some (λ n. (let l : cond (line.row == row) (times_in n line.kind) 0 + times_added n some row ≤ times_added n lines row = h n in omega (arith, l))),
   )
 
@@ -318,13 +311,13 @@ module _ (words : WordsAgree) (monoid : MergeIsMonoid) (conserved : Conserved) (
     one = o.0
 
     here : 1 ≤ times_added e lines row
-    here = h e (let c : count_by (λ x. x == e) (e ∷ es) ≡ cond (e == e) 1 0 + count_by (λ x. x == e) es = own_cons e e es in let y : cond {A = ℕ} (e == e) 1 0 ≡ 1 = bit_yes (e == e) (self e) in omega (arith, c, y))
+    here = h e (let c : count_by (λ x. x == e) (e ∷ es) ≡ cond (e == e) 1 0 + count_by (λ x. x == e) es = own_cons e e es in let y : cond {A = ℕ} (e == e) 1 0 ≡ 1 = bit_yes (e == e) (eq_self e) in omega (arith, c, y))
 
     times : times_added e lines row ≡ cond {A = ℕ} (row == digest_home_to run phase e) 1 0
     times = added.counted e (omega (arith, one)) row
 
     leads_here : (b : Bool) → (row == digest_home_to run phase e) ≡ b → leads e ≡ true
-    leads_here true q = swap (digest_home_to run phase e) row ∙ q
+    leads_here true q = eq_swap (digest_home_to run phase e) row ∙ q
     leads_here false q = absurd (let z : times_added e lines row ≡ 0 = times ∙ ap (λ b. cond {A = ℕ} b 1 0) q in omega (arith, z, here))
 
   abbrev IsOnceIn : Change → Type 0
@@ -367,7 +360,7 @@ module _ (words : WordsAgree) (monoid : MergeIsMonoid) (conserved : Conserved) (
   both event = at (leads event) refl where
     at : (b : Bool) → (digest_home_to run phase event == row) ≡ b
         → b && counts_after (removal event (chain_of lines (digest_home_to run phase event))) covers ≡ b && counts_after (removal event (chain_of lines row)) covers
-    at true q = ap (λ r. counts_after (removal event (chain_of lines r)) covers) (eq_of (digest_home_to run phase event) row q)
+    at true q = ap (λ r. counts_after (removal event (chain_of lines r)) covers) (eqb-true (digest_home_to run phase event) row q)
     at false q = refl
 
   pub summed : stands_to run phase row ≡ fold (with_event (sums_to run phase)) zero_of (filter (digest_counts_to run phase row) (digested_to run phase))

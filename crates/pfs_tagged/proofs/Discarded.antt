@@ -1,5 +1,7 @@
 -- What the global key shows of a cell and what the printed takes of its global row found is every event of the cell.
-use Rattle.std.proofs.Common.{◌≡◌, refl, ℕ, ◌+◌, ◌<◌, ◌≤◌, ◌^◌, ◌==◌, ◌&&◌, inl, inr, Bool, true, false, cond, List, [], ◌∷◌, map, length, fold, filter, count_by, Option, Some, None, sym, ap, subst, ◌∙◌, arith}
+use Rattle.std.proofs.Common.{◌≡◌, refl, ℕ, ◌+◌, ◌<◌, ◌≤◌, ◌^◌, ◌==◌, ◌&&◌, inl, inr, Bool, true, false, cond, List, [], ◌∷◌, map, length, fold, filter, Option, Some, None, sym, ap, subst, ◌∙◌, arith}
+use Rattle.std.proofs.lemmas.Bool.{eqb-true}
+use Rattle.pfs_lemmas.proofs.Numbers.{eq_self}
 use Rattle.pfs_conservation.specs.Chains.{Taken, with_event, content}
 use Rattle.pfs_conservation.specs.Conservation.{takes_of}
 use Rattle.pfs_conservation.specs.Folds.{Global}
@@ -32,21 +34,18 @@ use Rattle.pfs_tagged.proofs.Discarding.{by_takes, chain_lines, printed}
 use Rattle.pfs_tagged.proofs.Indexing.{times_ended}
 use Rattle.pfs_tagged.proofs.Ranging.{AreNone}
 use Rattle.pfs_tagged.proofs.Seating.{AreBack, AreFound}
-use Rattle.pfs_tagged.proofs.Sifting.{eq_of, bit_yes}
+use Rattle.pfs_tagged.proofs.Sifting.{bit_yes}
 use Rattle.pfs_tagged.proofs.Summed.{fold_same, lines_stand, fitting, acted_by, limits, well, shown_here}
-
-self : (n : ℕ) → (n == n) ≡ true
-self n = grind arith
 
 among_times : (one : Ended) (xs : List Ended) → IsAmong one xs → 1 ≤ times_ended (number_of one) xs
 among_times one [] m = absurd m
-among_times one (x ∷ xs) (inl e) = omega (arith, bit_yes (number_of x == number_of one) (ap (λ (y : Ended). number_of y == number_of one) e ∙ self (number_of one)))
+among_times one (x ∷ xs) (inl e) = omega (arith, bit_yes (number_of x == number_of one) (ap (λ (y : Ended). number_of y == number_of one) e ∙ eq_self (number_of one)))
 among_times one (x ∷ xs) (inr m) = let l : 1 ≤ times_ended (number_of one) xs = among_times one xs m in omega (arith, l)
 
 -- an event whose number ends once is the one of its number
 found_self : (one : Ended) (xs : List Ended) → IsAmong one xs → times_ended (number_of one) xs ≤ 1 → of_number (number_of one) xs ≡ Some one
 found_self one [] m few = absurd m
-found_self one (x ∷ xs) (inl e) few = rw (ap (λ (y : Ended). number_of y == number_of one) e ∙ self (number_of one)) (ap (λ (y : Ended). Some y) e)
+found_self one (x ∷ xs) (inl e) few = rw (ap (λ (y : Ended). number_of y == number_of one) e ∙ eq_self (number_of one)) (ap (λ (y : Ended). Some y) e)
 found_self one (x ∷ xs) (inr m) few = at (number_of x == number_of one) refl few (found_self one xs m) where
   at : (b : Bool) → (number_of x == number_of one) ≡ b → cond {A = ℕ} b 1 0 + times_ended (number_of one) xs ≤ 1 → (times_ended (number_of one) xs ≤ 1 → of_number (number_of one) xs ≡ Some one) → cond b (Some x) (of_number (number_of one) xs) ≡ Some one
   at true q few go = absurd (let l : 1 ≤ times_ended (number_of one) xs = among_times one xs m in omega (arith, l, few))
@@ -78,7 +77,7 @@ in_cell is_cell home cell low (x ∷ xs) h =
           ap (λ (k : ℕ). cond (k == cell) (number_of x ∷ filter (λ event. home event == cell) (map number_of (filter (counts_in is_cell) xs))) (filter (λ event. home event == cell) (map number_of (filter (counts_in is_cell) xs)))) h.0
           ∙ (ap (λ b. cond b (number_of x ∷ filter (λ event. home event == cell) (map number_of (filter (counts_in is_cell) xs))) (filter (λ event. home event == cell) (map number_of (filter (counts_in is_cell) xs)))) q
           ∙ ap (λ (z : List ℕ). number_of x ∷ z) ih)
-      at true true q false r ih = absurd (let z : false ≡ true = sym r ∙ (ap is_cell (eq_of x.event.subject.cell cell q) ∙ low) in cc)
+      at true true q false r ih = absurd (let z : false ≡ true = sym r ∙ (ap is_cell (eqb-true x.event.subject.cell cell q) ∙ low) in cc)
       at true false q true r ih =
           ap (λ (k : ℕ). cond (k == cell) (number_of x ∷ filter (λ event. home event == cell) (map number_of (filter (counts_in is_cell) xs))) (filter (λ event. home event == cell) (map number_of (filter (counts_in is_cell) xs)))) h.0
           ∙ (ap (λ b. cond b (number_of x ∷ filter (λ event. home event == cell) (map number_of (filter (counts_in is_cell) xs))) (filter (λ event. home event == cell) (map number_of (filter (counts_in is_cell) xs)))) q ∙ ih)

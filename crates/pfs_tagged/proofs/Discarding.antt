@@ -1,5 +1,6 @@
 -- What the takes along a row's chain found, put together, is what stood one version before each printed take.
 use Rattle.std.proofs.Common.{◌≡◌, refl, ℕ, ◌-◌, ◌≤◌, ◌==◌, Bool, true, false, cond, List, [], ◌∷◌, ◌++◌, fold, sym, ap, ◌∙◌}
+use Rattle.std.proofs.lemmas.Bool.{eqb-true}
 use Rattle.pfs_conservation.specs.Chains.{Change, Added, Taken, Given}
 use Rattle.pfs_conservation.specs.Conservation.{takes_of}
 use Rattle.pfs_conservation.specs.Lines.{Adds, Takes, Gives, Tagged, change_of, chain_from}
@@ -11,7 +12,6 @@ use Rattle.pfs_stat.specs.Stat.{MergeIsMonoid, merge_of, stat_of_words}
 use Rattle.pfs_stat.specs.declared.Stat.{Stat}
 use Rattle.pfs_tagged.specs.Runs.{found_at}
 use Rattle.pfs_tagged.specs.Tagged.{brought_by, lines_at, all_lines, lines_on}
-use Rattle.pfs_tagged.proofs.Sifting.{eq_of}
 use Rattle.pfs_tagged.proofs.Unordered as unordered
 
 module _ (found : ℕ → Stat) (row : ℕ) (monoid : MergeIsMonoid) where
@@ -69,10 +69,10 @@ module _ (found : ℕ → Stat) (row : ℕ) (monoid : MergeIsMonoid) where
           ≡ fold merge_of here (cond (at == row) (stat_of_words (content row (version - 1)) ∷ []) [] ++ each_of (found_at content row) ps)
       took at version true q true s h ih =
           ap (λ b. fold of_line (cond b (merge_of here (found p.context.action)) here) (lines_on test (all_lines ps))) q
-          ∙ (ap (λ x. fold of_line (merge_of here x) (lines_on test (all_lines ps))) (h.0 p.context.action (eq_of at row q) refl)
+          ∙ (ap (λ x. fold of_line (merge_of here x) (lines_on test (all_lines ps))) (h.0 p.context.action (eqb-true at row q) refl)
           ∙ (ih (merge_of here (stat_of_words (content row (version - 1)))) h.1
           ∙ sym (ap (λ b. fold merge_of here (cond b (stat_of_words (content row (version - 1)) ∷ []) [] ++ each_of (found_at content row) ps)) q)))
-      took at version true q false s h ih = absurd (let z : false ≡ true = sym s ∙ (ap test (eq_of at row q) ∙ t) in cc)
+      took at version true q false s h ih = absurd (let z : false ≡ true = sym s ∙ (ap test (eqb-true at row q) ∙ t) in cc)
       took at version false q true s h ih =
           ap (λ b. fold of_line (cond b (merge_of here (found p.context.action)) here) (lines_on test (all_lines ps))) q
           ∙ (ih here h.1 ∙ sym (ap (λ b. fold merge_of here (cond b (stat_of_words (content row (version - 1)) ∷ []) [] ++ each_of (found_at content row) ps)) q))

@@ -1,5 +1,6 @@
 -- Along a row the numbers of the actions of its lines never fall.
 use Rattle.std.proofs.Common.{◌≡◌, refl, ℕ, ◌<◌, ◌≤◌, ◌==◌, ◌&&◌, Bool, true, false, cond, List, [], ◌∷◌, ◌++◌, sym, ap, subst, ◌∙◌, ◌⊎◌, inl, inr}
+use Rattle.std.proofs.lemmas.Bool.{and_parts, eqb-true}
 use Rattle.pfs_conservation.specs.Chains.{Change}
 use Rattle.pfs_conservation.specs.Lines.{Stands, IsMove, action_of}
 use Rattle.pfs_event.specs.declared.entry.Entry.{Entry}
@@ -7,7 +8,7 @@ use Rattle.pfs_event.specs.declared.entry.Entry.TheVariants as says
 use Rattle.pfs_model.specs.Actions.{Deed, deed_at, deeds_of, IsAmong, NeverFall}
 use Rattle.pfs_model.specs.Places.{Placed, chosen}
 use Rattle.pfs_tagged.specs.Tagged.{lines_at, all_lines, lines_on}
-use Rattle.pfs_tagged.proofs.Sifting.{eq_of, both_of, sifted}
+use Rattle.pfs_tagged.proofs.Sifting.{sifted}
 
 -- one of either list
 among_front : {A : Type 0} (x : A) (xs ys : List A) → IsAmong x xs → IsAmong x (xs ++ ys)
@@ -38,7 +39,7 @@ pub stood_deed : (ps : List Placed) (row version : ℕ) (change : Change) → St
 stood_deed [] row version change s m = absurd s
 stood_deed (p ∷ ps) row version change s m = by p.entry s (stood_deed ps row version change) where
   here : (at v : ℕ) (own : Change) → action_of own ≡ p.context.action → ((at == row) && (v == version) ≡ true) × (own ≡ change) → changing p.context.action at v ≡ changing (action_of change) row version
-  here at v own a h = same_deed p.context.action (action_of change) at row v version (sym a ∙ ap action_of h.1) (eq_of at row (both_of (at == row) (v == version) h.0).0) (eq_of v version (both_of (at == row) (v == version) h.0).1)
+  here at v own a h = same_deed p.context.action (action_of change) at row v version (sym a ∙ ap action_of h.1) (eqb-true at row (and_parts (at == row) (v == version) h.0).0) (eqb-true v version (and_parts (at == row) (v == version) h.0).1)
 
   added : (own : Change) → (IsMove own → ⊥) → own ≡ change → ⊥
   added own n e = n (subst IsMove (sym e) m)

@@ -1,6 +1,7 @@
 -- In what a line asks for, an event is added or held only behind an end, or where held events are settled.
 use Rattle.std.proofs.Common.{◌≡◌, refl, ℕ, Bool, true, false, ◌&&◌, ◌||◌, not, cond, List, [], ◌∷◌, ◌++◌, map, sym, subst, Option}
 use Rattle.std.specs.Prelude.{Ok, Err, if◌then◌else◌}
+use Rattle.std.proofs.lemmas.Bool.{and_parts}
 use Rattle.pfs_event.specs.Verdicts.{is_let_through}
 use Rattle.pfs_event.specs.declared.entry.Entry.{Entry}
 use Rattle.pfs_event.specs.declared.entry.Entry.TheVariants as says
@@ -80,11 +81,6 @@ abbrev pub guards : Bool → List Item → Bool
 guards hand [] = true
 guards hand (item ∷ items) = may item.often item.ask hand && guards (leaves item.often item.ask hand) items
 
-both : (a b : Bool) → a && b ≡ true → (a ≡ true) × (b ≡ true)
-both true true h = (refl, refl)
-both true false h = absurd (cc)
-both false b h = absurd (cc)
-
 -- what isn't asked as one is none
 quiet : (ask : Ask) (e : Entry) → not (asks_feed ask) ≡ true → fits ask e ≡ true → is_feed e ≡ false
 quiet (asks.Summary slot cell) e a f = absurd (cc)
@@ -152,7 +148,7 @@ fed_many ask hand (e ∷ es) a p = at (fits ask e) refl p (fed_many ask (in_reac
 pub cut_fed : (items : List Item) (part : List Entry) (hand : Bool) → guards hand items ≡ true → cut items part ≡ Ok [] → AreFed hand part
 unfolding cut
 cut_fed [] part hand h s = let none : part ≡ [] = cc in subst (AreFed hand) (sym none) tt
-cut_fed (item ∷ items) part hand h s = by item.often part (both _ _ h).0 (both _ _ h).1 s (cut_fed items) where
+cut_fed (item ∷ items) part hand h s = by item.often part (and_parts _ _ h).0 (and_parts _ _ h).1 s (cut_fed items) where
   Go : Type 0
   Go = (part : List Entry) (hand : Bool) → guards hand items ≡ true → cut items part ≡ Ok [] → AreFed hand part
 
@@ -167,11 +163,11 @@ cut_fed (item ∷ items) part hand h s = by item.often part (both _ _ h).0 (both
     less : (part : List Entry) → AreFed (hand && then_hand item.ask hand) part → AreFed hand part
     less part p = on hand (hand && then_hand item.ask hand) refl p where
       on : (a b : Bool) → (hand && then_hand item.ask hand ≡ b) → AreFed b part → AreFed hand part
-      on a true q p = subst (λ z. AreFed z part) (sym (both _ _ q).0) p
+      on a true q p = subst (λ z. AreFed z part) (sym (and_parts _ _ q).0) p
       on a false q p = fed_more hand part p
 
     at : (b : Bool) → fits item.ask e ≡ b → then_cut (if b then Ok es else Ok (e ∷ es)) (cut items) ≡ Ok [] → AreFed hand (e ∷ es)
-    at true f s = taken item.ask e es hand m f (hand && then_hand item.ask hand) (λ q. (both _ _ q).1) (go es (hand && then_hand item.ask hand) g s)
+    at true f s = taken item.ask e es hand m f (hand && then_hand item.ask hand) (λ q. (and_parts _ _ q).1) (go es (hand && then_hand item.ask hand) g s)
     at false f s = less (e ∷ es) (go (e ∷ es) (hand && then_hand item.ask hand) g s)
   by Many part m g s go = fed_many item.ask hand part m (go (behind item.ask part) false g s)
 
@@ -188,7 +184,7 @@ then_more _ t = t
 
 guards_more : (items : List Item) → guards false items ≡ true → guards true items ≡ true
 guards_more [] g = refl
-guards_more (item ∷ items) g = by item.often (both _ _ g).0 (both _ _ g).1 (guards_more items) where
+guards_more (item ∷ items) g = by item.often (and_parts _ _ g).0 (and_parts _ _ g).1 (guards_more items) where
   free : (b : Bool) → b || false ≡ true → b || true ≡ true
   free true m = refl
   free false m = refl

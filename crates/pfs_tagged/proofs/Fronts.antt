@@ -1,5 +1,6 @@
 -- What an action does stands in one phase: all of it up to a phase where its number stands there, and else nothing.
 use Rattle.std.proofs.Common.{◌≡◌, refl, ℕ, ◌+◌, ◌<◌, ◌≤◌, ◌==◌, ◌&&◌, Bool, true, false, cond, nat_lt, nat_le, List, [], ◌∷◌, ◌++◌, length, sym, ap, subst, ◌∙◌, inl, inr, arith}
+use Rattle.std.proofs.lemmas.Bool.{eqb-true}
 use Rattle.pfs_event.specs.declared.entry.Entry.{Entry}
 use Rattle.pfs_event.specs.declared.entry.Entry.TheVariants as says
 use Rattle.pfs_model.specs.Actions.{is_acted}
@@ -9,7 +10,7 @@ use Rattle.pfs_model.specs.Places.{Placed, up_to_phase}
 use Rattle.pfs_model.proofs.Growing.{times_append}
 use Rattle.pfs_tagged.proofs.Counting.{chain_one}
 use Rattle.pfs_tagged.proofs.Saying.{says_number, says_by, IsSaid, HasNumber, said_to, said_range, says_few, zero_rows}
-use Rattle.pfs_tagged.proofs.Sifting.{eq_of, bit_yes, bit_no}
+use Rattle.pfs_tagged.proofs.Sifting.{bit_yes, bit_no}
 
 pub none_did : (e : Entry) → is_acted e ≡ false → did e ≡ []
 none_did (says.Take row version) f = absurd (cc)
@@ -138,7 +139,7 @@ module _ (phase : ℕ) (all : List Placed) (chained : AreChained action_change a
       at : (b : Bool) → nat_le p.phase phase ≡ b → b ≡ true
       at true q = refl
       at false q =
-          let i : IsSaid all p.session p.phase action = subst (λ n. IsSaid all p.session p.phase n) (eq_of p.context.action action e) said in
+          let i : IsSaid all p.session p.phase action = subst (λ n. IsSaid all p.session p.phase n) (eqb-true p.context.action action e) said in
           let m : times (is_that (change_at 0 action)) (each_of action_change (up_to_phase phase all)) + times (says_by p.session p.phase action) all ≤ times (is_that (change_at 0 action)) (each_of action_change (up_to_phase p.phase all)) = said_later phase p.phase p.session action all (over p.phase phase q) in
           let f : times (is_that (change_at 0 action)) (each_of action_change (up_to_phase p.phase all)) ≤ 1 = chain_one (each_of action_change (up_to_phase p.phase all)) (chained p.phase) (change_at 0 action) in
           let o : times (is_that (change_at 0 action)) (each_of action_change (up_to_phase phase all)) ≡ 1 = once action l h in
@@ -155,7 +156,7 @@ module _ (phase : ℕ) (all : List Placed) (chained : AreChained action_change a
     here : (p : Placed) → HasNumber all p → nat_le p.phase phase ≡ true → (p.context.action == action) ≡ true → is_acted p.entry ≡ true → ⊥
     here p (inl n) q e a = let f : is_acted p.entry ≡ false = n.1 in absurd (cc)
     here p (inr said) q e a =
-        let i : IsSaid all p.session p.phase action = subst (λ n. IsSaid all p.session p.phase n) (eq_of p.context.action action e) said in
+        let i : IsSaid all p.session p.phase action = subst (λ n. IsSaid all p.session p.phase n) (eqb-true p.context.action action e) said in
         let r : (1 ≤ action) × (action ≤ length (each_of action_change (up_to_phase phase all))) = said_range phase p.session p.phase action all chained (said_to phase p.session p.phase action all q i) in
         out r.0 r.1
 

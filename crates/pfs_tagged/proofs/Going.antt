@@ -1,6 +1,7 @@
 -- What an action gives goes from the rows that it takes to rows of higher levels, of the same kind.
 use Rattle.std.proofs.Common.{◌≡◌, ℕ, suc, ◌+◌, ◌-◌, ◌<◌, ◌≤◌, Bool, true, false, cond, List, [], ◌∷◌, ◌++◌, take, Option, Some, None, sym, subst, arith}
 use Rattle.std.specs.Prelude.{IfSome}
+use Rattle.pfs_model.proofs.EachLists.{each_join}
 use Rattle.pfs_admin.specs.Asks.{quit_work}
 use Rattle.pfs_admin.specs.Fold.{state_of}
 use Rattle.pfs_admin.specs.Opening.{cells_of as class_cells, kinds_of}
@@ -69,10 +70,6 @@ abbrev pub IsWay : (ℕ → Bool) → Did → Type 0
 IsWay test (Took row) = 129 ≤ row
 IsWay test (Gave row from) = (suc (row_level from) ≤ row_level row) × (test row ≡ test from)
 IsWay test _ = Unit {0}
-
-each_join : {A : Type 0} (P : A → Type 0) (xs ys : List A) → Each P xs → Each P ys → Each P (xs ++ ys)
-each_join P [] ys a b = b
-each_join P (x ∷ xs) ys a b = (a.0, each_join P xs ys a.1 b)
 
 module _ (test : ℕ → Bool) (setting : Setting) (change : Label → Change) (labels : List Label) (number : ℕ) (alike : AllAlike test (moves_as number (asked_at setting change labels number).moves)) where
   abbrev before : State

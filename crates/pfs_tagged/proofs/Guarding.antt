@@ -1,6 +1,7 @@
 -- In what a line asks for, an event is put into a ring only behind its own start or end.
 use Rattle.std.proofs.Common.{◌≡◌, refl, ℕ, Bool, true, false, ◌&&◌, ◌||◌, not, cond, List, [], ◌∷◌, ◌++◌, map, sym, subst, Option}
 use Rattle.std.specs.Prelude.{Ok, Err, if◌then◌else◌}
+use Rattle.std.proofs.lemmas.Bool.{and_parts}
 use Rattle.pfs_event.specs.Verdicts.{is_let_through}
 use Rattle.pfs_event.specs.declared.entry.Entry.{Entry}
 use Rattle.pfs_event.specs.declared.entry.Entry.TheVariants as says
@@ -78,11 +79,6 @@ abbrev pub guards : Bool → List Item → Bool
 guards hand [] = true
 guards hand (item ∷ items) = may item.often item.ask hand && guards (leaves item.often item.ask hand) items
 
-both : (a b : Bool) → a && b ≡ true → (a ≡ true) × (b ≡ true)
-both true true h = (refl, refl)
-both true false h = absurd (cc)
-both false b h = absurd (cc)
-
 -- what isn't asked as a write is none
 quiet : (ask : Ask) (e : Entry) → not (asks_write ask) ≡ true → fits ask e ≡ true → is_write e ≡ false
 quiet asks.Put e a f = absurd (cc)
@@ -143,7 +139,7 @@ put_many ask hand (e ∷ es) a p = at (fits ask e) refl p (put_many ask (in_hand
 pub cut_put : (items : List Item) (part : List Entry) (hand : Bool) → guards hand items ≡ true → cut items part ≡ Ok [] → ArePut hand part
 unfolding cut
 cut_put [] part hand h s = let none : part ≡ [] = cc in subst (ArePut hand) (sym none) tt
-cut_put (item ∷ items) part hand h s = by item.often part (both _ _ h).0 (both _ _ h).1 s (cut_put items) where
+cut_put (item ∷ items) part hand h s = by item.often part (and_parts _ _ h).0 (and_parts _ _ h).1 s (cut_put items) where
   Go : Type 0
   Go = (part : List Entry) (hand : Bool) → guards hand items ≡ true → cut items part ≡ Ok [] → ArePut hand part
 
@@ -158,11 +154,11 @@ cut_put (item ∷ items) part hand h s = by item.often part (both _ _ h).0 (both
     less : (part : List Entry) → ArePut (hand && then_hand item.ask hand) part → ArePut hand part
     less part p = on hand (hand && then_hand item.ask hand) refl p where
       on : (a b : Bool) → (hand && then_hand item.ask hand ≡ b) → ArePut b part → ArePut hand part
-      on a true q p = subst (λ z. ArePut z part) (sym (both _ _ q).0) p
+      on a true q p = subst (λ z. ArePut z part) (sym (and_parts _ _ q).0) p
       on a false q p = put_more hand part p
 
     at : (b : Bool) → fits item.ask e ≡ b → then_cut (if b then Ok es else Ok (e ∷ es)) (cut items) ≡ Ok [] → ArePut hand (e ∷ es)
-    at true f s = taken item.ask e es hand m f (hand && then_hand item.ask hand) (λ q. (both _ _ q).1) (go es (hand && then_hand item.ask hand) g s)
+    at true f s = taken item.ask e es hand m f (hand && then_hand item.ask hand) (λ q. (and_parts _ _ q).1) (go es (hand && then_hand item.ask hand) g s)
     at false f s = less (e ∷ es) (go (e ∷ es) (hand && then_hand item.ask hand) g s)
   by Many part m g s go = put_many item.ask hand part m (go (behind item.ask part) false g s)
 
@@ -178,7 +174,7 @@ then_more _ t = t
 
 guards_more : (items : List Item) → guards false items ≡ true → guards true items ≡ true
 guards_more [] g = refl
-guards_more (item ∷ items) g = by item.often (both _ _ g).0 (both _ _ g).1 (guards_more items) where
+guards_more (item ∷ items) g = by item.often (and_parts _ _ g).0 (and_parts _ _ g).1 (guards_more items) where
   free : (b : Bool) → b || false ≡ true → b || true ≡ true
   free true m = refl
   free false m = refl

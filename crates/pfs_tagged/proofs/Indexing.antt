@@ -1,6 +1,8 @@
 -- No two events of a run have one number, and each ends once.
 use Rattle.std.proofs.Common.{◌≡◌, refl, ℕ, zero, suc, ◌+◌, ◌*◌, ◌<◌, ◌≤◌, ◌==◌, ◌&&◌, Bool, true, false, cond, nat_le, List, [], ◌∷◌, ◌++◌, Option, Some, None, sym, ap, subst, ◌∙◌, ◌⊎◌, inl, inr, arith}
 use Rattle.std.specs.Prelude.{drop}
+use Rattle.std.proofs.lemmas.Bool.{eqb-true}
+use Rattle.pfs_lemmas.proofs.Numbers.{eq_self}
 use Rattle.pfs_event.specs.declared.entry.Entry.{Entry}
 use Rattle.pfs_event.specs.declared.entry.Entry.TheVariants as says
 use Rattle.pfs_model.specs.Chains.{times}
@@ -10,7 +12,6 @@ use Rattle.pfs_model.specs.declared.lines.Opened.{Opened}
 use Rattle.pfs_model.specs.declared.lines.Subject.{Subject}
 use Rattle.pfs_tagged.specs.Ends.{event_number, Ended, number_of, ended_at, ended_first, all_ended}
 use Rattle.pfs_tagged.proofs.AddedWalk.{Comes, Follow, then_told}
-use Rattle.pfs_tagged.proofs.Sifting.{eq_of}
 
 pub number_parts : (s i t j : ℕ) → event_number s i ≡ event_number t j → (s ≡ t) × (i ≡ j)
 number_parts zero i zero j e = (refl, omega (arith, e))
@@ -27,18 +28,15 @@ number_parts (suc s) i (suc t) j e = on (number_parts s i t j (half (event_numbe
   on : (s ≡ t) × (i ≡ j) → (suc s ≡ suc t) × (i ≡ j)
   on r = (ap (λ n. suc n) r.0, r.1)
 
-pub eq_self : (n : ℕ) → (n == n) ≡ true
-eq_self n = grind arith
-
 -- so a number tells the session and the position
 pub number_is : (t j s i : ℕ) → (event_number t j == event_number s i) ≡ ((t == s) && (j == i))
 number_is t j s i = at (event_number t j == event_number s i) refl (t == s) refl (j == i) refl where
   at : (a : Bool) → (event_number t j == event_number s i) ≡ a → (b : Bool) → (t == s) ≡ b → (c : Bool) → (j == i) ≡ c → a ≡ b && c
   at true q true r true z = refl
-  at true q false r c z = let e : t ≡ s = (number_parts t j s i (eq_of (event_number t j) (event_number s i) q)).0 in let f : (t == s) ≡ true = subst (λ n. (t == n) ≡ true) e (eq_self t) in absurd (cc)
-  at true q true r false z = let e : j ≡ i = (number_parts t j s i (eq_of (event_number t j) (event_number s i) q)).1 in let f : (j == i) ≡ true = subst (λ n. (j == n) ≡ true) e (eq_self j) in absurd (cc)
+  at true q false r c z = let e : t ≡ s = (number_parts t j s i (eqb-true (event_number t j) (event_number s i) q)).0 in let f : (t == s) ≡ true = subst (λ n. (t == n) ≡ true) e (eq_self t) in absurd (cc)
+  at true q true r false z = let e : j ≡ i = (number_parts t j s i (eqb-true (event_number t j) (event_number s i) q)).1 in let f : (j == i) ≡ true = subst (λ n. (j == n) ≡ true) e (eq_self j) in absurd (cc)
   at false q true r true z =
-      let e : event_number t j ≡ event_number s i = ap (λ n. event_number n j) (eq_of t s r) ∙ ap (λ n. event_number s n) (eq_of j i z) in
+      let e : event_number t j ≡ event_number s i = ap (λ n. event_number n j) (eqb-true t s r) ∙ ap (λ n. event_number s n) (eqb-true j i z) in
       let f : (event_number t j == event_number s i) ≡ true = subst (λ n. (event_number t j == n) ≡ true) e (eq_self (event_number t j)) in
       absurd (cc)
   at false q true r false z = refl
@@ -96,7 +94,7 @@ module _ (session index : ℕ) where
   started begun None make opened own = inl refl
   started begun (Some s) make opened own = at ((make s).index == index) refl where
     at : (b : Bool) → ((make s).index == index) ≡ b → (cond {A = ℕ} b 1 0 + opened_at index opened ≡ opened_at index opened) ⊎ ((begun ≡ index) × (cond {A = ℕ} b 1 0 + opened_at index opened ≡ opened_at index opened + 1))
-    at true q = inr (sym (own s) ∙ eq_of (make s).index index q, omega arith)
+    at true q = inr (sym (own s) ∙ eqb-true (make s).index index q, omega arith)
     at false q = inl (omega arith)
 
   -- what an end closes

@@ -1,5 +1,6 @@
 -- A session's slot is the one that its connect printed: its connect is its first entry, so none comes later.
 use Rattle.std.proofs.Common.{◌≡◌, refl, ℕ, suc, ◌≤◌, ◌==◌, Bool, true, false, cond, List, [], ◌∷◌, ◌++◌, length, Option, Some, None, sym, ap, subst, ◌∙◌, inl, inr, arith}
+use Rattle.std.proofs.lemmas.Bool.{eqb-true}
 use Rattle.pfs_event.specs.declared.entry.Entry.{Entry}
 use Rattle.pfs_event.specs.declared.entry.Entry.TheVariants as says
 use Rattle.pfs_model.specs.Chains.{Each}
@@ -11,7 +12,6 @@ use Rattle.pfs_runs.specs.Rules.{slot_in}
 use Rattle.pfs_tagged.specs.Ends.{Ended, ended_at, ended_first, all_ended}
 use Rattle.pfs_tagged.specs.Premises.{IsFirst, AreFirstBehind}
 use Rattle.pfs_tagged.proofs.AddedWalk.{Comes, Follow, then_told, told_to, all_followed}
-use Rattle.pfs_tagged.proofs.Sifting.{eq_of}
 use Rattle.pfs_tagged.proofs.Telling.{each_session}
 
 module _ (session : ℕ) where
@@ -24,7 +24,7 @@ module _ (session : ℕ) where
 
   -- nothing but a connect changes the slot, and that has no earlier entry of its session
   noted_slot : (earlier : List Placed) (p : Placed) → (p.session == session) ≡ true → Earlier earlier → (s : Option Subject) (e : Entry) → IsFirst earlier p e → (noted s p.context e).slot ≡ p.context.slot
-  noted_slot earlier p own l s (says.Connect action thread account user host) f = absurd (none (by_session session earlier) (subst (λ z. by_session z earlier ≡ []) (eq_of p.session session own) f) l) where
+  noted_slot earlier p own l s (says.Connect action thread account user host) f = absurd (none (by_session session earlier) (subst (λ z. by_session z earlier ≡ []) (eqb-true p.session session own) f) l) where
     none : (xs : List Placed) → xs ≡ [] → 1 ≤ length xs → ⊥
     none xs e l = let z : length xs ≡ 0 = ap (λ (ys : List Placed). length ys) e in omega (arith, z, l)
   noted_slot earlier p own l s (says.Start event verdict consumers thread class table) f = refl
@@ -94,7 +94,7 @@ all_lasting blocks a = each_session (HasLast blocks) (places blocks) (λ session
       → Each (λ (p : Placed). (p.session == session) ≡ true → HasLast blocks p) ps
   turn session [] h = tt
   turn session (p ∷ ps) h = (
-    (λ own slot e. subst (λ s. slot_in blocks s ≡ Some slot) (sym (eq_of p.session session own)) (comes_slot session (told_to session fresh (places blocks)) (told_by session fresh blocks) (all_followed session blocks).ends ∙ h.0 own slot e)),
+    (λ own slot e. subst (λ s. slot_in blocks s ≡ Some slot) (sym (eqb-true p.session session own)) (comes_slot session (told_to session fresh (places blocks)) (told_by session fresh blocks) (all_followed session blocks).ends ∙ h.0 own slot e)),
     turn session ps h.1,
   )
 

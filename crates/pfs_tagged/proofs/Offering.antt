@@ -1,5 +1,6 @@
 -- Each event that ends is offered to its row once, and to that of its digest: behind its end, added or held.
 use Rattle.std.proofs.Common.{◌≡◌, refl, ℕ, ◌+◌, ◌==◌, ◌&&◌, Bool, true, false, cond, List, [], ◌∷◌, ◌++◌, Option, Some, None, sym, ap, subst, ◌∙◌, arith}
+use Rattle.std.proofs.lemmas.Bool.{eqb-true}
 use Rattle.pfs_event.specs.Verdicts.{is_let_through}
 use Rattle.pfs_event.specs.declared.entry.Entry.{Entry}
 use Rattle.pfs_event.specs.declared.entry.Entry.TheVariants as says
@@ -22,7 +23,7 @@ use Rattle.pfs_tagged.specs.Ends.{event_number, Ended, number_of, ended_at, ende
 use Rattle.pfs_tagged.proofs.AddedFronts.{IsHeaded}
 use Rattle.pfs_tagged.proofs.Feeding.{is_feed, is_source, in_reach, AreFed, cut_fed, shape_feeds}
 use Rattle.pfs_tagged.proofs.Indexing.{number_is}
-use Rattle.pfs_tagged.proofs.Sifting.{eq_of, bit_no}
+use Rattle.pfs_tagged.proofs.Sifting.{bit_no}
 
 -- an entry with which no line begins is of the session and the line of the one before
 abbrev pub Near : ℕ → Context → List Placed → Type 0
@@ -161,8 +162,8 @@ head_feeds row _ f = refl
 
 -- what is paid is offered just where it is due
 pub paid_feeds : (row : ℕ) (due : Due) (e : Entry) → is_paid due e ≡ true → feeds_at row e ≡ owes_to row due
-paid_feeds row (Adds at) (says.Add r version) p = ap (λ n. n == row) (eq_of r at p)
-paid_feeds row (Adds at) (says.Held r first second) p = ap (λ n. n == row) (eq_of r at p)
+paid_feeds row (Adds at) (says.Add r version) p = ap (λ n. n == row) (eqb-true r at p)
+paid_feeds row (Adds at) (says.Held r first second) p = ap (λ n. n == row) (eqb-true r at p)
 paid_feeds row (Adds at) _ p = absurd (cc)
 paid_feeds row (Puts at) (says.Ring r version) p = refl
 paid_feeds row (Puts at) (says.Busy r first second) p = refl

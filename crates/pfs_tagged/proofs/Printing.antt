@@ -1,5 +1,6 @@
 -- What an action prints among the rows of a kind: what it did, but for other rows.
 use Rattle.std.proofs.Common.{◌≡◌, refl, ℕ, ◌==◌, ◌&&◌, Bool, true, false, cond, List, [], ◌∷◌, ◌++◌, sym, ap, ◌∙◌}
+use Rattle.std.proofs.lemmas.Bool.{eqb-true}
 use Rattle.pfs_conservation.specs.Chains.{Change, Taken, Given}
 use Rattle.pfs_conservation.specs.Lines.{Tagged, change_of}
 use Rattle.pfs_conservation.specs.Moves.{Move}
@@ -11,7 +12,6 @@ use Rattle.pfs_model.specs.Asked.{Move as Moving}
 use Rattle.pfs_model.specs.Chains.{Each, each_of}
 use Rattle.pfs_model.specs.Places.{Placed}
 use Rattle.pfs_tagged.specs.Tagged.{lines_at, all_lines, lines_on}
-use Rattle.pfs_tagged.proofs.Sifting.{eq_of}
 
 -- what was done, as an action prints it
 abbrev pub print_of : ℕ → Did → List Print
@@ -39,7 +39,7 @@ printed_all action (p ∷ ps) = by p.entry refl (printed_all action ps) where
 
   one : (row : ℕ) (make : ℕ → Change) (b : Bool) → (p.context.action == action) ≡ b → printed_by (all_lines ps) action ≡ Rest
       → cond b (record { row = row; change = make p.context.action } ∷ []) [] ++ printed_by (all_lines ps) action ≡ cond b (record { row = row; change = make action } ∷ []) [] ++ Rest
-  one row make true q ih = ap (λ n. record { row = row; change = make n } ∷ printed_by (all_lines ps) action) (eq_of p.context.action action q) ∙ ap (λ (z : List Print). record { row = row; change = make action } ∷ z) ih
+  one row make true q ih = ap (λ n. record { row = row; change = make n } ∷ printed_by (all_lines ps) action) (eqb-true p.context.action action q) ∙ ap (λ (z : List Print). record { row = row; change = make action } ∷ z) ih
   one row make false q ih = ih
 
   front : (b : Bool) (ds : List Did) → did p.entry ≡ ds → prints action (each_of did (cond b (p ∷ []) [] ++ of_action action ps)) ≡ prints action (cond b ds [] ++ each_of did (of_action action ps))

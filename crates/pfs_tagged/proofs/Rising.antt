@@ -1,5 +1,6 @@
 -- Along a session the versions of a row rise, since each change is above its floor.
 use Rattle.std.proofs.Common.{◌≡◌, refl, ℕ, ◌<◌, ◌≤◌, ◌==◌, Bool, true, false, cond, List, [], ◌∷◌, ◌++◌, max, sym, ap, subst, ◌∙◌, arith}
+use Rattle.pfs_lemmas.proofs.Numbers.{eq_self}
 use Rattle.pfs_conservation.specs.Lines.{Tagged}
 use Rattle.pfs_conservation.specs.Prints.{Above, Rises}
 use Rattle.pfs_event.specs.declared.entry.Entry.{Entry}
@@ -16,9 +17,6 @@ known_to earlier session row = greatest row (each_of rows_known (by_session sess
 
 max_right : (a b c : ℕ) → b ≤ max (max a b) c
 max_right a b c = omega arith
-
-eq_self : (n : ℕ) → (n == n) ≡ true
-eq_self n = grind arith
 
 greatest_front : (row : ℕ) (xs ys : List Change) → greatest row ys ≤ greatest row (xs ++ ys)
 greatest_front row [] ys = omega arith

@@ -1,5 +1,6 @@
 -- The lines of rows that pass a test: versions, numbers, and what an action prints.
 use Rattle.std.proofs.Common.{◌≡◌, refl, ℕ, ◌+◌, ◌<◌, ◌≤◌, Bool, true, false, cond, nat_le, List, [], ◌∷◌, ◌++◌, length, take, sym, ap, subst, ◌∙◌, inl, inr, arith}
+use Rattle.pfs_lemmas.proofs.Numbers.{le_self}
 use Rattle.pfs_conservation.specs.Chains.{Change}
 use Rattle.pfs_conservation.specs.Lines.{Tagged, as_change, change_of, standing, changes_of, Stands, IsMove, action_of, Within}
 use Rattle.pfs_conservation.specs.Lines.{Kind, Adds, Takes, Gives}
@@ -22,9 +23,6 @@ use Rattle.pfs_tagged.proofs.Saying.{IsSaid, HasNumber, all_said, said_to, said_
 use Rattle.pfs_tagged.proofs.Sifting.{sifted_changes, sifted_few, each_sifted, within_of, by_of, sifted_rises}
 use Rattle.pfs_tagged.proofs.Tagging.{IsLowTag, low_asked, each_did}
 use Rattle.pfs_tagged.proofs.Writing.{IsHigh, all_high}
-
-le_self : (n : ℕ) → nat_le n n ≡ true
-le_self n = grind arith
 
 pub each_map : {A : Type 0} (P Q : A → Type 0) (xs : List A) → ((x : A) → P x → Q x) → Each P xs → Each Q xs
 each_map P Q [] f h = tt

@@ -1,5 +1,8 @@
 -- What an action does stands in the journal that says its number, in the same phase.
 use Rattle.std.proofs.Common.{◌≡◌, refl, ℕ, ◌+◌, ◌≤◌, ◌==◌, ◌&&◌, Bool, true, false, cond, nat_lt, nat_le, List, [], ◌∷◌, ◌++◌, length, sym, ap, subst, ◌∙◌, ◌⊎◌, inl, inr, arith}
+use Rattle.std.proofs.lemmas.Bool.{and_parts, eqb-true}
+use Rattle.pfs_model.proofs.EachLists.{each_join}
+use Rattle.pfs_lemmas.proofs.Numbers.{eq_self}
 use Rattle.pfs_event.specs.declared.entry.Entry.{Entry}
 use Rattle.pfs_event.specs.declared.entry.Entry.TheVariants as says
 use Rattle.pfs_model.specs.declared.lines.Line.{Line}
@@ -13,7 +16,7 @@ use Rattle.pfs_model.proofs.Growing.{times_append}
 use Rattle.pfs_model.proofs.Guarding.{begins, Guarded, cut_guarded, shape_guards}
 use Rattle.pfs_model.proofs.Walking.{IsNoted, noted_is}
 use Rattle.pfs_tagged.proofs.Counting.{that_self, chain_range}
-use Rattle.pfs_tagged.proofs.Sifting.{eq_of, both_of, bit_yes, bit_no}
+use Rattle.pfs_tagged.proofs.Sifting.{bit_yes, bit_no}
 
 -- an entry says this action's number
 abbrev pub says_number : ℕ → Entry → Bool
@@ -32,9 +35,6 @@ HasNumber all p = ((p.context.action ≡ 0) × (is_acted p.entry ≡ false)) ⊎
 
 abbrev pub Among : List Placed → List Placed → Type 0
 Among all ps = (session phase action : ℕ) → times (says_by session phase action) ps ≤ times (says_by session phase action) all
-
-eq_self : (n : ℕ) → (n == n) ≡ true
-eq_self n = grind arith
 
 says_own : (p : Placed) (action : ℕ) → action_change p.entry ≡ change_at 0 action ∷ [] → says_by p.session p.phase action p ≡ true
 says_own p action e =
@@ -60,10 +60,6 @@ among_back : (all xs ys : List Placed) → Among all (xs ++ ys) → Among all ys
 among_back all xs ys h session phase action =
     let l : times (says_by session phase action) (xs ++ ys) ≤ times (says_by session phase action) all = h session phase action in
     omega (arith, l, times_append (says_by session phase action) xs ys)
-
-each_join : {A : Type 0} (P : A → Type 0) (xs ys : List A) → Each P xs → Each P ys → Each P (xs ++ ys)
-each_join P [] ys a b = b
-each_join P (x ∷ xs) ys a b = (a.0, each_join P xs ys a.1 b)
 
 guarded_true : (entries : List Entry) → Guarded true entries
 guarded_true [] = tt
@@ -146,7 +142,7 @@ said_to phase session at action all l s = let e : times (says_by session at acti
       contrary b q r = sym q ∙ r
 
       other : (b : Bool) → says_by session at action p ≡ b → b ≡ false
-      other true h = contrary (nat_le p.phase phase) (ap (λ n. nat_le n phase) (eq_of p.phase at (both_of (p.session == session) (p.phase == at) (both_of ((p.session == session) && (p.phase == at)) (says_number action p.entry) h).0).1) ∙ l) q
+      other true h = contrary (nat_le p.phase phase) (ap (λ n. nat_le n phase) (eqb-true p.phase at (and_parts (p.session == session) (p.phase == at) (and_parts ((p.session == session) && (p.phase == at)) (says_number action p.entry) h).0).1) ∙ l) q
       other false h = refl
 
 pub says_few : (action : ℕ) (e : Entry) (b : Bool) → cond {A = ℕ} (b && says_number action e) 1 0 ≤ times (is_that (change_at 0 action)) (action_change e)
@@ -208,7 +204,7 @@ actor_is session phase action (p ∷ ps) l s = at (says_number action p.entry) r
   later b q z = omega (arith, s, bit_no (((p.session == session) && (p.phase == phase)) && says_number action p.entry) (q ∙ z))
 
   at : (b : Bool) → says_number action p.entry ≡ b → (c : Bool) → ((p.session == session) && (p.phase == phase)) ≡ c → Go → session ≡ cond b p.session (actor ps action)
-  at true q true r go = sym (eq_of p.session session (both_of _ _ r).0)
+  at true q true r go = sym (eqb-true p.session session (and_parts _ _ r).0)
   at true q false r go =
       let o : 1 ≤ times (is_that (change_at 0 action)) (action_change p.entry) = positive _ q in
       let i : IsSaid ps session phase action = later false (ap (λ z. z && says_number action p.entry) r) refl in

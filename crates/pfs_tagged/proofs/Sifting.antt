@@ -1,18 +1,11 @@
 -- Lines of some rows among all lines.
 use Rattle.std.proofs.Common.{◌≡◌, refl, ℕ, ◌+◌, ◌≤◌, ◌==◌, ◌&&◌, Bool, true, false, cond, List, [], ◌∷◌, ◌++◌, length, ap, subst, ◌⊎◌, inl, inr, arith}
+use Rattle.std.proofs.lemmas.Bool.{and_parts, eqb-true}
 use Rattle.pfs_conservation.specs.Chains.{Change}
 use Rattle.pfs_conservation.specs.Lines.{Tagged, change_of, is_at, standing, changes_of, Stands, Within}
 use Rattle.pfs_conservation.specs.Prints.{is_move, Above, Rises, AreBy}
 use Rattle.pfs_model.specs.Chains.{Each}
 use Rattle.pfs_tagged.specs.Tagged.{lines_on}
-
-pub eq_of : (a b : ℕ) → (a == b) ≡ true → a ≡ b
-eq_of a b q = grind arith
-
-pub both_of : (a b : Bool) → (a && b) ≡ true → (a ≡ true) × (b ≡ true)
-both_of true true q = (refl, refl)
-both_of true false q = absurd (cc)
-both_of false b q = absurd (cc)
 
 pub bit_no : (b : Bool) → b ≡ false → cond {A = ℕ} b 1 0 ≡ 0
 bit_no true q = absurd (cc)
@@ -34,7 +27,7 @@ length_if false x ys = omega arith
 pub apart_of : (test : ℕ → Bool) (a b : ℕ) → test a ≡ false → test b ≡ true → (a == b) ≡ false
 apart_of test a b f t = at (a == b) refl where
   at : (c : Bool) → (a == b) ≡ c → c ≡ false
-  at true q = let e : test a ≡ test b = ap test (eq_of a b q) in absurd (cc)
+  at true q = let e : test a ≡ test b = ap test (eqb-true a b q) in absurd (cc)
   at false q = refl
 
 -- a line of such a row is one of all
@@ -48,7 +41,7 @@ sifted test (line ∷ lines) row version change s = at (test line.row) refl s (s
   on g = (g.0, inr g.1)
 
   at : (b : Bool) → test line.row ≡ b → Stands (cond b (line ∷ []) [] ++ lines_on test lines) row version change → (Stands (lines_on test lines) row version change → (test row ≡ true) × Stands lines row version change) → Goal
-  at true q (inl h) go = (subst (λ r. test r ≡ true) (eq_of line.row row (both_of _ _ h.0).0) q, inl h)
+  at true q (inl h) go = (subst (λ r. test r ≡ true) (eqb-true line.row row (and_parts _ _ h.0).0) q, inl h)
   at true q (inr s) go = on (go s)
   at false q s go = on (go s)
 

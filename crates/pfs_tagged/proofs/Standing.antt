@@ -1,10 +1,10 @@
 -- What lines make of a row, change after change, where each makes its row's content of the one before.
 use Rattle.std.proofs.Common.{◌≡◌, refl, ℕ, zero, suc, ◌+◌, ◌-◌, ◌<◌, ◌≤◌, ◌==◌, Bool, true, false, cond, List, [], ◌∷◌, ◌++◌, length, fold, sym, ap, subst, ◌∙◌, arith}
 use Rattle.std.proofs.lemmas.List.Sums.{fold-append}
+use Rattle.std.proofs.lemmas.Bool.{and_parts, eqb-true}
 use Rattle.pfs_conservation.specs.Chains.{Change, Added, Taken, Given, Sums, with_event, changed, content, found_in}
 use Rattle.pfs_conservation.specs.Lines.{Tagged, change_of, is_at, standing, chain_from}
 use Rattle.pfs_model.specs.Chains.{Each}
-use Rattle.pfs_tagged.proofs.Sifting.{eq_of, both_of}
 use Rattle.pfs_tagged.proofs.Taking.{takes_number}
 
 -- one version of a row stands in one line
@@ -20,8 +20,8 @@ one_stands P (line ∷ lines) row version h e = at (is_at line row version) refl
       → (length (standing lines row version) ≡ 1 → (line : Tagged) × (standing lines row version ≡ change_of line ∷ []) × (line.row ≡ row) × (line.version ≡ version) × P line)
       → (one : Tagged) × (cond b (change_of line ∷ []) [] ++ standing lines row version ≡ change_of one ∷ []) × (one.row ≡ row) × (one.version ≡ version) × P one
   at true q e go =
-      let b : ((line.row == row) ≡ true) × ((line.version == version) ≡ true) = both_of (line.row == row) (line.version == version) q in
-      (line, ap (λ (xs : List Change). change_of line ∷ xs) (empty (standing lines row version) e), eq_of line.row row b.0, eq_of line.version version b.1, h.0)
+      let b : ((line.row == row) ≡ true) × ((line.version == version) ≡ true) = and_parts (line.row == row) (line.version == version) q in
+      (line, ap (λ (xs : List Change). change_of line ∷ xs) (empty (standing lines row version) e), eqb-true line.row row b.0, eqb-true line.version version b.1, h.0)
   at false q e go = go e
 
 -- chains go on behind their fronts

@@ -1,5 +1,7 @@
 -- What the rows of a key show is the merge of the events that lead there, where each event is added as it should be.
 use Rattle.std.proofs.Common.{◌≡◌, refl, ℕ, suc, ◌+◌, ◌<◌, ◌≤◌, ◌^◌, ◌==◌, ◌&&◌, Bool, true, false, cond, nat_le, List, [], ◌∷◌, ◌++◌, length, take, fold, filter, count_by, Option, Some, None, sym, ap, subst, ◌∙◌, inl, inr, arith}
+use Rattle.std.proofs.lemmas.Bool.{eqb-true}
+use Rattle.pfs_model.proofs.EachLists.{each_join}
 use Rattle.pfs_conservation.specs.Administration.{numbered, state_after}
 use Rattle.pfs_conservation.specs.Chains.{Change, Added, Taken, Given, with_event, content}
 use Rattle.pfs_conservation.specs.Conservation.{counts_after}
@@ -38,12 +40,7 @@ use Rattle.pfs_tagged.proofs.Folding.{fold_places, length_as}
 use Rattle.pfs_tagged.proofs.Lasting.{HasLast, EndsLast, all_lasting, ends_lasting}
 use Rattle.pfs_tagged.proofs.Ranging.{AreNone}
 use Rattle.pfs_tagged.proofs.Seating.{AreBack, AreFound}
-use Rattle.pfs_tagged.proofs.Sifting.{eq_of}
 use Rattle.pfs_tagged.proofs.Staying.{fold_well}
-
-each_join : {A : Type 0} (P : A → Type 0) (xs ys : List A) → Each P xs → Each P ys → Each P (xs ++ ys)
-each_join P [] ys a b = b
-each_join P (x ∷ xs) ys a b = (a.0, each_join P xs ys a.1 b)
 
 -- what is printed goes by what takes found alone
 prints_agree : (kept other : ℕ → ℕ → Bool) (moves : List Move) → Each (λ (m : Move). kept m.action m.from ≡ other m.action m.from) moves → prints_all kept moves ≡ prints_all other moves
@@ -179,7 +176,7 @@ module _ (back : AreBack) (found : AreFound) (none : AreNone) (words : WordsAgre
     by one last None e = tt
     by one last (Some slot) e = λ number at q leads.
         let k : slot_in run.blocks number ≡ Some at = subst (IsKeyOf run) q is in
-        let s : one.session ≡ number = eq_of one.session number (subst (λ z. leads_key z (session_of (names_by run.change) one) ≡ true) q leads) in
+        let s : one.session ≡ number = eqb-true one.session number (subst (λ z. leads_key z (session_of (names_by run.change) one) ≡ true) q leads) in
         let l : slot_in run.blocks one.session ≡ Some slot = last slot (of_slot one.context.slot one.event.verdict slot e) in
         one_slot at slot (slot_in run.blocks number) k (subst (λ z. slot_in run.blocks z ≡ Some slot) s l)
 

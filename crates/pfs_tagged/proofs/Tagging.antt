@@ -1,6 +1,7 @@
 -- Info rows are written below the rows of cells: what an action tags is what it was asked to sign.
 use Rattle.std.proofs.Common.{◌≡◌, ℕ, ◌+◌, ◌*◌, ◌-◌, ◌<◌, ◌==◌, Bool, true, false, cond, inl, inr, List, [], ◌∷◌, ◌++◌, map, take, Option, Some, None, subst, arith}
 use Rattle.std.specs.Prelude.{IfSome}
+use Rattle.pfs_model.proofs.EachLists.{each_behind, each_front, each_join}
 use Rattle.pfs_admin.specs.Asks.{tag_of, account_tag, user_tag, host_tag, upper_tags, connect_work, quit_work}
 use Rattle.pfs_admin.specs.Fold.{state_of}
 use Rattle.pfs_admin.specs.States.{State, seat_in, seat_at, thread_flags, connected, has_quit}
@@ -31,18 +32,6 @@ IsLowTag _ = Unit {0}
 abbrev pub IsLowSign : Sign → Type 0
 IsLowSign (Releases row) = Unit {0}
 IsLowSign (Tags row content) = row < 129
-
-each_join : {A : Type 0} (P : A → Type 0) (xs ys : List A) → Each P xs → Each P ys → Each P (xs ++ ys)
-each_join P [] ys a b = b
-each_join P (x ∷ xs) ys a b = (a.0, each_join P xs ys a.1 b)
-
-each_front : {A : Type 0} (P : A → Type 0) (xs ys : List A) → Each P (xs ++ ys) → Each P xs
-each_front P [] ys h = tt
-each_front P (x ∷ xs) ys h = (h.0, each_front P xs ys h.1)
-
-each_back : {A : Type 0} (P : A → Type 0) (xs ys : List A) → Each P (xs ++ ys) → Each P ys
-each_back P [] ys h = h
-each_back P (x ∷ xs) ys h = each_back P xs ys h.1
 
 -- the signs of a change
 low_tag : (row : ℕ) (content : Option (List ℕ)) → row < 129 → Each IsLowSign (tag_of row content)
@@ -137,5 +126,5 @@ each_did P (p ∷ ps) h = (here, each_did P ps (λ action l. later action (p.con
   here l = each_front P (did p.entry) _ (subst (λ b. Each P (each_of did (cond b (p ∷ []) [] ++ of_action p.context.action ps))) (eq_self p.context.action) (h p.context.action l))
 
   later : (action : ℕ) (b : Bool) → Each P (each_of did (cond b (p ∷ []) [] ++ of_action action ps)) → Each P (each_of did (of_action action ps))
-  later action true e = each_back P (did p.entry) _ e
+  later action true e = each_behind P (did p.entry) _ e
   later action false e = e

@@ -1,5 +1,7 @@
 -- No action takes a row twice.
 use Rattle.std.proofs.Common.{◌≡◌, refl, ℕ, zero, suc, ◌+◌, ◌<◌, ◌≤◌, ◌==◌, ◌&&◌, Bool, true, false, cond, nat_le, List, [], ◌∷◌, ◌++◌, Option, Some, None, ap, ◌∙◌, inl, inr, arith}
+use Rattle.std.proofs.lemmas.Bool.{eqb-true}
+use Rattle.pfs_lemmas.proofs.Numbers.{eq_self}
 use Rattle.pfs_conservation.specs.Actions.{moved_by, moves_of}
 use Rattle.pfs_conservation.specs.Chains.{Change, Added, Taken, Given}
 use Rattle.pfs_conservation.specs.Lines.{Kind, Adds, Takes, Gives, Tagged, as_change, change_of, is_at, standing, Stands}
@@ -9,7 +11,7 @@ use Rattle.pfs_conservation.specs.Tenures.{Owner}
 use Rattle.pfs_model.specs.Chains.{Each, times}
 use Rattle.pfs_model.proofs.Growing.{times_append}
 use Rattle.pfs_tagged.specs.Board.{is_kind_row, kind_rows_from, kind_rows}
-use Rattle.pfs_tagged.proofs.Sifting.{eq_of, bit_yes, bit_most}
+use Rattle.pfs_tagged.proofs.Sifting.{bit_yes, bit_most}
 
 abbrev pub takes_number : ℕ → Change → Bool
 takes_number action (Taken number) = number == action
@@ -24,15 +26,12 @@ is_take action row line = (line.row == row) && takes_number action (change_of li
 abbrev pub is_take_at : ℕ → ℕ → ℕ → Tagged → Bool
 is_take_at action row version line = is_at line row version && takes_number action (change_of line)
 
-eq_self : (n : ℕ) → (n == n) ≡ true
-eq_self n = grind arith
-
 -- takes at two versions are two
 pub two_takes : (action row low high : ℕ) (lines : List Tagged) → low < high → times (is_take_at action row low) lines + times (is_take_at action row high) lines ≤ times (is_take action row) lines
 two_takes action row low high [] l = omega arith
 two_takes action row low high (line ∷ lines) l = let ih : times (is_take_at action row low) lines + times (is_take_at action row high) lines ≤ times (is_take action row) lines = two_takes action row low high lines l in omega (arith, ih, one (line.row == row) (line.version == low) refl (line.version == high) refl (takes_number action (change_of line))) where
   one : (r a : Bool) → (line.version == low) ≡ a → (b : Bool) → (line.version == high) ≡ b → (t : Bool) → cond {A = ℕ} ((r && a) && t) 1 0 + cond {A = ℕ} ((r && b) && t) 1 0 ≤ cond {A = ℕ} (r && t) 1 0
-  one true true q true s t = let e : line.version ≡ low = eq_of line.version low q in let f : line.version ≡ high = eq_of line.version high s in absurd (omega (arith, e, f, l))
+  one true true q true s t = let e : line.version ≡ low = eqb-true line.version low q in let f : line.version ≡ high = eqb-true line.version high s in absurd (omega (arith, e, f, l))
   one true true q false s t = omega (arith, bit_most t)
   one true false q true s t = omega (arith, bit_most t)
   one true false q false s t = omega (arith, bit_most t)

@@ -1,5 +1,7 @@
 -- What a session's entries so far tell, kept from entry to entry: its last take stands, and what it brings has ended.
 use Rattle.std.proofs.Common.{◌≡◌, refl, ℕ, ◌+◌, ◌≤◌, ◌==◌, Bool, true, false, cond, List, [], ◌∷◌, ◌++◌, Option, Some, None, sym, ap, subst, ◌∙◌, ◌⊎◌, inl, inr, arith}
+use Rattle.std.proofs.lemmas.Bool.{eqb-true}
+use Rattle.pfs_model.proofs.EachLists.{each_join}
 use Rattle.pfs_event.specs.declared.entry.Entry.{Entry}
 use Rattle.pfs_event.specs.declared.entry.Entry.TheVariants as says
 use Rattle.pfs_model.specs.Chains.{Each}
@@ -11,7 +13,7 @@ use Rattle.pfs_tagged.specs.Ends.{event_number, Ended, number_of, ended_at, ende
 use Rattle.pfs_tagged.proofs.AddedWalk.{Comes, Follow, then_told}
 use Rattle.pfs_tagged.proofs.Beginning.{IsFresh}
 use Rattle.pfs_tagged.proofs.Indexing.{is_number, times_ended}
-use Rattle.pfs_tagged.proofs.Sifting.{eq_of, bit_yes}
+use Rattle.pfs_tagged.proofs.Sifting.{bit_yes}
 
 -- what each entry of a session keeps holds before each of them
 module _ (session : ℕ) (Holds : Context → Type 0) (turns : (c : Context) → Holds c → Holds (turned c)) where
@@ -90,10 +92,6 @@ pub record HasEnded (session : ℕ) (all : List Ended) (c : Context) : Type 0 wh
   pub ended : Each (IsEnded session all) (own_event c.ended)
   pub waiting : Each (λ (w : Waiting). IsEnded session all w.event) c.waiting
 
-each_join : {A : Type 0} (P : A → Type 0) (xs ys : List A) → Each P xs → Each P ys → Each P (xs ++ ys)
-each_join P [] ys a b = b
-each_join P (x ∷ xs) ys a b = (a.0, each_join P xs ys a.1 b)
-
 abbrev IsAllOf : ℕ → List Ended → List Ended → Type 0
 IsAllOf session all ends = (event : Opened) → IsEnded session ends event → IsEnded session all event
 
@@ -135,7 +133,7 @@ ended_step session all p own among h = by p.entry among where
 
   first : (opened : List Opened) → Among (ended_first p opened) → Each (IsEnded session all) (own_event (first_of opened))
   first [] among = tt
-  first (event ∷ events) among = (among event (inl (eq_of p.session session own, refl)), tt)
+  first (event ∷ events) among = (among event (inl (eqb-true p.session session own, refl)), tt)
 
   by : (e : Entry) → Among (ended_at p e) → HasEnded session all (noted (subject_of p.line) p.context e)
   by (says.Start event verdict consumers thread class table) among = record { ended = tt; waiting = h.waiting }
@@ -171,7 +169,7 @@ all_brought ps follow =
           → Each (λ (p : Placed). (p.session == session) ≡ true → (row : ℕ) → Each (IsEnded p.session (all_ended ps)) (brought p.context row)) qs
       turn session [] h = tt
       turn session (p ∷ qs) h = (
-        (λ own row. subst (λ s. Each (IsEnded s (all_ended ps)) (brought p.context row)) (sym (eq_of p.session session own)) (brought_ended session (all_ended ps) p.context row (h.0 own))),
+        (λ own row. subst (λ s. Each (IsEnded s (all_ended ps)) (brought p.context row)) (sym (eqb-true p.session session own)) (brought_ended session (all_ended ps) p.context row (h.0 own))),
         turn session qs h.1,
       )
 

@@ -2,6 +2,7 @@
 use Rattle.std.proofs.Common.{◌≡◌, refl, ℕ, zero, suc, ◌+◌, ◌<◌, ◌≤◌, ◌==◌, ◌&&◌, Bool, true, false, cond, nat_le, nat_lt, List, [], ◌∷◌, ◌++◌, length, Option, Some, None, sym, ap, ◌∙◌, arith}
 use Rattle.std.specs.Prelude.{slice_get}
 use Rattle.std.proofs.lemmas.Option.{slice_get_past}
+use Rattle.std.proofs.lemmas.Bool.{and_parts, eqb-true}
 use Rattle.pfs_admin.proofs.Celling.{kinds_fit}
 use Rattle.pfs_admin.specs.Opening.{cells_of_kind, kinds_of}
 use Rattle.pfs_admin.specs.States.{kind_cells}
@@ -32,7 +33,6 @@ use Rattle.pfs_tagged.proofs.Climbing.{IsAsking, each_digests, each_summary, eac
 use Rattle.pfs_tagged.proofs.Emptying.{asked, asked_then, none_asked, Reaches, reach_same}
 use Rattle.pfs_tagged.proofs.Printing.{moves_as, moves_on, AreAlike, AllAlike}
 use Rattle.pfs_tagged.proofs.Seating.{AreBack, none_of_all}
-use Rattle.pfs_tagged.proofs.Sifting.{eq_of, both_of}
 use Rattle.pfs_truncations.specs.declared.truncations.Truncation.{Truncation}
 use Rattle.pfs_truncations.specs.declared.truncations.Truncation.TheVariants.{Events, Summary, DigestSummary, Accounts, Users, Hosts, SetupActors, SetupObjects}
 
@@ -49,10 +49,10 @@ digest_apart back is_cell (suc digest) l =
 -- no cell is of two kinds
 class_apart : (o : Option Class) (other kind : TableKind) → (kind_number other == kind_number kind) ≡ false → is_class_of other o ≡ true → is_class_of kind o ≡ false
 class_apart None other kind d q = refl
-class_apart (Some class) other kind d q = ap (λ n. n == kind_number kind) (eq_of (kind_number (table_kind class.kind)) (kind_number other) q) ∙ d
+class_apart (Some class) other kind d q = ap (λ n. n == kind_number kind) (eqb-true (kind_number (table_kind class.kind)) (kind_number other) q) ∙ d
 
 high : (classes : List Class) (kind : TableKind) (cell : ℕ) → length classes ≤ 62 → nat_le 62 cell && nat_lt cell 64 ≡ true → is_class_of kind (slice_get classes cell) ≡ false
-high classes kind cell few q = ap (is_class_of kind) (slice_get_past classes cell (let l : 62 ≤ cell = from cell (both_of (nat_le 62 cell) (nat_lt cell 64) q).0 in omega (arith, few, l))) where
+high classes kind cell few q = ap (is_class_of kind) (slice_get_past classes cell (let l : 62 ≤ cell = from cell (and_parts (nat_le 62 cell) (nat_lt cell 64) q).0 in omega (arith, few, l))) where
   from : (c : ℕ) → nat_le 62 c ≡ true → 62 ≤ c
   from c e = grind arith
 

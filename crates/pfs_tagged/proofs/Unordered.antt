@@ -1,10 +1,10 @@
 -- What is made of the changes of a row is made of its lines in any order, where the order of the steps is of no account.
 use Rattle.std.proofs.Common.{◌≡◌, refl, ℕ, zero, suc, ◌+◌, ◌≤◌, ◌==◌, ◌&&◌, ◌||◌, Bool, true, false, cond, nat_lt, nat_le, List, [], ◌∷◌, ◌++◌, fold, sym, ap, ◌∙◌, arith}
 use Rattle.std.proofs.lemmas.List.Sums.{fold-append}
+use Rattle.std.proofs.lemmas.Bool.{eqb-true}
 use Rattle.pfs_conservation.specs.Chains.{Change}
 use Rattle.pfs_conservation.specs.Lines.{Tagged, change_of, is_at, standing, chain_from}
 use Rattle.pfs_model.specs.Chains.{Each}
-use Rattle.pfs_tagged.proofs.Sifting.{eq_of}
 
 module _ {A : Type 0} (step : A → Change → A) (row : ℕ) (swapped : (here : A) (c d : Change) → step (step here c) d ≡ step (step here d) c) where
   later : (c : Change) (cs : List Change) (here : A) → fold step (step here c) cs ≡ step (fold step here cs) c
@@ -75,5 +75,5 @@ module _ {A : Type 0} (step : A → Change → A) (row : ℕ) (swapped : (here :
         both v n l m = grind arith
 
         at : (b : Bool) → (line.row == row) ≡ b → (b && (nat_le 1 line.version && nat_lt line.version (1 + count))) ≡ b
-        at true q = let r : (1 ≤ line.version) × (line.version ≤ count) = h.0 (eq_of line.row row q) in both line.version count r.0 r.1
+        at true q = let r : (1 ≤ line.version) × (line.version ≤ count) = h.0 (eqb-true line.row row q) in both line.version count r.0 r.1
         at false q = refl

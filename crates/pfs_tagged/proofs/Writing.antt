@@ -1,6 +1,8 @@
 -- What is written to a ring stands at one of its rows: the rows of cells are changed by additions, takes and gives
 -- alone.
 use Rattle.std.proofs.Common.{◌≡◌, refl, ℕ, ◌+◌, ◌*◌, ◌%◌, ◌≤◌, Bool, true, false, cond, List, [], ◌∷◌, ◌++◌, Option, Some, None, sym, ap, subst, ◌∙◌, arith}
+use Rattle.std.proofs.lemmas.Bool.{eqb-true}
+use Rattle.pfs_model.proofs.EachLists.{each_join}
 use Rattle.pfs_event.specs.Verdicts.{is_let_through}
 use Rattle.pfs_event.specs.declared.entry.Entry.{Entry}
 use Rattle.pfs_event.specs.declared.entry.Entry.TheVariants as says
@@ -19,7 +21,6 @@ use Rattle.pfs_model.specs.Shapes.{shape, counted_slot}
 use Rattle.pfs_model.specs.declared.lines.Line.{Line}
 use Rattle.pfs_model.specs.declared.lines.Opened.{Opened}
 use Rattle.pfs_tagged.proofs.Guarding.{is_write, is_event, in_hand, ArePut, cut_put, shape_puts}
-use Rattle.pfs_tagged.proofs.Sifting.{eq_of}
 
 -- the row of a write is past those of cells
 abbrev pub IsHigh : Entry → Type 0
@@ -35,10 +36,10 @@ IsHighDue due = Unit {0}
 high_paid : (due : Due) (e : Entry) → IsHighDue due → is_paid due e ≡ true → IsHigh e
 high_paid (Adds row) (says.Ring at version) h p = absurd (cc)
 high_paid (Adds row) (says.Long at version ticket) h p = absurd (cc)
-high_paid (Puts row) (says.Ring at version) h p = let e : at ≡ row = eq_of at row p in let l : 8450 ≤ row = h in omega (arith, e, l)
+high_paid (Puts row) (says.Ring at version) h p = let e : at ≡ row = eqb-true at row p in let l : 8450 ≤ row = h in omega (arith, e, l)
 high_paid (Puts row) (says.Long at version ticket) h p = absurd (cc)
 high_paid (PutsLong kind) (says.Ring at version) h p = absurd (cc)
-high_paid (PutsLong kind) (says.Long at version ticket) h p = let e : at ≡ 10242 + 1000 * kind + ticket % 1000 = eq_of at (long_row kind ticket) p in omega (arith, e)
+high_paid (PutsLong kind) (says.Long at version ticket) h p = let e : at ≡ 10242 + 1000 * kind + ticket % 1000 = eqb-true at (long_row kind ticket) p in omega (arith, e)
 high_paid due _ h p = tt
 
 high_all : (dues : List Due) (entries : List Entry) → Each IsHighDue dues → ArePaid dues entries → Each IsHigh entries
@@ -46,10 +47,6 @@ high_all [] [] h p = tt
 high_all [] (e ∷ es) h p = absurd p
 high_all (due ∷ dues) [] h p = absurd p
 high_all (due ∷ dues) (e ∷ es) h p = (high_paid due e h.0 p.0, high_all dues es h.1 p.1)
-
-each_join : {A : Type 0} (P : A → Type 0) (xs ys : List A) → Each P xs → Each P ys → Each P (xs ++ ys)
-each_join P [] ys a b = b
-each_join P (x ∷ xs) ys a b = (a.0, each_join P xs ys a.1 b)
 
 high_if : (asked : Bool) (due : Due) → IsHighDue due → Each IsHighDue (due_if asked due)
 high_if true due h = (h, tt)

@@ -1,5 +1,6 @@
 -- That numbers differ, through the steps.
 use Rattle.std.proofs.Common.{◌≡◌, ℕ, subst, zero, suc, ◌+◌, ◌≤◌, ◌≢◌, ◌⊎◌, true, List, [], ◌∷◌, ◌++◌, length, set, sym, refl, ap, ◌∙◌, inl, inr, ⊎_elim, arith}
+use Rattle.pfs_lemmas.proofs.Bools.{true_not_false}
 use mathlib.Core.Logic.{dite}
 use mathlib.Core.Option.{some, some-injective, some-ne-none}
 use native.Mathlib.Decide.{ℕ_discrete}
@@ -9,7 +10,7 @@ use Rattle.pfs_tickets.specs.declared.view.Drawn.{Drawn}
 use Rattle.pfs_tickets.specs.declared.view.View.{View}
 use Rattle.pfs_tickets.specs.Knowledge.{split_left, split_right, joined, spent, root}
 use Rattle.pfs_tickets.specs.Rule.{Makers, Numbers}
-use Rattle.pfs_tickets.proofs.ListFacts.{each_map, each_append, true_not_false, at_below, at_end}
+use Rattle.pfs_tickets.proofs.ListFacts.{each_map, each_append, at_below, at_end}
 
 pub makers_map : (P Q : ℕ → Type 0) → ((n : ℕ) → P n → Q n) → (v : View) → Makers P v → Makers Q v
 makers_map P Q f v m = each_map (λ (x : Drawn). P x.by) (λ (x : Drawn). Q x.by) (λ x p. f x.by p) v.tickets m

@@ -1,29 +1,30 @@
 -- What follows from a list of tickets alone.
 use Rattle.std.proofs.Common.{◌≡◌, ℕ, eqb, eq-eqb, ne_eqb, ◌+◌, ◌<◌, ◌≤◌, ◌≢◌, cond, List, [], ◌∷◌, ◌++◌, length, refl, ◌∙◌, arith}
+use Rattle.std.proofs.lemmas.Bool.{cond-false, cond-true}
 use mathlib.Core.Logic.{dite}
 use native.Mathlib.Decide.{ℕ_discrete}
 use Rattle.pfs_tickets.specs.declared.view.Drawn.{Drawn}
 use Rattle.pfs_tickets.specs.History.{Each, count_of, times, IsRising}
-use Rattle.pfs_tickets.proofs.ListFacts.{if_true, if_false, each_map, each_append}
+use Rattle.pfs_tickets.proofs.ListFacts.{each_map, each_append}
 
 module _ (x : Drawn) (xs : List Drawn) where
   pub count_here : (k : ℕ) → x.kind ≡ k → count_of k (x ∷ xs) ≡ count_of k xs + 1
-  count_here k h = if_true (eqb x.kind k) (count_of k xs + 1) (count_of k xs) (eq-eqb x.kind k h)
+  count_here k h = cond-true (eqb x.kind k) (count_of k xs + 1) (count_of k xs) (eq-eqb x.kind k h)
 
   pub count_other : (k : ℕ) → x.kind ≢ k → count_of k (x ∷ xs) ≡ count_of k xs
-  count_other k h = if_false (eqb x.kind k) (count_of k xs + 1) (count_of k xs) (ne_eqb x.kind k h)
+  count_other k h = cond-false (eqb x.kind k) (count_of k xs + 1) (count_of k xs) (ne_eqb x.kind k h)
 
   times_kind : (k t : ℕ) → x.kind ≡ k → times k t (x ∷ xs) ≡ cond (eqb x.ticket t) (times k t xs + 1) (times k t xs)
-  times_kind k t h = if_true (eqb x.kind k) (cond (eqb x.ticket t) (times k t xs + 1) (times k t xs)) (times k t xs) (eq-eqb x.kind k h)
+  times_kind k t h = cond-true (eqb x.kind k) (cond (eqb x.ticket t) (times k t xs + 1) (times k t xs)) (times k t xs) (eq-eqb x.kind k h)
 
   pub times_here : (k t : ℕ) → x.kind ≡ k → x.ticket ≡ t → times k t (x ∷ xs) ≡ times k t xs + 1
-  times_here k t h e = times_kind k t h ∙ if_true (eqb x.ticket t) (times k t xs + 1) (times k t xs) (eq-eqb x.ticket t e)
+  times_here k t h e = times_kind k t h ∙ cond-true (eqb x.ticket t) (times k t xs + 1) (times k t xs) (eq-eqb x.ticket t e)
 
   pub times_else : (k t : ℕ) → x.kind ≡ k → x.ticket ≢ t → times k t (x ∷ xs) ≡ times k t xs
-  times_else k t h n = times_kind k t h ∙ if_false (eqb x.ticket t) (times k t xs + 1) (times k t xs) (ne_eqb x.ticket t n)
+  times_else k t h n = times_kind k t h ∙ cond-false (eqb x.ticket t) (times k t xs + 1) (times k t xs) (ne_eqb x.ticket t n)
 
   pub times_other : (k t : ℕ) → x.kind ≢ k → times k t (x ∷ xs) ≡ times k t xs
-  times_other k t h = if_false (eqb x.kind k) (cond (eqb x.ticket t) (times k t xs + 1) (times k t xs)) (times k t xs) (ne_eqb x.kind k h)
+  times_other k t h = cond-false (eqb x.kind k) (cond (eqb x.ticket t) (times k t xs + 1) (times k t xs)) (times k t xs) (ne_eqb x.kind k h)
 
 pub count_low : (k : ℕ) (xs : List Drawn) → count_of k xs ≤ length xs
 count_low k [] = omega arith

@@ -1,15 +1,13 @@
 -- What stands at places that are kept where a session has them, and what totals are there.
 use Rattle.std.proofs.Common.{◌≡◌, refl, ℕ, zero, suc, ◌+◌, ◌<◌, ◌||◌, Bool, true, false, cond, List, [], ◌∷◌, length, Option, Some, None, slice_index_or, sym, ap, ◌∙◌, eq-eqb, arith}
-use Rattle.std.proofs.lemmas.Bool.{false≢true, eqb-true}
+use Rattle.std.proofs.lemmas.Bool.{false≢true}
+use Rattle.pfs_lemmas.proofs.Numbers.{zero_plus}
+use Rattle.pfs_lemmas.proofs.Bools.{or_true}
 use Rattle.pfs_containers.specs.Administration.{current, totals_kept_from, currents_from}
 use Rattle.pfs_containers.specs.Connections.{entry_at, is_from, has_by, in_use, kept_if, kept_from}
 use Rattle.pfs_containers.specs.declared.containers.Connection.{Connection}
 use Rattle.pfs_containers.proofs.Totals.{len_kept_totals, len_currents}
 use Rattle.pfs_truncated.specs.Laws.{HasSession, HasNoSession, AreFreed, AreCountedAnew, AreCountedOn}
-
-or_true : (b : Bool) → (b || true) ≡ true
-or_true true = refl
-or_true false = refl
 
 no_entry : (x : Connection) → ◌≡◌ {A = Option Connection} None (Some x) → ⊥
 no_entry x e = cc
@@ -67,9 +65,6 @@ current_read n (suc place) counts (total ∷ totals) l =
     let same : suc n + place ≡ n + suc place = omega arith in
     current_read (suc n) place counts totals (omega (arith, l)) ∙ ap counts same
 
-plus : (place : ℕ) → 0 + place ≡ place
-plus place = omega arith
-
 -- so a level is freed where no session is, and its totals are counted anew or on
 pub are_freed : (X : Type 0) (which : Connection → Option ℕ) (threads : List (Option Connection)) (xs : List (Option X)) → AreFreed X which threads xs (kept_from 0 (in_use which threads) xs)
 are_freed X which threads xs = record {
@@ -78,12 +73,12 @@ are_freed X which threads xs = record {
   freed = λ place h. read place false (unused which threads place h);
 } where
   read : (place : ℕ) (b : Bool) → in_use which threads place ≡ b → entry_at (kept_from 0 (in_use which threads) xs) place ≡ kept_if b (entry_at xs place)
-  read place b e = kept_read 0 place (in_use which threads) xs ∙ ap (λ z. kept_if z (entry_at xs place)) (ap (in_use which threads) (plus place) ∙ e)
+  read place b e = kept_read 0 place (in_use which threads) xs ∙ ap (λ z. kept_if z (entry_at xs place)) (ap (in_use which threads) (zero_plus place) ∙ e)
 
 pub are_counted_anew : (which : Connection → Option ℕ) (threads : List (Option Connection)) (totals : List ℕ) → AreCountedAnew which threads totals (currents_from 0 (current which threads) totals)
 are_counted_anew which threads totals = record {
   numbers = len_currents 0 (current which threads) totals;
-  now = λ place l. current_read 0 place (current which threads) totals l ∙ ap (current which threads) (plus place);
+  now = λ place l. current_read 0 place (current which threads) totals l ∙ ap (current which threads) (zero_plus place);
 }
 
 pub are_counted_on : (which : Connection → Option ℕ) (threads : List (Option Connection)) (totals : List ℕ) → AreCountedOn which threads totals (totals_kept_from 0 (in_use which threads) totals)
@@ -93,4 +88,4 @@ are_counted_on which threads totals = record {
   freed = λ place h. read place false (unused which threads place h);
 } where
   read : (place : ℕ) (b : Bool) → in_use which threads place ≡ b → slice_index_or (totals_kept_from 0 (in_use which threads) totals) place 0 ≡ cond b (slice_index_or totals place 0) 0
-  read place b e = total_read 0 place (in_use which threads) totals ∙ ap (λ z. cond z (slice_index_or totals place 0) 0) (ap (in_use which threads) (plus place) ∙ e)
+  read place b e = total_read 0 place (in_use which threads) totals ∙ ap (λ z. cond z (slice_index_or totals place 0) 0) (ap (in_use which threads) (zero_plus place) ∙ e)

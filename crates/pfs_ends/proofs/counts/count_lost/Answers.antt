@@ -2,12 +2,13 @@
 use Rattle.std.proofs.Common.{ℕ, ◌≡◌, ◌+◌, ◌<◌, ◌≤◌, Bool, false, cond, List, [], ◌∷◌, ◌++◌, Some, length, take, get_or, slice_get, ap, sym, ◌∙◌, arith}
 use Rattle.std.proofs.lemmas.List.{length-take-le, take_more}
 use Rattle.std.proofs.lemmas.Option.{get_or_from_slice_get}
+use Rattle.pfs_lemmas.proofs.Bools.{cond_at_most_one}
 use Rattle.pfs_event.specs.declared.entry.Entry.{Entry}
 use Rattle.pfs_event.specs.declared.verdict.Verdict.{Verdict}
 use Rattle.pfs_runs.specs.Finals.{is_lost_nested, is_lost_locker, is_unplaced}
 use Rattle.pfs_ends.specs.Counts.{ends_behind, started, unplaced_in}
 use Rattle.pfs_ends.proofs.Started.{started_then, started_one, started_few}
-use Rattle.pfs_ends.proofs.Unplaced.{behind_all, behind_last, unplaced_few, unplaced_last, one_if}
+use Rattle.pfs_ends.proofs.Unplaced.{behind_all, behind_last, unplaced_few, unplaced_last}
 use Rattle.pfs_ends.proofs.counts.count_lost.Goals as goal
 
 -- counted over the first entries, and in one
@@ -38,7 +39,7 @@ after xs i there first now one ends behind within stands was before is next =
     let own : one ≡ cond (is_unplaced (behind_all false (take i xs)) there) 1 0 = is ∙ ap (λ b. cond (is_unplaced b there) 1 0) before in
     let more : unplaced_in false (take (i + 1) xs) ≡ unplaced_in false (take i xs) + cond (is_unplaced (behind_all false (take i xs)) there) 1 0 =
     ap (unplaced_in false) front ∙ unplaced_last false (take i xs) there in
-    let most : cond (is_unplaced (behind_all false (take i xs)) there) 1 0 ≤ 1 = one_if (is_unplaced (behind_all false (take i xs)) there) in
+    let most : cond (is_unplaced (behind_all false (take i xs)) there) 1 0 ≤ 1 = cond_at_most_one (is_unplaced (behind_all false (take i xs)) there) in
     record {
       more = omega (arith, more, was, own);
       few = omega (arith, was, own, most, unplaced_few false (take i xs), length-take-le i xs (omega arith));

@@ -1,0 +1,2 @@
+//! Small lemmas of truth values, numbers and options that the standard library has not, for all crates above.
+#![tactic(auto)]
