@@ -10,20 +10,10 @@ use crate::emptying::source_at;
 use crate::signs::release;
 use pfs_containers::Containers;
 use pfs_levels::{Hold, Level, Log};
-use pfs_rows::{EventTable, TableKind};
-
-const RINGS: u64 = 8_450;
-
-// Places of a thread: 16 current ones, then ten of history for each kind.
-const THREAD_PLACES: u64 = 56;
-
-const HISTORY: u64 = 16;
-
-const HISTORY_PLACES: u64 = 10;
-
-const LONG_HISTORY: u64 = 10_242;
-
-const LONG_PLACES: u64 = 1_000;
+use pfs_rows::{
+    CURRENT_PLACES, EventTable, HISTORY_PLACES, LONG_HISTORY, LONG_PLACES, RING_PLACES, RINGS,
+    TableKind,
+};
 
 /// Releases all places of a thread's ring, ascending, also those that are free. The log gets the releases.
 pub(crate) fn release_ring<H: Hold>(rows: &mut H, slot: u64, log: &mut Log)
@@ -35,7 +25,7 @@ pub(crate) fn release_ring<H: Hold>(rows: &mut H, slot: u64, log: &mut Log)
     ensures stays { Stays 56 (H.hand rows.old) (H.hand rows.new) (H.left rows.old) (H.left rows.new) (H.draws rows.old)
         (H.draws rows.new) (H.words rows.old) (H.words rows.new) (H.name rows.old) (H.name rows.new) log.old log.new }
 {
-    release_rows(rows, RINGS + THREAD_PLACES * slot, THREAD_PLACES, log);
+    release_rows(rows, RINGS + RING_PLACES * slot, RING_PLACES, log);
 }
 
 /// Releases the places of an event table: those of each live thread, or all places of a long history. The log gets the
@@ -67,7 +57,7 @@ pub(crate) fn release_events<H: Hold>(
             );
         }
         EventTable::History => {
-            let first = HISTORY + HISTORY_PLACES * kind.number();
+            let first = CURRENT_PLACES + HISTORY_PLACES * kind.number();
             release_threads(rows, containers, first, HISTORY_PLACES, log);
         }
         EventTable::HistoryLong => {
@@ -150,7 +140,7 @@ fn release_slot<H: Hold>(
         (H.name rows.new) log.old log.new }
 {
     if there {
-        release_rows(rows, RINGS + THREAD_PLACES * slot + first, count, log);
+        release_rows(rows, RINGS + RING_PLACES * slot + first, count, log);
     }
 }
 

@@ -5,9 +5,7 @@ ghost use Rattle.pfs_runs.specs.Finals.{is_lost_nested, is_lost_locker, is_unpla
 ghost use Rattle.pfs_ends.specs.Counts as spec;
 
 use pfs_event::{Entry, Log, Verdict};
-
-// The row of the digests without a place.
-const UNPLACED: u64 = 8_385;
+use pfs_rows::DIGEST_NULL;
 
 /// How many digests of statements were lost for there was no place, and how many statements and how many waits for too
 /// many were open.
@@ -75,7 +73,7 @@ fn unplaced_at(ends: bool, entry: &Entry) -> u64
 {
     match *entry {
         Entry::Add { row, .. } | Entry::Held { row, .. } => {
-            if ends && row == UNPLACED { 1 } else { 0 }
+            if ends && row == DIGEST_NULL { 1 } else { 0 }
         }
         _ => 0,
     }

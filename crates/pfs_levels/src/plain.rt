@@ -9,12 +9,9 @@ use crate::answers::{Added, RingPut, Word};
 use crate::slots::Slots;
 use crate::store::{Acts, Hold, Rows};
 use pfs_board::{Content, Label};
-use pfs_rows::Seen;
+use pfs_rows::{LONG_HISTORY, Seen};
 use pfs_stat::Stat;
 use std::alloc::Global;
-
-/// The first row of the long history.
-const LONG: u64 = 10_242;
 
 /// A row as contracts see it: how often it was published, whether it is in hand, whether it is allocated or free, and
 /// its content.
@@ -61,7 +58,7 @@ impl Rows for PlainRows {
 
     fn ring_try(&mut self, row: u64, content: &Content) -> RingPut {
         let at = row as usize;
-        if row >= LONG && self.slots.is_allocated(at) {
+        if row >= LONG_HISTORY && self.slots.is_allocated(at) {
             let held = self.slots.content(at)[15];
             if held > content[15] {
                 return RingPut::Late { ticket: held - 1 };

@@ -13,18 +13,13 @@ ghost use Rattle.pfs_session.specs.Using.{Uses};
 ghost use Rattle.pfs_play.specs.Errand as ask;
 ghost use Rattle.pfs_play.specs.Errands.{HasRun, MayRun, cost_of, errand_on, is_quit, is_sql};
 
-use pfs_classes::{ClassId, ClassRef};
+use pfs_classes::{ClassId, ClassRef, TRANSACTION};
 use pfs_event::EventKind;
 use pfs_levels::Rows;
 use pfs_model::Subject;
+use pfs_rows::READ_ONLY_CELL;
 use pfs_script::{Access, BlockLine, StatementNumbers};
 use pfs_session::{Numbers, Session};
-
-/// The id of the class of transactions.
-const TRANSACTION: u64 = 62;
-
-/// The cell in which READ ONLY transactions count.
-const READ_ONLY_CELL: u64 = 63;
 
 fn class_in(class: ClassRef) -> Option<u64>
     ensures { result ≡ class_in class }

@@ -9,10 +9,7 @@ ghost use Rattle.pfs_rings.specs.Rings.{IsRing, tickets_for};
 use crate::rings::{Ring, current_row, history_row, ring_number};
 use pfs_event::{Entry, Event, EventKind};
 use pfs_levels::{Content, RingPut, Rows};
-
-const LONG_HISTORY: u64 = 10_242;
-
-const LONG_PLACES: u64 = 1_000;
+use pfs_rows::{LONG_HISTORY, LONG_PLACES};
 
 /// What became of an event that was put to a ring. Words are lock words: four times the version and the state.
 #[derive(Clone, Copy, Debug, PartialEq, Eq)]

@@ -5,15 +5,7 @@ ghost use Rattle.pfs_model.specs.Rings.{ring_number, current_row, history_row};
 ghost use Rattle.pfs_rings.specs.Rings.{depths};
 
 use pfs_event::EventKind;
-
-const RINGS: u64 = 8_450;
-
-// Places of a thread: 16 current ones, then ten of history for each kind.
-const THREAD_PLACES: u64 = 56;
-
-const HISTORY: u64 = 16;
-
-const HISTORY_PLACES: u64 = 10;
+use pfs_rows::{CURRENT_PLACES, HISTORY_PLACES, RING_PLACES, RINGS};
 
 /// Where an event is written. The rings are MySQL's; how many places each has, and their order, is our own.
 #[derive(Clone, Copy, Debug, PartialEq, Eq)]
@@ -58,7 +50,7 @@ pub(crate) fn current_row(thread: u64, kind: EventKind, depth: u64) -> u64
     ensures low { 8450 ≤ result }
     ensures high { result < 10242 }
 {
-    let first = RINGS + THREAD_PLACES * thread;
+    let first = RINGS + RING_PLACES * thread;
     match kind {
         EventKind::Wait => first + depth,
         EventKind::Stage => first + 4,
@@ -75,5 +67,5 @@ pub(crate) fn history_row(thread: u64, kind: EventKind, place: u64) -> u64
     ensures low { 8450 ≤ result }
     ensures high { result < 10242 }
 {
-    RINGS + THREAD_PLACES * thread + HISTORY + HISTORY_PLACES * ring_number(kind) + place
+    RINGS + RING_PLACES * thread + CURRENT_PLACES + HISTORY_PLACES * ring_number(kind) + place
 }

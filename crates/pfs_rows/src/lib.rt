@@ -7,5 +7,8 @@ mod place;
 mod table;
 
 pub use limits::{BadLimits, Layout, Limit, Limits};
-pub use place::{Place, place_of, row_of};
+pub use place::{
+    CELLS, CURRENT_PLACES, DIGEST_NULL, HISTORY_PLACES, LONG_HISTORY, LONG_PLACES, Place,
+    READ_ONLY_CELL, READ_WRITE_CELL, RING_PLACES, RINGS, ROWS, place_of, row_of,
+};
 pub use table::{EventTable, Reading, Seen, SummaryTable, Table, TableKind};

@@ -6,8 +6,10 @@ ghost use Rattle.pfs_rows.specs.Rows.{IsPlace, row_number, place_at};
 /// How many rows the board has.
 pub const ROWS: u64 = 14_242;
 
+/// The row of the administration.
 const ADMIN: u64 = 0;
 
+/// The first of the infos, which stand by kind: threads, accounts, users, hosts.
 const THREAD_INFOS: u64 = 1;
 
 const ACCOUNT_INFOS: u64 = 33;
@@ -16,6 +18,7 @@ const USER_INFOS: u64 = 65;
 
 const HOST_INFOS: u64 = 97;
 
+/// The first of the cells, which stand by level: threads, accounts, users, hosts, global ones.
 const THREAD_CELLS: u64 = 129;
 
 const ACCOUNT_CELLS: u64 = 2_177;
@@ -26,20 +29,38 @@ const HOST_CELLS: u64 = 6_273;
 
 const GLOBAL_CELLS: u64 = 8_321;
 
-const DIGEST_NULL: u64 = 8_385;
+/// The row of the digests without a place.
+pub const DIGEST_NULL: u64 = 8_385;
 
+/// The first of the rows of the digests with a place.
 const DIGESTS: u64 = 8_386;
 
-const RINGS: u64 = 8_450;
+/// The first of the ring places, which stand by thread.
+pub const RINGS: u64 = 8_450;
 
-const LONG_HISTORY: u64 = 10_242;
+/// The first of the long history's rows, which stand by kind.
+pub const LONG_HISTORY: u64 = 10_242;
 
-// Cells of a level's place: one for each class, the last two for transactions.
-const CELLS: u64 = 64;
-// Ring places of a thread: 16 current ones, and ten of history for each kind.
-const RING_PLACES: u64 = 56;
-// Places of a kind's long history.
-const LONG_PLACES: u64 = 1_000;
+/// How many cells a level's place has: one for each class, the last two for transactions.
+pub const CELLS: u64 = 64;
+
+/// The cell in which READ WRITE transactions count: that of their class.
+pub const READ_WRITE_CELL: u64 = 62;
+
+/// The cell in which READ ONLY transactions count.
+pub const READ_ONLY_CELL: u64 = 63;
+
+/// How many ring places a thread has: its current ones, then those of history for each kind.
+pub const RING_PLACES: u64 = 56;
+
+/// How many current places a thread has.
+pub const CURRENT_PLACES: u64 = 16;
+
+/// How many places a thread's history of a kind has. The number is our own; MySQL's is set by an option, at first 10.
+pub const HISTORY_PLACES: u64 = 10;
+
+/// How many places a kind's long history has. The number is our own; MySQL's is set by an option, at first 10,000.
+pub const LONG_PLACES: u64 = 1_000;
 
 /// A place of the board, in the order of the rows.
 #[derive(Clone, Copy, Debug, PartialEq, Eq)]

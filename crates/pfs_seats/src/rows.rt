@@ -11,14 +11,11 @@ ghost use Rattle.pfs_seats.specs.Reached.{IsReached, HasMade, IsFresh, IsIn, in_
 
 use pfs_board::{Board, BoardSeat, Content, Kept, Label, Seen as Shown, Taken};
 use pfs_levels::{Added, RingPut, Rows};
-use pfs_rows::Seen;
+use pfs_rows::{LONG_HISTORY, Seen};
 use pfs_stat::Stat;
 use pfs_switches::{SwitchSeat, Switches};
 use pfs_tickets::{TicketSeat, Tickets};
 use std::sync::Wait;
-
-/// The first row of the long history.
-const LONG: u64 = 10_242;
 
 /// What one actor works with: a seat of the board, one of the setup words and one of the tickets.
 #[derive(Drop)]
@@ -244,7 +241,7 @@ impl<'a, V: Kept> Rows for BoardRows<'a, V> {
         ensures name { ⟦<BoardRows<'a, V> as Rows>⟧.name self.new ≡ ⟦<BoardRows<'a, V> as Rows>⟧.name self.old }
         ensures table { self.new.switches.now.id ≡ self.old.switches.now.id }
     {
-        if row < LONG {
+        if row < LONG_HISTORY {
             return self.put_event(row, content);
         }
         match self.board.read(&mut self.seat, row) {

@@ -6,9 +6,9 @@ ghost use Rattle.pfs_session.specs.States.{held_row, held_at};
 ghost use Rattle.pfs_session.specs.Ends.{with_held};
 ghost use Rattle.pfs_session.specs.Adding.{Brings};
 
-use crate::events::CELLS;
 use pfs_event::Entry;
 use pfs_levels::{Added, Log, Rows};
+use pfs_rows::CELLS;
 use pfs_stat::Stat;
 
 /// The row of a cell's number: of the thread in this slot, a global one, or a digest's.

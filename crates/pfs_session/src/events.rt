@@ -5,13 +5,8 @@ ghost use Rattle.pfs_model.specs.Setups.{is_statement, is_wait, is_attributed};
 ghost use Rattle.pfs_session.specs.Ends.{numbers_for, amount_of, cell_in, cell_number, digest_number};
 
 use pfs_event::{EventKind, Open, Verdict};
+use pfs_rows::{CELLS, READ_ONLY_CELL};
 use pfs_stat::{Measure, Stat, of_event};
-
-/// The number of the cell in which READ ONLY transactions count.
-pub(crate) const READ_ONLY_CELL: u64 = 63;
-
-/// How many cells a thread has, and how many there are globally.
-pub(crate) const CELLS: u64 = 64;
 
 // The number of the row of the digests without a place, behind those of the cells.
 const DIGESTS: u64 = 128;

@@ -6,9 +6,7 @@ ghost use Rattle.pfs_session.specs.States.{next_of};
 
 use pfs_event::EventKind;
 use pfs_rings::Put;
-
-/// How many places a thread's history of a kind has. The number is our own; MySQL's is set by an option, at first 10.
-const HISTORY_PLACES: u64 = 10;
+use pfs_rows::HISTORY_PLACES;
 
 /// For each kind the place of history, from 0 to 9, to which its next event goes.
 #[derive(Clone, Copy, Debug, PartialEq, Eq)]

@@ -7,9 +7,9 @@ ghost use Rattle.pfs_event.specs.Verdicts.{is_let_through};
 ghost use Rattle.pfs_session.specs.States.{around, AreAround};
 ghost use Rattle.pfs_session.specs.Starts.{IsOpened, IsClass, link_of};
 
-use crate::events::READ_ONLY_CELL;
 use pfs_event::{Event, Nest, Open, Verdict};
 use pfs_model::Subject;
+use pfs_rows::READ_ONLY_CELL;
 
 /// The event that another lies in: the number of its kind, and its EVENT_ID; 0 and 0 where it lies in none.
 #[derive(Clone, Copy, Debug, PartialEq, Eq)]

@@ -17,15 +17,13 @@ use crate::numbers::Numbers;
 use pfs_classes::{DigestText, Setting};
 use pfs_digest::digest;
 use pfs_infos::Content;
-use pfs_rows::Reading;
+use pfs_rows::{DIGEST_NULL, Reading};
 use pfs_stat::Stat;
 use pfs_text::Text;
 use pfs_values::{Row, RowValue, Rowset};
 use std::alloc::Global;
 
-// The row of the texts without a place, and how many rows there are with those of the places.
-const FIRST_ROW: u64 = 8_385;
-
+// How many rows there are: that of the texts without a place, which is the first, and those of the places.
 const ROWS: usize = 65;
 
 // No digest and no text.
@@ -158,7 +156,7 @@ pub fn digest_rows(
 ) -> Result<Rowset, NoMemory>
     ensures { IfOk result (λ rows. rows ≡ digests_of setting.now readings.now) }
 {
-    let contents = contents_of(alloc, FIRST_ROW, ROWS, readings)?;
+    let contents = contents_of(alloc, DIGEST_NULL, ROWS, readings)?;
     let mut rows = Vec::new(alloc);
     put_null(alloc, &contents, &mut rows)?;
     put_places(alloc, setting.digests.as_slice(), &contents, &mut rows)?;

@@ -18,7 +18,7 @@ use crate::tallies::Tally;
 use pfs_classes::{Class, ClassId, Setting, laws};
 use pfs_infos::Content;
 use pfs_readsets::is_class_of;
-use pfs_rows::{SummaryTable, TableKind};
+use pfs_rows::{READ_ONLY_CELL, READ_WRITE_CELL, SummaryTable, TableKind};
 use pfs_text::Text;
 use pfs_values::{Row, RowValue};
 use std::alloc::Global;
@@ -26,10 +26,6 @@ use std::collections::BTreeMap;
 
 // Class ids are below this one.
 const IDS: u64 = 63;
-
-const READ_WRITE: u64 = 62;
-
-const READ_ONLY: u64 = 63;
 
 // Whose rows: the table's kind of events, by what it counts them, and the place of the board.
 #[derive(Clone, Copy)]
@@ -43,7 +39,7 @@ struct RowOwner {
 fn class_at(setting: &Setting, id: u64) -> Option<Class>
     ensures { result ≡ class_at setting.now.classes id }
 {
-    if id < setting.classes.count() || id == READ_WRITE {
+    if id < setting.classes.count() || id == READ_WRITE_CELL {
         Some(setting.classes.class(ClassId(id)))
     } else {
         None
@@ -84,8 +80,8 @@ fn numbers_of(kind: TableKind, tallies: &[Tally], key: u64, id: u64) -> Numbers
         TableKind::Waits | TableKind::Stages => Numbers::Times(tally_in(tallies, key, id).stat),
         TableKind::Statements => Numbers::Statements(tally_in(tallies, key, id).stat),
         TableKind::Transactions => Numbers::Transactions {
-            read_write: tally_in(tallies, key, READ_WRITE).stat,
-            read_only: tally_in(tallies, key, READ_ONLY).stat,
+            read_write: tally_in(tallies, key, READ_WRITE_CELL).stat,
+            read_only: tally_in(tallies, key, READ_ONLY_CELL).stat,
         },
     }
 }
@@ -99,7 +95,8 @@ fn is_skipped(kind: TableKind, tallies: &[Tally], key: u64, id: u64) -> bool
 {
     match kind {
         TableKind::Transactions => {
-            tally_in(tallies, key, READ_WRITE).busy || tally_in(tallies, key, READ_ONLY).busy
+            tally_in(tallies, key, READ_WRITE_CELL).busy
+                || tally_in(tallies, key, READ_ONLY_CELL).busy
         }
         _ => tally_in(tallies, key, id).busy,
     }

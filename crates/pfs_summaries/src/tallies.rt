@@ -10,15 +10,12 @@ ghost use Rattle.pfs_summaries.specs.Steps.{none_of, added, with_cell, AreTallie
 use crate::NoMemory;
 use crate::contents::info_at;
 use pfs_infos::{AccountInfo, Content, ThreadInfo};
-use pfs_rows::{Place, Reading, Seen, SummaryTable, laws, place_of};
+use pfs_rows::{CELLS, Place, Reading, Seen, SummaryTable, laws, place_of};
 use pfs_stat::{Stat, zero};
 use std::alloc::Global;
 
 /// How many places a level has.
 pub const PLACES: u64 = 32;
-
-// How many cells a place has.
-const CELLS: u64 = 64;
 
 // A tally for each cell of each place.
 const TALLIES: usize = 2_048;

@@ -29,7 +29,7 @@ returns-in-Busy-clause-call g c = λ start calls r.
       r.2,
       record {
         board = glanced start.board calls more v _ row second v.reads (sight_of v row first second ∷ v.sights) (omega (arith, rows, low)) a.5 c.requires.away c.in-Busy.ensures.hands.2 b b.tied
-            (((omega (arith, c.if-row-lt-LONG.false), omega (arith, low)), another_seen first second a.0 a.2 a.3, inl (sighted_now start.board calls v row first second b)), sight_more start.board calls v (sight_of v row first second) b) (λ q. refl) (λ q. refl)
+            (((omega (arith, c.if-row-lt-LONG_HISTORY.false), omega (arith, low)), another_seen first second a.0 a.2 a.3, inl (sighted_now start.board calls v row first second b)), sight_more start.board calls v (sight_of v row first second) b) (λ q. refl) (λ q. refl)
             (λ q n. away_if row q (second / 4) (top_in calls q) n) (omega (arith, here_if row (second / 4) (top_in calls row))) refl refl refl refl;
         words = r.3.words;
         tickets = r.3.tickets;
@@ -75,7 +75,7 @@ returns-then-found-content-clause-call g c = λ start calls r.
       r.2,
       record {
         board = glanced start.board calls more v _ row (4 * k + 2) (read_of v row k found ∷ v.reads) v.sights (omega (arith, rows, low)) a.2 c.requires.away c.in-Whole.ensures.hands.2 b b.tied
-            ((omega (arith, c.if-row-lt-LONG.false), k, omega (arith, b.seen row, a.0), inl (finished_now start.board calls v row k found b, omega (arith, c.if-found-content.true))), read_more start.board calls v (read_of v row k found) b) (λ q. refl) (λ q. refl)
+            ((omega (arith, c.if-row-lt-LONG_HISTORY.false), k, omega (arith, b.seen row, a.0), inl (finished_now start.board calls v row k found b, omega (arith, c.if-found-content.true))), read_more start.board calls v (read_of v row k found) b) (λ q. refl) (λ q. refl)
             (λ q n. refl) (omega (arith, b.seen row, a.0)) refl refl refl refl;
         words = r.3.words;
         tickets = r.3.tickets;
