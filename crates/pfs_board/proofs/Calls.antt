@@ -42,6 +42,9 @@ corner_in z y start v q a = let i = a.inside in let w = a.wide in omega arith
 pub word_in : (z y : TableId) (start : List ℕ) (v : View) (q i : ℕ) → IsAt z y start v q → i < 16 → word_at q i < y.words
 word_in z y start v q i a low = let h = a.inside in let w = a.wide in omega arith
 
+pub turned_self : (v : View) (r : ℕ) → turned v r (corner v r) ≡ v
+turned_self v r = ap (λ rows. record v { rows = rows }) (set-get_or v.rows r newcomer)
+
 pub turned_again : (v : View) (r : ℕ) (c d : Corner) → turned (turned v r c) r d ≡ turned v r d
 turned_again v r c d = ap (λ rows. record v { rows = rows }) (set-set v.rows r c d)
 

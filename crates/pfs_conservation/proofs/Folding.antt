@@ -1,9 +1,10 @@
 -- An owner goes only at an action that takes its row, and not while a session of it is connected.
 use Rattle.std.proofs.Common.{◌≡◌, ℕ, zero, suc, ◌+◌, ◌==◌, ◌||◌, Bool, true, false, cond, List, [], ◌∷◌, Option, Some, None, refl, sym, ap, ◌∙◌, arith}
-use Rattle.std.proofs.lemmas.Bool.{eqb-true}
+use Rattle.std.proofs.lemmas.Bool.{eqb-true, or_left, or_right}
+use Rattle.pfs_lemmas.proofs.Numbers.{eq_self}
 use Rattle.pfs_conservation.specs.Journeys.{is_from}
 use Rattle.pfs_conservation.specs.Tenures.{Owner}
-use Rattle.pfs_conservation.specs.Folds.{Place, Thread, Account, User, Host, Global, Elsewhere, Session, entry_of, State, ByThread, ByAccount, ByUser, ByHost, ByAll, Line, Connects, Quits, Truncates, FreesAccounts, FreesUsers, FreesHosts, Others, line_takes, entry_at, fill_at, fill, emptied_at, kept_from, in_use, kept_if, stepped, CellRows, thread_owner, account_owner, user_owner, host_owner, owner_of, holder_in, quits, Lives}
+use Rattle.pfs_conservation.specs.Folds.{Place, Thread, Account, User, Host, Global, Elsewhere, Session, entry_of, State, ByThread, ByAccount, ByUser, ByHost, ByAll, Line, Connects, Quits, Truncates, FreesAccounts, FreesUsers, FreesHosts, Others, line_takes, entry_at, fill_at, fill, emptied_at, kept_from, has_by, in_use, kept_if, stepped, CellRows, thread_owner, account_owner, user_owner, host_owner, owner_of, holder_in, quits, Lives}
 
 pub clash : {X Y : Type 0} (x : X) → ◌≡◌ {A = Option X} None (Some x) → Y
 clash x h = absurd (cc)
@@ -106,6 +107,12 @@ owner_stays rows s FreesHosts (User u) o h f = h
 owner_stays rows s FreesHosts (Host u) o h f = differ f
 owner_stays rows s FreesHosts Global o h f = h
 owner_stays rows s FreesHosts Elsewhere o h f = h
+
+-- what a connected session has is in use
+pub used : (which : Session → Option ℕ) (threads : List (Option Session)) (slot place : ℕ) (x : Session) → entry_at threads slot ≡ Some x → which x ≡ Some place → in_use which threads place ≡ true
+used which [] slot place x t w = clash x t
+used which (y ∷ ys) zero place x t w = or_left (has_by which place y) (in_use which ys place) (ap (has_by which place) t ∙ (ap (is_from place) w ∙ eq_self place))
+used which (y ∷ ys) (suc slot) place x t w = or_right (has_by which place y) (in_use which ys place) (used which ys slot place x t w)
 
 -- and what is in use a session has
 pub record User_of (which : Session → Option ℕ) (threads : List (Option Session)) (place : ℕ) : Type 0 where

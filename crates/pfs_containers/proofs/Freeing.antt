@@ -1,7 +1,18 @@
 -- Lists of places that a loop changes one by one: the places that no session has are freed, and totals are counted anew.
 use Rattle.std.proofs.Common.{ℕ, zero, suc, ◌≡◌, ◌<◌, ◌+◌, ◌||◌, nat_lt, Bool, true, false, cond, List, [], ◌∷◌, length, Option, slice_index_or, slice_set, refl, ap, ◌∙◌, arith}
-use Rattle.pfs_containers.specs.Connections.{kept_if, kept_from}
-use Rattle.pfs_containers.specs.Administration.{totals_kept_from, currents_from}
+use Rattle.pfs_containers.specs.declared.containers.Connection.{Connection}
+use Rattle.pfs_containers.specs.Connections.{has_by, in_use, kept_if, kept_from}
+use Rattle.pfs_containers.specs.Administration.{current, totals_kept_from, currents_from}
+
+-- a place is in use where a session has it
+used_more : (b : Bool) (n : ℕ) (u : Bool) → nat_lt 0 n ≡ u → nat_lt 0 (cond b 1 0 + n) ≡ (b || u)
+used_more true n u h = grind arith
+used_more false n u h = let same : 0 + n ≡ n = omega arith in ap (λ z. nat_lt 0 z) same ∙ h
+
+pub used_is : (which : Connection → Option ℕ) (threads : List (Option Connection)) (place : ℕ)
+    → nat_lt 0 (current which threads place) ≡ in_use which threads place
+used_is which [] place = refl
+used_is which (x ∷ xs) place = used_more (has_by which place x) (current which xs place) (in_use which xs place) (used_is which xs place)
 
 -- the first entries changed, each by its place, and the others as they were
 pub changed : {X : Type 0} → (ℕ → X → X) → ℕ → ℕ → List X → List X

@@ -3,7 +3,6 @@ use Rattle.std.proofs.Common.{ℕ, zero, suc, ◌≡◌, ◌≤◌, ◌+◌, Boo
 use Rattle.std.specs.Prelude.{Some, None}
 use Rattle.std.proofs.lemmas.List.{append-nil, length-append, length-map}
 use Rattle.pfs_levels.specs.Calls.{Call, Opening}
-use Rattle.pfs_event.specs.Journal.{Journal}
 use Rattle.pfs_parts.specs.Deeds.{looks, remark}
 use Rattle.pfs_readsets.proofs.Passing.{passing_none, passing_no, passing_yes}
 use Rattle.pfs_readsets.specs.Places.{Scope}
@@ -17,7 +16,6 @@ use Rattle.pfs_session.proofs.Playing.{played_then}
 use Rattle.pfs_session.specs.Inquiries.{Looks}
 use Rattle.pfs_session.specs.States.{Book}
 use Rattle.pfs_session.specs.Turns.{Inquires, Played, Step, looks_at}
-use Rattle.pfs_session.specs.Using.{Uses}
 use Rattle.pfs_session.specs.declared.remarks.Remark.TheVariants.{Query, Rows}
 
 few : (test : ℕ → Bool) (from count : ℕ) → length (passing test from count) ≤ count
@@ -59,14 +57,3 @@ pub queried : (readings : List Reading) (count : ℕ) (old one two new : Book) (
     → Played (remark Query ∷ (looks readings ++ remark (Rows count) ∷ [])) old new was now
 queried readings count old one two new was now begin read end =
     played_then (remark Query ∷ []) (looks readings ++ remark (Rows count) ∷ []) old one new was was now begin (played_then (looks readings) (remark (Rows count) ∷ []) one two new was now now read end)
-
--- what is used one after another
-pub uses_then : (c d a b e f : ℕ) (h0 h1 h2 : ℕ → Option ℕ) (l0 l1 l2 d0 d1 d2 n0 n1 n2 : ℕ) (j0 j1 j2 : Journal) → Uses c a e h0 h1 l0 l1 d0 d1 n0 n1 j0 j1 → Uses d b f h1 h2 l1 l2 d1 d2 n1 n2 j1 j2
-    → Uses (c + d) (a + b) (e + f) h0 h2 l0 l2 d0 d2 n0 n2 j0 j2
-uses_then c d a b e f h0 h1 h2 l0 l1 l2 d0 d1 d2 n0 n1 n2 j0 j1 j2 p q = record {
-  hand = λ r. q.hand r ∙ p.hand r;
-  left = omega (arith, p.left, q.left);
-  draws = omega (arith, p.draws, q.draws);
-  name = q.name ∙ p.name;
-  room = omega (arith, p.room, q.room);
-}

@@ -1,6 +1,6 @@
 -- What stands at places that are kept where a session has them, and what totals are there.
 use Rattle.std.proofs.Common.{◌≡◌, refl, ℕ, zero, suc, ◌+◌, ◌<◌, ◌||◌, Bool, true, false, cond, List, [], ◌∷◌, length, Option, Some, None, slice_index_or, sym, ap, ◌∙◌, eq-eqb, arith}
-use Rattle.std.proofs.lemmas.Bool.{false≢true}
+use Rattle.std.proofs.lemmas.Bool.{false≢true, eqb-true}
 use Rattle.pfs_lemmas.proofs.Numbers.{zero_plus}
 use Rattle.pfs_lemmas.proofs.Bools.{or_true}
 use Rattle.pfs_containers.specs.Administration.{current, totals_kept_from, currents_from}
@@ -8,6 +8,22 @@ use Rattle.pfs_containers.specs.Connections.{entry_at, is_from, has_by, in_use, 
 use Rattle.pfs_containers.specs.declared.containers.Connection.{Connection}
 use Rattle.pfs_containers.proofs.Totals.{len_kept_totals, len_currents}
 use Rattle.pfs_truncated.specs.Laws.{HasSession, HasNoSession, AreFreed, AreCountedAnew, AreCountedOn}
+
+-- a place is in use where a session has it
+later : (which : Connection → Option ℕ) (x : Option Connection) (xs : List (Option Connection)) (place : ℕ) → HasSession which xs place → HasSession which (x ∷ xs) place
+later which x xs place h = record { slot = suc h.slot; session = h.session; stands = h.stands; has = h.has }
+
+is_place : (place : ℕ) (o : Option ℕ) → is_from place o ≡ true → o ≡ Some place
+is_place place None e = absurd (false≢true e)
+is_place place (Some other) e = ap Some (eqb-true other place e)
+
+pub used_has : (which : Connection → Option ℕ) (xs : List (Option Connection)) (place : ℕ) → in_use which xs place ≡ true → HasSession which xs place
+used_has which [] place e = absurd (false≢true e)
+used_has which (None ∷ xs) place e = later which None xs place (used_has which xs place e)
+used_has which (Some x ∷ xs) place e = on (is_from place (which x)) refl e (λ u. used_has which xs place u) where
+  on : (b : Bool) → is_from place (which x) ≡ b → (b || in_use which xs place) ≡ true → (in_use which xs place ≡ true → HasSession which xs place) → HasSession which (Some x ∷ xs) place
+  on true own e rest = record { slot = 0; session = x; stands = refl; has = is_place place (which x) own }
+  on false own e rest = later which (Some x) xs place (rest e)
 
 no_entry : (x : Connection) → ◌≡◌ {A = Option Connection} None (Some x) → ⊥
 no_entry x e = cc
