@@ -3,7 +3,7 @@
 ghost use Rattle.std.specs.Prelude.{◌≡◌, ◌<◌, ◌≤◌, ◌+◌, ℕ, None};
 ghost use Rattle.pfs_levels.specs.Calls.{IsRow};
 
-use crate::settings;
+use crate::final_settings;
 use pfs_classes::Setting;
 use pfs_finals::{LostCounters, final_tables, lost_rows};
 use pfs_journal::{LostReport, TableReport};
@@ -17,7 +17,7 @@ use std::alloc::Global;
 use std::test::Fail;
 
 fn setting(alloc: Global) -> Result<Setting, Fail> {
-    settings::setting(alloc, &["u", "h"])
+    final_settings::setting(alloc, &["u", "h"])
 }
 
 // Writes a row, which is in nobody's hand then.

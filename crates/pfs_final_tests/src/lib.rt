@@ -4,4 +4,4 @@
 #[cfg(test)]
 mod finals;
 #[cfg(test)]
-mod settings;
+mod final_settings;

@@ -4,7 +4,7 @@ use Rattle.pfs_rows.specs.declared.limits.Limits.{Limits}
 use Rattle.pfs_classes.specs.declared.classes.Class.{Class}
 use Rattle.pfs_classes.specs.Registry.{Registry, has_room, registered}
 use Rattle.pfs_classes.specs.Builtins.{builtins, class_of, start_of, builtin_of}
-use Rattle.pfs_final_tests.proofs.settings.setting.Goals as goal
+use Rattle.pfs_final_tests.proofs.final_settings.setting.Goals as goal
 
 -- registering keeps the limits
 limits_by : (r : Registry) (class : Class) (room : Bool) → (cond room (record r { classes = r.classes ++ class ∷ [] }) (record r { lost = r.lost ++ record { name = class.name; kind = class.kind } ∷ [] })).limits ≡ r.limits
