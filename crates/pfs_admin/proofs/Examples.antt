@@ -1,7 +1,7 @@
 -- The fold computes: two sessions of one account.
 use Rattle.std.proofs.Common.{refl}
 use Rattle.pfs_admin.specs.Examples.{WorkedFold}
-use Rattle.pfs_admin.specs.Changing.{words_changed}
+use Rattle.pfs_admin.specs.WordChanges.{words_changed}
 use Rattle.pfs_admin.specs.Fold.{state_from}
 use Rattle.pfs_admin.specs.Truncations.{free_rows}
 

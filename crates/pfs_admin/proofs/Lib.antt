@@ -1,16 +1,16 @@
-pub mod Costs
-pub mod Signing
-pub mod Listing
-pub mod Opened
-pub mod Folding
-pub mod Released
-pub mod Rows
-pub mod Examples
-pub mod Truncated
-pub mod Celling
-pub mod Placing
-pub mod Levelling
-pub mod Setting
-pub mod Leftover
-pub mod Charging
-pub mod Wording
+pub mod QuitCosts
+pub mod SignLists
+mod LoopLists
+pub mod OpeningState
+pub mod FoldSteps
+mod RowReleases
+pub mod ActionRows
+mod Examples
+mod TruncationExamples
+pub mod KindCells
+mod LevelRows
+mod LevelMoves
+pub mod WordChanges
+mod InfoPlaces
+mod TruncationCosts
+pub mod StatementWords

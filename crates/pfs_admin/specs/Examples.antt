@@ -1,18 +1,18 @@
 -- Two sessions of one account, worked: both connect, the second reads the setup, the first ends.
 use Rattle.std.specs.Prelude.{ℕ, ◌≡◌, ◌==◌, if◌then◌else◌, [], ◌∷◌, map, take, drop, codes, Some, None}
 use Rattle.pfs_board.specs.declared.view.Label.{Label}
-use Rattle.pfs_containers.specs.Kept.{Kept}
+use Rattle.pfs_containers.specs.ContainerState.{Kept}
 use Rattle.pfs_event.specs.declared.entry.Entry.TheVariants as says
 use Rattle.pfs_levels.specs.Moves.{ask}
-use Rattle.pfs_levels.specs.Plain.{word}
+use Rattle.pfs_levels.specs.PlainStore.{word}
 use Rattle.pfs_matching.specs.ActorRules.{opening_actors}
 use Rattle.pfs_admin.specs.declared.changes.Change.{Change}
 use Rattle.pfs_admin.specs.declared.changes.Change.TheVariants.{Connect, Quit, Setup}
 use Rattle.pfs_admin.specs.declared.changes.SetupStatement.TheVariants.{Show}
-use Rattle.pfs_admin.specs.Asks.{work_of_quit, connect_entry}
+use Rattle.pfs_admin.specs.ConnectionAsks.{work_of_quit, connect_entry}
 use Rattle.pfs_admin.specs.Fold.{state_from}
-use Rattle.pfs_admin.specs.Laws.{row_of}
-use Rattle.pfs_admin.specs.States.{State, seat_at}
+use Rattle.pfs_admin.specs.FoldLaws.{row_of}
+use Rattle.pfs_admin.specs.AdministrationStates.{State, seat_at}
 
 abbrev pub label : ℕ → ℕ → Label
 label session line = record { session = session; line = line }

@@ -4,9 +4,9 @@ use Rattle.pfs_board.specs.declared.view.Label.{Label}
 use Rattle.pfs_classes.specs.declared.setting.Setting.{Setting}
 use Rattle.pfs_admin.specs.declared.changes.Change.{Change}
 use Rattle.pfs_admin.specs.declared.changes.Change.TheVariants.{Connect, Quit, Truncate, Setup}
-use Rattle.pfs_admin.specs.States.{State, connected, has_quit}
-use Rattle.pfs_admin.specs.Setups.{has_changed}
-use Rattle.pfs_admin.specs.Opening.{opened}
+use Rattle.pfs_admin.specs.AdministrationStates.{State, connected, has_quit}
+use Rattle.pfs_admin.specs.SetupStatements.{has_changed}
+use Rattle.pfs_admin.specs.OpeningState.{opened}
 use Rattle.pfs_admin.specs.Truncations.{has_truncated}
 
 -- the step of a session's change

@@ -20,9 +20,9 @@ use Rattle.pfs_containers.specs.Connections.{ByThread, ByAccount, ByUser, ByHost
 use Rattle.pfs_containers.specs.Connections as places
 use Rattle.pfs_containers.specs.Administration.{Containers, Action, Truncate, Other}
 use Rattle.pfs_containers.specs.Administration as fold
-use Rattle.pfs_containers.specs.Infos.{thread_info_of, account_info_at, user_info_at, host_info_at}
-use Rattle.pfs_containers.specs.Kept.{Kept}
-use Rattle.pfs_infos.specs.Infos.{thread_words, account_words, name_words}
+use Rattle.pfs_containers.specs.PlaceInfos.{thread_info_of, account_info_at, user_info_at, host_info_at}
+use Rattle.pfs_containers.specs.ContainerState.{Kept}
+use Rattle.pfs_containers.specs.InfoWords.{thread_words, account_words, name_words}
 use Rattle.pfs_matching.specs.declared.actor_rows.ActorRow.{ActorRow}
 use Rattle.pfs_matching.specs.declared.object_rows.ObjectRow.{ObjectRow}
 use Rattle.pfs_levels.specs.declared.answers.Word.{Word}
@@ -34,10 +34,10 @@ use Rattle.pfs_levels.specs.Flushes.{asks_of}
 use Rattle.pfs_levels.specs.Moves.{Ask, ask, cost}
 use Rattle.pfs_admin.specs.declared.remaining.Standing.{Standing}
 use Rattle.pfs_admin.specs.declared.summaries.Reach.{Reach}
-use Rattle.pfs_truncations.specs.declared.truncations.Truncation.{Truncation}
-use Rattle.pfs_truncations.specs.declared.truncations.Truncation.TheVariants.{Events, Summary, DigestSummary, Accounts, Users, Hosts, SetupActors, SetupObjects}
-use Rattle.pfs_admin.specs.States.{State, KindCells, kind_cells}
-use Rattle.pfs_admin.specs.Changing.{up_to, flags_changed, words_changed}
+use Rattle.pfs_rows.specs.declared.truncations.Truncation.{Truncation}
+use Rattle.pfs_rows.specs.declared.truncations.Truncation.TheVariants.{Events, Summary, DigestSummary, Accounts, Users, Hosts, SetupActors, SetupObjects}
+use Rattle.pfs_admin.specs.AdministrationStates.{State, KindCells, kind_cells}
+use Rattle.pfs_admin.specs.WordChanges.{up_to, flags_changed, words_changed}
 use Rattle.pfs_admin.specs.Works.{Sign, Releases, Tags, Work, Flagging}
 
 abbrev pub thread_source : ℕ → Connection → Source

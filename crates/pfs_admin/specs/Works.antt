@@ -5,7 +5,7 @@ use Rattle.pfs_event.specs.declared.entry.Entry.{Entry}
 use Rattle.pfs_event.specs.declared.entry.Entry.TheVariants as says
 use Rattle.pfs_levels.specs.declared.answers.Word.{Word}
 use Rattle.pfs_levels.specs.Calls.{Call, Takes, Puts, Frees, Sets, Opening}
-use Rattle.pfs_event.specs.Journal.{Journal}
+use Rattle.pfs_event.specs.Logs.{Journal}
 use Rattle.pfs_levels.specs.Moves.{Ask, Move, AreMoves, moves_calls, moves_entries, Did}
 
 -- a row is released, or gets this content

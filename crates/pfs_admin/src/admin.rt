@@ -1,17 +1,17 @@
 //! The administration's calls.
 
 ghost use Rattle.std.specs.Prelude.{◌≡◌, ◌<◌, ◌≤◌, ◌+◌, ◌*◌, ◌^◌, ◌∷◌, [], ℕ, Some, None, IfOk, IfSome, length};
-ghost use Rattle.pfs_changes.specs.Inserts.{table_of};
-ghost use Rattle.pfs_containers.specs.Kept.{lost_in};
+ghost use Rattle.pfs_exec.specs.NewRows.{table_of};
+ghost use Rattle.pfs_containers.specs.ContainerState.{lost_in};
 ghost use Rattle.pfs_admin.specs.Works.{Worked, Leaves};
-ghost use Rattle.pfs_admin.specs.States.{thread_flags, connected, has_quit, seat_at, seat_in, name_text};
+ghost use Rattle.pfs_admin.specs.AdministrationStates.{thread_flags, connected, has_quit, seat_at, seat_in, name_text};
 ghost use Rattle.pfs_admin.specs.declared.changes.Change.TheVariants.{Connect, Quit, Truncate, Setup};
 ghost use Rattle.pfs_admin.specs.declared.changes.SetupStatement.TheVariants as statements;
-ghost use Rattle.pfs_admin.specs.Setups.{has_changed, reply_of as spec_reply_of, reply_to, word_count, work_of_statement};
+ghost use Rattle.pfs_admin.specs.SetupStatements.{has_changed, reply_of as spec_reply_of, reply_to, word_count, work_of_statement};
 ghost use Rattle.pfs_admin.specs.Fold.{Follows};
-ghost use Rattle.pfs_admin.specs.Opening.{opened};
+ghost use Rattle.pfs_admin.specs.OpeningState.{opened};
 ghost use Rattle.pfs_admin.specs.Truncations.{actors_behind, objects_behind, has_truncated, truncation_cost, work_of_truncation};
-ghost use Rattle.pfs_admin.specs.Asks.{work_of_connect, work_of_quit, connect_entry, placed_of};
+ghost use Rattle.pfs_admin.specs.ConnectionAsks.{work_of_connect, work_of_quit, connect_entry, placed_of};
 
 use crate::NoMemory;
 use crate::cells::CellsByKind;
@@ -21,15 +21,15 @@ use crate::opening::{both_flags, cells_of, names_of, opening_flags, words_of};
 use crate::setups::{flags_of, set_deleted, set_inserted, set_updated, table_of};
 use crate::threads::{write_connect, write_quit};
 use crate::truncations::write_truncation;
-use pfs_changes::{Delete, Insert, Update};
 use pfs_classes::Setting;
 use pfs_containers::{Containers, Lost, Seated};
 use pfs_event::Entry;
+use pfs_exec::{Delete, Insert, Update};
 use pfs_levels::{Hold, Log, Word};
 use pfs_matching::{Actors, Objects};
 use pfs_names::NameId;
+use pfs_rows::Truncation;
 use pfs_setups::{RowNames, delete, insert, update};
-use pfs_truncations::Truncation;
 use std::alloc::Global;
 use std::marker::Model;
 
@@ -58,7 +58,7 @@ pub struct Admin {
 }
 
 impl Model for Admin {
-    ghost use Rattle.pfs_admin.specs.States.{State, IsState};
+    ghost use Rattle.pfs_admin.specs.AdministrationStates.{State, IsState};
 
     ghost Value = { State };
 
@@ -344,7 +344,7 @@ impl Admin {
     }
 
     /// An action that changes nothing: the rows of `setup_actors` or `setup_objects` were read.
-    #[tactic(auto, unfolding(crate::specs::Changing::words_changed))]
+    #[tactic(auto, unfolding(crate::specs::WordChanges::words_changed))]
     pub fn note(&mut self)
         requires { self.old.actions < 2 ^ 47 }
         ensures step { self.new ≡ has_changed self.old statements.Show }

@@ -1,8 +1,8 @@
 //! The cells of the registered classes, by their kinds, and how many digests have a place.
 
 ghost use Rattle.std.specs.Prelude.{◌≡◌, ◌++◌, ◌∷◌, [], cond, IfOk, OnOk};
-ghost use Rattle.pfs_admin.specs.States.{kind_cells};
-ghost use Rattle.pfs_admin.specs.Opening.{cells_of_kind, kinds_of};
+ghost use Rattle.pfs_admin.specs.AdministrationStates.{kind_cells};
+ghost use Rattle.pfs_admin.specs.OpeningState.{cells_of_kind, kinds_of};
 
 use crate::NoMemory;
 use pfs_classes::{Classes, Setting};
@@ -22,7 +22,7 @@ pub(crate) struct CellsByKind {
 }
 
 impl Model for CellsByKind {
-    ghost use Rattle.pfs_admin.specs.States.{KindCells};
+    ghost use Rattle.pfs_admin.specs.AdministrationStates.{KindCells};
 
     ghost Value = { KindCells };
 
@@ -37,7 +37,7 @@ impl Model for CellsByKind {
 
 impl CellsByKind {
     /// The cells of the registered classes, and the number of the digest texts.
-    #[tactic(auto, unfolding(crate::specs::Opening::kinds_of))]
+    #[tactic(auto, unfolding(crate::specs::OpeningState::kinds_of))]
     pub(crate) fn open(alloc: Global, setting: &Setting) -> Result<CellsByKind, NoMemory>
         ensures { IfOk result (λ cells. cells ≡ kinds_of setting.now) }
     {

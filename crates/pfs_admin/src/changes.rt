@@ -1,8 +1,8 @@
 //! What an action changes, and what it answers.
 
-use pfs_changes::{Delete, Insert, Update};
+use pfs_exec::{Delete, Insert, Update};
 use pfs_names::NameId;
-use pfs_truncations::Truncation;
+use pfs_rows::Truncation;
 
 /// What an action changes.
 #[derive(Debug, Drop)]

@@ -3,7 +3,7 @@
 ghost use Rattle.std.specs.Prelude.{◌≡◌, ◌≤◌, ◌+◌, ◌*◌, ℕ, Option, length};
 ghost use Rattle.pfs_levels.specs.Flushes.{ask_of, beyond};
 ghost use Rattle.pfs_levels.specs.Moves.{cost};
-ghost use Rattle.pfs_admin.specs.States.{AreKindCells, kind_cells};
+ghost use Rattle.pfs_admin.specs.AdministrationStates.{AreKindCells, kind_cells};
 ghost use Rattle.pfs_admin.specs.Truncations.{all_asks, cleared, digest_asks, emptied, event_most, flags_most, is_there, level_asks, moves_bound, place_asks, reach_asks, signs_bound, signs_most, standing, summary_asks, truncation_asks};
 
 use crate::cells::CellsByKind;
@@ -11,8 +11,7 @@ use crate::emptying::source_at;
 use crate::summaries::Reach;
 use pfs_containers::Containers;
 use pfs_levels::{Level, Source};
-use pfs_rows::{EventTable, SummaryTable, TableKind};
-use pfs_truncations::Truncation;
+use pfs_rows::{EventTable, SummaryTable, TableKind, Truncation};
 
 /// The takes of a truncation's moves, and what they may give: at most 289 for each of 66 cells in all kinds.
 pub(crate) fn moves_cost(containers: &Containers, cells: &CellsByKind, what: Truncation) -> u64
@@ -75,7 +74,7 @@ fn events_cost(table: EventTable) -> u64
 }
 
 // The rows of so many places of digests, and that of the texts without one.
-#[tactic(auto, using(crate::proofs::Charging::digests_cost))]
+#[tactic(auto, using(crate::proofs::TruncationCosts::digests_cost))]
 fn digests_cost(places: u64) -> u64
     requires { places ≤ 64 }
     ensures cost { result ≡ cost (digest_asks places) }

@@ -35,7 +35,7 @@ pub(crate) fn empty_level<H: Hold>(
 }
 
 /// Does so where the level is to be emptied.
-#[tactic(auto, using(crate::proofs::Levelling::moved_nothing, crate::proofs::Levelling::stays_nothing))]
+#[tactic(auto, using(crate::proofs::LevelMoves::moved_nothing, crate::proofs::LevelMoves::stays_nothing))]
 pub(crate) fn empty_level_if<H: Hold>(
     rows: &mut H,
     containers: &Containers,
@@ -60,7 +60,7 @@ pub(crate) fn empty_level_if<H: Hold>(
 }
 
 // Moves these cells of a place, where something stands there.
-#[tactic(auto, using(crate::proofs::Levelling::moved_nothing, crate::proofs::Levelling::stays_nothing, crate::proofs::Placing::away_cells))]
+#[tactic(auto, using(crate::proofs::LevelMoves::moved_nothing, crate::proofs::LevelMoves::stays_nothing, crate::proofs::LevelRows::away_cells))]
 fn empty_place<H: Hold>(rows: &mut H, source: Option<Source>, cells: &[u64], log: &mut Log)
     requires alone { (r : ℕ) → 0 < r → H.hand rows.old r ≡ None }
     requires source { IfSome source IsSource }

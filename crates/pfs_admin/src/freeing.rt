@@ -118,7 +118,7 @@ fn release_threads<H: Hold>(
 }
 
 // Releases so many places of a thread's ring, where one is there.
-#[tactic(auto, using(crate::proofs::Levelling::stays_nothing, crate::proofs::Signing::signed_none))]
+#[tactic(auto, using(crate::proofs::LevelMoves::stays_nothing, crate::proofs::SignLists::signed_none))]
 fn release_slot<H: Hold>(
     rows: &mut H,
     there: bool,

@@ -1,8 +1,8 @@
 //! Laws of the definitions.
 
 ghost use Rattle.pfs_admin.specs.Examples.{WorkedFold};
-ghost use Rattle.pfs_admin.specs.Truncated.{WorkedTruncations};
-ghost use Rattle.pfs_admin.specs.Laws.{StepLaw, CountLaw, FixedLaw, NoRowLaw, ConnectRows, EachWordLaw, QuitRows};
+ghost use Rattle.pfs_admin.specs.TruncationExamples.{WorkedTruncations};
+ghost use Rattle.pfs_admin.specs.FoldLaws.{StepLaw, CountLaw, FixedLaw, NoRowLaw, ConnectRows, EachWordLaw, QuitRows};
 
 /// An administration that stands for a list of labels stands for that list and one label more once the step of that
 /// label's session and change was made.

@@ -23,7 +23,7 @@ pub use changes::{Change, Reply, SetupStatement};
 pub use naming::Named;
 pub use opening::opening_flags;
 pub use pfs_containers::Lost;
-pub use pfs_truncations::Truncation;
+pub use pfs_rows::Truncation;
 
 /// Memory ran out.
 pub type NoMemory = std::alloc::AllocError;

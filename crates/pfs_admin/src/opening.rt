@@ -2,10 +2,10 @@
 
 ghost use Rattle.std.specs.Prelude.{◌≡◌, ◌<◌, ◌≤◌, ◌-◌, map, All, IfOk, slice_get, length};
 ghost use Rattle.pfs_classes.specs.Registry.{class_at};
-ghost use Rattle.pfs_levels.specs.Plain.{word};
-ghost use Rattle.pfs_setups.specs.Rows.{naming_of};
-ghost use Rattle.pfs_admin.specs.States.{flags_of};
-ghost use Rattle.pfs_admin.specs.Opening.{class_flags, table_flags, word_flags, opening_flags, cells_of};
+ghost use Rattle.pfs_levels.specs.PlainStore.{word};
+ghost use Rattle.pfs_setups.specs.SetupRows.{naming_of};
+ghost use Rattle.pfs_admin.specs.AdministrationStates.{flags_of};
+ghost use Rattle.pfs_admin.specs.OpeningState.{class_flags, table_flags, word_flags, opening_flags, cells_of};
 
 use crate::NoMemory;
 use pfs_classes::{ClassId, Classes, Setting, TableName};
@@ -19,7 +19,7 @@ const WORDS: u64 = 160;
 /// The opening flags of the switch words: word 0 has the consumers; words 1 to 32 the threads, all off; words 33 to 95
 /// the classes by id, ENABLED and TIMED; words 96 to 159 the tables by number, as the objects decide. What isn't
 /// there is off.
-#[tactic(auto, using(crate::proofs::Opened::flags_count), unfolding(crate::specs::Opening::opening_flags))]
+#[tactic(auto, using(crate::proofs::OpeningState::flags_count), unfolding(crate::specs::OpeningState::opening_flags))]
 pub fn opening_flags(
     alloc: Global,
     setting: &Setting,
@@ -126,7 +126,7 @@ fn class_count(classes: &Classes) -> u64
 }
 
 /// What the rows of the setup tables are named by.
-#[tactic(auto, using(crate::proofs::Opened::fixed_names))]
+#[tactic(auto, using(crate::proofs::OpeningState::fixed_names))]
 pub(crate) fn names_of(alloc: Global, setting: &Setting) -> Result<RowNames, NoMemory>
     ensures names { IfOk result (λ s. s.names ≡ setting.now.names) }
     ensures classes { IfOk result (λ s. s.classes ≡ (naming_of setting.now).classes) }

@@ -3,7 +3,7 @@
 ghost use Rattle.std.specs.Prelude.{◌≡◌, ◌<◌, ◌≤◌, ◌+◌, ◌++◌, cond, true, false, [], ℕ, Option, Some, None};
 ghost use Rattle.pfs_levels.specs.declared.places.Level.TheVariants as levels;
 ghost use Rattle.pfs_levels.specs.Moves.{IsAway, Stays};
-ghost use Rattle.pfs_truncations.specs.declared.truncations.Truncation.TheVariants.{Users, Hosts};
+ghost use Rattle.pfs_rows.specs.declared.truncations.Truncation.TheVariants.{Users, Hosts};
 ghost use Rattle.pfs_admin.specs.Works.{Signed};
 ghost use Rattle.pfs_admin.specs.Truncations.{content_at, first_row, flag_at, is_there, level_signs, place_sign, signs_most, standing, truncation_signs, was_by, IsStanding};
 
@@ -12,7 +12,7 @@ use crate::freeing::release_events;
 use crate::signs::{release, tag};
 use pfs_containers::Containers;
 use pfs_levels::{Content, Hold, Level, Log};
-use pfs_truncations::Truncation;
+use pfs_rows::Truncation;
 
 const PLACES: usize = 32;
 
@@ -50,7 +50,7 @@ fn standing_at(containers: &Containers, level: Level) -> [bool; PLACES]
 /// Writes the rows of a truncated table's places that remain, as they stand now, and releases those of the places that
 /// were freed, and all of an event table; of accounts that remain behind `users` and `hosts` nothing is written. The log
 /// gets tags and releases.
-#[tactic(auto, using(crate::proofs::Levelling::stays_nothing, crate::proofs::Signing::signed_none))]
+#[tactic(auto, using(crate::proofs::LevelMoves::stays_nothing, crate::proofs::SignLists::signed_none))]
 pub(crate) fn sign_truncated<H: Hold>(
     rows: &mut H,
     containers: &Containers,
@@ -157,7 +157,7 @@ fn sign_level<H: Hold>(
 }
 
 // A place of a level, where something stood there before.
-#[tactic(auto, using(crate::proofs::Levelling::stays_nothing, crate::proofs::Signing::signed_none))]
+#[tactic(auto, using(crate::proofs::LevelMoves::stays_nothing, crate::proofs::SignLists::signed_none))]
 fn sign_place<H: Hold>(
     rows: &mut H,
     containers: &Containers,
@@ -206,7 +206,7 @@ fn sign_row<H: Hold>(
     }
 }
 
-#[tactic(auto, using(crate::proofs::Levelling::stays_nothing, crate::proofs::Signing::signed_none))]
+#[tactic(auto, using(crate::proofs::LevelMoves::stays_nothing, crate::proofs::SignLists::signed_none))]
 fn tag_if<H: Hold>(rows: &mut H, row: u64, content: &Content, written: bool, log: &mut Log)
     requires away { IsAway (H.hand rows.old) row }
     requires spare { 1 ≤ H.left rows.old }

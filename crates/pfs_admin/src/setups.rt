@@ -1,18 +1,18 @@
 //! What a statement on the setup tables writes: the switch words whose flags change.
 
 ghost use Rattle.std.specs.Prelude.{◌≡◌, ◌<◌, ◌≤◌, ◌+◌, ◌^◌, ℕ, Some, length, map, take, Result};
-ghost use Rattle.pfs_changes.specs.Inserts.{table_of};
+ghost use Rattle.pfs_exec.specs.NewRows.{table_of};
 ghost use Rattle.pfs_levels.specs.Moves.{Did};
 ghost use Rattle.pfs_setups.specs.Deletes as deletes;
 ghost use Rattle.pfs_setups.specs.Inserts as inserts;
 ghost use Rattle.pfs_setups.specs.Updates as updates;
-ghost use Rattle.pfs_admin.specs.Changing.{flags_changed, words_changed};
-ghost use Rattle.pfs_admin.specs.Setups.{first_word, flags_in, word_count};
+ghost use Rattle.pfs_admin.specs.WordChanges.{flags_changed, words_changed};
+ghost use Rattle.pfs_admin.specs.SetupStatements.{first_word, flags_in, word_count};
 ghost use Rattle.pfs_admin.specs.Works.{Leaves, word_at, flagging_calls, flagging_entries};
 
 use crate::signs::flag;
-use pfs_changes::{NewRow, Update};
 use pfs_containers::Containers;
+use pfs_exec::{NewRow, Update};
 use pfs_levels::{Hold, Log, Word};
 use pfs_matching::Objects;
 use pfs_rows::Table;

@@ -3,20 +3,19 @@
 ghost use Rattle.std.specs.Prelude.{true, ◌≡◌, ◌<◌, ◌≤◌, ◌++◌, ◌∷◌, [], ℕ, All, Option, None};
 ghost use Rattle.pfs_levels.specs.declared.places.Level.TheVariants as levels;
 ghost use Rattle.pfs_levels.specs.Moves.{Moved, Stays, cost};
-ghost use Rattle.pfs_admin.specs.States.{AreKindCells, kind_cells};
+ghost use Rattle.pfs_admin.specs.AdministrationStates.{AreKindCells, kind_cells};
 ghost use Rattle.pfs_admin.specs.Truncations.{cleared, digest_asks, emptied, reach_of, lower_asks, upper_asks, reach_asks, summary_asks, all_asks, truncation_asks};
 
 use crate::cells::CellsByKind;
 use crate::emptying::{empty_level, empty_level_if};
 use pfs_containers::Containers;
 use pfs_levels::{Hold, Level, Log, clear};
-use pfs_rows::{Place, SummaryTable, TableKind, row_of};
-use pfs_truncations::Truncation;
+use pfs_rows::{Place, SummaryTable, TableKind, Truncation, row_of};
 
 /// Moves what a truncation moves: a summary its own kind, by its own level; that of digests their rows, nowhere;
 /// `accounts`, `users` and `hosts` all kinds, by theirs; an event table and a setup table nothing. The log gets each take
 /// and its gifts.
-#[tactic(auto, using(crate::proofs::Levelling::moved_nothing, crate::proofs::Levelling::stays_nothing))]
+#[tactic(auto, using(crate::proofs::LevelMoves::moved_nothing, crate::proofs::LevelMoves::stays_nothing))]
 pub(crate) fn move_truncated<H: Hold>(
     rows: &mut H,
     containers: &Containers,
@@ -230,7 +229,7 @@ fn empty_beyond<H: Hold>(
 }
 
 // Leaves the global cells as zero, where they are to be.
-#[tactic(auto, using(crate::proofs::Levelling::moved_nothing, crate::proofs::Levelling::stays_nothing))]
+#[tactic(auto, using(crate::proofs::LevelMoves::moved_nothing, crate::proofs::LevelMoves::stays_nothing))]
 fn clear_global_if<H: Hold>(rows: &mut H, due: bool, cells: &[u64], log: &mut Log)
     requires alone { (r : ℕ) → 0 < r → H.hand rows.old r ≡ None }
     requires cells { All (λ cell. cell < 64) cells.now }

@@ -2,17 +2,17 @@
 
 ghost use Rattle.std.specs.Prelude.{◌≡◌, ◌<◌, ◌≤◌, ◌++◌, [], ℕ, Option, Some, None, IfSome};
 ghost use Rattle.std.specs.Option.{option_map};
-ghost use Rattle.pfs_containers.specs.Kept.{HasPlaces};
+ghost use Rattle.pfs_containers.specs.ContainerState.{HasPlaces};
 ghost use Rattle.pfs_levels.specs.Moves.{IsAway, Stays};
 ghost use Rattle.pfs_admin.specs.Works.{Signed};
-ghost use Rattle.pfs_admin.specs.Asks.{tag_of, account_tag, user_tag, host_tag, upper_tags};
+ghost use Rattle.pfs_admin.specs.ConnectionAsks.{tag_of, account_tag, user_tag, host_tag, upper_tags};
 
 use crate::signs::tag;
 use pfs_containers::{Connection, Containers};
 use pfs_levels::{Content, Hold, Log};
 
 /// Writes the info rows of a session's account, user and host, as they stand now. The log gets their tags.
-#[tactic(auto, using(crate::proofs::Signing::signed_then))]
+#[tactic(auto, using(crate::proofs::SignLists::signed_then))]
 pub(crate) fn tag_uppers<H: Hold>(
     rows: &mut H,
     containers: &Containers,

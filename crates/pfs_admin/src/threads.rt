@@ -1,10 +1,10 @@
 //! What a connect and a quit write for their thread slot.
 
 ghost use Rattle.std.specs.Prelude.{◌≡◌, ◌<◌, ◌≤◌, ◌+◌, ◌*◌, ◌^◌, [], ℕ, All, IfSome, Some, None, length};
-ghost use Rattle.pfs_containers.specs.Kept.{IsInRange};
+ghost use Rattle.pfs_containers.specs.ContainerState.{IsInRange};
 ghost use Rattle.pfs_admin.specs.Works.{Worked, Leaves, word_at};
-ghost use Rattle.pfs_admin.specs.States.{words_by};
-ghost use Rattle.pfs_admin.specs.Asks.{connect_work, quit_work};
+ghost use Rattle.pfs_admin.specs.AdministrationStates.{words_by};
+ghost use Rattle.pfs_admin.specs.ConnectionAsks.{connect_work, quit_work};
 
 use crate::freeing::release_ring;
 use crate::signs::{flag, release, tag};
@@ -13,7 +13,7 @@ use pfs_containers::{Containers, Seated};
 use pfs_levels::{Hold, Log, Source, Up, Word, flush_cells};
 
 /// Writes what a connect changes, where it got a slot.
-#[tactic(auto, using(crate::proofs::Signing::worked_nothing))]
+#[tactic(auto, using(crate::proofs::SignLists::worked_nothing))]
 pub(crate) fn write_connect<H: Hold>(
     rows: &mut H,
     containers: &Containers,
@@ -42,7 +42,7 @@ pub(crate) fn write_connect<H: Hold>(
 }
 
 /// Writes what a quit changes, where its session had a slot.
-#[tactic(auto, using(crate::proofs::Signing::worked_nothing))]
+#[tactic(auto, using(crate::proofs::SignLists::worked_nothing))]
 pub(crate) fn write_quit<H: Hold>(
     rows: &mut H,
     containers: &Containers,

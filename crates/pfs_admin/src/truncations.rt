@@ -3,7 +3,7 @@
 ghost use Rattle.std.specs.Prelude.{◌≡◌, ◌<◌, ◌≤◌, ◌+◌, ◌^◌, [], ℕ, Option, Some, None, length};
 ghost use Rattle.pfs_levels.specs.Moves.{Did};
 ghost use Rattle.pfs_admin.specs.Works.{Worked, Leaves, word_at, flagging_calls, flagging_entries};
-ghost use Rattle.pfs_admin.specs.States.{AreKindCells};
+ghost use Rattle.pfs_admin.specs.AdministrationStates.{AreKindCells};
 ghost use Rattle.pfs_admin.specs.Truncations.{cost_most, flags_most, kept_behind, off_flags, off_words, truncation_flags, truncation_work, words_behind};
 
 use crate::cells::CellsByKind;
@@ -12,7 +12,7 @@ use crate::signs::flag;
 use crate::summaries::move_truncated;
 use pfs_containers::Containers;
 use pfs_levels::{Hold, Log, Word};
-use pfs_truncations::Truncation;
+use pfs_rows::Truncation;
 
 /// Makes the moves of a truncation, frees what it frees, and writes the info rows and the words behind it.
 pub(crate) fn write_truncation<H: Hold>(
@@ -63,7 +63,7 @@ fn free_truncated(containers: &mut Containers, what: Truncation)
 }
 
 // Sets the words that change: without a row of `setup_objects` no table is instrumented.
-#[tactic(auto, using(crate::proofs::Setting::leaves_nothing, pfs_levels::proofs::Moving::did_none))]
+#[tactic(auto, using(crate::proofs::WordChanges::leaves_nothing, pfs_levels::proofs::MoveLists::did_none))]
 fn set_truncated<H: Hold>(rows: &mut H, words: &mut [Word], what: Truncation, log: &mut Log)
     requires wide { length words.old ≡ 160 }
     requires lent { H.words rows.old ≡ Some words.old }

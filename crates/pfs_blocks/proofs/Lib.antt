@@ -1,5 +1,5 @@
-mod Closing
-mod Doing
-pub mod Ending
-mod Lines
-pub mod WrittenKinds
+mod BlockEnds
+mod DeedLists
+pub mod BlockQuits
+mod PlayedLines
+pub mod RepeatKinds

@@ -2,26 +2,25 @@
 
 ghost use Rattle.std.specs.Prelude.{◌≡◌, ◌<◌, ◌≤◌, ◌+◌, ◌*◌, ◌^◌, ◌++◌, ◌∷◌, ℕ, List, [], Bool, true, false, None, Some, IfSome, IfOk, OnOk, MatchOption, length, map};
 ghost use Rattle.pfs_admin.specs.Works.{Leaves};
-ghost use Rattle.pfs_facts.specs.Steps.{kinds_at};
+ghost use Rattle.pfs_law_plain.specs.LineSteps.{kinds_at};
 ghost use Rattle.pfs_play.specs.Errands.{StagesLie, actions_on, cost_on, kinds_after};
 ghost use Rattle.pfs_script.specs.Marks.{written_out};
 ghost use Rattle.pfs_script.specs.declared.blocks.BlockLine.{BlockLine as Line};
 ghost use Rattle.pfs_script.specs.declared.blocks.BlockLine.TheVariants as said;
-ghost use Rattle.pfs_session.specs.States.{nothing_held};
-ghost use Rattle.pfs_session.specs.Using.{Uses};
+ghost use Rattle.pfs_session.specs.SessionStates.{nothing_held};
+ghost use Rattle.pfs_session.specs.CallCosts.{Uses};
 ghost use Rattle.pfs_classes.specs.declared.setting.Setting.{Setting as Fixed};
-ghost use Rattle.pfs_runs.specs.Answers.{Answer, connect_selections};
-ghost use Rattle.pfs_course.specs.Course.{connected_by, connecting};
-ghost use Rattle.pfs_blocks.specs.Played.{HasDeeds, HasEnded, HasPlayed, MayConnect, MayEnd};
+ghost use Rattle.pfs_runs.specs.SelectAnswers.{Answer, connect_selections};
+ghost use Rattle.pfs_law_script.specs.Course.{connected_by, connecting};
+ghost use Rattle.pfs_blocks.specs.PlayedBlocks.{HasDeeds, HasEnded, HasPlayed, MayConnect, MayEnd};
 
-use pfs_actions::{connect, quit};
 use pfs_admin::Admin;
 use pfs_classes::Setting;
 use pfs_levels::Acts;
-use pfs_play::{NoMemory, play_written};
+use pfs_play::{NoMemory, connect, play_written, quit};
 use pfs_script::{Block, BlockLine, Connect};
 use pfs_session::{Paused, Session};
-use pfs_values::Rowset;
+use pfs_text::Rowset;
 use std::alloc::Global;
 
 // Connects the session, where its block gives names.

@@ -8,9 +8,9 @@ use Rattle.pfs_board.specs.declared.view.Sight.{Sight}
 use Rattle.pfs_board.specs.declared.view.View.{View}
 use Rattle.pfs_board.specs.History.{lock_at, shows_to, Floor}
 use Rattle.pfs_board.specs.Knowledge.{corner, newcomer, change_of, no_label, root}
-use Rattle.pfs_board.specs.Known.{HasSeenItsOwn}
+use Rattle.pfs_board.specs.SeatViews.{HasSeenItsOwn}
 use Rattle.pfs_board.specs.Rule.{Moment, IsRead, IsSight}
-use Rattle.pfs_board.specs.Taking.{IsTaken}
+use Rattle.pfs_board.specs.TakeAnswers.{IsTaken}
 
 -- To a seat that saw version 7 no take shows a first word at version 0
 pub example_below_seen : (v w : View) → (corner v 1).seen ≡ 7 → ¬ (IsTaken v 1 (Busy 2 30) w)

@@ -13,12 +13,12 @@ use Rattle.pfs_board.specs.declared.view.View.{View}
 use Rattle.pfs_board.specs.History.{total, step_of}
 use Rattle.pfs_board.specs.Hands.{IsAside, IsHandTaken, IsLetGo}
 use Rattle.pfs_board.specs.Knowledge.{corner, is_holding, held, stake, joined, sighted, weighed, published_at, freed_at, version_held, found_in}
-use Rattle.pfs_board.specs.Known.{Known, known, first_view, IsReady}
-use Rattle.pfs_board.specs.Seeing.{IsSeenAs}
-use Rattle.pfs_board.specs.Taking.{IsTaken}
+use Rattle.pfs_board.specs.SeatViews.{Known, known, first_view, IsReady}
+use Rattle.pfs_board.specs.ReadAnswers.{IsSeenAs}
+use Rattle.pfs_board.specs.TakeAnswers.{IsTaken}
 use Rattle.pfs_board.proofs.HistoryFacts.{total_append}
 use Rattle.pfs_board.proofs.ViewFacts.{held_set, one}
-use Rattle.pfs_board.proofs.Calls.{sight_corner}
+use Rattle.pfs_board.proofs.CallSteps.{sight_corner}
 
 -- one row was looked at or let go
 aside : (v w : View) (q n : ℕ) → q < length v.rows → is_holding (corner v q).stage ≡ false → w.rows ≡ set v.rows q (sighted Idle n) → stake w ≡ stake v → IsAside v q w

@@ -1,21 +1,21 @@
 pub mod HistoryFacts
 pub mod ViewFacts
-pub mod Keeps
-pub mod Looks
-pub mod Moves
-pub mod Publishes
-pub mod Seats
-pub mod Ends
-pub mod Lends
-pub mod Enters
-pub mod Departs
-pub mod SlotFacts
-pub mod Waiting
-pub mod Calls
-pub mod WordFacts
-pub mod Between
-pub mod HandFacts
-pub mod OwnFacts
+mod RuleSteps
+mod Looks
+mod WordSteps
+mod Publications
+mod Seats
+mod BoardEnds
+mod ValueLoans
+mod ActionStarts
+mod ActionEnds
+mod SlotFacts
+mod RowWaits
+mod CallSteps
+mod WordFacts
+mod ReadySeats
+mod HandFacts
+mod OwnFacts
 pub mod VersionFacts
 pub mod OpeningFacts
-pub mod Examples
+mod Examples

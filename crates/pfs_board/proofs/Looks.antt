@@ -26,7 +26,7 @@ use Rattle.pfs_board.specs.Rule.{Moment, lock, now, Knows, IsRead, IsKnown, IsSe
 use Rattle.pfs_board.specs.Plays.{IsLook, tries, looks, finishes, gathers, recalls, weighs, tells}
 use Rattle.pfs_board.proofs.HistoryFacts.{each_map, version_below_total, stood_now, below_all, level_all, freed_now, freed_last, never_opened, floor_new}
 use Rattle.pfs_board.proofs.ViewFacts.{total_one, held_set, held_some, corners_set, one}
-use Rattle.pfs_board.proofs.Keeps.{no_change, fits_after, inside_same, at_moment, whole_is_one, unmoved, same_everywhere}
+use Rattle.pfs_board.proofs.RuleSteps.{no_change, fits_after, inside_same, at_moment, whole_is_one, unmoved, same_everywhere}
 
 pub hold_set : (rows : List Corner) (q : ℕ) (c : Corner) → q < length rows → is_holding c.stage ≡ is_holding (get_or rows q newcomer).stage → (p : ℕ) → is_holding (get_or (set rows q c) p newcomer).stage ≡ is_holding (get_or rows p newcomer).stage
 hold_set rows q c inside e = corners_set (λ p d. is_holding d.stage ≡ is_holding (get_or rows p newcomer).stage) rows q c inside e (λ p n. refl)

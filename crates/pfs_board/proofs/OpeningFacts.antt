@@ -3,7 +3,7 @@ use Rattle.std.proofs.Common.{◌≡◌, ℕ, zero, suc, ◌+◌, ◌*◌, ◌<�
 use Rattle.std.proofs.Math.ListN.{get_or-append}
 use Rattle.std.proofs.Math.Seq.{get_or-append_right}
 use Rattle.pfs_board.specs.declared.answers.Opening.{Opening}
-use Rattle.pfs_board.specs.Opening.{lock_of, words_of, opening_words, row_of, AreWide, OpeningLaw}
+use Rattle.pfs_board.specs.OpeningWords.{lock_of, words_of, opening_words, row_of, AreWide, OpeningLaw}
 
 -- behind the first row stands the next
 past : (o : Opening) (os : List Opening) (k : ℕ) → length o.content ≡ 16 → get_or (words_of (o ∷ os)) (17 + k) 0 ≡ get_or (words_of os) k 0

@@ -9,10 +9,10 @@ use Rattle.pfs_board.specs.declared.view.Stage.{Stage}
 use Rattle.pfs_board.specs.declared.view.Stage.TheVariants.{Idle, Holding}
 use Rattle.pfs_board.specs.declared.view.View.{View}
 use Rattle.pfs_board.specs.History.{Each}
-use Rattle.pfs_board.specs.Acting.{HasBegun}
+use Rattle.pfs_board.specs.ActionKnowledge.{HasBegun}
 use Rattle.pfs_board.specs.Knowledge.{newcomer, corner, stale, sighted, joined, found_in}
-use Rattle.pfs_board.specs.Known.{HasSeenItsOwn, split_off}
-use Rattle.pfs_board.specs.Seeing.{IsSeenAs}
+use Rattle.pfs_board.specs.SeatViews.{HasSeenItsOwn, split_off}
+use Rattle.pfs_board.specs.ReadAnswers.{IsSeenAs}
 use Rattle.pfs_board.proofs.HistoryFacts.{each_map, each_append}
 use Rattle.pfs_board.proofs.ViewFacts.{corners_set, corners_stale, corners_merged, length_stale}
 

@@ -19,7 +19,7 @@ use Rattle.pfs_board.specs.Knowledge.{corner, is_holding, held, IsWhole, settled
 use Rattle.pfs_board.specs.Rule.{Moment, Knows, IsRead, IsKnown, IsSeen, IsSight, IsEntered, IsLast, IsInside, FitsRow, Fits, IsRoot, IsHome, Joint, Ruled}
 use Rattle.pfs_board.proofs.HistoryFacts.{each_map, each_append, total_append, oldest_append, floor_had}
 use Rattle.pfs_board.proofs.ViewFacts.{total_set, held_none, settled_holds, corners_stale, corners_start, corners_merged, length_stale, length_start, length_merged, held_stale, held_start, held_merged, at_below}
-use Rattle.pfs_board.proofs.Keeps.{Later, whole_is_one, spent_set, lent_set}
+use Rattle.pfs_board.proofs.RuleSteps.{Later, whole_is_one, spent_set, lent_set}
 use Rattle.pfs_board.proofs.Looks.{here}
 
 -- the last of a list that is one longer has its length for its place

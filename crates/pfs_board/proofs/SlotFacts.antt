@@ -5,7 +5,7 @@ use Rattle.atomic_table.specs.Table.{rest}
 use Rattle.pfs_board.specs.declared.view.Stage.{Stage}
 use Rattle.pfs_board.specs.declared.view.Stage.TheVariants.{Idle, Reading, Holding}
 use Rattle.pfs_board.specs.Knowledge.{stored_in}
-use Rattle.pfs_board.specs.Sitting.{IsCalm}
+use Rattle.pfs_board.specs.SeatDemands.{IsCalm}
 
 module _ {K : Type 0} where
   pub in_hand : (cs r : List (ℕ × Option K)) (x : Option K) → cs ≡ (0, x) ∷ r → (y : Option K) × (cs ≡ (0, y) ∷ rest cs)

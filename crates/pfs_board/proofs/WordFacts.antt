@@ -7,7 +7,7 @@ use native.Mathlib.Decide.{dec_lt}
 use lib.ListN.{get_elem?, get_or-append}
 use lib.Seq.{get_or-take, get_or-drop, get_or-append_right}
 use Rattle.pfs_board.specs.declared.answers.FinalRow.{FinalRow}
-use Rattle.pfs_board.specs.Known.{final_words}
+use Rattle.pfs_board.specs.SeatViews.{final_words}
 
 pub elem_get : (l : List ℕ) (i a : ℕ) → get_elem? l i ≡ some a → get_or l i 0 ≡ a
 elem_get [] i a e = absurd (some-ne-none a (sym e))

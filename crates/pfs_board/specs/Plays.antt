@@ -5,7 +5,7 @@ use Rattle.atomic_table.specs.Table.{Me, Step, rest}
 use Rattle.pfs_board.specs.declared.view.Label.{Label}
 use Rattle.pfs_board.specs.declared.view.View.{View}
 use Rattle.pfs_board.specs.History.{all_changes, lock_at, word_at, labels_of}
-use Rattle.pfs_board.specs.Closing.{History}
+use Rattle.pfs_board.specs.WholeSeats.{History}
 use Rattle.pfs_board.specs.Knowledge.{corner, is_holding, IsWhole, turned, restaged, peeked, stored, version_held, found_in, tried, looked, finished, took, missed, weighed, told, published, freed, waited, label_told, begun_with, ended, lent_with, restored, halfway}
 
 -- What a look at the lock word of a row shows: a word at a version that is not below what the seat saw or knows, and

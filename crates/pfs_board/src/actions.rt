@@ -2,11 +2,11 @@
 //! table.
 ghost use Rattle.std.specs.Prelude.{◌≡◌, ℕ, ◌+◌, ◌*◌, ◌<◌, ◌≤◌, ◌++◌, ◌∷◌, true, false, [], length, Some, IfSome, IfNone, List};
 ghost use Rattle.pfs_board.specs.declared.view.Label.{Label};
-ghost use Rattle.pfs_board.specs.Acting.{HasWaited, HasTaken, HasBegun};
-ghost use Rattle.pfs_board.specs.Closing.{History};
+ghost use Rattle.pfs_board.specs.ActionKnowledge.{HasWaited, HasTaken, HasBegun};
+ghost use Rattle.pfs_board.specs.WholeSeats.{History};
 ghost use Rattle.pfs_board.specs.History.{all_changes, labels_of};
 ghost use Rattle.pfs_board.specs.Knowledge.{corner, is_holding, held, told, weighed, ended, lent_with, restored, IsWhole};
-ghost use Rattle.pfs_board.specs.Sitting.{IsAt, IsCalm};
+ghost use Rattle.pfs_board.specs.SeatDemands.{IsAt, IsCalm};
 
 use crate::rules::{Enter, Fetch, Hand, Kept, Leave, Lend, Restore, Retry, Tell, Weigh};
 use crate::steps::{Sitting, Top};

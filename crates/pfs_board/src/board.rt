@@ -3,15 +3,15 @@ ghost use Rattle.std.specs.Prelude.{◌≡◌, ℕ, ◌+◌, ◌*◌, ◌/◌, �
 ghost use Rattle.atomic_table.specs.Table.{Me};
 ghost use Rattle.pfs_board.specs.declared.answers.FinalRow.{FinalRow};
 ghost use Rattle.pfs_board.specs.declared.view.View.{View};
-ghost use Rattle.pfs_board.specs.Acting.{HasBegun};
-ghost use Rattle.pfs_board.specs.Closing.{History};
+ghost use Rattle.pfs_board.specs.ActionKnowledge.{HasBegun};
+ghost use Rattle.pfs_board.specs.WholeSeats.{History};
 ghost use Rattle.pfs_board.specs.Hands.{IsAside, IsHandTaken, IsLetGo};
 ghost use Rattle.pfs_board.specs.History.{labels_of};
 ghost use Rattle.pfs_board.specs.Knowledge.{corner, is_holding, held, version_held, found_in, published_at, freed_at, joined, root, stake, weighed, ended, lent_with, restored, IsWhole};
-ghost use Rattle.pfs_board.specs.Known.{Place, Known, IsPoised, HasSeenItsOwn, place, known, first_view, IsSized, IsReady, HasRow, split_off, given, final_words};
-ghost use Rattle.pfs_board.specs.Opening.{opening_words};
-ghost use Rattle.pfs_board.specs.Seeing.{IsSeenAs, IsNarrow, read_looks};
-ghost use Rattle.pfs_board.specs.Taking.{IsTaken, IsFrom, take_looks};
+ghost use Rattle.pfs_board.specs.SeatViews.{Place, Known, IsPoised, HasSeenItsOwn, place, known, first_view, IsSized, IsReady, HasRow, split_off, given, final_words};
+ghost use Rattle.pfs_board.specs.OpeningWords.{opening_words};
+ghost use Rattle.pfs_board.specs.ReadAnswers.{IsSeenAs, IsNarrow, read_looks};
+ghost use Rattle.pfs_board.specs.TakeAnswers.{IsTaken, IsFrom, take_looks};
 
 use crate::actions::{enter_by, leave_by, lend_by, restore_by};
 use crate::answers::{Content, FinalRow, Opening, Seen, Taken};

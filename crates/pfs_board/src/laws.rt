@@ -1,6 +1,6 @@
 //! Laws of a board's history.
 
-ghost use Rattle.pfs_board.specs.Opening.{OpeningLaw};
+ghost use Rattle.pfs_board.specs.OpeningWords.{OpeningLaw};
 ghost use Rattle.pfs_board.specs.Versions.{ChainLaw, MadeLaw};
 
 /// A chain in its own words: a row's publications have the versions from 1 up to their number, each once; each

@@ -2,9 +2,9 @@
 ghost use Rattle.std.specs.Prelude.{◌≡◌, ◌≢◌, ℕ, ◌+◌, ◌*◌, ◌/◌, ◌%◌, ◌<◌, ◌≤◌, Some, true, false, [], length};
 ghost use Rattle.pfs_board.specs.declared.view.Stage.TheVariants.{Reading, Holding};
 ghost use Rattle.pfs_board.specs.Knowledge.{corner, is_holding, held, version_held, found_in, published_at, freed_at, weighed};
-ghost use Rattle.pfs_board.specs.Seeing.{IsSeenAs, IsNarrow, read_looks};
-ghost use Rattle.pfs_board.specs.Sitting.{IsAt, IsHeld};
-ghost use Rattle.pfs_board.specs.Taking.{IsTaken, IsFrom, take_looks};
+ghost use Rattle.pfs_board.specs.ReadAnswers.{IsSeenAs, IsNarrow, read_looks};
+ghost use Rattle.pfs_board.specs.SeatDemands.{IsAt, IsHeld};
+ghost use Rattle.pfs_board.specs.TakeAnswers.{IsTaken, IsFrom, take_looks};
 
 use crate::answers::{Content, Seen, Taken};
 use crate::rules::{

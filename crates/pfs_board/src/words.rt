@@ -1,8 +1,8 @@
 //! Rows as the words of the table, and back.
 ghost use Rattle.std.specs.Prelude.{◌≡◌, ℕ, ◌+◌, ◌*◌, ◌<◌, ◌≤◌, ◌++◌, ◌∷◌, [], length, take, drop, slice_range, vec_capacity, OnOk, IfOk};
 ghost use Rattle.std.specs.Slots.{slots_items, slots_len, IsFull};
-ghost use Rattle.pfs_board.specs.Known.{final_words};
-ghost use Rattle.pfs_board.specs.Opening.{IsOpening, opening_words};
+ghost use Rattle.pfs_board.specs.SeatViews.{final_words};
+ghost use Rattle.pfs_board.specs.OpeningWords.{IsOpening, opening_words};
 
 use crate::answers::{Content, FinalRow, Opening};
 use atomic_table::Closed;

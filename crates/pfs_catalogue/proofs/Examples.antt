@@ -9,9 +9,9 @@ use Rattle.pfs_catalogue.specs.declared.columns.ColumnKind.TheVariants.{Number, 
 use Rattle.pfs_catalogue.specs.declared.commands.CommandKind.TheVariants.{Select, Update, Delete, Truncate}
 use Rattle.pfs_catalogue.specs.declared.commands.Flag.TheVariants.{First, Second}
 use Rattle.pfs_catalogue.specs.Columns.{IsColumn, column_place, columns_of, kind_at, number, text}
-use Rattle.pfs_catalogue.specs.Commands.{flag_place, is_allowed}
-use Rattle.pfs_catalogue.specs.Names.{IsTableName, without_schema}
-use Rattle.pfs_catalogue.proofs.TableNames.{meant}
+use Rattle.pfs_catalogue.specs.TableCommands.{flag_place, is_allowed}
+use Rattle.pfs_catalogue.specs.LetterCases.{IsTableName, without_schema}
+use Rattle.pfs_catalogue.proofs.TableLookups.{meant}
 
 -- the tenth column of statements, and their last
 lock_time : slice_get (columns_of (Events Statements HistoryLong)) 9 ≡ Some (number (codes "LOCK_TIME"))

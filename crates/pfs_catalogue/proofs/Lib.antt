@@ -1,3 +1,3 @@
-pub mod Examples
-pub mod Places
-pub mod TableNames
+mod Examples
+mod ColumnNames
+pub mod TableLookups

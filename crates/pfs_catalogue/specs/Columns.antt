@@ -9,7 +9,7 @@ use Rattle.pfs_rows.specs.declared.table.SummaryTable.{SummaryTable}
 use Rattle.pfs_rows.specs.declared.table.SummaryTable.TheVariants.{ByThread, ByAccount, ByUser, ByHost, Global}
 use Rattle.pfs_rows.specs.declared.table.Table.{Table}
 use Rattle.pfs_rows.specs.declared.table.Table.TheVariants.{SetupActors, SetupObjects, SetupInstruments, SetupConsumers, Threads, Accounts, Users, Hosts, Events, Summary, DigestSummary}
-use Rattle.pfs_catalogue.specs.Names.{SameName, is_same_name}
+use Rattle.pfs_catalogue.specs.LetterCases.{SameName, is_same_name}
 use Rattle.pfs_catalogue.specs.declared.columns.Column.{Column}
 use Rattle.pfs_catalogue.specs.declared.columns.ColumnKind.{ColumnKind}
 use Rattle.pfs_catalogue.specs.declared.columns.ColumnKind.TheVariants.{Number, Text}

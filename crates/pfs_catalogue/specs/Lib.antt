@@ -1,3 +1,3 @@
 pub mod Columns
-pub mod Commands
-pub mod Names
+pub mod TableCommands
+pub mod LetterCases

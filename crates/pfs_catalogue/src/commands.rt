@@ -1,7 +1,7 @@
 //! What may be done with each table.
 ghost use Rattle.std.specs.Prelude.{◌≡◌, ◌≢◌, MatchOption, Some};
 ghost use Rattle.pfs_catalogue.specs.declared.commands.Flag.{Flag as SpecFlag};
-ghost use Rattle.pfs_catalogue.specs.Commands.{flag_place as place_of_flag, is_allowed};
+ghost use Rattle.pfs_catalogue.specs.TableCommands.{flag_place as place_of_flag, is_allowed};
 
 use pfs_rows::Table;
 

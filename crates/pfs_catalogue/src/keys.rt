@@ -1,6 +1,6 @@
 //! What the rows of each table are ordered by.
 ghost use Rattle.std.specs.Prelude.{◌≡◌};
-ghost use Rattle.pfs_catalogue.specs.Commands.{table_key};
+ghost use Rattle.pfs_catalogue.specs.TableCommands.{table_key};
 
 use pfs_rows::{EventTable, SummaryTable, Table};
 

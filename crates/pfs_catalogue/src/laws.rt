@@ -2,7 +2,7 @@
 ghost use Rattle.std.specs.Prelude.{◌≡◌, ℕ, List, Contains};
 ghost use Rattle.pfs_rows.specs.declared.table.Table.{Table};
 ghost use Rattle.pfs_catalogue.specs.Columns.{AreFound, NamesDiffer};
-ghost use Rattle.pfs_catalogue.specs.Names.{IsTableName};
+ghost use Rattle.pfs_catalogue.specs.LetterCases.{IsTableName};
 
 use crate::TABLES;
 

@@ -3,7 +3,7 @@ ghost use Rattle.std.specs.Prelude.{◌≡◌, MatchOption};
 ghost use Rattle.std.specs.List.{find};
 ghost use Rattle.pfs_rows.specs.declared.table.Table.{Table as SpecTable};
 ghost use Rattle.pfs_rows.specs.Tables.{table_name};
-ghost use Rattle.pfs_catalogue.specs.Names.{IsTableName, is_same_name, without_schema as bare_name};
+ghost use Rattle.pfs_catalogue.specs.LetterCases.{IsTableName, is_same_name, without_schema as bare_name};
 
 use pfs_rows::{EventTable, SummaryTable, Table, TableKind};
 

@@ -7,14 +7,14 @@ use Rattle.std.proofs.lemmas.Bool.{and_parts, leb-true}
 use Rattle.std.proofs.lemmas.List.Elements.{Contains-append_left}
 use Rattle.std.proofs.lemmas.Option.{same_Some, slice_get-get_or}
 use Rattle.std.proofs.lemmas.Slice.Eq.{bytes_eq-Decides}
-use Rattle.pfs_names.specs.Interning.{Interns, id_of}
+use Rattle.pfs_names.specs.InternedTexts.{Interns, id_of}
 use Rattle.pfs_rows.specs.declared.limits.Limits.{Limits}
 use Rattle.pfs_classes.specs.declared.classes.Class.{Class}
 use Rattle.pfs_classes.specs.declared.kind.Kind.TheVariants.{Transaction}
 use Rattle.pfs_classes.specs.Kinds.{kind_name, are_parts, Fits}
 use Rattle.pfs_classes.specs.Registry.{Registry, registered, text_of}
 use Rattle.pfs_classes.specs.Builtins.{Row, builtins, class_of, after_rows, start_of, builtin_of, HasRows, HasBuiltins}
-use Rattle.pfs_classes.proofs.NameLemmas.{later_text}
+use Rattle.pfs_classes.proofs.RowTexts.{later_text}
 use Rattle.pfs_classes.specs.Settings.{ComesFrom, builtin, register, set}
 
 -- a test of a row: its name is its kind's, `/` and parts

@@ -4,7 +4,7 @@ use Rattle.pfs_rows.specs.Limits.{default_limits}
 use Rattle.pfs_classes.specs.declared.kind.Kind.TheVariants.{Mutex, File}
 use Rattle.pfs_classes.specs.Kinds.{are_parts}
 use Rattle.pfs_classes.specs.Registry.{registered, lost_of}
-use Rattle.pfs_names.specs.Interning.{interned}
+use Rattle.pfs_names.specs.InternedTexts.{interned}
 use Rattle.pfs_classes.specs.Builtins.{builtins, builtin_of, with_builtins}
 
 pub rows : length builtins ≡ 24

@@ -1,7 +1,7 @@
 pub mod BuiltinLemmas
-pub mod Examples
-pub mod KindLemmas
-pub mod KindOf
-pub mod KnownLemmas
-pub mod NameLemmas
+mod Examples
+mod KindLemmas
+mod NameKinds
+pub mod RegisterNames
+pub mod RowTexts
 pub mod RegistryLemmas

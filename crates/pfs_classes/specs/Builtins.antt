@@ -1,6 +1,6 @@
 -- The built-in classes under a list of names, and the names with theirs.
 use Rattle.std.specs.Prelude.{ℕ, Bool, true, false, List, [], ◌∷◌, Contains, codes, map, fold}
-use Rattle.pfs_names.specs.Interning.{id_of, interned}
+use Rattle.pfs_names.specs.InternedTexts.{id_of, interned}
 use Rattle.pfs_rows.specs.declared.limits.Limits.{Limits}
 use Rattle.pfs_classes.specs.declared.kind.Kind.TheVariants.{Mutex, Rwlock, Cond, File, Socket, TableIo, TableLock, Stage, Statement, Transaction}
 use Rattle.pfs_classes.specs.declared.classes.Class.{Class}

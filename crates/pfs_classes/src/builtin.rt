@@ -1,7 +1,7 @@
 //! The built-in classes.
 
 ghost use Rattle.std.specs.Prelude.{◌≡◌, ◌≤◌, length, IfOk, OnOk, OnErr, Contains, map};
-ghost use Rattle.pfs_names.specs.Interning.{AreNames, id_of, interned};
+ghost use Rattle.pfs_names.specs.InternedTexts.{AreNames, id_of, interned};
 ghost use Rattle.pfs_rows.specs.Limits.{AreInRange};
 ghost use Rattle.pfs_classes.specs.Settings.{ComesFrom};
 ghost use Rattle.pfs_classes.specs.Builtins.{row_of, with_rows, with_builtins, HasRows, HasBuiltins, after_rows, builtin_of};

@@ -1,7 +1,7 @@
 //! Laws of the definitions.
 
 ghost use Rattle.std.specs.Prelude.{◌≡◌, ◌↔◌, ◌<◌, List, ℕ, Contains, length, Some, slice_get};
-ghost use Rattle.pfs_names.specs.Interning.{Interns};
+ghost use Rattle.pfs_names.specs.InternedTexts.{Interns};
 ghost use Rattle.pfs_classes.specs.declared.kind.Kind.{Kind};
 ghost use Rattle.pfs_classes.specs.declared.classes.Class.{Class};
 ghost use Rattle.pfs_classes.specs.Kinds.{Fits, kind_of, kind_order};

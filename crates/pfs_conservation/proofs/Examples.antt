@@ -1,9 +1,9 @@
 -- The administration computes: what a few lists of actions leave.
 use Rattle.std.proofs.Common.{◌≡◌, ℕ, List, [], ◌∷◌, Option, Some, None, refl}
-use Rattle.pfs_conservation.specs.Folds.{Session, entry_at}
-use Rattle.pfs_conservation.specs.Lines.{Adds, Takes, Gives}
-use Rattle.pfs_conservation.specs.Entries.{Acts, Ends, Add, Held, Settle, Take, Give, lines_of}
-use Rattle.pfs_conservation.specs.Administration.{Action, Connect, Quit, Truncate, Accounts, numbered, Admin, admin_after}
+use Rattle.pfs_conservation.specs.PlaceFolds.{Session, entry_at}
+use Rattle.pfs_conservation.specs.PrintedChanges.{Adds, Takes, Gives}
+use Rattle.pfs_conservation.specs.TaggedEntries.{Acts, Ends, Add, Held, Settle, Take, Give, lines_of}
+use Rattle.pfs_conservation.specs.AdministrationFold.{Action, Connect, Quit, Truncate, Accounts, numbered, Admin, admin_after}
 
 abbrev empty : List (Option Session)
 empty = None ∷ (None ∷ [])

@@ -2,26 +2,26 @@
 use Rattle.std.proofs.Common.{◌≡◌, ℕ, zero, suc, ◌≤◌, ◌==◌, Bool, cond, List, [], ◌∷◌, length, Some, count_by, refl, sym, ap, ◌∙◌, subst, arith, true}
 use Rattle.std.specs.Prelude.{nat_lt}
 use Rattle.pfs_lemmas.proofs.Numbers.{eq_self}
-use Rattle.pfs_conservation.specs.Chains.{Sums, found_by, Finds, Below}
+use Rattle.pfs_conservation.specs.RowChains.{Sums, found_by, Finds, Below}
 use Rattle.pfs_conservation.specs.Removals.{Ascends}
 use Rattle.pfs_conservation.specs.Journeys.{times_counted}
-use Rattle.pfs_conservation.specs.Moves.{Move, AreMoved}
+use Rattle.pfs_conservation.specs.RowMoves.{Move, AreMoved}
 use Rattle.pfs_conservation.specs.Conservation.{IsConserved, IsShownOrTaken}
-use Rattle.pfs_conservation.specs.Actions.{moves_to}
-use Rattle.pfs_conservation.specs.Folds.{entry_at, Session, Entry, Place, Thread, Account, User, Host, Global, Elsewhere, State}
-use Rattle.pfs_conservation.specs.Administration.{Action, numbered, state_after}
-use Rattle.pfs_conservation.specs.Seats.{all_free, Limits, AreLimits, opened_by, IsSmall, Numbering, place_level, holder_of, takes_by}
-use Rattle.pfs_conservation.specs.Tables.{AreLow, Key, KeyAll, home_cell, shown_in, Whose, OfSession, Aside, home_at, leads_at, covers_to}
-use Rattle.pfs_conservation.specs.Facts.{IsOf, journals_of, AreOf, HasSlot}
-use Rattle.pfs_conservation.specs.Lines.{Tagged, changes_of, chain_of, AreChained, IsAdded, AreAdded}
-use Rattle.pfs_conservation.proofs.Totals.{Merges, bit_yes}
-use Rattle.pfs_conservation.proofs.Moving.{follows_ascends, follows_below}
-use Rattle.pfs_conservation.proofs.Natural.{found_is}
-use Rattle.pfs_conservation.proofs.Conserving.{Sized}
-use Rattle.pfs_conservation.proofs.Connecting.{Sound}
-use Rattle.pfs_conservation.proofs.Acting.{to_order}
-use Rattle.pfs_conservation.proofs.Tabled.{Base, acts_rising, order_all, five, all_discarded}
-use Rattle.pfs_conservation.proofs.Lining.{times_all, once_chain, lines_moved, bound_is, unquit_is}
+use Rattle.pfs_conservation.specs.ActionMoves.{moves_to}
+use Rattle.pfs_conservation.specs.PlaceFolds.{entry_at, Session, Entry, Place, Thread, Account, User, Host, Global, Elsewhere, State}
+use Rattle.pfs_conservation.specs.AdministrationFold.{Action, numbered, state_after}
+use Rattle.pfs_conservation.specs.CellHolders.{all_free, Limits, AreLimits, opened_by, IsSmall, Numbering, place_level, holder_of, takes_by}
+use Rattle.pfs_conservation.specs.KindSummaries.{AreLow, Key, KeyAll, home_cell, shown_in, Whose, OfSession, Aside, home_at, leads_at, covers_to}
+use Rattle.pfs_conservation.specs.KindFacts.{IsOf, journals_of, AreOf, HasSlot}
+use Rattle.pfs_conservation.specs.PrintedChanges.{Tagged, changes_of, chain_of, AreChained, IsAdded, AreAdded}
+use Rattle.pfs_conservation.proofs.MergeTotals.{Merges, bit_yes}
+use Rattle.pfs_conservation.proofs.ChainOrder.{follows_ascends, follows_below}
+use Rattle.pfs_conservation.proofs.EventSums.{found_is}
+use Rattle.pfs_conservation.proofs.Conservation.{Sized}
+use Rattle.pfs_conservation.proofs.Connects.{Sound}
+use Rattle.pfs_conservation.proofs.MoveOrder.{to_order}
+use Rattle.pfs_conservation.proofs.KindSummaries.{Base, acts_rising, order_all, five, all_discarded}
+use Rattle.pfs_conservation.proofs.ChainLines.{times_all, once_chain, lines_moved, bound_is, unquit_is}
 
 module _ (n : Numbering) (opening : State) (rows : List ℕ) (base : Base n opening rows) (actions : List Action) (kind : ℕ) {A : Type 0} (s : Sums A) (m : Merges s) (size : A → ℕ) (z : Sized s size)
     (events : List ℕ) (lines : List Tagged) (found : ℕ → ℕ → A) (whose : ℕ → Whose)

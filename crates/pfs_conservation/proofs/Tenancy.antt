@@ -5,17 +5,17 @@ use Rattle.std.proofs.lemmas.Bool.{eqb-true}
 use Rattle.pfs_lemmas.proofs.Options.{none_some, some_same}
 use Rattle.pfs_lemmas.proofs.Numbers.{eq_self}
 use Rattle.pfs_conservation.specs.Ways.{Step, Rows, steps_of, step_to, before_by, Leads}
-use Rattle.pfs_conservation.specs.Folds.{Place, Thread, Account, User, Host, Global, Session, entry_of, State, ByThread, ByAccount, ByUser, ByHost, ByAll, Line, Connects, Quits, Truncates, FreesAccounts, FreesUsers, FreesHosts, Others, line_takes, entry_at, fill_at, fill, emptied_at, kept_from, stepped, CellRows, ups, thread_ups, thread_owner, account_owner, user_owner, host_owner, owner_of, Lives}
-use Rattle.pfs_conservation.specs.Administration.{Action, Quit, line_of, state_after, state_before}
-use Rattle.pfs_conservation.specs.Seats.{Seat, Numbering, IsNumbering, rows_of, holder_at, holder_of, takes_by, own_place, own_at, map_row, way_of, IsSmall}
+use Rattle.pfs_conservation.specs.PlaceFolds.{Place, Thread, Account, User, Host, Global, Session, entry_of, State, ByThread, ByAccount, ByUser, ByHost, ByAll, Line, Connects, Quits, Truncates, FreesAccounts, FreesUsers, FreesHosts, Others, line_takes, entry_at, fill_at, fill, emptied_at, kept_from, stepped, CellRows, ups, thread_ups, thread_owner, account_owner, user_owner, host_owner, owner_of, Lives}
+use Rattle.pfs_conservation.specs.AdministrationFold.{Action, Quit, line_of, state_after, state_before}
+use Rattle.pfs_conservation.specs.CellHolders.{Seat, Numbering, IsNumbering, rows_of, holder_at, holder_of, takes_by, own_place, own_at, map_row, way_of, IsSmall}
 use Rattle.pfs_conservation.specs.Tenures.{IsBy, IsTenant}
-use Rattle.pfs_conservation.specs.Chains.{Change}
+use Rattle.pfs_conservation.specs.RowChains.{Change}
 use Rattle.pfs_conservation.specs.Removals.{removal}
 use Rattle.pfs_conservation.specs.Journeys.{is_from}
-use Rattle.pfs_conservation.specs.Moves.{goes_to}
-use Rattle.pfs_conservation.proofs.Cases.{up_rows, home_rows, Goes, GoesAll, goes_way, leads_way, In}
-use Rattle.pfs_conservation.proofs.Folding.{host_account}
-use Rattle.pfs_conservation.proofs.Connecting.{Sound, sound_after, lives_until}
+use Rattle.pfs_conservation.specs.RowMoves.{goes_to}
+use Rattle.pfs_conservation.proofs.WayCases.{up_rows, home_rows, Goes, GoesAll, goes_way, leads_way, In}
+use Rattle.pfs_conservation.proofs.RowOwners.{host_account}
+use Rattle.pfs_conservation.proofs.Connects.{Sound, sound_after, lives_until}
 
 before_joined : (xs ys : List Step) (row from : ℕ) → before_by (xs ++ ys) row ≡ Some from → (before_by xs row ≡ Some from) ⊎ (before_by ys row ≡ Some from)
 before_joined [] ys row from h = inr h

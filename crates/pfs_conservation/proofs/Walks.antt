@@ -3,12 +3,12 @@ use Rattle.std.proofs.Common.{◌⊎◌, inl, inr, ◌≡◌, ℕ, suc, ◌+◌,
 use Rattle.std.specs.Prelude.{nat_lt}
 use Rattle.std.proofs.lemmas.Bool.{eqb-true}
 use Rattle.pfs_lemmas.proofs.Options.{some_same}
-use Rattle.pfs_conservation.specs.Chains.{Change, Added, Taken, Given, content, found_in, found_by, Below}
+use Rattle.pfs_conservation.specs.RowChains.{Change, Added, Taken, Given, content, found_in, found_by, Below}
 use Rattle.pfs_conservation.specs.Removals.{first_take, following, counts_event, is_given, Ascends}
 use Rattle.pfs_conservation.specs.Journeys.{times_counted, is_from, first_from_one, leaves_after, Journey, left, came_from, came}
-use Rattle.pfs_conservation.proofs.Totals.{bit_yes, bit_no}
-use Rattle.pfs_conservation.proofs.Natural.{token}
-use Rattle.pfs_conservation.proofs.Tokens.{leaves, stays, comings, quiet_content, quiet_found, Brings, arrive_content, arrive_found, first_after_give, count_cons}
+use Rattle.pfs_conservation.proofs.MergeTotals.{bit_yes, bit_no}
+use Rattle.pfs_conservation.proofs.EventSums.{token}
+use Rattle.pfs_conservation.proofs.ChainEvents.{leaves, stays, comings, quiet_content, quiet_found, Brings, arrive_content, arrive_found, first_after_give, count_cons}
 
 module _ (e : ℕ) (w : ℕ → ℕ → ℕ) where
   -- nothing comes along the chain

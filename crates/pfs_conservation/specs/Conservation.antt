@@ -1,9 +1,9 @@
 -- What a summary row shows is the merge of the events that count there.
 use Rattle.std.specs.Prelude.{◌≡◌, ℕ, ◌^◌, ◌<◌, ◌≤◌, ◌==◌, ◌&&◌, nat_le, nat_lt, cond, Bool, true, false, List, [], ◌∷◌, length, fold, filter, count_by, Option, Some, None}
-use Rattle.pfs_conservation.specs.Chains.{Change, Added, Taken, Sums, with_event, content, Finds}
+use Rattle.pfs_conservation.specs.RowChains.{Change, Added, Taken, Sums, with_event, content, Finds}
 use Rattle.pfs_conservation.specs.Removals.{removal}
 use Rattle.pfs_conservation.specs.Journeys.{came}
-use Rattle.pfs_conservation.specs.Moves.{Move, AreMoved, InOrder}
+use Rattle.pfs_conservation.specs.RowMoves.{Move, AreMoved, InOrder}
 use Rattle.pfs_conservation.specs.Ways.{Step, before_by, leave_by, IsPlaced}
 
 -- each of these events is one of the list, once

@@ -1,7 +1,7 @@
 -- The rows that an event passes, and the action at which it leaves each.
 use Rattle.std.specs.Prelude.{◌≡◌, ℕ, suc, ◌+◌, ◌==◌, ◌≤◌, cond, false, List, [], ◌∷◌, count_by, Option, Some, None}
 pub use Rattle.pfs_containers.specs.Connections.{is_from}
-use Rattle.pfs_conservation.specs.Chains.{Change, Added}
+use Rattle.pfs_conservation.specs.RowChains.{Change, Added}
 use Rattle.pfs_conservation.specs.Removals.{is_given, removal, first_from}
 
 -- how often the changes count the event

@@ -1,8 +1,8 @@
 -- What an action prints: move after move, each take followed by its gives.
 use Rattle.std.specs.Prelude.{◌≡◌, ℕ, ◌<◌, ◌≤◌, ◌==◌, ◌&&◌, cond, Bool, true, false, List, [], ◌∷◌, ◌++◌, length}
-use Rattle.pfs_conservation.specs.Chains.{Change, Taken, Given}
-use Rattle.pfs_conservation.specs.Moves.{Move}
-use Rattle.pfs_conservation.specs.Lines.{Kind, Adds, Tagged, change_of, standing, Stands, IsMove, action_of, Within}
+use Rattle.pfs_conservation.specs.RowChains.{Change, Taken, Given}
+use Rattle.pfs_conservation.specs.RowMoves.{Move}
+use Rattle.pfs_conservation.specs.PrintedChanges.{Kind, Adds, Tagged, change_of, standing, Stands, IsMove, action_of, Within}
 
 pub record Print : Type 0 where
   pub row : ℕ

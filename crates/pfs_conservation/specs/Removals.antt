@@ -1,6 +1,6 @@
 -- Which action takes a row first after something came to it.
 use Rattle.std.specs.Prelude.{ℕ, ◌+◌, ◌*◌, ◌≤◌, ◌==◌, ◌&&◌, nat_le, nat_lt, cond, Bool, false, List, [], ◌∷◌, count_by, Option, Some, None}
-use Rattle.pfs_conservation.specs.Chains.{Change, Added, Taken, Given}
+use Rattle.pfs_conservation.specs.RowChains.{Change, Added, Taken, Given}
 
 -- the action that takes the row first along these changes
 abbrev pub first_take : List Change → Option ℕ

@@ -1,9 +1,9 @@
 -- Who holds a row, and what an action takes: as much of the administration as conservation asks for.
 use Rattle.std.specs.Prelude.{◌≡◌, ℕ, suc, ◌≤◌, ◌==◌, cond, Bool, true, false, List, ◌∷◌, count_by, Option, Some, None}
-use Rattle.pfs_conservation.specs.Chains.{Change}
+use Rattle.pfs_conservation.specs.RowChains.{Change}
 use Rattle.pfs_conservation.specs.Removals.{removal}
 use Rattle.pfs_conservation.specs.Journeys.{times_counted, is_from}
-use Rattle.pfs_conservation.specs.Moves.{Move, goes_to, sends}
+use Rattle.pfs_conservation.specs.RowMoves.{Move, goes_to, sends}
 use Rattle.pfs_conservation.specs.Ways.{Step, before_by, Leads, StepsClimb}
 use Rattle.pfs_conservation.specs.Conservation.{first_moving, AtMost, Follows, last_of, Journals, IsEvent}
 

@@ -1,9 +1,9 @@
 -- The way of an event: from its home to the rows that its session's place leads to.
 use Rattle.std.specs.Prelude.{◌≡◌, ℕ, suc, ◌≤◌, ◌==◌, cond, false, List, [], ◌∷◌, ◌++◌, Option, Some, None, unwrap_or}
-use Rattle.pfs_conservation.specs.Chains.{Change}
+use Rattle.pfs_conservation.specs.RowChains.{Change}
 use Rattle.pfs_conservation.specs.Removals.{removal}
 use Rattle.pfs_conservation.specs.Journeys.{times_counted, is_from, first_from_one}
-use Rattle.pfs_conservation.specs.Moves.{Move, sends}
+use Rattle.pfs_conservation.specs.RowMoves.{Move, sends}
 
 -- what leaves the one row comes to the other
 pub record Step : Type 0 where

@@ -1,6 +1,6 @@
 //! What holds of all journals.
 
-ghost use Rattle.pfs_conservation.specs.Laws.{Conserved, Discarded, Reported, ReportedDiscarded};
+ghost use Rattle.pfs_conservation.specs.ConservedSums.{Conserved, Discarded, Reported, ReportedDiscarded};
 
 /// Whatever the interleaving, what a summary row shows is the merge of the events that count there.
 pub fn conserved()

@@ -1,3 +1,3 @@
 pub mod Bits
-pub mod Examples
-pub mod Levels
+mod Examples
+mod Levels

@@ -1,8 +1,9 @@
-pub mod Finding
-pub mod Filling
-pub mod Keeping
-pub mod Counting
-pub mod Sharing
-pub mod Totals
-pub mod Freeing
-pub mod Truncating
+mod LowestPlaces
+pub mod FilledPlaces
+pub mod PlaceBounds
+mod SessionCounts
+pub mod SlotOwners
+pub mod ConnectionTotals
+mod PlaceLoops
+pub mod TruncationBounds
+mod InfoExamples

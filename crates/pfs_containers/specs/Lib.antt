@@ -1,6 +1,7 @@
 pub mod Connections
 pub mod Administration
-pub mod Kept
-pub mod Infos
+pub mod ContainerState
+pub mod PlaceInfos
 pub mod Uppers
-pub mod Laws
+pub mod PlaceLaws
+pub mod InfoWords

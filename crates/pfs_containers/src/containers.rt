@@ -4,15 +4,14 @@ ghost use Rattle.std.specs.Prelude.{◌≡◌, ◌<◌, ◌≤◌, ◌^◌, ◌=
 ghost use Rattle.std.specs.List.{slice_index_or};
 ghost use Rattle.std.specs.Option.{ForSome};
 ghost use Rattle.pfs_rows.specs.Limits.{AreInRange};
-ghost use Rattle.pfs_containers.specs.Infos.{thread_info_of, account_info_at, user_info_at, host_info_at};
+ghost use Rattle.pfs_containers.specs.PlaceInfos.{thread_info_of, account_info_at, user_info_at, host_info_at};
 ghost use Rattle.pfs_containers.specs.Connections.{in_use};
 ghost use Rattle.pfs_containers.specs.Administration.{found_where, lowest_free, session_of, lost_by, missing, added_from, totals_kept_from, currents_from, current, Accounts, Users, Hosts};
-ghost use Rattle.pfs_containers.specs.Kept.{opening, with_connect, with_quit, with_truncation, seat_of, seated, as_found, lost_in, with_lost, HasPlaces, HasUppers, IsInRange, AreUpTo};
+ghost use Rattle.pfs_containers.specs.ContainerState.{opening, with_connect, with_quit, with_truncation, seat_of, seated, as_found, lost_in, with_lost, HasPlaces, HasUppers, IsInRange, AreUpTo};
 
-use crate::NoMemory;
 use crate::places::{Upper, add_one};
 use crate::state::Places;
-use pfs_infos::{AccountInfo, NameInfo, ThreadInfo};
+use crate::{AccountInfo, NameInfo, NoMemory, ThreadInfo};
 use pfs_names::NameId;
 use pfs_rows::Limits;
 use std::alloc::Global;
@@ -75,7 +74,7 @@ pub struct Containers {
 }
 
 impl Model for Containers {
-    ghost use Rattle.pfs_containers.specs.Kept.{Kept, AreCounted};
+    ghost use Rattle.pfs_containers.specs.ContainerState.{Kept, AreCounted};
 
     ghost Value = { Kept };
 

@@ -1,6 +1,6 @@
 //! Laws of the definitions.
 
-ghost use Rattle.pfs_containers.specs.Laws.{ConnectLaw, QuitLaw, WithinLaw};
+ghost use Rattle.pfs_containers.specs.PlaceLaws.{ConnectLaw, QuitLaw, WithinLaw};
 
 /// No two sessions share a slot: a connect takes a slot that was free, and leaves each other one as it was. Of each
 /// account, user and host that the session has, and of no other, there is one connection more.

@@ -4,14 +4,14 @@ ghost use Rattle.std.specs.Prelude.{◌≡◌, ◌<◌, ◌≤◌, ◌+◌, ◌^
 ghost use Rattle.std.specs.List.{position};
 ghost use Rattle.pfs_containers.specs.Connections.{fill, has_by, in_use, kept_if, kept_from};
 ghost use Rattle.pfs_containers.specs.Administration.{lowest_free, added_from, is_account, named_place, found_where, current, totals_kept_from, currents_from};
-ghost use Rattle.pfs_containers.specs.Kept.{AreUpTo, is_met, as_found};
+ghost use Rattle.pfs_containers.specs.ContainerState.{AreUpTo, is_met, as_found};
 ghost use Rattle.pfs_containers.specs.Uppers.{upper_of};
 
 use crate::containers::{Account, Connection};
 use pfs_names::NameId;
 
 /// The lowest place that is free.
-#[tactic(auto, using(crate::proofs::Finding::free_is))]
+#[tactic(auto, using(crate::proofs::LowestPlaces::free_is))]
 pub(crate) fn lowest_free<T>(places: &[Option<T>]) -> Option<u64>
     ensures { result ≡ lowest_free places.now }
 {
@@ -34,7 +34,7 @@ fn place_number(place: Option<usize>) -> Option<u64>
 }
 
 /// Takes a place that is free for an entry. What stands at a place that is taken stays.
-#[tactic(auto, using(crate::proofs::Filling::filled_free, crate::proofs::Filling::filled_taken, crate::proofs::Filling::filled_none))]
+#[tactic(auto, using(crate::proofs::FilledPlaces::filled_free, crate::proofs::FilledPlaces::filled_taken, crate::proofs::FilledPlaces::filled_none))]
 pub(crate) fn fill<T: Copy>(places: &mut [Option<T>], place: Option<u64>, entry: T)
     requires inside { IfSome place (λ n. n < length places.old) }
     ensures { places.new ≡ fill place entry places.old }
@@ -48,7 +48,7 @@ pub(crate) fn fill<T: Copy>(places: &mut [Option<T>], place: Option<u64>, entry:
 }
 
 /// Counts one more at a place.
-#[tactic(auto, using(crate::proofs::Filling::added_none, crate::proofs::Filling::added_one, crate::proofs::Filling::up_to_at))]
+#[tactic(auto, using(crate::proofs::FilledPlaces::added_none, crate::proofs::FilledPlaces::added_one, crate::proofs::FilledPlaces::up_to_at))]
 pub(crate) fn add_one(totals: &mut [u64], place: Option<u64>)
     requires inside { IfSome place (λ n. n < length totals.old) }
     requires small { AreUpTo (2 ^ 47) totals.old }
@@ -60,7 +60,7 @@ pub(crate) fn add_one(totals: &mut [u64], place: Option<u64>)
 }
 
 /// The account of these names, with its place.
-#[tactic(auto, using(crate::proofs::Finding::found_at, crate::proofs::Finding::none_at, crate::proofs::Finding::not_found))]
+#[tactic(auto, using(crate::proofs::LowestPlaces::found_at, crate::proofs::LowestPlaces::none_at, crate::proofs::LowestPlaces::not_found))]
 pub(crate) fn find_account(
     accounts: &[Option<Account>],
     user: NameId,
@@ -97,7 +97,7 @@ fn is_of_names(entry: &Option<Account>, user: NameId, host: NameId) -> bool
 }
 
 /// Where a name stands, or else the lowest free place.
-#[tactic(auto, using(crate::proofs::Finding::named_here, crate::proofs::Finding::named_free))]
+#[tactic(auto, using(crate::proofs::LowestPlaces::named_here, crate::proofs::LowestPlaces::named_free))]
 pub(crate) fn name_place(names: &[Option<NameId>], name: NameId) -> Option<u64>
     ensures { result ≡ named_place name names.now }
 {
@@ -114,7 +114,7 @@ fn first_named(names: &[Option<NameId>], name: NameId) -> Option<usize>
 }
 
 /// The lowest slot that a session has, and the session as it stands there.
-#[tactic(auto, using(crate::proofs::Finding::found_at, crate::proofs::Finding::none_at, crate::proofs::Finding::not_found))]
+#[tactic(auto, using(crate::proofs::LowestPlaces::found_at, crate::proofs::LowestPlaces::none_at, crate::proofs::LowestPlaces::not_found))]
 pub(crate) fn find_session(threads: &[Option<Connection>], number: u64) -> Option<(u64, Connection)>
     ensures entry { as_found result ≡ found_where (λ x. x.number == number) threads.now }
     ensures inside { IfSome result (λ pair. pair.0 < length threads.now) }
@@ -153,7 +153,7 @@ pub(crate) enum Upper {
 }
 
 /// How many sessions have a place.
-#[tactic(auto, using(crate::proofs::Counting::current_is))]
+#[tactic(auto, using(crate::proofs::SessionCounts::current_is))]
 pub(crate) fn current(threads: &[Option<Connection>], which: Upper, place: u64) -> u64
     ensures number { result ≡ current (upper_of which) threads.now place }
     ensures few { result ≤ length threads.now }

@@ -5,7 +5,7 @@ ghost use Rattle.std.specs.List.{slice_index_or};
 ghost use Rattle.std.specs.Option.{option_map};
 ghost use Rattle.pfs_containers.specs.Connections.{State, Connects, Quits, FreesAccounts, FreesUsers, FreesHosts, stepped, entry_of, in_use};
 ghost use Rattle.pfs_containers.specs.Administration.{session_of, quit_line, found_where, lowest_free, is_account, current, totals_kept_from, currents_from};
-ghost use Rattle.pfs_containers.specs.Kept.{opening_places, as_found, seated, IsSeated, IsInRange, HasPlaces, HasUppers};
+ghost use Rattle.pfs_containers.specs.ContainerState.{opening_places, as_found, seated, IsSeated, IsInRange, HasPlaces, HasUppers};
 ghost use Rattle.pfs_containers.specs.Uppers.{upper_of};
 
 use crate::NoMemory;
@@ -30,7 +30,7 @@ pub struct Places {
 
 impl Model for Places {
     ghost use Rattle.pfs_containers.specs.Connections.{State};
-    ghost use Rattle.pfs_containers.specs.Kept.{AreWell};
+    ghost use Rattle.pfs_containers.specs.ContainerState.{AreWell};
 
     ghost Value = { State };
 

@@ -8,11 +8,11 @@ use Rattle.pfs_lexer.specs.declared.tokens.LexFault.{LexFault}
 use Rattle.pfs_lexer.specs.declared.tokens.Token.{Token}
 use Rattle.pfs_lexer.specs.declared.tokens.TokenKind.{TokenKind}
 use Rattle.pfs_lexer.specs.declared.tokens.TokenKind.TheVariants.{String, QuotedName, Number, Word, Operator}
-use Rattle.pfs_lexer.specs.Items.{items_of}
+use Rattle.pfs_lexer.specs.TextItems.{items_of}
 use Rattle.pfs_digest.specs.Digest.{digest_text_of, text_of, tokens_of}
 use Rattle.pfs_digest.specs.Keywords.{is_in_any_case, keyword_of, keyword_or_name, keywords, word_text}
-use Rattle.pfs_digest.specs.Pieces.{piece_of, slice_of}
-use Rattle.pfs_digest.specs.Printed.{printed, spelled, token_text}
+use Rattle.pfs_digest.specs.TokenPieces.{piece_of, slice_of}
+use Rattle.pfs_digest.specs.PieceBytes.{printed, spelled, token_text}
 use Rattle.pfs_digest.specs.Reduction.{reduced}
 use Rattle.pfs_digest.specs.declared.pieces.Piece.{Piece}
 use Rattle.pfs_digest.specs.declared.pieces.Piece.TheVariants.{One, Run, Open, Close, Comma, Semicolon, Plain}

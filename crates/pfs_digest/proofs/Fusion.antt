@@ -12,9 +12,9 @@ use Rattle.pfs_digest.specs.declared.pieces.Piece.{Piece}
 use Rattle.pfs_digest.specs.declared.pieces.Piece.TheVariants.{One, Run, Open, Close, Comma, Semicolon, Plain}
 use Rattle.pfs_digest.specs.Reduction.{is_semicolon, is_comma, same_shape, is_one, joined, bracketed, without_last, reduced}
 use Rattle.pfs_digest.specs.Stack.{is_of, awaits, put, brackets, closed_by, pushed}
-use Rattle.pfs_digest.proofs.Folds.{left, right, onto, onto-nil, left-is}
+use Rattle.pfs_digest.proofs.ListFolds.{left, right, onto, onto-nil, left-is}
 use Rattle.pfs_digest.proofs.Joins.{join_one, tops, is_run, NoRun, joined-is, joined-free}
-use Rattle.pfs_digest.proofs.Bracketing.{is_open, shut, bracket_one, bracketed-is, bracketed-free}
+use Rattle.pfs_digest.proofs.BracketPasses.{is_open, shut, bracket_one, bracketed-is, bracketed-free}
 use Rattle.pfs_digest.proofs.StackSteps.{reverse-cut}
 
 -- the steps on lists in reverse

@@ -9,7 +9,7 @@ use Rattle.pfs_digest.specs.declared.pieces.Piece.{Piece}
 use Rattle.pfs_digest.specs.declared.pieces.Piece.TheVariants.{One, Run, Open, Close, Comma, Semicolon, Plain}
 use Rattle.pfs_digest.specs.Reduction.{is_comma, same_shape, is_one, repeats, follows, joined_from, joined}
 use Rattle.pfs_digest.specs.Stack.{is_of, awaits}
-use Rattle.pfs_digest.proofs.Folds.{left, right, onto, onto-nil, left-is}
+use Rattle.pfs_digest.proofs.ListFolds.{left, right, onto, onto-nil, left-is}
 
 -- one piece onto the stack
 abbrev pub join_one : Shape → Piece → List Piece → List Piece

@@ -1,10 +1,10 @@
-pub mod Answering
-pub mod Bracketing
-pub mod Examples
-pub mod Folds
-pub mod Fusion
-pub mod Joins
-pub mod Spelling
-pub mod StackSteps
-pub mod Searching
+mod PassAnswers
+mod BracketPasses
+mod Examples
+mod ListFolds
+mod Fusion
+mod Joins
+mod SpelledPieces
+mod StackSteps
+mod WordSearch
 pub mod Bytes

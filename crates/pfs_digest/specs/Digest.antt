@@ -2,12 +2,12 @@
 use Rattle.std.specs.Prelude.{◌≡◌, ℕ, List, [], ◌∷◌, map, Result, Ok, Err}
 use Rattle.pfs_lexer.specs.declared.tokens.Token.{Token}
 use Rattle.pfs_lexer.specs.declared.tokens.LexFault.{LexFault}
-use Rattle.pfs_lexer.specs.Items.{items_of}
+use Rattle.pfs_lexer.specs.TextItems.{items_of}
 use Rattle.pfs_digest.specs.declared.digests.DigestFault.{DigestFault}
 use Rattle.pfs_digest.specs.declared.digests.DigestFault.TheVariants.{Lex, NoMemory}
-use Rattle.pfs_digest.specs.Pieces.{piece_of}
+use Rattle.pfs_digest.specs.TokenPieces.{piece_of}
 use Rattle.pfs_digest.specs.Reduction.{reduced}
-use Rattle.pfs_digest.specs.Printed.{spelled}
+use Rattle.pfs_digest.specs.PieceBytes.{spelled}
 
 -- a token before the others, unless a fault stands among them
 abbrev pub before : Token → Result (List Token) LexFault → Result (List Token) LexFault

@@ -1,6 +1,6 @@
-pub mod Pieces
+pub mod TokenPieces
 pub mod Reduction
 pub mod Stack
 pub mod Keywords
 pub mod Digest
-pub mod Printed
+pub mod PieceBytes

@@ -6,7 +6,7 @@ use Rattle.pfs_digest.specs.declared.pieces.Shape.{Shape}
 use Rattle.pfs_digest.specs.declared.pieces.Shape.TheVariants.{Value, Single, Several}
 use Rattle.pfs_digest.specs.declared.pieces.Piece.{Piece}
 use Rattle.pfs_digest.specs.declared.pieces.Piece.TheVariants.{One, Run, Open, Close, Comma}
-use Rattle.pfs_digest.specs.Pieces.{piece_of}
+use Rattle.pfs_digest.specs.TokenPieces.{piece_of}
 use Rattle.pfs_digest.specs.Reduction.{same_shape}
 
 -- the piece is the shape, once or more often

@@ -3,7 +3,7 @@
 
 ghost use Rattle.std.specs.Prelude.{◌≡◌, [], reverse};
 ghost use Rattle.sha2.specs.Sha256.{sha256};
-ghost use Rattle.pfs_lexer.specs.Items.{items_of};
+ghost use Rattle.pfs_lexer.specs.TextItems.{items_of};
 ghost use Rattle.pfs_digest.specs.Digest as spec;
 ghost use Rattle.pfs_digest.specs.Reduction as steps;
 ghost use Rattle.pfs_digest.specs.Stack.{finished};

@@ -2,7 +2,7 @@
 #![tactic(auto)]
 
 ghost use Rattle.std.specs.Prelude.{◌≡◌};
-ghost use Rattle.pfs_digest.specs.Pieces as spec;
+ghost use Rattle.pfs_digest.specs.TokenPieces as spec;
 
 use pfs_lexer::{Token, TokenKind};
 
@@ -46,7 +46,7 @@ pub(crate) fn slice_of(text: &[u8], token: Token) -> &[u8]
 }
 
 /// The piece that a token is before the lists of values are made short.
-#[tactic(auto, unfolding(crate::specs::Pieces::piece_of))]
+#[tactic(auto, unfolding(crate::specs::TokenPieces::piece_of))]
 pub(crate) fn piece_of(text: &[u8], token: Token) -> Piece
     ensures { result ≡ spec.piece_of text.now token }
 {

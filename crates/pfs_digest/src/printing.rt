@@ -3,8 +3,8 @@
 
 ghost use Rattle.std.specs.Prelude.{◌≡◌, ◌++◌, IfOk, OnOk};
 ghost use Rattle.pfs_digest.specs.Keywords as words;
-ghost use Rattle.pfs_digest.specs.Pieces as slices;
-ghost use Rattle.pfs_digest.specs.Printed as spec;
+ghost use Rattle.pfs_digest.specs.TokenPieces as slices;
+ghost use Rattle.pfs_digest.specs.PieceBytes as spec;
 
 use crate::NoMemory;
 use crate::keywords::keyword_of;
@@ -29,7 +29,7 @@ pub(crate) fn spelled(alloc: Global, text: &[u8], pieces: &[Piece]) -> Result<Ve
 }
 
 // Appends the text of a piece.
-#[tactic(auto, unfolding(crate::specs::Printed::printed))]
+#[tactic(auto, unfolding(crate::specs::PieceBytes::printed))]
 fn print_piece(out: &mut Vec<u8>, text: &[u8], piece: Piece) -> Result<(), NoMemory>
     ensures { OnOk result (out.new.items ≡ out.old.items ++ spec.printed text.now piece) }
 {

@@ -1,8 +1,8 @@
 -- The nest pairs as the brackets do.
 use Rattle.std.proofs.Common.{◌≡◌, ℕ, zero, suc, ◌<◌, List, [], ◌∷◌, ◌++◌, length, Some, ◌⊎◌, inl, inr, refl, ap, sym, ◌∙◌, arith}
 use Rattle.pfs_event.specs.declared.open.Open.{Open}
-use Rattle.pfs_event.specs.Brackets.{Step, Starts, Ends, depth_after, IsInside, Took, open_after, ClosesNext}
-use Rattle.pfs_event.specs.Nesting.{OpenEvents}
+use Rattle.pfs_event.specs.NestBrackets.{Step, Starts, Ends, depth_after, IsInside, Took, open_after, ClosesNext}
+use Rattle.pfs_event.specs.Nests.{OpenEvents}
 
 -- the event was opened by one of the steps, or it was open before them and they never closed it
 abbrev pub Opened : List Step → List Open → Open → List Open → Type 0

@@ -4,9 +4,9 @@ use Rattle.pfs_event.specs.declared.event.Event.{Event}
 use Rattle.pfs_event.specs.declared.kind.EventKind.TheVariants.{Wait, Stage, Statement, Transaction}
 use Rattle.pfs_event.specs.declared.open.Open.{Open}
 use Rattle.pfs_event.specs.declared.verdict.Verdict.TheVariants.{Attributed}
-use Rattle.pfs_event.specs.Brackets.{Starts, Ends, depth_after, open_after}
-use Rattle.pfs_event.specs.Order.{may_start}
-use Rattle.pfs_event.specs.Words.{words_of}
+use Rattle.pfs_event.specs.NestBrackets.{Starts, Ends, depth_after, open_after}
+use Rattle.pfs_event.specs.StartOrder.{may_start}
+use Rattle.pfs_event.specs.EventWords.{words_of}
 
 -- the second event of session 7: a wait of class 5 and table 2 in statement 1, timed, from 100 to 130
 abbrev wait : Event

@@ -1,5 +1,5 @@
-pub mod BracketLemmas
-pub mod Examples
-pub mod SameEvent
+mod BracketLemmas
+mod Examples
+mod SameEvent
 pub mod WordLemmas
-pub mod Logged
+pub mod Logs

@@ -2,8 +2,8 @@
 use Rattle.std.proofs.Common.{◌≡◌, ℕ, ◌+◌, ◌*◌, ◌<◌, ◌≤◌, Bool, true, false, refl, ap, subst, arith, lit<}
 use Rattle.std.proofs.Math.Bridge.{le_prop}
 use Rattle.pfs_event.specs.declared.event.Event.{Event}
-use Rattle.pfs_event.specs.Form.{bit_of}
-use Rattle.pfs_event.specs.Words.{words_of}
+use Rattle.pfs_event.specs.EventForm.{bit_of}
+use Rattle.pfs_event.specs.EventWords.{words_of}
 
 -- the fields of an event, and what they keep
 abbrev Fields : Type 0

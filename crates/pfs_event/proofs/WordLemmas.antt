@@ -1,6 +1,6 @@
 -- Words taken apart and put together again.
 use Rattle.std.proofs.Common.{◌≡◌, ℕ, zero, suc, ◌+◌, ◌*◌, ◌/◌, ◌%◌, ◌<◌, nat_eq, List, [], ◌∷◌, length, get_or, refl, arith}
-use Rattle.pfs_event.specs.Form.{bit_of}
+use Rattle.pfs_event.specs.EventForm.{bit_of}
 
 bit_below_two : (m : ℕ) → m < 2 → bit_of (nat_eq m 1) ≡ m
 bit_below_two zero below = refl

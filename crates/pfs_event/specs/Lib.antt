@@ -1,9 +1,9 @@
-pub mod Brackets
-pub mod Form
-pub mod Nesting
-pub mod Order
+pub mod NestBrackets
+pub mod EventForm
+pub mod Nests
+pub mod StartOrder
 pub mod Verdicts
-pub mod Words
-pub mod Kinds
-pub mod Packing
-pub mod Journal
+pub mod EventWords
+pub mod NestingKinds
+pub mod PackedEntries
+pub mod Logs

@@ -55,7 +55,7 @@ pub struct Event {
 impl Event {
     ghost use Rattle.std.specs.Prelude.{◌≡◌, ◌≢◌, MatchOption};
     ghost use Rattle.pfs_event.specs.declared.event.Event.{Event};
-    ghost use Rattle.pfs_event.specs.Words.{words_of};
+    ghost use Rattle.pfs_event.specs.EventWords.{words_of};
 
     /// The event's sixteen words. Word 3 is the class and 64 times the link, word 4 is 1 for timed,
     /// 2 for READ ONLY and 4 times the nesting, and word 5 is 0. The layout is our own.

@@ -1,7 +1,7 @@
 //! Which words an event has.
 
 ghost use Rattle.std.specs.Prelude.{◌≡◌, ◌↔◌, IsTrue};
-ghost use Rattle.pfs_event.specs.Form.{bit_of, HasForm};
+ghost use Rattle.pfs_event.specs.EventForm.{bit_of, HasForm};
 
 /// The flag as a bit.
 pub(crate) fn bit(flag: bool) -> u64

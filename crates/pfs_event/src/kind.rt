@@ -1,8 +1,8 @@
 //! The four kinds of event, and which may start inside which.
 
 ghost use Rattle.std.specs.Prelude.{◌≡◌, ◌≤◌};
-ghost use Rattle.pfs_event.specs.Kinds.{nesting_number};
-ghost use Rattle.pfs_event.specs.Order.{may_start};
+ghost use Rattle.pfs_event.specs.NestingKinds.{nesting_number};
+ghost use Rattle.pfs_event.specs.StartOrder.{may_start};
 
 /// The kind of an event, as MySQL has them.
 #[derive(Clone, Copy, Debug, PartialEq, Eq)]

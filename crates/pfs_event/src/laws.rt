@@ -5,11 +5,11 @@ ghost use Rattle.pfs_event.specs.declared.event.Event.{Event};
 ghost use Rattle.pfs_event.specs.declared.kind.EventKind.{EventKind};
 ghost use Rattle.pfs_event.specs.declared.open.Open.{Open};
 ghost use Rattle.pfs_event.specs.declared.verdict.Verdict.{Verdict};
-ghost use Rattle.pfs_event.specs.Brackets.{Step, Starts, ClosesNext, IsInside, Took, open_after};
-ghost use Rattle.pfs_event.specs.Kinds.{nesting_number};
-ghost use Rattle.pfs_event.specs.Nesting.{OpenEvents};
+ghost use Rattle.pfs_event.specs.NestBrackets.{Step, Starts, ClosesNext, IsInside, Took, open_after};
+ghost use Rattle.pfs_event.specs.NestingKinds.{nesting_number};
+ghost use Rattle.pfs_event.specs.Nests.{OpenEvents};
 ghost use Rattle.pfs_event.specs.Verdicts.{verdict_name};
-ghost use Rattle.pfs_event.specs.Words.{words_of};
+ghost use Rattle.pfs_event.specs.EventWords.{words_of};
 
 /// Different events have different words, so `of_words` gives back the very event of which
 /// `to_words` made them.

@@ -20,8 +20,8 @@ pub struct Log {
 impl Model for Log {
     ghost use Rattle.std.specs.Prelude.{◌+◌, ◌≤◌, length, vec_len, vec_capacity};
     ghost use Rattle.std.specs.List.{All};
-    ghost use Rattle.pfs_event.specs.Journal.{Journal};
-    ghost use Rattle.pfs_event.specs.Packing.{IsAmong, entries_of};
+    ghost use Rattle.pfs_event.specs.Logs.{Journal};
+    ghost use Rattle.pfs_event.specs.PackedEntries.{IsAmong, entries_of};
 
     ghost Value = { Journal };
 
@@ -71,7 +71,7 @@ impl Log {
 
     /// Adds an entry at the end.
     #[inline(always)]
-    #[tactic(auto, using(crate::proofs::Logged::short_more, crate::proofs::Logged::short_among))]
+    #[tactic(auto, using(crate::proofs::Logs::short_more, crate::proofs::Logs::short_among))]
     pub fn push(&mut self, entry: Entry)
         requires { 0 < self.old.room }
         ensures { self.new ≡ record { entries = self.old.entries ++ entry ∷ []; room = self.old.room - 1 } }
@@ -87,7 +87,7 @@ impl Log {
 
     // The same of an entry whose numbers are large.
     #[inline(never)]
-    #[tactic(auto, using(crate::proofs::Logged::long_more, crate::proofs::Logged::long_among))]
+    #[tactic(auto, using(crate::proofs::Logs::long_more, crate::proofs::Logs::long_among))]
     fn push_long(&mut self, entry: Entry)
         requires { 0 < self.old.room }
         ensures { self.new ≡ record { entries = self.old.entries ++ entry ∷ []; room = self.old.room - 1 } }

@@ -1,7 +1,7 @@
 //! The open events of a session, each inside the one before it.
 
 ghost use Rattle.std.specs.Prelude.{◌≡◌, ◌≤◌, ◌↔◌, [], length, reverse, IfOk, IsTrue, option_copied};
-ghost use Rattle.pfs_event.specs.Nesting.{OpenEvents, innermost_of, kind_of, StartGives, EndGives};
+ghost use Rattle.pfs_event.specs.Nests.{OpenEvents, innermost_of, kind_of, StartGives, EndGives};
 
 use crate::NoMemory;
 use crate::kind::{EventKind, may_follow};
@@ -34,7 +34,7 @@ pub struct Nest {
 
 impl Model for Nest {
     ghost use Rattle.std.specs.Prelude.{◌≤◌, reverse, vec_len, vec_capacity};
-    ghost use Rattle.pfs_event.specs.Nesting.{OpenEvents};
+    ghost use Rattle.pfs_event.specs.Nests.{OpenEvents};
 
     ghost Value = { OpenEvents };
 

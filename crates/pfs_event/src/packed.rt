@@ -2,7 +2,7 @@
 
 ghost use Rattle.std.specs.Prelude.{◌≡◌};
 ghost use Rattle.pfs_event.specs.declared.entry.Entry.TheVariants as says;
-ghost use Rattle.pfs_event.specs.Packing.{entry_of};
+ghost use Rattle.pfs_event.specs.PackedEntries.{entry_of};
 
 use crate::entry::Entry;
 use crate::short::{Pair, Single, Triple, optional, pair_entry, single_entry, triple_entry};

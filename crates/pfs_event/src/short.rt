@@ -2,7 +2,7 @@
 
 ghost use Rattle.std.specs.Prelude.{◌≡◌, IfSome, length};
 ghost use Rattle.pfs_event.specs.declared.entry.Entry.TheVariants as says;
-ghost use Rattle.pfs_event.specs.Packing.{optional, single_of, pair_of, triple_of, short_of, IsAmong, IsShort};
+ghost use Rattle.pfs_event.specs.PackedEntries.{optional, single_of, pair_of, triple_of, short_of, IsAmong, IsShort};
 
 use crate::entry::Entry;
 use crate::packed::{Packed, unpack};

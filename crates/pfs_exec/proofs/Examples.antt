@@ -4,14 +4,14 @@ use Rattle.std.specs.declared.cmp.Ordering.TheVariants.{Less as Lower, Equal as 
 use Rattle.pfs_text.specs.declared.conditions.Comparison.TheVariants.{Equal, Unequal, AtMost}
 use Rattle.pfs_text.specs.declared.conditions.Literal.TheVariants.{Number as NumberLiteral, Text as TextLiteral}
 use Rattle.pfs_text.specs.declared.conditions.TestKind.TheVariants.{Compare, Like, IsNotNull}
-use Rattle.pfs_values.specs.declared.RowValue.TheVariants.{Null, Number, Text}
+use Rattle.pfs_text.specs.declared.values.RowValue.TheVariants.{Null, Number, Text}
 use Rattle.pfs_rows.specs.declared.table.Table.TheVariants.{SetupObjects, SetupConsumers, Threads, Accounts}
 use Rattle.pfs_matching.specs.declared.object_rows.ObjectKind.TheVariants.{Table as ObjectTable}
 use Rattle.pfs_catalogue.specs.declared.commands.Flag.TheVariants.{First, Second}
 use Rattle.pfs_sql.specs.declared.command.Command.TheVariants.{Select, Update, Insert, Delete}
 use Rattle.pfs_sql.specs.declared.faults.SqlError.TheVariants.{Parse, CommandDenied, UnknownColumn, WrongUsage}
-use Rattle.pfs_exec.specs.Planning.{actor_of, fault_of, flag_set, object_of, places_of}
-use Rattle.pfs_exec.specs.Selecting.{column_cmp, limited, meets_all, meets_value, named_columns, row_cmp, value_at, value_cmp}
+use Rattle.pfs_exec.specs.Plans.{actor_of, fault_of, flag_set, object_of, places_of}
+use Rattle.pfs_exec.specs.Selections.{column_cmp, limited, meets_all, meets_value, named_columns, row_cmp, value_at, value_cmp}
 
 -- a comparison with NULL is false, and so is one with another type
 null_compares : meets_value (Compare Unequal (NumberLiteral 1)) Null ≡ false

@@ -1,5 +1,9 @@
-pub mod Deciding
-pub mod Examples
-pub mod ObjectNames
-pub mod OneOrder
-pub mod Orders
+mod ValueTests
+mod Examples
+mod ObjectNames
+mod StableOrder
+mod RowOrders
+mod CommandRequests
+mod CommandTexts
+mod PlanRequests
+mod InsertedRows

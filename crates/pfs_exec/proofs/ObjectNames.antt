@@ -6,7 +6,7 @@ use Rattle.std.proofs.lemmas.Slice.Eq.{bytes_eq-Decides}
 use Rattle.pfs_matching.specs.ObjectRules.{kind_name}
 use Rattle.pfs_matching.specs.declared.object_rows.ObjectKind.{ObjectKind}
 use Rattle.pfs_matching.specs.declared.object_rows.ObjectKind.TheVariants.{Event, Function, Procedure, Table as ObjectTable, Trigger}
-use Rattle.pfs_exec.specs.Planning.{kind_named}
+use Rattle.pfs_exec.specs.Plans.{kind_named}
 
 differs_at : (a b : List ℕ) → a ≢ b → (t : Bool) → bytes_eq a b ≡ t → bytes_eq a b ≡ false
 differs_at a b ne true e = absurd (ne ((bytes_eq-Decides a b).0 e))

@@ -1,2 +1,5 @@
-pub mod Planning
-pub mod Selecting
+pub mod NewRows
+pub mod Plans
+pub mod Selections
+pub mod RequestLaws
+pub mod Requests

@@ -1,11 +1,10 @@
 //! The parts of a plan.
 ghost use Rattle.std.specs.Prelude.{◌≡◌, IfOk, None, map};
-ghost use Rattle.pfs_exec.specs.Planning as spec;
+ghost use Rattle.pfs_exec.specs.Plans as spec;
 
 use crate::checking::{flag_value, is_flag, object_kind, value_or};
-use crate::{NoMemory, NumberList, Order, OrderList};
+use crate::{Insert, NewRow, NoMemory, NumberList, Order, OrderList, TestList, Update};
 use pfs_catalogue::{Flag, column_count, find_column};
-use pfs_changes::{Insert, NewRow, TestList, Update};
 use pfs_matching::{ActorRow, FlagChange, ObjectKind, ObjectRow};
 use pfs_rows::Table;
 use pfs_sql::{

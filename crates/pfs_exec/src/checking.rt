@@ -3,7 +3,7 @@ ghost use Rattle.std.specs.Prelude.{◌≡◌, position, slice_get, unwrap_or, [
 ghost use Rattle.std.specs.List.{list_any};
 ghost use Rattle.std.specs.Option.{option_and_then, option_copied};
 ghost use Rattle.pfs_catalogue.specs.Columns.{column_place, kind_at};
-ghost use Rattle.pfs_exec.specs.Planning as spec;
+ghost use Rattle.pfs_exec.specs.Plans as spec;
 
 use pfs_catalogue::{ColumnKind, CommandKind, Flag, allows, column_kind, find_column, flag_place};
 use pfs_matching::ObjectKind;

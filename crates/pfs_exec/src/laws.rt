@@ -1,11 +1,11 @@
 //! What follows from the definitions for all values.
 ghost use Rattle.std.specs.Prelude.{◌≡◌, ◌↔◌, List, IsTrue};
-ghost use Rattle.pfs_text.specs.Meeting.{Meets};
+ghost use Rattle.pfs_text.specs.Conditions.{Meets};
 ghost use Rattle.pfs_text.specs.declared.conditions.Shown.{Shown};
 ghost use Rattle.pfs_text.specs.declared.conditions.TestKind.{TestKind};
-ghost use Rattle.pfs_values.specs.declared.RowValue.{RowValue};
+ghost use Rattle.pfs_text.specs.declared.values.RowValue.{RowValue};
 ghost use Rattle.pfs_exec.specs.declared.query.Select.{Select};
-ghost use Rattle.pfs_exec.specs.Selecting.{IsAnswer, meets_value, value_of};
+ghost use Rattle.pfs_exec.specs.Selections.{IsAnswer, meets_value, value_of};
 
 /// The test of a value is true exactly where the value meets the condition.
 pub fn tests_decide()

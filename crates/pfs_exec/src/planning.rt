@@ -1,13 +1,12 @@
 //! From a command to what is to be done.
 ghost use Rattle.std.specs.Prelude.{◌≡◌, IfOk, MatchOption};
-ghost use Rattle.pfs_catalogue.specs.Names.{IsTableName};
-ghost use Rattle.pfs_exec.specs.Planning.{IsPlanned, IsPlannedOn, IsUnknownTable, plan_of, table_text};
+ghost use Rattle.pfs_catalogue.specs.LetterCases.{IsTableName};
+ghost use Rattle.pfs_exec.specs.Plans.{IsPlanned, IsPlannedOn, IsUnknownTable, plan_of, table_text};
 
 use crate::building::{insert_of, orders_of, places_of, tests_of, update_of};
 use crate::checking::fault_of;
-use crate::{NoMemory, Plan, Select};
+use crate::{Change, Delete, NoMemory, Plan, Select};
 use pfs_catalogue::find_table;
-use pfs_changes::{Change, Delete};
 use pfs_rows::Table;
 use pfs_sql::{Command, SelectCommand, SqlError, SqlFault};
 use std::alloc::Global;

@@ -1,7 +1,7 @@
 //! A query whose names are resolved.
 ghost use Rattle.std.specs.Prelude.{◌≡◌};
 
-use pfs_changes::{Change, TestList};
+use crate::{Change, TestList};
 use pfs_rows::Table;
 use std::marker::Model;
 

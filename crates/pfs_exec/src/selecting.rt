@@ -1,13 +1,12 @@
 //! The answer of a query over rows.
 ghost use Rattle.std.specs.Prelude.{◌≡◌, IfOk, filter, map, take, length};
 ghost use Rattle.std.specs.List.{list_all};
-ghost use Rattle.pfs_exec.specs.Selecting.{IsAnswer, limited, meets_all, meets_value, named_columns, value_at};
+ghost use Rattle.pfs_exec.specs.Selections.{IsAnswer, limited, meets_all, meets_value, named_columns, value_at};
 
 use crate::sorting::sort_rows;
 use crate::values::{copy_at, shown_at};
 use crate::{NoMemory, Select};
-use pfs_text::{Test, meets};
-use pfs_values::{Row, RowValue, Rowset};
+use pfs_text::{Row, RowValue, Rowset, Test, meets};
 use std::alloc::Global;
 
 /// The answer of the query over a table's rows: those that meet all conditions, in a stable order by the named

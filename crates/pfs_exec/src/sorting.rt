@@ -1,10 +1,10 @@
 //! Rows in the order of their columns.
 ghost use Rattle.std.specs.Prelude.{◌≡◌, OnOk, map};
-ghost use Rattle.pfs_exec.specs.Selecting.{IsInOrder, column_cmp, row_cmp};
+ghost use Rattle.pfs_exec.specs.Selections.{IsInOrder, column_cmp, row_cmp};
 
 use crate::values::{compare, shown_at};
 use crate::{NoMemory, Order};
-use pfs_values::{Row, RowValue};
+use pfs_text::{Row, RowValue};
 use std::cmp::Ordering;
 
 fn compare_column(order: &Order, a: &[RowValue], b: &[RowValue]) -> Ordering

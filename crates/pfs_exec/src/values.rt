@@ -1,10 +1,9 @@
 //! One value of a row: shown, compared and copied.
 ghost use Rattle.std.specs.Prelude.{◌≡◌, IfOk, IsTrue, ◌↔◌};
-ghost use Rattle.pfs_exec.specs.Selecting.{meets_value, value_at, value_cmp, value_of};
+ghost use Rattle.pfs_exec.specs.Selections.{meets_value, value_at, value_cmp, value_of};
 
 use crate::NoMemory;
-use pfs_text::{Shown, TestKind};
-use pfs_values::RowValue;
+use pfs_text::{RowValue, Shown, TestKind};
 use std::cmp::Ordering;
 
 /// The value of a row at a place. A place that the row doesn't have shows NULL.

@@ -1,3 +1,3 @@
-pub mod Examples
-mod Names
-pub mod Putting
+mod Examples
+mod CounterNames
+mod JoinedTables

@@ -14,11 +14,11 @@ use Rattle.pfs_classes.specs.declared.setting.Setting.{Setting}
 use Rattle.pfs_journal.specs.declared.values.TableReport.{TableReport}
 use Rattle.pfs_levels.specs.Calls.{Call, Goes, Opening}
 use Rattle.pfs_reader.specs.Readings.{calls_of}
-use Rattle.pfs_readsets.specs.Places.{scope_of}
+use Rattle.pfs_readsets.specs.TablePlaces.{scope_of}
 use Rattle.pfs_readsets.specs.ReadSets.{IsReadSet}
-use Rattle.pfs_tables.specs.Shown.{listed_rows}
-use Rattle.pfs_values.specs.declared.RowValue.{RowValue}
-use Rattle.pfs_values.specs.declared.RowValue.TheVariants.{Null, Number, Text}
+use Rattle.pfs_tables.specs.ListedRows.{listed_rows}
+use Rattle.pfs_text.specs.declared.values.RowValue.{RowValue}
+use Rattle.pfs_text.specs.declared.values.RowValue.TheVariants.{Null, Number, Text}
 
 -- the tables that a report may show, in its order: a kind's event tables stand together, then a kind's summaries, and
 -- that of digests is the last

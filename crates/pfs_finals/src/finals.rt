@@ -11,8 +11,7 @@ use pfs_levels::Rows;
 use pfs_reader::read_table;
 use pfs_rows::{EventTable, Reading, SummaryTable, Table, TableKind};
 use pfs_tables::listed;
-use pfs_text::Text;
-use pfs_values::{Row, RowValue, Rowset};
+use pfs_text::{Row, RowValue, Rowset, Text};
 use std::alloc::Global;
 
 /// The tables that a report may show at a phase's end, in its order. The names are MySQL's, the order is our own.

@@ -2,7 +2,7 @@
 use Rattle.std.proofs.Common.{◌≡◌, ◌/◌, ◌%◌, ◌^◌, refl, arith}
 use Rattle.std.specs.Prelude.{codes}
 use Rattle.pfs_gen.specs.Draws.{step, state_after, draw}
-use Rattle.pfs_gen.specs.Generated.{statement_line}
+use Rattle.pfs_gen.specs.GeneratedScript.{statement_line}
 
 first_draw : draw 0 0 ≡ 167951807
 unfolding draw state_after step

@@ -3,7 +3,7 @@
 ghost use Rattle.std.specs.Prelude.{ℕ, ◌≡◌, ◌+◌, ◌*◌, ◌≤◌, ◌++◌, codes, IfOk, OnOk};
 ghost use Rattle.std.specs.List.{flat_map, range_with_len};
 ghost use Rattle.pfs_gen.specs.Draws.{state_after};
-ghost use Rattle.pfs_gen.specs.Generated.{session_line, connect_line, session_text, script_text};
+ghost use Rattle.pfs_gen.specs.GeneratedScript.{session_line, connect_line, session_text, script_text};
 
 use crate::NoMemory;
 use crate::units::{put_text, put_units};
@@ -17,7 +17,7 @@ const SESSIONS: u64 = 8;
 const UNITS: u64 = 500;
 
 /// Appends the line of a session that goes on.
-#[tactic(auto, unfolding(crate::specs::Generated::session_line))]
+#[tactic(auto, unfolding(crate::specs::GeneratedScript::session_line))]
 fn put_session_line(out: &mut Vec<u8>, session: u64) -> Result<(), NoMemory>
     ensures { OnOk result (out.new.items ≡ out.old.items ++ session_line session) }
 {
@@ -27,7 +27,7 @@ fn put_session_line(out: &mut Vec<u8>, session: u64) -> Result<(), NoMemory>
 }
 
 /// Appends the line of a session that connects, with its user and host.
-#[tactic(auto, unfolding(crate::specs::Generated::connect_line))]
+#[tactic(auto, unfolding(crate::specs::GeneratedScript::connect_line))]
 fn put_connect(out: &mut Vec<u8>, session: u64) -> Result<(), NoMemory>
     ensures { OnOk result (out.new.items ≡ out.old.items ++ connect_line session) }
 {
@@ -84,7 +84,7 @@ fn put_sessions(out: &mut Vec<u8>, count: u64, number: u64) -> Result<(), NoMemo
 /// The script of a number: eight sessions connect, and in the next phase each of them has 500
 /// statements with a wait inside. Classes, texts and times are drawn by a generator that starts
 /// with the number. The rule is our own.
-#[tactic(auto, unfolding(crate::specs::Generated::script_text))]
+#[tactic(auto, unfolding(crate::specs::GeneratedScript::script_text))]
 pub fn script_of(alloc: Global, number: u64) -> Result<Vec<u8>, NoMemory>
     ensures { IfOk result (λ script. script.items ≡ script_text number) }
 {

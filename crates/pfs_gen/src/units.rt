@@ -2,7 +2,7 @@
 
 ghost use Rattle.std.specs.Prelude.{ℕ, ◌≡◌, ◌+◌, ◌*◌, ◌≤◌, ◌++◌, codes, IfOk, OnOk};
 ghost use Rattle.pfs_gen.specs.Draws.{state_after};
-ghost use Rattle.pfs_gen.specs.Generated.{statement_line, spend_line, wait_line, unit_at, unit_text, units_text};
+ghost use Rattle.pfs_gen.specs.GeneratedScript.{statement_line, spend_line, wait_line, unit_at, unit_text, units_text};
 
 use crate::NoMemory;
 use crate::numbers::{drawn, step};
@@ -17,7 +17,7 @@ pub fn put_text(out: &mut Vec<u8>, text: &[u8]) -> Result<(), NoMemory>
 }
 
 /// The line that starts a statement, by its number.
-#[tactic(auto, unfolding(crate::specs::Generated::statement_line))]
+#[tactic(auto, unfolding(crate::specs::GeneratedScript::statement_line))]
 fn statement_line(number: u64) -> &'static [u8]
     ensures { result.now ≡ statement_line number }
 {
@@ -30,7 +30,7 @@ fn statement_line(number: u64) -> &'static [u8]
 }
 
 /// The line that starts a wait, by the number of its class among those of files.
-#[tactic(auto, unfolding(crate::specs::Generated::wait_line))]
+#[tactic(auto, unfolding(crate::specs::GeneratedScript::wait_line))]
 fn wait_line(number: u64) -> &'static [u8]
     ensures { result.now ≡ wait_line number }
 {
@@ -42,7 +42,7 @@ fn wait_line(number: u64) -> &'static [u8]
 }
 
 /// Appends a line that lets time pass.
-#[tactic(auto, unfolding(crate::specs::Generated::spend_line))]
+#[tactic(auto, unfolding(crate::specs::GeneratedScript::spend_line))]
 fn put_spend(out: &mut Vec<u8>, time: u64) -> Result<(), NoMemory>
     ensures { OnOk result (out.new.items ≡ out.old.items ++ spend_line time) }
 {
@@ -52,7 +52,7 @@ fn put_spend(out: &mut Vec<u8>, time: u64) -> Result<(), NoMemory>
 }
 
 /// Appends the unit of these numbers.
-#[tactic(auto, unfolding(crate::specs::Generated::unit_text))]
+#[tactic(auto, unfolding(crate::specs::GeneratedScript::unit_text))]
 fn put_unit_of(
     out: &mut Vec<u8>,
     statement: u64,

@@ -6,8 +6,8 @@ use Rattle.std.proofs.lemmas.Bool.{false≢true}
 use Rattle.std.proofs.lemmas.List.Elements.{All-head}
 use Rattle.pfs_event.specs.declared.entry.Entry.TheVariants as entry
 use Rattle.pfs_event.specs.declared.verdict.Verdict.TheVariants.{Attributed}
-use Rattle.pfs_values.specs.declared.RowValue.TheVariants as value
-use Rattle.pfs_journal.specs.FirstWrong.{whole_lines, first_lines}
+use Rattle.pfs_text.specs.declared.values.RowValue.TheVariants as value
+use Rattle.pfs_journal.specs.FirstWrongLine.{whole_lines, first_lines}
 use Rattle.pfs_journal.specs.Reports.{is_text_byte, IsText, AreAnswered}
 use Rattle.pfs_journal.specs.Spelling.{field_text, numbers_text, entry_text, value_text, row_text, answered_text, journal_text, session_line, block_text, results_text, final_line, final_text, body_text, phase_line, phase_text, phases_text, first_line, spelling}
 

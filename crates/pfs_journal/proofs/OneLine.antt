@@ -5,28 +5,28 @@ use Rattle.std.specs.List.{All, flat_map}
 use Rattle.std.specs.Str.Parse.{IsNumeral, digits_value}
 use Rattle.std.proofs.lemmas.Fmt.{decimal_is_IsNumeral}
 use Rattle.std.proofs.lemmas.List.Elements.{All-head, All-tail, All-nil, All-cons}
-use Rattle.pfs_text.specs.Quotes.{quoted}
+use Rattle.pfs_text.specs.QuotedTexts.{quoted}
 use Rattle.pfs_text.proofs.QuoteLaws.{quotes_are_exact}
 use Rattle.pfs_event.specs.declared.entry.Entry.{Entry}
 use Rattle.pfs_event.specs.declared.entry.Entry.TheVariants as entry
 use Rattle.pfs_event.specs.declared.verdict.Verdict.{Verdict}
 use Rattle.pfs_event.specs.Verdicts.{verdict_name}
-use Rattle.pfs_values.specs.declared.RowValue.{RowValue}
-use Rattle.pfs_values.specs.declared.RowValue.TheVariants as value
+use Rattle.pfs_text.specs.declared.values.RowValue.{RowValue}
+use Rattle.pfs_text.specs.declared.values.RowValue.TheVariants as value
 use Rattle.pfs_journal.specs.declared.line.Line.{Line}
 use Rattle.pfs_journal.specs.declared.line.Line.TheVariants as says
 use Rattle.pfs_journal.specs.declared.values.LostReport.{LostReport}
-use Rattle.pfs_journal.specs.Lines.{line_text, IsGoodLine}
+use Rattle.pfs_journal.specs.SingleLines.{line_text, IsGoodLine}
 use Rattle.pfs_journal.specs.Reports.{IsName}
 use Rattle.pfs_journal.specs.Spelling.{field_text, optional_text, value_text}
-use Rattle.pfs_journal.specs.Words.{front_word, behind_word, IsBehind, Leads, Fits, FitsField, FitsValue, optional_word, verdict_of, entry_word, entry_numbers, entry_rest, line_word, line_rest, plain_says}
-use Rattle.pfs_journal.proofs.WordsRead.{word_front, entry_says, dash_no_numeral, field_leads, field_some, fields_behind, name_leads, verdict_told, verdict_leads, clean_told, number_clean}
-use Rattle.pfs_journal.proofs.ValuesRead.{behind_plain, plain_only, text_rest, null_no_number, value_some}
-use Rattle.pfs_journal.proofs.GuessTold.{IsPlain, apart, row_told, table_told, lost_told, start_told, plain_told, line_clean}
+use Rattle.pfs_journal.specs.LineWords.{front_word, behind_word, IsBehind, Leads, Fits, FitsField, FitsValue, optional_word, verdict_of, entry_word, entry_numbers, entry_rest, line_word, line_rest, plain_says}
+use Rattle.pfs_journal.proofs.WordReadings.{word_front, entry_says, dash_no_numeral, field_leads, field_some, fields_behind, name_leads, verdict_told, verdict_leads, clean_told, number_clean}
+use Rattle.pfs_journal.proofs.ValueReadings.{behind_plain, plain_only, text_rest, null_no_number, value_some}
+use Rattle.pfs_journal.proofs.Guesses.{IsPlain, apart, row_told, table_told, lost_told, start_told, plain_told, line_clean}
 use Rattle.pfs_journal.proofs.LastLines.{no_feed}
-use Rattle.pfs_journal.proofs.LineEnds.{feedless}
+use Rattle.pfs_journal.proofs.LineFeeds.{feedless}
 use Rattle.std.proofs.lemmas.Bool.{false≢true, and_parts}
-use Rattle.pfs_journal.proofs.LinesRead.{values_behind, line_behind, line_is}
+use Rattle.pfs_journal.proofs.LineReadings.{values_behind, line_behind, line_is}
 
 -- a word and what stands behind it are told from the text
 lead_told : (word behind w b bytes : List ℕ) → Leads word behind bytes → Leads w b bytes → (word ≡ w) × (behind ≡ b)

@@ -4,7 +4,7 @@ use Rattle.std.specs.List.{All, flat_map, filter_map}
 use Rattle.std.proofs.lemmas.List.Elements.{All-head, All-tail}
 use Rattle.pfs_event.specs.declared.entry.Entry.{Entry}
 use Rattle.pfs_event.specs.declared.entry.Entry.TheVariants as entry
-use Rattle.pfs_values.specs.declared.RowValue.{RowValue}
+use Rattle.pfs_text.specs.declared.values.RowValue.{RowValue}
 use Rattle.pfs_journal.specs.declared.line.Line.{Line}
 use Rattle.pfs_journal.specs.declared.line.Line.TheVariants as says
 use Rattle.pfs_journal.specs.declared.values.TableReport.{TableReport}
@@ -16,8 +16,8 @@ use Rattle.pfs_journal.specs.OneSpelling.{IsReadAgain}
 use Rattle.pfs_journal.specs.ReportLines.{row_lines, journal_lines, block_lines, table_lines, phase_lines, report_lines, FitsReport}
 use Rattle.pfs_journal.specs.Reports.{IsBlock, IsPhase, IsReport, AreAnswered, rows_asked, sizes_of}
 use Rattle.pfs_journal.specs.Spelling.{spelling}
-use Rattle.pfs_journal.proofs.Collected.{Parts, no_parts, results, add, collect, phase_group}
-use Rattle.pfs_journal.proofs.FirstWrongs.{same_lines}
+use Rattle.pfs_journal.proofs.LineReports.{Parts, no_parts, results, add, collect, phase_group}
+use Rattle.pfs_journal.proofs.FirstWrongLine.{same_lines}
 use Rattle.pfs_journal.proofs.ReportRuns.{spelled}
 
 abbrev Answer : Type 0

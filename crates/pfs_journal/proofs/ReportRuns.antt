@@ -6,7 +6,7 @@ use Rattle.std.proofs.lemmas.List.Concat.{flat_map-append}
 use Rattle.std.proofs.lemmas.List.Elements.{All-head, All-tail, All-nil, All-cons, All-append, All-drop}
 use Rattle.pfs_event.specs.declared.entry.Entry.{Entry}
 use Rattle.pfs_event.specs.declared.entry.Entry.TheVariants as entry
-use Rattle.pfs_values.specs.declared.RowValue.{RowValue}
+use Rattle.pfs_text.specs.declared.values.RowValue.{RowValue}
 use Rattle.pfs_journal.specs.declared.line.Line.{Line}
 use Rattle.pfs_journal.specs.declared.line.Line.TheVariants as says
 use Rattle.pfs_journal.specs.declared.values.TableReport.{TableReport}
@@ -14,11 +14,11 @@ use Rattle.pfs_journal.specs.declared.values.LostReport.{LostReport}
 use Rattle.pfs_journal.specs.declared.blocks.BlockReport.{BlockReport}
 use Rattle.pfs_journal.specs.declared.report.PhaseParts.{PhaseParts}
 use Rattle.pfs_journal.specs.declared.report.ReportParts.{ReportParts}
-use Rattle.pfs_journal.specs.Lines.{line_text, IsLine}
-use Rattle.pfs_journal.specs.Places.{Place, Start, Phases, Blocks, Journal, Results, Named, Rows, Counters, Ended, run}
+use Rattle.pfs_journal.specs.SingleLines.{line_text, IsLine}
+use Rattle.pfs_journal.specs.ReportPlaces.{Place, Start, Phases, Blocks, Journal, Results, Named, Rows, Counters, Ended, run}
 use Rattle.pfs_journal.specs.ReportLines.{row_lines, answered_lines, journal_lines, block_lines, table_lines, phase_lines, report_lines}
 use Rattle.pfs_journal.specs.Reports.{IsRow, IsTable, IsLost, IsBlock, IsPhase, IsReport, AreAnswered, rows_asked, sizes_of}
-use Rattle.pfs_journal.proofs.Collected.{phase_group}
+use Rattle.pfs_journal.proofs.LineReports.{phase_group}
 use Rattle.pfs_journal.specs.Spelling.{row_text, entry_text, is_answered, answered_text, journal_text, session_line, block_text, table_line, table_text, lost_text, results_text, final_line, final_text, body_text, phase_line, phase_text, phases_text, first_line, spelling}
 
 abbrev Answer : Type 0

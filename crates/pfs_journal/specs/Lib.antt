@@ -1,9 +1,9 @@
-pub mod FirstWrong
-pub mod Lines
+pub mod FirstWrongLine
+pub mod SingleLines
 pub mod OneSpelling
-pub mod Places
-pub mod Readings
+pub mod ReportPlaces
+pub mod ReportReadings
 pub mod ReportLines
 pub mod Reports
 pub mod Spelling
-pub mod Words
+pub mod LineWords

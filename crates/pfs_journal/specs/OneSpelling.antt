@@ -2,8 +2,8 @@
 use Rattle.std.specs.Prelude.{ℕ, ◌≡◌, List, [], ◌++◌}
 use Rattle.std.specs.List.{flat_map}
 use Rattle.pfs_journal.specs.declared.report.ReportParts.{ReportParts}
-use Rattle.pfs_journal.specs.FirstWrong.{IsFirstWrong}
-use Rattle.pfs_journal.specs.Lines.{line_text}
+use Rattle.pfs_journal.specs.FirstWrongLine.{IsFirstWrong}
+use Rattle.pfs_journal.specs.SingleLines.{line_text}
 use Rattle.pfs_journal.specs.ReportLines.{FitsReport, report_lines}
 use Rattle.pfs_journal.specs.Reports.{IsReport}
 use Rattle.pfs_journal.specs.Spelling.{spelling}

@@ -2,7 +2,7 @@
 use Rattle.std.specs.Prelude.{if◌then◌else◌, List, [], ◌∷◌, ◌++◌, map, drop}
 use Rattle.std.specs.List.{All, flat_map, slice_index_or}
 use Rattle.pfs_event.specs.declared.entry.Entry.{Entry}
-use Rattle.pfs_values.specs.declared.RowValue.{RowValue}
+use Rattle.pfs_text.specs.declared.values.RowValue.{RowValue}
 use Rattle.pfs_journal.specs.declared.line.Line.{Line}
 use Rattle.pfs_journal.specs.declared.line.Line.TheVariants as says
 use Rattle.pfs_journal.specs.declared.values.TableReport.{TableReport}
@@ -10,7 +10,7 @@ use Rattle.pfs_journal.specs.declared.blocks.BlockReport.{BlockReport}
 use Rattle.pfs_journal.specs.declared.report.PhaseParts.{PhaseParts}
 use Rattle.pfs_journal.specs.declared.report.ReportParts.{ReportParts}
 use Rattle.pfs_journal.specs.Spelling.{is_answered}
-use Rattle.pfs_journal.specs.Words.{FitsLine}
+use Rattle.pfs_journal.specs.LineWords.{FitsLine}
 
 abbrev pub row_lines : List (List RowValue) → List Line
 row_lines rows = map says.Row rows

@@ -3,8 +3,8 @@ use Rattle.std.specs.Prelude.{ℕ, ◌≡◌, ◌≢◌, ◌≤◌, ◌==◌, Bo
 use Rattle.std.specs.List.{All, filter_map}
 use Rattle.pfs_event.specs.declared.entry.Entry.{Entry}
 use Rattle.pfs_event.specs.declared.entry.Entry.TheVariants as entry
-use Rattle.pfs_values.specs.declared.RowValue.{RowValue}
-use Rattle.pfs_values.specs.declared.RowValue.TheVariants.{Null, Number, Text}
+use Rattle.pfs_text.specs.declared.values.RowValue.{RowValue}
+use Rattle.pfs_text.specs.declared.values.RowValue.TheVariants.{Null, Number, Text}
 use Rattle.pfs_journal.specs.declared.values.TableReport.{TableReport}
 use Rattle.pfs_journal.specs.declared.values.LostReport.{LostReport}
 use Rattle.pfs_journal.specs.declared.blocks.BlockReport.{BlockReport}

@@ -1,12 +1,12 @@
 -- The spelling of a report: its lines, each ended by a line feed.
 use Rattle.std.specs.Prelude.{ℕ, Bool, true, false, if◌then◌else◌, List, [], ◌∷◌, ◌++◌, Option, Some, None, codes, decimal, drop}
 use Rattle.std.specs.List.{flat_map, slice_index_or}
-use Rattle.pfs_text.specs.Quotes.{quoted}
+use Rattle.pfs_text.specs.QuotedTexts.{quoted}
 use Rattle.pfs_event.specs.declared.entry.Entry.{Entry}
 use Rattle.pfs_event.specs.declared.entry.Entry.TheVariants as entry
 use Rattle.pfs_event.specs.Verdicts.{verdict_name}
-use Rattle.pfs_values.specs.declared.RowValue.{RowValue}
-use Rattle.pfs_values.specs.declared.RowValue.TheVariants as value
+use Rattle.pfs_text.specs.declared.values.RowValue.{RowValue}
+use Rattle.pfs_text.specs.declared.values.RowValue.TheVariants as value
 use Rattle.pfs_journal.specs.declared.values.TableReport.{TableReport}
 use Rattle.pfs_journal.specs.declared.values.LostReport.{LostReport}
 use Rattle.pfs_journal.specs.declared.blocks.BlockReport.{BlockReport}

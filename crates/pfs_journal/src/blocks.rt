@@ -3,7 +3,7 @@
 ghost use Rattle.std.specs.Prelude.{◌≡◌, ◌<◌, length, slice_get, Some};
 
 use pfs_event::{Entry, Log};
-use pfs_values::Rowset;
+use pfs_text::Rowset;
 use std::marker::Model;
 
 /// The entries of a journal, in order.
@@ -54,7 +54,7 @@ pub struct AnswerList {
 
 impl Model for AnswerList {
     ghost use Rattle.std.specs.Prelude.{List};
-    ghost use Rattle.pfs_values.specs.declared.RowValue.{RowValue};
+    ghost use Rattle.pfs_text.specs.declared.values.RowValue.{RowValue};
 
     ghost Value = { List (List (List RowValue)) };
 

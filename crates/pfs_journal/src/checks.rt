@@ -9,7 +9,7 @@ use crate::blocks::{BlockReport, EntryList};
 use crate::report::PhaseParts;
 use crate::values::{LostReport, TableReport};
 use pfs_event::Entry;
-use pfs_values::{Row, RowValue, Rowset};
+use pfs_text::{Row, RowValue, Rowset};
 
 /// Whether a text may have the byte.
 fn is_text_byte(byte: u8) -> bool

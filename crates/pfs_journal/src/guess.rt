@@ -3,25 +3,24 @@
 
 ghost use Rattle.std.specs.Prelude.{ℕ, List, ◌≡◌, ◌≢◌, ◌++◌, ◌∷◌, [], ◌<◌, ◌≤◌, length, take, MatchOption, IfOk, IfSome, Option, Some, codes, decimal};
 ghost use Rattle.std.specs.List.{All, flat_map, prefix_len};
-ghost use Rattle.pfs_journal.specs.Lines.{line_text, IsLine};
-ghost use Rattle.pfs_journal.specs.Words.{is_word_byte, dash_of, Fits, FitsValue, front_word, behind_word, Leads, IsBehind, FitsField, FitsLine, verdict_of, alone_says, one_says, two_say, three_say, plain_says, optional_word, line_word, line_rest, entry_rest};
+ghost use Rattle.pfs_journal.specs.SingleLines.{line_text, IsLine};
+ghost use Rattle.pfs_journal.specs.LineWords.{is_word_byte, dash_of, Fits, FitsValue, front_word, behind_word, Leads, IsBehind, FitsField, FitsLine, verdict_of, alone_says, one_says, two_say, three_say, plain_says, optional_word, line_word, line_rest, entry_rest};
 ghost use Rattle.pfs_journal.specs.Reports.{IsName};
 ghost use Rattle.pfs_journal.specs.declared.line.Line.TheVariants as says;
 ghost use Rattle.pfs_journal.specs.declared.line.Line.{Line};
 ghost use Rattle.pfs_journal.specs.declared.values.LostReport.{LostReport};
 ghost use Rattle.pfs_event.specs.declared.entry.Entry.TheVariants as entries;
 ghost use Rattle.pfs_event.specs.declared.verdict.Verdict.{Verdict};
-ghost use Rattle.pfs_values.specs.declared.RowValue.{RowValue};
-ghost use Rattle.pfs_values.specs.declared.RowValue.TheVariants as value;
-ghost use Rattle.pfs_text.specs.Quotes.{doubled, quoted, IsQuotedFront};
+ghost use Rattle.pfs_text.specs.declared.values.RowValue.{RowValue};
+ghost use Rattle.pfs_text.specs.declared.values.RowValue.TheVariants as value;
+ghost use Rattle.pfs_text.specs.QuotedTexts.{doubled, quoted, IsQuotedFront};
 ghost use Rattle.pfs_journal.specs.Spelling.{optional_text, value_text};
 
 use crate::NoMemory;
 use crate::line::Line;
 use crate::values::LostReport;
 use pfs_event::{Entry, Verdict};
-use pfs_text::{Text, read_u64, unquote};
-use pfs_values::{Row, RowValue};
+use pfs_text::{Row, RowValue, Text, read_u64, unquote};
 use std::alloc::Global;
 
 /// How many bytes stand before the first space.

@@ -1,6 +1,6 @@
 //! What follows from the definitions for all values.
 
-ghost use Rattle.pfs_journal.specs.FirstWrong.{OneLineIsWrong};
+ghost use Rattle.pfs_journal.specs.FirstWrongLine.{OneLineIsWrong};
 ghost use Rattle.pfs_journal.specs.OneSpelling.{NoSpellingIsAFront, SpelledByLines, WrittenIsRead};
 
 /// No spelling of a report is a proper front of another.

@@ -1,16 +1,15 @@
 //! One line of a report.
 
 ghost use Rattle.std.specs.Prelude.{◌≡◌, ◌↔◌, IsTrue, OnOk};
-ghost use Rattle.pfs_journal.specs.Lines.{line_text, IsLine};
-ghost use Rattle.pfs_journal.specs.Words.{FitsLine};
+ghost use Rattle.pfs_journal.specs.SingleLines.{line_text, IsLine};
+ghost use Rattle.pfs_journal.specs.LineWords.{FitsLine};
 
 use crate::NoMemory;
 use crate::checks::{is_name, is_row};
 use crate::lines::{begin, entry_line, lost_line, one_line, row_line, table_line};
 use crate::values::LostReport;
 use pfs_event::Entry;
-use pfs_text::Text;
-use pfs_values::Row;
+use pfs_text::{Row, Text};
 
 /// What a line says.
 #[derive(Drop)]
@@ -36,7 +35,7 @@ pub enum Line {
 }
 
 /// Makes the line that says this.
-#[tactic(auto, unfolding(crate::specs::Lines::line_text, crate::specs::Spelling::first_line, crate::specs::Spelling::phase_line, crate::specs::Spelling::session_line, crate::specs::Spelling::final_line))]
+#[tactic(auto, unfolding(crate::specs::SingleLines::line_text, crate::specs::Spelling::first_line, crate::specs::Spelling::phase_line, crate::specs::Spelling::session_line, crate::specs::Spelling::final_line))]
 pub fn line_of(line: &mut Vec<u8>, says: &Line) -> Result<(), NoMemory>
     ensures text { OnOk result (line.new.items ≡ line_text says.now) }
     ensures fits { OnOk result (FitsLine says.now) }

@@ -3,16 +3,15 @@
 ghost use Rattle.std.specs.Prelude.{◌≡◌, ◌<◌, ◌≤◌, ◌+◌, ◌++◌, ◌∷◌, [], Some, OnOk, codes, drop, length};
 ghost use Rattle.std.specs.List.{All, flat_map};
 ghost use Rattle.pfs_event.specs.Verdicts.{verdict_name};
-ghost use Rattle.pfs_text.specs.Quotes.{quoted};
+ghost use Rattle.pfs_text.specs.QuotedTexts.{quoted};
 ghost use Rattle.pfs_journal.specs.Spelling.{field_text, optional_text, numbers_text, entry_text, value_text, row_text, table_line, lost_text};
-ghost use Rattle.pfs_journal.specs.Words.{FitsField, FitsValue, entry_numbers};
+ghost use Rattle.pfs_journal.specs.LineWords.{FitsField, FitsValue, entry_numbers};
 
 use crate::NoMemory;
 use crate::values::LostReport;
 use itoa::write_digits;
 use pfs_event::{Entry, Verdict};
-use pfs_text::quote;
-use pfs_values::{Row, RowValue};
+use pfs_text::{Row, RowValue, quote};
 
 /// The bytes of a space and the longest number.
 const FIELD: usize = 21;

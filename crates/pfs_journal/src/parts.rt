@@ -4,9 +4,9 @@
 ghost use Rattle.std.specs.Prelude.{ℕ, List, ◌≡◌, ◌≢◌, ◌++◌, ◌∷◌, [], ◌<◌, ◌≤◌, length, IfOk, OnOk, Some};
 ghost use Rattle.std.specs.List.{All, flat_map};
 ghost use Rattle.pfs_journal.specs.declared.line.Line.TheVariants as says;
-ghost use Rattle.pfs_journal.specs.Lines.{line_text, IsLine};
-ghost use Rattle.pfs_journal.specs.Places.{Place, Blocks, Counters, Ended, Journal, Named, Phases, Results, rows_due, step, Leads, StopsAfter};
-ghost use Rattle.pfs_journal.specs.Readings.{IfBad, IsRead, Grows, AnswerGrows, AnswersGrow, JournalGrows, IsJournalRead};
+ghost use Rattle.pfs_journal.specs.SingleLines.{line_text, IsLine};
+ghost use Rattle.pfs_journal.specs.ReportPlaces.{Place, Blocks, Counters, Ended, Journal, Named, Phases, Results, rows_due, step, Leads, StopsAfter};
+ghost use Rattle.pfs_journal.specs.ReportReadings.{IfBad, IsRead, Grows, AnswerGrows, AnswersGrow, JournalGrows, IsJournalRead};
 ghost use Rattle.pfs_journal.specs.Reports.{IsRow, IsName, IsTable, IsLost, IsBlock, IsPhase, IsReport, rows_asked};
 ghost use Rattle.pfs_journal.specs.Spelling.{row_text, table_text, lost_text, block_text, phase_text, results_text, spelling};
 
@@ -16,8 +16,7 @@ use crate::line::Line;
 use crate::reading::{Lines, ReadStop, next, push};
 use crate::values::{LostList, LostReport, TableList, TableReport};
 use pfs_event::{Entry, Log};
-use pfs_text::Text;
-use pfs_values::{Row, Rowset};
+use pfs_text::{Row, Rowset, Text};
 use std::alloc::Global;
 
 fn take_row(

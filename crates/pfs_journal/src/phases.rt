@@ -3,10 +3,10 @@
 ghost use Rattle.std.specs.Prelude.{ℕ, List, ◌≡◌, ◌≢◌, ◌++◌, [], ◌<◌, ◌≤◌, length, IfOk, Some};
 ghost use Rattle.std.specs.List.{All, flat_map};
 ghost use Rattle.pfs_journal.specs.declared.line.Line.TheVariants as says;
-ghost use Rattle.pfs_journal.specs.Lines.{line_text, IsLine};
-ghost use Rattle.pfs_journal.specs.FirstWrong.{IsFirstWrong};
-ghost use Rattle.pfs_journal.specs.Places.{Blocks, Ended, Journal, Phases, Results, step, Leads, StopsAfter};
-ghost use Rattle.pfs_journal.specs.Readings.{IfBad, IsRead, Grows, PhaseEnds};
+ghost use Rattle.pfs_journal.specs.SingleLines.{line_text, IsLine};
+ghost use Rattle.pfs_journal.specs.FirstWrongLine.{IsFirstWrong};
+ghost use Rattle.pfs_journal.specs.ReportPlaces.{Blocks, Ended, Journal, Phases, Results, step, Leads, StopsAfter};
+ghost use Rattle.pfs_journal.specs.ReportReadings.{IfBad, IsRead, Grows, PhaseEnds};
 ghost use Rattle.pfs_journal.specs.Reports.{IsTable, IsLost, IsBlock, IsPhase, IsReport};
 ghost use Rattle.pfs_journal.specs.Spelling.{block_text, phase_text, final_text, spelling};
 

@@ -1,10 +1,10 @@
 //! Taking a report's lines one by one.
 
 ghost use Rattle.std.specs.Prelude.{ℕ, List, ◌≡◌, ◌≢◌, ◌≤◌, ◌++◌, ◌∷◌, [], ◌+◌, ◌^◌, ◌<◌, ◌↔◌, length, IsTrue, Some, IfOk, OnOk, IfSome, MatchOption, take, drop};
-ghost use Rattle.pfs_journal.specs.Lines.{line_text, IsLine, IsGoodLine};
-ghost use Rattle.pfs_journal.specs.Places.{Place, Ended, step, capped, Leads, StopsAfter};
-ghost use Rattle.pfs_journal.specs.Readings.{IsTaken, IfBad};
-ghost use Rattle.pfs_journal.specs.Words.{FitsLine, is_line_byte};
+ghost use Rattle.pfs_journal.specs.SingleLines.{line_text, IsLine, IsGoodLine};
+ghost use Rattle.pfs_journal.specs.ReportPlaces.{Place, Ended, step, capped, Leads, StopsAfter};
+ghost use Rattle.pfs_journal.specs.ReportReadings.{IsTaken, IfBad};
+ghost use Rattle.pfs_journal.specs.LineWords.{FitsLine, is_line_byte};
 ghost use Rattle.std.specs.List.{prefix_len};
 ghost use Rattle.pfs_journal.specs.declared.line.Line.{Line};
 ghost use Rattle.pfs_journal.specs.declared.reading.ReadStop.TheVariants as stop;

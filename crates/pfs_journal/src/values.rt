@@ -2,8 +2,7 @@
 
 ghost use Rattle.std.specs.Prelude.{◌≡◌};
 
-use pfs_text::Text;
-use pfs_values::Rowset;
+use pfs_text::{Rowset, Text};
 use std::marker::Model;
 
 /// A table at a phase's end.

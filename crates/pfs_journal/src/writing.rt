@@ -2,7 +2,7 @@
 
 ghost use Rattle.std.specs.Prelude.{ℕ, List, ◌≡◌, ◌+◌, ◌^◌, ◌≤◌, ◌-◌, ◌<◌, OnOk, [], drop, length, take, if◌then◌else◌};
 ghost use Rattle.std.specs.List.{flat_map, slice_index_or};
-ghost use Rattle.pfs_outside.specs.Streams.{Puts};
+ghost use Rattle.pfs_outside.specs.WholeStreams.{Puts};
 ghost use Rattle.pfs_journal.specs.Spelling.{entry_text, is_answered, answered_text, journal_text, block_text, session_line, row_text, table_line, table_text, lost_text, results_text, final_line, final_text, body_text, phase_line, phase_text, phases_text, first_line, spelling};
 
 use crate::NoMemory;
@@ -12,7 +12,7 @@ use crate::report::{PhaseParts, PhaseReport, Report};
 use crate::values::{LostReport, TableReport};
 use pfs_event::Entry;
 use pfs_outside::{Sink, WriteStop, write_all};
-use pfs_values::{Row, Rowset};
+use pfs_text::{Row, Rowset};
 use std::alloc::Global;
 
 /// How many lines of entries are offered at a time, at most.
@@ -129,7 +129,7 @@ fn put_answer<K: Sink>(
 }
 
 /// Offers an entry and the answer behind it, where the answers from this place on are left.
-#[tactic(auto, using(pfs_outside::proofs::Writes::puts_then, pfs_outside::proofs::Writes::puts_stop), unfolding(crate::specs::Spelling::answered_text))]
+#[tactic(auto, using(pfs_outside::proofs::SinkWrites::puts_then, pfs_outside::proofs::SinkWrites::puts_stop), unfolding(crate::specs::Spelling::answered_text))]
 fn put_entry<K: Sink>(
     buffer: &mut [u8; ENTRY],
     line: &mut Vec<u8>,
@@ -147,7 +147,7 @@ fn put_entry<K: Sink>(
 
 /// Puts the lines of the entries between two places at the end of the page, and tells where they begin. They are made
 /// from the last to the first, as each line is.
-#[tactic(auto, using(crate::proofs::Paged::page_none))]
+#[tactic(auto, using(crate::proofs::LinePages::page_none))]
 fn page_of(page: &mut [u8; PAGE], entries: &EntryList, from: usize, to: usize) -> usize
     requires order { from ≤ to }
     requires within { to ≤ length entries.now }
@@ -174,7 +174,7 @@ fn page_size(left: usize) -> usize
 }
 
 /// Offers a journal without answers, a page of lines at a time.
-#[tactic(auto, using(crate::proofs::Paged::leaving_all))]
+#[tactic(auto, using(crate::proofs::LinePages::leaving_all))]
 fn put_entries<K: Sink>(sink: &mut K, entries: &EntryList) -> Result<(), WriteStop>
     ensures { Puts (K.written sink.old) (K.written sink.new) (K.faults sink.old) (K.faults sink.new)
         (flat_map entry_text entries.now) result }
@@ -246,7 +246,7 @@ fn put_session_line<K: Sink>(line: &mut Vec<u8>, sink: &mut K, number: u64) -> R
 impl Spelled for BlockReport {
     ghost text = { block_text };
 
-    #[tactic(auto, using(pfs_outside::proofs::Writes::puts_then, pfs_outside::proofs::Writes::puts_stop), unfolding(crate::specs::Spelling::block_text))]
+    #[tactic(auto, using(pfs_outside::proofs::SinkWrites::puts_then, pfs_outside::proofs::SinkWrites::puts_stop), unfolding(crate::specs::Spelling::block_text))]
     fn put<K: Sink>(&self, line: &mut Vec<u8>, sink: &mut K) -> Result<(), WriteStop> {
         put_session_line(line, sink, self.session)?;
         put_journal(line, sink, &self.entries, self.answers.as_slice())
@@ -264,7 +264,7 @@ fn put_table_line<K: Sink>(line: &mut Vec<u8>, sink: &mut K, name: &[u8]) -> Res
 impl Spelled for TableReport {
     ghost text = { table_text };
 
-    #[tactic(auto, using(pfs_outside::proofs::Writes::puts_then, pfs_outside::proofs::Writes::puts_stop), unfolding(crate::specs::Spelling::table_text))]
+    #[tactic(auto, using(pfs_outside::proofs::SinkWrites::puts_then, pfs_outside::proofs::SinkWrites::puts_stop), unfolding(crate::specs::Spelling::table_text))]
     fn put<K: Sink>(&self, line: &mut Vec<u8>, sink: &mut K) -> Result<(), WriteStop> {
         put_table_line(line, sink, self.name.as_bytes())?;
         put_each(line, sink, self.rows.as_slice())
@@ -281,7 +281,7 @@ impl Spelled for LostReport {
 }
 
 /// Offers the tables and counters.
-#[tactic(auto, using(pfs_outside::proofs::Writes::puts_then, pfs_outside::proofs::Writes::puts_stop), unfolding(crate::specs::Spelling::results_text))]
+#[tactic(auto, using(pfs_outside::proofs::SinkWrites::puts_then, pfs_outside::proofs::SinkWrites::puts_stop), unfolding(crate::specs::Spelling::results_text))]
 fn put_results<K: Sink>(
     line: &mut Vec<u8>,
     sink: &mut K,
@@ -303,7 +303,7 @@ fn put_final_line<K: Sink>(sink: &mut K) -> Result<(), WriteStop>
     write_all(sink, b"final\n")
 }
 
-#[tactic(auto, using(pfs_outside::proofs::Writes::puts_then, pfs_outside::proofs::Writes::puts_stop), unfolding(crate::specs::Spelling::final_text))]
+#[tactic(auto, using(pfs_outside::proofs::SinkWrites::puts_then, pfs_outside::proofs::SinkWrites::puts_stop), unfolding(crate::specs::Spelling::final_text))]
 fn put_final<K: Sink>(
     line: &mut Vec<u8>,
     sink: &mut K,
@@ -317,7 +317,7 @@ fn put_final<K: Sink>(
     put_results(line, sink, tables, lost)
 }
 
-#[tactic(auto, using(pfs_outside::proofs::Writes::puts_then, pfs_outside::proofs::Writes::puts_stop), unfolding(crate::specs::Spelling::body_text))]
+#[tactic(auto, using(pfs_outside::proofs::SinkWrites::puts_then, pfs_outside::proofs::SinkWrites::puts_stop), unfolding(crate::specs::Spelling::body_text))]
 fn put_body<K: Sink>(line: &mut Vec<u8>, sink: &mut K, phase: &PhaseParts) -> Result<(), WriteStop>
     ensures { Puts (K.written sink.old) (K.written sink.new) (K.faults sink.old) (K.faults sink.new)
         (body_text phase.now) result }
@@ -335,7 +335,7 @@ fn put_phase_line<K: Sink>(line: &mut Vec<u8>, sink: &mut K, number: u64) -> Res
     offer(sink, line, built)
 }
 
-#[tactic(auto, using(pfs_outside::proofs::Writes::puts_then, pfs_outside::proofs::Writes::puts_stop), unfolding(crate::specs::Spelling::phase_text))]
+#[tactic(auto, using(pfs_outside::proofs::SinkWrites::puts_then, pfs_outside::proofs::SinkWrites::puts_stop), unfolding(crate::specs::Spelling::phase_text))]
 fn put_phase<K: Sink>(line: &mut Vec<u8>, sink: &mut K, phase: &PhaseParts) -> Result<(), WriteStop>
     ensures { Puts (K.written sink.old) (K.written sink.new) (K.faults sink.old) (K.faults sink.new)
         (phase_text phase.now) result }
@@ -352,7 +352,7 @@ impl Spelled for PhaseReport {
     }
 }
 
-#[tactic(auto, using(pfs_outside::proofs::Writes::puts_then, pfs_outside::proofs::Writes::puts_stop), unfolding(crate::specs::Spelling::phases_text))]
+#[tactic(auto, using(pfs_outside::proofs::SinkWrites::puts_then, pfs_outside::proofs::SinkWrites::puts_stop), unfolding(crate::specs::Spelling::phases_text))]
 fn put_phases<K: Sink>(
     line: &mut Vec<u8>,
     sink: &mut K,
@@ -391,7 +391,7 @@ pub fn write_table<K: Sink>(
 /// Writes a report to a sink: the entries of a journal without answers up to 64 lines at a time, all else line by
 /// line, each built in a buffer. The rest of what was taken in part is offered again. On a refusal a front of the
 /// report was written.
-#[tactic(auto, using(pfs_outside::proofs::Writes::puts_then, pfs_outside::proofs::Writes::puts_stop), unfolding(crate::specs::Spelling::spelling))]
+#[tactic(auto, using(pfs_outside::proofs::SinkWrites::puts_then, pfs_outside::proofs::SinkWrites::puts_stop), unfolding(crate::specs::Spelling::spelling))]
 pub fn write<K: Sink>(alloc: Global, report: &Report, sink: &mut K) -> Result<(), WriteStop>
     ensures { Puts (K.written sink.old) (K.written sink.new) (K.faults sink.old) (K.faults sink.new)
         (spelling report.now) result }

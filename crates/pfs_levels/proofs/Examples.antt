@@ -5,12 +5,12 @@ use Rattle.pfs_board.specs.declared.view.Label.{Label}
 use Rattle.pfs_levels.specs.declared.answers.Added.TheVariants.{Counted, Held}
 use Rattle.pfs_levels.specs.declared.flushes.Source.TheVariants as of
 use Rattle.pfs_levels.specs.Calls.{Adds, Loads, Takes, Puts, Enters, Meets, hand_in, IsLongPlace}
-use Rattle.pfs_levels.specs.Contents.{merged, zero_words, opening_content}
+use Rattle.pfs_levels.specs.RowWords.{merged, zero_words, opening_content}
 use Rattle.pfs_levels.specs.Flushes.{asks_of, Ascends}
-use Rattle.pfs_levels.specs.Joint.{total, at_put, at_free, count, IsCounted, frees_at, word_version, Agrees}
+use Rattle.pfs_levels.specs.JointCalls.{total, at_put, at_free, count, IsCounted, frees_at, word_version, Agrees}
 use Rattle.pfs_levels.specs.Moves.{ask, due, cost}
-use Rattle.pfs_levels.specs.Order.{mark, marked, AreMarked, AreOrdered, IsFloored, IsOthers, IsRising}
-use Rattle.pfs_levels.specs.Plain.{op, Merges, Becomes, Holds, puts_in, content_at}
+use Rattle.pfs_levels.specs.CallOrder.{mark, marked, AreMarked, AreOrdered, IsFloored, IsOthers, IsRising}
+use Rattle.pfs_levels.specs.PlainStore.{op, Merges, Becomes, Holds, puts_in, content_at}
 
 -- a cell opens with nothing counted, a thread's information with zeros
 pub cell_opens : opening_content 129 ≡ zero_words

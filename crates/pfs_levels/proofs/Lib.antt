@@ -1,19 +1,19 @@
-mod Acting
-mod Ascending
-pub mod Examples
-pub mod Flushing
-pub mod Meeting
-pub mod Moving
-mod Opening
-mod Placing
+mod PlainActions
+mod FlushedRows
+mod Examples
+pub mod FlushSteps
+mod WordVersions
+pub mod MoveLists
+mod OpeningStore
+mod RowWrites
 mod PlainFloors
-pub mod PlainJoint
-pub mod PlainKept
-pub mod PlainNamed
-pub mod PlainNext
+pub mod PlainChanges
+pub mod ActorFloors
+mod PlainLateness
+pub mod NextNames
 mod PlainOrder
-mod PlainOrdered
-mod PlainRising
-mod PlainRowsFacts
-pub mod PlainSince
-mod Steps
+mod PlainNumbers
+mod PlainRise
+mod PlainContents
+mod PlainPhases
+mod PlainCalls

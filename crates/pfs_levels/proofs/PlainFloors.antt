@@ -9,9 +9,9 @@ use Rattle.pfs_levels.specs.declared.answers.Added.TheVariants.{Counted, Held}
 use Rattle.pfs_levels.specs.declared.answers.RingPut.TheVariants.{Done, Busy, Late}
 use Rattle.pfs_levels.specs.declared.plain.Slot.{Slot}
 use Rattle.pfs_levels.specs.Calls.{Call, Adds, Rings, Reads, Loads, Draws, Takes, Puts, Frees, Sets, Enters, Leaves, Meets, after_in}
-use Rattle.pfs_levels.specs.Joint.{total, one_if}
-use Rattle.pfs_levels.specs.Order.{Mark, marks_by, word_marks_by, marked, AreMarked, is_past, above, reaching, freed, IsFloored, AreFloored, AllCalls}
-use Rattle.pfs_levels.specs.Plain.{Holds, Releases, slot_by}
+use Rattle.pfs_levels.specs.JointCalls.{total, one_if}
+use Rattle.pfs_levels.specs.CallOrder.{Mark, marks_by, word_marks_by, marked, AreMarked, is_past, above, reaching, freed, IsFloored, AreFloored, AllCalls}
+use Rattle.pfs_levels.specs.PlainStore.{Holds, Releases, slot_by}
 
 not_le : (a b : ℕ) → b < a → nat_le a b ≡ false
 not_le a b h = grind (arith, nat_tests)

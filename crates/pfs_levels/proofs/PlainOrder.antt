@@ -5,13 +5,13 @@ use Rattle.pfs_levels.specs.declared.answers.Added.TheVariants.{Counted, Held}
 use Rattle.pfs_levels.specs.declared.answers.RingPut.TheVariants.{Done, Busy, Late}
 use Rattle.pfs_levels.specs.declared.plain.Slot.{Slot}
 use Rattle.pfs_levels.specs.Calls.{Call, Adds, Rings, Reads, Loads, Draws, Takes, Puts, Frees, Sets, Enters, Leaves, Meets, action_in, after_in, label_in}
-use Rattle.pfs_levels.specs.Joint.{sets_of, word_version}
-use Rattle.pfs_levels.specs.Order.{Mark, marks_of, word_marks_of, marked, AreMarked}
-use Rattle.pfs_levels.specs.Plain.{Merges, Becomes, Holds, Releases, Op, op, ops_of, slot_after, AllAnswer, puts_in, labels_after}
-use Rattle.pfs_levels.proofs.PlainRowsFacts.{versions, word_versions}
-use Rattle.pfs_levels.proofs.PlainJoint.{plain_words}
-use Rattle.pfs_levels.proofs.Acting.{elsewhere, labels_count}
-use Rattle.pfs_levels.proofs.Steps.{ring_high}
+use Rattle.pfs_levels.specs.JointCalls.{sets_of, word_version}
+use Rattle.pfs_levels.specs.CallOrder.{Mark, marks_of, word_marks_of, marked, AreMarked}
+use Rattle.pfs_levels.specs.PlainStore.{Merges, Becomes, Holds, Releases, Op, op, ops_of, slot_after, AllAnswer, puts_in, labels_after}
+use Rattle.pfs_levels.proofs.PlainContents.{versions, word_versions}
+use Rattle.pfs_levels.proofs.PlainChanges.{plain_words}
+use Rattle.pfs_levels.proofs.PlainActions.{elsewhere, labels_count}
+use Rattle.pfs_levels.proofs.PlainCalls.{ring_high}
 
 no_put : (b : Bool) (n : ℕ) → cond (b && false) (n + 1) n ≡ n
 no_put true n = refl

@@ -1,10 +1,10 @@
 pub mod Calls
-pub mod Contents
+pub mod RowWords
 pub mod Flushes
-pub mod Joint
-pub mod Keeping
+pub mod JointCalls
+pub mod RowHeads
 pub mod Moves
-pub mod Order
-pub mod Plain
+pub mod CallOrder
+pub mod PlainStore
 pub mod PlainCalls
-pub mod Since
+pub mod PhaseFloors

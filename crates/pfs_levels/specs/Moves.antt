@@ -7,8 +7,8 @@ use Rattle.pfs_stat.specs.Stat.{stat_of_words}
 use Rattle.pfs_levels.specs.declared.answers.Word.{Word}
 use Rattle.pfs_levels.specs.declared.places.Targets.{Targets}
 use Rattle.pfs_levels.specs.Calls.{Call, Takes, Puts, Frees, Goes, Opening, IsRow}
-use Rattle.pfs_levels.specs.Contents.{merged, zero_words}
-use Rattle.pfs_event.specs.Journal.{Journal}
+use Rattle.pfs_levels.specs.RowWords.{merged, zero_words}
+use Rattle.pfs_event.specs.Logs.{Journal}
 
 -- what is asked for: the row to be taken, and those that get what it holds
 pub record Ask : Type 0 where

@@ -1,10 +1,10 @@
 -- What the calls have in common that actors made of a plain store one after another, the last actor first.
 use Rattle.std.specs.Prelude.{ℕ, ◌≡◌, ◌++◌, List}
 use Rattle.pfs_levels.specs.Calls.{Call, action_in}
-use Rattle.pfs_levels.specs.Joint.{Joint, all_calls, changes_of, sets_of, draws_of}
-use Rattle.pfs_levels.specs.Order.{AllCalls, Order, all_marks, all_word_marks}
-use Rattle.pfs_levels.specs.Plain.{AllAnswer, content_at, labels_after, ops_of}
-use Rattle.pfs_levels.specs.Since.{AllSince}
+use Rattle.pfs_levels.specs.JointCalls.{Joint, all_calls, changes_of, sets_of, draws_of}
+use Rattle.pfs_levels.specs.CallOrder.{AllCalls, Order, all_marks, all_word_marks}
+use Rattle.pfs_levels.specs.PlainStore.{AllAnswer, content_at, labels_after, ops_of}
+use Rattle.pfs_levels.specs.PhaseFloors.{AllSince}
 
 -- no actor is in an action at its end
 abbrev pub AllOutside : List (List Call) → Type 0

@@ -1,7 +1,7 @@
 //! Laws of the definitions.
 
 ghost use Rattle.pfs_levels.specs.Flushes.{FlushesAscend};
-ghost use Rattle.pfs_levels.specs.Order.{LoadsAfterMeet};
+ghost use Rattle.pfs_levels.specs.CallOrder.{LoadsAfterMeet};
 ghost use Rattle.pfs_levels.specs.PlainCalls.{JointLaw, OrderLaw, SinceLaw};
 
 /// The rows that a flush takes ascend, and none comes twice, since its places and cells do.

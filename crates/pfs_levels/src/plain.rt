@@ -2,7 +2,7 @@
 
 ghost use Rattle.std.specs.Prelude.{◌≡◌, ◌^◌, [], ℕ, None, Some, IfOk, length, map};
 ghost use Rattle.pfs_levels.specs.Calls.{Opening, known_version};
-ghost use Rattle.pfs_levels.specs.Plain.{IsAt, HasRoom, slot_at, in_hand, word};
+ghost use Rattle.pfs_levels.specs.PlainStore.{IsAt, HasRoom, slot_at, in_hand, word};
 
 use crate::NoMemory;
 use crate::answers::{Added, RingPut, Word};

@@ -2,9 +2,9 @@
 
 ghost use Rattle.std.specs.Prelude.{◌≡◌, ◌<◌, ◌≤◌, ◌+◌, ◌^◌, ◌++◌, ◌∷◌, [], ℕ, IfOk, false, true, length, vec_len, vec_capacity, slice_set, if◌then◌else◌};
 ghost use Rattle.pfs_levels.specs.declared.slots.Home.TheVariants.{ZeroStat, Zeros, At};
-ghost use Rattle.pfs_levels.specs.Contents.{merged};
-ghost use Rattle.pfs_levels.specs.Keeping.{IsOwn, slot_of, words_at, to_place, contents_with, place_with};
-ghost use Rattle.pfs_levels.specs.Plain.{Merges, Becomes, Holds, Releases, slot_by, slot_at, opening_slot};
+ghost use Rattle.pfs_levels.specs.RowWords.{merged};
+ghost use Rattle.pfs_levels.specs.RowHeads.{IsOwn, slot_of, words_at, to_place, contents_with, place_with};
+ghost use Rattle.pfs_levels.specs.PlainStore.{Merges, Becomes, Holds, Releases, slot_by, slot_at, opening_slot};
 
 use crate::NoMemory;
 use pfs_stat::Stat;
@@ -57,7 +57,7 @@ pub struct Slots {
 impl Model for Slots {
     ghost use Rattle.std.specs.Prelude.{List, map, vec_capacity};
     ghost use Rattle.pfs_levels.specs.declared.plain.Slot.{Slot};
-    ghost use Rattle.pfs_levels.specs.Keeping.{AreKept, slot_of};
+    ghost use Rattle.pfs_levels.specs.RowHeads.{AreKept, slot_of};
 
     ghost Value = { List Slot };
 

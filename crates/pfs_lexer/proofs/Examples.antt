@@ -6,13 +6,13 @@ use Rattle.pfs_lexer.specs.declared.tokens.Token.{Token}
 use Rattle.pfs_lexer.specs.declared.tokens.LexFault.{LexFault}
 use Rattle.pfs_lexer.specs.declared.tokens.LexFault.TheVariants as faults
 use Rattle.pfs_lexer.specs.Comments.{comment_len}
-use Rattle.pfs_lexer.specs.Quotes.{quoted_len}
+use Rattle.pfs_lexer.specs.QuotePairs.{quoted_len}
 use Rattle.pfs_lexer.specs.Numbers.{fraction_len, sign_len, exponent_len, decimal_len, hex_len}
 use Rattle.pfs_lexer.specs.Operators.{operator_len}
 use Rattle.pfs_lexer.specs.Fronts.{token_of, front_of}
-use Rattle.pfs_lexer.specs.Items.{token_at, items_from, items_of}
+use Rattle.pfs_lexer.specs.TextItems.{token_at, items_from, items_of}
 use Rattle.pfs_lexer.specs.Accounts.{Accounts}
-use Rattle.pfs_lexer.proofs.OneReading.{one_reading}
+use Rattle.pfs_lexer.proofs.UniqueItems.{one_reading}
 
 -- the longest operator stands there
 pub longest_operator : items_of (codes "a<=>1") ≡ Ok (token_at Word 0 1) ∷ Ok (token_at Operator 1 3) ∷ Ok (token_at Number 4 1) ∷ []

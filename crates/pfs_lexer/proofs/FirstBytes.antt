@@ -10,7 +10,7 @@ use Rattle.pfs_lexer.specs.declared.tokens.TokenKind.{TokenKind}
 use Rattle.pfs_lexer.specs.declared.tokens.TokenKind.TheVariants.{String, QuotedName, Number, Word, Operator}
 use Rattle.pfs_lexer.specs.Classes.{is_word_start}
 use Rattle.pfs_lexer.specs.Operators.{singles}
-use Rattle.pfs_lexer.specs.Grammar.{IsBetween, AreDigits, IsDecimal, IsHexadecimal, IsToken, spellings}
+use Rattle.pfs_lexer.specs.TokenGrammar.{IsBetween, AreDigits, IsDecimal, IsHexadecimal, IsToken, spellings}
 
 -- the kind that the first byte tells
 abbrev pub kind_of : ℕ → Option TokenKind

@@ -8,7 +8,7 @@ use Rattle.pfs_lexer.specs.declared.tokens.LexFault.TheVariants as faults
 use Rattle.pfs_lexer.specs.declared.fronts.Front.{Front}
 use Rattle.pfs_lexer.specs.declared.fronts.Front.TheVariants as fronts
 use Rattle.pfs_lexer.specs.Fronts.{front_of}
-use Rattle.pfs_lexer.specs.Items.{token_at, placed, items_from}
+use Rattle.pfs_lexer.specs.TextItems.{token_at, placed, items_from}
 
 -- the covered bytes give nothing
 pub items-covered : (place covered : ℕ) (bytes : List ℕ) → items_from place covered bytes ≡ items_from (place + covered) 0 (drop covered bytes)

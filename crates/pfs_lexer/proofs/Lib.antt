@@ -1,9 +1,9 @@
-pub mod Accounting
-pub mod Examples
-pub mod ItemSteps
-pub mod FirstBytes
-pub mod Longest
-pub mod NumbersAre
-pub mod OneReading
-pub mod QuotesAre
-pub mod Steps
+mod Accounts
+mod Examples
+mod ItemSteps
+mod FirstBytes
+mod LongestTokens
+mod NumberGrammar
+mod UniqueItems
+mod QuoteGrammar
+mod QuoteSteps

@@ -7,8 +7,8 @@ use Rattle.pfs_lexer.specs.declared.tokens.Token.{Token}
 use Rattle.pfs_lexer.specs.declared.tokens.LexFault.{LexFault}
 use Rattle.pfs_lexer.specs.declared.tokens.LexFault.TheVariants as faults
 use Rattle.pfs_lexer.specs.Classes.{is_blank}
-use Rattle.pfs_lexer.specs.Items.{items_of}
-use Rattle.pfs_lexer.specs.Grammar.{IsBetween, IsBody, IsToken, begins_nothing}
+use Rattle.pfs_lexer.specs.TextItems.{items_of}
+use Rattle.pfs_lexer.specs.TokenGrammar.{IsBetween, IsBody, IsToken, begins_nothing}
 
 -- the line, or the text, ends here
 abbrev pub EndsLine : List ℕ → Type 0

@@ -2,7 +2,7 @@
 use Rattle.std.specs.Prelude.{ℕ, ◌==◌, nat_eq, Bool, ◌||◌, ◌&&◌, List, [], ◌∷◌, length, Option, None, Some, codes, if◌then◌else◌}
 use Rattle.std.specs.List.{starts_with}
 use Rattle.pfs_lexer.specs.Classes.{is_blank, byte_at}
-use Rattle.pfs_lexer.specs.Quotes.{more}
+use Rattle.pfs_lexer.specs.QuotePairs.{more}
 
 -- `#`, or `--` with white space or the end of the text behind it
 abbrev pub begins_line_comment : List ℕ → Bool

@@ -8,7 +8,7 @@ use Rattle.pfs_lexer.specs.declared.fronts.Front.{Front}
 use Rattle.pfs_lexer.specs.declared.fronts.Front.TheVariants.{Blank, Piece, OpenString, OpenComment, BadByte}
 use Rattle.pfs_lexer.specs.Classes.{is_blank, is_word_start, is_word_byte, byte_at}
 use Rattle.pfs_lexer.specs.Comments.{begins_line_comment, begins_comment, comment_len}
-use Rattle.pfs_lexer.specs.Quotes.{quoted_len}
+use Rattle.pfs_lexer.specs.QuotePairs.{quoted_len}
 use Rattle.pfs_lexer.specs.Numbers.{number_len}
 use Rattle.pfs_lexer.specs.Operators.{operator_len}
 

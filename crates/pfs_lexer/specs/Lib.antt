@@ -2,8 +2,8 @@ pub mod Accounts
 pub mod Classes
 pub mod Comments
 pub mod Fronts
-pub mod Grammar
-pub mod Items
+pub mod TokenGrammar
+pub mod TextItems
 pub mod Numbers
 pub mod Operators
-pub mod Quotes
+pub mod QuotePairs

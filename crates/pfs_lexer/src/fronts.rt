@@ -3,7 +3,7 @@
 
 ghost use Rattle.std.specs.Prelude.{◌≡◌, ◌<◌, drop, length, slice_index};
 ghost use Rattle.pfs_lexer.specs.Fronts as spec;
-ghost use Rattle.pfs_lexer.specs.Quotes as quotes;
+ghost use Rattle.pfs_lexer.specs.QuotePairs as quotes;
 
 use crate::classes::{is_blank, is_word_start, line_run, word_run};
 use crate::comments::{begins_comment, begins_line_comment, comment_len};

@@ -2,7 +2,7 @@
 #![tactic(auto)]
 
 ghost use Rattle.std.specs.Prelude.{◌≡◌, ◌+◌, ◌<◌, ◌≤◌, length, IfSome};
-ghost use Rattle.pfs_lexer.specs.Quotes as spec;
+ghost use Rattle.pfs_lexer.specs.QuotePairs as spec;
 
 /// How many bytes stand behind the opening quote, up to the closing one and with it, or None without an
 /// end. The quote doubled, and `\` with any byte, are no end; between backquotes `\` is a byte like others.

@@ -5,7 +5,7 @@ ghost use Rattle.std.specs.Prelude.{◌≡◌, ◌-◌, ◌<◌, ◌≤◌, [], 
 ghost use Rattle.std.specs.Option.{option_to_list};
 ghost use Rattle.pfs_lexer.specs.Accounts.{Accounts};
 ghost use Rattle.pfs_lexer.specs.Fronts as spec;
-ghost use Rattle.pfs_lexer.specs.Items.{items_from, items_of};
+ghost use Rattle.pfs_lexer.specs.TextItems.{items_from, items_of};
 
 use crate::fronts::{Front, front_of};
 use crate::tokens::{LexFault, Token};
@@ -22,7 +22,7 @@ impl<'a> Model for Lexer<'a> {
     ghost use Rattle.std.specs.Prelude.{◌≤◌, List, Result, length, drop};
     ghost use Rattle.pfs_lexer.specs.declared.tokens.Token.{Token};
     ghost use Rattle.pfs_lexer.specs.declared.tokens.LexFault.{LexFault};
-    ghost use Rattle.pfs_lexer.specs.Items.{items_from};
+    ghost use Rattle.pfs_lexer.specs.TextItems.{items_from};
 
     ghost Value = { List (Result Token LexFault) };
 
@@ -33,7 +33,7 @@ impl<'a> Model for Lexer<'a> {
 
 impl<'a> Lexer<'a> {
     /// The lexer at the front of the text.
-    #[tactic(auto, using(crate::proofs::Accounting::accounts))]
+    #[tactic(auto, using(crate::proofs::Accounts::accounts))]
     pub fn new(text: &'a str) -> Lexer<'a>
         ensures items { result ≡ items_of text.now }
         // Each byte stands in white space, in a comment or in one token, the longest there, or behind a fault.

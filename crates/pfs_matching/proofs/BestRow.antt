@@ -4,7 +4,7 @@ use Rattle.std.specs.List.{find}
 use Rattle.std.specs.Option.{option_map, option_or}
 use Rattle.std.proofs.lemmas.Bool.{cases_Bool}
 use Rattle.std.proofs.lemmas.Option.{same_Some}
-use Rattle.pfs_matching.specs.Ways.{Decides, FitsBest, first_match, fit, flags_or_off}
+use Rattle.pfs_matching.specs.RowWays.{Decides, FitsBest, first_match, fit, flags_or_off}
 
 -- the number of a way, behind one more
 suc_of : (o : Option ℕ) (m : ℕ) → option_map suc o ≡ Some m → (n : ℕ) × (o ≡ Some n) × (m ≡ suc n)

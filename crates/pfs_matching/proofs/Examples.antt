@@ -2,7 +2,7 @@
 use Rattle.std.proofs.Common.{◌≡◌, ℕ, Bool, true, false, List, [], ◌∷◌, codes, refl}
 use Rattle.pfs_matching.specs.declared.actor_rows.ActorRow.{ActorRow}
 use Rattle.pfs_matching.specs.ActorRules.{actor_flags, actor_key, opening_actors}
-use Rattle.pfs_matching.specs.Keyed.{with_named_changed, with_row, without_named}
+use Rattle.pfs_matching.specs.KeyedRows.{with_named_changed, with_row, without_named}
 use Rattle.pfs_matching.specs.ObjectRules.{opening_objects, table_flags}
 
 abbrev actor : List ℕ → List ℕ → Bool → ActorRow

@@ -10,7 +10,7 @@ use Rattle.std.proofs.lemmas.Bool.{or_cases, cases_Bool}
 use Rattle.std.proofs.lemmas.Cmp.{tied_itself}
 use Rattle.std.proofs.lemmas.Map.Text.{is_eq-slice_cmp}
 use Rattle.pfs_lemmas.proofs.Numbers.{one_plus}
-use Rattle.pfs_matching.specs.Keyed.{AreOrdered, AreRows, comes_before, key_cmp, with_row}
+use Rattle.pfs_matching.specs.KeyedRows.{AreOrdered, AreRows, comes_before, key_cmp, with_row}
 
 pub key_total : IsTotalOrder key_cmp
 key_total = lists_total nat_list_cmp_total

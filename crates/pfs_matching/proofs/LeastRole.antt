@@ -11,7 +11,7 @@ use Rattle.std.proofs.lemmas.Cmp.{tied_itself}
 use Rattle.std.proofs.lemmas.Option.{same_Some}
 use Rattle.pfs_matching.specs.declared.actor_rows.ActorRow.{ActorRow}
 use Rattle.pfs_matching.specs.ActorRules.{ActorsDecideBest, HasLesserRole, actor_has, actor_key, actor_says, actor_ways}
-use Rattle.pfs_matching.specs.Keyed.{AreOrdered, comes_before}
+use Rattle.pfs_matching.specs.KeyedRows.{AreOrdered, comes_before}
 use Rattle.pfs_matching.proofs.BestRow.{decides_best}
 
 pub all_at : {R : Type 0} (P : R → Type 0) (rows : List R) (k : ℕ) (d : R) → k < length rows → AllByRecursion P rows → P (get_or rows k d)

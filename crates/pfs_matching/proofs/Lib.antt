@@ -1,7 +1,7 @@
-pub mod BestRow
-pub mod Examples
+mod BestRow
+mod Examples
 pub mod KeyedRows
-pub mod LeastRole
-pub mod NamedPlaces
-pub mod OneObject
-pub mod Opening
+mod LeastRole
+mod NamedPlaces
+mod OneObject
+mod OpeningRows

@@ -6,7 +6,7 @@ use Rattle.std.proofs.lemmas.Bool.{cases_Bool, cases_lt, ne_eqb}
 use Rattle.std.proofs.lemmas.List.{drop_more, get_or-drop, get_or-take, length-take-le, take_more}
 use Rattle.std.proofs.lemmas.List.Kept.{AllPairs-from_increasing}
 use Rattle.pfs_lemmas.proofs.Numbers.{eq_self}
-use Rattle.pfs_matching.specs.Keyed.{AreOrdered, AreRows, changed_from, comes_before, is_named, unnamed_from, with_named_changed, without_named}
+use Rattle.pfs_matching.specs.KeyedRows.{AreOrdered, AreRows, changed_from, comes_before, is_named, unnamed_from, with_named_changed, without_named}
 
 -- a fact at each index is a fact of each element
 all_from_index : (P : ℕ → Type 0) (xs : List ℕ) → ((k : ℕ) → k < length xs → P (get_or xs k 0)) → AllByRecursion P xs

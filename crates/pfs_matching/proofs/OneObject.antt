@@ -12,7 +12,7 @@ use Rattle.std.proofs.lemmas.Option.{same_Some}
 use Rattle.pfs_matching.specs.declared.object_rows.ObjectKind.{ObjectKind}
 use Rattle.pfs_matching.specs.declared.object_rows.ObjectKind.TheVariants.{Event, Function, Procedure, Table, Trigger}
 use Rattle.pfs_matching.specs.declared.object_rows.ObjectRow.{ObjectRow}
-use Rattle.pfs_matching.specs.Keyed.{AreOrdered, comes_before, key_cmp}
+use Rattle.pfs_matching.specs.KeyedRows.{AreOrdered, comes_before, key_cmp}
 use Rattle.pfs_matching.specs.ObjectRules.{IsAlone, KindNamesDiffer, ObjectsDecideBest, is_table, kind_name, object_key, object_says, table_has, table_ways}
 use Rattle.pfs_matching.proofs.BestRow.{decides_best}
 use Rattle.pfs_matching.proofs.KeyedRows.{key_total}

@@ -7,8 +7,8 @@ use Rattle.std.specs.Cmp.Lexicographic.{slice_cmp}
 use Rattle.std.specs.declared.cmp.Ordering.TheVariants.{Greater}
 use Rattle.pfs_matching.specs.declared.actor_rows.ActorRow.{ActorRow}
 use Rattle.pfs_matching.specs.declared.faults.FlagChange.{FlagChange}
-use Rattle.pfs_matching.specs.Keyed.{AreOrdered}
-use Rattle.pfs_matching.specs.Ways.{Decides, first_match, flags_or_off}
+use Rattle.pfs_matching.specs.KeyedRows.{AreOrdered}
+use Rattle.pfs_matching.specs.RowWays.{Decides, first_match, flags_or_off}
 
 abbrev pub actor_key : ActorRow → List (List ℕ)
 actor_key row = row.host ∷ row.user ∷ row.role ∷ []

@@ -1,4 +1,4 @@
 pub mod ActorRules
-pub mod Keyed
+pub mod KeyedRows
 pub mod ObjectRules
-pub mod Ways
+pub mod RowWays

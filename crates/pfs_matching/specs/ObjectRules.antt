@@ -7,8 +7,8 @@ use Rattle.pfs_matching.specs.declared.object_rows.ObjectRow.{ObjectRow}
 use Rattle.pfs_matching.specs.declared.object_rows.ObjectKind.{ObjectKind}
 use Rattle.pfs_matching.specs.declared.object_rows.ObjectKind.TheVariants.{Event, Function, Procedure, Table, Trigger}
 use Rattle.pfs_matching.specs.declared.faults.FlagChange.{FlagChange}
-use Rattle.pfs_matching.specs.Keyed.{AreOrdered}
-use Rattle.pfs_matching.specs.Ways.{Decides, first_match, flags_or_off}
+use Rattle.pfs_matching.specs.KeyedRows.{AreOrdered}
+use Rattle.pfs_matching.specs.RowWays.{Decides, first_match, flags_or_off}
 
 -- the OBJECT_TYPE of a row
 abbrev pub kind_name : ObjectKind → List ℕ

@@ -4,7 +4,7 @@ ghost use Rattle.std.specs.List.{find, list_any, prefix_len};
 ghost use Rattle.std.specs.List.Sorted.{IsStrictlyIncreasing};
 ghost use Rattle.std.specs.Option.{option_map};
 ghost use Rattle.std.specs.Ordering.{is_eq};
-ghost use Rattle.pfs_matching.specs.Keyed.{AreRows, comes_before, key_cmp, with_named_changed, with_row, without_named};
+ghost use Rattle.pfs_matching.specs.KeyedRows.{AreRows, comes_before, key_cmp, with_named_changed, with_row, without_named};
 ghost use Rattle.pfs_matching.specs.ActorRules.{actor_flags, actor_has, actor_key, actor_says, changed_actor, opening_actors};
 
 use crate::keyed_rows::{KeyedRow, KeyedRows, MOST_ROWS};

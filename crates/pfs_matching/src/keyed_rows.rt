@@ -4,7 +4,7 @@ ghost use Rattle.std.specs.List.{list_any, prefix_len};
 ghost use Rattle.std.specs.List.Sorted.{IsStrictlyIncreasing};
 ghost use Rattle.std.specs.Ordering.{is_eq};
 ghost use Rattle.pfs_matching.specs.declared.faults.FlagChange.{FlagChange};
-ghost use Rattle.pfs_matching.specs.Keyed.{AreRows, comes_before, key_cmp, with_named_changed, with_row, without_named};
+ghost use Rattle.pfs_matching.specs.KeyedRows.{AreRows, comes_before, key_cmp, with_named_changed, with_row, without_named};
 
 use crate::places::remove_places;
 use crate::{FlagChange, MatchFault};
@@ -40,7 +40,7 @@ pub(crate) struct KeyedRows<R: KeyedRow + Drop> {
 
 impl<R: KeyedRow + Drop> Model for KeyedRows<R> {
     ghost use Rattle.std.specs.Prelude.{List, ◌≤◌, vec_capacity};
-    ghost use Rattle.pfs_matching.specs.Keyed.{AreRows};
+    ghost use Rattle.pfs_matching.specs.KeyedRows.{AreRows};
 
     ghost Value = { List R };
 

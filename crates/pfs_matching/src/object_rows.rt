@@ -5,7 +5,7 @@ ghost use Rattle.std.specs.List.Sorted.{IsStrictlyIncreasing};
 ghost use Rattle.std.specs.Option.{option_map};
 ghost use Rattle.std.specs.Ordering.{is_eq};
 ghost use Rattle.pfs_matching.specs.declared.object_rows.ObjectKind.{ObjectKind};
-ghost use Rattle.pfs_matching.specs.Keyed.{AreRows, comes_before, key_cmp, with_named_changed, with_row, without_named};
+ghost use Rattle.pfs_matching.specs.KeyedRows.{AreRows, comes_before, key_cmp, with_named_changed, with_row, without_named};
 ghost use Rattle.pfs_matching.specs.ObjectRules.{changed_object, is_table as spec_is_table, kind_name, object_key, opening_objects, opening_of_kind, object_says, opening_row as spec_row, table_flags, table_has};
 
 use crate::keyed_rows::{KeyedRow, KeyedRows, MOST_ROWS};

@@ -1,7 +1,7 @@
 //! Rows removed at named places.
 ghost use Rattle.std.specs.Prelude.{◌≡◌, ℕ, ◌<◌, All, length, vec_capacity};
 ghost use Rattle.std.specs.List.Sorted.{IsStrictlyIncreasing};
-ghost use Rattle.pfs_matching.specs.Keyed.{without_named};
+ghost use Rattle.pfs_matching.specs.KeyedRows.{without_named};
 
 /// Removes the rows at these places, which ascend. The last goes first, so that the others keep their places.
 pub(crate) fn remove_places<R: Drop>(rows: &mut Vec<R>, places: &[usize])

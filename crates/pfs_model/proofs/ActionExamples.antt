@@ -3,11 +3,11 @@ use Rattle.std.proofs.Common.{◌≡◌, refl, ap, ℕ, true, false, cond, List,
 use Rattle.std.specs.Prelude.{Option, Some, None}
 use Rattle.pfs_event.specs.declared.entry.Entry.TheVariants as says
 use Rattle.pfs_model.specs.declared.lines.Line.TheVariants as lines
-use Rattle.pfs_model.specs.Asked.{Asked, Frees, Tags, Did, asked_of, did, of_action, Took, Gave, Freed, Tagged, Flagged, DoAsAsked, Rooms, Answer, Replied, Failed, IsAnswered}
+use Rattle.pfs_model.specs.ActionAsks.{Asked, Frees, Tags, Did, asked_of, did, of_action, Took, Gave, Freed, Tagged, Flagged, DoAsAsked, Rooms, Answer, Replied, Failed, IsAnswered}
 use Rattle.pfs_model.specs.Chains.{each_of}
 use Rattle.pfs_model.specs.Contexts.{fresh, noted}
-use Rattle.pfs_model.specs.Places.{Placed}
-use Rattle.pfs_model.proofs.Worked.{entry_of, acted}
+use Rattle.pfs_model.specs.EntryPlaces.{Placed}
+use Rattle.pfs_model.proofs.ExampleEntries.{entry_of, acted}
 
 -- an action gives what was counted alone, and signs behind its moves
 abbrev asked : Asked

@@ -4,8 +4,8 @@ use Rattle.pfs_event.specs.declared.entry.Entry.TheVariants as says
 use Rattle.pfs_model.specs.declared.changes.Change.{Change}
 use Rattle.pfs_model.specs.Causes.{AreBusy, IsCaused, IsHeldByOther, IsLate, WasFree}
 use Rattle.pfs_model.specs.Chains.{change_at}
-use Rattle.pfs_model.specs.Places.{Placed}
-use Rattle.pfs_model.proofs.Worked.{entry_of, acted}
+use Rattle.pfs_model.specs.EntryPlaces.{Placed}
+use Rattle.pfs_model.proofs.ExampleEntries.{entry_of, acted}
 
 -- the words of a `held` line: DIRTY and the same, or one that has moved on
 dirty : AreBusy 29 29

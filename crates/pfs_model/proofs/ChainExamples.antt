@@ -3,12 +3,12 @@ use Rattle.std.proofs.Common.{◌≡◌, refl, ◌<◌, ◌≤◌, true, false, 
 use Rattle.pfs_event.specs.declared.entry.Entry.TheVariants as says
 use Rattle.pfs_model.specs.Chains.{times, is_that, change_at, row_change, word_change, action_change, each_of, IsChained, AreChained, is_free_after}
 use Rattle.pfs_model.specs.Actions.{deeds_of, sets_of, NeverFall, AreRising, numbers_by, StandsBefore}
-use Rattle.pfs_model.specs.Places.{places}
-use Rattle.pfs_model.specs.Plain.{AreAlone}
-use Rattle.pfs_model.proofs.Growing.{grown_chained}
-use Rattle.pfs_model.proofs.Plainly.{plain_keeps}
+use Rattle.pfs_model.specs.EntryPlaces.{places}
+use Rattle.pfs_model.specs.PlainAgreement.{AreAlone}
+use Rattle.pfs_model.proofs.ChainGrowth.{grown_chained}
+use Rattle.pfs_model.proofs.PlainAgreement.{plain_keeps}
 use Rattle.pfs_model.proofs.ShapeExamples.{alone, alone_shaped, alone_plain}
-use Rattle.pfs_model.proofs.Worked.{entry_in, entry_of, acted}
+use Rattle.pfs_model.proofs.ExampleEntries.{entry_in, entry_of, acted}
 
 -- the worked session that runs alone has chains, an order of its actions, and floors
 alone_kept : AreAlone (places alone)

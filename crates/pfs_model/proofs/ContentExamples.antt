@@ -5,15 +5,15 @@ use Rattle.pfs_event.specs.declared.entry.Entry.{Entry}
 use Rattle.pfs_event.specs.declared.entry.Entry.TheVariants as says
 use Rattle.pfs_event.specs.declared.event.Event.{Event}
 use Rattle.pfs_event.specs.declared.kind.EventKind.TheVariants as kinds
-use Rattle.pfs_event.specs.Words.{words_of as slot_words}
+use Rattle.pfs_event.specs.EventWords.{words_of as slot_words}
 use Rattle.pfs_stat.specs.declared.Stat.{Stat}
 use Rattle.pfs_stat.specs.Stat.{zero_of, words_of}
 use Rattle.pfs_model.specs.declared.lines.Line.TheVariants as lines
 use Rattle.pfs_model.specs.declared.lines.Opened.{Opened}
 use Rattle.pfs_model.specs.Contents.{Facts, Given, IsContent, AreFoundAsCounted, content_after, or_zero, event_at, opening_words}
 use Rattle.pfs_model.specs.Contexts.{Context, fresh}
-use Rattle.pfs_model.specs.Places.{Placed}
-use Rattle.pfs_model.proofs.Worked.{waiting, passing, selecting, handling, acted, flags_of_all}
+use Rattle.pfs_model.specs.EntryPlaces.{Placed}
+use Rattle.pfs_model.proofs.ExampleEntries.{waiting, passing, selecting, handling, acted, flags_of_all}
 
 -- A session in slot 0: each of its events starts at 10 and lasts 5, but the one at position 1 lasts 7. The words of an
 -- info row are here the number of its action and that of the row.

@@ -12,9 +12,9 @@ use Rattle.pfs_model.specs.declared.lines.Line.TheVariants as lines
 use Rattle.pfs_model.specs.declared.lines.Opened.{Opened}
 use Rattle.pfs_model.specs.Contents.{Facts, amount_by}
 use Rattle.pfs_model.specs.Contexts.{fresh}
-use Rattle.pfs_model.specs.Places.{Block, Placed, places, places_behind}
-use Rattle.pfs_model.specs.Summaries.{action_of, Taking, first_taking, removal_of, addition, KeyThread, KeyAccount, KeyUser, KeyHost, KeyGlobal, Names, is_of_class, counted_in, counted_in_digest, summary_of}
-use Rattle.pfs_model.proofs.Worked.{binlog, waiting, selecting, acted, flags_of_all}
+use Rattle.pfs_model.specs.EntryPlaces.{Block, Placed, places, places_behind}
+use Rattle.pfs_model.specs.SummaryCounts.{action_of, Taking, first_taking, removal_of, addition, KeyThread, KeyAccount, KeyUser, KeyHost, KeyGlobal, Names, is_of_class, counted_in, counted_in_digest, summary_of}
+use Rattle.pfs_model.proofs.ExampleEntries.{binlog, waiting, selecting, acted, flags_of_all}
 
 -- an event is taken out of its cell by the first take above it, whatever stands first in the report
 abbrev takings : List Taking

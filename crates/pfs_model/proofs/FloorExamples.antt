@@ -5,8 +5,8 @@ use Rattle.pfs_model.specs.declared.lines.Line.TheVariants as lines
 use Rattle.pfs_model.specs.Chains.{change_at}
 use Rattle.pfs_model.specs.Contexts.{fresh}
 use Rattle.pfs_model.specs.Floors.{floor_of, word_floor_of, KeepsAbove, Changes, Sees, Frees, NamingsKeep, LoadsKeep, naming, AreThere, IsThere}
-use Rattle.pfs_model.specs.Places.{Placed}
-use Rattle.pfs_model.proofs.Worked.{entry_in, entry_of, acted, slotted}
+use Rattle.pfs_model.specs.EntryPlaces.{Placed}
+use Rattle.pfs_model.proofs.ExampleEntries.{entry_in, entry_of, acted, slotted}
 
 -- A floor counts the words of what was held: the row had version 8 by the second one, so no later line of the session
 -- may make that change.

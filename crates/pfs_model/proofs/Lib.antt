@@ -3,18 +3,18 @@ mod CauseExamples
 mod ChainExamples
 mod ContentExamples
 mod CountExamples
-pub mod Cutters
+pub mod ShapeCuts
 mod FloorExamples
-pub mod Flooring
-pub mod Growing
-pub mod Guarding
-pub mod Locals
-pub mod Ordering
-pub mod Plainly
+pub mod Floors
+pub mod ChainGrowth
+pub mod ActionGuards
+mod CutBounds
+mod ActionOrder
+pub mod PlainAgreement
 mod RingExamples
 mod SetupExamples
-pub mod ShapeExamples
-pub mod Shaping
-pub mod Walking
-pub mod Worked
+mod ShapeExamples
+pub mod ClosedShapes
+pub mod LineWalks
+mod ExampleEntries
 pub mod EachLists

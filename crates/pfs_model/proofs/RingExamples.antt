@@ -8,10 +8,10 @@ use Rattle.pfs_event.specs.declared.verdict.Verdict.TheVariants.{Attributed}
 use Rattle.pfs_model.specs.declared.lines.Line.TheVariants as lines
 use Rattle.pfs_model.specs.Actions.{IsAmong}
 use Rattle.pfs_model.specs.Chains.{change_at, release_of, each_of}
-use Rattle.pfs_model.specs.Places.{Placed, places, places_behind}
+use Rattle.pfs_model.specs.EntryPlaces.{Placed, places, places_behind}
 use Rattle.pfs_model.specs.Puts.{AreBrought, history_place}
 use Rattle.pfs_model.specs.Rings.{history_of, shown_at, place_of_start, AreTickets, AreRisingTickets, IsAtOwn, long_puts, tickets_shown, Ticketed, ticketed_at, LongRises, is_released_between}
-use Rattle.pfs_model.proofs.Worked.{waiting, passing, select, selecting, entry_in, entry_of, slotted, flags_of_all}
+use Rattle.pfs_model.proofs.ExampleEntries.{waiting, passing, select, selecting, entry_in, entry_of, slotted, flags_of_all}
 
 -- A statement that ends is brought to its cell and, where digests are on, to its digest's row, and to nothing else: the
 -- consumers' flags 28672 have `global_instrumentation`, `thread_instrumentation` and `statements_digest` alone, and 12288

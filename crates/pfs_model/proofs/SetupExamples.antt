@@ -10,10 +10,10 @@ use Rattle.pfs_model.specs.declared.lines.Opened.{Opened}
 use Rattle.pfs_model.specs.Actions.{Setting, settings_of}
 use Rattle.pfs_model.specs.Contents.{Facts, amount_by}
 use Rattle.pfs_model.specs.Contexts.{fresh}
-use Rattle.pfs_model.specs.Numbers.{IsNumbered, nesting_of}
-use Rattle.pfs_model.specs.Setups.{flags_at, loads_of, IsJudged, is_timed, is_digested, is_offered_current, is_offered_at_end, history_consumer, long_consumer}
+use Rattle.pfs_model.specs.EventNumbers.{IsNumbered, nesting_of}
+use Rattle.pfs_model.specs.SetupFlags.{flags_at, loads_of, IsJudged, is_timed, is_digested, is_offered_current, is_offered_at_end, history_consumer, long_consumer}
 use Rattle.pfs_model.specs.Chains.{change_at}
-use Rattle.pfs_model.proofs.Worked.{binlog, waiting, passing, select, selecting, handler, handling, acted, flags_of_all}
+use Rattle.pfs_model.proofs.ExampleEntries.{binlog, waiting, passing, select, selecting, handler, handling, acted, flags_of_all}
 
 -- The sets of two sessions: a class's word gets two versions, by actions 2 and 3, and a thread's word one. Word 0 opens
 -- with the consumers' flags, any other here with both of its flags.

@@ -9,12 +9,12 @@ use Rattle.pfs_model.specs.declared.lines.Line.TheVariants as lines
 use Rattle.pfs_model.specs.Contexts.{fresh}
 use Rattle.pfs_model.specs.Cuts.{cut, behind}
 use Rattle.pfs_model.specs.Shapes.{shape}
-use Rattle.pfs_model.specs.Places.{Block, Placed, places, places_behind, IsShaped}
+use Rattle.pfs_model.specs.EntryPlaces.{Block, Placed, places, places_behind, IsShaped}
 use Rattle.pfs_model.specs.Chains.{row_change, word_change, action_change, each_of}
-use Rattle.pfs_model.specs.Setups.{loads_of}
-use Rattle.pfs_model.specs.Plain.{IsPlain, AreNext, AreLast, Agrees, AgreesWith}
-use Rattle.pfs_model.specs.Summaries.{additions_of}
-use Rattle.pfs_model.proofs.Worked.{binlog, waiting, passing, select, entry_of}
+use Rattle.pfs_model.specs.SetupFlags.{loads_of}
+use Rattle.pfs_model.specs.PlainAgreement.{IsPlain, AreNext, AreLast, Agrees, AgreesWith}
+use Rattle.pfs_model.specs.SummaryCounts.{additions_of}
+use Rattle.pfs_model.proofs.ExampleEntries.{binlog, waiting, passing, select, entry_of}
 
 -- one session connects, and a wait starts, takes its time and ends
 abbrev own_parts : List (List Entry)

@@ -3,7 +3,7 @@ use Rattle.std.specs.Prelude.{ℕ, ◌≡◌, ◌≤◌, ◌<◌, ◌⊎◌, ◌
 use Rattle.pfs_event.specs.declared.entry.Entry.{Entry}
 use Rattle.pfs_event.specs.declared.entry.Entry.TheVariants as says
 use Rattle.pfs_model.specs.declared.changes.Change.{Change}
-use Rattle.pfs_model.specs.Places.{Placed}
+use Rattle.pfs_model.specs.EntryPlaces.{Placed}
 use Rattle.pfs_model.specs.Chains.{Each, action_change, AreChained}
 
 -- the entry is a part of an action that comes behind its number: a take, a give, a tag, a release or a set

@@ -4,7 +4,7 @@ use Rattle.std.specs.Prelude.{ℕ, ◌≡◌, ◌≢◌, ◌⊎◌, ◌+◌, ◌
 use Rattle.pfs_event.specs.declared.entry.Entry.{Entry}
 use Rattle.pfs_event.specs.declared.entry.Entry.TheVariants as says
 use Rattle.pfs_model.specs.declared.changes.Change.{Change}
-use Rattle.pfs_model.specs.Places.{Placed, chosen, up_to_phase}
+use Rattle.pfs_model.specs.EntryPlaces.{Placed, chosen, up_to_phase}
 use Rattle.pfs_model.specs.Chains.{times, change_at, row_change, release_of, each_of, is_of, opens_free}
 use Rattle.pfs_model.specs.Actions.{IsAmong}
 use Rattle.pfs_model.specs.Floors.{floor_of}

@@ -3,7 +3,7 @@ use Rattle.std.specs.Prelude.{ℕ, ◌≡◌, ◌+◌, ◌==◌, nat_lt, nat_le,
 use Rattle.pfs_event.specs.declared.entry.Entry.{Entry}
 use Rattle.pfs_event.specs.declared.entry.Entry.TheVariants as says
 use Rattle.pfs_model.specs.declared.changes.Change.{Change}
-use Rattle.pfs_model.specs.Places.{Placed, up_to_phase}
+use Rattle.pfs_model.specs.EntryPlaces.{Placed, up_to_phase}
 
 -- a fact of each of a list
 abbrev pub Each : {A : Type 0} → (A → Type 0) → List A → Type 0

@@ -7,13 +7,13 @@ use Rattle.pfs_event.specs.declared.entry.Entry.{Entry}
 use Rattle.pfs_event.specs.declared.entry.Entry.TheVariants as says
 use Rattle.pfs_event.specs.declared.kind.EventKind.{EventKind}
 use Rattle.pfs_event.specs.declared.kind.EventKind.TheVariants as kinds
-use Rattle.pfs_event.specs.Form.{bit_of}
-use Rattle.pfs_event.specs.Kinds.{nesting_number}
+use Rattle.pfs_event.specs.EventForm.{bit_of}
+use Rattle.pfs_event.specs.NestingKinds.{nesting_number}
 use Rattle.pfs_model.specs.declared.lines.Opened.{Opened}
 use Rattle.pfs_model.specs.Contexts.{Context, brought}
-use Rattle.pfs_model.specs.Numbers.{nesting_of}
-use Rattle.pfs_model.specs.Places.{Placed}
-use Rattle.pfs_model.specs.Setups.{is_timed, is_digested}
+use Rattle.pfs_model.specs.EventNumbers.{nesting_of}
+use Rattle.pfs_model.specs.EntryPlaces.{Placed}
+use Rattle.pfs_model.specs.SetupFlags.{is_timed, is_digested}
 
 -- What the script says of an event: the session's clock at its start, its duration in picoseconds, and a statement's
 -- six numbers.

@@ -5,7 +5,7 @@ use Rattle.pfs_model.specs.declared.shapes.Ask.{Ask}
 use Rattle.pfs_model.specs.declared.shapes.Item.{Item}
 use Rattle.pfs_model.specs.declared.shapes.Often.{Often}
 use Rattle.pfs_model.specs.declared.shapes.Often.TheVariants.{One, Maybe, Many}
-use Rattle.pfs_model.specs.Asks.{fits, is_head, asks_head, asks_tail}
+use Rattle.pfs_model.specs.EntryAsks.{fits, is_head, asks_head, asks_tail}
 
 -- what is left behind all that is asked
 unfoldable pub behind : Ask → List Entry → List Entry

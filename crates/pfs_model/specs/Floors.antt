@@ -3,9 +3,9 @@ use Rattle.std.specs.Prelude.{ℕ, ◌≡◌, ◌/◌, ◌<◌, ◌≤◌, ◌==
 use Rattle.pfs_event.specs.declared.entry.Entry.{Entry}
 use Rattle.pfs_event.specs.declared.entry.Entry.TheVariants as says
 use Rattle.pfs_model.specs.declared.changes.Change.{Change}
-use Rattle.pfs_model.specs.Places.{Placed, chosen, by_session, before_phase, up_to_phase}
+use Rattle.pfs_model.specs.EntryPlaces.{Placed, chosen, by_session, before_phase, up_to_phase}
 use Rattle.pfs_model.specs.Chains.{Each, times, change_at, row_change, word_change, release_of, each_of, is_of, is_free_after}
-use Rattle.pfs_model.specs.Setups.{loads_of}
+use Rattle.pfs_model.specs.SetupFlags.{loads_of}
 
 -- how an entry names a row at a version
 pub data How : Type 0 where

@@ -6,10 +6,10 @@ use Rattle.pfs_event.specs.declared.entry.Entry.TheVariants as says
 use Rattle.pfs_event.specs.Verdicts.{is_let_through}
 use Rattle.pfs_model.specs.declared.lines.Opened.{Opened}
 use Rattle.pfs_model.specs.Contexts.{subject_of, noted}
-use Rattle.pfs_model.specs.Asks.{cell_row, digest_row, is_head}
+use Rattle.pfs_model.specs.EntryAsks.{cell_row, digest_row, is_head}
 use Rattle.pfs_model.specs.Shapes.{counted_slot}
-use Rattle.pfs_model.specs.Places.{Placed, by_session}
-use Rattle.pfs_model.specs.Setups.{is_digested, is_offered_current, is_offered_at_end, history_consumer, long_consumer}
+use Rattle.pfs_model.specs.EntryPlaces.{Placed, by_session}
+use Rattle.pfs_model.specs.SetupFlags.{is_digested, is_offered_current, is_offered_at_end, history_consumer, long_consumer}
 use Rattle.pfs_model.specs.Causes.{long_row}
 use Rattle.pfs_model.specs.Rings.{ring_number, history_row, history_puts, place_of_start}
 

@@ -5,11 +5,11 @@ use Rattle.pfs_event.specs.declared.entry.Entry.TheVariants as says
 use Rattle.pfs_model.specs.declared.changes.Change.{Change}
 use Rattle.pfs_model.specs.declared.lines.Line.{Line}
 use Rattle.pfs_model.specs.declared.lines.Line.TheVariants as lines
-use Rattle.pfs_model.specs.Places.{Placed, by_session, before_phase, up_to_phase, in_phase}
+use Rattle.pfs_model.specs.EntryPlaces.{Placed, by_session, before_phase, up_to_phase, in_phase}
 use Rattle.pfs_event.specs.declared.kind.EventKind.{EventKind}
 use Rattle.pfs_event.specs.declared.kind.EventKind.TheVariants as kinds
 use Rattle.pfs_model.specs.declared.lines.Opened.{Opened}
-use Rattle.pfs_model.specs.Setups.{is_wait, is_statement, open_through}
+use Rattle.pfs_model.specs.SetupFlags.{is_wait, is_statement, open_through}
 use Rattle.pfs_model.specs.Shapes.{is_stage}
 use Rattle.pfs_model.specs.Chains.{Each, times, change_at, row_change, release_of, each_of, is_of, is_free_after}
 use Rattle.pfs_model.specs.Actions.{IsAmong}

@@ -1,7 +1,7 @@
 //! Laws of the definitions.
 
-ghost use Rattle.pfs_model.specs.Journals.{Exact, Misfits};
-ghost use Rattle.pfs_model.specs.Plain.{PlainKeeps};
+ghost use Rattle.pfs_model.specs.JournalCuts.{Exact, Misfits};
+ghost use Rattle.pfs_model.specs.PlainAgreement.{PlainKeeps};
 
 /// A journal is cut into parts exactly where those are shaped by their lines and spell it. So it has
 /// its parts in one way.

@@ -8,8 +8,8 @@ use Rattle.std.proofs.lemmas.List.Folds.{Any-from_list_any, list_any_at}
 use Rattle.std.proofs.lemmas.List.Sums.{position_or_len_is}
 use Rattle.std.proofs.lemmas.Option.{slice_get-get_or, slice_get_within, get_or_from_slice_get}
 use Rattle.std.proofs.lemmas.Slice.Eq.{bytes_eq-Decides}
-use Rattle.pfs_names.specs.Interning.{AreNames, Interns, InterningAgrees, id_of, interned}
-use Rattle.pfs_names.proofs.Agreeing.{Contains-from_slice_get, slice_get-from_Contains}
+use Rattle.pfs_names.specs.InternedTexts.{AreNames, Interns, InterningAgrees, id_of, interned}
+use Rattle.pfs_names.proofs.Lookups.{Contains-from_slice_get, slice_get-from_Contains}
 
 -- the test for a text, and that it is there
 pub contains_from_any : (texts : List (List ℕ)) (text : List ℕ) → list_any (λ one. bytes_eq one text) texts ≡ true → Contains texts text

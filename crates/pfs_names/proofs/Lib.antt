@@ -1,2 +1,2 @@
-pub mod Agreeing
+mod Lookups
 pub mod Ids

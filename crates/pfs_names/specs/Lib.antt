@@ -1,1 +1,1 @@
-pub mod Interning
+pub mod InternedTexts

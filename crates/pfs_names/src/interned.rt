@@ -1,7 +1,7 @@
 //! A list of texts in the order of their first interning, and a look-up from each text to its place.
 ghost use Rattle.std.specs.Prelude.{◌≡◌, ◌+◌, ◌<◌, ◌≤◌, ℕ, List, [], ◌∷◌, ◌++◌, ◌↔◌, length, map, Contains, IsOk, IfOk, OnOk, OnErr, MatchOption, slice_get, string_bytes};
 ghost use Rattle.pfs_names.specs.declared.interned.NameFault.TheVariants;
-ghost use Rattle.pfs_names.specs.Interning.{AreNames, Interns};
+ghost use Rattle.pfs_names.specs.InternedTexts.{AreNames, Interns};
 
 use crate::NoMemory;
 use std::alloc::Global;
@@ -58,7 +58,7 @@ pub struct Names {
 
 impl Model for Names {
     ghost use Rattle.std.specs.Prelude.{ℕ, List, map, string_bytes};
-    ghost use Rattle.pfs_names.specs.Interning.{Agrees};
+    ghost use Rattle.pfs_names.specs.InternedTexts.{Agrees};
 
     ghost Value = { List (List ℕ) };
 

@@ -1,2 +1,2 @@
-pub mod Writes
-mod Takes
+pub mod SinkWrites
+mod SourceReads

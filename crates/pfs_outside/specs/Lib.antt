@@ -1,4 +1,4 @@
-pub mod Outside
-pub mod Memory
-pub mod Streams
-pub mod Standard
+pub mod DeviceCalls
+pub mod MemoryDevices
+pub mod WholeStreams
+pub mod StandardStreams

@@ -1,7 +1,7 @@
 //! A source and a sink in memory, which tell everything and fail at chosen calls.
 
 ghost use Rattle.std.specs.Prelude.{ℕ, List, Option, Some, ◌≡◌, ◌+◌, ◌<◌, ◌≤◌, ◌↔◌, ◌++◌, length, take, drop, min, IfOk, vec_capacity};
-ghost use Rattle.pfs_outside.specs.Outside.{Moved, RoseAtFault, Taken, RoseAtRefusal};
+ghost use Rattle.pfs_outside.specs.DeviceCalls.{Moved, RoseAtFault, Taken, RoseAtRefusal};
 
 use crate::NoMemory;
 use crate::sink::{Sink, Wrote};
@@ -21,7 +21,7 @@ pub struct MemorySource {
 
 impl Model for MemorySource {
     ghost use Rattle.std.specs.Prelude.{drop};
-    ghost use Rattle.pfs_outside.specs.Memory.{Reading};
+    ghost use Rattle.pfs_outside.specs.MemoryDevices.{Reading};
 
     ghost Value = { Reading };
 
@@ -34,7 +34,7 @@ impl Model for MemorySource {
 }
 
 impl MemorySource {
-    ghost use Rattle.pfs_outside.specs.Memory.{new_source};
+    ghost use Rattle.pfs_outside.specs.MemoryDevices.{new_source};
 
     /// A source that gives a copy of these bytes, as many at a time as the buffer takes, and fails at
     /// the calls of these numbers, counted from 1.
@@ -52,7 +52,7 @@ impl MemorySource {
 }
 
 impl Source for MemorySource {
-    ghost use Rattle.pfs_outside.specs.Memory.{NextReadFails, CountsRead, Fills, faults_after_read};
+    ghost use Rattle.pfs_outside.specs.MemoryDevices.{NextReadFails, CountsRead, Fills, faults_after_read};
 
     ghost left = { λ s. Some s.left };
 
@@ -106,7 +106,7 @@ pub struct MemorySink {
 
 impl Model for MemorySink {
     ghost use Rattle.std.specs.Prelude.{◌≤◌, vec_capacity};
-    ghost use Rattle.pfs_outside.specs.Memory.{Writing};
+    ghost use Rattle.pfs_outside.specs.MemoryDevices.{Writing};
 
     ghost Value = { Writing };
 
@@ -122,7 +122,7 @@ impl Model for MemorySink {
 }
 
 impl MemorySink {
-    ghost use Rattle.pfs_outside.specs.Memory.{new_sink};
+    ghost use Rattle.pfs_outside.specs.MemoryDevices.{new_sink};
 
     /// A sink with room for so many bytes, taken here, that fails at the calls of these numbers,
     /// counted from 1. A write past its room takes what fits; where nothing fits, it fails.
@@ -148,7 +148,7 @@ impl MemorySink {
 }
 
 impl Sink for MemorySink {
-    ghost use Rattle.pfs_outside.specs.Memory.{NextWriteFails, CountsWrite, TakesWhatFits, faults_after_write};
+    ghost use Rattle.pfs_outside.specs.MemoryDevices.{NextWriteFails, CountsWrite, TakesWhatFits, faults_after_write};
 
     ghost written = { λ s. Some s.text };
 

@@ -1,7 +1,7 @@
 //! Reading a source to its end.
 
 ghost use Rattle.std.specs.Prelude.{ℕ, ◌≡◌, ◌<◌, ◌≤◌, ◌^◌, length, IfOk};
-ghost use Rattle.pfs_outside.specs.Streams.{Reads};
+ghost use Rattle.pfs_outside.specs.WholeStreams.{Reads};
 
 use crate::NoMemory;
 use crate::source::{Got, Source};

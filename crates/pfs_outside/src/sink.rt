@@ -1,7 +1,7 @@
 //! Where text goes.
 
 ghost use Rattle.std.specs.Prelude.{ℕ, List, Option, ◌<◌, length};
-ghost use Rattle.pfs_outside.specs.Outside.{Taken, RoseAtRefusal};
+ghost use Rattle.pfs_outside.specs.DeviceCalls.{Taken, RoseAtRefusal};
 
 /// What one call of `Sink::write` answers.
 #[derive(Clone, Copy, Debug, PartialEq, Eq)]

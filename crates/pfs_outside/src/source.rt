@@ -1,7 +1,7 @@
 //! Where bytes come from.
 
 ghost use Rattle.std.specs.Prelude.{ℕ, List, Option, ◌<◌, length};
-ghost use Rattle.pfs_outside.specs.Outside.{Moved, RoseAtFault};
+ghost use Rattle.pfs_outside.specs.DeviceCalls.{Moved, RoseAtFault};
 
 /// What one call of `Source::read` answers.
 #[derive(Clone, Copy, Debug, PartialEq, Eq)]

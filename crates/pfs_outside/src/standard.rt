@@ -4,9 +4,9 @@
 
 ghost use Rattle.std.specs.Prelude.{ℕ, List, Option, None, Ok, Err, ◌≡◌, ◌≢◌, ◌<◌, ◌≤◌, [], length, IfOk, OnOk};
 ghost use Rattle.std.specs.Io.KnownBytes.{Keeps};
-ghost use Rattle.pfs_outside.specs.Memory.{faults_after_read, faults_after_write};
-ghost use Rattle.pfs_outside.specs.Outside.{Moved, RoseAtFault, RoseAtRefusal, Taken};
-ghost use Rattle.pfs_outside.specs.Standard.{Accepts, Draws, accepted, faults_after_flush};
+ghost use Rattle.pfs_outside.specs.MemoryDevices.{faults_after_read, faults_after_write};
+ghost use Rattle.pfs_outside.specs.DeviceCalls.{Moved, RoseAtFault, RoseAtRefusal, Taken};
+ghost use Rattle.pfs_outside.specs.StandardStreams.{Accepts, Draws, accepted, faults_after_flush};
 
 use crate::NoMemory;
 use crate::sink::{Sink, Wrote};
@@ -37,7 +37,7 @@ pub struct StdSource<R: Read> {
 }
 
 impl<R: Read> Model for StdSource<R> {
-    ghost use Rattle.pfs_outside.specs.Standard.{ReaderSource};
+    ghost use Rattle.pfs_outside.specs.StandardStreams.{ReaderSource};
 
     ghost Value = { ReaderSource R };
 
@@ -103,7 +103,7 @@ pub struct StdSink<W: Write + Drop> {
 
 impl<W: Write + Drop> Model for StdSink<W> {
     ghost use Rattle.std.specs.Io.Buffered.{writer_buffer, writer_inner};
-    ghost use Rattle.pfs_outside.specs.Standard.{WriterSink};
+    ghost use Rattle.pfs_outside.specs.StandardStreams.{WriterSink};
 
     ghost Value = { WriterSink W };
 

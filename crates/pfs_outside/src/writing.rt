@@ -1,7 +1,7 @@
 //! Offering a whole text to a sink.
 
 ghost use Rattle.std.specs.Prelude.{◌≢◌, Err, length};
-ghost use Rattle.pfs_outside.specs.Streams.{Puts};
+ghost use Rattle.pfs_outside.specs.WholeStreams.{Puts};
 
 use crate::sink::{Sink, Wrote};
 use thiserror::Error;

@@ -1,7 +1,9 @@
-pub mod Running
-pub mod Following
-pub mod Repeating
-pub mod Writing
-pub mod Asking
-pub mod Costing
-pub mod Width
+pub mod ActionParts
+pub mod FurtherDeeds
+mod ErrandParts
+pub mod NextLines
+pub mod RepeatedLines
+pub mod WrittenRepeats
+mod ReadingCounts
+mod LineCosts
+pub mod HeldBounds

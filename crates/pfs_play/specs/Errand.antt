@@ -4,7 +4,7 @@ use Rattle.pfs_admin.specs.declared.changes.SetupStatement.{SetupStatement}
 use Rattle.pfs_exec.specs.declared.query.Select.{Select}
 use Rattle.pfs_model.specs.declared.lines.Subject.{Subject}
 use Rattle.pfs_session.specs.declared.events.Numbers.{Numbers}
-use Rattle.pfs_truncations.specs.declared.truncations.Truncation.{Truncation}
+use Rattle.pfs_rows.specs.declared.truncations.Truncation.{Truncation}
 
 pub data Errand : Type 0 where
   Start : Subject → Errand  -- an event starts that isn't a stage

@@ -1,35 +1,35 @@
 -- What lines of a script ask their session to do, and what it does.
 use Rattle.std.specs.Prelude.{ℕ, ◌≡◌, ◌<◌, ◌+◌, Bool, true, false, List, [], ◌∷◌, ◌++◌, length, map, Option, Some, None, IfSome}
-use Rattle.pfs_actions.specs.Done.{HasDone}
-use Rattle.pfs_admin.specs.States.{State as Administration}
-use Rattle.pfs_admin.specs.Setups.{has_changed}
+use Rattle.pfs_play.specs.StoreDeeds.{HasDone}
+use Rattle.pfs_admin.specs.AdministrationStates.{State as Administration}
+use Rattle.pfs_admin.specs.SetupStatements.{has_changed}
 use Rattle.pfs_admin.specs.Truncations.{has_truncated}
 use Rattle.pfs_admin.specs.declared.changes.SetupStatement.TheVariants as statements
 use Rattle.pfs_classes.specs.declared.setting.Setting.{Setting}
-use Rattle.pfs_event.specs.Nesting.{OpenEvents, MayStart}
+use Rattle.pfs_event.specs.Nests.{OpenEvents, MayStart}
 use Rattle.pfs_event.specs.declared.kind.EventKind.{EventKind}
 use Rattle.pfs_event.specs.declared.kind.EventKind.TheVariants.{Wait, Stage, Statement, Transaction}
 use Rattle.pfs_levels.specs.Calls.{Call, Opening}
 use Rattle.pfs_model.specs.declared.lines.Subject.{Subject}
-use Rattle.pfs_parts.specs.Deeds.{Deed, Starting, Staging, StageEnding, Ending, Spending, Quitting, Truncating, Changing, Showing, Querying, Refusing, IsReplied, Part}
-use Rattle.pfs_parts.specs.Shaped.{MayDoAll, over_behind}
+use Rattle.pfs_law_session.specs.Deeds.{Deed, Starting, Staging, StageEnding, Ending, Spending, Quitting, Truncating, Changing, Showing, Querying, Refusing, IsReplied, Part}
+use Rattle.pfs_law_session.specs.JournalLaws.{MayDoAll, over_behind}
 use Rattle.pfs_script.specs.declared.blocks.BlockLine.{BlockLine}
 use Rattle.pfs_script.specs.declared.blocks.BlockLine.TheVariants as said
 use Rattle.pfs_script.specs.Brackets.{kinds_behind, may_stand}
 use Rattle.pfs_script.specs.Marks.{mark_of}
-use Rattle.pfs_script.specs.Runnable.{IsKnown}
-use Rattle.pfs_session.specs.States.{Book, without_stage}
+use Rattle.pfs_script.specs.KnownClasses.{IsKnown}
+use Rattle.pfs_session.specs.SessionStates.{Book, without_stage}
 use Rattle.pfs_session.specs.Turns.{StageMayStart}
 use Rattle.pfs_session.specs.Ends.{no_numbers}
-use Rattle.pfs_runs.specs.Lines.{wait_on, statement_on, transaction_on, stage_on}
-use Rattle.pfs_runs.specs.Answers.{Answer, Selection, Stored, Held, AreAnswers, selection_on}
-use Rattle.pfs_facts.specs.Answers.{Answers}
-use Rattle.pfs_facts.specs.Deeds.{bare, deed_on}
-use Rattle.pfs_facts.specs.Steps.{numbers_in}
-use Rattle.pfs_requests.specs.Requests.{request_of}
-use Rattle.pfs_requests.specs.declared.requests.Request.{Request}
-use Rattle.pfs_requests.specs.declared.requests.Request.TheVariants as requests
-use Rattle.pfs_show.specs.Rows.{IsHeld}
+use Rattle.pfs_runs.specs.ScriptLines.{wait_on, statement_on, transaction_on, stage_on}
+use Rattle.pfs_runs.specs.SelectAnswers.{Answer, Selection, Stored, Held, AreAnswers, selection_on}
+use Rattle.pfs_law_plain.specs.ToldAnswers.{Answers}
+use Rattle.pfs_law_plain.specs.LineDeeds.{bare, deed_on}
+use Rattle.pfs_law_plain.specs.LineSteps.{numbers_in}
+use Rattle.pfs_exec.specs.Requests.{request_of}
+use Rattle.pfs_exec.specs.declared.requests.Request.{Request}
+use Rattle.pfs_exec.specs.declared.requests.Request.TheVariants as requests
+use Rattle.pfs_setups.specs.HeldRows.{IsHeld}
 use Rattle.pfs_play.specs.Errand.{Errand}
 use Rattle.pfs_play.specs.Errand as ask
 

@@ -1,3 +1,4 @@
+pub mod StoreDeeds
 pub mod Errand
 pub mod Errands
 pub mod Repeats

@@ -1,6 +1,6 @@
 -- The lines of a block with their repeats, as they may be played.
 use Rattle.std.specs.Prelude.{ℕ, ◌≡◌, List, [], ◌∷◌, ◌++◌, Option, Some, None}
-use Rattle.pfs_admin.specs.States.{State as Administration}
+use Rattle.pfs_admin.specs.AdministrationStates.{State as Administration}
 use Rattle.pfs_classes.specs.declared.setting.Setting.{Setting}
 use Rattle.pfs_event.specs.declared.kind.EventKind.{EventKind}
 use Rattle.pfs_script.specs.declared.blocks.BlockLine.{BlockLine}
@@ -9,8 +9,8 @@ use Rattle.pfs_script.specs.Brackets.{kinds_behind}
 use Rattle.pfs_script.specs.Marks.{mark_of}
 use Rattle.pfs_levels.specs.Calls.{Call, Opening}
 use Rattle.pfs_script.specs.Marks.{written_from}
-use Rattle.pfs_runs.specs.Answers.{Answer}
-use Rattle.pfs_session.specs.States.{Book}
+use Rattle.pfs_runs.specs.SelectAnswers.{Answer}
+use Rattle.pfs_session.specs.SessionStates.{Book}
 use Rattle.pfs_play.specs.Errands.{HavePlayed, MayPlay, admin_after}
 
 -- Where events of these kinds are open, each line may be played where it stands; the lines of a repeat, that began where

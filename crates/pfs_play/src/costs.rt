@@ -2,13 +2,13 @@
 
 ghost use Rattle.std.specs.Prelude.{◌≡◌, ◌<◌, ◌≤◌, ◌+◌, ◌*◌, ◌∷◌, [], IfOk, length, drop};
 ghost use Rattle.pfs_script.specs.Marks.{written_out};
-ghost use Rattle.pfs_requests.specs.Requests.{request_of};
+ghost use Rattle.pfs_exec.specs.Requests.{request_of};
 ghost use Rattle.pfs_play.specs.Errands.{actions_on, cost_of, cost_on, errand_on, sql_errand};
 ghost use Rattle.pfs_play.specs.Repeats.{repeated};
 
 use crate::NoMemory;
 use crate::repeats::{done_in, times_of};
-use pfs_requests::{Request, request_of};
+use pfs_exec::{Request, request_of};
 use pfs_script::BlockLine;
 use std::alloc::Global;
 

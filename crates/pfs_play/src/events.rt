@@ -1,15 +1,15 @@
 //! Lines that start and end events, and let time pass.
 
 ghost use Rattle.std.specs.Prelude.{◌≡◌, ◌<◌, ◌≤◌, ◌+◌, ◌^◌, ℕ, List, None, false, length};
-ghost use Rattle.pfs_actions.specs.Done.{HasActed};
-ghost use Rattle.pfs_admin.specs.States.{State as Administration};
+ghost use Rattle.pfs_play.specs.StoreDeeds.{HasActed};
+ghost use Rattle.pfs_admin.specs.AdministrationStates.{State as Administration};
 ghost use Rattle.pfs_classes.specs.declared.setting.Setting.{Setting};
-ghost use Rattle.pfs_parts.specs.Deeds.{Ending};
-ghost use Rattle.pfs_runs.specs.Answers.{Answer};
-ghost use Rattle.pfs_runs.specs.Lines.{class_in, cell_in, wait_on, statement_on, transaction_on, stage_on};
-ghost use Rattle.pfs_facts.specs.Steps.{numbers_in};
-ghost use Rattle.pfs_session.specs.Settles.{owed_by_state};
-ghost use Rattle.pfs_session.specs.Using.{Uses};
+ghost use Rattle.pfs_law_session.specs.Deeds.{Ending};
+ghost use Rattle.pfs_runs.specs.SelectAnswers.{Answer};
+ghost use Rattle.pfs_runs.specs.ScriptLines.{class_in, cell_in, wait_on, statement_on, transaction_on, stage_on};
+ghost use Rattle.pfs_law_plain.specs.LineSteps.{numbers_in};
+ghost use Rattle.pfs_session.specs.Settlements.{owed_by_state};
+ghost use Rattle.pfs_session.specs.CallCosts.{Uses};
 ghost use Rattle.pfs_play.specs.Errand as ask;
 ghost use Rattle.pfs_play.specs.Errands.{HasRun, MayRun, cost_of, errand_on, is_quit, is_sql};
 

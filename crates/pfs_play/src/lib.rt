@@ -1,6 +1,7 @@
 //! Playing the lines of a script in their session, over any store.
 #![tactic(auto)]
 
+mod actions;
 mod costs;
 mod events;
 mod lines;
@@ -8,6 +9,7 @@ mod queries;
 mod repeats;
 mod requests;
 
+pub use actions::{act, connect, quit, show_held, truncate};
 pub use costs::written_cost;
 pub use lines::{play_line, play_lines};
 pub use repeats::{play_times, play_written};

@@ -1,21 +1,21 @@
 //! Playing lines of a script one after another.
 
 ghost use Rattle.std.specs.Prelude.{◌≡◌, ◌<◌, ◌≤◌, ◌+◌, ◌*◌, ◌^◌, ℕ, None, Some, OnOk, false, length};
-ghost use Rattle.pfs_session.specs.Using.{Uses};
-ghost use Rattle.pfs_session.specs.Settles.{owed_by_state};
+ghost use Rattle.pfs_session.specs.CallCosts.{Uses};
+ghost use Rattle.pfs_session.specs.Settlements.{owed_by_state};
 ghost use Rattle.pfs_play.specs.Errands.{CanPlay, HasRun, HavePlayed, MayRun, StagesLie, actions_of, actions_on, admin_after, admin_behind, cost_of, cost_on, errand_on, is_quit, kinds_after};
-ghost use Rattle.pfs_facts.specs.Steps.{kinds_at};
+ghost use Rattle.pfs_law_plain.specs.LineSteps.{kinds_at};
 
 use crate::NoMemory;
 use crate::events::play_event;
 use crate::requests::play_request;
 use pfs_admin::Admin;
 use pfs_classes::Setting;
+use pfs_exec::request_of;
 use pfs_levels::Acts;
-use pfs_requests::request_of;
 use pfs_script::BlockLine;
 use pfs_session::Session;
-use pfs_values::Rowset;
+use pfs_text::Rowset;
 use std::alloc::Global;
 
 /// Plays a line that doesn't end its session. The answer of a SELECT comes behind the others. Err is NoMemory alone.

@@ -1,25 +1,24 @@
 //! SELECTs of a session: what is read of the store, and what is held by the administration.
 
 ghost use Rattle.std.specs.Prelude.{◌≡◌, ◌<◌, ◌≤◌, ◌+◌, ◌^◌, ℕ, None, Some, IfOk, OnOk, length};
-ghost use Rattle.pfs_admin.specs.Setups.{has_changed};
-ghost use Rattle.pfs_admin.specs.States.{State as Administration};
+ghost use Rattle.pfs_admin.specs.SetupStatements.{has_changed};
+ghost use Rattle.pfs_admin.specs.AdministrationStates.{State as Administration};
 ghost use Rattle.pfs_admin.specs.Works.{Leaves};
 ghost use Rattle.pfs_admin.specs.declared.changes.SetupStatement.TheVariants.{Show};
 ghost use Rattle.pfs_classes.specs.declared.setting.Setting.{Setting as AnySetting};
-ghost use Rattle.pfs_parts.specs.Deeds.{looks};
+ghost use Rattle.pfs_law_session.specs.Deeds.{looks};
 ghost use Rattle.pfs_reader.specs.Readings.{HoldsNone};
-ghost use Rattle.pfs_readsets.specs.Places.{scope_of};
+ghost use Rattle.pfs_readsets.specs.TablePlaces.{scope_of};
 ghost use Rattle.pfs_readsets.specs.ReadSets.{IsReadSet};
-ghost use Rattle.pfs_session.specs.Settles.{owed_by_state};
-ghost use Rattle.pfs_session.specs.States.{nothing_held};
+ghost use Rattle.pfs_session.specs.Settlements.{owed_by_state};
+ghost use Rattle.pfs_session.specs.SessionStates.{nothing_held};
 ghost use Rattle.pfs_session.specs.Turns.{Played};
-ghost use Rattle.pfs_session.specs.Using.{Uses};
-ghost use Rattle.pfs_show.specs.Rows.{IsHeld};
+ghost use Rattle.pfs_session.specs.CallCosts.{Uses};
+ghost use Rattle.pfs_setups.specs.HeldRows.{IsHeld};
 ghost use Rattle.pfs_play.specs.Errands.{HasRun};
 ghost use Rattle.pfs_play.specs.Errand as ask;
 
-use crate::NoMemory;
-use pfs_actions::show_held;
+use crate::{NoMemory, show_held};
 use pfs_admin::Admin;
 use pfs_classes::Setting;
 use pfs_exec::{Select, select};
@@ -28,7 +27,7 @@ use pfs_reader::{Reader, ReadingList};
 use pfs_rows::Table;
 use pfs_session::{Remark, Session};
 use pfs_tables::listed;
-use pfs_values::Rowset;
+use pfs_text::Rowset;
 use std::alloc::Global;
 
 // All readings of a table's read set, one after another.

@@ -2,8 +2,8 @@
 
 ghost use Rattle.std.specs.Prelude.{◌≡◌, ◌<◌, ◌≤◌, ◌+◌, ◌-◌, ◌*◌, ◌^◌, ℕ, [], List, None, Some, IfOk, OnOk, length, take, drop};
 ghost use Rattle.std.specs.List.{position};
-ghost use Rattle.pfs_session.specs.Using.{Uses};
-ghost use Rattle.pfs_facts.specs.Steps.{kinds_at};
+ghost use Rattle.pfs_session.specs.CallCosts.{Uses};
+ghost use Rattle.pfs_law_plain.specs.LineSteps.{kinds_at};
 ghost use Rattle.pfs_script.specs.Marks.{copies, is_done, repeats_of, written_out};
 ghost use Rattle.pfs_play.specs.Repeats.{AllMayPlay, HaveGone, repeated};
 ghost use Rattle.pfs_play.specs.Errands.{CanPlay, HavePlayed, StagesLie, actions_on, admin_after, cost_on, kinds_after};
@@ -15,7 +15,7 @@ use pfs_classes::Setting;
 use pfs_levels::Acts;
 use pfs_script::BlockLine;
 use pfs_session::Session;
-use pfs_values::Rowset;
+use pfs_text::Rowset;
 use std::alloc::Global;
 
 /// Plays the lines of a repeat so many times, each time as they stand: none of them ends the session, and at their end

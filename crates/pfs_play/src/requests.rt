@@ -1,25 +1,24 @@
 //! What a text of SQL asks for, done in its session.
 
 ghost use Rattle.std.specs.Prelude.{◌≡◌, ◌<◌, ◌≤◌, ◌+◌, ◌*◌, ◌^◌, ℕ, None, Some, OnOk, length};
-ghost use Rattle.pfs_actions.specs.Done.{HasActed};
-ghost use Rattle.pfs_admin.specs.Setups.{has_changed};
+ghost use Rattle.pfs_play.specs.StoreDeeds.{HasActed};
+ghost use Rattle.pfs_admin.specs.SetupStatements.{has_changed};
 ghost use Rattle.pfs_admin.specs.Truncations.{has_truncated};
 ghost use Rattle.pfs_admin.specs.Works.{Leaves};
-ghost use Rattle.pfs_parts.specs.Deeds.{Changing, IsReplied, Truncating};
-ghost use Rattle.pfs_session.specs.Settles.{owed_by_state};
-ghost use Rattle.pfs_session.specs.States.{nothing_held};
-ghost use Rattle.pfs_session.specs.Using.{Uses};
+ghost use Rattle.pfs_law_session.specs.Deeds.{Changing, IsReplied, Truncating};
+ghost use Rattle.pfs_session.specs.Settlements.{owed_by_state};
+ghost use Rattle.pfs_session.specs.SessionStates.{nothing_held};
+ghost use Rattle.pfs_session.specs.CallCosts.{Uses};
 ghost use Rattle.pfs_play.specs.Errands.{HasRun, MayRun, actions_of, admin_behind, cost_of, sql_errand};
 
-use crate::NoMemory;
 use crate::queries::{query, show_table};
-use pfs_actions::{act, truncate};
+use crate::{NoMemory, act, truncate};
 use pfs_admin::{Admin, SetupStatement, Truncation};
 use pfs_classes::Setting;
+use pfs_exec::Request;
 use pfs_levels::Acts;
-use pfs_requests::Request;
 use pfs_session::{Remark, Session};
-use pfs_values::Rowset;
+use pfs_text::Rowset;
 use std::alloc::Global;
 
 /// Does what a text asks for, and puts the answer of a SELECT behind the others. A text that is refused writes its error.

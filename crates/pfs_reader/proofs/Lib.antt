@@ -1,2 +1,2 @@
-pub mod Plain
-pub mod Reading
+pub mod PlainReadings
+pub mod Readings

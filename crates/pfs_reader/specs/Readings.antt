@@ -8,9 +8,9 @@ use Rattle.pfs_levels.specs.Calls.{Call, Reads, Loads, IsRow}
 use Rattle.pfs_readsets.specs.declared.read_set.ReadSet.{ReadSet}
 use Rattle.pfs_readsets.specs.declared.target.Target.{Target}
 use Rattle.pfs_readsets.specs.declared.target.Target.TheVariants as targets
-use Rattle.pfs_readsets.specs.Places.{Scope}
+use Rattle.pfs_readsets.specs.TablePlaces.{Scope}
 use Rattle.pfs_readsets.specs.ReadSets.{read_set, target_of}
-use Rattle.pfs_readsets.specs.Steps.{Reached}
+use Rattle.pfs_readsets.specs.ReadProgress.{Reached}
 
 -- the call that a reading is
 abbrev pub call_of : Reading → Call

@@ -3,9 +3,9 @@
 ghost use Rattle.std.specs.Prelude.{◌≡◌, ◌++◌, ℕ, List, All};
 ghost use Rattle.pfs_rows.specs.declared.table.Reading.{Reading};
 ghost use Rattle.pfs_levels.specs.Calls.{Call};
-ghost use Rattle.pfs_levels.specs.Joint.{changes_of, draws_of, sets_of};
-ghost use Rattle.pfs_levels.specs.Plain.{AllAnswer, labels_after, ops_of};
-ghost use Rattle.pfs_reader.specs.Plain.{IsFound};
+ghost use Rattle.pfs_levels.specs.JointCalls.{changes_of, draws_of, sets_of};
+ghost use Rattle.pfs_levels.specs.PlainStore.{AllAnswer, labels_after, ops_of};
+ghost use Rattle.pfs_reader.specs.PlainReadings.{IsFound};
 ghost use Rattle.pfs_reader.specs.Readings.{calls_of};
 
 /// Readings change nothing, and draw nothing.

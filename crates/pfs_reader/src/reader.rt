@@ -5,9 +5,9 @@ ghost use Rattle.std.specs.Option.{option_to_list};
 ghost use Rattle.pfs_rows.specs.declared.table.Table.{Table};
 ghost use Rattle.pfs_rows.specs.declared.table.Reading.{Reading};
 ghost use Rattle.pfs_levels.specs.Calls.{Goes};
-ghost use Rattle.pfs_readsets.specs.Places.{Scope, scope_of};
+ghost use Rattle.pfs_readsets.specs.TablePlaces.{Scope, scope_of};
 ghost use Rattle.pfs_readsets.specs.ReadSets.{IsNext, IsReadSet, target_of};
-ghost use Rattle.pfs_readsets.specs.Steps.{Reached};
+ghost use Rattle.pfs_readsets.specs.ReadProgress.{Reached};
 ghost use Rattle.pfs_reader.specs.Readings.{call_of, calls_of, IsThere, HoldsNone, IsFront, AreKept};
 
 use crate::{NoMemory, ReadingList};

@@ -10,7 +10,7 @@ use Rattle.pfs_rows.specs.declared.table.Seen.TheVariants.{Whole, Free}
 use Rattle.pfs_classes.specs.declared.classes.Class.{Class}
 use Rattle.pfs_classes.specs.declared.kind.Kind.{Kind}
 use Rattle.pfs_classes.specs.declared.kind.Kind.TheVariants.{File, Stage}
-use Rattle.pfs_readsets.specs.Places.{Scope}
+use Rattle.pfs_readsets.specs.TablePlaces.{Scope}
 use Rattle.pfs_readsets.specs.ReadSets.{row_test, word_test, passing}
 
 abbrev class : Kind → Class

@@ -1,6 +1,6 @@
-pub mod Agreeing
-mod Skipping
-pub mod Examples
+pub mod EqualReadings
+mod SkippedNumbers
+mod Examples
 pub mod Members
-pub mod Passing
-pub mod Stepping
+pub mod TestedNumbers
+mod ReadSteps

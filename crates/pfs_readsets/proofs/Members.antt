@@ -9,9 +9,9 @@ use Rattle.pfs_rows.specs.declared.table.Table.{Table}
 use Rattle.pfs_rows.specs.declared.table.Reading.{Reading}
 use Rattle.pfs_readsets.specs.declared.target.Target.{Target}
 use Rattle.pfs_readsets.specs.declared.target.Target.TheVariants.{Row, Word}
-use Rattle.pfs_readsets.specs.Places.{Scope}
+use Rattle.pfs_readsets.specs.TablePlaces.{Scope}
 use Rattle.pfs_readsets.specs.ReadSets.{passing, read_set, row_test, word_test}
-use Rattle.pfs_readsets.proofs.Passing.{passing_none, passing_no, passing_yes}
+use Rattle.pfs_readsets.proofs.TestedNumbers.{passing_none, passing_no, passing_yes}
 
 -- what passes is among the numbers
 all_within : (P : ℕ → Type 0) (test : ℕ → Bool) (from count : ℕ) → ((k : ℕ) → from ≤ k → k < from + count → test k ≡ true → P k) → All P (passing test from count)

@@ -1,3 +1,3 @@
-pub mod Places
+pub mod TablePlaces
 pub mod ReadSets
-pub mod Steps
+pub mod ReadProgress

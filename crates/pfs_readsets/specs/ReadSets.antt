@@ -10,7 +10,7 @@ use Rattle.pfs_rows.specs.declared.table.Seen.TheVariants.{Whole}
 use Rattle.pfs_rows.specs.Rows.{place_at}
 use Rattle.pfs_readsets.specs.declared.target.Target.{Target}
 use Rattle.pfs_readsets.specs.declared.target.Target.TheVariants.{Row, Word}
-use Rattle.pfs_readsets.specs.Places.{Scope, has_cell, reads, reads_word}
+use Rattle.pfs_readsets.specs.TablePlaces.{Scope, has_cell, reads, reads_word}
 
 -- the target that a reading is of
 abbrev pub target_of : Reading → Target

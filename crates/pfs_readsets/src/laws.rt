@@ -5,7 +5,7 @@ ghost use Rattle.pfs_rows.specs.declared.table.Reading.{Reading};
 ghost use Rattle.pfs_rows.specs.declared.table.Table.{Table};
 ghost use Rattle.pfs_readsets.specs.declared.target.Target.{Target};
 ghost use Rattle.pfs_readsets.specs.declared.target.Target.TheVariants.{Row, Word};
-ghost use Rattle.pfs_readsets.specs.Places.{Scope};
+ghost use Rattle.pfs_readsets.specs.TablePlaces.{Scope};
 ghost use Rattle.pfs_readsets.specs.ReadSets.{read_set, row_test, word_test};
 
 /// A read set is rows and then words, each ascending, rows below 14,242 and words below 160.

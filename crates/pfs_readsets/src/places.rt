@@ -1,8 +1,8 @@
 //! Which places and words a table has.
 
 ghost use Rattle.std.specs.Prelude.{◌≡◌, ◌<◌, ℕ, false, slice_index_or, slice_get};
-ghost use Rattle.pfs_readsets.specs.Places as spec;
-ghost use Rattle.pfs_readsets.specs.Places.{scope_of};
+ghost use Rattle.pfs_readsets.specs.TablePlaces as spec;
+ghost use Rattle.pfs_readsets.specs.TablePlaces.{scope_of};
 
 use pfs_classes::{Class, ClassId, Classes, Kind, Setting};
 use pfs_rows::{EventTable, SummaryTable, Table, TableKind};

@@ -37,9 +37,9 @@ impl ReadSet {
     ghost use Rattle.pfs_rows.specs.declared.place.Place.{Place};
     ghost use Rattle.pfs_rows.specs.declared.table.Table.{Table};
     ghost use Rattle.pfs_rows.specs.declared.table.Reading.{Reading};
-    ghost use Rattle.pfs_readsets.specs.Places.{Scope, scope_of, reads};
+    ghost use Rattle.pfs_readsets.specs.TablePlaces.{Scope, scope_of, reads};
     ghost use Rattle.pfs_readsets.specs.ReadSets.{IsNext, IsReadSet, target_of};
-    ghost use Rattle.pfs_readsets.specs.Steps.{Reached, own_rows, own_words, FirstPassing, behind_row, behind_word};
+    ghost use Rattle.pfs_readsets.specs.ReadProgress.{Reached, own_rows, own_words, FirstPassing, behind_row, behind_word};
 
     /// The read set of the table, before its first reading. It takes of the setting which classes
     /// are registered and how many digest texts have a place.

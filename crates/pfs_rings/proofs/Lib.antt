@@ -1,2 +1,2 @@
-pub mod Offering
-pub mod Apart
+mod Offers
+mod ThreadPlaces

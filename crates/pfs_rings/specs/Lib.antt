@@ -1,3 +1,3 @@
-pub mod Rings
+pub mod RingPlaces
 pub mod Offers
-pub mod Worked
+pub mod RingExamples

@@ -3,7 +3,7 @@ use Rattle.std.specs.Prelude.{ℕ, ◌≡◌, ◌+◌, ◌<◌, List, [], ◌∷
 use Rattle.pfs_event.specs.declared.entry.Entry.{Entry}
 use Rattle.pfs_event.specs.declared.entry.Entry.TheVariants as says
 use Rattle.pfs_event.specs.declared.event.Event.{Event}
-use Rattle.pfs_event.specs.Words.{words_of}
+use Rattle.pfs_event.specs.EventWords.{words_of}
 use Rattle.pfs_levels.specs.Calls.{Call, Opening, Goes, Rings, Draws}
 use Rattle.pfs_levels.specs.declared.answers.RingPut.{RingPut}
 use Rattle.pfs_levels.specs.declared.answers.RingPut.TheVariants as told

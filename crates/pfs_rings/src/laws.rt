@@ -1,7 +1,7 @@
 //! Laws of the places.
 
-ghost use Rattle.pfs_rings.specs.Rings.{WithinLaw, ApartLaw};
-ghost use Rattle.pfs_rings.specs.Worked.{WorkedPlaces};
+ghost use Rattle.pfs_rings.specs.RingPlaces.{WithinLaw, ApartLaw};
+ghost use Rattle.pfs_rings.specs.RingExamples.{WorkedPlaces};
 
 /// The places of a thread lie among 56 rows of its own.
 pub fn rows_of_a_thread()

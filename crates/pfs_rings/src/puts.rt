@@ -1,10 +1,10 @@
 //! Putting an event to its place.
 
 ghost use Rattle.std.specs.Prelude.{◌≡◌, ◌<◌, ◌≤◌, ◌+◌, [], ℕ, None};
-ghost use Rattle.pfs_event.specs.Words.{words_of};
+ghost use Rattle.pfs_event.specs.EventWords.{words_of};
 ghost use Rattle.pfs_model.specs.Rings.{ring_number};
 ghost use Rattle.pfs_rings.specs.Offers.{IsOffered, IsOfferedLong, Offers, put_entry};
-ghost use Rattle.pfs_rings.specs.Rings.{IsRing, tickets_for};
+ghost use Rattle.pfs_rings.specs.RingPlaces.{IsRing, tickets_for};
 
 use crate::rings::{Ring, current_row, history_row, ring_number};
 use pfs_event::{Entry, Event, EventKind};

@@ -2,7 +2,7 @@
 
 ghost use Rattle.std.specs.Prelude.{◌≡◌, ◌<◌, ◌≤◌};
 ghost use Rattle.pfs_model.specs.Rings.{ring_number, current_row, history_row};
-ghost use Rattle.pfs_rings.specs.Rings.{depths};
+ghost use Rattle.pfs_rings.specs.RingPlaces.{depths};
 
 use pfs_event::EventKind;
 use pfs_rows::{CURRENT_PLACES, HISTORY_PLACES, RING_PLACES, RINGS};

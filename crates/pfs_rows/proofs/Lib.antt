@@ -1,4 +1,5 @@
-pub mod Examples
-pub mod Found
-pub mod Ranges
-pub mod TableNames
+mod Examples
+mod RowPlaces
+pub mod LimitRanges
+mod TableNames
+pub mod TableTruncations

@@ -5,6 +5,8 @@ pub mod laws;
 mod limits;
 mod place;
 mod table;
+pub mod table_truncations;
+mod truncations;
 
 pub use limits::{BadLimits, Layout, Limit, Limits};
 pub use place::{
@@ -12,3 +14,4 @@ pub use place::{
     READ_ONLY_CELL, READ_WRITE_CELL, RING_PLACES, RINGS, ROWS, place_of, row_of,
 };
 pub use table::{EventTable, Reading, Seen, SummaryTable, Table, TableKind};
+pub use truncations::Truncation;

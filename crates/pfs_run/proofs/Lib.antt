@@ -1,15 +1,15 @@
-pub mod At
-pub mod Beginning
-pub mod Ending
-pub mod FewLost
-pub mod FewDigests
-pub mod Going
-pub mod Here
-pub mod Lines
-pub mod Ready
-pub mod Reporting
-pub mod Running
-pub mod Slots
-pub mod Standing
-pub mod Stepping
-pub mod Asked
+mod BlockStarts
+mod RunStart
+mod RunPhaseEnds
+mod LostEventBounds
+mod LostDigestBounds
+mod RunKnowledge
+mod BlockPlaces
+mod SessionLengths
+mod ReadySessions
+mod ReportedPhases
+mod RunProgress
+mod SlotBounds
+mod RunnerState
+mod RunSteps
+mod SelectLines

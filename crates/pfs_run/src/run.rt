@@ -1,11 +1,11 @@
 //! A run of a whole script.
 
 ghost use Rattle.std.specs.Prelude.{◌≡◌, ◌+◌, ◌++◌, ◌∷◌, [], ℕ, List, IfOk, OnOk, length};
-ghost use Rattle.pfs_course.specs.Course.{numbered};
+ghost use Rattle.pfs_law_script.specs.Course.{numbered};
 ghost use Rattle.pfs_script.specs.Scripts.{IsScript};
 ghost use Rattle.pfs_script.specs.declared.blocks.Phase.{Phase as SaidPhase};
 ghost use Rattle.pfs_runs.specs.Runs.{IsPlainRun};
-ghost use Rattle.pfs_run.specs.Along.{IsAlong};
+ghost use Rattle.pfs_run.specs.RunPositions.{IsAlong};
 
 use crate::NoMemory;
 use crate::runner::Runner;
@@ -23,9 +23,9 @@ pub fn run_plain(alloc: Global, setting: &Setting, phases: &[Phase]) -> Result<R
     requires { (text : List ℕ) × IsScript text setting.now phases.now }
     ensures { IfOk result (λ report. IsPlainRun setting.now phases.now report) }
 {
-    pfs_course::laws::whole();
-    pfs_course::laws::run();
-    pfs_ends::laws::all_end();
+    pfs_law_script::runs::whole();
+    pfs_law_script::runs::run();
+    pfs_law_report::ends::all_end();
     let mut runner = Runner::open(alloc, setting)?;
     for phase in phases {
         match run_phase(&mut runner, setting, phases, phase) {
@@ -68,9 +68,9 @@ fn run_phase(
         (⟦<PlainRows as Rows>⟧.words runner.new.rows) runner.new.admin
         runner.new.seats.items runner.new.lost runner.new.phases.items runner.new.blocks.items) }
 {
-    pfs_reportable::laws::names();
-    pfs_reportable::laws::texts();
-    pfs_reportable::laws::table_names();
+    pfs_law_report::report_values::names();
+    pfs_law_report::report_values::texts();
+    pfs_law_report::report_values::table_names();
     for block in phase.blocks.as_slice() {
         match runner.play(setting, phases, block) {
             Ok(()) => {}

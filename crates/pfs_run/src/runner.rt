@@ -2,23 +2,23 @@
 
 ghost use Rattle.std.specs.Prelude.{◌≡◌, ◌<◌, ◌≤◌, ◌+◌, ◌++◌, ◌∷◌, [], ℕ, List, IfOk, OnOk, length};
 ghost use Rattle.std.specs.List.{All};
-ghost use Rattle.pfs_course.specs.Ahead.{ahead_of, block_at};
-ghost use Rattle.pfs_course.specs.Course.{numbered};
+ghost use Rattle.pfs_law_script.specs.BlocksAhead.{ahead_of, block_at};
+ghost use Rattle.pfs_law_script.specs.Course.{numbered};
 ghost use Rattle.pfs_journal.specs.Reports.{IsText};
-ghost use Rattle.pfs_reportable.specs.Reportable.{IsNamedTable};
+ghost use Rattle.pfs_law_report.specs.ReportableRuns.{IsNamedTable};
 ghost use Rattle.pfs_script.specs.Scripts.{IsScript};
 ghost use Rattle.pfs_script.specs.declared.blocks.Block.{Block as Said};
 ghost use Rattle.pfs_script.specs.declared.blocks.Phase.{Phase as SaidPhase};
-ghost use Rattle.pfs_run.specs.Along.{IsAlong};
+ghost use Rattle.pfs_run.specs.RunPositions.{IsAlong};
 
 use crate::NoMemory;
 use crate::seats::{empty_seats, keep_seat, take_seat};
 use pfs_admin::{Admin, opening_flags};
 use pfs_blocks::play_block;
 use pfs_classes::Setting;
-use pfs_ends::{LostEvents, count_lost};
 use pfs_finals::{LostCounters, final_tables, lost_rows};
 use pfs_journal::{AnswerList, BlockList, BlockReport, EntryList, PhaseParts, PhaseReport};
+use pfs_law_report::{LostEvents, count_lost};
 use pfs_levels::{PlainRows, Rows};
 use pfs_matching::Objects;
 use pfs_play::written_cost;
@@ -53,7 +53,7 @@ impl Runner {
             (⟦<PlainRows as Rows>⟧.words runner.rows) runner.admin
             runner.seats.items runner.lost runner.phases.items runner.blocks.items) }
     {
-        pfs_course::laws::no_course();
+        pfs_law_script::runs::no_course();
         let objects = Objects::open(alloc)?;
         let flags = opening_flags(alloc, setting, &objects)?;
         Ok(Runner {
@@ -97,11 +97,11 @@ impl Runner {
             (⟦<PlainRows as Rows>⟧.words self.new.rows) self.new.admin
             self.new.seats.items self.new.lost self.new.phases.items self.new.blocks.items) }
     {
-        pfs_playable::laws::playable();
-        pfs_playable::laws::few();
-        pfs_playable::laws::actions();
-        pfs_playable::laws::lines();
-        pfs_playable::laws::named();
+        pfs_law_script::blocks::playable();
+        pfs_law_script::blocks::few();
+        pfs_law_script::blocks::actions();
+        pfs_law_script::blocks::lines();
+        pfs_law_script::blocks::named();
         let mut session = take_seat(self.alloc, setting, phases, &mut self.seats, block.session)?;
         let cost = written_cost(self.alloc, block.lines.as_slice())?;
         session.reserve(AT_ENDS + cost)?;
@@ -151,8 +151,8 @@ impl Runner {
             (⟦<PlainRows as Rows>⟧.words self.new.rows) self.new.admin
             self.new.seats.items self.new.lost self.new.phases.items self.new.blocks.items) }
     {
-        pfs_reportable::laws::tables();
-        pfs_reportable::laws::blocks();
+        pfs_law_report::report_values::tables();
+        pfs_law_report::report_values::blocks();
         let number = self.phases.len() as u64 + 1;
         let tables = final_tables(self.alloc, setting, &mut self.rows)?;
         let lost = lost_rows(self.alloc, setting, &self.counters())?;

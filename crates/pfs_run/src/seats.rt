@@ -1,9 +1,9 @@
 //! The sessions of a run between their blocks.
 
 ghost use Rattle.std.specs.Prelude.{◌≡◌, ◌<◌, ◌≤◌, ◌-◌, ◌^◌, ◌==◌, filter, IfOk, OnOk, None, Some, length, replicate, slice_set};
-ghost use Rattle.pfs_playable.specs.Playable.{lines_among};
+ghost use Rattle.pfs_law_script.specs.PlayableBlocks.{lines_among};
 ghost use Rattle.pfs_script.specs.declared.blocks.Block.{Block as Said};
-ghost use Rattle.pfs_run.specs.Along.{GoesOn, depth_of, seat_of};
+ghost use Rattle.pfs_run.specs.RunPositions.{GoesOn, depth_of, seat_of};
 
 use crate::NoMemory;
 use pfs_classes::Setting;

@@ -1,3 +1,3 @@
-mod Examples
-mod Worked
-mod WorkedAnswers
+mod ScriptExamples
+mod RunExamples
+mod SelectExamples

@@ -1,24 +1,24 @@
 -- The actions of a run by their labels, and what the administration, as the fold of the actions before, asks of each.
 use Rattle.std.specs.Prelude.{ℕ, zero, suc, ◌≡◌, ◌+◌, ◌-◌, List, length, take, slice_get, Option, Some, None}
-use Rattle.pfs_admin.specs.Asks.{work_of_connect, work_of_quit, placed_of}
+use Rattle.pfs_admin.specs.ConnectionAsks.{work_of_connect, work_of_quit, placed_of}
 use Rattle.pfs_admin.specs.Fold.{state_of}
-use Rattle.pfs_admin.specs.Opening.{opening_flags}
-use Rattle.pfs_admin.specs.Setups.{reply_to, work_of_statement}
-use Rattle.pfs_admin.specs.States.{State, seat_at}
+use Rattle.pfs_admin.specs.OpeningState.{opening_flags}
+use Rattle.pfs_admin.specs.SetupStatements.{reply_to, work_of_statement}
+use Rattle.pfs_admin.specs.AdministrationStates.{State, seat_at}
 use Rattle.pfs_admin.specs.Truncations.{work_of_truncation}
 use Rattle.pfs_admin.specs.Works.{Work, no_work}
 use Rattle.pfs_admin.specs.declared.changes.Change.{Change}
 use Rattle.pfs_admin.specs.declared.changes.Change.TheVariants.{Connect, Quit, Truncate, Setup}
-use Rattle.pfs_asked.specs.Asking.{answer_by, asked_by, no_rows, rooms_of}
-use Rattle.pfs_asked.specs.Whole.{no_rooms, signed_words}
+use Rattle.pfs_law_session.specs.Demands.{answer_by, asked_by, no_rows, rooms_of}
+use Rattle.pfs_law_session.specs.Orders.{no_rooms, signed_words}
 use Rattle.pfs_board.specs.declared.view.Label.{Label}
 use Rattle.pfs_classes.specs.declared.setting.Setting.{Setting}
 use Rattle.pfs_matching.specs.ObjectRules.{opening_objects}
 use Rattle.pfs_model.specs.Actions.{numbers_by}
-use Rattle.pfs_model.specs.Asked.{Asked, Answer, Rooms}
+use Rattle.pfs_model.specs.ActionAsks.{Asked, Answer, Rooms}
 use Rattle.pfs_model.specs.Chains.{action_change, each_of}
 use Rattle.pfs_model.specs.Contents.{Facts}
-use Rattle.pfs_model.specs.Places.{Placed}
+use Rattle.pfs_model.specs.EntryPlaces.{Placed}
 use Rattle.pfs_model.specs.declared.changes.Change.{Change as Numbered}
 use Rattle.pfs_runs.specs.Rules.{Terms}
 use Rattle.std.specs.List.{slice_index_or}

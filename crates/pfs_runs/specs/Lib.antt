@@ -1,9 +1,9 @@
 pub mod Rules
 pub mod Labels
-pub mod Lines
-pub mod Finals
-pub mod Answers
+pub mod ScriptLines
+pub mod PhaseFinals
+pub mod SelectAnswers
 pub mod Runs
-pub mod Examples
-pub mod Worked
-pub mod WorkedAnswers
+pub mod ScriptExamples
+pub mod RunExamples
+pub mod SelectExamples

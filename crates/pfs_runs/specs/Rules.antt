@@ -1,16 +1,16 @@
 -- What holds of the journals of all sessions of a run, rule by rule.
 use Rattle.std.specs.Prelude.{ℕ, ◌<◌, Bool, List, Option}
 use Rattle.pfs_model.specs.Actions.{settings_of}
-use Rattle.pfs_model.specs.Asked.{Asked, Answer, Rooms, AreAnswered, DoAsAsked}
+use Rattle.pfs_model.specs.ActionAsks.{Asked, Answer, Rooms, AreAnswered, DoAsAsked}
 use Rattle.pfs_model.specs.Causes.{AreCaused}
 use Rattle.pfs_model.specs.Contents.{Facts, Given, AreContents, AreFoundAsCounted}
 use Rattle.pfs_model.specs.Contexts.{fresh}
 use Rattle.pfs_model.specs.Floors.{AreThere}
-use Rattle.pfs_model.specs.Numbers.{AreNumbered}
-use Rattle.pfs_model.specs.Places.{Block, Placed, places, told_by, IsShaped}
-use Rattle.pfs_model.specs.Plain.{AreJoint}
+use Rattle.pfs_model.specs.EventNumbers.{AreNumbered}
+use Rattle.pfs_model.specs.EntryPlaces.{Block, Placed, places, told_by, IsShaped}
+use Rattle.pfs_model.specs.PlainAgreement.{AreJoint}
 use Rattle.pfs_model.specs.Rings.{AreTickets, LongRises}
-use Rattle.pfs_model.specs.Setups.{AreJudged, flags_at}
+use Rattle.pfs_model.specs.SetupFlags.{AreJudged, flags_at}
 
 -- What the rules go by beside the journals: how many statements may be open one in another; the flags of the switch
 -- words at first; of each action, by its number, what it asks for, where a connect finds room, what it is answered and

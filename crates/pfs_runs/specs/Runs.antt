@@ -6,16 +6,16 @@ use Rattle.pfs_event.specs.declared.entry.Entry.{Entry}
 use Rattle.pfs_journal.specs.declared.blocks.BlockReport.{BlockReport}
 use Rattle.pfs_journal.specs.declared.report.PhaseParts.{PhaseParts}
 use Rattle.pfs_journal.specs.declared.report.ReportParts.{ReportParts}
-use Rattle.pfs_model.specs.Journals.{joined}
-use Rattle.pfs_model.specs.Places.{Block, places, up_to_phase}
-use Rattle.pfs_model.specs.Plain.{IsPlain}
+use Rattle.pfs_model.specs.JournalCuts.{joined}
+use Rattle.pfs_model.specs.EntryPlaces.{Block, places, up_to_phase}
+use Rattle.pfs_model.specs.PlainAgreement.{IsPlain}
 use Rattle.pfs_model.specs.Puts.{AreBrought}
 use Rattle.pfs_script.specs.declared.blocks.Block.{Block as Said}
 use Rattle.pfs_script.specs.declared.blocks.Phase.{Phase}
-use Rattle.pfs_runs.specs.Answers.{Answer, Selection, AreAnswers, IsAnswered, selections_in}
-use Rattle.pfs_runs.specs.Finals.{IsFinal}
+use Rattle.pfs_runs.specs.SelectAnswers.{Answer, Selection, AreAnswers, IsAnswered, selections_in}
+use Rattle.pfs_runs.specs.PhaseFinals.{IsFinal}
 use Rattle.pfs_runs.specs.Labels.{AreLabels, before_action, terms_of}
-use Rattle.pfs_runs.specs.Lines.{lines_in, change_in, facts_in}
+use Rattle.pfs_runs.specs.ScriptLines.{lines_in, change_in, facts_in}
 use Rattle.pfs_runs.specs.Rules.{AreRules, flags_by}
 
 -- A block of a report is that of the script: of the same session, its journal cut by the block's lines.

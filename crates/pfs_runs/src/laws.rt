@@ -1,8 +1,8 @@
 //! Laws of the definitions.
 
-ghost use Rattle.pfs_runs.specs.Examples.{WorkedScript};
-ghost use Rattle.pfs_runs.specs.Worked.{WorkedBlocks, WorkedEnds};
-ghost use Rattle.pfs_runs.specs.WorkedAnswers.{WorkedAnswers};
+ghost use Rattle.pfs_runs.specs.ScriptExamples.{WorkedScript};
+ghost use Rattle.pfs_runs.specs.RunExamples.{WorkedBlocks, WorkedEnds};
+ghost use Rattle.pfs_runs.specs.SelectExamples.{WorkedAnswers};
 
 /// A script of two sessions and two phases, worked: which lines its journals go by, what each action is, and the facts
 /// of its event.

@@ -3,14 +3,14 @@ use Rattle.std.proofs.Common.{ℕ, ◌≡◌, ◌+◌, ◌<◌, ◌⊎◌, inl, 
 use Rattle.pfs_script.specs.declared.forms.Form.{Form}
 use Rattle.pfs_script.specs.declared.reasons.Reason.{Reason}
 use Rattle.pfs_script.specs.declared.reasons.Reason.TheVariants.{OutOfPlace}
-use Rattle.pfs_script.specs.Counts.{is_in_repeat}
-use Rattle.pfs_script.specs.Next.{next}
+use Rattle.pfs_script.specs.LineCounts.{is_in_repeat}
+use Rattle.pfs_script.specs.Reasons.{next}
 use Rattle.pfs_script.specs.Blocks.{sense_of, phases_of}
 use Rattle.pfs_script.specs.Scripts.{parts_of, Begins, IsText, IsScript, IsFirstFault, IsSetting, AreAlike, IsBad, Fault, lines_from, script_of, open_reason, IsExact}
 use Rattle.pfs_classes.specs.declared.setting.Setting.{Setting}
 use Rattle.pfs_script.specs.declared.blocks.Phase.{Phase}
-use Rattle.pfs_script.proofs.Splits.{some_parts}
-use Rattle.pfs_script.proofs.Steps.{says_line, says_fault, says_all, says_undone, says_open}
+use Rattle.pfs_script.proofs.FirstLines.{some_parts}
+use Rattle.pfs_script.proofs.PassSteps.{says_line, says_fault, says_all, says_undone, says_open}
 
 result_cases : {A B : Type 0} (r : Result A B) → ((x : A) × (r ≡ Ok x)) ⊎ ((y : B) × (r ≡ Err y))
 result_cases (Ok x) = inl (x, refl)

@@ -3,8 +3,8 @@ use Rattle.std.proofs.Common.{◌≡◌, [], ◌∷◌, ◌++◌, true, false, r
 use Rattle.std.specs.Prelude.{Some, None, Ok, Err}
 use Rattle.pfs_classes.specs.declared.kind.Kind.TheVariants.{Mutex}
 use Rattle.pfs_classes.specs.Kinds.{kind_of}
-use Rattle.pfs_script.specs.Numbers.{is_numeral, number_of}
-use Rattle.pfs_script.specs.Words.{word_of, rest_of, is_word, switch_of, switches_of}
+use Rattle.pfs_script.specs.Numerals.{is_numeral, number_of}
+use Rattle.pfs_script.specs.ScriptWords.{word_of, rest_of, is_word, switch_of, switches_of}
 use Rattle.pfs_script.specs.declared.forms.Form.TheVariants.{Silent, Limit, Class, Statement, Stage, Spend}
 use Rattle.pfs_script.specs.declared.reasons.Reason.TheVariants.{BadByte, BadForm}
 use Rattle.pfs_script.specs.Forms.{is_silent, limit_form, class_kind_of, class_form, start_class, start_class_with, start_form, stage_form, spend_form, block_form, long_form, words_form, form}

@@ -13,13 +13,13 @@ use Rattle.pfs_classes.specs.declared.kind.Kind.{Kind}
 use Rattle.pfs_classes.specs.declared.classes.ClassRef.{ClassRef}
 use Rattle.pfs_classes.specs.Registry.{is_given, RefersTo, registered}
 use Rattle.pfs_classes.specs.Builtins.{Row, builtins, builtin_of}
-use Rattle.pfs_names.specs.Interning.{Interns, id_of, interned}
+use Rattle.pfs_names.specs.InternedTexts.{Interns, id_of, interned}
 use Rattle.pfs_script.specs.declared.forms.Form.{Form}
 use Rattle.pfs_script.specs.declared.forms.Form.TheVariants as form
 use Rattle.pfs_script.specs.Headings.{Naming, Head, IsSound, count_named, ref_of, resolved, is_class_named, is_builtin, is_known, naming_behind, naming_under, naming_of, limits_of, with_class, with_flags_like, head_of}
 use Rattle.pfs_script.proofs.CountLemmas.{count-registered, count-flags, ref-counted, ref-none, ref-found}
-use Rattle.pfs_script.proofs.NameLemmas.{contains_from_any, any_from_contains, interns, id_within, id_absent, id_pushed}
-use Rattle.pfs_script.proofs.BaseLemmas.{builtin_names, names-builtin, count-builtin}
+use Rattle.pfs_script.proofs.NameIds.{contains_from_any, any_from_contains, interns, id_within, id_absent, id_pushed}
+use Rattle.pfs_script.proofs.BuiltinNames.{builtin_names, names-builtin, count-builtin}
 
 -- the names are those known, and each stands for something
 pub record Knows (naming : Naming) (known : List ℕ → Bool) : Type 0 where

@@ -1,46 +1,46 @@
-pub mod AppearanceLemmas
-pub mod BaseLemmas
-pub mod Behind
-pub mod BlockNesting
+mod AppearanceLemmas
+pub mod BuiltinNames
+pub mod LinesBehind
+pub mod BlockNests
 pub mod CountLemmas
-pub mod Counting
-pub mod Clean
-pub mod Coursing
-pub mod Drafting
-pub mod EventExamples
+mod ReaderCounts
+mod CleanBytes
+pub mod SessionCourses
+mod DraftSteps
+mod EventExamples
 pub mod EventLemmas
 pub mod Exactness
-pub mod Faultless
-pub mod Finding
-pub mod FormExamples
-pub mod FormLemmas
-pub mod Fronting
-pub mod HeadLemmas
-pub mod Knowing
-pub mod NamedLemmas
-pub mod NameLemmas
-pub mod Listing
+pub mod FaultlessLines
+pub mod NextFinds
+mod FormExamples
+mod FormLemmas
+mod ScriptFronts
+mod HeadLemmas
+mod KnownLines
+mod SettingNames
+pub mod NameIds
+pub mod AppearanceOrder
 pub mod TextPlaces
-pub mod ListingExamples
-pub mod NamingLemmas
-pub mod Nesting
-pub mod NestingExamples
-pub mod NumberLemmas
-pub mod Opening
-pub mod PassLemmas
-pub mod ReadingExamples
-pub mod ReferLemmas
-pub mod RegisterLemmas
-pub mod SessionNaming
-pub mod SessionNesting
-pub mod SetLemmas
-pub mod Placing
-pub mod Shown
-pub mod Settling
-pub mod Splits
-pub mod Standing
-pub mod Steps
-pub mod Taking
-pub mod Totalling
-pub mod Turns
-pub mod Writing
+mod AppearanceExamples
+mod InternedNames
+pub mod MarkNests
+mod NestExamples
+mod NumberLemmas
+mod OpenKinds
+pub mod HeadPasses
+mod ReadingExamples
+pub mod NameReferences
+mod RegisterLemmas
+pub mod SessionNames
+mod SessionNests
+mod FlagChanges
+mod TestPlaces
+mod StatementDigests
+mod StableLines
+pub mod FirstLines
+mod ReaderSteps
+pub mod PassSteps
+mod HeadLines
+mod RunningTotals
+pub mod SessionTurns
+pub mod WrittenLengths

@@ -5,7 +5,7 @@ use Rattle.std.specs.List.{list_all}
 use Rattle.std.specs.Str.Parse.{AllDigits, IsNumeral, digits_value}
 use Rattle.std.proofs.lemmas.Bool.Decides.{nat_tests}
 use Rattle.pfs_lemmas.proofs.Bools.{and_first, and_second}
-use Rattle.pfs_script.specs.Numbers.{is_digit, is_numeral, number_below, number_of}
+use Rattle.pfs_script.specs.Numerals.{is_digit, is_numeral, number_below, number_of}
 
 all_digits : (text : List ℕ) → list_all is_digit text ≡ true → AllDigits 10 text
 all_digits [] h = tt

@@ -8,13 +8,13 @@ use Rattle.pfs_script.specs.declared.forms.Form.TheVariants as form
 use Rattle.pfs_script.specs.declared.reasons.Reason.TheVariants.{OutOfPlace, BadSession, UnknownName, BadNesting, TooLong}
 use Rattle.pfs_script.specs.declared.blocks.BlockLine.TheVariants as said
 use Rattle.pfs_script.specs.Brackets.{closing_from, brackets_from}
-use Rattle.pfs_script.specs.Commands.{begins_with, command_of}
-use Rattle.pfs_script.specs.Counts.{behind_last, ahead_of_last, counted}
+use Rattle.pfs_script.specs.CommandFronts.{begins_with, command_of}
+use Rattle.pfs_script.specs.LineCounts.{behind_last, ahead_of_last, counted}
 use Rattle.pfs_script.specs.declared.blocks.Connect.{Connect}
 use Rattle.pfs_script.specs.Headings.{named_limit}
 use Rattle.pfs_script.specs.Finds.{tables_of}
 use Rattle.pfs_script.specs.Sessions.{session_now, lines_in}
-use Rattle.pfs_script.specs.Next.{one_each, weight_of, sql_weight, kinds_open, is_too_much, fault_of}
+use Rattle.pfs_script.specs.Reasons.{one_each, weight_of, sql_weight, kinds_open, is_too_much, fault_of}
 use Rattle.pfs_script.specs.Blocks.{Sense, block_lines, blocks_of}
 
 abbrev connect : ℕ → Form

@@ -8,7 +8,7 @@ use Rattle.std.proofs.lemmas.Bool.Decides.{nat_tests}
 use Rattle.std.proofs.lemmas.List.Elements.{Contains-push_cases}
 use Rattle.std.proofs.lemmas.Str.{IsUtf8-from_ascii}
 use Rattle.std.proofs.lemmas.Option.{slice_get_within}
-use Rattle.pfs_names.specs.Interning.{AreNames, Interns, id_of, interned}
+use Rattle.pfs_names.specs.InternedTexts.{AreNames, Interns, id_of, interned}
 use Rattle.pfs_classes.specs.declared.kind.Kind.{Kind}
 use Rattle.pfs_classes.specs.declared.kind.Kind.TheVariants.{Mutex}
 use Rattle.pfs_classes.specs.Kinds.{kind_name, is_part_byte, is_part, Fits}
@@ -18,8 +18,8 @@ use Rattle.pfs_classes.specs.Registry.{Registry, registered}
 use Rattle.pfs_classes.specs.Settings.{ComesFrom}
 use Rattle.pfs_script.specs.Headings.{Head, IsSound, count_named, ref_of, resolved, with_class, naming_in, head_with}
 use Rattle.pfs_script.proofs.CountLemmas.{count-registered, ref-counted}
-use Rattle.pfs_script.proofs.NameLemmas.{interned_is, id_is, id_pushed}
-use Rattle.pfs_script.proofs.BaseLemmas.{limits-registered, is_low, ascii_from}
+use Rattle.pfs_script.proofs.NameIds.{interned_is, id_is, id_pushed}
+use Rattle.pfs_script.proofs.BuiltinNames.{limits-registered, is_low, ascii_from}
 use Rattle.pfs_script.proofs.HeadLemmas.{uncounted, length_push}
 
 none_counted : (r : Registry) (id : ℕ) → ref_of r id ≡ None → count_named r id ≡ 0

@@ -8,7 +8,7 @@ use Rattle.pfs_lexer.specs.declared.tokens.LexFault.{LexFault}
 use Rattle.pfs_script.specs.declared.forms.Form.{Form}
 use Rattle.pfs_script.specs.Finds.{digest_place, digests_of, has_text, of_text, place_of}
 use Rattle.pfs_script.specs.Headings.{limits_of}
-use Rattle.pfs_script.proofs.Listing.{are_digests}
+use Rattle.pfs_script.proofs.AppearanceOrder.{are_digests}
 
 module _ (texts : List DigestText) (most : ℕ) (few : length texts ≤ most) where
   below : (shown : List ℕ) (place : ℕ) → position (has_text shown) texts ≡ Some place → place < most

@@ -3,7 +3,7 @@
 use Rattle.std.specs.Prelude.{ℕ, zero, suc, ◌≡◌, ◌+◌, ◌==◌, Bool, true, false, not, if◌then◌else◌, List, [], ◌∷◌, ◌++◌, map, filter, reverse, drop, Option, Some, None, is_some}
 use Rattle.pfs_event.specs.declared.kind.EventKind.{EventKind}
 use Rattle.pfs_event.specs.declared.kind.EventKind.TheVariants.{Wait, Stage, Statement, Transaction}
-use Rattle.pfs_event.specs.Order.{may_start}
+use Rattle.pfs_event.specs.StartOrder.{may_start}
 use Rattle.pfs_script.specs.Marks.{Mark, Opens, Ends, EndsStage, Passes}
 
 -- how many events other than stages are open between an event and a mark: a stage doesn't count, for what ends its

@@ -12,7 +12,7 @@ use Rattle.pfs_script.specs.declared.drafts.Drafts.{Drafts}
 use Rattle.pfs_script.specs.declared.forms.Form.{Form}
 use Rattle.pfs_script.specs.Blocks.{Sense, with_front, with_phase, block_lines, blocks_of, phases_of}
 use Rattle.pfs_script.specs.SessionNames.{connect_of}
-use Rattle.pfs_names.specs.Interning.{interned}
+use Rattle.pfs_names.specs.InternedTexts.{interned}
 
 -- an owner by ids
 abbrev pub owner_named : List (List ℕ) → Owner → Connect

@@ -5,7 +5,7 @@ use Rattle.std.specs.Result.{result_ok}
 use Rattle.std.specs.Str.{bytes_eq}
 use Rattle.pfs_lexer.specs.declared.tokens.LexFault.{LexFault}
 use Rattle.pfs_lexer.specs.declared.tokens.Token.{Token}
-use Rattle.pfs_lexer.specs.Items.{items_of}
+use Rattle.pfs_lexer.specs.TextItems.{items_of}
 use Rattle.pfs_digest.specs.Digest.{digest_text_of}
 use Rattle.pfs_classes.specs.declared.setting.TableName.{TableName}
 use Rattle.pfs_classes.specs.declared.setting.DigestText.{DigestText}

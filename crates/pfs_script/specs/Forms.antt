@@ -5,8 +5,8 @@ use Rattle.std.specs.Str.{bytes_eq}
 use Rattle.pfs_classes.specs.declared.kind.Kind.{Kind}
 use Rattle.pfs_classes.specs.declared.kind.Kind.TheVariants.{Mutex, Rwlock, Cond, File, Socket, TableIo, TableLock, Stage as KindStage, Statement as KindStatement}
 use Rattle.pfs_classes.specs.Kinds.{Fits, kind_of}
-use Rattle.pfs_script.specs.Numbers.{number_of, numbers_of}
-use Rattle.pfs_script.specs.Words.{is_script_byte, word_of, rest_of, schema_of, table_of, is_word, is_name, is_table_name, switch_of, switches_of}
+use Rattle.pfs_script.specs.Numerals.{number_of, numbers_of}
+use Rattle.pfs_script.specs.ScriptWords.{is_script_byte, word_of, rest_of, schema_of, table_of, is_word, is_name, is_table_name, switch_of, switches_of}
 use Rattle.pfs_script.specs.declared.words.Switches.{Switches}
 use Rattle.pfs_script.specs.declared.blocks.Access.TheVariants.{ReadWrite, ReadOnly}
 use Rattle.pfs_script.specs.declared.forms.Form.{Form}

@@ -16,7 +16,7 @@ use Rattle.pfs_classes.specs.declared.classes.ClassRef.{ClassRef}
 use Rattle.pfs_classes.specs.declared.classes.ClassRef.TheVariants as refs
 use Rattle.pfs_classes.specs.Kinds.{Fits, is_fixed}
 use Rattle.pfs_classes.specs.Registry.{Registry, registered, text_of}
-use Rattle.pfs_names.specs.Interning.{id_of, interned}
+use Rattle.pfs_names.specs.InternedTexts.{id_of, interned}
 use Rattle.pfs_classes.specs.Builtins.{builtins, with_builtins, builtin_of}
 use Rattle.pfs_classes.specs.Settings.{ComesFrom}
 use Rattle.pfs_text.specs.Likes.{is_like}

@@ -6,12 +6,12 @@ use Rattle.pfs_script.specs.declared.blocks.Phase.{Phase}
 use Rattle.pfs_script.specs.declared.forms.Form.{Form}
 use Rattle.pfs_script.specs.declared.reasons.Reason.{Reason}
 use Rattle.pfs_script.specs.declared.reasons.Reason.TheVariants.{BadByte, OpenLine, OutOfPlace}
-use Rattle.pfs_script.specs.Words.{is_script_byte}
+use Rattle.pfs_script.specs.ScriptWords.{is_script_byte}
 use Rattle.pfs_script.specs.Headings.{head_of, limits_of}
 use Rattle.pfs_script.specs.SessionNames.{names_of}
 use Rattle.pfs_script.specs.Finds.{tables_of, digests_of}
-use Rattle.pfs_script.specs.Counts.{is_in_repeat}
-use Rattle.pfs_script.specs.Next.{next}
+use Rattle.pfs_script.specs.LineCounts.{is_in_repeat}
+use Rattle.pfs_script.specs.Reasons.{next}
 use Rattle.pfs_script.specs.Blocks.{sense_of, phases_of}
 
 -- the lines, each without its line feed, and what stands behind the last line feed

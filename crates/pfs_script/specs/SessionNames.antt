@@ -1,7 +1,7 @@
 -- The names of a script: those of its classes, and behind them those of its users and hosts.
 use Rattle.std.specs.Prelude.{ℕ, List}
 use Rattle.std.specs.List.{fold}
-use Rattle.pfs_names.specs.Interning.{id_of, interned}
+use Rattle.pfs_names.specs.InternedTexts.{id_of, interned}
 use Rattle.pfs_script.specs.declared.blocks.Connect.{Connect}
 use Rattle.pfs_script.specs.declared.forms.Form.{Form}
 use Rattle.pfs_script.specs.declared.forms.Form.TheVariants as form

@@ -2,7 +2,7 @@
 use Rattle.std.specs.Prelude.{ℕ, ◌==◌, ◌&&◌, ◌||◌, Bool, true, false, not, if◌then◌else◌, List, [], ◌∷◌, ◌++◌, Some, unwrap_or}
 use Rattle.std.specs.List.{list_any, fold}
 use Rattle.pfs_script.specs.declared.forms.Form.{Form}
-use Rattle.pfs_script.specs.Counts.{behind_last}
+use Rattle.pfs_script.specs.LineCounts.{behind_last}
 use Rattle.pfs_script.specs.declared.forms.Form.TheVariants as form
 
 abbrev pub is_phase : Form → Bool

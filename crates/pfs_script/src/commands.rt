@@ -1,8 +1,8 @@
 //! What kind of SQL command a text is, as far as its weight goes.
 
 ghost use Rattle.std.specs.Prelude.{◌≡◌, ◌≤◌, position, codes};
-ghost use Rattle.pfs_script.specs.Commands.{is_solid, command_of, begins_with};
-ghost use Rattle.pfs_script.specs.Next.{sql_weight};
+ghost use Rattle.pfs_script.specs.CommandFronts.{is_solid, command_of, begins_with};
+ghost use Rattle.pfs_script.specs.Reasons.{sql_weight};
 
 fn first_solid(text: &[u8]) -> Option<usize>
     ensures { result ≡ position is_solid text.now }
@@ -11,7 +11,7 @@ fn first_solid(text: &[u8]) -> Option<usize>
 }
 
 /// The command behind the spaces and tabs before it.
-#[tactic(auto, unfolding(crate::specs::Commands::command_of))]
+#[tactic(auto, unfolding(crate::specs::CommandFronts::command_of))]
 fn command(text: &[u8]) -> &[u8]
     ensures { result.now ≡ command_of text.now }
 {
@@ -22,7 +22,7 @@ fn command(text: &[u8]) -> &[u8]
 }
 
 /// Whether the command begins with these letters, in any case.
-#[tactic(auto, unfolding(crate::specs::Commands::begins_with))]
+#[tactic(auto, unfolding(crate::specs::CommandFronts::begins_with))]
 fn begins_with(letters: &[u8], text: &[u8]) -> bool
     ensures { result ≡ begins_with letters.now text.now }
 {

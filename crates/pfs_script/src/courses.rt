@@ -4,9 +4,9 @@ ghost use Rattle.std.specs.Prelude.{◌≡◌, ◌<◌, ◌^◌, ◌&&◌, ◌||
 ghost use Rattle.std.specs.List.{list_any};
 ghost use Rattle.pfs_script.specs.declared.forms.Form.{Form};
 ghost use Rattle.pfs_script.specs.Sessions.{is_block_of, phase_of, has_quit};
-ghost use Rattle.pfs_script.specs.Next.{is_bad_number, is_bad_session, is_bad_nesting, is_out_of_place, is_blockless, kinds_open, same_kinds};
-ghost use Rattle.pfs_script.specs.Counts.{ahead_of_last, is_repeat, is_in_repeat};
-ghost use Rattle.pfs_script.specs.Places.{KnowsCourse, state_at, no_session, kinds_in};
+ghost use Rattle.pfs_script.specs.Reasons.{is_bad_number, is_bad_session, is_bad_nesting, is_out_of_place, is_blockless, kinds_open, same_kinds};
+ghost use Rattle.pfs_script.specs.LineCounts.{ahead_of_last, is_repeat, is_in_repeat};
+ghost use Rattle.pfs_script.specs.ReaderState.{KnowsCourse, state_at, no_session, kinds_in};
 
 use crate::forms::Form;
 use crate::open_kinds::{OpenKinds, SessionState, no_session};

@@ -4,8 +4,8 @@ ghost use Rattle.std.specs.Prelude.{◌≡◌, [], false, nat_lt, length, positi
 ghost use Rattle.std.specs.Result.{result_ok};
 ghost use Rattle.pfs_lexer.specs.declared.tokens.LexFault.{LexFault};
 ghost use Rattle.pfs_script.specs.Finds.{shown_of, is_table, table_number, with_table, has_text, place_of, add_digest, with_digest};
-ghost use Rattle.pfs_script.specs.Next.{is_bad_statement};
-ghost use Rattle.pfs_script.specs.Sensing.{number_in, IsFound};
+ghost use Rattle.pfs_script.specs.Reasons.{is_bad_statement};
+ghost use Rattle.pfs_script.specs.Senses.{number_in, IsFound};
 ghost use Rattle.pfs_script.specs.declared.forms.Form.TheVariants as form;
 
 use crate::forms::Form;

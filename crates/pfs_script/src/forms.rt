@@ -2,7 +2,7 @@
 
 ghost use Rattle.std.specs.Prelude.{◌≡◌, IfOk, true};
 ghost use Rattle.std.specs.List.{list_all};
-ghost use Rattle.pfs_script.specs.Words.{is_script_byte};
+ghost use Rattle.pfs_script.specs.ScriptWords.{is_script_byte};
 ghost use Rattle.pfs_script.specs.Forms.{is_silent, words_form, form, bare_form, long_form, block_form, HasItsKind};
 
 use crate::block_lines::{parse_end, parse_repeat, parse_session, parse_spend, parse_sql};

@@ -6,8 +6,8 @@ ghost use Rattle.pfs_rows.specs.declared.limits.Limit.{Limit};
 ghost use Rattle.pfs_rows.specs.Limits.{order_of};
 ghost use Rattle.pfs_script.specs.declared.forms.Form.{Form};
 ghost use Rattle.pfs_script.specs.Headings.{is_before_limits};
-ghost use Rattle.pfs_script.specs.Next.{is_bad_limit, is_within, same_limit, gives};
-ghost use Rattle.pfs_script.specs.Places.{KnowsFront};
+ghost use Rattle.pfs_script.specs.Reasons.{is_bad_limit, is_within, same_limit, gives};
+ghost use Rattle.pfs_script.specs.ReaderState.{KnowsFront};
 
 use crate::forms::Form;
 use crate::heading::find_limit;

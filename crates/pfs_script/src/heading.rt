@@ -7,7 +7,7 @@ ghost use Rattle.pfs_classes.specs.Kinds.{Fits, is_fixed};
 ghost use Rattle.pfs_classes.specs.Registry.{is_given, registered, text_of};
 ghost use Rattle.pfs_classes.specs.Settings.{ComesFrom};
 ghost use Rattle.std.specs.List.{fold};
-ghost use Rattle.pfs_names.specs.Interning.{id_of, interned};
+ghost use Rattle.pfs_names.specs.InternedTexts.{id_of, interned};
 ghost use Rattle.pfs_script.specs.SessionNames.{head_named};
 ghost use Rattle.pfs_script.specs.Drafts.{with_owner};
 ghost use Rattle.pfs_script.specs.declared.forms.Form.{Form};

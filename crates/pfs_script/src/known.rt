@@ -1,7 +1,7 @@
 //! The lines behind the first phase, each read once: the same line again is known by its bytes.
 
 ghost use Rattle.std.specs.Prelude.{◌≡◌, ◌<◌, ◌&&◌, ◌||◌, ◌++◌, ◌∷◌, [], nat_lt, length, slice_get, true, IfSome, Some, OnOk};
-ghost use Rattle.pfs_script.specs.Known.{IsAt};
+ghost use Rattle.pfs_script.specs.KnownLines.{IsAt};
 
 use crate::forms::Form;
 use crate::texts::Text;

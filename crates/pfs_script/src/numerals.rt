@@ -2,7 +2,7 @@
 
 ghost use Rattle.std.specs.Prelude.{◌≡◌};
 ghost use Rattle.std.specs.List.{list_all};
-ghost use Rattle.pfs_script.specs.Numbers.{is_digit, is_numeral, number_of, first_of, numbers_of};
+ghost use Rattle.pfs_script.specs.Numerals.{is_digit, is_numeral, number_of, first_of, numbers_of};
 
 use crate::forms::{Number, Numbers};
 use crate::texts::Text;
@@ -21,7 +21,7 @@ fn all_digits(text: &[u8]) -> bool
     text.iter().all(|byte| is_digit(*byte))
 }
 
-#[tactic(auto, unfolding(crate::specs::Numbers::is_numeral))]
+#[tactic(auto, unfolding(crate::specs::Numerals::is_numeral))]
 fn is_numeral(text: &[u8]) -> bool
     ensures { result ≡ is_numeral text.now }
 {
@@ -29,7 +29,7 @@ fn is_numeral(text: &[u8]) -> bool
 }
 
 /// The number that a word is, where it is one.
-#[tactic(auto, unfolding(crate::specs::Numbers::number_of))]
+#[tactic(auto, unfolding(crate::specs::Numerals::number_of))]
 pub fn parse_number(word: &[u8]) -> Option<Number>
     ensures { result ≡ number_of word.now }
 {
@@ -48,7 +48,7 @@ struct First<'a> {
 }
 
 /// The number that the first word is, where it is one and a space stands behind it.
-#[tactic(auto, unfolding(crate::specs::Numbers::first_of))]
+#[tactic(auto, unfolding(crate::specs::Numerals::first_of))]
 fn parse_first(words: &[u8]) -> Option<First<'_>>
     ensures { result ≡ first_of words.now }
 {
@@ -62,7 +62,7 @@ fn parse_first(words: &[u8]) -> Option<First<'_>>
 }
 
 /// The six numbers that the words are.
-#[tactic(auto, unfolding(crate::specs::Numbers::numbers_of))]
+#[tactic(auto, unfolding(crate::specs::Numerals::numbers_of))]
 pub fn parse_numbers(words: &[u8]) -> Option<Numbers>
     ensures { result ≡ numbers_of words.now }
 {

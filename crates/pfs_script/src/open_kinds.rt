@@ -4,8 +4,8 @@ ghost use Rattle.std.specs.Prelude.{◌≡◌, ◌≤◌, ◌<◌, ◌+◌, ◌^
 ghost use Rattle.pfs_script.specs.Sessions.{is_quit};
 ghost use Rattle.pfs_script.specs.Marks.{Ends};
 ghost use Rattle.pfs_script.specs.Brackets.{innermost, is_in_statement, kinds_behind, may_stand};
-ghost use Rattle.pfs_script.specs.Next.{mark_of_form, same_kinds};
-ghost use Rattle.pfs_script.specs.Places.{kinds_in, no_session};
+ghost use Rattle.pfs_script.specs.Reasons.{mark_of_form, same_kinds};
+ghost use Rattle.pfs_script.specs.ReaderState.{kinds_in, no_session};
 
 use crate::forms::Form;
 

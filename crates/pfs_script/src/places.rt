@@ -3,9 +3,9 @@
 ghost use Rattle.std.specs.Prelude.{◌≡◌, ◌≤◌, List, ◌∷◌, ◌++◌, [], None, is_some};
 ghost use Rattle.pfs_script.specs.declared.forms.Form.{Form};
 ghost use Rattle.pfs_script.specs.Headings.{head_of, resolved};
-ghost use Rattle.pfs_script.specs.Next.{has_bad_number, is_no_count, is_out_of_place, is_bad_number, is_unknown, is_event_class, is_bad_statement, is_table_too_many, fault_of};
-ghost use Rattle.pfs_script.specs.Sensing.{class_in};
-ghost use Rattle.pfs_script.specs.Places.{Knows, KnowsCounted, KnowsFinds};
+ghost use Rattle.pfs_script.specs.Reasons.{has_bad_number, is_no_count, is_out_of_place, is_bad_number, is_unknown, is_event_class, is_bad_statement, is_table_too_many, fault_of};
+ghost use Rattle.pfs_script.specs.Senses.{class_in};
+ghost use Rattle.pfs_script.specs.ReaderState.{Knows, KnowsCounted, KnowsFinds};
 
 use crate::courses::{Course, no_course};
 use crate::finds::Finds;
@@ -46,7 +46,7 @@ impl Place {
 
     /// Why the line, which is counted, may not stand behind the lines so far: the least reason, or none. Its class
     /// may be there, and the lexer may have refused its text.
-    #[tactic(auto, unfolding(crate::specs::Next::fault_of))]
+    #[tactic(auto, unfolding(crate::specs::Reasons::fault_of))]
     pub fn fault(
         &self,
         heading: &Heading,

@@ -4,11 +4,11 @@ ghost use Rattle.std.specs.Prelude.{◌≡◌, ◌+◌, ◌<◌, ◌^◌, List, 
 ghost use Rattle.pfs_script.specs.declared.forms.Form.{Form};
 ghost use Rattle.pfs_script.specs.Forms.{HasItsKind};
 ghost use Rattle.pfs_script.specs.Headings.{resolved};
-ghost use Rattle.pfs_script.specs.Next.{is_bad_statement};
-ghost use Rattle.pfs_script.specs.Sensing.{class_in, IsFound};
-ghost use Rattle.pfs_script.specs.Known.{AreKnown};
+ghost use Rattle.pfs_script.specs.Reasons.{is_bad_statement};
+ghost use Rattle.pfs_script.specs.Senses.{class_in, IsFound};
+ghost use Rattle.pfs_script.specs.KnownLines.{AreKnown};
 ghost use Rattle.pfs_script.specs.Scripts.{parts_of, open_reason};
-ghost use Rattle.pfs_script.specs.Readings.{IsBehind, Takes, Says, Reads, Gives};
+ghost use Rattle.pfs_script.specs.ReaderAnswers.{IsBehind, Takes, Says, Reads, Gives};
 
 use crate::drafts::Drafts;
 use crate::finds::{Finds, Found, is_refused, shown_of};

@@ -3,7 +3,7 @@
 ghost use Rattle.std.specs.Prelude.{◌≡◌, IfOk, option_map, option_and_then};
 ghost use Rattle.pfs_script.specs.declared.blocks.BlockLine.TheVariants as said;
 ghost use Rattle.pfs_script.specs.Blocks.{Sense, statement_numbers, block_line};
-ghost use Rattle.pfs_script.specs.Sensing.{class_in, number_in, IsPlain};
+ghost use Rattle.pfs_script.specs.Senses.{class_in, number_in, IsPlain};
 
 use crate::blocks::{BlockLine, StatementNumbers};
 use crate::forms::{Form, Numbers};

@@ -2,7 +2,7 @@
 
 ghost use Rattle.std.specs.Prelude.{◌≡◌, true};
 ghost use Rattle.std.specs.List.{list_all};
-ghost use Rattle.pfs_script.specs.Words.{is_script_byte};
+ghost use Rattle.pfs_script.specs.ScriptWords.{is_script_byte};
 ghost use Rattle.pfs_script.specs.Forms.{start_form, start_class, start_class_with, start_of_kind, start_of_kind_with, transaction_form, table_wait_form, stage_form};
 
 use crate::blocks::Access;

@@ -2,7 +2,7 @@
 
 ghost use Rattle.std.specs.Prelude.{◌≡◌, ◌==◌, ◌∷◌, [], true, List, ℕ};
 ghost use Rattle.std.specs.List.{list_all};
-ghost use Rattle.pfs_script.specs.Words.{is_script_byte};
+ghost use Rattle.pfs_script.specs.ScriptWords.{is_script_byte};
 ghost use Rattle.std.specs.Cmp.{partial_equiv_from_equiv};
 ghost use Rattle.std.specs.Cmp.Lexicographic.{pointwise, nat_list_eq_equiv, bytes_decides};
 ghost use Rattle.std.proofs.Common.{ap};

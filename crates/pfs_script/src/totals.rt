@@ -2,10 +2,10 @@
 
 ghost use Rattle.std.specs.Prelude.{◌≡◌, ◌≤◌, ◌+◌, ◌-◌, ◌*◌, ◌^◌, min, List, [], if◌then◌else◌};
 ghost use Rattle.pfs_script.specs.declared.forms.Form.{Form};
-ghost use Rattle.pfs_script.specs.Counts.{is_done};
-ghost use Rattle.pfs_script.specs.Next.{is_class, one_select, weight_of};
+ghost use Rattle.pfs_script.specs.LineCounts.{is_done};
+ghost use Rattle.pfs_script.specs.Reasons.{is_class, one_select, weight_of};
 ghost use Rattle.pfs_script.specs.Sessions.{is_phase};
-ghost use Rattle.pfs_script.specs.Places.{KnowsTotals, HasCounted, has_many_lines, has_much, more_with, body_with};
+ghost use Rattle.pfs_script.specs.ReaderState.{KnowsTotals, HasCounted, has_many_lines, has_much, more_with, body_with};
 
 use crate::commands::{is_select, sql_weight};
 use crate::forms::Form;

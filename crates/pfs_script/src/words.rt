@@ -3,7 +3,7 @@
 ghost use Rattle.std.specs.Prelude.{◌≡◌, ◌==◌, length, position, option_map, codes, true, IfSome};
 ghost use Rattle.std.specs.List.{list_all};
 ghost use Rattle.std.specs.Str.{bytes_eq};
-ghost use Rattle.pfs_script.specs.Words.{is_script_byte, is_name_byte, is_table_byte, is_name, is_table_name, is_space, is_dot, is_word, word_of, rest_of, schema_of, table_of, switch_of, switches_of};
+ghost use Rattle.pfs_script.specs.ScriptWords.{is_script_byte, is_name_byte, is_table_byte, is_name, is_table_name, is_space, is_dot, is_word, word_of, rest_of, schema_of, table_of, switch_of, switches_of};
 
 /// Whether a class or the classes of a pattern are enabled, and whether they are timed.
 #[derive(Clone, Copy, Debug, PartialEq, Eq)]
@@ -27,7 +27,7 @@ pub fn is_clean(bytes: &[u8]) -> bool
 }
 
 /// Whether there is a byte at all.
-#[tactic(auto, unfolding(crate::specs::Words::is_word))]
+#[tactic(auto, unfolding(crate::specs::ScriptWords::is_word))]
 pub fn is_word(bytes: &[u8]) -> bool
     ensures { result ≡ is_word bytes.now }
 {
@@ -42,7 +42,7 @@ fn is_name_byte(byte: u8) -> bool
 }
 
 /// Whether these bytes are such a name, of at most so many bytes.
-#[tactic(auto, unfolding(crate::specs::Words::is_name))]
+#[tactic(auto, unfolding(crate::specs::ScriptWords::is_name))]
 pub fn is_name(most: usize, bytes: &[u8]) -> bool
     ensures { result ≡ is_name most bytes.now }
 {
@@ -63,7 +63,7 @@ fn is_table_byte(byte: u8) -> bool
 }
 
 /// Whether these bytes are such a name, of at most 64 bytes.
-#[tactic(auto, unfolding(crate::specs::Words::is_table_name))]
+#[tactic(auto, unfolding(crate::specs::ScriptWords::is_table_name))]
 pub fn is_table_name(bytes: &[u8]) -> bool
     ensures { result ≡ is_table_name bytes.now }
 {
@@ -89,7 +89,7 @@ fn first_dot(bytes: &[u8]) -> Option<usize>
 }
 
 /// The first word, and what stands behind the first space; None where there is no space.
-#[tactic(auto, unfolding(crate::specs::Words::word_of, crate::specs::Words::rest_of))]
+#[tactic(auto, unfolding(crate::specs::ScriptWords::word_of, crate::specs::ScriptWords::rest_of))]
 pub fn split_word(bytes: &[u8]) -> (&[u8], Option<&[u8]>)
     ensures word { result.0.now ≡ word_of bytes.now }
     ensures rest { option_map (λ rest. rest.now) result.1 ≡ rest_of bytes.now }
@@ -103,7 +103,7 @@ pub fn split_word(bytes: &[u8]) -> (&[u8], Option<&[u8]>)
 }
 
 /// The schema, which stands before the first dot, and the name behind it; None where there is no dot.
-#[tactic(auto, unfolding(crate::specs::Words::schema_of, crate::specs::Words::table_of))]
+#[tactic(auto, unfolding(crate::specs::ScriptWords::schema_of, crate::specs::ScriptWords::table_of))]
 pub fn split_table(bytes: &[u8]) -> (&[u8], Option<&[u8]>)
     ensures schema { result.0.now ≡ schema_of bytes.now }
     ensures name { option_map (λ name. name.now) result.1 ≡ table_of bytes.now }
@@ -122,7 +122,7 @@ pub fn is_text(bytes: &[u8], text: &[u8]) -> bool
 }
 
 /// The switch that a word is: `YES` or `NO`.
-#[tactic(auto, unfolding(crate::specs::Words::switch_of))]
+#[tactic(auto, unfolding(crate::specs::ScriptWords::switch_of))]
 pub fn parse_switch(word: &[u8]) -> Option<bool>
     ensures { result ≡ switch_of word.now }
 {
@@ -136,7 +136,7 @@ pub fn parse_switch(word: &[u8]) -> Option<bool>
 }
 
 /// The two switches that the words are.
-#[tactic(auto, unfolding(crate::specs::Words::switches_of))]
+#[tactic(auto, unfolding(crate::specs::ScriptWords::switches_of))]
 pub fn parse_switches(words: &[u8]) -> Option<Switches>
     ensures { result ≡ switches_of words.now }
 {

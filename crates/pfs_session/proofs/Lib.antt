@@ -1,8 +1,8 @@
-pub mod Answering
-pub mod Ending
-pub mod Leaving
-pub mod Offering
-pub mod Owed
-pub mod Placing
-pub mod Playing
-pub mod Turning
+mod EventAnswers
+pub mod EndFrames
+mod CallEnds
+mod PutCalls
+pub mod HeldAmounts
+pub mod OfferedPlaces
+pub mod StepLists
+mod EventSteps

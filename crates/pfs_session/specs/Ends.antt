@@ -12,13 +12,13 @@ use Rattle.pfs_levels.specs.declared.answers.Added.{Added}
 use Rattle.pfs_levels.specs.declared.answers.Added.TheVariants.{Counted, Held}
 use Rattle.pfs_levels.specs.declared.answers.Word.{Word}
 use Rattle.pfs_event.specs.declared.event.Event.{Event}
-use Rattle.pfs_model.specs.Setups.{thread_word, is_attributed, history_consumer, long_consumer}
+use Rattle.pfs_model.specs.SetupFlags.{thread_word, is_attributed, history_consumer, long_consumer}
 use Rattle.pfs_rings.specs.declared.puts.Put.{Put}
 use Rattle.pfs_rings.specs.declared.rings.Ring.TheVariants.{Current, History, Long}
 use Rattle.pfs_stat.specs.Stat.{stat_of, merge_of}
 use Rattle.pfs_stat.specs.declared.Stat.{Stat}
-use Rattle.pfs_session.specs.Rings.{PutIf, StandInRings, put_entries, goes_on, depth_of, moved_by}
-use Rattle.pfs_session.specs.States.{State, Book, held_row, held_at, next_of}
+use Rattle.pfs_session.specs.EventPuts.{PutIf, StandInRings, put_entries, goes_on, depth_of, moved_by}
+use Rattle.pfs_session.specs.SessionStates.{State, Book, held_row, held_at, next_of}
 use Rattle.pfs_session.specs.declared.events.Numbers.{Numbers}
 use Rattle.pfs_session.specs.declared.outcomes.Ended.{Ended}
 

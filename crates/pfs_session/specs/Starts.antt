@@ -12,12 +12,12 @@ use Rattle.pfs_event.specs.declared.verdict.Verdict.TheVariants.{LostThread, Los
 use Rattle.pfs_levels.specs.Calls.{Call, Loads}
 use Rattle.pfs_levels.specs.declared.answers.Word.{Word}
 use Rattle.pfs_model.specs.Contents.{plus_one}
-use Rattle.pfs_model.specs.Setups.{SeenSetup, verdict_by, has_time, is_wait, is_statement, thread_word, class_word, table_word}
+use Rattle.pfs_model.specs.SetupFlags.{SeenSetup, verdict_by, has_time, is_wait, is_statement, thread_word, class_word, table_word}
 use Rattle.pfs_model.specs.declared.lines.Subject.{Subject}
 use Rattle.pfs_session.specs.Ends.{no_numbers}
 use Rattle.pfs_rings.specs.declared.puts.Put.{Put}
-use Rattle.pfs_session.specs.Rings.{PutIn, put_entries, is_placed_by, depth_of}
-use Rattle.pfs_session.specs.States.{State, around, count_open, one_if}
+use Rattle.pfs_session.specs.EventPuts.{PutIn, put_entries, is_placed_by, depth_of}
+use Rattle.pfs_session.specs.SessionStates.{State, around, count_open, one_if}
 use Rattle.pfs_session.specs.declared.setup.Setup.{Setup}
 
 -- of a table, if there is one

@@ -1,21 +1,21 @@
 -- What a session does, step by step: the calls that it makes of its store, and the entries that it writes, by the
 -- answers of those calls.
 use Rattle.std.specs.Prelude.{ℕ, ◌≡◌, ◌<◌, ◌+◌, ◌%◌, ◌^◌, Bool, true, false, if◌then◌else◌, List, [], ◌∷◌, ◌++◌, length, Option, Some, None, IfSome}
-use Rattle.pfs_admin.specs.Asks.{work_of_connect, work_of_quit, connect_entry, placed_of}
-use Rattle.pfs_admin.specs.States.{connected, has_quit, seat_at}
-use Rattle.pfs_admin.specs.States.{State as Administration}
+use Rattle.pfs_admin.specs.ConnectionAsks.{work_of_connect, work_of_quit, connect_entry, placed_of}
+use Rattle.pfs_admin.specs.AdministrationStates.{connected, has_quit, seat_at}
+use Rattle.pfs_admin.specs.AdministrationStates.{State as Administration}
 use Rattle.pfs_admin.specs.Truncations.{work_of_truncation, has_truncated}
-use Rattle.pfs_admin.specs.Setups.{has_changed, reply_to, work_of_statement}
+use Rattle.pfs_admin.specs.SetupStatements.{has_changed, reply_to, work_of_statement}
 use Rattle.pfs_admin.specs.declared.changes.Reply.{Reply}
 use Rattle.pfs_admin.specs.declared.changes.Reply.TheVariants as replies
 use Rattle.pfs_admin.specs.declared.changes.SetupStatement.{SetupStatement}
 use Rattle.pfs_admin.specs.declared.changes.SetupStatement.TheVariants.{Update, Insert, Delete, Show}
-use Rattle.pfs_truncations.specs.declared.truncations.Truncation.{Truncation}
+use Rattle.pfs_rows.specs.declared.truncations.Truncation.{Truncation}
 use Rattle.pfs_admin.specs.Works.{Work, Made, signs_of, signs_calls, signs_entries, flagging_calls, flagging_entries}
-use Rattle.pfs_containers.specs.Kept.{lost_in}
+use Rattle.pfs_containers.specs.ContainerState.{lost_in}
 use Rattle.pfs_event.specs.declared.entry.Entry.{Entry}
 use Rattle.pfs_event.specs.declared.entry.Entry.TheVariants as says
-use Rattle.pfs_event.specs.Nesting.{OpenEvents, MayStart}
+use Rattle.pfs_event.specs.Nests.{OpenEvents, MayStart}
 use Rattle.pfs_event.specs.declared.kind.EventKind.TheVariants.{Stage}
 use Rattle.pfs_event.specs.declared.open.Open.{Open}
 use Rattle.pfs_levels.specs.Calls.{Call, Opening}
@@ -26,9 +26,9 @@ use Rattle.pfs_model.specs.declared.lines.Subject.{Subject}
 use Rattle.pfs_session.specs.Ends.{Ends, no_numbers}
 use Rattle.pfs_rows.specs.declared.table.Reading.{Reading}
 use Rattle.pfs_session.specs.Inquiries.{Inquiry, Looks, inquiry_calls, inquiry_entry}
-use Rattle.pfs_session.specs.Settles.{Settles}
+use Rattle.pfs_session.specs.Settlements.{Settles}
 use Rattle.pfs_session.specs.Starts.{Starts}
-use Rattle.pfs_session.specs.States.{State, Book, no_place}
+use Rattle.pfs_session.specs.SessionStates.{State, Book, no_place}
 use Rattle.pfs_session.specs.declared.events.Numbers.{Numbers}
 
 -- one step of a session. An action names the administration as it stands before it

@@ -2,9 +2,9 @@
 
 ghost use Rattle.std.specs.Prelude.{◌≡◌, ◌<◌, ◌≤◌, ◌+◌, ◌-◌, ◌++◌, ◌∷◌, [], ℕ, Option, None, length, slice_set};
 ghost use Rattle.pfs_levels.specs.Calls.{Goes, Adds};
-ghost use Rattle.pfs_session.specs.States.{held_row, held_at};
+ghost use Rattle.pfs_session.specs.SessionStates.{held_row, held_at};
 ghost use Rattle.pfs_session.specs.Ends.{with_held};
-ghost use Rattle.pfs_session.specs.Adding.{Brings};
+ghost use Rattle.pfs_session.specs.RowAmounts.{Brings};
 
 use pfs_event::Entry;
 use pfs_levels::{Added, Log, Rows};

@@ -1,7 +1,7 @@
 //! What an open event counts for when it ends.
 
 ghost use Rattle.std.specs.Prelude.{◌≡◌, ◌<◌, ◌+◌, ◌≤◌, if◌then◌else◌};
-ghost use Rattle.pfs_model.specs.Setups.{is_statement, is_wait, is_attributed};
+ghost use Rattle.pfs_model.specs.SetupFlags.{is_statement, is_wait, is_attributed};
 ghost use Rattle.pfs_session.specs.Ends.{numbers_for, amount_of, cell_in, cell_number, digest_number};
 
 use pfs_event::{EventKind, Open, Verdict};

@@ -3,14 +3,14 @@
 ghost use Rattle.std.specs.Prelude.{◌≡◌, ◌≤◌, ◌+◌, ◌++◌, ◌∷◌, [], ℕ, List, MatchOption, map};
 ghost use Rattle.std.specs.Option.{option_to_list};
 ghost use Rattle.pfs_reader.specs.Readings.{HoldsNone};
-ghost use Rattle.pfs_readsets.specs.Places.{Scope};
+ghost use Rattle.pfs_readsets.specs.TablePlaces.{Scope};
 ghost use Rattle.pfs_readsets.specs.ReadSets.{IsNext, IsReadSet, target_of};
-ghost use Rattle.pfs_readsets.specs.Steps.{Reached};
+ghost use Rattle.pfs_readsets.specs.ReadProgress.{Reached};
 ghost use Rattle.pfs_rows.specs.declared.table.Reading.{Reading};
 ghost use Rattle.pfs_rows.specs.declared.table.Table.{Table};
 ghost use Rattle.pfs_session.specs.Inquiries.{Remarks, reading_entry, remark_entry, seen_entry};
 ghost use Rattle.pfs_session.specs.Turns.{Played, Does, Inquires, looks_at};
-ghost use Rattle.pfs_session.specs.Using.{Uses};
+ghost use Rattle.pfs_session.specs.CallCosts.{Uses};
 
 use crate::remarks::Remark;
 use crate::session::Session;

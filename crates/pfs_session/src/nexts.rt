@@ -1,8 +1,8 @@
 //! The places where a session's next events go in its histories.
 
 ghost use Rattle.std.specs.Prelude.{◌≡◌, ◌<◌, ◌+◌, ◌%◌};
-ghost use Rattle.pfs_session.specs.Rings.{AreNexts, moved, moved_by};
-ghost use Rattle.pfs_session.specs.States.{next_of};
+ghost use Rattle.pfs_session.specs.EventPuts.{AreNexts, moved, moved_by};
+ghost use Rattle.pfs_session.specs.SessionStates.{next_of};
 
 use pfs_event::EventKind;
 use pfs_rings::Put;

@@ -1,10 +1,10 @@
 //! The open event that a start makes.
 
 ghost use Rattle.std.specs.Prelude.{◌≡◌, ◌<◌, ◌≤◌, ◌+◌, ◌^◌, IfSome, if◌then◌else◌};
-ghost use Rattle.pfs_event.specs.Kinds.{nesting_number};
+ghost use Rattle.pfs_event.specs.NestingKinds.{nesting_number};
 ghost use Rattle.pfs_model.specs.Contents.{plus_one};
 ghost use Rattle.pfs_event.specs.Verdicts.{is_let_through};
-ghost use Rattle.pfs_session.specs.States.{around, AreAround};
+ghost use Rattle.pfs_session.specs.SessionStates.{around, AreAround};
 ghost use Rattle.pfs_session.specs.Starts.{IsOpened, IsClass, link_of};
 
 use pfs_event::{Event, Nest, Open, Verdict};

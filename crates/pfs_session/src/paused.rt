@@ -1,8 +1,8 @@
 //! A session between two phases.
 
 ghost use Rattle.std.specs.Prelude.{◌≡◌, [], None};
-ghost use Rattle.pfs_session.specs.Settles.{owed_by_state};
-ghost use Rattle.pfs_session.specs.States.{nothing_held};
+ghost use Rattle.pfs_session.specs.Settlements.{owed_by_state};
+ghost use Rattle.pfs_session.specs.SessionStates.{nothing_held};
 
 use crate::outcomes::LastAction;
 use crate::session::Session;
@@ -17,7 +17,7 @@ pub struct Paused {
 
 impl Model for Paused {
     ghost use Rattle.std.specs.Prelude.{◌≡◌};
-    ghost use Rattle.pfs_session.specs.States.{Book, nothing_held};
+    ghost use Rattle.pfs_session.specs.SessionStates.{Book, nothing_held};
 
     ghost Value = { Book };
 

@@ -3,8 +3,8 @@
 ghost use Rattle.std.specs.Prelude.{◌≡◌, ◌<◌, ◌≤◌, ◌∷◌, [], ℕ, None, IfSome, IsTrue, false, length};
 ghost use Rattle.pfs_admin.specs.Works.{Leaves};
 ghost use Rattle.pfs_levels.specs.Moves.{IsAway, Stays};
-ghost use Rattle.pfs_session.specs.States.{nothing_held, owed_of};
-ghost use Rattle.pfs_session.specs.Settles.{Pays, PaysAll, owed_from, owed_in, settle_cost};
+ghost use Rattle.pfs_session.specs.SessionStates.{nothing_held, owed_of};
+ghost use Rattle.pfs_session.specs.Settlements.{Pays, PaysAll, owed_from, owed_in, settle_cost};
 
 use crate::adding::held_row;
 use pfs_event::Entry;

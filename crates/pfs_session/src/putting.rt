@@ -1,11 +1,11 @@
 //! Putting events to rings: which rings an event is offered to, and what becomes of it.
 
 ghost use Rattle.std.specs.Prelude.{true, ◌≡◌, ◌<◌, ◌≤◌, ℕ, None, IfSome};
-ghost use Rattle.pfs_model.specs.Setups.{current_consumer, has_history, history_consumer, is_attributed, long_consumer};
-ghost use Rattle.pfs_rings.specs.Rings.{IsRing, tickets_for};
-ghost use Rattle.pfs_session.specs.Rings.{HasPut, IsPutOf, goes_on, is_placed_by};
+ghost use Rattle.pfs_model.specs.SetupFlags.{current_consumer, has_history, history_consumer, is_attributed, long_consumer};
+ghost use Rattle.pfs_rings.specs.RingPlaces.{IsRing, tickets_for};
+ghost use Rattle.pfs_session.specs.EventPuts.{HasPut, IsPutOf, goes_on, is_placed_by};
 ghost use Rattle.pfs_session.specs.Ends.{ended_event};
-ghost use Rattle.pfs_session.specs.Using.{Uses};
+ghost use Rattle.pfs_session.specs.CallCosts.{Uses};
 
 use crate::events::{Numbers, numbers_for};
 use crate::setup::Setup;

@@ -1,21 +1,21 @@
 //! A session: its calls, each of which is one or two steps.
 
 ghost use Rattle.std.specs.Prelude.{◌≡◌, ◌<◌, ◌≤◌, ◌+◌, ◌%◌, ◌^◌, ◌∷◌, ◌&&◌, [], ℕ, length, Some, None, IfOk, IfSome, OnOk, OnErr, IsSome, false, true};
-ghost use Rattle.pfs_admin.specs.Asks.{placed_of};
-ghost use Rattle.pfs_admin.specs.States.{connected, has_quit, seat_at};
+ghost use Rattle.pfs_admin.specs.ConnectionAsks.{placed_of};
+ghost use Rattle.pfs_admin.specs.AdministrationStates.{connected, has_quit, seat_at};
 ghost use Rattle.pfs_admin.specs.Truncations.{has_truncated, truncation_cost};
 ghost use Rattle.pfs_admin.specs.Works.{Leaves};
-ghost use Rattle.pfs_event.specs.Nesting.{MayStart};
+ghost use Rattle.pfs_event.specs.Nests.{MayStart};
 ghost use Rattle.pfs_event.specs.Verdicts.{is_let_through};
-ghost use Rattle.pfs_session.specs.Answers.{SaysStart, SaysEnd, SaysStage, SaysStageEnd, EndsAs, is_in_stage};
-ghost use Rattle.pfs_rings.specs.Rings.{depths};
+ghost use Rattle.pfs_session.specs.EventAnswers.{SaysStart, SaysEnd, SaysStage, SaysStageEnd, EndsAs, is_in_stage};
+ghost use Rattle.pfs_rings.specs.RingPlaces.{depths};
 ghost use Rattle.pfs_session.specs.Ends.{Finished, HasCounted, HasDigested, HasPuts, outer_events, without_innermost};
-ghost use Rattle.pfs_session.specs.Leaving.{HasStarted, HasStaged};
-ghost use Rattle.pfs_session.specs.Rings.{HasPutIn, depth_of, StandInRings};
-ghost use Rattle.pfs_session.specs.Settles.{owed_by_state, settle_cost};
+ghost use Rattle.pfs_session.specs.CallEnds.{HasStarted, HasStaged};
+ghost use Rattle.pfs_session.specs.EventPuts.{HasPutIn, depth_of, StandInRings};
+ghost use Rattle.pfs_session.specs.Settlements.{owed_by_state, settle_cost};
 ghost use Rattle.pfs_session.specs.Starts.{started, if_through};
-ghost use Rattle.pfs_session.specs.States.{fresh, around, one_if, no_place, nothing_held, without_stage};
-ghost use Rattle.pfs_session.specs.Using.{Uses};
+ghost use Rattle.pfs_session.specs.SessionStates.{fresh, around, one_if, no_place, nothing_held, without_stage};
+ghost use Rattle.pfs_session.specs.CallCosts.{Uses};
 ghost use Rattle.pfs_session.specs.Turns.{Played, Does, StartsEvent, EndsEvent, Spends, SettlesHeld, Connects, Quits, Truncates, StageMayStart, stage_steps, stage_ends};
 
 use crate::NoMemory;
@@ -58,8 +58,8 @@ pub struct Session {
 }
 
 impl Model for Session {
-    ghost use Rattle.pfs_session.specs.Kept.{IsKept};
-    ghost use Rattle.pfs_session.specs.States.{Book};
+    ghost use Rattle.pfs_session.specs.SessionInvariant.{IsKept};
+    ghost use Rattle.pfs_session.specs.SessionStates.{Book};
 
     ghost Value = { Book };
 

@@ -3,7 +3,7 @@
 ghost use Rattle.std.specs.Prelude.{◌≡◌, ◌<◌, ◌∷◌, [], ℕ, IfSome, is_some};
 ghost use Rattle.std.specs.Option.{option_map};
 ghost use Rattle.pfs_levels.specs.Calls.{Goes, Loads};
-ghost use Rattle.pfs_model.specs.Setups.{is_enabled, has_time, verdict_by};
+ghost use Rattle.pfs_model.specs.SetupFlags.{is_enabled, has_time, verdict_by};
 ghost use Rattle.pfs_session.specs.Starts.{IsLoaded, load_calls, table_calls, flags_in, flags_of, verdict_seen, is_timed_by, is_digested_by, if_through, start_entry, version_of};
 
 use crate::events::{is_statement, is_wait};

@@ -1,10 +1,10 @@
 //! A session's statements on the setup tables.
 
 ghost use Rattle.std.specs.Prelude.{◌≡◌, ◌<◌, ◌≤◌, ◌+◌, ◌^◌, ◌∷◌, ◌++◌, [], ℕ, length, Some, None};
-ghost use Rattle.pfs_admin.specs.Setups.{has_changed, most_of, reply_to, work_of_statement};
+ghost use Rattle.pfs_admin.specs.SetupStatements.{has_changed, most_of, reply_to, work_of_statement};
 ghost use Rattle.pfs_admin.specs.Works.{Worked, Leaves};
-ghost use Rattle.pfs_session.specs.Settles.{owed_by_state, settle_cost};
-ghost use Rattle.pfs_session.specs.States.{nothing_held};
+ghost use Rattle.pfs_session.specs.Settlements.{owed_by_state, settle_cost};
+ghost use Rattle.pfs_session.specs.SessionStates.{nothing_held};
 ghost use Rattle.pfs_session.specs.Turns.{Played, Changes, SettlesHeld, is_answered, reply_entry, answer_entries};
 
 use crate::outcomes::LastAction;

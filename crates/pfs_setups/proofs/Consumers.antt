@@ -9,9 +9,9 @@ use Rattle.pfs_consumers.specs.declared.Consumer.{Consumer}
 use Rattle.pfs_consumers.specs.declared.Consumer.TheVariants.{StagesCurrent}
 use Rattle.pfs_consumers.specs.Tree.{bit_of, is_on}
 use Rattle.pfs_consumers.proofs.Bits.{is_on-with_flag_same, is_on-with_flag_other, bit_at-with_flag_last}
-use Rattle.pfs_tables.specs.Plain.{consumers}
-use Rattle.pfs_setups.specs.Laws.{SetsConsumers}
-use Rattle.pfs_setups.specs.Rows.{consumer_meets}
+use Rattle.pfs_tables.specs.PlaceTables.{consumers}
+use Rattle.pfs_setups.specs.ChangeLaws.{SetsConsumers}
+use Rattle.pfs_setups.specs.SetupRows.{consumer_meets}
 use Rattle.pfs_setups.specs.Updates.{consumer_step, consumers_behind}
 
 -- the consumers of a list are all others than this one

@@ -1,8 +1,10 @@
-pub mod Answering
-pub mod Consumers
-pub mod Flags
-pub mod Growing
-pub mod Passing
-pub mod Selected
-pub mod Staying
-pub mod Working
+mod InsertAnswers
+mod Consumers
+mod FlagBits
+mod LoopLists
+mod LoopRows
+mod SelectedRows
+pub mod OtherWords
+mod ChangeExamples
+mod ColumnFits
+mod MadeRows

@@ -5,7 +5,7 @@ use Rattle.pfs_rows.specs.declared.table.Table.{Table}
 use Rattle.pfs_rows.specs.declared.table.Table.TheVariants as tables
 use Rattle.pfs_matching.specs.declared.actor_rows.ActorRow.{ActorRow}
 use Rattle.pfs_matching.specs.declared.object_rows.ObjectRow.{ObjectRow}
-use Rattle.pfs_setups.specs.Rows.{Naming, actor_meets, object_meets}
+use Rattle.pfs_setups.specs.SetupRows.{Naming, actor_meets, object_meets}
 use Rattle.pfs_setups.specs.Updates.{redecided}
 
 abbrev pub actors_left : Table → List Test → List ActorRow → List ActorRow

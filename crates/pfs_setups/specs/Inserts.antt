@@ -2,18 +2,18 @@
 use Rattle.std.specs.Prelude.{ℕ, ◌==◌, Bool, if◌then◌else◌, List, length, Result, Ok, Err}
 use Rattle.std.specs.List.{list_any}
 use Rattle.std.specs.Ordering.{is_eq}
-use Rattle.pfs_changes.specs.declared.changes.NewRow.{NewRow}
-use Rattle.pfs_changes.specs.declared.changes.NewRow.TheVariants.{Actor, Object}
+use Rattle.pfs_exec.specs.declared.changes.NewRow.{NewRow}
+use Rattle.pfs_exec.specs.declared.changes.NewRow.TheVariants.{Actor, Object}
 use Rattle.pfs_matching.specs.declared.actor_rows.ActorRow.{ActorRow}
 use Rattle.pfs_matching.specs.declared.object_rows.ObjectRow.{ObjectRow}
 use Rattle.pfs_matching.specs.declared.faults.MatchFault.{MatchFault}
 use Rattle.pfs_matching.specs.declared.faults.MatchFault.TheVariants.{Duplicate, Full}
 use Rattle.pfs_matching.specs.ActorRules.{actor_key}
-use Rattle.pfs_matching.specs.Keyed.{key_cmp, with_row}
+use Rattle.pfs_matching.specs.KeyedRows.{key_cmp, with_row}
 use Rattle.pfs_matching.specs.ObjectRules.{object_key}
 use Rattle.pfs_rows.specs.declared.table.Table.{Table}
 use Rattle.pfs_setups.specs.Deletes.{flags_by_rows}
-use Rattle.pfs_setups.specs.Rows.{Naming}
+use Rattle.pfs_setups.specs.SetupRows.{Naming}
 
 -- MySQL's numbers
 abbrev pub error_number : MatchFault → ℕ

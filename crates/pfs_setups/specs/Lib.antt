@@ -1,6 +1,8 @@
-pub mod Rows
+pub mod SetupRows
 pub mod Updates
 pub mod Deletes
 pub mod Inserts
-pub mod Laws
-pub mod Worked
+pub mod ChangeLaws
+pub mod ChangeExamples
+pub mod HeldRows
+pub mod HeldExamples

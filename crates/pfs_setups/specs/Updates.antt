@@ -4,7 +4,7 @@ use Rattle.std.specs.Option.{option_map_or}
 use Rattle.pfs_text.specs.declared.conditions.Test.{Test}
 use Rattle.pfs_rows.specs.declared.table.Table.{Table}
 use Rattle.pfs_rows.specs.declared.table.Table.TheVariants as tables
-use Rattle.pfs_changes.specs.declared.changes.Update.{Update}
+use Rattle.pfs_exec.specs.declared.changes.Update.{Update}
 use Rattle.pfs_classes.specs.declared.setting.TableName.{TableName}
 use Rattle.pfs_consumers.specs.declared.Consumer.{Consumer}
 use Rattle.pfs_consumers.specs.Tree.{with_flag}
@@ -14,8 +14,8 @@ use Rattle.pfs_matching.specs.declared.faults.FlagChange.{FlagChange}
 use Rattle.pfs_matching.specs.declared.object_rows.ObjectRow.{ObjectRow}
 use Rattle.pfs_matching.specs.ActorRules.{changed_actor}
 use Rattle.pfs_matching.specs.ObjectRules.{changed_object, table_flags}
-use Rattle.pfs_tables.specs.Plain.{consumers}
-use Rattle.pfs_setups.specs.Rows.{Naming, actor_meets, consumer_meets, is_met, object_meets, word_values}
+use Rattle.pfs_tables.specs.PlaceTables.{consumers}
+use Rattle.pfs_setups.specs.SetupRows.{Naming, actor_meets, consumer_meets, is_met, object_meets, word_values}
 
 -- a word with one of its flags as asked, and each other bit as it was
 abbrev pub with_bit : ℕ → ℕ → Option Bool → ℕ

@@ -1,17 +1,17 @@
 //! A DELETE.
 
 ghost use Rattle.std.specs.Prelude.{◌≡◌, ◌≤◌, ◌+◌, ◌++◌, not, filter, take, drop, count_by, length};
-ghost use Rattle.pfs_setups.specs.Rows.{actor_meets as spec_actor_meets, held_met, object_meets as spec_object_meets};
+ghost use Rattle.pfs_setups.specs.SetupRows.{actor_meets as spec_actor_meets, held_met, object_meets as spec_object_meets};
 ghost use Rattle.pfs_setups.specs.Deletes.{actors_left, objects_left};
 
 use crate::meeting::{actor_meets, object_meets};
-use pfs_changes::Delete;
+use pfs_exec::Delete;
 use pfs_matching::{Actors, Objects};
 use pfs_rows::Table;
 use pfs_text::Test;
 
 /// Removes each row of `setup_actors` or `setup_objects` that is met, and answers how many there were.
-#[tactic(auto, unfolding(crate::specs::Rows::held_met))]
+#[tactic(auto, unfolding(crate::specs::SetupRows::held_met))]
 pub fn delete(actors: &mut Actors, objects: &mut Objects, delete: &Delete) -> u64
     ensures answer { result ≡ held_met delete.now.table delete.now.tests actors.old objects.old }
     ensures actors { actors.new ≡ actors_left delete.now.table delete.now.tests actors.old }

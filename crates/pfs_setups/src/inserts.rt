@@ -5,7 +5,7 @@ ghost use Rattle.pfs_matching.specs.ActorRules.{actor_key};
 ghost use Rattle.pfs_matching.specs.ObjectRules.{object_key};
 ghost use Rattle.pfs_setups.specs.Inserts.{actors_inserted, added, answer_of, answer_on, error_number, insert_answer, objects_inserted};
 
-use pfs_changes::{Insert, NewRow};
+use pfs_exec::{Insert, NewRow};
 use pfs_matching::{ActorRow, Actors, MatchFault, ObjectRow, Objects};
 
 /// Adds a row to the table that it is of, and answers 1; or answers the number of an error, 1062 where a row with its

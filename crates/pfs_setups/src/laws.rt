@@ -5,9 +5,9 @@ ghost use Rattle.pfs_matching.specs.declared.faults.FlagChange.{FlagChange};
 ghost use Rattle.pfs_containers.specs.declared.containers.Connection.{Connection};
 ghost use Rattle.pfs_matching.specs.declared.object_rows.ObjectRow.{ObjectRow};
 ghost use Rattle.pfs_text.specs.declared.conditions.Test.{Test};
-ghost use Rattle.pfs_setups.specs.Rows.{Naming};
-ghost use Rattle.pfs_setups.specs.Worked.{WorkedChanges};
-ghost use Rattle.pfs_setups.specs.Laws.{AreSelected, KeysDecide, OtherWordsStay, SetsConsumers, SetsFlags};
+ghost use Rattle.pfs_setups.specs.SetupRows.{Naming};
+ghost use Rattle.pfs_setups.specs.ChangeExamples.{WorkedChanges};
+ghost use Rattle.pfs_setups.specs.ChangeLaws.{AreSelected, KeysDecide, OtherWordsStay, SetsConsumers, SetsFlags};
 
 /// The rows that a change meets have the values that a SELECT shows.
 pub fn rows_are_selected()

@@ -2,10 +2,13 @@
 #![tactic(auto)]
 
 mod deletes;
+pub mod held_tables;
 mod inserts;
 pub mod laws;
 mod meeting;
 mod names;
+mod rows;
+mod showing;
 mod shown;
 mod updates;
 mod words;
@@ -13,6 +16,7 @@ mod words;
 pub use deletes::delete;
 pub use inserts::insert;
 pub use names::RowNames;
+pub use showing::show;
 pub use updates::update;
 pub use words::{flags_behind, flags_by_answer, flags_by_rows};
 

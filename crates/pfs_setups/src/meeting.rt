@@ -2,8 +2,8 @@
 
 ghost use Rattle.std.specs.Prelude.{◌≡◌, ◌≤◌, map, count_by, if◌then◌else◌};
 ghost use Rattle.std.specs.List.{list_all, range_with_len, slice_index_or};
-ghost use Rattle.pfs_exec.specs.Selecting.{meets_all, meets_value, value_at, value_of};
-ghost use Rattle.pfs_setups.specs.Rows.{actor_meets, consumer_meets, consumers_met, instrument_values, is_met, is_word_met, met_up_to, object_meets, session_values, slot_values, word_values, words_met};
+ghost use Rattle.pfs_exec.specs.Selections.{meets_all, meets_value, value_at, value_of};
+ghost use Rattle.pfs_setups.specs.SetupRows.{actor_meets, consumer_meets, consumers_met, instrument_values, is_met, is_word_met, met_up_to, object_meets, session_values, slot_values, word_values, words_met};
 
 use crate::RowNames;
 use crate::shown::{actor_shown, class_shown, consumer_shown, object_shown, session_shown};
@@ -32,7 +32,7 @@ pub(crate) fn consumer_meets(tests: &[Test], flags: u16, consumer: Consumer) -> 
 }
 
 /// Whether the row that a word's flags stand in is there and meets the tests.
-#[tactic(auto, unfolding(crate::specs::Rows::word_values))]
+#[tactic(auto, unfolding(crate::specs::SetupRows::word_values))]
 pub(crate) fn word_meets(
     names: &RowNames,
     containers: &Containers,

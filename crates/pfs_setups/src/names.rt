@@ -2,7 +2,7 @@
 
 ghost use Rattle.std.specs.Prelude.{◌≡◌, IfOk, List, map, take, slice_get, option_copied};
 ghost use Rattle.std.specs.List.{range_with_len, slice_index_or};
-ghost use Rattle.pfs_setups.specs.Rows.{class_named, name_of_class, naming_of};
+ghost use Rattle.pfs_setups.specs.SetupRows.{class_named, name_of_class, naming_of};
 
 use crate::NoMemory;
 use pfs_classes::{ClassId, Classes, Setting, TableName};
@@ -21,7 +21,7 @@ pub struct RowNames {
 }
 
 impl Model for RowNames {
-    ghost use Rattle.pfs_setups.specs.Rows.{Naming};
+    ghost use Rattle.pfs_setups.specs.SetupRows.{Naming};
 
     ghost Value = { Naming };
 
@@ -34,7 +34,7 @@ impl Model for RowNames {
 
 impl RowNames {
     /// Those of a setting. All room is taken here.
-    #[tactic(auto, unfolding(crate::specs::Rows::naming_of))]
+    #[tactic(auto, unfolding(crate::specs::SetupRows::naming_of))]
     pub fn open(alloc: Global, setting: &Setting) -> Result<RowNames, NoMemory>
         ensures { IfOk result (λ names. names ≡ naming_of setting.now) }
     {

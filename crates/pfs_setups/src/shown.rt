@@ -1,11 +1,11 @@
 //! The values of a row, compared in place: nothing is copied.
 
 ghost use Rattle.std.specs.Prelude.{◌≡◌, ◌<◌, map};
-ghost use Rattle.pfs_containers.specs.Infos.{thread_info_of};
-ghost use Rattle.pfs_exec.specs.Selecting.{value_of};
-ghost use Rattle.pfs_show.specs.Rows.{actor_values, object_values};
-ghost use Rattle.pfs_tables.specs.Plain.{bit_value, class_values, flag_value, thread_values};
-ghost use Rattle.pfs_setups.specs.Rows.{consumer_values};
+ghost use Rattle.pfs_containers.specs.PlaceInfos.{thread_info_of};
+ghost use Rattle.pfs_exec.specs.Selections.{value_of};
+ghost use Rattle.pfs_setups.specs.HeldRows.{actor_values, object_values};
+ghost use Rattle.pfs_tables.specs.PlaceTables.{bit_value, class_values, flag_value, thread_values};
+ghost use Rattle.pfs_setups.specs.SetupRows.{consumer_values};
 
 use pfs_consumers::{Consumer, Flags};
 use pfs_containers::Connection;

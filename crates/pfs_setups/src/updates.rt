@@ -2,13 +2,13 @@
 
 ghost use Rattle.std.specs.Prelude.{◌≡◌, ◌≤◌, ◌+◌, ◌++◌, map, take, drop, count_by, length};
 ghost use Rattle.std.specs.List.{slice_index_or};
-ghost use Rattle.pfs_setups.specs.Rows.{actor_meets as spec_actor_meets, held_met, object_meets as spec_object_meets, rows_met};
+ghost use Rattle.pfs_setups.specs.SetupRows.{actor_meets as spec_actor_meets, held_met, object_meets as spec_object_meets, rows_met};
 ghost use Rattle.pfs_setups.specs.Updates.{actors_updated, objects_updated, updated_actor, updated_object};
 
 use crate::RowNames;
 use crate::meeting::{actor_meets, consumers_met, flags_at, object_meets, words_met};
-use pfs_changes::Update;
 use pfs_containers::Containers;
+use pfs_exec::Update;
 use pfs_matching::{Actors, FlagChange, Objects};
 use pfs_rows::Table;
 use pfs_text::Test;
@@ -16,7 +16,7 @@ use pfs_text::Test;
 /// Gives the flags that are named their new values in each row of `setup_actors` or `setup_objects` that is met, and
 /// answers how many rows are met, of any of the five tables: by the flags of the 160 words as they stand before, which
 /// [flags_behind](crate::flags_behind) changes.
-#[tactic(auto, unfolding(crate::specs::Rows::rows_met))]
+#[tactic(auto, unfolding(crate::specs::SetupRows::rows_met))]
 pub fn update(
     names: &RowNames,
     containers: &Containers,
@@ -40,7 +40,7 @@ pub fn update(
     }
 }
 
-#[tactic(auto, unfolding(crate::specs::Rows::held_met))]
+#[tactic(auto, unfolding(crate::specs::SetupRows::held_met))]
 fn update_held(
     actors: &mut Actors,
     objects: &mut Objects,

@@ -9,10 +9,10 @@ ghost use Rattle.pfs_setups.specs.Updates as updates;
 
 use crate::RowNames;
 use crate::meeting::{consumer_meets, word_meets};
-use pfs_changes::Update;
 use pfs_classes::TableName;
 use pfs_consumers::{Consumer, Flags};
 use pfs_containers::Containers;
+use pfs_exec::Update;
 use pfs_matching::{FlagChange, Objects};
 use pfs_rows::Table;
 use pfs_text::Test;

@@ -6,10 +6,10 @@ use Rattle.pfs_sql.specs.declared.token.Token.{Token}
 use Rattle.pfs_sql.specs.declared.token.Token.TheVariants.{Word, Compares, Comma, Star, Semicolon}
 use Rattle.pfs_sql.specs.declared.command.Command.TheVariants.{Select, Truncate}
 use Rattle.pfs_sql.specs.Tokens.{AreTokens}
-use Rattle.pfs_sql.specs.Words.{is_key, name_of, table_of, number_of}
+use Rattle.pfs_sql.specs.TokenWords.{is_key, name_of, table_of, number_of}
 use Rattle.pfs_sql.specs.Grammar.{Fits, spelling, are_apart, counts_agree}
-use Rattle.pfs_sql.specs.Cutting.{token_of, inside_of}
-use Rattle.pfs_sql.proofs.Lexing.{first_token}
+use Rattle.pfs_sql.specs.TextCuts.{token_of, inside_of}
+use Rattle.pfs_sql.proofs.TokenCuts.{first_token}
 
 -- `a <1` is three tokens
 three_tokens : AreTokens (codes "a <1") (Word (codes "a") ∷ Compares Less ∷ Word (codes "1") ∷ [])

@@ -1,10 +1,10 @@
-pub mod Numbers
-pub mod Items
-pub mod Exact
-pub mod Parts
-pub mod Whole
-pub mod Quoting
-pub mod Lexing
-pub mod Fresh
-pub mod Said
-pub mod Examples
+mod WordNumbers
+mod ItemLists
+pub mod ExactReadings
+mod CommandParts
+pub mod CommandReadings
+mod QuotedTexts
+pub mod TokenCuts
+mod FreshNames
+pub mod SaidCommands
+mod Examples

@@ -18,7 +18,7 @@ use Rattle.pfs_sql.specs.declared.command.NamedTest.{NamedTest}
 use Rattle.pfs_sql.specs.declared.command.NamedOrder.{NamedOrder}
 use Rattle.pfs_sql.specs.declared.command.Assignment.{Assignment}
 use Rattle.pfs_sql.specs.Tokens.{AreTokens}
-use Rattle.pfs_sql.specs.Words.{is_key, is_comma, is_open, is_close, is_star, is_semicolon, name_in, table_in, number_in, text_in, comparison_in, literal_in}
+use Rattle.pfs_sql.specs.TokenWords.{is_key, is_comma, is_open, is_close, is_star, is_semicolon, name_in, table_in, number_in, text_in, comparison_in, literal_in}
 
 -- what one token may be asked to be
 pub data Part : Type 0 where

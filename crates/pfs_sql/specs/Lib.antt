@@ -1,6 +1,6 @@
 pub mod Errors
 pub mod Tokens
-pub mod Words
+pub mod TokenWords
 pub mod Grammar
-pub mod Readings
-pub mod Cutting
+pub mod TokenReaders
+pub mod TextCuts

@@ -4,7 +4,7 @@ use Rattle.std.specs.Char.{is_ascii_digit, is_ascii_alphabetic}
 use Rattle.std.specs.List.{list_all}
 use Rattle.pfs_text.specs.declared.conditions.Comparison.{Comparison}
 use Rattle.pfs_text.specs.declared.conditions.Comparison.TheVariants.{Equal, Unequal, Less, AtMost, Greater, AtLeast}
-use Rattle.pfs_text.specs.Quotes.{quoted}
+use Rattle.pfs_text.specs.QuotedTexts.{quoted}
 use Rattle.pfs_sql.specs.declared.token.Token.{Token}
 use Rattle.pfs_sql.specs.declared.token.Token.TheVariants.{Word, Quoted, Compares, Comma, Open, Close, Star, Semicolon}
 

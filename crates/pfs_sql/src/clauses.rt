@@ -1,6 +1,6 @@
 //! ORDER BY, LIMIT, and the assignments of SET.
 ghost use Rattle.std.specs.Prelude.{◌≡◌, ◌<◌, ◌≤◌, IfOk, length};
-ghost use Rattle.pfs_sql.specs.Readings as reading;
+ghost use Rattle.pfs_sql.specs.TokenReaders as reading;
 
 use crate::command::{Assignment, NamedOrder};
 use crate::faults::SqlFault;
@@ -11,7 +11,7 @@ use crate::words::{after_comma, after_key, expect_equal, expect_key};
 use std::alloc::Global;
 
 // Whether DESC stands there, and what stands behind it or behind ASC.
-#[tactic(auto, unfolding(crate::specs::Readings::direction_at))]
+#[tactic(auto, unfolding(crate::specs::TokenReaders::direction_at))]
 fn direction_at(tokens: &[Token]) -> (bool, &[Token])
     ensures read { (result.0, result.1.now) ≡ reading.direction_at tokens.now }
     ensures within { length result.1.now ≤ length tokens.now }
@@ -26,7 +26,7 @@ fn direction_at(tokens: &[Token]) -> (bool, &[Token])
 }
 
 // One column to order by.
-#[tactic(auto, unfolding(crate::specs::Readings::order_item_at))]
+#[tactic(auto, unfolding(crate::specs::TokenReaders::order_item_at))]
 fn order_item_at(alloc: Global, tokens: &[Token]) -> Result<(NamedOrder, &[Token]), SqlFault>
     ensures read { reading.Gives (λ x. (x.0, x.1.now)) result (reading.order_item_at tokens.now) }
     ensures shorter { IfOk result (λ x. length x.1.now < length tokens.now) }
@@ -82,7 +82,7 @@ pub(crate) fn limit_at(tokens: &[Token]) -> Result<(Option<u64>, &[Token]), SqlF
 }
 
 // One assignment.
-#[tactic(auto, unfolding(crate::specs::Readings::assignment_at))]
+#[tactic(auto, unfolding(crate::specs::TokenReaders::assignment_at))]
 fn assignment_at(alloc: Global, tokens: &[Token]) -> Result<(Assignment, &[Token]), SqlFault>
     ensures read { reading.Gives (λ x. (x.0, x.1.now)) result (reading.assignment_at tokens.now) }
     ensures shorter { IfOk result (λ x. length x.1.now < length tokens.now) }

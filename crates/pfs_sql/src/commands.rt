@@ -1,6 +1,6 @@
 //! The five commands.
 ghost use Rattle.std.specs.Prelude.{◌≡◌};
-ghost use Rattle.pfs_sql.specs.Readings as reading;
+ghost use Rattle.pfs_sql.specs.TokenReaders as reading;
 
 use crate::clauses::{assignments_at, limit_at, order_at};
 use crate::command::{
@@ -15,7 +15,7 @@ use crate::words::{REFUSED, after_key, after_open, ends, expect_close, expect_ke
 use std::alloc::Global;
 
 // Behind SELECT.
-#[tactic(auto, unfolding(crate::specs::Readings::select_at))]
+#[tactic(auto, unfolding(crate::specs::TokenReaders::select_at))]
 fn select_at(alloc: Global, tokens: &[Token]) -> Result<(Command, &[Token]), SqlFault>
     ensures { reading.Gives (λ x. (x.0, x.1.now)) result (reading.select_at tokens.now) }
 {
@@ -36,7 +36,7 @@ fn select_at(alloc: Global, tokens: &[Token]) -> Result<(Command, &[Token]), Sql
 }
 
 // Behind UPDATE.
-#[tactic(auto, unfolding(crate::specs::Readings::update_at))]
+#[tactic(auto, unfolding(crate::specs::TokenReaders::update_at))]
 fn update_at(alloc: Global, tokens: &[Token]) -> Result<(Command, &[Token]), SqlFault>
     ensures { reading.Gives (λ x. (x.0, x.1.now)) result (reading.update_at tokens.now) }
 {
@@ -73,7 +73,7 @@ fn values_at(alloc: Global, tokens: &[Token]) -> Result<(TextList, &[Token]), Sq
 }
 
 // Behind INSERT.
-#[tactic(auto, unfolding(crate::specs::Readings::insert_at))]
+#[tactic(auto, unfolding(crate::specs::TokenReaders::insert_at))]
 fn insert_at(alloc: Global, tokens: &[Token]) -> Result<(Command, &[Token]), SqlFault>
     ensures { reading.Gives (λ x. (x.0, x.1.now)) result (reading.insert_at tokens.now) }
 {
@@ -90,7 +90,7 @@ fn insert_at(alloc: Global, tokens: &[Token]) -> Result<(Command, &[Token]), Sql
 }
 
 // Behind DELETE.
-#[tactic(auto, unfolding(crate::specs::Readings::delete_at))]
+#[tactic(auto, unfolding(crate::specs::TokenReaders::delete_at))]
 fn delete_at(alloc: Global, tokens: &[Token]) -> Result<(Command, &[Token]), SqlFault>
     ensures { reading.Gives (λ x. (x.0, x.1.now)) result (reading.delete_at tokens.now) }
 {
@@ -101,7 +101,7 @@ fn delete_at(alloc: Global, tokens: &[Token]) -> Result<(Command, &[Token]), Sql
 }
 
 // Behind the word TABLE. Where the text ends behind that, it is the table's name and is not passed.
-#[tactic(auto, unfolding(crate::specs::Readings::past_table))]
+#[tactic(auto, unfolding(crate::specs::TokenReaders::past_table))]
 fn past_table(tokens: &[Token]) -> &[Token]
     ensures { result.now ≡ reading.past_table tokens.now }
 {
@@ -112,7 +112,7 @@ fn past_table(tokens: &[Token]) -> &[Token]
 }
 
 // Behind TRUNCATE.
-#[tactic(auto, unfolding(crate::specs::Readings::truncate_at))]
+#[tactic(auto, unfolding(crate::specs::TokenReaders::truncate_at))]
 fn truncate_at(alloc: Global, tokens: &[Token]) -> Result<(Command, &[Token]), SqlFault>
     ensures { reading.Gives (λ x. (x.0, x.1.now)) result (reading.truncate_at tokens.now) }
 {
@@ -121,7 +121,7 @@ fn truncate_at(alloc: Global, tokens: &[Token]) -> Result<(Command, &[Token]), S
 }
 
 // DELETE or TRUNCATE.
-#[tactic(auto, unfolding(crate::specs::Readings::removal_at))]
+#[tactic(auto, unfolding(crate::specs::TokenReaders::removal_at))]
 fn removal_at(alloc: Global, tokens: &[Token]) -> Result<(Command, &[Token]), SqlFault>
     ensures { reading.Gives (λ x. (x.0, x.1.now)) result (reading.removal_at tokens.now) }
 {
@@ -135,7 +135,7 @@ fn removal_at(alloc: Global, tokens: &[Token]) -> Result<(Command, &[Token]), Sq
 }
 
 // UPDATE, INSERT, DELETE or TRUNCATE.
-#[tactic(auto, unfolding(crate::specs::Readings::change_at))]
+#[tactic(auto, unfolding(crate::specs::TokenReaders::change_at))]
 fn change_at(alloc: Global, tokens: &[Token]) -> Result<(Command, &[Token]), SqlFault>
     ensures { reading.Gives (λ x. (x.0, x.1.now)) result (reading.change_at tokens.now) }
 {
@@ -149,7 +149,7 @@ fn change_at(alloc: Global, tokens: &[Token]) -> Result<(Command, &[Token]), Sql
 }
 
 // A command, and what stands behind it.
-#[tactic(auto, unfolding(crate::specs::Readings::command_at))]
+#[tactic(auto, unfolding(crate::specs::TokenReaders::command_at))]
 fn command_at(alloc: Global, tokens: &[Token]) -> Result<(Command, &[Token]), SqlFault>
     ensures { reading.Gives (λ x. (x.0, x.1.now)) result (reading.command_at tokens.now) }
 {
@@ -160,7 +160,7 @@ fn command_at(alloc: Global, tokens: &[Token]) -> Result<(Command, &[Token]), Sq
 }
 
 /// The command that the tokens are, all of them.
-#[tactic(auto, unfolding(crate::specs::Readings::whole))]
+#[tactic(auto, unfolding(crate::specs::TokenReaders::whole))]
 pub(crate) fn whole(alloc: Global, tokens: &[Token]) -> Result<Command, SqlFault>
     ensures { reading.Gives (λ command. command) result (reading.whole tokens.now) }
 {

@@ -1,6 +1,6 @@
 //! Conditions.
 ghost use Rattle.std.specs.Prelude.{◌≡◌, ◌<◌, IfOk, length};
-ghost use Rattle.pfs_sql.specs.Readings as reading;
+ghost use Rattle.pfs_sql.specs.TokenReaders as reading;
 
 use crate::command::NamedTest;
 use crate::faults::SqlFault;
@@ -12,7 +12,7 @@ use pfs_text::{Comparison, TestKind};
 use std::alloc::Global;
 
 // What stands behind IS.
-#[tactic(auto, unfolding(crate::specs::Readings::null_at))]
+#[tactic(auto, unfolding(crate::specs::TokenReaders::null_at))]
 fn null_at(tokens: &[Token]) -> Result<(TestKind, &[Token]), SqlFault>
     ensures read { reading.Gives (λ x. (x.0, x.1.now)) result (reading.null_at tokens.now) }
     ensures shorter { IfOk result (λ x. length x.1.now < length tokens.now) }
@@ -30,7 +30,7 @@ fn null_at(tokens: &[Token]) -> Result<(TestKind, &[Token]), SqlFault>
 }
 
 // What stands behind LIKE.
-#[tactic(auto, unfolding(crate::specs::Readings::like_at))]
+#[tactic(auto, unfolding(crate::specs::TokenReaders::like_at))]
 fn like_at(tokens: &[Token]) -> Result<(TestKind, &[Token]), SqlFault>
     ensures read { reading.Gives (λ x. (x.0, x.1.now)) result (reading.like_at tokens.now) }
     ensures shorter { IfOk result (λ x. length x.1.now < length tokens.now) }
@@ -40,7 +40,7 @@ fn like_at(tokens: &[Token]) -> Result<(TestKind, &[Token]), SqlFault>
 }
 
 // What stands behind a comparison.
-#[tactic(auto, unfolding(crate::specs::Readings::compared_at))]
+#[tactic(auto, unfolding(crate::specs::TokenReaders::compared_at))]
 fn compared_at(comparison: Comparison, tokens: &[Token]) -> Result<(TestKind, &[Token]), SqlFault>
     ensures read { reading.Gives (λ x. (x.0, x.1.now)) result (reading.compared_at comparison tokens.now) }
     ensures shorter { IfOk result (λ x. length x.1.now < length tokens.now) }
@@ -50,7 +50,7 @@ fn compared_at(comparison: Comparison, tokens: &[Token]) -> Result<(TestKind, &[
 }
 
 // LIKE with its text, or IS with NULL or NOT NULL.
-#[tactic(auto, unfolding(crate::specs::Readings::word_kind_at))]
+#[tactic(auto, unfolding(crate::specs::TokenReaders::word_kind_at))]
 fn word_kind_at(tokens: &[Token]) -> Result<(TestKind, &[Token]), SqlFault>
     ensures read { reading.Gives (λ x. (x.0, x.1.now)) result (reading.word_kind_at tokens.now) }
     ensures shorter { IfOk result (λ x. length x.1.now < length tokens.now) }
@@ -65,7 +65,7 @@ fn word_kind_at(tokens: &[Token]) -> Result<(TestKind, &[Token]), SqlFault>
 }
 
 // What is asked of a column.
-#[tactic(auto, unfolding(crate::specs::Readings::kind_at))]
+#[tactic(auto, unfolding(crate::specs::TokenReaders::kind_at))]
 fn kind_at(tokens: &[Token]) -> Result<(TestKind, &[Token]), SqlFault>
     ensures read { reading.Gives (λ x. (x.0, x.1.now)) result (reading.kind_at tokens.now) }
     ensures shorter { IfOk result (λ x. length x.1.now < length tokens.now) }
@@ -77,7 +77,7 @@ fn kind_at(tokens: &[Token]) -> Result<(TestKind, &[Token]), SqlFault>
 }
 
 // One condition.
-#[tactic(auto, unfolding(crate::specs::Readings::test_at))]
+#[tactic(auto, unfolding(crate::specs::TokenReaders::test_at))]
 fn test_at(alloc: Global, tokens: &[Token]) -> Result<(NamedTest, &[Token]), SqlFault>
     ensures read { reading.Gives (λ x. (x.0, x.1.now)) result (reading.test_at tokens.now) }
     ensures shorter { IfOk result (λ x. length x.1.now < length tokens.now) }

@@ -3,9 +3,9 @@ ghost use Rattle.std.specs.Prelude.{◌≡◌, ◌≤◌, ◌<◌, ◌+◌, List
 ghost use Rattle.std.specs.List.{prefix_len};
 ghost use Rattle.std.specs.Option.{option_map};
 ghost use Rattle.pfs_sql.specs.declared.token.Token.{Token};
-ghost use Rattle.pfs_sql.specs.Cutting as cutting;
+ghost use Rattle.pfs_sql.specs.TextCuts as cutting;
 ghost use Rattle.pfs_sql.specs.Grammar.{Refuses};
-ghost use Rattle.pfs_sql.specs.Readings as reading;
+ghost use Rattle.pfs_sql.specs.TokenReaders as reading;
 ghost use Rattle.pfs_sql.specs.Tokens as spec;
 
 use crate::faults::SqlFault;
@@ -57,7 +57,7 @@ fn word_at(alloc: Global, bytes: &[u8]) -> Result<(Token, &[u8]), SqlFault>
 }
 
 // The next byte of a quoted text, a doubled `'` taken for one, or None at its closing `'` and where none comes.
-#[tactic(auto, unfolding(crate::specs::Cutting::inner_of))]
+#[tactic(auto, unfolding(crate::specs::TextCuts::inner_of))]
 fn inner_at(bytes: &[u8]) -> Option<(u8, &[u8])>
     ensures read { option_map (λ x. (x.0, x.1.now)) result ≡ cutting.inner_of bytes.now }
     ensures shorter { IfSome result (λ x. length x.1.now < length bytes.now) }
@@ -133,7 +133,7 @@ fn mark_at(bytes: &[u8]) -> Result<(Token, &[u8]), SqlFault>
 }
 
 // The token at the front, the longest that stands there.
-#[tactic(auto, unfolding(crate::specs::Cutting::token_of))]
+#[tactic(auto, unfolding(crate::specs::TextCuts::token_of))]
 fn token_at(alloc: Global, bytes: &[u8]) -> Result<(Token, &[u8]), SqlFault>
     ensures read { reading.Gives (λ x. (x.0, x.1.now)) result (cutting.token_of bytes.now) }
     ensures shorter { IfOk result (λ x. length x.1.now < length bytes.now) }

@@ -1,7 +1,7 @@
 //! Names, numbers and texts at the front of tokens, and lists of them.
 ghost use Rattle.std.specs.Prelude.{◌≡◌, ◌<◌, IfOk, length};
-ghost use Rattle.pfs_sql.specs.Readings as reading;
-ghost use Rattle.pfs_sql.specs.Words as words;
+ghost use Rattle.pfs_sql.specs.TokenReaders as reading;
+ghost use Rattle.pfs_sql.specs.TokenWords as words;
 
 use crate::faults::SqlFault;
 use crate::lists::TextList;
@@ -103,7 +103,7 @@ pub(crate) fn texts_at(alloc: Global, tokens: &[Token]) -> Result<(TextList, &[T
 }
 
 /// `*`, which is no list, or columns with commas between them.
-#[tactic(auto, unfolding(crate::specs::Readings::columns_at))]
+#[tactic(auto, unfolding(crate::specs::TokenReaders::columns_at))]
 pub(crate) fn columns_at(
     alloc: Global,
     tokens: &[Token],

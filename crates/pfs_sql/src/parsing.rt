@@ -2,7 +2,7 @@
 ghost use Rattle.std.specs.Prelude.{IfErr, IfOk};
 ghost use Rattle.pfs_sql.specs.declared.command.Command.{Command};
 ghost use Rattle.pfs_sql.specs.Grammar.{Refuses, Says};
-ghost use Rattle.pfs_sql.specs.Readings as reading;
+ghost use Rattle.pfs_sql.specs.TokenReaders as reading;
 
 use crate::command::Command;
 use crate::commands::whole;
@@ -14,7 +14,7 @@ use crate::words::REFUSED;
 use std::alloc::Global;
 
 // The command that the tokens spell.
-#[tactic(auto, unfolding(crate::specs::Readings::command_of))]
+#[tactic(auto, unfolding(crate::specs::TokenReaders::command_of))]
 fn command_of(alloc: Global, tokens: &[Token]) -> Result<Command, SqlFault>
     ensures { reading.Gives (λ command. command) result (reading.command_of tokens.now) }
 {

@@ -3,8 +3,8 @@ ghost use Rattle.std.specs.Prelude.{◌≡◌, ◌<◌, IfOk, IfSome, length};
 ghost use Rattle.std.specs.Option.{option_copied};
 ghost use Rattle.std.specs.List.{list_all};
 ghost use Rattle.pfs_sql.specs.Tokens as lexing;
-ghost use Rattle.pfs_sql.specs.Words as words;
-ghost use Rattle.pfs_sql.specs.Readings as reading;
+ghost use Rattle.pfs_sql.specs.TokenWords as words;
+ghost use Rattle.pfs_sql.specs.TokenReaders as reading;
 
 use crate::faults::{SqlError, SqlFault};
 use crate::token::Token;

@@ -7,8 +7,8 @@ use Rattle.std.proofs.lemmas.List.FromFn.{length-map-range_with_len, get_or-map-
 use Rattle.std.proofs.lemmas.Bool.{cases_eq, cases_lt, eq-eqb, ne_eqb, le-leb, lt-leb, cond-true, cond-false}
 use Rattle.pfs_rows.specs.declared.table.Reading.{Reading}
 use Rattle.pfs_rows.specs.declared.table.Reading.TheVariants.{Slot, Word}
-use Rattle.pfs_summaries.specs.Contents.{is_reading_of, content_in, content_at, contents_of, whole_of}
-use Rattle.pfs_summaries.specs.Steps.{with_reading}
+use Rattle.pfs_summaries.specs.FoundContents.{is_reading_of, content_in, content_at, contents_of, whole_of}
+use Rattle.pfs_summaries.specs.ReadingSteps.{with_reading}
 
 picked : (b : Bool) (reading : Reading) (rest : Option Reading) → option_and_then content_in (cond b (Some reading) rest) ≡ cond b (content_in reading) (option_and_then content_in rest)
 picked true reading rest = refl

@@ -9,11 +9,11 @@ use Rattle.pfs_classes.specs.declared.setting.Setting.{Setting}
 use Rattle.pfs_classes.specs.declared.setting.DigestText.{DigestText}
 use Rattle.pfs_stat.specs.declared.Stat.{Stat}
 use Rattle.pfs_stat.specs.Stat.{stat_of_words}
-use Rattle.pfs_values.specs.declared.RowValue.{RowValue}
+use Rattle.pfs_text.specs.declared.values.RowValue.{RowValue}
 use Rattle.pfs_summaries.specs.declared.numbers.Numbers.TheVariants as numbers
 use Rattle.pfs_summaries.specs.RowValues.{values_of}
-use Rattle.pfs_summaries.specs.Contents.{contents_of, info_at}
-use Rattle.pfs_summaries.specs.Digests.{null_heading, counted_row, place_row, digest_row, digests_of}
+use Rattle.pfs_summaries.specs.FoundContents.{contents_of, info_at}
+use Rattle.pfs_summaries.specs.DigestRows.{null_heading, counted_row, place_row, digest_row, digests_of}
 
 -- a place without a digest gives no row
 pub absent : (digests : List DigestText) (contents : List (Option (List ℕ))) (place : ℕ) (rows : List (List RowValue)) → false ≡ ltb place (length digests) → rows ≡ rows ++ digest_row digests contents place

@@ -7,19 +7,19 @@ use Rattle.pfs_rows.specs.declared.table.Reading.{Reading}
 use Rattle.pfs_rows.specs.declared.table.Reading.TheVariants.{Slot}
 use Rattle.pfs_rows.specs.declared.table.TableKind.TheVariants.{Transactions}
 use Rattle.pfs_rows.specs.declared.table.SummaryTable.TheVariants.{ByThread, ByAccount, ByUser, ByHost, Global}
-use Rattle.pfs_infos.specs.Infos.{six_words, three_words}
+use Rattle.pfs_containers.specs.InfoWords.{six_words, three_words}
 use Rattle.pfs_stat.specs.declared.Stat.{Stat}
 use Rattle.pfs_stat.specs.Stat.{zero_of, words_of}
-use Rattle.pfs_values.specs.declared.RowValue.{RowValue}
-use Rattle.pfs_values.specs.declared.RowValue.TheVariants as value
+use Rattle.pfs_text.specs.declared.values.RowValue.{RowValue}
+use Rattle.pfs_text.specs.declared.values.RowValue.TheVariants as value
 use Rattle.pfs_summaries.specs.declared.heads.RowKey.{RowKey}
 use Rattle.pfs_summaries.specs.declared.numbers.Numbers.TheVariants as numbers
-use Rattle.pfs_summaries.specs.Contents.{content_at, infos_of}
+use Rattle.pfs_summaries.specs.FoundContents.{content_at, infos_of}
 use Rattle.pfs_summaries.specs.Cells.{key_of, tally_of, is_hidden_by}
 use Rattle.pfs_summaries.specs.Heads.{head_of}
 use Rattle.pfs_summaries.specs.RowValues.{values_of, times_of, sums_of, numbers_row}
 use Rattle.pfs_summaries.specs.Summaries.{put_rows, is_skipped}
-use Rattle.pfs_summaries.specs.Digests.{counted_row, null_heading, place_row}
+use Rattle.pfs_summaries.specs.DigestRows.{counted_row, null_heading, place_row}
 
 -- so many waits of 5
 abbrev waits : ℕ → ℕ → Stat

@@ -1,8 +1,8 @@
-pub mod ContentSteps
+mod ContentSteps
 pub mod DigestRows
-pub mod Examples
-pub mod Given
-pub mod Puts
-pub mod Ranges
-pub mod Sames
-pub mod TallySteps
+mod Examples
+pub mod RowKeys
+pub mod PutOrder
+pub mod NumberLists
+mod SameRows
+mod TallySteps

@@ -18,10 +18,10 @@ use Rattle.pfs_rows.specs.Rows.{IsPlace, row_number, place_at}
 use Rattle.pfs_stat.specs.declared.Stat.{Stat}
 use Rattle.pfs_stat.specs.Stat.{zero_of, merge_of, merge_all, stat_of_words}
 use Rattle.pfs_summaries.specs.declared.tallies.Tally.{Tally}
-use Rattle.pfs_summaries.specs.Contents.{found_busy}
+use Rattle.pfs_summaries.specs.FoundContents.{found_busy}
 use Rattle.pfs_summaries.specs.Cells.{key_of, cell_of, is_number, is_key_cell, reads_key_cell, counted_in, tally_of}
 use Rattle.pfs_summaries.proofs.ContentSteps.{written_back}
-use Rattle.pfs_summaries.specs.Steps.{none_of, added, at_key, at_place, with_cell, tally_in, AreTallies}
+use Rattle.pfs_summaries.specs.ReadingSteps.{none_of, added, at_key, at_place, with_cell, tally_in, AreTallies}
 
 abbrev make : Stat → Bool → Tally
 make stat busy = record { stat = stat; busy = busy }

@@ -9,12 +9,12 @@ use Rattle.pfs_rows.specs.declared.table.Reading.TheVariants.{Slot, Word}
 use Rattle.pfs_rows.specs.declared.table.SummaryTable.{SummaryTable}
 use Rattle.pfs_rows.specs.declared.table.SummaryTable.TheVariants.{ByThread, ByAccount, ByUser, ByHost, Global}
 use Rattle.pfs_rows.specs.Rows.{place_at}
-use Rattle.pfs_infos.specs.declared.ThreadInfo as thread
-use Rattle.pfs_infos.specs.declared.AccountInfo as account
+use Rattle.pfs_containers.specs.declared.infos.ThreadInfo as thread
+use Rattle.pfs_containers.specs.declared.infos.AccountInfo as account
 use Rattle.pfs_stat.specs.declared.Stat.{Stat}
 use Rattle.pfs_stat.specs.Stat.{merge_all, stat_of_words}
 use Rattle.pfs_summaries.specs.declared.tallies.Tally.{Tally}
-use Rattle.pfs_summaries.specs.Contents.{content_in, found_busy, thread_at, account_at}
+use Rattle.pfs_summaries.specs.FoundContents.{content_in, found_busy, thread_at, account_at}
 
 -- the account, user and host that a thread's info shows, and the user and host that an account's shows
 abbrev pub account_of_thread : List (Option (List ℕ)) → ℕ → Option ℕ

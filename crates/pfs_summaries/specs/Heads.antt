@@ -7,15 +7,15 @@ use Rattle.std.specs.Ordering.{ordering_then}
 use Rattle.std.specs.Cmp.Lexicographic.{slice_cmp}
 use Rattle.pfs_rows.specs.declared.table.SummaryTable.{SummaryTable}
 use Rattle.pfs_rows.specs.declared.table.SummaryTable.TheVariants.{ByThread, ByAccount, ByUser, ByHost, Global}
-use Rattle.pfs_infos.specs.declared.AccountInfo.{AccountInfo}
-use Rattle.pfs_infos.specs.declared.NameInfo.{NameInfo}
-use Rattle.pfs_infos.specs.declared.ThreadInfo.{ThreadInfo}
+use Rattle.pfs_containers.specs.declared.infos.AccountInfo.{AccountInfo}
+use Rattle.pfs_containers.specs.declared.infos.NameInfo.{NameInfo}
+use Rattle.pfs_containers.specs.declared.infos.ThreadInfo.{ThreadInfo}
 use Rattle.pfs_classes.specs.Registry.{text_of}
-use Rattle.pfs_values.specs.declared.RowValue.{RowValue}
-use Rattle.pfs_values.specs.declared.RowValue.TheVariants as value
+use Rattle.pfs_text.specs.declared.values.RowValue.{RowValue}
+use Rattle.pfs_text.specs.declared.values.RowValue.TheVariants as value
 use Rattle.pfs_summaries.specs.declared.heads.Head.{Head}
 use Rattle.pfs_summaries.specs.declared.heads.RowKey.{RowKey}
-use Rattle.pfs_summaries.specs.Contents.{thread_at, account_at, user_at, host_at}
+use Rattle.pfs_summaries.specs.FoundContents.{thread_at, account_at, user_at, host_at}
 
 -- an account's rows: where its names are the setting's
 abbrev pub account_head : List (List ℕ) → Option AccountInfo → Option Head

@@ -1,7 +1,7 @@
 pub mod Cells
-pub mod Contents
-pub mod Digests
+pub mod FoundContents
+pub mod DigestRows
 pub mod Heads
 pub mod RowValues
-pub mod Steps
+pub mod ReadingSteps
 pub mod Summaries

@@ -9,15 +9,15 @@ use Rattle.pfs_rows.specs.declared.table.TableKind.TheVariants.{Waits, Stages, S
 use Rattle.pfs_classes.specs.declared.classes.Class.{Class}
 use Rattle.pfs_classes.specs.declared.setting.Setting.{Setting}
 use Rattle.pfs_classes.specs.Registry.{class_at, text_of}
-use Rattle.pfs_readsets.specs.Places.{is_class_of}
-use Rattle.pfs_values.specs.declared.RowValue.{RowValue}
-use Rattle.pfs_values.specs.declared.RowValue.TheVariants as value
+use Rattle.pfs_readsets.specs.TablePlaces.{is_class_of}
+use Rattle.pfs_text.specs.declared.values.RowValue.{RowValue}
+use Rattle.pfs_text.specs.declared.values.RowValue.TheVariants as value
 use Rattle.pfs_summaries.specs.declared.heads.Head.{Head}
 use Rattle.pfs_summaries.specs.declared.heads.RowKey.{RowKey}
 use Rattle.pfs_summaries.specs.declared.numbers.Numbers.{Numbers}
 use Rattle.pfs_summaries.specs.declared.numbers.Numbers.TheVariants as numbers
 use Rattle.pfs_summaries.specs.declared.tallies.Tally.{Tally}
-use Rattle.pfs_summaries.specs.Contents.{infos_of}
+use Rattle.pfs_summaries.specs.FoundContents.{infos_of}
 use Rattle.pfs_summaries.specs.Cells.{tally_of, is_hidden_by}
 use Rattle.pfs_summaries.specs.RowValues.{values_of, count_of}
 use Rattle.pfs_summaries.specs.Heads.{head_of, places_of, heading_of, row_cmp}

@@ -2,11 +2,11 @@
 
 ghost use Rattle.std.specs.Prelude.{◌≡◌, ◌<◌, ◌≤◌, ◌-◌, nat_le, ◌&&◌, length, replicate, slice_set, slice_index_or, None, if◌then◌else◌, IfOk};
 ghost use Rattle.pfs_rows.specs.declared.table.Reading.{Reading};
-ghost use Rattle.pfs_summaries.specs.Contents.{whole_of, contents_of, info_at};
-ghost use Rattle.pfs_summaries.specs.Steps.{with_reading};
+ghost use Rattle.pfs_summaries.specs.FoundContents.{whole_of, contents_of, info_at};
+ghost use Rattle.pfs_summaries.specs.ReadingSteps.{with_reading};
 
 use crate::NoMemory;
-use pfs_infos::Content;
+use pfs_containers::Content;
 use pfs_rows::{Reading, Seen};
 use std::alloc::Global;
 

@@ -7,20 +7,19 @@ ghost use Rattle.pfs_summaries.specs.declared.numbers.Numbers.TheVariants as num
 ghost use Rattle.pfs_stat.specs.Stat.{stat_of_words};
 ghost use Rattle.pfs_summaries.specs.RowValues.{values_of};
 ghost use Rattle.std.specs.List.{flat_map, range_with_len};
-ghost use Rattle.pfs_summaries.specs.Contents.{info_at};
-ghost use Rattle.pfs_summaries.specs.Digests.{digest_heading, null_heading, counted_row, place_row, digest_row, digests_of};
+ghost use Rattle.pfs_summaries.specs.FoundContents.{info_at};
+ghost use Rattle.pfs_summaries.specs.DigestRows.{digest_heading, null_heading, counted_row, place_row, digest_row, digests_of};
 
 use crate::NoMemory;
 use crate::contents::{contents_of, info_at};
 use crate::heads::put_value;
 use crate::numbers::Numbers;
 use pfs_classes::{DigestText, Setting};
+use pfs_containers::Content;
 use pfs_digest::digest;
-use pfs_infos::Content;
 use pfs_rows::{DIGEST_NULL, Reading};
 use pfs_stat::Stat;
-use pfs_text::Text;
-use pfs_values::{Row, RowValue, Rowset};
+use pfs_text::{Row, RowValue, Rowset, Text};
 use std::alloc::Global;
 
 // How many rows there are: that of the texts without a place, which is the first, and those of the places.
@@ -109,7 +108,7 @@ fn put_digest(
 }
 
 // Puts the row of a digest place, where it is one.
-#[tactic(auto, unfolding(crate::specs::Digests::digest_row))]
+#[tactic(auto, unfolding(crate::specs::DigestRows::digest_row))]
 fn put_place(
     alloc: Global,
     digests: &[DigestText],

@@ -2,22 +2,21 @@
 
 ghost use Rattle.std.specs.Prelude.{◌≡◌, ◌<◌, ◌+◌, ◌++◌, ◌∷◌, [], ℕ, true, length, IfOk, OnOk};
 ghost use Rattle.std.specs.Option.{option_map};
-ghost use Rattle.pfs_values.specs.declared.RowValue.TheVariants as value;
-ghost use Rattle.pfs_infos.specs.Infos.{name_of, thread_of};
-ghost use Rattle.pfs_infos.specs.declared.ThreadInfo.{ThreadInfo};
+ghost use Rattle.pfs_text.specs.declared.values.RowValue.TheVariants as value;
+ghost use Rattle.pfs_containers.specs.InfoWords.{name_of, thread_of};
+ghost use Rattle.pfs_containers.specs.declared.infos.ThreadInfo.{ThreadInfo};
 ghost use Rattle.pfs_classes.specs.Registry.{text_of};
-ghost use Rattle.pfs_summaries.specs.Contents.{info_at, thread_at};
+ghost use Rattle.pfs_summaries.specs.FoundContents.{info_at, thread_at};
 ghost use Rattle.pfs_summaries.specs.Heads.{account_head, user_head, host_head, head_of, places_of, heading_of};
 ghost use Rattle.pfs_summaries.specs.Summaries.{key_at};
 
 use crate::NoMemory;
 use crate::contents::info_at;
 use crate::tallies::{PLACES, account_at};
-use pfs_infos::{AccountInfo, Content, NameInfo, ThreadInfo};
+use pfs_containers::{AccountInfo, Content, NameInfo, ThreadInfo};
 use pfs_names::{NameId, Names};
 use pfs_rows::SummaryTable;
-use pfs_text::Text;
-use pfs_values::RowValue;
+use pfs_text::{RowValue, Text};
 use std::alloc::Global;
 
 /// What the rows of a place begin with: a thread's id, or an account's, user's or host's names. What

@@ -6,7 +6,7 @@ ghost use Rattle.std.specs.Map.{keys_of};
 ghost use Rattle.pfs_rows.specs.declared.table.SummaryTable.{SummaryTable};
 ghost use Rattle.pfs_rows.specs.declared.table.TableKind.{TableKind};
 ghost use Rattle.pfs_classes.specs.declared.setting.Setting.{Setting};
-ghost use Rattle.pfs_values.specs.declared.RowValue.{RowValue};
+ghost use Rattle.pfs_text.specs.declared.values.RowValue.{RowValue};
 ghost use Rattle.pfs_summaries.specs.declared.heads.RowKey.{RowKey};
 ghost use Rattle.pfs_summaries.specs.declared.tallies.Tally.{Tally};
 ghost use Rattle.pfs_summaries.specs.Heads.{row_cmp};

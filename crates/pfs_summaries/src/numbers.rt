@@ -1,13 +1,13 @@
 //! The numbers of a summary's rows, as values.
 
 ghost use Rattle.std.specs.Prelude.{◌≡◌, ◌++◌, map, OnOk};
-ghost use Rattle.pfs_values.specs.declared.RowValue.TheVariants as value;
+ghost use Rattle.pfs_text.specs.declared.values.RowValue.TheVariants as value;
 ghost use Rattle.pfs_stat.specs.Stat.{merge_of};
 ghost use Rattle.pfs_summaries.specs.RowValues.{timed_number, times_of, sums_of, values_of, count_of};
 
 use crate::NoMemory;
 use pfs_stat::Stat;
-use pfs_values::RowValue;
+use pfs_text::RowValue;
 
 /// The numbers of a summary row, as its kind of events has them.
 #[derive(Clone, Copy, Debug, PartialEq, Eq)]

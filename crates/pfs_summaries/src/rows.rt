@@ -2,13 +2,13 @@
 
 ghost use Rattle.std.specs.Prelude.{◌≡◌, ◌<◌, ◌+◌, ◌*◌, ◌++◌, ℕ, Bool, not, length, map, IfOk, OnOk, List, [], slice_index_or};
 ghost use Rattle.std.specs.List.{flat_map, range_with_len};
-ghost use Rattle.pfs_values.specs.declared.RowValue.{RowValue};
+ghost use Rattle.pfs_text.specs.declared.values.RowValue.{RowValue};
 ghost use Rattle.pfs_summaries.specs.declared.heads.RowKey.{RowKey};
 ghost use Rattle.pfs_classes.specs.Registry.{class_at, text_of};
 ghost use Rattle.std.specs.BTreeMap.{insert_entry};
 ghost use Rattle.pfs_summaries.specs.Heads.{head_of, places_of, row_cmp};
 ghost use Rattle.pfs_summaries.specs.RowValues.{count_of};
-ghost use Rattle.pfs_summaries.specs.Steps.{tally_in, none_of};
+ghost use Rattle.pfs_summaries.specs.ReadingSteps.{tally_in, none_of};
 ghost use Rattle.pfs_summaries.specs.Summaries.{class_text, numbers_of, is_skipped, is_listed, row_values, class_rows, head_rows, place_rows, put_rows, ordered_rows, key_at};
 
 use crate::NoMemory;
@@ -16,11 +16,10 @@ use crate::heads::{Head, RowKey, head_of, places_of, put_value};
 use crate::numbers::Numbers;
 use crate::tallies::Tally;
 use pfs_classes::{Class, ClassId, Setting, laws};
-use pfs_infos::Content;
+use pfs_containers::Content;
 use pfs_readsets::is_class_of;
 use pfs_rows::{READ_ONLY_CELL, READ_WRITE_CELL, SummaryTable, TableKind};
-use pfs_text::Text;
-use pfs_values::{Row, RowValue};
+use pfs_text::{Row, RowValue, Text};
 use std::alloc::Global;
 use std::collections::BTreeMap;
 

@@ -9,7 +9,7 @@ use crate::rows::ordered_rows;
 use crate::tallies::{is_hidden, tallies_of};
 use pfs_classes::Setting;
 use pfs_rows::{Reading, SummaryTable, TableKind};
-use pfs_values::{Row, Rowset};
+use pfs_text::{Row, Rowset};
 use std::alloc::Global;
 
 // The info rows, and row 0 before them.
@@ -20,7 +20,7 @@ const INFO_ROWS: usize = 129;
 /// that belong to its key. It is left out where one of these cells was busy, and, by account, user
 /// and host, where nothing was counted and no connection is there. Other readings than those of the
 /// table's rows count nothing.
-#[tactic(auto, using(crate::proofs::Sames::hidden))]
+#[tactic(auto, using(crate::proofs::SameRows::hidden))]
 pub fn summary_rows(
     alloc: Global,
     setting: &Setting,

@@ -4,12 +4,12 @@ ghost use Rattle.std.specs.Prelude.{◌≡◌, ◌<◌, ◌+◌, ◌*◌, ◌&&�
 ghost use Rattle.std.specs.List.{list_any};
 ghost use Rattle.pfs_rows.specs.Rows.{IsPlace, place_at};
 ghost use Rattle.pfs_summaries.specs.Cells.{account_of_thread, user_of_thread, host_of_thread, user_of_account, host_of_account, key_of, cell_of, hides_rows, is_hidden_by};
-ghost use Rattle.pfs_summaries.specs.Contents.{thread_at, account_at, is_busy};
-ghost use Rattle.pfs_summaries.specs.Steps.{none_of, added, with_cell, AreTallies};
+ghost use Rattle.pfs_summaries.specs.FoundContents.{thread_at, account_at, is_busy};
+ghost use Rattle.pfs_summaries.specs.ReadingSteps.{none_of, added, with_cell, AreTallies};
 
 use crate::NoMemory;
 use crate::contents::info_at;
-use pfs_infos::{AccountInfo, Content, ThreadInfo};
+use pfs_containers::{AccountInfo, Content, ThreadInfo};
 use pfs_rows::{CELLS, Place, Reading, Seen, SummaryTable, laws, place_of};
 use pfs_stat::{Stat, zero};
 use std::alloc::Global;

@@ -2,7 +2,7 @@
 use Rattle.std.proofs.Common.{◌≡◌, ℕ, List, [], ◌∷◌, refl, arith}
 use Rattle.pfs_switches.specs.declared.view.Setting.{Setting}
 use Rattle.pfs_switches.specs.declared.view.View.{View}
-use Rattle.pfs_switches.specs.Closing.{IsTold}
+use Rattle.pfs_switches.specs.SharedKnowledge.{IsTold}
 use Rattle.pfs_switches.specs.History.{version, setting}
 use Rattle.pfs_switches.specs.Knowledge.{whole, reader, writer, was_set, met, load_of, loaded}
 use Rattle.pfs_switches.specs.Rule.{IsLoad}

@@ -1,10 +1,10 @@
-pub mod HistoryFacts
-pub mod ViewFacts
-pub mod Numbers
-pub mod Tells
-pub mod Examples
-pub mod Keeps
-pub mod Seats
-pub mod Ends
-pub mod Between
-pub mod WordFacts
+mod HistoryFacts
+mod ViewFacts
+mod StepNumbers
+mod MeetKnowledge
+mod Examples
+mod RuleSteps
+mod Seats
+mod SwitchEnds
+mod ReadySeats
+mod WordFacts

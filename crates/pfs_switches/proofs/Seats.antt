@@ -13,11 +13,11 @@ use Rattle.pfs_switches.specs.declared.view.Setting.{Setting}
 use Rattle.pfs_switches.specs.declared.view.View.{View}
 use Rattle.pfs_switches.specs.History.{Each, version}
 use Rattle.pfs_switches.specs.Knowledge.{reader, writer, split_left, split_right, merged, joined, meet_of, gathered, handed, spent}
-use Rattle.pfs_switches.specs.Order.{Makers, IsRising, IsAbove, IsOrdered, Numbers}
+use Rattle.pfs_switches.specs.LoadOrder.{Makers, IsRising, IsAbove, IsOrdered, Numbers}
 use Rattle.pfs_switches.specs.Rule.{IsLoad, IsMeet, Fits, IsWriter, Ruled}
 use Rattle.pfs_switches.proofs.HistoryFacts.{each_map, each_both, each_append}
-use Rattle.pfs_switches.proofs.Keeps.{more_seen, more_met, writer_here, writer_set, only_set, seats_set}
-use Rattle.pfs_switches.proofs.Numbers.{Near, at_end, numbers_set, numbers_more, numbers_less, numbers_cut, numbers_glued, not_root, none_yet}
+use Rattle.pfs_switches.proofs.RuleSteps.{more_seen, more_met, writer_here, writer_set, only_set, seats_set}
+use Rattle.pfs_switches.proofs.StepNumbers.{Near, at_end, numbers_set, numbers_more, numbers_less, numbers_cut, numbers_glued, not_root, none_yet}
 use Rattle.pfs_switches.proofs.ViewFacts.{at_below, length_merged, merged_left, merged_right, merged_below, beyond}
 
 module _ (m : ℕ) where

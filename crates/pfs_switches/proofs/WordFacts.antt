@@ -2,7 +2,7 @@
 use Rattle.std.proofs.Common.{◌≡◌, ℕ, zero, suc, ◌+◌, ◌<◌, List, [], ◌∷◌, ◌++◌, get_or, map, take, sym, ap, ◌∙◌, arith, length-append}
 use mathlib.Core.Option.{some, some-injective, some-ne-none}
 use lib.ListN.{get_elem?}
-use Rattle.pfs_switches.specs.Opening.{parts}
+use Rattle.pfs_switches.specs.OpeningWords.{parts}
 
 take_suc : (ws : List ℕ) (i a : ℕ) → get_elem? ws i ≡ some a → map parts (take (suc i) ws) ≡ map parts (take i ws) ++ parts a ∷ []
 take_suc [] i a e = absurd (some-ne-none a (sym e))

@@ -1,8 +1,8 @@
 pub mod History
 pub mod Knowledge
-pub mod Order
+pub mod LoadOrder
 pub mod Rule
-pub mod Opening
-pub mod Known
-pub mod Closing
+pub mod OpeningWords
+pub mod SeatViews
+pub mod SharedKnowledge
 pub mod Plays

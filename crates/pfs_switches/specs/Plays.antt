@@ -2,7 +2,7 @@
 use Rattle.std.specs.Prelude.{◌≡◌, ℕ, ◌/◌, ◌%◌, ◌≤◌, slice_index}
 use Rattle.atomic_table.specs.Table.{Me, Step}
 use Rattle.pfs_switches.specs.declared.view.View.{View}
-use Rattle.pfs_switches.specs.Closing.{IsTold}
+use Rattle.pfs_switches.specs.SharedKnowledge.{IsTold}
 use Rattle.pfs_switches.specs.History.{flags_at}
 use Rattle.pfs_switches.specs.Knowledge.{last_version, loaded, was_set}
 

@@ -9,7 +9,7 @@ use Rattle.pfs_switches.specs.declared.view.Setting.{Setting}
 use Rattle.pfs_switches.specs.declared.view.View.{View}
 use Rattle.pfs_switches.specs.History.{Each, version, flags_at, IsChain}
 use Rattle.pfs_switches.specs.Knowledge.{last_version}
-use Rattle.pfs_switches.specs.Order.{IsOrdered, Numbers}
+use Rattle.pfs_switches.specs.LoadOrder.{IsOrdered, Numbers}
 
 module _ (start : List ℕ) (log : List Setting) where
   -- A finished load gives the flags of its version. That is no lower than what its seat had seen, nor than what the

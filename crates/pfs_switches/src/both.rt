@@ -1,9 +1,9 @@
 //! A seat and the writer in one, while they meet.
 ghost use Rattle.std.specs.Prelude.{◌≡◌, ℕ, ◌/◌, ◌%◌, ◌∷◌, ◌<◌, true, [], length, slice_index};
-ghost use Rattle.pfs_switches.specs.Closing.{IsTold};
+ghost use Rattle.pfs_switches.specs.SharedKnowledge.{IsTold};
 ghost use Rattle.pfs_switches.specs.History.{flags_at};
 ghost use Rattle.pfs_switches.specs.Knowledge.{gathered, loaded, met, reader, writer};
-ghost use Rattle.pfs_switches.specs.Known.{IsReady, IsWriting, first_view};
+ghost use Rattle.pfs_switches.specs.SeatViews.{IsReady, IsWriting, first_view};
 
 use crate::rules::{Check, Gather, Part, Rules, Tell};
 use crate::view::View;

@@ -1,10 +1,10 @@
 //! The setup words, their seats and their writer, and the calls.
 ghost use Rattle.std.specs.Prelude.{◌≡◌, ℕ, ◌+◌, ◌<◌, ◌≤◌, [], List, length, slice_index, IfOk, MatchResult, vec_capacity};
 ghost use Rattle.pfs_switches.specs.declared.view.View.{View};
-ghost use Rattle.pfs_switches.specs.Closing.{IsTold, IsClosed};
+ghost use Rattle.pfs_switches.specs.SharedKnowledge.{IsTold, IsClosed};
 ghost use Rattle.pfs_switches.specs.Knowledge.{last_version, reader, writer, whole, loaded, was_set, split_left, split_right, joined, met};
-ghost use Rattle.pfs_switches.specs.Known.{Place, Known, place, known, first_view, IsSized, IsReady, IsWriting, HasWord};
-ghost use Rattle.pfs_switches.specs.Opening.{opening_words};
+ghost use Rattle.pfs_switches.specs.SeatViews.{Place, Known, place, known, first_view, IsSized, IsReady, IsWriting, HasWord};
+ghost use Rattle.pfs_switches.specs.OpeningWords.{opening_words};
 
 use crate::both::{load_by, meet_by};
 use crate::rules::{Cut, Glue, Hand, Look, Part, Put, Rules, Weigh};

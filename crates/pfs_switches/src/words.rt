@@ -1,7 +1,7 @@
 //! Flags as the words of the table, and back. A word has its version above sixteen bits of flags.
 ghost use Rattle.std.specs.Prelude.{◌≡◌, ℕ, ◌+◌, ◌*◌, ◌<◌, ◌≤◌, [], length, take, map, vec_capacity, slice_index, IfOk};
 ghost use Rattle.std.specs.Slots.{slots_items, slots_len, IsFull};
-ghost use Rattle.pfs_switches.specs.Opening.{opening_words, IsOpening, parts};
+ghost use Rattle.pfs_switches.specs.OpeningWords.{opening_words, IsOpening, parts};
 
 use atomic_table::Closed;
 use std::alloc::{AllocError, Global};

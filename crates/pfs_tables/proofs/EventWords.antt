@@ -4,10 +4,10 @@ use Rattle.std.specs.Prelude.{◌&&◌, ◌==◌, nat_le, if◌then◌else◌, s
 use Rattle.std.proofs.lemmas.Bool.{eqb-true, le-leb, leb-true}
 use Rattle.pfs_lemmas.proofs.Bools.{and_first, and_second}
 use Rattle.pfs_event.specs.declared.event.Event.{Event}
-use Rattle.pfs_event.specs.Form.{bit_of}
-use Rattle.pfs_event.specs.Words.{words_of}
+use Rattle.pfs_event.specs.EventForm.{bit_of}
+use Rattle.pfs_event.specs.EventWords.{words_of}
 use Rattle.pfs_event.proofs.WordLemmas.{rebuilt_is}
-use Rattle.pfs_tables.specs.Events.{fields_of, are_event, fields_in, event_in}
+use Rattle.pfs_tables.specs.EventRows.{fields_of, are_event, fields_in, event_in}
 
 bit_low : (b : Bool) (n : ℕ) → ((bit_of b + 2 * n) % 2 == 1) ≡ b
 bit_low true n = let e : (1 + 2 * n) % 2 ≡ 1 = omega arith in ap (λ k. k == 1) e

@@ -1,9 +1,9 @@
 -- Worked examples.
 use Rattle.std.proofs.Common.{◌≡◌, true, false, List, [], ◌∷◌, Some, None, refl, ℕ}
 use Rattle.std.specs.Prelude.{codes, map}
-use Rattle.pfs_values.specs.declared.RowValue.TheVariants.{Null, Number, Text}
-use Rattle.pfs_tables.specs.Events.{Fields, event_in, event_head, are_event, fields_in}
-use Rattle.pfs_tables.specs.Orders.{Keyed, put_rows, number_key, name_key}
+use Rattle.pfs_text.specs.declared.values.RowValue.TheVariants.{Null, Number, Text}
+use Rattle.pfs_tables.specs.EventRows.{Fields, event_in, event_head, are_event, fields_in}
+use Rattle.pfs_tables.specs.TableOrders.{Keyed, put_rows, number_key, name_key}
 
 abbrev words : ℕ → ℕ → ℕ → List ℕ
 words third fourth spare = 1 ∷ 3 ∷ 3 ∷ third ∷ fourth ∷ spare ∷ 2 ∷ 15 ∷ 20 ∷ 0 ∷ 0 ∷ 0 ∷ 0 ∷ 0 ∷ 0 ∷ 0 ∷ []

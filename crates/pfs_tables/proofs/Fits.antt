@@ -27,28 +27,28 @@ use Rattle.pfs_catalogue.specs.Columns.{Named, text, columns_of, event_columns, 
 use Rattle.pfs_catalogue.specs.declared.columns.ColumnKind.TheVariants as columns
 use Rattle.pfs_consumers.specs.declared.Consumer.{Consumer}
 use Rattle.pfs_consumers.specs.Tree.{is_on}
-use Rattle.pfs_infos.specs.declared.ThreadInfo.{ThreadInfo}
-use Rattle.pfs_infos.specs.declared.AccountInfo.{AccountInfo}
-use Rattle.pfs_infos.specs.declared.NameInfo.{NameInfo}
-use Rattle.pfs_infos.specs.Infos as infos
-use Rattle.pfs_values.specs.declared.RowValue.{RowValue}
-use Rattle.pfs_values.specs.declared.RowValue.TheVariants.{Null, Text}
+use Rattle.pfs_containers.specs.declared.infos.ThreadInfo.{ThreadInfo}
+use Rattle.pfs_containers.specs.declared.infos.AccountInfo.{AccountInfo}
+use Rattle.pfs_containers.specs.declared.infos.NameInfo.{NameInfo}
+use Rattle.pfs_containers.specs.InfoWords as infos
+use Rattle.pfs_text.specs.declared.values.RowValue.{RowValue}
+use Rattle.pfs_text.specs.declared.values.RowValue.TheVariants.{Null, Text}
 use Rattle.pfs_summaries.specs.declared.heads.Head.{Head}
 use Rattle.pfs_summaries.specs.declared.numbers.Numbers.TheVariants as numbers
 use Rattle.pfs_summaries.specs.declared.tallies.Tally.{Tally}
-use Rattle.pfs_summaries.specs.Contents.{contents_of, info_at, infos_of}
+use Rattle.pfs_summaries.specs.FoundContents.{contents_of, info_at, infos_of}
 use Rattle.pfs_summaries.specs.Cells.{tally_of, is_hidden_by}
 use Rattle.pfs_summaries.specs.Heads.{head_of, places_of, row_cmp as summary_cmp}
 use Rattle.pfs_summaries.specs.RowValues.{values_of as numbers_shown, times_of, sums_of}
 use Rattle.pfs_summaries.specs.Summaries.{numbers_of, is_listed, key_at, row_values, class_rows, head_rows, place_rows, ordered_rows, summary_rows_of}
-use Rattle.pfs_summaries.specs.Digests.{null_heading, digest_heading, counted_row, place_row, digest_row, digests_of}
+use Rattle.pfs_summaries.specs.DigestRows.{null_heading, digest_heading, counted_row, place_row, digest_row, digests_of}
 use Rattle.pfs_summaries.proofs.DigestRows.{counted}
-use Rattle.pfs_summaries.proofs.Puts.{both, values_puts}
-use Rattle.pfs_tables.specs.Events.{Fields, where_true, has_ended, nesting_name, event_in, event_head, event_tail, event_values, named_values, class_name, table_values, object_of, digest_values, digest_of, statement_values}
+use Rattle.pfs_summaries.proofs.PutOrder.{both, values_puts}
+use Rattle.pfs_tables.specs.EventRows.{Fields, where_true, has_ended, nesting_name, event_in, event_head, event_tail, event_values, named_values, class_name, table_values, object_of, digest_values, digest_of, statement_values}
 use Rattle.pfs_tables.specs.Fits.{fits, IsRow, IsRowOf}
-use Rattle.pfs_tables.specs.Orders.{Keyed, row_cmp, number_key, name_key}
-use Rattle.pfs_tables.specs.Plain.{flag_value, event_key, event_row, keyed_event, thread_values, thread_row, account_values, account_row, name_values, name_row, words_row, slot_row, may_show, on_place, class_values, class_row, consumer_row, consumer_rows, consumers, flags_at, rows_of, plain_rows_of}
-use Rattle.pfs_tables.specs.Shown.{listed_rows}
+use Rattle.pfs_tables.specs.TableOrders.{Keyed, row_cmp, number_key, name_key}
+use Rattle.pfs_tables.specs.PlaceTables.{flag_value, event_key, event_row, keyed_event, thread_values, thread_row, account_values, account_row, name_values, name_row, words_row, slot_row, may_show, on_place, class_values, class_row, consumer_row, consumer_rows, consumers, flags_at, rows_of, plain_rows_of}
+use Rattle.pfs_tables.specs.ListedRows.{listed_rows}
 
 -- ---- values
 

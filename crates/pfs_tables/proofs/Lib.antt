@@ -1,4 +1,4 @@
-pub mod EventWords
-pub mod Examples
-pub mod Fits
-pub mod Standing
+mod EventWords
+mod Examples
+mod Fits
+mod RowOrder

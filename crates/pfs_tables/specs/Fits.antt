@@ -5,8 +5,8 @@ use Rattle.pfs_rows.specs.declared.table.Table.{Table}
 use Rattle.pfs_catalogue.specs.Columns.{Named, columns_of}
 use Rattle.pfs_catalogue.specs.declared.columns.ColumnKind.{ColumnKind}
 use Rattle.pfs_catalogue.specs.declared.columns.ColumnKind.TheVariants as columns
-use Rattle.pfs_values.specs.declared.RowValue.{RowValue}
-use Rattle.pfs_values.specs.declared.RowValue.TheVariants.{Null, Number, Text}
+use Rattle.pfs_text.specs.declared.values.RowValue.{RowValue}
+use Rattle.pfs_text.specs.declared.values.RowValue.TheVariants.{Null, Number, Text}
 
 -- a value that a column of this kind may show: a number or a text by the kind, and NULL in each
 abbrev pub fits : RowValue → ColumnKind → Bool

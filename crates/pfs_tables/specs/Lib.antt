@@ -1,5 +1,5 @@
-pub mod Events
+pub mod EventRows
 pub mod Fits
-pub mod Orders
-pub mod Plain
-pub mod Shown
+pub mod TableOrders
+pub mod PlaceTables
+pub mod ListedRows

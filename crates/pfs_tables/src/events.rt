@@ -4,10 +4,10 @@ ghost use Rattle.std.specs.Prelude.{◌≡◌, ◌++◌, ◌∷◌, [], ◌+◌,
 ghost use Rattle.std.specs.Option.{option_copied, option_map};
 ghost use Rattle.pfs_classes.specs.Registry.{class_at};
 ghost use Rattle.pfs_event.specs.declared.event.Event.{Event};
-ghost use Rattle.pfs_values.specs.declared.RowValue.TheVariants as value;
-ghost use Rattle.pfs_tables.specs.Events as spec;
-ghost use Rattle.pfs_tables.specs.Events.{fields_of, event_in};
-ghost use Rattle.pfs_tables.specs.Plain.{event_row as spec_event_row, event_key as spec_event_key, keyed_event as spec_keyed_event};
+ghost use Rattle.pfs_text.specs.declared.values.RowValue.TheVariants as value;
+ghost use Rattle.pfs_tables.specs.EventRows as spec;
+ghost use Rattle.pfs_tables.specs.EventRows.{fields_of, event_in};
+ghost use Rattle.pfs_tables.specs.PlaceTables.{event_row as spec_event_row, event_key as spec_event_key, keyed_event as spec_keyed_event};
 
 use crate::NoMemory;
 use crate::orders::{Keyed, RowKey, number_key};
@@ -16,8 +16,7 @@ use pfs_digest::digest;
 use pfs_event::Event;
 use pfs_names::{NameId, Names};
 use pfs_rows::{EventTable, TableKind};
-use pfs_text::Text;
-use pfs_values::{Row, RowValue};
+use pfs_text::{Row, RowValue, Text};
 use std::alloc::Global;
 
 /// The event with these words, or none exactly where no event has them.
@@ -96,7 +95,7 @@ fn nesting_name(alloc: Global, nesting: u64) -> Result<RowValue, NoMemory>
 }
 
 // What every event table shows.
-#[tactic(auto, unfolding(crate::specs::Events::event_head))]
+#[tactic(auto, unfolding(crate::specs::EventRows::event_head))]
 fn event_head(alloc: Global, event: &Event, name: &str) -> Result<Vec<RowValue>, NoMemory>
     ensures { IfOk result (λ values. values.items ≡ spec.event_head (fields_of event.now) name.now) }
 {
@@ -121,7 +120,7 @@ fn event_head(alloc: Global, event: &Event, name: &str) -> Result<Vec<RowValue>,
 }
 
 // The table of a wait, or nothing where it is on none. None where the setting has no such table.
-#[tactic(auto, unfolding(crate::specs::Events::object_of))]
+#[tactic(auto, unfolding(crate::specs::EventRows::object_of))]
 fn object_of(alloc: Global, setting: &Setting, link: u64) -> Result<Option<Row>, NoMemory>
     ensures { IfOk result (λ row. row ≡ spec.object_of setting.now link) }
 {
@@ -141,7 +140,7 @@ fn object_of(alloc: Global, setting: &Setting, link: u64) -> Result<Option<Row>,
 }
 
 // The SHA-256 of a statement's digest text, or nothing where it has none. None where the setting has no such place.
-#[tactic(auto, unfolding(crate::specs::Events::digest_of))]
+#[tactic(auto, unfolding(crate::specs::EventRows::digest_of))]
 fn digest_of(alloc: Global, setting: &Setting, link: u64) -> Result<Option<Row>, NoMemory>
     ensures { IfOk result (λ row. row ≡ spec.digest_of setting.now link) }
 {
@@ -203,7 +202,7 @@ fn access_mode(alloc: Global, read_only: bool) -> Result<Row, NoMemory>
 }
 
 // What the tables of a kind show beside. None where the setting lacks what it would show.
-#[tactic(auto, unfolding(crate::specs::Events::event_tail))]
+#[tactic(auto, unfolding(crate::specs::EventRows::event_tail))]
 fn event_tail(
     alloc: Global,
     setting: &Setting,
@@ -270,7 +269,7 @@ fn event_key(alloc: Global, which: EventTable, event: &Event, place: u64) -> Row
 
 /// The row of an event's words at a row of the board, with its place in the order. None where the
 /// words are no event's, or the setting lacks what the row would show.
-#[tactic(auto, unfolding(crate::specs::Plain::event_row))]
+#[tactic(auto, unfolding(crate::specs::PlaceTables::event_row))]
 pub(crate) fn event_row(
     alloc: Global,
     setting: &Setting,

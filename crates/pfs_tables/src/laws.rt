@@ -7,14 +7,14 @@ ghost use Rattle.pfs_rows.specs.declared.table.Reading.{Reading};
 ghost use Rattle.pfs_rows.specs.declared.table.Table.{Table};
 ghost use Rattle.pfs_catalogue.specs.Columns.{columns_of};
 ghost use Rattle.pfs_classes.specs.declared.setting.Setting.{Setting};
-ghost use Rattle.pfs_readsets.specs.Places.{scope_of};
+ghost use Rattle.pfs_readsets.specs.TablePlaces.{scope_of};
 ghost use Rattle.pfs_readsets.specs.ReadSets.{IsReadSet, target_of};
 ghost use Rattle.pfs_readsets.specs.declared.target.Target.{Target};
-ghost use Rattle.pfs_values.specs.declared.RowValue.{RowValue};
+ghost use Rattle.pfs_text.specs.declared.values.RowValue.{RowValue};
 ghost use Rattle.pfs_tables.specs.Fits.{IsRowOf};
-ghost use Rattle.pfs_tables.specs.Orders.{row_cmp};
-ghost use Rattle.pfs_tables.specs.Plain.{given_rows, sorted_rows};
-ghost use Rattle.pfs_tables.specs.Shown.{listed_rows};
+ghost use Rattle.pfs_tables.specs.TableOrders.{row_cmp};
+ghost use Rattle.pfs_tables.specs.PlaceTables.{given_rows, sorted_rows};
+ghost use Rattle.pfs_tables.specs.ListedRows.{listed_rows};
 
 /// Each row that a table shows has as many values as the table has columns, a number or NULL in a
 /// number's column and a text or NULL in a text's.

@@ -2,16 +2,16 @@
 
 ghost use Rattle.std.specs.Prelude.{◌≡◌, IfOk, List, All, length};
 ghost use Rattle.pfs_catalogue.specs.Columns.{columns_of};
-ghost use Rattle.pfs_values.specs.declared.RowValue.{RowValue};
+ghost use Rattle.pfs_text.specs.declared.values.RowValue.{RowValue};
 ghost use Rattle.pfs_tables.specs.Fits.{IsRowOf};
-ghost use Rattle.pfs_tables.specs.Shown.{listed_rows};
+ghost use Rattle.pfs_tables.specs.ListedRows.{listed_rows};
 
 use crate::NoMemory;
 use crate::plain::plain_rows;
 use pfs_classes::Setting;
 use pfs_rows::{Reading, Table};
 use pfs_summaries::{digest_rows, summary_rows};
-use pfs_values::Rowset;
+use pfs_text::Rowset;
 use std::alloc::Global;
 
 /// What a table shows by these readings, in the order of its key. It asks nothing of the readings. Of

@@ -1,11 +1,10 @@
 //! The order of rows.
 
 ghost use Rattle.std.specs.Prelude.{◌≡◌, [], IfOk, OnOk, List};
-ghost use Rattle.pfs_tables.specs.Orders.{number_key as spec_number_key, name_key as spec_name_key, put_row};
+ghost use Rattle.pfs_tables.specs.TableOrders.{number_key as spec_number_key, name_key as spec_name_key, put_row};
 
 use crate::NoMemory;
-use pfs_text::Text;
-use pfs_values::Row;
+use pfs_text::{Row, Text};
 use std::alloc::Global;
 use std::collections::BTreeMap;
 

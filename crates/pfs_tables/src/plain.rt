@@ -3,8 +3,8 @@
 ghost use Rattle.std.specs.Prelude.{◌≡◌, [], ◌∷◌, ◌==◌, IfOk, OnOk, List, map, Some, None};
 ghost use Rattle.std.specs.Option.{option_to_list};
 ghost use Rattle.pfs_rows.specs.Rows.{place_at};
-ghost use Rattle.pfs_tables.specs.Orders.{put_rows, Keyed as KeyedRow};
-ghost use Rattle.pfs_tables.specs.Plain as spec;
+ghost use Rattle.pfs_tables.specs.TableOrders.{put_rows, Keyed as KeyedRow};
+ghost use Rattle.pfs_tables.specs.PlaceTables as spec;
 
 use crate::NoMemory;
 use crate::events::event_row;
@@ -12,10 +12,10 @@ use crate::orders::{Keyed, RowKey, Rows, put};
 use crate::rows::{account_row, class_row, consumer_row, flags_at, name_row, thread_row};
 use pfs_classes::Setting;
 use pfs_consumers::Consumer;
-use pfs_infos::{AccountInfo, NameInfo, ThreadInfo};
+use pfs_containers::{AccountInfo, NameInfo, ThreadInfo};
 use pfs_readsets::{has_long, has_ring};
 use pfs_rows::{Place, Reading, Seen, Table, place_of};
-use pfs_values::{Row, Rowset};
+use pfs_text::{Row, Rowset};
 use std::alloc::Global;
 use std::collections::BTreeMap;
 
@@ -53,7 +53,7 @@ fn may_show_row(table: Table, row: u64) -> bool
 }
 
 // The row of a place that was found Whole.
-#[tactic(auto, unfolding(crate::specs::Plain::words_row))]
+#[tactic(auto, unfolding(crate::specs::PlaceTables::words_row))]
 fn words_row(
     alloc: Global,
     setting: &Setting,
@@ -78,7 +78,7 @@ fn words_row(
 }
 
 // The row of a reading of the board: only what was found Whole gives one.
-#[tactic(auto, unfolding(crate::specs::Plain::slot_row))]
+#[tactic(auto, unfolding(crate::specs::PlaceTables::slot_row))]
 fn slot_row(
     alloc: Global,
     setting: &Setting,
@@ -125,7 +125,7 @@ fn put_each(
     Ok(())
 }
 
-#[tactic(auto, unfolding(crate::specs::Plain::consumer_rows))]
+#[tactic(auto, unfolding(crate::specs::PlaceTables::consumer_rows))]
 fn put_consumers(alloc: Global, rows: &mut Rows, word: u64, flags: u16) -> Result<(), NoMemory>
     ensures { OnOk result (rows.new.entries ≡ put_rows rows.old.entries (spec.consumer_rows word flags)) }
 {
@@ -156,7 +156,7 @@ fn put_word(
     }
 }
 
-#[tactic(auto, unfolding(crate::specs::Plain::slot_row))]
+#[tactic(auto, unfolding(crate::specs::PlaceTables::slot_row))]
 fn put_reading(
     alloc: Global,
     setting: &Setting,
@@ -193,7 +193,7 @@ fn in_order(alloc: Global, rows: Rows) -> Result<Vec<Row>, NoMemory>
 /// and only where the setting has all that the row shows. It knows the tables whose rows each show
 /// one place or one switch word: the setup tables of classes and consumers, threads, accounts,
 /// users, hosts and the event tables. Of others it shows nothing.
-#[tactic(auto, unfolding(crate::specs::Plain::plain_rows_of))]
+#[tactic(auto, unfolding(crate::specs::PlaceTables::plain_rows_of))]
 pub fn plain_rows(
     alloc: Global,
     setting: &Setting,

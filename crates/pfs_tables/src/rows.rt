@@ -3,19 +3,18 @@
 ghost use Rattle.std.specs.Prelude.{◌≡◌, ◌<◌, ◌∷◌, [], ◌==◌, ◌-◌, ℕ, IfOk, OnOk, List, Some, None, find, slice_get};
 ghost use Rattle.std.specs.Option.{option_map};
 ghost use Rattle.std.specs.Int.{bit_at};
-ghost use Rattle.pfs_values.specs.declared.RowValue.TheVariants as value;
-ghost use Rattle.pfs_tables.specs.Plain as spec;
-ghost use Rattle.pfs_tables.specs.Orders.{name_key as spec_name_key};
+ghost use Rattle.pfs_text.specs.declared.values.RowValue.TheVariants as value;
+ghost use Rattle.pfs_tables.specs.PlaceTables as spec;
+ghost use Rattle.pfs_tables.specs.TableOrders.{name_key as spec_name_key};
 
 use crate::NoMemory;
 use crate::events::{class_name, name_of, text_value};
 use crate::orders::{Keyed, name_key, number_key};
 use pfs_classes::Setting;
 use pfs_consumers::{Consumer, Flags};
-use pfs_infos::{AccountInfo, NameInfo, ThreadInfo};
+use pfs_containers::{AccountInfo, NameInfo, ThreadInfo};
 use pfs_rows::Reading;
-use pfs_text::Text;
-use pfs_values::{Row, RowValue};
+use pfs_text::{Row, RowValue, Text};
 use std::alloc::Global;
 
 fn flag_value(alloc: Global, flag: bool) -> Result<RowValue, NoMemory>
@@ -89,7 +88,7 @@ fn thread_values(
 }
 
 /// A thread's row, with its place in the order. None where the setting doesn't have its names.
-#[tactic(auto, unfolding(crate::specs::Plain::thread_row))]
+#[tactic(auto, unfolding(crate::specs::PlaceTables::thread_row))]
 pub(crate) fn thread_row(
     alloc: Global,
     setting: &Setting,
@@ -149,7 +148,7 @@ fn named_account(
 }
 
 /// An account's row, with its place in the order. None where the setting doesn't have its names.
-#[tactic(auto, unfolding(crate::specs::Plain::account_row))]
+#[tactic(auto, unfolding(crate::specs::PlaceTables::account_row))]
 pub(crate) fn account_row(
     alloc: Global,
     setting: &Setting,
@@ -186,7 +185,7 @@ fn named_row(alloc: Global, place: u64, info: &NameInfo, name: &str) -> Result<K
 
 /// A user's or a host's row, with its place in the order. None where the setting doesn't have its
 /// name.
-#[tactic(auto, unfolding(crate::specs::Plain::name_row))]
+#[tactic(auto, unfolding(crate::specs::PlaceTables::name_row))]
 pub(crate) fn name_row(
     alloc: Global,
     setting: &Setting,
@@ -216,7 +215,7 @@ fn class_values(alloc: Global, flags: u16, name: &str) -> Result<Row, NoMemory>
 
 /// The row of the class whose flags this word has, with its place in the order. None where the word
 /// is no class's.
-#[tactic(auto, unfolding(crate::specs::Plain::class_row))]
+#[tactic(auto, unfolding(crate::specs::PlaceTables::class_row))]
 pub(crate) fn class_row(
     alloc: Global,
     setting: &Setting,

@@ -5,9 +5,9 @@ use Rattle.pfs_text.specs.declared.conditions.Comparison.TheVariants.{Equal, AtM
 use Rattle.pfs_text.specs.declared.conditions.Literal.TheVariants.{Number as NumberLiteral, Text as TextLiteral}
 use Rattle.pfs_text.specs.declared.conditions.Shown.TheVariants.{Null, Number}
 use Rattle.pfs_text.specs.declared.conditions.TestKind.TheVariants.{Compare, IsNotNull}
-use Rattle.pfs_text.specs.Meeting.{Agrees, Meets}
+use Rattle.pfs_text.specs.Conditions.{Agrees, Meets}
 use Rattle.pfs_text.specs.Patterns.{IsLike}
-use Rattle.pfs_text.specs.Quotes.{IsQuotedFront, quoted}
+use Rattle.pfs_text.specs.QuotedTexts.{IsQuotedFront, quoted}
 
 -- `_` is one byte
 one_byte : IsLike (codes "a_c") (codes "abc")

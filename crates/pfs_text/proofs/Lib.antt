@@ -1,7 +1,7 @@
-pub mod Closing
-pub mod Digits
-pub mod Examples
-pub mod LikeLemmas
-pub mod Literals
+mod QuoteEnds
+mod Digits
+mod Examples
+mod LikeLemmas
+mod Literals
 pub mod QuoteLaws
-pub mod Scans
+mod Scans

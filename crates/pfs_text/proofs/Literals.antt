@@ -10,7 +10,7 @@ use Rattle.pfs_text.specs.declared.pattern.Part.{Part}
 use Rattle.pfs_text.specs.declared.pattern.Part.TheVariants.{Byte}
 use Rattle.pfs_text.specs.declared.pattern.Scan.{Scan}
 use Rattle.pfs_text.specs.Patterns.{StandFor, part_of, parts_of}
-use Rattle.pfs_text.specs.Scanning.{FitsAt, MayBeginAt, MayFit, Stands, is_literal, steps_left}
+use Rattle.pfs_text.specs.ScanSteps.{FitsAt, MayBeginAt, MayFit, Stands, is_literal, steps_left}
 use Rattle.pfs_text.proofs.Scans.{nearer}
 
 -- the bytes of the pattern before the first that stands for another

@@ -2,8 +2,8 @@
 use Rattle.std.proofs.Common.{◌≡◌, ◌≢◌, ℕ, ◌⊎◌, inl, inr, List, [], ◌∷◌, ◌++◌, length, sym, subst, ap, ◌∙◌, refl, append_assoc}
 use Rattle.std.specs.List.{flat_map}
 use Rattle.std.proofs.lemmas.Bool.{cases_eq}
-use Rattle.pfs_text.specs.Quotes.{BeginsPlain, IsQuotedFront, QuotesAreExact, doubled, quoted}
-use Rattle.pfs_text.proofs.Closing.{doubled_plain}
+use Rattle.pfs_text.specs.QuotedTexts.{BeginsPlain, IsQuotedFront, QuotesAreExact, doubled, quoted}
+use Rattle.pfs_text.proofs.QuoteEnds.{doubled_plain}
 
 -- a doubled text with its closing quote and what follows
 abbrev tail_of : List ℕ → List ℕ → List ℕ

@@ -6,7 +6,7 @@ use Rattle.pfs_text.specs.declared.pattern.Part.{Part}
 use Rattle.pfs_text.specs.declared.pattern.Part.TheVariants.{AnyBytes, OneByte, Byte}
 use Rattle.pfs_text.specs.declared.pattern.Scan.{Scan}
 use Rattle.pfs_text.specs.Patterns.{StandFor, parts_of}
-use Rattle.pfs_text.specs.Scanning.{FitsAt, MayFit, Stands, StandsFirst, steps_left}
+use Rattle.pfs_text.specs.ScanSteps.{FitsAt, MayFit, Stands, StandsFirst, steps_left}
 
 -- a part that is no `%` takes one byte
 rest_from_stand_for : (part : Part) (parts : List Part) (text : List ℕ) → StandsFirst part text → StandFor (part ∷ parts) text → StandFor parts (drop 1 text)

@@ -1,6 +1,6 @@
 pub mod Decimals
 pub mod Likes
-pub mod Meeting
+pub mod Conditions
 pub mod Patterns
-pub mod Quotes
-pub mod Scanning
+pub mod QuotedTexts
+pub mod ScanSteps

@@ -1,6 +1,6 @@
 //! The conditions of a `WHERE`.
 ghost use Rattle.std.specs.Prelude.{◌↔◌, IsTrue};
-ghost use Rattle.pfs_text.specs.Meeting.{Agrees, Meets};
+ghost use Rattle.pfs_text.specs.Conditions.{Agrees, Meets};
 
 use crate::{Text, like};
 use std::cmp::Ordering;

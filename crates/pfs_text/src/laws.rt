@@ -3,7 +3,7 @@ ghost use Rattle.std.specs.Prelude.{◌↔◌, ℕ, List, IsTrue};
 ghost use Rattle.pfs_text.specs.Decimals.{DecimalsReadBack};
 ghost use Rattle.pfs_text.specs.Likes.{is_like};
 ghost use Rattle.pfs_text.specs.Patterns.{IsLike};
-ghost use Rattle.pfs_text.specs.Quotes.{QuotesAreExact};
+ghost use Rattle.pfs_text.specs.QuotedTexts.{QuotesAreExact};
 
 /// The decimal text of a number is read back as that number.
 pub fn numbers()

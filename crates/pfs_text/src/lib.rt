@@ -7,12 +7,14 @@ mod numbers;
 mod pattern;
 mod quoting;
 mod texts;
+mod values;
 
 pub use conditions::{Comparison, Literal, Shown, Test, TestKind, meets};
 pub use numbers::{put_u64, read_u64};
 pub use pattern::like;
 pub use quoting::{quote, unquote};
 pub use texts::Text;
+pub use values::{Row, RowValue, Rowset};
 
 /// Memory ran out.
 pub type NoMemory = std::alloc::AllocError;

@@ -4,7 +4,7 @@ ghost use Rattle.std.specs.Bool.{OnTrue};
 ghost use Rattle.std.specs.List.{prefix_len};
 ghost use Rattle.pfs_text.specs.Likes.{is_like};
 ghost use Rattle.pfs_text.specs.Patterns.{IsLike, StandFor, part_of, parts_of};
-ghost use Rattle.pfs_text.specs.Scanning.{MayBeginAt, Moves, Stands, StandsFirst, is_literal};
+ghost use Rattle.pfs_text.specs.ScanSteps.{MayBeginAt, Moves, Stands, StandsFirst, is_literal};
 
 use memchr::memmem;
 

@@ -1,7 +1,7 @@
 //! Quoted texts, as the literals of SQL have them.
 ghost use Rattle.std.specs.Prelude.{◌≡◌, ℕ, ◌+◌, ◌++◌, ◌∷◌, [], MatchOption, OnOk, OnErr};
 ghost use Rattle.std.specs.List.{flat_map};
-ghost use Rattle.pfs_text.specs.Quotes.{Extends, IsQuotedFront, doubled, quoted};
+ghost use Rattle.pfs_text.specs.QuotedTexts.{Extends, IsQuotedFront, doubled, quoted};
 
 use crate::NoMemory;
 

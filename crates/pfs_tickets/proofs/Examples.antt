@@ -6,7 +6,7 @@ use Rattle.pfs_tickets.specs.declared.view.Drawn.{Drawn}
 use Rattle.pfs_tickets.specs.declared.view.View.{View}
 use Rattle.pfs_tickets.specs.History.{count_of, times, IsRising}
 use Rattle.pfs_tickets.specs.Knowledge.{IsWhole, root, drew, joined, left_with, given}
-use Rattle.pfs_tickets.specs.Whole.{IsComplete}
+use Rattle.pfs_tickets.specs.WholeSeats.{IsComplete}
 use Rattle.pfs_tickets.proofs.TicketFacts.{count_here, count_other, times_here, times_else, times_other}
 
 abbrev drawn : ℕ → ℕ → ℕ → Drawn

@@ -1,7 +1,7 @@
 -- The laws.
 use Rattle.std.proofs.Common.{ap, ◌∙◌, arith, length-append}
 use Rattle.pfs_tickets.specs.History.{count_of, times}
-use Rattle.pfs_tickets.specs.Laws.{SumLaw, PhaseLaw}
+use Rattle.pfs_tickets.specs.TicketLaws.{SumLaw, PhaseLaw}
 use Rattle.pfs_tickets.proofs.TicketFacts.{count_append, times_append}
 
 pub sum_law : SumLaw

@@ -1,8 +1,8 @@
-pub mod ListFacts
-pub mod TicketFacts
-pub mod Numbers
-pub mod Keeps
-pub mod Seats
-pub mod Between
-pub mod Examples
-pub mod LawFacts
+mod ListFacts
+mod TicketFacts
+mod StepNumbers
+mod RuleSteps
+mod Seats
+mod ReadySeats
+mod Examples
+mod LawFacts

@@ -9,9 +9,9 @@ use Rattle.pfs_tickets.specs.declared.view.View.{View}
 use Rattle.pfs_tickets.specs.History.{Each, total, count_of, times}
 use Rattle.pfs_tickets.specs.Knowledge.{stake, root, split_left, split_right, joined, spent}
 use Rattle.pfs_tickets.specs.Rule.{Fits, Ruled}
-use Rattle.pfs_tickets.proofs.Keeps.{Counted, Timed, fits_set, kind_same}
+use Rattle.pfs_tickets.proofs.RuleSteps.{Counted, Timed, fits_set, kind_same}
 use Rattle.pfs_tickets.proofs.ListFacts.{at_end, each_append, total_set, total_append}
-use Rattle.pfs_tickets.proofs.Numbers.{numbers_first, numbers_cut, numbers_glued, not_root, none_yet, only_is}
+use Rattle.pfs_tickets.proofs.StepNumbers.{numbers_first, numbers_cut, numbers_glued, not_root, none_yet, only_is}
 use Rattle.pfs_tickets.proofs.TicketFacts.{count_append, times_append, rising_append}
 
 abbrev zeros : List ℕ

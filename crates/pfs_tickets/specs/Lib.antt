@@ -2,6 +2,6 @@ pub mod History
 pub mod Knowledge
 pub mod Rule
 pub mod Plays
-pub mod Whole
-pub mod Known
-pub mod Laws
+pub mod WholeSeats
+pub mod SeatViews
+pub mod TicketLaws

@@ -5,7 +5,7 @@ use Rattle.pfs_tickets.specs.declared.view.Drawn.{Drawn}
 use Rattle.pfs_tickets.specs.declared.view.View.{View}
 use Rattle.pfs_tickets.specs.History.{Each, count_of}
 use Rattle.pfs_tickets.specs.Knowledge.{all_draws, IsWhole, drew, told}
-use Rattle.pfs_tickets.specs.Whole.{IsComplete}
+use Rattle.pfs_tickets.specs.WholeSeats.{IsComplete}
 
 module _ {S : Type 0} where
   -- the word found is the ticket, above each of its kind that the seat had

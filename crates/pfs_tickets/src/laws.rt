@@ -1,6 +1,6 @@
 //! Laws of the tickets.
 
-ghost use Rattle.pfs_tickets.specs.Laws.{SumLaw, PhaseLaw};
+ghost use Rattle.pfs_tickets.specs.TicketLaws.{SumLaw, PhaseLaw};
 
 /// A draw keeps the sum of a seat's draws left and its tickets, a split divides it, and a join adds it up. So the
 /// root has the whole sum again once each seat was taken in.

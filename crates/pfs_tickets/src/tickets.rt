@@ -4,8 +4,8 @@ ghost use Rattle.atomic_table.specs.Seated.{TableId};
 ghost use Rattle.pfs_tickets.specs.declared.view.Drawn.{Drawn};
 ghost use Rattle.pfs_tickets.specs.History.{Each, count_of};
 ghost use Rattle.pfs_tickets.specs.Knowledge.{all_draws, IsWhole, root, drew, left_with, given, joined};
-ghost use Rattle.pfs_tickets.specs.Known.{Known, known, first_view, IsSized, IsReady};
-ghost use Rattle.pfs_tickets.specs.Whole.{IsComplete};
+ghost use Rattle.pfs_tickets.specs.SeatViews.{Known, known, first_view, IsSized, IsReady};
+ghost use Rattle.pfs_tickets.specs.WholeSeats.{IsComplete};
 
 use crate::rules::{Count, Cut, Draw, Glue, Rules, Tell};
 use crate::view::View;

@@ -1,3 +1,3 @@
-mod Asking
+mod CommandWords
 mod Outcomes
-mod Summaries
+mod WrittenTables

@@ -2,8 +2,8 @@
 use Rattle.std.proofs.Common.{ℕ, ◌≡◌, ◌≤◌, ◌<◌, ◌⊎◌, inl, inr, List, length, Option, Some, IfSome, Result, Ok, Err, ap, subst, refl, arith}
 use Rattle.std.specs.Prelude.{String}
 use Rattle.std.specs.declared.alloc.Global.{Global}
-use Rattle.pfs_outside.specs.Outside.{Rose, Added}
-use Rattle.pfs_outside.specs.Streams.{Puts}
+use Rattle.pfs_outside.specs.DeviceCalls.{Rose, Added}
+use Rattle.pfs_outside.specs.WholeStreams.{Puts}
 use Rattle.pfs_outside.specs.declared.writing.WriteStop.{WriteStop}
 use Rattle.pfs_outside.specs.declared.writing.WriteStop.TheVariants as stop
 use Rattle.pfs_top.specs.declared.statuses.Status.{Status}
@@ -12,9 +12,9 @@ use Rattle.pfs_classes.specs.declared.setting.Setting.{Setting}
 use Rattle.pfs_script.specs.declared.blocks.Phase.{Phase}
 use Rattle.pfs_script.specs.declared.reasons.Reason.TheVariants.{TooLong}
 use Rattle.pfs_script.specs.Scripts.{IsScript}
-use Rattle.pfs_gen.specs.Generated.{script_text}
+use Rattle.pfs_gen.specs.GeneratedScript.{script_text}
 use Rattle.pfs_top.specs.Commands.{most_bytes, HasReport, HasSummaries, HasLoad, HasFault, HasRead, HasInput, HasPlain, Has, ToldPart, Tells, Ends, status_after}
-use Rattle.pfs_top.specs.Words.{AsksRun, AsksPlain, AsksScript, AsksLoad}
+use Rattle.pfs_top.specs.CommandWords.{AsksRun, AsksPlain, AsksScript, AsksLoad}
 
 -- a status that goes with a text of its own
 abbrev pub HasOwnText : Status → Type 0

@@ -1,8 +1,8 @@
 -- What a top call answers, and the text that goes with each answer.
 use Rattle.std.specs.Prelude.{ℕ, ◌≡◌, ◌≤◌, ◌<◌, ◌⊎◌, List, [], ◌++◌, length, codes, decimal, Option, Some, IfSome, Result, Ok, Err, String}
 use Rattle.std.specs.declared.alloc.Global.{Global}
-use Rattle.pfs_outside.specs.Outside.{Added}
-use Rattle.pfs_outside.specs.Streams.{AddedPart}
+use Rattle.pfs_outside.specs.DeviceCalls.{Added}
+use Rattle.pfs_outside.specs.WholeStreams.{AddedPart}
 use Rattle.pfs_outside.specs.declared.writing.WriteStop.{WriteStop}
 use Rattle.pfs_outside.specs.declared.writing.WriteStop.TheVariants as stop
 use Rattle.pfs_classes.specs.declared.setting.Setting.{Setting}
@@ -10,13 +10,13 @@ use Rattle.pfs_script.specs.declared.blocks.Phase.{Phase}
 use Rattle.pfs_script.specs.declared.reasons.Reason.{Reason}
 use Rattle.pfs_script.specs.declared.reasons.Reason.TheVariants.{BadByte, OpenLine, BadForm, OutOfPlace, BadNumber, BadSession, UnknownName, BadLimit, BadNesting, BadStatement, TooLong, TooMuch}
 use Rattle.pfs_script.specs.Scripts.{IsScript, IsFirstFault}
-use Rattle.pfs_counted.specs.Laws.{IsCountedRun}
+use Rattle.pfs_law_summaries.specs.SummaryLaws.{IsCountedRun}
 use Rattle.pfs_journal.specs.declared.report.ReportParts.{ReportParts}
 use Rattle.pfs_journal.specs.Reports.{IsReport}
 use Rattle.pfs_journal.specs.Spelling.{spelling}
-use Rattle.pfs_gen.specs.Generated.{script_text}
+use Rattle.pfs_gen.specs.GeneratedScript.{script_text}
 use Rattle.pfs_top.specs.Loads.{load_text}
-use Rattle.pfs_top.specs.Words.{AsksPlain, AsksScript, AsksLoad, IsCommand}
+use Rattle.pfs_top.specs.CommandWords.{AsksPlain, AsksScript, AsksLoad, IsCommand}
 use Rattle.pfs_top.specs.declared.statuses.Status.{Status}
 use Rattle.pfs_top.specs.declared.statuses.Status.TheVariants.{Done, Usage, BadScript, ReadFault, WriteFault, NoMemory}
 

@@ -1,3 +1,3 @@
 pub mod Commands
 pub mod Loads
-pub mod Words
+pub mod CommandWords

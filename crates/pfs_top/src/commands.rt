@@ -1,9 +1,9 @@
 //! The commands: what words ask for is done over a source and a sink.
 
-ghost use Rattle.pfs_outside.specs.Outside.{Rose};
-ghost use Rattle.pfs_outside.specs.Streams.{Puts};
+ghost use Rattle.pfs_outside.specs.DeviceCalls.{Rose};
+ghost use Rattle.pfs_outside.specs.WholeStreams.{Puts};
 ghost use Rattle.pfs_top.specs.Commands.{usage_text, HasUsage, HasPlain, Has, Tells, Ends, Completes, CompletesLoad, LeavesSource};
-ghost use Rattle.pfs_top.specs.Words.{AsksPlain, AsksScript};
+ghost use Rattle.pfs_top.specs.CommandWords.{AsksPlain, AsksScript};
 
 use crate::loads::load;
 use crate::runs::run;

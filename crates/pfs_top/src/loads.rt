@@ -2,10 +2,10 @@
 
 ghost use Rattle.std.specs.Prelude.{ℕ, ◌≡◌, List, filter, IfOk};
 ghost use Rattle.std.specs.List.{flat_map};
-ghost use Rattle.pfs_gen.specs.Generated.{script_text};
+ghost use Rattle.pfs_gen.specs.GeneratedScript.{script_text};
 ghost use Rattle.pfs_journal.specs.Spelling.{table_text};
-ghost use Rattle.pfs_outside.specs.Outside.{Rose};
-ghost use Rattle.pfs_outside.specs.Streams.{Puts};
+ghost use Rattle.pfs_outside.specs.DeviceCalls.{Rose};
+ghost use Rattle.pfs_outside.specs.WholeStreams.{Puts};
 ghost use Rattle.pfs_script.specs.Scripts.{IsScript};
 ghost use Rattle.pfs_top.specs.Loads.{is_named, is_summary, last_tables, done_line, load_text};
 ghost use Rattle.pfs_top.specs.Commands.{HasLoad, HasSummaries, Tells};
@@ -82,7 +82,7 @@ fn put_done<K: Sink>(sink: &mut K) -> Result<(), WriteStop>
 }
 
 /// Writes what a load shows of its report.
-#[tactic(auto, using(pfs_outside::proofs::Writes::puts_then, pfs_outside::proofs::Writes::puts_stop), unfolding(crate::specs::Loads::load_text))]
+#[tactic(auto, using(pfs_outside::proofs::SinkWrites::puts_then, pfs_outside::proofs::SinkWrites::puts_stop), unfolding(crate::specs::Loads::load_text))]
 fn put_load<K: Sink>(alloc: Global, report: &Report, sink: &mut K) -> Result<(), WriteStop>
     ensures { Puts (K.written sink.old) (K.written sink.new) (K.faults sink.old) (K.faults sink.new)
         (load_text report.now) result }

@@ -1,8 +1,8 @@
 //! Running a script, and writing its report.
 
 ghost use Rattle.std.specs.Prelude.{ℕ, ◌≡◌, List, IfOk};
-ghost use Rattle.pfs_counted.specs.Laws.{IsCountedRun};
-ghost use Rattle.pfs_outside.specs.Outside.{Rose};
+ghost use Rattle.pfs_law_summaries.specs.SummaryLaws.{IsCountedRun};
+ghost use Rattle.pfs_outside.specs.DeviceCalls.{Rose};
 ghost use Rattle.pfs_script.specs.Scripts.{IsScript};
 ghost use Rattle.pfs_top.specs.Commands.{reason_number, fault_text, HasFault, HasRead, HasReport, HasInput, Tells, Ends, LeavesNothing};
 
@@ -57,11 +57,11 @@ pub fn run_script(alloc: Global, script: &Script) -> Result<Report, NoMemory>
     requires { (text : List ℕ) × IsScript text script.now.setting script.now.phases }
     ensures { IfOk result (λ report. IsCountedRun script.now.setting script.now.phases report) }
 {
-    pfs_counted::laws::counted();
-    pfs_counted::laws::digested();
-    pfs_counted::laws::histories();
-    pfs_counted::laws::currents();
-    pfs_counted::laws::longs();
+    pfs_law_summaries::summaries::counted();
+    pfs_law_summaries::summaries::digested();
+    pfs_law_summaries::summaries::histories();
+    pfs_law_summaries::summaries::currents();
+    pfs_law_summaries::summaries::longs();
     run_plain(alloc, &script.setting, script.phases.as_slice())
 }
 

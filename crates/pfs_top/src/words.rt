@@ -1,7 +1,7 @@
 //! What words ask for.
 
 ghost use Rattle.std.specs.Prelude.{ℕ, ◌↔◌, IsTrue, MatchOption};
-ghost use Rattle.pfs_top.specs.Words.{IsWord, AsksLoad};
+ghost use Rattle.pfs_top.specs.CommandWords.{IsWord, AsksLoad};
 
 use pfs_text::read_u64;
 

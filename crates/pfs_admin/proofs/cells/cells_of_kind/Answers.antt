@@ -1,8 +1,8 @@
 use Rattle.std.proofs.Common.{◌++◌, [], ◌∷◌, cond, ap, sym, ◌∙◌, arith}
 use Rattle.std.specs.Prelude.{filter}
 use Rattle.std.specs.List.{range_with_len}
-use Rattle.pfs_readsets.specs.Places.{is_kind_cell}
-use Rattle.pfs_admin.proofs.Celling.{chosen_next, chosen_whole}
+use Rattle.pfs_readsets.specs.TablePlaces.{is_kind_cell}
+use Rattle.pfs_admin.proofs.KindCells.{chosen_next, chosen_whole}
 use Rattle.pfs_admin.proofs.cells.cells_of_kind.Goals as goal
 
 pub loop-cell-preserved : goal.loop-cell-preserved

@@ -1,5 +1,5 @@
 use Rattle.std.proofs.Common.{arith}
-use Rattle.pfs_admin.proofs.Charging.{all_cost}
+use Rattle.pfs_admin.proofs.TruncationCosts.{all_cost}
 use Rattle.pfs_admin.proofs.charges.all_cost.Goals as goal
 
 pub returns-clause-cost : goal.returns-clause-cost

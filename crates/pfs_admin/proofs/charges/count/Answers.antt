@@ -1,7 +1,7 @@
 use Rattle.std.proofs.Common.{◌∙◌, arith}
 use Rattle.pfs_admin.specs.Truncations.{is_there}
-use Rattle.pfs_admin.proofs.Charging.{count_few}
-use Rattle.pfs_admin.proofs.Leftover.{count_whole}
+use Rattle.pfs_admin.proofs.TruncationCosts.{count_few}
+use Rattle.pfs_admin.proofs.InfoPlaces.{count_whole}
 use Rattle.pfs_admin.proofs.charges.count.Goals as goal
 
 pub overflow_add-count : goal.overflow_add-count

@@ -1,4 +1,4 @@
-use Rattle.pfs_admin.proofs.Charging.{cleared_cost}
+use Rattle.pfs_admin.proofs.TruncationCosts.{cleared_cost}
 use Rattle.pfs_admin.proofs.charges.global_cost.Goals as goal
 
 pub returns-then-due : goal.returns-then-due

@@ -1,10 +1,10 @@
 use Rattle.std.proofs.Common.{◌≡◌, ◌+◌, ap, ◌∙◌, arith}
 use Rattle.pfs_levels.specs.Moves.{cost}
-use Rattle.pfs_levels.proofs.Flushing.{cost_then}
-use Rattle.pfs_admin.specs.Changing.{up_to}
+use Rattle.pfs_levels.proofs.FlushSteps.{cost_then}
+use Rattle.pfs_admin.specs.WordChanges.{up_to}
 use Rattle.pfs_admin.specs.Truncations.{asks_at, place_asks}
-use Rattle.pfs_admin.proofs.Charging.{level_most}
-use Rattle.pfs_admin.proofs.Levelling.{up_next, level_front, level_whole}
+use Rattle.pfs_admin.proofs.TruncationCosts.{level_most}
+use Rattle.pfs_admin.proofs.LevelMoves.{up_next, level_front, level_whole}
 use Rattle.pfs_admin.proofs.charges.level_cost.Goals as goal
 
 pub loop-place-preserved : goal.loop-place-preserved

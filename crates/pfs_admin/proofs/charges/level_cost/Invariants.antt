@@ -1,6 +1,6 @@
 use Rattle.std.proofs.Common.{◌≡◌}
 use Rattle.pfs_levels.specs.Moves.{cost}
-use Rattle.pfs_admin.specs.Changing.{up_to}
+use Rattle.pfs_admin.specs.WordChanges.{up_to}
 use Rattle.pfs_admin.specs.Truncations.{asks_at}
 use Rattle.pfs_admin.proofs.charges.level_cost.Given as goal
 

@@ -1,7 +1,7 @@
 use Rattle.std.proofs.Common.{◌∙◌, ap, sym}
 use Rattle.pfs_levels.specs.Moves.{cost}
 use Rattle.pfs_admin.specs.Truncations.{place_asks}
-use Rattle.pfs_admin.proofs.Charging.{cells_cost}
+use Rattle.pfs_admin.proofs.TruncationCosts.{cells_cost}
 use Rattle.pfs_admin.proofs.charges.place_cost.Goals as goal
 
 pub returns-in-Some : goal.returns-in-Some

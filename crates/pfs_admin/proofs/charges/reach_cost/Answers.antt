@@ -1,5 +1,5 @@
 use Rattle.std.proofs.Common.{arith}
-use Rattle.pfs_admin.proofs.Charging.{AreFew, are_few, reach_cost}
+use Rattle.pfs_admin.proofs.TruncationCosts.{AreFew, are_few, reach_cost}
 use Rattle.pfs_admin.proofs.charges.reach_cost.Goals as goal
 
 pub overflow_add-result : goal.overflow_add-result

@@ -1,9 +1,9 @@
 use Rattle.std.proofs.Common.{◌≡◌, ◌+◌, ◌++◌, ap, sym, subst, ◌∙◌, arith}
 use Rattle.pfs_levels.specs.Moves.{Moved, cost}
-use Rattle.pfs_levels.proofs.Flushing.{enough, moved_more, stays_more, stays_as}
-use Rattle.pfs_admin.specs.Changing.{up_to}
+use Rattle.pfs_levels.proofs.FlushSteps.{enough, moved_more, stays_more, stays_as}
+use Rattle.pfs_admin.specs.WordChanges.{up_to}
 use Rattle.pfs_admin.specs.Truncations.{asks_at, place_asks, level_asks}
-use Rattle.pfs_admin.proofs.Levelling.{up_next, level_front, level_whole}
+use Rattle.pfs_admin.proofs.LevelMoves.{up_next, level_front, level_whole}
 use Rattle.pfs_admin.proofs.emptying.empty_level.Goals as goal
 
 pub empty_place-requires-clause-spare : goal.empty_place-requires-clause-spare

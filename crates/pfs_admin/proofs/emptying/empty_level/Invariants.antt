@@ -1,5 +1,5 @@
 use Rattle.pfs_levels.specs.Moves.{Moved, Stays, cost}
-use Rattle.pfs_admin.specs.Changing.{up_to}
+use Rattle.pfs_admin.specs.WordChanges.{up_to}
 use Rattle.pfs_admin.specs.Truncations.{asks_at}
 use Rattle.pfs_admin.proofs.emptying.empty_level.Given as goal
 

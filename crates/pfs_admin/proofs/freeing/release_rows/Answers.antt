@@ -1,11 +1,11 @@
 use Rattle.std.proofs.Common.{◌≡◌, sym, subst, arith}
-use Rattle.pfs_levels.proofs.Flushing.{stays_then, stays_as}
-use Rattle.pfs_admin.specs.Changing.{up_to}
+use Rattle.pfs_levels.proofs.FlushSteps.{stays_then, stays_as}
+use Rattle.pfs_admin.specs.WordChanges.{up_to}
 use Rattle.pfs_admin.specs.Truncations.{freed_at, free_rows}
 use Rattle.pfs_admin.specs.Works.{Signed}
-use Rattle.pfs_admin.proofs.Released.{rows_whole}
-use Rattle.pfs_admin.proofs.Levelling.{up_next}
-use Rattle.pfs_admin.proofs.Signing.{signed_then}
+use Rattle.pfs_admin.proofs.RowReleases.{rows_whole}
+use Rattle.pfs_admin.proofs.LevelMoves.{up_next}
+use Rattle.pfs_admin.proofs.SignLists.{signed_then}
 use Rattle.pfs_admin.proofs.freeing.release_rows.Goals as goal
 
 pub release-requires-clause-spare : goal.release-requires-clause-spare

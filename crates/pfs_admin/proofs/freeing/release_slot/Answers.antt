@@ -1,5 +1,5 @@
 use Rattle.std.proofs.Common.{arith}
-use Rattle.pfs_admin.proofs.Released.{stays_wider}
+use Rattle.pfs_admin.proofs.RowReleases.{stays_wider}
 use Rattle.pfs_admin.proofs.freeing.release_slot.Goals as goal
 
 pub returns-then-there-clause-stays : goal.returns-then-there-clause-stays

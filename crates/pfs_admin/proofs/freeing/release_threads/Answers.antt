@@ -1,12 +1,12 @@
 use Rattle.std.proofs.Common.{◌≡◌, ◌+◌, ◌*◌, cond, [], is_some, sym, subst, ap, ◌∙◌, arith}
 use Rattle.pfs_levels.specs.declared.places.Level.TheVariants as levels
-use Rattle.pfs_levels.proofs.Flushing.{stays_then, stays_as}
-use Rattle.pfs_admin.specs.Changing.{up_to}
+use Rattle.pfs_levels.proofs.FlushSteps.{stays_then, stays_as}
+use Rattle.pfs_admin.specs.WordChanges.{up_to}
 use Rattle.pfs_admin.specs.Truncations.{free_rows, free_slot, free_threads, is_there}
 use Rattle.pfs_admin.specs.Works.{Signed}
-use Rattle.pfs_admin.proofs.Released.{threads_whole}
-use Rattle.pfs_admin.proofs.Levelling.{up_next}
-use Rattle.pfs_admin.proofs.Signing.{signed_then}
+use Rattle.pfs_admin.proofs.RowReleases.{threads_whole}
+use Rattle.pfs_admin.proofs.LevelMoves.{up_next}
+use Rattle.pfs_admin.proofs.SignLists.{signed_then}
 use Rattle.pfs_admin.proofs.freeing.release_threads.Goals as goal
 
 pub release_slot-requires-clause-spare : goal.release_slot-requires-clause-spare

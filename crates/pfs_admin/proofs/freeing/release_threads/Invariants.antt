@@ -1,7 +1,7 @@
 use Rattle.std.proofs.Common.{◌*◌}
 use Rattle.pfs_levels.specs.declared.places.Level.TheVariants as levels
 use Rattle.pfs_levels.specs.Moves.{Stays}
-use Rattle.pfs_admin.specs.Changing.{up_to}
+use Rattle.pfs_admin.specs.WordChanges.{up_to}
 use Rattle.pfs_admin.specs.Truncations.{free_slot, is_there}
 use Rattle.pfs_admin.specs.Works.{Signed}
 use Rattle.pfs_admin.proofs.freeing.release_threads.Given as goal

@@ -1,4 +1,4 @@
-use Rattle.pfs_admin.proofs.Wording.{each_word}
+use Rattle.pfs_admin.proofs.StatementWords.{each_word}
 use Rattle.pfs_admin.proofs.laws.each_word_has_its_flags.Goals as goal
 
 pub returns : goal.returns

@@ -1,4 +1,4 @@
-use Rattle.pfs_admin.proofs.Rows.{quit_rows}
+use Rattle.pfs_admin.proofs.ActionRows.{quit_rows}
 use Rattle.pfs_admin.proofs.laws.rows_of_a_quit_ascend.Goals as goal
 
 pub returns : goal.returns

@@ -1,4 +1,4 @@
-use Rattle.pfs_admin.proofs.Truncated.{worked}
+use Rattle.pfs_admin.proofs.TruncationExamples.{worked}
 use Rattle.pfs_admin.proofs.laws.truncations_worked.Goals as goal
 
 pub returns : goal.returns

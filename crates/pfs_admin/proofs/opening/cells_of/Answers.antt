@@ -1,5 +1,5 @@
 use Rattle.std.proofs.Common.{◌++◌, [], ◌∷◌, List, ℕ, sym, ◌∙◌, ap}
-use Rattle.pfs_admin.proofs.Listing.{numbers_next}
+use Rattle.pfs_admin.proofs.LoopLists.{numbers_next}
 use Rattle.pfs_admin.proofs.opening.cells_of.Goals as goal
 
 pub loop-id-preserved : goal.loop-id-preserved

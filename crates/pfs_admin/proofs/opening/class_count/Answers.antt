@@ -1,5 +1,5 @@
 use Rattle.std.proofs.Common.{rules, ◌≤◌, length, arith}
-use Rattle.pfs_admin.proofs.Opened.{small_cells, few_cells}
+use Rattle.pfs_admin.proofs.OpeningState.{small_cells, few_cells}
 use Rattle.pfs_admin.proofs.opening.class_count.Goals as goal
 
 pub returns-clause-small : goal.returns-clause-small

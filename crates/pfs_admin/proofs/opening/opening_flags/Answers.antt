@@ -1,7 +1,7 @@
 use Rattle.std.proofs.Common.{rules, ◌++◌, [], ◌∷◌, map, sym, ◌∙◌, ap, arith}
 use Rattle.std.specs.List.{range_with_len}
 use Rattle.std.proofs.lemmas.List.FromFn.{map-range_with_len_more}
-use Rattle.pfs_admin.specs.Opening.{word_flags}
+use Rattle.pfs_admin.specs.OpeningState.{word_flags}
 use Rattle.pfs_admin.proofs.opening.opening_flags.Goals as goal
 
 pub loop-at-preserved : goal.loop-at-preserved

@@ -1,11 +1,11 @@
 use Rattle.std.proofs.Common.{◌≡◌, cond, sym, subst, arith}
-use Rattle.pfs_levels.proofs.Flushing.{stays_then, stays_as}
-use Rattle.pfs_admin.specs.Changing.{up_to}
+use Rattle.pfs_levels.proofs.FlushSteps.{stays_then, stays_as}
+use Rattle.pfs_admin.specs.WordChanges.{up_to}
 use Rattle.pfs_admin.specs.Truncations.{count_up_to, flag_at, sign_at, level_signs}
 use Rattle.pfs_admin.specs.Works.{Signed}
-use Rattle.pfs_admin.proofs.Levelling.{up_next}
-use Rattle.pfs_admin.proofs.Leftover.{count_next, count_whole, signs_whole, enough_places}
-use Rattle.pfs_admin.proofs.Signing.{signed_then}
+use Rattle.pfs_admin.proofs.LevelMoves.{up_next}
+use Rattle.pfs_admin.proofs.InfoPlaces.{count_next, count_whole, signs_whole, enough_places}
+use Rattle.pfs_admin.proofs.SignLists.{signed_then}
 use Rattle.pfs_admin.proofs.remaining.sign_level.Goals as goal
 
 pub sign_place-requires-clause-spare : goal.sign_place-requires-clause-spare

@@ -1,5 +1,5 @@
 use Rattle.pfs_levels.specs.Moves.{Stays}
-use Rattle.pfs_admin.specs.Changing.{up_to}
+use Rattle.pfs_admin.specs.WordChanges.{up_to}
 use Rattle.pfs_admin.specs.Truncations.{count_up_to, flag_at, sign_at}
 use Rattle.pfs_admin.specs.Works.{Signed}
 use Rattle.pfs_admin.proofs.remaining.sign_level.Given as goal

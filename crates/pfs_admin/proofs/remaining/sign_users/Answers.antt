@@ -1,8 +1,8 @@
 use Rattle.std.proofs.Common.{true, false}
 use Rattle.pfs_levels.specs.declared.places.Level.TheVariants as levels
-use Rattle.pfs_levels.proofs.Flushing.{stays_then}
+use Rattle.pfs_levels.proofs.FlushSteps.{stays_then}
 use Rattle.pfs_admin.specs.Truncations.{flag_at, level_signs, standing}
-use Rattle.pfs_admin.proofs.Signing.{signed_then}
+use Rattle.pfs_admin.proofs.SignLists.{signed_then}
 use Rattle.pfs_admin.proofs.remaining.sign_users.Goals as goal
 
 pub returns-clause-signed : goal.returns-clause-signed

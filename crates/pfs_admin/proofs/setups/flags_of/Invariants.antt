@@ -1,5 +1,5 @@
 use Rattle.std.proofs.Common.{◌≡◌, length, map, take}
-use Rattle.pfs_admin.specs.Setups.{flags_in}
+use Rattle.pfs_admin.specs.SetupStatements.{flags_in}
 use Rattle.pfs_admin.proofs.setups.flags_of.Given as goal
 
 abbrev pub invariant-loop-at : goal.invariant-loop-at

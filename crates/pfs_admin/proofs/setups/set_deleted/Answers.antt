@@ -1,9 +1,9 @@
 use Rattle.std.proofs.Common.{subst, ◌∙◌, ap}
 use Rattle.pfs_levels.specs.Moves.{Did}
-use Rattle.pfs_admin.specs.Changing.{flags_changed, words_changed}
-use Rattle.pfs_admin.specs.Setups.{first_word, word_count}
+use Rattle.pfs_admin.specs.WordChanges.{flags_changed, words_changed}
+use Rattle.pfs_admin.specs.SetupStatements.{first_word, word_count}
 use Rattle.pfs_admin.specs.Works.{flagging_calls, flagging_entries}
-use Rattle.pfs_admin.proofs.Setting.{answered_rows}
+use Rattle.pfs_admin.proofs.WordChanges.{answered_rows}
 use Rattle.pfs_admin.proofs.setups.set_deleted.Goals as goal
 
 pub returns-clause-did : goal.returns-clause-did

@@ -2,10 +2,10 @@ use Rattle.std.proofs.Common.{◌≡◌, ◌+◌, List, length, ap, sym, subst, 
 use Rattle.pfs_levels.specs.declared.answers.Word.{Word}
 use Rattle.pfs_levels.specs.Moves.{Did}
 use Rattle.pfs_setups.specs.Inserts as inserts
-use Rattle.pfs_admin.specs.Changing.{changed_up_to, flags_changed, words_changed}
-use Rattle.pfs_admin.specs.Setups.{word_count}
+use Rattle.pfs_admin.specs.WordChanges.{changed_up_to, flags_changed, words_changed}
+use Rattle.pfs_admin.specs.SetupStatements.{word_count}
 use Rattle.pfs_admin.specs.Works.{flagging, flagged, flagging_calls, flagging_entries, word_at}
-use Rattle.pfs_admin.proofs.Setting.{changed_past, changed_wide, changed_next, words_whole, flags_whole, changed_more, early_same}
+use Rattle.pfs_admin.proofs.WordChanges.{changed_past, changed_wide, changed_next, words_whole, flags_whole, changed_more, early_same}
 use Rattle.pfs_admin.proofs.setups.set_inserted.Goals as goal
 
 pub flag-requires-clause-wide : goal.flag-requires-clause-wide

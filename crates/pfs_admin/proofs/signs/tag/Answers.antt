@@ -1,5 +1,5 @@
 use Rattle.std.proofs.Common.{rules}
-use Rattle.pfs_admin.proofs.Signing.{signed_tag}
+use Rattle.pfs_admin.proofs.SignLists.{signed_tag}
 use Rattle.pfs_admin.proofs.signs.tag.Goals as goal
 
 pub returns-clause-signed : goal.returns-clause-signed

@@ -1,9 +1,9 @@
 use Rattle.std.proofs.Common.{◌≡◌, ◌+◌, List, [], ◌∷◌, ◌++◌, ap, sym, subst, ◌∙◌, arith}
 use Rattle.pfs_levels.specs.Moves.{Ask, ask, Moved, cost}
-use Rattle.pfs_levels.proofs.Flushing.{enough, moved_more, stays_more, stays_as}
-use Rattle.pfs_admin.specs.Changing.{up_to}
+use Rattle.pfs_levels.proofs.FlushSteps.{enough, moved_more, stays_more, stays_as}
+use Rattle.pfs_admin.specs.WordChanges.{up_to}
 use Rattle.pfs_admin.specs.Truncations.{digest_ask, digest_asks}
-use Rattle.pfs_admin.proofs.Levelling.{up_next, digests_front, digests_whole}
+use Rattle.pfs_admin.proofs.LevelMoves.{up_next, digests_front, digests_whole}
 use Rattle.pfs_admin.proofs.summaries.clear_digests.Goals as goal
 
 pub clear-requires-clause-spare : goal.clear-requires-clause-spare

@@ -1,7 +1,7 @@
 use Rattle.std.proofs.Common.{◌≡◌, ◌+◌, List, [], ◌∷◌, ◌++◌, map, take, refl}
 use Rattle.pfs_levels.specs.Moves.{Ask, ask}
-use Rattle.pfs_levels.proofs.Flushing.{cells_more, cells_fit, enough, moved_more, stays_more}
-use Rattle.pfs_admin.proofs.Levelling.{clearing}
+use Rattle.pfs_levels.proofs.FlushSteps.{cells_more, cells_fit, enough, moved_more, stays_more}
+use Rattle.pfs_admin.proofs.LevelMoves.{clearing}
 use Rattle.pfs_admin.proofs.summaries.clear_global.Goals as goal
 
 pub clear-requires-clause-spare : goal.clear-requires-clause-spare

@@ -1,6 +1,6 @@
 use Rattle.std.proofs.Common.{take, map}
 use Rattle.pfs_levels.specs.Moves.{Moved, Stays, cost}
-use Rattle.pfs_admin.proofs.Levelling.{clearing}
+use Rattle.pfs_admin.proofs.LevelMoves.{clearing}
 use Rattle.pfs_admin.proofs.summaries.clear_global.Given as goal
 
 abbrev pub invariant-loop-cell : goal.invariant-loop-cell

@@ -1,8 +1,8 @@
 use Rattle.std.proofs.Common.{◌≤◌, ◌++◌}
 use Rattle.pfs_levels.specs.Moves.{cost}
-use Rattle.pfs_levels.proofs.Moving.{moved_then}
+use Rattle.pfs_levels.proofs.MoveLists.{moved_then}
 use Rattle.pfs_admin.specs.Truncations.{summary_asks}
-use Rattle.pfs_admin.proofs.Levelling.{first_fits, next_fits, stays_both}
+use Rattle.pfs_admin.proofs.LevelMoves.{first_fits, next_fits, stays_both}
 use Rattle.pfs_admin.proofs.summaries.empty_all.Goals as goal
 
 pub empty_kind-requires-clause-spare : goal.empty_kind-requires-clause-spare

@@ -1,9 +1,9 @@
 use Rattle.std.proofs.Common.{◌≤◌}
 use Rattle.pfs_levels.specs.declared.places.Level.TheVariants as levels
 use Rattle.pfs_levels.specs.Moves.{cost}
-use Rattle.pfs_levels.proofs.Moving.{moved_then}
+use Rattle.pfs_levels.proofs.MoveLists.{moved_then}
 use Rattle.pfs_admin.specs.Truncations.{level_asks, emptied}
-use Rattle.pfs_admin.proofs.Levelling.{first_fits, next_fits, stays_both}
+use Rattle.pfs_admin.proofs.LevelMoves.{first_fits, next_fits, stays_both}
 use Rattle.pfs_admin.proofs.summaries.empty_lower.Goals as goal
 
 pub empty_level-requires-clause-spare : goal.empty_level-requires-clause-spare

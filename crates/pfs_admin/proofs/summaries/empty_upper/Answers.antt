@@ -1,9 +1,9 @@
 use Rattle.std.proofs.Common.{◌≤◌, ◌++◌}
 use Rattle.pfs_levels.specs.declared.places.Level.TheVariants as levels
 use Rattle.pfs_levels.specs.Moves.{cost}
-use Rattle.pfs_levels.proofs.Moving.{moved_then}
+use Rattle.pfs_levels.proofs.MoveLists.{moved_then}
 use Rattle.pfs_admin.specs.Truncations.{emptied, cleared}
-use Rattle.pfs_admin.proofs.Levelling.{first_fits, next_fits, stays_both}
+use Rattle.pfs_admin.proofs.LevelMoves.{first_fits, next_fits, stays_both}
 use Rattle.pfs_admin.proofs.summaries.empty_upper.Goals as goal
 
 pub empty_level_if-requires-clause-spare : goal.empty_level_if-requires-clause-spare

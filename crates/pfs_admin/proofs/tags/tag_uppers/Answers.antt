@@ -1,4 +1,4 @@
-use Rattle.pfs_admin.proofs.Signing.{signed_then}
+use Rattle.pfs_admin.proofs.SignLists.{signed_then}
 use Rattle.pfs_admin.proofs.tags.tag_uppers.Goals as goal
 
 pub returns-clause-signed : goal.returns-clause-signed

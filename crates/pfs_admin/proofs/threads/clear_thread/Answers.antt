@@ -1,7 +1,7 @@
 use Rattle.std.proofs.Common.{rules, ◌∙◌, arith}
-use Rattle.pfs_admin.specs.Asks.{up_of}
-use Rattle.pfs_admin.proofs.Costs.{cost_small}
-use Rattle.pfs_admin.proofs.Signing.{signed_then, worked_all}
+use Rattle.pfs_admin.specs.ConnectionAsks.{up_of}
+use Rattle.pfs_admin.proofs.QuitCosts.{cost_small}
+use Rattle.pfs_admin.proofs.SignLists.{signed_then, worked_all}
 use Rattle.pfs_admin.proofs.threads.clear_thread.Goals as goal
 
 pub flush_cells-requires-clause-spare : goal.flush_cells-requires-clause-spare

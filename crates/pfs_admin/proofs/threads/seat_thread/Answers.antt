@@ -1,8 +1,8 @@
 use Rattle.std.proofs.Common.{rules, ◌+◌, [], ◌∷◌, subst}
-use Rattle.pfs_containers.specs.Infos.{thread_info_of}
-use Rattle.pfs_infos.specs.Infos.{thread_words}
+use Rattle.pfs_containers.specs.PlaceInfos.{thread_info_of}
+use Rattle.pfs_containers.specs.InfoWords.{thread_words}
 use Rattle.pfs_admin.specs.Works.{Signed, Tags}
-use Rattle.pfs_admin.proofs.Signing.{signed_then, worked_all, moved_none}
+use Rattle.pfs_admin.proofs.SignLists.{signed_then, worked_all, moved_none}
 use Rattle.pfs_admin.proofs.threads.seat_thread.Goals as goal
 
 pub returns-clause-worked : goal.returns-clause-worked

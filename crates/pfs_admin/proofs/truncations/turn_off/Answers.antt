@@ -3,7 +3,7 @@ use Rattle.pfs_levels.specs.declared.answers.Word.{Word}
 use Rattle.pfs_levels.specs.Moves.{Did}
 use Rattle.pfs_admin.specs.Truncations.{off}
 use Rattle.pfs_admin.specs.Works.{flagging, flagged, flagging_calls, flagging_entries, word_at}
-use Rattle.pfs_admin.proofs.Setting.{changed_past, changed_wide, changed_next, words_whole, flags_whole, changed_more, early_same}
+use Rattle.pfs_admin.proofs.WordChanges.{changed_past, changed_wide, changed_next, words_whole, flags_whole, changed_more, early_same}
 use Rattle.pfs_admin.proofs.truncations.turn_off.Goals as goal
 
 pub flag-requires-clause-wide : goal.flag-requires-clause-wide

@@ -1,6 +1,6 @@
 use Rattle.std.proofs.Common.{◌≡◌, Some}
 use Rattle.pfs_levels.specs.Moves.{Did}
-use Rattle.pfs_admin.specs.Changing.{up_to, change_at, changed_up_to}
+use Rattle.pfs_admin.specs.WordChanges.{up_to, change_at, changed_up_to}
 use Rattle.pfs_admin.specs.Truncations.{off}
 use Rattle.pfs_admin.specs.Works.{flagging_calls, flagging_entries, Leaves}
 use Rattle.pfs_admin.proofs.truncations.turn_off.Given as goal

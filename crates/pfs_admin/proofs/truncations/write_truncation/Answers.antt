@@ -1,9 +1,9 @@
 use Rattle.std.proofs.Common.{◌≡◌, subst, ◌∙◌, arith}
-use Rattle.pfs_containers.specs.Kept.{Kept}
+use Rattle.pfs_containers.specs.ContainerState.{Kept}
 use Rattle.pfs_admin.specs.Truncations.{is_there, kept_behind, signs_most, truncation_signs, was_by}
 use Rattle.pfs_admin.specs.Works.{Signed}
-use Rattle.pfs_admin.proofs.Leftover.{signs_same, most_same}
-use Rattle.pfs_admin.proofs.Signing.{worked_all}
+use Rattle.pfs_admin.proofs.InfoPlaces.{signs_same, most_same}
+use Rattle.pfs_admin.proofs.SignLists.{worked_all}
 use Rattle.pfs_admin.proofs.truncations.write_truncation.Goals as goal
 
 pub move_truncated-requires-clause-spare : goal.move_truncated-requires-clause-spare

@@ -1,11 +1,11 @@
 use Rattle.std.proofs.Common.{false, Option, IfSome, refl, sym, subst}
-use Rattle.pfs_actions.proofs.Acting.{may_connect}
-use Rattle.pfs_parts.specs.Deeds.{Connecting}
-use Rattle.pfs_runs.specs.Answers.{connect_selections}
+use Rattle.pfs_play.proofs.ActionParts.{may_connect}
+use Rattle.pfs_law_session.specs.Deeds.{Connecting}
+use Rattle.pfs_runs.specs.SelectAnswers.{connect_selections}
 use Rattle.pfs_script.specs.declared.blocks.Connect.{Connect}
-use Rattle.pfs_course.specs.Course.{connecting}
-use Rattle.pfs_blocks.specs.Played.{HasDeeds, MayConnect}
-use Rattle.pfs_blocks.proofs.Doing.{no_deeds, one_deed}
+use Rattle.pfs_law_script.specs.Course.{connecting}
+use Rattle.pfs_blocks.specs.PlayedBlocks.{HasDeeds, MayConnect}
+use Rattle.pfs_blocks.proofs.DeedLists.{no_deeds, one_deed}
 use Rattle.pfs_blocks.proofs.blocks.connect_by.Goals as goal
 
 pub returns-in-Some-clause-did : goal.returns-in-Some-clause-did

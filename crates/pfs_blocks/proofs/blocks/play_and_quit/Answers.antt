@@ -1,13 +1,13 @@
 use Rattle.std.proofs.Common.{◌∙◌, ◌++◌, true, [], ◌∷◌, ap, refl, subst, sym, length, arith}
-use Rattle.pfs_admin.specs.States.{State as Administration, has_quit}
-use Rattle.pfs_facts.specs.Steps.{kinds_at}
+use Rattle.pfs_admin.specs.AdministrationStates.{State as Administration, has_quit}
+use Rattle.pfs_law_plain.specs.LineSteps.{kinds_at}
 use Rattle.pfs_script.specs.declared.blocks.BlockLine.TheVariants as said
-use Rattle.pfs_session.specs.States.{State}
-use Rattle.pfs_actions.specs.Done.{HasActed}
-use Rattle.pfs_parts.specs.Deeds.{Quitting}
-use Rattle.pfs_blocks.proofs.Closing.{no_events, quit_admin, quit_deeds}
-use Rattle.pfs_blocks.proofs.Ending.{ends_so}
-use Rattle.pfs_play.proofs.Width.{none_wide, owed_fits, settling_fits}
+use Rattle.pfs_session.specs.SessionStates.{State}
+use Rattle.pfs_play.specs.StoreDeeds.{HasActed}
+use Rattle.pfs_law_session.specs.Deeds.{Quitting}
+use Rattle.pfs_blocks.proofs.BlockEnds.{no_events, quit_admin, quit_deeds}
+use Rattle.pfs_blocks.proofs.BlockQuits.{ends_so}
+use Rattle.pfs_play.proofs.HeldBounds.{none_wide, owed_fits, settling_fits}
 use Rattle.pfs_blocks.proofs.blocks.play_and_quit.Goals as goal
 
 pub play_written-requires-clause-may : goal.play_written-requires-clause-may

@@ -1,17 +1,17 @@
 use Rattle.std.proofs.Common.{◌≡◌, ◌∙◌, ℕ, List, map, ap, sym, subst, length, arith}
-use Rattle.pfs_admin.specs.States.{State as Administration}
+use Rattle.pfs_admin.specs.AdministrationStates.{State as Administration}
 use Rattle.pfs_event.specs.declared.kind.EventKind.{EventKind}
-use Rattle.pfs_event.specs.Nesting.{OpenEvents}
-use Rattle.pfs_facts.specs.Steps.{kinds_at, kinds_in}
+use Rattle.pfs_event.specs.Nests.{OpenEvents}
+use Rattle.pfs_law_plain.specs.LineSteps.{kinds_at, kinds_in}
 use Rattle.pfs_play.specs.Errands.{StagesLie, actions_on, admin_after, cost_on, kinds_after}
-use Rattle.pfs_runs.specs.Answers.{selection_on}
+use Rattle.pfs_runs.specs.SelectAnswers.{selection_on}
 use Rattle.pfs_script.specs.declared.blocks.BlockLine.{BlockLine}
 use Rattle.pfs_script.specs.Marks.{written_out}
-use Rattle.pfs_session.specs.States.{State}
-use Rattle.pfs_course.specs.Course.{connected_by, deeds_along, ended_by}
-use Rattle.pfs_blocks.specs.Played.{HasDeeds, MayEnd}
-use Rattle.pfs_blocks.proofs.Closing.{block_deeds}
-use Rattle.pfs_play.proofs.Width.{none_wide, owed_fits, settling_fits}
+use Rattle.pfs_session.specs.SessionStates.{State}
+use Rattle.pfs_law_script.specs.Course.{connected_by, deeds_along, ended_by}
+use Rattle.pfs_blocks.specs.PlayedBlocks.{HasDeeds, MayEnd}
+use Rattle.pfs_blocks.proofs.BlockEnds.{block_deeds}
+use Rattle.pfs_play.proofs.HeldBounds.{none_wide, owed_fits, settling_fits}
 use Rattle.pfs_blocks.proofs.blocks.play_block.Goals as goal
 
 pub play_to_end-requires-clause-may : goal.play_to_end-requires-clause-may

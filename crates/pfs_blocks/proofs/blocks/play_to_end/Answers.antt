@@ -1,14 +1,14 @@
 use Rattle.std.proofs.Common.{◌∙◌, false, List, ap, sym, subst, length, arith}
 use Rattle.std.proofs.lemmas.Result.{on_ok_weaker}
-use Rattle.pfs_facts.specs.Steps.{kinds_at}
+use Rattle.pfs_law_plain.specs.LineSteps.{kinds_at}
 use Rattle.pfs_play.specs.Errands.{actions_on, cost_on, kinds_after}
 use Rattle.pfs_script.specs.declared.blocks.BlockLine.{BlockLine}
 use Rattle.pfs_script.specs.Marks.{written_out}
-use Rattle.pfs_session.specs.States.{State}
-use Rattle.pfs_blocks.specs.Played.{HasEnded, MayEnd}
-use Rattle.pfs_blocks.proofs.Closing.{none_lie, quit_actions, quit_cost, quit_kinds, quit_length}
-use Rattle.pfs_blocks.proofs.Ending.{ends_so, goes_on}
-use Rattle.pfs_blocks.proofs.Lines.{on_ok_both, played_deeds}
+use Rattle.pfs_session.specs.SessionStates.{State}
+use Rattle.pfs_blocks.specs.PlayedBlocks.{HasEnded, MayEnd}
+use Rattle.pfs_blocks.proofs.BlockEnds.{none_lie, quit_actions, quit_cost, quit_kinds, quit_length}
+use Rattle.pfs_blocks.proofs.BlockQuits.{ends_so, goes_on}
+use Rattle.pfs_blocks.proofs.PlayedLines.{on_ok_both, played_deeds}
 use Rattle.pfs_blocks.proofs.blocks.play_to_end.Goals as goal
 
 pub play_and_quit-requires-clause-may : goal.play_and_quit-requires-clause-may

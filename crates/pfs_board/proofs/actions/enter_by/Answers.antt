@@ -1,7 +1,7 @@
 use Rattle.std.proofs.Common.{◌∙◌, ◌∷◌, ℕ, List, ap, arith}
 use Rattle.std.specs.Prelude.{Option, None}
 use Rattle.atomic_table.specs.Table.{rest}
-use Rattle.pfs_board.proofs.Lends.{hand_keeps}
+use Rattle.pfs_board.proofs.ValueLoans.{hand_keeps}
 use Rattle.pfs_board.proofs.SlotFacts.{in_hand}
 use Rattle.pfs_board.proofs.actions.enter_by.Goals as goal
 

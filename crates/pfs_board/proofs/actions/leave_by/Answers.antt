@@ -3,9 +3,9 @@ use Rattle.std.specs.Prelude.{Option, Some}
 use Rattle.atomic_table.specs.Table.{rest}
 use Rattle.pfs_board.specs.declared.view.View.{View}
 use Rattle.pfs_board.specs.Knowledge.{corner, version_held, stored_in, weighed, halfway}
-use Rattle.pfs_board.proofs.Calls.{row_in}
-use Rattle.pfs_board.proofs.Departs.{leave_keeps}
-use Rattle.pfs_board.proofs.Lends.{holding_is, fetch_keeps}
+use Rattle.pfs_board.proofs.CallSteps.{row_in}
+use Rattle.pfs_board.proofs.ActionEnds.{leave_keeps}
+use Rattle.pfs_board.proofs.ValueLoans.{holding_is, fetch_keeps}
 use Rattle.pfs_board.proofs.Looks.{weigh_keeps}
 use Rattle.pfs_board.proofs.SlotFacts.{calm_stored}
 use Rattle.pfs_board.proofs.actions.leave_by.Goals as goal

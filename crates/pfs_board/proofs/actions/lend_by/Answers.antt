@@ -1,8 +1,8 @@
 use Rattle.std.proofs.Common.{◌∙◌, ◌∷◌, ℕ, List, ap, arith}
 use Rattle.atomic_table.specs.Table.{rest}
 use Rattle.std.specs.Prelude.{Option, None}
-use Rattle.pfs_board.proofs.Calls.{row_in}
-use Rattle.pfs_board.proofs.Lends.{lend_keeps, hand_keeps}
+use Rattle.pfs_board.proofs.CallSteps.{row_in}
+use Rattle.pfs_board.proofs.ValueLoans.{lend_keeps, hand_keeps}
 use Rattle.pfs_board.proofs.SlotFacts.{in_hand}
 use Rattle.pfs_board.proofs.actions.lend_by.Goals as goal
 

@@ -1,8 +1,8 @@
 use Rattle.std.proofs.Common.{◌∙◌, ◌∷◌, ℕ, List, subst, inl, sym, ap, arith}
 use Rattle.std.specs.Prelude.{Option, Some}
 use Rattle.atomic_table.specs.Table.{rest}
-use Rattle.pfs_board.proofs.Calls.{row_in}
-use Rattle.pfs_board.proofs.Lends.{fetch_keeps, restore_keeps}
+use Rattle.pfs_board.proofs.CallSteps.{row_in}
+use Rattle.pfs_board.proofs.ValueLoans.{fetch_keeps, restore_keeps}
 use Rattle.pfs_board.proofs.actions.restore_by.Goals as goal
 
 pub load-requires : goal.load-requires

@@ -1,4 +1,4 @@
-use Rattle.pfs_board.proofs.Waiting.{waited_at, waited_outside}
+use Rattle.pfs_board.proofs.RowWaits.{waited_at, waited_outside}
 use Rattle.pfs_board.proofs.actions.take_first.Goals as goal
 
 pub try_enter-requires-clause-at : goal.try_enter-requires-clause-at

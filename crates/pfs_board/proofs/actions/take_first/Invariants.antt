@@ -1,5 +1,5 @@
 use Rattle.std.proofs.Common.{◌≡◌}
-use Rattle.pfs_board.specs.Acting.{HasWaited}
+use Rattle.pfs_board.specs.ActionKnowledge.{HasWaited}
 use Rattle.pfs_board.proofs.actions.take_first.Given as goal
 
 abbrev pub invariant-loop : goal.invariant-loop

@@ -2,8 +2,8 @@ use Rattle.std.proofs.Common.{◌≡◌, ◌≢◌, ◌∙◌, ◌%◌, ◌*◌,
 use Rattle.pfs_board.specs.declared.view.Stage.TheVariants.{Idle}
 use Rattle.pfs_board.specs.declared.view.View.{View}
 use Rattle.pfs_board.specs.Knowledge.{held, waited}
-use Rattle.pfs_board.proofs.Calls.{row_in, corner_in, not_dirty, held_look}
-use Rattle.pfs_board.proofs.Enters.{wait_keeps, enter_keeps}
+use Rattle.pfs_board.proofs.CallSteps.{row_in, corner_in, not_dirty, held_look}
+use Rattle.pfs_board.proofs.ActionStarts.{wait_keeps, enter_keeps}
 use Rattle.pfs_board.proofs.actions.try_enter.Goals as goal
 
 pub load-word-requires : goal.load-word-requires

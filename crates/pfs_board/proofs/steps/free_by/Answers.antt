@@ -1,6 +1,6 @@
 use Rattle.std.proofs.Common.{◌≡◌, ◌∙◌, ℕ, ◌+◌, ◌*◌, ◌/◌, refl, ap, arith}
 use Rattle.pfs_board.specs.Knowledge.{corner, version_held, weighed, freed}
-use Rattle.pfs_board.proofs.Calls.{row_in, at_next, free_call}
+use Rattle.pfs_board.proofs.CallSteps.{row_in, at_next, free_call}
 use Rattle.pfs_board.proofs.Looks.{weigh_keeps}
 use Rattle.pfs_board.proofs.steps.free_by.Goals as goal
 

@@ -1,8 +1,8 @@
 use Rattle.std.proofs.Common.{◌≡◌, ◌∙◌, ℕ, ◌+◌, ◌*◌, ◌/◌, length, take, get_or, sym, refl, ap, arith}
 use Rattle.std.proofs.lemmas.List.{take_all, take_more, length-take-le}
 use Rattle.pfs_board.specs.Knowledge.{corner, version_held, found_in, published_at}
-use Rattle.pfs_board.specs.Sitting.{IsAt}
-use Rattle.pfs_board.proofs.Calls.{row_in, corner_in, word_in, at_next, holding, store_call, store_next, publish_call, publish_next}
+use Rattle.pfs_board.specs.SeatDemands.{IsAt}
+use Rattle.pfs_board.proofs.CallSteps.{row_in, corner_in, word_in, at_next, holding, store_call, store_next, publish_call, publish_next}
 use Rattle.pfs_board.proofs.Looks.{weigh_keeps}
 use Rattle.pfs_board.proofs.steps.put_by.Goals as goal
 

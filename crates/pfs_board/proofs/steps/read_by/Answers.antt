@@ -1,8 +1,8 @@
 use Rattle.std.proofs.Common.{◌≡◌, ◌∙◌, ◌%◌, sym, refl, ap, subst}
 use Rattle.pfs_board.specs.declared.view.View.{View}
 use Rattle.pfs_board.specs.Knowledge.{looked}
-use Rattle.pfs_board.specs.Seeing.{IsSeenAs}
-use Rattle.pfs_board.proofs.Calls.{row_in, corner_in, may_read, read_answer, free_answer, dirty_answer}
+use Rattle.pfs_board.specs.ReadAnswers.{IsSeenAs}
+use Rattle.pfs_board.proofs.CallSteps.{row_in, corner_in, may_read, read_answer, free_answer, dirty_answer}
 use Rattle.pfs_board.proofs.Looks.{look_keeps}
 use Rattle.pfs_board.proofs.steps.read_by.Goals as goal
 

@@ -3,8 +3,8 @@ use Rattle.std.proofs.lemmas.List.{take_all, take_more_set, length-take-le}
 use Rattle.pfs_board.specs.declared.answers.Seen.TheVariants.{Whole}
 use Rattle.pfs_board.specs.declared.view.Stage.TheVariants.{Reading}
 use Rattle.pfs_board.specs.Knowledge.{corner, turned, restaged, finished}
-use Rattle.pfs_board.specs.Seeing.{IsSeenAs}
-use Rattle.pfs_board.proofs.Calls.{corner_in, word_in, reading, gather_call, gather_next, finish_call, whole_answer, busy_answer, finished_looks, two_looks}
+use Rattle.pfs_board.specs.ReadAnswers.{IsSeenAs}
+use Rattle.pfs_board.proofs.CallSteps.{corner_in, word_in, reading, gather_call, gather_next, finish_call, whole_answer, busy_answer, finished_looks, two_looks}
 use Rattle.pfs_board.proofs.steps.read_rest.Goals as goal
 
 pub load-requires : goal.load-requires

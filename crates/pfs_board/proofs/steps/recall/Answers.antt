@@ -1,7 +1,7 @@
 use Rattle.std.proofs.Common.{◌∙◌, get_or, length-set, arith, sym, refl}
 use Rattle.std.proofs.lemmas.List.{ext_get_or}
 use Rattle.pfs_board.specs.Knowledge.{corner, found_in}
-use Rattle.pfs_board.proofs.Calls.{word_in, recall_call, recall_next}
+use Rattle.pfs_board.proofs.CallSteps.{word_in, recall_call, recall_next}
 use Rattle.pfs_board.proofs.steps.recall.Goals as goal
 
 pub load-requires : goal.load-requires

@@ -3,8 +3,8 @@ use Rattle.pfs_board.specs.declared.view.View.{View}
 use Rattle.pfs_board.specs.Knowledge.{sighted, took, missed}
 use Rattle.pfs_board.specs.declared.view.Stage.TheVariants.{Holding}
 use Rattle.pfs_board.specs.Plays.{IsLook}
-use Rattle.pfs_board.proofs.Calls.{row_in, corner_in, at_next, seize_hit, seize_miss, took_held}
-use Rattle.pfs_board.proofs.Moves.{take_keeps}
+use Rattle.pfs_board.proofs.CallSteps.{row_in, corner_in, at_next, seize_hit, seize_miss, took_held}
+use Rattle.pfs_board.proofs.WordSteps.{take_keeps}
 use Rattle.pfs_board.proofs.steps.seize.Goals as goal
 
 pub compare_exchange-found-requires : goal.compare_exchange-found-requires

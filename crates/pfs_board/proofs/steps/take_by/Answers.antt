@@ -1,8 +1,8 @@
 use Rattle.std.proofs.Common.{◌≡◌, ◌≢◌, ◌∙◌, ◌%◌, sym, refl, ap, subst, arith}
 use Rattle.pfs_board.specs.declared.view.View.{View}
 use Rattle.pfs_board.specs.Knowledge.{tried}
-use Rattle.pfs_board.specs.Taking.{IsTaken}
-use Rattle.pfs_board.proofs.Calls.{row_in, corner_in, not_dirty, may_seize, take_answer, looked_twice}
+use Rattle.pfs_board.specs.TakeAnswers.{IsTaken}
+use Rattle.pfs_board.proofs.CallSteps.{row_in, corner_in, not_dirty, may_seize, take_answer, looked_twice}
 use Rattle.pfs_board.proofs.Looks.{try_keeps}
 use Rattle.pfs_board.proofs.steps.take_by.Goals as goal
 

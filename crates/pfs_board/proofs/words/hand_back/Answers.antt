@@ -1,6 +1,6 @@
 use Rattle.std.proofs.Common.{◌∙◌, ℕ, ◌+◌, ◌*◌, ◌++◌, ◌∷◌, [], List, take, sym, ap}
 use Rattle.std.specs.Slots.{slots_items}
-use Rattle.pfs_board.specs.Known.{final_words}
+use Rattle.pfs_board.specs.SeatViews.{final_words}
 use Rattle.pfs_board.proofs.WordFacts.{final_append, one_final, take_row}
 use Rattle.pfs_board.proofs.words.hand_back.Goals as goal
 

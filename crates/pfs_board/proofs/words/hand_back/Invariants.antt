@@ -1,6 +1,6 @@
 use Rattle.std.proofs.Common.{◌≡◌, ◌*◌, take, vec_len, vec_capacity}
 use Rattle.std.specs.Slots.{slots_items}
-use Rattle.pfs_board.specs.Known.{final_words}
+use Rattle.pfs_board.specs.SeatViews.{final_words}
 use Rattle.pfs_board.proofs.words.hand_back.Given as goal
 
 abbrev pub invariant-loop-row : goal.invariant-loop-row

@@ -1,5 +1,5 @@
 use Rattle.std.proofs.Common.{◌≡◌, ◌+◌, ◌++◌, drop}
-use Rattle.pfs_board.specs.Opening.{IsOpening, words_of, opening_words}
+use Rattle.pfs_board.specs.OpeningWords.{IsOpening, words_of, opening_words}
 use Rattle.pfs_board.proofs.words.open_words.Given as goal
 
 abbrev pub invariant-loop-row : goal.invariant-loop-row

@@ -1,7 +1,7 @@
 use Rattle.std.proofs.Common.{◌≡◌, ◌<◌, ℕ, Some, None, true, false, length, position, slice_get, below_more, codes, sym, ◌∙◌, arith}
 use Rattle.std.specs.Option.{option_map_or}
 use Rattle.pfs_catalogue.specs.Columns.{columns_of, has_name, number}
-use Rattle.pfs_catalogue.proofs.Places.{no_place, place_is, place_named}
+use Rattle.pfs_catalogue.proofs.ColumnNames.{no_place, place_is, place_named}
 use Rattle.pfs_catalogue.proofs.columns.find_column.Goals as goal
 
 pub returns-then-is_at-clause-value : goal.returns-then-is_at-clause-value

@@ -1,4 +1,4 @@
-use Rattle.pfs_catalogue.proofs.TableNames.{one_name}
+use Rattle.pfs_catalogue.proofs.TableLookups.{one_name}
 use Rattle.pfs_catalogue.proofs.laws.one_table.Goals as goal
 
 pub returns : goal.returns

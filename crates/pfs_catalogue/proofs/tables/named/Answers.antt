@@ -2,8 +2,8 @@ use Rattle.std.proofs.Common.{◌≡◌, ℕ, Bool, true, false, get_or, below_m
 use Rattle.pfs_rows.specs.declared.table.Table.{Table}
 use Rattle.pfs_rows.specs.declared.table.Table.TheVariants.{SetupActors}
 use Rattle.pfs_rows.specs.Tables.{table_name}
-use Rattle.pfs_catalogue.specs.Names.{is_same_name}
-use Rattle.pfs_catalogue.proofs.TableNames.{found_here, found_none}
+use Rattle.pfs_catalogue.specs.LetterCases.{is_same_name}
+use Rattle.pfs_catalogue.proofs.TableLookups.{found_here, found_none}
 use Rattle.pfs_catalogue.proofs.tables.named.Goals as goal
 
 pub returns-then-has_name : goal.returns-then-has_name

@@ -1,7 +1,7 @@
 use Rattle.std.proofs.Common.{◌≡◌, ◌<◌, ℕ, false, get_or}
 use Rattle.pfs_rows.specs.declared.table.Table.TheVariants.{SetupActors}
 use Rattle.pfs_rows.specs.Tables.{table_name}
-use Rattle.pfs_catalogue.specs.Names.{is_same_name}
+use Rattle.pfs_catalogue.specs.LetterCases.{is_same_name}
 use Rattle.pfs_catalogue.proofs.tables.named.Given as goal
 
 -- no table that was passed has the name

@@ -1,5 +1,5 @@
 use Rattle.std.proofs.Common.{arith}
-use Rattle.pfs_catalogue.proofs.TableNames.{short}
+use Rattle.pfs_catalogue.proofs.TableLookups.{short}
 use Rattle.pfs_catalogue.proofs.tables.without_schema.Goals as goal
 
 pub returns-then-name : goal.returns-then-name

@@ -1,4 +1,4 @@
-use Rattle.pfs_classes.proofs.NameLemmas.{contains_row}
+use Rattle.pfs_classes.proofs.RowTexts.{contains_row}
 use Rattle.pfs_classes.proofs.builtin.add_rows.Goals as goal
 
 pub id_of-requires-clause-known : goal.id_of-requires-clause-known

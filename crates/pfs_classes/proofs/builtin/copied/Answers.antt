@@ -1,6 +1,6 @@
 use Rattle.std.proofs.Common.{◌∙◌, List, ℕ, ap}
-use Rattle.pfs_names.specs.Interning.{interned}
-use Rattle.pfs_classes.proofs.NameLemmas.{interned_next}
+use Rattle.pfs_names.specs.InternedTexts.{interned}
+use Rattle.pfs_classes.proofs.RowTexts.{interned_next}
 use Rattle.pfs_classes.proofs.builtin.copied.Goals as goal
 
 pub loop-id-preserved : goal.loop-id-preserved

@@ -1,4 +1,4 @@
-use Rattle.pfs_classes.proofs.KindOf.{kind_is_exact}
+use Rattle.pfs_classes.proofs.NameKinds.{kind_is_exact}
 use Rattle.pfs_classes.proofs.laws.computed_kind.Goals as goal
 
 pub returns : goal.returns

@@ -1,4 +1,4 @@
-use Rattle.pfs_classes.proofs.KnownLemmas.{known_from, known_at}
+use Rattle.pfs_classes.proofs.RegisterNames.{known_from, known_at}
 use Rattle.pfs_classes.proofs.laws.known_names.Goals as goal
 
 pub returns-clause-come : goal.returns-clause-come

@@ -1,4 +1,4 @@
-use Rattle.pfs_conservation.proofs.Conserving.{conserved_stats}
+use Rattle.pfs_conservation.proofs.Conservation.{conserved_stats}
 use Rattle.pfs_conservation.proofs.laws.conserved.Goals as goal
 
 pub returns : goal.returns

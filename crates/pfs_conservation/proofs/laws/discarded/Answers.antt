@@ -1,4 +1,4 @@
-use Rattle.pfs_conservation.proofs.Conserving.{discarded_stats}
+use Rattle.pfs_conservation.proofs.Conservation.{discarded_stats}
 use Rattle.pfs_conservation.proofs.laws.discarded.Goals as goal
 
 pub returns : goal.returns

@@ -1,4 +1,4 @@
-use Rattle.pfs_conservation.proofs.Acted.{reported_stats}
+use Rattle.pfs_conservation.proofs.PrintedLaw.{reported_stats}
 use Rattle.pfs_conservation.proofs.laws.reported.Goals as goal
 
 pub returns : goal.returns

@@ -1,4 +1,4 @@
-use Rattle.pfs_conservation.proofs.Acted.{reported_discarded_stats}
+use Rattle.pfs_conservation.proofs.PrintedLaw.{reported_discarded_stats}
 use Rattle.pfs_conservation.proofs.laws.reported_discarded.Goals as goal
 
 pub returns : goal.returns

@@ -1,7 +1,7 @@
 use Rattle.std.proofs.Common.{arith}
 use Rattle.pfs_containers.specs.Administration.{current}
 use Rattle.pfs_containers.specs.Uppers.{upper_of}
-use Rattle.pfs_containers.proofs.Freeing.{changed_none, step_is, end_is, all_current}
+use Rattle.pfs_containers.proofs.PlaceLoops.{changed_none, step_is, end_is, all_current}
 use Rattle.pfs_containers.proofs.places.count_anew.Goals as goal
 
 pub loop-place-init : goal.loop-place-init

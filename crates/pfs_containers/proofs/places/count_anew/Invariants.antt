@@ -1,7 +1,7 @@
 use Rattle.std.proofs.Common.{◌≡◌}
 use Rattle.pfs_containers.specs.Administration.{current}
 use Rattle.pfs_containers.specs.Uppers.{upper_of}
-use Rattle.pfs_containers.proofs.Freeing.{changed}
+use Rattle.pfs_containers.proofs.PlaceLoops.{changed}
 use Rattle.pfs_containers.proofs.places.count_anew.Given as goal
 
 abbrev pub invariant-loop-place : goal.invariant-loop-place

@@ -1,5 +1,5 @@
 use Rattle.std.proofs.Common.{rules}
-use Rattle.pfs_containers.proofs.Filling.{filled_free, filled_taken}
+use Rattle.pfs_containers.proofs.FilledPlaces.{filled_free, filled_taken}
 use Rattle.pfs_containers.proofs.places.fill.Goals as goal
 
 pub returns-then-is_none : goal.returns-then-is_none

@@ -1,5 +1,5 @@
 use Rattle.std.proofs.Common.{sym, ◌∙◌}
-use Rattle.pfs_containers.proofs.Finding.{found_at}
+use Rattle.pfs_containers.proofs.LowestPlaces.{found_at}
 use Rattle.pfs_containers.proofs.places.find_session.Goals as goal
 
 pub returns-in-Some-threads-clause-entry : goal.returns-in-Some-threads-clause-entry

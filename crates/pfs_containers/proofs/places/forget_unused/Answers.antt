@@ -1,7 +1,7 @@
 use Rattle.std.proofs.Common.{cond, slice_index_or, ap, ◌∙◌, arith}
 use Rattle.pfs_containers.specs.Connections.{in_use}
 use Rattle.pfs_containers.specs.Uppers.{upper_of}
-use Rattle.pfs_containers.proofs.Freeing.{changed_none, step_is, end_is, all_totals_kept}
+use Rattle.pfs_containers.proofs.PlaceLoops.{changed_none, step_is, end_is, all_totals_kept}
 use Rattle.pfs_containers.proofs.places.forget_unused.Goals as goal
 
 pub loop-place-init : goal.loop-place-init

@@ -1,7 +1,7 @@
 use Rattle.std.proofs.Common.{◌≡◌}
 use Rattle.pfs_containers.specs.Connections.{in_use, kept_if}
 use Rattle.pfs_containers.specs.Uppers.{upper_of}
-use Rattle.pfs_containers.proofs.Freeing.{changed}
+use Rattle.pfs_containers.proofs.PlaceLoops.{changed}
 use Rattle.pfs_containers.proofs.places.free_unused.Given as goal
 
 abbrev pub invariant-loop-place : goal.invariant-loop-place

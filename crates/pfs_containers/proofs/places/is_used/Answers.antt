@@ -1,6 +1,6 @@
 use Rattle.std.proofs.Common.{nat_lt, ap, ◌∙◌}
 use Rattle.pfs_containers.specs.Uppers.{upper_of}
-use Rattle.pfs_containers.proofs.Freeing.{used_is}
+use Rattle.pfs_containers.proofs.PlaceLoops.{used_is}
 use Rattle.pfs_containers.proofs.places.is_used.Goals as goal
 
 pub returns : goal.returns

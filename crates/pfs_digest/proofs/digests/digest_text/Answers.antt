@@ -1,7 +1,7 @@
 use Rattle.std.proofs.Common.{ap, sym, Ok, ◌∙◌}
 use Rattle.std.proofs.lemmas.Result.{err_from_is_err_and}
-use Rattle.pfs_digest.specs.Printed.{spelled}
-use Rattle.pfs_digest.proofs.Answering.{text-is, no-stack}
+use Rattle.pfs_digest.specs.PieceBytes.{spelled}
+use Rattle.pfs_digest.proofs.PassAnswers.{text-is, no-stack}
 use Rattle.pfs_digest.proofs.digests.digest_text.Goals as goal
 
 pub returns-in_err-stack : goal.returns-in_err-stack

@@ -1,8 +1,8 @@
 use Rattle.std.proofs.Common.{[], ap, reverse, refl, ◌∙◌}
-use Rattle.pfs_lexer.specs.Items.{items_of}
-use Rattle.pfs_digest.specs.Pieces.{piece_of}
+use Rattle.pfs_lexer.specs.TextItems.{items_of}
+use Rattle.pfs_digest.specs.TokenPieces.{piece_of}
 use Rattle.pfs_digest.specs.Stack.{finished}
-use Rattle.pfs_digest.proofs.Answering.{on-token, on-fault, on-end}
+use Rattle.pfs_digest.proofs.PassAnswers.{on-token, on-fault, on-end}
 use Rattle.pfs_digest.proofs.digests.reduced.Goals as goal
 
 pub tokens-preserved : goal.tokens-preserved

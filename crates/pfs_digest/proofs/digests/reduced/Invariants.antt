@@ -1,5 +1,5 @@
 use Rattle.std.proofs.Common.{◌≡◌, [], reverse, length}
-use Rattle.pfs_lexer.specs.Items.{items_of}
+use Rattle.pfs_lexer.specs.TextItems.{items_of}
 use Rattle.pfs_digest.specs.Stack.{finished}
 use Rattle.pfs_digest.proofs.digests.reduced.Given as goal
 

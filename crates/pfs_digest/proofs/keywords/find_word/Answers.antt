@@ -1,7 +1,7 @@
 use Rattle.std.proofs.Common.{◌+◌, ◌-◌, ◌/◌, ◌<◌, ℕ, List, length, ap, sym, ◌∙◌, arith}
 use Rattle.std.specs.declared.cmp.Ordering.TheVariants.{Less, Greater}
 use Rattle.pfs_digest.specs.Keywords.{any_case_cmp}
-use Rattle.pfs_digest.proofs.Searching.{at_any, more_less, more_greater, none_less, none_greater, searched_at, searched_none}
+use Rattle.pfs_digest.proofs.WordSearch.{at_any, more_less, more_greater, none_less, none_greater, searched_at, searched_none}
 use Rattle.pfs_digest.proofs.keywords.find_word.Goals as goal
 
 pub loop-low-init : goal.loop-low-init

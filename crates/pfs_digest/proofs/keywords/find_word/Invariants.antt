@@ -1,5 +1,5 @@
 use Rattle.std.proofs.Common.{◌-◌, ◌≤◌, length}
-use Rattle.pfs_digest.proofs.Searching.{AreLess, AreGreater}
+use Rattle.pfs_digest.proofs.WordSearch.{AreLess, AreGreater}
 use Rattle.pfs_digest.proofs.keywords.find_word.Given as goal
 
 -- the word is none of those before `low` and none of those from `high` on

@@ -2,8 +2,8 @@ use Rattle.std.proofs.Common.{◌+◌, ◌-◌, ◌<◌, ◌++◌, [], ◌∷◌
 use Rattle.std.proofs.lemmas.List.{take_rest, length-drop}
 use Rattle.pfs_digest.specs.declared.pieces.Shape.TheVariants.{Value}
 use Rattle.pfs_digest.specs.declared.pieces.Piece.TheVariants.{One}
-use Rattle.pfs_digest.specs.Printed.{printed}
-use Rattle.pfs_digest.proofs.Spelling.{next-piece}
+use Rattle.pfs_digest.specs.PieceBytes.{printed}
+use Rattle.pfs_digest.proofs.SpelledPieces.{next-piece}
 use Rattle.pfs_digest.proofs.printing.spelled.Goals as goal
 
 pub loop-piece-preserved : goal.loop-piece-preserved

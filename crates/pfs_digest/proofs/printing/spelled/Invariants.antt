@@ -1,5 +1,5 @@
 use Rattle.std.proofs.Common.{◌≡◌, ◌+◌, ◌<◌, length, take, drop}
-use Rattle.pfs_digest.specs.Printed as spec
+use Rattle.pfs_digest.specs.PieceBytes as spec
 use Rattle.pfs_digest.proofs.printing.spelled.Given as goal
 
 abbrev pub invariant-loop-piece : goal.invariant-loop-piece

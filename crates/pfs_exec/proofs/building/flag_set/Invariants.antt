@@ -1,5 +1,5 @@
 use Rattle.std.proofs.Common.{◌≡◌, drop}
-use Rattle.pfs_exec.specs.Planning as spec
+use Rattle.pfs_exec.specs.Plans as spec
 use Rattle.pfs_exec.proofs.building.flag_set.Given as goal
 
 -- what was passed sets another flag, so what is left decides

@@ -1,5 +1,5 @@
 use Rattle.std.proofs.Common.{◌≡◌, map, take}
-use Rattle.pfs_exec.specs.Planning as spec
+use Rattle.pfs_exec.specs.Plans as spec
 use Rattle.pfs_exec.proofs.building.named_places.Given as goal
 
 abbrev pub invariant-loop-name : goal.invariant-loop-name

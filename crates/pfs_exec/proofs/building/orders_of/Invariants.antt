@@ -1,5 +1,5 @@
 use Rattle.std.proofs.Common.{◌≡◌, map, take}
-use Rattle.pfs_exec.specs.Planning as spec
+use Rattle.pfs_exec.specs.Plans as spec
 use Rattle.pfs_exec.proofs.building.orders_of.Given as goal
 
 abbrev pub invariant-loop-order : goal.invariant-loop-order

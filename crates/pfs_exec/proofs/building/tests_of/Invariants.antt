@@ -1,5 +1,5 @@
 use Rattle.std.proofs.Common.{◌≡◌, map}
-use Rattle.pfs_exec.specs.Planning as spec
+use Rattle.pfs_exec.specs.Plans as spec
 use Rattle.pfs_exec.proofs.building.tests_of.Given as goal
 
 abbrev pub invariant-loop-test : goal.invariant-loop-test

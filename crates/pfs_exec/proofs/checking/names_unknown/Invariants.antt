@@ -1,6 +1,6 @@
 use Rattle.std.proofs.Common.{◌≡◌, drop}
 use Rattle.std.specs.List.{list_any}
-use Rattle.pfs_exec.specs.Planning as spec
+use Rattle.pfs_exec.specs.Plans as spec
 use Rattle.pfs_exec.proofs.checking.names_unknown.Given as goal
 
 -- what was passed is in order, so what is left decides

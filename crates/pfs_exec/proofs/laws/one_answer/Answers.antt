@@ -1,4 +1,4 @@
-use Rattle.pfs_exec.proofs.OneOrder.{one_answer}
+use Rattle.pfs_exec.proofs.StableOrder.{one_answer}
 use Rattle.pfs_exec.proofs.laws.one_answer.Goals as goal
 
 pub returns : goal.returns

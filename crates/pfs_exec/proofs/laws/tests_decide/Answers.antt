@@ -1,4 +1,4 @@
-use Rattle.pfs_exec.proofs.Deciding.{decides}
+use Rattle.pfs_exec.proofs.ValueTests.{decides}
 use Rattle.pfs_exec.proofs.laws.tests_decide.Goals as goal
 
 pub returns : goal.returns

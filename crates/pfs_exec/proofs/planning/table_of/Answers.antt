@@ -1,6 +1,6 @@
 use Rattle.std.proofs.Common.{List, ℕ, MatchOption, subst}
 use Rattle.pfs_rows.specs.declared.table.Table.{Table}
-use Rattle.pfs_catalogue.specs.Names.{IsTableName}
+use Rattle.pfs_catalogue.specs.LetterCases.{IsTableName}
 use Rattle.pfs_exec.proofs.planning.table_of.Goals as goal
 
 pub returns : goal.returns

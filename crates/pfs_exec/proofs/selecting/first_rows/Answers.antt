@@ -1,7 +1,7 @@
 use Rattle.std.proofs.Common.{◌≡◌, Bor, List, Option, Some, map, take, sym, ◌∙◌, ap}
 use Rattle.std.proofs.lemmas.List.{take-map}
-use Rattle.pfs_values.specs.declared.RowValue.{RowValue}
-use Rattle.pfs_exec.specs.Selecting.{limited}
+use Rattle.pfs_text.specs.declared.values.RowValue.{RowValue}
+use Rattle.pfs_exec.specs.Selections.{limited}
 use Rattle.pfs_exec.proofs.selecting.first_rows.Goals as goal
 
 pub returns-in-Some : goal.returns-in-Some

@@ -1,5 +1,5 @@
 use Rattle.std.proofs.Common.{◌≡◌, map, filter, take}
-use Rattle.pfs_exec.specs.Selecting.{meets_all}
+use Rattle.pfs_exec.specs.Selections.{meets_all}
 use Rattle.pfs_exec.proofs.selecting.kept_rows.Given as goal
 
 -- those of the rows that were passed which meet the conditions

@@ -1,5 +1,5 @@
 use Rattle.std.proofs.Common.{◌≡◌, drop}
-use Rattle.pfs_exec.specs.Selecting.{meets_all}
+use Rattle.pfs_exec.specs.Selections.{meets_all}
 use Rattle.pfs_exec.proofs.selecting.meets_tests.Given as goal
 
 -- the conditions that were passed are met, so those that are left decide

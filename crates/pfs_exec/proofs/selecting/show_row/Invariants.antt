@@ -1,5 +1,5 @@
 use Rattle.std.proofs.Common.{◌≡◌, take}
-use Rattle.pfs_exec.specs.Selecting.{named_columns}
+use Rattle.pfs_exec.specs.Selections.{named_columns}
 use Rattle.pfs_exec.proofs.selecting.show_row.Given as goal
 
 -- the values of the columns that were passed

@@ -1,5 +1,5 @@
 use Rattle.std.proofs.Common.{◌≡◌, map, take}
-use Rattle.pfs_exec.specs.Selecting.{named_columns}
+use Rattle.pfs_exec.specs.Selections.{named_columns}
 use Rattle.pfs_exec.proofs.selecting.show_rows.Given as goal
 
 -- the named columns of the rows that were passed

@@ -1,5 +1,5 @@
 use Rattle.std.proofs.Common.{◌≡◌, drop}
-use Rattle.pfs_exec.specs.Selecting.{row_cmp}
+use Rattle.pfs_exec.specs.Selections.{row_cmp}
 use Rattle.pfs_exec.proofs.sorting.compare_rows.Given as goal
 
 -- the rows are equal in the columns that were passed, so those that are left decide

@@ -1,6 +1,6 @@
 use Rattle.std.proofs.Common.{rules}
 use Rattle.std.proofs.lemmas.Fn.{always_returns_same}
-use Rattle.pfs_exec.proofs.Orders.{in_order, lent_before, weak}
+use Rattle.pfs_exec.proofs.RowOrders.{in_order, lent_before, weak}
 use Rattle.pfs_exec.proofs.sorting.sort_rows.Goals as goal
 
 pub returns : goal.returns

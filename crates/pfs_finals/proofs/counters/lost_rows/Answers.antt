@@ -2,8 +2,8 @@ use Rattle.std.proofs.Common.{sym, subst, ◌∙◌, take}
 use Rattle.std.specs.Prelude.{All}
 use Rattle.pfs_journal.specs.Reports.{IsLost}
 use Rattle.pfs_finals.specs.Counters.{counters, lost_row}
-use Rattle.pfs_finals.proofs.Names.{all_good}
-use Rattle.pfs_finals.proofs.Putting.{taken_rows}
+use Rattle.pfs_finals.proofs.CounterNames.{all_good}
+use Rattle.pfs_finals.proofs.JoinedTables.{taken_rows}
 use Rattle.pfs_finals.proofs.counters.lost_rows.Goals as goal
 
 pub loop-counter-preserved : goal.loop-counter-preserved

@@ -1,6 +1,6 @@
-use Rattle.pfs_reader.proofs.Reading.{kept_all, kept_then}
+use Rattle.pfs_reader.proofs.Readings.{kept_all, kept_then}
 use Rattle.pfs_finals.specs.Finals.{final_order}
-use Rattle.pfs_finals.proofs.Putting.{shown_none, shown_next}
+use Rattle.pfs_finals.proofs.JoinedTables.{shown_none, shown_next}
 use Rattle.pfs_finals.proofs.finals.final_tables.Goals as goal
 
 pub loop-table-init : goal.loop-table-init

@@ -1,4 +1,4 @@
-use Rattle.pfs_gen.proofs.Scripts.{is_script}
+use Rattle.pfs_gen.proofs.GeneratedScript.{is_script}
 use Rattle.pfs_gen.proofs.laws.is_script.Goals as goal
 
 pub returns : goal.returns

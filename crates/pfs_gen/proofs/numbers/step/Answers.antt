@@ -1,4 +1,4 @@
-use Rattle.pfs_gen.proofs.Drawing.{step_wrapped}
+use Rattle.pfs_gen.proofs.Draws.{step_wrapped}
 use Rattle.pfs_gen.proofs.numbers.step.Goals as goal
 
 pub returns : goal.returns

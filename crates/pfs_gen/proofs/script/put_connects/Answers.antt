@@ -1,6 +1,6 @@
 use Rattle.std.proofs.Common.{arith, ◌+◌}
-use Rattle.pfs_gen.specs.Generated.{connect_line}
-use Rattle.pfs_gen.proofs.Ranges.{text_more}
+use Rattle.pfs_gen.specs.GeneratedScript.{connect_line}
+use Rattle.pfs_gen.proofs.NumberLists.{text_more}
 use Rattle.pfs_gen.proofs.script.put_connects.Goals as goal
 
 pub loop-below-preserved : goal.loop-below-preserved

@@ -1,6 +1,6 @@
 use Rattle.std.proofs.Common.{◌≡◌, ◌++◌}
 use Rattle.std.specs.List.{flat_map, range_with_len}
-use Rattle.pfs_gen.specs.Generated.{connect_line}
+use Rattle.pfs_gen.specs.GeneratedScript.{connect_line}
 use Rattle.pfs_gen.proofs.script.put_connects.Given as goal
 
 abbrev pub invariant-loop-below : goal.invariant-loop-below

@@ -1,5 +1,5 @@
 use Rattle.std.proofs.Common.{◌*◌}
-use Rattle.pfs_gen.proofs.Ranges.{session_is}
+use Rattle.pfs_gen.proofs.NumberLists.{session_is}
 use Rattle.pfs_gen.proofs.script.put_session.Goals as goal
 
 pub returns-clause-text : goal.returns-clause-text

@@ -1,7 +1,7 @@
 use Rattle.std.proofs.Common.{◌+◌, sym, append-nil, arith}
-use Rattle.pfs_gen.specs.Generated.{session_text}
-use Rattle.pfs_gen.proofs.Drawing.{state_first}
-use Rattle.pfs_gen.proofs.Ranges.{text_more}
+use Rattle.pfs_gen.specs.GeneratedScript.{session_text}
+use Rattle.pfs_gen.proofs.Draws.{state_first}
+use Rattle.pfs_gen.proofs.NumberLists.{text_more}
 use Rattle.pfs_gen.proofs.script.put_sessions.Goals as goal
 
 pub loop-below-init : goal.loop-below-init

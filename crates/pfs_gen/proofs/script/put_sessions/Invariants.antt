@@ -1,7 +1,7 @@
 use Rattle.std.proofs.Common.{◌≡◌, ◌*◌, ◌++◌}
 use Rattle.std.specs.List.{flat_map, range_with_len}
 use Rattle.pfs_gen.specs.Draws.{state_after}
-use Rattle.pfs_gen.specs.Generated.{session_text}
+use Rattle.pfs_gen.specs.GeneratedScript.{session_text}
 use Rattle.pfs_gen.proofs.script.put_sessions.Given as goal
 
 abbrev pub invariant-loop-below : goal.invariant-loop-below

@@ -1,5 +1,5 @@
 use Rattle.std.proofs.Common.{ℕ, List, ◌++◌, ap, ◌∙◌}
-use Rattle.pfs_gen.proofs.Drawing.{unit_is, fourth_is}
+use Rattle.pfs_gen.proofs.Draws.{unit_is, fourth_is}
 use Rattle.pfs_gen.proofs.units.put_unit.Goals as goal
 
 pub returns-in-Ok-clause-text : goal.returns-in-Ok-clause-text

@@ -1,6 +1,6 @@
 use Rattle.std.proofs.Common.{◌≡◌, ◌+◌, ◌*◌, refl, ap, ◌∙◌, arith}
 use Rattle.pfs_gen.specs.Draws.{state_after}
-use Rattle.pfs_gen.proofs.Ranges.{units_none, units_more}
+use Rattle.pfs_gen.proofs.NumberLists.{units_none, units_more}
 use Rattle.pfs_gen.proofs.units.put_units.Goals as goal
 
 pub loop-place-init : goal.loop-place-init

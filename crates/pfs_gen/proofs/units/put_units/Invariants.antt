@@ -1,6 +1,6 @@
 use Rattle.std.proofs.Common.{ℕ, ◌≡◌, ◌+◌, ◌*◌, ◌++◌}
 use Rattle.pfs_gen.specs.Draws.{state_after}
-use Rattle.pfs_gen.specs.Generated.{units_text}
+use Rattle.pfs_gen.specs.GeneratedScript.{units_text}
 use Rattle.pfs_gen.proofs.units.put_units.Given as goal
 
 abbrev pub invariant-loop-place : goal.invariant-loop-place

@@ -2,8 +2,8 @@ use Rattle.std.proofs.Common.{◌≡◌, ◌<◌, ◌+◌, ◌∷◌, List, drop
 use Rattle.std.proofs.lemmas.Bool.{false≢true}
 use Rattle.pfs_event.specs.declared.entry.Entry.{Entry}
 use Rattle.pfs_journal.specs.Reports.{AreAnswered}
-use Rattle.pfs_journal.proofs.Answered.{fits_end}
-use Rattle.pfs_journal.proofs.Journals.{from_there}
+use Rattle.pfs_journal.proofs.AnswerFits.{fits_end}
+use Rattle.pfs_journal.proofs.WrittenJournals.{from_there}
 use Rattle.pfs_journal.proofs.checks.are_answered.Goals as goal
 
 pub returns-in-None : goal.returns-in-None

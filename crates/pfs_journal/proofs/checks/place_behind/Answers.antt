@@ -1,6 +1,6 @@
 use Rattle.std.proofs.Common.{sym, ◌∙◌}
 use Rattle.std.proofs.lemmas.Bool.{false≢true}
-use Rattle.pfs_journal.proofs.Answered.{fits_here, fits_not}
+use Rattle.pfs_journal.proofs.AnswerFits.{fits_here, fits_not}
 use Rattle.pfs_journal.proofs.checks.place_behind.Goals as goal
 
 pub returns-then-has_rows : goal.returns-then-has_rows

@@ -1,6 +1,6 @@
 use Rattle.std.proofs.Common.{ap, sym, ◌∙◌}
 use Rattle.std.specs.Str.{bytes_eq}
-use Rattle.pfs_journal.proofs.GuessTold.{lost_told, start_told, plain_told}
+use Rattle.pfs_journal.proofs.Guesses.{lost_told, start_told, plain_told}
 use Rattle.pfs_journal.proofs.guess.by_word.Goals as goal
 
 pub returns-then-eq-3 : goal.returns-then-eq-3

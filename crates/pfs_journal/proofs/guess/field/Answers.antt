@@ -1,6 +1,6 @@
 use Rattle.std.proofs.Common.{◌≡◌}
-use Rattle.pfs_journal.specs.Words.{optional_word}
-use Rattle.pfs_journal.proofs.WordsRead.{field_leads, no_some}
+use Rattle.pfs_journal.specs.LineWords.{optional_word}
+use Rattle.pfs_journal.proofs.WordReadings.{field_leads, no_some}
 use Rattle.pfs_journal.proofs.guess.field.Goals as goal
 
 pub returns : goal.returns

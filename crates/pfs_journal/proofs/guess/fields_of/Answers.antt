@@ -1,10 +1,10 @@
 use Rattle.std.proofs.Common.{ℕ, ◌≡◌, take, subst, sym, ◌∙◌, arith, refl, rules}
 use Rattle.std.specs.List.{flat_map}
-use Rattle.pfs_journal.specs.Words.{FitsField}
+use Rattle.pfs_journal.specs.LineWords.{FitsField}
 use Rattle.pfs_journal.specs.Spelling.{optional_text}
-use Rattle.pfs_journal.proofs.ItemsRead.{ItemsRead, items_none, items_end, items_refused}
-use Rattle.pfs_journal.proofs.PartsRead.{not_empty, is_empty}
-use Rattle.pfs_journal.proofs.WordsRead.{fields_more, fields_behind, field_some, five_told}
+use Rattle.pfs_journal.proofs.ItemReadings.{ItemsRead, items_none, items_end, items_refused}
+use Rattle.pfs_journal.proofs.PartReadings.{not_empty, is_empty}
+use Rattle.pfs_journal.proofs.WordReadings.{fields_more, fields_behind, field_some, five_told}
 use Rattle.pfs_journal.proofs.guess.fields_of.Goals as goal
 
 pub loop-place-init : goal.loop-place-init

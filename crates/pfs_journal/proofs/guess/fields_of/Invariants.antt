@@ -1,8 +1,8 @@
 use Rattle.std.proofs.Common.{ℕ, List, Option, ◌≡◌, ◌≤◌, length, take}
 use Rattle.std.specs.List.{All, flat_map}
-use Rattle.pfs_journal.specs.Words.{FitsField}
+use Rattle.pfs_journal.specs.LineWords.{FitsField}
 use Rattle.pfs_journal.specs.Spelling.{optional_text}
-use Rattle.pfs_journal.proofs.ItemsRead.{ItemsRead}
+use Rattle.pfs_journal.proofs.ItemReadings.{ItemsRead}
 use Rattle.pfs_journal.proofs.guess.fields_of.Given as goal
 
 abbrev pub invariant-loop-place : goal.invariant-loop-place

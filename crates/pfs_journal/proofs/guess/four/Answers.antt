@@ -1,7 +1,7 @@
 use Rattle.std.proofs.Common.{[], ◌∷◌}
 use Rattle.std.specs.List.{flat_map}
 use Rattle.pfs_journal.specs.Spelling.{optional_text}
-use Rattle.pfs_journal.proofs.WordsRead.{fields_behind, fits_four}
+use Rattle.pfs_journal.proofs.WordReadings.{fields_behind, fits_four}
 use Rattle.pfs_journal.proofs.guess.four.Goals as goal
 
 pub returns-in_err-first : goal.returns-in_err-first

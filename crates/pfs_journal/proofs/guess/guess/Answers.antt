@@ -1,8 +1,8 @@
 use Rattle.std.proofs.Common.{ap, ◌∙◌}
-use Rattle.pfs_journal.specs.Words.{front_word, behind_word, line_word, line_rest}
-use Rattle.pfs_journal.proofs.WordsRead.{word_front}
-use Rattle.pfs_journal.proofs.GuessTold.{line_clean}
-use Rattle.pfs_journal.proofs.LinesRead.{line_behind}
+use Rattle.pfs_journal.specs.LineWords.{front_word, behind_word, line_word, line_rest}
+use Rattle.pfs_journal.proofs.WordReadings.{word_front}
+use Rattle.pfs_journal.proofs.Guesses.{line_clean}
+use Rattle.pfs_journal.proofs.LineReadings.{line_behind}
 use Rattle.pfs_journal.proofs.guess.guess.Goals as goal
 
 pub returns : goal.returns

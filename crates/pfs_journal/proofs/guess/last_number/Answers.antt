@@ -1,6 +1,6 @@
 use Rattle.std.proofs.Common.{[], Some}
 use Rattle.std.specs.Prelude.{decimal}
-use Rattle.pfs_journal.proofs.WordsRead.{field_leads, read_told}
+use Rattle.pfs_journal.proofs.WordReadings.{field_leads, read_told}
 use Rattle.pfs_journal.proofs.guess.last_number.Goals as goal
 
 pub returns-in_err-word : goal.returns-in_err-word

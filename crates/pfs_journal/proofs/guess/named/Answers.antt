@@ -1,7 +1,7 @@
 use Rattle.std.proofs.Common.{◌≡◌, Some, [], ◌∷◌}
 use Rattle.std.specs.List.{flat_map}
 use Rattle.pfs_journal.specs.Spelling.{optional_text}
-use Rattle.pfs_journal.proofs.WordsRead.{fields_behind, name_leads, no_some}
+use Rattle.pfs_journal.proofs.WordReadings.{fields_behind, name_leads, no_some}
 use Rattle.pfs_journal.proofs.guess.named.Goals as goal
 
 pub returns-in_err-name : goal.returns-in_err-name

@@ -1,5 +1,5 @@
 use Rattle.std.proofs.Common.{ℕ, List, ◌∷◌, ap, sym, ◌∙◌}
-use Rattle.pfs_journal.proofs.ValuesRead.{value_space}
+use Rattle.pfs_journal.proofs.ValueReadings.{value_space}
 use Rattle.pfs_journal.proofs.guess.next_value.Goals as goal
 
 pub returns-in-None-clause-said : goal.returns-in-None-clause-said

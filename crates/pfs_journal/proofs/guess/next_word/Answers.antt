@@ -1,6 +1,6 @@
 use Rattle.std.proofs.Common.{ap, ◌∙◌}
-use Rattle.pfs_journal.specs.Words.{front_word, behind_word}
-use Rattle.pfs_journal.proofs.WordsRead.{next_told, rest_whole}
+use Rattle.pfs_journal.specs.LineWords.{front_word, behind_word}
+use Rattle.pfs_journal.proofs.WordReadings.{next_told, rest_whole}
 use Rattle.pfs_journal.proofs.guess.next_word.Goals as goal
 
 pub returns : goal.returns

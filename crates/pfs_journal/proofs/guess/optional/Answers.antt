@@ -1,4 +1,4 @@
-use Rattle.pfs_journal.proofs.WordsRead.{number_told, dash_told}
+use Rattle.pfs_journal.proofs.WordReadings.{number_told, dash_told}
 use Rattle.pfs_journal.proofs.guess.optional.Goals as goal
 
 pub returns-in-Some : goal.returns-in-Some

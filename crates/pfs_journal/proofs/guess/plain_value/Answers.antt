@@ -1,8 +1,8 @@
 use Rattle.std.proofs.Common.{◌≡◌, Some, None, ap, sym, ◌∙◌}
 use Rattle.std.specs.Str.{bytes_eq}
-use Rattle.pfs_values.specs.declared.RowValue.TheVariants as value
-use Rattle.pfs_journal.proofs.WordsRead.{read_told, no_some}
-use Rattle.pfs_journal.proofs.ValuesRead.{number_word, null_no_number}
+use Rattle.pfs_text.specs.declared.values.RowValue.TheVariants as value
+use Rattle.pfs_journal.proofs.WordReadings.{read_told, no_some}
+use Rattle.pfs_journal.proofs.ValueReadings.{number_word, null_no_number}
 use Rattle.pfs_journal.proofs.guess.plain_value.Goals as goal
 
 pub returns-then-eq-clause-number : goal.returns-then-eq-clause-number

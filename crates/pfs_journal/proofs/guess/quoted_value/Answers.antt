@@ -1,6 +1,6 @@
 use Rattle.std.proofs.Common.{ap}
-use Rattle.pfs_values.specs.declared.RowValue.TheVariants as value
-use Rattle.pfs_journal.proofs.ValuesRead.{inside_told, behind_told}
+use Rattle.pfs_text.specs.declared.values.RowValue.TheVariants as value
+use Rattle.pfs_journal.proofs.ValueReadings.{inside_told, behind_told}
 use Rattle.pfs_journal.proofs.guess.quoted_value.Goals as goal
 
 pub returns-clause-said : goal.returns-clause-said

@@ -1,13 +1,13 @@
 use Rattle.std.proofs.Common.{◌≡◌, List, Some, true, false, ap, sym, subst, ◌∙◌, rules}
 use Rattle.std.specs.List.{flat_map}
-use Rattle.pfs_values.specs.declared.RowValue.{RowValue}
+use Rattle.pfs_text.specs.declared.values.RowValue.{RowValue}
 use Rattle.pfs_journal.specs.declared.line.Line.TheVariants as says
 use Rattle.pfs_journal.specs.Spelling.{value_text}
-use Rattle.pfs_journal.specs.Words.{FitsValue}
-use Rattle.pfs_journal.proofs.ItemsRead.{ItemsRead, items_none, items_more, items_end, items_refused}
-use Rattle.pfs_journal.proofs.PartsRead.{not_empty, is_empty}
-use Rattle.pfs_journal.proofs.ValuesRead.{value_some}
-use Rattle.pfs_journal.proofs.LinesRead.{values_behind}
+use Rattle.pfs_journal.specs.LineWords.{FitsValue}
+use Rattle.pfs_journal.proofs.ItemReadings.{ItemsRead, items_none, items_more, items_end, items_refused}
+use Rattle.pfs_journal.proofs.PartReadings.{not_empty, is_empty}
+use Rattle.pfs_journal.proofs.ValueReadings.{value_some}
+use Rattle.pfs_journal.proofs.LineReadings.{values_behind}
 use Rattle.pfs_journal.proofs.guess.row.Goals as goal
 
 pub loop-rest-init : goal.loop-rest-init

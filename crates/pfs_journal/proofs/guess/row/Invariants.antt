@@ -1,9 +1,9 @@
 use Rattle.std.proofs.Common.{List, ◌≡◌, length}
 use Rattle.std.specs.List.{All, flat_map}
-use Rattle.pfs_values.specs.declared.RowValue.{RowValue}
+use Rattle.pfs_text.specs.declared.values.RowValue.{RowValue}
 use Rattle.pfs_journal.specs.Spelling.{value_text}
-use Rattle.pfs_journal.specs.Words.{FitsValue}
-use Rattle.pfs_journal.proofs.ItemsRead.{ItemsRead}
+use Rattle.pfs_journal.specs.LineWords.{FitsValue}
+use Rattle.pfs_journal.proofs.ItemReadings.{ItemsRead}
 use Rattle.pfs_journal.proofs.guess.row.Given as goal
 
 abbrev pub invariant-loop-rest : goal.invariant-loop-rest

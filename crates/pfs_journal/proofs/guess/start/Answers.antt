@@ -3,9 +3,9 @@ use Rattle.std.specs.Prelude.{codes}
 use Rattle.std.specs.List.{flat_map}
 use Rattle.std.proofs.lemmas.List.Elements.{All-head, All-tail}
 use Rattle.pfs_event.specs.Verdicts.{verdict_name}
-use Rattle.pfs_journal.specs.Words.{FitsField, verdict_of}
+use Rattle.pfs_journal.specs.LineWords.{FitsField, verdict_of}
 use Rattle.pfs_journal.specs.Spelling.{optional_text}
-use Rattle.pfs_journal.proofs.WordsRead.{verdict_told, verdict_leads, no_some}
+use Rattle.pfs_journal.proofs.WordReadings.{verdict_told, verdict_leads, no_some}
 use Rattle.pfs_journal.proofs.guess.start.Goals as goal
 
 pub returns-in_err-name : goal.returns-in_err-name

@@ -1,7 +1,7 @@
 use Rattle.std.proofs.Common.{[], ap, ◌∙◌}
 use Rattle.std.specs.Prelude.{Some}
 use Rattle.pfs_journal.specs.declared.line.Line.TheVariants as says
-use Rattle.pfs_journal.proofs.WordsRead.{name_leads, table_same}
+use Rattle.pfs_journal.proofs.WordReadings.{name_leads, table_same}
 use Rattle.pfs_journal.proofs.guess.table.Goals as goal
 
 pub returns-in_ok-from_slice-in-Some : goal.returns-in_ok-from_slice-in-Some

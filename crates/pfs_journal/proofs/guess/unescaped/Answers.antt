@@ -1,9 +1,9 @@
 use Rattle.std.proofs.Common.{◌≡◌, ℕ, List, true, false, sym, subst, ◌∙◌, rules}
 use Rattle.std.specs.List.{flat_map}
-use Rattle.pfs_text.specs.Quotes.{doubled}
-use Rattle.pfs_journal.proofs.ItemsRead.{ItemsRead, items_none, items_more, items_end}
-use Rattle.pfs_journal.proofs.PartsRead.{not_empty, is_empty}
-use Rattle.pfs_journal.proofs.ValuesRead.{no_fit, doubled_some}
+use Rattle.pfs_text.specs.QuotedTexts.{doubled}
+use Rattle.pfs_journal.proofs.ItemReadings.{ItemsRead, items_none, items_more, items_end}
+use Rattle.pfs_journal.proofs.PartReadings.{not_empty, is_empty}
+use Rattle.pfs_journal.proofs.ValueReadings.{no_fit, doubled_some}
 use Rattle.pfs_journal.proofs.guess.unescaped.Goals as goal
 
 pub loop-left-init : goal.loop-left-init

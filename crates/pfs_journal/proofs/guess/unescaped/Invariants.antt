@@ -1,7 +1,7 @@
 use Rattle.std.proofs.Common.{ℕ, List, ◌≡◌, length}
 use Rattle.std.specs.List.{flat_map}
-use Rattle.pfs_text.specs.Quotes.{doubled}
-use Rattle.pfs_journal.proofs.ItemsRead.{ItemsRead}
+use Rattle.pfs_text.specs.QuotedTexts.{doubled}
+use Rattle.pfs_journal.proofs.ItemReadings.{ItemsRead}
 use Rattle.pfs_journal.proofs.guess.unescaped.Given as goal
 
 abbrev pub invariant-loop-left : goal.invariant-loop-left

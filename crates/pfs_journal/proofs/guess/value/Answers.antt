@@ -1,8 +1,8 @@
 use Rattle.std.proofs.Common.{ℕ, ◌≡◌, List, ◌∷◌, ◌++◌, Bor, IfOk, sym, subst}
 use Rattle.std.specs.Prelude.{MatchOption}
-use Rattle.pfs_values.specs.declared.RowValue.{RowValue}
+use Rattle.pfs_text.specs.declared.values.RowValue.{RowValue}
 use Rattle.pfs_journal.specs.Spelling.{value_text}
-use Rattle.pfs_journal.proofs.ValuesRead.{plain_only, plain_told, text_rest}
+use Rattle.pfs_journal.proofs.ValueReadings.{plain_only, plain_told, text_rest}
 use Rattle.pfs_journal.proofs.guess.value.Goals as goal
 
 pub returns-in-Some-clause-said : goal.returns-in-Some-clause-said

@@ -1,5 +1,5 @@
 use Rattle.std.proofs.Common.{ℕ, ◌≡◌, take, subst, arith}
-use Rattle.pfs_journal.specs.Words.{plain_says}
+use Rattle.pfs_journal.specs.LineWords.{plain_says}
 use Rattle.pfs_journal.proofs.guess.with_fields.Goals as goal
 
 pub returns-in_default : goal.returns-in_default

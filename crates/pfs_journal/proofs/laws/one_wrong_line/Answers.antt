@@ -1,4 +1,4 @@
-use Rattle.pfs_journal.proofs.FirstWrongs.{one_wrong}
+use Rattle.pfs_journal.proofs.FirstWrongLine.{one_wrong}
 use Rattle.pfs_journal.proofs.laws.one_wrong_line.Goals as goal
 
 pub returns : goal.returns

@@ -1,8 +1,8 @@
 use Rattle.std.proofs.Common.{arith, subst}
 use Rattle.std.proofs.lemmas.Grind.{common_steps}
 use Rattle.std.proofs.lemmas.List.Elements.{All-more}
-use Rattle.pfs_values.specs.declared.RowValue.{RowValue}
-use Rattle.pfs_journal.specs.Words.{FitsValue}
+use Rattle.pfs_text.specs.declared.values.RowValue.{RowValue}
+use Rattle.pfs_journal.specs.LineWords.{FitsValue}
 use Rattle.pfs_journal.proofs.lines.put_values.Goals as goal
 
 pub loop-value-preserved : goal.loop-value-preserved

@@ -1,7 +1,7 @@
 use Rattle.std.proofs.Common.{◌≡◌, ◌++◌, take}
 use Rattle.std.specs.List.{All, flat_map}
 use Rattle.pfs_journal.specs.Spelling.{value_text}
-use Rattle.pfs_journal.specs.Words.{FitsValue}
+use Rattle.pfs_journal.specs.LineWords.{FitsValue}
 use Rattle.pfs_journal.proofs.lines.put_values.Given as goal
 
 abbrev pub invariant-loop-value : goal.invariant-loop-value

@@ -1,11 +1,11 @@
 use Rattle.std.proofs.Common.{ℕ, suc, None, refl, ◌≡◌, ◌-◌, ◌+◌, sym, ap, subst, arith}
 use Rattle.pfs_journal.specs.declared.line.Line.{Line}
-use Rattle.pfs_journal.specs.Places.{Journal, step}
-use Rattle.pfs_journal.specs.Readings.{Grows}
+use Rattle.pfs_journal.specs.ReportPlaces.{Journal, step}
+use Rattle.pfs_journal.specs.ReportReadings.{Grows}
 use Rattle.pfs_journal.specs.Reports.{IsRow}
 use Rattle.pfs_journal.specs.Spelling.{row_text}
-use Rattle.pfs_journal.proofs.PartsRead.{read_more}
-use Rattle.pfs_journal.proofs.Stopping.{passed, bad_at, along, after_due, due_stops, pushed_length}
+use Rattle.pfs_journal.proofs.PartReadings.{read_more}
+use Rattle.pfs_journal.proofs.ReaderStops.{passed, bad_at, along, after_due, due_stops, pushed_length}
 use Rattle.pfs_journal.proofs.parts.read_answer.Goals as goal
 
 pub loop-place-preserved : goal.loop-place-preserved

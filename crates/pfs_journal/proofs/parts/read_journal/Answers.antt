@@ -1,9 +1,9 @@
 use Rattle.std.proofs.Common.{rules}
-use Rattle.pfs_journal.proofs.JournalsRead.{journal_none, journal_more}
+use Rattle.pfs_journal.proofs.JournalReadings.{journal_none, journal_more}
 use Rattle.std.proofs.Common.{sym, subst}
 use Rattle.pfs_journal.specs.declared.line.Line.{Line}
-use Rattle.pfs_journal.specs.Places.{Journal, Blocks, step, StopsAfter}
-use Rattle.pfs_journal.proofs.Stopping.{passed, along, journal_end}
+use Rattle.pfs_journal.specs.ReportPlaces.{Journal, Blocks, step, StopsAfter}
+use Rattle.pfs_journal.proofs.ReaderStops.{passed, along, journal_end}
 use Rattle.pfs_journal.proofs.parts.read_journal.Goals as goal
 
 pub entries-init : goal.entries-init

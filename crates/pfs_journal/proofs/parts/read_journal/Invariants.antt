@@ -1,6 +1,6 @@
 use Rattle.std.proofs.Common.{length}
-use Rattle.pfs_journal.specs.Places.{Journal, step, Leads}
-use Rattle.pfs_journal.specs.Readings.{IsJournalRead}
+use Rattle.pfs_journal.specs.ReportPlaces.{Journal, step, Leads}
+use Rattle.pfs_journal.specs.ReportReadings.{IsJournalRead}
 use Rattle.pfs_journal.proofs.parts.read_journal.Given as goal
 
 abbrev pub invariant-entries : goal.invariant-entries

@@ -1,13 +1,13 @@
 use Rattle.std.proofs.Common.{List, None, refl, ◌≡◌, sym, ap, subst, ◌∙◌}
 use Rattle.std.specs.List.{All, flat_map}
-use Rattle.pfs_values.specs.declared.RowValue.{RowValue}
+use Rattle.pfs_text.specs.declared.values.RowValue.{RowValue}
 use Rattle.pfs_journal.specs.declared.line.Line.{Line}
-use Rattle.pfs_journal.specs.Places.{Place, Named, Results, Rows, step}
-use Rattle.pfs_journal.specs.Readings.{IsRead, Grows}
+use Rattle.pfs_journal.specs.ReportPlaces.{Place, Named, Results, Rows, step}
+use Rattle.pfs_journal.specs.ReportReadings.{IsRead, Grows}
 use Rattle.pfs_journal.specs.Reports.{IsRow}
 use Rattle.pfs_journal.specs.Spelling.{row_text}
-use Rattle.pfs_journal.proofs.PartsRead.{read_more}
-use Rattle.pfs_journal.proofs.Stopping.{passed, along, after_row, pushed_place, rows_place, some_place, rows_end, named_ends}
+use Rattle.pfs_journal.proofs.PartReadings.{read_more}
+use Rattle.pfs_journal.proofs.ReaderStops.{passed, along, after_row, pushed_place, rows_place, some_place, rows_end, named_ends}
 use Rattle.pfs_journal.proofs.parts.read_rows.Goals as goal
 
 pub rows-preserved : goal.rows-preserved

@@ -1,10 +1,10 @@
 use Rattle.std.proofs.Common.{length}
 use Rattle.std.specs.List.{All, flat_map}
-use Rattle.pfs_journal.specs.Places.{Named, step, Leads}
-use Rattle.pfs_journal.specs.Readings.{IsRead}
+use Rattle.pfs_journal.specs.ReportPlaces.{Named, step, Leads}
+use Rattle.pfs_journal.specs.ReportReadings.{IsRead}
 use Rattle.pfs_journal.specs.Reports.{IsRow}
 use Rattle.pfs_journal.specs.Spelling.{row_text}
-use Rattle.pfs_journal.proofs.Stopping.{rows_place}
+use Rattle.pfs_journal.proofs.ReaderStops.{rows_place}
 use Rattle.pfs_journal.proofs.parts.read_rows.Given as goal
 
 abbrev pub invariant-rows : goal.invariant-rows

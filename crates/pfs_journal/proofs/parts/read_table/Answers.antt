@@ -1,6 +1,6 @@
-use Rattle.pfs_journal.proofs.PartsRead.{table_read}
-use Rattle.pfs_journal.specs.Places.{Named}
-use Rattle.pfs_journal.proofs.Stopping.{passed}
+use Rattle.pfs_journal.proofs.PartReadings.{table_read}
+use Rattle.pfs_journal.specs.ReportPlaces.{Named}
+use Rattle.pfs_journal.proofs.ReaderStops.{passed}
 use Rattle.pfs_journal.proofs.parts.read_table.Goals as goal
 
 pub returns-clause-read : goal.returns-clause-read

@@ -2,12 +2,12 @@ use Rattle.std.proofs.Common.{List, sym, subst}
 use Rattle.std.specs.List.{All, flat_map}
 use Rattle.pfs_journal.specs.declared.values.TableReport.{TableReport}
 use Rattle.pfs_journal.specs.declared.line.Line.{Line}
-use Rattle.pfs_journal.specs.Places.{Counters, Results, step, StopsAfter}
-use Rattle.pfs_journal.specs.Readings.{IsRead, Grows}
+use Rattle.pfs_journal.specs.ReportPlaces.{Counters, Results, step, StopsAfter}
+use Rattle.pfs_journal.specs.ReportReadings.{IsRead, Grows}
 use Rattle.pfs_journal.specs.Reports.{IsTable}
 use Rattle.pfs_journal.specs.Spelling.{table_text}
-use Rattle.pfs_journal.proofs.PartsRead.{read_more}
-use Rattle.pfs_journal.proofs.Stopping.{passed, along, tables_end}
+use Rattle.pfs_journal.proofs.PartReadings.{read_more}
+use Rattle.pfs_journal.proofs.ReaderStops.{passed, along, tables_end}
 use Rattle.pfs_journal.proofs.parts.read_tables.Goals as goal
 
 pub tables-preserved : goal.tables-preserved

@@ -1,7 +1,7 @@
 use Rattle.std.proofs.Common.{length}
 use Rattle.std.specs.List.{All, flat_map}
-use Rattle.pfs_journal.specs.Places.{Results, step, Leads}
-use Rattle.pfs_journal.specs.Readings.{IsRead}
+use Rattle.pfs_journal.specs.ReportPlaces.{Results, step, Leads}
+use Rattle.pfs_journal.specs.ReportReadings.{IsRead}
 use Rattle.pfs_journal.specs.Reports.{IsTable}
 use Rattle.pfs_journal.specs.Spelling.{table_text}
 use Rattle.pfs_journal.proofs.parts.read_tables.Given as goal

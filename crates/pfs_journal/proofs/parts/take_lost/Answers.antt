@@ -1,8 +1,8 @@
 use Rattle.pfs_journal.specs.declared.line.Line.TheVariants as says
 use Rattle.pfs_journal.specs.Reports.{IsLost}
 use Rattle.pfs_journal.specs.Spelling.{lost_text}
-use Rattle.pfs_journal.proofs.PartsRead.{take_line, lost_line}
-use Rattle.pfs_journal.proofs.Stopping.{passed}
+use Rattle.pfs_journal.proofs.PartReadings.{take_line, lost_line}
+use Rattle.pfs_journal.proofs.ReaderStops.{passed}
 use Rattle.pfs_journal.proofs.parts.take_lost.Goals as goal
 
 pub returns-clause-grows : goal.returns-clause-grows

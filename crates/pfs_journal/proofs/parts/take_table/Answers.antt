@@ -1,4 +1,4 @@
-use Rattle.pfs_journal.proofs.Stopping.{passed}
+use Rattle.pfs_journal.proofs.ReaderStops.{passed}
 use Rattle.pfs_journal.proofs.parts.take_table.Goals as goal
 
 pub returns-in_err-push-clause-stops : goal.returns-in_err-push-clause-stops

@@ -1,4 +1,4 @@
-use Rattle.pfs_journal.proofs.PhasesRead.{phase_ends}
+use Rattle.pfs_journal.proofs.PhaseReadings.{phase_ends}
 use Rattle.pfs_journal.proofs.phases.end_phase.Goals as goal
 
 pub returns-clause-ends : goal.returns-clause-ends

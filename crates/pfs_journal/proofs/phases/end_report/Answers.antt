@@ -1,7 +1,7 @@
 use Rattle.std.proofs.Common.{◌+◌, sym, ◌∙◌, refl}
-use Rattle.pfs_journal.specs.Places.{capped}
-use Rattle.pfs_journal.proofs.PartsRead.{not_empty}
-use Rattle.pfs_journal.proofs.Stopping.{bad_at, ended_stops}
+use Rattle.pfs_journal.specs.ReportPlaces.{capped}
+use Rattle.pfs_journal.proofs.PartReadings.{not_empty}
+use Rattle.pfs_journal.proofs.ReaderStops.{bad_at, ended_stops}
 use Rattle.pfs_journal.proofs.phases.end_report.Goals as goal
 
 pub returns-else-is_empty-clause-stops : goal.returns-else-is_empty-clause-stops

@@ -1,8 +1,8 @@
 use Rattle.std.proofs.Common.{None, refl, sym, subst}
 use Rattle.pfs_journal.specs.declared.line.Line.{Line}
-use Rattle.pfs_journal.specs.Places.{Start, step, StopsAfter}
-use Rattle.pfs_journal.proofs.FirstWrongs.{first_wrong}
-use Rattle.pfs_journal.proofs.Stopping.{passed, bad_at, bad_of, along, start_wrong}
+use Rattle.pfs_journal.specs.ReportPlaces.{Start, step, StopsAfter}
+use Rattle.pfs_journal.proofs.FirstWrongLine.{first_wrong}
+use Rattle.pfs_journal.proofs.ReaderStops.{passed, bad_at, bad_of, along, start_wrong}
 use Rattle.pfs_journal.proofs.phases.read.Goals as goal
 
 pub returns-in_err-format-clause-wrong : goal.returns-in_err-format-clause-wrong

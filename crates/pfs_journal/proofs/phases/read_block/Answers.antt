@@ -1,4 +1,4 @@
-use Rattle.pfs_journal.proofs.PhasesRead.{block_read}
+use Rattle.pfs_journal.proofs.PhaseReadings.{block_read}
 use Rattle.pfs_journal.proofs.phases.read_block.Goals as goal
 
 pub returns-clause-read : goal.returns-clause-read

@@ -1,4 +1,4 @@
-use Rattle.pfs_journal.proofs.PhasesRead.{phase_answered, phase_shorter}
+use Rattle.pfs_journal.proofs.PhaseReadings.{phase_answered, phase_shorter}
 use Rattle.pfs_journal.proofs.phases.read_phase.Goals as goal
 
 pub returns-in-Final-clause-read : goal.returns-in-Final-clause-read

@@ -2,12 +2,12 @@ use Rattle.std.proofs.Common.{List, sym, subst}
 use Rattle.std.specs.List.{All, flat_map}
 use Rattle.pfs_journal.specs.declared.report.PhaseParts.{PhaseParts}
 use Rattle.pfs_journal.specs.declared.line.Line.{Line}
-use Rattle.pfs_journal.specs.Places.{Phases, step, StopsAfter}
-use Rattle.pfs_journal.specs.Readings.{IsRead, Grows}
+use Rattle.pfs_journal.specs.ReportPlaces.{Phases, step, StopsAfter}
+use Rattle.pfs_journal.specs.ReportReadings.{IsRead, Grows}
 use Rattle.pfs_journal.specs.Reports.{IsPhase}
 use Rattle.pfs_journal.specs.Spelling.{phase_text}
-use Rattle.pfs_journal.proofs.PartsRead.{read_more}
-use Rattle.pfs_journal.proofs.Stopping.{passed}
+use Rattle.pfs_journal.proofs.PartReadings.{read_more}
+use Rattle.pfs_journal.proofs.ReaderStops.{passed}
 use Rattle.pfs_journal.proofs.phases.read_phases.Goals as goal
 
 pub each_phase-preserved : goal.each_phase-preserved

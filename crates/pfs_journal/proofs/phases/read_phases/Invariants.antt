@@ -1,7 +1,7 @@
 use Rattle.std.proofs.Common.{length}
 use Rattle.std.specs.List.{All, flat_map}
-use Rattle.pfs_journal.specs.Places.{Phases, step, Leads}
-use Rattle.pfs_journal.specs.Readings.{IsRead}
+use Rattle.pfs_journal.specs.ReportPlaces.{Phases, step, Leads}
+use Rattle.pfs_journal.specs.ReportReadings.{IsRead}
 use Rattle.pfs_journal.specs.Reports.{IsPhase}
 use Rattle.pfs_journal.specs.Spelling.{phase_text}
 use Rattle.pfs_journal.proofs.phases.read_phases.Given as goal

@@ -1,4 +1,4 @@
-use Rattle.pfs_journal.proofs.PhasesRead.{report_answered}
+use Rattle.pfs_journal.proofs.PhaseReadings.{report_answered}
 use Rattle.pfs_journal.proofs.phases.read_report.Goals as goal
 
 pub returns-in-End-clause-report : goal.returns-in-End-clause-report

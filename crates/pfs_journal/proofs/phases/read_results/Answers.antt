@@ -1,4 +1,4 @@
-use Rattle.pfs_journal.proofs.PhasesRead.{results_read}
+use Rattle.pfs_journal.proofs.PhaseReadings.{results_read}
 use Rattle.pfs_journal.proofs.phases.read_results.Goals as goal
 
 pub returns-clause-read : goal.returns-clause-read

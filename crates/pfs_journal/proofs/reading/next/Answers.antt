@@ -1,11 +1,11 @@
 use Rattle.std.proofs.Common.{ℕ, List, ◌≡◌, ◌≤◌, ◌+◌, ◌-◌, ◌++◌, length, length-drop, take, drop, sym, ap, ◌∙◌, refl, arith}
 use Rattle.std.proofs.lemmas.List.{take_all, take-append-drop}
 use Rattle.std.specs.List.{prefix_len}
-use Rattle.pfs_journal.specs.Lines.{line_text}
-use Rattle.pfs_journal.specs.Places.{capped}
-use Rattle.pfs_journal.specs.Words.{is_line_byte}
-use Rattle.pfs_journal.proofs.LineEnds.{no_line, line_found}
-use Rattle.pfs_journal.proofs.Stopping.{bad_at, line_leads, none_here}
+use Rattle.pfs_journal.specs.SingleLines.{line_text}
+use Rattle.pfs_journal.specs.ReportPlaces.{capped}
+use Rattle.pfs_journal.specs.LineWords.{is_line_byte}
+use Rattle.pfs_journal.proofs.LineFeeds.{no_line, line_found}
+use Rattle.pfs_journal.proofs.ReaderStops.{bad_at, line_leads, none_here}
 use Rattle.pfs_journal.proofs.reading.next.Goals as goal
 
 pub returns-in_default-clause-stops : goal.returns-in_default-clause-stops

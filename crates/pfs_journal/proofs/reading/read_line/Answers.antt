@@ -1,7 +1,7 @@
 use Rattle.std.proofs.Common.{◌≡◌, Some, IfOk, ap, sym, subst, ◌∙◌}
 use Rattle.pfs_journal.specs.declared.line.Line.{Line}
-use Rattle.pfs_journal.specs.Lines.{line_text, IsLine}
-use Rattle.pfs_journal.proofs.LinesRead.{line_front}
+use Rattle.pfs_journal.specs.SingleLines.{line_text, IsLine}
+use Rattle.pfs_journal.proofs.LineReadings.{line_front}
 use Rattle.pfs_journal.proofs.reading.read_line.Goals as goal
 
 pub returns-in-Some-clause-taken : goal.returns-in-Some-clause-taken

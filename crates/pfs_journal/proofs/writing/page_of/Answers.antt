@@ -1,6 +1,6 @@
 use Rattle.std.proofs.Common.{◌≡◌, ◌-◌, ◌+◌, length, refl, arith}
 use Rattle.pfs_journal.specs.declared.lines.TheConstants.{ENTRY}
-use Rattle.pfs_journal.proofs.Paged.{page_more, page_whole}
+use Rattle.pfs_journal.proofs.LinePages.{page_more, page_whole}
 use Rattle.pfs_journal.proofs.writing.page_of.Goals as goal
 
 pub loop-at-preserved : goal.loop-at-preserved

@@ -1,5 +1,5 @@
 use Rattle.std.proofs.Common.{◌-◌}
-use Rattle.pfs_journal.proofs.Paged.{IsPage}
+use Rattle.pfs_journal.proofs.LinePages.{IsPage}
 use Rattle.pfs_journal.proofs.writing.page_of.Given as goal
 
 abbrev pub invariant-loop-at : goal.invariant-loop-at

@@ -1,5 +1,5 @@
 use Rattle.std.proofs.Common.{◌<◌, length, arith}
-use Rattle.pfs_journal.proofs.Journals.{from_there, leaves_more, leaves_stop, leaves_none}
+use Rattle.pfs_journal.proofs.WrittenJournals.{from_there, leaves_more, leaves_stop, leaves_none}
 use Rattle.pfs_journal.proofs.writing.put_answered.Goals as goal
 
 pub loop-at-preserved : goal.loop-at-preserved

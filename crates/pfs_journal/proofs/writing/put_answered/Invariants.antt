@@ -1,4 +1,4 @@
-use Rattle.pfs_journal.proofs.Journals.{Leaves}
+use Rattle.pfs_journal.proofs.WrittenJournals.{Leaves}
 use Rattle.pfs_journal.proofs.writing.put_answered.Given as goal
 
 abbrev pub invariant-loop-at : goal.invariant-loop-at

@@ -1,8 +1,8 @@
 use Rattle.std.proofs.Common.{ℕ, List, ◌++◌, Err, subst, sym, take, drop, ◌+◌}
 use Rattle.std.specs.List.{flat_map}
-use Rattle.pfs_outside.specs.Streams.{Puts}
-use Rattle.pfs_outside.proofs.Writes.{puts_then, puts_stop}
-use Rattle.pfs_journal.proofs.Streams.{flat_map_around}
+use Rattle.pfs_outside.specs.WholeStreams.{Puts}
+use Rattle.pfs_outside.proofs.SinkWrites.{puts_then, puts_stop}
+use Rattle.pfs_journal.proofs.WrittenParts.{flat_map_around}
 use Rattle.pfs_journal.proofs.writing.put_each.Goals as goal
 
 pub returns-in-Err : goal.returns-in-Err

@@ -1,6 +1,6 @@
 use Rattle.std.proofs.Common.{◌≤◌, take}
 use Rattle.std.specs.List.{flat_map}
-use Rattle.pfs_outside.specs.Outside.{Added}
+use Rattle.pfs_outside.specs.DeviceCalls.{Added}
 use Rattle.pfs_journal.proofs.writing.put_each.Given as goal
 
 abbrev pub invariant-loop-part : goal.invariant-loop-part

@@ -1,7 +1,7 @@
 use Rattle.std.proofs.Common.{ℕ, List, ◌≡◌, ◌≤◌, ◌+◌, ◌∙◌, Err, subst, length, arith}
-use Rattle.pfs_outside.specs.Outside.{Added}
-use Rattle.pfs_outside.specs.Streams.{Puts}
-use Rattle.pfs_journal.proofs.Paged.{leaving_more, leaving_stop, leaving_none, to_the_end}
+use Rattle.pfs_outside.specs.DeviceCalls.{Added}
+use Rattle.pfs_outside.specs.WholeStreams.{Puts}
+use Rattle.pfs_journal.proofs.LinePages.{leaving_more, leaving_stop, leaving_none, to_the_end}
 use Rattle.pfs_journal.proofs.writing.put_entries.Goals as goal
 
 pub loop-at-preserved : goal.loop-at-preserved

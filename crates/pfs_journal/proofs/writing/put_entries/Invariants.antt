@@ -1,5 +1,5 @@
 use Rattle.std.proofs.Common.{◌-◌}
-use Rattle.pfs_journal.proofs.Paged.{Leaving}
+use Rattle.pfs_journal.proofs.LinePages.{Leaving}
 use Rattle.pfs_journal.proofs.writing.put_entries.Given as goal
 
 abbrev pub invariant-loop-at : goal.invariant-loop-at

@@ -1,9 +1,9 @@
 use Rattle.std.proofs.Common.{ℕ, List, ◌≡◌, ◌∙◌, [], ap, sym, subst}
-use Rattle.pfs_outside.specs.Streams.{Puts}
+use Rattle.pfs_outside.specs.WholeStreams.{Puts}
 use Rattle.pfs_journal.specs.Spelling.{journal_text}
-use Rattle.pfs_journal.proofs.Journals.{Answers}
-use Rattle.pfs_journal.proofs.Paged.{unanswered}
-use Rattle.pfs_journal.proofs.PartsRead.{is_empty}
+use Rattle.pfs_journal.proofs.WrittenJournals.{Answers}
+use Rattle.pfs_journal.proofs.LinePages.{unanswered}
+use Rattle.pfs_journal.proofs.PartReadings.{is_empty}
 use Rattle.pfs_journal.proofs.writing.put_journal.Goals as goal
 
 pub returns-then-is_empty : goal.returns-then-is_empty

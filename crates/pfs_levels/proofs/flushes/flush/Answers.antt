@@ -1,7 +1,7 @@
 use Rattle.std.proofs.Common.{ℕ, ◌≡◌, ◌+◌, ◌<◌, List, ◌++◌, length, take, arith, sym, subst, slice_index_or}
 use Rattle.std.specs.List.{flat_map, All}
 use Rattle.pfs_levels.specs.Flushes.{asks_of, cells_of, sources_of}
-use Rattle.pfs_levels.proofs.Flushing.{sources_more_at, sources_fit, enough, moved_more, stays_more, ascends_below, away_now, away_as}
+use Rattle.pfs_levels.proofs.FlushSteps.{sources_more_at, sources_fit, enough, moved_more, stays_more, ascends_below, away_now, away_as}
 use Rattle.pfs_levels.proofs.flushes.flush.Goals as goal
 
 pub flush_cells-requires-clause-cells : goal.flush_cells-requires-clause-cells

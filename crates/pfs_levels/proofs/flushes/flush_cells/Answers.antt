@@ -1,7 +1,7 @@
 use Rattle.std.proofs.Common.{◌≡◌, ◌+◌, List, [], ◌∷◌, ◌++◌, length, map, take, arith}
 use Rattle.pfs_levels.specs.Flushes.{ask_of}
 use Rattle.pfs_levels.specs.Moves.{Ask, ask, targets_of, cost}
-use Rattle.pfs_levels.proofs.Flushing.{cells_more, cells_fit, enough, moved_more, stays_more, stays_as}
+use Rattle.pfs_levels.proofs.FlushSteps.{cells_more, cells_fit, enough, moved_more, stays_more, stays_as}
 use Rattle.pfs_levels.proofs.flushes.flush_cells.Goals as goal
 
 pub move_up-requires-clause-spare : goal.move_up-requires-clause-spare

@@ -1,4 +1,4 @@
-use Rattle.pfs_levels.proofs.Ascending.{flushes_ascend}
+use Rattle.pfs_levels.proofs.FlushedRows.{flushes_ascend}
 use Rattle.pfs_levels.proofs.laws.flushes_ascend.Goals as goal
 
 pub returns : goal.returns

@@ -1,6 +1,6 @@
-use Rattle.pfs_levels.proofs.PlainJoint.{plain_joint}
-use Rattle.pfs_levels.proofs.PlainNamed.{plain_order}
-use Rattle.pfs_levels.proofs.PlainSince.{plain_since}
+use Rattle.pfs_levels.proofs.PlainChanges.{plain_joint}
+use Rattle.pfs_levels.proofs.PlainLateness.{plain_order}
+use Rattle.pfs_levels.proofs.PlainPhases.{plain_since}
 use Rattle.pfs_levels.proofs.laws.plain_calls_are_ordered.Goals as goal
 
 pub returns : goal.returns

@@ -1,4 +1,4 @@
-use Rattle.pfs_levels.proofs.Moving.{moved_one, given_none, due_nobody}
+use Rattle.pfs_levels.proofs.MoveLists.{moved_one, given_none, due_nobody}
 use Rattle.pfs_levels.proofs.moves.clear.Goals as goal
 
 pub returns-clause-moved : goal.returns-clause-moved

@@ -1,7 +1,7 @@
 use Rattle.std.proofs.Common.{rules}
 use Rattle.pfs_levels.specs.Calls.{Takes, Puts}
-use Rattle.pfs_levels.specs.Contents.{zero_words}
-use Rattle.pfs_levels.proofs.Moving.{goes_two, put_as}
+use Rattle.pfs_levels.specs.RowWords.{zero_words}
+use Rattle.pfs_levels.proofs.MoveLists.{goes_two, put_as}
 use Rattle.pfs_levels.proofs.moves.empty.Goals as goal
 
 pub returns-clause-emptied : goal.returns-clause-emptied

@@ -1,7 +1,7 @@
 use Rattle.std.proofs.Common.{rules, refl, [], ◌∷◌, List, ℕ}
 use Rattle.pfs_levels.specs.Calls.{Takes, Puts}
-use Rattle.pfs_levels.specs.Contents.{merged}
-use Rattle.pfs_levels.proofs.Moving.{goes_two, put_as}
+use Rattle.pfs_levels.specs.RowWords.{merged}
+use Rattle.pfs_levels.proofs.MoveLists.{goes_two, put_as}
 use Rattle.pfs_levels.proofs.moves.give.Goals as goal
 
 pub returns-clause-given : goal.returns-clause-given

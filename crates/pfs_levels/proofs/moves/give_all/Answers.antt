@@ -1,4 +1,4 @@
-use Rattle.pfs_levels.proofs.Moving.{given_then}
+use Rattle.pfs_levels.proofs.MoveLists.{given_then}
 use Rattle.pfs_levels.proofs.moves.give_all.Goals as goal
 
 pub returns-clause-given : goal.returns-clause-given

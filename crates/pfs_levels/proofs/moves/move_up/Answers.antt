@@ -1,5 +1,5 @@
 use Rattle.pfs_levels.specs.Moves.{targets_of}
-use Rattle.pfs_levels.proofs.Moving.{moved_one, given_none, due_none, due_all}
+use Rattle.pfs_levels.proofs.MoveLists.{moved_one, given_none, due_none, due_all}
 use Rattle.pfs_levels.proofs.moves.move_up.Goals as goal
 
 pub returns-then-found-eq0-clause-moved : goal.returns-then-found-eq0-clause-moved

@@ -1,5 +1,5 @@
 use Rattle.std.proofs.Common.{rules}
-use Rattle.pfs_levels.proofs.Moving.{purged_row}
+use Rattle.pfs_levels.proofs.MoveLists.{purged_row}
 use Rattle.pfs_levels.proofs.moves.purge.Goals as goal
 
 pub returns-clause-purged : goal.returns-clause-purged

@@ -1,5 +1,5 @@
 use Rattle.std.proofs.Common.{◌≡◌, map, take}
-use Rattle.pfs_levels.specs.Plain.{word}
+use Rattle.pfs_levels.specs.PlainStore.{word}
 use Rattle.pfs_levels.proofs.plain.opening_words.Given as goal
 
 abbrev pub invariant-loop-flag : goal.invariant-loop-flag

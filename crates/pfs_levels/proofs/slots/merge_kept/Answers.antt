@@ -1,6 +1,6 @@
 use Rattle.std.proofs.Common.{◌∙◌, ◌++◌, ◌∷◌, [], ap, ℕ, List}
 use Rattle.pfs_levels.specs.declared.slots.Kept.{Kept}
-use Rattle.pfs_levels.proofs.Placing.{merged_at}
+use Rattle.pfs_levels.proofs.RowWrites.{merged_at}
 use Rattle.pfs_levels.proofs.slots.merge_kept.Goals as goal
 
 with_one : List Kept → ℕ → List ℕ → List Kept

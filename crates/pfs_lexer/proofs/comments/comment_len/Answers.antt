@@ -2,8 +2,8 @@ use Rattle.std.proofs.Common.{◌+◌, nat_eq, sym, ap, ◌∙◌, arith}
 use Rattle.std.specs.Prelude.{codes}
 use Rattle.std.specs.List.{starts_with}
 use Rattle.std.proofs.lemmas.List.{take_rest}
-use Rattle.pfs_lexer.specs.Quotes.{more}
-use Rattle.pfs_lexer.proofs.Steps.{step-close, step-on, comment-past, more-to}
+use Rattle.pfs_lexer.specs.QuotePairs.{more}
+use Rattle.pfs_lexer.proofs.QuoteSteps.{step-close, step-on, comment-past, more-to}
 use Rattle.pfs_lexer.proofs.comments.comment_len.Goals as goal
 
 pub returns-then-starts_with-clause-len : goal.returns-then-starts_with-clause-len

@@ -1,5 +1,5 @@
 use Rattle.std.proofs.Common.{◌≡◌, drop}
-use Rattle.pfs_lexer.specs.Quotes.{more}
+use Rattle.pfs_lexer.specs.QuotePairs.{more}
 use Rattle.pfs_lexer.specs.Comments as spec
 use Rattle.pfs_lexer.proofs.comments.comment_len.Given as goal
 

@@ -1,4 +1,4 @@
-use Rattle.pfs_lexer.proofs.OneReading.{one_reading}
+use Rattle.pfs_lexer.proofs.UniqueItems.{one_reading}
 use Rattle.pfs_lexer.proofs.laws.one_reading.Goals as goal
 
 pub returns : goal.returns

@@ -1,6 +1,6 @@
 use Rattle.std.proofs.Common.{◌+◌, sym, ap, ◌∙◌, arith}
-use Rattle.pfs_lexer.specs.Quotes.{more}
-use Rattle.pfs_lexer.proofs.Steps.{step-pair, step-end, step-other, quoted-past, more-to, pair-within}
+use Rattle.pfs_lexer.specs.QuotePairs.{more}
+use Rattle.pfs_lexer.proofs.QuoteSteps.{step-pair, step-end, step-other, quoted-past, more-to, pair-within}
 use Rattle.pfs_lexer.proofs.quotes.quoted_len.Goals as goal
 
 pub bytes-preserved-then-pair_at : goal.bytes-preserved-then-pair_at

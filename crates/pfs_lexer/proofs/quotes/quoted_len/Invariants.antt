@@ -1,5 +1,5 @@
 use Rattle.std.proofs.Common.{◌≡◌, ◌-◌, ◌≤◌, drop, length}
-use Rattle.pfs_lexer.specs.Quotes as spec
+use Rattle.pfs_lexer.specs.QuotePairs as spec
 use Rattle.pfs_lexer.proofs.quotes.quoted_len.Given as goal
 
 abbrev pub invariant-bytes : goal.invariant-bytes

@@ -1,5 +1,5 @@
 use Rattle.std.proofs.Common.{length, ◌-◌, ◌≡◌, ◌≤◌, drop}
-use Rattle.pfs_lexer.specs.Items.{items_from}
+use Rattle.pfs_lexer.specs.TextItems.{items_from}
 use Rattle.pfs_lexer.proofs.reading.item_from.Given as goal
 
 abbrev pub invariant-blanks : goal.invariant-blanks

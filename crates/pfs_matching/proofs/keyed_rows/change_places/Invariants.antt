@@ -1,5 +1,5 @@
 use Rattle.std.proofs.Common.{◌≡◌, take, vec_capacity}
-use Rattle.pfs_matching.specs.Keyed.{with_named_changed}
+use Rattle.pfs_matching.specs.KeyedRows.{with_named_changed}
 use Rattle.pfs_matching.proofs.keyed_rows.change_places.Given as goal
 
 abbrev pub invariant-loop-place : goal.invariant-loop-place

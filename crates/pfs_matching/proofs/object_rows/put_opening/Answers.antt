@@ -1,4 +1,4 @@
-use Rattle.pfs_matching.proofs.Opening.{pushed_four}
+use Rattle.pfs_matching.proofs.OpeningRows.{pushed_four}
 use Rattle.pfs_matching.proofs.object_rows.put_opening.Goals as goal
 
 -- the four rows stand one after another

@@ -1,7 +1,7 @@
 use Rattle.std.proofs.Common.{◌≡◌, ◌∙◌, ◌+◌, ◌-◌, ◌<◌, ap, refl, sym, subst, length, drop, get_or, arith}
 use Rattle.std.specs.List.{remove}
 use Rattle.std.proofs.lemmas.List.{drop_all}
-use Rattle.pfs_matching.specs.Keyed.{without_named}
+use Rattle.pfs_matching.specs.KeyedRows.{without_named}
 use Rattle.pfs_matching.proofs.NamedPlaces.{removes_more, unnamed_from-none}
 use Rattle.pfs_matching.proofs.places.remove_places.Goals as goal
 

@@ -1,5 +1,5 @@
 use Rattle.std.proofs.Common.{◌≡◌, ◌≤◌, drop, length, vec_capacity}
-use Rattle.pfs_matching.specs.Keyed.{without_named}
+use Rattle.pfs_matching.specs.KeyedRows.{without_named}
 use Rattle.pfs_matching.proofs.places.remove_places.Given as goal
 
 abbrev pub invariant-loop-left : goal.invariant-loop-left

@@ -1,4 +1,4 @@
-use Rattle.pfs_model.proofs.Locals.{misfits}
+use Rattle.pfs_model.proofs.CutBounds.{misfits}
 use Rattle.pfs_model.proofs.laws.misfits.Goals as goal
 
 pub returns : goal.returns

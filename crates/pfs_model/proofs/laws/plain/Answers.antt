@@ -1,4 +1,4 @@
-use Rattle.pfs_model.proofs.Plainly.{plain_keeps}
+use Rattle.pfs_model.proofs.PlainAgreement.{plain_keeps}
 use Rattle.pfs_model.proofs.laws.plain.Goals as goal
 
 pub returns : goal.returns

@@ -1,5 +1,5 @@
 use Rattle.std.proofs.Common.{arith}
-use Rattle.pfs_outside.proofs.Takes.{copied}
+use Rattle.pfs_outside.proofs.SourceReads.{copied}
 use Rattle.pfs_outside.proofs.memory.copy_front.Goals as goal
 
 pub returns-clause-bytes : goal.returns-clause-bytes

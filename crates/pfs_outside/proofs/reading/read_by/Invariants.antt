@@ -1,5 +1,5 @@
 use Rattle.std.proofs.Common.{length, ◌-◌, ◌+◌, ◌<◌, ◌≤◌}
-use Rattle.pfs_outside.specs.Outside.{Gave}
+use Rattle.pfs_outside.specs.DeviceCalls.{Gave}
 use Rattle.pfs_outside.proofs.reading.read_by.Given as goal
 
 abbrev pub invariant-loop-source : goal.invariant-loop-source

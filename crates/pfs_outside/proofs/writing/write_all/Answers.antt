@@ -1,6 +1,6 @@
 use Rattle.std.proofs.Common.{arith, length-drop}
 use Rattle.std.proofs.lemmas.List.{take_rest}
-use Rattle.pfs_outside.proofs.Writes.{added_take, part_of_take, rose_before}
+use Rattle.pfs_outside.proofs.SinkWrites.{added_take, part_of_take, rose_before}
 use Rattle.pfs_outside.proofs.writing.write_all.Goals as goal
 
 pub loop-at-preserved : goal.loop-at-preserved

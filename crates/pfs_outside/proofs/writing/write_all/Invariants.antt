@@ -1,5 +1,5 @@
 use Rattle.std.proofs.Common.{length, ◌-◌, ◌≤◌, take}
-use Rattle.pfs_outside.specs.Outside.{Added}
+use Rattle.pfs_outside.specs.DeviceCalls.{Added}
 use Rattle.pfs_outside.proofs.writing.write_all.Given as goal
 
 abbrev pub invariant-loop-at : goal.invariant-loop-at

@@ -3,8 +3,8 @@ use Rattle.pfs_script.specs.declared.blocks.BlockLine.{BlockLine}
 use Rattle.pfs_script.specs.Marks.{written_out}
 use Rattle.pfs_play.specs.Errands.{cost_on}
 use Rattle.pfs_play.specs.Repeats.{repeated}
-use Rattle.pfs_play.proofs.Costing.{begin_written, behind_first}
-use Rattle.pfs_play.proofs.Writing.{written_plain}
+use Rattle.pfs_play.proofs.LineCosts.{begin_written, behind_first}
+use Rattle.pfs_play.proofs.WrittenRepeats.{written_plain}
 use Rattle.pfs_play.proofs.costs.next_cost.Goals as goal
 
 pub repeat_cost-requires : goal.repeat_cost-requires

@@ -1,8 +1,8 @@
 use Rattle.std.proofs.Common.{◌+◌, ◌∙◌, ap, sym, length, drop, arith}
 use Rattle.pfs_script.specs.Marks.{written_out}
 use Rattle.pfs_play.specs.Errands.{cost_on}
-use Rattle.pfs_play.proofs.Costing.{round_cost, open_cost}
-use Rattle.pfs_play.proofs.Writing.{nothing_behind}
+use Rattle.pfs_play.proofs.LineCosts.{round_cost, open_cost}
+use Rattle.pfs_play.proofs.WrittenRepeats.{nothing_behind}
 use Rattle.pfs_play.proofs.costs.repeat_cost.Goals as goal
 
 pub rounds_cost-requires : goal.rounds_cost-requires

@@ -1,5 +1,5 @@
 use Rattle.std.proofs.Common.{◌<◌, length, arith}
-use Rattle.pfs_play.proofs.Costing.{few_each, rounds_fit}
+use Rattle.pfs_play.proofs.LineCosts.{few_each, rounds_fit}
 use Rattle.pfs_play.proofs.costs.rounds_cost.Goals as goal
 
 pub overflow_mul-result : goal.overflow_mul-result

@@ -3,8 +3,8 @@ use Rattle.std.proofs.lemmas.List.{length-drop}
 use Rattle.pfs_script.specs.declared.blocks.BlockLine.{BlockLine}
 use Rattle.pfs_script.specs.Marks.{written_out}
 use Rattle.pfs_play.specs.Errands.{cost_on}
-use Rattle.pfs_play.proofs.Costing.{costs_few, once_each}
-use Rattle.pfs_play.proofs.Writing.{to_the_end, drop_both, at_the_end}
+use Rattle.pfs_play.proofs.LineCosts.{costs_few, once_each}
+use Rattle.pfs_play.proofs.WrittenRepeats.{to_the_end, drop_both, at_the_end}
 use Rattle.pfs_play.proofs.costs.written_cost.Goals as goal
 
 pub overflow_add-entries : goal.overflow_add-entries

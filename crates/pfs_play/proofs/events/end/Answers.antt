@@ -1,5 +1,5 @@
 use Rattle.std.proofs.Common.{◌∙◌, arith}
-use Rattle.pfs_play.proofs.Running.{end_ran}
+use Rattle.pfs_play.proofs.ErrandParts.{end_ran}
 use Rattle.pfs_play.proofs.events.end.Goals as goal
 
 pub end-requires-clause-room : goal.end-requires-clause-room

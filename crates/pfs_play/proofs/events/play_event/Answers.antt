@@ -1,10 +1,10 @@
 use Rattle.std.proofs.Common.{◌∙◌, Some, None, ap, sym}
-use Rattle.pfs_parts.specs.Deeds.{Ending}
+use Rattle.pfs_law_session.specs.Deeds.{Ending}
 use Rattle.pfs_session.specs.Ends.{no_numbers}
 use Rattle.pfs_play.specs.Errand as ask
 use Rattle.pfs_play.specs.Errands.{errand_on}
-use Rattle.pfs_play.proofs.Running.{ended_ran, spent_ran, staged_ran, started_ran, stage_depth}
-use Rattle.pfs_play.proofs.Width.{acted_wide, played_wide}
+use Rattle.pfs_play.proofs.ErrandParts.{ended_ran, spent_ran, staged_ran, started_ran, stage_depth}
+use Rattle.pfs_play.proofs.HeldBounds.{acted_wide, played_wide}
 use Rattle.pfs_play.proofs.events.play_event.Goals as goal
 
 pub returns-in-Wait-clause-run : goal.returns-in-Wait-clause-run

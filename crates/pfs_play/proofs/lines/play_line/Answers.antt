@@ -1,6 +1,6 @@
 use Rattle.std.proofs.Common.{◌∙◌, ◌≡◌, List, ℕ, ap, sym}
 use Rattle.std.proofs.lemmas.Result.{on_ok_weaker}
-use Rattle.pfs_requests.specs.Requests.{request_of}
+use Rattle.pfs_exec.specs.Requests.{request_of}
 use Rattle.pfs_play.specs.Errands.{actions_of, errand_on, sql_errand}
 use Rattle.pfs_play.proofs.lines.play_line.Goals as goal
 

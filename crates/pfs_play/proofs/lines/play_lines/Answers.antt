@@ -1,17 +1,17 @@
 use Rattle.std.proofs.Common.{◌≡◌, ◌<◌, ◌+◌, ◌++◌, ◌∷◌, [], List, ℕ, refl, ap, sym, ◌∙◌, subst, take, drop, suc, length, get_or, arith}
 use Rattle.std.proofs.Math.Seq.{drop-cons}
 use Rattle.std.proofs.lemmas.List.{take_more}
-use Rattle.pfs_admin.specs.States.{State as Administration}
+use Rattle.pfs_admin.specs.AdministrationStates.{State as Administration}
 use Rattle.pfs_event.specs.declared.kind.EventKind.{EventKind}
-use Rattle.pfs_facts.specs.Steps.{kinds_at}
+use Rattle.pfs_law_plain.specs.LineSteps.{kinds_at}
 use Rattle.pfs_script.specs.declared.blocks.BlockLine.{BlockLine}
 use Rattle.pfs_script.specs.Brackets.{kinds_behind}
 use Rattle.pfs_script.specs.Marks.{mark_of}
-use Rattle.pfs_session.specs.States.{State}
+use Rattle.pfs_session.specs.SessionStates.{State}
 use Rattle.pfs_play.specs.Errands.{CanPlay, MayRun, HasRun, HavePlayed, StagesLie, actions_of, actions_on, admin_after, admin_behind, cost_of, cost_on, errand_on, kinds_after}
-use Rattle.pfs_play.proofs.Running.{may_run}
-use Rattle.pfs_play.proofs.Following.{played_nothing, played_more, run_kinds, still_lies}
-use Rattle.pfs_play.proofs.Repeating.{after_then, one_counted}
+use Rattle.pfs_play.proofs.ErrandParts.{may_run}
+use Rattle.pfs_play.proofs.NextLines.{played_nothing, played_more, run_kinds, still_lies}
+use Rattle.pfs_play.proofs.RepeatedLines.{after_then, one_counted}
 use Rattle.pfs_play.proofs.lines.play_lines.Goals as goal
 
 -- the line at a place, and those behind it

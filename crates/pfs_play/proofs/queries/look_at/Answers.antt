@@ -1,10 +1,10 @@
 use Rattle.std.proofs.Common.{◌≡◌, ◌+◌, [], ◌∷◌, ◌++◌, length, ap, ◌∙◌, refl, arith}
 use Rattle.std.proofs.lemmas.List.{length-append}
-use Rattle.pfs_reader.proofs.Reading.{more_left}
-use Rattle.pfs_readsets.specs.Places.{scope_of}
+use Rattle.pfs_reader.proofs.Readings.{more_left}
+use Rattle.pfs_readsets.specs.TablePlaces.{scope_of}
 use Rattle.pfs_readsets.specs.ReadSets.{target_of}
-use Rattle.pfs_session.proofs.Playing.{played_none}
-use Rattle.pfs_play.proofs.Asking.{look_last, look_more, reached_few}
+use Rattle.pfs_session.proofs.StepLists.{played_none}
+use Rattle.pfs_play.proofs.ReadingCounts.{look_last, look_more, reached_few}
 use Rattle.pfs_play.proofs.queries.look_at.Goals as goal
 
 pub loop-reading-init : goal.loop-reading-init

@@ -1,9 +1,9 @@
 use Rattle.std.proofs.Common.{◌≡◌, ◌-◌, length}
-use Rattle.pfs_parts.specs.Deeds.{looks}
-use Rattle.pfs_readsets.specs.Places.{scope_of}
-use Rattle.pfs_readsets.specs.Steps.{Reached}
+use Rattle.pfs_law_session.specs.Deeds.{looks}
+use Rattle.pfs_readsets.specs.TablePlaces.{scope_of}
+use Rattle.pfs_readsets.specs.ReadProgress.{Reached}
 use Rattle.pfs_session.specs.Turns.{Played}
-use Rattle.pfs_session.specs.Using.{Uses}
+use Rattle.pfs_session.specs.CallCosts.{Uses}
 use Rattle.pfs_play.proofs.queries.look_at.Given as goal
 
 abbrev pub invariant-loop-reading : goal.invariant-loop-reading

@@ -1,14 +1,14 @@
 use Rattle.std.proofs.Common.{ℕ, ◌≡◌, List, [], ◌∷◌, ap, ◌∙◌, arith, subst, length}
-use Rattle.pfs_actions.proofs.Acting.{remarked}
-use Rattle.pfs_exec.specs.Selecting.{IsAnswer}
-use Rattle.pfs_parts.specs.Deeds.{remark}
+use Rattle.pfs_play.proofs.ActionParts.{remarked}
+use Rattle.pfs_exec.specs.Selections.{IsAnswer}
+use Rattle.pfs_law_session.specs.Deeds.{remark}
 use Rattle.pfs_rows.specs.declared.table.Reading.{Reading}
-use Rattle.pfs_runs.specs.Answers.{Answer}
+use Rattle.pfs_runs.specs.SelectAnswers.{Answer}
 use Rattle.pfs_session.specs.Turns.{Played}
 use Rattle.pfs_session.specs.declared.remarks.Remark.TheVariants.{Query, Rows}
-use Rattle.pfs_tables.specs.Shown.{listed_rows}
-use Rattle.pfs_play.proofs.Asking.{queried}
-use Rattle.pfs_play.proofs.Running.{query_ran}
+use Rattle.pfs_tables.specs.ListedRows.{listed_rows}
+use Rattle.pfs_play.proofs.ReadingCounts.{queried}
+use Rattle.pfs_play.proofs.ErrandParts.{query_ran}
 use Rattle.pfs_play.proofs.queries.query.Goals as goal
 
 pub append-requires-2 : goal.append-requires-2

@@ -1,9 +1,9 @@
 use Rattle.std.proofs.Common.{◌+◌, ◌≤◌, arith, ap, length}
-use Rattle.pfs_session.proofs.Owed.{nothing_owed}
-use Rattle.pfs_session.specs.Settles.{owed_by_state}
-use Rattle.pfs_session.specs.States.{State}
-use Rattle.pfs_play.proofs.Running.{show_ran}
-use Rattle.pfs_play.proofs.Width.{owed_fits, settling_fits}
+use Rattle.pfs_session.proofs.HeldAmounts.{nothing_owed}
+use Rattle.pfs_session.specs.Settlements.{owed_by_state}
+use Rattle.pfs_session.specs.SessionStates.{State}
+use Rattle.pfs_play.proofs.ErrandParts.{show_ran}
+use Rattle.pfs_play.proofs.HeldBounds.{owed_fits, settling_fits}
 use Rattle.pfs_play.proofs.queries.show_table.Goals as goal
 
 pub show_held-requires-clause-spare : goal.show_held-requires-clause-spare

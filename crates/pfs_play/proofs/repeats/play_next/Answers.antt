@@ -1,11 +1,11 @@
 use Rattle.std.proofs.Common.{◌++◌, ◌∙◌, List, None, ap, sym, subst, length, take, drop, arith}
 use Rattle.pfs_event.specs.declared.kind.EventKind.{EventKind}
-use Rattle.pfs_facts.specs.Steps.{kinds_at}
+use Rattle.pfs_law_plain.specs.LineSteps.{kinds_at}
 use Rattle.pfs_script.specs.declared.blocks.BlockLine.{BlockLine}
 use Rattle.pfs_script.specs.Marks.{written_out}
 use Rattle.pfs_play.specs.Errands.{actions_on, cost_on, kinds_after}
 use Rattle.pfs_play.specs.Repeats.{AllMayPlay}
-use Rattle.pfs_play.proofs.Writing.{begun, played, kinds_then}
+use Rattle.pfs_play.proofs.WrittenRepeats.{begun, played, kinds_then}
 use Rattle.pfs_play.proofs.repeats.play_next.Goals as goal
 
 pub play_repeat-requires-clause-may : goal.play_repeat-requires-clause-may

@@ -1,12 +1,12 @@
 use Rattle.std.proofs.Common.{◌≡◌, ◌+◌, ◌++◌, ◌∙◌, List, None, ap, sym, subst, length, take, drop, arith}
 use Rattle.std.proofs.lemmas.List.{append-nil}
 use Rattle.pfs_event.specs.declared.kind.EventKind.{EventKind}
-use Rattle.pfs_facts.specs.Steps.{kinds_at}
+use Rattle.pfs_law_plain.specs.LineSteps.{kinds_at}
 use Rattle.pfs_script.specs.declared.blocks.BlockLine.{BlockLine}
 use Rattle.pfs_script.specs.Marks.{copies, written_out}
 use Rattle.pfs_play.specs.Errands.{actions_on, cost_on, kinds_after}
 use Rattle.pfs_play.specs.Repeats.{AllMayPlay, repeated}
-use Rattle.pfs_play.proofs.Writing.{rounds_at, not_found, written_open, can_open, nothing_behind, may_behind}
+use Rattle.pfs_play.proofs.WrittenRepeats.{rounds_at, not_found, written_open, can_open, nothing_behind, may_behind}
 use Rattle.pfs_play.proofs.repeats.play_repeat.Goals as goal
 
 pub play_times-requires-clause-can : goal.play_times-requires-clause-can

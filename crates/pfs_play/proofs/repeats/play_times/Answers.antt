@@ -1,13 +1,13 @@
 use Rattle.std.proofs.Common.{◌≡◌, ◌*◌, ◌∙◌, List, [], refl, ap, sym, subst, length, arith}
 use Rattle.std.proofs.lemmas.Bool.{eqb-true}
 use Rattle.std.proofs.lemmas.List.{nil_from_length}
-use Rattle.pfs_admin.specs.States.{State as Administration}
+use Rattle.pfs_admin.specs.AdministrationStates.{State as Administration}
 use Rattle.pfs_script.specs.declared.blocks.BlockLine.{BlockLine}
 use Rattle.pfs_script.specs.Marks.{copies}
-use Rattle.pfs_session.specs.States.{State}
+use Rattle.pfs_session.specs.SessionStates.{State}
 use Rattle.pfs_play.specs.Errands.{HavePlayed, actions_on, admin_after, kinds_after}
-use Rattle.pfs_play.proofs.Following.{played_nothing}
-use Rattle.pfs_play.proofs.Repeating.{after_then, copies_of_none, copies_more, no_copies, played_both}
+use Rattle.pfs_play.proofs.NextLines.{played_nothing}
+use Rattle.pfs_play.proofs.RepeatedLines.{after_then, copies_of_none, copies_more, no_copies, played_both}
 use Rattle.pfs_play.proofs.repeats.play_times.Goals as goal
 
 pub returns-then-is_empty-clause-played : goal.returns-then-is_empty-clause-played

@@ -1,5 +1,5 @@
 use Rattle.std.proofs.Common.{◌≡◌, ◌≤◌, ◌+◌, ◌*◌, ℕ, Some, length}
-use Rattle.pfs_facts.specs.Steps.{kinds_at}
+use Rattle.pfs_law_plain.specs.LineSteps.{kinds_at}
 use Rattle.pfs_script.specs.Marks.{copies}
 use Rattle.pfs_play.specs.Errands.{HavePlayed, StagesLie, actions_on, admin_after, cost_on}
 use Rattle.pfs_play.proofs.repeats.play_times.Given as goal

@@ -2,11 +2,11 @@ use Rattle.std.proofs.Common.{◌≡◌, ◌+◌, ◌-◌, ◌∙◌, ℕ, List,
 use Rattle.std.proofs.lemmas.List.{length-drop}
 use Rattle.pfs_script.specs.declared.blocks.BlockLine.{BlockLine}
 use Rattle.pfs_script.specs.Marks.{written_out}
-use Rattle.pfs_session.specs.States.{State}
-use Rattle.pfs_facts.specs.Steps.{kinds_at}
+use Rattle.pfs_session.specs.SessionStates.{State}
+use Rattle.pfs_law_plain.specs.LineSteps.{kinds_at}
 use Rattle.pfs_play.specs.Errands.{actions_on, cost_on, kinds_after}
 use Rattle.pfs_play.specs.Repeats.{AllMayPlay, HaveGone}
-use Rattle.pfs_play.proofs.Writing.{to_the_end, drop_both, gone_after, gone_both, gone_less, gone_nowhere, gone_whole, at_the_end}
+use Rattle.pfs_play.proofs.WrittenRepeats.{to_the_end, drop_both, gone_after, gone_both, gone_less, gone_nowhere, gone_whole, at_the_end}
 use Rattle.pfs_play.proofs.repeats.play_written.Goals as goal
 
 pub loop-at-init : goal.loop-at-init

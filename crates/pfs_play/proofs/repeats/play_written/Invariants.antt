@@ -1,5 +1,5 @@
 use Rattle.std.proofs.Common.{length, ◌-◌, ◌≡◌, ◌≤◌, ◌+◌, ◌*◌, ℕ, None, Some, drop}
-use Rattle.pfs_facts.specs.Steps.{kinds_at}
+use Rattle.pfs_law_plain.specs.LineSteps.{kinds_at}
 use Rattle.pfs_script.specs.Marks.{written_out}
 use Rattle.pfs_play.specs.Repeats.{AllMayPlay, HaveGone}
 use Rattle.pfs_play.specs.Errands.{StagesLie, actions_on, cost_on, kinds_after}

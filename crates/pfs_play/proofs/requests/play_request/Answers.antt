@@ -2,12 +2,12 @@ use Rattle.std.proofs.Common.{◌∙◌, ap, length, refl, sym, subst}
 use Rattle.std.specs.Prelude.{OnOk}
 use Rattle.std.proofs.lemmas.Result.{on_ok_weaker}
 use Rattle.pfs_admin.specs.declared.changes.SetupStatement.TheVariants as statements
-use Rattle.pfs_session.specs.States.{State}
+use Rattle.pfs_session.specs.SessionStates.{State}
 use Rattle.pfs_play.specs.Errand.{Errand}
 use Rattle.pfs_play.specs.Errand as ask
 use Rattle.pfs_play.specs.Errands.{HasRun, sql_errand}
-use Rattle.pfs_play.proofs.Running.{acted_ran, refuse_ran}
-use Rattle.pfs_play.proofs.Width.{none_wide}
+use Rattle.pfs_play.proofs.ErrandParts.{acted_ran, refuse_ran}
+use Rattle.pfs_play.proofs.HeldBounds.{none_wide}
 use Rattle.pfs_play.proofs.requests.play_request.Goals as goal
 
 pub returns-in-Refused-clause-run : goal.returns-in-Refused-clause-run

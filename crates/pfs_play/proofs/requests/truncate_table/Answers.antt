@@ -1,8 +1,8 @@
 use Rattle.std.proofs.Common.{arith, ap, length}
-use Rattle.pfs_session.specs.Settles.{owed_by_state}
-use Rattle.pfs_session.specs.States.{State}
-use Rattle.pfs_session.proofs.Owed.{nothing_owed}
-use Rattle.pfs_play.proofs.Width.{owed_fits, settling_fits}
+use Rattle.pfs_session.specs.Settlements.{owed_by_state}
+use Rattle.pfs_session.specs.SessionStates.{State}
+use Rattle.pfs_session.proofs.HeldAmounts.{nothing_owed}
+use Rattle.pfs_play.proofs.HeldBounds.{owed_fits, settling_fits}
 use Rattle.pfs_play.proofs.requests.truncate_table.Goals as goal
 
 pub truncate-requires-clause-spare : goal.truncate-requires-clause-spare

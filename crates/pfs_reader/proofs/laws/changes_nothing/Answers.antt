@@ -1,4 +1,4 @@
-use Rattle.pfs_reader.proofs.Plain.{same_changes, same_ops, same_sets, same_draws, same_labels}
+use Rattle.pfs_reader.proofs.PlainReadings.{same_changes, same_ops, same_sets, same_draws, same_labels}
 use Rattle.pfs_reader.proofs.laws.changes_nothing.Goals as goal
 
 pub returns : goal.returns

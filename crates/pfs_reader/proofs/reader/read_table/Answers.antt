@@ -1,8 +1,8 @@
 use Rattle.std.proofs.Common.{◌≡◌, ◌+◌, [], ◌∷◌, ◌++◌, length, ap, ◌∙◌, arith}
 use Rattle.std.proofs.lemmas.List.{length-append}
-use Rattle.pfs_readsets.specs.Places.{scope_of}
+use Rattle.pfs_readsets.specs.TablePlaces.{scope_of}
 use Rattle.pfs_readsets.specs.ReadSets.{target_of}
-use Rattle.pfs_reader.proofs.Reading.{front, more_left, goes_then, kept_then, on_err}
+use Rattle.pfs_reader.proofs.Readings.{front, more_left, goes_then, kept_then, on_err}
 use Rattle.pfs_reader.proofs.reader.read_table.Goals as goal
 
 pub loop-reading-smaller : goal.loop-reading-smaller

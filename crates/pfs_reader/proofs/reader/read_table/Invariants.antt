@@ -1,7 +1,7 @@
 use Rattle.std.proofs.Common.{◌-◌, length}
 use Rattle.pfs_levels.specs.Calls.{Goes}
-use Rattle.pfs_readsets.specs.Places.{scope_of}
-use Rattle.pfs_readsets.specs.Steps.{Reached}
+use Rattle.pfs_readsets.specs.TablePlaces.{scope_of}
+use Rattle.pfs_readsets.specs.ReadProgress.{Reached}
 use Rattle.pfs_reader.specs.Readings.{calls_of, AreKept}
 use Rattle.pfs_reader.proofs.reader.read_table.Given as goal
 

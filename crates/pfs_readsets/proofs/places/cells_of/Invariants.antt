@@ -1,5 +1,5 @@
 use Rattle.std.proofs.Common.{◌≡◌, ◌<◌, ℕ, false, length, slice_index_or}
-use Rattle.pfs_readsets.specs.Places.{scope_of, has_cell}
+use Rattle.pfs_readsets.specs.TablePlaces.{scope_of, has_cell}
 use Rattle.pfs_readsets.proofs.places.cells_of.Given as goal
 
 abbrev pub invariant-loop-cell : goal.invariant-loop-cell

@@ -1,4 +1,4 @@
-use Rattle.pfs_rings.proofs.Apart.{apart}
+use Rattle.pfs_rings.proofs.ThreadPlaces.{apart}
 use Rattle.pfs_rings.proofs.laws.one_place.Goals as goal
 
 pub returns : goal.returns

@@ -1,4 +1,4 @@
-use Rattle.pfs_rings.proofs.Apart.{within}
+use Rattle.pfs_rings.proofs.ThreadPlaces.{within}
 use Rattle.pfs_rings.proofs.laws.rows_of_a_thread.Goals as goal
 
 pub returns : goal.returns

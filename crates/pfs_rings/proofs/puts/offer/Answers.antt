@@ -1,5 +1,5 @@
 use Rattle.std.proofs.Common.{refl}
-use Rattle.pfs_rings.proofs.Offering.{once}
+use Rattle.pfs_rings.proofs.Offers.{once}
 use Rattle.pfs_rings.proofs.puts.offer.Goals as goal
 
 -- src/puts.rt:106:1

@@ -1,5 +1,5 @@
 use Rattle.std.proofs.Common.{ℕ, List, ◌≤◌, ◌+◌, refl, subst, arith, slice_index}
-use Rattle.pfs_rings.proofs.Offering.{long}
+use Rattle.pfs_rings.proofs.Offers.{long}
 use Rattle.pfs_rings.proofs.puts.offer_long.Goals as goal
 
 -- src/puts.rt:131:1

@@ -1,4 +1,4 @@
-use Rattle.pfs_rows.proofs.Ranges.{together, each_of}
+use Rattle.pfs_rows.proofs.LimitRanges.{together, each_of}
 use Rattle.pfs_rows.proofs.laws.ranges.Goals as goal
 
 pub returns : goal.returns

@@ -1,10 +1,10 @@
 use Rattle.std.proofs.Common.{◌+◌, List, take, drop, subst}
 use Rattle.std.proofs.lemmas.Result.{on_ok_weaker}
-use Rattle.pfs_course.specs.Ahead.{ahead_of}
-use Rattle.pfs_course.specs.Course.{PhasedBlock}
+use Rattle.pfs_law_script.specs.BlocksAhead.{ahead_of}
+use Rattle.pfs_law_script.specs.Course.{PhasedBlock}
 use Rattle.pfs_script.specs.declared.blocks.Block.{Block}
-use Rattle.pfs_run.proofs.Running.{there, past}
-use Rattle.pfs_run.proofs.Standing.{Stands, behind}
+use Rattle.pfs_run.proofs.RunProgress.{there, past}
+use Rattle.pfs_run.proofs.RunnerState.{Stands, behind}
 use Rattle.pfs_run.proofs.run.run_phase.Goals as goal
 
 pub loop-block-init : goal.loop-block-init

@@ -1,8 +1,8 @@
 use Rattle.std.proofs.Common.{◌≡◌, ◌+◌, ◌++◌, ◌∷◌, [], List, length, take, drop}
-use Rattle.pfs_course.specs.Ahead.{ahead_of}
-use Rattle.pfs_course.specs.Course.{numbered}
+use Rattle.pfs_law_script.specs.BlocksAhead.{ahead_of}
+use Rattle.pfs_law_script.specs.Course.{numbered}
 use Rattle.pfs_script.specs.declared.blocks.Phase.{Phase}
-use Rattle.pfs_run.proofs.Standing.{Stands}
+use Rattle.pfs_run.proofs.RunnerState.{Stands}
 use Rattle.pfs_run.proofs.run.run_phase.Given as goal
 
 abbrev pub invariant-loop-block : goal.invariant-loop-block

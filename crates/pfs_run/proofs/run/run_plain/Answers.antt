@@ -1,10 +1,10 @@
 use Rattle.std.proofs.Common.{◌+◌, [], List, length, take, drop, sym, subst, ap, refl, ◌∙◌, arith}
 use Rattle.std.specs.List.{All}
-use Rattle.pfs_course.specs.Course.{numbered}
+use Rattle.pfs_law_script.specs.Course.{numbered}
 use Rattle.pfs_journal.specs.Reports.{IsPhase}
 use Rattle.pfs_script.specs.declared.blocks.Phase.{Phase}
-use Rattle.pfs_run.proofs.Running.{parted, parted_all, taken_more, past, run_is}
-use Rattle.pfs_run.proofs.Standing.{Stands}
+use Rattle.pfs_run.proofs.RunProgress.{parted, parted_all, taken_more, past, run_is}
+use Rattle.pfs_run.proofs.RunnerState.{Stands}
 use Rattle.pfs_run.proofs.run.run_plain.Goals as goal
 
 pub loop-phase-init : goal.loop-phase-init

@@ -1,6 +1,6 @@
 use Rattle.std.proofs.Common.{◌+◌, [], length, take, drop}
-use Rattle.pfs_course.specs.Course.{numbered}
-use Rattle.pfs_run.proofs.Standing.{Stands}
+use Rattle.pfs_law_script.specs.Course.{numbered}
+use Rattle.pfs_run.proofs.RunnerState.{Stands}
 use Rattle.pfs_run.proofs.run.run_plain.Given as goal
 
 abbrev pub invariant-loop-phase : goal.invariant-loop-phase

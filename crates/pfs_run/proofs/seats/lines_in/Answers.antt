@@ -1,5 +1,5 @@
 use Rattle.std.proofs.Common.{ap, arith, length}
-use Rattle.pfs_run.proofs.Lines.{lines_more, lines_same, lines_other}
+use Rattle.pfs_run.proofs.SessionLengths.{lines_more, lines_same, lines_other}
 use Rattle.pfs_run.proofs.seats.lines_in.Goals as goal
 use Rattle.pfs_run.proofs.seats.lines_in.Goals.{then-block-number, else-block-number}
 

@@ -1,5 +1,5 @@
 use Rattle.std.proofs.Common.{◌≡◌, take}
-use Rattle.pfs_run.proofs.Lines.{lines_own}
+use Rattle.pfs_run.proofs.SessionLengths.{lines_own}
 use Rattle.pfs_run.proofs.seats.lines_in.Given as goal
 
 abbrev pub invariant-loop-block : goal.invariant-loop-block

@@ -1,5 +1,5 @@
 use Rattle.std.proofs.Common.{ap, arith}
-use Rattle.pfs_run.proofs.Lines.{lines_own, depth_more}
+use Rattle.pfs_run.proofs.SessionLengths.{lines_own, depth_more}
 use Rattle.pfs_run.proofs.seats.lines_of.Goals as goal
 
 pub lines_in-lines-requires : goal.lines_in-lines-requires

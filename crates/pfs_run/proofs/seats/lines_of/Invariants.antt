@@ -1,5 +1,5 @@
 use Rattle.std.proofs.Common.{◌≡◌, take}
-use Rattle.pfs_run.specs.Along.{depth_of}
+use Rattle.pfs_run.specs.RunPositions.{depth_of}
 use Rattle.pfs_run.proofs.seats.lines_of.Given as goal
 
 abbrev pub invariant-loop-phase : goal.invariant-loop-phase

@@ -1,4 +1,4 @@
-use Rattle.pfs_runs.proofs.Examples.{worked}
+use Rattle.pfs_runs.proofs.ScriptExamples.{worked}
 use Rattle.pfs_runs.proofs.laws.worked.Goals as goal
 
 pub returns : goal.returns

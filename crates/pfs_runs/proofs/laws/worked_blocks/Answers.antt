@@ -1,4 +1,4 @@
-use Rattle.pfs_runs.proofs.Worked.{blocks}
+use Rattle.pfs_runs.proofs.RunExamples.{blocks}
 use Rattle.pfs_runs.proofs.laws.worked_blocks.Goals as goal
 
 pub returns : goal.returns

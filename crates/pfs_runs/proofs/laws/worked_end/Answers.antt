@@ -1,4 +1,4 @@
-use Rattle.pfs_runs.proofs.Worked.{ended}
+use Rattle.pfs_runs.proofs.RunExamples.{ended}
 use Rattle.pfs_runs.proofs.laws.worked_end.Goals as goal
 
 pub returns : goal.returns

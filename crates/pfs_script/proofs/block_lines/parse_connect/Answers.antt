@@ -1,5 +1,5 @@
 use Rattle.std.proofs.Common.{sym}
-use Rattle.pfs_script.proofs.Clean.{name_clean}
+use Rattle.pfs_script.proofs.CleanBytes.{name_clean}
 use Rattle.pfs_script.proofs.block_lines.parse_connect.Goals as goal
 
 pub new-requires : goal.new-requires

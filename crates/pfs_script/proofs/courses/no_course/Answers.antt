@@ -1,5 +1,5 @@
 use Rattle.std.proofs.Common.{refl}
-use Rattle.pfs_script.proofs.Coursing.{none_knows}
+use Rattle.pfs_script.proofs.SessionCourses.{none_knows}
 use Rattle.pfs_script.proofs.courses.no_course.Goals as goal
 
 pub returns : goal.returns

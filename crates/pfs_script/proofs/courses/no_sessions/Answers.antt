@@ -1,6 +1,6 @@
 use Rattle.std.proofs.Common.{◌∙◌}
 use Rattle.std.proofs.lemmas.List.{get_or-replicate}
-use Rattle.pfs_script.specs.Places.{no_session}
+use Rattle.pfs_script.specs.ReaderState.{no_session}
 use Rattle.pfs_script.proofs.courses.no_sessions.Goals as goal
 
 pub returns-clause-none : goal.returns-clause-none

@@ -1,4 +1,4 @@
-use Rattle.pfs_script.proofs.Shown.{bad_is}
+use Rattle.pfs_script.proofs.StatementDigests.{bad_is}
 use Rattle.pfs_script.proofs.finds.is_refused.Goals as goal
 
 pub returns-in-Statement : goal.returns-in-Statement

@@ -1,4 +1,4 @@
-use Rattle.pfs_script.proofs.NamedLemmas.{consumer_is}
+use Rattle.pfs_script.proofs.SettingNames.{consumer_is}
 use Rattle.pfs_script.proofs.heading.find_consumer.Goals as goal
 
 pub returns : goal.returns

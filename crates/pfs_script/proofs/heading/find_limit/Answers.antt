@@ -1,4 +1,4 @@
-use Rattle.pfs_script.proofs.NamedLemmas.{limit_is}
+use Rattle.pfs_script.proofs.SettingNames.{limit_is}
 use Rattle.pfs_script.proofs.heading.find_limit.Goals as goal
 
 pub returns : goal.returns

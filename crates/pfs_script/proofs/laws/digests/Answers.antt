@@ -1,4 +1,4 @@
-use Rattle.pfs_script.proofs.Listing.{are_digests}
+use Rattle.pfs_script.proofs.AppearanceOrder.{are_digests}
 use Rattle.pfs_script.proofs.laws.digests.Goals as goal
 
 pub returns : goal.returns

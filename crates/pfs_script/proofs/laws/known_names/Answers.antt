@@ -1,5 +1,5 @@
 use Rattle.pfs_script.proofs.HeadLemmas.{knows_resolved}
-use Rattle.pfs_script.proofs.ReferLemmas.{resolved_within}
+use Rattle.pfs_script.proofs.NameReferences.{resolved_within}
 use Rattle.pfs_script.proofs.laws.known_names.Goals as goal
 
 pub returns-clause-known : goal.returns-clause-known

@@ -1,4 +1,4 @@
-use Rattle.pfs_script.proofs.Nesting.{open_more, closed_by}
+use Rattle.pfs_script.proofs.MarkNests.{open_more, closed_by}
 use Rattle.pfs_script.proofs.laws.nested.Goals as goal
 
 pub returns-clause-opens : goal.returns-clause-opens

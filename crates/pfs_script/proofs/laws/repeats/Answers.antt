@@ -1,4 +1,4 @@
-use Rattle.pfs_script.proofs.Nesting.{repeats}
+use Rattle.pfs_script.proofs.MarkNests.{repeats}
 use Rattle.pfs_script.proofs.laws.repeats.Goals as goal
 
 pub returns-clause-follow : goal.returns-clause-follow

@@ -1,4 +1,4 @@
-use Rattle.pfs_script.proofs.SessionNaming.{are_named}
+use Rattle.pfs_script.proofs.SessionNames.{are_named}
 use Rattle.pfs_script.proofs.laws.session_names.Goals as goal
 
 pub returns : goal.returns

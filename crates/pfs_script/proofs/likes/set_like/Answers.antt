@@ -2,7 +2,7 @@ use Rattle.std.proofs.Common.{◌≡◌, Some, ◌+◌, suc, length, inl, refl, 
 use Rattle.pfs_classes.specs.declared.classes.Class.{Class}
 use Rattle.pfs_classes.specs.Registry.{Registry, class_at}
 use Rattle.pfs_script.specs.Headings.{set_if_like}
-use Rattle.pfs_script.proofs.SetLemmas.{front_set, set_at, set_next, set_last, length-map_front}
+use Rattle.pfs_script.proofs.FlagChanges.{front_set, set_at, set_next, set_last, length-map_front}
 use Rattle.pfs_script.proofs.likes.set_like.Goals as goal
 
 pub loop-id-init : goal.loop-id-init

@@ -1,7 +1,7 @@
 use Rattle.std.proofs.Common.{◌≡◌, ℕ, List}
 use Rattle.pfs_classes.specs.Registry.{Registry}
 use Rattle.pfs_classes.specs.Settings.{ComesFrom}
-use Rattle.pfs_script.proofs.SetLemmas.{front_set}
+use Rattle.pfs_script.proofs.FlagChanges.{front_set}
 use Rattle.pfs_script.proofs.likes.set_like.Given as goal
 
 -- the classes so far are set

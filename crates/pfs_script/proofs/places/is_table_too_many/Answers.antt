@@ -1,4 +1,4 @@
-use Rattle.pfs_script.proofs.Finding.{too_many_of}
+use Rattle.pfs_script.proofs.NextFinds.{too_many_of}
 use Rattle.pfs_script.proofs.places.is_table_too_many.Goals as goal
 
 pub returns : goal.returns

@@ -1,5 +1,5 @@
 use Rattle.std.specs.Prelude.{◌==◌}
-use Rattle.pfs_script.proofs.Splits.{first_place}
+use Rattle.pfs_script.proofs.FirstLines.{first_place}
 use Rattle.pfs_script.proofs.reading.first_line_feed.Goals as goal
 
 pub returns : goal.returns

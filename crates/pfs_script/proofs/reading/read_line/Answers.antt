@@ -1,7 +1,7 @@
 use Rattle.std.proofs.Common.{List, ap, sym, ◌∙◌}
 use Rattle.std.specs.Prelude.{slice_get}
 use Rattle.pfs_script.specs.declared.known.KnownLine.{KnownLine}
-use Rattle.pfs_script.proofs.Knowing.{known_more, known_is, known_same, next_says, says_fault}
+use Rattle.pfs_script.proofs.KnownLines.{known_more, known_is, known_same, next_says, says_fault}
 use Rattle.pfs_script.proofs.reading.read_line.Goals as goal
 
 pub returns-in-Ok : goal.returns-in-Ok

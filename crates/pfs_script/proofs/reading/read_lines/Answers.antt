@@ -1,8 +1,8 @@
 use Rattle.std.proofs.Common.{◌≡◌, ◌∙◌, ◌++◌, ◌∷◌, [], ◌<◌, length, sym, arith}
 use Rattle.std.proofs.lemmas.Bool.Decides.{nat_tests}
-use Rattle.pfs_script.proofs.Counting.{few_count}
-use Rattle.pfs_script.proofs.Splits.{some_parts}
-use Rattle.pfs_script.proofs.Steps.{says_line, next_bad, says_all, says_undone, says_open}
+use Rattle.pfs_script.proofs.ReaderCounts.{few_count}
+use Rattle.pfs_script.proofs.FirstLines.{some_parts}
+use Rattle.pfs_script.proofs.PassSteps.{says_line, next_bad, says_all, says_undone, says_open}
 use Rattle.pfs_script.proofs.reading.read_lines.Goals as goal
 
 pub bad-requires : goal.bad-requires

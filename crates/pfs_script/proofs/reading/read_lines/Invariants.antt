@@ -1,7 +1,7 @@
 use Rattle.std.proofs.Common.{◌≡◌, List, length}
 use Rattle.pfs_script.specs.declared.forms.Form.{Form}
-use Rattle.pfs_script.specs.Known.{AreKnown}
-use Rattle.pfs_script.specs.Readings.{IsBehind}
+use Rattle.pfs_script.specs.KnownLines.{AreKnown}
+use Rattle.pfs_script.specs.ReaderAnswers.{IsBehind}
 use Rattle.pfs_script.specs.Scripts.{parts_of, lines_from, script_of}
 use Rattle.pfs_script.proofs.reading.read_lines.Given as goal
 

@@ -1,6 +1,6 @@
 use Rattle.std.proofs.Common.{arith, sym, ap, ◌∙◌, ◌+◌, ◌++◌, ◌∷◌, [], nat_lt, length}
-use Rattle.pfs_script.proofs.Counting.{few_count}
-use Rattle.pfs_script.proofs.Knowing.{known_more, known_new, known_kept, next_says, next_unsaid, says_fault}
+use Rattle.pfs_script.proofs.ReaderCounts.{few_count}
+use Rattle.pfs_script.proofs.KnownLines.{known_more, known_new, known_kept, next_says, next_unsaid, says_fault}
 use Rattle.pfs_script.proofs.reading.read_new.Goals as goal
 
 pub bad-requires : goal.bad-requires

@@ -1,5 +1,5 @@
 use Rattle.std.proofs.Common.{sym}
-use Rattle.pfs_script.proofs.Splits.{split_found, rest_shorter, split_missing}
+use Rattle.pfs_script.proofs.FirstLines.{split_found, rest_shorter, split_missing}
 use Rattle.pfs_script.proofs.reading.split_line.Goals as goal
 
 pub returns-in-Some : goal.returns-in-Some

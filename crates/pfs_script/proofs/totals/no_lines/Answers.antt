@@ -1,5 +1,5 @@
 use Rattle.std.proofs.Common.{refl}
-use Rattle.pfs_script.proofs.Totalling.{none_knows}
+use Rattle.pfs_script.proofs.RunningTotals.{none_knows}
 use Rattle.pfs_script.proofs.totals.no_lines.Goals as goal
 
 pub returns : goal.returns

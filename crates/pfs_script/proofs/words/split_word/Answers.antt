@@ -1,6 +1,6 @@
 use Rattle.std.proofs.Common.{◌+◌}
 use Rattle.std.proofs.lemmas.List.{take_rest}
-use Rattle.pfs_script.proofs.Clean.{clean_drop}
+use Rattle.pfs_script.proofs.CleanBytes.{clean_drop}
 use Rattle.pfs_script.proofs.words.split_word.Goals as goal
 
 pub returns-in-Some-clause-clean : goal.returns-in-Some-clause-clean

@@ -1,6 +1,6 @@
 use Rattle.std.proofs.Common.{refl, sym, ◌∙◌}
-use Rattle.pfs_session.specs.Settles.{owed_from}
-use Rattle.pfs_session.proofs.Owed.{owed_same, owed_there, no_option}
+use Rattle.pfs_session.specs.Settlements.{owed_from}
+use Rattle.pfs_session.proofs.HeldAmounts.{owed_same, owed_there, no_option}
 use Rattle.pfs_session.proofs.paying.is_empty.Goals as goal
 
 pub loop-one-init : goal.loop-one-init

@@ -1,5 +1,5 @@
 use Rattle.std.proofs.Common.{◌≡◌, [], take}
-use Rattle.pfs_session.specs.Settles.{owed_from}
+use Rattle.pfs_session.specs.Settlements.{owed_from}
 use Rattle.pfs_session.proofs.paying.is_empty.Given as goal
 
 abbrev pub invariant-loop-one : goal.invariant-loop-one

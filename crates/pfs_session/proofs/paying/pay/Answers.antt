@@ -1,5 +1,5 @@
 use Rattle.std.proofs.Common.{rules}
-use Rattle.pfs_session.proofs.Owed.{pays_one}
+use Rattle.pfs_session.proofs.HeldAmounts.{pays_one}
 use Rattle.pfs_session.proofs.paying.pay.Goals as goal
 
 pub returns-clause-pays : goal.returns-clause-pays

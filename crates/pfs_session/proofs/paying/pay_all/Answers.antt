@@ -1,6 +1,6 @@
 use Rattle.std.proofs.Common.{rules, None, length, ap, sym}
-use Rattle.pfs_levels.proofs.Flushing.{stays_then, stays_as}
-use Rattle.pfs_session.proofs.Owed.{enough, length_more, owed_nothing, pays_none, pays_more, pays_as}
+use Rattle.pfs_levels.proofs.FlushSteps.{stays_then, stays_as}
+use Rattle.pfs_session.proofs.HeldAmounts.{enough, length_more, owed_nothing, pays_none, pays_more, pays_as}
 use Rattle.pfs_session.proofs.paying.pay_all.Goals as goal
 
 pub loop-cell-init : goal.loop-cell-init

@@ -1,6 +1,6 @@
 use Rattle.std.proofs.Common.{length, take}
 use Rattle.pfs_levels.specs.Moves.{Stays}
-use Rattle.pfs_session.specs.Settles.{owed_from, Pays}
+use Rattle.pfs_session.specs.Settlements.{owed_from, Pays}
 use Rattle.pfs_session.proofs.paying.pay_all.Given as goal
 
 abbrev pub invariant-loop-cell : goal.invariant-loop-cell

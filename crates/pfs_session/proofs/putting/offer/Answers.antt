@@ -1,5 +1,5 @@
 use Rattle.std.proofs.Common.{ap}
-use Rattle.pfs_session.proofs.Offering.{has_put, put_of}
+use Rattle.pfs_session.proofs.PutCalls.{has_put, put_of}
 use Rattle.pfs_session.proofs.putting.offer.Goals as goal
 
 pub returns-clause-put : goal.returns-clause-put

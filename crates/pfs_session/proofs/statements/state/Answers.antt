@@ -1,6 +1,6 @@
 use Rattle.std.proofs.Common.{Some, ap, sym, ◌∙◌}
-use Rattle.pfs_admin.specs.States.{State as Administration}
-use Rattle.pfs_session.proofs.Turning.{shown_words, shown_work}
+use Rattle.pfs_admin.specs.AdministrationStates.{State as Administration}
+use Rattle.pfs_session.proofs.EventSteps.{shown_words, shown_work}
 use Rattle.pfs_session.proofs.statements.state.Goals as goal
 
 pub returns-in-Show-clause-worked : goal.returns-in-Show-clause-worked

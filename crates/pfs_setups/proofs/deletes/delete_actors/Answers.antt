@@ -1,6 +1,6 @@
 use Rattle.std.proofs.Common.{◌≡◌, ◌∙◌, ◌+◌, ◌-◌, ◌<◌, suc, length, true, false, sym, ap, arith}
-use Rattle.pfs_setups.specs.Rows.{actor_meets}
-use Rattle.pfs_setups.proofs.Passing.{removes, leaves}
+use Rattle.pfs_setups.specs.SetupRows.{actor_meets}
+use Rattle.pfs_setups.proofs.LoopRows.{removes, leaves}
 use Rattle.pfs_setups.proofs.deletes.delete_actors.Goals as goal
 
 pub loop-place-preserved-then-actor_meets : goal.loop-place-preserved-then-actor_meets

@@ -1,5 +1,5 @@
 use Rattle.std.proofs.Common.{◌≡◌, ◌≤◌, ◌+◌, ◌++◌, length, take, drop, filter, not, count_by}
-use Rattle.pfs_setups.specs.Rows.{actor_meets}
+use Rattle.pfs_setups.specs.SetupRows.{actor_meets}
 use Rattle.pfs_setups.proofs.deletes.delete_actors.Given as goal
 
 -- the rows from the place on that are met are gone

@@ -1,6 +1,6 @@
 use Rattle.std.proofs.Common.{◌≡◌, ◌∙◌, ◌+◌, ◌-◌, ◌<◌, suc, length, true, false, sym, ap, arith}
-use Rattle.pfs_setups.specs.Rows.{object_meets}
-use Rattle.pfs_setups.proofs.Passing.{removes, leaves}
+use Rattle.pfs_setups.specs.SetupRows.{object_meets}
+use Rattle.pfs_setups.proofs.LoopRows.{removes, leaves}
 use Rattle.pfs_setups.proofs.deletes.delete_objects.Goals as goal
 
 pub loop-place-preserved-then-object_meets : goal.loop-place-preserved-then-object_meets

@@ -1,6 +1,6 @@
 use Rattle.std.proofs.Common.{◌∙◌}
 use Rattle.pfs_matching.specs.ActorRules.{actor_key}
-use Rattle.pfs_setups.proofs.Answering.{answers, adds}
+use Rattle.pfs_setups.proofs.InsertAnswers.{answers, adds}
 use Rattle.pfs_setups.proofs.inserts.insert_actor.Goals as goal
 
 pub returns-clause-answer : goal.returns-clause-answer

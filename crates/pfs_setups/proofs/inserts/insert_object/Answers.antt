@@ -1,6 +1,6 @@
 use Rattle.std.proofs.Common.{◌∙◌}
 use Rattle.pfs_matching.specs.ObjectRules.{object_key}
-use Rattle.pfs_setups.proofs.Answering.{answers, adds}
+use Rattle.pfs_setups.proofs.InsertAnswers.{answers, adds}
 use Rattle.pfs_setups.proofs.inserts.insert_object.Goals as goal
 
 pub returns-clause-answer : goal.returns-clause-answer

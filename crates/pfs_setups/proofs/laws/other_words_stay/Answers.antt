@@ -1,4 +1,4 @@
-use Rattle.pfs_setups.proofs.Staying.{others_stay}
+use Rattle.pfs_setups.proofs.OtherWords.{others_stay}
 use Rattle.pfs_setups.proofs.laws.other_words_stay.Goals as goal
 
 pub returns : goal.returns

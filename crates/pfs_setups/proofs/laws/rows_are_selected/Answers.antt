@@ -1,4 +1,4 @@
-use Rattle.pfs_setups.proofs.Selected.{are_selected}
+use Rattle.pfs_setups.proofs.SelectedRows.{are_selected}
 use Rattle.pfs_setups.proofs.laws.rows_are_selected.Goals as goal
 
 pub returns : goal.returns

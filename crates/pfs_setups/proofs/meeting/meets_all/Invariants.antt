@@ -1,5 +1,5 @@
 use Rattle.std.proofs.Common.{◌≡◌, drop, map}
-use Rattle.pfs_exec.specs.Selecting.{meets_all, value_of}
+use Rattle.pfs_exec.specs.Selections.{meets_all, value_of}
 use Rattle.pfs_setups.proofs.meeting.meets_all.Given as goal
 
 -- the conditions that were passed are met, so those that are left decide

@@ -1,7 +1,7 @@
 use Rattle.std.proofs.Common.{ℕ, Bool, ◌≡◌, ◌∙◌, ◌+◌, cond, count_by, sym, ap, arith}
 use Rattle.std.specs.List.{range_with_len}
-use Rattle.pfs_setups.specs.Rows.{is_met, is_word_met, word_values}
-use Rattle.pfs_setups.proofs.Passing.{counts}
+use Rattle.pfs_setups.specs.SetupRows.{is_met, is_word_met, word_values}
+use Rattle.pfs_setups.proofs.LoopRows.{counts}
 use Rattle.pfs_setups.proofs.meeting.met_up_to.Goals as goal
 
 pub loop-word-preserved : goal.loop-word-preserved

@@ -1,6 +1,6 @@
 use Rattle.std.proofs.Common.{◌≡◌, ◌≤◌, count_by}
 use Rattle.std.specs.List.{range_with_len}
-use Rattle.pfs_setups.specs.Rows.{is_word_met}
+use Rattle.pfs_setups.specs.SetupRows.{is_word_met}
 use Rattle.pfs_setups.proofs.meeting.met_up_to.Given as goal
 
 abbrev pub invariant-loop-word : goal.invariant-loop-word

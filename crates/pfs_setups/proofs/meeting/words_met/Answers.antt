@@ -1,4 +1,4 @@
-use Rattle.pfs_setups.specs.Rows.{words_met}
+use Rattle.pfs_setups.specs.SetupRows.{words_met}
 use Rattle.pfs_setups.proofs.meeting.words_met.Goals as goal
 
 pub returns : goal.returns

@@ -1,7 +1,7 @@
 use Rattle.std.proofs.Common.{rules, ◌++◌, [], ◌∷◌, map, sym, ◌∙◌, ap, arith}
 use Rattle.std.specs.List.{range_with_len}
 use Rattle.std.proofs.lemmas.List.FromFn.{map-range_with_len_more}
-use Rattle.pfs_setups.specs.Rows.{name_of_class}
+use Rattle.pfs_setups.specs.SetupRows.{name_of_class}
 use Rattle.pfs_setups.proofs.names.class_names.Goals as goal
 
 pub loop-id-preserved : goal.loop-id-preserved

@@ -1,6 +1,6 @@
 use Rattle.std.proofs.Common.{◌≡◌, map}
 use Rattle.std.specs.List.{range_with_len}
-use Rattle.pfs_setups.specs.Rows.{name_of_class}
+use Rattle.pfs_setups.specs.SetupRows.{name_of_class}
 use Rattle.pfs_setups.proofs.names.class_names.Given as goal
 
 abbrev pub invariant-loop-id : goal.invariant-loop-id

@@ -1,5 +1,5 @@
 use Rattle.std.proofs.Common.{rules, ◌++◌, [], ◌∷◌, sym, ◌∙◌, ap}
-use Rattle.pfs_setups.proofs.Growing.{took_one}
+use Rattle.pfs_setups.proofs.LoopLists.{took_one}
 use Rattle.pfs_setups.proofs.names.texts_of.Goals as goal
 
 pub loop-id-preserved : goal.loop-id-preserved

@@ -1,8 +1,8 @@
 use Rattle.std.proofs.Common.{◌≡◌, ◌∙◌, ◌+◌, length, true, false, refl, sym, ap, arith}
 use Rattle.pfs_matching.specs.ActorRules.{changed_actor}
-use Rattle.pfs_setups.specs.Rows.{actor_meets}
+use Rattle.pfs_setups.specs.SetupRows.{actor_meets}
 use Rattle.pfs_setups.specs.Updates.{updated_actor}
-use Rattle.pfs_setups.proofs.Passing.{changes, stays, length-mixed}
+use Rattle.pfs_setups.proofs.LoopRows.{changes, stays, length-mixed}
 use Rattle.pfs_setups.proofs.updates.update_actors.Goals.{then-actor_meets, else-actor_meets}
 use Rattle.pfs_setups.proofs.updates.update_actors.Goals as goal
 

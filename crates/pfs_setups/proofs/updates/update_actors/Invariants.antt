@@ -1,7 +1,7 @@
 use Rattle.std.proofs.Common.{◌≡◌, ◌≤◌, length, take, count_by}
-use Rattle.pfs_setups.specs.Rows.{actor_meets}
+use Rattle.pfs_setups.specs.SetupRows.{actor_meets}
 use Rattle.pfs_setups.specs.Updates.{updated_actor}
-use Rattle.pfs_setups.proofs.Passing.{mixed}
+use Rattle.pfs_setups.proofs.LoopRows.{mixed}
 use Rattle.pfs_setups.proofs.updates.update_actors.Given as goal
 
 -- the rows that were passed are as they are to be

@@ -1,8 +1,8 @@
 use Rattle.std.proofs.Common.{◌≡◌, ◌∙◌, ◌+◌, length, true, false, refl, sym, ap, arith}
 use Rattle.pfs_matching.specs.ObjectRules.{changed_object}
-use Rattle.pfs_setups.specs.Rows.{object_meets}
+use Rattle.pfs_setups.specs.SetupRows.{object_meets}
 use Rattle.pfs_setups.specs.Updates.{updated_object}
-use Rattle.pfs_setups.proofs.Passing.{changes, stays, length-mixed}
+use Rattle.pfs_setups.proofs.LoopRows.{changes, stays, length-mixed}
 use Rattle.pfs_setups.proofs.updates.update_objects.Goals.{then-object_meets, else-object_meets}
 use Rattle.pfs_setups.proofs.updates.update_objects.Goals as goal
 

@@ -1,7 +1,7 @@
 use Rattle.std.proofs.Common.{◌≡◌, ◌≤◌, length, take, count_by}
-use Rattle.pfs_setups.specs.Rows.{object_meets}
+use Rattle.pfs_setups.specs.SetupRows.{object_meets}
 use Rattle.pfs_setups.specs.Updates.{updated_object}
-use Rattle.pfs_setups.proofs.Passing.{mixed}
+use Rattle.pfs_setups.proofs.LoopRows.{mixed}
 use Rattle.pfs_setups.proofs.updates.update_objects.Given as goal
 
 -- the rows that were passed are as they are to be

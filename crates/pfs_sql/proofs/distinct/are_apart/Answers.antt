@@ -5,7 +5,7 @@ use Rattle.std.specs.BTreeSet.{contains}
 use Rattle.std.specs.Cmp.Lexicographic.{slice_cmp}
 use Rattle.std.specs.List.{list_any}
 use Rattle.std.specs.Ordering.{is_eq, nat_cmp}
-use Rattle.pfs_sql.proofs.Fresh.{lower, fresh_none, fresh_more}
+use Rattle.pfs_sql.proofs.FreshNames.{lower, fresh_none, fresh_more}
 use Rattle.pfs_sql.proofs.distinct.are_apart.Goals as goal
 
 pub names-init : goal.names-init

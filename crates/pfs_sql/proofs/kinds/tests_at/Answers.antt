@@ -1,9 +1,9 @@
 use Rattle.std.proofs.Common.{length, sym, ◌∙◌, ap}
 use Rattle.std.proofs.lemmas.Result.{err_from_is_err_and}
 use Rattle.std.specs.Prelude.{codes}
-use Rattle.pfs_sql.specs.Words.{is_key}
-use Rattle.pfs_sql.specs.Readings.{test_at, many}
-use Rattle.pfs_sql.proofs.Items.{reads_more, reads_fail, reads_all}
+use Rattle.pfs_sql.specs.TokenWords.{is_key}
+use Rattle.pfs_sql.specs.TokenReaders.{test_at, many}
+use Rattle.pfs_sql.proofs.ItemLists.{reads_more, reads_fail, reads_all}
 use Rattle.pfs_sql.proofs.kinds.tests_at.Goals as goal
 
 pub returns-in_err-test : goal.returns-in_err-test

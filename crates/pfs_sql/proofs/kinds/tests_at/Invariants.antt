@@ -1,8 +1,8 @@
 use Rattle.std.proofs.Common.{length}
-use Rattle.pfs_sql.specs.Words.{is_key}
+use Rattle.pfs_sql.specs.TokenWords.{is_key}
 use Rattle.std.specs.Prelude.{codes}
-use Rattle.pfs_sql.specs.Readings.{test_at, many}
-use Rattle.pfs_sql.proofs.Items.{Reads}
+use Rattle.pfs_sql.specs.TokenReaders.{test_at, many}
+use Rattle.pfs_sql.proofs.ItemLists.{Reads}
 use Rattle.pfs_sql.proofs.kinds.tests_at.Given as goal
 
 abbrev pub invariant-items : goal.invariant-items

@@ -1,4 +1,4 @@
-use Rattle.pfs_sql.proofs.Said.{one_said}
+use Rattle.pfs_sql.proofs.SaidCommands.{one_said}
 use Rattle.pfs_sql.proofs.laws.one_command.Goals as goal
 
 pub returns : goal.returns

@@ -1,6 +1,6 @@
 use Rattle.std.proofs.Common.{arith, sym}
-use Rattle.pfs_sql.proofs.Quoting.{quoted_more, quoted_all}
-use Rattle.pfs_sql.specs.Cutting.{inside_of}
+use Rattle.pfs_sql.proofs.QuotedTexts.{quoted_more, quoted_all}
+use Rattle.pfs_sql.specs.TextCuts.{inside_of}
 use Rattle.pfs_sql.proofs.lexer.quoted_at.Goals as goal
 
 pub bytes-preserved : goal.bytes-preserved

@@ -1,5 +1,5 @@
 use Rattle.std.proofs.Common.{◌≡◌, ◌≤◌, length}
-use Rattle.pfs_sql.specs.Cutting.{inside_of, with_text}
+use Rattle.pfs_sql.specs.TextCuts.{inside_of, with_text}
 use Rattle.pfs_sql.proofs.lexer.quoted_at.Given as goal
 
 abbrev pub invariant-bytes : goal.invariant-bytes

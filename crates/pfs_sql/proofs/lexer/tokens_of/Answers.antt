@@ -1,7 +1,7 @@
 use Rattle.std.proofs.Common.{arith, sym, ap}
 use Rattle.std.proofs.lemmas.Bool.{eqb-true}
 use Rattle.std.proofs.lemmas.Result.{err_from_is_err_and}
-use Rattle.pfs_sql.proofs.Lexing.{cut_more, cut_fails, cut_all, refused, some_left}
+use Rattle.pfs_sql.proofs.TokenCuts.{cut_more, cut_fails, cut_all, refused, some_left}
 use Rattle.pfs_sql.proofs.lexer.tokens_of.Goals as goal
 
 pub returns-in_err-token : goal.returns-in_err-token

@@ -1,5 +1,5 @@
 use Rattle.std.proofs.Common.{length}
-use Rattle.pfs_sql.proofs.Lexing.{Cut}
+use Rattle.pfs_sql.proofs.TokenCuts.{Cut}
 use Rattle.pfs_sql.proofs.lexer.tokens_of.Given as goal
 
 abbrev pub invariant-tokens : goal.invariant-tokens

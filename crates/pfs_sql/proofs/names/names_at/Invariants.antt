@@ -1,7 +1,7 @@
 use Rattle.std.proofs.Common.{length}
-use Rattle.pfs_sql.specs.Words.{is_comma}
-use Rattle.pfs_sql.specs.Readings.{name_at, many}
-use Rattle.pfs_sql.proofs.Items.{Reads}
+use Rattle.pfs_sql.specs.TokenWords.{is_comma}
+use Rattle.pfs_sql.specs.TokenReaders.{name_at, many}
+use Rattle.pfs_sql.proofs.ItemLists.{Reads}
 use Rattle.pfs_sql.proofs.names.names_at.Given as goal
 
 abbrev pub invariant-items : goal.invariant-items

@@ -1,8 +1,8 @@
 use Rattle.std.proofs.Common.{length, sym, ◌∙◌, ap}
 use Rattle.std.proofs.lemmas.Result.{err_from_is_err_and}
-use Rattle.pfs_sql.specs.Words.{is_comma}
-use Rattle.pfs_sql.specs.Readings.{text_at, many}
-use Rattle.pfs_sql.proofs.Items.{reads_more, reads_fail, reads_all}
+use Rattle.pfs_sql.specs.TokenWords.{is_comma}
+use Rattle.pfs_sql.specs.TokenReaders.{text_at, many}
+use Rattle.pfs_sql.proofs.ItemLists.{reads_more, reads_fail, reads_all}
 use Rattle.pfs_sql.proofs.names.texts_at.Goals as goal
 
 pub returns-in_err-text : goal.returns-in_err-text

@@ -1,5 +1,5 @@
 use Rattle.std.proofs.lemmas.Result.{err_from_is_err_and}
-use Rattle.pfs_sql.proofs.Said.{says, not_spelled}
+use Rattle.pfs_sql.proofs.SaidCommands.{says, not_spelled}
 use Rattle.pfs_sql.proofs.parsing.parse.Goals as goal
 
 pub returns-in_err-command-clause-refused : goal.returns-in_err-command-clause-refused

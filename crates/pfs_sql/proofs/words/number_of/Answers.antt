@@ -1,4 +1,4 @@
-use Rattle.pfs_sql.proofs.Numbers.{number_read}
+use Rattle.pfs_sql.proofs.WordNumbers.{number_read}
 use Rattle.pfs_sql.proofs.words.number_of.Goals as goal
 
 pub returns : goal.returns

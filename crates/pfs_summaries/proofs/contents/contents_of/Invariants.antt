@@ -1,5 +1,5 @@
 use Rattle.std.proofs.Common.{◌≡◌, take}
-use Rattle.pfs_summaries.specs.Contents.{contents_of}
+use Rattle.pfs_summaries.specs.FoundContents.{contents_of}
 use Rattle.pfs_summaries.proofs.contents.contents_of.Given as goal
 
 abbrev pub invariant-loop-reading : goal.invariant-loop-reading

@@ -1,5 +1,5 @@
-use Rattle.pfs_summaries.specs.Digests.{digest_row}
-use Rattle.pfs_summaries.proofs.Ranges.{appended_more}
+use Rattle.pfs_summaries.specs.DigestRows.{digest_row}
+use Rattle.pfs_summaries.proofs.NumberLists.{appended_more}
 use Rattle.pfs_summaries.proofs.digests.put_places.Goals as goal
 
 pub loop-place-preserved : goal.loop-place-preserved

@@ -1,6 +1,6 @@
 use Rattle.std.proofs.Common.{◌≡◌, ◌++◌}
 use Rattle.std.specs.List.{flat_map, range_with_len}
-use Rattle.pfs_summaries.specs.Digests.{digest_row}
+use Rattle.pfs_summaries.specs.DigestRows.{digest_row}
 use Rattle.pfs_summaries.proofs.digests.put_places.Given as goal
 
 abbrev pub invariant-loop-place : goal.invariant-loop-place

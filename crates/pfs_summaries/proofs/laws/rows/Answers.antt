@@ -1,4 +1,4 @@
-use Rattle.pfs_summaries.proofs.Given.{ascending, given}
+use Rattle.pfs_summaries.proofs.RowKeys.{ascending, given}
 use Rattle.pfs_summaries.proofs.laws.rows.Goals as goal
 
 pub returns : goal.returns

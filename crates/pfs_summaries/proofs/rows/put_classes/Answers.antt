@@ -1,6 +1,6 @@
-use Rattle.pfs_summaries.specs.Steps.{tally_in}
+use Rattle.pfs_summaries.specs.ReadingSteps.{tally_in}
 use Rattle.pfs_summaries.specs.Summaries.{class_rows, put_row}
-use Rattle.pfs_summaries.proofs.Ranges.{put_more}
+use Rattle.pfs_summaries.proofs.NumberLists.{put_more}
 use Rattle.pfs_summaries.proofs.rows.put_classes.Goals as goal
 
 pub loop-id-preserved : goal.loop-id-preserved

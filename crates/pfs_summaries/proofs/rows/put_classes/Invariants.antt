@@ -1,6 +1,6 @@
 use Rattle.std.proofs.Common.{◌≡◌}
 use Rattle.std.specs.List.{flat_map, range_with_len}
-use Rattle.pfs_summaries.specs.Steps.{tally_in}
+use Rattle.pfs_summaries.specs.ReadingSteps.{tally_in}
 use Rattle.pfs_summaries.specs.Summaries.{class_rows, put_rows}
 use Rattle.pfs_summaries.proofs.rows.put_classes.Given as goal
 

@@ -1,7 +1,7 @@
 use Rattle.std.proofs.Common.{[]}
-use Rattle.pfs_summaries.specs.Steps.{tally_in}
+use Rattle.pfs_summaries.specs.ReadingSteps.{tally_in}
 use Rattle.pfs_summaries.specs.Summaries.{place_rows, put_row}
-use Rattle.pfs_summaries.proofs.Ranges.{put_more}
+use Rattle.pfs_summaries.proofs.NumberLists.{put_more}
 use Rattle.pfs_summaries.proofs.rows.put_places.Goals as goal
 
 pub loop-place-preserved : goal.loop-place-preserved

@@ -1,5 +1,5 @@
 use Rattle.std.proofs.Common.{sym, ◌∙◌}
-use Rattle.pfs_summaries.proofs.Sames.{shown_at}
+use Rattle.pfs_summaries.proofs.SameRows.{shown_at}
 use Rattle.pfs_summaries.proofs.summaries.summary_rows.Goals as goal
 
 pub returns : goal.returns

@@ -1,5 +1,5 @@
 use Rattle.std.proofs.Common.{◌≡◌, replicate}
-use Rattle.pfs_summaries.specs.Steps.{none_of}
+use Rattle.pfs_summaries.specs.ReadingSteps.{none_of}
 use Rattle.pfs_summaries.proofs.tallies.no_tallies.Given as goal
 
 abbrev pub invariant-loop-number : goal.invariant-loop-number

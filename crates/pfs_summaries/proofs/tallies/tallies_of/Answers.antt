@@ -1,7 +1,7 @@
 use Rattle.std.proofs.Common.{◌≡◌, ap, ◌∙◌, length, get_or, List, arith}
 use Rattle.std.proofs.lemmas.List.{length-replicate, get_or-replicate}
 use Rattle.pfs_summaries.specs.declared.tallies.Tally.{Tally}
-use Rattle.pfs_summaries.specs.Steps.{none_of}
+use Rattle.pfs_summaries.specs.ReadingSteps.{none_of}
 use Rattle.pfs_summaries.proofs.TallySteps.{tallies_more, tallies_none}
 use Rattle.pfs_summaries.proofs.tallies.tallies_of.Goals as goal
 

@@ -1,5 +1,5 @@
 use Rattle.std.proofs.Common.{take}
-use Rattle.pfs_summaries.specs.Steps.{AreTallies}
+use Rattle.pfs_summaries.specs.ReadingSteps.{AreTallies}
 use Rattle.pfs_summaries.proofs.tallies.tallies_of.Given as goal
 
 abbrev pub invariant-loop-reading : goal.invariant-loop-reading

@@ -1,5 +1,5 @@
 use Rattle.std.proofs.Common.{◌∙◌, refl}
-use Rattle.pfs_switches.proofs.Between.{ready_view, writing_view}
+use Rattle.pfs_switches.proofs.ReadySeats.{ready_view, writing_view}
 use Rattle.pfs_switches.proofs.Seats.{gathers}
 use Rattle.pfs_switches.proofs.both.gather.Goals as goal
 

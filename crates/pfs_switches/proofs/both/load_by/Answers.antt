@@ -1,11 +1,11 @@
 use Rattle.std.proofs.Common.{◌≡◌, ◌∙◌, ◌/◌, ◌%◌, ℕ, [], ◌∷◌, ap, subst, arith}
 use Rattle.pfs_switches.specs.declared.view.View.{View}
-use Rattle.pfs_switches.specs.Closing.{IsTold}
+use Rattle.pfs_switches.specs.SharedKnowledge.{IsTold}
 use Rattle.pfs_switches.specs.Knowledge.{reader, writer, gathered, loaded}
-use Rattle.pfs_switches.specs.Known.{first_view}
-use Rattle.pfs_switches.proofs.Between.{ready_view, writing_view, reader_loaded, writer_loaded}
-use Rattle.pfs_switches.proofs.Keeps.{check_keeps}
-use Rattle.pfs_switches.proofs.Tells.{told_checked}
+use Rattle.pfs_switches.specs.SeatViews.{first_view}
+use Rattle.pfs_switches.proofs.ReadySeats.{ready_view, writing_view, reader_loaded, writer_loaded}
+use Rattle.pfs_switches.proofs.RuleSteps.{check_keeps}
+use Rattle.pfs_switches.proofs.MeetKnowledge.{told_checked}
 use Rattle.pfs_switches.proofs.both.load_by.Goals as goal
 
 pub load-found-requires : goal.load-found-requires

@@ -1,11 +1,11 @@
 use Rattle.std.proofs.Common.{◌≡◌, ◌∙◌, [], ◌∷◌, ap, subst}
 use Rattle.pfs_switches.specs.declared.view.View.{View}
-use Rattle.pfs_switches.specs.Closing.{IsTold}
+use Rattle.pfs_switches.specs.SharedKnowledge.{IsTold}
 use Rattle.pfs_switches.specs.Knowledge.{reader, writer, gathered}
-use Rattle.pfs_switches.specs.Known.{first_view}
-use Rattle.pfs_switches.proofs.Between.{ready_view, writing_view, reader_met, writer_met}
-use Rattle.pfs_switches.proofs.Keeps.{tell_keeps}
-use Rattle.pfs_switches.proofs.Tells.{told_met}
+use Rattle.pfs_switches.specs.SeatViews.{first_view}
+use Rattle.pfs_switches.proofs.ReadySeats.{ready_view, writing_view, reader_met, writer_met}
+use Rattle.pfs_switches.proofs.RuleSteps.{tell_keeps}
+use Rattle.pfs_switches.proofs.MeetKnowledge.{told_met}
 use Rattle.pfs_switches.proofs.both.meet_by.Goals as goal
 
 pub load-requires : goal.load-requires

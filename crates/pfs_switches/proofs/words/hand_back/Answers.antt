@@ -1,6 +1,6 @@
 use Rattle.std.proofs.Common.{◌∙◌, ◌+◌, ◌++◌, ◌∷◌, [], sym, ap}
 use Rattle.std.specs.Slots.{slots_items}
-use Rattle.pfs_switches.specs.Opening.{parts}
+use Rattle.pfs_switches.specs.OpeningWords.{parts}
 use Rattle.pfs_switches.proofs.WordFacts.{take_more}
 use Rattle.pfs_switches.proofs.words.hand_back.Goals as goal
 

@@ -1,6 +1,6 @@
 use Rattle.std.proofs.Common.{◌≡◌, map, take, vec_len, vec_capacity}
 use Rattle.std.specs.Slots.{slots_items}
-use Rattle.pfs_switches.specs.Opening.{parts}
+use Rattle.pfs_switches.specs.OpeningWords.{parts}
 use Rattle.pfs_switches.proofs.words.hand_back.Given as goal
 
 abbrev pub invariant-loop-i : goal.invariant-loop-i

@@ -1,4 +1,4 @@
-use Rattle.pfs_tables.proofs.Standing.{ascending, kept, of_read_set}
+use Rattle.pfs_tables.proofs.RowOrder.{ascending, kept, of_read_set}
 use Rattle.pfs_tables.proofs.laws.rows_stand.Goals as goal
 
 pub returns : goal.returns

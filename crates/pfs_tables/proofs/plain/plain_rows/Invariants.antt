@@ -1,7 +1,7 @@
 use Rattle.std.proofs.Common.{◌≡◌, [], take}
 use Rattle.std.specs.List.{flat_map}
-use Rattle.pfs_tables.specs.Orders.{put_rows}
-use Rattle.pfs_tables.specs.Plain.{rows_of}
+use Rattle.pfs_tables.specs.TableOrders.{put_rows}
+use Rattle.pfs_tables.specs.PlaceTables.{rows_of}
 use Rattle.pfs_tables.proofs.plain.plain_rows.Given as goal
 
 abbrev pub invariant-loop-reading : goal.invariant-loop-reading

@@ -1,4 +1,4 @@
-use Rattle.pfs_tables.specs.Plain.{consumer_rows}
+use Rattle.pfs_tables.specs.PlaceTables.{consumer_rows}
 use Rattle.pfs_tables.proofs.plain.put_consumers.Goals as goal
 
 pub returns-then-word-eq0 : goal.returns-then-word-eq0

@@ -1,6 +1,6 @@
 use Rattle.std.proofs.Common.{◌≡◌, map, take}
-use Rattle.pfs_tables.specs.Orders.{put_rows}
-use Rattle.pfs_tables.specs.Plain.{consumer_row}
+use Rattle.pfs_tables.specs.TableOrders.{put_rows}
+use Rattle.pfs_tables.specs.PlaceTables.{consumer_row}
 use Rattle.pfs_tables.proofs.plain.put_each.Given as goal
 
 abbrev pub invariant-loop-consumer : goal.invariant-loop-consumer

@@ -1,6 +1,6 @@
 use Rattle.std.proofs.Common.{◌≡◌, drop}
 use Rattle.std.specs.Prelude.{find}
-use Rattle.pfs_tables.specs.Plain.{loads}
+use Rattle.pfs_tables.specs.PlaceTables.{loads}
 use Rattle.pfs_tables.proofs.rows.flags_at.Given as goal
 
 abbrev pub invariant-loop-reading : goal.invariant-loop-reading

@@ -1,7 +1,7 @@
 use Rattle.std.proofs.Common.{◌≡◌, ℕ, ◌+◌, ◌-◌, Bool, true, false, not, List, length, take, drop, Option, None, Some, refl, sym, ap, ◌∙◌, subst, arith, length-drop}
 use Rattle.std.proofs.lemmas.Bool.{false≢true}
 use Rattle.std.proofs.Math.Seq.{take-length}
-use Rattle.pfs_text.specs.Scanning.{MayBeginAt}
+use Rattle.pfs_text.specs.ScanSteps.{MayBeginAt}
 use Rattle.pfs_text.proofs.Literals.{no_later, later_moves}
 use Rattle.pfs_text.proofs.pattern.later_start.Goals as goal
 

@@ -1,6 +1,6 @@
 use Rattle.std.proofs.Common.{◌↔◌}
 use Rattle.pfs_text.specs.Patterns.{IsLike}
-use Rattle.pfs_text.specs.Scanning.{MayFit, Stands, steps_left}
+use Rattle.pfs_text.specs.ScanSteps.{MayFit, Stands, steps_left}
 use Rattle.pfs_text.proofs.pattern.like_by_steps.Given as goal
 
 abbrev pub invariant-loop-next : goal.invariant-loop-next

@@ -1,5 +1,5 @@
 use Rattle.std.proofs.Common.{◌+◌, arith}
-use Rattle.pfs_text.proofs.Closing.{plain_at, plain_past, scanned_double, scanned_end, scanned_first, scanned_more, scanned_past}
+use Rattle.pfs_text.proofs.QuoteEnds.{plain_at, plain_past, scanned_double, scanned_end, scanned_first, scanned_more, scanned_past}
 use Rattle.pfs_text.proofs.quoting.unquote.Goals as goal
 use Rattle.pfs_text.proofs.quoting.unquote.Goals.{else-at-bytes-via-then-at-bytes+else-bytes-at-eq39, else-at-bytes-via-else-at-bytes}
 

@@ -1,5 +1,5 @@
 use Rattle.std.proofs.Common.{◌-◌, length}
-use Rattle.pfs_text.proofs.Closing.{Scanned}
+use Rattle.pfs_text.proofs.QuoteEnds.{Scanned}
 use Rattle.pfs_text.proofs.quoting.unquote.Given as goal
 
 abbrev pub invariant-loop-at : goal.invariant-loop-at

@@ -1,6 +1,6 @@
 use Rattle.std.proofs.Common.{inl, inr}
 use Rattle.pfs_top.specs.Commands.{HasInput, HasLoad, HasPlain, Has}
-use Rattle.pfs_top.specs.Words.{AsksPlain, AsksScript}
+use Rattle.pfs_top.specs.CommandWords.{AsksPlain, AsksScript}
 use Rattle.pfs_top.proofs.Outcomes.{ends_as, ends_told, tells_as, script_told, load_told, handed_told}
 use Rattle.pfs_top.proofs.commands.pfs.Goals as goal
 

@@ -1,5 +1,5 @@
 use Rattle.pfs_top.specs.Commands.{HasInput, HasPlain}
-use Rattle.pfs_top.specs.Words.{AsksPlain}
+use Rattle.pfs_top.specs.CommandWords.{AsksPlain}
 use Rattle.pfs_top.proofs.Outcomes.{ends_as, plain_told}
 use Rattle.pfs_top.proofs.commands.pfs_plain.Goals as goal
 

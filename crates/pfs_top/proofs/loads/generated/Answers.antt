@@ -1,7 +1,7 @@
 use Rattle.std.proofs.Common.{List, ℕ, ap, sym, subst, ◌∙◌}
 use Rattle.pfs_script.specs.Scripts.{IsFirstFault}
-use Rattle.pfs_script.specs.Readings.{Gives}
-use Rattle.pfs_gen.specs.Generated.{script_text}
+use Rattle.pfs_script.specs.ReaderAnswers.{Gives}
+use Rattle.pfs_gen.specs.GeneratedScript.{script_text}
 use Rattle.pfs_top.proofs.loads.generated.Goals as goal
 
 pub unreachable-requires : goal.unreachable-requires

@@ -2,7 +2,7 @@ use Rattle.std.proofs.Common.{◌≤◌, take}
 use Rattle.std.specs.Prelude.{filter}
 use Rattle.std.specs.List.{flat_map}
 use Rattle.pfs_journal.specs.Spelling.{table_text}
-use Rattle.pfs_outside.specs.Outside.{Added}
+use Rattle.pfs_outside.specs.DeviceCalls.{Added}
 use Rattle.pfs_top.specs.Loads.{is_summary}
 use Rattle.pfs_top.proofs.loads.put_summaries.Given as goal
 

@@ -1,5 +1,5 @@
 use Rattle.std.proofs.Common.{refl, sym, subst}
-use Rattle.pfs_outside.specs.Outside.{Rose}
+use Rattle.pfs_outside.specs.DeviceCalls.{Rose}
 use Rattle.pfs_top.specs.declared.statuses.Status.{Status}
 use Rattle.pfs_top.specs.declared.statuses.Status.TheVariants.{Done}
 use Rattle.pfs_top.specs.Commands.{HasSummaries, Tells}

@@ -1,6 +1,6 @@
 use Rattle.std.proofs.Common.{◌≡◌, ◌∙◌, ◌∷◌, [], length, sym, ap, arith, string_bytes}
 use Rattle.std.specs.Prelude.{map}
-use Rattle.pfs_top.proofs.Asking.{map_one, one_word}
+use Rattle.pfs_top.proofs.CommandWords.{map_one, one_word}
 use Rattle.pfs_top.proofs.words.is_word.Goals as goal
 
 pub returns-in-len1 : goal.returns-in-len1

@@ -1,6 +1,6 @@
 use Rattle.std.proofs.Common.{◌≡◌, ◌∙◌, ◌∷◌, [], length, sym, arith, string_bytes}
 use Rattle.std.specs.Prelude.{map}
-use Rattle.pfs_top.proofs.Asking.{two_are, load_asked}
+use Rattle.pfs_top.proofs.CommandWords.{two_are, load_asked}
 use Rattle.pfs_top.proofs.words.load_number.Goals as goal
 
 pub returns-then-eq : goal.returns-then-eq

@@ -1,12 +1,12 @@
 use Rattle.std.proofs.Common.{rules, ◌<◌, ◌+◌, ◌^◌, [], subst, ◌∙◌, arith}
 use Rattle.std.proofs.lemmas.Grind.{common_steps}
-use Rattle.pfs_containers.proofs.Filling.{whole_is}
+use Rattle.pfs_containers.proofs.FilledPlaces.{whole_is}
 use Rattle.pfs_admin.specs.Works.{word_at, Worked}
-use Rattle.pfs_admin.specs.States.{words_by}
-use Rattle.pfs_admin.specs.Asks.{work_of_connect}
-use Rattle.pfs_admin.proofs.Costs.{early_at, len_by, state_keeps}
-use Rattle.pfs_admin.proofs.Folding.{follows}
-use Rattle.pfs_admin.proofs.Signing.{worked_behind}
+use Rattle.pfs_admin.specs.AdministrationStates.{words_by}
+use Rattle.pfs_admin.specs.ConnectionAsks.{work_of_connect}
+use Rattle.pfs_admin.proofs.QuitCosts.{early_at, len_by, state_keeps}
+use Rattle.pfs_admin.proofs.FoldSteps.{follows}
+use Rattle.pfs_admin.proofs.SignLists.{worked_behind}
 use Rattle.pfs_admin.proofs.admin.Admin.connect.Goals as goal
 
 pub write_connect-requires-clause-early : goal.write_connect-requires-clause-early

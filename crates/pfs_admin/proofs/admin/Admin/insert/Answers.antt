@@ -1,14 +1,14 @@
 use Rattle.std.proofs.Common.{rules, ◌<◌, ◌+◌, ◌^◌, subst, ◌∙◌, arith}
 use Rattle.std.proofs.lemmas.Grind.{common_steps}
-use Rattle.pfs_containers.proofs.Filling.{whole_is}
+use Rattle.pfs_containers.proofs.FilledPlaces.{whole_is}
 use Rattle.pfs_admin.specs.Works.{word_at}
-use Rattle.pfs_admin.specs.Setups.{first_of, most_of}
+use Rattle.pfs_admin.specs.SetupStatements.{first_of, most_of}
 use Rattle.pfs_admin.specs.declared.changes.SetupStatement.{SetupStatement}
 use Rattle.pfs_admin.specs.declared.changes.SetupStatement.TheVariants as statements
-use Rattle.pfs_admin.proofs.Costs.{early_at}
-use Rattle.pfs_admin.proofs.Folding.{changed_keeps, follows}
-use Rattle.pfs_admin.proofs.Setting.{changed_length}
-use Rattle.pfs_admin.proofs.Signing.{worked_words}
+use Rattle.pfs_admin.proofs.QuitCosts.{early_at}
+use Rattle.pfs_admin.proofs.FoldSteps.{changed_keeps, follows}
+use Rattle.pfs_admin.proofs.WordChanges.{changed_length}
+use Rattle.pfs_admin.proofs.SignLists.{worked_words}
 use Rattle.pfs_admin.proofs.admin.Admin.insert.Goals as goal
 
 pub set_inserted-requires-clause-early : goal.set_inserted-requires-clause-early

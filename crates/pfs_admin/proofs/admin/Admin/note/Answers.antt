@@ -1,7 +1,7 @@
 use Rattle.std.proofs.Common.{rules, refl}
-use Rattle.pfs_admin.specs.Changing.{words_changed}
+use Rattle.pfs_admin.specs.WordChanges.{words_changed}
 use Rattle.pfs_admin.specs.declared.changes.SetupStatement.TheVariants.{Show}
-use Rattle.pfs_admin.proofs.Folding.{changed_keeps, follows}
+use Rattle.pfs_admin.proofs.FoldSteps.{changed_keeps, follows}
 use Rattle.pfs_admin.proofs.admin.Admin.note.Goals as goal
 
 pub invariant_of-self : goal.invariant_of-self

@@ -1,7 +1,7 @@
 use Rattle.std.proofs.Common.{rules, subst}
-use Rattle.pfs_admin.specs.States.{IsState}
-use Rattle.pfs_admin.proofs.Celling.{kinds_fit}
-use Rattle.pfs_admin.proofs.Opened.{opened_holds}
+use Rattle.pfs_admin.specs.AdministrationStates.{IsState}
+use Rattle.pfs_admin.proofs.KindCells.{kinds_fit}
+use Rattle.pfs_admin.proofs.OpeningState.{opened_holds}
 use Rattle.pfs_admin.proofs.admin.Admin.open.Goals as goal
 
 pub invariant_of-result : goal.invariant_of-result

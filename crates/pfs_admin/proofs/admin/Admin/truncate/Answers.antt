@@ -1,12 +1,12 @@
 use Rattle.std.proofs.Common.{rules, ◌<◌, ◌+◌, ◌^◌, ap, subst, ◌∙◌, arith}
 use Rattle.std.proofs.lemmas.Grind.{common_steps}
-use Rattle.pfs_containers.proofs.Filling.{whole_is}
-use Rattle.pfs_containers.specs.Kept.{Kept}
+use Rattle.pfs_containers.proofs.FilledPlaces.{whole_is}
+use Rattle.pfs_containers.specs.ContainerState.{Kept}
 use Rattle.pfs_admin.specs.Works.{word_at}
 use Rattle.pfs_admin.specs.Truncations.{words_behind}
-use Rattle.pfs_admin.proofs.Costs.{early_at}
-use Rattle.pfs_admin.proofs.Folding.{follows}
-use Rattle.pfs_admin.proofs.Setting.{wide_behind, truncated_keeps}
+use Rattle.pfs_admin.proofs.QuitCosts.{early_at}
+use Rattle.pfs_admin.proofs.FoldSteps.{follows}
+use Rattle.pfs_admin.proofs.WordChanges.{wide_behind, truncated_keeps}
 use Rattle.pfs_admin.proofs.admin.Admin.truncate.Goals as goal
 
 pub write_truncation-requires-clause-early : goal.write_truncation-requires-clause-early

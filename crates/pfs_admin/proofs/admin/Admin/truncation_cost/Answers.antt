@@ -1,5 +1,5 @@
 use Rattle.std.proofs.Common.{arith}
-use Rattle.pfs_admin.proofs.Charging.{few_together}
+use Rattle.pfs_admin.proofs.TruncationCosts.{few_together}
 use Rattle.pfs_admin.proofs.admin.Admin.truncation_cost.Goals as goal
 
 pub returns-clause-few : goal.returns-clause-few

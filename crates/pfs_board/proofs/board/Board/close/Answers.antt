@@ -3,12 +3,12 @@ use Rattle.std.specs.Prelude.{Some}
 use mathlib.Core.Option.{some-injective}
 use Rattle.std.specs.Slots.{slots_items}
 use Rattle.pfs_board.specs.declared.view.View.{View}
-use Rattle.pfs_board.specs.Closing.{History}
+use Rattle.pfs_board.specs.WholeSeats.{History}
 use Rattle.pfs_board.specs.History.{labels_of}
 use Rattle.pfs_board.specs.Knowledge.{corner, is_holding, IsWhole}
-use Rattle.pfs_board.specs.Known.{Place}
-use Rattle.pfs_board.proofs.Between.{view_of_seat, ready_view}
-use Rattle.pfs_board.proofs.Ends.{closes}
+use Rattle.pfs_board.specs.SeatViews.{Place}
+use Rattle.pfs_board.proofs.ReadySeats.{view_of_seat, ready_view}
+use Rattle.pfs_board.proofs.BoardEnds.{closes}
 use Rattle.pfs_board.proofs.board.Board.close.Goals as goal
 
 pub unreachable-requires : goal.unreachable-requires

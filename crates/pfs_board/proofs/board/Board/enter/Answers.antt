@@ -1,9 +1,9 @@
 use Rattle.std.proofs.Common.{◌≡◌, ◌∙◌, ◌+◌, true, sym, ap, subst, arith}
 use Rattle.pfs_board.specs.declared.view.View.{View}
 use Rattle.pfs_board.specs.Knowledge.{corner, is_holding, held, stake}
-use Rattle.pfs_board.specs.Known.{Known, Place, IsReady, first_view}
-use Rattle.pfs_board.proofs.Between.{view_of_seat, ready_view}
-use Rattle.pfs_board.proofs.Waiting.{ready_begun, hands_begun}
+use Rattle.pfs_board.specs.SeatViews.{Known, Place, IsReady, first_view}
+use Rattle.pfs_board.proofs.ReadySeats.{view_of_seat, ready_view}
+use Rattle.pfs_board.proofs.RowWaits.{ready_begun, hands_begun}
 use Rattle.pfs_board.proofs.board.Board.enter.Goals as goal
 
 pub invariant_of-seat : goal.invariant_of-seat

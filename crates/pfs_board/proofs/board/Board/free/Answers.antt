@@ -1,8 +1,8 @@
 use Rattle.std.proofs.Common.{◌≡◌, ◌∙◌, length, sym, ap}
 use Rattle.pfs_board.specs.declared.view.View.{View}
 use Rattle.pfs_board.specs.Knowledge.{corner, version_held, found_in, freed_at, weighed}
-use Rattle.pfs_board.specs.Known.{Known, Place, first_view}
-use Rattle.pfs_board.proofs.Between.{view_of_seat}
+use Rattle.pfs_board.specs.SeatViews.{Known, Place, first_view}
+use Rattle.pfs_board.proofs.ReadySeats.{view_of_seat}
 use Rattle.pfs_board.proofs.HandFacts.{has_corner, hands_free}
 use Rattle.pfs_board.proofs.board.Board.free.Goals as goal
 

@@ -1,8 +1,8 @@
 use Rattle.std.proofs.Common.{◌≡◌, ◌∙◌, ◌+◌, [], ◌∷◌, sym, refl, ap, subst, arith}
 use Rattle.pfs_board.specs.declared.view.View.{View}
 use Rattle.pfs_board.specs.Knowledge.{held, stake, joined}
-use Rattle.pfs_board.specs.Known.{Known, Place, first_view, IsReady}
-use Rattle.pfs_board.proofs.Between.{view_of_seat, ready_view, ready_both}
+use Rattle.pfs_board.specs.SeatViews.{Known, Place, first_view, IsReady}
+use Rattle.pfs_board.proofs.ReadySeats.{view_of_seat, ready_view, ready_both}
 use Rattle.pfs_board.proofs.HandFacts.{stake_joined}
 use Rattle.pfs_board.proofs.Seats.{joins}
 use Rattle.pfs_board.proofs.ViewFacts.{held_merged}

@@ -1,9 +1,9 @@
 use Rattle.std.proofs.Common.{◌≡◌, ℕ, List, sym, ap, subst}
 use Rattle.pfs_board.specs.declared.view.View.{View}
-use Rattle.pfs_board.specs.Closing.{History}
+use Rattle.pfs_board.specs.WholeSeats.{History}
 use Rattle.pfs_board.specs.History.{labels_of}
-use Rattle.pfs_board.specs.Known.{first_view}
-use Rattle.pfs_board.proofs.Between.{view_of_seat}
+use Rattle.pfs_board.specs.SeatViews.{first_view}
+use Rattle.pfs_board.proofs.ReadySeats.{view_of_seat}
 use Rattle.pfs_board.proofs.board.Board.lend.Goals as goal
 
 pub returns-clause-history : goal.returns-clause-history

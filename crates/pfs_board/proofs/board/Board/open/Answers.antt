@@ -2,10 +2,10 @@ use Rattle.std.proofs.Common.{◌≡◌, ◌∙◌, ℕ, ◌/◌, ◌++◌, List
 use Rattle.std.specs.Prelude.{Option, Some}
 use Rattle.atomic_table.specs.Table.{opening}
 use Rattle.pfs_board.specs.Knowledge.{held, root}
-use Rattle.pfs_board.specs.Known.{first_view, IsReady}
+use Rattle.pfs_board.specs.SeatViews.{first_view, IsReady}
 use Rattle.pfs_board.specs.Rule.{Ruled}
-use Rattle.pfs_board.proofs.Between.{ready_root}
-use Rattle.pfs_board.proofs.Ends.{opens}
+use Rattle.pfs_board.proofs.ReadySeats.{ready_root}
+use Rattle.pfs_board.proofs.BoardEnds.{opens}
 use Rattle.pfs_board.proofs.ViewFacts.{held_new}
 use Rattle.pfs_board.proofs.board.Board.open.Goals as goal
 

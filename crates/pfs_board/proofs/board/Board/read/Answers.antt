@@ -1,9 +1,9 @@
 use Rattle.std.proofs.Common.{◌≡◌, ◌∙◌, false, ◌<◌, length, sym, ap, subst}
 use Rattle.pfs_board.specs.declared.view.View.{View}
 use Rattle.pfs_board.specs.Knowledge.{corner, is_holding}
-use Rattle.pfs_board.specs.Known.{Known, Place, IsReady, first_view}
-use Rattle.pfs_board.specs.Seeing.{IsSeenAs}
-use Rattle.pfs_board.proofs.Between.{view_of_seat, ready_view, ready_seen}
+use Rattle.pfs_board.specs.SeatViews.{Known, Place, IsReady, first_view}
+use Rattle.pfs_board.specs.ReadAnswers.{IsSeenAs}
+use Rattle.pfs_board.proofs.ReadySeats.{view_of_seat, ready_view, ready_seen}
 use Rattle.pfs_board.proofs.HandFacts.{has_corner, hands_seen}
 use Rattle.pfs_board.proofs.board.Board.read.Goals as goal
 

@@ -1,8 +1,8 @@
 use Rattle.std.proofs.Common.{◌≡◌, ◌∙◌, ◌⊎◌, ◌+◌, ◌<◌, false, [], ◌∷◌, get_or, sym, ap, subst, arith}
 use Rattle.pfs_board.specs.declared.view.View.{View}
 use Rattle.pfs_board.specs.Knowledge.{held, told, split_left, split_right}
-use Rattle.pfs_board.specs.Known.{Known, Place, IsReady, first_view, split_off, given}
-use Rattle.pfs_board.proofs.Between.{view_of_seat, ready_view, ready_left, ready_right, said_none}
+use Rattle.pfs_board.specs.SeatViews.{Known, Place, IsReady, first_view, split_off, given}
+use Rattle.pfs_board.proofs.ReadySeats.{view_of_seat, ready_view, ready_left, ready_right, said_none}
 use Rattle.pfs_board.proofs.Looks.{tell_keeps}
 use Rattle.pfs_board.proofs.ViewFacts.{held_stale, held_start}
 use Rattle.pfs_board.proofs.Seats.{splits}

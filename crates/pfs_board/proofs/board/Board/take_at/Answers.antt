@@ -1,8 +1,8 @@
 use Rattle.std.proofs.Common.{◌≡◌, ◌∙◌, length, sym, ap, subst}
 use Rattle.pfs_board.specs.declared.view.View.{View}
-use Rattle.pfs_board.specs.Known.{Known, Place, first_view}
-use Rattle.pfs_board.specs.Taking.{IsTaken}
-use Rattle.pfs_board.proofs.Between.{view_of_seat}
+use Rattle.pfs_board.specs.SeatViews.{Known, Place, first_view}
+use Rattle.pfs_board.specs.TakeAnswers.{IsTaken}
+use Rattle.pfs_board.proofs.ReadySeats.{view_of_seat}
 use Rattle.pfs_board.proofs.HandFacts.{has_corner, hands_taken}
 use Rattle.pfs_board.proofs.board.Board.take_at.Goals as goal
 

@@ -2,7 +2,7 @@ use Rattle.std.proofs.Common.{List, ℕ, subst, sym}
 use Rattle.pfs_classes.specs.Builtins.{HasBuiltins}
 use Rattle.pfs_classes.specs.Registry.{Registry}
 use Rattle.pfs_classes.specs.Settings.{ComesFrom, builtin}
-use Rattle.pfs_classes.proofs.NameLemmas.{has_builtins}
+use Rattle.pfs_classes.proofs.RowTexts.{has_builtins}
 use Rattle.pfs_classes.proofs.classes.Classes.builtin.Goals as goal
 
 pub registered-requires-clause-known : goal.registered-requires-clause-known

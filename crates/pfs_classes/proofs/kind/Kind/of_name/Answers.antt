@@ -1,4 +1,4 @@
-use Rattle.pfs_classes.proofs.KindOf.{kind_is}
+use Rattle.pfs_classes.proofs.NameKinds.{kind_is}
 use Rattle.pfs_classes.proofs.kind.Kind.of_name.Goals as goal
 
 pub returns-clause-value : goal.returns-clause-value

@@ -1,4 +1,4 @@
-use Rattle.pfs_classes.proofs.KnownLemmas.{known_from}
+use Rattle.pfs_classes.proofs.RegisterNames.{known_from}
 use Rattle.pfs_classes.proofs.setting.Setting.new.Goals as goal
 
 pub invariant_of-result : goal.invariant_of-result

@@ -1,6 +1,6 @@
 use Rattle.std.proofs.Common.{rules, subst}
-use Rattle.pfs_containers.specs.Kept.{AreCounted}
-use Rattle.pfs_containers.proofs.Keeping.{opens_counted}
+use Rattle.pfs_containers.specs.ContainerState.{AreCounted}
+use Rattle.pfs_containers.proofs.PlaceBounds.{opens_counted}
 use Rattle.pfs_containers.proofs.containers.Containers.open.Goals as goal
 
 pub invariant_of-result : goal.invariant_of-result

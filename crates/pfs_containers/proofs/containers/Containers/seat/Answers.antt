@@ -1,7 +1,7 @@
 use Rattle.std.proofs.Common.{rules, subst}
-use Rattle.pfs_containers.specs.Kept.{AreCounted, as_found}
-use Rattle.pfs_containers.proofs.Filling.{up_to_wider}
-use Rattle.pfs_containers.proofs.Keeping.{seat_counts, counted_places}
+use Rattle.pfs_containers.specs.ContainerState.{AreCounted, as_found}
+use Rattle.pfs_containers.proofs.FilledPlaces.{up_to_wider}
+use Rattle.pfs_containers.proofs.PlaceBounds.{seat_counts, counted_places}
 use Rattle.pfs_containers.proofs.containers.Containers.seat.Goals as goal
 
 pub add-requires-clause-accounts : goal.add-requires-clause-accounts

@@ -1,7 +1,7 @@
 use Rattle.std.proofs.Common.{rules, subst}
 use Rattle.pfs_containers.specs.Administration.{Accounts}
-use Rattle.pfs_containers.specs.Kept.{AreCounted}
-use Rattle.pfs_containers.proofs.Truncating.{truncation_counts}
+use Rattle.pfs_containers.specs.ContainerState.{AreCounted}
+use Rattle.pfs_containers.proofs.TruncationBounds.{truncation_counts}
 use Rattle.pfs_containers.proofs.containers.Containers.truncate_accounts.Goals as goal
 
 pub invariant_of-self : goal.invariant_of-self

@@ -1,5 +1,5 @@
 use Rattle.std.proofs.Common.{rules}
-use Rattle.pfs_containers.proofs.Keeping.{account_in_range}
+use Rattle.pfs_containers.proofs.PlaceBounds.{account_in_range}
 use Rattle.pfs_containers.proofs.state.Places.account_in.Goals as goal
 
 pub returns-in-Some-Some-clause-few : goal.returns-in-Some-Some-clause-few

@@ -1,6 +1,6 @@
 use Rattle.std.proofs.Common.{rules, subst}
-use Rattle.pfs_containers.specs.Kept.{AreWell, IsSeated}
-use Rattle.pfs_containers.proofs.Keeping.{session_has, seat_in_range}
+use Rattle.pfs_containers.specs.ContainerState.{AreWell, IsSeated}
+use Rattle.pfs_containers.proofs.PlaceBounds.{session_has, seat_in_range}
 use Rattle.pfs_containers.proofs.state.Places.connection.Goals as goal
 
 pub returns-clause-places : goal.returns-clause-places

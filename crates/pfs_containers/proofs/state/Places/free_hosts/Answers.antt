@@ -1,8 +1,8 @@
 use Rattle.std.proofs.Common.{rules}
 use Rattle.pfs_containers.specs.Connections.{in_use, kept_from}
-use Rattle.pfs_containers.proofs.Filling.{whole_is}
-use Rattle.pfs_containers.proofs.Totals.{len_kept}
-use Rattle.pfs_containers.proofs.Truncating.{hosts_freed}
+use Rattle.pfs_containers.proofs.FilledPlaces.{whole_is}
+use Rattle.pfs_containers.proofs.ConnectionTotals.{len_kept}
+use Rattle.pfs_containers.proofs.TruncationBounds.{hosts_freed}
 use Rattle.pfs_containers.proofs.state.Places.free_hosts.Goals as goal
 
 pub invariant_of-self : goal.invariant_of-self

@@ -1,5 +1,5 @@
 use Rattle.std.proofs.Common.{rules, ◌<◌, length, IfSome, subst}
-use Rattle.pfs_containers.proofs.Keeping.{free_inside}
+use Rattle.pfs_containers.proofs.PlaceBounds.{free_inside}
 use Rattle.pfs_containers.proofs.state.Places.free_slot.Goals as goal
 
 pub returns-clause-inside : goal.returns-clause-inside

@@ -1,6 +1,6 @@
 use Rattle.std.proofs.Common.{rules, subst}
-use Rattle.pfs_containers.specs.Kept.{AreWell}
-use Rattle.pfs_containers.proofs.Keeping.{opens_well}
+use Rattle.pfs_containers.specs.ContainerState.{AreWell}
+use Rattle.pfs_containers.proofs.PlaceBounds.{opens_well}
 use Rattle.pfs_containers.proofs.state.Places.open.Goals as goal
 
 pub invariant_of-result : goal.invariant_of-result

@@ -1,7 +1,7 @@
 use Rattle.std.proofs.Common.{rules, ◌≡◌, ap, ◌∙◌, ◌==◌}
 use Rattle.pfs_containers.specs.Connections.{State, stepped}
 use Rattle.pfs_containers.specs.Administration.{quit_line, found_where}
-use Rattle.pfs_containers.proofs.Keeping.{quit_keeps_set, quit_is, quit_in_range}
+use Rattle.pfs_containers.proofs.PlaceBounds.{quit_keeps_set, quit_is, quit_in_range}
 use Rattle.pfs_containers.proofs.state.Places.quit.Goals as goal
 
 pub invariant_of-self : goal.invariant_of-self

@@ -1,8 +1,8 @@
 use Rattle.std.proofs.Common.{rules, subst}
 use Rattle.pfs_containers.specs.Connections.{entry_of, fill, fill_at}
-use Rattle.pfs_containers.specs.Kept.{AreWell}
-use Rattle.pfs_containers.proofs.Filling.{whole_is}
-use Rattle.pfs_containers.proofs.Keeping.{seat_keeps_all, len_fill, len_fill_at}
+use Rattle.pfs_containers.specs.ContainerState.{AreWell}
+use Rattle.pfs_containers.proofs.FilledPlaces.{whole_is}
+use Rattle.pfs_containers.proofs.PlaceBounds.{seat_keeps_all, len_fill, len_fill_at}
 use Rattle.pfs_containers.proofs.state.Places.seat.Goals as goal
 
 pub invariant_of-self : goal.invariant_of-self

@@ -1,7 +1,7 @@
 use Rattle.std.proofs.Common.{◌≡◌, ◌<◌, ◌+◌, ◌-◌, ◌≤◌, length, sym, subst, arith}
 use Rattle.std.specs.List.{All}
-use Rattle.pfs_event.proofs.Logged.{short_among}
-use Rattle.pfs_event.specs.Packing.{IsAmong}
+use Rattle.pfs_event.proofs.Logs.{short_among}
+use Rattle.pfs_event.specs.PackedEntries.{IsAmong}
 use Rattle.pfs_event.proofs.log.Log.push.Goals as goal
 
 pub invariant_of-self : goal.invariant_of-self

@@ -1,6 +1,6 @@
 use Rattle.std.proofs.Common.{◌≡◌, ◌<◌, ◌+◌, ◌-◌, ◌≤◌, ◌++◌, ◌∷◌, [], length, ap, ◌∙◌, subst, arith}
-use Rattle.pfs_event.proofs.Logged.{long_logged}
-use Rattle.pfs_event.specs.Journal.{Journal}
+use Rattle.pfs_event.proofs.Logs.{long_logged}
+use Rattle.pfs_event.specs.Logs.{Journal}
 use Rattle.pfs_event.proofs.log.Log.push_long.Goals as goal
 
 pub returns : goal.returns

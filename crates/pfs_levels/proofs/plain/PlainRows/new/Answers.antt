@@ -1,4 +1,4 @@
-use Rattle.pfs_levels.proofs.Opening.{opened, word_opens}
+use Rattle.pfs_levels.proofs.OpeningStore.{opened, word_opens}
 use Rattle.pfs_levels.proofs.plain.PlainRows.new.Goals as goal
 
 pub returns-clause-opened : goal.returns-clause-opened

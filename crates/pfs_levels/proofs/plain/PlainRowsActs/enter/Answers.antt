@@ -1,4 +1,4 @@
-use Rattle.pfs_levels.proofs.Acting.{at_enter}
+use Rattle.pfs_levels.proofs.PlainActions.{at_enter}
 use Rattle.pfs_levels.proofs.plain.PlainRowsActs.enter.Goals as goal
 
 pub returns-clause-call : goal.returns-clause-call

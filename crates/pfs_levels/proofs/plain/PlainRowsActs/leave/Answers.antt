@@ -1,4 +1,4 @@
-use Rattle.pfs_levels.proofs.Acting.{at_leave}
+use Rattle.pfs_levels.proofs.PlainActions.{at_leave}
 use Rattle.pfs_levels.proofs.plain.PlainRowsActs.leave.Goals as goal
 
 pub returns-clause-call : goal.returns-clause-call

@@ -1,4 +1,4 @@
-use Rattle.pfs_levels.proofs.Steps.{at_put}
+use Rattle.pfs_levels.proofs.PlainCalls.{at_put}
 use Rattle.pfs_levels.proofs.plain.PlainRowsHold.put.Goals as goal
 
 pub returns-clause-call : goal.returns-clause-call

@@ -1,4 +1,4 @@
-use Rattle.pfs_levels.proofs.Steps.{at_set}
+use Rattle.pfs_levels.proofs.PlainCalls.{at_set}
 use Rattle.pfs_levels.proofs.plain.PlainRowsHold.set.Goals as goal
 
 pub returns-clause-call : goal.returns-clause-call

@@ -1,4 +1,4 @@
-use Rattle.pfs_levels.proofs.Steps.{at_add}
+use Rattle.pfs_levels.proofs.PlainCalls.{at_add}
 use Rattle.pfs_levels.proofs.plain.PlainRowsRows.add_try.Goals as goal
 
 pub returns-clause-call : goal.returns-clause-call

@@ -1,4 +1,4 @@
-use Rattle.pfs_levels.proofs.Steps.{at_load}
+use Rattle.pfs_levels.proofs.PlainCalls.{at_load}
 use Rattle.pfs_levels.proofs.plain.PlainRowsRows.load.Goals as goal
 
 pub returns-clause-call : goal.returns-clause-call

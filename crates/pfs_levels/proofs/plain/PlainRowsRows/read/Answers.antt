@@ -1,5 +1,5 @@
 use Rattle.std.proofs.Common.{sym, ◌∙◌}
-use Rattle.pfs_levels.proofs.Steps.{at_whole, at_vacant}
+use Rattle.pfs_levels.proofs.PlainCalls.{at_whole, at_vacant}
 use Rattle.pfs_levels.proofs.plain.PlainRowsRows.read.Goals as goal
 
 pub returns-then-is_allocated-clause-call : goal.returns-then-is_allocated-clause-call

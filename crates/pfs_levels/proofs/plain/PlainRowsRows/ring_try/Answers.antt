@@ -1,6 +1,6 @@
 use Rattle.std.proofs.Common.{◌-◌, ◌≤◌, inl, inr, arith, slice_index, ap, sym, subst, ◌∙◌, List, ℕ}
-use Rattle.pfs_levels.specs.Plain.{IsFresh, slot_at}
-use Rattle.pfs_levels.proofs.Steps.{at_ring, at_late, ring_low}
+use Rattle.pfs_levels.specs.PlainStore.{IsFresh, slot_at}
+use Rattle.pfs_levels.proofs.PlainCalls.{at_ring, at_late, ring_low}
 use Rattle.pfs_levels.proofs.plain.PlainRowsRows.ring_try.Goals.{then-row-ge-LONG_HISTORY+then-is_allocated+else-held-content, else-row-ge-LONG_HISTORY, else-row-ge-LONG_HISTORY-via-then-row-ge-LONG_HISTORY+else-is_allocated, else-row-ge-LONG_HISTORY-via-else-row-ge-LONG_HISTORY}
 use Rattle.pfs_levels.proofs.plain.PlainRowsRows.ring_try.Goals as goal
 

@@ -1,5 +1,5 @@
 use Rattle.std.proofs.Common.{refl}
-use Rattle.pfs_levels.proofs.Steps.{at_ticket}
+use Rattle.pfs_levels.proofs.PlainCalls.{at_ticket}
 use Rattle.pfs_levels.proofs.plain.PlainRowsRows.ticket.Goals as goal
 
 pub returns-clause-call : goal.returns-clause-call

@@ -1,5 +1,5 @@
 use Rattle.std.proofs.Common.{arith}
-use Rattle.pfs_levels.proofs.Placing.{held}
+use Rattle.pfs_levels.proofs.RowWrites.{held}
 use Rattle.pfs_levels.proofs.slots.Slots.hold.Goals as goal
 
 pub returns : goal.returns

@@ -1,6 +1,6 @@
-use Rattle.pfs_levels.specs.Contents.{merged}
-use Rattle.pfs_levels.specs.Keeping.{words_at}
-use Rattle.pfs_levels.proofs.Placing.{merged_in, published_kept}
+use Rattle.pfs_levels.specs.RowWords.{merged}
+use Rattle.pfs_levels.specs.RowHeads.{words_at}
+use Rattle.pfs_levels.proofs.RowWrites.{merged_in, published_kept}
 use Rattle.pfs_levels.proofs.slots.Slots.merge.Goals as goal
 
 pub invariant_of-self : goal.invariant_of-self

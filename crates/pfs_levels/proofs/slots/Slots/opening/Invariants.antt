@@ -1,7 +1,7 @@
 use Rattle.std.proofs.Common.{ℕ, ◌≡◌, ◌<◌, [], length}
 use Rattle.std.specs.List.{sum_by}
-use Rattle.pfs_levels.specs.Keeping.{head_at, slot_of, to_place, head_to_place}
-use Rattle.pfs_levels.specs.Plain.{opening_slot}
+use Rattle.pfs_levels.specs.RowHeads.{head_at, slot_of, to_place, head_to_place}
+use Rattle.pfs_levels.specs.PlainStore.{opening_slot}
 use Rattle.pfs_levels.proofs.slots.Slots.opening.Given as goal
 
 abbrev pub invariant-loop-row : goal.invariant-loop-row

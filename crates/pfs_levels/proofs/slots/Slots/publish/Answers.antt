@@ -1,4 +1,4 @@
-use Rattle.pfs_levels.proofs.Placing.{published, published_kept}
+use Rattle.pfs_levels.proofs.RowWrites.{published, published_kept}
 use Rattle.pfs_levels.proofs.slots.Slots.publish.Goals as goal
 
 pub invariant_of-self : goal.invariant_of-self

@@ -1,5 +1,5 @@
 use Rattle.std.proofs.Common.{arith}
-use Rattle.pfs_levels.proofs.Placing.{released}
+use Rattle.pfs_levels.proofs.RowWrites.{released}
 use Rattle.pfs_levels.proofs.slots.Slots.release.Goals as goal
 
 pub returns : goal.returns

@@ -1,5 +1,5 @@
 use Rattle.std.proofs.Common.{◌≤◌, sym, subst}
-use Rattle.pfs_matching.specs.Keyed.{AreRows}
+use Rattle.pfs_matching.specs.KeyedRows.{AreRows}
 use Rattle.pfs_matching.proofs.NamedPlaces.{AreRows-without_named}
 use Rattle.pfs_matching.proofs.keyed_rows.KeyedRows.delete.Goals as goal
 

@@ -1,6 +1,6 @@
 use Rattle.std.proofs.Common.{◌≡◌, ◌≤◌, ◌≢◌, ◌∙◌, ap, sym, subst, map, length, Contains, arith}
 use Rattle.std.specs.List.{insert, prefix_len}
-use Rattle.pfs_matching.specs.Keyed.{AreRows, comes_before, with_row}
+use Rattle.pfs_matching.specs.KeyedRows.{AreRows, comes_before, with_row}
 use Rattle.pfs_matching.proofs.KeyedRows.{AreRows-with_row, place-le, with_row-insert}
 use Rattle.pfs_matching.proofs.keyed_rows.KeyedRows.insert.Goals as goal
 

@@ -2,8 +2,8 @@ use Rattle.std.proofs.Common.{◌≡◌, ◌∙◌, refl, ◌<◌, ◌++◌, ◌
 use Rattle.std.proofs.lemmas.List.{length-map}
 use Rattle.std.proofs.lemmas.Map.Text.{btree_map_updates_text}
 use Rattle.std.proofs.lemmas.Result.{IfOk-at_ok}
-use Rattle.pfs_names.specs.Interning.{Agrees}
-use Rattle.pfs_names.proofs.Agreeing.{agrees_push, names_from_agrees}
+use Rattle.pfs_names.specs.InternedTexts.{Agrees}
+use Rattle.pfs_names.proofs.Lookups.{agrees_push, names_from_agrees}
 use Rattle.pfs_names.proofs.interned.Names.add.Goals as goal
 
 -- the new text gets the next place

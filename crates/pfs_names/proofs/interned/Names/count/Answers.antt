@@ -1,4 +1,4 @@
-use Rattle.pfs_names.proofs.Agreeing.{names_from_agrees}
+use Rattle.pfs_names.proofs.Lookups.{names_from_agrees}
 use Rattle.pfs_names.proofs.interned.Names.count.Goals as goal
 
 -- the look-up finds one place for each text

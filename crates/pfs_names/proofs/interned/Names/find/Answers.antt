@@ -1,5 +1,5 @@
 use Rattle.std.proofs.Common.{◌∙◌}
-use Rattle.pfs_names.proofs.Agreeing.{found_from_agrees}
+use Rattle.pfs_names.proofs.Lookups.{found_from_agrees}
 use Rattle.pfs_names.proofs.interned.Names.find.Goals as goal
 
 -- the look-up agrees with the texts

@@ -1,5 +1,5 @@
 use Rattle.std.proofs.Common.{refl, ap, length, arith, rules, inl, inr}
-use Rattle.pfs_outside.specs.Memory.{Writing}
+use Rattle.pfs_outside.specs.MemoryDevices.{Writing}
 use Rattle.pfs_outside.proofs.memory.MemorySinkSink.write.Goals as goal
 use Rattle.pfs_outside.proofs.memory.MemorySinkSink.write.Goals.{then-n-eq0-via-then-n-eq0, then-n-eq0-via-else-n-eq0+then-contains}
 

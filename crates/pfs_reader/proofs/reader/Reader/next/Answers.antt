@@ -1,7 +1,7 @@
 use Rattle.std.proofs.Common.{sym, subst}
 use Rattle.pfs_readsets.specs.ReadSets.{IsNext}
-use Rattle.pfs_readsets.specs.Steps.{Reached}
-use Rattle.pfs_reader.proofs.Reading.{there}
+use Rattle.pfs_readsets.specs.ReadProgress.{Reached}
+use Rattle.pfs_reader.proofs.Readings.{there}
 use Rattle.pfs_reader.proofs.reader.Reader.next.Goals as goal
 
 pub read_target-reading-requires-clause-there : goal.read_target-reading-requires-clause-there

@@ -1,7 +1,7 @@
 use Rattle.std.proofs.Common.{◌∙◌, sym, arith}
-use Rattle.pfs_readsets.specs.Steps.{own_rows}
-use Rattle.pfs_readsets.proofs.Skipping.{skip_many}
-use Rattle.pfs_readsets.proofs.Passing.{take_to, none_to}
+use Rattle.pfs_readsets.specs.ReadProgress.{own_rows}
+use Rattle.pfs_readsets.proofs.SkippedNumbers.{skip_many}
+use Rattle.pfs_readsets.proofs.TestedNumbers.{take_to, none_to}
 use Rattle.pfs_readsets.proofs.read_set.ReadSet.next_row.Goals as goal
 
 pub returns-then-reads_row : goal.returns-then-reads_row

@@ -1,6 +1,6 @@
 use Rattle.std.proofs.Common.{◌≡◌, ◌-◌}
 use Rattle.pfs_readsets.specs.ReadSets.{passing}
-use Rattle.pfs_readsets.specs.Steps.{own_rows}
+use Rattle.pfs_readsets.specs.ReadProgress.{own_rows}
 use Rattle.pfs_readsets.proofs.read_set.ReadSet.next_row.Given as goal
 
 abbrev pub invariant-loop-row : goal.invariant-loop-row

@@ -1,6 +1,6 @@
 use Rattle.std.proofs.Common.{◌∙◌, sym, arith}
-use Rattle.pfs_readsets.specs.Steps.{own_words}
-use Rattle.pfs_readsets.proofs.Passing.{skip_to, take_to, none_to}
+use Rattle.pfs_readsets.specs.ReadProgress.{own_words}
+use Rattle.pfs_readsets.proofs.TestedNumbers.{skip_to, take_to, none_to}
 use Rattle.pfs_readsets.proofs.read_set.ReadSet.next_word.Goals as goal
 
 pub returns-then-reads_word : goal.returns-then-reads_word

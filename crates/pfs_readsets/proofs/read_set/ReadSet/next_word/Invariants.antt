@@ -1,6 +1,6 @@
 use Rattle.std.proofs.Common.{◌≡◌, ◌-◌}
 use Rattle.pfs_readsets.specs.ReadSets.{passing}
-use Rattle.pfs_readsets.specs.Steps.{own_words}
+use Rattle.pfs_readsets.specs.ReadProgress.{own_words}
 use Rattle.pfs_readsets.proofs.read_set.ReadSet.next_word.Given as goal
 
 abbrev pub invariant-loop-word : goal.invariant-loop-word

@@ -1,5 +1,5 @@
-use Rattle.pfs_readsets.proofs.Agreeing.{rows_are_places}
-use Rattle.pfs_readsets.proofs.Stepping.{noted_row, noted_word}
+use Rattle.pfs_readsets.proofs.EqualReadings.{rows_are_places}
+use Rattle.pfs_readsets.proofs.ReadSteps.{noted_row, noted_word}
 use Rattle.pfs_readsets.proofs.read_set.ReadSet.note.Goals as goal
 
 pub returns-in-Slot : goal.returns-in-Slot

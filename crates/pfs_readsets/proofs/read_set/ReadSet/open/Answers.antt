@@ -1,8 +1,8 @@
 use Rattle.std.proofs.Common.{◌++◌, [], length, map, refl, ap, sym, ◌∙◌, arith}
-use Rattle.pfs_readsets.specs.Places.{scope_of}
+use Rattle.pfs_readsets.specs.TablePlaces.{scope_of}
 use Rattle.pfs_readsets.specs.ReadSets.{passing, row_test, word_test}
 use Rattle.pfs_readsets.specs.declared.target.Target.TheVariants.{Row, Word}
-use Rattle.pfs_readsets.proofs.Passing.{passing_none}
+use Rattle.pfs_readsets.proofs.TestedNumbers.{passing_none}
 use Rattle.pfs_readsets.proofs.read_set.ReadSet.open.Goals as goal
 
 pub returns : goal.returns

@@ -1,5 +1,5 @@
-use Rattle.pfs_readsets.proofs.Agreeing.{rows_are_places}
-use Rattle.pfs_readsets.proofs.Stepping.{told_row, told_word, told_none}
+use Rattle.pfs_readsets.proofs.EqualReadings.{rows_are_places}
+use Rattle.pfs_readsets.proofs.ReadSteps.{told_row, told_word, told_none}
 use Rattle.pfs_readsets.proofs.read_set.ReadSet.target.Goals as goal
 
 pub returns-in-Some : goal.returns-in-Some

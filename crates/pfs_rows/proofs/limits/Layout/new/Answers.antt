@@ -1,5 +1,5 @@
 use Rattle.std.proofs.Common.{refl, arith}
-use Rattle.pfs_rows.proofs.Ranges.{together, order_of-lt}
+use Rattle.pfs_rows.proofs.LimitRanges.{together, order_of-lt}
 use Rattle.pfs_rows.proofs.limits.Layout.new.Goals as goal
 
 pub invariant_of-result : goal.invariant_of-result

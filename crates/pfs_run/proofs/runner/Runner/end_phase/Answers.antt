@@ -2,8 +2,8 @@ use Rattle.std.proofs.Common.{◌+◌, ◌++◌, ◌∷◌, [], ap, ◌∙◌, s
 use Rattle.std.specs.List.{All}
 use Rattle.pfs_journal.specs.Reports.{IsBlock}
 use Rattle.pfs_journal.specs.declared.report.PhaseParts.{PhaseParts}
-use Rattle.pfs_run.proofs.Ending.{ended_along}
-use Rattle.pfs_run.proofs.Reporting.{blocks_good, tables_good}
+use Rattle.pfs_run.proofs.RunPhaseEnds.{ended_along}
+use Rattle.pfs_run.proofs.ReportedPhases.{blocks_good, tables_good}
 use Rattle.pfs_run.proofs.runner.Runner.end_phase.Goals as goal
 
 pub final_tables-requires : goal.final_tables-requires

@@ -1,9 +1,9 @@
 use Rattle.std.proofs.Common.{ap, sym, ◌∙◌, refl, Some, map}
-use Rattle.pfs_admin.specs.Opening.{opening_flags}
-use Rattle.pfs_levels.specs.Plain.{word}
-use Rattle.pfs_runs.specs.Lines.{change_in}
-use Rattle.pfs_run.specs.Along.{depth_of}
-use Rattle.pfs_run.proofs.Beginning.{begun}
+use Rattle.pfs_admin.specs.OpeningState.{opening_flags}
+use Rattle.pfs_levels.specs.PlainStore.{word}
+use Rattle.pfs_runs.specs.ScriptLines.{change_in}
+use Rattle.pfs_run.specs.RunPositions.{depth_of}
+use Rattle.pfs_run.proofs.RunStart.{begun}
 use Rattle.pfs_run.proofs.runner.Runner.open.Goals as goal
 
 pub returns : goal.returns

@@ -1,19 +1,19 @@
 use Rattle.std.proofs.Common.{◌≡◌, ◌≤◌, ◌+◌, ◌-◌, ◌++◌, List, Option, Some, IfSome, slice_set, length, ap, refl, sym, ◌∙◌, subst, arith}
-use Rattle.pfs_blocks.specs.Played.{MayConnect, MayEnd}
+use Rattle.pfs_blocks.specs.PlayedBlocks.{MayConnect, MayEnd}
 use Rattle.pfs_event.specs.declared.entry.Entry.{Entry}
-use Rattle.pfs_ends.specs.Counts.{lost_digests, lost_statements, lost_waits}
-use Rattle.pfs_facts.specs.Steps.{kinds_at}
+use Rattle.pfs_law_report.specs.LostCounts.{lost_digests, lost_statements, lost_waits}
+use Rattle.pfs_law_plain.specs.LineSteps.{kinds_at}
 use Rattle.pfs_journal.specs.declared.blocks.BlockReport.{BlockReport}
-use Rattle.pfs_event.specs.Journal.{Journal}
+use Rattle.pfs_event.specs.Logs.{Journal}
 use Rattle.pfs_play.specs.Errands.{StagesLie, actions_on}
 use Rattle.pfs_script.specs.Marks.{written_out}
 use Rattle.pfs_script.specs.declared.blocks.BlockLine.{BlockLine}
-use Rattle.pfs_session.specs.States.{State, Book}
-use Rattle.pfs_run.proofs.At.{ready_at, slots_at, spare_at, tickets_at, actions_at, digests_at, statements_at, waits_at}
-use Rattle.pfs_run.proofs.Going.{next_along}
-use Rattle.pfs_run.proofs.Here.{is_here}
-use Rattle.pfs_run.proofs.Ready.{ready_same}
-use Rattle.pfs_run.proofs.Stepping.{from_none, is_done}
+use Rattle.pfs_session.specs.SessionStates.{State, Book}
+use Rattle.pfs_run.proofs.BlockStarts.{ready_at, slots_at, spare_at, tickets_at, actions_at, digests_at, statements_at, waits_at}
+use Rattle.pfs_run.proofs.RunKnowledge.{next_along}
+use Rattle.pfs_run.proofs.BlockPlaces.{is_here}
+use Rattle.pfs_run.proofs.ReadySessions.{ready_same}
+use Rattle.pfs_run.proofs.RunSteps.{from_none, is_done}
 use Rattle.pfs_run.proofs.runner.Runner.play.Goals as goal
 
 pub take_seat-requires-clause-low : goal.take_seat-requires-clause-low

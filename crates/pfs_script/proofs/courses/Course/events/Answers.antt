@@ -1,4 +1,4 @@
-use Rattle.pfs_script.proofs.Coursing.{open_is}
+use Rattle.pfs_script.proofs.SessionCourses.{open_is}
 use Rattle.pfs_script.proofs.courses.Course.events.Goals as goal
 
 pub returns : goal.returns

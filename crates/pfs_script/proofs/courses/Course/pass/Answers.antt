@@ -1,5 +1,5 @@
 use Rattle.std.proofs.Common.{refl}
-use Rattle.pfs_script.proofs.Coursing.{phase_knows, connect_knows, resume_knows, repeat_knows, done_knows, rest_knows}
+use Rattle.pfs_script.proofs.SessionCourses.{phase_knows, connect_knows, resume_knows, repeat_knows, done_knows, rest_knows}
 use Rattle.pfs_script.proofs.courses.Course.pass.Goals as goal
 
 pub returns-in-Phase : goal.returns-in-Phase

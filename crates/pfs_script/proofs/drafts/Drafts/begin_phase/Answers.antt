@@ -1,6 +1,6 @@
 use Rattle.std.proofs.Common.{refl, true}
 use Rattle.pfs_script.specs.declared.drafts.Drafts.{Drafts}
-use Rattle.pfs_script.proofs.Drafting.{phase_begun}
+use Rattle.pfs_script.proofs.DraftSteps.{phase_begun}
 use Rattle.pfs_script.proofs.drafts.Drafts.begin_phase.Goals as goal
 
 pub returns-clause-phases : goal.returns-clause-phases

@@ -1,7 +1,7 @@
 use Rattle.std.proofs.Common.{◌∙◌, map, ap}
 use Rattle.pfs_script.specs.declared.drafts.Drafts.{Drafts}
 use Rattle.pfs_script.specs.Drafts.{phase_named}
-use Rattle.pfs_script.proofs.Drafting.{phase_ended, no_phase_ended}
+use Rattle.pfs_script.proofs.DraftSteps.{phase_ended, no_phase_ended}
 use Rattle.pfs_script.proofs.drafts.Drafts.end_phase.Goals.{then-self+in_ok-push, else-self}
 use Rattle.pfs_script.proofs.drafts.Drafts.end_phase.Goals as goal
 

@@ -2,7 +2,7 @@ use Rattle.std.proofs.Common.{refl, ap, Some, None}
 use Rattle.pfs_script.specs.declared.drafts.Owner.{Owner}
 use Rattle.pfs_script.specs.Sessions.{is_phase, ends_block}
 use Rattle.pfs_script.specs.Drafts.{front_of}
-use Rattle.pfs_script.proofs.Drafting.{connect_begins, resume_begins, block_passed, said_passed, no_owner}
+use Rattle.pfs_script.proofs.DraftSteps.{connect_begins, resume_begins, block_passed, said_passed, no_owner}
 use Rattle.pfs_script.proofs.drafts.Drafts.pass.Goals as goal
 
 pub returns-in_ok-push-in-Connect-clause-phases : goal.returns-in_ok-push-in-Connect-clause-phases

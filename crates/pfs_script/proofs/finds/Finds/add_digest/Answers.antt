@@ -1,4 +1,4 @@
-use Rattle.pfs_script.proofs.Placing.{added_place}
+use Rattle.pfs_script.proofs.TestPlaces.{added_place}
 use Rattle.pfs_script.proofs.finds.Finds.add_digest.Goals as goal
 
 pub returns-clause-place : goal.returns-clause-place

@@ -1,4 +1,4 @@
-use Rattle.pfs_script.proofs.Placing.{added_table}
+use Rattle.pfs_script.proofs.TestPlaces.{added_table}
 use Rattle.pfs_script.proofs.finds.Finds.add_table.Goals as goal
 
 pub returns-clause-number : goal.returns-clause-number

@@ -1,9 +1,9 @@
 use Rattle.std.proofs.Common.{List, ℕ, ap, ◌∙◌}
-use Rattle.pfs_names.specs.Interning.{interned}
+use Rattle.pfs_names.specs.InternedTexts.{interned}
 use Rattle.pfs_script.specs.Headings.{Head, resolved}
 use Rattle.pfs_script.specs.SessionNames.{head_named}
-use Rattle.pfs_script.proofs.NameLemmas.{interned_is}
-use Rattle.pfs_script.proofs.NamingLemmas.{same_resolved, sound_named}
+use Rattle.pfs_script.proofs.NameIds.{interned_is}
+use Rattle.pfs_script.proofs.InternedNames.{same_resolved, sound_named}
 use Rattle.pfs_script.proofs.heading.Heading.intern.Goals as goal
 
 pub invariant_of-self-2 : goal.invariant_of-self-2

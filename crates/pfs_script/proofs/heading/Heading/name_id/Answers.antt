@@ -1,7 +1,7 @@
 use Rattle.std.proofs.Common.{sym, ap, ◌∙◌}
-use Rattle.pfs_names.specs.Interning.{id_of}
+use Rattle.pfs_names.specs.InternedTexts.{id_of}
 use Rattle.pfs_script.specs.Headings.{Head}
-use Rattle.pfs_script.proofs.NameLemmas.{id_absent}
+use Rattle.pfs_script.proofs.NameIds.{id_absent}
 use Rattle.pfs_script.proofs.heading.Heading.name_id.Goals as goal
 
 pub returns-in-None : goal.returns-in-None

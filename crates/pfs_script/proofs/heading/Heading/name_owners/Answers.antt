@@ -1,5 +1,5 @@
 use Rattle.std.proofs.Common.{◌∙◌}
-use Rattle.pfs_script.proofs.NamingLemmas.{named_step, named_end}
+use Rattle.pfs_script.proofs.InternedNames.{named_step, named_end}
 use Rattle.pfs_script.proofs.heading.Heading.name_owners.Goals as goal
 
 pub loop-owner-preserved : goal.loop-owner-preserved

@@ -2,7 +2,7 @@ use Rattle.std.proofs.Common.{◌≡◌, List, [], ◌∷◌, ◌++◌}
 use Rattle.pfs_script.specs.declared.forms.Form.{Form}
 use Rattle.pfs_script.specs.Headings.{named_limit, naming_in, with_class, head_with, head_of, limited, StandsIn}
 use Rattle.pfs_script.proofs.RegisterLemmas.{on_ok}
-use Rattle.pfs_script.proofs.PassLemmas.{limit_step, class_step, consumer_step, instrument_step, idle_line, idle_step}
+use Rattle.pfs_script.proofs.HeadPasses.{limit_step, class_step, consumer_step, instrument_step, idle_line, idle_step}
 use Rattle.pfs_script.proofs.heading.Heading.pass.Goals as goal
 
 pub returns-in-Limit : goal.returns-in-Limit

@@ -1,6 +1,6 @@
 use Rattle.std.proofs.Common.{◌≡◌, ℕ, List, Some, ap, ◌∙◌, subst}
 use Rattle.std.specs.Prelude.{slice_get}
-use Rattle.pfs_names.specs.Interning.{Interns}
+use Rattle.pfs_names.specs.InternedTexts.{Interns}
 use Rattle.pfs_classes.specs.declared.classes.Class.{Class}
 use Rattle.pfs_classes.specs.Registry.{registered}
 use Rattle.pfs_script.specs.Headings.{Head, count_named, resolved, head_with, with_class, naming_in}

@@ -1,6 +1,6 @@
 use Rattle.std.proofs.Common.{ap, ◌∙◌}
 use Rattle.pfs_classes.specs.Builtins.{with_builtins}
-use Rattle.pfs_script.proofs.BaseLemmas.{sound_under, names_new}
+use Rattle.pfs_script.proofs.BuiltinNames.{sound_under, names_new}
 use Rattle.pfs_script.proofs.heading.Heading.under.Goals as goal
 
 pub invariant_of-result : goal.invariant_of-result

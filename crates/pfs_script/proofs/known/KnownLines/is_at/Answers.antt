@@ -2,7 +2,7 @@ use Rattle.std.proofs.Common.{ℕ, List, ◌≡◌, ◌<◌, length, get_or, ap,
 use Rattle.std.specs.Prelude.{◌==◌}
 use Rattle.std.specs.Cmp.Lexicographic.{pointwise}
 use Rattle.pfs_script.specs.declared.known.KnownLine.{KnownLine}
-use Rattle.pfs_script.proofs.Knowing.{is_there}
+use Rattle.pfs_script.proofs.KnownLines.{is_there}
 use Rattle.pfs_script.proofs.known.KnownLines.is_at.Goals as goal
 
 pub returns-in-Some : goal.returns-in-Some

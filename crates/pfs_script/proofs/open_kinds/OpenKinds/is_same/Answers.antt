@@ -1,5 +1,5 @@
 use Rattle.std.proofs.Common.{◌∙◌}
-use Rattle.pfs_script.proofs.Opening.{same_test}
+use Rattle.pfs_script.proofs.OpenKinds.{same_test}
 use Rattle.pfs_script.proofs.open_kinds.OpenKinds.is_same.Goals as goal
 
 pub returns : goal.returns

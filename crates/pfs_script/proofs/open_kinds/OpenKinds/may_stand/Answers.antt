@@ -1,5 +1,5 @@
 use Rattle.std.proofs.Common.{inl, inr}
-use Rattle.pfs_script.proofs.Opening.{end_may}
+use Rattle.pfs_script.proofs.OpenKinds.{end_may}
 use Rattle.pfs_script.proofs.open_kinds.OpenKinds.may_stand.Goals as goal
 
 pub returns-in-End : goal.returns-in-End

@@ -1,7 +1,7 @@
 use Rattle.std.proofs.Common.{arith, ◌++◌, ◌∷◌, []}
-use Rattle.pfs_script.proofs.Counting.{push_count}
-use Rattle.pfs_script.proofs.Faultless.{passes}
-use Rattle.pfs_script.proofs.Writing.{length_counted}
+use Rattle.pfs_script.proofs.ReaderCounts.{push_count}
+use Rattle.pfs_script.proofs.FaultlessLines.{passes}
+use Rattle.pfs_script.proofs.WrittenLengths.{length_counted}
 use Rattle.pfs_script.proofs.places.Place.pass.Goals as goal
 
 pub returns : goal.returns

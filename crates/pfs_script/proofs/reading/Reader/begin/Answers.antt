@@ -1,7 +1,7 @@
 use Rattle.std.proofs.Common.{refl, ap}
 use Rattle.std.specs.List.{fold}
 use Rattle.pfs_script.specs.Drafts.{with_owner}
-use Rattle.pfs_script.proofs.Finding.{none_finds}
+use Rattle.pfs_script.proofs.NextFinds.{none_finds}
 use Rattle.pfs_script.proofs.reading.Reader.begin.Goals as goal
 
 pub returns : goal.returns

@@ -5,14 +5,14 @@ use Rattle.pfs_classes.specs.declared.setting.TableName.{TableName}
 use Rattle.pfs_script.specs.Blocks.{sense_of}
 use Rattle.pfs_script.specs.Finds.{with_digest}
 use Rattle.pfs_script.specs.Headings.{Head, resolved}
-use Rattle.pfs_script.specs.Next.{fault_of}
-use Rattle.pfs_script.specs.Sensing.{class_in, number_in}
+use Rattle.pfs_script.specs.Reasons.{fault_of}
+use Rattle.pfs_script.specs.Senses.{class_in, number_in}
 use Rattle.pfs_script.specs.SessionNames.{with_session}
-use Rattle.pfs_script.proofs.Counting.{push_count, few_count}
-use Rattle.pfs_script.proofs.Faultless.{passes}
-use Rattle.pfs_script.proofs.Finding.{finds_more}
-use Rattle.pfs_script.proofs.Standing.{idles, class_stays, say_behind, drafted_more, settled_behind, ahead_more}
-use Rattle.pfs_script.proofs.Taking.{may_come, stands_in}
+use Rattle.pfs_script.proofs.ReaderCounts.{push_count, few_count}
+use Rattle.pfs_script.proofs.FaultlessLines.{passes}
+use Rattle.pfs_script.proofs.NextFinds.{finds_more}
+use Rattle.pfs_script.proofs.ReaderSteps.{idles, class_stays, say_behind, drafted_more, settled_behind, ahead_more}
+use Rattle.pfs_script.proofs.HeadLines.{may_come, stands_in}
 use Rattle.pfs_script.proofs.reading.Reader.take.Goals as goal
 
 pub bad-requires : goal.bad-requires

@@ -9,10 +9,10 @@ use Rattle.std.specs.List.{fold}
 use Rattle.pfs_script.specs.Drafts.{with_owner, phases_behind}
 use Rattle.pfs_script.specs.SessionNames.{head_named}
 use Rattle.pfs_script.specs.Headings.{Head}
-use Rattle.pfs_script.specs.Readings.{IsBehind, Reads, Gives}
+use Rattle.pfs_script.specs.ReaderAnswers.{IsBehind, Reads, Gives}
 use Rattle.pfs_script.proofs.Exactness.{found_text, found_first, script_made}
-use Rattle.pfs_script.proofs.Finding.{few_named, names_as, setting_as}
-use Rattle.pfs_script.proofs.Standing.{say_refl}
+use Rattle.pfs_script.proofs.NextFinds.{few_named, names_as, setting_as}
+use Rattle.pfs_script.proofs.ReaderSteps.{say_refl}
 use Rattle.pfs_script.proofs.scripts.Script.read.Goals as goal
 
 fault_given : (text : List ℕ) (fault : ScriptFault) → Reads text (Err fault) → Gives text (Err fault)

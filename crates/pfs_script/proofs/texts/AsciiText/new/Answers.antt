@@ -1,4 +1,4 @@
-use Rattle.pfs_script.proofs.Clean.{clean_utf8}
+use Rattle.pfs_script.proofs.CleanBytes.{clean_utf8}
 use Rattle.pfs_script.proofs.texts.AsciiText.new.Goals as goal
 
 pub unreachable-requires : goal.unreachable-requires

@@ -1,5 +1,5 @@
 use Rattle.std.proofs.Common.{ap, ◌+◌}
-use Rattle.pfs_script.proofs.Totalling.{totals_counted}
+use Rattle.pfs_script.proofs.RunningTotals.{totals_counted}
 use Rattle.pfs_script.proofs.totals.Totals.count.Goals as goal
 
 pub returns : goal.returns

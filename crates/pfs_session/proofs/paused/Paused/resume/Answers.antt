@@ -1,7 +1,7 @@
 use Rattle.std.proofs.Common.{ap, ◌∙◌}
-use Rattle.pfs_session.specs.Settles.{owed_in, owed_by_state}
-use Rattle.pfs_session.specs.States.{Book}
-use Rattle.pfs_session.proofs.Owed.{nothing_owed}
+use Rattle.pfs_session.specs.Settlements.{owed_in, owed_by_state}
+use Rattle.pfs_session.specs.SessionStates.{Book}
+use Rattle.pfs_session.proofs.HeldAmounts.{nothing_owed}
 use Rattle.pfs_session.proofs.paused.Paused.resume.Goals as goal
 
 pub returns-clause-owed : goal.returns-clause-owed

@@ -1,7 +1,7 @@
 use Rattle.std.proofs.Common.{length, ap, arith}
-use Rattle.pfs_model.specs.Setups.{is_wait, is_statement}
-use Rattle.pfs_session.specs.States.{Book}
-use Rattle.pfs_session.proofs.Turning.{count_fits}
+use Rattle.pfs_model.specs.SetupFlags.{is_wait, is_statement}
+use Rattle.pfs_session.specs.SessionStates.{Book}
+use Rattle.pfs_session.proofs.EventSteps.{count_fits}
 use Rattle.pfs_session.proofs.session.Session.begin.Goals as goal
 
 pub overflow_add-self : goal.overflow_add-self

@@ -1,8 +1,8 @@
 use Rattle.std.proofs.Common.{refl, ap, ◌∙◌}
-use Rattle.pfs_session.specs.States.{Book}
-use Rattle.pfs_session.specs.Settles.{owed_in}
-use Rattle.pfs_session.proofs.Owed.{nothing_owed}
-use Rattle.pfs_session.proofs.Turning.{connect_from, kept_elsewhere, none_held}
+use Rattle.pfs_session.specs.SessionStates.{Book}
+use Rattle.pfs_session.specs.Settlements.{owed_in}
+use Rattle.pfs_session.proofs.HeldAmounts.{nothing_owed}
+use Rattle.pfs_session.proofs.EventSteps.{connect_from, kept_elsewhere, none_held}
 use Rattle.pfs_session.proofs.session.Session.connect.Goals as goal
 
 pub returns-clause-played : goal.returns-clause-played

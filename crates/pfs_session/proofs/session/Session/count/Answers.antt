@@ -1,8 +1,8 @@
 use Rattle.std.proofs.Common.{rules, refl, ap}
 use Rattle.std.proofs.lemmas.List.{with_items_is}
-use Rattle.pfs_session.proofs.Turning.{count_from}
-use Rattle.pfs_session.specs.States.{Book}
-use Rattle.pfs_session.proofs.Owed.{finish_owes}
+use Rattle.pfs_session.proofs.EventSteps.{count_from}
+use Rattle.pfs_session.specs.SessionStates.{Book}
+use Rattle.pfs_session.proofs.HeldAmounts.{finish_owes}
 use Rattle.pfs_session.proofs.session.Session.count.Goals as goal
 
 pub returns-clause-counted : goal.returns-clause-counted

@@ -1,9 +1,9 @@
 use Rattle.std.proofs.Common.{ap, sym, ◌∙◌, ◌++◌, ◌∷◌, [], None}
 use Rattle.pfs_event.specs.declared.entry.Entry.TheVariants as says
-use Rattle.pfs_session.specs.States.{Book}
-use Rattle.pfs_session.proofs.Answering.{end_says}
-use Rattle.pfs_session.proofs.Turning.{end_through, end_silent}
-use Rattle.pfs_session.proofs.Leaving.{end_leaves, end_leaves_alone, end_owes, end_owes_alone}
+use Rattle.pfs_session.specs.SessionStates.{Book}
+use Rattle.pfs_session.proofs.EventAnswers.{end_says}
+use Rattle.pfs_session.proofs.EventSteps.{end_through, end_silent}
+use Rattle.pfs_session.proofs.CallEnds.{end_leaves, end_leaves_alone, end_owes, end_owes_alone}
 use Rattle.pfs_session.proofs.session.Session.end.Goals as goal
 
 pub returns-then-is_let_through-clause-played : goal.returns-then-is_let_through-clause-played

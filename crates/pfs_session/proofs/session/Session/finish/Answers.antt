@@ -1,4 +1,4 @@
-use Rattle.pfs_session.proofs.Turning.{finish_all}
+use Rattle.pfs_session.proofs.EventSteps.{finish_all}
 use Rattle.pfs_session.proofs.session.Session.finish.Goals as goal
 
 pub returns-clause-finished : goal.returns-clause-finished

@@ -1,5 +1,5 @@
 use Rattle.std.proofs.Common.{rules}
-use Rattle.pfs_session.proofs.Turning.{looked}
+use Rattle.pfs_session.proofs.EventSteps.{looked}
 use Rattle.pfs_session.proofs.session.Session.look.Goals as goal
 
 pub returns-in-Some-clause-played : goal.returns-in-Some-clause-played

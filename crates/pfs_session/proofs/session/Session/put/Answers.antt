@@ -1,8 +1,8 @@
 use Rattle.std.proofs.Common.{rules, refl, ◌∙◌, ap}
 use Rattle.pfs_consumers.specs.declared.Consumer.{Consumer}
-use Rattle.pfs_session.specs.Rings.{goes_on}
-use Rattle.pfs_session.proofs.Offering.{stand}
-use Rattle.pfs_session.proofs.Turning.{puts_done, puts_none}
+use Rattle.pfs_session.specs.EventPuts.{goes_on}
+use Rattle.pfs_session.proofs.PutCalls.{stand}
+use Rattle.pfs_session.proofs.EventSteps.{puts_done, puts_none}
 use Rattle.pfs_session.proofs.session.Session.put.Goals as goal
 
 pub returns-clause-puts : goal.returns-clause-puts

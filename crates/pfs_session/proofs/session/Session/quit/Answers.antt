@@ -1,7 +1,7 @@
 use Rattle.std.proofs.Common.{◌∷◌, [], ap, refl, ◌+◌}
 use Rattle.pfs_session.specs.Turns.{SettlesHeld, Quits}
-use Rattle.pfs_session.proofs.Playing.{played_then}
-use Rattle.pfs_session.proofs.Turning.{quit_from}
+use Rattle.pfs_session.proofs.StepLists.{played_then}
+use Rattle.pfs_session.proofs.EventSteps.{quit_from}
 use Rattle.pfs_session.proofs.session.Session.quit.Goals as goal
 
 pub returns-clause-played : goal.returns-clause-played

@@ -1,5 +1,5 @@
 use Rattle.std.proofs.Common.{rules}
-use Rattle.pfs_session.proofs.Turning.{settle_from}
+use Rattle.pfs_session.proofs.EventSteps.{settle_from}
 use Rattle.pfs_session.proofs.session.Session.settle.Goals as goal
 
 pub returns-clause-played : goal.returns-clause-played

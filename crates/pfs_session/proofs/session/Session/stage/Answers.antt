@@ -1,5 +1,5 @@
-use Rattle.pfs_session.proofs.Answering.{stage_says}
-use Rattle.pfs_session.proofs.Turning.{stage_from}
+use Rattle.pfs_session.proofs.EventAnswers.{stage_says}
+use Rattle.pfs_session.proofs.EventSteps.{stage_from}
 use Rattle.pfs_session.proofs.session.Session.stage.Goals as goal
 
 pub returns-in-Some-clause-played : goal.returns-in-Some-clause-played

@@ -1,16 +1,16 @@
 use Rattle.std.proofs.Common.{◌∷◌, [], ap, sym, ◌∙◌, subst}
 use Rattle.std.specs.Prelude.{◌≡◌, ◌<◌, ◌+◌}
 use Rattle.pfs_event.specs.Verdicts.{is_let_through}
-use Rattle.pfs_session.specs.Answers.{SaysStart}
-use Rattle.pfs_session.specs.Leaving.{HasStarted}
-use Rattle.pfs_rings.specs.Rings.{depths}
-use Rattle.pfs_session.specs.Rings.{depth_of}
-use Rattle.pfs_session.specs.States.{Book, one_if}
+use Rattle.pfs_session.specs.EventAnswers.{SaysStart}
+use Rattle.pfs_session.specs.CallEnds.{HasStarted}
+use Rattle.pfs_rings.specs.RingPlaces.{depths}
+use Rattle.pfs_session.specs.EventPuts.{depth_of}
+use Rattle.pfs_session.specs.SessionStates.{Book, one_if}
 use Rattle.pfs_session.specs.Turns.{Played, StartsEvent}
-use Rattle.pfs_session.proofs.Answering.{start_says}
-use Rattle.pfs_session.proofs.Leaving.{has_started, start_draws, start_leaves}
-use Rattle.pfs_session.proofs.Placing.{start_deep}
-use Rattle.pfs_session.proofs.Turning.{start_played}
+use Rattle.pfs_session.proofs.EventAnswers.{start_says}
+use Rattle.pfs_session.proofs.CallEnds.{has_started, start_draws, start_leaves}
+use Rattle.pfs_session.proofs.OfferedPlaces.{start_deep}
+use Rattle.pfs_session.proofs.EventSteps.{start_played}
 use Rattle.pfs_session.proofs.session.Session.start.Goals as goal
 
 pub begin-number-requires-clause-deep : goal.begin-number-requires-clause-deep

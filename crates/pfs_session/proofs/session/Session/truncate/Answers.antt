@@ -1,7 +1,7 @@
 use Rattle.std.proofs.Common.{◌∷◌, [], ap, refl, ◌+◌}
 use Rattle.pfs_session.specs.Turns.{SettlesHeld, Truncates}
-use Rattle.pfs_session.proofs.Playing.{played_then}
-use Rattle.pfs_session.proofs.Turning.{truncation_from}
+use Rattle.pfs_session.proofs.StepLists.{played_then}
+use Rattle.pfs_session.proofs.EventSteps.{truncation_from}
 use Rattle.pfs_session.proofs.session.Session.truncate.Goals as goal
 
 pub returns-clause-played : goal.returns-clause-played

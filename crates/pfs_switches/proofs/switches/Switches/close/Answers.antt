@@ -1,13 +1,13 @@
 use Rattle.std.proofs.Common.{◌≡◌, ◌∙◌, ℕ, ◌-◌, List, sym, refl, ap, subst, arith}
 use Rattle.std.specs.Slots.{slots_items}
 use Rattle.pfs_switches.specs.declared.view.View.{View}
-use Rattle.pfs_switches.specs.Closing.{IsClosed}
+use Rattle.pfs_switches.specs.SharedKnowledge.{IsClosed}
 use Rattle.pfs_switches.specs.Knowledge.{handed}
-use Rattle.pfs_switches.specs.Known.{Known, Place}
+use Rattle.pfs_switches.specs.SeatViews.{Known, Place}
 use Rattle.pfs_switches.specs.Rule.{Ruled}
 use Rattle.atomic_table.specs.Table.{Final, Seen}
-use Rattle.pfs_switches.proofs.Between.{view_of_seat, ready_view, writing_view}
-use Rattle.pfs_switches.proofs.Ends.{closes}
+use Rattle.pfs_switches.proofs.ReadySeats.{view_of_seat, ready_view, writing_view}
+use Rattle.pfs_switches.proofs.SwitchEnds.{closes}
 use Rattle.pfs_switches.proofs.Seats.{hands}
 use Rattle.pfs_switches.proofs.switches.Switches.close.Goals as goal
 

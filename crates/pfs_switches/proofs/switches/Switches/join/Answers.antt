@@ -1,8 +1,8 @@
 use Rattle.std.proofs.Common.{◌≡◌, ◌∙◌, [], ◌∷◌, get_or, sym, refl, ap, subst, arith}
 use Rattle.pfs_switches.specs.declared.view.View.{View}
 use Rattle.pfs_switches.specs.Knowledge.{joined, merged}
-use Rattle.pfs_switches.specs.Known.{Known, Place, IsReady, first_view}
-use Rattle.pfs_switches.proofs.Between.{view_of_seat, ready_view, ready_joined}
+use Rattle.pfs_switches.specs.SeatViews.{Known, Place, IsReady, first_view}
+use Rattle.pfs_switches.proofs.ReadySeats.{view_of_seat, ready_view, ready_joined}
 use Rattle.pfs_switches.proofs.Seats.{joins}
 use Rattle.pfs_switches.proofs.ViewFacts.{merged_left, merged_right}
 use Rattle.pfs_switches.proofs.switches.Switches.join.Goals as goal

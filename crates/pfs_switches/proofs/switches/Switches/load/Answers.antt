@@ -1,8 +1,8 @@
 use Rattle.std.proofs.Common.{◌≡◌, ◌∙◌, ◌/◌, length, get_or, set, sym, ap, arith}
 use Rattle.pfs_switches.specs.declared.view.View.{View}
-use Rattle.pfs_switches.specs.Known.{Known, Place, first_view}
-use Rattle.pfs_switches.proofs.Between.{view_of_seat, ready_view}
-use Rattle.pfs_switches.proofs.Keeps.{look_keeps}
+use Rattle.pfs_switches.specs.SeatViews.{Known, Place, first_view}
+use Rattle.pfs_switches.proofs.ReadySeats.{view_of_seat, ready_view}
+use Rattle.pfs_switches.proofs.RuleSteps.{look_keeps}
 use Rattle.pfs_switches.proofs.ViewFacts.{raised}
 use Rattle.pfs_switches.proofs.switches.Switches.load.Goals as goal
 

@@ -2,7 +2,7 @@ use Rattle.std.proofs.Common.{ℕ, [], List, length, sym, ap, subst, arith}
 use Rattle.atomic_table.specs.Table.{opening}
 use Rattle.pfs_switches.specs.Knowledge.{whole}
 use Rattle.pfs_switches.specs.Rule.{Ruled}
-use Rattle.pfs_switches.proofs.Ends.{opens}
+use Rattle.pfs_switches.proofs.SwitchEnds.{opens}
 use Rattle.pfs_switches.proofs.Seats.{parts_with}
 use Rattle.pfs_switches.proofs.switches.Switches.open.Goals as goal
 

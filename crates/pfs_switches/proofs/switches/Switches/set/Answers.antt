@@ -1,8 +1,8 @@
 use Rattle.std.proofs.Common.{◌≡◌, ◌∙◌, ◌+◌, ◌*◌, ◌/◌, length, get_or, sym, ap, arith}
 use Rattle.pfs_switches.specs.declared.view.View.{View}
-use Rattle.pfs_switches.specs.Known.{Known, Place}
-use Rattle.pfs_switches.proofs.Between.{writing_view}
-use Rattle.pfs_switches.proofs.Keeps.{weigh_keeps, set_keeps}
+use Rattle.pfs_switches.specs.SeatViews.{Known, Place}
+use Rattle.pfs_switches.proofs.ReadySeats.{writing_view}
+use Rattle.pfs_switches.proofs.RuleSteps.{weigh_keeps, set_keeps}
 use Rattle.pfs_switches.proofs.switches.Switches.set.Goals as goal
 
 pub load-found-requires : goal.load-found-requires

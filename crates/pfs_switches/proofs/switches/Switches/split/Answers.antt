@@ -1,7 +1,7 @@
 use Rattle.std.proofs.Common.{◌∙◌, ◌≡◌, sym, ap, arith}
 use Rattle.pfs_switches.specs.declared.view.View.{View}
-use Rattle.pfs_switches.specs.Known.{Known, Place}
-use Rattle.pfs_switches.proofs.Between.{view_of_seat, ready_view}
+use Rattle.pfs_switches.specs.SeatViews.{Known, Place}
+use Rattle.pfs_switches.proofs.ReadySeats.{view_of_seat, ready_view}
 use Rattle.pfs_switches.proofs.Seats.{cuts}
 use Rattle.pfs_switches.proofs.switches.Switches.split.Goals as goal
 

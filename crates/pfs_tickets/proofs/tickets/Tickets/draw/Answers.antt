@@ -1,8 +1,8 @@
 use Rattle.std.proofs.Common.{◌∙◌, sym, ap, arith}
 use Rattle.pfs_tickets.specs.declared.view.View.{View}
-use Rattle.pfs_tickets.specs.Known.{Known}
-use Rattle.pfs_tickets.proofs.Between.{view_of_seat}
-use Rattle.pfs_tickets.proofs.Keeps.{draw_keeps}
+use Rattle.pfs_tickets.specs.SeatViews.{Known}
+use Rattle.pfs_tickets.proofs.ReadySeats.{view_of_seat}
+use Rattle.pfs_tickets.proofs.RuleSteps.{draw_keeps}
 use Rattle.pfs_tickets.proofs.tickets.Tickets.draw.Goals as goal
 
 pub fetch_add-ticket-requires : goal.fetch_add-ticket-requires

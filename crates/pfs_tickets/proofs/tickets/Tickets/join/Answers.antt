@@ -1,7 +1,7 @@
 use Rattle.std.proofs.Common.{◌∙◌, sym, refl, ap, arith}
 use Rattle.pfs_tickets.specs.declared.view.View.{View}
-use Rattle.pfs_tickets.specs.Known.{Known}
-use Rattle.pfs_tickets.proofs.Between.{view_of_seat, ready_view}
+use Rattle.pfs_tickets.specs.SeatViews.{Known}
+use Rattle.pfs_tickets.proofs.ReadySeats.{view_of_seat, ready_view}
 use Rattle.pfs_tickets.proofs.Seats.{joins}
 use Rattle.pfs_tickets.proofs.tickets.Tickets.join.Goals as goal
 

@@ -1,8 +1,8 @@
 use Rattle.std.proofs.Common.{◌∙◌, sym, ap, arith}
 use Rattle.pfs_tickets.specs.declared.view.View.{View}
-use Rattle.pfs_tickets.specs.Known.{Known}
-use Rattle.pfs_tickets.proofs.Between.{view_of_seat, ready_view}
-use Rattle.pfs_tickets.proofs.Keeps.{M, tell_keeps}
+use Rattle.pfs_tickets.specs.SeatViews.{Known}
+use Rattle.pfs_tickets.proofs.ReadySeats.{view_of_seat, ready_view}
+use Rattle.pfs_tickets.proofs.RuleSteps.{M, tell_keeps}
 use Rattle.pfs_tickets.proofs.Seats.{cuts}
 use Rattle.pfs_tickets.proofs.tickets.Tickets.split.Goals as goal
 

@@ -1,6 +1,6 @@
 use Rattle.std.proofs.Common.{◌∙◌, sym, ap, arith}
-use Rattle.pfs_tickets.specs.Known.{Known}
-use Rattle.pfs_tickets.proofs.Keeps.{count_keeps}
+use Rattle.pfs_tickets.specs.SeatViews.{Known}
+use Rattle.pfs_tickets.proofs.RuleSteps.{count_keeps}
 use Rattle.pfs_tickets.proofs.tickets.Tickets.tell.Goals as goal
 
 pub load-word-requires : goal.load-word-requires

@@ -1,4 +1,0 @@
-pub mod Looking
-pub mod Holding
-pub mod Answering
-mod Examples

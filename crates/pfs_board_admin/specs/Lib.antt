@@ -1,0 +1,4 @@
+pub mod Desks
+pub mod LabelWords
+pub mod DeskLaws
+pub mod DeskActions

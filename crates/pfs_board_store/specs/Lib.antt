@@ -1,0 +1,6 @@
+pub mod Ties
+pub mod ActorCalls
+pub mod WriterWords
+pub mod RootActors
+pub mod RootLaws
+pub mod ActorPhases

@@ -1,0 +1,111 @@
+//! How an actor holds rows and sets words.
+
+ghost use Rattle.std.specs.Prelude.{◌≡◌, ◌<◌, ◌≤◌, ◌+◌, ◌^◌, ◌==◌, ◌∷◌, [], ℕ, List, Option, Some, None, IsSome, if◌then◌else◌, length, slice_index};
+ghost use Rattle.pfs_board.specs.Knowledge.{corner, held};
+ghost use Rattle.pfs_levels.specs.Calls.{Call, Opening, Goes, Takes, Puts, Frees, Sets, Meets, IsRow};
+ghost use Rattle.pfs_board_store.specs.ActorCalls.{IsReached, in_hand};
+ghost use Rattle.pfs_switches.specs.Knowledge.{was_set};
+
+use crate::rows::BoardRows;
+use pfs_board::{Content, Kept, Taken};
+use pfs_levels::Rows;
+use pfs_switches::Writer;
+use std::sync::Wait;
+use std::thread::yield_now;
+
+impl<'a, V: Kept> BoardRows<'a, V> {
+    /// Takes a row, and tries again until it has it: its version and what it held.
+    pub(crate) fn take_row<R: Wait>(&mut self, rt: &R, row: u64) -> (u64, Content)
+        requires known { IsRow row }
+        requires away { ⟦<BoardRows<'a, V> as Rows>⟧.hand self.old row ≡ None }
+        requires room { 0 < ⟦<BoardRows<'a, V> as Rows>⟧.left self.old }
+        ensures call { Goes (⟦<BoardRows<'a, V> as Rows>⟧.reached self.old) (⟦<BoardRows<'a, V> as Rows>⟧.reached self.new) (Takes row result.0 result.1 ∷ []) }
+        ensures left { ⟦<BoardRows<'a, V> as Rows>⟧.left self.old ≤ ⟦<BoardRows<'a, V> as Rows>⟧.left self.new + 1 }
+        ensures draws { ⟦<BoardRows<'a, V> as Rows>⟧.draws self.new ≡ ⟦<BoardRows<'a, V> as Rows>⟧.draws self.old }
+        ensures mine { ⟦<BoardRows<'a, V> as Rows>⟧.hand self.new row ≡ Some result.0 }
+        ensures hand { (r : ℕ) → ⟦<BoardRows<'a, V> as Rows>⟧.hand self.new r ≡ (if r == row then Some result.0
+            else ⟦<BoardRows<'a, V> as Rows>⟧.hand self.old r) }
+        ensures table { self.new.switches.now.id ≡ self.old.switches.now.id }
+    {
+        for _ in rt.forever() {
+            if let Taken::Mine { word, content } = self.board.take(&mut self.seat, row) {
+                return (word / 4, content);
+            }
+            yield_now();
+        }
+        unreachable!()
+    }
+
+    /// Publishes a content in a row in hand: the version, one above that of the take.
+    pub(crate) fn put_row(&mut self, row: u64, content: &Content) -> u64
+        requires known { IsRow row }
+        requires held { IsSome (⟦<BoardRows<'a, V> as Rows>⟧.hand self.old row) }
+        ensures call { Goes (⟦<BoardRows<'a, V> as Rows>⟧.reached self.old) (⟦<BoardRows<'a, V> as Rows>⟧.reached self.new) (Puts row content.now result ∷ []) }
+        ensures next { (v : ℕ) → ⟦<BoardRows<'a, V> as Rows>⟧.hand self.old row ≡ Some v → result ≡ v + 1 }
+        ensures left { ⟦<BoardRows<'a, V> as Rows>⟧.left self.new ≡ ⟦<BoardRows<'a, V> as Rows>⟧.left self.old }
+        ensures draws { ⟦<BoardRows<'a, V> as Rows>⟧.draws self.new ≡ ⟦<BoardRows<'a, V> as Rows>⟧.draws self.old }
+        ensures hand { (r : ℕ) → ⟦<BoardRows<'a, V> as Rows>⟧.hand self.new r ≡ (if r == row then None
+            else ⟦<BoardRows<'a, V> as Rows>⟧.hand self.old r) }
+        ensures table { self.new.switches.now.id ≡ self.old.switches.now.id }
+    {
+        self.board.put(&mut self.seat, row, content)
+    }
+
+    /// Releases a row in hand as free, at the version at which it was taken.
+    pub(crate) fn free_row(&mut self, row: u64)
+        requires known { IsRow row }
+        requires held { IsSome (⟦<BoardRows<'a, V> as Rows>⟧.hand self.old row) }
+        ensures call { (v : ℕ) → ⟦<BoardRows<'a, V> as Rows>⟧.hand self.old row ≡ Some v
+            → Goes (⟦<BoardRows<'a, V> as Rows>⟧.reached self.old) (⟦<BoardRows<'a, V> as Rows>⟧.reached self.new) (Frees row v ∷ []) }
+        ensures left { ⟦<BoardRows<'a, V> as Rows>⟧.left self.old ≤ ⟦<BoardRows<'a, V> as Rows>⟧.left self.new }
+        ensures draws { ⟦<BoardRows<'a, V> as Rows>⟧.draws self.new ≡ ⟦<BoardRows<'a, V> as Rows>⟧.draws self.old }
+        ensures hand { (r : ℕ) → ⟦<BoardRows<'a, V> as Rows>⟧.hand self.new r ≡ (if r == row then None
+            else ⟦<BoardRows<'a, V> as Rows>⟧.hand self.old r) }
+        ensures table { self.new.switches.now.id ≡ self.old.switches.now.id }
+    {
+        self.board.free(&mut self.seat, row);
+    }
+
+    /// The actor meets the writer, and has then seen each word's present version.
+    pub(crate) fn met(&mut self, writer: Writer) -> Writer
+        requires same { writer.switches ≡ self.old.switches.now.id }
+        requires wide { 160 ≤ length writer.view.seen }
+        ensures writer { result ≡ writer }
+        ensures call { Goes (⟦<BoardRows<'a, V> as Rows>⟧.reached self.old) (⟦<BoardRows<'a, V> as Rows>⟧.reached self.new) (Meets writer.view.seen ∷ []) }
+        ensures left { ⟦<BoardRows<'a, V> as Rows>⟧.left self.new ≡ ⟦<BoardRows<'a, V> as Rows>⟧.left self.old }
+        ensures draws { ⟦<BoardRows<'a, V> as Rows>⟧.draws self.new ≡ ⟦<BoardRows<'a, V> as Rows>⟧.draws self.old }
+        ensures hand { (r : ℕ) → ⟦<BoardRows<'a, V> as Rows>⟧.hand self.new r ≡ ⟦<BoardRows<'a, V> as Rows>⟧.hand self.old r }
+        ensures table { self.new.switches.now.id ≡ self.old.switches.now.id }
+    {
+        let mut writer = writer;
+        self.switches.meet(&mut self.words, &mut writer);
+        writer
+    }
+
+    /// Sets a word by the writer, whom the seat meets before and behind the set.
+    pub(crate) fn set_word(&mut self, writer: &mut Writer, word: u64, flags: u16) -> u64
+        requires known { word < 160 }
+        requires inside { IsSome (⟦<BoardRows<'a, V> as Rows>⟧.hand self.old 0) }
+        requires same { writer.old.switches ≡ self.old.switches.now.id }
+        requires wide { 160 ≤ length writer.old.view.seen }
+        requires early { slice_index writer.old.view.seen word + 1 < 2 ^ 48 }
+        ensures call { Goes (⟦<BoardRows<'a, V> as Rows>⟧.reached self.old) (⟦<BoardRows<'a, V> as Rows>⟧.reached self.new) (Sets word flags result ∷ []) }
+        ensures next { result ≡ slice_index writer.old.view.seen word + 1 }
+        ensures writer { (writer.new.switches ≡ writer.old.switches)
+            × (writer.new.view ≡ was_set writer.old.view word result flags) }
+        ensures left { ⟦<BoardRows<'a, V> as Rows>⟧.left self.new ≡ ⟦<BoardRows<'a, V> as Rows>⟧.left self.old }
+        ensures draws { ⟦<BoardRows<'a, V> as Rows>⟧.draws self.new ≡ ⟦<BoardRows<'a, V> as Rows>⟧.draws self.old }
+        ensures hand { (r : ℕ) → ⟦<BoardRows<'a, V> as Rows>⟧.hand self.new r ≡ ⟦<BoardRows<'a, V> as Rows>⟧.hand self.old r }
+        ensures table { self.new.switches.now.id ≡ self.old.switches.now.id }
+    {
+        self.seat.tell();
+        self.switches.meet(&mut self.words, writer);
+        match self
+            .switches
+            .set_and_load(&mut self.words, writer, word, flags)
+        {
+            Ok((version, _)) => version,
+            Err(_) => unreachable!(),
+        }
+    }
+}

@@ -1,5 +1,0 @@
-use Rattle.pfs_counted.proofs.DigestNumbers.{digest_numbers_law}
-use Rattle.pfs_counted.proofs.laws.digest_numbers.Goals as goal
-
-pub returns : goal.returns
-returns c = digest_numbers_law c.few_ended.ensures c.in_range.ensures

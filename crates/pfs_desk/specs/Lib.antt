@@ -1,4 +1,0 @@
-pub mod Desks
-pub mod Following
-pub mod Laws
-pub mod Acted

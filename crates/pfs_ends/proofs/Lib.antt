@@ -1,9 +1,0 @@
-pub mod Started
-pub mod Counting
-pub mod Unplaced
-pub mod Leading
-pub mod Ending
-pub mod Ended
-pub mod Meeting
-pub mod Readable
-pub mod Examples

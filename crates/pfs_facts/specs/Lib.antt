@@ -1,4 +1,0 @@
-pub mod Steps
-pub mod Tracks
-pub mod Deeds
-pub mod Answers

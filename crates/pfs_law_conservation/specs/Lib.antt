@@ -1,0 +1,14 @@
+pub mod InfoRowWords
+pub mod InfoRowLaws
+pub mod InfoRowExamples
+pub mod KindRows
+pub mod RunActions
+pub mod RunEvents
+pub mod KindLines
+pub mod RunTerms
+pub mod Premises
+pub mod ConservationLaws
+pub mod RunDigests
+pub mod ConservationExamples
+pub mod TruncationLaws
+pub mod TruncationExamples

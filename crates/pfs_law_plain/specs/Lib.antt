@@ -1,0 +1,13 @@
+pub mod Notes
+pub mod SessionNotes
+pub mod Weights
+pub mod Spells
+pub mod PlainJournals
+pub mod ShownAnswers
+pub mod LineSteps
+pub mod Tracks
+pub mod LineDeeds
+pub mod ToldAnswers
+pub mod ActionFolds
+pub mod RunRules
+pub mod PhaseStore

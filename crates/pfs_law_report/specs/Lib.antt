@@ -1,0 +1,3 @@
+pub mod LostCounts
+pub mod PhaseEnds
+pub mod ReportableRuns

@@ -1,0 +1,12 @@
+pub mod Demands
+pub mod DoneActions
+pub mod AllActions
+pub mod ActionExamples
+pub mod Takes
+pub mod Orders
+pub mod RingLayout
+pub mod Deeds
+pub mod Agreement
+pub mod JournalLaws
+pub mod Stints
+pub mod Amounts

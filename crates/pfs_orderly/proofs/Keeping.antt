@@ -1,6 +1,0 @@
--- The rules of a run of a script are those that conservation goes by.
-use Rattle.pfs_orderly.specs.Orderly.{KeptLaw}
-
-pub kept_law : KeptLaw
-kept_law setting phases report run =
-    record { rules = run.rules; labelled = run.labelled; brought = run.brought }

@@ -1,4 +1,0 @@
-//! The runs of scripts meet what conservation asks of a run. The definitions stand in `specs/`.
-#![tactic(auto)]
-
-pub mod laws;

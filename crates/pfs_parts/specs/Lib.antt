@@ -1,5 +1,0 @@
-pub mod Deeds
-pub mod Agreeing
-pub mod Shaped
-pub mod Stints
-pub mod Amounts

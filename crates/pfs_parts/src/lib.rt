@@ -1,4 +1,0 @@
-//! What a session does at its lines, as the parts of its journal.
-#![tactic(auto)]
-
-pub mod laws;

@@ -1,0 +1,17 @@
+use Rattle.std.proofs.Common.{ℕ, ◌+◌, [], ◌∷◌, ap, length, refl, subst}
+use Rattle.pfs_board.specs.declared.view.Label.{Label}
+use Rattle.pfs_levels.specs.Calls.{Begins}
+use Rattle.pfs_law_session.specs.Deeds.{Showing, remark}
+use Rattle.pfs_session.specs.Turns.{Played}
+use Rattle.pfs_session.specs.declared.remarks.Remark.TheVariants.{Rows}
+use Rattle.pfs_play.proofs.ActionParts.{acted, remarked, shown}
+use Rattle.pfs_play.proofs.actions.show_held.Goals as goal
+
+pub returns-in-Ok-clause-acted : goal.returns-in-Ok-clause-acted
+returns-in-Ok-clause-acted g c =
+    let tells = subst (λ (n : ℕ). Played (remark (Rows n) ∷ []) c.act.new.self c.append.new.self (g.A.Rows.reached c.act.new.rows) (g.A.Rows.reached c.act.new.rows)) (ap length c.as_slice.ensures)
+    (remarked (Rows (length c.as_slice.result.now)) c.act.new.self c.append.new.self (g.A.Rows.reached c.act.new.rows) c.append.ensures.does c.append.ensures.entries) in
+    acted (Showing c.args.admin.now (length c.in-Ok.answer)) (c.args.admin.now.actions + 1) c.enter.result c.args.session.now c.append.new.self (g.A.Rows.reached c.args.rows.now) (g.A.Rows.reached c.enter.new.self)
+    (g.A.Rows.reached c.act.new.rows) (g.A.Rows.reached c.leave.new.self) refl
+    (subst (λ (label : Label). Begins (g.A.Rows.reached c.args.rows.now) (g.A.Rows.reached c.enter.new.self) label c.enter.result) c.label.ensures c.enter.ensures.call)
+    (shown c.args.admin.now (length c.in-Ok.answer) c.args.session.now c.act.new.self c.append.new.self (g.A.Rows.reached c.enter.new.self) (g.A.Rows.reached c.act.new.rows) c.act.ensures.played tells) c.leave.ensures.call

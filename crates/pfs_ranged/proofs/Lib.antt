@@ -1,5 +1,0 @@
-mod Forms
-mod Blocks
-mod Facts
-pub mod Ends
-mod Few

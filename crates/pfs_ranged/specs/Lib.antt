@@ -1,2 +1,0 @@
-pub mod Ranged
-pub mod Ended

@@ -1,9 +1,0 @@
-pub mod Counted
-pub mod Held
-pub mod Hexed
-pub mod Listed
-pub mod Named
-pub mod Reported
-pub mod Requested
-pub mod Selected
-pub mod Tabled

@@ -1,4 +1,0 @@
-//! What a run reports is such as a report can have.
-#![tactic(auto)]
-
-pub mod laws;

@@ -1,4 +1,0 @@
-pub mod Asked
-pub mod Commands
-pub mod Planned
-pub mod Rows

@@ -1,3 +1,0 @@
-pub mod Folded
-pub mod Ruled
-pub mod Left

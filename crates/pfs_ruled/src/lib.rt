@@ -1,4 +1,0 @@
-//! Sessions that run one after another keep the rules of a run.
-#![tactic(auto)]
-
-pub mod laws;

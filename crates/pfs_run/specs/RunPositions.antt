@@ -1,0 +1,112 @@
+-- Where a run of a script stands behind some of its blocks.
+use Rattle.std.specs.Prelude.{ℕ, ◌≡◌, ◌≤◌, ◌+◌, ◌-◌, ◌*◌, ◌^◌, List, [], ◌++◌, length, Option, Some, None, MatchOption}
+use Rattle.std.specs.List.{All, flat_map, slice_index_or}
+use Rattle.pfs_admin.specs.OpeningState.{opening_flags}
+use Rattle.pfs_admin.specs.AdministrationStates.{State as Administration}
+use Rattle.pfs_law_plain.specs.Spells.{Spell, calls_of}
+use Rattle.pfs_classes.specs.declared.setting.Setting.{Setting}
+use Rattle.pfs_law_script.specs.BlocksAhead.{NoneIsOver, done_before}
+use Rattle.pfs_law_script.specs.Course.{IsCourse, PhasedBlock, own_blocks, session_at}
+use Rattle.pfs_law_script.specs.ReportSpells.{ArePhasesTold, AreTold}
+use Rattle.pfs_law_report.specs.PhaseEnds.{HasEnded}
+use Rattle.pfs_law_report.specs.declared.counts.LostEvents.{LostEvents}
+use Rattle.pfs_law_plain.specs.LineSteps.{kinds_at}
+use Rattle.pfs_journal.specs.Reports.{IsPhase}
+use Rattle.pfs_journal.specs.declared.blocks.BlockReport.{BlockReport}
+use Rattle.pfs_journal.specs.declared.report.PhaseParts.{PhaseParts}
+use Rattle.pfs_levels.specs.Calls.{Call, Opening}
+use Rattle.pfs_levels.specs.declared.answers.Word.{Word}
+use Rattle.pfs_matching.specs.ObjectRules.{opening_objects}
+use Rattle.pfs_model.specs.Chains.{each_of, times}
+use Rattle.pfs_law_session.specs.Stints.{resumed}
+use Rattle.pfs_play.specs.Errands.{StagesLie}
+use Rattle.pfs_law_script.specs.PlayableBlocks.{kinds_left, lines_among}
+use Rattle.pfs_rows.specs.Limits.{AreInRange}
+use Rattle.pfs_law_plain.proofs.ReadCalls.{LeadAlike}
+use Rattle.pfs_law_plain.specs.RunRules.{entries_of}
+use Rattle.pfs_runs.specs.PhaseFinals.{is_digest_lost, is_lost_nested, is_lost_locker, verdict_at}
+use Rattle.pfs_runs.specs.ScriptLines.{change_in}
+use Rattle.pfs_runs.specs.Runs.{AreFinal}
+use Rattle.pfs_script.specs.Events.{blocks_for}
+use Rattle.pfs_script.specs.Marks.{written_out}
+use Rattle.pfs_script.specs.declared.blocks.Block.{Block}
+use Rattle.pfs_script.specs.declared.blocks.BlockLine.{BlockLine}
+use Rattle.pfs_script.specs.declared.blocks.Phase.{Phase}
+use Rattle.pfs_session.specs.SessionStates.{Book, fresh, nothing_held}
+
+-- a session has room for as many open events as its blocks have lines
+abbrev pub depth_of : List Phase → ℕ → ℕ
+depth_of phases session = lines_among (blocks_for session phases)
+
+-- the lines of a session at blocks, each repeat written out
+abbrev pub lines_at : ℕ → List PhasedBlock → List BlockLine
+lines_at session done = flat_map (λ (block : Block). written_out block.lines) (own_blocks session done)
+
+-- a session between its blocks: it is as the spells left it, with its journal handed out, and has open what its lines
+-- leave open
+pub record IsWaiting (setting : Setting) (phases : List Phase) (done : List PhasedBlock) (spells : List Spell)
+    (session : ℕ) (book : Book) : Type 0 where
+  pub begun : own_blocks session done ≡ [] → ⊥
+  pub state : resumed book.state ≡ session_at setting (depth_of phases) spells session
+  pub entries : book.journal.entries ≡ []
+  pub depth : book.state.opened.depth ≡ depth_of phases session
+  pub free : book.state.held ≡ nothing_held
+  pub kinds : kinds_at book.state ≡ kinds_left (lines_at session done)
+  pub lie : StagesLie (kinds_at book.state)
+  pub drawn : book.state.drawn ≤ 200000 * length done
+  pub actions : book.state.actions ≤ 16668 * length done
+
+-- a session that had no block yet has no seat
+abbrev pub Sits : Setting → List Phase → List PhasedBlock → List Spell → ℕ → Option Book → Type 0
+Sits setting phases done spells session None = own_blocks session done ≡ []
+Sits setting phases done spells session (Some book) = IsWaiting setting phases done spells session book
+
+-- the seat of a session; sessions are numbered from 1
+abbrev pub seat_of : List (Option Book) → ℕ → Option Book
+seat_of seats session = slice_index_or seats (session - 1) None
+
+-- the session of a seat goes on as it stands; one without begins, with room for so many open events
+abbrev pub GoesOn : Option Book → ℕ → ℕ → ℕ → Book → Type 0
+GoesOn seat number stack depth book =
+    MatchOption seat (book ≡ record {
+      state = fresh number stack depth;
+      journal = record { entries = []; room = 0 };
+    }) (λ was. book ≡ record was { state = resumed was.state })
+
+-- Behind these phases, and these blocks of the one behind them, with those blocks ahead: what the sessions did, that the
+-- store was led there by just that and by reads between, what is told of it, the phases that ended, and the sessions
+-- that wait for their next blocks.
+pub record IsAlong (setting : Setting) (phases before : List Phase) (first : List Block) (ahead : List PhasedBlock)
+    (reached : Opening → List Call → Type 0) (hand : ℕ → Option ℕ) (left draws : ℕ) (words : Option (List Word))
+    (admin : Administration) (seats : List (Option Book)) (lost : LostEvents) (ended : List PhaseParts)
+    (told : List BlockReport) : Type 0 where
+  pub limits : AreInRange setting.limits
+  pub earlier : List Spell
+  pub current : List Spell
+  pub course : IsCourse setting (change_in phases) (depth_of phases) (done_before before first) (earlier ++ current)
+      admin
+  pub none_over : NoneIsOver (earlier ++ current) ahead
+  pub phases_told : ArePhasesTold setting 1 before ended earlier
+  pub blocks_told : AreTold setting (1 + length before) first current told
+  pub finals : AreFinal (HasEnded setting (change_in phases) (earlier ++ current)) ended
+  pub numbers : AreFinal (λ (report : PhaseParts). report.number ≤ length before) ended
+  pub good : All IsPhase ended
+  pub start : Opening
+  pub opens : start.flags ≡ opening_flags setting opening_objects
+  pub calls : List Call
+  pub led : reached start calls
+  pub alike : LeadAlike calls (calls_of (earlier ++ current))
+  pub idle : (row : ℕ) → hand row ≡ None
+  pub lent : words ≡ Some admin.words
+  pub spare : 2 ^ 47 ≤ left + 340000000 * length (done_before before first)
+  pub tickets : 2 ^ 47 ≤ draws + 400000 * length (done_before before first)
+  pub acted : admin.actions ≤ 16668 * length (done_before before first)
+  pub wide : length seats ≡ 64
+  pub seated : (session : ℕ) → 1 ≤ session → session ≤ 64
+      → Sits setting phases (done_before before first) (earlier ++ current) session (seat_of seats session)
+  pub digests : lost.digests ≡ times is_digest_lost (entries_of (earlier ++ current))
+  pub statements : lost.statements ≡ times is_lost_nested (each_of verdict_at (entries_of (earlier ++ current)))
+  pub waits : lost.waits ≡ times is_lost_locker (each_of verdict_at (entries_of (earlier ++ current)))
+  pub few_digests : lost.digests ≤ 1200012 * length (done_before before first)
+  pub few_statements : lost.statements ≤ 200002 * length (done_before before first)
+  pub few_waits : lost.waits ≤ 200002 * length (done_before before first)

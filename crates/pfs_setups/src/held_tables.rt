@@ -1,0 +1,14 @@
+//! What a SELECT on `setup_actors` or `setup_objects` answers.
+
+ghost use Rattle.pfs_setups.specs.HeldRows.{FitsLaw};
+ghost use Rattle.pfs_setups.specs.HeldExamples.{WorkedRows};
+
+/// Each row has a value for each column of its table, of the column's kind.
+pub fn rows_fit()
+    ensures { FitsLaw }
+{}
+
+/// The rows of an opening, and one that was added.
+pub fn rows_worked()
+    ensures { WorkedRows }
+{}

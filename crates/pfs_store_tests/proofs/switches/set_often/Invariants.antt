@@ -1,7 +1,0 @@
-use Rattle.std.proofs.Common.{◌≡◌}
-use Rattle.pfs_store_tests.proofs.switches.set_often.Given as goal
-
-abbrev pub invariant-loop-i : goal.invariant-loop-i
-invariant-loop-i l = record {
-  switches : l.writer.switches ≡ l.initial.writer.switches;
-}

@@ -1,0 +1,379 @@
+//! Sessions over a plain store, and over one that refuses additions and puts.
+
+ghost use Rattle.std.specs.Prelude.{◌≡◌, ◌≤◌, ◌<◌, ◌+◌, ◌^◌, ℕ, [], Some, None, IfOk, IfSome, length};
+ghost use Rattle.pfs_admin.specs.OpeningState.{opened};
+ghost use Rattle.pfs_event.specs.Nests.{MayStart};
+ghost use Rattle.pfs_session.specs.Settlements.{owed_by_state};
+
+use crate::admin;
+use crate::levels::said;
+use pfs_admin::Admin;
+use pfs_classes::Setting;
+use pfs_event::{Entry, EventKind, Verdict};
+use pfs_levels::{Added, Content, Hold, Log, PlainRows, RingPut, Rows};
+use pfs_model::Subject;
+use pfs_names::NameId;
+use pfs_rows::Seen;
+use pfs_session::{NoMemory, Numbers, Session};
+use pfs_stat::Stat;
+use std::alloc::Global;
+use std::test::Fail;
+
+mod actions;
+mod looks;
+mod rings;
+
+const LONG_HISTORY: u64 = 10_242;
+
+// A plain store that refuses so many additions and so many puts first.
+#[derive(Drop)]
+struct Refusing {
+    rows: PlainRows,
+    additions: u64,
+    puts: u64,
+}
+
+impl Rows for Refusing {
+    ghost reached = { λ s start calls. Unit {0} };
+
+    ghost left = { λ s. ⟦<PlainRows as Rows>⟧.left s.rows };
+
+    ghost draws = { λ s. ⟦<PlainRows as Rows>⟧.draws s.rows };
+
+    ghost hand = { λ s row. ⟦<PlainRows as Rows>⟧.hand s.rows row };
+
+    ghost words = { λ s. ⟦<PlainRows as Rows>⟧.words s.rows };
+
+    ghost name = { λ s. 0 };
+
+    fn add_try(&mut self, row: u64, amount: &Stat) -> Added {
+        if self.additions > 0 {
+            self.additions -= 1;
+            return Added::Held {
+                row,
+                first: 1,
+                second: 1,
+            };
+        }
+        self.rows.add_try(row, amount)
+    }
+
+    fn ring_try(&mut self, row: u64, content: &Content) -> RingPut {
+        if self.puts == 0 {
+            return self.rows.ring_try(row, content);
+        }
+        self.puts -= 1;
+        if row < LONG_HISTORY {
+            return RingPut::Busy {
+                first: 1,
+                second: 1,
+            };
+        }
+        // Word 15 is one more than the event's ticket.
+        RingPut::Late {
+            ticket: content[15],
+        }
+    }
+
+    fn read(&mut self, row: u64) -> Seen {
+        self.rows.read(row)
+    }
+
+    fn load(&mut self, word: u64) -> (u64, u16) {
+        self.rows.load(word)
+    }
+
+    fn ticket(&mut self, kind: u64) -> u64 {
+        self.rows.ticket(kind)
+    }
+}
+
+impl Hold for Refusing {
+    fn take(&mut self, row: u64) -> (u64, Content) {
+        self.rows.take(row)
+    }
+
+    fn put(&mut self, row: u64, content: &Content) -> u64 {
+        self.rows.put(row, content)
+    }
+
+    fn free(&mut self, row: u64) {
+        self.rows.free(row)
+    }
+
+    fn set(&mut self, word: u64, flags: u16) -> u64 {
+        self.rows.set(word, flags)
+    }
+}
+
+// A store that opens with the setting's flags, and refuses so many additions and puts first.
+fn store(alloc: Global, setting: &Setting, additions: u64, puts: u64) -> Result<Refusing, NoMemory>
+    ensures words { IfOk result (λ rows. ⟦<Refusing as Rows>⟧.words rows ≡ Some (opened setting.now).words) }
+    ensures left { IfOk result (λ rows. ⟦<Refusing as Rows>⟧.left rows ≡ 2 ^ 47) }
+    ensures draws { IfOk result (λ rows. ⟦<Refusing as Rows>⟧.draws rows ≡ 2 ^ 47) }
+    ensures hand { IfOk result (λ rows. (r : ℕ) → ⟦<Refusing as Rows>⟧.hand rows r ≡ None) }
+{
+    let rows = admin::store(alloc, setting)?;
+    Ok(Refusing {
+        rows,
+        additions,
+        puts,
+    })
+}
+
+// What a wait of class 6 is, and a statement of class 17 without a digest's place.
+const WAIT: Subject = Subject {
+    kind: EventKind::Wait,
+    class: Some(6),
+    cell: 6,
+    table: None,
+    digest: None,
+};
+
+const STATEMENT: Subject = Subject {
+    kind: EventKind::Statement,
+    class: Some(17),
+    cell: 17,
+    table: None,
+    digest: None,
+};
+
+// An event of so many picoseconds, of a session with nothing open.
+fn record<R: Rows>(
+    session: &mut Session,
+    rows: &mut R,
+    what: &Subject,
+    time: u64,
+) -> Result<(), Fail>
+    requires may { MayStart session.old.state.opened what.now.kind }
+    requires class { IfSome what.now.class (λ n. n < 63) }
+    requires table { IfSome what.now.table (λ n. n < 64) }
+    requires digest { IfSome what.now.digest (λ n. n < 64) }
+    requires closed { session.old.state.opened ≡ record { depth = 1; events = [] } }
+    requires early { session.old.state.drawn + 1 < 2 ^ 64 }
+    requires alone { (r : ℕ) → 0 < r → R.hand rows.old r ≡ None }
+    requires spare { 6 ≤ R.left rows.old }
+    requires tickets { 1 ≤ R.draws rows.old }
+    requires room { 8 ≤ session.old.journal.room }
+    ensures closed { session.new.state.opened ≡ record { depth = 1; events = [] } }
+    ensures drawn { session.new.state.drawn ≤ session.old.state.drawn + 1 }
+    ensures owed { length (owed_by_state session.new.state) ≤ length (owed_by_state session.old.state) + 2 }
+    ensures hand { (r : ℕ) → R.hand rows.new r ≡ R.hand rows.old r }
+    ensures left { R.left rows.old ≤ R.left rows.new + 6 }
+    ensures draws { R.draws rows.old ≤ R.draws rows.new + 1 }
+    ensures room { session.old.journal.room ≤ session.new.journal.room + 8 }
+    ensures actions { session.new.state.actions ≡ session.old.state.actions }
+    ensures words { R.words rows.new ≡ R.words rows.old }
+{
+    let started = session.start(rows, what);
+    session.spend(time);
+    session.end(rows, &Numbers::NONE);
+    if started.verdict == Verdict::Attributed {
+        Ok(())
+    } else {
+        Err(Fail::from("not attributed"))
+    }
+}
+
+fn record_often<R: Rows>(
+    session: &mut Session,
+    rows: &mut R,
+    what: &Subject,
+    times: &[u64],
+) -> Result<(), Fail>
+    requires few { length times.now ≤ 3 }
+    requires may { MayStart (record { depth = 1; events = [] }) what.now.kind }
+    requires class { IfSome what.now.class (λ n. n < 63) }
+    requires table { IfSome what.now.table (λ n. n < 64) }
+    requires digest { IfSome what.now.digest (λ n. n < 64) }
+    requires closed { session.old.state.opened ≡ record { depth = 1; events = [] } }
+    requires early { session.old.state.drawn ≡ 0 }
+    requires alone { (r : ℕ) → 0 < r → R.hand rows.old r ≡ None }
+    requires spare { 18 ≤ R.left rows.old }
+    requires tickets { 3 ≤ R.draws rows.old }
+    requires room { 24 ≤ session.old.journal.room }
+    ensures owed { length (owed_by_state session.new.state) ≤ length (owed_by_state session.old.state) + 6 }
+    ensures hand { (r : ℕ) → R.hand rows.new r ≡ R.hand rows.old r }
+    ensures left { R.left rows.old ≤ R.left rows.new + 18 }
+    ensures room { session.old.journal.room ≤ session.new.journal.room + 24 }
+{
+    for time in times {
+        record(session, rows, what, *time)?;
+    }
+    Ok(())
+}
+
+// What a session's events leave: its journal, and a row's version and content.
+#[derive(Drop)]
+struct Recorded {
+    log: Log,
+    version: u64,
+    content: Content,
+}
+
+// A session connects, records events as often as there are times and pauses, over this store; then a row is read. To
+// pause again writes nothing.
+fn session_records(
+    alloc: Global,
+    setting: &Setting,
+    mut rows: Refusing,
+    what: &Subject,
+    times: &[u64],
+    row: u64,
+) -> Result<Recorded, Fail>
+    requires few { length times.now ≤ 3 }
+    requires may { MayStart (record { depth = 1; events = [] }) what.now.kind }
+    requires class { IfSome what.now.class (λ n. n < 63) }
+    requires table { IfSome what.now.table (λ n. n < 64) }
+    requires digest { IfSome what.now.digest (λ n. n < 64) }
+    requires words { ⟦<Refusing as Rows>⟧.words rows ≡ Some (opened setting.now).words }
+    requires left { ⟦<Refusing as Rows>⟧.left rows ≡ 2 ^ 47 }
+    requires draws { ⟦<Refusing as Rows>⟧.draws rows ≡ 2 ^ 47 }
+    requires hand { (r : ℕ) → ⟦<Refusing as Rows>⟧.hand rows r ≡ None }
+    requires names { 2 ≤ length setting.now.names }
+    requires row { 0 < row }
+    requires few_rows { row < 14242 }
+{
+    let mut admin = Admin::open(alloc, setting)?;
+    let mut session = Session::open(alloc, 1, 10, 1)?;
+    session.reserve(308)?;
+    session.connect(&mut rows, &mut admin, NameId(0), NameId(1));
+    record_often(&mut session, &mut rows, what, times)?;
+    let mut paused = session.pause(&mut rows);
+    let log = paused.take_log();
+    let mut again = paused.resume().pause(&mut rows);
+    if again.take_log().count() != 0 {
+        return Err(Fail::from("something was settled twice"));
+    }
+    match rows.read(row) {
+        Seen::Whole { version, content } => Ok(Recorded {
+            log,
+            version,
+            content,
+        }),
+        _ => Err(Fail::from("the row is not whole")),
+    }
+}
+
+// What waits leave, and row 135, where the store refuses so many additions first.
+fn record_waits(alloc: Global, additions: u64, times: &[u64]) -> Result<Recorded, Fail>
+    requires { length times.now ≤ 3 }
+{
+    let setting = admin::setting(alloc)?;
+    let rows = store(alloc, &setting, additions, 0)?;
+    session_records(alloc, &setting, rows, &WAIT, times, 135)
+}
+
+// The entries of a session's connect.
+fn connected() -> [Entry; 6] {
+    [
+        Entry::Connect {
+            action: 1,
+            thread: Some(0),
+            account: Some(0),
+            user: Some(0),
+            host: Some(0),
+        },
+        Entry::Tag { row: 1, version: 1 },
+        Entry::Tag {
+            row: 33,
+            version: 1,
+        },
+        Entry::Tag {
+            row: 65,
+            version: 1,
+        },
+        Entry::Tag {
+            row: 97,
+            version: 1,
+        },
+        Entry::Set {
+            word: 1,
+            version: 1,
+            flags: 3,
+        },
+    ]
+}
+
+// The entries of the session's wait of this number, without the addition.
+fn waited(number: u64) -> [Entry; 2] {
+    [
+        Entry::Start {
+            event: Some(number),
+            verdict: Verdict::Attributed,
+            consumers: Some(0),
+            thread: Some(1),
+            class: Some(0),
+            table: None,
+        },
+        Entry::End {
+            event: Some(number),
+            last: Some(number),
+            consumers: Some(0),
+            thread: Some(1),
+        },
+    ]
+}
+
+const ADDED: Entry = Entry::Add {
+    row: 135,
+    version: 1,
+};
+
+const HELD: Entry = Entry::Held {
+    row: 135,
+    first: 1,
+    second: 1,
+};
+
+#[test]
+fn a_wait_is_counted(rt: HostRuntime) -> Result<(), Fail> {
+    let ran = record_waits(rt.alloc(), 0, &[120])?;
+    let list = said(rt.alloc(), &ran.log)?;
+    let entries = list.as_slice();
+    assert_eq!(rt; entries.len(), 9);
+    assert_eq!(rt; &entries[..6], connected().as_slice());
+    assert_eq!(rt; &entries[6..8], waited(1).as_slice());
+    assert_eq!(rt; entries[8], ADDED);
+    let stat = Stat::of_words(&ran.content);
+    assert_eq!(rt;
+        (ran.version, stat.count, stat.sum, stat.min, stat.max),
+        (1, 1, 120, 120, 120)
+    );
+    Ok(())
+}
+
+#[test]
+fn what_is_held_is_added_with_the_next(rt: HostRuntime) -> Result<(), Fail> {
+    let ran = record_waits(rt.alloc(), 2, &[5, 7, 9])?;
+    let list = said(rt.alloc(), &ran.log)?;
+    let entries = list.as_slice();
+    assert_eq!(rt; entries.len(), 15);
+    assert_eq!(rt; &entries[6..8], waited(1).as_slice());
+    assert_eq!(rt; entries[8], HELD);
+    assert_eq!(rt; &entries[9..11], waited(2).as_slice());
+    assert_eq!(rt; entries[11], HELD);
+    assert_eq!(rt; &entries[12..14], waited(3).as_slice());
+    assert_eq!(rt; entries[14], ADDED);
+    let stat = Stat::of_words(&ran.content);
+    assert_eq!(rt;
+        (ran.version, stat.count, stat.sum, stat.min, stat.max),
+        (1, 3, 21, 5, 9)
+    );
+    Ok(())
+}
+
+#[test]
+fn what_is_held_is_settled_at_a_pause(rt: HostRuntime) -> Result<(), Fail> {
+    let ran = record_waits(rt.alloc(), 1, &[5])?;
+    let list = said(rt.alloc(), &ran.log)?;
+    let entries = list.as_slice();
+    assert_eq!(rt; entries.len(), 11);
+    assert_eq!(rt; &entries[8..], [HELD, Entry::Settle, ADDED].as_slice());
+    let stat = Stat::of_words(&ran.content);
+    assert_eq!(rt;
+        (ran.version, stat.count, stat.sum, stat.min, stat.max),
+        (1, 1, 5, 5, 5)
+    );
+    Ok(())
+}
