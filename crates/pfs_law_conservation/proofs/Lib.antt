@@ -90,3 +90,5 @@ mod SummaryTruncations
 mod TableWords
 mod TruncationOrder
 mod TruncationExamples
+pub mod IdleEntries
+pub mod SourcedEntries

@@ -1,41 +1,23 @@
 -- In what a line asks for, an event is written to a place of a ring only behind a start or an end.
-use Rattle.std.proofs.Common.{◌≡◌, refl, ℕ, Bool, true, false, ◌&&◌, ◌||◌, not, cond, List, [], ◌∷◌, ◌++◌, map, sym, subst, Option}
-use Rattle.std.specs.Prelude.{Ok, Err, if◌then◌else◌}
-use Rattle.std.proofs.lemmas.Bool.{and_parts}
+use Rattle.std.proofs.Common.{◌≡◌, refl, ℕ, Bool, true, false, not, List, [], ◌∷◌, ◌++◌, map, Option}
+use Rattle.std.specs.Prelude.{Ok}
 use Rattle.pfs_event.specs.Verdicts.{is_let_through}
 use Rattle.pfs_event.specs.declared.entry.Entry.{Entry}
 use Rattle.pfs_event.specs.declared.entry.Entry.TheVariants as says
 use Rattle.pfs_event.specs.declared.kind.EventKind.{EventKind}
 use Rattle.pfs_event.specs.declared.kind.EventKind.TheVariants as kinds
-use Rattle.pfs_model.specs.EntryAsks.{fits, is_head}
+use Rattle.pfs_model.specs.EntryAsks.{fits}
 use Rattle.pfs_model.specs.Contexts.{Context}
-use Rattle.pfs_model.specs.Cuts.{behind, step, then_cut, cut}
-use Rattle.pfs_model.specs.Shapes.{shape, added, settling, puts, digest_of, counting, ending, ending_first, ending_stage, ending_both, starting, is_stage}
+use Rattle.pfs_model.specs.Cuts.{cut}
+use Rattle.pfs_model.specs.Shapes.{shape, added, settling, puts, digest_of, counting, ending, ending_stage, starting}
 use Rattle.pfs_model.specs.declared.lines.Line.{Line}
 use Rattle.pfs_model.specs.declared.lines.Line.TheVariants as lines
 use Rattle.pfs_model.specs.declared.lines.Opened.{Opened}
 use Rattle.pfs_model.specs.declared.shapes.Ask.{Ask}
 use Rattle.pfs_model.specs.declared.shapes.Ask.TheVariants as asks
 use Rattle.pfs_model.specs.declared.shapes.Item.{Item}
-use Rattle.pfs_model.specs.declared.shapes.Often.{Often}
-use Rattle.pfs_model.specs.declared.shapes.Often.TheVariants.{One, Maybe, Many}
 use Rattle.pfs_law_summaries.proofs.Rounds.{is_event, is_ring}
-
--- whether a start or an end is at hand behind an entry
-abbrev pub in_reach : Bool → Entry → Bool
-in_reach hand entry = cond (is_head entry) (is_event entry) hand
-
-abbrev pub AreRinged : Bool → List Entry → Type 0
-AreRinged hand [] = Unit {0}
-AreRinged hand (entry ∷ entries) = (hand ≡ false → is_ring entry ≡ false) × AreRinged (in_reach hand entry) entries
-
-pub ringed_more : (hand : Bool) (entries : List Entry) → AreRinged false entries → AreRinged hand entries
-ringed_more false entries p = p
-ringed_more true [] p = tt
-ringed_more true (e ∷ es) p = ((λ q. absurd (cc)), at (is_head e) refl p.1 (ringed_more true es)) where
-  at : (b : Bool) → is_head e ≡ b → AreRinged (cond (is_head e) (is_event e) false) es → (AreRinged false es → AreRinged true es) → AreRinged (cond (is_head e) (is_event e) true) es
-  at true q r go = subst (λ z. AreRinged (cond z (is_event e) true) es) (sym q) (subst (λ z. AreRinged (cond z (is_event e) false) es) q r)
-  at false q r go = subst (λ z. AreRinged (cond z (is_event e) true) es) (sym q) (go (subst (λ z. AreRinged (cond z (is_event e) false) es) q r))
+use Rattle.pfs_law_conservation.proofs.SourcedEntries.{reach, AreSourced, guards, SourcedKind, cut_sourced, guards_join, guards_stage, guards_both}
 
 -- an ask that may be such an entry
 abbrev pub asks_ring : Ask → Bool
@@ -53,23 +35,8 @@ then_hand asks.Put hand = hand
 then_hand asks.LongPut hand = hand
 then_hand _ hand = false
 
-abbrev pub leaves : Often → Ask → Bool → Bool
-leaves One ask hand = then_hand ask hand
-leaves Maybe ask hand = hand && then_hand ask hand
-leaves Many ask hand = false
-
-abbrev pub may : Often → Ask → Bool → Bool
-may One ask hand = not (asks_ring ask) || hand
-may Maybe ask hand = not (asks_ring ask) || hand
-may Many ask hand = not (asks_ring ask)
-
--- such entries are asked only where an event is at hand
-abbrev pub guards : Bool → List Item → Bool
-guards hand [] = true
-guards hand (item ∷ items) = may item.often item.ask hand && guards (leaves item.often item.ask hand) items
-
 -- what isn't asked as one is none
-quiet : (ask : Ask) (e : Entry) → not (asks_ring ask) ≡ true → fits ask e ≡ true → is_ring e ≡ false
+pub quiet : (ask : Ask) (e : Entry) → not (asks_ring ask) ≡ true → fits ask e ≡ true → is_ring e ≡ false
 quiet asks.Put e a f = absurd (cc)
 quiet ask (says.Ring row version) a f = none ask a f where
   none : (ask : Ask) → not (asks_ring ask) ≡ true → fits ask (says.Ring row version) ≡ true → true ≡ false
@@ -78,7 +45,7 @@ quiet ask (says.Ring row version) a f = none ask a f where
 quiet ask _ a f = refl
 
 -- an event at hand behind what is asked is at hand behind the entry
-handed : (ask : Ask) (e : Entry) (hand : Bool) → fits ask e ≡ true → then_hand ask hand ≡ true → in_reach hand e ≡ true
+handed : (ask : Ask) (e : Entry) (hand : Bool) → fits ask e ≡ true → then_hand ask hand ≡ true → reach is_event hand e ≡ true
 handed (asks.Start slot lost table) (says.Start event verdict consumers thread class of_table) hand f t = refl
 handed (asks.Start slot lost table) _ hand f t = absurd (cc)
 handed (asks.Added row) (says.Add at version) hand f t = t
@@ -100,54 +67,6 @@ handed asks.LongPut (says.Late row ticket greater) hand f t = t
 handed asks.LongPut _ hand f t = absurd (cc)
 handed _ e hand f t = absurd (cc)
 
--- one entry that was asked
-taken : (ask : Ask) (e : Entry) (es : List Entry) (hand : Bool) → not (asks_ring ask) || hand ≡ true → fits ask e ≡ true → (after : Bool) → (after ≡ true → then_hand ask hand ≡ true) → AreRinged after es → AreRinged hand (e ∷ es)
-taken ask e es hand m f after t p = (own hand m, rest after t p) where
-  own : (hand : Bool) → not (asks_ring ask) || hand ≡ true → hand ≡ false → is_ring e ≡ false
-  own true m q = absurd (cc)
-  own false m q = at (not (asks_ring ask)) refl m where
-    at : (b : Bool) → not (asks_ring ask) ≡ b → b || false ≡ true → is_ring e ≡ false
-    at true q m = quiet ask e q f
-    at false q m = absurd (cc)
-
-  rest : (after : Bool) → (after ≡ true → then_hand ask hand ≡ true) → AreRinged after es → AreRinged (in_reach hand e) es
-  rest true t p = subst (λ z. AreRinged z es) (sym (handed ask e hand f (t refl))) p
-  rest false t p = ringed_more (in_reach hand e) es p
-
-ringed_many : (ask : Ask) (hand : Bool) (part : List Entry) → not (asks_ring ask) ≡ true → AreRinged false (behind ask part) → AreRinged hand part
-unfolding behind
-ringed_many ask hand [] a p = tt
-ringed_many ask hand (e ∷ es) a p = at (fits ask e) refl p (ringed_many ask (in_reach hand e) es a) where
-  at : (b : Bool) → fits ask e ≡ b → AreRinged false (if b then behind ask es else e ∷ es) → (AreRinged false (behind ask es) → AreRinged (in_reach hand e) es) → AreRinged hand (e ∷ es)
-  at true f p go = ((λ q. quiet ask e a f), go p)
-  at false f p go = ringed_more hand (e ∷ es) p
-
-pub cut_ringed : (items : List Item) (part : List Entry) (hand : Bool) → guards hand items ≡ true → cut items part ≡ Ok [] → AreRinged hand part
-unfolding cut
-cut_ringed [] part hand h s = let none : part ≡ [] = cc in subst (AreRinged hand) (sym none) tt
-cut_ringed (item ∷ items) part hand h s = by item.often part (and_parts _ _ h).0 (and_parts _ _ h).1 s (cut_ringed items) where
-  Go : Type 0
-  Go = (part : List Entry) (hand : Bool) → guards hand items ≡ true → cut items part ≡ Ok [] → AreRinged hand part
-
-  by : (often : Often) (part : List Entry) → may often item.ask hand ≡ true → guards (leaves often item.ask hand) items ≡ true → then_cut (step often item.ask part) (cut items) ≡ Ok [] → Go → AreRinged hand part
-  by One [] m g s go = absurd (cc)
-  by One (e ∷ es) m g s go = at (fits item.ask e) refl s where
-    at : (b : Bool) → fits item.ask e ≡ b → then_cut (if b then Ok es else Err (e ∷ es)) (cut items) ≡ Ok [] → AreRinged hand (e ∷ es)
-    at true f s = taken item.ask e es hand m f (then_hand item.ask hand) (λ q. q) (go es (then_hand item.ask hand) g s)
-    at false f s = absurd (cc)
-  by Maybe [] m g s go = tt
-  by Maybe (e ∷ es) m g s go = at (fits item.ask e) refl s where
-    less : (part : List Entry) → AreRinged (hand && then_hand item.ask hand) part → AreRinged hand part
-    less part p = on hand (hand && then_hand item.ask hand) refl p where
-      on : (a b : Bool) → (hand && then_hand item.ask hand ≡ b) → AreRinged b part → AreRinged hand part
-      on a true q p = subst (λ z. AreRinged z part) (sym (and_parts _ _ q).0) p
-      on a false q p = ringed_more hand part p
-
-    at : (b : Bool) → fits item.ask e ≡ b → then_cut (if b then Ok es else Ok (e ∷ es)) (cut items) ≡ Ok [] → AreRinged hand (e ∷ es)
-    at true f s = taken item.ask e es hand m f (hand && then_hand item.ask hand) (λ q. (and_parts _ _ q).1) (go es (hand && then_hand item.ask hand) g s)
-    at false f s = less (e ∷ es) (go (e ∷ es) (hand && then_hand item.ask hand) g s)
-  by Many part m g s go = ringed_many item.ask hand part m (go (behind item.ask part) false g s)
-
 -- more is asked where an event is at hand
 then_more : (ask : Ask) → then_hand ask false ≡ true → then_hand ask true ≡ true
 then_more (asks.Start slot lost table) t = refl
@@ -159,84 +78,59 @@ then_more asks.Put t = refl
 then_more asks.LongPut t = refl
 then_more _ t = t
 
-guards_more : (items : List Item) → guards false items ≡ true → guards true items ≡ true
-guards_more [] g = refl
-guards_more (item ∷ items) g = by item.often (and_parts _ _ g).0 (and_parts _ _ g).1 (guards_more items) where
-  free : (b : Bool) → b || false ≡ true → b || true ≡ true
-  free true m = refl
-  free false m = refl
+abbrev pub in_reach : Bool → Entry → Bool
+in_reach = reach is_event
 
-  two : (a b : Bool) → a ≡ true → b ≡ true → a && b ≡ true
-  two true b p q = q
-  two false b p q = absurd (cc)
+abbrev pub AreRinged : Bool → List Entry → Type 0
+AreRinged = AreSourced is_ring is_event
 
-  up : (a b : Bool) → (a ≡ true → b ≡ true) → guards a items ≡ true → (guards false items ≡ true → guards true items ≡ true) → guards b items ≡ true
-  up true b t g go = subst (λ z. guards z items ≡ true) (sym (t refl)) g
-  up false true t g go = go g
-  up false false t g go = g
+abbrev ring_writes : SourcedKind
+ring_writes = record {
+  is_kind = is_ring;
+  is_source = is_event;
+  asks_kind = asks_ring;
+  then_hand = then_hand;
+  quiet = quiet;
+  handed = handed;
+  then_more = then_more;
+}
 
-  by : (often : Often) → may often item.ask false ≡ true → guards (leaves often item.ask false) items ≡ true → (guards false items ≡ true → guards true items ≡ true) → may often item.ask true && guards (leaves often item.ask true) items ≡ true
-  by One m g go = two _ _ (free (not (asks_ring item.ask)) m) (up (then_hand item.ask false) (then_hand item.ask true) (then_more item.ask) g go)
-  by Maybe m g go = two _ _ (free (not (asks_ring item.ask)) m) (up false (then_hand item.ask true) (λ q. absurd (cc)) g go)
-  by Many m g go = two _ _ m g
+abbrev pub guarded : Bool → List Item → Bool
+guarded = guards asks_ring then_hand
 
-guards_any : (hand : Bool) (items : List Item) → guards false items ≡ true → guards hand items ≡ true
-guards_any true items g = guards_more items g
-guards_any false items g = g
+pub cut_ringed : (items : List Item) (part : List Entry) (hand : Bool) → guarded hand items ≡ true → cut items part ≡ Ok [] → AreRinged hand part
+cut_ringed = cut_sourced ring_writes
 
-guards_join : (hand : Bool) (xs ys : List Item) → guards hand xs ≡ true → guards false ys ≡ true → guards hand (xs ++ ys) ≡ true
-guards_join hand [] ys c d = guards_any hand ys d
-guards_join hand (x ∷ xs) ys c d = two (may x.often x.ask hand) (guards (leaves x.often x.ask hand) xs) (guards (leaves x.often x.ask hand) (xs ++ ys)) c (λ k. guards_join (leaves x.often x.ask hand) xs ys k d) where
-  two : (a b z : Bool) → a && b ≡ true → (b ≡ true → z ≡ true) → a && z ≡ true
-  two true b z c go = go c
-  two false b z c go = absurd (cc)
-
-guards_added : (hand : Bool) (rows : List ℕ) → guards hand (map added rows) ≡ true
+guards_added : (hand : Bool) (rows : List ℕ) → guarded hand (map added rows) ≡ true
 guards_added hand [] = refl
 guards_added hand (row ∷ rows) = guards_added hand rows
 
-guards_settling : (rows : List ℕ) → guards false (settling rows) ≡ true
+guards_settling : (rows : List ℕ) → guarded false (settling rows) ≡ true
 guards_settling [] = refl
 guards_settling (row ∷ rows) = guards_added false rows
 
-guards_counting : (slot : Option ℕ) (event : Opened) (b : Bool) → guards true (counting slot event b) ≡ true
+guards_counting : (slot : Option ℕ) (event : Opened) (b : Bool) → guarded true (counting slot event b) ≡ true
 guards_counting slot event true = by event.subject.kind where
-  by : (kind : EventKind) → guards true (digest_of kind ++ puts) ≡ true
+  by : (kind : EventKind) → guarded true (digest_of kind ++ puts) ≡ true
   by kinds.Wait = refl
   by kinds.Stage = refl
   by kinds.Statement = refl
   by kinds.Transaction = refl
 guards_counting slot event false = refl
 
-guards_ending : (slot : Option ℕ) (event : Opened) → guards false (ending slot event) ≡ true
+guards_ending : (slot : Option ℕ) (event : Opened) → guarded false (ending slot event) ≡ true
 guards_ending slot event = guards_counting slot event (is_let_through event.verdict)
 
-guards_first : (slot : Option ℕ) (events : List Opened) → guards false (ending_first slot events) ≡ true
-guards_first slot [] = refl
-guards_first slot (event ∷ events) = guards_ending slot event
-
-guards_if : (b : Bool) (xs : List Item) → guards false xs ≡ true → guards false (if b then xs else []) ≡ true
-guards_if true xs c = c
-guards_if false xs c = refl
-
-guards_stage : (slot : Option ℕ) (events : List Opened) → guards false (ending_stage slot events) ≡ true
-guards_stage slot [] = refl
-guards_stage slot (event ∷ events) = guards_if (is_stage event.subject.kind) _ (guards_ending slot event)
-
-guards_both : (slot : Option ℕ) (events : List Opened) → guards false (ending_both slot events) ≡ true
-guards_both slot [] = refl
-guards_both slot (event ∷ events) = guards_join false (ending slot event) _ (guards_ending slot event) (guards_if (is_stage event.subject.kind) _ (guards_first slot events))
-
-pub shape_rings : (context : Context) (line : Line) → guards false (shape context line) ≡ true
+pub shape_rings : (context : Context) (line : Line) → guarded false (shape context line) ≡ true
 shape_rings context lines.Connect = refl
 shape_rings context (lines.Start subject) = refl
-shape_rings context (lines.Stage subject) = guards_join false (ending_stage context.slot context.opened) (starting context.slot subject) (guards_stage context.slot context.opened) refl
-shape_rings context lines.StageEnd = guards_stage context.slot context.opened
-shape_rings context lines.End = guards_both context.slot context.opened
+shape_rings context (lines.Stage subject) = guards_join ring_writes false (ending_stage context.slot context.opened) (starting context.slot subject) (guards_stage ring_writes guards_ending context.slot context.opened) refl
+shape_rings context lines.StageEnd = guards_stage ring_writes guards_ending context.slot context.opened
+shape_rings context lines.End = guards_both ring_writes guards_ending context.slot context.opened
 shape_rings context lines.Spend = refl
-shape_rings context lines.Change = guards_join false (settling context.held) _ (guards_settling context.held) refl
-shape_rings context lines.Quit = guards_join false (settling context.held) _ (guards_settling context.held) refl
-shape_rings context lines.Show = guards_join false (settling context.held) _ (guards_settling context.held) refl
+shape_rings context lines.Change = guards_join ring_writes false (settling context.held) _ (guards_settling context.held) refl
+shape_rings context lines.Quit = guards_join ring_writes false (settling context.held) _ (guards_settling context.held) refl
+shape_rings context lines.Show = guards_join ring_writes false (settling context.held) _ (guards_settling context.held) refl
 shape_rings context lines.Query = refl
 shape_rings context (lines.Refused error) = refl
 shape_rings context lines.Close = guards_settling context.held
