@@ -92,3 +92,4 @@ mod TruncationOrder
 mod TruncationExamples
 pub mod IdleEntries
 pub mod SourcedEntries
+pub mod AdditionRows
