@@ -30,48 +30,49 @@ fn reports_go_both_ways(rt: HostRuntime) -> Result<(), Fail> {
     Ok(())
 }
 
+const WRONG_LINES: [(&[u8], u64); 26] = [
+    (b"", 1),
+    (b"pfs-report 0", 1),
+    (b"pfs-report 3\nend\n", 1),
+    (b"pfs-report 01\nend\n", 1),
+    (b"phase 1\n", 1),
+    (b"pfs-report 1\n", 2),
+    (b"pfs-report 1\nend", 2),
+    (b"pfs-report 1\nend\nend\n", 3),
+    (b"pfs-report 1\nend\nx", 3),
+    (b"pfs-report 1\nphase  1\n", 2),
+    (b"pfs-report 1\nphase 18446744073709551616\n", 2),
+    (b"pfs-report 1\nphase -\n", 2),
+    (b"pfs-report 1\nphase 1\nend\n", 3),
+    (b"pfs-report 1\nphase 1\nfinal\nphase 2\nsession 1 \n", 5),
+    (b"pfs-report 1\nphase 1\nadd 1 1\n", 3),
+    (b"pfs-report 1\nphase 1\nsession 1\nadd 1\nend\n", 4),
+    (b"pfs-report 1\nphase 1\nsession 1\nadd 1 -\n", 4),
+    (b"pfs-report 1\nphase 1\nsession 1\nadd 1 1 1\n", 4),
+    (b"pfs-report 1\nphase 1\nsession 1\nstart 1 on 0 0 0 -\n", 4),
+    (b"pfs-report 1\nphase 1\nsession 1\nrow 1\n", 4),
+    (
+        b"pfs-report 1\nphase 1\nsession 1\nrows 3\nrow 1\nrow 2\nfinal\nend\n",
+        7,
+    ),
+    (b"pfs-report 1\nphase 1\nfinal\ntable t\nend\n", 5),
+    (b"pfs-report 1\nphase 1\nfinal\ntable t-\nrow\n", 4),
+    (b"pfs-report 1\nphase 1\nfinal\ntable t\nrow 'a\nend\n", 5),
+    (
+        b"pfs-report 1\nphase 1\nfinal\ntable t\nrow 'a\x7f'\nend\n",
+        5,
+    ),
+    (
+        b"pfs-report 1\nphase 1\nfinal\nlost a 1\ntable t\nrow\nend\n",
+        5,
+    ),
+];
+
 #[test]
 fn the_first_wrong_line_is_told(rt: HostRuntime) {
-    let cases: [(&[u8], u64); 26] = [
-        (b"", 1),
-        (b"pfs-report 0", 1),
-        (b"pfs-report 3\nend\n", 1),
-        (b"pfs-report 01\nend\n", 1),
-        (b"phase 1\n", 1),
-        (b"pfs-report 1\n", 2),
-        (b"pfs-report 1\nend", 2),
-        (b"pfs-report 1\nend\nend\n", 3),
-        (b"pfs-report 1\nend\nx", 3),
-        (b"pfs-report 1\nphase  1\n", 2),
-        (b"pfs-report 1\nphase 18446744073709551616\n", 2),
-        (b"pfs-report 1\nphase -\n", 2),
-        (b"pfs-report 1\nphase 1\nend\n", 3),
-        (b"pfs-report 1\nphase 1\nfinal\nphase 2\nsession 1 \n", 5),
-        (b"pfs-report 1\nphase 1\nadd 1 1\n", 3),
-        (b"pfs-report 1\nphase 1\nsession 1\nadd 1\nend\n", 4),
-        (b"pfs-report 1\nphase 1\nsession 1\nadd 1 -\n", 4),
-        (b"pfs-report 1\nphase 1\nsession 1\nadd 1 1 1\n", 4),
-        (b"pfs-report 1\nphase 1\nsession 1\nstart 1 on 0 0 0 -\n", 4),
-        (b"pfs-report 1\nphase 1\nsession 1\nrow 1\n", 4),
-        (
-            b"pfs-report 1\nphase 1\nsession 1\nrows 3\nrow 1\nrow 2\nfinal\nend\n",
-            7,
-        ),
-        (b"pfs-report 1\nphase 1\nfinal\ntable t\nend\n", 5),
-        (b"pfs-report 1\nphase 1\nfinal\ntable t-\nrow\n", 4),
-        (b"pfs-report 1\nphase 1\nfinal\ntable t\nrow 'a\nend\n", 5),
-        (
-            b"pfs-report 1\nphase 1\nfinal\ntable t\nrow 'a\x7f'\nend\n",
-            5,
-        ),
-        (
-            b"pfs-report 1\nphase 1\nfinal\nlost a 1\ntable t\nrow\nend\n",
-            5,
-        ),
-    ];
-    for (text, line) in cases {
+    for (text, line) in &WRONG_LINES {
         match read(rt.alloc(), text) {
-            Err(ReadStop::Bad { at }) => assert_eq!(rt; at, line),
+            Err(ReadStop::Bad { at }) => assert_eq!(rt; at, *line),
             _ => assert!(rt; false, "the line {line} is wrong"),
         }
     }

@@ -9,15 +9,13 @@ ghost use Rattle.pfs_switches.specs.OpeningWords.{opening_words};
 ghost use Rattle.pfs_test_store.specs.ActorStores.{IsBegun, IsIdle};
 
 use crate::actions::opened;
+use crate::admin::setting;
 use pfs_admin::{Admin, opening_flags};
 use pfs_board::{Board, BoardSeat, Kept, NoMemory, Opening};
 use pfs_board_store::{BoardRows, Seats};
-use pfs_classes::{Classes, DigestList, Setting, TableList};
-use pfs_consumers::Flags;
+use pfs_classes::Setting;
 use pfs_levels::Rows;
 use pfs_matching::Objects;
-use pfs_names::Names;
-use pfs_rows::Limits;
 use pfs_session::Session;
 use pfs_stat::zero;
 use pfs_switches::{SwitchSeat, Switches, Writer};
@@ -33,26 +31,6 @@ pub(crate) struct Anything {}
 
 impl Kept for Anything {
     ghost stands_for = { λ x labels. Unit {0} };
-}
-
-// The built-in classes, the names `u` and `h`, and no table.
-pub(crate) fn setting(alloc: Global) -> Result<Setting, Fail>
-    ensures { IfOk result (λ setting. 2 ≤ length setting.names) }
-{
-    let mut names = Names::new(alloc);
-    names.intern("u")?;
-    names.intern("h")?;
-    if names.count() > 65_500 {
-        return Err(Fail::from("too many names"));
-    }
-    let limits = Limits::opening();
-    let classes = Classes::builtin(alloc, &mut names, &limits)?;
-    if names.count() < 2 {
-        return Err(Fail::from("too few names"));
-    }
-    let tables = TableList::new(Vec::new(alloc));
-    let digests = DigestList::new(Vec::new(alloc));
-    Ok(Setting::new(names, classes, tables, digests, limits, Flags::OPENING.0))
 }
 
 // The rows of a run as they are at first: cells and digest rows have counted nothing, infos and ring places are free.

@@ -2,7 +2,10 @@
 
 ghost use Rattle.std.specs.Prelude.{◌≡◌, ◌≤◌, ◌^◌, ℕ, Some, None, IfOk, length};
 ghost use Rattle.pfs_admin.specs.OpeningState.{opened};
+ghost use Rattle.pfs_classes.specs.Settings.{ComesFrom};
+ghost use Rattle.pfs_rows.specs.Limits.{AreInRange};
 
+use crate::asserts::same;
 use pfs_admin::*;
 use pfs_classes::{Classes, DigestList, Setting, TableList};
 use pfs_consumers::Flags;
@@ -12,6 +15,17 @@ use pfs_names::{NameId, Names};
 use pfs_rows::Limits;
 use std::alloc::Global;
 use std::test::Fail;
+
+// The built-in classes. Which they are stays in here: a proof that knows the whole list is long.
+fn builtins(alloc: Global, names: &mut Names, limits: &Limits) -> Result<Classes, NoMemory>
+    requires room { length names.old ≤ 65500 }
+    requires in_range { AreInRange limits.now }
+    ensures limits { IfOk result (λ classes. classes.limits ≡ limits.now) }
+    ensures come { IfOk result (λ classes. ComesFrom names.new classes) }
+{
+    let classes = Classes::builtin(alloc, names, limits)?;
+    Ok(classes)
+}
 
 // The built-in classes, the names `u` and `h`, and no table.
 pub(crate) fn setting(alloc: Global) -> Result<Setting, Fail>
@@ -31,7 +45,7 @@ pub(crate) fn setting_with(alloc: Global, consumers: u16) -> Result<Setting, Fai
         return Err(Fail::from("too many names"));
     }
     let limits = Limits::opening();
-    let classes = Classes::builtin(alloc, &mut names, &limits)?;
+    let classes = builtins(alloc, &mut names, &limits)?;
     if names.count() < 2 {
         return Err(Fail::from("too few names"));
     }
@@ -49,7 +63,8 @@ pub(crate) fn store(alloc: Global, setting: &Setting) -> Result<PlainRows, NoMem
 {
     let objects = Objects::open(alloc)?;
     let flags = opening_flags(alloc, setting, &objects)?;
-    PlainRows::new(alloc, flags.as_slice())
+    let rows = PlainRows::new(alloc, flags.as_slice())?;
+    Ok(rows)
 }
 
 #[test]
@@ -60,11 +75,10 @@ fn a_session_connects_and_quits(rt: HostRuntime) -> Result<(), Fail> {
     let mut admin = Admin::open(alloc, &setting)?;
     let mut log = Log::with_room(alloc, 259)?;
     let placed = admin.connect(&mut rows, 7, NameId(0), NameId(1), &mut log);
-    assert_eq!(rt; placed.thread, Some(0));
-    assert_eq!(rt; log.count(), 6);
+    same(&rt, "connected", (placed.thread, log.count()), (Some(0), 6));
     admin.quit(&mut rows, 7, &mut log);
     // Its 26 cells, its own row, those of its account, user and host, 56 places of rings, and its word.
-    assert_eq!(rt; log.count(), 6 + 26 + 1 + 3 + 56 + 1);
-    assert_eq!(rt; admin.lost().threads, 0);
+    same(&rt, "gone", log.count(), 6 + 26 + 1 + 3 + 56 + 1);
+    same(&rt, "lost", admin.lost().threads, 0);
     Ok(())
 }

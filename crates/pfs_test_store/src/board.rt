@@ -3,6 +3,7 @@ ghost use Rattle.pfs_board.specs.declared.view.Label.{Label};
 ghost use Rattle.pfs_board.specs.Knowledge.{corner, is_holding, held, stake, IsWhole};
 ghost use Rattle.pfs_board.specs.SeatViews.{Place, Known, HasRow};
 
+use crate::asserts::same;
 use pfs_board::{Board, BoardSeat, Content, Kept, NoMemory, Opening, Seen, Taken};
 use std::alloc::Global;
 use std::thread::join;
@@ -95,49 +96,49 @@ pub(crate) fn read_once(board: &Board<Tally>, seat: &mut BoardSeat, row: u64) ->
     board.read(seat, row)
 }
 
+// What is seen of a row that is whole.
+pub(crate) fn whole(version: u64, content: Content) -> Seen {
+    Seen::Whole { version, content }
+}
+
 #[test]
 fn one_row_is_taken_put_and_read(rt: HostRuntime) -> Result<(), NoMemory> {
     let (board, mut root) = opened(rt.alloc(), true)?;
-    let (word, content) = take_alone(&board, &mut root, 1);
-    assert_eq!(rt; word, 2);
-    assert!(rt; content == [0; 16]);
-    assert_eq!(rt; board.put(&mut root, 1, &FIRST), 1);
+    let found = take_alone(&board, &mut root, 1);
+    same(&rt, "found", found, (2, [0; 16]));
+    same(&rt, "put", board.put(&mut root, 1, &FIRST), 1);
     let seen = read_once(&board, &mut root, 1);
-    assert!(rt;
-        seen == Seen::Whole {
-            version: 1,
-            content: FIRST
-        }
-    );
-    let mut second = board.split(&mut root, 5);
-    let taken = board.take(&mut root, 1);
-    assert!(rt;
-        taken
-            == Taken::Mine {
-                word: 6,
-                content: FIRST
-            }
-    );
-    let seen = read_once(&board, &mut second, 1);
-    assert!(rt;
-        seen == Seen::Busy {
-            first: 5,
-            second: 5
-        }
-    );
-    board.put(&mut root, 1, &content);
-    let seen = read_once(&board, &mut second, 1);
-    assert!(rt;
-        seen == Seen::Whole {
-            version: 2,
-            content
-        }
-    );
-    board.join(&mut root, second);
+    same(&rt, "seen", seen, whole(1, FIRST));
     let (rows, tally) = board.close(root);
-    assert_eq!(rt; rows.as_slice()[1].word, 10);
-    assert!(rt; rows.as_slice()[1].content == content);
-    assert_eq!(rt; tally.count, 0);
+    let row = &rows.as_slice()[1];
+    same(&rt, "left", (row.word, row.content), (6, FIRST));
+    same(&rt, "actions", tally.count, 0);
+    Ok(())
+}
+
+#[tactic(auto, using(pfs_board::proofs::ViewFacts::held_none))]
+#[test]
+fn a_row_in_hand_is_busy_to_another_seat(rt: HostRuntime) -> Result<(), NoMemory> {
+    let (board, mut root) = opened(rt.alloc(), true)?;
+    let mut second = board.split(&mut root, 5);
+    put_once(&board, &mut root, &FIRST);
+    let Taken::Mine { word, content } = board.take(&mut root, 1) else {
+        panic!(rt; "nobody has the row");
+    };
+    same(&rt, "found", (word, content), (6, FIRST));
+    let seen = read_once(&board, &mut second, 1);
+    let busy = Seen::Busy {
+        first: 5,
+        second: 5,
+    };
+    same(&rt, "seen in hand", seen, busy);
+    board.put(&mut root, 1, &[0; 16]);
+    let seen = read_once(&board, &mut second, 1);
+    same(&rt, "seen behind it", seen, whole(2, [0; 16]));
+    board.join(&mut root, second);
+    let (rows, _) = board.close(root);
+    let row = &rows.as_slice()[1];
+    same(&rt, "left", (row.word, row.content), (10, [0; 16]));
     Ok(())
 }
 
@@ -145,20 +146,14 @@ fn one_row_is_taken_put_and_read(rt: HostRuntime) -> Result<(), NoMemory> {
 fn a_row_that_opened_free_is_seen_free(rt: HostRuntime) -> Result<(), NoMemory> {
     let (board, mut root) = opened(rt.alloc(), false)?;
     let seen = read_once(&board, &mut root, 1);
-    assert!(rt; seen == Seen::Free { word: 0 });
-    let (word, content) = take_alone(&board, &mut root, 1);
-    assert_eq!(rt; word, 0);
-    assert!(rt; content == [0; 16]);
-    assert_eq!(rt; board.put(&mut root, 1, &FIRST), 1);
+    same(&rt, "seen", seen, Seen::Free { word: 0 });
+    let found = take_alone(&board, &mut root, 1);
+    same(&rt, "found", found, (0, [0; 16]));
+    same(&rt, "put", board.put(&mut root, 1, &FIRST), 1);
     let seen = read_once(&board, &mut root, 1);
-    assert!(rt;
-        seen == Seen::Whole {
-            version: 1,
-            content: FIRST
-        }
-    );
+    same(&rt, "seen behind it", seen, whole(1, FIRST));
     let (rows, _) = board.close(root);
-    assert_eq!(rt; rows.as_slice()[1].word, 6);
+    same(&rt, "left", rows.as_slice()[1].word, 6);
     Ok(())
 }
 
@@ -166,16 +161,15 @@ fn a_row_that_opened_free_is_seen_free(rt: HostRuntime) -> Result<(), NoMemory> 
 fn a_row_is_released(rt: HostRuntime) -> Result<(), NoMemory> {
     let (board, mut root) = opened(rt.alloc(), true)?;
     take_alone(&board, &mut root, 1);
-    assert_eq!(rt; board.put(&mut root, 1, &FIRST), 1);
+    same(&rt, "put", board.put(&mut root, 1, &FIRST), 1);
     let (word, content) = take_alone(&board, &mut root, 1);
-    assert_eq!(rt; word, 6);
+    same(&rt, "taken", word, 6);
     board.free(&mut root, 1);
     let seen = read_once(&board, &mut root, 1);
-    assert!(rt; seen == Seen::Free { word: 4 });
-    let (word, found) = take_alone(&board, &mut root, 1);
-    assert_eq!(rt; word, 4);
-    assert!(rt; found == content);
-    assert_eq!(rt; board.put(&mut root, 1, &found), 2);
+    same(&rt, "seen", seen, Seen::Free { word: 4 });
+    let found = take_alone(&board, &mut root, 1);
+    same(&rt, "found", found, (4, content));
+    same(&rt, "put again", board.put(&mut root, 1, &found.1), 2);
     Ok(())
 }
 
@@ -233,12 +227,12 @@ fn two_threads_share_a_row(rt: HostRuntime) -> Result<(), NoMemory> {
                 × (stake result.seat.view ≡ stake two.view) × (result.puts ≤ 3000) }
         { put_and_read(&board, two, ROUNDS) },
     );
-    assert!(rt; !one.torn && !two.torn);
-    assert!(rt; 0 < one.puts + two.puts);
+    same(&rt, "torn", (one.torn, two.torn), (false, false));
     let puts = one.puts + two.puts;
+    assert!(rt; 0 < puts);
     board.join(&mut root, one.seat);
     board.join(&mut root, two.seat);
     let (rows, _) = board.close(root);
-    assert_eq!(rt; rows.as_slice()[1].word, 4 * puts + 2);
+    same(&rt, "left", rows.as_slice()[1].word, 4 * puts + 2);
     Ok(())
 }

@@ -1,6 +1,7 @@
 //! Worked connects and quits.
 ghost use Rattle.pfs_rows.specs.Limits.{AreInRange};
 
+use crate::asserts::same;
 use pfs_containers::{NameInfo, *};
 use pfs_names::NameId;
 use pfs_rows::Limits;
@@ -16,12 +17,31 @@ fn limits(accounts: u64, users: u64) -> Limits
     limits
 }
 
+// The slot that a session gets, or leaves.
+fn slot_of(seat: Option<Seated>) -> Option<u64> {
+    match seat {
+        Some(seat) => Some(seat.slot),
+        None => None,
+    }
+}
+
+fn connection_of(seat: Option<Seated>) -> Option<Connection> {
+    match seat {
+        Some(seat) => Some(seat.connection),
+        None => None,
+    }
+}
+
 #[test]
 fn two_sessions_of_one_account(rt: HostRuntime) -> Result<(), Fail> {
     let mut places = Containers::open(rt.alloc(), &limits(32, 32))?;
     let (user, host) = (NameId(5), NameId(7));
-    assert!(rt; places.connect(1, user, host).map(|seat| seat.slot) == Some(0));
-    let second = places.connect(2, user, host).map(|seat| seat.connection);
+    same(
+        &rt,
+        "first",
+        slot_of(places.connect(1, user, host)),
+        Some(0),
+    );
     let due = Connection {
         number: 2,
         user_name: user,
@@ -30,18 +50,24 @@ fn two_sessions_of_one_account(rt: HostRuntime) -> Result<(), Fail> {
         user: Some(0),
         host: Some(0),
     };
-    assert_eq!(rt; second, Some(due));
-    assert_eq!(rt; places.connect(3, user, host), None);
-    assert_eq!(rt; places.lost().threads, 1);
-    assert!(rt; places.quit(1).map(|seat| seat.slot) == Some(0));
-    assert_eq!(rt; places.quit(1), None);
+    let second = connection_of(places.connect(2, user, host));
+    same(&rt, "second", second, Some(due));
+    same(&rt, "no slot", slot_of(places.connect(3, user, host)), None);
+    same(&rt, "lost", places.lost().threads, 1);
+    same(&rt, "quit", slot_of(places.quit(1)), Some(0));
+    same(&rt, "not there", slot_of(places.quit(1)), None);
     let info = NameInfo {
         name: user,
         current: 1,
         total: 2,
     };
-    assert_eq!(rt; places.user_info(0), Some(info));
-    assert!(rt; places.connect(3, user, host).map(|seat| seat.slot) == Some(0));
+    same(&rt, "user", places.user_info(0), Some(info));
+    same(
+        &rt,
+        "third",
+        slot_of(places.connect(3, user, host)),
+        Some(0),
+    );
     Ok(())
 }
 
@@ -49,10 +75,9 @@ fn two_sessions_of_one_account(rt: HostRuntime) -> Result<(), Fail> {
 fn what_finds_no_place_is_lost(rt: HostRuntime) -> Result<(), Fail> {
     let mut places = Containers::open(rt.alloc(), &limits(1, 1))?;
     let host = NameId(7);
-    assert!(rt; places.connect(1, NameId(5), host).is_some());
-    let other = places
-        .connect(2, NameId(6), host)
-        .map(|seat| seat.connection);
+    let first = slot_of(places.connect(1, NameId(5), host));
+    same(&rt, "first", first, Some(0));
+    let other = connection_of(places.connect(2, NameId(6), host));
     let due = Connection {
         number: 2,
         user_name: NameId(6),
@@ -61,13 +86,13 @@ fn what_finds_no_place_is_lost(rt: HostRuntime) -> Result<(), Fail> {
         user: None,
         host: Some(0),
     };
-    assert_eq!(rt; other, Some(due));
+    same(&rt, "other", other, Some(due));
     let lost = Lost {
         threads: 0,
         accounts: 1,
         users: 1,
         hosts: 0,
     };
-    assert_eq!(rt; places.lost(), lost);
+    same(&rt, "lost", places.lost(), lost);
     Ok(())
 }

@@ -2,6 +2,7 @@
 
 ghost use Rattle.std.specs.Prelude.{◌≡◌, IfOk};
 
+use crate::asserts::same;
 use pfs_event::{Entry, EventKind};
 use pfs_levels::*;
 use pfs_rows::{Place, Seen};
@@ -56,14 +57,11 @@ fn a_move_gives_what_it_found(rt: HostRuntime) -> Result<(), Fail> {
     let alloc = rt.alloc();
     let mut rows = PlainRows::new(alloc, &[0; 160])?;
     let mut log = Log::with_room(alloc, 9)?;
-    let counted = rows.add_try(129, &wait(5));
-    assert_eq!(rt;
-        counted,
-        Added::Counted {
-            row: 129,
-            version: 1
-        }
-    );
+    let counted = Added::Counted {
+        row: 129,
+        version: 1,
+    };
+    same(&rt, "counted", rows.add_try(129, &wait(5)), counted);
     let both = Targets {
         first: Some(4225),
         second: Some(6273),
@@ -92,15 +90,13 @@ fn a_move_gives_what_it_found(rt: HostRuntime) -> Result<(), Fail> {
         },
         Entry::Free { row: 1, version: 0 },
     ];
-    assert_eq!(rt; said(alloc, &log)?.as_slice(), due.as_slice());
-    let left = rows.read(129);
-    assert_eq!(rt;
-        left,
-        Seen::Whole {
-            version: 2,
-            content: zero().to_words()
-        }
-    );
+    let list = said(alloc, &log)?;
+    same(&rt, "entries", list.as_slice(), due.as_slice());
+    let left = Seen::Whole {
+        version: 2,
+        content: zero().to_words(),
+    };
+    same(&rt, "left", rows.read(129), left);
     Ok(())
 }
 
@@ -108,17 +104,15 @@ fn a_move_gives_what_it_found(rt: HostRuntime) -> Result<(), Fail> {
 fn a_plain_store_answers(rt: HostRuntime) -> Result<(), Fail> {
     let alloc = rt.alloc();
     let mut rows = PlainRows::new(alloc, &[3; 160])?;
-    assert_eq!(rt; rows.load(159), (0, 3));
-    assert_eq!(rt; rows.ticket(2), 0);
-    assert_eq!(rt; rows.ticket(2), 1);
-    assert_eq!(rt; rows.read(1), Seen::Free { word: 0 });
-    let (version, content) = rows.take(1);
-    assert_eq!(rt; (version, content), (0, [0; 16]));
-    assert_eq!(rt; rows.put(1, &[7; 16]), 1);
-    let (version, _) = rows.take(1);
-    assert_eq!(rt; version, 1);
+    same(&rt, "word", rows.load(159), (0, 3));
+    same(&rt, "first ticket", rows.ticket(2), 0);
+    same(&rt, "second ticket", rows.ticket(2), 1);
+    same(&rt, "opening", rows.read(1), Seen::Free { word: 0 });
+    same(&rt, "found", rows.take(1), (0, [0; 16]));
+    same(&rt, "put", rows.put(1, &[7; 16]), 1);
+    same(&rt, "found again", rows.take(1), (1, [7; 16]));
     rows.free(1);
-    assert_eq!(rt; rows.read(1), Seen::Free { word: 4 });
+    same(&rt, "freed", rows.read(1), Seen::Free { word: 4 });
     Ok(())
 }
 
@@ -126,15 +120,15 @@ fn a_plain_store_answers(rt: HostRuntime) -> Result<(), Fail> {
 fn actions_are_counted(rt: HostRuntime) -> Result<(), Fail> {
     let alloc = rt.alloc();
     let mut rows = PlainRows::new(alloc, &[3; 160])?;
-    assert_eq!(rt; rows.set(33, 1), 1);
-    assert_eq!(rt; rows.load(33), (1, 1));
+    same(&rt, "set", rows.set(33, 1), 1);
+    same(&rt, "word", rows.load(33), (1, 1));
     let label = Label {
         session: 1,
         line: 1,
     };
-    assert_eq!(rt; rows.enter(label), 1);
+    same(&rt, "first", rows.enter(label), 1);
     rows.leave();
-    assert_eq!(rt; rows.enter(label), 2);
+    same(&rt, "second", rows.enter(label), 2);
     Ok(())
 }
 

@@ -8,6 +8,8 @@ mod actors;
 #[cfg(test)]
 mod admin;
 #[cfg(test)]
+mod asserts;
+#[cfg(test)]
 mod board;
 #[cfg(test)]
 mod containers;

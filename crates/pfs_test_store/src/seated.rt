@@ -1,14 +1,13 @@
 //! Sessions that connect, wait, truncate and quit over the seats of a board.
 
-ghost use Rattle.std.specs.Prelude.{◌≡◌, IfOk};
-
 use crate::actors::{Run, actor, fresh_run};
+use crate::asserts::same;
+use crate::levels::said;
 use crate::stories::{Gone, Settled, Truncated, come_and_go, settle_behind, truncate_waits};
 use pfs_admin::Reply;
-use pfs_event::{Entry, Log, Verdict};
+use pfs_event::{Entry, Verdict};
 use pfs_levels::Added;
 use pfs_rows::Seen;
-use std::alloc::{AllocError, Global};
 use std::test::Fail;
 
 // An addition to row 135 that is held, by the words 1 and 1.
@@ -82,17 +81,6 @@ fn whole(version: u64, words: [u64; 6]) -> Seen {
     }
 }
 
-// The entries as they were recorded.
-fn said(alloc: Global, log: &Log) -> Result<Vec<Entry>, AllocError>
-    ensures { IfOk result (λ list. list.items ≡ log.now.entries) }
-{
-    let mut list = Vec::new(alloc);
-    for at in 0..log.count() {
-        list.push(log.entry(at))?;
-    }
-    Ok(list)
-}
-
 // The session gets the place 0 everywhere: its thread's flags become 3 at version 1, and 0 at version 2. Its thread's
 // info is written at version 1, and released there. Its account's is written twice: the names 0 and 1, the places 0 of
 // user and host, each plus one, and no connection of one in all.
@@ -124,9 +112,9 @@ fn a_session_connects_and_quits(rt: HostRuntime) -> Result<(), Fail> {
         thread,
         account,
     } = come_and_go(&rt, rows, writer, admin, session);
-    assert_eq!(rt; (connected, gone, lost), ((1, 3), (2, 0), 0));
-    assert_eq!(rt; thread, Seen::Free { word: 4 });
-    assert_eq!(rt; account, whole(2, [0, 1, 1, 1, 0, 1]));
+    same(&rt, "words", (connected, gone, lost), ((1, 3), (2, 0), 0));
+    same(&rt, "thread", thread, Seen::Free { word: 4 });
+    same(&rt, "account", account, whole(2, [0, 1, 1, 1, 0, 1]));
     Ok(())
 }
 
@@ -167,10 +155,10 @@ fn what_another_actor_holds_back_is_settled_at_a_pause(rt: HostRuntime) -> Resul
         log,
         cell,
     } = settle_behind(&rt, rows, other, writer, admin, session);
-    assert_eq!(rt; (summary, put), (Some(HELD), 1));
-    assert_eq!(rt; cell, whole(2, [1, 5, 5, 5, 0, 0]));
+    same(&rt, "held, and put", (summary, put), (Some(HELD), 1));
+    same(&rt, "cell", cell, whole(2, [1, 5, 5, 5, 0, 0]));
     let list = said(rt.alloc(), &log)?;
-    assert_eq!(rt; list.as_slice(), SETTLED.as_slice());
+    same(&rt, "entries", list.as_slice(), SETTLED.as_slice());
     Ok(())
 }
 
@@ -208,8 +196,9 @@ fn a_session_truncates(rt: HostRuntime) -> Result<(), Fail> {
         row: 135,
         version: 1,
     };
-    assert_eq!(rt; (summary, reply), (Some(counted), Reply::Changed(0)));
-    assert_eq!(rt; thread, whole(2, [0, 0, u64::MAX, 0, 0, 0]));
-    assert_eq!(rt; account, whole(1, [1, 5, 5, 5, 0, 0]));
+    let answers = (Some(counted), Reply::Changed(0));
+    same(&rt, "answers", (summary, reply), answers);
+    same(&rt, "thread", thread, whole(2, [0, 0, u64::MAX, 0, 0, 0]));
+    same(&rt, "account", account, whole(1, [1, 5, 5, 5, 0, 0]));
     Ok(())
 }

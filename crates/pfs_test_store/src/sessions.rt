@@ -6,6 +6,7 @@ ghost use Rattle.pfs_event.specs.Nests.{MayStart};
 ghost use Rattle.pfs_session.specs.Settlements.{owed_by_state};
 
 use crate::admin;
+use crate::asserts::same;
 use crate::levels::said;
 use pfs_admin::Admin;
 use pfs_classes::Setting;
@@ -16,7 +17,8 @@ use pfs_names::NameId;
 use pfs_rows::Seen;
 use pfs_session::{NoMemory, Numbers, Session};
 use pfs_stat::Stat;
-use std::alloc::Global;
+use std::alloc::{AllocError, Global};
+use std::process::Abort;
 use std::test::Fail;
 
 mod actions;
@@ -295,24 +297,31 @@ fn connected() -> [Entry; 6] {
     ]
 }
 
-// The entries of the session's wait of this number, without the addition.
-fn waited(number: u64) -> [Entry; 2] {
-    [
-        Entry::Start {
-            event: Some(number),
-            verdict: Verdict::Attributed,
-            consumers: Some(0),
-            thread: Some(1),
-            class: Some(0),
-            table: None,
-        },
-        Entry::End {
-            event: Some(number),
-            last: Some(number),
-            consumers: Some(0),
-            thread: Some(1),
-        },
-    ]
+// The entries of a session's connect, and these behind them.
+fn behind_connect(alloc: Global, entries: &[Entry]) -> Result<Vec<Entry>, AllocError> {
+    let mut list = Vec::from_slice(alloc, connected().as_slice())?;
+    list.extend_from_slice(entries)?;
+    Ok(list)
+}
+
+fn start(number: u64) -> Entry {
+    Entry::Start {
+        event: Some(number),
+        verdict: Verdict::Attributed,
+        consumers: Some(0),
+        thread: Some(1),
+        class: Some(0),
+        table: None,
+    }
+}
+
+fn end(number: u64) -> Entry {
+    Entry::End {
+        event: Some(number),
+        last: Some(number),
+        consumers: Some(0),
+        thread: Some(1),
+    }
 }
 
 const ADDED: Entry = Entry::Add {
@@ -326,54 +335,54 @@ const HELD: Entry = Entry::Held {
     second: 1,
 };
 
+// A session's waits leave these entries behind its connect's, and in row 135 this version, count, sum, least and
+// greatest time.
+fn expect(
+    rt: &impl Abort,
+    alloc: Global,
+    ran: &Recorded,
+    entries: &[Entry],
+    row: (u64, u64, u64, u64, u64),
+) -> Result<(), AllocError> {
+    let list = said(alloc, &ran.log)?;
+    let due = behind_connect(alloc, entries)?;
+    same(rt, "entries", list.as_slice(), due.as_slice());
+    let stat = Stat::of_words(&ran.content);
+    let seen = (ran.version, stat.count, stat.sum, stat.min, stat.max);
+    same(rt, "row", seen, row);
+    Ok(())
+}
+
 #[test]
 fn a_wait_is_counted(rt: HostRuntime) -> Result<(), Fail> {
     let ran = record_waits(rt.alloc(), 0, &[120])?;
-    let list = said(rt.alloc(), &ran.log)?;
-    let entries = list.as_slice();
-    assert_eq!(rt; entries.len(), 9);
-    assert_eq!(rt; &entries[..6], connected().as_slice());
-    assert_eq!(rt; &entries[6..8], waited(1).as_slice());
-    assert_eq!(rt; entries[8], ADDED);
-    let stat = Stat::of_words(&ran.content);
-    assert_eq!(rt;
-        (ran.version, stat.count, stat.sum, stat.min, stat.max),
-        (1, 1, 120, 120, 120)
-    );
+    let due = [start(1), end(1), ADDED];
+    expect(&rt, rt.alloc(), &ran, &due, (1, 1, 120, 120, 120))?;
     Ok(())
 }
 
 #[test]
 fn what_is_held_is_added_with_the_next(rt: HostRuntime) -> Result<(), Fail> {
     let ran = record_waits(rt.alloc(), 2, &[5, 7, 9])?;
-    let list = said(rt.alloc(), &ran.log)?;
-    let entries = list.as_slice();
-    assert_eq!(rt; entries.len(), 15);
-    assert_eq!(rt; &entries[6..8], waited(1).as_slice());
-    assert_eq!(rt; entries[8], HELD);
-    assert_eq!(rt; &entries[9..11], waited(2).as_slice());
-    assert_eq!(rt; entries[11], HELD);
-    assert_eq!(rt; &entries[12..14], waited(3).as_slice());
-    assert_eq!(rt; entries[14], ADDED);
-    let stat = Stat::of_words(&ran.content);
-    assert_eq!(rt;
-        (ran.version, stat.count, stat.sum, stat.min, stat.max),
-        (1, 3, 21, 5, 9)
-    );
+    let due = [
+        start(1),
+        end(1),
+        HELD,
+        start(2),
+        end(2),
+        HELD,
+        start(3),
+        end(3),
+        ADDED,
+    ];
+    expect(&rt, rt.alloc(), &ran, &due, (1, 3, 21, 5, 9))?;
     Ok(())
 }
 
 #[test]
 fn what_is_held_is_settled_at_a_pause(rt: HostRuntime) -> Result<(), Fail> {
     let ran = record_waits(rt.alloc(), 1, &[5])?;
-    let list = said(rt.alloc(), &ran.log)?;
-    let entries = list.as_slice();
-    assert_eq!(rt; entries.len(), 11);
-    assert_eq!(rt; &entries[8..], [HELD, Entry::Settle, ADDED].as_slice());
-    let stat = Stat::of_words(&ran.content);
-    assert_eq!(rt;
-        (ran.version, stat.count, stat.sum, stat.min, stat.max),
-        (1, 1, 5, 5, 5)
-    );
+    let due = [start(1), end(1), HELD, Entry::Settle, ADDED];
+    expect(&rt, rt.alloc(), &ran, &due, (1, 1, 5, 5, 5))?;
     Ok(())
 }

@@ -1,6 +1,7 @@
 ghost use Rattle.std.specs.Prelude.{◌≡◌, ◌+◌, ◌<◌, length, IfOk};
 ghost use Rattle.pfs_switches.specs.SeatViews.{HasWord};
 
+use crate::asserts::same;
 use pfs_switches::{NoMemory, SwitchSeat, Switches, Writer};
 use std::alloc::Global;
 use std::thread::join;
@@ -18,20 +19,21 @@ fn opened(alloc: Global) -> Result<(Switches, SwitchSeat, Writer), NoMemory>
 #[test]
 fn a_set_is_loaded(rt: HostRuntime) -> Result<(), NoMemory> {
     let (switches, mut seat, mut writer) = opened(rt.alloc())?;
-    assert!(rt; switches.load(&mut seat, 0) == (0, 28888));
-    assert!(rt; switches.load(&mut seat, 39) == (0, 0));
-    assert!(rt; switches.set(&mut writer, 39, 1) == Ok(1));
-    assert!(rt; switches.load(&mut seat, 39) == (1, 1));
+    same(&rt, "first", switches.load(&mut seat, 0), (0, 28888));
+    same(&rt, "opening", switches.load(&mut seat, 39), (0, 0));
+    same(&rt, "set", switches.set(&mut writer, 39, 1), Ok(1));
+    same(&rt, "loaded", switches.load(&mut seat, 39), (1, 1));
     Ok(())
 }
 
 #[test]
 fn a_set_is_loaded_at_once(rt: HostRuntime) -> Result<(), NoMemory> {
     let (switches, mut seat, mut writer) = opened(rt.alloc())?;
-    assert!(rt; switches.set(&mut writer, 39, 1) == Ok(1));
-    assert!(rt; switches.set_and_load(&mut seat, &mut writer, 39, 3) == Ok((2, 3)));
-    assert!(rt; switches.load(&mut seat, 39) == (2, 3));
-    assert!(rt; switches.load(&mut seat, 0) == (0, 28888));
+    same(&rt, "set", switches.set(&mut writer, 39, 1), Ok(1));
+    let both = switches.set_and_load(&mut seat, &mut writer, 39, 3);
+    same(&rt, "set and loaded", both, Ok((2, 3)));
+    same(&rt, "loaded", switches.load(&mut seat, 39), (2, 3));
+    same(&rt, "first", switches.load(&mut seat, 0), (0, 28888));
     Ok(())
 }
 
@@ -39,14 +41,14 @@ fn a_set_is_loaded_at_once(rt: HostRuntime) -> Result<(), NoMemory> {
 fn a_seat_is_taken_in(rt: HostRuntime) -> Result<(), NoMemory> {
     let (switches, mut root, mut writer) = opened(rt.alloc())?;
     let mut seat = switches.split(&mut root);
-    assert!(rt; switches.set(&mut writer, 39, 3) == Ok(1));
+    same(&rt, "set", switches.set(&mut writer, 39, 3), Ok(1));
     switches.meet(&mut seat, &mut writer);
-    assert!(rt; switches.load(&mut seat, 39) == (1, 3));
+    same(&rt, "loaded", switches.load(&mut seat, 39), (1, 3));
     switches.join(&mut root, seat);
     let rows = switches.close(root, writer);
-    assert_eq!(rt; rows.as_slice().len(), 160);
-    assert!(rt; rows.as_slice()[0] == (0, 28888));
-    assert!(rt; rows.as_slice()[39] == (1, 3));
+    let rows = rows.as_slice();
+    same(&rt, "words", rows.len(), 160);
+    same(&rt, "left", (rows[0], rows[39]), ((0, 28888), (1, 3)));
     Ok(())
 }
 
@@ -109,13 +111,14 @@ fn a_thread_loads_while_another_sets(rt: HostRuntime) -> Result<(), NoMemory> {
             ensures { result.switches ≡ switches.id }
         { set_often(&switches, writer) },
     );
-    assert!(rt; !loads.fell && !loads.mixed);
-    assert!(rt; loads.last <= ROUNDS);
+    let wrong = (loads.fell, loads.mixed, ROUNDS < loads.last);
+    same(&rt, "wrong", wrong, (false, false, false));
     let mut seat = loads.seat;
     switches.meet(&mut seat, &mut writer);
-    assert!(rt; switches.load(&mut seat, 39) == (ROUNDS, (ROUNDS % 4) as u16));
+    let last = (ROUNDS, (ROUNDS % 4) as u16);
+    same(&rt, "loaded", switches.load(&mut seat, 39), last);
     switches.join(&mut root, seat);
     let rows = switches.close(root, writer);
-    assert!(rt; rows.as_slice()[39] == (ROUNDS, (ROUNDS % 4) as u16));
+    same(&rt, "left", rows.as_slice()[39], last);
     Ok(())
 }

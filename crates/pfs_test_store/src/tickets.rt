@@ -1,6 +1,7 @@
 ghost use Rattle.std.specs.Prelude.{◌≡◌, ◌≤◌};
 ghost use Rattle.pfs_tickets.specs.Knowledge.{stake};
 
+use crate::asserts::same;
 use pfs_tickets::{NoMemory, TicketSeat, Tickets};
 use std::thread::join;
 
@@ -9,11 +10,11 @@ fn tickets_of_a_kind_are_drawn_in_turn(rt: HostRuntime) -> Result<(), NoMemory> 
     let (tickets, mut root) = Tickets::open(rt.alloc())?;
     let mut first = tickets.split(&mut root, 3);
     let mut second = tickets.split(&mut root, 2);
-    assert_eq!(rt; tickets.draw(&mut first, 2), 0);
-    assert_eq!(rt; tickets.draw(&mut second, 2), 1);
-    assert_eq!(rt; tickets.draw(&mut second, 3), 0);
-    assert_eq!(rt; tickets.draw(&mut first, 2), 2);
-    assert_eq!(rt; tickets.draw(&mut root, 0), 0);
+    same(&rt, "first", tickets.draw(&mut first, 2), 0);
+    same(&rt, "second", tickets.draw(&mut second, 2), 1);
+    same(&rt, "other kind", tickets.draw(&mut second, 3), 0);
+    same(&rt, "first again", tickets.draw(&mut first, 2), 2);
+    same(&rt, "root", tickets.draw(&mut root, 0), 0);
     tickets.join(&mut root, second);
     tickets.join(&mut root, first);
     Ok(())
@@ -22,15 +23,15 @@ fn tickets_of_a_kind_are_drawn_in_turn(rt: HostRuntime) -> Result<(), NoMemory> 
 #[test]
 fn the_root_is_told_and_goes_on(rt: HostRuntime) -> Result<(), NoMemory> {
     let (tickets, mut root) = Tickets::open(rt.alloc())?;
-    assert_eq!(rt; tickets.tell(&mut root, 1), 0);
+    same(&rt, "none", tickets.tell(&mut root, 1), 0);
     let mut seat = tickets.split(&mut root, 5);
-    assert_eq!(rt; tickets.draw(&mut seat, 1), 0);
-    assert_eq!(rt; tickets.draw(&mut seat, 1), 1);
+    same(&rt, "first", tickets.draw(&mut seat, 1), 0);
+    same(&rt, "second", tickets.draw(&mut seat, 1), 1);
     tickets.join(&mut root, seat);
-    assert_eq!(rt; tickets.tell(&mut root, 1), 2);
-    assert_eq!(rt; tickets.draw(&mut root, 1), 2);
-    assert_eq!(rt; tickets.tell(&mut root, 1), 3);
-    assert_eq!(rt; tickets.tell(&mut root, 3), 0);
+    same(&rt, "two", tickets.tell(&mut root, 1), 2);
+    same(&rt, "third", tickets.draw(&mut root, 1), 2);
+    same(&rt, "three", tickets.tell(&mut root, 1), 3);
+    same(&rt, "other kind", tickets.tell(&mut root, 3), 0);
     Ok(())
 }
 
@@ -76,12 +77,13 @@ fn two_threads_draw_each_ticket_once(rt: HostRuntime) -> Result<(), NoMemory> {
             ensures { (result.seat.tickets ≡ two.tickets) × (stake result.seat.view ≡ stake two.view) }
         { draw_often(&tickets, two) },
     );
-    assert!(rt; !one.fell && !two.fell);
-    assert_eq!(rt; one.sum.wrapping_add(two.sum), ROUNDS * (2 * ROUNDS - 1));
+    same(&rt, "fell", (one.fell, two.fell), (false, false));
+    let sum = one.sum.wrapping_add(two.sum);
+    same(&rt, "sum", sum, ROUNDS * (2 * ROUNDS - 1));
     let Draws { seat, .. } = one;
     tickets.join(&mut root, seat);
     let Draws { seat, .. } = two;
     tickets.join(&mut root, seat);
-    assert_eq!(rt; tickets.tell(&mut root, 2), 2 * ROUNDS);
+    same(&rt, "drawn", tickets.tell(&mut root, 2), 2 * ROUNDS);
     Ok(())
 }

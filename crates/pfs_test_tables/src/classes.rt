@@ -1,5 +1,7 @@
 //! What no clause says: that the calls succeed with ample memory, and the list under its limits.
 
+use crate::asserts::same;
+use crate::settings::builtins;
 use pfs_classes::{
     ClassFault, ClassId, ClassRef, Classes, DigestList, DigestText, Kind, Registered, TableList,
     TableName,
@@ -35,30 +37,41 @@ fn register(
     Ok(classes.register(names, name, true, false))
 }
 
+// The nine that the list leaves room for.
+fn register_mutexes(rt: &impl Abort, classes: &mut Classes, names: &mut Names) -> Result<(), Fail> {
+    for text in &MUTEXES {
+        let told = register(rt, classes, names, text)?;
+        assert!(rt; matches!(told, Ok(Registered::Class(_))));
+    }
+    Ok(())
+}
+
 // The list under the default limits, and a thirteenth class of mutexes, which is lost and
 // remembered.
 #[test]
 fn registers(rt: HostRuntime) -> Result<(), Fail> {
     let alloc = rt.alloc();
     let mut names = Names::new(alloc);
-    let mut classes = Classes::builtin(alloc, &mut names, &Limits::opening())?;
-    assert_eq!(rt; classes.count(), 24);
+    let mut classes = builtins(alloc, &mut names, &Limits::opening())?;
+    same(&rt, "count", classes.count(), 24);
     let transaction = names.intern("transaction")?;
     let found = classes.find(transaction);
-    assert_eq!(rt; found, Some(ClassRef::Class(ClassId(62))));
+    same(
+        &rt,
+        "transaction",
+        found,
+        Some(ClassRef::Class(ClassId(62))),
+    );
     let binlog = names.intern("wait/io/file/sql/binlog")?;
     let found = classes.find(binlog);
-    assert_eq!(rt; found, Some(ClassRef::Class(ClassId(6))));
-    for text in MUTEXES {
-        let told = register(&rt, &mut classes, &mut names, text)?;
-        assert!(rt; matches!(told, Ok(Registered::Class(_))));
-    }
-    assert_eq!(rt; classes.count(), 33);
+    same(&rt, "binlog", found, Some(ClassRef::Class(ClassId(6))));
+    register_mutexes(&rt, &mut classes, &mut names)?;
+    same(&rt, "with mutexes", classes.count(), 33);
     let text = "wait/synch/mutex/test/m";
     let told = register(&rt, &mut classes, &mut names, text)?;
-    assert_eq!(rt; told, Ok(Registered::Lost(Kind::Mutex, 1)));
+    same(&rt, "lost", told, Ok(Registered::Lost(Kind::Mutex, 1)));
     let told = register(&rt, &mut classes, &mut names, text)?;
-    assert_eq!(rt; told, Err(ClassFault::Duplicate));
+    same(&rt, "again", told, Err(ClassFault::Duplicate));
     Ok(())
 }
 
@@ -69,12 +82,12 @@ fn loses_builtins(rt: HostRuntime) -> Result<(), Fail> {
     let mut names = Names::new(alloc);
     let mut limits = Limits::opening();
     limits.file_classes = 0;
-    let classes = Classes::builtin(alloc, &mut names, &limits)?;
-    assert_eq!(rt; classes.count(), 21);
-    assert_eq!(rt; classes.lost(Kind::File), 3);
+    let classes = builtins(alloc, &mut names, &limits)?;
+    let counts = (classes.count(), classes.lost(Kind::File));
+    same(&rt, "counts", counts, (21, 3));
     let binlog = names.intern("wait/io/file/sql/binlog")?;
     let found = classes.find(binlog);
-    assert_eq!(rt; found, Some(ClassRef::Lost(Kind::File)));
+    same(&rt, "binlog", found, Some(ClassRef::Lost(Kind::File)));
     Ok(())
 }
 

@@ -1,3 +1,4 @@
+use crate::asserts::same;
 use pfs_digest::*;
 use pfs_lexer::LexFault;
 use std::alloc::Global;
@@ -133,21 +134,24 @@ fn shows(alloc: Global, statement: &str, shown: &str) -> Result<bool, DigestFaul
 
 #[test]
 fn texts_of_the_table(rt: HostRuntime) -> Result<(), Fail> {
-    let rows: [(&str, &str); 50] = ROWS;
-    for (statement, shown) in rows {
+    for (statement, shown) in &ROWS {
         assert!(rt; shows(rt.alloc(), statement, shown)?, "{statement}");
     }
     Ok(())
 }
 
+const FAULTS: [(&str, LexFault); 3] = [
+    ("SELECT 'abc", LexFault::OpenString(7)),
+    ("SELECT /* a", LexFault::OpenComment(7)),
+    ("SELECT \\", LexFault::BadByte(7)),
+];
+
 #[test]
 fn faults_of_the_lexer(rt: HostRuntime) -> Result<(), Fail> {
-    let fault = digest_text(rt.alloc(), "SELECT 'abc").err();
-    assert_eq!(rt; fault, Some(DigestFault::Lex(LexFault::OpenString(7))));
-    let fault = digest_text(rt.alloc(), "SELECT /* a").err();
-    assert_eq!(rt; fault, Some(DigestFault::Lex(LexFault::OpenComment(7))));
-    let fault = digest_text(rt.alloc(), "SELECT \\").err();
-    assert_eq!(rt; fault, Some(DigestFault::Lex(LexFault::BadByte(7))));
+    for (text, fault) in &FAULTS {
+        let found = digest_text(rt.alloc(), text).err();
+        same(&rt, text, found, Some(DigestFault::Lex(*fault)));
+    }
     Ok(())
 }
 

@@ -1,4 +1,5 @@
 //! Worked rows, and the call that may want memory.
+use crate::asserts::same;
 use pfs_event::*;
 use std::test::Fail;
 
@@ -39,11 +40,11 @@ fn open(kind: EventKind) -> Open {
 #[test]
 fn words_give_the_event_back(rt: HostRuntime) {
     let words = [7, 2, 2, 197, 9, 0, 1, 100, 30, 0, 0, 0, 0, 0, 0, 0];
-    assert_eq!(rt; wait().to_words(), words);
-    assert_eq!(rt; Event::of_words(&words), Some(wait()));
+    same(&rt, "words", wait().to_words(), words);
+    same(&rt, "event", Event::of_words(&words), Some(wait()));
     let mut spare = words;
     spare[5] = 1;
-    assert_eq!(rt; Event::of_words(&spare), None);
+    same(&rt, "spare", Event::of_words(&spare), None);
 }
 
 #[test]
@@ -51,14 +52,13 @@ fn a_nest_of_one(rt: HostRuntime) -> Result<(), Fail> {
     let alloc = rt.alloc();
     let mut nest = Nest::with_depth(alloc, 1)?;
     let statement = open(EventKind::Statement);
-    assert_eq!(rt; nest.end(), Err(Refused::NothingOpen));
+    same(&rt, "nothing", nest.end(), Err(Refused::NothingOpen));
     nest.start(statement)?;
-    assert_eq!(rt; nest.start(open(EventKind::Wait)), Err(Refused::TooDeep));
-    assert_eq!(rt;
-        nest.start(open(EventKind::Transaction)),
-        Err(Refused::WrongOrder)
-    );
-    assert_eq!(rt; nest.end(), Ok(statement));
-    assert!(rt; nest.is_empty());
+    let wait = nest.start(open(EventKind::Wait));
+    same(&rt, "too deep", wait, Err(Refused::TooDeep));
+    let transaction = nest.start(open(EventKind::Transaction));
+    same(&rt, "order", transaction, Err(Refused::WrongOrder));
+    same(&rt, "end", nest.end(), Ok(statement));
+    same(&rt, "empty", nest.is_empty(), true);
     Ok(())
 }

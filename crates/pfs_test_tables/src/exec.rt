@@ -1,5 +1,6 @@
 //! Worked rows: ties keep their order, NULL goes first and last under DESC, the limit comes behind the filter. Texts
 //! with MySQL's number of their refusal.
+use crate::asserts::same;
 use pfs_exec::{TestList, *};
 use pfs_rows::Table;
 use pfs_sql::{SqlFault, parse};
@@ -62,6 +63,14 @@ fn query_of(
     })
 }
 
+// Whether the numbers descend, the most that one may be, the limit, and the letters.
+const WORKED: [(bool, u64, Option<u64>, &[u8]); 4] = [
+    (false, u64::MAX, None, b"beadc"),
+    (true, u64::MAX, None, b"cadbe"),
+    (true, 9, Some(1), b"a"),
+    (false, 9, Some(7), b"ad"),
+];
+
 #[test]
 fn worked_rows(rt: HostRuntime) -> Result<(), Fail> {
     let alloc = rt.alloc();
@@ -75,19 +84,14 @@ fn worked_rows(rt: HostRuntime) -> Result<(), Fail> {
             (None, "e"),
         ],
     )?;
-    let cases: [(bool, u64, Option<u64>, &[u8]); 4] = [
-        (false, u64::MAX, None, b"beadc"),
-        (true, u64::MAX, None, b"cadbe"),
-        (true, 9, Some(1), b"a"),
-        (false, 9, Some(7), b"ad"),
-    ];
-    for (descending, most, limit, want) in cases {
+    for (descending, most, limit, want) in &WORKED {
         let order = Order {
             column: 0,
-            descending,
+            descending: *descending,
         };
-        let query = query_of(alloc, order, most, limit)?;
-        assert_eq!(rt; letters(alloc, &query, &rows)?.as_slice(), want);
+        let query = query_of(alloc, order, *most, *limit)?;
+        let letters = letters(alloc, &query, &rows)?;
+        same(&rt, "letters", letters.as_slice(), *want);
     }
     Ok(())
 }
@@ -125,72 +129,73 @@ fn refused_with(alloc: Global, text: &str) -> u16 {
     }
 }
 
+const REFUSED: [(&str, u16); 36] = [
+    (
+        "SELECT user, USER FROM performance_schema.Accounts ORDER BY host DESC LIMIT 3",
+        0,
+    ),
+    (
+        "SELECT * FROM threads WHERE thread_id >= 2 AND HISTORY LIKE 'Y%'",
+        0,
+    ),
+    (
+        "UPDATE threads SET HISTORY='NO', instrumented='YES' WHERE THREAD_ID=1",
+        0,
+    ),
+    (
+        "UPDATE setup_consumers SET ENABLED='NO' WHERE NAME LIKE '%'",
+        0,
+    ),
+    (
+        "INSERT INTO setup_actors VALUES ('h','u','r','NO','YES')",
+        0,
+    ),
+    ("INSERT INTO setup_objects (OBJECT_NAME) VALUES ('t')", 0),
+    ("DELETE FROM setup_objects WHERE OBJECT_TYPE='EVENT'", 0),
+    ("TRUNCATE TABLE events_waits_history_long", 0),
+    ("SELECT * FROM threads;;", 1064),
+    ("INSERT INTO nothing VALUES ('a')", 1064),
+    ("INSERT INTO users (USER, user) VALUES ('a','b')", 1064),
+    ("UPDATE nothing SET a='x', A='y'", 1064),
+    ("SELECT * FROM nothing", 1146),
+    ("SELECT nope FROM nothing WHERE nope='x'", 1146),
+    ("DELETE FROM nothing WHERE nope=1", 1146),
+    ("TRUNCATE threads", 1142),
+    ("TRUNCATE setup_consumers", 1142),
+    ("UPDATE users SET USER='x'", 1142),
+    ("DELETE FROM threads WHERE nope=1", 1142),
+    ("DELETE FROM threads WHERE THREAD_ID LIKE 'x'", 1142),
+    ("INSERT INTO users (nope) VALUES ('x')", 1142),
+    ("SELECT nope FROM threads", 1054),
+    ("SELECT * FROM threads ORDER BY nope", 1054),
+    ("SELECT nope FROM threads WHERE THREAD_ID='1'", 1054),
+    ("UPDATE setup_consumers SET TIMED='maybe'", 1054),
+    ("UPDATE threads SET THREAD_ID='x' WHERE nope=1", 1054),
+    (
+        "INSERT INTO setup_actors (nope, ENABLED) VALUES ('x','maybe')",
+        1054,
+    ),
+    ("SELECT * FROM threads WHERE THREAD_ID='1'", 1064),
+    ("SELECT * FROM threads WHERE HISTORY=1", 1064),
+    ("SELECT * FROM threads WHERE THREAD_ID LIKE '1%'", 1064),
+    (
+        "UPDATE threads SET THREAD_ID='maybe' WHERE THREAD_ID='1'",
+        1064,
+    ),
+    ("UPDATE threads SET THREAD_ID='maybe'", 1683),
+    ("UPDATE threads SET THREAD_ID='YES'", 1683),
+    ("UPDATE threads SET HISTORY='yes'", 1683),
+    ("INSERT INTO setup_actors (HISTORY) VALUES ('')", 1683),
+    (
+        "INSERT INTO setup_objects (OBJECT_TYPE) VALUES ('table')",
+        1683,
+    ),
+];
+
 // Where two reasons hold, the first of their order is told.
 #[test]
 fn texts_refused(rt: HostRuntime) {
-    let rows = [
-        (
-            "SELECT user, USER FROM performance_schema.Accounts ORDER BY host DESC LIMIT 3",
-            0u16,
-        ),
-        (
-            "SELECT * FROM threads WHERE thread_id >= 2 AND HISTORY LIKE 'Y%'",
-            0,
-        ),
-        (
-            "UPDATE threads SET HISTORY='NO', instrumented='YES' WHERE THREAD_ID=1",
-            0,
-        ),
-        (
-            "UPDATE setup_consumers SET ENABLED='NO' WHERE NAME LIKE '%'",
-            0,
-        ),
-        (
-            "INSERT INTO setup_actors VALUES ('h','u','r','NO','YES')",
-            0,
-        ),
-        ("INSERT INTO setup_objects (OBJECT_NAME) VALUES ('t')", 0),
-        ("DELETE FROM setup_objects WHERE OBJECT_TYPE='EVENT'", 0),
-        ("TRUNCATE TABLE events_waits_history_long", 0),
-        ("SELECT * FROM threads;;", 1064),
-        ("INSERT INTO nothing VALUES ('a')", 1064),
-        ("INSERT INTO users (USER, user) VALUES ('a','b')", 1064),
-        ("UPDATE nothing SET a='x', A='y'", 1064),
-        ("SELECT * FROM nothing", 1146),
-        ("SELECT nope FROM nothing WHERE nope='x'", 1146),
-        ("DELETE FROM nothing WHERE nope=1", 1146),
-        ("TRUNCATE threads", 1142),
-        ("TRUNCATE setup_consumers", 1142),
-        ("UPDATE users SET USER='x'", 1142),
-        ("DELETE FROM threads WHERE nope=1", 1142),
-        ("DELETE FROM threads WHERE THREAD_ID LIKE 'x'", 1142),
-        ("INSERT INTO users (nope) VALUES ('x')", 1142),
-        ("SELECT nope FROM threads", 1054),
-        ("SELECT * FROM threads ORDER BY nope", 1054),
-        ("SELECT nope FROM threads WHERE THREAD_ID='1'", 1054),
-        ("UPDATE setup_consumers SET TIMED='maybe'", 1054),
-        ("UPDATE threads SET THREAD_ID='x' WHERE nope=1", 1054),
-        (
-            "INSERT INTO setup_actors (nope, ENABLED) VALUES ('x','maybe')",
-            1054,
-        ),
-        ("SELECT * FROM threads WHERE THREAD_ID='1'", 1064),
-        ("SELECT * FROM threads WHERE HISTORY=1", 1064),
-        ("SELECT * FROM threads WHERE THREAD_ID LIKE '1%'", 1064),
-        (
-            "UPDATE threads SET THREAD_ID='maybe' WHERE THREAD_ID='1'",
-            1064,
-        ),
-        ("UPDATE threads SET THREAD_ID='maybe'", 1683),
-        ("UPDATE threads SET THREAD_ID='YES'", 1683),
-        ("UPDATE threads SET HISTORY='yes'", 1683),
-        ("INSERT INTO setup_actors (HISTORY) VALUES ('')", 1683),
-        (
-            "INSERT INTO setup_objects (OBJECT_TYPE) VALUES ('table')",
-            1683,
-        ),
-    ];
-    for (text, want) in rows {
-        assert_eq!(rt; refused_with(rt.alloc(), text), want, "{text}");
+    for (text, want) in &REFUSED {
+        same(&rt, text, refused_with(rt.alloc(), text), *want);
     }
 }

@@ -3,20 +3,22 @@
 ghost use Rattle.std.specs.Prelude.{◌≡◌, ◌<◌, ◌≤◌, ◌+◌, ℕ, None};
 ghost use Rattle.pfs_levels.specs.Calls.{IsRow};
 
-use crate::final_settings;
-use pfs_classes::Setting;
+use crate::putting::put_values;
+use crate::settings;
+use pfs_classes::{Setting, TableList};
 use pfs_finals::{LostCounters, final_tables, lost_rows};
 use pfs_journal::{LostReport, TableReport};
 use pfs_levels::{Content, Hold, NoMemory, PlainRows, Rows};
 use pfs_reader::{Reader, read_table};
 use pfs_rows::{Reading, Seen, Table};
 use pfs_stat::{Measure, of_event};
-use pfs_text::{Row, RowValue, put_u64};
+use pfs_text::put_u64;
 use std::alloc::Global;
 use std::test::Fail;
 
 fn setting(alloc: Global) -> Result<Setting, Fail> {
-    final_settings::setting(alloc, &["u", "h"])
+    let tables = TableList::new(Vec::new(alloc));
+    settings::setting(alloc, &["u", "h"], tables)
 }
 
 // Writes a row, which is in nobody's hand then.
@@ -56,29 +58,12 @@ fn fill(rows: &mut PlainRows)
     );
 }
 
-fn put_value(out: &mut Vec<u8>, value: &RowValue) -> Result<(), NoMemory> {
-    match value {
-        RowValue::Null => out.extend_from_slice(b"NULL")?,
-        RowValue::Number(number) => put_u64(out, *number)?,
-        RowValue::Text(text) => out.extend_from_slice(text.as_bytes())?,
-    }
-    Ok(())
-}
-
-fn put_row(out: &mut Vec<u8>, row: &Row) -> Result<(), NoMemory> {
-    for value in row.as_slice() {
-        put_value(out, value)?;
-        out.extend_from_slice(b" ")?;
-    }
-    Ok(())
-}
-
 // The name of a table, and its rows.
 fn put_table(out: &mut Vec<u8>, table: &TableReport) -> Result<(), NoMemory> {
     out.extend_from_slice(table.name.as_bytes())?;
     out.extend_from_slice(b": ")?;
     for row in table.rows.as_slice() {
-        put_row(out, row)?;
+        put_values(out, row)?;
     }
     out.extend_from_slice(b"\n")?;
     Ok(())

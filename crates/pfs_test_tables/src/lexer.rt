@@ -1,5 +1,6 @@
 //! Worked texts: kinds and spans, where a number ends, and faults, behind which nothing comes.
 
+use crate::asserts::same;
 use pfs_lexer::{LexFault, Lexer, Token, TokenKind};
 use std::process::Abort;
 
@@ -17,12 +18,12 @@ fn expect(
             start: *start,
             end: *end,
         };
-        assert_eq!(rt; lexer.next(), Some(Ok(token)), "{text}");
+        same(rt, text, lexer.next(), Some(Ok(token)));
     }
     if let Some(fault) = fault {
-        assert_eq!(rt; lexer.next(), Some(Err(fault)), "{text}");
+        same(rt, text, lexer.next(), Some(Err(fault)));
     }
-    assert_eq!(rt; lexer.next(), None, "{text}");
+    same(rt, text, lexer.next(), None);
 }
 
 #[test]

@@ -2,6 +2,8 @@
 #![tactic(auto)]
 
 #[cfg(test)]
+mod asserts;
+#[cfg(test)]
 mod catalogue;
 #[cfg(test)]
 mod classes;
@@ -12,8 +14,6 @@ mod event;
 #[cfg(test)]
 mod exec;
 #[cfg(test)]
-mod final_settings;
-#[cfg(test)]
 mod finals;
 #[cfg(test)]
 mod generated;
@@ -23,6 +23,8 @@ mod lexer;
 mod matching;
 #[cfg(test)]
 mod outside;
+#[cfg(test)]
+mod putting;
 #[cfg(test)]
 mod settings;
 #[cfg(test)]

@@ -1,3 +1,4 @@
+use crate::asserts::same;
 use pfs_outside::*;
 use std::test::Fail;
 
@@ -11,8 +12,8 @@ fn a_source_gives_its_bytes_and_fails_where_it_is_told(rt: HostRuntime) -> Resul
         (Got::Bytes(1), *b"ebcd"),
         (Got::End, *b"ebcd"),
     ] {
-        assert_eq!(rt; source.read(&mut buffer), told);
-        assert_eq!(rt; buffer, held);
+        let got = source.read(&mut buffer);
+        same(&rt, "read", (got, buffer), (told, held));
     }
     Ok(())
 }
@@ -26,9 +27,9 @@ fn a_sink_takes_what_fits_and_fails_where_it_is_told(rt: HostRuntime) -> Result<
         (b"de".as_slice(), Wrote::Bytes(1)),
         (b"e".as_slice(), Wrote::Failed),
     ] {
-        assert_eq!(rt; sink.write(bytes), told);
+        same(&rt, "written", sink.write(bytes), told);
     }
-    assert_eq!(rt; sink.bytes(), b"abcd".as_slice());
+    same(&rt, "bytes", sink.bytes(), b"abcd".as_slice());
     Ok(())
 }
 
@@ -40,14 +41,13 @@ fn whole_streams_are_read_and_written(rt: HostRuntime) -> Result<(), Fail> {
     let Ok(bytes) = bytes else {
         return Err(Fail::from("five bytes are read"));
     };
-    assert_eq!(rt; bytes.as_slice(), b"abcde".as_slice());
+    same(&rt, "read", bytes.as_slice(), b"abcde".as_slice());
     let mut source = MemorySource::new(alloc, b"abcde", &[])?;
-    assert_eq!(rt;
-        read_all(alloc, &mut source, 4).err(),
-        Some(ReadStop::TooLong)
-    );
+    let stop = read_all(alloc, &mut source, 4).err();
+    same(&rt, "too long", stop, Some(ReadStop::TooLong));
     let mut sink = MemorySink::new(alloc, 4, &[])?;
-    assert_eq!(rt; write_all(&mut sink, &bytes), Err(WriteStop::Failed));
-    assert_eq!(rt; sink.bytes(), b"abcd".as_slice());
+    let written = write_all(&mut sink, &bytes);
+    same(&rt, "written", written, Err(WriteStop::Failed));
+    same(&rt, "bytes", sink.bytes(), b"abcd".as_slice());
     Ok(())
 }

@@ -1,4 +1,5 @@
 //! What changes of the setup tables answer, and the words behind them, while one session is connected.
+use crate::asserts::same;
 use crate::settings::setting;
 use pfs_classes::{TableList, TableName};
 use pfs_containers::Containers;
@@ -98,18 +99,17 @@ fn a_table_is_decided_again(rt: HostRuntime) -> Result<(), Fail> {
         timed: false,
     });
     let answer = insert(&mut actors, &mut objects, Insert::new(row));
-    assert_eq!(rt; answer, Ok(1));
+    same(&rt, "answer", answer, Ok(1));
     let table = Table::SetupObjects;
-    assert_eq!(rt; flags_by_answer(&names, &objects, table, &answer, 96, 3), 0);
-    assert_eq!(rt;
-        flags_by_answer(&names, &objects, table, &Err(1062), 96, 3),
-        3
-    );
+    let changed = flags_by_answer(&names, &objects, table, &answer, 96, 3);
+    let refused = flags_by_answer(&names, &objects, table, &Err(1062), 96, 3);
+    same(&rt, "flags", (changed, refused), (0, 3));
     let all = Delete {
         table,
         tests: like(alloc, 1, b"d")?,
     };
-    assert_eq!(rt; delete(&mut actors, &mut objects, &all), 1);
-    assert_eq!(rt; flags_by_rows(&names, &objects, table, 96, 0), 3);
+    same(&rt, "deleted", delete(&mut actors, &mut objects, &all), 1);
+    let flags = flags_by_rows(&names, &objects, table, 96, 0);
+    same(&rt, "flags again", flags, 3);
     Ok(())
 }

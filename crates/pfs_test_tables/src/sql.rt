@@ -1,4 +1,5 @@
 //! Texts from MySQL's grammar with what each says, worked out by hand, and texts that say nothing.
+use crate::asserts::same;
 use pfs_sql::*;
 use pfs_text::{Comparison, Literal, TestKind, Text, put_u64, quote};
 use std::test::Fail;
@@ -272,7 +273,7 @@ fn texts_say(rt: HostRuntime) -> Result<(), Fail> {
     for (text, want) in &TEXTS {
         let mut shown = Vec::new(alloc);
         put_answer(&mut shown, parse(alloc, text.as_bytes()))?;
-        assert_eq!(rt; shown.as_slice(), want.as_bytes(), "{text}");
+        same(&rt, text, shown.as_slice(), want.as_bytes());
     }
     Ok(())
 }
@@ -280,11 +281,11 @@ fn texts_say(rt: HostRuntime) -> Result<(), Fail> {
 // MySQL's numbers.
 #[test]
 fn numbers(rt: HostRuntime) {
-    assert_eq!(rt; SqlError::Parse.number(), 1064);
-    assert_eq!(rt; SqlError::NoSuchTable.number(), 1146);
-    assert_eq!(rt; SqlError::CommandDenied.number(), 1142);
-    assert_eq!(rt; SqlError::UnknownColumn.number(), 1054);
-    assert_eq!(rt; SqlError::WrongUsage.number(), 1683);
-    assert_eq!(rt; SqlError::DuplicateEntry.number(), 1062);
-    assert_eq!(rt; SqlError::TableFull.number(), 1114);
+    same(&rt, "parse", SqlError::Parse.number(), 1064);
+    same(&rt, "no table", SqlError::NoSuchTable.number(), 1146);
+    same(&rt, "denied", SqlError::CommandDenied.number(), 1142);
+    same(&rt, "no column", SqlError::UnknownColumn.number(), 1054);
+    same(&rt, "usage", SqlError::WrongUsage.number(), 1683);
+    same(&rt, "duplicate", SqlError::DuplicateEntry.number(), 1062);
+    same(&rt, "full", SqlError::TableFull.number(), 1114);
 }

@@ -1,6 +1,7 @@
 ghost use Rattle.std.specs.Prelude.{◌<◌};
 ghost use Rattle.std.specs.Option.{ForSome};
 
+use crate::putting::put_row;
 use crate::settings;
 use pfs_classes::{Setting, TableList};
 use pfs_containers::{AccountInfo, Content, NameInfo, ThreadInfo};
@@ -8,7 +9,7 @@ use pfs_names::NameId;
 use pfs_rows::{Reading, Seen, SummaryTable, TableKind};
 use pfs_stat::{Stat, zero};
 use pfs_summaries::*;
-use pfs_text::{Row, RowValue, Rowset, put_u64};
+use pfs_text::{Row, RowValue, Rowset};
 use std::alloc::Global;
 use std::process::Abort;
 use std::test::Fail;
@@ -95,24 +96,6 @@ fn thread(place: u64, user: u64, host: u64, account: Option<u64>) -> Reading
         host_name: NameId(host),
     };
     whole(place + 1, info.to_content())
-}
-
-fn put_value(out: &mut Vec<u8>, value: &RowValue) -> Result<(), NoMemory> {
-    match value {
-        RowValue::Null => out.extend_from_slice(b"NULL")?,
-        RowValue::Number(number) => put_u64(out, *number)?,
-        RowValue::Text(text) => out.extend_from_slice(text.as_bytes())?,
-    }
-    out.push(b' ')?;
-    Ok(())
-}
-
-fn put_row(out: &mut Vec<u8>, row: &Row) -> Result<(), NoMemory> {
-    for value in row.as_slice() {
-        put_value(out, value)?;
-    }
-    out.push(b'\n')?;
-    Ok(())
 }
 
 fn has_text(row: &Row, text: &[u8]) -> bool {

@@ -2,12 +2,13 @@
 
 ghost use Rattle.std.specs.Prelude.{◌≡◌, ◌≤◌};
 
+use crate::putting::put_row;
 use crate::settings;
 use pfs_classes::{Setting, TableList, TableName};
 use pfs_event::{Event, EventKind};
 use pfs_rows::{EventTable, Reading, Seen, SummaryTable, Table, TableKind};
 use pfs_tables::{NoMemory, listed};
-use pfs_text::{Row, RowValue, Text, put_u64};
+use pfs_text::Text;
 use std::alloc::Global;
 use std::process::Abort;
 use std::test::Fail;
@@ -70,24 +71,6 @@ fn inside(event: Event, kind: EventKind, parent: u64) -> Event {
     event
 }
 
-fn put_value(out: &mut Vec<u8>, value: &RowValue) -> Result<(), NoMemory> {
-    match value {
-        RowValue::Null => out.extend_from_slice(b"NULL")?,
-        RowValue::Number(number) => put_u64(out, *number)?,
-        RowValue::Text(text) => out.extend_from_slice(text.as_bytes())?,
-    }
-    Ok(())
-}
-
-// The values of a row, each followed by a blank.
-fn put_values(out: &mut Vec<u8>, row: &Row) -> Result<(), NoMemory> {
-    for value in row.as_slice() {
-        put_value(out, value)?;
-        out.extend_from_slice(b" ")?;
-    }
-    Ok(())
-}
-
 // The rows that a table shows, one a line.
 fn shown(
     alloc: Global,
@@ -98,8 +81,7 @@ fn shown(
     let rows = listed(alloc, setting, table, readings)?;
     let mut out = Vec::new(alloc);
     for row in rows.as_slice() {
-        put_values(&mut out, row)?;
-        out.extend_from_slice(b"\n")?;
+        put_row(&mut out, row)?;
     }
     Ok(out)
 }

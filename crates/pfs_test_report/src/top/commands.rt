@@ -1,6 +1,7 @@
 //! Which words are a command, and what `plain` and `load` do.
 
 use super::{ONE_WAIT, ONE_WAIT_REPORT, words};
+use crate::asserts::same;
 use pfs_outside::{MemorySink, MemorySource};
 use pfs_script::Reason;
 use pfs_top::{Status, pfs, pfs_plain};
@@ -51,108 +52,112 @@ fn is_unread(alloc: Global, source: &mut MemorySource) -> Result<bool, AllocErro
     Ok(status == Status::Done && sink.bytes() == ONE_WAIT_REPORT)
 }
 
+const SCRIPTS: [(&[u8], Status, &[u8]); 3] = [
+    (b"", Status::Done, b"pfs-report 1\nend\n"),
+    (ONE_WAIT, Status::Done, ONE_WAIT_REPORT),
+    (
+        b"phase\nsession 1 u h\nend\n",
+        Status::BadScript {
+            line: 3,
+            reason: Reason::BadNesting,
+        },
+        b"bad script: line 3 reason 9\n",
+    ),
+];
+
 #[test]
 fn plain_writes_what_run_writes(rt: HostRuntime) -> Result<(), Fail> {
-    let cases: [(&[u8], Status, &[u8]); 3] = [
-        (b"", Status::Done, b"pfs-report 1\nend\n"),
-        (ONE_WAIT, Status::Done, ONE_WAIT_REPORT),
-        (
-            b"phase\nsession 1 u h\nend\n",
-            Status::BadScript {
-                line: 3,
-                reason: Reason::BadNesting,
-            },
-            b"bad script: line 3 reason 9\n",
-        ),
-    ];
-    for (script, want, text) in cases {
+    for (script, want, text) in &SCRIPTS {
         for word in ["run", "plain"] {
             let mut source = MemorySource::new(rt.alloc(), script, &[])?;
             let (status, sink) = called(rt.alloc(), &[word], &mut source, 4_000, &[])?;
-            assert_eq!(rt; status, want);
-            assert_eq!(rt; sink.bytes(), text);
+            same(&rt, word, status, *want);
+            same(&rt, word, sink.bytes(), *text);
         }
         let mut source = MemorySource::new(rt.alloc(), script, &[])?;
         let (status, sink) = called_plain(rt.alloc(), &["plain"], &mut source, 4_000, &[])?;
-        assert_eq!(rt; status, want);
-        assert_eq!(rt; sink.bytes(), text);
+        same(&rt, "plain alone", status, *want);
+        same(&rt, "plain alone", sink.bytes(), *text);
     }
     Ok(())
 }
+
+const FAILURES: [(u64, &[u64], &[u64], Status, &[u8]); 3] = [
+    (
+        1_000,
+        &[],
+        &[3],
+        Status::WriteFault,
+        b"pfs-report 1\nphase 1\n",
+    ),
+    (1_000, &[1], &[], Status::ReadFault, b""),
+    (15, &[], &[], Status::WriteFault, b"pfs-report 1\nph"),
+];
 
 #[test]
 fn failures_end_plain_as_they_end_run(rt: HostRuntime) -> Result<(), Fail> {
-    let cases: [(u64, &[u64], &[u64], Status, &[u8]); 3] = [
-        (
-            1_000,
-            &[],
-            &[3],
-            Status::WriteFault,
-            b"pfs-report 1\nphase 1\n",
-        ),
-        (1_000, &[1], &[], Status::ReadFault, b""),
-        (15, &[], &[], Status::WriteFault, b"pfs-report 1\nph"),
-    ];
-    for (room, read_fails, write_fails, want, text) in cases {
+    for (room, read_fails, write_fails, want, text) in &FAILURES {
         let mut source = MemorySource::new(rt.alloc(), ONE_WAIT, read_fails)?;
-        let (status, sink) = called(rt.alloc(), &["plain"], &mut source, room, write_fails)?;
-        assert_eq!(rt; status, want);
-        assert_eq!(rt; sink.bytes(), text);
+        let (status, sink) = called(rt.alloc(), &["plain"], &mut source, *room, write_fails)?;
+        same(&rt, "plain", status, *want);
+        same(&rt, "plain", sink.bytes(), *text);
         let mut source = MemorySource::new(rt.alloc(), ONE_WAIT, read_fails)?;
-        let (status, sink) = called_plain(rt.alloc(), &["plain"], &mut source, room, write_fails)?;
-        assert_eq!(rt; status, want);
-        assert_eq!(rt; sink.bytes(), text);
+        let (status, sink) = called_plain(rt.alloc(), &["plain"], &mut source, *room, write_fails)?;
+        same(&rt, "plain alone", status, *want);
+        same(&rt, "plain alone", sink.bytes(), *text);
     }
     Ok(())
 }
+
+const NOT_PLAIN: [&[&str]; 6] = [
+    &[],
+    &["run"],
+    &["load", "0"],
+    &["plain", "now"],
+    &["plain", "plain"],
+    &["Plain"],
+];
 
 #[test]
 fn pfs_plain_knows_no_other_word(rt: HostRuntime) -> Result<(), Fail> {
-    let cases: [&[&str]; 6] = [
-        &[],
-        &["run"],
-        &["load", "0"],
-        &["plain", "now"],
-        &["plain", "plain"],
-        &["Plain"],
-    ];
-    for case in cases {
+    for case in &NOT_PLAIN {
         let mut source = MemorySource::new(rt.alloc(), ONE_WAIT, &[])?;
         let (status, sink) = called_plain(rt.alloc(), case, &mut source, 100, &[])?;
-        assert_eq!(rt; status, Status::Usage);
-        assert_eq!(rt; sink.bytes(), USAGE);
-        assert!(rt; is_unread(rt.alloc(), &mut source)?);
+        same(&rt, "status", status, Status::Usage);
+        same(&rt, "text", sink.bytes(), USAGE);
+        same(&rt, "unread", is_unread(rt.alloc(), &mut source)?, true);
     }
     Ok(())
 }
 
+const NO_COMMANDS: [&[&str]; 17] = [
+    &[],
+    &["run", "now"],
+    &["plain", "now"],
+    &["-h"],
+    &["Run"],
+    &["check"],
+    &["load"],
+    &["load", "x"],
+    &["load", "7x"],
+    &["load", "18446744073709551616"],
+    &["load", "1", "2"],
+    &["load", "-1"],
+    &["load", "+1"],
+    &["load", ""],
+    &["-load", "1"],
+    &["load 1"],
+    &["1"],
+];
+
 #[test]
 fn other_words_get_the_usage_line(rt: HostRuntime) -> Result<(), Fail> {
-    let cases: [&[&str]; 17] = [
-        &[],
-        &["run", "now"],
-        &["plain", "now"],
-        &["-h"],
-        &["Run"],
-        &["check"],
-        &["load"],
-        &["load", "x"],
-        &["load", "7x"],
-        &["load", "18446744073709551616"],
-        &["load", "1", "2"],
-        &["load", "-1"],
-        &["load", "+1"],
-        &["load", ""],
-        &["-load", "1"],
-        &["load 1"],
-        &["1"],
-    ];
-    for case in cases {
+    for case in &NO_COMMANDS {
         let mut source = MemorySource::new(rt.alloc(), ONE_WAIT, &[])?;
         let (status, sink) = called(rt.alloc(), case, &mut source, 100, &[])?;
-        assert_eq!(rt; status, Status::Usage);
-        assert_eq!(rt; sink.bytes(), USAGE);
-        assert!(rt; is_unread(rt.alloc(), &mut source)?);
+        same(&rt, "status", status, Status::Usage);
+        same(&rt, "text", sink.bytes(), USAGE);
+        same(&rt, "unread", is_unread(rt.alloc(), &mut source)?, true);
     }
     Ok(())
 }
@@ -161,52 +166,54 @@ fn other_words_get_the_usage_line(rt: HostRuntime) -> Result<(), Fail> {
 fn a_usage_line_that_is_not_taken_is_a_fault(rt: HostRuntime) -> Result<(), Fail> {
     let mut source = MemorySource::new(rt.alloc(), ONE_WAIT, &[])?;
     let (status, sink) = called(rt.alloc(), &["run", "now"], &mut source, 10, &[])?;
-    assert_eq!(rt; status, Status::WriteFault);
-    assert_eq!(rt; sink.bytes(), b"usage: run".as_slice());
+    same(&rt, "status", status, Status::WriteFault);
+    same(&rt, "text", sink.bytes(), b"usage: run".as_slice());
     let (status, sink) = called_plain(rt.alloc(), &["run"], &mut source, 10, &[])?;
-    assert_eq!(rt; status, Status::WriteFault);
-    assert_eq!(rt; sink.bytes(), b"usage: run".as_slice());
-    assert!(rt; is_unread(rt.alloc(), &mut source)?);
+    same(&rt, "status", status, Status::WriteFault);
+    same(&rt, "text", sink.bytes(), b"usage: run".as_slice());
+    same(&rt, "unread", is_unread(rt.alloc(), &mut source)?, true);
     Ok(())
 }
 
+const LOADS: [(&str, &[u8]); 3] = [
+    ("0", SUMMARIES_OF_0),
+    ("18446744073709551615", SUMMARIES_OF_THE_LAST),
+    ("00", SUMMARIES_OF_0),
+];
+
 #[test]
 fn a_load_writes_its_last_summaries(rt: HostRuntime) -> Result<(), Fail> {
-    let cases: [(&str, &[u8]); 3] = [
-        ("0", SUMMARIES_OF_0),
-        ("18446744073709551615", SUMMARIES_OF_THE_LAST),
-        ("00", SUMMARIES_OF_0),
-    ];
-    for (number, summaries) in cases {
+    for (number, summaries) in &LOADS {
         let mut source = MemorySource::new(rt.alloc(), ONE_WAIT, &[])?;
         let (status, sink) = called(rt.alloc(), &["load", number], &mut source, 4_000, &[])?;
         let mut text = Vec::from_slice(rt.alloc(), summaries)?;
         text.extend_from_slice(b"done\n")?;
-        assert_eq!(rt; status, Status::Done);
-        assert_eq!(rt; sink.bytes(), text.as_slice());
-        assert!(rt; is_unread(rt.alloc(), &mut source)?);
+        same(&rt, "status", status, Status::Done);
+        same(&rt, "text", sink.bytes(), text.as_slice());
+        same(&rt, "unread", is_unread(rt.alloc(), &mut source)?, true);
     }
     Ok(())
 }
 
+const CUT_OFF: [(u64, &[u64], &[u8]); 4] = [
+    (4_000, &[1], b""),
+    (15, &[], b"table events_wa"),
+    (
+        4_000,
+        &[3],
+        b"table events_waits_summary_global_by_event_name\nrow 'wait/io/file/sql/binlog' 1287 648229 0 503 998\n",
+    ),
+    // All but the last line.
+    (4_000, &[15], SUMMARIES_OF_0),
+];
+
 #[test]
 fn a_load_that_is_not_taken_leaves_a_front(rt: HostRuntime) -> Result<(), Fail> {
-    let cases: [(u64, &[u64], &[u8]); 4] = [
-        (4_000, &[1], b""),
-        (15, &[], b"table events_wa"),
-        (
-            4_000,
-            &[3],
-            b"table events_waits_summary_global_by_event_name\nrow 'wait/io/file/sql/binlog' 1287 648229 0 503 998\n",
-        ),
-        // All but the last line.
-        (4_000, &[15], SUMMARIES_OF_0),
-    ];
-    for (room, write_fails, text) in cases {
+    for (room, write_fails, text) in &CUT_OFF {
         let mut source = MemorySource::new(rt.alloc(), b"", &[])?;
-        let (status, sink) = called(rt.alloc(), &["load", "0"], &mut source, room, write_fails)?;
-        assert_eq!(rt; status, Status::WriteFault);
-        assert_eq!(rt; sink.bytes(), text);
+        let (status, sink) = called(rt.alloc(), &["load", "0"], &mut source, *room, write_fails)?;
+        same(&rt, "status", status, Status::WriteFault);
+        same(&rt, "text", sink.bytes(), *text);
     }
     Ok(())
 }

@@ -3,7 +3,8 @@ ghost use Rattle.pfs_board.specs.declared.view.Label.{Label};
 ghost use Rattle.pfs_board.specs.Knowledge.{corner, is_holding, held, stake, IsWhole};
 ghost use Rattle.pfs_board.specs.SeatViews.{Place, Known, HasRow};
 
-use super::{Tally, opened, read_once};
+use super::{Tally, opened, read_once, whole};
+use crate::asserts::same;
 use pfs_board::{Board, BoardSeat, Kept, Label, NoMemory, Opening, Seen};
 use std::alloc::Global;
 use std::sync::Wait;
@@ -30,19 +31,12 @@ fn count_one<R: Wait>(rt: &R, board: &Board<Tally>, seat: &mut BoardSeat, line: 
 fn the_root_acts_twice(rt: HostRuntime) -> Result<(), NoMemory> {
     let (board, mut root) = opened(rt.alloc(), true)?;
     let first = count_one(&rt, &board, &mut root, 1);
-    assert!(rt; first == (1, 0));
     let second = count_one(&rt, &board, &mut root, 2);
-    assert!(rt; second == (2, 1));
+    same(&rt, "numbers", (first, second), ((1, 0), (2, 1)));
     let seen = read_once(&board, &mut root, 0);
-    assert!(rt;
-        seen == Seen::Whole {
-            version: 2,
-            content: [0; 16]
-        }
-    );
+    same(&rt, "seen", seen, whole(2, [0; 16]));
     let (rows, tally) = board.close(root);
-    assert_eq!(rt; rows.as_slice()[0].word, 10);
-    assert_eq!(rt; tally.count, 2);
+    same(&rt, "left", (rows.as_slice()[0].word, tally.count), (10, 2));
     Ok(())
 }
 
@@ -51,12 +45,12 @@ fn the_value_is_lent_and_restored(rt: HostRuntime) -> Result<(), NoMemory> {
     let (board, mut root) = opened(rt.alloc(), true)?;
     count_one(&rt, &board, &mut root, 1);
     let tally = board.lend(&mut root);
-    assert_eq!(rt; tally.count, 1);
+    same(&rt, "lent", tally.count, 1);
     board.restore(&mut root, tally);
     let second = count_one(&rt, &board, &mut root, 2);
-    assert!(rt; second == (2, 1));
+    same(&rt, "number", second, (2, 1));
     let (_, tally) = board.close(root);
-    assert_eq!(rt; tally.count, 2);
+    same(&rt, "left", tally.count, 2);
     Ok(())
 }
 
@@ -161,9 +155,9 @@ fn two_threads_act_a_thousand_times_each(rt: HostRuntime) -> Result<(), NoMemory
     board.join(&mut root, one?);
     board.join(&mut root, two?);
     let (rows, register) = board.close(root);
-    assert_eq!(rt; rows.as_slice()[0].word, 4 * 2 * LINES + 2);
-    assert_eq!(rt; register.labels.len(), 2000);
-    assert!(rt; lines_of(&register, 1) == Some(LINES));
-    assert!(rt; lines_of(&register, 2) == Some(LINES));
+    same(&rt, "left", rows.as_slice()[0].word, 4 * 2 * LINES + 2);
+    same(&rt, "labels", register.labels.len(), 2000);
+    let lines = (lines_of(&register, 1), lines_of(&register, 2));
+    same(&rt, "lines", lines, (Some(LINES), Some(LINES)));
     Ok(())
 }

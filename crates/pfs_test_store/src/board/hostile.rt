@@ -3,7 +3,8 @@ ghost use Rattle.std.specs.Prelude.{◌≡◌, ℕ, ◌+◌, ◌*◌, ◌<◌, �
 ghost use Rattle.pfs_board.specs.Knowledge.{corner, is_holding, held, stake, IsWhole};
 ghost use Rattle.pfs_board.specs.SeatViews.{Place, Known, HasRow};
 
-use super::{FIRST, Tally, read_once, take_alone};
+use super::{FIRST, Tally, read_once, take_alone, whole};
+use crate::asserts::same;
 use pfs_board::{Board, BoardSeat, Content, NoMemory, Opening, Seen, Taken};
 use std::alloc::Global;
 
@@ -135,26 +136,16 @@ fn a_ring_place_opens_free(rt: HostRuntime) -> Result<(), NoMemory> {
 #[test]
 fn a_ring_place_is_freed_between_two_contents(rt: HostRuntime) -> Result<(), NoMemory> {
     let (board, mut root) = fresh(rt.alloc())?;
-    assert_eq!(rt; put_alone(&board, &mut root, RING, &FIRST), 1);
+    let version = put_alone(&board, &mut root, RING, &FIRST);
     let seen = read_once(&board, &mut root, RING);
-    assert!(rt;
-        seen == Seen::Whole {
-            version: 1,
-            content: FIRST
-        }
-    );
+    same(&rt, "first", (version, seen), (1, whole(1, FIRST)));
     take_alone(&board, &mut root, RING);
     board.free(&mut root, RING);
     let seen = read_once(&board, &mut root, RING);
-    assert!(rt; seen == Seen::Free { word: 4 });
-    assert_eq!(rt; put_alone(&board, &mut root, RING, &OTHER), 2);
+    same(&rt, "freed", seen, Seen::Free { word: 4 });
+    let version = put_alone(&board, &mut root, RING, &OTHER);
     let seen = read_once(&board, &mut root, RING);
-    assert!(rt;
-        seen == Seen::Whole {
-            version: 2,
-            content: OTHER
-        }
-    );
+    same(&rt, "other", (version, seen), (2, whole(2, OTHER)));
     Ok(())
 }
 
@@ -164,19 +155,13 @@ fn a_row_in_another_hand_is_busy(rt: HostRuntime) -> Result<(), NoMemory> {
     put_alone(&board, &mut root, RING, &FIRST);
     let mut second = board.split(&mut root, 5);
     let seen = read_once(&board, &mut second, RING);
-    assert!(rt;
-        seen == Seen::Whole {
-            version: 1,
-            content: FIRST
-        }
-    );
-    assert!(rt; hold(&board, &mut root, RING));
+    same(&rt, "seen", seen, whole(1, FIRST));
+    same(&rt, "in hand", hold(&board, &mut root, RING), true);
     let seen = read_once(&board, &mut second, RING);
-    assert!(rt;
-        seen == Seen::Busy {
-            first: 5,
-            second: 5
-        }
-    );
+    let busy = Seen::Busy {
+        first: 5,
+        second: 5,
+    };
+    same(&rt, "seen in hand", seen, busy);
     Ok(())
 }

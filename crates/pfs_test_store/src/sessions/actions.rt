@@ -5,6 +5,7 @@ ghost use Rattle.pfs_session.specs.Settlements.{owed_by_state};
 
 use super::{ADDED, HELD, Refusing, WAIT, record, store};
 use crate::admin;
+use crate::asserts::same;
 use crate::levels::said;
 use pfs_admin::Admin;
 use pfs_event::Entry;
@@ -70,9 +71,9 @@ fn what_is_held_is_settled_before_a_quit(rt: HostRuntime) -> Result<(), Fail> {
     // Behind the action: 26 cells, of which one gives what it counted, and 61 of the session's places and its word.
     assert_eq!(rt; entries.len(), 12 + 26 + 1 + 61);
     let due = [HELD, Entry::Settle, ADDED, Entry::Act { action: 2 }];
-    assert_eq!(rt; &entries[8..12], due.as_slice());
+    same(&rt, "entries", &entries[8..12], due.as_slice());
     // The account's cell has it once.
-    assert_eq!(rt; counted(&mut rows, 135)?, (0, 0));
-    assert_eq!(rt; counted(&mut rows, 2183)?, (1, 5));
+    same(&rt, "cell", counted(&mut rows, 135)?, (0, 0));
+    same(&rt, "account", counted(&mut rows, 2183)?, (1, 5));
     Ok(())
 }

@@ -4,12 +4,14 @@ ghost use Rattle.std.specs.Prelude.{◌≡◌, ◌≤◌, ◌+◌, ℕ, None};
 ghost use Rattle.pfs_session.specs.Settlements.{owed_by_state};
 
 use crate::admin;
+use crate::asserts::same;
 use crate::levels::said;
 use pfs_event::Entry;
 use pfs_levels::Rows;
 use pfs_reader::Reader;
 use pfs_rows::Table;
 use pfs_session::{Remark, Session};
+use std::alloc::{AllocError, Global};
 use std::test::Fail;
 
 // How many readings a session's looks make until there is none, of at most 40.
@@ -29,6 +31,16 @@ fn looked<R: Rows>(session: &mut Session, rows: &mut R, reader: &mut Reader) -> 
     40
 }
 
+// A query that finds the rows of all 32 users vacant, and answers none.
+fn looked_at(alloc: Global) -> Result<Vec<Entry>, AllocError> {
+    let mut entries = Vec::from_slice(alloc, &[Entry::Query])?;
+    for row in 65..97 {
+        entries.push(Entry::Vacant { row })?;
+    }
+    entries.push(Entry::Rows { number: 0 })?;
+    Ok(entries)
+}
+
 // A store that nobody connected to.
 #[test]
 fn the_users_of_a_fresh_store_are_vacant(rt: HostRuntime) -> Result<(), Fail> {
@@ -39,16 +51,12 @@ fn the_users_of_a_fresh_store_are_vacant(rt: HostRuntime) -> Result<(), Fail> {
     session.reserve(42)?;
     session.append(Remark::Query);
     let mut reader = Reader::open(&setting, Table::Users);
-    assert_eq!(rt; looked(&mut session, &mut rows, &mut reader), 32);
+    let count = looked(&mut session, &mut rows, &mut reader);
+    same(&rt, "looks", count, 32);
     session.append(Remark::Rows(0));
     let log = session.pause(&mut rows).take_log();
     let list = said(alloc, &log)?;
-    let entries = list.as_slice();
-    assert_eq!(rt; entries.len(), 34);
-    assert_eq!(rt; entries[0], Entry::Query);
-    assert_eq!(rt; entries[1], Entry::Vacant { row: 65 });
-    assert_eq!(rt; entries[2], Entry::Vacant { row: 66 });
-    assert_eq!(rt; entries[32], Entry::Vacant { row: 96 });
-    assert_eq!(rt; entries[33], Entry::Rows { number: 0 });
+    let due = looked_at(alloc)?;
+    same(&rt, "entries", list.as_slice(), due.as_slice());
     Ok(())
 }

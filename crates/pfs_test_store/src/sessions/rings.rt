@@ -2,12 +2,14 @@
 
 ghost use Rattle.std.specs.Prelude.{◌≡◌, ◌≤◌, ◌<◌, length};
 
-use super::{Recorded, STATEMENT, connected, session_records, store};
+use super::{Recorded, STATEMENT, behind_connect, end, session_records, start, store};
 use crate::admin;
+use crate::asserts::same;
 use crate::levels::said;
 use pfs_consumers::Flags;
-use pfs_event::{Entry, Event, Verdict};
-use std::alloc::Global;
+use pfs_event::{Entry, Event};
+use std::alloc::{AllocError, Global};
+use std::process::Abort;
 use std::test::Fail;
 
 // At first, and with the long history of statements.
@@ -30,26 +32,6 @@ fn record_statements(
     session_records(alloc, &setting, rows, &STATEMENT, times, row)
 }
 
-fn start(number: u64) -> Entry {
-    Entry::Start {
-        event: Some(number),
-        verdict: Verdict::Attributed,
-        consumers: Some(0),
-        thread: Some(1),
-        class: Some(0),
-        table: None,
-    }
-}
-
-fn end(number: u64) -> Entry {
-    Entry::End {
-        event: Some(number),
-        last: Some(number),
-        consumers: Some(0),
-        thread: Some(1),
-    }
-}
-
 const fn add(row: u64, version: u64) -> Entry {
     Entry::Add { row, version }
 }
@@ -66,12 +48,22 @@ const fn busy(row: u64) -> Entry {
     }
 }
 
+// A session's statements leave these entries behind its connect's.
+fn expect(
+    rt: &impl Abort,
+    alloc: Global,
+    ran: &Recorded,
+    entries: &[Entry],
+) -> Result<(), AllocError> {
+    let list = said(alloc, &ran.log)?;
+    let due = behind_connect(alloc, entries)?;
+    same(rt, "entries", list.as_slice(), due.as_slice());
+    Ok(())
+}
+
 #[test]
 fn a_statement_stands_in_its_current_place_and_its_history(rt: HostRuntime) -> Result<(), Fail> {
     let ran = record_statements(rt.alloc(), Flags::OPENING.0, 0, &[5], 8486)?;
-    let list = said(rt.alloc(), &ran.log)?;
-    assert_eq!(rt; list.len(), 6 + 7);
-    let (before, entries) = list.as_slice().split_at(6);
     let due = [
         start(1),
         ring(8455, 1),
@@ -81,29 +73,20 @@ fn a_statement_stands_in_its_current_place_and_its_history(rt: HostRuntime) -> R
         ring(8455, 2),
         ring(8486, 1),
     ];
-    assert_eq!(rt; before, connected().as_slice());
-    assert_eq!(rt; entries, due.as_slice());
+    expect(&rt, rt.alloc(), &ran, &due)?;
     let Some(event) = Event::of_words(&ran.content) else {
         return Err(Fail::from("no event stands there"));
     };
-    assert_eq!(rt;
-        (
-            ran.version,
-            event.session,
-            event.number,
-            event.last,
-            event.class,
-            event.duration
-        ),
-        (1, 1, 1, 1, 17, 5)
-    );
+    let numbers = (event.session, event.number, event.last);
+    same(&rt, "numbers", numbers, (1, 1, 1));
+    let rest = (ran.version, event.class, event.duration);
+    same(&rt, "rest", rest, (1, 17, 5));
     Ok(())
 }
 
 #[test]
 fn a_put_that_is_dropped_leaves_its_place_to_the_next(rt: HostRuntime) -> Result<(), Fail> {
     let ran = record_statements(rt.alloc(), Flags::OPENING.0, 3, &[5, 7], 8486)?;
-    let list = said(rt.alloc(), &ran.log)?;
     let due = [
         start(1),
         busy(8455),
@@ -120,10 +103,8 @@ fn a_put_that_is_dropped_leaves_its_place_to_the_next(rt: HostRuntime) -> Result
         ring(8455, 2),
         ring(8486, 1),
     ];
-    let entries = list.as_slice();
-    assert_eq!(rt; entries.len(), 6 + due.len());
-    assert_eq!(rt; &entries[6..], due.as_slice());
-    assert_eq!(rt; (ran.version, ran.content[1]), (1, 2));
+    expect(&rt, rt.alloc(), &ran, &due)?;
+    same(&rt, "event", (ran.version, ran.content[1]), (1, 2));
     Ok(())
 }
 
@@ -143,9 +124,9 @@ fn a_late_put_of_the_long_history_is_dropped(rt: HostRuntime) -> Result<(), Fail
         version: 1,
         ticket: 1,
     };
-    assert_eq!(rt; entries[13], late);
-    assert_eq!(rt; entries[21], long);
+    same(&rt, "entries", (entries[13], entries[21]), (late, long));
     // The ticket stands in word 15, one more.
-    assert_eq!(rt; (ran.version, ran.content[1], ran.content[15]), (1, 2, 2));
+    let event = (ran.version, ran.content[1], ran.content[15]);
+    same(&rt, "event", event, (1, 2, 2));
     Ok(())
 }

@@ -4,7 +4,7 @@ use Rattle.pfs_rows.specs.declared.limits.Limits.{Limits}
 use Rattle.pfs_classes.specs.declared.classes.Class.{Class}
 use Rattle.pfs_classes.specs.Registry.{Registry, has_room, registered}
 use Rattle.pfs_classes.specs.Builtins.{builtins, class_of, start_of, builtin_of}
-use Rattle.pfs_test_tables.proofs.final_settings.setting.Goals as goal
+use Rattle.pfs_test_tables.proofs.settings.builtins.Goals as goal
 
 -- registering keeps the limits
 limits_by : (r : Registry) (class : Class) (room : Bool) → (cond room (record r { classes = r.classes ++ class ∷ [] }) (record r { lost = r.lost ++ record { name = class.name; kind = class.kind } ∷ [] })).limits ≡ r.limits
@@ -22,5 +22,8 @@ limits_fold (class ∷ classes) r = limits_fold classes (registered r class) ∙
 limits-builtin : (texts : List (List ℕ)) (limits : Limits) → (builtin_of texts limits).limits ≡ limits
 limits-builtin texts limits = limits_fold (map (class_of texts) builtins) (start_of texts limits)
 
-pub new-requires-3-clause-same_limits : goal.new-requires-3-clause-same_limits
-new-requires-3-clause-same_limits c = ap (λ (r : Registry). r.limits) c.in_ok-classes.ensures.classes ∙ limits-builtin c.builtin.new.names c.opening-limits.result
+pub returns-clause-limits : goal.returns-clause-limits
+returns-clause-limits c = ap (λ (r : Registry). r.limits) c.in_ok-classes.ensures.classes ∙ limits-builtin c.builtin.new.names c.args.limits.now
+
+pub returns-clause-come : goal.returns-clause-come
+returns-clause-come c = c.in_ok-classes.ensures.come
