@@ -71,9 +71,11 @@ fn changes_actors(rt: HostRuntime) -> Result<(), Fail> {
         first: None,
         second: Some(false),
     };
+    // Known from here on, as the places that are changed have to be there.
+    assert_eq!(rt; actors.count(), 3);
     actors.update(&[0], &change);
     same(&rt, "v at i", actors.decide(b"v", b"i"), (true, false));
-    same(&rt, "three", actors.count(), 3);
+    assert_eq!(rt; actors.count(), 3);
     actors.delete(&[0, 1]);
     same(&rt, "u at i", actors.decide(b"u", b"i"), (false, false));
     Ok(())
