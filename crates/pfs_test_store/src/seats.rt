@@ -20,13 +20,15 @@ const LONG: u64 = 10_242;
 // Class 6 of the first thread.
 const CELL: u64 = 135;
 
-// The words of a run, all off.
-fn fresh_words(alloc: Global) -> Result<(Switches, SwitchSeat, Writer), NoMemory>
+// The words of a run with these flags.
+fn fresh_words(alloc: Global, flags: &[u16]) -> Result<(Switches, SwitchSeat, Writer), NoMemory>
+    requires { length flags.now ≡ 160 }
     ensures seat { IfOk result (λ b. (b.1.switches ≡ b.0.id) × (b.1.view.number ≡ 0)) }
     ensures sizes { IfOk result (λ b. (161 ≤ length b.0.start) × (160 ≤ length b.1.view.seen)) }
     ensures words { IfOk result (λ b. (flags : List ℕ) × (b.1.view.start ≡ opening_words flags)) }
 {
-    Switches::open(alloc, &[0; 160])
+    let (words, reader, writer) = Switches::open(alloc, flags)?;
+    Ok((words, reader, writer))
 }
 
 // A content whose word 15 is one more than this ticket.
@@ -95,7 +97,7 @@ fn count<'a>(rows: &mut BoardRows<'a, Anything>, amount: &Stat) -> Added
 fn a_late_event_is_told_the_greater_ticket(rt: HostRuntime) -> Result<(), NoMemory> {
     let alloc = rt.alloc();
     let (board, mut root) = fresh(alloc)?;
-    let (switches, mut reader, _writer) = fresh_words(alloc)?;
+    let (switches, mut reader, _writer) = fresh_words(alloc, &[0; 160])?;
     let (tickets, mut drawer) = fresh_tickets(alloc)?;
     let mut first = actor(
         &board,
@@ -131,7 +133,7 @@ fn a_late_event_is_told_the_greater_ticket(rt: HostRuntime) -> Result<(), NoMemo
 fn a_row_in_another_hand_holds_an_addition_back(rt: HostRuntime) -> Result<(), NoMemory> {
     let alloc = rt.alloc();
     let (board, mut root) = fresh(alloc)?;
-    let (switches, mut reader, _writer) = fresh_words(alloc)?;
+    let (switches, mut reader, _writer) = fresh_words(alloc, &[0; 160])?;
     let (tickets, mut drawer) = fresh_tickets(alloc)?;
     let mut rows = actor(
         &board,
