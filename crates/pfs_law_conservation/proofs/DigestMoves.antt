@@ -38,7 +38,8 @@ use Rattle.pfs_law_conservation.proofs.MoveLevels.{IsPlaced, IsAsking, each_summ
 use Rattle.pfs_law_conservation.proofs.DigestRanges.{row_below, row_inside, rows_more, all_listed, digests_few}
 use Rattle.pfs_law_conservation.proofs.PrintedMoves.{moves_as, moves_on, AreAlike, AllAlike}
 use Rattle.pfs_law_conservation.proofs.QuitMoves.{IsLow}
-use Rattle.pfs_law_conservation.proofs.SessionPlaces.{fold_well, seat_in_in, fold_cells, fold_kinds}
+use Rattle.pfs_law_conservation.proofs.FixedCells.{fold_cells, fold_kinds}
+use Rattle.pfs_law_plain.proofs.SessionPlaces.{fold_well, seat_in_in}
 
 -- the rows of cells are below those of digests
 abbrev AreBelow : List ℕ → Type 0
@@ -168,7 +169,7 @@ slot_below slot account user host [] p h = tt
 slot_below slot account user host (cell ∷ cells) p h = ((below_cells cell h.0).thread (record { place = slot; account = account; user = user; host = host }) p, slot_below slot account user host cells p h.1)
 
 quit_below : (setting : Setting) (s : State) (session : ℕ) → AreWell s.kept.now.places → s.cells ≡ class_cells setting.classes → Each IsBelow (work_for s session changes.Quit).moves
-quit_below setting s session well cells = on (seat_in s session) (seat_in_in s session well) where
+quit_below setting s session well cells = on (seat_in s session) (seat_in_in s.kept.now session well) where
   on : (o : Option Seated) → IfSome o IsInRange → Each IsBelow (quit_work s.words s.cells (has_quit s session).kept.now o).moves
   on None r = tt
   on (Some seat) r =

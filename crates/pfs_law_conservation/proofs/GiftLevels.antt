@@ -31,7 +31,8 @@ use Rattle.pfs_law_conservation.proofs.LabelMoves.{connect_moves, low_cells, ali
 use Rattle.pfs_law_conservation.proofs.MoveLevels.{IsPlaced, IsAsking, IsClimbing, Climbs, row_level, climbing, each_truncation, low_each}
 use Rattle.pfs_law_conservation.proofs.PrintedMoves.{moves_as, AreAlike, AllAlike}
 use Rattle.pfs_law_conservation.proofs.SlotMoves.{AreBack, AreFound}
-use Rattle.pfs_law_conservation.proofs.SessionPlaces.{fold_well, seat_in_in, fold_cells, fold_kinds}
+use Rattle.pfs_law_conservation.proofs.FixedCells.{fold_cells, fold_kinds}
+use Rattle.pfs_law_plain.proofs.SessionPlaces.{fold_well, seat_in_in}
 
 -- what goes from a row of a cell goes to rows of higher levels
 abbrev pub IsGoing : Move → Type 0
@@ -58,7 +59,7 @@ going_for setting s session (changes.Truncate what) well cells kinds =
     (asked_going (truncation_asks (kinds_of setting) s.kept.now.places what)
     (each_truncation IsClimbing (kinds_of setting) s.kept.now.places what well (λ kind. low_each (IsAsking IsClimbing) climbing (kind_cells (kinds_of setting) kind) ((kinds_fit setting).small kind)) (kinds_fit setting).digests_few (λ at low. digest_climbing at)))
 going_for setting s session (changes.Setup what) well cells kinds = tt
-going_for setting s session changes.Quit well cells kinds = on (seat_in s session) (seat_in_in s session well) where
+going_for setting s session changes.Quit well cells kinds = on (seat_in s session) (seat_in_in s.kept.now session well) where
   on : (o : Option Seated) → IfSome o IsInRange → Each IsGoing (moves_asked (quit_work s.words s.cells (has_quit s session).kept.now o).moves)
   on None r = tt
   on (Some seat) r =

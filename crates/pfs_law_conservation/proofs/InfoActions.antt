@@ -15,23 +15,7 @@ use Rattle.std.specs.Prelude.{if◌then◌else◌, Option, Some, None}
 use Rattle.std.proofs.lemmas.Bool.{eqb-true}
 use Rattle.pfs_lemmas.proofs.Numbers.{eq_self}
 use Rattle.pfs_law_conservation.proofs.InfoNews.{news}
-
-pub among_front : {A : Type 0} (x : A) (xs ys : List A) → IsAmong x xs → IsAmong x (xs ++ ys)
-among_front x [] ys m = absurd m
-among_front x (y ∷ xs) ys (inl e) = inl e
-among_front x (y ∷ xs) ys (inr m) = inr (among_front x xs ys m)
-
-pub among_back : {A : Type 0} (x : A) (xs ys : List A) → IsAmong x ys → IsAmong x (xs ++ ys)
-among_back x [] ys m = m
-among_back x (y ∷ xs) ys m = inr (among_back x xs ys m)
-
-pub among_split : {A : Type 0} (x : A) (xs ys : List A) → IsAmong x (xs ++ ys) → IsAmong x xs ⊎ IsAmong x ys
-among_split x [] ys m = inr m
-among_split x (y ∷ xs) ys (inl e) = inl (inl e)
-among_split x (y ∷ xs) ys (inr m) = on (among_split x xs ys m) where
-  on : IsAmong x xs ⊎ IsAmong x ys → IsAmong x (y ∷ xs) ⊎ IsAmong x ys
-  on (inl m) = inl (inr m)
-  on (inr m) = inr m
+use Rattle.pfs_model.proofs.Members.{among_front, among_back, among_either}
 
 -- a row is released or written
 abbrev pub names : ℕ → Did → Bool
@@ -217,7 +201,7 @@ module _ (row : ℕ) (low : row < 129) where
   -- an action that does something to the row names it
   pub deed_named : (d : Deed) (ps : List Placed) → Each (λ (p : Placed). IsAbove p.entry) ps → d.row ≡ row → IsAmong d (deeds_of ps) → 1 ≤ named row d.action ps
   deed_named d [] h r m = absurd m
-  deed_named d (p ∷ ps) h r m = on (among_split d (deed_at p.context.action p.entry) (deeds_of ps) m) (λ k. deed_named d ps h.1 r k) where
+  deed_named d (p ∷ ps) h r m = on (among_either d (deed_at p.context.action p.entry) (deeds_of ps) m) (λ k. deed_named d ps h.1 r k) where
     on : IsAmong d (deed_at p.context.action p.entry) ⊎ IsAmong d (deeds_of ps) → (IsAmong d (deeds_of ps) → 1 ≤ named row d.action ps)
         → 1 ≤ cond (p.context.action == d.action) (times (names row) (did p.entry)) 0 + named row d.action ps
     on (inl m) go = (let k : 1 ≤ cond (p.context.action == d.action) (times (names row) (did p.entry)) 0 = own_bit p d h.0 r m in omega (arith, k))
@@ -228,7 +212,7 @@ module _ (row : ℕ) (low : row < 129) where
       → IsAmong d (deeds_of ps) → IsAmong f (deeds_of ps) → 2 ≤ named row d.action ps
   deeds_named d f [] h r s a ne m n = absurd m
   deeds_named d f (p ∷ ps) h r s a ne m n =
-      on (among_split d (deed_at p.context.action p.entry) (deeds_of ps) m) (among_split f (deed_at p.context.action p.entry) (deeds_of ps) n)
+      on (among_either d (deed_at p.context.action p.entry) (deeds_of ps) m) (among_either f (deed_at p.context.action p.entry) (deeds_of ps) n)
       (λ k l. deeds_named d f ps h.1 r s a ne k l) where
         own : ℕ
         own = cond (p.context.action == d.action) (times (names row) (did p.entry)) 0
@@ -251,7 +235,7 @@ module _ (row : ℕ) (low : row < 129) where
 pub deed_range : (n : ℕ) (d : Deed) (ps : List Placed) → Each (λ (p : Placed). is_acted p.entry ≡ true → (1 ≤ p.context.action) × (p.context.action ≤ n)) ps → IsAmong d (deeds_of ps)
     → (1 ≤ d.action) × (d.action ≤ n)
 deed_range n d [] h m = absurd m
-deed_range n d (p ∷ ps) h m = on (among_split d (deed_at p.context.action p.entry) (deeds_of ps) m) (λ k. deed_range n d ps h.1 k) where
+deed_range n d (p ∷ ps) h m = on (among_either d (deed_at p.context.action p.entry) (deeds_of ps) m) (λ k. deed_range n d ps h.1 k) where
   here : (e : Entry) → (is_acted e ≡ true → (1 ≤ p.context.action) × (p.context.action ≤ n)) → IsAmong d (deed_at p.context.action e) → (1 ≤ d.action) × (d.action ≤ n)
   here (says.Take at v) h (inl e) = subst (λ z. (1 ≤ z) × (z ≤ n)) (ap (λ (z : Deed). z.action) e) (h refl)
   here (says.Take at v) h (inr m) = absurd m

@@ -29,7 +29,7 @@ use Rattle.pfs_law_conservation.proofs.InfoAdditions.{IsHighFeed, all_added}
 use Rattle.pfs_law_conservation.proofs.LastSigns.{version_of, IsKnown, AreSigned, Says, says_last}
 use Rattle.pfs_law_conservation.proofs.InfoActions.{names, asked_count, asked_among, IsAbove}
 use Rattle.pfs_law_conservation.proofs.InfoNews.{news}
-use Rattle.pfs_law_conservation.proofs.MovesAboveInfos.{IsRaised, asked_raised}
+use Rattle.pfs_law_conservation.proofs.CellMoves.{IsOfCells, asked_cells}
 use Rattle.pfs_law_conservation.proofs.RunSigns.{behind, signed_once, said_next, opening_unsaid}
 use Rattle.pfs_law_conservation.proofs.VersionActions.{SaysWords, SaysHad}
 
@@ -121,11 +121,11 @@ module _ (run : Run) (phase : ℕ) (kept : AreKept run) where
       (λ p h a. range_to phase p h.0 h.1 a) (each_chosen (HasNumber all) (λ (p : Placed). nat_le p.phase phase) all said)
 
   -- info rows are changed by tags alone
-  ways : Each (λ (p : Placed). 0 < p.context.action → Each IsRaised (did p.entry)) all
-  ways = each_did IsRaised all (λ action l. subst (Each IsRaised) (sym (kept.rules.done action l)) (asked_raised run.setting run.change run.labels action (run.counted action)))
+  ways : Each (λ (p : Placed). 0 < p.context.action → Each IsOfCells (did p.entry)) all
+  ways = each_did IsOfCells all (λ action l. subst (Each IsOfCells) (sym (kept.rules.done action l)) (asked_cells run.setting run.change run.labels action (run.counted action)))
 
   abbrev Feeds : Placed → Type 0
-  Feeds p = IsHighFeed p.entry × (0 < p.context.action → Each IsRaised (did p.entry))
+  Feeds p = IsHighFeed p.entry × (0 < p.context.action → Each IsOfCells (did p.entry))
 
   above_all : Each (λ (p : Placed). IsAbove p.entry) all
   above_all =
@@ -133,13 +133,13 @@ module _ (run : Run) (phase : ℕ) (kept : AreKept run) where
       (λ p h. by p.entry p.context.action (first p h.0) h.1.0 h.1.1.0 h.1.1.1)
       (each_both (HasNumber all) (λ (p : Placed). IsHigh p.entry × Feeds p) all said
       (each_both (λ (p : Placed). IsHigh p.entry) Feeds all (all_high run.flags run.blocks kept.rules.shaped kept.brought)
-      (each_both (λ (p : Placed). IsHighFeed p.entry) (λ (p : Placed). 0 < p.context.action → Each IsRaised (did p.entry)) all (all_added run.flags run.blocks kept.rules.shaped kept.brought) ways))) where
-        by : (e : Entry) (action : ℕ) → (is_acted e ≡ true → 0 < action) → IsHigh e → IsHighFeed e → (0 < action → Each IsRaised (did e)) → IsAbove e
+      (each_both (λ (p : Placed). IsHighFeed p.entry) (λ (p : Placed). 0 < p.context.action → Each IsOfCells (did p.entry)) all (all_added run.flags run.blocks kept.rules.shaped kept.brought) ways))) where
+        by : (e : Entry) (action : ℕ) → (is_acted e ≡ true → 0 < action) → IsHigh e → IsHighFeed e → (0 < action → Each IsOfCells (did e)) → IsAbove e
         by (says.Add row version) action f h g w = g
         by (says.Ring row version) action f h g w = let l : 8450 ≤ row = h in omega (arith, l)
         by (says.Long row version ticket) action f h g w = let l : 8450 ≤ row = h in omega (arith, l)
-        by (says.Take row version) action f h g w = (w (f refl)).0
-        by (says.Give row version from) action f h g w = (w (f refl)).0
+        by (says.Take row version) action f h g w = (w (f refl)).0.0
+        by (says.Give row version from) action f h g w = (w (f refl)).0.0
         by _ action f h g w = tt
 
   -- releases name versions that were

@@ -22,7 +22,7 @@ use Rattle.pfs_model.specs.Chains.{Each, each_of}
 use Rattle.pfs_model.specs.EntryPlaces.{Placed}
 use Rattle.pfs_law_plain.proofs.TruncationRows.{AreInfosOrRings, IsRelease, rows_release, signs_split}
 use Rattle.pfs_runs.specs.Labels.{work_for, work_of_label, work_at, label_at, asked_at}
-use Rattle.pfs_law_conservation.proofs.SessionPlaces.{fold_well, seat_at_in, seat_in_in}
+use Rattle.pfs_law_plain.proofs.SessionPlaces.{fold_well, seat_at_in, seat_in_in}
 
 -- what is tagged is an info row
 abbrev pub IsLowTag : Did → Type 0
@@ -71,11 +71,11 @@ low_split signs (inl a) = low_ascending 1 signs a
 low_split signs (inr a) = low_releases signs a.1
 
 low_work : (s : State) (session : ℕ) (what : Change) → AreWell s.kept.now.places → Each IsLowSign (work_for s session what).signs
-low_work s session (changes.Connect user host) well = on (seat_at s session user host) (seat_at_in s session user host well) where
+low_work s session (changes.Connect user host) well = on (seat_at s session user host) (seat_at_in s.kept.now session user host well) where
   on : (o : Option Seated) → IfSome o IsInRange → Each IsLowSign (connect_work s.words (thread_flags s user host) (connected s session user host).kept.now o).signs
   on None r = tt
   on (Some seat) r = (let l : seat.slot < 32 = r.slot in omega (arith, l), low_upper (connected s session user host).kept.now seat r)
-low_work s session changes.Quit well = on (seat_in s session) (seat_in_in s session well) where
+low_work s session changes.Quit well = on (seat_in s session) (seat_in_in s.kept.now session well) where
   on : (o : Option Seated) → IfSome o IsInRange → Each IsLowSign (quit_work s.words s.cells (has_quit s session).kept.now o).signs
   on None r = tt
   on (Some seat) r =

@@ -40,7 +40,7 @@ use Rattle.pfs_law_conservation.proofs.PlaceFolds.{fold_places, length_as}
 use Rattle.pfs_law_conservation.proofs.LastSlots.{HasLast, EndsLast, all_lasting, ends_lasting}
 use Rattle.pfs_law_conservation.proofs.RowRanges.{AreNone}
 use Rattle.pfs_law_conservation.proofs.SlotMoves.{AreBack, AreFound}
-use Rattle.pfs_law_conservation.proofs.SessionPlaces.{fold_well}
+use Rattle.pfs_law_plain.proofs.SessionPlaces.{fold_well}
 
 -- what is printed goes by what takes found alone
 prints_agree : (kept other : ℕ → ℕ → Bool) (moves : List Move) → Each (λ (m : Move). kept m.action m.from ≡ other m.action m.from) moves → prints_all kept moves ≡ prints_all other moves

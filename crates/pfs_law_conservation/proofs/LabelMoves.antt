@@ -39,7 +39,8 @@ use Rattle.pfs_law_conservation.proofs.PlaceFolds.{fold_places, numbered_at, fro
 use Rattle.pfs_law_conservation.proofs.PrintedMoves.{moves_as, moves_on, AllAlike}
 use Rattle.pfs_law_conservation.proofs.QuitMoves.{IsThere, found_there, ups_are, takes_slot, kind_past, moved_cells, asked_cells, all_alike, cells_from, of_list, cells_all}
 use Rattle.pfs_law_conservation.proofs.SlotMoves.{AreBack, AreFound, seat_at as seat_is, thread_kind, other_slot, cell_moves, none_of_all, slot_of_all}
-use Rattle.pfs_law_conservation.proofs.SessionPlaces.{fold_well, seat_in_in, fold_cells, fold_kinds}
+use Rattle.pfs_law_conservation.proofs.FixedCells.{fold_cells, fold_kinds}
+use Rattle.pfs_law_plain.proofs.SessionPlaces.{fold_well, seat_in_in}
 use Rattle.pfs_law_conservation.proofs.TruncationMoves.{truncation_same, truncation_alike}
 
 -- a connect takes nothing
@@ -168,7 +169,7 @@ module _ (back : AreBack) (found : AreFound) (setting : Setting) (kind : TableKi
       ∙ truncation_same back setting kind opening actions action (subst AreWell places well) what e)
   asks_for s session (changes.Setup what) well cells kinds places e =
       none_asked [] refl (λ place. ap (λ a. line_takes (line_of (kind_number kind) before a) place) e)
-  asks_for s session changes.Quit well cells kinds places e = on (found_where (λ x. x.number == session) s.kept.now.places.threads) refl (seat_in_in s session well) where
+  asks_for s session changes.Quit well cells kinds places e = on (found_where (λ x. x.number == session) s.kept.now.places.threads) refl (seat_in_in s.kept.now session well) where
     line : line_of (kind_number kind) before (actions action) ≡ quit_line (found_where (λ x. x.number == session) s.kept.now.places.threads)
     line = ap (λ a. line_of (kind_number kind) before a) e ∙ ap (λ (z : State). quit_line (found_where (λ x. x.number == session) z.threads)) (sym places)
 
@@ -188,7 +189,7 @@ module _ (back : AreBack) (found : AreFound) (setting : Setting) (kind : TableKi
   alike_for s session (changes.Truncate what) well cells kinds =
       subst (λ z. AllAlike test (asked (truncation_asks z s.kept.now.places what))) (sym kinds) (truncation_alike back setting kind action s.kept.now.places well what)
   alike_for s session (changes.Setup what) well cells kinds = tt
-  alike_for s session changes.Quit well cells kinds = on (seat_in s session) (seat_in_in s session well) where
+  alike_for s session changes.Quit well cells kinds = on (seat_in s session) (seat_in_in s.kept.now session well) where
     on : (o : Option Seated) → IfSome o IsInRange → AllAlike test (asked (quit_work s.words s.cells (has_quit s session).kept.now o).moves)
     on None r = tt
     on (Some seat) r = subst (λ z. AllAlike test (asked (asks_of z (of.Thread (record { place = seat.slot; account = seat.connection.account; user = seat.connection.user; host = seat.connection.host }))))) (sym cells)

@@ -2,7 +2,7 @@ mod InfoNews
 mod LevelPlaces
 mod ActionSigns
 pub mod SettledAdditions
-mod MovesAboveInfos
+pub mod CellMoves
 mod InfoAdditions
 pub mod InfoActions
 mod VersionActions
@@ -28,7 +28,7 @@ mod RingWrites
 pub mod PlaceFolds
 pub mod SlotMoves
 pub mod QuitMoves
-pub mod SessionPlaces
+pub mod FixedCells
 mod RowRanges
 mod PlaceMoves
 pub mod MoveLevels
@@ -60,6 +60,7 @@ pub mod SessionThreads
 mod PrintedTakes
 pub mod AdditionOrder
 pub mod ConnectLines
+pub mod ActionNumbers
 mod QuitTakes
 mod AdditionLaw
 mod EntrySources

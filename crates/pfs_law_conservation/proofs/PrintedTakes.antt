@@ -10,10 +10,7 @@ use Rattle.pfs_conservation.specs.Prints.{Print, prints_of, prints_all, is_move,
 use Rattle.pfs_conservation.specs.Tenures.{Owner}
 use Rattle.pfs_model.specs.Actions.{IsAmong}
 use Rattle.pfs_law_conservation.specs.KindRows.{is_kind_row, kind_rows_from, kind_rows}
-
-back : {A : Type 0} (x : A) (xs ys : List A) → IsAmong x ys → IsAmong x (xs ++ ys)
-back x [] ys m = m
-back x (y ∷ xs) ys m = inr (back x xs ys m)
+use Rattle.pfs_model.proofs.Members.{among_back}
 
 -- the kind's rows have each of them
 rows_among : (is_cell : ℕ → Bool) (target row more : ℕ) → row ≤ target → target < row + more → is_kind_row is_cell target ≡ true → IsAmong target (kind_rows_from is_cell row more)
@@ -24,7 +21,7 @@ rows_among is_cell target row (suc more) l m k = on (row == target) refl (λ h. 
 
   on : (b : Bool) → (row == target) ≡ b → (suc row ≤ target → IsAmong target (kind_rows_from is_cell (suc row) more)) → IsAmong target (kind_rows_from is_cell row (suc more))
   on true q go = subst (λ b. IsAmong target (cond b (row ∷ []) [] ++ kind_rows_from is_cell (suc row) more)) (sym (ap (is_kind_row is_cell) (eqb-true row target q) ∙ k)) (inl (eqb-true row target q))
-  on false q go = back target (cond (is_kind_row is_cell row) (row ∷ []) []) (kind_rows_from is_cell (suc row) more) (go (apart row target q l))
+  on false q go = among_back target (cond (is_kind_row is_cell row) (row ∷ []) []) (kind_rows_from is_cell (suc row) more) (go (apart row target q l))
 
 pub in_kind_rows : (is_cell : ℕ → Bool) (target : ℕ) → 129 ≤ target → target < 8385 → is_kind_row is_cell target ≡ true → IsAmong target (kind_rows is_cell)
 unfolding kind_rows
@@ -50,7 +47,7 @@ module _ (kept : ℕ → ℕ → Bool) (holder : ℕ → ℕ → Option Owner) (
       (inl (ap (λ z. taken_print z action) e))
   taken_printed row owner (r ∷ rows) (inr m) t h =
       subst (IsAmong (taken_print row action)) (sym (prints_then kept (cond (takes action r) (moved_by (holder action r) action r) []) (moves_of holder takes action rows)))
-      (back (taken_print row action) (prints_all kept (cond (takes action r) (moved_by (holder action r) action r) [])) (prints_all kept (moves_of holder takes action rows)) (taken_printed row owner rows m t h))
+      (among_back (taken_print row action) (prints_all kept (cond (takes action r) (moved_by (holder action r) action r) [])) (prints_all kept (moves_of holder takes action rows)) (taken_printed row owner rows m t h))
 
 -- and what is printed stands
 pub print_stands : (row action : ℕ) (lines : List Tagged) → IsAmong (taken_print row action) (printed_by lines action) → (version : ℕ) × Stands lines row version (Taken action)

@@ -52,6 +52,7 @@ use Rattle.pfs_law_conservation.proofs.EventOffers.{home_row}
 use Rattle.pfs_law_conservation.proofs.ActionJournals.{zero_rows, HasNumber}
 use Rattle.pfs_law_conservation.proofs.SlotMoves.{AreBack, AreFound, seat_at}
 use Rattle.pfs_law_conservation.proofs.RowLines.{sifted, bit_yes}
+use Rattle.pfs_law_conservation.proofs.ActionNumbers.{said_counts, none_before, own_number, above_among, quit_change, some_of, label_same}
 
 -- at first nobody is connected
 none_free : {X : Type 0} (n j : ℕ) (y : X) → entry_at (all_free n) j ≡ Some y → ⊥
@@ -59,69 +60,13 @@ none_free zero j y e = absurd (cc)
 none_free (suc n) zero y e = absurd (cc)
 none_free (suc n) (suc j) y e = none_free n j y e
 
--- a number that is said counts, and is one of its session's
-said_counts : (number : ℕ) (p : Placed) (ps : List Placed) → IsAmong p ps → action_change p.entry ≡ change_at 0 number ∷ [] → 1 ≤ times (is_that (change_at 0 number)) (each_of action_change ps)
-said_counts number p [] m e = absurd m
-said_counts number p (x ∷ ps) (inl q) e =
-    let a : times (is_that (change_at 0 number)) (action_change x.entry ++ each_of action_change ps) ≡ times (is_that (change_at 0 number)) (action_change x.entry) + times (is_that (change_at 0 number)) (each_of action_change ps) = times_append (is_that (change_at 0 number)) (action_change x.entry) (each_of action_change ps) in
-    let o : times (is_that (change_at 0 number)) (action_change x.entry) ≡ cond {A = ℕ} (is_that (change_at 0 number) (change_at 0 number)) 1 0 + 0 = ap (times (is_that (change_at 0 number))) (ap (λ (z : Placed). action_change z.entry) q ∙ e) in
-    let t : cond {A = ℕ} (is_that (change_at 0 number) (change_at 0 number)) 1 0 ≡ 1 = bit_yes (is_that (change_at 0 number) (change_at 0 number)) (that_self 0 number) in
-    omega (arith, a, o, t)
-said_counts number p (x ∷ ps) (inr m) e =
-    let a : times (is_that (change_at 0 number)) (action_change x.entry ++ each_of action_change ps) ≡ times (is_that (change_at 0 number)) (action_change x.entry) + times (is_that (change_at 0 number)) (each_of action_change ps) = times_append (is_that (change_at 0 number)) (action_change x.entry) (each_of action_change ps) in
-    let l : 1 ≤ times (is_that (change_at 0 number)) (each_of action_change ps) = said_counts number p ps m e in
-    omega (arith, a, l)
-
--- none is said before it
-none_before : (number : ℕ) (x : Placed) (xs ys : List Placed) → action_change x.entry ≡ change_at 0 number ∷ [] → times (is_that (change_at 0 number)) (each_of action_change (xs ++ x ∷ ys)) ≤ 1 → times (is_that (change_at 0 number)) (each_of action_change xs) ≡ 0
-none_before number x [] ys e l = refl
-none_before number x (p ∷ xs) ys e l =
-    let t : ℕ → ℕ = λ n. n in
-    let a : times (is_that (change_at 0 number)) (action_change p.entry ++ each_of action_change (xs ++ x ∷ ys)) ≡ times (is_that (change_at 0 number)) (action_change p.entry) + times (is_that (change_at 0 number)) (each_of action_change (xs ++ x ∷ ys)) = times_append (is_that (change_at 0 number)) (action_change p.entry) (each_of action_change (xs ++ x ∷ ys)) in
-    let b : times (is_that (change_at 0 number)) (action_change p.entry ++ each_of action_change xs) ≡ times (is_that (change_at 0 number)) (action_change p.entry) + times (is_that (change_at 0 number)) (each_of action_change xs) = times_append (is_that (change_at 0 number)) (action_change p.entry) (each_of action_change xs) in
-    let c : 1 ≤ times (is_that (change_at 0 number)) (each_of action_change (xs ++ x ∷ ys)) = said_counts number x (xs ++ x ∷ ys) (there xs) e in
-    let ih : times (is_that (change_at 0 number)) (each_of action_change xs) ≡ 0 = none_before number x xs ys e (omega (arith, a, l)) in
-    omega (arith, a, b, c, ih, l) where
-      there : (zs : List Placed) → IsAmong x (zs ++ x ∷ ys)
-      there [] = inl refl
-      there (z ∷ zs) = inr (there zs)
-
-number_among : {A : Type 0} (c x : A) (xs ys : List A) → IsAmong c ys → IsAmong c (xs ++ ys)
-number_among c x [] ys m = m
-number_among c x (z ∷ xs) ys m = inr (number_among c x xs ys m)
-
-own_number : (number : ℕ) (session : ℕ) (p : Placed) (ps : List Placed) → IsAmong p ps → (p.session == session) ≡ true → action_change p.entry ≡ change_at 0 number ∷ [] → IsAmong (change_at 0 number) (numbers_by session ps)
-own_number number session p [] m o e = absurd m
-own_number number session p (x ∷ ps) (inl q) o e =
-    subst (λ cs. IsAmong (change_at 0 number) (cs ++ numbers_by session ps)) (sym (ap (λ b. cond b (action_change x.entry) []) (ap (λ (z : Placed). z.session == session) q ∙ o) ∙ (ap (λ (z : Placed). action_change z.entry) q ∙ e))) (inl refl)
-own_number number session p (x ∷ ps) (inr m) o e = number_among (change_at 0 number) (change_at 0 number) (cond (x.session == session) (action_change x.entry) []) (numbers_by session ps) (own_number number session p ps m o e)
-
-above_among : (number : ℕ) (c : Numbered) (cs : List Numbered) → AllAbove number cs → IsAmong c cs → number < c.version
-above_among number c [] a m = absurd m
-above_among number c (x ∷ cs) a (inl e) = subst (λ (z : Numbered). number < z.version) e a.0
-above_among number c (x ∷ cs) a (inr m) = above_among number c cs a.1 m
-
-quit_change : (line : Line) (what : Change) → is_quit line ≡ true → IsChangeOf line what → what ≡ changes.Quit
-quit_change lines.Quit changes.Quit q h = refl
-quit_change lines.Quit (changes.Connect user host) q h = absurd h
-quit_change lines.Quit (changes.Truncate what) q h = absurd h
-quit_change lines.Quit (changes.Setup what) q h = absurd h
-quit_change _ what q h = absurd (cc)
-
 connect_change : (line : Line) (user host : ℕ) → IsChangeOf line (changes.Connect user host) → is_connecting line ≡ true
 connect_change lines.Connect user host h = refl
 connect_change lines.Quit user host h = absurd h
 connect_change _ user host h = absurd h
 
-some_of : (qs : List ℕ) (number : ℕ) → first_of qs ≡ Some number → (rest : List ℕ) × (qs ≡ number ∷ rest)
-some_of [] number e = absurd (cc)
-some_of (q ∷ qs) number e = (qs, let s : q ≡ number = cc in ap (λ z. z ∷ qs) s)
-
 apart : (user host : ℕ) → changes.Connect user host ≡ changes.Quit → ⊥
 apart user host e = cc
-
-label_same : (o : Option Label) (a b : Label) → o ≡ Some a → o ≡ Some b → a ≡ b
-label_same o a b p q = let e : Some a ≡ Some b = sym p ∙ q in cc
 
 module _ (back : AreBack) (found : AreFound) (none : AreNone) (run : Run) (kind : TableKind) (phase : ℕ) (kept : AreKept run) (orderly : IsOrderly run)
     (acted : AreActed run.counted (moves_at run.setting kind (actions_to run phase)) (length (actions_to run phase)) (lines_to run kind phase)) where

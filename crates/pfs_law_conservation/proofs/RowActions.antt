@@ -9,24 +9,7 @@ use Rattle.pfs_model.specs.Actions.{Deed, deed_at, deeds_of, IsAmong, NeverFall}
 use Rattle.pfs_model.specs.EntryPlaces.{Placed, chosen}
 use Rattle.pfs_law_conservation.specs.KindLines.{lines_at, all_lines, lines_on}
 use Rattle.pfs_law_conservation.proofs.RowLines.{sifted}
-
--- one of either list
-among_front : {A : Type 0} (x : A) (xs ys : List A) → IsAmong x xs → IsAmong x (xs ++ ys)
-among_front x [] ys m = absurd m
-among_front x (y ∷ xs) ys (inl e) = inl e
-among_front x (y ∷ xs) ys (inr m) = inr (among_front x xs ys m)
-
-among_back : {A : Type 0} (x : A) (xs ys : List A) → IsAmong x ys → IsAmong x (xs ++ ys)
-among_back x [] ys m = m
-among_back x (y ∷ xs) ys m = inr (among_back x xs ys m)
-
-among_split : {A : Type 0} (x : A) (xs ys : List A) → IsAmong x (xs ++ ys) → IsAmong x xs ⊎ IsAmong x ys
-among_split x [] ys m = inr m
-among_split x (y ∷ xs) ys (inl e) = inl (inl e)
-among_split x (y ∷ xs) ys (inr m) = on (among_split x xs ys m) where
-  on : IsAmong x xs ⊎ IsAmong x ys → IsAmong x (y ∷ xs) ⊎ IsAmong x ys
-  on (inl m) = inl (inr m)
-  on (inr m) = inr m
+use Rattle.pfs_model.proofs.Members.{among_front, among_back, among_either}
 
 abbrev pub changing : ℕ → ℕ → ℕ → Deed
 changing action row version = record { action = action; row = row; version = version; releases = false }
@@ -60,7 +43,7 @@ pub chosen_deed : (test : Placed → Bool) (d : Deed) (ps : List Placed) → IsA
 chosen_deed test d [] m = m
 chosen_deed test d (p ∷ ps) m = at (test p) m (chosen_deed test d ps) where
   at : (b : Bool) → IsAmong d (deeds_of (cond b (p ∷ []) [] ++ chosen test ps)) → (IsAmong d (deeds_of (chosen test ps)) → IsAmong d (deeds_of ps)) → IsAmong d (deed_at p.context.action p.entry ++ deeds_of ps)
-  at true m go = on (among_split d (deed_at p.context.action p.entry) (deeds_of (chosen test ps)) m) where
+  at true m go = on (among_either d (deed_at p.context.action p.entry) (deeds_of (chosen test ps)) m) where
     on : IsAmong d (deed_at p.context.action p.entry) ⊎ IsAmong d (deeds_of (chosen test ps)) → IsAmong d (deed_at p.context.action p.entry ++ deeds_of ps)
     on (inl m) = among_front d (deed_at p.context.action p.entry) (deeds_of ps) m
     on (inr m) = among_back d (deed_at p.context.action p.entry) (deeds_of ps) (go m)

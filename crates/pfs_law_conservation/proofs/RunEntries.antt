@@ -40,6 +40,7 @@ use Rattle.pfs_law_conservation.proofs.EventOffers.{home_row, comes_to, comes_be
 use Rattle.pfs_law_conservation.proofs.ActionJournals.{HasNumber, all_said}
 use Rattle.pfs_law_conservation.proofs.ActionJournals.{zero_rows}
 use Rattle.pfs_law_conservation.proofs.RowLines.{bit_no, bit_yes}
+use Rattle.pfs_model.proofs.Members.{among_front}
 
 -- what holds of all entries holds of the first of them
 answered_front : (rooms : ℕ → Rooms) (answers : ℕ → Answer) (xs ys : List Placed) → AreAnswered rooms answers (xs ++ ys) → AreAnswered rooms answers xs
@@ -73,11 +74,6 @@ rising_front (x ∷ xs) ys r = (above_front x.version xs ys r.0, rising_front xs
 each_front_of : (P : Placed → Type 0) (xs ys : List Placed) → Each P (xs ++ ys) → Each P xs
 each_front_of P [] ys h = tt
 each_front_of P (x ∷ xs) ys h = (h.0, each_front_of P xs ys h.1)
-
-among_front : (p : Placed) (xs ys : List Placed) → IsAmong p xs → IsAmong p (xs ++ ys)
-among_front p [] ys m = absurd m
-among_front p (x ∷ xs) ys (inl e) = inl e
-among_front p (x ∷ xs) ys (inr m) = inr (among_front p xs ys m)
 
 -- a number of a session is one of all
 head_counted : (session : ℕ) (x : Change) (more : List Change) (ps : List Placed) → is_that x x ≡ true → numbers_by session ps ≡ x ∷ more → 1 ≤ times (is_that x) (each_of action_change ps)

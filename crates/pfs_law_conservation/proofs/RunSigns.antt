@@ -19,7 +19,7 @@ use Rattle.pfs_containers.specs.declared.containers.Seated.{Seated}
 use Rattle.pfs_levels.specs.Flushes.{Ascends}
 use Rattle.pfs_model.specs.Chains.{times}
 use Rattle.pfs_runs.specs.Labels.{work_for, work_of_label, work_at, label_at}
-use Rattle.pfs_law_conservation.proofs.SessionPlaces.{fold_well, seat_at_in, seat_in_in}
+use Rattle.pfs_law_plain.proofs.SessionPlaces.{fold_well, seat_at_in, seat_in_in}
 use Rattle.pfs_law_conservation.specs.InfoRowWords.{thread_said, account_said, user_said, host_said}
 use Rattle.pfs_law_conservation.proofs.InfoActions.{signs_at}
 use Rattle.pfs_law_conservation.proofs.LevelSigns.{truncation_once}
@@ -47,11 +47,11 @@ once_at row low limit (sign ∷ signs) a = on (row_of sign == row) refl (once_at
   on false q l = (omega (arith, l))
 
 once_for : (row : ℕ) (s : State) (session : ℕ) (what : Change) → AreWell s.kept.now.places → times (signs_at row) (work_for s session what).signs ≤ 1
-once_for row s session (changes.Connect user host) well = on (seat_at s session user host) (seat_at_in s session user host well) where
+once_for row s session (changes.Connect user host) well = on (seat_at s session user host) (seat_at_in s.kept.now session user host well) where
   on : (o : Option Seated) → IfSome o IsInRange → times (signs_at row) (connect_work s.words (thread_flags s user host) (connected s session user host).kept.now o).signs ≤ 1
   on None r = omega arith
   on (Some seat) r = once_at row 1 129 (connect_work s.words (thread_flags s user host) (connected s session user host).kept.now (Some seat)).signs (connect_rows s.words (thread_flags s user host) (connected s session user host).kept.now seat r)
-once_for row s session changes.Quit well = on (seat_in s session) (seat_in_in s session well) where
+once_for row s session changes.Quit well = on (seat_in s session) (seat_in_in s.kept.now session well) where
   on : (o : Option Seated) → IfSome o IsInRange → times (signs_at row) (quit_work s.words s.cells (has_quit s session).kept.now o).signs ≤ 1
   on None r = omega arith
   on (Some seat) r = once_at row 1 10242 (quit_work s.words s.cells (has_quit s session).kept.now (Some seat)).signs (quit_rows s.words [] (has_quit s session).kept.now seat r tt).1
@@ -66,8 +66,8 @@ signed_once setting change labels row number = on (label_at labels number) where
 
 -- one action more
 said_for : (s : State) (session : ℕ) (what : Change) → AreWell s.kept.now.places → AreSaid s.kept.now (work_for s session what).signs (stepped s session what).kept.now
-said_for s session (changes.Connect user host) well = connect_said s session user host (seat_at_in s session user host well)
-said_for s session changes.Quit well = quit_said s session (seat_in_in s session well)
+said_for s session (changes.Connect user host) well = connect_said s session user host (seat_at_in s.kept.now session user host well)
+said_for s session changes.Quit well = quit_said s session (seat_in_in s.kept.now session well)
 said_for s session (changes.Truncate what) well = truncation_said s what
 said_for s session (changes.Setup what) well = unsigned s.kept.now
 

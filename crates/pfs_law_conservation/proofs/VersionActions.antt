@@ -9,7 +9,8 @@ use Rattle.pfs_model.specs.Actions.{Deed, deed_at, deeds_of, IsAmong}
 use Rattle.pfs_model.specs.ActionAsks.{Freed, Tagged, did, of_action}
 use Rattle.pfs_model.specs.Chains.{Each, times, change_at, row_change, release_of, each_of, is_that}
 use Rattle.pfs_model.specs.EntryPlaces.{Placed}
-use Rattle.pfs_law_conservation.proofs.InfoActions.{among_back, among_split, IsAbove, deed_of}
+use Rattle.pfs_law_conservation.proofs.InfoActions.{IsAbove, deed_of}
+use Rattle.pfs_model.proofs.Members.{among_back, among_either}
 
 -- a tag writes the words of its action
 abbrev pub SaysWords : (ℕ → ℕ → List ℕ) → (ℕ → ℕ → List ℕ) → ℕ → Entry → Type 0
@@ -121,7 +122,7 @@ module _ (content words : ℕ → ℕ → List ℕ) (row : ℕ) (low : row < 129
     here _ is a w m = absurd m
 
     on : (b : Bool) → (p.context.action == action) ≡ b → IsAmong (Tagged row) (each_of did (cond b (p ∷ []) [] ++ of_action action ps)) → Go → Found
-    on true q m go = split (among_split (Tagged row) (did p.entry) (each_of did (of_action action ps)) m) where
+    on true q m go = split (among_either (Tagged row) (did p.entry) (each_of did (of_action action ps)) m) where
       split : IsAmong (Tagged row) (did p.entry) ⊎ IsAmong (Tagged row) (each_of did (of_action action ps)) → Found
       split (inl m) = here p.entry refl (eqb-true p.context.action action q) w.0 m
       split (inr m) = more (go m)
@@ -203,7 +204,7 @@ module _ (last : ℕ → ℕ) (row : ℕ) where
     here _ is a h m = absurd m
 
     on : (b : Bool) → (p.context.action == action) ≡ b → IsAmong (Freed row) (each_of did (cond b (p ∷ []) [] ++ of_action action ps)) → Go → Found
-    on true q m go = split (among_split (Freed row) (did p.entry) (each_of did (of_action action ps)) m) where
+    on true q m go = split (among_either (Freed row) (did p.entry) (each_of did (of_action action ps)) m) where
       split : IsAmong (Freed row) (did p.entry) ⊎ IsAmong (Freed row) (each_of did (of_action action ps)) → Found
       split (inl m) = here p.entry refl (eqb-true p.context.action action q) h.0 m
       split (inr m) = more (go m)
@@ -212,7 +213,7 @@ module _ (last : ℕ → ℕ) (row : ℕ) where
 -- what a deed made is a change
 pub deed_change : (action row version : ℕ) (ps : List Placed) → IsAmong (deed_of action row version false) (deeds_of ps) → 1 ≤ times (is_that (change_at row version)) (each_of row_change ps)
 deed_change action row version [] m = absurd m
-deed_change action row version (p ∷ ps) m = on (among_split (deed_of action row version false) (deed_at p.context.action p.entry) (deeds_of ps) m) (λ k. deed_change action row version ps k) where
+deed_change action row version (p ∷ ps) m = on (among_either (deed_of action row version false) (deed_at p.context.action p.entry) (deeds_of ps) m) (λ k. deed_change action row version ps k) where
   here : (at v : ℕ) (x : Deed) → deed_of p.context.action at v false ≡ x → x ≡ deed_of action row version false → 1 ≤ cond {A = ℕ} ((at == row) && (v == version)) 1 0 + times (is_that (change_at row version)) (each_of row_change ps)
   here at v x e f =
       let r : at ≡ row = ap (λ (z : Deed). z.row) (e ∙ f) in

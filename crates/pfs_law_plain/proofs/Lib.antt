@@ -13,7 +13,6 @@ mod BlockNotes
 mod PrintedFlags
 pub mod PlainJournals
 pub mod NextSpell
-mod JournalExamples
 mod QueryReadings
 mod HeldTables
 mod ShownAnswers

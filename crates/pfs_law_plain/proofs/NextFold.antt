@@ -1,4 +1,4 @@
--- One part more, and one spell more, for whoever runs sessions.
+-- The fold of actions by one part more and by one spell more, for whoever runs sessions.
 use Rattle.std.proofs.Common.{List, [], ◌∷◌, ◌++◌}
 use Rattle.pfs_admin.specs.declared.changes.Change.{Change}
 use Rattle.pfs_law_plain.specs.Spells.{Spell}

@@ -20,7 +20,8 @@ use Rattle.pfs_law_plain.specs.RunRules.{entries_of, labels_of, contents_of}
 use Rattle.pfs_law_plain.proofs.EnteredLabels.{labels_in, all_labels, AreAllEntered, entered}
 use Rattle.pfs_law_plain.proofs.PhaseFronts.{calls_then, spells_front, entries_front}
 use Rattle.pfs_law_plain.proofs.PrintedLabels.{as_many}
-use Rattle.pfs_law_plain.proofs.PlainContents.{still_holds, flags_stay, word_versions, word_flags, allocated_is, free_is}
+use Rattle.pfs_law_plain.proofs.PlainContents.{still_holds, flags_stay, allocated_is, free_is}
+use Rattle.pfs_levels.proofs.PlainContents.{word_versions, word_flags}
 use Rattle.pfs_law_plain.proofs.PrintedCounts.{AreTallied, tallied}
 
 row_left : (flags : List ℕ) (printed : List Placed) (later calls : List Call) (row : ℕ) → 0 < row → AllAnswer flags calls → AreTallied printed calls

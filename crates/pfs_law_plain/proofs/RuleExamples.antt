@@ -58,6 +58,8 @@ use Rattle.pfs_law_plain.proofs.RunRules.{ruled}
 use Rattle.pfs_law_plain.specs.ActionFolds.{AreFolded, AllConnectFirst}
 use Rattle.pfs_law_plain.specs.PhaseStore.{IsLeft}
 use Rattle.pfs_law_plain.specs.RunRules.{IsRuled}
+use Rattle.pfs_law_plain.specs.PlainJournals.{IsAlone}
+use Rattle.pfs_law_plain.proofs.PlainJournals.{alone}
 
 -- two slots, and one place of each other kind; room for one class of files, and for those that are always there
 abbrev pub limits : Limits
@@ -490,7 +492,11 @@ facts session = (given (parts_by session (stints_of spells))).0
 have_facts : (session : ℕ) → AllFacts (facts session) at_first (parts_by session (stints_of spells))
 have_facts session = (given (parts_by session (stints_of spells))).1
 
--- so their journals keep the rules of a run, and the first phase leaves the store as the other law says
+-- so their journals have in common what the law of sessions one after another says
+pub worked_alone : IsAlone 2 (opening_flags setting opening_objects) (stints_of spells)
+worked_alone = alone (opening_flags setting opening_objects) 2 (λ session. 5) spells are_spells answers
+
+-- they keep the rules of a run, and the first phase leaves the store as the other law says
 pub worked : MergeIsMonoid → IsRuled setting change facts spells
 unfolding setting
 worked m = ruled m setting change facts (λ session. 5) spells are_spells answers are_folded connect_first have_facts

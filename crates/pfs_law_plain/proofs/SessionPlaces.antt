@@ -74,7 +74,7 @@ fold_well setting change labels =
     from_well change (opened setting) labels (opens_well setting.limits setting.in_range.thread_instances setting.in_range.accounts setting.in_range.users setting.in_range.hosts)
 
 -- so a session's places are in range
-seat_at_in : (c : Containers) (number user host : ℕ) → AreWell c.places → IfSome (seat_by c number user host (lowest_free c.places.threads)) IsInRange
+pub seat_at_in : (c : Containers) (number user host : ℕ) → AreWell c.places → IfSome (seat_by c number user host (lowest_free c.places.threads)) IsInRange
 seat_at_in c number user host well = by_slot (lowest_free c.places.threads) (free_inside c.places.threads) where
   by_slot : (slot : Option ℕ) → IfSome slot (λ p. p < length c.places.threads) → IfSome (seat_by c number user host slot) IsInRange
   by_slot None low = tt
@@ -83,7 +83,7 @@ seat_at_in c number user host well = by_slot (lowest_free c.places.threads) (fre
     places = seat_in_range c.places (session_of c.places number user host) well (session_has c.places well number user host);
   }
 
-seat_in_in : (c : Containers) (number : ℕ) → AreWell c.places → IfSome (seated (found_where (λ x. x.number == number) c.places.threads)) IsInRange
+pub seat_in_in : (c : Containers) (number : ℕ) → AreWell c.places → IfSome (seated (found_where (λ x. x.number == number) c.places.threads)) IsInRange
 seat_in_in c number well = by_found (found_where (λ x. x.number == number) c.places.threads) refl where
   by_found : (found : Option (Found Connection)) → found ≡ found_where (λ x. x.number == number) c.places.threads → IfSome (seated found) IsInRange
   by_found None e = tt

@@ -16,6 +16,7 @@ use Rattle.pfs_model.specs.Rings.{AreTickets, AreRisingTickets, IsAtOwn, LongPut
 use Rattle.pfs_model.specs.declared.changes.Change.{Change}
 use Rattle.pfs_model.specs.declared.lines.Line.{Line}
 use Rattle.pfs_law_plain.proofs.TicketPlaces.{AreLater, ArePlacesOwn, IsOwn}
+use Rattle.pfs_model.proofs.Members.{among_either}
 
 -- the puts of a kind have the tickets from this one on, each at its place
 abbrev AreFrom : ℕ → ℕ → List LongPut → Type 0
@@ -303,14 +304,6 @@ own_above earlier (says.Long row version ticket) one n a (inl e) =
     subst (IsAbove earlier) e (record { version = omega (arith, n.0); ticket = omega (arith, a) })
 own_above earlier (says.Long row version ticket) one n a (inr m) = absurd m
 own_above earlier _ one n a m = absurd m
-
-among_either : {A : Type 0} (x : A) (xs ys : List A) → IsAmong x (xs ++ ys) → IsAmong x xs ⊎ IsAmong x ys
-among_either x [] ys m = inr m
-among_either x (y ∷ xs) ys (inl e) = inl (inl e)
-among_either x (y ∷ xs) ys (inr m) = more (among_either x xs ys m) where
-  more : IsAmong x xs ⊎ IsAmong x ys → IsAmong x (y ∷ xs) ⊎ IsAmong x ys
-  more (inl a) = inl (inr a)
-  more (inr b) = inr b
 
 all_above : (earlier ps : List Placed) (one : Ticketed) → AgreeBehind earlier ps → IsAmong one (each_of ticketed_at ps) → IsAbove earlier one
 all_above earlier [] one a m = absurd m

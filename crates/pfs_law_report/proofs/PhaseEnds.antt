@@ -34,7 +34,8 @@ use Rattle.pfs_rows.specs.declared.table.Seen.TheVariants.{Whole, Free}
 use Rattle.pfs_rows.specs.declared.table.Seen.TheVariants as sees
 use Rattle.pfs_law_plain.proofs.PhaseFronts.{entries_front}
 use Rattle.pfs_law_plain.proofs.PhaseStore.{left}
-use Rattle.pfs_law_plain.proofs.PlainContents.{still_holds, word_versions, word_flags}
+use Rattle.pfs_law_plain.proofs.PlainContents.{still_holds}
+use Rattle.pfs_levels.proofs.PlainContents.{word_versions, word_flags}
 use Rattle.pfs_law_plain.specs.PhaseStore.{RowIsLeft, WordIsLeft, IsLeft}
 use Rattle.pfs_law_plain.specs.RunRules.{entries_of, labels_of, contents_of}
 use Rattle.pfs_runs.specs.PhaseFinals.{IsRead, reading_of, row_version, word_version as printed_version, shown_row, lost_behind, containers_behind}

@@ -5,7 +5,7 @@ use Rattle.pfs_event.specs.declared.entry.Entry.{Entry}
 use Rattle.pfs_model.specs.Actions.{IsAmong}
 use Rattle.pfs_model.specs.Chains.{each_of}
 use Rattle.pfs_model.specs.EntryPlaces.{Placed}
-use Rattle.pfs_law_conservation.proofs.InfoActions.{among_back, among_front, among_split}
+use Rattle.pfs_model.proofs.Members.{among_back, among_either, among_front}
 
 -- the entry that gives it
 pub record IsGiven {A : Type 0} (given : Entry → List A) (x : A) (ps : List Placed) : Type 0 where
@@ -15,7 +15,7 @@ pub record IsGiven {A : Type 0} (given : Entry → List A) (x : A) (ps : List Pl
 
 pub given_out : {A : Type 0} (given : Entry → List A) (x : A) (ps : List Placed) → IsAmong x (each_of given ps) → IsGiven given x ps
 given_out given x [] m = absurd m
-given_out given x (p ∷ ps) m = on (among_split x (given p.entry) (each_of given ps) m) (given_out given x ps) where
+given_out given x (p ∷ ps) m = on (among_either x (given p.entry) (each_of given ps) m) (given_out given x ps) where
   on : IsAmong x (given p.entry) ⊎ IsAmong x (each_of given ps) → (IsAmong x (each_of given ps) → IsGiven given x ps) → IsGiven given x (p ∷ ps)
   on (inl a) go = record { place = p; among = inl refl; gives = a }
   on (inr b) go = let r : IsGiven given x ps = go b in record { place = r.place; among = inr r.among; gives = r.gives }

@@ -29,7 +29,7 @@ use Rattle.pfs_law_plain.proofs.TruncationRows.{AreInfosOrRings, signs_split}
 use Rattle.pfs_runs.specs.Labels.{label_at, work_at, work_for, work_of_label}
 use Rattle.pfs_law_conservation.proofs.AdditionFloors.{place_among}
 use Rattle.pfs_law_conservation.proofs.ActionJournals.{HasNumber, IsSaid, all_said, said_to, said_range}
-use Rattle.pfs_law_conservation.proofs.SessionPlaces.{fold_well, seat_in_in}
+use Rattle.pfs_law_plain.proofs.SessionPlaces.{fold_well, seat_in_in}
 use Rattle.pfs_law_conservation.specs.Premises.{AreKept}
 use Rattle.pfs_law_conservation.specs.RunTerms.{Run, entries_to}
 use Rattle.pfs_rows.specs.declared.truncations.Truncation.{Truncation}
@@ -118,7 +118,7 @@ truncation_frees s what row m = by_split (signs_split (is_there s.kept.now.place
 work_frees : (setting : _) (change : Label → Change) (labels : List Label) (session row : ℕ) (what : Change) → IsAmong (Frees row) (signs_asked (work_for (state_of setting change labels) session what).signs) → IsFreedRow row
 work_frees setting change labels session row (changes.Connect user host) m = connect_frees (state_of setting change labels) session user host row (seat_at (state_of setting change labels) session user host) m
 work_frees setting change labels session row changes.Quit m =
-    quit_frees (state_of setting change labels) session row (seat_in (state_of setting change labels) session) (seat_in_in (state_of setting change labels) session (fold_well setting change labels)) m
+    quit_frees (state_of setting change labels) session row (seat_in (state_of setting change labels) session) (seat_in_in (state_of setting change labels).kept.now session (fold_well setting change labels)) m
 work_frees setting change labels session row (changes.Truncate what) m = truncation_frees (state_of setting change labels) what row m
 work_frees setting change labels session row (changes.Setup what) m = absurd m
 

@@ -14,23 +14,7 @@ use Rattle.pfs_law_summaries.proofs.HistoryPlaces.{GoesRound, last_version}
 use Rattle.pfs_law_summaries.proofs.HistoryOwners.{IsBelow, IsOwned, puts_by}
 use Rattle.pfs_law_summaries.proofs.RecentPuts.{GoRound, first_row, last_at, or_else}
 use Rattle.pfs_law_summaries.proofs.PutVersions.{DoRise, has_last, last_greatest}
-
-among_front : {A : Type 0} (x : A) (xs ys : List A) → IsAmong x xs → IsAmong x (xs ++ ys)
-among_front x [] ys m = absurd m
-among_front x (y ∷ xs) ys (inl e) = inl e
-among_front x (y ∷ xs) ys (inr m) = inr (among_front x xs ys m)
-
-among_back : {A : Type 0} (x : A) (xs ys : List A) → IsAmong x ys → IsAmong x (xs ++ ys)
-among_back x [] ys m = m
-among_back x (y ∷ xs) ys m = inr (among_back x xs ys m)
-
-among_split : {A : Type 0} (x : A) (xs ys : List A) → IsAmong x (xs ++ ys) → IsAmong x xs ⊎ IsAmong x ys
-among_split x [] ys m = inr m
-among_split x (y ∷ xs) ys (inl e) = inl (inl e)
-among_split x (y ∷ xs) ys (inr m) = on (among_split x xs ys m) where
-  on : IsAmong x xs ⊎ IsAmong x ys → IsAmong x (y ∷ xs) ⊎ IsAmong x ys
-  on (inl m) = inl (inr m)
-  on (inr m) = inr m
+use Rattle.pfs_model.proofs.Members.{among_front, among_back, among_either}
 
 -- a put is a change of its row
 put_change : (slot kind : ℕ) (o : Option ℕ) (e : Entry) (x : Change) → IsAmong x (history_put slot kind o e) → IsAmong x (row_change e)
@@ -46,7 +30,7 @@ puts_changes slot kind session [] x m = absurd m
 puts_changes slot kind session (p ∷ ps) x m = on (p.session == session) m (puts_changes slot kind session ps x) where
   on : (b : Bool) → IsAmong x (history_puts slot kind (cond b (p ∷ []) [] ++ by_session session ps)) → (IsAmong x (history_puts slot kind (by_session session ps)) → IsAmong x (each_of row_change ps)) → IsAmong x (row_change p.entry ++ each_of row_change ps)
   on false m go = among_back x (row_change p.entry) (each_of row_change ps) (go m)
-  on true m go = split (among_split x (history_put slot kind p.context.slot p.entry) (history_puts slot kind (by_session session ps)) m) where
+  on true m go = split (among_either x (history_put slot kind p.context.slot p.entry) (history_puts slot kind (by_session session ps)) m) where
     split : IsAmong x (history_put slot kind p.context.slot p.entry) ⊎ IsAmong x (history_puts slot kind (by_session session ps)) → IsAmong x (row_change p.entry ++ each_of row_change ps)
     split (inl a) = among_front x (row_change p.entry) (each_of row_change ps) (put_change slot kind p.context.slot p.entry x a)
     split (inr b) = among_back x (row_change p.entry) (each_of row_change ps) (go b)

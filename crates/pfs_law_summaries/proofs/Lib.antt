@@ -44,7 +44,6 @@ mod ReleaseVersions
 mod OwnHistories
 mod HistoryExamples
 mod PlaceExamples
-mod MovesBelowRings
 mod RingAdditions
 mod RingHomes
 mod IdlePuts

@@ -33,7 +33,7 @@ use Rattle.pfs_law_summaries.proofs.LastVersions.{IsLasting, lasting_shown, show
 use Rattle.pfs_law_summaries.proofs.LastPuts.{among_times, in_chain, of_chain}
 use Rattle.pfs_law_summaries.proofs.RunSummaries.{final_then}
 use Rattle.pfs_law_summaries.specs.LongHistory.{HasLongs, IsGreatestPut, IsPutSince, LongLaw, LongsLaw, ShowsLong, is_long_row, ticketed}
-use Rattle.pfs_law_conservation.proofs.InfoActions.{among_split}
+use Rattle.pfs_model.proofs.Members.{among_either}
 
 -- a put is a change
 ticket_change : (row version ticket : ℕ) (e : Entry) → IsAmong (ticketed row version ticket) (ticketed_at e) → IsAmong (change_at row version) (row_change e)
@@ -55,7 +55,7 @@ same_ticket : (row version first second : ℕ) (ps : List Placed) → times (is_
     → IsAmong (ticketed row version first) (each_of ticketed_at ps) → IsAmong (ticketed row version second) (each_of ticketed_at ps) → first ≡ second
 same_ticket row version first second [] l a b = absurd a
 same_ticket row version first second (p ∷ ps) l a b =
-    on (among_split (ticketed row version first) (ticketed_at p.entry) (each_of ticketed_at ps) a) (among_split (ticketed row version second) (ticketed_at p.entry) (each_of ticketed_at ps) b)
+    on (among_either (ticketed row version first) (ticketed_at p.entry) (each_of ticketed_at ps) a) (among_either (ticketed row version second) (ticketed_at p.entry) (each_of ticketed_at ps) b)
     (same_ticket row version first second ps) where
       both : times (is_that (change_at row version)) (row_change p.entry ++ each_of row_change ps) ≡ times (is_that (change_at row version)) (row_change p.entry) + times (is_that (change_at row version)) (each_of row_change ps)
       both = times_append (is_that (change_at row version)) (row_change p.entry) (each_of row_change ps)

@@ -38,7 +38,7 @@ use Rattle.pfs_summaries.specs.Summaries.{IsGiven, ordered_rows}
 use Rattle.pfs_summaries.specs.declared.heads.RowKey.{RowKey}
 use Rattle.pfs_summaries.specs.declared.tallies.Tally.{Tally}
 use Rattle.pfs_law_conservation.proofs.PlaceFolds.{fold_places, length_as}
-use Rattle.pfs_law_conservation.proofs.SessionPlaces.{fold_well}
+use Rattle.pfs_law_plain.proofs.SessionPlaces.{fold_well}
 use Rattle.pfs_law_conservation.specs.RunActions.{actions_of, labels_so_far, places_behind}
 use Rattle.pfs_law_conservation.specs.KindRows.{cells_of, limits_of}
 use Rattle.pfs_law_conservation.specs.ConservationLaws.{SummedLaw}

@@ -13,6 +13,7 @@ use Rattle.pfs_model.specs.Rings.{history_put, history_puts, is_history_row}
 use Rattle.pfs_model.specs.declared.changes.Change.{Change}
 use Rattle.pfs_law_summaries.proofs.HistoryOwners.{IsBelow}
 use Rattle.pfs_law_summaries.proofs.RecentPuts.{last_at, or_else}
+use Rattle.pfs_model.proofs.Members.{among_back}
 
 -- changes each of which is below those of its row behind it
 abbrev pub DoRise : List Change → Type 0
@@ -69,10 +70,6 @@ last_greatest row (x ∷ xs) r w a v e = on (last_at row xs) refl (x.row == row)
       omega (arith, f, g)
   on None q true z (inr b) go = absurd (let s : (k : ℕ) × (last_at row xs ≡ Some k) = has_last row w xs b in let f : None ≡ Some s.0 = sym q ∙ s.1 in cc)
   on None q false z m go = absurd (none_is row x xs v q z e)
-
-among_back : {A : Type 0} (x : A) (xs ys : List A) → IsAmong x ys → IsAmong x (xs ++ ys)
-among_back x [] ys m = m
-among_back x (y ∷ xs) ys m = inr (among_back x xs ys m)
 
 among_greatest : (row : ℕ) (x : Change) (xs : List Change) → IsAmong x xs → x.row ≡ row → x.version ≤ greatest row xs
 among_greatest row x [] a e = absurd a

@@ -17,7 +17,7 @@ use Rattle.pfs_model.specs.Rings.{AreTickets, IsAtOwn, LongPut, long_put, long_p
 use Rattle.pfs_model.specs.SetupFlags.{AreJudged}
 use Rattle.pfs_model.specs.declared.changes.Change.{Change}
 use Rattle.pfs_runs.specs.Rules.{flags_by}
-use Rattle.pfs_law_conservation.proofs.InfoActions.{among_back, among_front}
+use Rattle.pfs_model.proofs.Members.{among_back, among_front}
 use Rattle.pfs_law_conservation.proofs.SettledAdditions.{Settles, all_settling}
 use Rattle.pfs_law_conservation.proofs.AdditionFloors.{place_among}
 use Rattle.pfs_law_conservation.proofs.PhaseEntries.{IsFront, blocks_to, front_shaped, fronts}
@@ -36,7 +36,7 @@ use Rattle.pfs_law_summaries.proofs.RingAdditions.{IsLowFeed, IsLowHome, all_fed
 use Rattle.pfs_law_summaries.proofs.OwnSources.{all_following}
 use Rattle.pfs_law_summaries.proofs.RingHomes.{IsDeepAt, IsHoused, IsInRing, walk_housed}
 use Rattle.pfs_law_summaries.proofs.IdlePuts.{IsIdle, all_idle}
-use Rattle.pfs_law_summaries.proofs.MovesBelowRings.{IsSunk, asked_sunk}
+use Rattle.pfs_law_conservation.proofs.CellMoves.{IsOfCells, asked_cells}
 use Rattle.pfs_law_summaries.proofs.OwnHistories.{floored_front, judged_front}
 use Rattle.pfs_law_summaries.proofs.Rounds.{AreFollowing}
 
@@ -160,8 +160,8 @@ module _ (run : Run) (kept : AreKept run) (orderly : IsOrderly run) (phase : ℕ
   housed = walk_housed run.flags 0 fresh None [] (entries_to run phase) (run_near run kept orderly phase 0 fresh) following brought deep (λ s e. absurd (cc))
 
   -- what actions change lies below the rings
-  sunk : Each (λ (p : Placed). 0 < p.context.action → Each IsSunk (did p.entry)) (places run.blocks)
-  sunk = each_did IsSunk (places run.blocks) (λ action l. subst (Each IsSunk) (sym (kept.rules.done action l)) (asked_sunk run.setting run.change run.labels action (run.counted action)))
+  moves : Each (λ (p : Placed). 0 < p.context.action → Each IsOfCells (did p.entry)) (places run.blocks)
+  moves = each_did IsOfCells (places run.blocks) (λ action l. subst (Each IsOfCells) (sym (kept.rules.done action l)) (asked_cells run.setting run.change run.labels action (run.counted action)))
 
   tags : Each (λ (p : Placed). 0 < p.context.action → Each IsLowTag (did p.entry)) (places run.blocks)
   tags = each_did IsLowTag (places run.blocks) (λ action l. subst (Each IsLowTag) (sym (kept.rules.done action l)) (low_asked run.setting run.change run.labels (run.counted action) action))
@@ -181,12 +181,12 @@ module _ (run : Run) (kept : AreKept run) (orderly : IsOrderly run) (phase : ℕ
   is_put p m row version l h a =
       by p.entry refl (place_among (λ (p : Placed). IsLowFeed p.entry) p (entries_to run phase) m feeds)
       (place_among (HasNumber (places run.blocks)) p (entries_to run phase) m (run_said run kept orderly phase))
-      (place_among (λ (p : Placed). 0 < p.context.action → Each IsSunk (did p.entry)) p (places run.blocks) (sub p m) sunk)
+      (place_among (λ (p : Placed). 0 < p.context.action → Each IsOfCells (did p.entry)) p (places run.blocks) (sub p m) moves)
       (place_among (λ (p : Placed). 0 < p.context.action → Each IsLowTag (did p.entry)) p (places run.blocks) (sub p m) tags) a where
         acts : (e : Entry) → p.entry ≡ e → is_acted e ≡ true → HasNumber (places run.blocks) p → 0 < p.context.action
         acts e q t n = acting p n (ap is_acted q ∙ t)
 
-        by : (e : Entry) → p.entry ≡ e → IsLowFeed e → HasNumber (places run.blocks) p → (0 < p.context.action → Each IsSunk (did e)) → (0 < p.context.action → Each IsLowTag (did e)) → IsAmong (change_at row version) (row_change e) → e ≡ says.Ring row version
+        by : (e : Entry) → p.entry ≡ e → IsLowFeed e → HasNumber (places run.blocks) p → (0 < p.context.action → Each IsOfCells (did e)) → (0 < p.context.action → Each IsLowTag (did e)) → IsAmong (change_at row version) (row_change e) → e ≡ says.Ring row version
         by (says.Add at v) q f n s t (inl e) = absurd (let r : at ≡ row = (same_change row version at v e).0 in let k : at < 8450 = f in omega (arith, r, k, l))
         by (says.Add at v) q f n s t (inr a) = absurd a
         by (says.Ring at v) q f n s t (inl e) = ap (λ z. says.Ring z v) (same_change row version at v e).0 ∙ ap (λ z. says.Ring row z) (same_change row version at v e).1
@@ -194,9 +194,9 @@ module _ (run : Run) (kept : AreKept run) (orderly : IsOrderly run) (phase : ℕ
         by (says.Long at v ticket) q f n s t (inl e) =
             absurd (let r : at ≡ row = (same_change row version at v e).0 in let k : 10242 ≤ at = long_high (places run.blocks) kept.rules.ticketed p (sub p m) at v ticket q in omega (arith, r, k, h))
         by (says.Long at v ticket) q f n s t (inr a) = absurd a
-        by (says.Take at v) q f n s t (inl e) = absurd (let r : at ≡ row = (same_change row version at v e).0 in let k : at < 8450 = (s (acts (says.Take at v) q refl n)).0 in omega (arith, r, k, l))
+        by (says.Take at v) q f n s t (inl e) = absurd (let r : at ≡ row = (same_change row version at v e).0 in let k : at < 8450 = (s (acts (says.Take at v) q refl n)).0.1 in omega (arith, r, k, l))
         by (says.Take at v) q f n s t (inr a) = absurd a
-        by (says.Give at v from) q f n s t (inl e) = absurd (let r : at ≡ row = (same_change row version at v e).0 in let k : at < 8450 = (s (acts (says.Give at v from) q refl n)).0 in omega (arith, r, k, l))
+        by (says.Give at v from) q f n s t (inl e) = absurd (let r : at ≡ row = (same_change row version at v e).0 in let k : at < 8450 = (s (acts (says.Give at v from) q refl n)).0.1 in omega (arith, r, k, l))
         by (says.Give at v from) q f n s t (inr a) = absurd a
         by (says.Tag at v) q f n s t (inl e) = absurd (let r : at ≡ row = (same_change row version at v e).0 in let k : at < 129 = (t (acts (says.Tag at v) q refl n)).0 in omega (arith, r, k, l))
         by (says.Tag at v) q f n s t (inr a) = absurd a
@@ -214,7 +214,7 @@ module _ (run : Run) (kept : AreKept run) (orderly : IsOrderly run) (phase : ℕ
   is_long p m few row version l a =
       by p.entry refl (place_among (λ (p : Placed). IsLowFeed p.entry) p (entries_to run phase) m feeds)
       (place_among (HasNumber (places run.blocks)) p (entries_to run phase) m (run_said run kept orderly phase))
-      (place_among (λ (p : Placed). 0 < p.context.action → Each IsSunk (did p.entry)) p (places run.blocks) (sub p m) sunk)
+      (place_among (λ (p : Placed). 0 < p.context.action → Each IsOfCells (did p.entry)) p (places run.blocks) (sub p m) moves)
       (place_among (λ (p : Placed). 0 < p.context.action → Each IsLowTag (did p.entry)) p (places run.blocks) (sub p m) tags) a where
         acts : (e : Entry) → p.entry ≡ e → is_acted e ≡ true → HasNumber (places run.blocks) p → 0 < p.context.action
         acts e q t n = acting p n (ap is_acted q ∙ t)
@@ -225,16 +225,16 @@ module _ (run : Run) (kept : AreKept run) (orderly : IsOrderly run) (phase : ℕ
         housed_low : (at v : ℕ) → p.entry ≡ says.Ring at v → at < 10242
         housed_low at v q = let i : IsPutIn p at = put_in p m at v q in below at i.own (few i.own i.slot) i.high
 
-        by : (e : Entry) → p.entry ≡ e → IsLowFeed e → HasNumber (places run.blocks) p → (0 < p.context.action → Each IsSunk (did e)) → (0 < p.context.action → Each IsLowTag (did e)) → IsAmong (change_at row version) (row_change e) → (ticket : ℕ) × (e ≡ says.Long row version ticket)
+        by : (e : Entry) → p.entry ≡ e → IsLowFeed e → HasNumber (places run.blocks) p → (0 < p.context.action → Each IsOfCells (did e)) → (0 < p.context.action → Each IsLowTag (did e)) → IsAmong (change_at row version) (row_change e) → (ticket : ℕ) × (e ≡ says.Long row version ticket)
         by (says.Add at v) q f n s t (inl e) = absurd (let r : at ≡ row = (same_change row version at v e).0 in let k : at < 8450 = f in omega (arith, r, k, l))
         by (says.Add at v) q f n s t (inr a) = absurd a
         by (says.Ring at v) q f n s t (inl e) = absurd (let r : at ≡ row = (same_change row version at v e).0 in let k : at < 10242 = housed_low at v q in omega (arith, r, k, l))
         by (says.Ring at v) q f n s t (inr a) = absurd a
         by (says.Long at v ticket) q f n s t (inl e) = (ticket, ap (λ z. says.Long z v ticket) (same_change row version at v e).0 ∙ ap (λ z. says.Long row z ticket) (same_change row version at v e).1)
         by (says.Long at v ticket) q f n s t (inr a) = absurd a
-        by (says.Take at v) q f n s t (inl e) = absurd (let r : at ≡ row = (same_change row version at v e).0 in let k : at < 8450 = (s (acts (says.Take at v) q refl n)).0 in omega (arith, r, k, l))
+        by (says.Take at v) q f n s t (inl e) = absurd (let r : at ≡ row = (same_change row version at v e).0 in let k : at < 8450 = (s (acts (says.Take at v) q refl n)).0.1 in omega (arith, r, k, l))
         by (says.Take at v) q f n s t (inr a) = absurd a
-        by (says.Give at v from) q f n s t (inl e) = absurd (let r : at ≡ row = (same_change row version at v e).0 in let k : at < 8450 = (s (acts (says.Give at v from) q refl n)).0 in omega (arith, r, k, l))
+        by (says.Give at v from) q f n s t (inl e) = absurd (let r : at ≡ row = (same_change row version at v e).0 in let k : at < 8450 = (s (acts (says.Give at v from) q refl n)).0.1 in omega (arith, r, k, l))
         by (says.Give at v from) q f n s t (inr a) = absurd a
         by (says.Tag at v) q f n s t (inl e) = absurd (let r : at ≡ row = (same_change row version at v e).0 in let k : at < 129 = (t (acts (says.Tag at v) q refl n)).0 in omega (arith, r, k, l))
         by (says.Tag at v) q f n s t (inr a) = absurd a

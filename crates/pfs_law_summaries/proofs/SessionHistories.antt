@@ -11,7 +11,7 @@ use Rattle.pfs_model.specs.Chains.{Each, action_change, change_at, each_of, is_f
 use Rattle.pfs_model.specs.EntryPlaces.{Placed, by_session, places}
 use Rattle.pfs_model.specs.Rings.{history_put, history_puts, is_history_row}
 use Rattle.pfs_model.specs.declared.changes.Change.{Change}
-use Rattle.pfs_law_conservation.proofs.InfoActions.{among_back, among_split}
+use Rattle.pfs_model.proofs.Members.{among_back, among_either}
 use Rattle.pfs_runs.specs.Labels.{answers_at, rooms_at, terms_of}
 use Rattle.pfs_law_conservation.proofs.AdditionFloors.{place_among}
 use Rattle.pfs_law_conservation.proofs.RunEntries.{run_acting, run_own}
@@ -46,7 +46,7 @@ pub record IsChanging (change : Change) (ps : List Placed) : Type 0 where
 
 changing : (change : Change) (ps : List Placed) → IsAmong change (each_of row_change ps) → IsChanging change ps
 changing change [] m = absurd m
-changing change (p ∷ ps) m = on (among_split change (row_change p.entry) (each_of row_change ps) m) (changing change ps) where
+changing change (p ∷ ps) m = on (among_either change (row_change p.entry) (each_of row_change ps) m) (changing change ps) where
   on : IsAmong change (row_change p.entry) ⊎ IsAmong change (each_of row_change ps) → (IsAmong change (each_of row_change ps) → IsChanging change ps) → IsChanging change (p ∷ ps)
   on (inl a) go = record { place = p; among = inl refl; changes = a }
   on (inr b) go = let r : IsChanging change ps = go b in record { place = r.place; among = inr r.among; changes = r.changes }
@@ -83,7 +83,7 @@ putting session slot kind row version (p ∷ ps) m = at (p.session == session) r
 
   at : (b : Bool) → (p.session == session) ≡ b → IsAmong (change_at row version) (history_puts slot kind (cond b (p ∷ []) [] ++ by_session session ps)) → Rest → IsPutting session slot row version (p ∷ ps)
   at false q m go = later (go m)
-  at true q m go = split (among_split (change_at row version) (history_put slot kind p.context.slot p.entry) (history_puts slot kind (by_session session ps)) m) where
+  at true q m go = split (among_either (change_at row version) (history_put slot kind p.context.slot p.entry) (history_puts slot kind (by_session session ps)) m) where
     split : IsAmong (change_at row version) (history_put slot kind p.context.slot p.entry) ⊎ IsAmong (change_at row version) (history_puts slot kind (by_session session ps)) → IsPutting session slot row version (p ∷ ps)
     split (inl a) = here q p.context.slot refl p.entry refl a
     split (inr b) = later (go b)

@@ -32,10 +32,11 @@ use Rattle.pfs_model.specs.declared.changes.Change.{Change as Numbered}
 use Rattle.pfs_model.specs.declared.lines.Line.{Line}
 use Rattle.pfs_model.specs.declared.lines.Line.TheVariants as lines
 use Rattle.pfs_model.proofs.ChainGrowth.{times_append}
-use Rattle.pfs_law_conservation.proofs.InfoActions.{among_back, among_split, asked_among}
+use Rattle.pfs_law_conservation.proofs.InfoActions.{asked_among}
+use Rattle.pfs_model.proofs.Members.{among_back, among_either}
 use Rattle.pfs_runs.specs.Labels.{asked_at, label_at, rooms_at, work_at, work_for, work_of_label}
 use Rattle.pfs_law_conservation.proofs.AdditionOrder.{IsQuitting, IsSayer, IsSplit, after_quit, before_said, follow_front, last_split, near_split, onto, quits_onto, quitting_is, sayer_is, split_at}
-use Rattle.pfs_law_conservation.proofs.AdditionOrder.{among_split as among_around}
+use Rattle.pfs_law_conservation.proofs.AdditionOrder.{among_either as among_around}
 use Rattle.pfs_law_conservation.proofs.ConnectLines.{IsApart, is_act, is_connecting}
 use Rattle.pfs_law_conservation.proofs.AdditionFloors.{place_among}
 use Rattle.pfs_law_conservation.proofs.SingleQuits.{IsActed, IsIndexed, acted_of, no_other_quit, said_index}
@@ -62,6 +63,7 @@ use Rattle.pfs_law_summaries.proofs.IdlePuts.{IsIdle}
 use Rattle.pfs_law_summaries.proofs.Rounds.{is_ring}
 use Rattle.pfs_law_summaries.proofs.SlotSessions.{action_names, connects_line}
 use Rattle.pfs_law_summaries.proofs.SummaryPlaces.{none_stands}
+use Rattle.pfs_law_conservation.proofs.ActionNumbers.{said_counts, none_before, own_number, above_among, quit_change, some_of, label_same}
 
 -- ---- what a quit releases
 
@@ -129,7 +131,7 @@ freeing row action (p ∷ ps) m = on (p.context.action == action) refl m (λ k. 
   here _ q a m = absurd m
 
   on : (b : Bool) → (p.context.action == action) ≡ b → IsAmong (Freed row) (each_of did (cond b (p ∷ []) [] ++ of_action action ps)) → Go → IsFreeing row action (p ∷ ps)
-  on true q m go = split (among_split (Freed row) (did p.entry) (each_of did (of_action action ps)) m) where
+  on true q m go = split (among_either (Freed row) (did p.entry) (each_of did (of_action action ps)) m) where
     split : IsAmong (Freed row) (did p.entry) ⊎ IsAmong (Freed row) (each_of did (of_action action ps)) → IsFreeing row action (p ∷ ps)
     split (inl m) = here p.entry refl (eqb-true p.context.action action q) m
     split (inr m) = later (go m)
@@ -218,56 +220,6 @@ below_among row version at (x ∷ xs) a (inl e) = let l : x.version < version = 
 below_among row version at (x ∷ xs) a (inr m) = below_among row version at xs a.1 m
 
 -- ---- of a run
-
-said_counts : (number : ℕ) (p : Placed) (ps : List Placed) → IsAmong p ps → action_change p.entry ≡ change_at 0 number ∷ [] → 1 ≤ times (is_that (change_at 0 number)) (each_of action_change ps)
-said_counts number p [] m e = absurd m
-said_counts number p (x ∷ ps) (inl q) e =
-    let a : times (is_that (change_at 0 number)) (action_change x.entry ++ each_of action_change ps) ≡ times (is_that (change_at 0 number)) (action_change x.entry) + times (is_that (change_at 0 number)) (each_of action_change ps) = times_append (is_that (change_at 0 number)) (action_change x.entry) (each_of action_change ps) in
-    let o : times (is_that (change_at 0 number)) (action_change x.entry) ≡ cond {A = ℕ} (is_that (change_at 0 number) (change_at 0 number)) 1 0 + 0 = ap (times (is_that (change_at 0 number))) (ap (λ (z : Placed). action_change z.entry) q ∙ e) in
-    let t : cond {A = ℕ} (is_that (change_at 0 number) (change_at 0 number)) 1 0 ≡ 1 = bit_yes (is_that (change_at 0 number) (change_at 0 number)) (that_self 0 number) in
-    omega (arith, a, o, t)
-said_counts number p (x ∷ ps) (inr m) e =
-    let a : times (is_that (change_at 0 number)) (action_change x.entry ++ each_of action_change ps) ≡ times (is_that (change_at 0 number)) (action_change x.entry) + times (is_that (change_at 0 number)) (each_of action_change ps) = times_append (is_that (change_at 0 number)) (action_change x.entry) (each_of action_change ps) in
-    let l : 1 ≤ times (is_that (change_at 0 number)) (each_of action_change ps) = said_counts number p ps m e in
-    omega (arith, a, l)
-
--- none is said before it
-none_before : (number : ℕ) (x : Placed) (xs ys : List Placed) → action_change x.entry ≡ change_at 0 number ∷ [] → times (is_that (change_at 0 number)) (each_of action_change (xs ++ x ∷ ys)) ≤ 1 → times (is_that (change_at 0 number)) (each_of action_change xs) ≡ 0
-none_before number x [] ys e l = refl
-none_before number x (p ∷ xs) ys e l =
-    let a : times (is_that (change_at 0 number)) (action_change p.entry ++ each_of action_change (xs ++ x ∷ ys)) ≡ times (is_that (change_at 0 number)) (action_change p.entry) + times (is_that (change_at 0 number)) (each_of action_change (xs ++ x ∷ ys)) = times_append (is_that (change_at 0 number)) (action_change p.entry) (each_of action_change (xs ++ x ∷ ys)) in
-    let b : times (is_that (change_at 0 number)) (action_change p.entry ++ each_of action_change xs) ≡ times (is_that (change_at 0 number)) (action_change p.entry) + times (is_that (change_at 0 number)) (each_of action_change xs) = times_append (is_that (change_at 0 number)) (action_change p.entry) (each_of action_change xs) in
-    let c : 1 ≤ times (is_that (change_at 0 number)) (each_of action_change (xs ++ x ∷ ys)) = said_counts number x (xs ++ x ∷ ys) (there xs) e in
-    let ih : times (is_that (change_at 0 number)) (each_of action_change xs) ≡ 0 = none_before number x xs ys e (omega (arith, a, l)) in
-    omega (arith, a, b, c, ih, l) where
-      there : (zs : List Placed) → IsAmong x (zs ++ x ∷ ys)
-      there [] = inl refl
-      there (z ∷ zs) = inr (there zs)
-
-own_number : (number session : ℕ) (p : Placed) (ps : List Placed) → IsAmong p ps → (p.session == session) ≡ true → action_change p.entry ≡ change_at 0 number ∷ [] → IsAmong (change_at 0 number) (numbers_by session ps)
-own_number number session p [] m o e = absurd m
-own_number number session p (x ∷ ps) (inl q) o e =
-    subst (λ cs. IsAmong (change_at 0 number) (cs ++ numbers_by session ps)) (sym (ap (λ b. cond b (action_change x.entry) []) (ap (λ (z : Placed). z.session == session) q ∙ o) ∙ (ap (λ (z : Placed). action_change z.entry) q ∙ e))) (inl refl)
-own_number number session p (x ∷ ps) (inr m) o e = among_back (change_at 0 number) (cond (x.session == session) (action_change x.entry) []) (numbers_by session ps) (own_number number session p ps m o e)
-
-above_among : (number : ℕ) (c : Numbered) (cs : List Numbered) → AllAbove number cs → IsAmong c cs → number < c.version
-above_among number c [] a m = absurd m
-above_among number c (x ∷ cs) a (inl e) = subst (λ (z : Numbered). number < z.version) e a.0
-above_among number c (x ∷ cs) a (inr m) = above_among number c cs a.1 m
-
-quit_change : (line : Line) (what : Change) → is_quit line ≡ true → IsChangeOf line what → what ≡ changes.Quit
-quit_change lines.Quit changes.Quit q h = refl
-quit_change lines.Quit (changes.Connect user host) q h = absurd h
-quit_change lines.Quit (changes.Truncate what) q h = absurd h
-quit_change lines.Quit (changes.Setup what) q h = absurd h
-quit_change _ what q h = absurd (cc)
-
-some_of : (qs : List ℕ) (number : ℕ) → first_of qs ≡ Some number → (rest : List ℕ) × (qs ≡ number ∷ rest)
-some_of [] number e = absurd (cc)
-some_of (q ∷ qs) number e = (qs, let s : q ≡ number = cc in ap (λ z. z ∷ qs) s)
-
-label_same : (o : Option Label) (a b : Label) → o ≡ Some a → o ≡ Some b → a ≡ b
-label_same o a b p q = let e : Some a ≡ Some b = sym p ∙ q in cc
 
 -- a session that stands at a slot behind the action by which it connected
 pub record IsTenant (run : Run) (phase session slot action : ℕ) : Type 0 where

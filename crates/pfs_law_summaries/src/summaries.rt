@@ -1,4 +1,5 @@
-//! What a summary row shows under a phase's end is the merge of the events that count there.
+//! What a summary row shows under a phase's end is the merge of the events that count there, and what places of rings
+//! show.
 
 ghost use Rattle.pfs_law_summaries.specs.CurrentPlaces.{CurrentLaw, CurrentsLaw};
 ghost use Rattle.pfs_law_summaries.specs.DigestNumbers.{DigestNumbersLaw};

@@ -14,6 +14,6 @@ pub mod NextNames
 mod PlainOrder
 mod PlainNumbers
 mod PlainRise
-mod PlainContents
+pub mod PlainContents
 mod PlainPhases
 mod PlainCalls

@@ -10,6 +10,7 @@ use Rattle.pfs_model.specs.Chains.{each_of, row_change, word_change, change_at}
 use Rattle.pfs_model.specs.Actions.{is_acted, Deed, deed_at, deeds_by, set_at, StandsBefore, IsAmong, NeverFall, numbers_by, AllAbove, AreRising}
 use Rattle.pfs_model.specs.PlainAgreement.{last_of, AreNext, Agrees, AgreeBehind}
 use Rattle.pfs_model.proofs.LineWalks.{top, Walk, IsNoted, noted_is, number_next, top_same, top_new, top_step}
+use Rattle.pfs_model.proofs.Members.{among_either}
 
 -- the numbers that follow are above the last one
 above : (session n : ℕ) (earlier ps : List Placed) → AgreeBehind earlier ps → n ≤ top earlier → AllAbove n (numbers_by session ps)
@@ -76,14 +77,6 @@ abbrev pub DeedWalk : (Entry → List Change) → (ℕ → Entry → List Deed) 
 DeedWalk f g earlier [] = Unit {0}
 DeedWalk f g earlier (p ∷ ps) = IsDeedPlace f g earlier p × DeedWalk f g (p ∷ earlier) ps
 
-among_split : (d : Deed) (xs ys : List Deed) → IsAmong d (xs ++ ys) → IsAmong d xs ⊎ IsAmong d ys
-among_split d [] ys m = inr m
-among_split d (x ∷ xs) ys (inl e) = inl (inl e)
-among_split d (x ∷ xs) ys (inr m) = on (among_split d xs ys m) where
-  on : IsAmong d xs ⊎ IsAmong d ys → IsAmong d (x ∷ xs) ⊎ IsAmong d ys
-  on (inl m) = inl (inr m)
-  on (inr m) = inr m
-
 one_done : (before behind : List Change) (number : ℕ) (ds : List Deed) (d : Deed) → AreDone before behind number ds → IsAmong d ds → IsDone before behind number d
 one_done before behind number [] d a m = absurd m
 one_done before behind number (x ∷ []) d a (inl e) = subst (IsDone before behind number) e a
@@ -98,7 +91,7 @@ record IsLater (before : List Change) (number : ℕ) (d : Deed) : Type 0 where
 
 later : (f : Entry → List Change) (g : ℕ → Entry → List Deed) (earlier ps : List Placed) (d : Deed) → DeedWalk f g earlier ps → IsAmong d (deeds_by g ps) → IsLater (each_of f earlier) (top earlier) d
 later f g earlier [] d w m = absurd m
-later f g earlier (p ∷ ps) d w m = on (among_split d (g p.context.action p.entry) (deeds_by g ps) m) (later f g (p ∷ earlier) ps d w.1) where
+later f g earlier (p ∷ ps) d w m = on (among_either d (g p.context.action p.entry) (deeds_by g ps) m) (later f g (p ∷ earlier) ps d w.1) where
   on : IsAmong d (g p.context.action p.entry) ⊎ IsAmong d (deeds_by g ps) → (IsAmong d (deeds_by g ps) → IsLater (each_of f (p ∷ earlier)) (top (p ∷ earlier)) d) → IsLater (each_of f earlier) (top earlier) d
   on (inl m) go =
       let o : IsDone (each_of f earlier) (each_of f (p ∷ earlier)) (top earlier) d = one_done _ _ _ (g p.context.action p.entry) d w.0.done m in
@@ -118,7 +111,7 @@ later f g earlier (p ∷ ps) d w m = on (among_split d (g p.context.action p.ent
 
 pub never_fall : (f : Entry → List Change) (g : ℕ → Entry → List Deed) (earlier ps : List Placed) → DeedWalk f g earlier ps → NeverFall (deeds_by g ps)
 never_fall f g earlier [] w first next m n s = absurd m
-never_fall f g earlier (p ∷ ps) w first next m n s = on (among_split first own (deeds_by g ps) m) (among_split next own (deeds_by g ps) n) (never_fall f g (p ∷ earlier) ps w.1 first next) where
+never_fall f g earlier (p ∷ ps) w first next m n s = on (among_either first own (deeds_by g ps) m) (among_either next own (deeds_by g ps) n) (never_fall f g (p ∷ earlier) ps w.1 first next) where
   own : List Deed
   own = g p.context.action p.entry
 

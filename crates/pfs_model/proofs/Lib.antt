@@ -18,3 +18,4 @@ pub mod ClosedShapes
 pub mod LineWalks
 mod ExampleEntries
 pub mod EachLists
+pub mod Members

@@ -1,4 +1,4 @@
-//! Playing the lines of a script in their session, over any store.
+//! Playing the lines of a script in their session, and the actions among them, over any store.
 #![tactic(auto)]
 
 mod actions;

@@ -1,4 +1,4 @@
-//! What a SELECT on `setup_actors` or `setup_objects` answers.
+//! Laws of the rows that the administration holds.
 
 ghost use Rattle.pfs_setups.specs.HeldRows.{FitsLaw};
 ghost use Rattle.pfs_setups.specs.HeldExamples.{WorkedRows};

@@ -1,4 +1,5 @@
-//! What UPDATE, INSERT and DELETE change: rows of the setup tables, and flags of the switch words.
+//! What UPDATE, INSERT and DELETE change: rows of the setup tables, and flags of the switch words; and what a SELECT on
+//! the held tables answers.
 #![tactic(auto)]
 
 mod deletes;

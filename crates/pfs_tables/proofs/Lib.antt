@@ -1,4 +1,5 @@
 mod EventWords
 mod Examples
 mod Fits
+mod RowExamples
 mod RowOrder

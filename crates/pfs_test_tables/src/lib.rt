@@ -1,4 +1,4 @@
-//! Tests of texts, digests, events, scripts, SQL and the rows of tables, by public calls alone.
+//! Tests of texts, digests, events, classes, SQL, the rows of tables and a phase's end, by public calls alone.
 #![tactic(auto)]
 
 #[cfg(test)]
