@@ -122,9 +122,9 @@ impl Admin {
         requires few { self.old.actions < 2 ^ 47 }
         requires user { user < length self.old.names }
         requires host { host < length self.old.names }
-        requires alone { (r : ℕ) → 0 < r → H.hand rows.old r ≡ None }
-        requires lent { H.words rows.old ≡ Some self.old.words }
-        requires spare { 4 ≤ H.left rows.old }
+        requires alone { (r : ℕ) → 0 < r → (H.seen rows.old).hand r ≡ None }
+        requires lent { (H.seen rows.old).words ≡ Some self.old.words }
+        requires spare { 4 ≤ (H.seen rows.old).left }
         requires room { 6 ≤ log.old.room }
         ensures step { self.new ≡ connected self.old number user host }
         ensures stands { Follows number (Connect user host) self.old self.new }
@@ -132,10 +132,11 @@ impl Admin {
         ensures slot { IfSome result.thread (λ n. n < 32) }
         ensures worked { Worked (work_of_connect self.old number user host) self.old.words
             (connect_entry (self.old.actions + 1) (seat_at self.old number user host) ∷ []) log.old log.new
-            (H.reached rows.old) (H.reached rows.new) }
-        ensures lent { H.words rows.new ≡ Some self.new.words }
-        ensures leaves { Leaves 4 6 (H.hand rows.old) (H.hand rows.new) (H.left rows.old) (H.left rows.new)
-            (H.draws rows.old) (H.draws rows.new) (H.name rows.old) (H.name rows.new) log.old log.new }
+            (H.seen rows.old).reached (H.seen rows.new).reached }
+        ensures lent { (H.seen rows.new).words ≡ Some self.new.words }
+        ensures leaves { Leaves 4 6 (H.seen rows.old).hand (H.seen rows.new).hand (H.seen rows.old).left
+            (H.seen rows.new).left (H.seen rows.old).draws (H.seen rows.new).draws (H.seen rows.old).name
+            (H.seen rows.new).name log.old log.new }
     {
         let flags = self.thread_flags(user, host);
         let seat = self.containers.connect(number, user, host);
@@ -158,17 +159,18 @@ impl Admin {
     /// caller's. Without a slot nothing is written.
     pub fn quit<H: Hold>(&mut self, rows: &mut H, number: u64, log: &mut Log)
         requires few { self.old.actions < 2 ^ 47 }
-        requires alone { (r : ℕ) → 0 < r → H.hand rows.old r ≡ None }
-        requires lent { H.words rows.old ≡ Some self.old.words }
-        requires spare { 252 ≤ H.left rows.old }
+        requires alone { (r : ℕ) → 0 < r → (H.seen rows.old).hand r ≡ None }
+        requires lent { (H.seen rows.old).words ≡ Some self.old.words }
+        requires spare { 252 ≤ (H.seen rows.old).left }
         requires room { 253 ≤ log.old.room }
         ensures step { self.new ≡ has_quit self.old number }
         ensures stands { Follows number Quit self.old self.new }
-        ensures worked { Worked (work_of_quit self.old number) self.old.words [] log.old log.new (H.reached rows.old)
-            (H.reached rows.new) }
-        ensures lent { H.words rows.new ≡ Some self.new.words }
-        ensures leaves { Leaves 252 253 (H.hand rows.old) (H.hand rows.new) (H.left rows.old) (H.left rows.new)
-            (H.draws rows.old) (H.draws rows.new) (H.name rows.old) (H.name rows.new) log.old log.new }
+        ensures worked { Worked (work_of_quit self.old number) self.old.words [] log.old log.new
+            (H.seen rows.old).reached (H.seen rows.new).reached }
+        ensures lent { (H.seen rows.new).words ≡ Some self.new.words }
+        ensures leaves { Leaves 252 253 (H.seen rows.old).hand (H.seen rows.new).hand (H.seen rows.old).left
+            (H.seen rows.new).left (H.seen rows.old).draws (H.seen rows.new).draws (H.seen rows.old).name
+            (H.seen rows.new).name log.old log.new }
     {
         let seat = self.containers.quit(number);
         self.actions += 1;
@@ -189,18 +191,18 @@ impl Admin {
     /// move, what is freed and the order are our own rules, after MySQL's.
     pub fn truncate<H: Hold>(&mut self, rows: &mut H, what: Truncation, log: &mut Log)
         requires few { self.old.actions < 2 ^ 47 }
-        requires alone { (r : ℕ) → 0 < r → H.hand rows.old r ≡ None }
-        requires lent { H.words rows.old ≡ Some self.old.words }
-        requires spare { truncation_cost self.old what ≤ H.left rows.old }
+        requires alone { (r : ℕ) → 0 < r → (H.seen rows.old).hand r ≡ None }
+        requires lent { (H.seen rows.old).words ≡ Some self.old.words }
+        requires spare { truncation_cost self.old what ≤ (H.seen rows.old).left }
         requires room { truncation_cost self.old what ≤ log.old.room }
         ensures step { self.new ≡ has_truncated self.old what }
         ensures stands { (session : ℕ) → Follows session (Truncate what) self.old self.new }
         ensures worked { Worked (work_of_truncation self.old what) self.old.words [] log.old log.new
-            (H.reached rows.old) (H.reached rows.new) }
-        ensures lent { H.words rows.new ≡ Some self.new.words }
-        ensures leaves { Leaves (truncation_cost self.old what) (truncation_cost self.old what) (H.hand rows.old)
-            (H.hand rows.new) (H.left rows.old) (H.left rows.new) (H.draws rows.old) (H.draws rows.new)
-            (H.name rows.old) (H.name rows.new) log.old log.new }
+            (H.seen rows.old).reached (H.seen rows.new).reached }
+        ensures lent { (H.seen rows.new).words ≡ Some self.new.words }
+        ensures leaves { Leaves (truncation_cost self.old what) (truncation_cost self.old what) (H.seen rows.old).hand
+            (H.seen rows.new).hand (H.seen rows.old).left (H.seen rows.new).left (H.seen rows.old).draws
+            (H.seen rows.new).draws (H.seen rows.old).name (H.seen rows.new).name log.old log.new }
     {
         write_truncation(
             rows,
@@ -233,17 +235,17 @@ impl Admin {
     /// as they were.
     pub fn update<H: Hold>(&mut self, rows: &mut H, what: &Update, log: &mut Log) -> Reply
         requires few { self.old.actions < 2 ^ 47 }
-        requires lent { H.words rows.old ≡ Some self.old.words }
+        requires lent { (H.seen rows.old).words ≡ Some self.old.words }
         requires room { word_count what.now.table ≤ log.old.room }
         ensures step { self.new ≡ has_changed self.old (statements.Update what.now) }
         ensures stands { (session : ℕ) → Follows session (Setup (statements.Update what.now)) self.old self.new }
         ensures reply { result ≡ reply_to self.old (statements.Update what.now) }
         ensures worked { Worked (work_of_statement self.old (statements.Update what.now)) self.old.words [] log.old
-            log.new (H.reached rows.old) (H.reached rows.new) }
-        ensures lent { H.words rows.new ≡ Some self.new.words }
-        ensures leaves { Leaves 0 (word_count what.now.table) (H.hand rows.old) (H.hand rows.new) (H.left rows.old)
-            (H.left rows.new) (H.draws rows.old) (H.draws rows.new) (H.name rows.old) (H.name rows.new) log.old
-            log.new }
+            log.new (H.seen rows.old).reached (H.seen rows.new).reached }
+        ensures lent { (H.seen rows.new).words ≡ Some self.new.words }
+        ensures leaves { Leaves 0 (word_count what.now.table) (H.seen rows.old).hand (H.seen rows.new).hand
+            (H.seen rows.old).left (H.seen rows.new).left (H.seen rows.old).draws (H.seen rows.new).draws
+            (H.seen rows.old).name (H.seen rows.new).name log.old log.new }
     {
         let flags = flags_of(self.words.as_slice());
         let met = update(
@@ -272,17 +274,17 @@ impl Admin {
     /// [update](Admin::update) gives it.
     pub fn insert<H: Hold>(&mut self, rows: &mut H, what: Insert, log: &mut Log) -> Reply
         requires few { self.old.actions < 2 ^ 47 }
-        requires lent { H.words rows.old ≡ Some self.old.words }
+        requires lent { (H.seen rows.old).words ≡ Some self.old.words }
         requires room { word_count (table_of what.row) ≤ log.old.room }
         ensures step { self.new ≡ has_changed self.old (statements.Insert what) }
         ensures stands { (session : ℕ) → Follows session (Setup (statements.Insert what)) self.old self.new }
         ensures reply { result ≡ reply_to self.old (statements.Insert what) }
         ensures worked { Worked (work_of_statement self.old (statements.Insert what)) self.old.words [] log.old
-            log.new (H.reached rows.old) (H.reached rows.new) }
-        ensures lent { H.words rows.new ≡ Some self.new.words }
-        ensures leaves { Leaves 0 (word_count (table_of what.row)) (H.hand rows.old) (H.hand rows.new) (H.left rows.old)
-            (H.left rows.new) (H.draws rows.old) (H.draws rows.new) (H.name rows.old) (H.name rows.new) log.old
-            log.new }
+            log.new (H.seen rows.old).reached (H.seen rows.new).reached }
+        ensures lent { (H.seen rows.new).words ≡ Some self.new.words }
+        ensures leaves { Leaves 0 (word_count (table_of what.row)) (H.seen rows.old).hand (H.seen rows.new).hand
+            (H.seen rows.old).left (H.seen rows.new).left (H.seen rows.old).draws (H.seen rows.new).draws
+            (H.seen rows.old).name (H.seen rows.new).name log.old log.new }
     {
         let table = table_of(&what.row);
         let answer = insert(&mut self.actors, &mut self.objects, what);
@@ -303,17 +305,17 @@ impl Admin {
     /// The log gets what [update](Admin::update) gives it.
     pub fn delete<H: Hold>(&mut self, rows: &mut H, what: &Delete, log: &mut Log) -> Reply
         requires few { self.old.actions < 2 ^ 47 }
-        requires lent { H.words rows.old ≡ Some self.old.words }
+        requires lent { (H.seen rows.old).words ≡ Some self.old.words }
         requires room { word_count what.now.table ≤ log.old.room }
         ensures step { self.new ≡ has_changed self.old (statements.Delete what.now) }
         ensures stands { (session : ℕ) → Follows session (Setup (statements.Delete what.now)) self.old self.new }
         ensures reply { result ≡ reply_to self.old (statements.Delete what.now) }
         ensures worked { Worked (work_of_statement self.old (statements.Delete what.now)) self.old.words [] log.old
-            log.new (H.reached rows.old) (H.reached rows.new) }
-        ensures lent { H.words rows.new ≡ Some self.new.words }
-        ensures leaves { Leaves 0 (word_count what.now.table) (H.hand rows.old) (H.hand rows.new) (H.left rows.old)
-            (H.left rows.new) (H.draws rows.old) (H.draws rows.new) (H.name rows.old) (H.name rows.new) log.old
-            log.new }
+            log.new (H.seen rows.old).reached (H.seen rows.new).reached }
+        ensures lent { (H.seen rows.new).words ≡ Some self.new.words }
+        ensures leaves { Leaves 0 (word_count what.now.table) (H.seen rows.old).hand (H.seen rows.new).hand
+            (H.seen rows.old).left (H.seen rows.new).left (H.seen rows.old).draws (H.seen rows.new).draws
+            (H.seen rows.old).name (H.seen rows.new).name log.old log.new }
     {
         let met = delete(&mut self.actors, &mut self.objects, what);
         set_deleted(

@@ -18,15 +18,16 @@ pub(crate) fn empty_level<H: Hold>(
     cells: &[u64],
     log: &mut Log,
 )
-    requires alone { (r : ℕ) → 0 < r → H.hand rows.old r ≡ None }
+    requires alone { (r : ℕ) → 0 < r → (H.seen rows.old).hand r ≡ None }
     requires cells { All (λ cell. cell < 64) cells.now }
-    requires spare { cost (level_asks containers.now.now.places cells.now level) ≤ H.left rows.old }
+    requires spare { cost (level_asks containers.now.now.places cells.now level) ≤ (H.seen rows.old).left }
     requires room { cost (level_asks containers.now.now.places cells.now level) ≤ log.old.room }
-    ensures moved { Moved (level_asks containers.now.now.places cells.now level) log.old log.new (H.reached rows.old)
-        (H.reached rows.new) }
-    ensures stays { Stays (cost (level_asks containers.now.now.places cells.now level)) (H.hand rows.old)
-        (H.hand rows.new) (H.left rows.old) (H.left rows.new) (H.draws rows.old) (H.draws rows.new) (H.words rows.old)
-        (H.words rows.new) (H.name rows.old) (H.name rows.new) log.old log.new }
+    ensures moved { Moved (level_asks containers.now.now.places cells.now level) log.old log.new
+        (H.seen rows.old).reached (H.seen rows.new).reached }
+    ensures stays { Stays (cost (level_asks containers.now.now.places cells.now level)) (H.seen rows.old).hand
+        (H.seen rows.new).hand (H.seen rows.old).left (H.seen rows.new).left (H.seen rows.old).draws
+        (H.seen rows.new).draws (H.seen rows.old).words (H.seen rows.new).words (H.seen rows.old).name
+        (H.seen rows.new).name log.old log.new }
 {
     for place in 0..32 {
         let source = source_at(containers, level, place);
@@ -44,15 +45,16 @@ pub(crate) fn empty_level_if<H: Hold>(
     cells: &[u64],
     log: &mut Log,
 )
-    requires alone { (r : ℕ) → 0 < r → H.hand rows.old r ≡ None }
+    requires alone { (r : ℕ) → 0 < r → (H.seen rows.old).hand r ≡ None }
     requires cells { All (λ cell. cell < 64) cells.now }
-    requires spare { cost (emptied due containers.now.now.places cells.now level) ≤ H.left rows.old }
+    requires spare { cost (emptied due containers.now.now.places cells.now level) ≤ (H.seen rows.old).left }
     requires room { cost (emptied due containers.now.now.places cells.now level) ≤ log.old.room }
-    ensures moved { Moved (emptied due containers.now.now.places cells.now level) log.old log.new (H.reached rows.old)
-        (H.reached rows.new) }
-    ensures stays { Stays (cost (emptied due containers.now.now.places cells.now level)) (H.hand rows.old)
-        (H.hand rows.new) (H.left rows.old) (H.left rows.new) (H.draws rows.old) (H.draws rows.new) (H.words rows.old)
-        (H.words rows.new) (H.name rows.old) (H.name rows.new) log.old log.new }
+    ensures moved { Moved (emptied due containers.now.now.places cells.now level) log.old log.new
+        (H.seen rows.old).reached (H.seen rows.new).reached }
+    ensures stays { Stays (cost (emptied due containers.now.now.places cells.now level)) (H.seen rows.old).hand
+        (H.seen rows.new).hand (H.seen rows.old).left (H.seen rows.new).left (H.seen rows.old).draws
+        (H.seen rows.new).draws (H.seen rows.old).words (H.seen rows.new).words (H.seen rows.old).name
+        (H.seen rows.new).name log.old log.new }
 {
     if due {
         empty_level(rows, containers, level, cells, log);
@@ -62,15 +64,16 @@ pub(crate) fn empty_level_if<H: Hold>(
 // Moves these cells of a place, where something stands there.
 #[tactic(auto, using(crate::proofs::LevelMoves::moved_nothing, crate::proofs::LevelMoves::stays_nothing, crate::proofs::LevelRows::away_cells))]
 fn empty_place<H: Hold>(rows: &mut H, source: Option<Source>, cells: &[u64], log: &mut Log)
-    requires alone { (r : ℕ) → 0 < r → H.hand rows.old r ≡ None }
+    requires alone { (r : ℕ) → 0 < r → (H.seen rows.old).hand r ≡ None }
     requires source { IfSome source IsSource }
     requires cells { All (λ cell. cell < 64) cells.now }
-    requires spare { cost (place_asks cells.now source) ≤ H.left rows.old }
+    requires spare { cost (place_asks cells.now source) ≤ (H.seen rows.old).left }
     requires room { cost (place_asks cells.now source) ≤ log.old.room }
-    ensures moved { Moved (place_asks cells.now source) log.old log.new (H.reached rows.old) (H.reached rows.new) }
-    ensures stays { Stays (cost (place_asks cells.now source)) (H.hand rows.old) (H.hand rows.new) (H.left rows.old)
-        (H.left rows.new) (H.draws rows.old) (H.draws rows.new) (H.words rows.old) (H.words rows.new)
-        (H.name rows.old) (H.name rows.new) log.old log.new }
+    ensures moved { Moved (place_asks cells.now source) log.old log.new (H.seen rows.old).reached
+        (H.seen rows.new).reached }
+    ensures stays { Stays (cost (place_asks cells.now source)) (H.seen rows.old).hand (H.seen rows.new).hand
+        (H.seen rows.old).left (H.seen rows.new).left (H.seen rows.old).draws (H.seen rows.new).draws
+        (H.seen rows.old).words (H.seen rows.new).words (H.seen rows.old).name (H.seen rows.new).name log.old log.new }
 {
     if let Some(source) = source {
         flush_cells(rows, source, cells, log);

@@ -17,13 +17,14 @@ use pfs_rows::{
 
 /// Releases all places of a thread's ring, ascending, also those that are free. The log gets the releases.
 pub(crate) fn release_ring<H: Hold>(rows: &mut H, slot: u64, log: &mut Log)
-    requires alone { (r : ℕ) → 0 < r → H.hand rows.old r ≡ None }
+    requires alone { (r : ℕ) → 0 < r → (H.seen rows.old).hand r ≡ None }
     requires slot { slot < 32 }
-    requires spare { 56 ≤ H.left rows.old }
+    requires spare { 56 ≤ (H.seen rows.old).left }
     requires room { 56 ≤ log.old.room }
-    ensures signed { Signed (free_ring slot) log.old log.new (H.reached rows.old) (H.reached rows.new) }
-    ensures stays { Stays 56 (H.hand rows.old) (H.hand rows.new) (H.left rows.old) (H.left rows.new) (H.draws rows.old)
-        (H.draws rows.new) (H.words rows.old) (H.words rows.new) (H.name rows.old) (H.name rows.new) log.old log.new }
+    ensures signed { Signed (free_ring slot) log.old log.new (H.seen rows.old).reached (H.seen rows.new).reached }
+    ensures stays { Stays 56 (H.seen rows.old).hand (H.seen rows.new).hand (H.seen rows.old).left
+        (H.seen rows.new).left (H.seen rows.old).draws (H.seen rows.new).draws (H.seen rows.old).words
+        (H.seen rows.new).words (H.seen rows.old).name (H.seen rows.new).name log.old log.new }
 {
     release_rows(rows, RINGS + RING_PLACES * slot, RING_PLACES, log);
 }
@@ -37,14 +38,14 @@ pub(crate) fn release_events<H: Hold>(
     table: EventTable,
     log: &mut Log,
 )
-    requires alone { (r : ℕ) → 0 < r → H.hand rows.old r ≡ None }
-    requires spare { event_most table ≤ H.left rows.old }
+    requires alone { (r : ℕ) → 0 < r → (H.seen rows.old).hand r ≡ None }
+    requires spare { event_most table ≤ (H.seen rows.old).left }
     requires room { event_most table ≤ log.old.room }
     ensures signed { Signed (event_signs (is_there containers.now.now.places levels.Thread) kind table) log.old log.new
-        (H.reached rows.old) (H.reached rows.new) }
-    ensures stays { Stays (event_most table) (H.hand rows.old) (H.hand rows.new) (H.left rows.old) (H.left rows.new)
-        (H.draws rows.old) (H.draws rows.new) (H.words rows.old) (H.words rows.new) (H.name rows.old)
-        (H.name rows.new) log.old log.new }
+        (H.seen rows.old).reached (H.seen rows.new).reached }
+    ensures stays { Stays (event_most table) (H.seen rows.old).hand (H.seen rows.new).hand (H.seen rows.old).left
+        (H.seen rows.new).left (H.seen rows.old).draws (H.seen rows.new).draws (H.seen rows.old).words
+        (H.seen rows.new).words (H.seen rows.old).name (H.seen rows.new).name log.old log.new }
 {
     match table {
         EventTable::Current => {
@@ -100,16 +101,16 @@ fn release_threads<H: Hold>(
     count: u64,
     log: &mut Log,
 )
-    requires alone { (r : ℕ) → 0 < r → H.hand rows.old r ≡ None }
+    requires alone { (r : ℕ) → 0 < r → (H.seen rows.old).hand r ≡ None }
     requires first { first ≤ 46 }
     requires count { count ≤ 10 }
-    requires spare { 320 ≤ H.left rows.old }
+    requires spare { 320 ≤ (H.seen rows.old).left }
     requires room { 320 ≤ log.old.room }
     ensures signed { Signed (free_threads (is_there containers.now.now.places levels.Thread) first count) log.old
-        log.new (H.reached rows.old) (H.reached rows.new) }
-    ensures stays { Stays 320 (H.hand rows.old) (H.hand rows.new) (H.left rows.old) (H.left rows.new)
-        (H.draws rows.old) (H.draws rows.new) (H.words rows.old) (H.words rows.new) (H.name rows.old)
-        (H.name rows.new) log.old log.new }
+        log.new (H.seen rows.old).reached (H.seen rows.new).reached }
+    ensures stays { Stays 320 (H.seen rows.old).hand (H.seen rows.new).hand (H.seen rows.old).left
+        (H.seen rows.new).left (H.seen rows.old).draws (H.seen rows.new).draws (H.seen rows.old).words
+        (H.seen rows.new).words (H.seen rows.old).name (H.seen rows.new).name log.old log.new }
 {
     for slot in 0..32 {
         let there = source_at(containers, Level::Thread, slot).is_some();
@@ -127,17 +128,17 @@ fn release_slot<H: Hold>(
     count: u64,
     log: &mut Log,
 )
-    requires alone { (r : ℕ) → 0 < r → H.hand rows.old r ≡ None }
+    requires alone { (r : ℕ) → 0 < r → (H.seen rows.old).hand r ≡ None }
     requires slot { slot < 32 }
     requires first { first ≤ 46 }
     requires count { count ≤ 10 }
-    requires spare { 10 ≤ H.left rows.old }
+    requires spare { 10 ≤ (H.seen rows.old).left }
     requires room { 10 ≤ log.old.room }
     ensures signed { Signed (cond there (free_rows (8450 + 56 * slot + first) count) []) log.old log.new
-        (H.reached rows.old) (H.reached rows.new) }
-    ensures stays { Stays 10 (H.hand rows.old) (H.hand rows.new) (H.left rows.old) (H.left rows.new)
-        (H.draws rows.old) (H.draws rows.new) (H.words rows.old) (H.words rows.new) (H.name rows.old)
-        (H.name rows.new) log.old log.new }
+        (H.seen rows.old).reached (H.seen rows.new).reached }
+    ensures stays { Stays 10 (H.seen rows.old).hand (H.seen rows.new).hand (H.seen rows.old).left
+        (H.seen rows.new).left (H.seen rows.old).draws (H.seen rows.new).draws (H.seen rows.old).words
+        (H.seen rows.new).words (H.seen rows.old).name (H.seen rows.new).name log.old log.new }
 {
     if there {
         release_rows(rows, RINGS + RING_PLACES * slot + first, count, log);
@@ -146,15 +147,16 @@ fn release_slot<H: Hold>(
 
 // Releases so many rows from this one on.
 fn release_rows<H: Hold>(rows: &mut H, first: u64, count: u64, log: &mut Log)
-    requires alone { (r : ℕ) → 0 < r → H.hand rows.old r ≡ None }
+    requires alone { (r : ℕ) → 0 < r → (H.seen rows.old).hand r ≡ None }
     requires low { 0 < first }
     requires high { first + count ≤ 14242 }
-    requires spare { count ≤ H.left rows.old }
+    requires spare { count ≤ (H.seen rows.old).left }
     requires room { count ≤ log.old.room }
-    ensures signed { Signed (free_rows first count) log.old log.new (H.reached rows.old) (H.reached rows.new) }
-    ensures stays { Stays count (H.hand rows.old) (H.hand rows.new) (H.left rows.old) (H.left rows.new)
-        (H.draws rows.old) (H.draws rows.new) (H.words rows.old) (H.words rows.new) (H.name rows.old)
-        (H.name rows.new) log.old log.new }
+    ensures signed { Signed (free_rows first count) log.old log.new (H.seen rows.old).reached
+        (H.seen rows.new).reached }
+    ensures stays { Stays count (H.seen rows.old).hand (H.seen rows.new).hand (H.seen rows.old).left
+        (H.seen rows.new).left (H.seen rows.old).draws (H.seen rows.new).draws (H.seen rows.old).words
+        (H.seen rows.new).words (H.seen rows.old).name (H.seen rows.new).name log.old log.new }
 {
     for place in 0..count {
         release(rows, first + place, log);

@@ -58,14 +58,14 @@ pub(crate) fn sign_truncated<H: Hold>(
     what: Truncation,
     log: &mut Log,
 )
-    requires alone { (r : ℕ) → 0 < r → H.hand rows.old r ≡ None }
-    requires spare { signs_most (was_by before.now) what ≤ H.left rows.old }
+    requires alone { (r : ℕ) → 0 < r → (H.seen rows.old).hand r ≡ None }
+    requires spare { signs_most (was_by before.now) what ≤ (H.seen rows.old).left }
     requires room { signs_most (was_by before.now) what ≤ log.old.room }
     ensures signed { Signed (truncation_signs (was_by before.now) containers.now.now what) log.old log.new
-        (H.reached rows.old) (H.reached rows.new) }
-    ensures stays { Stays (signs_most (was_by before.now) what) (H.hand rows.old) (H.hand rows.new) (H.left rows.old)
-        (H.left rows.new) (H.draws rows.old) (H.draws rows.new) (H.words rows.old) (H.words rows.new)
-        (H.name rows.old) (H.name rows.new) log.old log.new }
+        (H.seen rows.old).reached (H.seen rows.new).reached }
+    ensures stays { Stays (signs_most (was_by before.now) what) (H.seen rows.old).hand (H.seen rows.new).hand
+        (H.seen rows.old).left (H.seen rows.new).left (H.seen rows.old).draws (H.seen rows.new).draws
+        (H.seen rows.old).words (H.seen rows.new).words (H.seen rows.old).name (H.seen rows.new).name log.old log.new }
 {
     match what {
         Truncation::Accounts => {
@@ -90,14 +90,14 @@ pub(crate) fn sign_truncated<H: Hold>(
 
 // Accounts that were freed, and users.
 fn sign_users<H: Hold>(rows: &mut H, containers: &Containers, before: &Standing, log: &mut Log)
-    requires alone { (r : ℕ) → 0 < r → H.hand rows.old r ≡ None }
-    requires spare { signs_most (was_by before.now) Users ≤ H.left rows.old }
+    requires alone { (r : ℕ) → 0 < r → (H.seen rows.old).hand r ≡ None }
+    requires spare { signs_most (was_by before.now) Users ≤ (H.seen rows.old).left }
     requires room { signs_most (was_by before.now) Users ≤ log.old.room }
     ensures signed { Signed (truncation_signs (was_by before.now) containers.now.now Users) log.old log.new
-        (H.reached rows.old) (H.reached rows.new) }
-    ensures stays { Stays (signs_most (was_by before.now) Users) (H.hand rows.old) (H.hand rows.new) (H.left rows.old)
-        (H.left rows.new) (H.draws rows.old) (H.draws rows.new) (H.words rows.old) (H.words rows.new)
-        (H.name rows.old) (H.name rows.new) log.old log.new }
+        (H.seen rows.old).reached (H.seen rows.new).reached }
+    ensures stays { Stays (signs_most (was_by before.now) Users) (H.seen rows.old).hand (H.seen rows.new).hand
+        (H.seen rows.old).left (H.seen rows.new).left (H.seen rows.old).draws (H.seen rows.new).draws
+        (H.seen rows.old).words (H.seen rows.new).words (H.seen rows.old).name (H.seen rows.new).name log.old log.new }
 {
     sign_level(
         rows,
@@ -112,14 +112,14 @@ fn sign_users<H: Hold>(rows: &mut H, containers: &Containers, before: &Standing,
 
 // Accounts that were freed, and hosts.
 fn sign_hosts<H: Hold>(rows: &mut H, containers: &Containers, before: &Standing, log: &mut Log)
-    requires alone { (r : ℕ) → 0 < r → H.hand rows.old r ≡ None }
-    requires spare { signs_most (was_by before.now) Hosts ≤ H.left rows.old }
+    requires alone { (r : ℕ) → 0 < r → (H.seen rows.old).hand r ≡ None }
+    requires spare { signs_most (was_by before.now) Hosts ≤ (H.seen rows.old).left }
     requires room { signs_most (was_by before.now) Hosts ≤ log.old.room }
     ensures signed { Signed (truncation_signs (was_by before.now) containers.now.now Hosts) log.old log.new
-        (H.reached rows.old) (H.reached rows.new) }
-    ensures stays { Stays (signs_most (was_by before.now) Hosts) (H.hand rows.old) (H.hand rows.new) (H.left rows.old)
-        (H.left rows.new) (H.draws rows.old) (H.draws rows.new) (H.words rows.old) (H.words rows.new)
-        (H.name rows.old) (H.name rows.new) log.old log.new }
+        (H.seen rows.old).reached (H.seen rows.new).reached }
+    ensures stays { Stays (signs_most (was_by before.now) Hosts) (H.seen rows.old).hand (H.seen rows.new).hand
+        (H.seen rows.old).left (H.seen rows.new).left (H.seen rows.old).draws (H.seen rows.new).draws
+        (H.seen rows.old).words (H.seen rows.new).words (H.seen rows.old).name (H.seen rows.new).name log.old log.new }
 {
     sign_level(
         rows,
@@ -141,14 +141,14 @@ fn sign_level<H: Hold>(
     written: bool,
     log: &mut Log,
 )
-    requires alone { (r : ℕ) → 0 < r → H.hand rows.old r ≡ None }
-    requires spare { standing (flag_at was.now) ≤ H.left rows.old }
+    requires alone { (r : ℕ) → 0 < r → (H.seen rows.old).hand r ≡ None }
+    requires spare { standing (flag_at was.now) ≤ (H.seen rows.old).left }
     requires room { standing (flag_at was.now) ≤ log.old.room }
     ensures signed { Signed (level_signs written (flag_at was.now) containers.now.now level) log.old log.new
-        (H.reached rows.old) (H.reached rows.new) }
-    ensures stays { Stays (standing (flag_at was.now)) (H.hand rows.old) (H.hand rows.new) (H.left rows.old)
-        (H.left rows.new) (H.draws rows.old) (H.draws rows.new) (H.words rows.old) (H.words rows.new)
-        (H.name rows.old) (H.name rows.new) log.old log.new }
+        (H.seen rows.old).reached (H.seen rows.new).reached }
+    ensures stays { Stays (standing (flag_at was.now)) (H.seen rows.old).hand (H.seen rows.new).hand
+        (H.seen rows.old).left (H.seen rows.new).left (H.seen rows.old).draws (H.seen rows.new).draws
+        (H.seen rows.old).words (H.seen rows.new).words (H.seen rows.old).name (H.seen rows.new).name log.old log.new }
 {
     for place in 0..32 {
         let due = was[place as usize];
@@ -167,15 +167,15 @@ fn sign_place<H: Hold>(
     written: bool,
     log: &mut Log,
 )
-    requires alone { (r : ℕ) → 0 < r → H.hand rows.old r ≡ None }
+    requires alone { (r : ℕ) → 0 < r → (H.seen rows.old).hand r ≡ None }
     requires place { place < 32 }
-    requires spare { cond due 1 0 ≤ H.left rows.old }
+    requires spare { cond due 1 0 ≤ (H.seen rows.old).left }
     requires room { cond due 1 0 ≤ log.old.room }
-    ensures signed { Signed (place_sign written due (first_row level + place)
-        (content_at containers.now.now level place)) log.old log.new (H.reached rows.old) (H.reached rows.new) }
-    ensures stays { Stays (cond due 1 0) (H.hand rows.old) (H.hand rows.new) (H.left rows.old) (H.left rows.new)
-        (H.draws rows.old) (H.draws rows.new) (H.words rows.old) (H.words rows.new) (H.name rows.old)
-        (H.name rows.new) log.old log.new }
+    ensures signed { Signed (place_sign written due (first_row level + place) (content_at containers.now.now level
+        place)) log.old log.new (H.seen rows.old).reached (H.seen rows.new).reached }
+    ensures stays { Stays (cond due 1 0) (H.seen rows.old).hand (H.seen rows.new).hand (H.seen rows.old).left
+        (H.seen rows.new).left (H.seen rows.old).draws (H.seen rows.new).draws (H.seen rows.old).words
+        (H.seen rows.new).words (H.seen rows.old).name (H.seen rows.new).name log.old log.new }
 {
     if due {
         let content = content_at(containers, level, place);
@@ -191,14 +191,14 @@ fn sign_row<H: Hold>(
     written: bool,
     log: &mut Log,
 )
-    requires away { IsAway (H.hand rows.old) row }
-    requires spare { 1 ≤ H.left rows.old }
+    requires away { IsAway (H.seen rows.old).hand row }
+    requires spare { 1 ≤ (H.seen rows.old).left }
     requires room { 1 ≤ log.old.room }
-    ensures signed { Signed (place_sign written true row content.now) log.old log.new (H.reached rows.old)
-        (H.reached rows.new) }
-    ensures stays { Stays (1) (H.hand rows.old) (H.hand rows.new) (H.left rows.old) (H.left rows.new)
-        (H.draws rows.old) (H.draws rows.new) (H.words rows.old) (H.words rows.new) (H.name rows.old)
-        (H.name rows.new) log.old log.new }
+    ensures signed { Signed (place_sign written true row content.now) log.old log.new (H.seen rows.old).reached
+        (H.seen rows.new).reached }
+    ensures stays { Stays (1) (H.seen rows.old).hand (H.seen rows.new).hand (H.seen rows.old).left
+        (H.seen rows.new).left (H.seen rows.old).draws (H.seen rows.new).draws (H.seen rows.old).words
+        (H.seen rows.new).words (H.seen rows.old).name (H.seen rows.new).name log.old log.new }
 {
     match content {
         Some(content) => tag_if(rows, row, content, written, log),
@@ -208,14 +208,14 @@ fn sign_row<H: Hold>(
 
 #[tactic(auto, using(crate::proofs::LevelMoves::stays_nothing, crate::proofs::SignLists::signed_none))]
 fn tag_if<H: Hold>(rows: &mut H, row: u64, content: &Content, written: bool, log: &mut Log)
-    requires away { IsAway (H.hand rows.old) row }
-    requires spare { 1 ≤ H.left rows.old }
+    requires away { IsAway (H.seen rows.old).hand row }
+    requires spare { 1 ≤ (H.seen rows.old).left }
     requires room { 1 ≤ log.old.room }
-    ensures signed { Signed (place_sign written true row (Some content.now)) log.old log.new (H.reached rows.old)
-        (H.reached rows.new) }
-    ensures stays { Stays (1) (H.hand rows.old) (H.hand rows.new) (H.left rows.old) (H.left rows.new)
-        (H.draws rows.old) (H.draws rows.new) (H.words rows.old) (H.words rows.new) (H.name rows.old)
-        (H.name rows.new) log.old log.new }
+    ensures signed { Signed (place_sign written true row (Some content.now)) log.old log.new (H.seen rows.old).reached
+        (H.seen rows.new).reached }
+    ensures stays { Stays (1) (H.seen rows.old).hand (H.seen rows.new).hand (H.seen rows.old).left
+        (H.seen rows.new).left (H.seen rows.old).draws (H.seen rows.new).draws (H.seen rows.old).words
+        (H.seen rows.new).words (H.seen rows.old).name (H.seen rows.new).name log.old log.new }
 {
     if written {
         tag(rows, row, content, log);

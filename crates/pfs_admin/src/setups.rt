@@ -77,7 +77,7 @@ pub(crate) fn set_updated<H: Hold>(
     log: &mut Log,
 )
     requires wide { length words.old ≡ 160 }
-    requires lent { H.words rows.old ≡ Some words.old }
+    requires lent { (H.seen rows.old).words ≡ Some words.old }
     requires early { (at : ℕ) → (word_at words.old at).version + 1 < 2 ^ 48 }
     requires room { word_count what.now.table ≤ log.old.room }
     ensures did { Did (flagging_calls words.old (flags_changed
@@ -85,14 +85,15 @@ pub(crate) fn set_updated<H: Hold>(
         (first_word what.now.table) (word_count what.now.table)))
         (flagging_entries words.old (flags_changed
         (updates.flags_behind names.now containers.now.now.places.threads objects.now what.now) words.old
-        (first_word what.now.table) (word_count what.now.table))) log.old log.new (H.reached rows.old)
-        (H.reached rows.new) }
+        (first_word what.now.table) (word_count what.now.table))) log.old log.new (H.seen rows.old).reached
+        (H.seen rows.new).reached }
     ensures mine { words.new ≡ words_changed
         (updates.flags_behind names.now containers.now.now.places.threads objects.now what.now) words.old
         (first_word what.now.table) (word_count what.now.table) }
-    ensures lent { H.words rows.new ≡ Some words.new }
-    ensures leaves { Leaves 0 (word_count what.now.table) (H.hand rows.old) (H.hand rows.new) (H.left rows.old)
-        (H.left rows.new) (H.draws rows.old) (H.draws rows.new) (H.name rows.old) (H.name rows.new) log.old log.new }
+    ensures lent { (H.seen rows.new).words ≡ Some words.new }
+    ensures leaves { Leaves 0 (word_count what.now.table) (H.seen rows.old).hand (H.seen rows.new).hand
+        (H.seen rows.old).left (H.seen rows.new).left (H.seen rows.old).draws (H.seen rows.new).draws
+        (H.seen rows.old).name (H.seen rows.new).name log.old log.new }
 {
     let first = first_word(what.table);
     for at in 0..word_count(what.table) {
@@ -113,18 +114,19 @@ pub(crate) fn set_deleted<H: Hold>(
     log: &mut Log,
 )
     requires wide { length words.old ≡ 160 }
-    requires lent { H.words rows.old ≡ Some words.old }
+    requires lent { (H.seen rows.old).words ≡ Some words.old }
     requires early { (at : ℕ) → (word_at words.old at).version + 1 < 2 ^ 48 }
     requires room { word_count table ≤ log.old.room }
     ensures did { Did (flagging_calls words.old (flags_changed (deletes.flags_by_rows names.now objects.now table)
         words.old (first_word table) (word_count table)))
         (flagging_entries words.old (flags_changed (deletes.flags_by_rows names.now objects.now table) words.old
-        (first_word table) (word_count table))) log.old log.new (H.reached rows.old) (H.reached rows.new) }
+        (first_word table) (word_count table))) log.old log.new (H.seen rows.old).reached (H.seen rows.new).reached }
     ensures mine { words.new ≡ words_changed (deletes.flags_by_rows names.now objects.now table) words.old
         (first_word table) (word_count table) }
-    ensures lent { H.words rows.new ≡ Some words.new }
-    ensures leaves { Leaves 0 (word_count table) (H.hand rows.old) (H.hand rows.new) (H.left rows.old)
-        (H.left rows.new) (H.draws rows.old) (H.draws rows.new) (H.name rows.old) (H.name rows.new) log.old log.new }
+    ensures lent { (H.seen rows.new).words ≡ Some words.new }
+    ensures leaves { Leaves 0 (word_count table) (H.seen rows.old).hand (H.seen rows.new).hand (H.seen rows.old).left
+        (H.seen rows.new).left (H.seen rows.old).draws (H.seen rows.new).draws (H.seen rows.old).name
+        (H.seen rows.new).name log.old log.new }
 {
     // As an INSERT that adds a row: all tables are decided again.
     set_inserted(rows, names, objects, words, table, &Ok(1), log);
@@ -141,19 +143,19 @@ pub(crate) fn set_inserted<H: Hold>(
     log: &mut Log,
 )
     requires wide { length words.old ≡ 160 }
-    requires lent { H.words rows.old ≡ Some words.old }
+    requires lent { (H.seen rows.old).words ≡ Some words.old }
     requires early { (at : ℕ) → (word_at words.old at).version + 1 < 2 ^ 48 }
     requires room { word_count table ≤ log.old.room }
-    ensures did { Did (flagging_calls words.old (flags_changed
-        (inserts.flags_by_answer names.now objects.now table answer.now) words.old (first_word table)
-        (word_count table)))
-        (flagging_entries words.old (flags_changed (inserts.flags_by_answer names.now objects.now table answer.now)
-        words.old (first_word table) (word_count table))) log.old log.new (H.reached rows.old) (H.reached rows.new) }
+    ensures did { Did (flagging_calls words.old (flags_changed (inserts.flags_by_answer names.now objects.now table
+        answer.now) words.old (first_word table) (word_count table))) (flagging_entries words.old
+        (flags_changed (inserts.flags_by_answer names.now objects.now table answer.now) words.old (first_word table)
+        (word_count table))) log.old log.new (H.seen rows.old).reached (H.seen rows.new).reached }
     ensures mine { words.new ≡ words_changed (inserts.flags_by_answer names.now objects.now table answer.now)
         words.old (first_word table) (word_count table) }
-    ensures lent { H.words rows.new ≡ Some words.new }
-    ensures leaves { Leaves 0 (word_count table) (H.hand rows.old) (H.hand rows.new) (H.left rows.old)
-        (H.left rows.new) (H.draws rows.old) (H.draws rows.new) (H.name rows.old) (H.name rows.new) log.old log.new }
+    ensures lent { (H.seen rows.new).words ≡ Some words.new }
+    ensures leaves { Leaves 0 (word_count table) (H.seen rows.old).hand (H.seen rows.new).hand (H.seen rows.old).left
+        (H.seen rows.new).left (H.seen rows.old).draws (H.seen rows.new).draws (H.seen rows.old).name
+        (H.seen rows.new).name log.old log.new }
 {
     let first = first_word(table);
     for at in 0..word_count(table) {

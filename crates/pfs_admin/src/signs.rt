@@ -10,12 +10,14 @@ use pfs_levels::{Content, Hold, Log, Word};
 
 /// Writes an info row. The log gets the tag.
 pub(crate) fn tag<H: Hold>(rows: &mut H, row: u64, content: &Content, log: &mut Log)
-    requires away { IsAway (H.hand rows.old) row }
-    requires spare { 1 ≤ H.left rows.old }
+    requires away { IsAway (H.seen rows.old).hand row }
+    requires spare { 1 ≤ (H.seen rows.old).left }
     requires room { 1 ≤ log.old.room }
-    ensures signed { Signed (Tags row content.now ∷ []) log.old log.new (H.reached rows.old) (H.reached rows.new) }
-    ensures stays { Stays 1 (H.hand rows.old) (H.hand rows.new) (H.left rows.old) (H.left rows.new) (H.draws rows.old)
-        (H.draws rows.new) (H.words rows.old) (H.words rows.new) (H.name rows.old) (H.name rows.new) log.old log.new }
+    ensures signed { Signed (Tags row content.now ∷ []) log.old log.new (H.seen rows.old).reached
+        (H.seen rows.new).reached }
+    ensures stays { Stays 1 (H.seen rows.old).hand (H.seen rows.new).hand (H.seen rows.old).left (H.seen rows.new).left
+        (H.seen rows.old).draws (H.seen rows.new).draws (H.seen rows.old).words (H.seen rows.new).words
+        (H.seen rows.old).name (H.seen rows.new).name log.old log.new }
 {
     rows.take(row);
     let version = rows.put(row, content);
@@ -24,12 +26,13 @@ pub(crate) fn tag<H: Hold>(rows: &mut H, row: u64, content: &Content, log: &mut 
 
 /// Releases an info row. The log gets the release.
 pub(crate) fn release<H: Hold>(rows: &mut H, row: u64, log: &mut Log)
-    requires away { IsAway (H.hand rows.old) row }
-    requires spare { 1 ≤ H.left rows.old }
+    requires away { IsAway (H.seen rows.old).hand row }
+    requires spare { 1 ≤ (H.seen rows.old).left }
     requires room { 1 ≤ log.old.room }
-    ensures signed { Signed (Releases row ∷ []) log.old log.new (H.reached rows.old) (H.reached rows.new) }
-    ensures stays { Stays 1 (H.hand rows.old) (H.hand rows.new) (H.left rows.old) (H.left rows.new) (H.draws rows.old)
-        (H.draws rows.new) (H.words rows.old) (H.words rows.new) (H.name rows.old) (H.name rows.new) log.old log.new }
+    ensures signed { Signed (Releases row ∷ []) log.old log.new (H.seen rows.old).reached (H.seen rows.new).reached }
+    ensures stays { Stays 1 (H.seen rows.old).hand (H.seen rows.new).hand (H.seen rows.old).left (H.seen rows.new).left
+        (H.seen rows.old).draws (H.seen rows.new).draws (H.seen rows.old).words (H.seen rows.new).words
+        (H.seen rows.old).name (H.seen rows.new).name log.old log.new }
 {
     let (version, _) = rows.take(row);
     rows.free(row);
@@ -40,16 +43,17 @@ pub(crate) fn release<H: Hold>(rows: &mut H, row: u64, log: &mut Log)
 pub(crate) fn flag<H: Hold>(rows: &mut H, words: &mut [Word], at: u64, flags: u16, log: &mut Log)
     requires known { at < 160 }
     requires wide { length words.old ≡ 160 }
-    requires lent { H.words rows.old ≡ Some words.old }
+    requires lent { (H.seen rows.old).words ≡ Some words.old }
     requires early { (word_at words.old at).version + 1 < 2 ^ 48 }
     requires room { 1 ≤ log.old.room }
     ensures did { Did (flagging_calls words.old (flagging words.old at flags))
-        (flagging_entries words.old (flagging words.old at flags)) log.old log.new (H.reached rows.old)
-        (H.reached rows.new) }
+        (flagging_entries words.old (flagging words.old at flags)) log.old log.new (H.seen rows.old).reached
+        (H.seen rows.new).reached }
     ensures mine { words.new ≡ flagged words.old at flags }
-    ensures lent { H.words rows.new ≡ Some words.new }
-    ensures leaves { Leaves 0 1 (H.hand rows.old) (H.hand rows.new) (H.left rows.old) (H.left rows.new)
-        (H.draws rows.old) (H.draws rows.new) (H.name rows.old) (H.name rows.new) log.old log.new }
+    ensures lent { (H.seen rows.new).words ≡ Some words.new }
+    ensures leaves { Leaves 0 1 (H.seen rows.old).hand (H.seen rows.new).hand (H.seen rows.old).left
+        (H.seen rows.new).left (H.seen rows.old).draws (H.seen rows.new).draws (H.seen rows.old).name
+        (H.seen rows.new).name log.old log.new }
 {
     let here = words[at as usize];
     if here.flags == flags {

@@ -23,15 +23,16 @@ pub(crate) fn move_truncated<H: Hold>(
     what: Truncation,
     log: &mut Log,
 )
-    requires alone { (r : ℕ) → 0 < r → H.hand rows.old r ≡ None }
+    requires alone { (r : ℕ) → 0 < r → (H.seen rows.old).hand r ≡ None }
     requires cells { AreKindCells cells.now }
-    requires spare { cost (truncation_asks cells.now containers.now.now.places what) ≤ H.left rows.old }
+    requires spare { cost (truncation_asks cells.now containers.now.now.places what) ≤ (H.seen rows.old).left }
     requires room { cost (truncation_asks cells.now containers.now.now.places what) ≤ log.old.room }
     ensures moved { Moved (truncation_asks cells.now containers.now.now.places what) log.old log.new
-        (H.reached rows.old) (H.reached rows.new) }
-    ensures stays { Stays (cost (truncation_asks cells.now containers.now.now.places what)) (H.hand rows.old)
-        (H.hand rows.new) (H.left rows.old) (H.left rows.new) (H.draws rows.old) (H.draws rows.new) (H.words rows.old)
-        (H.words rows.new) (H.name rows.old) (H.name rows.new) log.old log.new }
+        (H.seen rows.old).reached (H.seen rows.new).reached }
+    ensures stays { Stays (cost (truncation_asks cells.now containers.now.now.places what)) (H.seen rows.old).hand
+        (H.seen rows.new).hand (H.seen rows.old).left (H.seen rows.new).left (H.seen rows.old).draws
+        (H.seen rows.new).draws (H.seen rows.old).words (H.seen rows.new).words (H.seen rows.old).name
+        (H.seen rows.new).name log.old log.new }
 {
     match what {
         Truncation::Summary(kind, table) => {
@@ -76,15 +77,16 @@ fn empty_all<H: Hold>(
     cells: &CellsByKind,
     log: &mut Log,
 )
-    requires alone { (r : ℕ) → 0 < r → H.hand rows.old r ≡ None }
+    requires alone { (r : ℕ) → 0 < r → (H.seen rows.old).hand r ≡ None }
     requires cells { AreKindCells cells.now }
-    requires spare { cost (all_asks cells.now containers.now.now.places table) ≤ H.left rows.old }
+    requires spare { cost (all_asks cells.now containers.now.now.places table) ≤ (H.seen rows.old).left }
     requires room { cost (all_asks cells.now containers.now.now.places table) ≤ log.old.room }
-    ensures moved { Moved (all_asks cells.now containers.now.now.places table) log.old log.new (H.reached rows.old)
-        (H.reached rows.new) }
-    ensures stays { Stays (cost (all_asks cells.now containers.now.now.places table)) (H.hand rows.old)
-        (H.hand rows.new) (H.left rows.old) (H.left rows.new) (H.draws rows.old) (H.draws rows.new) (H.words rows.old)
-        (H.words rows.new) (H.name rows.old) (H.name rows.new) log.old log.new }
+    ensures moved { Moved (all_asks cells.now containers.now.now.places table) log.old log.new
+        (H.seen rows.old).reached (H.seen rows.new).reached }
+    ensures stays { Stays (cost (all_asks cells.now containers.now.now.places table)) (H.seen rows.old).hand
+        (H.seen rows.new).hand (H.seen rows.old).left (H.seen rows.new).left (H.seen rows.old).draws
+        (H.seen rows.new).draws (H.seen rows.old).words (H.seen rows.new).words (H.seen rows.old).name
+        (H.seen rows.new).name log.old log.new }
 {
     empty_kind(rows, containers, table, cells, TableKind::Waits, log);
     empty_kind(rows, containers, table, cells, TableKind::Stages, log);
@@ -101,15 +103,17 @@ fn empty_kind<H: Hold>(
     kind: TableKind,
     log: &mut Log,
 )
-    requires alone { (r : ℕ) → 0 < r → H.hand rows.old r ≡ None }
+    requires alone { (r : ℕ) → 0 < r → (H.seen rows.old).hand r ≡ None }
     requires cells { AreKindCells cells.now }
-    requires spare { cost (summary_asks containers.now.now.places table (kind_cells cells.now kind)) ≤ H.left rows.old }
+    requires spare { cost (summary_asks containers.now.now.places table (kind_cells cells.now kind))
+        ≤ (H.seen rows.old).left }
     requires room { cost (summary_asks containers.now.now.places table (kind_cells cells.now kind)) ≤ log.old.room }
     ensures moved { Moved (summary_asks containers.now.now.places table (kind_cells cells.now kind)) log.old log.new
-        (H.reached rows.old) (H.reached rows.new) }
+        (H.seen rows.old).reached (H.seen rows.new).reached }
     ensures stays { Stays (cost (summary_asks containers.now.now.places table (kind_cells cells.now kind)))
-        (H.hand rows.old) (H.hand rows.new) (H.left rows.old) (H.left rows.new) (H.draws rows.old) (H.draws rows.new)
-        (H.words rows.old) (H.words rows.new) (H.name rows.old) (H.name rows.new) log.old log.new }
+        (H.seen rows.old).hand (H.seen rows.new).hand (H.seen rows.old).left (H.seen rows.new).left
+        (H.seen rows.old).draws (H.seen rows.new).draws (H.seen rows.old).words (H.seen rows.new).words
+        (H.seen rows.old).name (H.seen rows.new).name log.old log.new }
 {
     let list = cells.of_kind(kind);
     empty_summary(rows, containers, table, list, log);
@@ -123,15 +127,16 @@ fn empty_summary<H: Hold>(
     cells: &[u64],
     log: &mut Log,
 )
-    requires alone { (r : ℕ) → 0 < r → H.hand rows.old r ≡ None }
+    requires alone { (r : ℕ) → 0 < r → (H.seen rows.old).hand r ≡ None }
     requires cells { All (λ cell. cell < 64) cells.now }
-    requires spare { cost (summary_asks containers.now.now.places table cells.now) ≤ H.left rows.old }
+    requires spare { cost (summary_asks containers.now.now.places table cells.now) ≤ (H.seen rows.old).left }
     requires room { cost (summary_asks containers.now.now.places table cells.now) ≤ log.old.room }
     ensures moved { Moved (summary_asks containers.now.now.places table cells.now) log.old log.new
-        (H.reached rows.old) (H.reached rows.new) }
-    ensures stays { Stays (cost (summary_asks containers.now.now.places table cells.now)) (H.hand rows.old)
-        (H.hand rows.new) (H.left rows.old) (H.left rows.new) (H.draws rows.old) (H.draws rows.new) (H.words rows.old)
-        (H.words rows.new) (H.name rows.old) (H.name rows.new) log.old log.new }
+        (H.seen rows.old).reached (H.seen rows.new).reached }
+    ensures stays { Stays (cost (summary_asks containers.now.now.places table cells.now)) (H.seen rows.old).hand
+        (H.seen rows.new).hand (H.seen rows.old).left (H.seen rows.new).left (H.seen rows.old).draws
+        (H.seen rows.new).draws (H.seen rows.old).words (H.seen rows.new).words (H.seen rows.old).name
+        (H.seen rows.new).name log.old log.new }
 {
     let reach = Reach::of(table);
     empty_levels(rows, containers, reach, cells, log);
@@ -145,15 +150,16 @@ fn empty_levels<H: Hold>(
     cells: &[u64],
     log: &mut Log,
 )
-    requires alone { (r : ℕ) → 0 < r → H.hand rows.old r ≡ None }
+    requires alone { (r : ℕ) → 0 < r → (H.seen rows.old).hand r ≡ None }
     requires cells { All (λ cell. cell < 64) cells.now }
-    requires spare { cost (reach_asks containers.now.now.places reach cells.now) ≤ H.left rows.old }
+    requires spare { cost (reach_asks containers.now.now.places reach cells.now) ≤ (H.seen rows.old).left }
     requires room { cost (reach_asks containers.now.now.places reach cells.now) ≤ log.old.room }
-    ensures moved { Moved (reach_asks containers.now.now.places reach cells.now) log.old log.new (H.reached rows.old)
-        (H.reached rows.new) }
-    ensures stays { Stays (cost (reach_asks containers.now.now.places reach cells.now)) (H.hand rows.old)
-        (H.hand rows.new) (H.left rows.old) (H.left rows.new) (H.draws rows.old) (H.draws rows.new) (H.words rows.old)
-        (H.words rows.new) (H.name rows.old) (H.name rows.new) log.old log.new }
+    ensures moved { Moved (reach_asks containers.now.now.places reach cells.now) log.old log.new
+        (H.seen rows.old).reached (H.seen rows.new).reached }
+    ensures stays { Stays (cost (reach_asks containers.now.now.places reach cells.now)) (H.seen rows.old).hand
+        (H.seen rows.new).hand (H.seen rows.old).left (H.seen rows.new).left (H.seen rows.old).draws
+        (H.seen rows.new).draws (H.seen rows.old).words (H.seen rows.new).words (H.seen rows.old).name
+        (H.seen rows.new).name log.old log.new }
 {
     empty_lower(rows, containers, reach, cells, log);
     empty_upper(rows, containers, reach, cells, log);
@@ -167,15 +173,16 @@ fn empty_lower<H: Hold>(
     cells: &[u64],
     log: &mut Log,
 )
-    requires alone { (r : ℕ) → 0 < r → H.hand rows.old r ≡ None }
+    requires alone { (r : ℕ) → 0 < r → (H.seen rows.old).hand r ≡ None }
     requires cells { All (λ cell. cell < 64) cells.now }
-    requires spare { cost (lower_asks containers.now.now.places reach cells.now) ≤ H.left rows.old }
+    requires spare { cost (lower_asks containers.now.now.places reach cells.now) ≤ (H.seen rows.old).left }
     requires room { cost (lower_asks containers.now.now.places reach cells.now) ≤ log.old.room }
-    ensures moved { Moved (lower_asks containers.now.now.places reach cells.now) log.old log.new (H.reached rows.old)
-        (H.reached rows.new) }
-    ensures stays { Stays (cost (lower_asks containers.now.now.places reach cells.now)) (H.hand rows.old)
-        (H.hand rows.new) (H.left rows.old) (H.left rows.new) (H.draws rows.old) (H.draws rows.new) (H.words rows.old)
-        (H.words rows.new) (H.name rows.old) (H.name rows.new) log.old log.new }
+    ensures moved { Moved (lower_asks containers.now.now.places reach cells.now) log.old log.new
+        (H.seen rows.old).reached (H.seen rows.new).reached }
+    ensures stays { Stays (cost (lower_asks containers.now.now.places reach cells.now)) (H.seen rows.old).hand
+        (H.seen rows.new).hand (H.seen rows.old).left (H.seen rows.new).left (H.seen rows.old).draws
+        (H.seen rows.new).draws (H.seen rows.old).words (H.seen rows.new).words (H.seen rows.old).name
+        (H.seen rows.new).name log.old log.new }
 {
     empty_level(rows, containers, Level::Thread, cells, log);
     empty_level_if(rows, containers, reach.accounts, Level::Account, cells, log);
@@ -189,15 +196,16 @@ fn empty_upper<H: Hold>(
     cells: &[u64],
     log: &mut Log,
 )
-    requires alone { (r : ℕ) → 0 < r → H.hand rows.old r ≡ None }
+    requires alone { (r : ℕ) → 0 < r → (H.seen rows.old).hand r ≡ None }
     requires cells { All (λ cell. cell < 64) cells.now }
-    requires spare { cost (upper_asks containers.now.now.places reach cells.now) ≤ H.left rows.old }
+    requires spare { cost (upper_asks containers.now.now.places reach cells.now) ≤ (H.seen rows.old).left }
     requires room { cost (upper_asks containers.now.now.places reach cells.now) ≤ log.old.room }
-    ensures moved { Moved (upper_asks containers.now.now.places reach cells.now) log.old log.new (H.reached rows.old)
-        (H.reached rows.new) }
-    ensures stays { Stays (cost (upper_asks containers.now.now.places reach cells.now)) (H.hand rows.old)
-        (H.hand rows.new) (H.left rows.old) (H.left rows.new) (H.draws rows.old) (H.draws rows.new) (H.words rows.old)
-        (H.words rows.new) (H.name rows.old) (H.name rows.new) log.old log.new }
+    ensures moved { Moved (upper_asks containers.now.now.places reach cells.now) log.old log.new
+        (H.seen rows.old).reached (H.seen rows.new).reached }
+    ensures stays { Stays (cost (upper_asks containers.now.now.places reach cells.now)) (H.seen rows.old).hand
+        (H.seen rows.new).hand (H.seen rows.old).left (H.seen rows.new).left (H.seen rows.old).draws
+        (H.seen rows.new).draws (H.seen rows.old).words (H.seen rows.new).words (H.seen rows.old).name
+        (H.seen rows.new).name log.old log.new }
 {
     empty_level_if(rows, containers, reach.users, Level::User, cells, log);
     empty_beyond(rows, containers, reach, cells, log);
@@ -211,18 +219,18 @@ fn empty_beyond<H: Hold>(
     cells: &[u64],
     log: &mut Log,
 )
-    requires alone { (r : ℕ) → 0 < r → H.hand rows.old r ≡ None }
+    requires alone { (r : ℕ) → 0 < r → (H.seen rows.old).hand r ≡ None }
     requires cells { All (λ cell. cell < 64) cells.now }
     requires spare { cost (emptied reach.hosts containers.now.now.places cells.now levels.Host ++ cleared reach.global
-        cells.now) ≤ H.left rows.old }
+        cells.now) ≤ (H.seen rows.old).left }
     requires room { cost (emptied reach.hosts containers.now.now.places cells.now levels.Host ++ cleared reach.global
         cells.now) ≤ log.old.room }
     ensures moved { Moved (emptied reach.hosts containers.now.now.places cells.now levels.Host ++ cleared reach.global
-        cells.now) log.old log.new (H.reached rows.old) (H.reached rows.new) }
-    ensures stays { Stays (cost
-        (emptied reach.hosts containers.now.now.places cells.now levels.Host ++ cleared reach.global cells.now))
-        (H.hand rows.old) (H.hand rows.new) (H.left rows.old) (H.left rows.new) (H.draws rows.old) (H.draws rows.new)
-        (H.words rows.old) (H.words rows.new) (H.name rows.old) (H.name rows.new) log.old log.new }
+        cells.now) log.old log.new (H.seen rows.old).reached (H.seen rows.new).reached }
+    ensures stays { Stays (cost (emptied reach.hosts containers.now.now.places cells.now levels.Host ++ cleared
+        reach.global cells.now)) (H.seen rows.old).hand (H.seen rows.new).hand (H.seen rows.old).left
+        (H.seen rows.new).left (H.seen rows.old).draws (H.seen rows.new).draws (H.seen rows.old).words
+        (H.seen rows.new).words (H.seen rows.old).name (H.seen rows.new).name log.old log.new }
 {
     empty_level_if(rows, containers, reach.hosts, Level::Host, cells, log);
     clear_global_if(rows, reach.global, cells, log);
@@ -231,14 +239,14 @@ fn empty_beyond<H: Hold>(
 // Leaves the global cells as zero, where they are to be.
 #[tactic(auto, using(crate::proofs::LevelMoves::moved_nothing, crate::proofs::LevelMoves::stays_nothing))]
 fn clear_global_if<H: Hold>(rows: &mut H, due: bool, cells: &[u64], log: &mut Log)
-    requires alone { (r : ℕ) → 0 < r → H.hand rows.old r ≡ None }
+    requires alone { (r : ℕ) → 0 < r → (H.seen rows.old).hand r ≡ None }
     requires cells { All (λ cell. cell < 64) cells.now }
-    requires spare { cost (cleared due cells.now) ≤ H.left rows.old }
+    requires spare { cost (cleared due cells.now) ≤ (H.seen rows.old).left }
     requires room { cost (cleared due cells.now) ≤ log.old.room }
-    ensures moved { Moved (cleared due cells.now) log.old log.new (H.reached rows.old) (H.reached rows.new) }
-    ensures stays { Stays (cost (cleared due cells.now)) (H.hand rows.old) (H.hand rows.new) (H.left rows.old)
-        (H.left rows.new) (H.draws rows.old) (H.draws rows.new) (H.words rows.old) (H.words rows.new)
-        (H.name rows.old) (H.name rows.new) log.old log.new }
+    ensures moved { Moved (cleared due cells.now) log.old log.new (H.seen rows.old).reached (H.seen rows.new).reached }
+    ensures stays { Stays (cost (cleared due cells.now)) (H.seen rows.old).hand (H.seen rows.new).hand
+        (H.seen rows.old).left (H.seen rows.new).left (H.seen rows.old).draws (H.seen rows.new).draws
+        (H.seen rows.old).words (H.seen rows.new).words (H.seen rows.old).name (H.seen rows.new).name log.old log.new }
 {
     if due {
         clear_global(rows, cells, log);
@@ -246,14 +254,15 @@ fn clear_global_if<H: Hold>(rows: &mut H, due: bool, cells: &[u64], log: &mut Lo
 }
 
 fn clear_global<H: Hold>(rows: &mut H, cells: &[u64], log: &mut Log)
-    requires alone { (r : ℕ) → 0 < r → H.hand rows.old r ≡ None }
+    requires alone { (r : ℕ) → 0 < r → (H.seen rows.old).hand r ≡ None }
     requires cells { All (λ cell. cell < 64) cells.now }
-    requires spare { cost (cleared true cells.now) ≤ H.left rows.old }
+    requires spare { cost (cleared true cells.now) ≤ (H.seen rows.old).left }
     requires room { cost (cleared true cells.now) ≤ log.old.room }
-    ensures moved { Moved (cleared true cells.now) log.old log.new (H.reached rows.old) (H.reached rows.new) }
-    ensures stays { Stays (cost (cleared true cells.now)) (H.hand rows.old) (H.hand rows.new) (H.left rows.old)
-        (H.left rows.new) (H.draws rows.old) (H.draws rows.new) (H.words rows.old) (H.words rows.new)
-        (H.name rows.old) (H.name rows.new) log.old log.new }
+    ensures moved { Moved (cleared true cells.now) log.old log.new (H.seen rows.old).reached
+        (H.seen rows.new).reached }
+    ensures stays { Stays (cost (cleared true cells.now)) (H.seen rows.old).hand (H.seen rows.new).hand
+        (H.seen rows.old).left (H.seen rows.new).left (H.seen rows.old).draws (H.seen rows.new).draws
+        (H.seen rows.old).words (H.seen rows.new).words (H.seen rows.old).name (H.seen rows.new).name log.old log.new }
 {
     for cell in cells {
         clear(rows, row_of(Place::GlobalCell(*cell)), log);
@@ -262,14 +271,14 @@ fn clear_global<H: Hold>(rows: &mut H, cells: &[u64], log: &mut Log)
 
 // Leaves the rows of digests as zero: that of the texts without a place, then those of so many places.
 fn clear_digests<H: Hold>(rows: &mut H, places: u64, log: &mut Log)
-    requires alone { (r : ℕ) → 0 < r → H.hand rows.old r ≡ None }
+    requires alone { (r : ℕ) → 0 < r → (H.seen rows.old).hand r ≡ None }
     requires places { places ≤ 64 }
-    requires spare { cost (digest_asks places) ≤ H.left rows.old }
+    requires spare { cost (digest_asks places) ≤ (H.seen rows.old).left }
     requires room { cost (digest_asks places) ≤ log.old.room }
-    ensures moved { Moved (digest_asks places) log.old log.new (H.reached rows.old) (H.reached rows.new) }
-    ensures stays { Stays (cost (digest_asks places)) (H.hand rows.old) (H.hand rows.new) (H.left rows.old)
-        (H.left rows.new) (H.draws rows.old) (H.draws rows.new) (H.words rows.old) (H.words rows.new)
-        (H.name rows.old) (H.name rows.new) log.old log.new }
+    ensures moved { Moved (digest_asks places) log.old log.new (H.seen rows.old).reached (H.seen rows.new).reached }
+    ensures stays { Stays (cost (digest_asks places)) (H.seen rows.old).hand (H.seen rows.new).hand
+        (H.seen rows.old).left (H.seen rows.new).left (H.seen rows.old).draws (H.seen rows.new).draws
+        (H.seen rows.old).words (H.seen rows.new).words (H.seen rows.old).name (H.seen rows.new).name log.old log.new }
 {
     for at in 0..places + 1 {
         clear(rows, row_of(Place::DigestNull) + at, log);

@@ -19,14 +19,15 @@ pub(crate) fn tag_uppers<H: Hold>(
     session: &Connection,
     log: &mut Log,
 )
-    requires alone { (r : ℕ) → 0 < r → H.hand rows.old r ≡ None }
+    requires alone { (r : ℕ) → 0 < r → (H.seen rows.old).hand r ≡ None }
     requires places { HasPlaces 32 32 32 session.now }
-    requires spare { 3 ≤ H.left rows.old }
+    requires spare { 3 ≤ (H.seen rows.old).left }
     requires room { 3 ≤ log.old.room }
-    ensures signed { Signed (upper_tags containers.now.now session.now) log.old log.new (H.reached rows.old)
-        (H.reached rows.new) }
-    ensures stays { Stays 3 (H.hand rows.old) (H.hand rows.new) (H.left rows.old) (H.left rows.new) (H.draws rows.old)
-        (H.draws rows.new) (H.words rows.old) (H.words rows.new) (H.name rows.old) (H.name rows.new) log.old log.new }
+    ensures signed { Signed (upper_tags containers.now.now session.now) log.old log.new (H.seen rows.old).reached
+        (H.seen rows.new).reached }
+    ensures stays { Stays 3 (H.seen rows.old).hand (H.seen rows.new).hand (H.seen rows.old).left (H.seen rows.new).left
+        (H.seen rows.old).draws (H.seen rows.new).draws (H.seen rows.old).words (H.seen rows.new).words
+        (H.seen rows.old).name (H.seen rows.new).name log.old log.new }
 {
     tag_account(rows, containers, session.account, log);
     tag_user(rows, containers, session.user, log);
@@ -34,14 +35,15 @@ pub(crate) fn tag_uppers<H: Hold>(
 }
 
 fn tag_account<H: Hold>(rows: &mut H, containers: &Containers, account: Option<u64>, log: &mut Log)
-    requires alone { (r : ℕ) → 0 < r → H.hand rows.old r ≡ None }
+    requires alone { (r : ℕ) → 0 < r → (H.seen rows.old).hand r ≡ None }
     requires place { IfSome account (λ n. n < 32) }
-    requires spare { 1 ≤ H.left rows.old }
+    requires spare { 1 ≤ (H.seen rows.old).left }
     requires room { 1 ≤ log.old.room }
-    ensures signed { Signed (account_tag containers.now.now account) log.old log.new (H.reached rows.old)
-        (H.reached rows.new) }
-    ensures stays { Stays 1 (H.hand rows.old) (H.hand rows.new) (H.left rows.old) (H.left rows.new) (H.draws rows.old)
-        (H.draws rows.new) (H.words rows.old) (H.words rows.new) (H.name rows.old) (H.name rows.new) log.old log.new }
+    ensures signed { Signed (account_tag containers.now.now account) log.old log.new (H.seen rows.old).reached
+        (H.seen rows.new).reached }
+    ensures stays { Stays 1 (H.seen rows.old).hand (H.seen rows.new).hand (H.seen rows.old).left (H.seen rows.new).left
+        (H.seen rows.old).draws (H.seen rows.new).draws (H.seen rows.old).words (H.seen rows.new).words
+        (H.seen rows.old).name (H.seen rows.new).name log.old log.new }
 {
     if let Some(place) = account {
         let content = match containers.account_info(place) {
@@ -53,14 +55,15 @@ fn tag_account<H: Hold>(rows: &mut H, containers: &Containers, account: Option<u
 }
 
 fn tag_user<H: Hold>(rows: &mut H, containers: &Containers, user: Option<u64>, log: &mut Log)
-    requires alone { (r : ℕ) → 0 < r → H.hand rows.old r ≡ None }
+    requires alone { (r : ℕ) → 0 < r → (H.seen rows.old).hand r ≡ None }
     requires place { IfSome user (λ n. n < 32) }
-    requires spare { 1 ≤ H.left rows.old }
+    requires spare { 1 ≤ (H.seen rows.old).left }
     requires room { 1 ≤ log.old.room }
-    ensures signed { Signed (user_tag containers.now.now user) log.old log.new (H.reached rows.old)
-        (H.reached rows.new) }
-    ensures stays { Stays 1 (H.hand rows.old) (H.hand rows.new) (H.left rows.old) (H.left rows.new) (H.draws rows.old)
-        (H.draws rows.new) (H.words rows.old) (H.words rows.new) (H.name rows.old) (H.name rows.new) log.old log.new }
+    ensures signed { Signed (user_tag containers.now.now user) log.old log.new (H.seen rows.old).reached
+        (H.seen rows.new).reached }
+    ensures stays { Stays 1 (H.seen rows.old).hand (H.seen rows.new).hand (H.seen rows.old).left (H.seen rows.new).left
+        (H.seen rows.old).draws (H.seen rows.new).draws (H.seen rows.old).words (H.seen rows.new).words
+        (H.seen rows.old).name (H.seen rows.new).name log.old log.new }
 {
     if let Some(place) = user {
         let content = match containers.user_info(place) {
@@ -72,14 +75,15 @@ fn tag_user<H: Hold>(rows: &mut H, containers: &Containers, user: Option<u64>, l
 }
 
 fn tag_host<H: Hold>(rows: &mut H, containers: &Containers, host: Option<u64>, log: &mut Log)
-    requires alone { (r : ℕ) → 0 < r → H.hand rows.old r ≡ None }
+    requires alone { (r : ℕ) → 0 < r → (H.seen rows.old).hand r ≡ None }
     requires place { IfSome host (λ n. n < 32) }
-    requires spare { 1 ≤ H.left rows.old }
+    requires spare { 1 ≤ (H.seen rows.old).left }
     requires room { 1 ≤ log.old.room }
-    ensures signed { Signed (host_tag containers.now.now host) log.old log.new (H.reached rows.old)
-        (H.reached rows.new) }
-    ensures stays { Stays 1 (H.hand rows.old) (H.hand rows.new) (H.left rows.old) (H.left rows.new) (H.draws rows.old)
-        (H.draws rows.new) (H.words rows.old) (H.words rows.new) (H.name rows.old) (H.name rows.new) log.old log.new }
+    ensures signed { Signed (host_tag containers.now.now host) log.old log.new (H.seen rows.old).reached
+        (H.seen rows.new).reached }
+    ensures stays { Stays 1 (H.seen rows.old).hand (H.seen rows.new).hand (H.seen rows.old).left (H.seen rows.new).left
+        (H.seen rows.old).draws (H.seen rows.new).draws (H.seen rows.old).words (H.seen rows.new).words
+        (H.seen rows.old).name (H.seen rows.new).name log.old log.new }
 {
     if let Some(place) = host {
         let content = match containers.host_info(place) {
@@ -92,12 +96,14 @@ fn tag_host<H: Hold>(rows: &mut H, containers: &Containers, host: Option<u64>, l
 
 // Writes an info row, where something stands at its place.
 fn tag_some<H: Hold>(rows: &mut H, row: u64, content: &Option<Content>, log: &mut Log)
-    requires away { IsAway (H.hand rows.old) row }
-    requires spare { 1 ≤ H.left rows.old }
+    requires away { IsAway (H.seen rows.old).hand row }
+    requires spare { 1 ≤ (H.seen rows.old).left }
     requires room { 1 ≤ log.old.room }
-    ensures signed { Signed (tag_of row content.now) log.old log.new (H.reached rows.old) (H.reached rows.new) }
-    ensures stays { Stays 1 (H.hand rows.old) (H.hand rows.new) (H.left rows.old) (H.left rows.new) (H.draws rows.old)
-        (H.draws rows.new) (H.words rows.old) (H.words rows.new) (H.name rows.old) (H.name rows.new) log.old log.new }
+    ensures signed { Signed (tag_of row content.now) log.old log.new (H.seen rows.old).reached
+        (H.seen rows.new).reached }
+    ensures stays { Stays 1 (H.seen rows.old).hand (H.seen rows.new).hand (H.seen rows.old).left (H.seen rows.new).left
+        (H.seen rows.old).draws (H.seen rows.new).draws (H.seen rows.old).words (H.seen rows.new).words
+        (H.seen rows.old).name (H.seen rows.new).name log.old log.new }
 {
     if let Some(content) = content {
         tag(rows, row, content, log);

@@ -22,19 +22,20 @@ pub(crate) fn write_connect<H: Hold>(
     flags: u16,
     log: &mut Log,
 )
-    requires alone { (r : ℕ) → 0 < r → H.hand rows.old r ≡ None }
+    requires alone { (r : ℕ) → 0 < r → (H.seen rows.old).hand r ≡ None }
     requires seat { IfSome seat.now IsInRange }
     requires wide { length words.old ≡ 160 }
-    requires lent { H.words rows.old ≡ Some words.old }
+    requires lent { (H.seen rows.old).words ≡ Some words.old }
     requires early { (at : ℕ) → (word_at words.old at).version + 1 < 2 ^ 48 }
-    requires spare { 4 ≤ H.left rows.old }
+    requires spare { 4 ≤ (H.seen rows.old).left }
     requires room { 5 ≤ log.old.room }
     ensures worked { Worked (connect_work words.old flags containers.now.now seat.now) words.old [] log.old log.new
-        (H.reached rows.old) (H.reached rows.new) }
+        (H.seen rows.old).reached (H.seen rows.new).reached }
     ensures mine { words.new ≡ words_by words.old flags seat.now }
-    ensures lent { H.words rows.new ≡ Some words.new }
-    ensures leaves { Leaves 4 5 (H.hand rows.old) (H.hand rows.new) (H.left rows.old) (H.left rows.new)
-        (H.draws rows.old) (H.draws rows.new) (H.name rows.old) (H.name rows.new) log.old log.new }
+    ensures lent { (H.seen rows.new).words ≡ Some words.new }
+    ensures leaves { Leaves 4 5 (H.seen rows.old).hand (H.seen rows.new).hand (H.seen rows.old).left
+        (H.seen rows.new).left (H.seen rows.old).draws (H.seen rows.new).draws (H.seen rows.old).name
+        (H.seen rows.new).name log.old log.new }
 {
     if let Some(seat) = seat {
         seat_thread(rows, containers, words, seat, flags, log);
@@ -51,21 +52,21 @@ pub(crate) fn write_quit<H: Hold>(
     seat: &Option<Seated>,
     log: &mut Log,
 )
-    requires alone { (r : ℕ) → 0 < r → H.hand rows.old r ≡ None }
+    requires alone { (r : ℕ) → 0 < r → (H.seen rows.old).hand r ≡ None }
     requires seat { IfSome seat.now IsInRange }
     requires cells { All (λ cell. cell < 64) cells.now }
     requires wide { length words.old ≡ 160 }
-    requires lent { H.words rows.old ≡ Some words.old }
+    requires lent { (H.seen rows.old).words ≡ Some words.old }
     requires early { (at : ℕ) → (word_at words.old at).version + 1 < 2 ^ 48 }
-    requires spare { 3 * length cells.now + 60 ≤ H.left rows.old }
+    requires spare { 3 * length cells.now + 60 ≤ (H.seen rows.old).left }
     requires room { 3 * length cells.now + 61 ≤ log.old.room }
     ensures worked { Worked (quit_work words.old cells.now containers.now.now seat.now) words.old [] log.old log.new
-        (H.reached rows.old) (H.reached rows.new) }
+        (H.seen rows.old).reached (H.seen rows.new).reached }
     ensures mine { words.new ≡ words_by words.old 0 seat.now }
-    ensures lent { H.words rows.new ≡ Some words.new }
-    ensures leaves { Leaves (3 * length cells.now + 60) (3 * length cells.now + 61) (H.hand rows.old) (H.hand rows.new)
-        (H.left rows.old) (H.left rows.new) (H.draws rows.old) (H.draws rows.new) (H.name rows.old) (H.name rows.new)
-        log.old log.new }
+    ensures lent { (H.seen rows.new).words ≡ Some words.new }
+    ensures leaves { Leaves (3 * length cells.now + 60) (3 * length cells.now + 61) (H.seen rows.old).hand
+        (H.seen rows.new).hand (H.seen rows.old).left (H.seen rows.new).left (H.seen rows.old).draws
+        (H.seen rows.new).draws (H.seen rows.old).name (H.seen rows.new).name log.old log.new }
 {
     if let Some(seat) = seat {
         clear_thread(rows, containers, words, cells, seat, log);
@@ -81,19 +82,20 @@ fn seat_thread<H: Hold>(
     flags: u16,
     log: &mut Log,
 )
-    requires alone { (r : ℕ) → 0 < r → H.hand rows.old r ≡ None }
+    requires alone { (r : ℕ) → 0 < r → (H.seen rows.old).hand r ≡ None }
     requires seat { IsInRange seat.now }
     requires wide { length words.old ≡ 160 }
-    requires lent { H.words rows.old ≡ Some words.old }
+    requires lent { (H.seen rows.old).words ≡ Some words.old }
     requires early { (at : ℕ) → (word_at words.old at).version + 1 < 2 ^ 48 }
-    requires spare { 4 ≤ H.left rows.old }
+    requires spare { 4 ≤ (H.seen rows.old).left }
     requires room { 5 ≤ log.old.room }
     ensures worked { Worked (connect_work words.old flags containers.now.now (Some seat.now)) words.old [] log.old
-        log.new (H.reached rows.old) (H.reached rows.new) }
+        log.new (H.seen rows.old).reached (H.seen rows.new).reached }
     ensures mine { words.new ≡ words_by words.old flags (Some seat.now) }
-    ensures lent { H.words rows.new ≡ Some words.new }
-    ensures leaves { Leaves 4 5 (H.hand rows.old) (H.hand rows.new) (H.left rows.old) (H.left rows.new)
-        (H.draws rows.old) (H.draws rows.new) (H.name rows.old) (H.name rows.new) log.old log.new }
+    ensures lent { (H.seen rows.new).words ≡ Some words.new }
+    ensures leaves { Leaves 4 5 (H.seen rows.old).hand (H.seen rows.new).hand (H.seen rows.old).left
+        (H.seen rows.new).left (H.seen rows.old).draws (H.seen rows.new).draws (H.seen rows.old).name
+        (H.seen rows.new).name log.old log.new }
 {
     let content = seat.connection.info().to_content();
     tag(rows, 1 + seat.slot, &content, log);
@@ -111,21 +113,21 @@ fn clear_thread<H: Hold>(
     seat: &Seated,
     log: &mut Log,
 )
-    requires alone { (r : ℕ) → 0 < r → H.hand rows.old r ≡ None }
+    requires alone { (r : ℕ) → 0 < r → (H.seen rows.old).hand r ≡ None }
     requires seat { IsInRange seat.now }
     requires cells { All (λ cell. cell < 64) cells.now }
     requires wide { length words.old ≡ 160 }
-    requires lent { H.words rows.old ≡ Some words.old }
+    requires lent { (H.seen rows.old).words ≡ Some words.old }
     requires early { (at : ℕ) → (word_at words.old at).version + 1 < 2 ^ 48 }
-    requires spare { 3 * length cells.now + 60 ≤ H.left rows.old }
+    requires spare { 3 * length cells.now + 60 ≤ (H.seen rows.old).left }
     requires room { 3 * length cells.now + 61 ≤ log.old.room }
     ensures worked { Worked (quit_work words.old cells.now containers.now.now (Some seat.now)) words.old [] log.old
-        log.new (H.reached rows.old) (H.reached rows.new) }
+        log.new (H.seen rows.old).reached (H.seen rows.new).reached }
     ensures mine { words.new ≡ words_by words.old 0 (Some seat.now) }
-    ensures lent { H.words rows.new ≡ Some words.new }
-    ensures leaves { Leaves (3 * length cells.now + 60) (3 * length cells.now + 61) (H.hand rows.old) (H.hand rows.new)
-        (H.left rows.old) (H.left rows.new) (H.draws rows.old) (H.draws rows.new) (H.name rows.old) (H.name rows.new)
-        log.old log.new }
+    ensures lent { (H.seen rows.new).words ≡ Some words.new }
+    ensures leaves { Leaves (3 * length cells.now + 60) (3 * length cells.now + 61) (H.seen rows.old).hand
+        (H.seen rows.new).hand (H.seen rows.old).left (H.seen rows.new).left (H.seen rows.old).draws
+        (H.seen rows.new).draws (H.seen rows.old).name (H.seen rows.new).name log.old log.new }
 {
     let up = Up {
         place: seat.slot,

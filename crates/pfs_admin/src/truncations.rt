@@ -23,21 +23,22 @@ pub(crate) fn write_truncation<H: Hold>(
     what: Truncation,
     log: &mut Log,
 )
-    requires alone { (r : ℕ) → 0 < r → H.hand rows.old r ≡ None }
+    requires alone { (r : ℕ) → 0 < r → (H.seen rows.old).hand r ≡ None }
     requires cells { AreKindCells cells.now }
     requires wide { length words.old ≡ 160 }
-    requires lent { H.words rows.old ≡ Some words.old }
+    requires lent { (H.seen rows.old).words ≡ Some words.old }
     requires early { (at : ℕ) → (word_at words.old at).version + 1 < 2 ^ 48 }
-    requires spare { cost_most cells.now containers.old.now.places what ≤ H.left rows.old }
+    requires spare { cost_most cells.now containers.old.now.places what ≤ (H.seen rows.old).left }
     requires room { cost_most cells.now containers.old.now.places what ≤ log.old.room }
     ensures worked { Worked (truncation_work words.old cells.now containers.old what) words.old [] log.old log.new
-        (H.reached rows.old) (H.reached rows.new) }
+        (H.seen rows.old).reached (H.seen rows.new).reached }
     ensures kept { containers.new ≡ kept_behind containers.old what }
     ensures mine { words.new ≡ words_behind what words.old }
-    ensures lent { H.words rows.new ≡ Some words.new }
+    ensures lent { (H.seen rows.new).words ≡ Some words.new }
     ensures leaves { Leaves (cost_most cells.now containers.old.now.places what)
-        (cost_most cells.now containers.old.now.places what) (H.hand rows.old) (H.hand rows.new) (H.left rows.old)
-        (H.left rows.new) (H.draws rows.old) (H.draws rows.new) (H.name rows.old) (H.name rows.new) log.old log.new }
+        (cost_most cells.now containers.old.now.places what) (H.seen rows.old).hand (H.seen rows.new).hand
+        (H.seen rows.old).left (H.seen rows.new).left (H.seen rows.old).draws (H.seen rows.new).draws
+        (H.seen rows.old).name (H.seen rows.new).name log.old log.new }
 {
     move_truncated(rows, containers, cells, what, log);
     let before = Standing::of(containers);
@@ -66,16 +67,17 @@ fn free_truncated(containers: &mut Containers, what: Truncation)
 #[tactic(auto, using(crate::proofs::WordChanges::leaves_nothing, pfs_levels::proofs::MoveLists::did_none))]
 fn set_truncated<H: Hold>(rows: &mut H, words: &mut [Word], what: Truncation, log: &mut Log)
     requires wide { length words.old ≡ 160 }
-    requires lent { H.words rows.old ≡ Some words.old }
+    requires lent { (H.seen rows.old).words ≡ Some words.old }
     requires early { (at : ℕ) → (word_at words.old at).version + 1 < 2 ^ 48 }
     requires room { flags_most what ≤ log.old.room }
     ensures did { Did (flagging_calls words.old (truncation_flags words.old what))
-        (flagging_entries words.old (truncation_flags words.old what)) log.old log.new (H.reached rows.old)
-        (H.reached rows.new) }
+        (flagging_entries words.old (truncation_flags words.old what)) log.old log.new (H.seen rows.old).reached
+        (H.seen rows.new).reached }
     ensures mine { words.new ≡ words_behind what words.old }
-    ensures lent { H.words rows.new ≡ Some words.new }
-    ensures leaves { Leaves 0 (flags_most what) (H.hand rows.old) (H.hand rows.new) (H.left rows.old)
-        (H.left rows.new) (H.draws rows.old) (H.draws rows.new) (H.name rows.old) (H.name rows.new) log.old log.new }
+    ensures lent { (H.seen rows.new).words ≡ Some words.new }
+    ensures leaves { Leaves 0 (flags_most what) (H.seen rows.old).hand (H.seen rows.new).hand (H.seen rows.old).left
+        (H.seen rows.new).left (H.seen rows.old).draws (H.seen rows.new).draws (H.seen rows.old).name
+        (H.seen rows.new).name log.old log.new }
 {
     match what {
         Truncation::SetupObjects => turn_off(rows, words, log),
@@ -92,15 +94,16 @@ fn set_truncated<H: Hold>(rows: &mut H, words: &mut [Word], what: Truncation, lo
 // Clears the words of the tables that aren't off, ascending.
 fn turn_off<H: Hold>(rows: &mut H, words: &mut [Word], log: &mut Log)
     requires wide { length words.old ≡ 160 }
-    requires lent { H.words rows.old ≡ Some words.old }
+    requires lent { (H.seen rows.old).words ≡ Some words.old }
     requires early { (at : ℕ) → (word_at words.old at).version + 1 < 2 ^ 48 }
     requires room { 64 ≤ log.old.room }
-    ensures did { Did (flagging_calls words.old (off_flags words.old))
-        (flagging_entries words.old (off_flags words.old)) log.old log.new (H.reached rows.old) (H.reached rows.new) }
+    ensures did { Did (flagging_calls words.old (off_flags words.old)) (flagging_entries words.old
+        (off_flags words.old)) log.old log.new (H.seen rows.old).reached (H.seen rows.new).reached }
     ensures mine { words.new ≡ off_words words.old }
-    ensures lent { H.words rows.new ≡ Some words.new }
-    ensures leaves { Leaves 0 64 (H.hand rows.old) (H.hand rows.new) (H.left rows.old) (H.left rows.new)
-        (H.draws rows.old) (H.draws rows.new) (H.name rows.old) (H.name rows.new) log.old log.new }
+    ensures lent { (H.seen rows.new).words ≡ Some words.new }
+    ensures leaves { Leaves 0 64 (H.seen rows.old).hand (H.seen rows.new).hand (H.seen rows.old).left
+        (H.seen rows.new).left (H.seen rows.old).draws (H.seen rows.new).draws (H.seen rows.old).name
+        (H.seen rows.new).name log.old log.new }
 {
     for table in 0..64 {
         flag(rows, words, 96 + table, 0, log);

@@ -32,14 +32,13 @@ fn connect_by<A: Acts>(
 )
     requires may { IfSome names (λ connect. MayConnect session.old.state admin.old connect) }
     requires few { admin.old.actions < 2 ^ 47 }
-    requires idle { (r : ℕ) → A.hand rows.old r ≡ None }
-    requires lent { A.words rows.old ≡ Some admin.old.words }
-    requires spare { 5 ≤ A.left rows.old }
+    requires idle { (r : ℕ) → (A.seen rows.old).hand r ≡ None }
+    requires lent { (A.seen rows.old).words ≡ Some admin.old.words }
+    requires spare { 5 ≤ (A.seen rows.old).left }
     requires room { 6 ≤ session.old.journal.room }
-    ensures did { length admin.old.kept.now.places.threads ≤ 32
-        → (setting : Fixed) → (answers : List Answer)
-        → HasDeeds setting (connect_selections names) (connecting admin.old names) false session.old session.new answers
-        answers (A.reached rows.old) (A.reached rows.new) }
+    ensures did { length admin.old.kept.now.places.threads ≤ 32 → (setting : Fixed) → (answers : List Answer)
+        → HasDeeds setting (connect_selections names) (connecting admin.old names) false session.old session.new
+        answers answers (A.seen rows.old).reached (A.seen rows.new).reached }
     ensures admin { admin.new ≡ connected_by admin.old session.old.state.number names }
     ensures rest { session.new.state ≡ record session.old.state {
       place = session.new.state.place;
@@ -48,10 +47,10 @@ fn connect_by<A: Acts>(
     } }
     ensures actions { session.new.state.actions ≤ session.old.state.actions + 1 }
     ensures counted { admin.new.actions ≤ admin.old.actions + 1 }
-    ensures leaves { Leaves 5 6 (A.hand rows.old) (A.hand rows.new) (A.left rows.old) (A.left rows.new)
-        (A.draws rows.old) (A.draws rows.new) (A.name rows.old) (A.name rows.new) session.old.journal
-        session.new.journal }
-    ensures lent { A.words rows.new ≡ Some admin.new.words }
+    ensures leaves { Leaves 5 6 (A.seen rows.old).hand (A.seen rows.new).hand (A.seen rows.old).left
+        (A.seen rows.new).left (A.seen rows.old).draws (A.seen rows.new).draws (A.seen rows.old).name
+        (A.seen rows.new).name session.old.journal session.new.journal }
+    ensures lent { (A.seen rows.new).words ≡ Some admin.new.words }
 {
     match names {
         Some(names) => connect(session, rows, admin, names.user, names.host),
@@ -90,14 +89,14 @@ fn play_and_quit<A: Acts>(
     requires early { session.old.state.drawn + length (written_out body.now) < 2 ^ 64 }
     requires rare { session.old.state.actions + actions_on (written_out body.now) + 1 < 2 ^ 64 }
     requires few { admin.old.actions + actions_on (written_out body.now) < 2 ^ 47 }
-    requires idle { (r : ℕ) → A.hand rows.old r ≡ None }
-    requires lent { A.words rows.old ≡ Some admin.old.words }
-    requires tickets { 2 * length (written_out body.now) ≤ A.draws rows.old }
+    requires idle { (r : ℕ) → (A.seen rows.old).hand r ≡ None }
+    requires lent { (A.seen rows.old).words ≡ Some admin.old.words }
+    requires tickets { 2 * length (written_out body.now) ≤ (A.seen rows.old).draws }
     requires spare { 11 * length (written_out body.now) + 20192 * actions_on (written_out body.now) + 446
-        ≤ A.left rows.old }
+        ≤ (A.seen rows.old).left }
     requires room { cost_on (written_out body.now) + 448 ≤ session.old.journal.room }
     ensures did { OnOk result (HasEnded setting.now (body.now ++ said.Quit ∷ []) admin.old admin.new session.old
-        session.new answers.old.items answers.new.items (A.reached rows.old) (A.reached rows.new)) }
+        session.new answers.old.items answers.new.items (A.seen rows.old).reached (A.seen rows.new).reached) }
     ensures kinds { OnOk result (kinds_at session.new.state ≡ []) }
     ensures drawn { OnOk result (session.new.state.drawn ≤ session.old.state.drawn + length (written_out body.now)) }
     ensures number { OnOk result (session.new.state.number ≡ session.old.state.number) }
@@ -107,10 +106,11 @@ fn play_and_quit<A: Acts>(
     ensures counted { OnOk result (admin.new.actions ≤ admin.old.actions + actions_on (written_out body.now) + 1) }
     ensures wide { OnOk result (length session.new.state.held ≡ 193) }
     ensures leaves { OnOk result (Uses (11 * length (written_out body.now) + 20192 * actions_on (written_out body.now)
-        + 446) (2 * length (written_out body.now)) (cost_on (written_out body.now) + 448) (A.hand rows.old)
-        (A.hand rows.new) (A.left rows.old) (A.left rows.new) (A.draws rows.old) (A.draws rows.new) (A.name rows.old)
-        (A.name rows.new) session.old.journal session.new.journal) }
-    ensures lent { OnOk result (A.words rows.new ≡ Some admin.new.words) }
+        + 446) (2 * length (written_out body.now)) (cost_on (written_out body.now) + 448) (A.seen rows.old).hand
+        (A.seen rows.new).hand (A.seen rows.old).left (A.seen rows.new).left (A.seen rows.old).draws
+        (A.seen rows.new).draws (A.seen rows.old).name (A.seen rows.new).name session.old.journal
+        session.new.journal) }
+    ensures lent { OnOk result ((A.seen rows.new).words ≡ Some admin.new.words) }
 {
     match play_written(alloc, setting, session, rows, admin, answers, body) {
         Ok(()) => {
@@ -137,14 +137,14 @@ fn play_to_end<A: Acts>(
     requires early { session.old.state.drawn + length (written_out lines.now) < 2 ^ 64 }
     requires rare { session.old.state.actions + actions_on (written_out lines.now) + 1 < 2 ^ 64 }
     requires few { admin.old.actions + actions_on (written_out lines.now) < 2 ^ 47 }
-    requires idle { (r : ℕ) → A.hand rows.old r ≡ None }
-    requires lent { A.words rows.old ≡ Some admin.old.words }
-    requires tickets { 2 * length (written_out lines.now) ≤ A.draws rows.old }
+    requires idle { (r : ℕ) → (A.seen rows.old).hand r ≡ None }
+    requires lent { (A.seen rows.old).words ≡ Some admin.old.words }
+    requires tickets { 2 * length (written_out lines.now) ≤ (A.seen rows.old).draws }
     requires spare { 11 * length (written_out lines.now) + 20192 * actions_on (written_out lines.now) + 446
-        ≤ A.left rows.old }
+        ≤ (A.seen rows.old).left }
     requires room { cost_on (written_out lines.now) + 448 ≤ session.old.journal.room }
     ensures did { OnOk result (HasEnded setting.now lines.now admin.old admin.new session.old session.new
-        answers.old.items answers.new.items (A.reached rows.old) (A.reached rows.new)) }
+        answers.old.items answers.new.items (A.seen rows.old).reached (A.seen rows.new).reached) }
     ensures kinds { OnOk result (kinds_at session.new.state ≡ kinds_after (kinds_at session.old.state)
         (written_out lines.now)) }
     ensures lie { OnOk result (StagesLie (kinds_at session.new.state)) }
@@ -155,12 +155,12 @@ fn play_to_end<A: Acts>(
         + actions_on (written_out lines.now) + 1) }
     ensures counted { OnOk result (admin.new.actions ≤ admin.old.actions + actions_on (written_out lines.now) + 1) }
     ensures wide { OnOk result (length session.new.state.held ≡ 193) }
-    ensures leaves { OnOk result (Uses (11 * length (written_out lines.now)
-        + 20192 * actions_on (written_out lines.now) + 446) (2 * length (written_out lines.now))
-        (cost_on (written_out lines.now) + 448) (A.hand rows.old) (A.hand rows.new) (A.left rows.old)
-        (A.left rows.new) (A.draws rows.old) (A.draws rows.new) (A.name rows.old) (A.name rows.new)
+    ensures leaves { OnOk result (Uses (11 * length (written_out lines.now) + 20192 * actions_on
+        (written_out lines.now) + 446) (2 * length (written_out lines.now)) (cost_on (written_out lines.now) + 448)
+        (A.seen rows.old).hand (A.seen rows.new).hand (A.seen rows.old).left (A.seen rows.new).left
+        (A.seen rows.old).draws (A.seen rows.new).draws (A.seen rows.old).name (A.seen rows.new).name
         session.old.journal session.new.journal) }
-    ensures lent { OnOk result (A.words rows.new ≡ Some admin.new.words) }
+    ensures lent { OnOk result ((A.seen rows.new).words ≡ Some admin.new.words) }
 {
     match before_quit(lines) {
         Some(body) => play_and_quit(alloc, setting, session, rows, admin, answers, body),
@@ -187,15 +187,15 @@ pub fn play_block<A: Acts>(
     requires early { session.state.drawn + length (written_out block.now.lines) < 2 ^ 64 }
     requires rare { session.state.actions + actions_on (written_out block.now.lines) + 2 < 2 ^ 64 }
     requires few { admin.old.actions + actions_on (written_out block.now.lines) + 1 < 2 ^ 47 }
-    requires idle { (r : ℕ) → A.hand rows.old r ≡ None }
-    requires lent { A.words rows.old ≡ Some admin.old.words }
-    requires tickets { 2 * length (written_out block.now.lines) ≤ A.draws rows.old }
+    requires idle { (r : ℕ) → (A.seen rows.old).hand r ≡ None }
+    requires lent { (A.seen rows.old).words ≡ Some admin.old.words }
+    requires tickets { 2 * length (written_out block.now.lines) ≤ (A.seen rows.old).draws }
     requires spare { 11 * length (written_out block.now.lines) + 20192 * actions_on (written_out block.now.lines) + 644
-        ≤ A.left rows.old }
+        ≤ (A.seen rows.old).left }
     requires room { cost_on (written_out block.now.lines) + 648 ≤ session.journal.room }
     ensures did { IfOk result (λ paused. length admin.old.kept.now.places.threads ≤ 32
         → HasPlayed setting.now block.now admin.old admin.new session paused answers.old.items answers.new.items
-        (A.reached rows.old) (A.reached rows.new)) }
+        (A.seen rows.old).reached (A.seen rows.new).reached) }
     ensures kinds { IfOk result (λ paused. kinds_at paused.state ≡ kinds_after (kinds_at session.state)
         (written_out block.now.lines)) }
     ensures lie { IfOk result (λ paused. StagesLie (kinds_at paused.state)) }
@@ -208,12 +208,12 @@ pub fn play_block<A: Acts>(
         + actions_on (written_out block.now.lines) + 2) }
     ensures counted { OnOk result (admin.new.actions ≤ admin.old.actions + actions_on (written_out block.now.lines)
         + 2) }
-    ensures leaves { IfOk result (λ paused. Uses (11 * length (written_out block.now.lines)
-        + 20192 * actions_on (written_out block.now.lines) + 644) (2 * length (written_out block.now.lines))
-        (cost_on (written_out block.now.lines) + 648) (A.hand rows.old) (A.hand rows.new) (A.left rows.old)
-        (A.left rows.new) (A.draws rows.old) (A.draws rows.new) (A.name rows.old) (A.name rows.new) session.journal
-        paused.journal) }
-    ensures lent { OnOk result (A.words rows.new ≡ Some admin.new.words) }
+    ensures leaves { IfOk result (λ paused. Uses (11 * length (written_out block.now.lines) + 20192 * actions_on
+        (written_out block.now.lines) + 644) (2 * length (written_out block.now.lines))
+        (cost_on (written_out block.now.lines) + 648) (A.seen rows.old).hand (A.seen rows.new).hand
+        (A.seen rows.old).left (A.seen rows.new).left (A.seen rows.old).draws (A.seen rows.new).draws
+        (A.seen rows.old).name (A.seen rows.new).name session.journal paused.journal) }
+    ensures lent { OnOk result ((A.seen rows.new).words ≡ Some admin.new.words) }
 {
     let mut session = session;
     connect_by(&mut session, rows, admin, block.connect);

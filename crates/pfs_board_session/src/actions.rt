@@ -34,16 +34,16 @@ pub fn connect<'a, R: Wait, N: Shared>(
     requires first { session.old.state.actions ≡ 0 }
     requires unplaced { session.old.state.place ≡ no_place }
     requires closed { session.old.state.opened.events ≡ [] }
-    requires alone { (r : ℕ) → ⟦<BoardRows<'a, Desk<N>> as Rows>⟧.hand rows r ≡ None }
-    requires spare { 5 ≤ ⟦<BoardRows<'a, Desk<N>> as Rows>⟧.left rows }
+    requires alone { (r : ℕ) → (⟦<BoardRows<'a, Desk<N>> as Rows>⟧.seen rows).hand r ≡ None }
+    requires spare { 5 ≤ (⟦<BoardRows<'a, Desk<N>> as Rows>⟧.seen rows).left }
     requires room { 6 ≤ session.old.journal.room }
     requires begun { (start : Opening) × (calls : List Call)
-        × (⟦<BoardRows<'a, Desk<N>> as Rows>⟧.reached rows start calls) × (start.switches.table ≡ N.switches) }
+        × ((⟦<BoardRows<'a, Desk<N>> as Rows>⟧.seen rows).reached start calls) × (start.switches.table ≡ N.switches) }
     ensures acted { (start : Opening) → (calls : List Call)
-        → ⟦<BoardRows<'a, Desk<N>> as Rows>⟧.reached rows.entry start calls → (more : List Call) × (admin : State)
-        × ⟦<BoardRows<'a, Desk<N>> as Rows>⟧.reached result start more
-        × HasActed N.setting N.change (Connects admin user host ∷ []) admin session.old session.new calls more
-        × KeepsToWords N.setting N.change calls more }
+        → (⟦<BoardRows<'a, Desk<N>> as Rows>⟧.seen rows.entry).reached start calls → (more : List Call)
+        × (admin : State) × (⟦<BoardRows<'a, Desk<N>> as Rows>⟧.seen result).reached start more × HasActed N.setting
+        N.change (Connects admin user host ∷ []) admin session.old session.new calls more × KeepsToWords N.setting
+        N.change calls more }
     ensures rest { session.new.state ≡ record session.old.state {
       place = session.new.state.place;
       actions = 1;
@@ -51,9 +51,9 @@ pub fn connect<'a, R: Wait, N: Shared>(
     } }
     ensures held { session.new.state.held ≡ nothing_held }
     ensures owed { owed_by_state session.new.state ≡ [] }
-    ensures hand { (r : ℕ) → ⟦<BoardRows<'a, Desk<N>> as Rows>⟧.hand result r ≡ None }
-    ensures left { ⟦<BoardRows<'a, Desk<N>> as Rows>⟧.left rows.entry
-        ≤ ⟦<BoardRows<'a, Desk<N>> as Rows>⟧.left result + 5 }
+    ensures hand { (r : ℕ) → (⟦<BoardRows<'a, Desk<N>> as Rows>⟧.seen result).hand r ≡ None }
+    ensures left { (⟦<BoardRows<'a, Desk<N>> as Rows>⟧.seen rows.entry).left
+        ≤ (⟦<BoardRows<'a, Desk<N>> as Rows>⟧.seen result).left + 5 }
     ensures room { session.old.journal.room ≤ session.new.journal.room + 6 }
 {
     let (mut admin, mut hold) = begin(rt, rows, session.label());
@@ -71,25 +71,26 @@ pub fn quit<'a, R: Wait, N: Shared>(
     requires named { N.change (label_of session.old.state) ≡ Quit }
     requires closed { session.old.state.opened.events ≡ [] }
     requires early { session.old.state.actions + 1 < 2 ^ 64 }
-    requires alone { (r : ℕ) → ⟦<BoardRows<'a, Desk<N>> as Rows>⟧.hand rows r ≡ None }
-    requires spare { length (owed_by_state session.old.state) + 253 ≤ ⟦<BoardRows<'a, Desk<N>> as Rows>⟧.left rows }
+    requires alone { (r : ℕ) → (⟦<BoardRows<'a, Desk<N>> as Rows>⟧.seen rows).hand r ≡ None }
+    requires spare { length (owed_by_state session.old.state) + 253
+        ≤ (⟦<BoardRows<'a, Desk<N>> as Rows>⟧.seen rows).left }
     requires room { settle_cost (owed_by_state session.old.state) + 254 ≤ session.old.journal.room }
     requires begun { (start : Opening) × (calls : List Call)
-        × (⟦<BoardRows<'a, Desk<N>> as Rows>⟧.reached rows start calls) × (start.switches.table ≡ N.switches) }
+        × ((⟦<BoardRows<'a, Desk<N>> as Rows>⟧.seen rows).reached start calls) × (start.switches.table ≡ N.switches) }
     ensures acted { (start : Opening) → (calls : List Call)
-        → ⟦<BoardRows<'a, Desk<N>> as Rows>⟧.reached rows.entry start calls → (more : List Call) × (admin : State)
-        × ⟦<BoardRows<'a, Desk<N>> as Rows>⟧.reached result start more
-        × HasActed N.setting N.change (SettlesHeld ∷ Quits admin ∷ []) admin session.old session.new calls more
-        × KeepsToWords N.setting N.change calls more }
+        → (⟦<BoardRows<'a, Desk<N>> as Rows>⟧.seen rows.entry).reached start calls → (more : List Call)
+        × (admin : State) × (⟦<BoardRows<'a, Desk<N>> as Rows>⟧.seen result).reached start more × HasActed N.setting
+        N.change (SettlesHeld ∷ Quits admin ∷ []) admin session.old session.new calls more × KeepsToWords N.setting
+        N.change calls more }
     ensures rest { session.new.state ≡ record session.old.state {
       place = no_place;
       held = nothing_held;
       actions = session.old.state.actions + 1;
       last = session.new.state.last;
     } }
-    ensures hand { (r : ℕ) → ⟦<BoardRows<'a, Desk<N>> as Rows>⟧.hand result r ≡ None }
-    ensures left { ⟦<BoardRows<'a, Desk<N>> as Rows>⟧.left rows.entry
-        ≤ ⟦<BoardRows<'a, Desk<N>> as Rows>⟧.left result + (length (owed_by_state session.old.state) + 253) }
+    ensures hand { (r : ℕ) → (⟦<BoardRows<'a, Desk<N>> as Rows>⟧.seen result).hand r ≡ None }
+    ensures left { (⟦<BoardRows<'a, Desk<N>> as Rows>⟧.seen rows.entry).left
+        ≤ (⟦<BoardRows<'a, Desk<N>> as Rows>⟧.seen result).left + (length (owed_by_state session.old.state) + 253) }
     ensures room { session.old.journal.room
         ≤ session.new.journal.room + (settle_cost (owed_by_state session.old.state) + 254) }
 {
@@ -105,16 +106,17 @@ pub fn pause<'a, R: Wait, V: Kept>(
     rows: BoardRows<'a, V>,
     session: Session,
 ) -> (BoardRows<'a, V>, Paused)
-    requires alone { (r : ℕ) → ⟦<BoardRows<'a, V> as Rows>⟧.hand rows r ≡ None }
-    requires spare { length (owed_by_state session.state) ≤ ⟦<BoardRows<'a, V> as Rows>⟧.left rows }
+    requires alone { (r : ℕ) → (⟦<BoardRows<'a, V> as Rows>⟧.seen rows).hand r ≡ None }
+    requires spare { length (owed_by_state session.state) ≤ (⟦<BoardRows<'a, V> as Rows>⟧.seen rows).left }
     requires room { settle_cost (owed_by_state session.state) ≤ session.journal.room }
-    ensures played { Played (SettlesHeld ∷ []) session result.1 (⟦<BoardRows<'a, V> as Rows>⟧.reached rows.entry)
-        (⟦<BoardRows<'a, V> as Rows>⟧.reached result.0) }
+    ensures played { Played (SettlesHeld ∷ []) session result.1 (⟦<BoardRows<'a, V> as Rows>⟧.seen rows.entry).reached
+        (⟦<BoardRows<'a, V> as Rows>⟧.seen result.0).reached }
     ensures rest { result.1.state ≡ record session.state { held = nothing_held } }
-    ensures hand { (r : ℕ) → ⟦<BoardRows<'a, V> as Rows>⟧.hand result.0 r ≡ None }
-    ensures left { ⟦<BoardRows<'a, V> as Rows>⟧.left rows.entry
-        ≤ ⟦<BoardRows<'a, V> as Rows>⟧.left result.0 + length (owed_by_state session.state) }
-    ensures draws { ⟦<BoardRows<'a, V> as Rows>⟧.draws result.0 ≡ ⟦<BoardRows<'a, V> as Rows>⟧.draws rows.entry }
+    ensures hand { (r : ℕ) → (⟦<BoardRows<'a, V> as Rows>⟧.seen result.0).hand r ≡ None }
+    ensures left { (⟦<BoardRows<'a, V> as Rows>⟧.seen rows.entry).left
+        ≤ (⟦<BoardRows<'a, V> as Rows>⟧.seen result.0).left + length (owed_by_state session.state) }
+    ensures draws { (⟦<BoardRows<'a, V> as Rows>⟧.seen result.0).draws
+        ≡ (⟦<BoardRows<'a, V> as Rows>⟧.seen rows.entry).draws }
     ensures room { session.journal.room ≤ result.1.journal.room + settle_cost (owed_by_state session.state) }
 {
     let mut hold = BoardHold::new(rt, rows, None);

@@ -22,22 +22,23 @@ pub(crate) fn begin<'a, 'b, R: Wait, N: Shared>(
     rows: BoardRows<'b, Desk<N>>,
     label: Label,
 ) -> (Admin, BoardHold<'a, 'b, R, Desk<N>>)
-    requires outside { (r : ℕ) → ⟦<BoardRows<'b, Desk<N>> as Rows>⟧.hand rows r ≡ None }
-    requires spare { 0 < ⟦<BoardRows<'b, Desk<N>> as Rows>⟧.left rows }
+    requires outside { (r : ℕ) → (⟦<BoardRows<'b, Desk<N>> as Rows>⟧.seen rows).hand r ≡ None }
+    requires spare { 0 < (⟦<BoardRows<'b, Desk<N>> as Rows>⟧.seen rows).left }
     requires begun { (start : Opening) × (calls : List Call)
-        × (⟦<BoardRows<'b, Desk<N>> as Rows>⟧.reached rows start calls) × (start.switches.table ≡ N.switches) }
+        × ((⟦<BoardRows<'b, Desk<N>> as Rows>⟧.seen rows).reached start calls) × (start.switches.table ≡ N.switches) }
     ensures call { (start : Opening) → (calls : List Call)
-        → ⟦<BoardRows<'b, Desk<N>> as Rows>⟧.reached rows.entry start calls → (labels : List Label) × (pen : Known)
-        × IsDesk N.setting N.change N.switches labels result.0 pen
-        × (⟦<BoardHold<'a, 'b, R, Desk<N>> as Rows>⟧.reached result.1 start
+        → (⟦<BoardRows<'b, Desk<N>> as Rows>⟧.seen rows.entry).reached start calls → (labels : List Label)
+        × (pen : Known) × IsDesk N.setting N.change N.switches labels result.0 pen
+        × ((⟦<BoardHold<'a, 'b, R, Desk<N>> as Rows>⟧.seen result.1).reached start
         (Meets pen.view.seen ∷ Enters label labels ∷ calls))
-        × (⟦<BoardHold<'a, 'b, R, Desk<N>> as Rows>⟧.name result.1 ≡ number_of (sets_of N.setting N.change labels)) }
+        × ((⟦<BoardHold<'a, 'b, R, Desk<N>> as Rows>⟧.seen result.1).name ≡ number_of
+        (sets_of N.setting N.change labels)) }
     ensures few { result.0.actions < 2 ^ 47 }
-    ensures lent { ⟦<BoardHold<'a, 'b, R, Desk<N>> as Rows>⟧.words result.1 ≡ Some result.0.words }
-    ensures inside { IsSome (⟦<BoardHold<'a, 'b, R, Desk<N>> as Rows>⟧.hand result.1 0) }
-    ensures alone { (r : ℕ) → 0 < r → ⟦<BoardHold<'a, 'b, R, Desk<N>> as Rows>⟧.hand result.1 r ≡ None }
-    ensures left { ⟦<BoardRows<'b, Desk<N>> as Rows>⟧.left rows.entry
-        ≤ ⟦<BoardHold<'a, 'b, R, Desk<N>> as Rows>⟧.left result.1 + 1 }
+    ensures lent { (⟦<BoardHold<'a, 'b, R, Desk<N>> as Rows>⟧.seen result.1).words ≡ Some result.0.words }
+    ensures inside { IsSome ((⟦<BoardHold<'a, 'b, R, Desk<N>> as Rows>⟧.seen result.1).hand 0) }
+    ensures alone { (r : ℕ) → 0 < r → (⟦<BoardHold<'a, 'b, R, Desk<N>> as Rows>⟧.seen result.1).hand r ≡ None }
+    ensures left { (⟦<BoardRows<'b, Desk<N>> as Rows>⟧.seen rows.entry).left
+        ≤ (⟦<BoardHold<'a, 'b, R, Desk<N>> as Rows>⟧.seen result.1).left + 1 }
 {
     let mut rows = rows;
     let (_, desk) = rows.enter(rt, label);
@@ -50,22 +51,22 @@ pub(crate) fn finish<'a, 'b, R: Wait, N: Shared>(
     hold: BoardHold<'a, 'b, R, Desk<N>>,
     admin: Admin,
 ) -> BoardRows<'b, Desk<N>>
-    requires lent { ⟦<BoardHold<'a, 'b, R, Desk<N>> as Rows>⟧.words hold ≡ Some admin.words }
-    requires inside { IsSome (⟦<BoardHold<'a, 'b, R, Desk<N>> as Rows>⟧.hand hold 0) }
-    requires alone { (r : ℕ) → 0 < r → ⟦<BoardHold<'a, 'b, R, Desk<N>> as Rows>⟧.hand hold r ≡ None }
+    requires lent { (⟦<BoardHold<'a, 'b, R, Desk<N>> as Rows>⟧.seen hold).words ≡ Some admin.words }
+    requires inside { IsSome ((⟦<BoardHold<'a, 'b, R, Desk<N>> as Rows>⟧.seen hold).hand 0) }
+    requires alone { (r : ℕ) → 0 < r → (⟦<BoardHold<'a, 'b, R, Desk<N>> as Rows>⟧.seen hold).hand r ≡ None }
     requires stands { (start : Opening) × (calls : List Call)
-        × (⟦<BoardHold<'a, 'b, R, Desk<N>> as Rows>⟧.reached hold start calls)
+        × ((⟦<BoardHold<'a, 'b, R, Desk<N>> as Rows>⟧.seen hold).reached start calls)
         × (start.switches.table ≡ N.switches)
         × StandsFor N.setting N.change (labels_in calls ++ label_in calls ∷ []) admin
         × (sets_of N.setting N.change (labels_in calls ++ label_in calls ∷ [])
         ≡ sets_since_met calls ++ sets_of N.setting N.change (labels_in calls))
-        × (⟦<BoardHold<'a, 'b, R, Desk<N>> as Rows>⟧.name hold
+        × ((⟦<BoardHold<'a, 'b, R, Desk<N>> as Rows>⟧.seen hold).name
         ≡ number_of (sets_of N.setting N.change (labels_in calls))) }
-    ensures call { Goes (⟦<BoardHold<'a, 'b, R, Desk<N>> as Rows>⟧.reached hold.entry)
-        (⟦<BoardRows<'b, Desk<N>> as Rows>⟧.reached result) (Leaves ∷ []) }
-    ensures hand { (r : ℕ) → ⟦<BoardRows<'b, Desk<N>> as Rows>⟧.hand result r ≡ None }
-    ensures left { ⟦<BoardRows<'b, Desk<N>> as Rows>⟧.left result
-        ≡ ⟦<BoardHold<'a, 'b, R, Desk<N>> as Rows>⟧.left hold.entry }
+    ensures call { Goes (⟦<BoardHold<'a, 'b, R, Desk<N>> as Rows>⟧.seen hold.entry).reached
+        (⟦<BoardRows<'b, Desk<N>> as Rows>⟧.seen result).reached (Leaves ∷ []) }
+    ensures hand { (r : ℕ) → (⟦<BoardRows<'b, Desk<N>> as Rows>⟧.seen result).hand r ≡ None }
+    ensures left { (⟦<BoardRows<'b, Desk<N>> as Rows>⟧.seen result).left
+        ≡ (⟦<BoardHold<'a, 'b, R, Desk<N>> as Rows>⟧.seen hold.entry).left }
 {
     let (mut rows, lent) = hold.into_parts();
     match lent {

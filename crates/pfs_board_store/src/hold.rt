@@ -35,15 +35,20 @@ impl<'a, 'b, R: Wait, V: Kept> BoardHold<'a, 'b, R, V> {
     /// The actor meets it here, as one call more, and has then seen each word at the version that the writer knows.
     pub fn new(rt: &'a R, rows: BoardRows<'b, V>, writer: Option<Writer>) -> BoardHold<'a, 'b, R, V>
         requires wide { IfSome writer (λ w. 160 ≤ length w.view.seen) }
-        requires inside { IfSome writer (λ _. IsSome (⟦<BoardRows<'b, V> as Rows>⟧.hand rows 0)) }
+        requires inside { IfSome writer (λ _. IsSome ((⟦<BoardRows<'b, V> as Rows>⟧.seen rows).hand 0)) }
         requires same { IfSome writer (λ w. (start : Opening) × (calls : List Call)
-            × (⟦<BoardRows<'b, V> as Rows>⟧.reached rows start calls) × (w.switches ≡ start.switches.table)) }
-        ensures call { Goes (⟦<BoardRows<'b, V> as Rows>⟧.reached rows.entry) (⟦<BoardHold<'a, 'b, R, V> as Rows>⟧.reached result) (meeting writer) }
-        ensures left { ⟦<BoardHold<'a, 'b, R, V> as Rows>⟧.left result ≡ ⟦<BoardRows<'b, V> as Rows>⟧.left rows.entry }
-        ensures draws { ⟦<BoardHold<'a, 'b, R, V> as Rows>⟧.draws result ≡ ⟦<BoardRows<'b, V> as Rows>⟧.draws rows.entry }
-        ensures hand { (r : ℕ) → ⟦<BoardHold<'a, 'b, R, V> as Rows>⟧.hand result r ≡ ⟦<BoardRows<'b, V> as Rows>⟧.hand rows.entry r }
-        ensures words { ⟦<BoardHold<'a, 'b, R, V> as Rows>⟧.words result ≡ option_map (λ w. words_of w.view) writer }
-        ensures name { ⟦<BoardHold<'a, 'b, R, V> as Rows>⟧.name result ≡ number_of (sets_in writer) }
+            × ((⟦<BoardRows<'b, V> as Rows>⟧.seen rows).reached start calls) × (w.switches ≡ start.switches.table)) }
+        ensures call { Goes (⟦<BoardRows<'b, V> as Rows>⟧.seen rows.entry).reached
+            (⟦<BoardHold<'a, 'b, R, V> as Rows>⟧.seen result).reached (meeting writer) }
+        ensures left { (⟦<BoardHold<'a, 'b, R, V> as Rows>⟧.seen result).left
+            ≡ (⟦<BoardRows<'b, V> as Rows>⟧.seen rows.entry).left }
+        ensures draws { (⟦<BoardHold<'a, 'b, R, V> as Rows>⟧.seen result).draws
+            ≡ (⟦<BoardRows<'b, V> as Rows>⟧.seen rows.entry).draws }
+        ensures hand { (r : ℕ) → (⟦<BoardHold<'a, 'b, R, V> as Rows>⟧.seen result).hand r
+            ≡ (⟦<BoardRows<'b, V> as Rows>⟧.seen rows.entry).hand r }
+        ensures words { (⟦<BoardHold<'a, 'b, R, V> as Rows>⟧.seen result).words ≡ option_map (λ w. words_of w.view)
+            writer }
+        ensures name { (⟦<BoardHold<'a, 'b, R, V> as Rows>⟧.seen result).name ≡ number_of (sets_in writer) }
     {
         let lent = Snapshot::of(&writer);
         match writer {
@@ -69,16 +74,24 @@ impl<'a, 'b, R: Wait, V: Kept> BoardHold<'a, 'b, R, V> {
     /// Gives back the store, behind the hold's calls, and the writer, where it was lent one. Its sets are those of the
     /// calls behind its meet, then those that it had as it was lent, which the hold's name tells.
     pub fn into_parts(self) -> (BoardRows<'b, V>, Option<Writer>)
-        ensures call { Goes (⟦<BoardHold<'a, 'b, R, V> as Rows>⟧.reached self.entry) (⟦<BoardRows<'b, V> as Rows>⟧.reached result.0) [] }
-        ensures left { ⟦<BoardRows<'b, V> as Rows>⟧.left result.0 ≡ ⟦<BoardHold<'a, 'b, R, V> as Rows>⟧.left self.entry }
-        ensures draws { ⟦<BoardRows<'b, V> as Rows>⟧.draws result.0 ≡ ⟦<BoardHold<'a, 'b, R, V> as Rows>⟧.draws self.entry }
-        ensures hand { (r : ℕ) → ⟦<BoardRows<'b, V> as Rows>⟧.hand result.0 r ≡ ⟦<BoardHold<'a, 'b, R, V> as Rows>⟧.hand self.entry r }
-        ensures words { option_map (λ w. words_of w.view) result.1 ≡ ⟦<BoardHold<'a, 'b, R, V> as Rows>⟧.words self.entry }
-        ensures same { (start : Opening) → (calls : List Call) → ⟦<BoardHold<'a, 'b, R, V> as Rows>⟧.reached self.entry start calls → IfSome result.1 (λ w. w.switches ≡ start.switches.table) }
+        ensures call { Goes (⟦<BoardHold<'a, 'b, R, V> as Rows>⟧.seen self.entry).reached
+            (⟦<BoardRows<'b, V> as Rows>⟧.seen result.0).reached [] }
+        ensures left { (⟦<BoardRows<'b, V> as Rows>⟧.seen result.0).left
+            ≡ (⟦<BoardHold<'a, 'b, R, V> as Rows>⟧.seen self.entry).left }
+        ensures draws { (⟦<BoardRows<'b, V> as Rows>⟧.seen result.0).draws
+            ≡ (⟦<BoardHold<'a, 'b, R, V> as Rows>⟧.seen self.entry).draws }
+        ensures hand { (r : ℕ) → (⟦<BoardRows<'b, V> as Rows>⟧.seen result.0).hand r
+            ≡ (⟦<BoardHold<'a, 'b, R, V> as Rows>⟧.seen self.entry).hand r }
+        ensures words { option_map (λ w. words_of w.view) result.1
+            ≡ (⟦<BoardHold<'a, 'b, R, V> as Rows>⟧.seen self.entry).words }
+        ensures same { (start : Opening) → (calls : List Call)
+            → (⟦<BoardHold<'a, 'b, R, V> as Rows>⟧.seen self.entry).reached start calls → IfSome result.1
+            (λ w. w.switches ≡ start.switches.table) }
         ensures wide { IfSome result.1 (λ w. 160 ≤ length w.view.seen) }
-        ensures sets { (start : Opening) → (calls : List Call) → ⟦<BoardHold<'a, 'b, R, V> as Rows>⟧.reached self.entry start calls
-            → (had : List Setting) → ⟦<BoardHold<'a, 'b, R, V> as Rows>⟧.name self.entry ≡ number_of had
-            → IfSome result.1 (λ w. w.view.sets ≡ sets_since_met calls ++ had) }
+        ensures sets { (start : Opening) → (calls : List Call)
+            → (⟦<BoardHold<'a, 'b, R, V> as Rows>⟧.seen self.entry).reached start calls → (had : List Setting)
+            → (⟦<BoardHold<'a, 'b, R, V> as Rows>⟧.seen self.entry).name ≡ number_of had → IfSome result.1
+            (λ w. w.view.sets ≡ sets_since_met calls ++ had) }
     {
         let BoardHold {
             rt: _,
@@ -91,18 +104,15 @@ impl<'a, 'b, R: Wait, V: Kept> BoardHold<'a, 'b, R, V> {
 }
 
 impl<'a, 'b, R: Wait, V: Kept> Rows for BoardHold<'a, 'b, R, V> {
-    ghost reached = { λ s start calls. (⟦<BoardRows<'b, V> as Rows>⟧.reached s.rows start calls)
-        × HasSet s.lent.value calls s.writer };
-
-    ghost left = { λ s. ⟦<BoardRows<'b, V> as Rows>⟧.left s.rows };
-
-    ghost draws = { λ s. ⟦<BoardRows<'b, V> as Rows>⟧.draws s.rows };
-
-    ghost hand = { λ s. ⟦<BoardRows<'b, V> as Rows>⟧.hand s.rows };
-
-    ghost words = { λ s. option_map (λ w. words_of w.view) s.writer };
-
-    ghost name = { λ s. number_of (sets_in s.lent.value) };
+    ghost seen = { λ s. record {
+      reached = λ start calls. ((⟦<BoardRows<'b, V> as Rows>⟧.seen s.rows).reached start calls)
+          × HasSet s.lent.value calls s.writer;
+      hand = (⟦<BoardRows<'b, V> as Rows>⟧.seen s.rows).hand;
+      left = (⟦<BoardRows<'b, V> as Rows>⟧.seen s.rows).left;
+      draws = (⟦<BoardRows<'b, V> as Rows>⟧.seen s.rows).draws;
+      words = option_map (λ w. words_of w.view) s.writer;
+      name = number_of (sets_in s.lent.value);
+    } };
 
     fn add_try(&mut self, row: u64, amount: &Stat) -> Added {
         self.rows.add_try(row, amount)

@@ -17,14 +17,17 @@ impl<'a, V: Kept> BoardRows<'a, V> {
     /// Takes a row, and tries again until it has it: its version and what it held.
     pub(crate) fn take_row<R: Wait>(&mut self, rt: &R, row: u64) -> (u64, Content)
         requires known { IsRow row }
-        requires away { ⟦<BoardRows<'a, V> as Rows>⟧.hand self.old row ≡ None }
-        requires room { 0 < ⟦<BoardRows<'a, V> as Rows>⟧.left self.old }
-        ensures call { Goes (⟦<BoardRows<'a, V> as Rows>⟧.reached self.old) (⟦<BoardRows<'a, V> as Rows>⟧.reached self.new) (Takes row result.0 result.1 ∷ []) }
-        ensures left { ⟦<BoardRows<'a, V> as Rows>⟧.left self.old ≤ ⟦<BoardRows<'a, V> as Rows>⟧.left self.new + 1 }
-        ensures draws { ⟦<BoardRows<'a, V> as Rows>⟧.draws self.new ≡ ⟦<BoardRows<'a, V> as Rows>⟧.draws self.old }
-        ensures mine { ⟦<BoardRows<'a, V> as Rows>⟧.hand self.new row ≡ Some result.0 }
-        ensures hand { (r : ℕ) → ⟦<BoardRows<'a, V> as Rows>⟧.hand self.new r ≡ (if r == row then Some result.0
-            else ⟦<BoardRows<'a, V> as Rows>⟧.hand self.old r) }
+        requires away { (⟦<BoardRows<'a, V> as Rows>⟧.seen self.old).hand row ≡ None }
+        requires room { 0 < (⟦<BoardRows<'a, V> as Rows>⟧.seen self.old).left }
+        ensures call { Goes (⟦<BoardRows<'a, V> as Rows>⟧.seen self.old).reached
+            (⟦<BoardRows<'a, V> as Rows>⟧.seen self.new).reached (Takes row result.0 result.1 ∷ []) }
+        ensures left { (⟦<BoardRows<'a, V> as Rows>⟧.seen self.old).left
+            ≤ (⟦<BoardRows<'a, V> as Rows>⟧.seen self.new).left + 1 }
+        ensures draws { (⟦<BoardRows<'a, V> as Rows>⟧.seen self.new).draws
+            ≡ (⟦<BoardRows<'a, V> as Rows>⟧.seen self.old).draws }
+        ensures mine { (⟦<BoardRows<'a, V> as Rows>⟧.seen self.new).hand row ≡ Some result.0 }
+        ensures hand { (r : ℕ) → (⟦<BoardRows<'a, V> as Rows>⟧.seen self.new).hand r ≡ (if r == row then Some result.0
+            else (⟦<BoardRows<'a, V> as Rows>⟧.seen self.old).hand r) }
         ensures table { self.new.switches.now.id ≡ self.old.switches.now.id }
     {
         for _ in rt.forever() {
@@ -39,13 +42,16 @@ impl<'a, V: Kept> BoardRows<'a, V> {
     /// Publishes a content in a row in hand: the version, one above that of the take.
     pub(crate) fn put_row(&mut self, row: u64, content: &Content) -> u64
         requires known { IsRow row }
-        requires held { IsSome (⟦<BoardRows<'a, V> as Rows>⟧.hand self.old row) }
-        ensures call { Goes (⟦<BoardRows<'a, V> as Rows>⟧.reached self.old) (⟦<BoardRows<'a, V> as Rows>⟧.reached self.new) (Puts row content.now result ∷ []) }
-        ensures next { (v : ℕ) → ⟦<BoardRows<'a, V> as Rows>⟧.hand self.old row ≡ Some v → result ≡ v + 1 }
-        ensures left { ⟦<BoardRows<'a, V> as Rows>⟧.left self.new ≡ ⟦<BoardRows<'a, V> as Rows>⟧.left self.old }
-        ensures draws { ⟦<BoardRows<'a, V> as Rows>⟧.draws self.new ≡ ⟦<BoardRows<'a, V> as Rows>⟧.draws self.old }
-        ensures hand { (r : ℕ) → ⟦<BoardRows<'a, V> as Rows>⟧.hand self.new r ≡ (if r == row then None
-            else ⟦<BoardRows<'a, V> as Rows>⟧.hand self.old r) }
+        requires held { IsSome ((⟦<BoardRows<'a, V> as Rows>⟧.seen self.old).hand row) }
+        ensures call { Goes (⟦<BoardRows<'a, V> as Rows>⟧.seen self.old).reached
+            (⟦<BoardRows<'a, V> as Rows>⟧.seen self.new).reached (Puts row content.now result ∷ []) }
+        ensures next { (v : ℕ) → (⟦<BoardRows<'a, V> as Rows>⟧.seen self.old).hand row ≡ Some v → result ≡ v + 1 }
+        ensures left { (⟦<BoardRows<'a, V> as Rows>⟧.seen self.new).left
+            ≡ (⟦<BoardRows<'a, V> as Rows>⟧.seen self.old).left }
+        ensures draws { (⟦<BoardRows<'a, V> as Rows>⟧.seen self.new).draws
+            ≡ (⟦<BoardRows<'a, V> as Rows>⟧.seen self.old).draws }
+        ensures hand { (r : ℕ) → (⟦<BoardRows<'a, V> as Rows>⟧.seen self.new).hand r ≡ (if r == row then None
+            else (⟦<BoardRows<'a, V> as Rows>⟧.seen self.old).hand r) }
         ensures table { self.new.switches.now.id ≡ self.old.switches.now.id }
     {
         self.board.put(&mut self.seat, row, content)
@@ -54,13 +60,16 @@ impl<'a, V: Kept> BoardRows<'a, V> {
     /// Releases a row in hand as free, at the version at which it was taken.
     pub(crate) fn free_row(&mut self, row: u64)
         requires known { IsRow row }
-        requires held { IsSome (⟦<BoardRows<'a, V> as Rows>⟧.hand self.old row) }
-        ensures call { (v : ℕ) → ⟦<BoardRows<'a, V> as Rows>⟧.hand self.old row ≡ Some v
-            → Goes (⟦<BoardRows<'a, V> as Rows>⟧.reached self.old) (⟦<BoardRows<'a, V> as Rows>⟧.reached self.new) (Frees row v ∷ []) }
-        ensures left { ⟦<BoardRows<'a, V> as Rows>⟧.left self.old ≤ ⟦<BoardRows<'a, V> as Rows>⟧.left self.new }
-        ensures draws { ⟦<BoardRows<'a, V> as Rows>⟧.draws self.new ≡ ⟦<BoardRows<'a, V> as Rows>⟧.draws self.old }
-        ensures hand { (r : ℕ) → ⟦<BoardRows<'a, V> as Rows>⟧.hand self.new r ≡ (if r == row then None
-            else ⟦<BoardRows<'a, V> as Rows>⟧.hand self.old r) }
+        requires held { IsSome ((⟦<BoardRows<'a, V> as Rows>⟧.seen self.old).hand row) }
+        ensures call { (v : ℕ) → (⟦<BoardRows<'a, V> as Rows>⟧.seen self.old).hand row ≡ Some v → Goes
+            (⟦<BoardRows<'a, V> as Rows>⟧.seen self.old).reached (⟦<BoardRows<'a, V> as Rows>⟧.seen self.new).reached
+            (Frees row v ∷ []) }
+        ensures left { (⟦<BoardRows<'a, V> as Rows>⟧.seen self.old).left
+            ≤ (⟦<BoardRows<'a, V> as Rows>⟧.seen self.new).left }
+        ensures draws { (⟦<BoardRows<'a, V> as Rows>⟧.seen self.new).draws
+            ≡ (⟦<BoardRows<'a, V> as Rows>⟧.seen self.old).draws }
+        ensures hand { (r : ℕ) → (⟦<BoardRows<'a, V> as Rows>⟧.seen self.new).hand r ≡ (if r == row then None
+            else (⟦<BoardRows<'a, V> as Rows>⟧.seen self.old).hand r) }
         ensures table { self.new.switches.now.id ≡ self.old.switches.now.id }
     {
         self.board.free(&mut self.seat, row);
@@ -71,10 +80,14 @@ impl<'a, V: Kept> BoardRows<'a, V> {
         requires same { writer.switches ≡ self.old.switches.now.id }
         requires wide { 160 ≤ length writer.view.seen }
         ensures writer { result ≡ writer }
-        ensures call { Goes (⟦<BoardRows<'a, V> as Rows>⟧.reached self.old) (⟦<BoardRows<'a, V> as Rows>⟧.reached self.new) (Meets writer.view.seen ∷ []) }
-        ensures left { ⟦<BoardRows<'a, V> as Rows>⟧.left self.new ≡ ⟦<BoardRows<'a, V> as Rows>⟧.left self.old }
-        ensures draws { ⟦<BoardRows<'a, V> as Rows>⟧.draws self.new ≡ ⟦<BoardRows<'a, V> as Rows>⟧.draws self.old }
-        ensures hand { (r : ℕ) → ⟦<BoardRows<'a, V> as Rows>⟧.hand self.new r ≡ ⟦<BoardRows<'a, V> as Rows>⟧.hand self.old r }
+        ensures call { Goes (⟦<BoardRows<'a, V> as Rows>⟧.seen self.old).reached
+            (⟦<BoardRows<'a, V> as Rows>⟧.seen self.new).reached (Meets writer.view.seen ∷ []) }
+        ensures left { (⟦<BoardRows<'a, V> as Rows>⟧.seen self.new).left
+            ≡ (⟦<BoardRows<'a, V> as Rows>⟧.seen self.old).left }
+        ensures draws { (⟦<BoardRows<'a, V> as Rows>⟧.seen self.new).draws
+            ≡ (⟦<BoardRows<'a, V> as Rows>⟧.seen self.old).draws }
+        ensures hand { (r : ℕ) → (⟦<BoardRows<'a, V> as Rows>⟧.seen self.new).hand r
+            ≡ (⟦<BoardRows<'a, V> as Rows>⟧.seen self.old).hand r }
         ensures table { self.new.switches.now.id ≡ self.old.switches.now.id }
     {
         let mut writer = writer;
@@ -85,17 +98,21 @@ impl<'a, V: Kept> BoardRows<'a, V> {
     /// Sets a word by the writer, whom the seat meets before and behind the set.
     pub(crate) fn set_word(&mut self, writer: &mut Writer, word: u64, flags: u16) -> u64
         requires known { word < 160 }
-        requires inside { IsSome (⟦<BoardRows<'a, V> as Rows>⟧.hand self.old 0) }
+        requires inside { IsSome ((⟦<BoardRows<'a, V> as Rows>⟧.seen self.old).hand 0) }
         requires same { writer.old.switches ≡ self.old.switches.now.id }
         requires wide { 160 ≤ length writer.old.view.seen }
         requires early { slice_index writer.old.view.seen word + 1 < 2 ^ 48 }
-        ensures call { Goes (⟦<BoardRows<'a, V> as Rows>⟧.reached self.old) (⟦<BoardRows<'a, V> as Rows>⟧.reached self.new) (Sets word flags result ∷ []) }
+        ensures call { Goes (⟦<BoardRows<'a, V> as Rows>⟧.seen self.old).reached
+            (⟦<BoardRows<'a, V> as Rows>⟧.seen self.new).reached (Sets word flags result ∷ []) }
         ensures next { result ≡ slice_index writer.old.view.seen word + 1 }
         ensures writer { (writer.new.switches ≡ writer.old.switches)
             × (writer.new.view ≡ was_set writer.old.view word result flags) }
-        ensures left { ⟦<BoardRows<'a, V> as Rows>⟧.left self.new ≡ ⟦<BoardRows<'a, V> as Rows>⟧.left self.old }
-        ensures draws { ⟦<BoardRows<'a, V> as Rows>⟧.draws self.new ≡ ⟦<BoardRows<'a, V> as Rows>⟧.draws self.old }
-        ensures hand { (r : ℕ) → ⟦<BoardRows<'a, V> as Rows>⟧.hand self.new r ≡ ⟦<BoardRows<'a, V> as Rows>⟧.hand self.old r }
+        ensures left { (⟦<BoardRows<'a, V> as Rows>⟧.seen self.new).left
+            ≡ (⟦<BoardRows<'a, V> as Rows>⟧.seen self.old).left }
+        ensures draws { (⟦<BoardRows<'a, V> as Rows>⟧.seen self.new).draws
+            ≡ (⟦<BoardRows<'a, V> as Rows>⟧.seen self.old).draws }
+        ensures hand { (r : ℕ) → (⟦<BoardRows<'a, V> as Rows>⟧.seen self.new).hand r
+            ≡ (⟦<BoardRows<'a, V> as Rows>⟧.seen self.old).hand r }
         ensures table { self.new.switches.now.id ≡ self.old.switches.now.id }
     {
         self.seat.tell();

@@ -59,12 +59,12 @@ impl<'a, V: Kept> BoardRows<'a, V> {
             × (14242 ≤ length seats.board.view.rows) × (160 ≤ length seats.switches.view.seen) }
         requires fresh { IsFresh seats.board.view × (seats.switches.view.loads ≡ [])
             × (seats.tickets.view.tickets ≡ []) × (seats.switches.view.meets ≡ []) }
-        ensures reached { (flags : List ℕ) → seats.switches.view.start ≡ opening_words flags → ⟦<BoardRows<'a, V> as Rows>⟧.reached result
-            (opening_of board.now.id switches.now.id tickets.now flags seats.board.view seats.switches.view
-            seats.tickets.view) [] }
-        ensures left { ⟦<BoardRows<'a, V> as Rows>⟧.left result ≡ seats.board.view.allowance }
-        ensures draws { ⟦<BoardRows<'a, V> as Rows>⟧.draws result ≡ seats.tickets.view.draws }
-        ensures hand { (r : ℕ) → ⟦<BoardRows<'a, V> as Rows>⟧.hand result r ≡ None }
+        ensures reached { (flags : List ℕ) → seats.switches.view.start ≡ opening_words flags
+            → (⟦<BoardRows<'a, V> as Rows>⟧.seen result).reached (opening_of board.now.id switches.now.id tickets.now
+            flags seats.board.view seats.switches.view seats.tickets.view) [] }
+        ensures left { (⟦<BoardRows<'a, V> as Rows>⟧.seen result).left ≡ seats.board.view.allowance }
+        ensures draws { (⟦<BoardRows<'a, V> as Rows>⟧.seen result).draws ≡ seats.tickets.view.draws }
+        ensures hand { (r : ℕ) → (⟦<BoardRows<'a, V> as Rows>⟧.seen result).hand r ≡ None }
     {
         let Seats {
             board: seat,
@@ -83,9 +83,9 @@ impl<'a, V: Kept> BoardRows<'a, V> {
 
     /// Gives the seats back, once no row is in hand and no action under way.
     pub fn into_seats(self) -> Seats
-        requires idle { (r : ℕ) → ⟦<BoardRows<'a, V> as Rows>⟧.hand self r ≡ None }
-        ensures made { (start : Opening) → (calls : List Call) → ⟦<BoardRows<'a, V> as Rows>⟧.reached self.entry start calls
-            → HasMade start calls result.board result.switches result.tickets }
+        requires idle { (r : ℕ) → (⟦<BoardRows<'a, V> as Rows>⟧.seen self).hand r ≡ None }
+        ensures made { (start : Opening) → (calls : List Call) → (⟦<BoardRows<'a, V> as Rows>⟧.seen self.entry).reached
+            start calls → HasMade start calls result.board result.switches result.tickets }
         ensures held { held result.board.view.rows ≡ 0 }
     {
         self.seat.tell();
@@ -107,15 +107,19 @@ impl<'a, V: Kept> BoardRows<'a, V> {
     /// Begins an action, and waits until no other is under way: its number, one above that of the one before, and the
     /// kept value, which stands for the labels of all actions before it.
     pub fn enter<R: Wait>(&mut self, rt: &R, label: Label) -> (u64, V)
-        requires outside { ⟦<BoardRows<'a, V> as Rows>⟧.hand self.old 0 ≡ None }
-        requires room { 0 < ⟦<BoardRows<'a, V> as Rows>⟧.left self.old }
-        ensures call { (start : Opening) → (calls : List Call) → ⟦<BoardRows<'a, V> as Rows>⟧.reached self.old start calls
-            → (labels : List Label) × ((result.0 ≡ length labels + 1) × V.stands_for result.1 labels × ⟦<BoardRows<'a, V> as Rows>⟧.reached self.new start (Enters label labels ∷ calls)) }
+        requires outside { (⟦<BoardRows<'a, V> as Rows>⟧.seen self.old).hand 0 ≡ None }
+        requires room { 0 < (⟦<BoardRows<'a, V> as Rows>⟧.seen self.old).left }
+        ensures call { (start : Opening) → (calls : List Call) → (⟦<BoardRows<'a, V> as Rows>⟧.seen self.old).reached
+            start calls → (labels : List Label) × ((result.0 ≡ length labels + 1) × V.stands_for result.1 labels
+            × (⟦<BoardRows<'a, V> as Rows>⟧.seen self.new).reached start (Enters label labels ∷ calls)) }
         ensures number { result.0 ≤ 2 ^ 47 }
-        ensures left { ⟦<BoardRows<'a, V> as Rows>⟧.left self.old ≤ ⟦<BoardRows<'a, V> as Rows>⟧.left self.new + 1 }
-        ensures draws { ⟦<BoardRows<'a, V> as Rows>⟧.draws self.new ≡ ⟦<BoardRows<'a, V> as Rows>⟧.draws self.old }
-        ensures inside { IsSome (⟦<BoardRows<'a, V> as Rows>⟧.hand self.new 0) }
-        ensures hand { (r : ℕ) → 0 < r → ⟦<BoardRows<'a, V> as Rows>⟧.hand self.new r ≡ ⟦<BoardRows<'a, V> as Rows>⟧.hand self.old r }
+        ensures left { (⟦<BoardRows<'a, V> as Rows>⟧.seen self.old).left
+            ≤ (⟦<BoardRows<'a, V> as Rows>⟧.seen self.new).left + 1 }
+        ensures draws { (⟦<BoardRows<'a, V> as Rows>⟧.seen self.new).draws
+            ≡ (⟦<BoardRows<'a, V> as Rows>⟧.seen self.old).draws }
+        ensures inside { IsSome ((⟦<BoardRows<'a, V> as Rows>⟧.seen self.new).hand 0) }
+        ensures hand { (r : ℕ) → 0 < r → (⟦<BoardRows<'a, V> as Rows>⟧.seen self.new).hand r
+            ≡ (⟦<BoardRows<'a, V> as Rows>⟧.seen self.old).hand r }
     {
         self.seat.tell();
         self.board.enter(rt, &mut self.seat, label)
@@ -124,15 +128,18 @@ impl<'a, V: Kept> BoardRows<'a, V> {
     /// Ends the action. The value stands for the labels that the action found and its own behind them. No other row
     /// may be in hand.
     pub fn leave(&mut self, value: V)
-        requires inside { IsSome (⟦<BoardRows<'a, V> as Rows>⟧.hand self.old 0) }
-        requires alone { (r : ℕ) → 0 < r → ⟦<BoardRows<'a, V> as Rows>⟧.hand self.old r ≡ None }
+        requires inside { IsSome ((⟦<BoardRows<'a, V> as Rows>⟧.seen self.old).hand 0) }
+        requires alone { (r : ℕ) → 0 < r → (⟦<BoardRows<'a, V> as Rows>⟧.seen self.old).hand r ≡ None }
         requires value { (start : Opening) × (calls : List Call)
-            × (⟦<BoardRows<'a, V> as Rows>⟧.reached self.old start calls)
+            × ((⟦<BoardRows<'a, V> as Rows>⟧.seen self.old).reached start calls)
             × V.stands_for value (labels_in calls ++ label_in calls ∷ []) }
-        ensures call { Goes (⟦<BoardRows<'a, V> as Rows>⟧.reached self.old) (⟦<BoardRows<'a, V> as Rows>⟧.reached self.new) (Leaves ∷ []) }
-        ensures left { ⟦<BoardRows<'a, V> as Rows>⟧.left self.new ≡ ⟦<BoardRows<'a, V> as Rows>⟧.left self.old }
-        ensures draws { ⟦<BoardRows<'a, V> as Rows>⟧.draws self.new ≡ ⟦<BoardRows<'a, V> as Rows>⟧.draws self.old }
-        ensures hand { (r : ℕ) → ⟦<BoardRows<'a, V> as Rows>⟧.hand self.new r ≡ None }
+        ensures call { Goes (⟦<BoardRows<'a, V> as Rows>⟧.seen self.old).reached
+            (⟦<BoardRows<'a, V> as Rows>⟧.seen self.new).reached (Leaves ∷ []) }
+        ensures left { (⟦<BoardRows<'a, V> as Rows>⟧.seen self.new).left
+            ≡ (⟦<BoardRows<'a, V> as Rows>⟧.seen self.old).left }
+        ensures draws { (⟦<BoardRows<'a, V> as Rows>⟧.seen self.new).draws
+            ≡ (⟦<BoardRows<'a, V> as Rows>⟧.seen self.old).draws }
+        ensures hand { (r : ℕ) → (⟦<BoardRows<'a, V> as Rows>⟧.seen self.new).hand r ≡ None }
     {
         self.seat.tell();
         self.board.leave(&mut self.seat, value);
@@ -141,12 +148,16 @@ impl<'a, V: Kept> BoardRows<'a, V> {
     /// Writes an event to a current or history place.
     fn put_event(&mut self, row: u64, content: &Content) -> RingPut
         requires place { (8450 ≤ row) × (row < 10242) }
-        requires away { ⟦<BoardRows<'a, V> as Rows>⟧.hand self.old row ≡ None }
-        requires room { 0 < ⟦<BoardRows<'a, V> as Rows>⟧.left self.old }
-        ensures call { Goes (⟦<BoardRows<'a, V> as Rows>⟧.reached self.old) (⟦<BoardRows<'a, V> as Rows>⟧.reached self.new) (Rings row content.now result ∷ []) }
-        ensures left { ⟦<BoardRows<'a, V> as Rows>⟧.left self.old ≤ ⟦<BoardRows<'a, V> as Rows>⟧.left self.new + 1 }
-        ensures draws { ⟦<BoardRows<'a, V> as Rows>⟧.draws self.new ≡ ⟦<BoardRows<'a, V> as Rows>⟧.draws self.old }
-        ensures hand { (r : ℕ) → ⟦<BoardRows<'a, V> as Rows>⟧.hand self.new r ≡ ⟦<BoardRows<'a, V> as Rows>⟧.hand self.old r }
+        requires away { (⟦<BoardRows<'a, V> as Rows>⟧.seen self.old).hand row ≡ None }
+        requires room { 0 < (⟦<BoardRows<'a, V> as Rows>⟧.seen self.old).left }
+        ensures call { Goes (⟦<BoardRows<'a, V> as Rows>⟧.seen self.old).reached
+            (⟦<BoardRows<'a, V> as Rows>⟧.seen self.new).reached (Rings row content.now result ∷ []) }
+        ensures left { (⟦<BoardRows<'a, V> as Rows>⟧.seen self.old).left
+            ≤ (⟦<BoardRows<'a, V> as Rows>⟧.seen self.new).left + 1 }
+        ensures draws { (⟦<BoardRows<'a, V> as Rows>⟧.seen self.new).draws
+            ≡ (⟦<BoardRows<'a, V> as Rows>⟧.seen self.old).draws }
+        ensures hand { (r : ℕ) → (⟦<BoardRows<'a, V> as Rows>⟧.seen self.new).hand r
+            ≡ (⟦<BoardRows<'a, V> as Rows>⟧.seen self.old).hand r }
         ensures late { IsLate row content.now result }
         ensures table { self.new.switches.now.id ≡ self.old.switches.now.id }
     {
@@ -164,17 +175,21 @@ impl<'a, V: Kept> BoardRows<'a, V> {
     /// Writes an event to a place of the long history from this lock word on, which a read has just shown.
     fn put_event_at(&mut self, row: u64, word: u64, content: &Content) -> RingPut
         requires place { (10242 ≤ row) × (row < 14242) }
-        requires away { ⟦<BoardRows<'a, V> as Rows>⟧.hand self.old row ≡ None }
-        requires room { 0 < ⟦<BoardRows<'a, V> as Rows>⟧.left self.old }
+        requires away { (⟦<BoardRows<'a, V> as Rows>⟧.seen self.old).hand row ≡ None }
+        requires room { 0 < (⟦<BoardRows<'a, V> as Rows>⟧.seen self.old).left }
         requires word { (word % 4 ≢ 1) × ((corner self.old.seat.view row).fresh ≡ true)
             × ((corner self.old.seat.view row).last ≡ Some word) }
-        requires older { (start : Opening) → (calls : List Call) → ⟦<BoardRows<'a, V> as Rows>⟧.reached self.old start calls
-            → WasOlder start.board self.old.seat.view.reads self.old.seat.view.sights row (word / 4) content.now
-            (action_in calls) (after_in calls) }
-        ensures call { Goes (⟦<BoardRows<'a, V> as Rows>⟧.reached self.old) (⟦<BoardRows<'a, V> as Rows>⟧.reached self.new) (Rings row content.now result ∷ []) }
-        ensures left { ⟦<BoardRows<'a, V> as Rows>⟧.left self.old ≤ ⟦<BoardRows<'a, V> as Rows>⟧.left self.new + 1 }
-        ensures draws { ⟦<BoardRows<'a, V> as Rows>⟧.draws self.new ≡ ⟦<BoardRows<'a, V> as Rows>⟧.draws self.old }
-        ensures hand { (r : ℕ) → ⟦<BoardRows<'a, V> as Rows>⟧.hand self.new r ≡ ⟦<BoardRows<'a, V> as Rows>⟧.hand self.old r }
+        requires older { (start : Opening) → (calls : List Call) → (⟦<BoardRows<'a, V> as Rows>⟧.seen self.old).reached
+            start calls → WasOlder start.board self.old.seat.view.reads self.old.seat.view.sights row (word / 4)
+            content.now (action_in calls) (after_in calls) }
+        ensures call { Goes (⟦<BoardRows<'a, V> as Rows>⟧.seen self.old).reached
+            (⟦<BoardRows<'a, V> as Rows>⟧.seen self.new).reached (Rings row content.now result ∷ []) }
+        ensures left { (⟦<BoardRows<'a, V> as Rows>⟧.seen self.old).left
+            ≤ (⟦<BoardRows<'a, V> as Rows>⟧.seen self.new).left + 1 }
+        ensures draws { (⟦<BoardRows<'a, V> as Rows>⟧.seen self.new).draws
+            ≡ (⟦<BoardRows<'a, V> as Rows>⟧.seen self.old).draws }
+        ensures hand { (r : ℕ) → (⟦<BoardRows<'a, V> as Rows>⟧.seen self.new).hand r
+            ≡ (⟦<BoardRows<'a, V> as Rows>⟧.seen self.old).hand r }
         ensures late { IsLate row content.now result }
         ensures table { self.new.switches.now.id ≡ self.old.switches.now.id }
     {
@@ -191,31 +206,34 @@ impl<'a, V: Kept> BoardRows<'a, V> {
 }
 
 impl<'a, V: Kept> Rows for BoardRows<'a, V> {
-    ghost reached = { λ s start calls. (s.board.now.id ≡ start.board.table)
-        × (s.switches.now.id ≡ start.switches.table) × (s.tickets.now ≡ start.tickets.table)
-        × IsReached start calls s.seat.view s.words.view s.draws.view };
-
-    ghost left = { λ s. s.seat.view.allowance - held s.seat.view.rows };
-
-    ghost draws = { λ s. s.draws.view.draws };
-
-    ghost hand = { λ s row. in_hand (corner s.seat.view row).stage };
-
-    ghost words = { λ s. None };
-
-    ghost name = { λ s. 0 };
+    ghost seen = { λ s. record {
+      reached = λ start calls. (s.board.now.id ≡ start.board.table)
+          × (s.switches.now.id ≡ start.switches.table) × (s.tickets.now ≡ start.tickets.table)
+          × IsReached start calls s.seat.view s.words.view s.draws.view;
+      hand = λ row. in_hand (corner s.seat.view row).stage;
+      left = s.seat.view.allowance - held s.seat.view.rows;
+      draws = s.draws.view.draws;
+      words = None;
+      name = 0;
+    } };
 
     fn add_try(&mut self, row: u64, amount: &Stat) -> Added
         requires cell { IsCell row }
-        requires away { ⟦<BoardRows<'a, V> as Rows>⟧.hand self.old row ≡ None }
-        requires room { 0 < ⟦<BoardRows<'a, V> as Rows>⟧.left self.old }
-        ensures call { Goes (⟦<BoardRows<'a, V> as Rows>⟧.reached self.old) (⟦<BoardRows<'a, V> as Rows>⟧.reached self.new) (Adds row amount.now result ∷ []) }
+        requires away { (⟦<BoardRows<'a, V> as Rows>⟧.seen self.old).hand row ≡ None }
+        requires room { 0 < (⟦<BoardRows<'a, V> as Rows>⟧.seen self.old).left }
+        ensures call { Goes (⟦<BoardRows<'a, V> as Rows>⟧.seen self.old).reached
+            (⟦<BoardRows<'a, V> as Rows>⟧.seen self.new).reached (Adds row amount.now result ∷ []) }
         ensures row { row_in result ≡ row }
-        ensures left { ⟦<BoardRows<'a, V> as Rows>⟧.left self.old ≤ ⟦<BoardRows<'a, V> as Rows>⟧.left self.new + 1 }
-        ensures draws { ⟦<BoardRows<'a, V> as Rows>⟧.draws self.new ≡ ⟦<BoardRows<'a, V> as Rows>⟧.draws self.old }
-        ensures hand { (r : ℕ) → ⟦<BoardRows<'a, V> as Rows>⟧.hand self.new r ≡ ⟦<BoardRows<'a, V> as Rows>⟧.hand self.old r }
-        ensures words { ⟦<BoardRows<'a, V> as Rows>⟧.words self.new ≡ ⟦<BoardRows<'a, V> as Rows>⟧.words self.old }
-        ensures name { ⟦<BoardRows<'a, V> as Rows>⟧.name self.new ≡ ⟦<BoardRows<'a, V> as Rows>⟧.name self.old }
+        ensures left { (⟦<BoardRows<'a, V> as Rows>⟧.seen self.old).left
+            ≤ (⟦<BoardRows<'a, V> as Rows>⟧.seen self.new).left + 1 }
+        ensures draws { (⟦<BoardRows<'a, V> as Rows>⟧.seen self.new).draws
+            ≡ (⟦<BoardRows<'a, V> as Rows>⟧.seen self.old).draws }
+        ensures hand { (r : ℕ) → (⟦<BoardRows<'a, V> as Rows>⟧.seen self.new).hand r
+            ≡ (⟦<BoardRows<'a, V> as Rows>⟧.seen self.old).hand r }
+        ensures words { (⟦<BoardRows<'a, V> as Rows>⟧.seen self.new).words
+            ≡ (⟦<BoardRows<'a, V> as Rows>⟧.seen self.old).words }
+        ensures name { (⟦<BoardRows<'a, V> as Rows>⟧.seen self.new).name
+            ≡ (⟦<BoardRows<'a, V> as Rows>⟧.seen self.old).name }
         ensures table { self.new.switches.now.id ≡ self.old.switches.now.id }
     {
         match self.board.take(&mut self.seat, row) {
@@ -230,15 +248,21 @@ impl<'a, V: Kept> Rows for BoardRows<'a, V> {
 
     fn ring_try(&mut self, row: u64, content: &Content) -> RingPut
         requires ring { IsRing row content.now }
-        requires away { ⟦<BoardRows<'a, V> as Rows>⟧.hand self.old row ≡ None }
-        requires room { 0 < ⟦<BoardRows<'a, V> as Rows>⟧.left self.old }
-        ensures call { Goes (⟦<BoardRows<'a, V> as Rows>⟧.reached self.old) (⟦<BoardRows<'a, V> as Rows>⟧.reached self.new) (Rings row content.now result ∷ []) }
+        requires away { (⟦<BoardRows<'a, V> as Rows>⟧.seen self.old).hand row ≡ None }
+        requires room { 0 < (⟦<BoardRows<'a, V> as Rows>⟧.seen self.old).left }
+        ensures call { Goes (⟦<BoardRows<'a, V> as Rows>⟧.seen self.old).reached
+            (⟦<BoardRows<'a, V> as Rows>⟧.seen self.new).reached (Rings row content.now result ∷ []) }
         ensures late { IsLate row content.now result }
-        ensures left { ⟦<BoardRows<'a, V> as Rows>⟧.left self.old ≤ ⟦<BoardRows<'a, V> as Rows>⟧.left self.new + 1 }
-        ensures draws { ⟦<BoardRows<'a, V> as Rows>⟧.draws self.new ≡ ⟦<BoardRows<'a, V> as Rows>⟧.draws self.old }
-        ensures hand { (r : ℕ) → ⟦<BoardRows<'a, V> as Rows>⟧.hand self.new r ≡ ⟦<BoardRows<'a, V> as Rows>⟧.hand self.old r }
-        ensures words { ⟦<BoardRows<'a, V> as Rows>⟧.words self.new ≡ ⟦<BoardRows<'a, V> as Rows>⟧.words self.old }
-        ensures name { ⟦<BoardRows<'a, V> as Rows>⟧.name self.new ≡ ⟦<BoardRows<'a, V> as Rows>⟧.name self.old }
+        ensures left { (⟦<BoardRows<'a, V> as Rows>⟧.seen self.old).left
+            ≤ (⟦<BoardRows<'a, V> as Rows>⟧.seen self.new).left + 1 }
+        ensures draws { (⟦<BoardRows<'a, V> as Rows>⟧.seen self.new).draws
+            ≡ (⟦<BoardRows<'a, V> as Rows>⟧.seen self.old).draws }
+        ensures hand { (r : ℕ) → (⟦<BoardRows<'a, V> as Rows>⟧.seen self.new).hand r
+            ≡ (⟦<BoardRows<'a, V> as Rows>⟧.seen self.old).hand r }
+        ensures words { (⟦<BoardRows<'a, V> as Rows>⟧.seen self.new).words
+            ≡ (⟦<BoardRows<'a, V> as Rows>⟧.seen self.old).words }
+        ensures name { (⟦<BoardRows<'a, V> as Rows>⟧.seen self.new).name
+            ≡ (⟦<BoardRows<'a, V> as Rows>⟧.seen self.old).name }
         ensures table { self.new.switches.now.id ≡ self.old.switches.now.id }
     {
         if row < LONG_HISTORY {
@@ -264,13 +288,19 @@ impl<'a, V: Kept> Rows for BoardRows<'a, V> {
 
     fn read(&mut self, row: u64) -> Seen
         requires known { IsRow row }
-        requires away { ⟦<BoardRows<'a, V> as Rows>⟧.hand self.old row ≡ None }
-        ensures call { Goes (⟦<BoardRows<'a, V> as Rows>⟧.reached self.old) (⟦<BoardRows<'a, V> as Rows>⟧.reached self.new) (Reads row result ∷ []) }
-        ensures left { ⟦<BoardRows<'a, V> as Rows>⟧.left self.new ≡ ⟦<BoardRows<'a, V> as Rows>⟧.left self.old }
-        ensures draws { ⟦<BoardRows<'a, V> as Rows>⟧.draws self.new ≡ ⟦<BoardRows<'a, V> as Rows>⟧.draws self.old }
-        ensures hand { (r : ℕ) → ⟦<BoardRows<'a, V> as Rows>⟧.hand self.new r ≡ ⟦<BoardRows<'a, V> as Rows>⟧.hand self.old r }
-        ensures words { ⟦<BoardRows<'a, V> as Rows>⟧.words self.new ≡ ⟦<BoardRows<'a, V> as Rows>⟧.words self.old }
-        ensures name { ⟦<BoardRows<'a, V> as Rows>⟧.name self.new ≡ ⟦<BoardRows<'a, V> as Rows>⟧.name self.old }
+        requires away { (⟦<BoardRows<'a, V> as Rows>⟧.seen self.old).hand row ≡ None }
+        ensures call { Goes (⟦<BoardRows<'a, V> as Rows>⟧.seen self.old).reached
+            (⟦<BoardRows<'a, V> as Rows>⟧.seen self.new).reached (Reads row result ∷ []) }
+        ensures left { (⟦<BoardRows<'a, V> as Rows>⟧.seen self.new).left
+            ≡ (⟦<BoardRows<'a, V> as Rows>⟧.seen self.old).left }
+        ensures draws { (⟦<BoardRows<'a, V> as Rows>⟧.seen self.new).draws
+            ≡ (⟦<BoardRows<'a, V> as Rows>⟧.seen self.old).draws }
+        ensures hand { (r : ℕ) → (⟦<BoardRows<'a, V> as Rows>⟧.seen self.new).hand r
+            ≡ (⟦<BoardRows<'a, V> as Rows>⟧.seen self.old).hand r }
+        ensures words { (⟦<BoardRows<'a, V> as Rows>⟧.seen self.new).words
+            ≡ (⟦<BoardRows<'a, V> as Rows>⟧.seen self.old).words }
+        ensures name { (⟦<BoardRows<'a, V> as Rows>⟧.seen self.new).name
+            ≡ (⟦<BoardRows<'a, V> as Rows>⟧.seen self.old).name }
         ensures table { self.new.switches.now.id ≡ self.old.switches.now.id }
     {
         match self.board.read(&mut self.seat, row) {
@@ -282,12 +312,18 @@ impl<'a, V: Kept> Rows for BoardRows<'a, V> {
 
     fn load(&mut self, word: u64) -> (u64, u16)
         requires { word < 160 }
-        ensures call { Goes (⟦<BoardRows<'a, V> as Rows>⟧.reached self.old) (⟦<BoardRows<'a, V> as Rows>⟧.reached self.new) (Loads word result.0 result.1 ∷ []) }
-        ensures left { ⟦<BoardRows<'a, V> as Rows>⟧.left self.new ≡ ⟦<BoardRows<'a, V> as Rows>⟧.left self.old }
-        ensures draws { ⟦<BoardRows<'a, V> as Rows>⟧.draws self.new ≡ ⟦<BoardRows<'a, V> as Rows>⟧.draws self.old }
-        ensures hand { (r : ℕ) → ⟦<BoardRows<'a, V> as Rows>⟧.hand self.new r ≡ ⟦<BoardRows<'a, V> as Rows>⟧.hand self.old r }
-        ensures words { ⟦<BoardRows<'a, V> as Rows>⟧.words self.new ≡ ⟦<BoardRows<'a, V> as Rows>⟧.words self.old }
-        ensures name { ⟦<BoardRows<'a, V> as Rows>⟧.name self.new ≡ ⟦<BoardRows<'a, V> as Rows>⟧.name self.old }
+        ensures call { Goes (⟦<BoardRows<'a, V> as Rows>⟧.seen self.old).reached
+            (⟦<BoardRows<'a, V> as Rows>⟧.seen self.new).reached (Loads word result.0 result.1 ∷ []) }
+        ensures left { (⟦<BoardRows<'a, V> as Rows>⟧.seen self.new).left
+            ≡ (⟦<BoardRows<'a, V> as Rows>⟧.seen self.old).left }
+        ensures draws { (⟦<BoardRows<'a, V> as Rows>⟧.seen self.new).draws
+            ≡ (⟦<BoardRows<'a, V> as Rows>⟧.seen self.old).draws }
+        ensures hand { (r : ℕ) → (⟦<BoardRows<'a, V> as Rows>⟧.seen self.new).hand r
+            ≡ (⟦<BoardRows<'a, V> as Rows>⟧.seen self.old).hand r }
+        ensures words { (⟦<BoardRows<'a, V> as Rows>⟧.seen self.new).words
+            ≡ (⟦<BoardRows<'a, V> as Rows>⟧.seen self.old).words }
+        ensures name { (⟦<BoardRows<'a, V> as Rows>⟧.seen self.new).name
+            ≡ (⟦<BoardRows<'a, V> as Rows>⟧.seen self.old).name }
         ensures table { self.new.switches.now.id ≡ self.old.switches.now.id }
     {
         self.switches.load(&mut self.words, word)
@@ -295,14 +331,20 @@ impl<'a, V: Kept> Rows for BoardRows<'a, V> {
 
     fn ticket(&mut self, kind: u64) -> u64
         requires known { kind < 4 }
-        requires room { 0 < ⟦<BoardRows<'a, V> as Rows>⟧.draws self.old }
-        ensures call { Goes (⟦<BoardRows<'a, V> as Rows>⟧.reached self.old) (⟦<BoardRows<'a, V> as Rows>⟧.reached self.new) (Draws kind result ∷ []) }
+        requires room { 0 < (⟦<BoardRows<'a, V> as Rows>⟧.seen self.old).draws }
+        ensures call { Goes (⟦<BoardRows<'a, V> as Rows>⟧.seen self.old).reached
+            (⟦<BoardRows<'a, V> as Rows>⟧.seen self.new).reached (Draws kind result ∷ []) }
         ensures small { result < 2 ^ 47 }
-        ensures left { ⟦<BoardRows<'a, V> as Rows>⟧.left self.new ≡ ⟦<BoardRows<'a, V> as Rows>⟧.left self.old }
-        ensures draws { ⟦<BoardRows<'a, V> as Rows>⟧.draws self.old ≤ ⟦<BoardRows<'a, V> as Rows>⟧.draws self.new + 1 }
-        ensures hand { (r : ℕ) → ⟦<BoardRows<'a, V> as Rows>⟧.hand self.new r ≡ ⟦<BoardRows<'a, V> as Rows>⟧.hand self.old r }
-        ensures words { ⟦<BoardRows<'a, V> as Rows>⟧.words self.new ≡ ⟦<BoardRows<'a, V> as Rows>⟧.words self.old }
-        ensures name { ⟦<BoardRows<'a, V> as Rows>⟧.name self.new ≡ ⟦<BoardRows<'a, V> as Rows>⟧.name self.old }
+        ensures left { (⟦<BoardRows<'a, V> as Rows>⟧.seen self.new).left
+            ≡ (⟦<BoardRows<'a, V> as Rows>⟧.seen self.old).left }
+        ensures draws { (⟦<BoardRows<'a, V> as Rows>⟧.seen self.old).draws
+            ≤ (⟦<BoardRows<'a, V> as Rows>⟧.seen self.new).draws + 1 }
+        ensures hand { (r : ℕ) → (⟦<BoardRows<'a, V> as Rows>⟧.seen self.new).hand r
+            ≡ (⟦<BoardRows<'a, V> as Rows>⟧.seen self.old).hand r }
+        ensures words { (⟦<BoardRows<'a, V> as Rows>⟧.seen self.new).words
+            ≡ (⟦<BoardRows<'a, V> as Rows>⟧.seen self.old).words }
+        ensures name { (⟦<BoardRows<'a, V> as Rows>⟧.seen self.new).name
+            ≡ (⟦<BoardRows<'a, V> as Rows>⟧.seen self.old).name }
         ensures table { self.new.switches.now.id ≡ self.old.switches.now.id }
     {
         self.tickets.draw(&mut self.draws, kind)

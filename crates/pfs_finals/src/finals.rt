@@ -153,12 +153,12 @@ fn put_table<R: Rows>(
     rows: &mut R,
     tables: &mut Vec<TableReport>,
 ) -> Result<(), NoMemory>
-    requires away { HoldsNone (R.hand rows.old) }
-    ensures put { OnOk result (spec.IsPut setting.now table tables.old.items tables.new.items (R.reached rows.old)
-        (R.reached rows.new)) }
-    ensures kept { AreKept (R.left rows.old) (R.left rows.new) (R.draws rows.old) (R.draws rows.new)
-        (R.hand rows.old) (R.hand rows.new) (R.words rows.old) (R.words rows.new) (R.name rows.old)
-        (R.name rows.new) }
+    requires away { HoldsNone (R.seen rows.old).hand }
+    ensures put { OnOk result (spec.IsPut setting.now table tables.old.items tables.new.items (R.seen rows.old).reached
+        (R.seen rows.new).reached) }
+    ensures kept { AreKept (R.seen rows.old).left (R.seen rows.new).left (R.seen rows.old).draws
+        (R.seen rows.new).draws (R.seen rows.old).hand (R.seen rows.new).hand (R.seen rows.old).words
+        (R.seen rows.new).words (R.seen rows.old).name (R.seen rows.new).name }
 {
     let readings = read_table(alloc, setting, table, rows)?;
     let shown = shown_rows(alloc, setting, table, readings.as_slice())?;
@@ -173,12 +173,12 @@ pub fn final_tables<R: Rows>(
     setting: &Setting,
     rows: &mut R,
 ) -> Result<TableList, NoMemory>
-    requires away { HoldsNone (R.hand rows.old) }
+    requires away { HoldsNone (R.seen rows.old).hand }
     ensures tables { IfOk result
-        (λ tables. spec.AreFinal setting.now tables (R.reached rows.old) (R.reached rows.new)) }
-    ensures kept { AreKept (R.left rows.old) (R.left rows.new) (R.draws rows.old) (R.draws rows.new)
-        (R.hand rows.old) (R.hand rows.new) (R.words rows.old) (R.words rows.new) (R.name rows.old)
-        (R.name rows.new) }
+        (λ tables. spec.AreFinal setting.now tables (R.seen rows.old).reached (R.seen rows.new).reached) }
+    ensures kept { AreKept (R.seen rows.old).left (R.seen rows.new).left (R.seen rows.old).draws
+        (R.seen rows.new).draws (R.seen rows.old).hand (R.seen rows.new).hand (R.seen rows.old).words
+        (R.seen rows.new).words (R.seen rows.old).name (R.seen rows.new).name }
 {
     let mut tables = Vec::new(alloc);
     for table in &FINAL_TABLES {

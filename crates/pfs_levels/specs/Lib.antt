@@ -6,5 +6,6 @@ pub mod RowHeads
 pub mod Moves
 pub mod CallOrder
 pub mod PlainStore
+pub mod Views
 pub mod PlainCalls
 pub mod PhaseFloors

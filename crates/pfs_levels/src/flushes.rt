@@ -26,13 +26,14 @@ pub enum Source {
 /// host's to the global cell. These rules are MySQL's. The log gets each take and its gifts.
 pub fn flush<H: Hold>(rows: &mut H, kind: EventKind, level: Level, places: &Places, log: &mut Log)
     requires places { ArePlaces places.now kind level }
-    requires away { AllAreAway (H.hand rows.old) (cells_of places.now kind) (sources_of places.now level) }
-    requires spare { cost (flushed places.now kind level) ≤ H.left rows.old }
+    requires away { AllAreAway (H.seen rows.old).hand (cells_of places.now kind) (sources_of places.now level) }
+    requires spare { cost (flushed places.now kind level) ≤ (H.seen rows.old).left }
     requires room { cost (flushed places.now kind level) ≤ log.old.room }
-    ensures moved { Moved (flushed places.now kind level) log.old log.new (H.reached rows.old) (H.reached rows.new) }
-    ensures stays { Stays (cost (flushed places.now kind level)) (H.hand rows.old) (H.hand rows.new) (H.left rows.old)
-        (H.left rows.new) (H.draws rows.old) (H.draws rows.new) (H.words rows.old) (H.words rows.new)
-        (H.name rows.old) (H.name rows.new) log.old log.new }
+    ensures moved { Moved (flushed places.now kind level) log.old log.new (H.seen rows.old).reached
+        (H.seen rows.new).reached }
+    ensures stays { Stays (cost (flushed places.now kind level)) (H.seen rows.old).hand (H.seen rows.new).hand
+        (H.seen rows.old).left (H.seen rows.new).left (H.seen rows.old).draws (H.seen rows.new).draws
+        (H.seen rows.old).words (H.seen rows.new).words (H.seen rows.old).name (H.seen rows.new).name log.old log.new }
 {
     let cells = places.cells(kind);
     for at in 0..places.count(level) {
@@ -45,13 +46,14 @@ pub fn flush<H: Hold>(rows: &mut H, kind: EventKind, level: Level, places: &Plac
 pub fn flush_cells<H: Hold>(rows: &mut H, source: Source, cells: &[u64], log: &mut Log)
     requires source { IsSource source }
     requires cells { All (λ cell. cell < 64) cells.now }
-    requires away { CellsAreAway (H.hand rows.old) cells.now source }
-    requires spare { cost (asks_of cells.now source) ≤ H.left rows.old }
+    requires away { CellsAreAway (H.seen rows.old).hand cells.now source }
+    requires spare { cost (asks_of cells.now source) ≤ (H.seen rows.old).left }
     requires room { cost (asks_of cells.now source) ≤ log.old.room }
-    ensures moved { Moved (asks_of cells.now source) log.old log.new (H.reached rows.old) (H.reached rows.new) }
-    ensures stays { Stays (cost (asks_of cells.now source)) (H.hand rows.old) (H.hand rows.new) (H.left rows.old)
-        (H.left rows.new) (H.draws rows.old) (H.draws rows.new) (H.words rows.old) (H.words rows.new)
-        (H.name rows.old) (H.name rows.new) log.old log.new }
+    ensures moved { Moved (asks_of cells.now source) log.old log.new (H.seen rows.old).reached
+        (H.seen rows.new).reached }
+    ensures stays { Stays (cost (asks_of cells.now source)) (H.seen rows.old).hand (H.seen rows.new).hand
+        (H.seen rows.old).left (H.seen rows.new).left (H.seen rows.old).draws (H.seen rows.new).draws
+        (H.seen rows.old).words (H.seen rows.new).words (H.seen rows.old).name (H.seen rows.new).name log.old log.new }
 {
     for cell in cells {
         let from = row_from(source, *cell);

@@ -13,14 +13,14 @@ use pfs_stat::{Stat, zero};
 /// Takes a row, publishes zero there, and gives what it found to each target in their order, where its count isn't 0.
 /// The log gets the take and then each gift.
 pub fn move_up<H: Hold>(rows: &mut H, from: u64, to: &Targets, log: &mut Log)
-    requires away { AskIsAway (H.hand rows.old) (ask from (targets_of to.now)) }
-    requires spare { 1 + length (targets_of to.now) ≤ H.left rows.old }
+    requires away { AskIsAway (H.seen rows.old).hand (ask from (targets_of to.now)) }
+    requires spare { 1 + length (targets_of to.now) ≤ (H.seen rows.old).left }
     requires room { 1 + length (targets_of to.now) ≤ log.old.room }
-    ensures moved { Moved (ask from (targets_of to.now) ∷ []) log.old log.new (H.reached rows.old)
-        (H.reached rows.new) }
-    ensures stays { Stays (1 + length (targets_of to.now)) (H.hand rows.old) (H.hand rows.new) (H.left rows.old)
-        (H.left rows.new) (H.draws rows.old) (H.draws rows.new) (H.words rows.old) (H.words rows.new)
-        (H.name rows.old) (H.name rows.new) log.old log.new }
+    ensures moved { Moved (ask from (targets_of to.now) ∷ []) log.old log.new (H.seen rows.old).reached
+        (H.seen rows.new).reached }
+    ensures stays { Stays (1 + length (targets_of to.now)) (H.seen rows.old).hand (H.seen rows.new).hand
+        (H.seen rows.old).left (H.seen rows.new).left (H.seen rows.old).draws (H.seen rows.new).draws
+        (H.seen rows.old).words (H.seen rows.new).words (H.seen rows.old).name (H.seen rows.new).name log.old log.new }
 {
     let found = empty(rows, from, log);
     if found.count == 0 {
@@ -31,12 +31,13 @@ pub fn move_up<H: Hold>(rows: &mut H, from: u64, to: &Targets, log: &mut Log)
 
 /// Takes a row and publishes zero there. The log gets the take.
 pub fn clear<H: Hold>(rows: &mut H, row: u64, log: &mut Log)
-    requires away { IsAway (H.hand rows.old) row }
-    requires spare { 1 ≤ H.left rows.old }
+    requires away { IsAway (H.seen rows.old).hand row }
+    requires spare { 1 ≤ (H.seen rows.old).left }
     requires room { 1 ≤ log.old.room }
-    ensures moved { Moved (ask row [] ∷ []) log.old log.new (H.reached rows.old) (H.reached rows.new) }
-    ensures stays { Stays 1 (H.hand rows.old) (H.hand rows.new) (H.left rows.old) (H.left rows.new) (H.draws rows.old)
-        (H.draws rows.new) (H.words rows.old) (H.words rows.new) (H.name rows.old) (H.name rows.new) log.old log.new }
+    ensures moved { Moved (ask row [] ∷ []) log.old log.new (H.seen rows.old).reached (H.seen rows.new).reached }
+    ensures stays { Stays 1 (H.seen rows.old).hand (H.seen rows.new).hand (H.seen rows.old).left (H.seen rows.new).left
+        (H.seen rows.old).draws (H.seen rows.new).draws (H.seen rows.old).words (H.seen rows.new).words
+        (H.seen rows.old).name (H.seen rows.new).name log.old log.new }
 {
     let _ = empty(rows, row, log);
 }
@@ -44,12 +45,13 @@ pub fn clear<H: Hold>(rows: &mut H, row: u64, log: &mut Log)
 /// Takes the row of a place and releases it as free. The log gets the release.
 pub fn purge<H: Hold>(rows: &mut H, place: Place, log: &mut Log)
     requires place { IsPlace place }
-    requires away { IsAway (H.hand rows.old) (row_number place) }
-    requires spare { 1 ≤ H.left rows.old }
+    requires away { IsAway (H.seen rows.old).hand (row_number place) }
+    requires spare { 1 ≤ (H.seen rows.old).left }
     requires room { 1 ≤ log.old.room }
-    ensures purged { Purged (row_number place) log.old log.new (H.reached rows.old) (H.reached rows.new) }
-    ensures stays { Stays 1 (H.hand rows.old) (H.hand rows.new) (H.left rows.old) (H.left rows.new) (H.draws rows.old)
-        (H.draws rows.new) (H.words rows.old) (H.words rows.new) (H.name rows.old) (H.name rows.new) log.old log.new }
+    ensures purged { Purged (row_number place) log.old log.new (H.seen rows.old).reached (H.seen rows.new).reached }
+    ensures stays { Stays 1 (H.seen rows.old).hand (H.seen rows.new).hand (H.seen rows.old).left (H.seen rows.new).left
+        (H.seen rows.old).draws (H.seen rows.new).draws (H.seen rows.old).words (H.seen rows.new).words
+        (H.seen rows.old).name (H.seen rows.new).name log.old log.new }
 {
     let row = row_of(place);
     let (version, _) = rows.take(row);
@@ -59,12 +61,13 @@ pub fn purge<H: Hold>(rows: &mut H, place: Place, log: &mut Log)
 
 // Takes a row and leaves it as zero: the numbers that it held.
 fn empty<H: Hold>(rows: &mut H, from: u64, log: &mut Log) -> Stat
-    requires away { IsAway (H.hand rows.old) from }
-    requires spare { 1 ≤ H.left rows.old }
+    requires away { IsAway (H.seen rows.old).hand from }
+    requires spare { 1 ≤ (H.seen rows.old).left }
     requires room { 1 ≤ log.old.room }
-    ensures emptied { Emptied from result log.old log.new (H.reached rows.old) (H.reached rows.new) }
-    ensures stays { Stays 1 (H.hand rows.old) (H.hand rows.new) (H.left rows.old) (H.left rows.new) (H.draws rows.old)
-        (H.draws rows.new) (H.words rows.old) (H.words rows.new) (H.name rows.old) (H.name rows.new) log.old log.new }
+    ensures emptied { Emptied from result log.old log.new (H.seen rows.old).reached (H.seen rows.new).reached }
+    ensures stays { Stays 1 (H.seen rows.old).hand (H.seen rows.new).hand (H.seen rows.old).left (H.seen rows.new).left
+        (H.seen rows.old).draws (H.seen rows.new).draws (H.seen rows.old).words (H.seen rows.new).words
+        (H.seen rows.old).name (H.seen rows.new).name log.old log.new }
 {
     let (_, content) = rows.take(from);
     let version = rows.put(from, &zero().to_words());
@@ -74,14 +77,14 @@ fn empty<H: Hold>(rows: &mut H, from: u64, log: &mut Log) -> Stat
 
 // Gives an amount to each target, as what was found in a row.
 fn give_all<H: Hold>(rows: &mut H, from: u64, to: &Targets, amount: &Stat, log: &mut Log)
-    requires away { AreAway (H.hand rows.old) (targets_of to.now) }
-    requires spare { length (targets_of to.now) ≤ H.left rows.old }
+    requires away { AreAway (H.seen rows.old).hand (targets_of to.now) }
+    requires spare { length (targets_of to.now) ≤ (H.seen rows.old).left }
     requires room { length (targets_of to.now) ≤ log.old.room }
-    ensures given { Given from (targets_of to.now) amount.now log.old log.new (H.reached rows.old)
-        (H.reached rows.new) }
-    ensures stays { Stays (length (targets_of to.now)) (H.hand rows.old) (H.hand rows.new) (H.left rows.old)
-        (H.left rows.new) (H.draws rows.old) (H.draws rows.new) (H.words rows.old) (H.words rows.new)
-        (H.name rows.old) (H.name rows.new) log.old log.new }
+    ensures given { Given from (targets_of to.now) amount.now log.old log.new (H.seen rows.old).reached
+        (H.seen rows.new).reached }
+    ensures stays { Stays (length (targets_of to.now)) (H.seen rows.old).hand (H.seen rows.new).hand
+        (H.seen rows.old).left (H.seen rows.new).left (H.seen rows.old).draws (H.seen rows.new).draws
+        (H.seen rows.old).words (H.seen rows.new).words (H.seen rows.old).name (H.seen rows.new).name log.old log.new }
 {
     give_to(rows, from, to.first, amount, log);
     give_to(rows, from, to.second, amount, log);
@@ -89,13 +92,14 @@ fn give_all<H: Hold>(rows: &mut H, from: u64, to: &Targets, amount: &Stat, log: 
 
 // Gives an amount to the target, if there is one.
 fn give_to<H: Hold>(rows: &mut H, from: u64, to: Option<u64>, amount: &Stat, log: &mut Log)
-    requires away { AreAway (H.hand rows.old) (some_list to) }
-    requires spare { length (some_list to) ≤ H.left rows.old }
+    requires away { AreAway (H.seen rows.old).hand (some_list to) }
+    requires spare { length (some_list to) ≤ (H.seen rows.old).left }
     requires room { length (some_list to) ≤ log.old.room }
-    ensures given { Given from (some_list to) amount.now log.old log.new (H.reached rows.old) (H.reached rows.new) }
-    ensures stays { Stays (length (some_list to)) (H.hand rows.old) (H.hand rows.new) (H.left rows.old)
-        (H.left rows.new) (H.draws rows.old) (H.draws rows.new) (H.words rows.old) (H.words rows.new)
-        (H.name rows.old) (H.name rows.new) log.old log.new }
+    ensures given { Given from (some_list to) amount.now log.old log.new (H.seen rows.old).reached
+        (H.seen rows.new).reached }
+    ensures stays { Stays (length (some_list to)) (H.seen rows.old).hand (H.seen rows.new).hand (H.seen rows.old).left
+        (H.seen rows.new).left (H.seen rows.old).draws (H.seen rows.new).draws (H.seen rows.old).words
+        (H.seen rows.new).words (H.seen rows.old).name (H.seen rows.new).name log.old log.new }
 {
     match to {
         Some(row) => give(rows, from, row, amount, log),
@@ -105,12 +109,14 @@ fn give_to<H: Hold>(rows: &mut H, from: u64, to: Option<u64>, amount: &Stat, log
 
 // Gives an amount to a row.
 fn give<H: Hold>(rows: &mut H, from: u64, to: u64, amount: &Stat, log: &mut Log)
-    requires away { IsAway (H.hand rows.old) to }
-    requires spare { 1 ≤ H.left rows.old }
+    requires away { IsAway (H.seen rows.old).hand to }
+    requires spare { 1 ≤ (H.seen rows.old).left }
     requires room { 1 ≤ log.old.room }
-    ensures given { Given from (to ∷ []) amount.now log.old log.new (H.reached rows.old) (H.reached rows.new) }
-    ensures stays { Stays 1 (H.hand rows.old) (H.hand rows.new) (H.left rows.old) (H.left rows.new) (H.draws rows.old)
-        (H.draws rows.new) (H.words rows.old) (H.words rows.new) (H.name rows.old) (H.name rows.new) log.old log.new }
+    ensures given { Given from (to ∷ []) amount.now log.old log.new (H.seen rows.old).reached
+        (H.seen rows.new).reached }
+    ensures stays { Stays 1 (H.seen rows.old).hand (H.seen rows.new).hand (H.seen rows.old).left (H.seen rows.new).left
+        (H.seen rows.old).draws (H.seen rows.new).draws (H.seen rows.old).words (H.seen rows.new).words
+        (H.seen rows.old).name (H.seen rows.new).name log.old log.new }
 {
     let (_, there) = rows.take(to);
     let sum = Stat::of_words(&there).merge(*amount);

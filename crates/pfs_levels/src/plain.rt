@@ -35,17 +35,14 @@ pub struct PlainRows {
 }
 
 impl Rows for PlainRows {
-    ghost reached = { λ s start calls. IsAt s.slots s.words.items s.tickets start.flags calls };
-
-    ghost left = { λ s. s.left };
-
-    ghost draws = { λ s. s.draws };
-
-    ghost hand = { λ s row. in_hand (slot_at s.slots row) };
-
-    ghost words = { λ s. Some s.words.items };
-
-    ghost name = { λ s. 0 };
+    ghost seen = { λ s. record {
+      reached = λ start calls. IsAt s.slots s.words.items s.tickets start.flags calls;
+      hand = λ row. in_hand (slot_at s.slots row);
+      left = s.left;
+      draws = s.draws;
+      words = Some s.words.items;
+      name = 0;
+    } };
 
     #[inline(always)]
     fn add_try(&mut self, row: u64, amount: &Stat) -> Added {
@@ -147,12 +144,13 @@ impl PlainRows {
     pub fn new(alloc: Global, flags: &[u16]) -> Result<PlainRows, NoMemory>
         requires { length flags.now ≡ 160 }
         ensures opened { IfOk result (λ rows. (start : Opening) → start.flags ≡ flags.now
-            → ⟦<PlainRows as Rows>⟧.reached rows start []) }
-        ensures left { IfOk result (λ rows. ⟦<PlainRows as Rows>⟧.left rows ≡ 2 ^ 47) }
-        ensures draws { IfOk result (λ rows. ⟦<PlainRows as Rows>⟧.draws rows ≡ 2 ^ 47) }
-        ensures hand { IfOk result (λ rows. (r : ℕ) → ⟦<PlainRows as Rows>⟧.hand rows r ≡ None) }
-        ensures words { IfOk result (λ rows. ⟦<PlainRows as Rows>⟧.words rows ≡ Some (map (word 0) flags.now)) }
-        ensures versions { IfOk result (λ rows. (at : ℕ) → known_version (⟦<PlainRows as Rows>⟧.words rows) at ≡ 0) }
+            → (⟦<PlainRows as Rows>⟧.seen rows).reached start []) }
+        ensures left { IfOk result (λ rows. (⟦<PlainRows as Rows>⟧.seen rows).left ≡ 2 ^ 47) }
+        ensures draws { IfOk result (λ rows. (⟦<PlainRows as Rows>⟧.seen rows).draws ≡ 2 ^ 47) }
+        ensures hand { IfOk result (λ rows. (r : ℕ) → (⟦<PlainRows as Rows>⟧.seen rows).hand r ≡ None) }
+        ensures words { IfOk result (λ rows. (⟦<PlainRows as Rows>⟧.seen rows).words ≡ Some (map (word 0) flags.now)) }
+        ensures versions { IfOk result (λ rows. (at : ℕ) → known_version (⟦<PlainRows as Rows>⟧.seen rows).words at
+            ≡ 0) }
     {
         let slots = Slots::opening(alloc)?;
         let words = opening_words(alloc, flags)?;

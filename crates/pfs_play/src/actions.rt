@@ -38,22 +38,22 @@ pub fn connect<A: Acts>(
     requires few { admin.old.actions < 2 ^ 47 }
     requires user { user < length admin.old.names }
     requires host { host < length admin.old.names }
-    requires idle { (r : ℕ) → A.hand rows.old r ≡ None }
-    requires lent { A.words rows.old ≡ Some admin.old.words }
-    requires spare { 5 ≤ A.left rows.old }
+    requires idle { (r : ℕ) → (A.seen rows.old).hand r ≡ None }
+    requires lent { (A.seen rows.old).words ≡ Some admin.old.words }
+    requires spare { 5 ≤ (A.seen rows.old).left }
     requires room { 6 ≤ session.old.journal.room }
-    ensures acted { HasActed (Connecting admin.old user host) session.old session.new (A.reached rows.old)
-        (A.reached rows.new) }
+    ensures acted { HasActed (Connecting admin.old user host) session.old session.new (A.seen rows.old).reached
+        (A.seen rows.new).reached }
     ensures admin { admin.new ≡ connected admin.old session.old.state.number user host }
     ensures rest { session.new.state ≡ record session.old.state {
       place = session.new.state.place;
       actions = 1;
       last = session.new.state.last;
     } }
-    ensures leaves { Leaves 5 6 (A.hand rows.old) (A.hand rows.new) (A.left rows.old) (A.left rows.new)
-        (A.draws rows.old) (A.draws rows.new) (A.name rows.old) (A.name rows.new) session.old.journal
-        session.new.journal }
-    ensures lent { A.words rows.new ≡ Some admin.new.words }
+    ensures leaves { Leaves 5 6 (A.seen rows.old).hand (A.seen rows.new).hand (A.seen rows.old).left
+        (A.seen rows.new).left (A.seen rows.old).draws (A.seen rows.new).draws (A.seen rows.old).name
+        (A.seen rows.new).name session.old.journal session.new.journal }
+    ensures lent { (A.seen rows.new).words ≡ Some admin.new.words }
 {
     rows.enter(session.label());
     session.connect(rows, admin, user, host);
@@ -65,11 +65,12 @@ pub fn quit<A: Acts>(session: &mut Session, rows: &mut A, admin: &mut Admin)
     requires closed { session.old.state.opened.events ≡ [] }
     requires early { session.old.state.actions + 1 < 2 ^ 64 }
     requires few { admin.old.actions < 2 ^ 47 }
-    requires idle { (r : ℕ) → A.hand rows.old r ≡ None }
-    requires lent { A.words rows.old ≡ Some admin.old.words }
-    requires spare { length (owed_by_state session.old.state) + 253 ≤ A.left rows.old }
+    requires idle { (r : ℕ) → (A.seen rows.old).hand r ≡ None }
+    requires lent { (A.seen rows.old).words ≡ Some admin.old.words }
+    requires spare { length (owed_by_state session.old.state) + 253 ≤ (A.seen rows.old).left }
     requires room { settle_cost (owed_by_state session.old.state) + 254 ≤ session.old.journal.room }
-    ensures acted { HasActed (Quitting admin.old) session.old session.new (A.reached rows.old) (A.reached rows.new) }
+    ensures acted { HasActed (Quitting admin.old) session.old session.new (A.seen rows.old).reached
+        (A.seen rows.new).reached }
     ensures admin { admin.new ≡ has_quit admin.old session.old.state.number }
     ensures rest { session.new.state ≡ record session.old.state {
       place = no_place;
@@ -77,11 +78,11 @@ pub fn quit<A: Acts>(session: &mut Session, rows: &mut A, admin: &mut Admin)
       actions = session.old.state.actions + 1;
       last = session.new.state.last;
     } }
-    ensures leaves { Leaves (length (owed_by_state session.old.state) + 253)
-        (settle_cost (owed_by_state session.old.state) + 254) (A.hand rows.old) (A.hand rows.new) (A.left rows.old)
-        (A.left rows.new) (A.draws rows.old) (A.draws rows.new) (A.name rows.old) (A.name rows.new)
-        session.old.journal session.new.journal }
-    ensures lent { A.words rows.new ≡ Some admin.new.words }
+    ensures leaves { Leaves (length (owed_by_state session.old.state) + 253) (settle_cost
+        (owed_by_state session.old.state) + 254) (A.seen rows.old).hand (A.seen rows.new).hand (A.seen rows.old).left
+        (A.seen rows.new).left (A.seen rows.old).draws (A.seen rows.new).draws (A.seen rows.old).name
+        (A.seen rows.new).name session.old.journal session.new.journal }
+    ensures lent { (A.seen rows.new).words ≡ Some admin.new.words }
 {
     rows.enter(session.label());
     session.quit(rows, admin);
@@ -92,13 +93,14 @@ pub fn quit<A: Acts>(session: &mut Session, rows: &mut A, admin: &mut Admin)
 pub fn truncate<A: Acts>(session: &mut Session, rows: &mut A, admin: &mut Admin, what: Truncation)
     requires early { session.old.state.actions + 1 < 2 ^ 64 }
     requires few { admin.old.actions < 2 ^ 47 }
-    requires idle { (r : ℕ) → A.hand rows.old r ≡ None }
-    requires lent { A.words rows.old ≡ Some admin.old.words }
-    requires spare { length (owed_by_state session.old.state) + (truncation_cost admin.old what + 1) ≤ A.left rows.old }
+    requires idle { (r : ℕ) → (A.seen rows.old).hand r ≡ None }
+    requires lent { (A.seen rows.old).words ≡ Some admin.old.words }
+    requires spare { length (owed_by_state session.old.state) + (truncation_cost admin.old what + 1)
+        ≤ (A.seen rows.old).left }
     requires room { settle_cost (owed_by_state session.old.state) + (truncation_cost admin.old what + 2)
         ≤ session.old.journal.room }
-    ensures acted { HasActed (Truncating admin.old what) session.old session.new (A.reached rows.old)
-        (A.reached rows.new) }
+    ensures acted { HasActed (Truncating admin.old what) session.old session.new (A.seen rows.old).reached
+        (A.seen rows.new).reached }
     ensures admin { admin.new ≡ has_truncated admin.old what }
     ensures rest { session.new.state ≡ record session.old.state {
       held = nothing_held;
@@ -106,10 +108,10 @@ pub fn truncate<A: Acts>(session: &mut Session, rows: &mut A, admin: &mut Admin,
       last = session.new.state.last;
     } }
     ensures leaves { Leaves (length (owed_by_state session.old.state) + (truncation_cost admin.old what + 1))
-        (settle_cost (owed_by_state session.old.state) + (truncation_cost admin.old what + 2)) (A.hand rows.old)
-        (A.hand rows.new) (A.left rows.old) (A.left rows.new) (A.draws rows.old) (A.draws rows.new)
-        (A.name rows.old) (A.name rows.new) session.old.journal session.new.journal }
-    ensures lent { A.words rows.new ≡ Some admin.new.words }
+        (settle_cost (owed_by_state session.old.state) + (truncation_cost admin.old what + 2)) (A.seen rows.old).hand
+        (A.seen rows.new).hand (A.seen rows.old).left (A.seen rows.new).left (A.seen rows.old).draws
+        (A.seen rows.new).draws (A.seen rows.old).name (A.seen rows.new).name session.old.journal session.new.journal }
+    ensures lent { (A.seen rows.new).words ≡ Some admin.new.words }
 {
     rows.enter(session.label());
     session.truncate(rows, admin, what);
@@ -121,23 +123,23 @@ pub fn act<A: Acts>(session: &mut Session, rows: &mut A, admin: &mut Admin, what
     requires replied { IsReplied what }
     requires early { session.old.state.actions + 1 < 2 ^ 64 }
     requires few { admin.old.actions < 2 ^ 47 }
-    requires idle { (r : ℕ) → A.hand rows.old r ≡ None }
-    requires lent { A.words rows.old ≡ Some admin.old.words }
-    requires spare { length (owed_by_state session.old.state) + 1 ≤ A.left rows.old }
+    requires idle { (r : ℕ) → (A.seen rows.old).hand r ≡ None }
+    requires lent { (A.seen rows.old).words ≡ Some admin.old.words }
+    requires spare { length (owed_by_state session.old.state) + 1 ≤ (A.seen rows.old).left }
     requires room { settle_cost (owed_by_state session.old.state) + (most_of what + 2) ≤ session.old.journal.room }
-    ensures acted { HasActed (Changing admin.old what) session.old session.new (A.reached rows.old)
-        (A.reached rows.new) }
+    ensures acted { HasActed (Changing admin.old what) session.old session.new (A.seen rows.old).reached
+        (A.seen rows.new).reached }
     ensures admin { admin.new ≡ has_changed admin.old what }
     ensures rest { session.new.state ≡ record session.old.state {
       held = nothing_held;
       actions = session.old.state.actions + 1;
       last = session.new.state.last;
     } }
-    ensures leaves { Leaves (length (owed_by_state session.old.state) + 1)
-        (settle_cost (owed_by_state session.old.state) + (most_of what + 2)) (A.hand rows.old) (A.hand rows.new)
-        (A.left rows.old) (A.left rows.new) (A.draws rows.old) (A.draws rows.new) (A.name rows.old)
-        (A.name rows.new) session.old.journal session.new.journal }
-    ensures lent { A.words rows.new ≡ Some admin.new.words }
+    ensures leaves { Leaves (length (owed_by_state session.old.state) + 1) (settle_cost
+        (owed_by_state session.old.state) + (most_of what + 2)) (A.seen rows.old).hand (A.seen rows.new).hand
+        (A.seen rows.old).left (A.seen rows.new).left (A.seen rows.old).draws (A.seen rows.new).draws
+        (A.seen rows.old).name (A.seen rows.new).name session.old.journal session.new.journal }
+    ensures lent { (A.seen rows.new).words ≡ Some admin.new.words }
 {
     rows.enter(session.label());
     session.act(rows, admin, what);
@@ -157,12 +159,12 @@ pub fn show_held<A: Acts>(
     requires held { IsHeld query.now.table }
     requires early { session.old.state.actions + 1 < 2 ^ 64 }
     requires few { admin.old.actions < 2 ^ 47 }
-    requires idle { (r : ℕ) → A.hand rows.old r ≡ None }
-    requires lent { A.words rows.old ≡ Some admin.old.words }
-    requires spare { length (owed_by_state session.old.state) + 1 ≤ A.left rows.old }
+    requires idle { (r : ℕ) → (A.seen rows.old).hand r ≡ None }
+    requires lent { (A.seen rows.old).words ≡ Some admin.old.words }
+    requires spare { length (owed_by_state session.old.state) + 1 ≤ (A.seen rows.old).left }
     requires room { settle_cost (owed_by_state session.old.state) + 3 ≤ session.old.journal.room }
     ensures acted { IfOk result (λ answer. HasActed (Showing admin.old (length answer)) session.old session.new
-        (A.reached rows.old) (A.reached rows.new)) }
+        (A.seen rows.old).reached (A.seen rows.new).reached) }
     ensures answered { IfOk result (IsAnswer query.now (held_rows query.now.table admin.old.actors admin.old.objects)) }
     ensures admin { admin.new ≡ has_changed admin.old Show }
     ensures rest { session.new.state ≡ record session.old.state {
@@ -170,11 +172,11 @@ pub fn show_held<A: Acts>(
       actions = session.old.state.actions + 1;
       last = session.new.state.last;
     } }
-    ensures leaves { Leaves (length (owed_by_state session.old.state) + 1)
-        (settle_cost (owed_by_state session.old.state) + 3) (A.hand rows.old) (A.hand rows.new)
-        (A.left rows.old) (A.left rows.new) (A.draws rows.old) (A.draws rows.new) (A.name rows.old)
-        (A.name rows.new) session.old.journal session.new.journal }
-    ensures lent { A.words rows.new ≡ Some admin.new.words }
+    ensures leaves { Leaves (length (owed_by_state session.old.state) + 1) (settle_cost
+        (owed_by_state session.old.state) + 3) (A.seen rows.old).hand (A.seen rows.new).hand (A.seen rows.old).left
+        (A.seen rows.new).left (A.seen rows.old).draws (A.seen rows.new).draws (A.seen rows.old).name
+        (A.seen rows.new).name session.old.journal session.new.journal }
+    ensures lent { (A.seen rows.new).words ≡ Some admin.new.words }
 {
     rows.enter(session.label());
     session.act(rows, admin, SetupStatement::Show);

@@ -112,12 +112,13 @@ pub(crate) fn play_event<R: Rows>(session: &mut Session, rows: &mut R, line: &Bl
     requires may { MayRun (errand_on line.now) session.old.state.opened }
     requires early { session.old.state.drawn + 1 < 2 ^ 64 }
     requires wide { length session.old.state.held ≡ 193 }
-    requires alone { (r : ℕ) → 0 < r → R.hand rows.old r ≡ None }
-    requires tickets { 2 ≤ R.draws rows.old }
-    requires spare { 11 ≤ R.left rows.old }
+    requires alone { (r : ℕ) → 0 < r → (R.seen rows.old).hand r ≡ None }
+    requires tickets { 2 ≤ (R.seen rows.old).draws }
+    requires spare { 11 ≤ (R.seen rows.old).left }
     requires room { cost_of (errand_on line.now) ≤ session.old.journal.room }
     ensures run { (setting : Setting) (admin : Administration) (answers : List Answer) → HasRun setting admin
-        (errand_on line.now) session.old session.new answers answers (R.reached rows.old) (R.reached rows.new) }
+        (errand_on line.now) session.old session.new answers answers (R.seen rows.old).reached
+        (R.seen rows.new).reached }
     ensures drawn { session.new.state.drawn ≤ session.old.state.drawn + 1 }
     ensures rest { session.new.state ≡ record session.old.state {
       clock = session.new.state.clock;
@@ -129,10 +130,10 @@ pub(crate) fn play_event<R: Rows>(session: &mut Session, rows: &mut R, line: &Bl
     ensures depth { session.new.state.opened.depth ≡ session.old.state.opened.depth }
     ensures wide { length session.new.state.held ≡ 193 }
     ensures owed { length (owed_by_state session.new.state) ≤ length (owed_by_state session.old.state) + 4 }
-    ensures leaves { Uses 11 2 (cost_of (errand_on line.now)) (R.hand rows.old) (R.hand rows.new) (R.left rows.old)
-        (R.left rows.new) (R.draws rows.old) (R.draws rows.new) (R.name rows.old) (R.name rows.new)
-        session.old.journal session.new.journal }
-    ensures words { R.words rows.new ≡ R.words rows.old }
+    ensures leaves { Uses 11 2 (cost_of (errand_on line.now)) (R.seen rows.old).hand (R.seen rows.new).hand
+        (R.seen rows.old).left (R.seen rows.new).left (R.seen rows.old).draws (R.seen rows.new).draws
+        (R.seen rows.old).name (R.seen rows.new).name session.old.journal session.new.journal }
+    ensures words { (R.seen rows.new).words ≡ (R.seen rows.old).words }
 {
     match line {
         BlockLine::Wait(class) => {
@@ -166,11 +167,12 @@ pub(crate) fn play_event<R: Rows>(session: &mut Session, rows: &mut R, line: &Bl
 fn end<R: Rows>(session: &mut Session, rows: &mut R, numbers: &Numbers)
     requires may { MayRun (ask.End numbers.now) session.old.state.opened }
     requires early { session.old.state.drawn + 1 < 2 ^ 64 }
-    requires alone { (r : ℕ) → 0 < r → R.hand rows.old r ≡ None }
-    requires tickets { 2 ≤ R.draws rows.old }
-    requires spare { 11 ≤ R.left rows.old }
+    requires alone { (r : ℕ) → 0 < r → (R.seen rows.old).hand r ≡ None }
+    requires tickets { 2 ≤ (R.seen rows.old).draws }
+    requires spare { 11 ≤ (R.seen rows.old).left }
     requires room { 14 ≤ session.old.journal.room }
-    ensures run { HasActed (Ending numbers.now) session.old session.new (R.reached rows.old) (R.reached rows.new) }
+    ensures run { HasActed (Ending numbers.now) session.old session.new (R.seen rows.old).reached
+        (R.seen rows.new).reached }
     ensures drawn { session.new.state.drawn ≤ session.old.state.drawn + 1 }
     ensures rest { session.new.state ≡ record session.old.state {
       clock = session.new.state.clock;
@@ -181,10 +183,10 @@ fn end<R: Rows>(session: &mut Session, rows: &mut R, numbers: &Numbers)
     } }
     ensures depth { session.new.state.opened.depth ≡ session.old.state.opened.depth }
     ensures owed { length (owed_by_state session.new.state) ≤ length (owed_by_state session.old.state) + 4 }
-    ensures leaves { Uses 11 2 14 (R.hand rows.old) (R.hand rows.new) (R.left rows.old) (R.left rows.new)
-        (R.draws rows.old) (R.draws rows.new) (R.name rows.old) (R.name rows.new) session.old.journal
-        session.new.journal }
-    ensures words { R.words rows.new ≡ R.words rows.old }
+    ensures leaves { Uses 11 2 14 (R.seen rows.old).hand (R.seen rows.new).hand (R.seen rows.old).left
+        (R.seen rows.new).left (R.seen rows.old).draws (R.seen rows.new).draws (R.seen rows.old).name
+        (R.seen rows.new).name session.old.journal session.new.journal }
+    ensures words { (R.seen rows.new).words ≡ (R.seen rows.old).words }
 {
     session.stage(rows, &None);
     session.end(rows, numbers);

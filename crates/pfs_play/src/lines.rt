@@ -34,13 +34,13 @@ pub fn play_line<A: Acts>(
     requires rare { session.old.state.actions + actions_of (errand_on line.now) < 2 ^ 64 }
     requires wide { length session.old.state.held ≡ 193 }
     requires few { admin.old.actions + actions_of (errand_on line.now) ≤ 2 ^ 47 }
-    requires idle { (r : ℕ) → A.hand rows.old r ≡ None }
-    requires lent { A.words rows.old ≡ Some admin.old.words }
-    requires tickets { 2 ≤ A.draws rows.old }
-    requires spare { 11 + 20192 * actions_of (errand_on line.now) ≤ A.left rows.old }
+    requires idle { (r : ℕ) → (A.seen rows.old).hand r ≡ None }
+    requires lent { (A.seen rows.old).words ≡ Some admin.old.words }
+    requires tickets { 2 ≤ (A.seen rows.old).draws }
+    requires spare { 11 + 20192 * actions_of (errand_on line.now) ≤ (A.seen rows.old).left }
     requires room { cost_of (errand_on line.now) ≤ session.old.journal.room }
-    ensures run { OnOk result (HasRun setting.now admin.old (errand_on line.now) session.old session.new answers.old.items
-        answers.new.items (A.reached rows.old) (A.reached rows.new)) }
+    ensures run { OnOk result (HasRun setting.now admin.old (errand_on line.now) session.old session.new
+        answers.old.items answers.new.items (A.seen rows.old).reached (A.seen rows.new).reached) }
     ensures admin { OnOk result (admin.new ≡ admin_behind admin.old (errand_on line.now)) }
     ensures drawn { OnOk result (session.new.state.drawn ≤ session.old.state.drawn + 1) }
     ensures actions { OnOk result (session.new.state.actions ≡ session.old.state.actions + actions_of (errand_on line.now)) }
@@ -58,10 +58,11 @@ pub fn play_line<A: Acts>(
     ensures wide { OnOk result (length session.new.state.held ≡ 193) }
     ensures owed { OnOk result (length (owed_by_state session.new.state)
         ≤ length (owed_by_state session.old.state) + 4) }
-    ensures leaves { OnOk result (Uses (11 + 20192 * actions_of (errand_on line.now)) 2 (cost_of (errand_on line.now)) (A.hand rows.old)
-        (A.hand rows.new) (A.left rows.old) (A.left rows.new) (A.draws rows.old) (A.draws rows.new)
-        (A.name rows.old) (A.name rows.new) session.old.journal session.new.journal) }
-    ensures lent { OnOk result (A.words rows.new ≡ Some admin.new.words) }
+    ensures leaves { OnOk result (Uses (11 + 20192 * actions_of (errand_on line.now)) 2 (cost_of (errand_on line.now))
+        (A.seen rows.old).hand (A.seen rows.new).hand (A.seen rows.old).left (A.seen rows.new).left
+        (A.seen rows.old).draws (A.seen rows.new).draws (A.seen rows.old).name (A.seen rows.new).name
+        session.old.journal session.new.journal) }
+    ensures lent { OnOk result ((A.seen rows.new).words ≡ Some admin.new.words) }
 {
     match line {
         BlockLine::Sql(text) => match request_of(alloc, text.as_bytes()) {
@@ -92,13 +93,13 @@ pub fn play_lines<A: Acts>(
     requires rare { session.old.state.actions + actions_on lines.now < 2 ^ 64 }
     requires wide { length session.old.state.held ≡ 193 }
     requires few { admin.old.actions + actions_on lines.now ≤ 2 ^ 47 }
-    requires idle { (r : ℕ) → A.hand rows.old r ≡ None }
-    requires lent { A.words rows.old ≡ Some admin.old.words }
-    requires tickets { 2 * length lines.now ≤ A.draws rows.old }
-    requires spare { 11 * length lines.now + 20192 * actions_on lines.now ≤ A.left rows.old }
+    requires idle { (r : ℕ) → (A.seen rows.old).hand r ≡ None }
+    requires lent { (A.seen rows.old).words ≡ Some admin.old.words }
+    requires tickets { 2 * length lines.now ≤ (A.seen rows.old).draws }
+    requires spare { 11 * length lines.now + 20192 * actions_on lines.now ≤ (A.seen rows.old).left }
     requires room { cost_on lines.now ≤ session.old.journal.room }
     ensures played { OnOk result (HavePlayed setting.now lines.now admin.old session.old session.new
-        answers.old.items answers.new.items (A.reached rows.old) (A.reached rows.new)) }
+        answers.old.items answers.new.items (A.seen rows.old).reached (A.seen rows.new).reached) }
     ensures admin { OnOk result (admin.new ≡ admin_after admin.old lines.now) }
     ensures kinds { OnOk result (kinds_at session.new.state ≡ kinds_after (kinds_at session.old.state) lines.now) }
     ensures lie { OnOk result (StagesLie (kinds_at session.new.state)) }
@@ -118,9 +119,10 @@ pub fn play_lines<A: Acts>(
     ensures depth { OnOk result (session.new.state.opened.depth ≡ session.old.state.opened.depth) }
     ensures wide { OnOk result (length session.new.state.held ≡ 193) }
     ensures leaves { OnOk result (Uses (11 * length lines.now + 20192 * actions_on lines.now) (2 * length lines.now)
-        (cost_on lines.now) (A.hand rows.old) (A.hand rows.new) (A.left rows.old) (A.left rows.new) (A.draws rows.old)
-        (A.draws rows.new) (A.name rows.old) (A.name rows.new) session.old.journal session.new.journal) }
-    ensures lent { OnOk result (A.words rows.new ≡ Some admin.new.words) }
+        (cost_on lines.now) (A.seen rows.old).hand (A.seen rows.new).hand (A.seen rows.old).left (A.seen rows.new).left
+        (A.seen rows.old).draws (A.seen rows.new).draws (A.seen rows.old).name (A.seen rows.new).name
+        session.old.journal session.new.journal) }
+    ensures lent { OnOk result ((A.seen rows.new).words ≡ Some admin.new.words) }
 {
     for line in lines {
         match play_line(alloc, setting, session, rows, admin, answers, line) {

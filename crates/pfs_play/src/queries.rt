@@ -38,16 +38,16 @@ fn look_at<R: Rows>(
     rows: &mut R,
     table: Table,
 ) -> Result<ReadingList, NoMemory>
-    requires away { HoldsNone (R.hand rows.old) }
+    requires away { HoldsNone (R.seen rows.old).hand }
     requires room { 14403 ≤ session.old.journal.room }
     ensures whole { IfOk result (λ readings. IsReadSet (scope_of setting.now) table readings) }
-    ensures played { IfOk result (λ readings. Played (looks readings) session.old session.new (R.reached rows.old)
-        (R.reached rows.new)) }
+    ensures played { IfOk result (λ readings. Played (looks readings) session.old session.new (R.seen rows.old).reached
+        (R.seen rows.new).reached) }
     ensures state { session.new.state ≡ session.old.state }
-    ensures uses { OnOk result (Uses 0 0 14403 (R.hand rows.old) (R.hand rows.new) (R.left rows.old)
-        (R.left rows.new) (R.draws rows.old) (R.draws rows.new) (R.name rows.old) (R.name rows.new)
-        session.old.journal session.new.journal) }
-    ensures words { R.words rows.new ≡ R.words rows.old }
+    ensures uses { OnOk result (Uses 0 0 14403 (R.seen rows.old).hand (R.seen rows.new).hand (R.seen rows.old).left
+        (R.seen rows.new).left (R.seen rows.old).draws (R.seen rows.new).draws (R.seen rows.old).name
+        (R.seen rows.new).name session.old.journal session.new.journal) }
+    ensures words { (R.seen rows.new).words ≡ (R.seen rows.old).words }
 {
     let mut reader = Reader::open(setting, table);
     let mut readings = Vec::new(alloc);
@@ -67,15 +67,15 @@ pub(crate) fn query<R: Rows>(
     answers: &mut Vec<Rowset>,
     what: Select,
 ) -> Result<(), NoMemory>
-    requires away { HoldsNone (R.hand rows.old) }
+    requires away { HoldsNone (R.seen rows.old).hand }
     requires room { 14405 ≤ session.old.journal.room }
     ensures run { OnOk result ((admin : Administration) → HasRun setting.now admin (ask.Query what) session.old
-        session.new answers.old.items answers.new.items (R.reached rows.old) (R.reached rows.new)) }
+        session.new answers.old.items answers.new.items (R.seen rows.old).reached (R.seen rows.new).reached) }
     ensures state { OnOk result (session.new.state ≡ session.old.state) }
-    ensures uses { OnOk result (Uses 0 0 14405 (R.hand rows.old) (R.hand rows.new) (R.left rows.old)
-        (R.left rows.new) (R.draws rows.old) (R.draws rows.new) (R.name rows.old) (R.name rows.new)
-        session.old.journal session.new.journal) }
-    ensures words { OnOk result (R.words rows.new ≡ R.words rows.old) }
+    ensures uses { OnOk result (Uses 0 0 14405 (R.seen rows.old).hand (R.seen rows.new).hand (R.seen rows.old).left
+        (R.seen rows.new).left (R.seen rows.old).draws (R.seen rows.new).draws (R.seen rows.old).name
+        (R.seen rows.new).name session.old.journal session.new.journal) }
+    ensures words { OnOk result ((R.seen rows.new).words ≡ (R.seen rows.old).words) }
 {
     session.append(Remark::Query);
     let readings = look_at(alloc, setting, session, rows, what.table)?;
@@ -100,12 +100,12 @@ pub(crate) fn show_table<A: Acts>(
     requires rare { session.old.state.actions + 1 < 2 ^ 64 }
     requires wide { length session.old.state.held ≡ 193 }
     requires few { admin.old.actions < 2 ^ 47 }
-    requires idle { (r : ℕ) → A.hand rows.old r ≡ None }
-    requires lent { A.words rows.old ≡ Some admin.old.words }
-    requires spare { 194 ≤ A.left rows.old }
+    requires idle { (r : ℕ) → (A.seen rows.old).hand r ≡ None }
+    requires lent { (A.seen rows.old).words ≡ Some admin.old.words }
+    requires spare { 194 ≤ (A.seen rows.old).left }
     requires room { 260 ≤ session.old.journal.room }
-    ensures run { OnOk result ((setting : AnySetting) → HasRun setting admin.old (ask.Show what) session.old session.new
-        answers.old.items answers.new.items (A.reached rows.old) (A.reached rows.new)) }
+    ensures run { OnOk result ((setting : AnySetting) → HasRun setting admin.old (ask.Show what) session.old
+        session.new answers.old.items answers.new.items (A.seen rows.old).reached (A.seen rows.new).reached) }
     ensures admin { OnOk result (admin.new ≡ has_changed admin.old Show) }
     ensures rest { OnOk result (session.new.state ≡ record session.old.state {
       held = nothing_held;
@@ -114,10 +114,10 @@ pub(crate) fn show_table<A: Acts>(
     }) }
     ensures owed { OnOk result (length (owed_by_state session.new.state)
         ≤ length (owed_by_state session.old.state)) }
-    ensures leaves { OnOk result (Leaves 194 260 (A.hand rows.old) (A.hand rows.new) (A.left rows.old)
-        (A.left rows.new) (A.draws rows.old) (A.draws rows.new) (A.name rows.old) (A.name rows.new)
-        session.old.journal session.new.journal) }
-    ensures lent { OnOk result (A.words rows.new ≡ Some admin.new.words) }
+    ensures leaves { OnOk result (Leaves 194 260 (A.seen rows.old).hand (A.seen rows.new).hand (A.seen rows.old).left
+        (A.seen rows.new).left (A.seen rows.old).draws (A.seen rows.new).draws (A.seen rows.old).name
+        (A.seen rows.new).name session.old.journal session.new.journal) }
+    ensures lent { OnOk result ((A.seen rows.new).words ≡ Some admin.new.words) }
 {
     let answer = show_held(alloc, session, rows, admin, &what)?;
     answers.push(answer)?;

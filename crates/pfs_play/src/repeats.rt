@@ -37,13 +37,13 @@ pub fn play_times<A: Acts>(
     requires rare { session.old.state.actions + times * actions_on body.now < 2 ^ 64 }
     requires wide { length session.old.state.held ≡ 193 }
     requires few { admin.old.actions + times * actions_on body.now ≤ 2 ^ 47 }
-    requires idle { (r : ℕ) → A.hand rows.old r ≡ None }
-    requires lent { A.words rows.old ≡ Some admin.old.words }
-    requires tickets { 2 * (times * length body.now) ≤ A.draws rows.old }
-    requires spare { 11 * (times * length body.now) + 20192 * (times * actions_on body.now) ≤ A.left rows.old }
+    requires idle { (r : ℕ) → (A.seen rows.old).hand r ≡ None }
+    requires lent { (A.seen rows.old).words ≡ Some admin.old.words }
+    requires tickets { 2 * (times * length body.now) ≤ (A.seen rows.old).draws }
+    requires spare { 11 * (times * length body.now) + 20192 * (times * actions_on body.now) ≤ (A.seen rows.old).left }
     requires room { times * cost_on body.now ≤ session.old.journal.room }
     ensures played { OnOk result (HavePlayed setting.now (copies times body.now) admin.old session.old session.new
-        answers.old.items answers.new.items (A.reached rows.old) (A.reached rows.new)) }
+        answers.old.items answers.new.items (A.seen rows.old).reached (A.seen rows.new).reached) }
     ensures admin { OnOk result (admin.new ≡ admin_after admin.old (copies times body.now)) }
     ensures kinds { OnOk result (kinds_at session.new.state ≡ kinds_at session.old.state) }
     ensures drawn { OnOk result (session.new.state.drawn ≤ session.old.state.drawn + times * length body.now) }
@@ -63,10 +63,10 @@ pub fn play_times<A: Acts>(
     ensures depth { OnOk result (session.new.state.opened.depth ≡ session.old.state.opened.depth) }
     ensures wide { OnOk result (length session.new.state.held ≡ 193) }
     ensures leaves { OnOk result (Uses (11 * (times * length body.now) + 20192 * (times * actions_on body.now))
-        (2 * (times * length body.now)) (times * cost_on body.now) (A.hand rows.old) (A.hand rows.new)
-        (A.left rows.old) (A.left rows.new) (A.draws rows.old) (A.draws rows.new) (A.name rows.old) (A.name rows.new)
-        session.old.journal session.new.journal) }
-    ensures lent { OnOk result (A.words rows.new ≡ Some admin.new.words) }
+        (2 * (times * length body.now)) (times * cost_on body.now) (A.seen rows.old).hand (A.seen rows.new).hand
+        (A.seen rows.old).left (A.seen rows.new).left (A.seen rows.old).draws (A.seen rows.new).draws
+        (A.seen rows.old).name (A.seen rows.new).name session.old.journal session.new.journal) }
+    ensures lent { OnOk result ((A.seen rows.new).words ≡ Some admin.new.words) }
 {
     // Empty rounds change nothing, and there may be up to 2^64 - 1 of them.
     if body.is_empty() {
@@ -124,16 +124,16 @@ fn play_repeat<A: Acts>(
     requires rare { session.old.state.actions + actions_on (repeated times lines.now) < 2 ^ 64 }
     requires wide { length session.old.state.held ≡ 193 }
     requires few { admin.old.actions + actions_on (repeated times lines.now) ≤ 2 ^ 47 }
-    requires idle { (r : ℕ) → A.hand rows.old r ≡ None }
-    requires lent { A.words rows.old ≡ Some admin.old.words }
-    requires tickets { 2 * length (repeated times lines.now) ≤ A.draws rows.old }
+    requires idle { (r : ℕ) → (A.seen rows.old).hand r ≡ None }
+    requires lent { (A.seen rows.old).words ≡ Some admin.old.words }
+    requires tickets { 2 * length (repeated times lines.now) ≤ (A.seen rows.old).draws }
     requires spare { 11 * length (repeated times lines.now) + 20192 * actions_on (repeated times lines.now)
-        ≤ A.left rows.old }
+        ≤ (A.seen rows.old).left }
     requires room { cost_on (repeated times lines.now) ≤ session.old.journal.room }
     ensures count { IfOk result (λ taken. taken ≤ length lines.now) }
-    ensures gone { IfOk result (λ taken. HaveGone setting.now (repeated times lines.now) (written_out (drop taken lines.now))
-        admin.old admin.new session.old session.new answers.old.items answers.new.items (A.reached rows.old)
-        (A.reached rows.new)) }
+    ensures gone { IfOk result (λ taken. HaveGone setting.now (repeated times lines.now)
+        (written_out (drop taken lines.now)) admin.old admin.new session.old session.new answers.old.items
+        answers.new.items (A.seen rows.old).reached (A.seen rows.new).reached) }
     ensures may { IfOk result (λ taken. AllMayPlay 62 session.old.state.opened.depth (kinds_at session.new.state) None
         (drop taken lines.now)) }
     ensures kinds { IfOk result (λ taken. kinds_after (kinds_at session.new.state) (written_out (drop taken lines.now))
@@ -158,14 +158,14 @@ fn play_repeat<A: Acts>(
         ≡ session.old.state.last) }
     ensures depth { OnOk result (session.new.state.opened.depth ≡ session.old.state.opened.depth) }
     ensures wide { OnOk result (length session.new.state.held ≡ 193) }
-    ensures leaves { IfOk result (λ taken. Uses
-        (11 * (length (repeated times lines.now) - length (written_out (drop taken lines.now)))
-        + 20192 * (actions_on (repeated times lines.now) - actions_on (written_out (drop taken lines.now))))
-        (2 * (length (repeated times lines.now) - length (written_out (drop taken lines.now))))
-        (cost_on (repeated times lines.now) - cost_on (written_out (drop taken lines.now))) (A.hand rows.old)
-        (A.hand rows.new) (A.left rows.old) (A.left rows.new) (A.draws rows.old) (A.draws rows.new) (A.name rows.old)
-        (A.name rows.new) session.old.journal session.new.journal) }
-    ensures lent { OnOk result (A.words rows.new ≡ Some admin.new.words) }
+    ensures leaves { IfOk result (λ taken. Uses (11 * (length (repeated times lines.now) - length
+        (written_out (drop taken lines.now))) + 20192 * (actions_on (repeated times lines.now) - actions_on
+        (written_out (drop taken lines.now)))) (2 * (length (repeated times lines.now) - length
+        (written_out (drop taken lines.now)))) (cost_on (repeated times lines.now) - cost_on
+        (written_out (drop taken lines.now))) (A.seen rows.old).hand (A.seen rows.new).hand (A.seen rows.old).left
+        (A.seen rows.new).left (A.seen rows.old).draws (A.seen rows.new).draws (A.seen rows.old).name
+        (A.seen rows.new).name session.old.journal session.new.journal) }
+    ensures lent { OnOk result ((A.seen rows.new).words ≡ Some admin.new.words) }
 {
     match done_in(lines) {
         Some(end) => match play_times(
@@ -205,16 +205,16 @@ fn play_next<A: Acts>(
     requires rare { session.old.state.actions + actions_on (written_out lines.now) < 2 ^ 64 }
     requires wide { length session.old.state.held ≡ 193 }
     requires few { admin.old.actions + actions_on (written_out lines.now) ≤ 2 ^ 47 }
-    requires idle { (r : ℕ) → A.hand rows.old r ≡ None }
-    requires lent { A.words rows.old ≡ Some admin.old.words }
-    requires tickets { 2 * length (written_out lines.now) ≤ A.draws rows.old }
+    requires idle { (r : ℕ) → (A.seen rows.old).hand r ≡ None }
+    requires lent { (A.seen rows.old).words ≡ Some admin.old.words }
+    requires tickets { 2 * length (written_out lines.now) ≤ (A.seen rows.old).draws }
     requires spare { 11 * length (written_out lines.now) + 20192 * actions_on (written_out lines.now)
-        ≤ A.left rows.old }
+        ≤ (A.seen rows.old).left }
     requires room { cost_on (written_out lines.now) ≤ session.old.journal.room }
     ensures count { IfOk result (λ taken. (0 < taken) × (taken ≤ length lines.now)) }
-    ensures gone { IfOk result (λ taken. HaveGone setting.now (written_out lines.now) (written_out (drop taken lines.now))
-        admin.old admin.new session.old session.new answers.old.items answers.new.items (A.reached rows.old)
-        (A.reached rows.new)) }
+    ensures gone { IfOk result (λ taken. HaveGone setting.now (written_out lines.now)
+        (written_out (drop taken lines.now)) admin.old admin.new session.old session.new answers.old.items
+        answers.new.items (A.seen rows.old).reached (A.seen rows.new).reached) }
     ensures may { IfOk result (λ taken. AllMayPlay 62 session.old.state.opened.depth (kinds_at session.new.state) None
         (drop taken lines.now)) }
     ensures kinds { IfOk result (λ taken. kinds_after (kinds_at session.new.state) (written_out (drop taken lines.now))
@@ -239,14 +239,14 @@ fn play_next<A: Acts>(
         ≡ session.old.state.last) }
     ensures depth { OnOk result (session.new.state.opened.depth ≡ session.old.state.opened.depth) }
     ensures wide { OnOk result (length session.new.state.held ≡ 193) }
-    ensures leaves { IfOk result (λ taken. Uses
-        (11 * (length (written_out lines.now) - length (written_out (drop taken lines.now)))
-        + 20192 * (actions_on (written_out lines.now) - actions_on (written_out (drop taken lines.now))))
-        (2 * (length (written_out lines.now) - length (written_out (drop taken lines.now))))
-        (cost_on (written_out lines.now) - cost_on (written_out (drop taken lines.now))) (A.hand rows.old)
-        (A.hand rows.new) (A.left rows.old) (A.left rows.new) (A.draws rows.old) (A.draws rows.new) (A.name rows.old)
-        (A.name rows.new) session.old.journal session.new.journal) }
-    ensures lent { OnOk result (A.words rows.new ≡ Some admin.new.words) }
+    ensures leaves { IfOk result (λ taken. Uses (11 * (length (written_out lines.now) - length
+        (written_out (drop taken lines.now))) + 20192 * (actions_on (written_out lines.now) - actions_on
+        (written_out (drop taken lines.now)))) (2 * (length (written_out lines.now) - length
+        (written_out (drop taken lines.now)))) (cost_on (written_out lines.now) - cost_on
+        (written_out (drop taken lines.now))) (A.seen rows.old).hand (A.seen rows.new).hand (A.seen rows.old).left
+        (A.seen rows.new).left (A.seen rows.old).draws (A.seen rows.new).draws (A.seen rows.old).name
+        (A.seen rows.new).name session.old.journal session.new.journal) }
+    ensures lent { OnOk result ((A.seen rows.new).words ≡ Some admin.new.words) }
 {
     let Some((first, others)) = lines.split_first() else {
         return Ok(0);
@@ -282,14 +282,14 @@ pub fn play_written<A: Acts>(
     requires rare { session.old.state.actions + actions_on (written_out lines.now) < 2 ^ 64 }
     requires wide { length session.old.state.held ≡ 193 }
     requires few { admin.old.actions + actions_on (written_out lines.now) ≤ 2 ^ 47 }
-    requires idle { (r : ℕ) → A.hand rows.old r ≡ None }
-    requires lent { A.words rows.old ≡ Some admin.old.words }
-    requires tickets { 2 * length (written_out lines.now) ≤ A.draws rows.old }
+    requires idle { (r : ℕ) → (A.seen rows.old).hand r ≡ None }
+    requires lent { (A.seen rows.old).words ≡ Some admin.old.words }
+    requires tickets { 2 * length (written_out lines.now) ≤ (A.seen rows.old).draws }
     requires spare { 11 * length (written_out lines.now) + 20192 * actions_on (written_out lines.now)
-        ≤ A.left rows.old }
+        ≤ (A.seen rows.old).left }
     requires room { cost_on (written_out lines.now) ≤ session.old.journal.room }
     ensures played { OnOk result (HavePlayed setting.now (written_out lines.now) admin.old session.old session.new
-        answers.old.items answers.new.items (A.reached rows.old) (A.reached rows.new)) }
+        answers.old.items answers.new.items (A.seen rows.old).reached (A.seen rows.new).reached) }
     ensures admin { OnOk result (admin.new ≡ admin_after admin.old (written_out lines.now)) }
     ensures kinds { OnOk result (kinds_at session.new.state ≡ kinds_after (kinds_at session.old.state)
         (written_out lines.now)) }
@@ -311,12 +311,12 @@ pub fn play_written<A: Acts>(
         ≡ session.old.state.last) }
     ensures depth { OnOk result (session.new.state.opened.depth ≡ session.old.state.opened.depth) }
     ensures wide { OnOk result (length session.new.state.held ≡ 193) }
-    ensures leaves { OnOk result (Uses
-        (11 * length (written_out lines.now) + 20192 * actions_on (written_out lines.now))
-        (2 * length (written_out lines.now)) (cost_on (written_out lines.now)) (A.hand rows.old) (A.hand rows.new)
-        (A.left rows.old) (A.left rows.new) (A.draws rows.old) (A.draws rows.new) (A.name rows.old) (A.name rows.new)
+    ensures leaves { OnOk result (Uses (11 * length (written_out lines.now) + 20192 * actions_on
+        (written_out lines.now)) (2 * length (written_out lines.now)) (cost_on (written_out lines.now))
+        (A.seen rows.old).hand (A.seen rows.new).hand (A.seen rows.old).left (A.seen rows.new).left
+        (A.seen rows.old).draws (A.seen rows.new).draws (A.seen rows.old).name (A.seen rows.new).name
         session.old.journal session.new.journal) }
-    ensures lent { OnOk result (A.words rows.new ≡ Some admin.new.words) }
+    ensures lent { OnOk result ((A.seen rows.new).words ≡ Some admin.new.words) }
 {
     let mut at = 0;
     while at < lines.len() {

@@ -37,13 +37,13 @@ pub(crate) fn play_request<A: Acts>(
     requires rare { session.old.state.actions + actions_of (sql_errand what) < 2 ^ 64 }
     requires wide { length session.old.state.held ≡ 193 }
     requires few { admin.old.actions + actions_of (sql_errand what) ≤ 2 ^ 47 }
-    requires idle { (r : ℕ) → A.hand rows.old r ≡ None }
-    requires lent { A.words rows.old ≡ Some admin.old.words }
-    requires tickets { 2 ≤ A.draws rows.old }
-    requires spare { 11 + 20192 * actions_of (sql_errand what) ≤ A.left rows.old }
+    requires idle { (r : ℕ) → (A.seen rows.old).hand r ≡ None }
+    requires lent { (A.seen rows.old).words ≡ Some admin.old.words }
+    requires tickets { 2 ≤ (A.seen rows.old).draws }
+    requires spare { 11 + 20192 * actions_of (sql_errand what) ≤ (A.seen rows.old).left }
     requires room { cost_of (sql_errand what) ≤ session.old.journal.room }
     ensures run { OnOk result (HasRun setting.now admin.old (sql_errand what) session.old session.new answers.old.items
-        answers.new.items (A.reached rows.old) (A.reached rows.new)) }
+        answers.new.items (A.seen rows.old).reached (A.seen rows.new).reached) }
     ensures admin { OnOk result (admin.new ≡ admin_behind admin.old (sql_errand what)) }
     ensures drawn { OnOk result (session.new.state.drawn ≤ session.old.state.drawn + 1) }
     ensures actions { OnOk result (session.new.state.actions ≡ session.old.state.actions + actions_of (sql_errand what)) }
@@ -61,10 +61,11 @@ pub(crate) fn play_request<A: Acts>(
     ensures wide { OnOk result (length session.new.state.held ≡ 193) }
     ensures owed { OnOk result (length (owed_by_state session.new.state)
         ≤ length (owed_by_state session.old.state) + 4) }
-    ensures leaves { OnOk result (Uses (11 + 20192 * actions_of (sql_errand what)) 2 (cost_of (sql_errand what)) (A.hand rows.old)
-        (A.hand rows.new) (A.left rows.old) (A.left rows.new) (A.draws rows.old) (A.draws rows.new)
-        (A.name rows.old) (A.name rows.new) session.old.journal session.new.journal) }
-    ensures lent { OnOk result (A.words rows.new ≡ Some admin.new.words) }
+    ensures leaves { OnOk result (Uses (11 + 20192 * actions_of (sql_errand what)) 2 (cost_of (sql_errand what))
+        (A.seen rows.old).hand (A.seen rows.new).hand (A.seen rows.old).left (A.seen rows.new).left
+        (A.seen rows.old).draws (A.seen rows.new).draws (A.seen rows.old).name (A.seen rows.new).name
+        session.old.journal session.new.journal) }
+    ensures lent { OnOk result ((A.seen rows.new).words ≡ Some admin.new.words) }
 {
     match what {
         Request::Refused(error) => session.append(Remark::Refused(error)),
@@ -89,12 +90,12 @@ fn truncate_table<A: Acts>(session: &mut Session, rows: &mut A, admin: &mut Admi
     requires rare { session.old.state.actions + 1 < 2 ^ 64 }
     requires wide { length session.old.state.held ≡ 193 }
     requires few { admin.old.actions < 2 ^ 47 }
-    requires idle { (r : ℕ) → A.hand rows.old r ≡ None }
-    requires lent { A.words rows.old ≡ Some admin.old.words }
-    requires spare { 20194 ≤ A.left rows.old }
+    requires idle { (r : ℕ) → (A.seen rows.old).hand r ≡ None }
+    requires lent { (A.seen rows.old).words ≡ Some admin.old.words }
+    requires spare { 20194 ≤ (A.seen rows.old).left }
     requires room { 20196 ≤ session.old.journal.room }
-    ensures run { HasActed (Truncating admin.old what) session.old session.new (A.reached rows.old)
-        (A.reached rows.new) }
+    ensures run { HasActed (Truncating admin.old what) session.old session.new (A.seen rows.old).reached
+        (A.seen rows.new).reached }
     ensures admin { admin.new ≡ has_truncated admin.old what }
     ensures rest { session.new.state ≡ record session.old.state {
       held = nothing_held;
@@ -102,10 +103,10 @@ fn truncate_table<A: Acts>(session: &mut Session, rows: &mut A, admin: &mut Admi
       last = session.new.state.last;
     } }
     ensures owed { length (owed_by_state session.new.state) ≤ length (owed_by_state session.old.state) }
-    ensures leaves { Leaves 20194 20196 (A.hand rows.old) (A.hand rows.new) (A.left rows.old) (A.left rows.new)
-        (A.draws rows.old) (A.draws rows.new) (A.name rows.old) (A.name rows.new) session.old.journal
-        session.new.journal }
-    ensures lent { A.words rows.new ≡ Some admin.new.words }
+    ensures leaves { Leaves 20194 20196 (A.seen rows.old).hand (A.seen rows.new).hand (A.seen rows.old).left
+        (A.seen rows.new).left (A.seen rows.old).draws (A.seen rows.new).draws (A.seen rows.old).name
+        (A.seen rows.new).name session.old.journal session.new.journal }
+    ensures lent { (A.seen rows.new).words ≡ Some admin.new.words }
 {
     // The most that it may come to is asked for the law that comes with it.
     let _ = admin.truncation_cost(what);
@@ -123,12 +124,12 @@ fn change_table<A: Acts>(
     requires rare { session.old.state.actions + 1 < 2 ^ 64 }
     requires wide { length session.old.state.held ≡ 193 }
     requires few { admin.old.actions < 2 ^ 47 }
-    requires idle { (r : ℕ) → A.hand rows.old r ≡ None }
-    requires lent { A.words rows.old ≡ Some admin.old.words }
-    requires spare { 194 ≤ A.left rows.old }
+    requires idle { (r : ℕ) → (A.seen rows.old).hand r ≡ None }
+    requires lent { (A.seen rows.old).words ≡ Some admin.old.words }
+    requires spare { 194 ≤ (A.seen rows.old).left }
     requires room { 260 ≤ session.old.journal.room }
-    ensures run { HasActed (Changing admin.old what) session.old session.new (A.reached rows.old)
-        (A.reached rows.new) }
+    ensures run { HasActed (Changing admin.old what) session.old session.new (A.seen rows.old).reached
+        (A.seen rows.new).reached }
     ensures admin { admin.new ≡ has_changed admin.old what }
     ensures rest { session.new.state ≡ record session.old.state {
       held = nothing_held;
@@ -136,10 +137,10 @@ fn change_table<A: Acts>(
       last = session.new.state.last;
     } }
     ensures owed { length (owed_by_state session.new.state) ≤ length (owed_by_state session.old.state) }
-    ensures leaves { Leaves 194 260 (A.hand rows.old) (A.hand rows.new) (A.left rows.old) (A.left rows.new)
-        (A.draws rows.old) (A.draws rows.new) (A.name rows.old) (A.name rows.new) session.old.journal
-        session.new.journal }
-    ensures lent { A.words rows.new ≡ Some admin.new.words }
+    ensures leaves { Leaves 194 260 (A.seen rows.old).hand (A.seen rows.new).hand (A.seen rows.old).left
+        (A.seen rows.new).left (A.seen rows.old).draws (A.seen rows.new).draws (A.seen rows.old).name
+        (A.seen rows.new).name session.old.journal session.new.journal }
+    ensures lent { (A.seen rows.new).words ≡ Some admin.new.words }
 {
     act(session, rows, admin, what);
 }

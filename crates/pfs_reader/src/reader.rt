@@ -49,7 +49,7 @@ impl Reader {
     /// The next reading of the read set, by one call of the store: a row as it was found, or a switch word with its
     /// version and flags. None exactly where the readings so far are the whole read set; then the store isn't called.
     pub fn next<R: Rows>(&mut self, rows: &mut R) -> Option<Reading>
-        requires away { HoldsNone (R.hand rows.old) }
+        requires away { HoldsNone (R.seen rows.old).hand }
         ensures next { (scope : Scope) (table : Table) (readings : List Reading)
             → Reached self.old scope table readings
             → MatchOption result (IsReadSet scope table readings)
@@ -57,10 +57,10 @@ impl Reader {
         ensures reached { (scope : Scope) (table : Table) (readings : List Reading)
             → Reached self.old scope table readings
             → Reached self.new scope table (readings ++ option_to_list result) }
-        ensures call { Goes (R.reached rows.old) (R.reached rows.new) (map call_of (option_to_list result)) }
-        ensures kept { AreKept (R.left rows.old) (R.left rows.new) (R.draws rows.old) (R.draws rows.new)
-            (R.hand rows.old) (R.hand rows.new) (R.words rows.old) (R.words rows.new) (R.name rows.old)
-            (R.name rows.new) }
+        ensures call { Goes (R.seen rows.old).reached (R.seen rows.new).reached (map call_of (option_to_list result)) }
+        ensures kept { AreKept (R.seen rows.old).left (R.seen rows.new).left (R.seen rows.old).draws
+            (R.seen rows.new).draws (R.seen rows.old).hand (R.seen rows.new).hand (R.seen rows.old).words
+            (R.seen rows.new).words (R.seen rows.old).name (R.seen rows.new).name }
     {
         match self.set.target() {
             Some(target) => {
@@ -76,12 +76,12 @@ impl Reader {
 // Reads a row, or loads a word.
 fn read_target<R: Rows>(rows: &mut R, target: Target) -> Reading
     requires there { IsThere target }
-    requires away { HoldsNone (R.hand rows.old) }
+    requires away { HoldsNone (R.seen rows.old).hand }
     ensures target { target_of result ≡ target }
-    ensures call { Goes (R.reached rows.old) (R.reached rows.new) (call_of result ∷ []) }
-    ensures kept { AreKept (R.left rows.old) (R.left rows.new) (R.draws rows.old) (R.draws rows.new)
-        (R.hand rows.old) (R.hand rows.new) (R.words rows.old) (R.words rows.new) (R.name rows.old)
-        (R.name rows.new) }
+    ensures call { Goes (R.seen rows.old).reached (R.seen rows.new).reached (call_of result ∷ []) }
+    ensures kept { AreKept (R.seen rows.old).left (R.seen rows.new).left (R.seen rows.old).draws
+        (R.seen rows.new).draws (R.seen rows.old).hand (R.seen rows.new).hand (R.seen rows.old).words
+        (R.seen rows.new).words (R.seen rows.old).name (R.seen rows.new).name }
 {
     match target {
         Target::Row(row) => {
@@ -107,14 +107,15 @@ pub fn read_table<R: Rows>(
     table: Table,
     rows: &mut R,
 ) -> Result<ReadingList, NoMemory>
-    requires away { HoldsNone (R.hand rows.old) }
+    requires away { HoldsNone (R.seen rows.old).hand }
     ensures read { IfOk result (λ readings. IsReadSet (scope_of setting.now) table readings) }
-    ensures calls { IfOk result (λ readings. Goes (R.reached rows.old) (R.reached rows.new) (calls_of readings)) }
+    ensures calls { IfOk result (λ readings. Goes (R.seen rows.old).reached (R.seen rows.new).reached
+        (calls_of readings)) }
     ensures front { OnErr result ((readings : List Reading) × IsFront (scope_of setting.now) table readings
-        × Goes (R.reached rows.old) (R.reached rows.new) (calls_of readings)) }
-    ensures kept { AreKept (R.left rows.old) (R.left rows.new) (R.draws rows.old) (R.draws rows.new)
-        (R.hand rows.old) (R.hand rows.new) (R.words rows.old) (R.words rows.new) (R.name rows.old)
-        (R.name rows.new) }
+        × Goes (R.seen rows.old).reached (R.seen rows.new).reached (calls_of readings)) }
+    ensures kept { AreKept (R.seen rows.old).left (R.seen rows.new).left (R.seen rows.old).draws
+        (R.seen rows.new).draws (R.seen rows.old).hand (R.seen rows.new).hand (R.seen rows.old).words
+        (R.seen rows.new).words (R.seen rows.old).name (R.seen rows.new).name }
 {
     let mut reader = Reader::open(setting, table);
     let mut readings = Vec::new(alloc);

@@ -75,15 +75,15 @@ impl Put {
 #[inline(always)]
 pub fn put_event<R: Rows>(rows: &mut R, ring: Ring, event: &Event) -> Put
     requires ring { IsRing ring }
-    requires alone { (r : ℕ) → 0 < r → R.hand rows.old r ≡ None }
-    requires spare { 1 ≤ R.left rows.old }
-    requires tickets { tickets_for ring ≤ R.draws rows.old }
-    ensures offers { Offers ring event.now result (R.reached rows.old) (R.reached rows.new) }
-    ensures left { R.left rows.old ≤ R.left rows.new + 1 }
-    ensures draws { R.draws rows.old ≤ R.draws rows.new + tickets_for ring }
-    ensures hand { (r : ℕ) → R.hand rows.new r ≡ R.hand rows.old r }
-    ensures words { R.words rows.new ≡ R.words rows.old }
-    ensures name { R.name rows.new ≡ R.name rows.old }
+    requires alone { (r : ℕ) → 0 < r → (R.seen rows.old).hand r ≡ None }
+    requires spare { 1 ≤ (R.seen rows.old).left }
+    requires tickets { tickets_for ring ≤ (R.seen rows.old).draws }
+    ensures offers { Offers ring event.now result (R.seen rows.old).reached (R.seen rows.new).reached }
+    ensures left { (R.seen rows.old).left ≤ (R.seen rows.new).left + 1 }
+    ensures draws { (R.seen rows.old).draws ≤ (R.seen rows.new).draws + tickets_for ring }
+    ensures hand { (r : ℕ) → (R.seen rows.new).hand r ≡ (R.seen rows.old).hand r }
+    ensures words { (R.seen rows.new).words ≡ (R.seen rows.old).words }
+    ensures name { (R.seen rows.new).name ≡ (R.seen rows.old).name }
 {
     match ring {
         Ring::Current {
@@ -114,14 +114,14 @@ fn words_with(event: &Event, ticket: u64) -> Content
 fn offer<R: Rows>(rows: &mut R, row: u64, event: &Event) -> Put
     requires low { 8450 ≤ row }
     requires high { row < 10242 }
-    requires alone { (r : ℕ) → 0 < r → R.hand rows.old r ≡ None }
-    requires spare { 1 ≤ R.left rows.old }
-    ensures offered { IsOffered row None [] event.now result (R.reached rows.old) (R.reached rows.new) }
-    ensures left { R.left rows.old ≤ R.left rows.new + 1 }
-    ensures draws { R.draws rows.new ≡ R.draws rows.old }
-    ensures hand { (r : ℕ) → R.hand rows.new r ≡ R.hand rows.old r }
-    ensures words { R.words rows.new ≡ R.words rows.old }
-    ensures name { R.name rows.new ≡ R.name rows.old }
+    requires alone { (r : ℕ) → 0 < r → (R.seen rows.old).hand r ≡ None }
+    requires spare { 1 ≤ (R.seen rows.old).left }
+    ensures offered { IsOffered row None [] event.now result (R.seen rows.old).reached (R.seen rows.new).reached }
+    ensures left { (R.seen rows.old).left ≤ (R.seen rows.new).left + 1 }
+    ensures draws { (R.seen rows.new).draws ≡ (R.seen rows.old).draws }
+    ensures hand { (r : ℕ) → (R.seen rows.new).hand r ≡ (R.seen rows.old).hand r }
+    ensures words { (R.seen rows.new).words ≡ (R.seen rows.old).words }
+    ensures name { (R.seen rows.new).name ≡ (R.seen rows.old).name }
 {
     let content = words_with(event, 0);
     match rows.ring_try(row, &content) {
@@ -137,15 +137,16 @@ fn offer<R: Rows>(rows: &mut R, row: u64, event: &Event) -> Put
 
 // Offers an event to the place of the next ticket of its kind.
 fn offer_long<R: Rows>(rows: &mut R, kind: EventKind, event: &Event) -> Put
-    requires alone { (r : ℕ) → 0 < r → R.hand rows.old r ≡ None }
-    requires spare { 1 ≤ R.left rows.old }
-    requires tickets { 1 ≤ R.draws rows.old }
-    ensures offered { IsOfferedLong (ring_number kind) event.now result (R.reached rows.old) (R.reached rows.new) }
-    ensures left { R.left rows.old ≤ R.left rows.new + 1 }
-    ensures draws { R.draws rows.old ≤ R.draws rows.new + 1 }
-    ensures hand { (r : ℕ) → R.hand rows.new r ≡ R.hand rows.old r }
-    ensures words { R.words rows.new ≡ R.words rows.old }
-    ensures name { R.name rows.new ≡ R.name rows.old }
+    requires alone { (r : ℕ) → 0 < r → (R.seen rows.old).hand r ≡ None }
+    requires spare { 1 ≤ (R.seen rows.old).left }
+    requires tickets { 1 ≤ (R.seen rows.old).draws }
+    ensures offered { IsOfferedLong (ring_number kind) event.now result (R.seen rows.old).reached
+        (R.seen rows.new).reached }
+    ensures left { (R.seen rows.old).left ≤ (R.seen rows.new).left + 1 }
+    ensures draws { (R.seen rows.old).draws ≤ (R.seen rows.new).draws + 1 }
+    ensures hand { (r : ℕ) → (R.seen rows.new).hand r ≡ (R.seen rows.old).hand r }
+    ensures words { (R.seen rows.new).words ≡ (R.seen rows.old).words }
+    ensures name { (R.seen rows.new).name ≡ (R.seen rows.old).name }
 {
     let number = ring_number(kind);
     let ticket = rows.ticket(number);

@@ -50,22 +50,22 @@ fn run_phase(
     requires here { (before : List SaidPhase) × (after : List SaidPhase)
         × (phases.now ≡ before ++ phase.now ∷ after)
         × IsAlong setting.now phases.now before [] (numbered (1 + length before) (phase.now ∷ after))
-        (⟦<PlainRows as Rows>⟧.reached runner.old.rows) (⟦<PlainRows as Rows>⟧.hand runner.old.rows)
-        (⟦<PlainRows as Rows>⟧.left runner.old.rows) (⟦<PlainRows as Rows>⟧.draws runner.old.rows)
-        (⟦<PlainRows as Rows>⟧.words runner.old.rows) runner.old.admin
+        (⟦<PlainRows as Rows>⟧.seen runner.old.rows).reached (⟦<PlainRows as Rows>⟧.seen runner.old.rows).hand
+        (⟦<PlainRows as Rows>⟧.seen runner.old.rows).left (⟦<PlainRows as Rows>⟧.seen runner.old.rows).draws
+        (⟦<PlainRows as Rows>⟧.seen runner.old.rows).words runner.old.admin
         runner.old.seats.items runner.old.lost runner.old.phases.items runner.old.blocks.items }
     ensures { OnOk result ((before : List SaidPhase) → (after : List SaidPhase)
         → phases.now ≡ before ++ phase.now ∷ after
         → IsAlong setting.now phases.now before [] (numbered (1 + length before) (phase.now ∷ after))
-        (⟦<PlainRows as Rows>⟧.reached runner.old.rows) (⟦<PlainRows as Rows>⟧.hand runner.old.rows)
-        (⟦<PlainRows as Rows>⟧.left runner.old.rows) (⟦<PlainRows as Rows>⟧.draws runner.old.rows)
-        (⟦<PlainRows as Rows>⟧.words runner.old.rows) runner.old.admin
+        (⟦<PlainRows as Rows>⟧.seen runner.old.rows).reached (⟦<PlainRows as Rows>⟧.seen runner.old.rows).hand
+        (⟦<PlainRows as Rows>⟧.seen runner.old.rows).left (⟦<PlainRows as Rows>⟧.seen runner.old.rows).draws
+        (⟦<PlainRows as Rows>⟧.seen runner.old.rows).words runner.old.admin
         runner.old.seats.items runner.old.lost runner.old.phases.items runner.old.blocks.items
         → IsAlong setting.now phases.now (before ++ phase.now ∷ []) []
         (numbered (1 + length (before ++ phase.now ∷ [])) after)
-        (⟦<PlainRows as Rows>⟧.reached runner.new.rows) (⟦<PlainRows as Rows>⟧.hand runner.new.rows)
-        (⟦<PlainRows as Rows>⟧.left runner.new.rows) (⟦<PlainRows as Rows>⟧.draws runner.new.rows)
-        (⟦<PlainRows as Rows>⟧.words runner.new.rows) runner.new.admin
+        (⟦<PlainRows as Rows>⟧.seen runner.new.rows).reached (⟦<PlainRows as Rows>⟧.seen runner.new.rows).hand
+        (⟦<PlainRows as Rows>⟧.seen runner.new.rows).left (⟦<PlainRows as Rows>⟧.seen runner.new.rows).draws
+        (⟦<PlainRows as Rows>⟧.seen runner.new.rows).words runner.new.admin
         runner.new.seats.items runner.new.lost runner.new.phases.items runner.new.blocks.items) }
 {
     pfs_law_report::report_values::names();

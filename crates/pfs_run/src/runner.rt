@@ -47,10 +47,10 @@ pub struct Runner {
 impl Runner {
     /// Nothing done yet: the store and the administration as the setting opens them.
     pub fn open(alloc: Global, setting: &Setting) -> Result<Runner, NoMemory>
-        ensures { IfOk result (λ runner. (phases : List SaidPhase) → IsAlong setting.now phases [] [] (numbered 1 phases)
-            (⟦<PlainRows as Rows>⟧.reached runner.rows) (⟦<PlainRows as Rows>⟧.hand runner.rows)
-            (⟦<PlainRows as Rows>⟧.left runner.rows) (⟦<PlainRows as Rows>⟧.draws runner.rows)
-            (⟦<PlainRows as Rows>⟧.words runner.rows) runner.admin
+        ensures { IfOk result (λ runner. (phases : List SaidPhase) → IsAlong setting.now phases [] []
+            (numbered 1 phases) (⟦<PlainRows as Rows>⟧.seen runner.rows).reached
+            (⟦<PlainRows as Rows>⟧.seen runner.rows).hand (⟦<PlainRows as Rows>⟧.seen runner.rows).left
+            (⟦<PlainRows as Rows>⟧.seen runner.rows).draws (⟦<PlainRows as Rows>⟧.seen runner.rows).words runner.admin
             runner.seats.items runner.lost runner.phases.items runner.blocks.items) }
     {
         pfs_law_script::runs::no_course();
@@ -79,22 +79,22 @@ impl Runner {
             × (after : List SaidPhase)
             × (phases.now ≡ before ++ record { blocks = first ++ block.now ∷ others } ∷ after)
             × IsAlong setting.now phases.now before first (block_at before block.now ∷ ahead_of before others after)
-            (⟦<PlainRows as Rows>⟧.reached self.old.rows) (⟦<PlainRows as Rows>⟧.hand self.old.rows)
-            (⟦<PlainRows as Rows>⟧.left self.old.rows) (⟦<PlainRows as Rows>⟧.draws self.old.rows)
-            (⟦<PlainRows as Rows>⟧.words self.old.rows) self.old.admin
+            (⟦<PlainRows as Rows>⟧.seen self.old.rows).reached (⟦<PlainRows as Rows>⟧.seen self.old.rows).hand
+            (⟦<PlainRows as Rows>⟧.seen self.old.rows).left (⟦<PlainRows as Rows>⟧.seen self.old.rows).draws
+            (⟦<PlainRows as Rows>⟧.seen self.old.rows).words self.old.admin
             self.old.seats.items self.old.lost self.old.phases.items self.old.blocks.items }
         ensures { OnOk result ((before : List SaidPhase) → (first : List Said) → (others : List Said)
             → (after : List SaidPhase)
             → phases.now ≡ before ++ record { blocks = first ++ block.now ∷ others } ∷ after
             → IsAlong setting.now phases.now before first (block_at before block.now ∷ ahead_of before others after)
-            (⟦<PlainRows as Rows>⟧.reached self.old.rows) (⟦<PlainRows as Rows>⟧.hand self.old.rows)
-            (⟦<PlainRows as Rows>⟧.left self.old.rows) (⟦<PlainRows as Rows>⟧.draws self.old.rows)
-            (⟦<PlainRows as Rows>⟧.words self.old.rows) self.old.admin
+            (⟦<PlainRows as Rows>⟧.seen self.old.rows).reached (⟦<PlainRows as Rows>⟧.seen self.old.rows).hand
+            (⟦<PlainRows as Rows>⟧.seen self.old.rows).left (⟦<PlainRows as Rows>⟧.seen self.old.rows).draws
+            (⟦<PlainRows as Rows>⟧.seen self.old.rows).words self.old.admin
             self.old.seats.items self.old.lost self.old.phases.items self.old.blocks.items
             → IsAlong setting.now phases.now before (first ++ block.now ∷ []) (ahead_of before others after)
-            (⟦<PlainRows as Rows>⟧.reached self.new.rows) (⟦<PlainRows as Rows>⟧.hand self.new.rows)
-            (⟦<PlainRows as Rows>⟧.left self.new.rows) (⟦<PlainRows as Rows>⟧.draws self.new.rows)
-            (⟦<PlainRows as Rows>⟧.words self.new.rows) self.new.admin
+            (⟦<PlainRows as Rows>⟧.seen self.new.rows).reached (⟦<PlainRows as Rows>⟧.seen self.new.rows).hand
+            (⟦<PlainRows as Rows>⟧.seen self.new.rows).left (⟦<PlainRows as Rows>⟧.seen self.new.rows).draws
+            (⟦<PlainRows as Rows>⟧.seen self.new.rows).words self.new.admin
             self.new.seats.items self.new.lost self.new.phases.items self.new.blocks.items) }
     {
         pfs_law_script::blocks::playable();
@@ -134,21 +134,21 @@ impl Runner {
         requires here { (text : List ℕ) × (phases : List SaidPhase) × (before : List SaidPhase) × (first : List Said)
             × (after : List SaidPhase) × IsScript text setting.now phases
             × IsAlong setting.now phases before first (ahead_of before [] after)
-            (⟦<PlainRows as Rows>⟧.reached self.old.rows) (⟦<PlainRows as Rows>⟧.hand self.old.rows)
-            (⟦<PlainRows as Rows>⟧.left self.old.rows) (⟦<PlainRows as Rows>⟧.draws self.old.rows)
-            (⟦<PlainRows as Rows>⟧.words self.old.rows) self.old.admin
+            (⟦<PlainRows as Rows>⟧.seen self.old.rows).reached (⟦<PlainRows as Rows>⟧.seen self.old.rows).hand
+            (⟦<PlainRows as Rows>⟧.seen self.old.rows).left (⟦<PlainRows as Rows>⟧.seen self.old.rows).draws
+            (⟦<PlainRows as Rows>⟧.seen self.old.rows).words self.old.admin
             self.old.seats.items self.old.lost self.old.phases.items self.old.blocks.items }
         ensures { OnOk result ((phases : List SaidPhase) → (before : List SaidPhase) → (first : List Said)
             → (after : List SaidPhase) → IsAlong setting.now phases before first (ahead_of before [] after)
-            (⟦<PlainRows as Rows>⟧.reached self.old.rows) (⟦<PlainRows as Rows>⟧.hand self.old.rows)
-            (⟦<PlainRows as Rows>⟧.left self.old.rows) (⟦<PlainRows as Rows>⟧.draws self.old.rows)
-            (⟦<PlainRows as Rows>⟧.words self.old.rows) self.old.admin
+            (⟦<PlainRows as Rows>⟧.seen self.old.rows).reached (⟦<PlainRows as Rows>⟧.seen self.old.rows).hand
+            (⟦<PlainRows as Rows>⟧.seen self.old.rows).left (⟦<PlainRows as Rows>⟧.seen self.old.rows).draws
+            (⟦<PlainRows as Rows>⟧.seen self.old.rows).words self.old.admin
             self.old.seats.items self.old.lost self.old.phases.items self.old.blocks.items
             → IsAlong setting.now phases (before ++ record { blocks = first } ∷ []) []
             (numbered (1 + length (before ++ record { blocks = first } ∷ [])) after)
-            (⟦<PlainRows as Rows>⟧.reached self.new.rows) (⟦<PlainRows as Rows>⟧.hand self.new.rows)
-            (⟦<PlainRows as Rows>⟧.left self.new.rows) (⟦<PlainRows as Rows>⟧.draws self.new.rows)
-            (⟦<PlainRows as Rows>⟧.words self.new.rows) self.new.admin
+            (⟦<PlainRows as Rows>⟧.seen self.new.rows).reached (⟦<PlainRows as Rows>⟧.seen self.new.rows).hand
+            (⟦<PlainRows as Rows>⟧.seen self.new.rows).left (⟦<PlainRows as Rows>⟧.seen self.new.rows).draws
+            (⟦<PlainRows as Rows>⟧.seen self.new.rows).words self.new.admin
             self.new.seats.items self.new.lost self.new.phases.items self.new.blocks.items) }
     {
         pfs_law_report::report_values::tables();

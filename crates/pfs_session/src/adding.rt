@@ -48,16 +48,16 @@ pub(crate) fn bring<R: Rows>(
     requires slot { slot < 32 }
     requires cell { cell < 193 }
     requires wide { length held.old ≡ 193 }
-    requires alone { (r : ℕ) → 0 < r → R.hand rows.old r ≡ None }
-    requires spare { 1 ≤ R.left rows.old }
+    requires alone { (r : ℕ) → 0 < r → (R.seen rows.old).hand r ≡ None }
+    requires spare { 1 ≤ (R.seen rows.old).left }
     requires room { 1 ≤ log.old.room }
-    ensures brings { Brings slot cell amount held.old held.new result log.old log.new (R.reached rows.old)
-        (R.reached rows.new) }
-    ensures left { R.left rows.old ≤ R.left rows.new + 1 }
-    ensures draws { R.draws rows.new ≡ R.draws rows.old }
-    ensures hand { (r : ℕ) → R.hand rows.new r ≡ R.hand rows.old r }
-    ensures words { R.words rows.new ≡ R.words rows.old }
-    ensures name { R.name rows.new ≡ R.name rows.old }
+    ensures brings { Brings slot cell amount held.old held.new result log.old log.new (R.seen rows.old).reached
+        (R.seen rows.new).reached }
+    ensures left { (R.seen rows.old).left ≤ (R.seen rows.new).left + 1 }
+    ensures draws { (R.seen rows.new).draws ≡ (R.seen rows.old).draws }
+    ensures hand { (r : ℕ) → (R.seen rows.new).hand r ≡ (R.seen rows.old).hand r }
+    ensures words { (R.seen rows.new).words ≡ (R.seen rows.old).words }
+    ensures name { (R.seen rows.new).name ≡ (R.seen rows.old).name }
     ensures room { log.new.room ≡ log.old.room - 1 }
 {
     let amount = with_held(held[cell as usize], amount);

@@ -24,7 +24,7 @@ impl Session {
     /// was found: a row at a version, that it was free, the two words that made it busy, or a word's version. None
     /// exactly at the end of the read set; then the store isn't called.
     pub fn look<R: Rows>(&mut self, rows: &mut R, reader: &mut Reader) -> Option<Reading>
-        requires away { HoldsNone (R.hand rows.old) }
+        requires away { HoldsNone (R.seen rows.old).hand }
         requires room { 1 ≤ self.old.journal.room }
         ensures next { (scope : Scope) (table : Table) (readings : List Reading)
             → Reached reader.old scope table readings
@@ -33,12 +33,13 @@ impl Session {
         ensures reached { (scope : Scope) (table : Table) (readings : List Reading)
             → Reached reader.old scope table readings
             → Reached reader.new scope table (readings ++ option_to_list result) }
-        ensures played { Played (looks_at result) self.old self.new (R.reached rows.old) (R.reached rows.new) }
+        ensures played { Played (looks_at result) self.old self.new (R.seen rows.old).reached
+            (R.seen rows.new).reached }
         ensures state { self.new.state ≡ self.old.state }
-        ensures uses { Uses 0 0 1 (R.hand rows.old) (R.hand rows.new) (R.left rows.old) (R.left rows.new)
-            (R.draws rows.old) (R.draws rows.new) (R.name rows.old) (R.name rows.new) self.old.journal
-            self.new.journal }
-        ensures words { R.words rows.new ≡ R.words rows.old }
+        ensures uses { Uses 0 0 1 (R.seen rows.old).hand (R.seen rows.new).hand (R.seen rows.old).left
+            (R.seen rows.new).left (R.seen rows.old).draws (R.seen rows.new).draws (R.seen rows.old).name
+            (R.seen rows.new).name self.old.journal self.new.journal }
+        ensures words { (R.seen rows.new).words ≡ (R.seen rows.old).words }
     {
         match reader.next(rows) {
             Some(reading) => {

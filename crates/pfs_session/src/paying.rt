@@ -21,14 +21,15 @@ pub(crate) fn settle_all<H: Hold>(
 )
     requires slot { IfSome slot (λ n. n < 32) }
     requires wide { length held.now ≡ 193 }
-    requires alone { (r : ℕ) → 0 < r → H.hand rows.old r ≡ None }
-    requires spare { length (owed_in slot held.now) ≤ H.left rows.old }
+    requires alone { (r : ℕ) → 0 < r → (H.seen rows.old).hand r ≡ None }
+    requires spare { length (owed_in slot held.now) ≤ (H.seen rows.old).left }
     requires room { settle_cost (owed_in slot held.now) ≤ log.old.room }
-    ensures pays { PaysAll (owed_in slot held.now) log.old log.new (H.reached rows.old) (H.reached rows.new) }
-    ensures leaves { Leaves (length (owed_in slot held.now)) (settle_cost (owed_in slot held.now)) (H.hand rows.old)
-        (H.hand rows.new) (H.left rows.old) (H.left rows.new) (H.draws rows.old) (H.draws rows.new)
-        (H.name rows.old) (H.name rows.new) log.old log.new }
-    ensures words { H.words rows.new ≡ H.words rows.old }
+    ensures pays { PaysAll (owed_in slot held.now) log.old log.new (H.seen rows.old).reached
+        (H.seen rows.new).reached }
+    ensures leaves { Leaves (length (owed_in slot held.now)) (settle_cost (owed_in slot held.now))
+        (H.seen rows.old).hand (H.seen rows.new).hand (H.seen rows.old).left (H.seen rows.new).left
+        (H.seen rows.old).draws (H.seen rows.new).draws (H.seen rows.old).name (H.seen rows.new).name log.old log.new }
+    ensures words { (H.seen rows.new).words ≡ (H.seen rows.old).words }
 {
     let Some(slot) = slot else {
         return;
@@ -44,13 +45,14 @@ pub(crate) fn settle_all<H: Hold>(
 fn pay_all<H: Hold>(rows: &mut H, slot: u64, held: &[Option<Stat>], log: &mut Log)
     requires slot { slot < 32 }
     requires wide { length held.now ≡ 193 }
-    requires alone { (r : ℕ) → 0 < r → H.hand rows.old r ≡ None }
-    requires spare { length (owed_from slot 0 held.now) ≤ H.left rows.old }
+    requires alone { (r : ℕ) → 0 < r → (H.seen rows.old).hand r ≡ None }
+    requires spare { length (owed_from slot 0 held.now) ≤ (H.seen rows.old).left }
     requires room { length (owed_from slot 0 held.now) ≤ log.old.room }
-    ensures pays { Pays (owed_from slot 0 held.now) log.old log.new (H.reached rows.old) (H.reached rows.new) }
-    ensures stays { Stays (length (owed_from slot 0 held.now)) (H.hand rows.old) (H.hand rows.new) (H.left rows.old)
-        (H.left rows.new) (H.draws rows.old) (H.draws rows.new) (H.words rows.old) (H.words rows.new)
-        (H.name rows.old) (H.name rows.new) log.old log.new }
+    ensures pays { Pays (owed_from slot 0 held.now) log.old log.new (H.seen rows.old).reached
+        (H.seen rows.new).reached }
+    ensures stays { Stays (length (owed_from slot 0 held.now)) (H.seen rows.old).hand (H.seen rows.new).hand
+        (H.seen rows.old).left (H.seen rows.new).left (H.seen rows.old).draws (H.seen rows.new).draws
+        (H.seen rows.old).words (H.seen rows.new).words (H.seen rows.old).name (H.seen rows.new).name log.old log.new }
 {
     for (cell, amount) in held.iter().enumerate() {
         pay_some(rows, slot, cell as u64, amount, log);
@@ -61,13 +63,14 @@ fn pay_all<H: Hold>(rows: &mut H, slot: u64, held: &[Option<Stat>], log: &mut Lo
 fn pay_some<H: Hold>(rows: &mut H, slot: u64, cell: u64, held: &Option<Stat>, log: &mut Log)
     requires slot { slot < 32 }
     requires cell { cell < 193 }
-    requires alone { (r : ℕ) → 0 < r → H.hand rows.old r ≡ None }
-    requires spare { length (owed_of slot cell held.now) ≤ H.left rows.old }
+    requires alone { (r : ℕ) → 0 < r → (H.seen rows.old).hand r ≡ None }
+    requires spare { length (owed_of slot cell held.now) ≤ (H.seen rows.old).left }
     requires room { length (owed_of slot cell held.now) ≤ log.old.room }
-    ensures pays { Pays (owed_of slot cell held.now) log.old log.new (H.reached rows.old) (H.reached rows.new) }
-    ensures stays { Stays (length (owed_of slot cell held.now)) (H.hand rows.old) (H.hand rows.new) (H.left rows.old)
-        (H.left rows.new) (H.draws rows.old) (H.draws rows.new) (H.words rows.old) (H.words rows.new)
-        (H.name rows.old) (H.name rows.new) log.old log.new }
+    ensures pays { Pays (owed_of slot cell held.now) log.old log.new (H.seen rows.old).reached
+        (H.seen rows.new).reached }
+    ensures stays { Stays (length (owed_of slot cell held.now)) (H.seen rows.old).hand (H.seen rows.new).hand
+        (H.seen rows.old).left (H.seen rows.new).left (H.seen rows.old).draws (H.seen rows.new).draws
+        (H.seen rows.old).words (H.seen rows.new).words (H.seen rows.old).name (H.seen rows.new).name log.old log.new }
 {
     if let Some(amount) = held {
         pay(rows, held_row(slot, cell), amount, log);
@@ -76,13 +79,14 @@ fn pay_some<H: Hold>(rows: &mut H, slot: u64, cell: u64, held: &Option<Stat>, lo
 
 // Adds an amount to a row.
 fn pay<H: Hold>(rows: &mut H, row: u64, amount: &Stat, log: &mut Log)
-    requires away { IsAway (H.hand rows.old) row }
-    requires spare { 1 ≤ H.left rows.old }
+    requires away { IsAway (H.seen rows.old).hand row }
+    requires spare { 1 ≤ (H.seen rows.old).left }
     requires room { 1 ≤ log.old.room }
-    ensures pays { Pays (record { row = row; amount = amount.now } ∷ []) log.old log.new (H.reached rows.old)
-        (H.reached rows.new) }
-    ensures stays { Stays 1 (H.hand rows.old) (H.hand rows.new) (H.left rows.old) (H.left rows.new) (H.draws rows.old)
-        (H.draws rows.new) (H.words rows.old) (H.words rows.new) (H.name rows.old) (H.name rows.new) log.old log.new }
+    ensures pays { Pays (record { row = row; amount = amount.now } ∷ []) log.old log.new (H.seen rows.old).reached
+        (H.seen rows.new).reached }
+    ensures stays { Stays 1 (H.seen rows.old).hand (H.seen rows.new).hand (H.seen rows.old).left (H.seen rows.new).left
+        (H.seen rows.old).draws (H.seen rows.new).draws (H.seen rows.old).words (H.seen rows.new).words
+        (H.seen rows.old).name (H.seen rows.new).name log.old log.new }
 {
     let (_, found) = rows.take(row);
     let sum = Stat::of_words(&found).merge(*amount);

@@ -25,15 +25,17 @@ pub(crate) fn offer<R: Rows>(
     log: &mut Log,
 ) -> Option<Put>
     requires ring { due ≡ true → IsRing ring }
-    requires alone { (r : ℕ) → 0 < r → R.hand rows.old r ≡ None }
-    requires spare { 1 ≤ R.left rows.old }
-    requires tickets { tickets_for ring ≤ R.draws rows.old }
+    requires alone { (r : ℕ) → 0 < r → (R.seen rows.old).hand r ≡ None }
+    requires spare { 1 ≤ (R.seen rows.old).left }
+    requires tickets { tickets_for ring ≤ (R.seen rows.old).draws }
     requires room { 1 ≤ log.old.room }
-    ensures put { HasPut due ring event.now result log.old log.new (R.reached rows.old) (R.reached rows.new) }
+    ensures put { HasPut due ring event.now result log.old log.new (R.seen rows.old).reached
+        (R.seen rows.new).reached }
     ensures stands { IfSome result (λ put. IsPutOf ring put) }
-    ensures uses { Uses 1 (tickets_for ring) 1 (R.hand rows.old) (R.hand rows.new) (R.left rows.old) (R.left rows.new)
-        (R.draws rows.old) (R.draws rows.new) (R.name rows.old) (R.name rows.new) log.old log.new }
-    ensures words { R.words rows.new ≡ R.words rows.old }
+    ensures uses { Uses 1 (tickets_for ring) 1 (R.seen rows.old).hand (R.seen rows.new).hand (R.seen rows.old).left
+        (R.seen rows.new).left (R.seen rows.old).draws (R.seen rows.new).draws (R.seen rows.old).name
+        (R.seen rows.new).name log.old log.new }
+    ensures words { (R.seen rows.new).words ≡ (R.seen rows.old).words }
 {
     if !due {
         return None;

@@ -182,11 +182,11 @@ impl Session {
         requires table { IfSome what.now.table (λ n. n < 64) }
         requires digest { IfSome what.now.digest (λ n. n < 64) }
         requires early { self.old.state.drawn + 1 < 2 ^ 64 }
-        requires alone { (r : ℕ) → 0 < r → R.hand rows.old r ≡ None }
-        requires spare { 1 ≤ R.left rows.old }
+        requires alone { (r : ℕ) → 0 < r → (R.seen rows.old).hand r ≡ None }
+        requires spare { 1 ≤ (R.seen rows.old).left }
         requires room { 2 ≤ self.old.journal.room }
-        ensures played { Played (StartsEvent what.now ∷ []) self.old self.new (R.reached rows.old)
-            (R.reached rows.new) }
+        ensures played { Played (StartsEvent what.now ∷ []) self.old self.new (R.seen rows.old).reached
+            (R.seen rows.new).reached }
         ensures answer { SaysStart result self.old.journal.entries self.new.journal.entries }
         ensures opened { HasStarted what.now.kind self.old.state.opened self.new.state.opened }
         ensures drawn { self.new.state.drawn ≡ self.old.state.drawn + one_if (is_let_through result.verdict) }
@@ -194,10 +194,10 @@ impl Session {
           drawn = self.new.state.drawn;
           opened = self.new.state.opened;
         } }
-        ensures uses { Uses 1 0 2 (R.hand rows.old) (R.hand rows.new) (R.left rows.old) (R.left rows.new)
-            (R.draws rows.old) (R.draws rows.new) (R.name rows.old) (R.name rows.new) self.old.journal
-            self.new.journal }
-        ensures words { R.words rows.new ≡ R.words rows.old }
+        ensures uses { Uses 1 0 2 (R.seen rows.old).hand (R.seen rows.new).hand (R.seen rows.old).left
+            (R.seen rows.new).left (R.seen rows.old).draws (R.seen rows.new).draws (R.seen rows.old).name
+            (R.seen rows.new).name self.old.journal self.new.journal }
+        ensures words { (R.seen rows.new).words ≡ (R.seen rows.old).words }
     {
         let seen = load(rows, self.place.thread, what);
         let verdict = judge(
@@ -248,16 +248,16 @@ impl Session {
     // Puts an event that starts to its current place, where it is offered there.
     fn place<R: Rows>(&mut self, rows: &mut R, what: &Open, depth: u64) -> Option<Put>
         requires deep { what.now.placed ≡ true → depth < depths what.now.kind }
-        requires alone { (r : ℕ) → 0 < r → R.hand rows.old r ≡ None }
-        requires spare { 1 ≤ R.left rows.old }
+        requires alone { (r : ℕ) → 0 < r → (R.seen rows.old).hand r ≡ None }
+        requires spare { 1 ≤ (R.seen rows.old).left }
         requires room { 1 ≤ self.old.journal.room }
         ensures put { HasPutIn self.old.state.place.thread what.now depth result self.old.journal self.new.journal
-            (R.reached rows.old) (R.reached rows.new) }
+            (R.seen rows.old).reached (R.seen rows.new).reached }
         ensures state { self.new.state ≡ self.old.state }
-        ensures uses { Uses 1 0 1 (R.hand rows.old) (R.hand rows.new) (R.left rows.old) (R.left rows.new)
-            (R.draws rows.old) (R.draws rows.new) (R.name rows.old) (R.name rows.new) self.old.journal
-            self.new.journal }
-        ensures words { R.words rows.new ≡ R.words rows.old }
+        ensures uses { Uses 1 0 1 (R.seen rows.old).hand (R.seen rows.new).hand (R.seen rows.old).left
+            (R.seen rows.new).left (R.seen rows.old).draws (R.seen rows.new).draws (R.seen rows.old).name
+            (R.seen rows.new).name self.old.journal self.new.journal }
+        ensures words { (R.seen rows.new).words ≡ (R.seen rows.old).words }
     {
         let Some(slot) = self.place.thread else {
             return None;
@@ -304,12 +304,12 @@ impl Session {
     /// and the puts. Answers what became of these, or the verdict of an event that isn't let through.
     pub fn end<R: Rows>(&mut self, rows: &mut R, numbers: &Numbers) -> End
         requires open { 0 < length self.old.state.opened.events }
-        requires alone { (r : ℕ) → 0 < r → R.hand rows.old r ≡ None }
-        requires spare { 5 ≤ R.left rows.old }
-        requires tickets { 1 ≤ R.draws rows.old }
+        requires alone { (r : ℕ) → 0 < r → (R.seen rows.old).hand r ≡ None }
+        requires spare { 5 ≤ (R.seen rows.old).left }
+        requires tickets { 1 ≤ (R.seen rows.old).draws }
         requires room { 6 ≤ self.old.journal.room }
-        ensures played { Played (EndsEvent numbers.now ∷ []) self.old self.new (R.reached rows.old)
-            (R.reached rows.new) }
+        ensures played { Played (EndsEvent numbers.now ∷ []) self.old self.new (R.seen rows.old).reached
+            (R.seen rows.new).reached }
         ensures answer { SaysEnd result self.old.journal.entries self.new.journal.entries }
         ensures verdict { EndsAs self.old.state.opened.events result }
         ensures rest { self.new.state ≡ record self.old.state {
@@ -318,10 +318,10 @@ impl Session {
           nexts = self.new.state.nexts;
         } }
         ensures owed { length (owed_by_state self.new.state) ≤ length (owed_by_state self.old.state) + 2 }
-        ensures uses { Uses 5 1 6 (R.hand rows.old) (R.hand rows.new) (R.left rows.old) (R.left rows.new)
-            (R.draws rows.old) (R.draws rows.new) (R.name rows.old) (R.name rows.new) self.old.journal
-            self.new.journal }
-        ensures words { R.words rows.new ≡ R.words rows.old }
+        ensures uses { Uses 5 1 6 (R.seen rows.old).hand (R.seen rows.new).hand (R.seen rows.old).left
+            (R.seen rows.new).left (R.seen rows.old).draws (R.seen rows.new).draws (R.seen rows.old).name
+            (R.seen rows.new).name self.old.journal self.new.journal }
+        ensures words { (R.seen rows.new).words ≡ (R.seen rows.old).words }
     {
         let what = self.close();
         if what.verdict.is_let_through() {
@@ -362,21 +362,21 @@ impl Session {
         requires there { IsSome self.old.state.place.thread }
         requires deep { what.now.placed ≡ true
             → depth_of what.now.kind self.old.state.opened.events < depths what.now.kind }
-        requires alone { (r : ℕ) → 0 < r → R.hand rows.old r ≡ None }
-        requires spare { 5 ≤ R.left rows.old }
-        requires tickets { 1 ≤ R.draws rows.old }
+        requires alone { (r : ℕ) → 0 < r → (R.seen rows.old).hand r ≡ None }
+        requires spare { 5 ≤ (R.seen rows.old).left }
+        requires tickets { 1 ≤ (R.seen rows.old).draws }
         requires room { 6 ≤ self.old.journal.room }
-        ensures finished { Finished self.old self.new what.now numbers.now result (R.reached rows.old)
-            (R.reached rows.new) }
+        ensures finished { Finished self.old self.new what.now numbers.now result (R.seen rows.old).reached
+            (R.seen rows.new).reached }
         ensures rest { self.new.state ≡ record self.old.state {
           held = self.new.state.held;
           nexts = self.new.state.nexts;
         } }
         ensures owed { length (owed_by_state self.new.state) ≤ length (owed_by_state self.old.state) + 2 }
-        ensures uses { Uses 5 1 6 (R.hand rows.old) (R.hand rows.new) (R.left rows.old) (R.left rows.new)
-            (R.draws rows.old) (R.draws rows.new) (R.name rows.old) (R.name rows.new) self.old.journal
-            self.new.journal }
-        ensures words { R.words rows.new ≡ R.words rows.old }
+        ensures uses { Uses 5 1 6 (R.seen rows.old).hand (R.seen rows.new).hand (R.seen rows.old).left
+            (R.seen rows.new).left (R.seen rows.old).draws (R.seen rows.new).draws (R.seen rows.old).name
+            (R.seen rows.new).name self.old.journal self.new.journal }
+        ensures words { (R.seen rows.new).words ≡ (R.seen rows.old).words }
     {
         let counting = self.count(rows, what, numbers);
         let digest = self.digest(rows, what, numbers);
@@ -393,17 +393,17 @@ impl Session {
     // Writes the end of an event, and adds it to the row of its cell.
     fn count<R: Rows>(&mut self, rows: &mut R, what: &Open, numbers: &Numbers) -> Counting
         requires there { IsSome self.old.state.place.thread }
-        requires alone { (r : ℕ) → 0 < r → R.hand rows.old r ≡ None }
-        requires spare { 1 ≤ R.left rows.old }
+        requires alone { (r : ℕ) → 0 < r → (R.seen rows.old).hand r ≡ None }
+        requires spare { 1 ≤ (R.seen rows.old).left }
         requires room { 2 ≤ self.old.journal.room }
         ensures counted { HasCounted self.old self.new what.now numbers.now result.summary result.consumers
-            result.thread (R.reached rows.old) (R.reached rows.new) }
+            result.thread (R.seen rows.old).reached (R.seen rows.new).reached }
         ensures rest { self.new.state ≡ record self.old.state { held = self.new.state.held } }
         ensures owed { length (owed_by_state self.new.state) ≤ length (owed_by_state self.old.state) + 1 }
-        ensures leaves { Leaves 1 2 (R.hand rows.old) (R.hand rows.new) (R.left rows.old) (R.left rows.new)
-            (R.draws rows.old) (R.draws rows.new) (R.name rows.old) (R.name rows.new) self.old.journal
-            self.new.journal }
-        ensures words { R.words rows.new ≡ R.words rows.old }
+        ensures leaves { Leaves 1 2 (R.seen rows.old).hand (R.seen rows.new).hand (R.seen rows.old).left
+            (R.seen rows.new).left (R.seen rows.old).draws (R.seen rows.new).draws (R.seen rows.old).name
+            (R.seen rows.new).name self.old.journal self.new.journal }
+        ensures words { (R.seen rows.new).words ≡ (R.seen rows.old).words }
     {
         let slot = match self.place.thread {
             Some(slot) => slot,
@@ -436,17 +436,17 @@ impl Session {
     // Adds an ended event to the row of its digest, where it is a digested statement.
     fn digest<R: Rows>(&mut self, rows: &mut R, what: &Open, numbers: &Numbers) -> Option<Added>
         requires there { IsSome self.old.state.place.thread }
-        requires alone { (r : ℕ) → 0 < r → R.hand rows.old r ≡ None }
-        requires spare { 1 ≤ R.left rows.old }
+        requires alone { (r : ℕ) → 0 < r → (R.seen rows.old).hand r ≡ None }
+        requires spare { 1 ≤ (R.seen rows.old).left }
         requires room { 1 ≤ self.old.journal.room }
-        ensures digested { HasDigested self.old self.new what.now numbers.now result (R.reached rows.old)
-            (R.reached rows.new) }
+        ensures digested { HasDigested self.old self.new what.now numbers.now result (R.seen rows.old).reached
+            (R.seen rows.new).reached }
         ensures rest { self.new.state ≡ record self.old.state { held = self.new.state.held } }
         ensures owed { length (owed_by_state self.new.state) ≤ length (owed_by_state self.old.state) + 1 }
-        ensures leaves { Leaves 1 1 (R.hand rows.old) (R.hand rows.new) (R.left rows.old) (R.left rows.new)
-            (R.draws rows.old) (R.draws rows.new) (R.name rows.old) (R.name rows.new) self.old.journal
-            self.new.journal }
-        ensures words { R.words rows.new ≡ R.words rows.old }
+        ensures leaves { Leaves 1 1 (R.seen rows.old).hand (R.seen rows.new).hand (R.seen rows.old).left
+            (R.seen rows.new).left (R.seen rows.old).draws (R.seen rows.new).draws (R.seen rows.old).name
+            (R.seen rows.new).name self.old.journal self.new.journal }
+        ensures words { (R.seen rows.new).words ≡ (R.seen rows.old).words }
     {
         let slot = match self.place.thread {
             Some(slot) => slot,
@@ -479,18 +479,18 @@ impl Session {
         requires there { IsSome self.old.state.place.thread }
         requires deep { what.now.placed ≡ true
             → depth_of what.now.kind self.old.state.opened.events < depths what.now.kind }
-        requires alone { (r : ℕ) → 0 < r → R.hand rows.old r ≡ None }
-        requires spare { 3 ≤ R.left rows.old }
-        requires tickets { 1 ≤ R.draws rows.old }
+        requires alone { (r : ℕ) → 0 < r → (R.seen rows.old).hand r ≡ None }
+        requires spare { 3 ≤ (R.seen rows.old).left }
+        requires tickets { 1 ≤ (R.seen rows.old).draws }
         requires room { 3 ≤ self.old.journal.room }
         ensures puts { HasPuts self.old self.new what.now numbers.now consumers thread result.current result.history
-            result.long (R.reached rows.old) (R.reached rows.new) }
+            result.long (R.seen rows.old).reached (R.seen rows.new).reached }
         ensures stand { StandInRings result.current result.history result.long }
         ensures rest { self.new.state ≡ record self.old.state { nexts = self.new.state.nexts } }
-        ensures uses { Uses 3 1 3 (R.hand rows.old) (R.hand rows.new) (R.left rows.old) (R.left rows.new)
-            (R.draws rows.old) (R.draws rows.new) (R.name rows.old) (R.name rows.new) self.old.journal
-            self.new.journal }
-        ensures words { R.words rows.new ≡ R.words rows.old }
+        ensures uses { Uses 3 1 3 (R.seen rows.old).hand (R.seen rows.new).hand (R.seen rows.old).left
+            (R.seen rows.new).left (R.seen rows.old).draws (R.seen rows.new).draws (R.seen rows.old).name
+            (R.seen rows.new).name self.old.journal self.new.journal }
+        ensures words { (R.seen rows.new).words ≡ (R.seen rows.old).words }
     {
         if !what.placed {
             return Puts {
@@ -539,12 +539,12 @@ impl Session {
           events = without_stage self.old.state.opened.events;
         }) what.now }
         requires early { IfSome what.now (λ subject. self.old.state.drawn + 1 < 2 ^ 64) }
-        requires alone { (r : ℕ) → 0 < r → R.hand rows.old r ≡ None }
-        requires spare { 6 ≤ R.left rows.old }
-        requires tickets { 1 ≤ R.draws rows.old }
+        requires alone { (r : ℕ) → 0 < r → (R.seen rows.old).hand r ≡ None }
+        requires spare { 6 ≤ (R.seen rows.old).left }
+        requires tickets { 1 ≤ (R.seen rows.old).draws }
         requires room { 8 ≤ self.old.journal.room }
         ensures played { Played (stage_steps self.old.state.opened.events what.now) self.old self.new
-            (R.reached rows.old) (R.reached rows.new) }
+            (R.seen rows.old).reached (R.seen rows.new).reached }
         ensures answer { SaysStage self.old.state.opened.events what.now result.0 result.1
             self.old.journal.entries self.new.journal.entries }
         ensures verdict { IfSome result.0 (EndsAs self.old.state.opened.events) }
@@ -557,10 +557,10 @@ impl Session {
           nexts = self.new.state.nexts;
         } }
         ensures owed { length (owed_by_state self.new.state) ≤ length (owed_by_state self.old.state) + 2 }
-        ensures uses { Uses 6 1 8 (R.hand rows.old) (R.hand rows.new) (R.left rows.old) (R.left rows.new)
-            (R.draws rows.old) (R.draws rows.new) (R.name rows.old) (R.name rows.new) self.old.journal
-            self.new.journal }
-        ensures words { R.words rows.new ≡ R.words rows.old }
+        ensures uses { Uses 6 1 8 (R.seen rows.old).hand (R.seen rows.new).hand (R.seen rows.old).left
+            (R.seen rows.new).left (R.seen rows.old).draws (R.seen rows.new).draws (R.seen rows.old).name
+            (R.seen rows.new).name self.old.journal self.new.journal }
+        ensures words { (R.seen rows.new).words ≡ (R.seen rows.old).words }
     {
         let ended = self.end_stage(rows);
         match what {
@@ -574,12 +574,12 @@ impl Session {
 
     // Ends the open stage, where the innermost open event is one.
     fn end_stage<R: Rows>(&mut self, rows: &mut R) -> Option<End>
-        requires alone { (r : ℕ) → 0 < r → R.hand rows.old r ≡ None }
-        requires spare { 5 ≤ R.left rows.old }
-        requires tickets { 1 ≤ R.draws rows.old }
+        requires alone { (r : ℕ) → 0 < r → (R.seen rows.old).hand r ≡ None }
+        requires spare { 5 ≤ (R.seen rows.old).left }
+        requires tickets { 1 ≤ (R.seen rows.old).draws }
         requires room { 6 ≤ self.old.journal.room }
-        ensures played { Played (stage_ends self.old.state.opened.events) self.old self.new (R.reached rows.old)
-            (R.reached rows.new) }
+        ensures played { Played (stage_ends self.old.state.opened.events) self.old self.new (R.seen rows.old).reached
+            (R.seen rows.new).reached }
         ensures answer { SaysStageEnd (is_in_stage self.old.state.opened.events) result self.old.journal.entries
             self.new.journal.entries }
         ensures verdict { IfSome result (EndsAs self.old.state.opened.events) }
@@ -589,10 +589,10 @@ impl Session {
           nexts = self.new.state.nexts;
         } }
         ensures owed { length (owed_by_state self.new.state) ≤ length (owed_by_state self.old.state) + 2 }
-        ensures uses { Uses 5 1 6 (R.hand rows.old) (R.hand rows.new) (R.left rows.old) (R.left rows.new)
-            (R.draws rows.old) (R.draws rows.new) (R.name rows.old) (R.name rows.new) self.old.journal
-            self.new.journal }
-        ensures words { R.words rows.new ≡ R.words rows.old }
+        ensures uses { Uses 5 1 6 (R.seen rows.old).hand (R.seen rows.new).hand (R.seen rows.old).left
+            (R.seen rows.new).left (R.seen rows.old).draws (R.seen rows.new).draws (R.seen rows.old).name
+            (R.seen rows.new).name self.old.journal self.new.journal }
+        ensures words { (R.seen rows.new).words ≡ (R.seen rows.old).words }
     {
         let is_open = match self.nest.innermost() {
             Some(what) => what.kind == EventKind::Stage,
@@ -620,12 +620,12 @@ impl Session {
         requires few { admin.old.actions < 2 ^ 47 }
         requires user { user < length admin.old.names }
         requires host { host < length admin.old.names }
-        requires alone { (r : ℕ) → 0 < r → H.hand rows.old r ≡ None }
-        requires lent { H.words rows.old ≡ Some admin.old.words }
-        requires spare { 4 ≤ H.left rows.old }
+        requires alone { (r : ℕ) → 0 < r → (H.seen rows.old).hand r ≡ None }
+        requires lent { (H.seen rows.old).words ≡ Some admin.old.words }
+        requires spare { 4 ≤ (H.seen rows.old).left }
         requires room { 6 ≤ self.old.journal.room }
-        ensures played { Played (Connects admin.old user host ∷ []) self.old self.new (H.reached rows.old)
-            (H.reached rows.new) }
+        ensures played { Played (Connects admin.old user host ∷ []) self.old self.new (H.seen rows.old).reached
+            (H.seen rows.new).reached }
         ensures admin { admin.new ≡ connected admin.old self.old.state.number user host }
         ensures placed { result ≡ placed_of (seat_at admin.old self.old.state.number user host) }
         ensures slot { IfSome result.thread (λ n. n < 32) }
@@ -636,10 +636,10 @@ impl Session {
         } }
         ensures owed { owed_by_state self.new.state ≡ [] }
         ensures held { self.new.state.held ≡ nothing_held }
-        ensures leaves { Leaves 4 6 (H.hand rows.old) (H.hand rows.new) (H.left rows.old) (H.left rows.new)
-            (H.draws rows.old) (H.draws rows.new) (H.name rows.old) (H.name rows.new) self.old.journal
-            self.new.journal }
-        ensures lent { H.words rows.new ≡ Some admin.new.words }
+        ensures leaves { Leaves 4 6 (H.seen rows.old).hand (H.seen rows.new).hand (H.seen rows.old).left
+            (H.seen rows.new).left (H.seen rows.old).draws (H.seen rows.new).draws (H.seen rows.old).name
+            (H.seen rows.new).name self.old.journal self.new.journal }
+        ensures lent { (H.seen rows.new).words ≡ Some admin.new.words }
     {
         let placed = admin.connect(rows, self.number, user, host, &mut self.log);
         self.place = placed;
@@ -657,12 +657,12 @@ impl Session {
         requires closed { self.old.state.opened.events ≡ [] }
         requires early { self.old.state.actions + 1 < 2 ^ 64 }
         requires few { admin.old.actions < 2 ^ 47 }
-        requires alone { (r : ℕ) → 0 < r → H.hand rows.old r ≡ None }
-        requires lent { H.words rows.old ≡ Some admin.old.words }
-        requires spare { length (owed_by_state self.old.state) + 252 ≤ H.left rows.old }
+        requires alone { (r : ℕ) → 0 < r → (H.seen rows.old).hand r ≡ None }
+        requires lent { (H.seen rows.old).words ≡ Some admin.old.words }
+        requires spare { length (owed_by_state self.old.state) + 252 ≤ (H.seen rows.old).left }
         requires room { settle_cost (owed_by_state self.old.state) + 254 ≤ self.old.journal.room }
-        ensures played { Played (SettlesHeld ∷ Quits admin.old ∷ []) self.old self.new (H.reached rows.old)
-            (H.reached rows.new) }
+        ensures played { Played (SettlesHeld ∷ Quits admin.old ∷ []) self.old self.new (H.seen rows.old).reached
+            (H.seen rows.new).reached }
         ensures admin { admin.new ≡ has_quit admin.old self.old.state.number }
         ensures rest { self.new.state ≡ record self.old.state {
           place = no_place;
@@ -670,11 +670,11 @@ impl Session {
           actions = self.old.state.actions + 1;
           last = self.new.state.last;
         } }
-        ensures leaves { Leaves (length (owed_by_state self.old.state) + 252)
-            (settle_cost (owed_by_state self.old.state) + 254) (H.hand rows.old) (H.hand rows.new) (H.left rows.old)
-            (H.left rows.new) (H.draws rows.old) (H.draws rows.new) (H.name rows.old) (H.name rows.new)
-            self.old.journal self.new.journal }
-        ensures lent { H.words rows.new ≡ Some admin.new.words }
+        ensures leaves { Leaves (length (owed_by_state self.old.state) + 252) (settle_cost
+            (owed_by_state self.old.state) + 254) (H.seen rows.old).hand (H.seen rows.new).hand (H.seen rows.old).left
+            (H.seen rows.new).left (H.seen rows.old).draws (H.seen rows.new).draws (H.seen rows.old).name
+            (H.seen rows.new).name self.old.journal self.new.journal }
+        ensures lent { (H.seen rows.new).words ≡ Some admin.new.words }
     {
         self.settle(rows);
         self.log.push(Entry::Act {
@@ -699,13 +699,14 @@ impl Session {
     pub fn truncate<H: Hold>(&mut self, rows: &mut H, admin: &mut Admin, what: Truncation) -> Reply
         requires early { self.old.state.actions + 1 < 2 ^ 64 }
         requires few { admin.old.actions < 2 ^ 47 }
-        requires alone { (r : ℕ) → 0 < r → H.hand rows.old r ≡ None }
-        requires lent { H.words rows.old ≡ Some admin.old.words }
-        requires spare { length (owed_by_state self.old.state) + truncation_cost admin.old what ≤ H.left rows.old }
+        requires alone { (r : ℕ) → 0 < r → (H.seen rows.old).hand r ≡ None }
+        requires lent { (H.seen rows.old).words ≡ Some admin.old.words }
+        requires spare { length (owed_by_state self.old.state) + truncation_cost admin.old what
+            ≤ (H.seen rows.old).left }
         requires room { settle_cost (owed_by_state self.old.state) + (truncation_cost admin.old what + 2)
             ≤ self.old.journal.room }
-        ensures played { Played (SettlesHeld ∷ Truncates admin.old what ∷ []) self.old self.new (H.reached rows.old)
-            (H.reached rows.new) }
+        ensures played { Played (SettlesHeld ∷ Truncates admin.old what ∷ []) self.old self.new
+            (H.seen rows.old).reached (H.seen rows.new).reached }
         ensures admin { admin.new ≡ has_truncated admin.old what }
         ensures rest { self.new.state ≡ record self.old.state {
           held = nothing_held;
@@ -714,10 +715,10 @@ impl Session {
         } }
         ensures reply { result ≡ Reply.Changed 0 }
         ensures leaves { Leaves (length (owed_by_state self.old.state) + truncation_cost admin.old what)
-            (settle_cost (owed_by_state self.old.state) + (truncation_cost admin.old what + 2)) (H.hand rows.old)
-            (H.hand rows.new) (H.left rows.old) (H.left rows.new) (H.draws rows.old) (H.draws rows.new)
-            (H.name rows.old) (H.name rows.new) self.old.journal self.new.journal }
-        ensures lent { H.words rows.new ≡ Some admin.new.words }
+            (settle_cost (owed_by_state self.old.state) + (truncation_cost admin.old what + 2)) (H.seen rows.old).hand
+            (H.seen rows.new).hand (H.seen rows.old).left (H.seen rows.new).left (H.seen rows.old).draws
+            (H.seen rows.new).draws (H.seen rows.old).name (H.seen rows.new).name self.old.journal self.new.journal }
+        ensures lent { (H.seen rows.new).words ≡ Some admin.new.words }
     {
         self.settle(rows);
         self.log.push(Entry::Act {
@@ -735,15 +736,17 @@ impl Session {
 
     /// Adds all that is held, each amount to its row, in the order of the rows, and holds nothing any more.
     pub(crate) fn settle<H: Hold>(&mut self, rows: &mut H)
-        requires alone { (r : ℕ) → 0 < r → H.hand rows.old r ≡ None }
-        requires spare { length (owed_by_state self.old.state) ≤ H.left rows.old }
+        requires alone { (r : ℕ) → 0 < r → (H.seen rows.old).hand r ≡ None }
+        requires spare { length (owed_by_state self.old.state) ≤ (H.seen rows.old).left }
         requires room { settle_cost (owed_by_state self.old.state) ≤ self.old.journal.room }
-        ensures played { Played (SettlesHeld ∷ []) self.old self.new (H.reached rows.old) (H.reached rows.new) }
+        ensures played { Played (SettlesHeld ∷ []) self.old self.new (H.seen rows.old).reached
+            (H.seen rows.new).reached }
         ensures state { self.new.state ≡ record self.old.state { held = nothing_held } }
         ensures leaves { Leaves (length (owed_by_state self.old.state)) (settle_cost (owed_by_state self.old.state))
-            (H.hand rows.old) (H.hand rows.new) (H.left rows.old) (H.left rows.new) (H.draws rows.old)
-            (H.draws rows.new) (H.name rows.old) (H.name rows.new) self.old.journal self.new.journal }
-        ensures words { H.words rows.new ≡ H.words rows.old }
+            (H.seen rows.old).hand (H.seen rows.new).hand (H.seen rows.old).left (H.seen rows.new).left
+            (H.seen rows.old).draws (H.seen rows.new).draws (H.seen rows.old).name (H.seen rows.new).name
+            self.old.journal self.new.journal }
+        ensures words { (H.seen rows.new).words ≡ (H.seen rows.old).words }
     {
         settle_all(rows, self.place.thread, self.held.as_slice(), &mut self.log);
         clear(self.held.as_mut_slice());
@@ -751,15 +754,16 @@ impl Session {
 
     /// Settles all that is held, at the end of the session's block in a phase.
     pub fn pause<H: Hold>(self, rows: &mut H) -> Paused
-        requires alone { (r : ℕ) → 0 < r → H.hand rows.old r ≡ None }
-        requires spare { length (owed_by_state self.state) ≤ H.left rows.old }
+        requires alone { (r : ℕ) → 0 < r → (H.seen rows.old).hand r ≡ None }
+        requires spare { length (owed_by_state self.state) ≤ (H.seen rows.old).left }
         requires room { settle_cost (owed_by_state self.state) ≤ self.journal.room }
-        ensures played { Played (SettlesHeld ∷ []) self result (H.reached rows.old) (H.reached rows.new) }
+        ensures played { Played (SettlesHeld ∷ []) self result (H.seen rows.old).reached (H.seen rows.new).reached }
         ensures state { result.state ≡ record self.state { held = nothing_held } }
         ensures leaves { Leaves (length (owed_by_state self.state)) (settle_cost (owed_by_state self.state))
-            (H.hand rows.old) (H.hand rows.new) (H.left rows.old) (H.left rows.new) (H.draws rows.old)
-            (H.draws rows.new) (H.name rows.old) (H.name rows.new) self.journal result.journal }
-        ensures words { H.words rows.new ≡ H.words rows.old }
+            (H.seen rows.old).hand (H.seen rows.new).hand (H.seen rows.old).left (H.seen rows.new).left
+            (H.seen rows.old).draws (H.seen rows.new).draws (H.seen rows.old).name (H.seen rows.new).name self.journal
+            result.journal }
+        ensures words { (H.seen rows.new).words ≡ (H.seen rows.old).words }
     {
         let mut session = self;
         session.settle(rows);

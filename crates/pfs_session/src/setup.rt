@@ -31,13 +31,13 @@ pub(crate) fn load<R: Rows>(rows: &mut R, slot: Option<u64>, subject: &Subject) 
     requires class { IfSome subject.now.class (λ n. n < 63) }
     requires table { IfSome subject.now.table (λ n. n < 64) }
     ensures loaded { IsLoaded slot subject.now.class subject.now.table result }
-    ensures goes { Goes (R.reached rows.old) (R.reached rows.new)
+    ensures goes { Goes (R.seen rows.old).reached (R.seen rows.new).reached
         (load_calls slot subject.now.class subject.now.table result) }
-    ensures left { R.left rows.new ≡ R.left rows.old }
-    ensures draws { R.draws rows.new ≡ R.draws rows.old }
-    ensures hand { (r : ℕ) → R.hand rows.new r ≡ R.hand rows.old r }
-    ensures words { R.words rows.new ≡ R.words rows.old }
-    ensures name { R.name rows.new ≡ R.name rows.old }
+    ensures left { (R.seen rows.new).left ≡ (R.seen rows.old).left }
+    ensures draws { (R.seen rows.new).draws ≡ (R.seen rows.old).draws }
+    ensures hand { (r : ℕ) → (R.seen rows.new).hand r ≡ (R.seen rows.old).hand r }
+    ensures words { (R.seen rows.new).words ≡ (R.seen rows.old).words }
+    ensures name { (R.seen rows.new).name ≡ (R.seen rows.old).name }
 {
     let Some(slot) = slot else {
         return None;
@@ -69,12 +69,12 @@ pub(crate) fn load<R: Rows>(rows: &mut R, slot: Option<u64>, subject: &Subject) 
 fn load_table<R: Rows>(rows: &mut R, table: Option<u64>) -> Option<Word>
     requires { IfSome table (λ n. n < 64) }
     ensures loaded { is_some result ≡ is_some table }
-    ensures goes { Goes (R.reached rows.old) (R.reached rows.new) (table_calls table result) }
-    ensures left { R.left rows.new ≡ R.left rows.old }
-    ensures draws { R.draws rows.new ≡ R.draws rows.old }
-    ensures hand { (r : ℕ) → R.hand rows.new r ≡ R.hand rows.old r }
-    ensures words { R.words rows.new ≡ R.words rows.old }
-    ensures name { R.name rows.new ≡ R.name rows.old }
+    ensures goes { Goes (R.seen rows.old).reached (R.seen rows.new).reached (table_calls table result) }
+    ensures left { (R.seen rows.new).left ≡ (R.seen rows.old).left }
+    ensures draws { (R.seen rows.new).draws ≡ (R.seen rows.old).draws }
+    ensures hand { (r : ℕ) → (R.seen rows.new).hand r ≡ (R.seen rows.old).hand r }
+    ensures words { (R.seen rows.new).words ≡ (R.seen rows.old).words }
+    ensures name { (R.seen rows.new).name ≡ (R.seen rows.old).name }
 {
     match table {
         Some(table) => Some(load_word(rows, 96 + table)),
@@ -85,12 +85,13 @@ fn load_table<R: Rows>(rows: &mut R, table: Option<u64>) -> Option<Word>
 /// Loads a switch word.
 pub(crate) fn load_word<R: Rows>(rows: &mut R, at: u64) -> Word
     requires { at < 160 }
-    ensures goes { Goes (R.reached rows.old) (R.reached rows.new) (Loads at result.version result.flags ∷ []) }
-    ensures left { R.left rows.new ≡ R.left rows.old }
-    ensures draws { R.draws rows.new ≡ R.draws rows.old }
-    ensures hand { (r : ℕ) → R.hand rows.new r ≡ R.hand rows.old r }
-    ensures words { R.words rows.new ≡ R.words rows.old }
-    ensures name { R.name rows.new ≡ R.name rows.old }
+    ensures goes { Goes (R.seen rows.old).reached (R.seen rows.new).reached (Loads at result.version result.flags
+        ∷ []) }
+    ensures left { (R.seen rows.new).left ≡ (R.seen rows.old).left }
+    ensures draws { (R.seen rows.new).draws ≡ (R.seen rows.old).draws }
+    ensures hand { (r : ℕ) → (R.seen rows.new).hand r ≡ (R.seen rows.old).hand r }
+    ensures words { (R.seen rows.new).words ≡ (R.seen rows.old).words }
+    ensures name { (R.seen rows.new).name ≡ (R.seen rows.old).name }
 {
     let (version, flags) = rows.load(at);
     Word { version, flags }

@@ -20,12 +20,12 @@ impl Session {
     pub fn act<H: Hold>(&mut self, rows: &mut H, admin: &mut Admin, what: SetupStatement) -> Reply
         requires early { self.old.state.actions + 1 < 2 ^ 64 }
         requires few { admin.old.actions < 2 ^ 47 }
-        requires alone { (r : ℕ) → 0 < r → H.hand rows.old r ≡ None }
-        requires lent { H.words rows.old ≡ Some admin.old.words }
-        requires spare { length (owed_by_state self.old.state) ≤ H.left rows.old }
+        requires alone { (r : ℕ) → 0 < r → (H.seen rows.old).hand r ≡ None }
+        requires lent { (H.seen rows.old).words ≡ Some admin.old.words }
+        requires spare { length (owed_by_state self.old.state) ≤ (H.seen rows.old).left }
         requires room { settle_cost (owed_by_state self.old.state) + (most_of what + 2) ≤ self.old.journal.room }
-        ensures played { Played (SettlesHeld ∷ Changes admin.old what ∷ []) self.old self.new (H.reached rows.old)
-            (H.reached rows.new) }
+        ensures played { Played (SettlesHeld ∷ Changes admin.old what ∷ []) self.old self.new (H.seen rows.old).reached
+            (H.seen rows.new).reached }
         ensures admin { admin.new ≡ has_changed admin.old what }
         ensures rest { self.new.state ≡ record self.old.state {
           held = nothing_held;
@@ -33,11 +33,11 @@ impl Session {
           last = self.new.state.last;
         } }
         ensures reply { result ≡ reply_to admin.old what }
-        ensures leaves { Leaves (length (owed_by_state self.old.state))
-            (settle_cost (owed_by_state self.old.state) + (most_of what + 2)) (H.hand rows.old) (H.hand rows.new)
-            (H.left rows.old) (H.left rows.new) (H.draws rows.old) (H.draws rows.new) (H.name rows.old)
-            (H.name rows.new) self.old.journal self.new.journal }
-        ensures lent { H.words rows.new ≡ Some admin.new.words }
+        ensures leaves { Leaves (length (owed_by_state self.old.state)) (settle_cost (owed_by_state self.old.state)
+            + (most_of what + 2)) (H.seen rows.old).hand (H.seen rows.new).hand (H.seen rows.old).left
+            (H.seen rows.new).left (H.seen rows.old).draws (H.seen rows.new).draws (H.seen rows.old).name
+            (H.seen rows.new).name self.old.journal self.new.journal }
+        ensures lent { (H.seen rows.new).words ≡ Some admin.new.words }
     {
         self.settle(rows);
         self.log.push(Entry::Act {
@@ -68,15 +68,16 @@ fn is_answered(what: &SetupStatement) -> bool
 // Does it. The log gets the words that it sets.
 fn state<H: Hold>(rows: &mut H, admin: &mut Admin, what: SetupStatement, log: &mut Log) -> Reply
     requires few { admin.old.actions < 2 ^ 47 }
-    requires lent { H.words rows.old ≡ Some admin.old.words }
+    requires lent { (H.seen rows.old).words ≡ Some admin.old.words }
     requires room { most_of what ≤ log.old.room }
     ensures step { admin.new ≡ has_changed admin.old what }
     ensures reply { result ≡ reply_to admin.old what }
-    ensures worked { Worked (work_of_statement admin.old what) admin.old.words [] log.old log.new (H.reached rows.old)
-        (H.reached rows.new) }
-    ensures lent { H.words rows.new ≡ Some admin.new.words }
-    ensures leaves { Leaves 0 (most_of what) (H.hand rows.old) (H.hand rows.new) (H.left rows.old) (H.left rows.new)
-        (H.draws rows.old) (H.draws rows.new) (H.name rows.old) (H.name rows.new) log.old log.new }
+    ensures worked { Worked (work_of_statement admin.old what) admin.old.words [] log.old log.new
+        (H.seen rows.old).reached (H.seen rows.new).reached }
+    ensures lent { (H.seen rows.new).words ≡ Some admin.new.words }
+    ensures leaves { Leaves 0 (most_of what) (H.seen rows.old).hand (H.seen rows.new).hand (H.seen rows.old).left
+        (H.seen rows.new).left (H.seen rows.old).draws (H.seen rows.new).draws (H.seen rows.old).name
+        (H.seen rows.new).name log.old log.new }
 {
     match what {
         SetupStatement::Update(update) => admin.update(rows, &update, log),

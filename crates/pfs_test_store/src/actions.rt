@@ -39,19 +39,19 @@ fn begin<'a, 'b, R: Wait>(
     rows: BoardRows<'b, Anything>,
     writer: Writer,
 ) -> BoardHold<'a, 'b, R, Anything>
-    requires begun { IsBegun (⟦<BoardRows<'b, Anything> as Rows>⟧.reached rows) writer.switches }
+    requires begun { IsBegun (⟦<BoardRows<'b, Anything> as Rows>⟧.seen rows).reached writer.switches }
     requires wide { 160 ≤ length writer.view.seen }
-    requires idle { IsIdle (⟦<BoardRows<'b, Anything> as Rows>⟧.hand rows) }
-    requires spare { 1 ≤ ⟦<BoardRows<'b, Anything> as Rows>⟧.left rows }
+    requires idle { IsIdle (⟦<BoardRows<'b, Anything> as Rows>⟧.seen rows).hand }
+    requires spare { 1 ≤ (⟦<BoardRows<'b, Anything> as Rows>⟧.seen rows).left }
     ensures begun { (start : Opening) × (calls : List Call)
-        × (⟦<BoardHold<'a, 'b, R, Anything> as Rows>⟧.reached result start calls) }
-    ensures inside { IsSome (⟦<BoardHold<'a, 'b, R, Anything> as Rows>⟧.hand result 0) }
-    ensures alone { (r : ℕ) → 0 < r → ⟦<BoardHold<'a, 'b, R, Anything> as Rows>⟧.hand result r ≡ None }
-    ensures lent { ⟦<BoardHold<'a, 'b, R, Anything> as Rows>⟧.words result ≡ Some (words_of writer.view) }
-    ensures left { ⟦<BoardRows<'b, Anything> as Rows>⟧.left rows.entry
-        ≤ ⟦<BoardHold<'a, 'b, R, Anything> as Rows>⟧.left result + 1 }
-    ensures draws { ⟦<BoardHold<'a, 'b, R, Anything> as Rows>⟧.draws result
-        ≡ ⟦<BoardRows<'b, Anything> as Rows>⟧.draws rows.entry }
+        × ((⟦<BoardHold<'a, 'b, R, Anything> as Rows>⟧.seen result).reached start calls) }
+    ensures inside { IsSome ((⟦<BoardHold<'a, 'b, R, Anything> as Rows>⟧.seen result).hand 0) }
+    ensures alone { (r : ℕ) → 0 < r → (⟦<BoardHold<'a, 'b, R, Anything> as Rows>⟧.seen result).hand r ≡ None }
+    ensures lent { (⟦<BoardHold<'a, 'b, R, Anything> as Rows>⟧.seen result).words ≡ Some (words_of writer.view) }
+    ensures left { (⟦<BoardRows<'b, Anything> as Rows>⟧.seen rows.entry).left
+        ≤ (⟦<BoardHold<'a, 'b, R, Anything> as Rows>⟧.seen result).left + 1 }
+    ensures draws { (⟦<BoardHold<'a, 'b, R, Anything> as Rows>⟧.seen result).draws
+        ≡ (⟦<BoardRows<'b, Anything> as Rows>⟧.seen rows.entry).draws }
 {
     let mut rows = rows;
     let label = Label {
@@ -67,18 +67,18 @@ fn finish<'a, 'b, R: Wait>(
     hold: BoardHold<'a, 'b, R, Anything>,
 ) -> (BoardRows<'b, Anything>, Writer)
     requires begun { (start : Opening) × (calls : List Call)
-        × (⟦<BoardHold<'a, 'b, R, Anything> as Rows>⟧.reached hold start calls) }
-    requires inside { IsSome (⟦<BoardHold<'a, 'b, R, Anything> as Rows>⟧.hand hold 0) }
-    requires alone { (r : ℕ) → 0 < r → ⟦<BoardHold<'a, 'b, R, Anything> as Rows>⟧.hand hold r ≡ None }
-    requires lent { IsSome (⟦<BoardHold<'a, 'b, R, Anything> as Rows>⟧.words hold) }
-    ensures begun { IsBegun (⟦<BoardRows<'b, Anything> as Rows>⟧.reached result.0) result.1.switches }
+        × ((⟦<BoardHold<'a, 'b, R, Anything> as Rows>⟧.seen hold).reached start calls) }
+    requires inside { IsSome ((⟦<BoardHold<'a, 'b, R, Anything> as Rows>⟧.seen hold).hand 0) }
+    requires alone { (r : ℕ) → 0 < r → (⟦<BoardHold<'a, 'b, R, Anything> as Rows>⟧.seen hold).hand r ≡ None }
+    requires lent { IsSome (⟦<BoardHold<'a, 'b, R, Anything> as Rows>⟧.seen hold).words }
+    ensures begun { IsBegun (⟦<BoardRows<'b, Anything> as Rows>⟧.seen result.0).reached result.1.switches }
     ensures wide { 160 ≤ length result.1.view.seen }
-    ensures idle { IsIdle (⟦<BoardRows<'b, Anything> as Rows>⟧.hand result.0) }
-    ensures lent { Some (words_of result.1.view) ≡ ⟦<BoardHold<'a, 'b, R, Anything> as Rows>⟧.words hold.entry }
-    ensures left { ⟦<BoardRows<'b, Anything> as Rows>⟧.left result.0
-        ≡ ⟦<BoardHold<'a, 'b, R, Anything> as Rows>⟧.left hold.entry }
-    ensures draws { ⟦<BoardRows<'b, Anything> as Rows>⟧.draws result.0
-        ≡ ⟦<BoardHold<'a, 'b, R, Anything> as Rows>⟧.draws hold.entry }
+    ensures idle { IsIdle (⟦<BoardRows<'b, Anything> as Rows>⟧.seen result.0).hand }
+    ensures lent { Some (words_of result.1.view) ≡ (⟦<BoardHold<'a, 'b, R, Anything> as Rows>⟧.seen hold.entry).words }
+    ensures left { (⟦<BoardRows<'b, Anything> as Rows>⟧.seen result.0).left
+        ≡ (⟦<BoardHold<'a, 'b, R, Anything> as Rows>⟧.seen hold.entry).left }
+    ensures draws { (⟦<BoardRows<'b, Anything> as Rows>⟧.seen result.0).draws
+        ≡ (⟦<BoardHold<'a, 'b, R, Anything> as Rows>⟧.seen hold.entry).draws }
 {
     let (mut rows, lent) = hold.into_parts();
     rows.leave(Anything {});
@@ -96,28 +96,28 @@ pub(crate) fn connect<'b, R: Wait>(
     session: &mut Session,
     admin: &mut Admin,
 ) -> (BoardRows<'b, Anything>, Writer)
-    requires begun { IsBegun (⟦<BoardRows<'b, Anything> as Rows>⟧.reached rows) writer.switches }
+    requires begun { IsBegun (⟦<BoardRows<'b, Anything> as Rows>⟧.seen rows).reached writer.switches }
     requires wide { 160 ≤ length writer.view.seen }
-    requires idle { IsIdle (⟦<BoardRows<'b, Anything> as Rows>⟧.hand rows) }
+    requires idle { IsIdle (⟦<BoardRows<'b, Anything> as Rows>⟧.seen rows).hand }
     requires lent { Some (words_of writer.view) ≡ Some admin.old.words }
     requires few { admin.old.actions ≡ 0 }
     requires names { 2 ≤ length admin.old.names }
     requires first { (session.old.state.actions ≡ 0) × (session.old.state.place ≡ no_place) }
     requires closed { session.old.state.opened ≡ record { depth = 1; events = [] } }
-    requires spare { 5 ≤ ⟦<BoardRows<'b, Anything> as Rows>⟧.left rows }
+    requires spare { 5 ≤ (⟦<BoardRows<'b, Anything> as Rows>⟧.seen rows).left }
     requires room { 6 ≤ session.old.journal.room }
-    ensures begun { IsBegun (⟦<BoardRows<'b, Anything> as Rows>⟧.reached result.0) result.1.switches }
+    ensures begun { IsBegun (⟦<BoardRows<'b, Anything> as Rows>⟧.seen result.0).reached result.1.switches }
     ensures wide { 160 ≤ length result.1.view.seen }
-    ensures idle { IsIdle (⟦<BoardRows<'b, Anything> as Rows>⟧.hand result.0) }
+    ensures idle { IsIdle (⟦<BoardRows<'b, Anything> as Rows>⟧.seen result.0).hand }
     ensures lent { Some (words_of result.1.view) ≡ Some admin.new.words }
     ensures actions { (admin.new.actions ≡ 1) × (session.new.state.actions ≡ 1) }
     ensures drawn { session.new.state.drawn ≡ session.old.state.drawn }
     ensures closed { session.new.state.opened ≡ record { depth = 1; events = [] } }
     ensures owed { length (owed_by_state session.new.state) ≡ 0 }
-    ensures left { ⟦<BoardRows<'b, Anything> as Rows>⟧.left rows.entry
-        ≤ ⟦<BoardRows<'b, Anything> as Rows>⟧.left result.0 + 5 }
-    ensures draws { ⟦<BoardRows<'b, Anything> as Rows>⟧.draws result.0
-        ≡ ⟦<BoardRows<'b, Anything> as Rows>⟧.draws rows.entry }
+    ensures left { (⟦<BoardRows<'b, Anything> as Rows>⟧.seen rows.entry).left
+        ≤ (⟦<BoardRows<'b, Anything> as Rows>⟧.seen result.0).left + 5 }
+    ensures draws { (⟦<BoardRows<'b, Anything> as Rows>⟧.seen result.0).draws
+        ≡ (⟦<BoardRows<'b, Anything> as Rows>⟧.seen rows.entry).draws }
     ensures room { session.old.journal.room ≤ session.new.journal.room + 6 }
 {
     let mut hold = begin(rt, rows, writer);
@@ -133,18 +133,18 @@ pub(crate) fn quit<'b, R: Wait>(
     session: &mut Session,
     admin: &mut Admin,
 ) -> (BoardRows<'b, Anything>, Writer)
-    requires begun { IsBegun (⟦<BoardRows<'b, Anything> as Rows>⟧.reached rows) writer.switches }
+    requires begun { IsBegun (⟦<BoardRows<'b, Anything> as Rows>⟧.seen rows).reached writer.switches }
     requires wide { 160 ≤ length writer.view.seen }
-    requires idle { IsIdle (⟦<BoardRows<'b, Anything> as Rows>⟧.hand rows) }
+    requires idle { IsIdle (⟦<BoardRows<'b, Anything> as Rows>⟧.seen rows).hand }
     requires lent { Some (words_of writer.view) ≡ Some admin.old.words }
     requires actions { (admin.old.actions ≡ 1) × (session.old.state.actions ≡ 1) }
     requires closed { session.old.state.opened ≡ record { depth = 1; events = [] } }
     requires owed { length (owed_by_state session.old.state) ≡ 0 }
-    requires spare { 253 ≤ ⟦<BoardRows<'b, Anything> as Rows>⟧.left rows }
+    requires spare { 253 ≤ (⟦<BoardRows<'b, Anything> as Rows>⟧.seen rows).left }
     requires room { 255 ≤ session.old.journal.room }
-    ensures begun { IsBegun (⟦<BoardRows<'b, Anything> as Rows>⟧.reached result.0) result.1.switches }
+    ensures begun { IsBegun (⟦<BoardRows<'b, Anything> as Rows>⟧.seen result.0).reached result.1.switches }
     ensures wide { 160 ≤ length result.1.view.seen }
-    ensures idle { IsIdle (⟦<BoardRows<'b, Anything> as Rows>⟧.hand result.0) }
+    ensures idle { IsIdle (⟦<BoardRows<'b, Anything> as Rows>⟧.seen result.0).hand }
     ensures lent { Some (words_of result.1.view) ≡ Some admin.new.words }
 {
     let mut hold = begin(rt, rows, writer);
@@ -161,18 +161,18 @@ pub(crate) fn truncate<'b, R: Wait>(
     admin: &mut Admin,
     what: Truncation,
 ) -> (BoardRows<'b, Anything>, Writer, Reply)
-    requires begun { IsBegun (⟦<BoardRows<'b, Anything> as Rows>⟧.reached rows) writer.switches }
+    requires begun { IsBegun (⟦<BoardRows<'b, Anything> as Rows>⟧.seen rows).reached writer.switches }
     requires wide { 160 ≤ length writer.view.seen }
-    requires idle { IsIdle (⟦<BoardRows<'b, Anything> as Rows>⟧.hand rows) }
+    requires idle { IsIdle (⟦<BoardRows<'b, Anything> as Rows>⟧.seen rows).hand }
     requires lent { Some (words_of writer.view) ≡ Some admin.old.words }
     requires actions { (admin.old.actions ≡ 1) × (session.old.state.actions ≡ 1) }
     requires owed { length (owed_by_state session.old.state) ≤ 2 }
     requires cost { truncation_cost admin.old what ≤ 200 }
-    requires spare { 203 ≤ ⟦<BoardRows<'b, Anything> as Rows>⟧.left rows }
+    requires spare { 203 ≤ (⟦<BoardRows<'b, Anything> as Rows>⟧.seen rows).left }
     requires room { 205 ≤ session.old.journal.room }
-    ensures begun { IsBegun (⟦<BoardRows<'b, Anything> as Rows>⟧.reached result.0) result.1.switches }
+    ensures begun { IsBegun (⟦<BoardRows<'b, Anything> as Rows>⟧.seen result.0).reached result.1.switches }
     ensures wide { 160 ≤ length result.1.view.seen }
-    ensures idle { IsIdle (⟦<BoardRows<'b, Anything> as Rows>⟧.hand result.0) }
+    ensures idle { IsIdle (⟦<BoardRows<'b, Anything> as Rows>⟧.seen result.0).hand }
     ensures lent { Some (words_of result.1.view) ≡ Some admin.new.words }
 {
     let mut hold = begin(rt, rows, writer);
@@ -195,20 +195,20 @@ pub(crate) fn wait<'b>(
     writer: &Writer,
     session: &mut Session,
 ) -> Option<Added>
-    requires begun { IsBegun (⟦<BoardRows<'b, Anything> as Rows>⟧.reached rows.old) writer.now.switches }
-    requires idle { IsIdle (⟦<BoardRows<'b, Anything> as Rows>⟧.hand rows.old) }
+    requires begun { IsBegun (⟦<BoardRows<'b, Anything> as Rows>⟧.seen rows.old).reached writer.now.switches }
+    requires idle { IsIdle (⟦<BoardRows<'b, Anything> as Rows>⟧.seen rows.old).hand }
     requires closed { session.old.state.opened ≡ record { depth = 1; events = [] } }
     requires early { session.old.state.drawn ≡ 0 }
     requires owed { length (owed_by_state session.old.state) ≡ 0 }
-    requires spare { 6 ≤ ⟦<BoardRows<'b, Anything> as Rows>⟧.left rows.old }
-    requires tickets { 1 ≤ ⟦<BoardRows<'b, Anything> as Rows>⟧.draws rows.old }
+    requires spare { 6 ≤ (⟦<BoardRows<'b, Anything> as Rows>⟧.seen rows.old).left }
+    requires tickets { 1 ≤ (⟦<BoardRows<'b, Anything> as Rows>⟧.seen rows.old).draws }
     requires room { 8 ≤ session.old.journal.room }
-    ensures begun { IsBegun (⟦<BoardRows<'b, Anything> as Rows>⟧.reached rows.new) writer.now.switches }
-    ensures idle { IsIdle (⟦<BoardRows<'b, Anything> as Rows>⟧.hand rows.new) }
+    ensures begun { IsBegun (⟦<BoardRows<'b, Anything> as Rows>⟧.seen rows.new).reached writer.now.switches }
+    ensures idle { IsIdle (⟦<BoardRows<'b, Anything> as Rows>⟧.seen rows.new).hand }
     ensures actions { session.new.state.actions ≡ session.old.state.actions }
     ensures owed { length (owed_by_state session.new.state) ≤ 2 }
-    ensures left { ⟦<BoardRows<'b, Anything> as Rows>⟧.left rows.old
-        ≤ ⟦<BoardRows<'b, Anything> as Rows>⟧.left rows.new + 6 }
+    ensures left { (⟦<BoardRows<'b, Anything> as Rows>⟧.seen rows.old).left
+        ≤ (⟦<BoardRows<'b, Anything> as Rows>⟧.seen rows.new).left + 6 }
     ensures room { session.old.journal.room ≤ session.new.journal.room + 8 }
 {
     let binlog = Subject {
@@ -230,11 +230,11 @@ pub(crate) fn pause<'b, R: Wait>(
     rows: BoardRows<'b, Anything>,
     session: Session,
 ) -> (BoardRows<'b, Anything>, Log)
-    requires idle { IsIdle (⟦<BoardRows<'b, Anything> as Rows>⟧.hand rows) }
+    requires idle { IsIdle (⟦<BoardRows<'b, Anything> as Rows>⟧.seen rows).hand }
     requires owed { length (owed_by_state session.state) ≤ 2 }
-    requires spare { 2 ≤ ⟦<BoardRows<'b, Anything> as Rows>⟧.left rows }
+    requires spare { 2 ≤ (⟦<BoardRows<'b, Anything> as Rows>⟧.seen rows).left }
     requires room { 3 ≤ session.journal.room }
-    ensures idle { IsIdle (⟦<BoardRows<'b, Anything> as Rows>⟧.hand result.0) }
+    ensures idle { IsIdle (⟦<BoardRows<'b, Anything> as Rows>⟧.seen result.0).hand }
 {
     let mut hold = BoardHold::new(rt, rows, None);
     let log = session.pause(&mut hold).take_log();
@@ -249,12 +249,12 @@ pub(crate) fn flags<'b>(
     word: u64,
 ) -> (u64, u16)
     requires known { word < 160 }
-    requires begun { IsBegun (⟦<BoardRows<'b, Anything> as Rows>⟧.reached rows.old) writer.now.switches }
-    requires idle { IsIdle (⟦<BoardRows<'b, Anything> as Rows>⟧.hand rows.old) }
-    ensures begun { IsBegun (⟦<BoardRows<'b, Anything> as Rows>⟧.reached rows.new) writer.now.switches }
-    ensures idle { IsIdle (⟦<BoardRows<'b, Anything> as Rows>⟧.hand rows.new) }
-    ensures left { ⟦<BoardRows<'b, Anything> as Rows>⟧.left rows.new
-        ≡ ⟦<BoardRows<'b, Anything> as Rows>⟧.left rows.old }
+    requires begun { IsBegun (⟦<BoardRows<'b, Anything> as Rows>⟧.seen rows.old).reached writer.now.switches }
+    requires idle { IsIdle (⟦<BoardRows<'b, Anything> as Rows>⟧.seen rows.old).hand }
+    ensures begun { IsBegun (⟦<BoardRows<'b, Anything> as Rows>⟧.seen rows.new).reached writer.now.switches }
+    ensures idle { IsIdle (⟦<BoardRows<'b, Anything> as Rows>⟧.seen rows.new).hand }
+    ensures left { (⟦<BoardRows<'b, Anything> as Rows>⟧.seen rows.new).left
+        ≡ (⟦<BoardRows<'b, Anything> as Rows>⟧.seen rows.old).left }
 {
     rows.load(word)
 }
@@ -262,8 +262,8 @@ pub(crate) fn flags<'b>(
 // What stands in a row.
 pub(crate) fn look<'b>(rows: &mut BoardRows<'b, Anything>, row: u64) -> Seen
     requires known { IsRow row }
-    requires idle { IsIdle (⟦<BoardRows<'b, Anything> as Rows>⟧.hand rows.old) }
-    ensures idle { IsIdle (⟦<BoardRows<'b, Anything> as Rows>⟧.hand rows.new) }
+    requires idle { IsIdle (⟦<BoardRows<'b, Anything> as Rows>⟧.seen rows.old).hand }
+    ensures idle { IsIdle (⟦<BoardRows<'b, Anything> as Rows>⟧.seen rows.new).hand }
 {
     rows.read(row)
 }

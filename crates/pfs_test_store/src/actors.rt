@@ -158,10 +158,10 @@ pub(crate) fn actor<'a>(
     ensures others { (reader.new.view.number ≡ 0) × (drawer.new.view.number ≡ 0)
         × (drawer.old.view.draws ≤ drawer.new.view.draws + 50) }
     ensures words { reader.new.view.start ≡ reader.old.view.start }
-    ensures begun { IsBegun (⟦<BoardRows<'a, Anything> as Rows>⟧.reached result) switches.now.id }
-    ensures idle { IsIdle (⟦<BoardRows<'a, Anything> as Rows>⟧.hand result) }
-    ensures left { ⟦<BoardRows<'a, Anything> as Rows>⟧.left result ≡ 300 }
-    ensures draws { ⟦<BoardRows<'a, Anything> as Rows>⟧.draws result ≡ 50 }
+    ensures begun { IsBegun (⟦<BoardRows<'a, Anything> as Rows>⟧.seen result).reached switches.now.id }
+    ensures idle { IsIdle (⟦<BoardRows<'a, Anything> as Rows>⟧.seen result).hand }
+    ensures left { (⟦<BoardRows<'a, Anything> as Rows>⟧.seen result).left ≡ 300 }
+    ensures draws { (⟦<BoardRows<'a, Anything> as Rows>⟧.seen result).draws ≡ 50 }
 {
     let seats = Seats {
         board: board.split(root, 300),

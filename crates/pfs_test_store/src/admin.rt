@@ -56,10 +56,10 @@ pub(crate) fn setting_with(alloc: Global, consumers: u16) -> Result<Setting, Fai
 
 // A store that opens with the setting's flags.
 pub(crate) fn store(alloc: Global, setting: &Setting) -> Result<PlainRows, NoMemory>
-    ensures words { IfOk result (λ rows. ⟦<PlainRows as Rows>⟧.words rows ≡ Some (opened setting.now).words) }
-    ensures left { IfOk result (λ rows. ⟦<PlainRows as Rows>⟧.left rows ≡ 2 ^ 47) }
-    ensures draws { IfOk result (λ rows. ⟦<PlainRows as Rows>⟧.draws rows ≡ 2 ^ 47) }
-    ensures hand { IfOk result (λ rows. (r : ℕ) → ⟦<PlainRows as Rows>⟧.hand rows r ≡ None) }
+    ensures words { IfOk result (λ rows. (⟦<PlainRows as Rows>⟧.seen rows).words ≡ Some (opened setting.now).words) }
+    ensures left { IfOk result (λ rows. (⟦<PlainRows as Rows>⟧.seen rows).left ≡ 2 ^ 47) }
+    ensures draws { IfOk result (λ rows. (⟦<PlainRows as Rows>⟧.seen rows).draws ≡ 2 ^ 47) }
+    ensures hand { IfOk result (λ rows. (r : ℕ) → (⟦<PlainRows as Rows>⟧.seen rows).hand r ≡ None) }
 {
     let objects = Objects::open(alloc)?;
     let flags = opening_flags(alloc, setting, &objects)?;

@@ -44,11 +44,11 @@ fn event_of(ticket: u64) -> Content
 // Offers the event of a ticket to the place of ticket 0.
 fn offer<'a>(rows: &mut BoardRows<'a, Anything>, content: &Content) -> RingPut
     requires ring { IsRing 10242 content.now }
-    requires idle { (r : ℕ) → ⟦<BoardRows<'a, Anything> as Rows>⟧.hand rows.old r ≡ None }
-    requires room { 0 < ⟦<BoardRows<'a, Anything> as Rows>⟧.left rows.old }
-    ensures idle { (r : ℕ) → ⟦<BoardRows<'a, Anything> as Rows>⟧.hand rows.new r ≡ None }
-    ensures left { ⟦<BoardRows<'a, Anything> as Rows>⟧.left rows.old
-        ≤ ⟦<BoardRows<'a, Anything> as Rows>⟧.left rows.new + 1 }
+    requires idle { (r : ℕ) → (⟦<BoardRows<'a, Anything> as Rows>⟧.seen rows.old).hand r ≡ None }
+    requires room { 0 < (⟦<BoardRows<'a, Anything> as Rows>⟧.seen rows.old).left }
+    ensures idle { (r : ℕ) → (⟦<BoardRows<'a, Anything> as Rows>⟧.seen rows.new).hand r ≡ None }
+    ensures left { (⟦<BoardRows<'a, Anything> as Rows>⟧.seen rows.old).left
+        ≤ (⟦<BoardRows<'a, Anything> as Rows>⟧.seen rows.new).left + 1 }
 {
     rows.ring_try(LONG, content)
 }
@@ -56,9 +56,10 @@ fn offer<'a>(rows: &mut BoardRows<'a, Anything>, content: &Content) -> RingPut
 // Reads a row that it hasn't in hand.
 fn look<'a>(rows: &mut BoardRows<'a, Anything>, row: u64) -> Seen
     requires row { (0 < row) × (row < 14242) }
-    requires idle { (r : ℕ) → ⟦<BoardRows<'a, Anything> as Rows>⟧.hand rows.old r ≡ None }
-    ensures idle { (r : ℕ) → ⟦<BoardRows<'a, Anything> as Rows>⟧.hand rows.new r ≡ None }
-    ensures left { ⟦<BoardRows<'a, Anything> as Rows>⟧.left rows.new ≡ ⟦<BoardRows<'a, Anything> as Rows>⟧.left rows.old }
+    requires idle { (r : ℕ) → (⟦<BoardRows<'a, Anything> as Rows>⟧.seen rows.old).hand r ≡ None }
+    ensures idle { (r : ℕ) → (⟦<BoardRows<'a, Anything> as Rows>⟧.seen rows.new).hand r ≡ None }
+    ensures left { (⟦<BoardRows<'a, Anything> as Rows>⟧.seen rows.new).left
+        ≡ (⟦<BoardRows<'a, Anything> as Rows>⟧.seen rows.old).left }
 {
     rows.read(row)
 }
@@ -83,11 +84,11 @@ fn whole(version: u64, content: Content) -> Seen {
 
 // Ends a wait of that cell.
 fn count<'a>(rows: &mut BoardRows<'a, Anything>, amount: &Stat) -> Added
-    requires idle { (r : ℕ) → ⟦<BoardRows<'a, Anything> as Rows>⟧.hand rows.old r ≡ None }
-    requires room { 0 < ⟦<BoardRows<'a, Anything> as Rows>⟧.left rows.old }
-    ensures idle { (r : ℕ) → ⟦<BoardRows<'a, Anything> as Rows>⟧.hand rows.new r ≡ None }
-    ensures left { ⟦<BoardRows<'a, Anything> as Rows>⟧.left rows.old
-        ≤ ⟦<BoardRows<'a, Anything> as Rows>⟧.left rows.new + 1 }
+    requires idle { (r : ℕ) → (⟦<BoardRows<'a, Anything> as Rows>⟧.seen rows.old).hand r ≡ None }
+    requires room { 0 < (⟦<BoardRows<'a, Anything> as Rows>⟧.seen rows.old).left }
+    ensures idle { (r : ℕ) → (⟦<BoardRows<'a, Anything> as Rows>⟧.seen rows.new).hand r ≡ None }
+    ensures left { (⟦<BoardRows<'a, Anything> as Rows>⟧.seen rows.old).left
+        ≤ (⟦<BoardRows<'a, Anything> as Rows>⟧.seen rows.new).left + 1 }
 {
     rows.add_try(CELL, amount)
 }

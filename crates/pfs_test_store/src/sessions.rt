@@ -36,17 +36,14 @@ struct Refusing {
 }
 
 impl Rows for Refusing {
-    ghost reached = { λ s start calls. Unit {0} };
-
-    ghost left = { λ s. ⟦<PlainRows as Rows>⟧.left s.rows };
-
-    ghost draws = { λ s. ⟦<PlainRows as Rows>⟧.draws s.rows };
-
-    ghost hand = { λ s row. ⟦<PlainRows as Rows>⟧.hand s.rows row };
-
-    ghost words = { λ s. ⟦<PlainRows as Rows>⟧.words s.rows };
-
-    ghost name = { λ s. 0 };
+    ghost seen = { λ s. record {
+      reached = λ start calls. Unit {0};
+      hand = (⟦<PlainRows as Rows>⟧.seen s.rows).hand;
+      left = (⟦<PlainRows as Rows>⟧.seen s.rows).left;
+      draws = (⟦<PlainRows as Rows>⟧.seen s.rows).draws;
+      words = (⟦<PlainRows as Rows>⟧.seen s.rows).words;
+      name = 0;
+    } };
 
     fn add_try(&mut self, row: u64, amount: &Stat) -> Added {
         if self.additions > 0 {
@@ -110,10 +107,10 @@ impl Hold for Refusing {
 
 // A store that opens with the setting's flags, and refuses so many additions and puts first.
 fn store(alloc: Global, setting: &Setting, additions: u64, puts: u64) -> Result<Refusing, NoMemory>
-    ensures words { IfOk result (λ rows. ⟦<Refusing as Rows>⟧.words rows ≡ Some (opened setting.now).words) }
-    ensures left { IfOk result (λ rows. ⟦<Refusing as Rows>⟧.left rows ≡ 2 ^ 47) }
-    ensures draws { IfOk result (λ rows. ⟦<Refusing as Rows>⟧.draws rows ≡ 2 ^ 47) }
-    ensures hand { IfOk result (λ rows. (r : ℕ) → ⟦<Refusing as Rows>⟧.hand rows r ≡ None) }
+    ensures words { IfOk result (λ rows. (⟦<Refusing as Rows>⟧.seen rows).words ≡ Some (opened setting.now).words) }
+    ensures left { IfOk result (λ rows. (⟦<Refusing as Rows>⟧.seen rows).left ≡ 2 ^ 47) }
+    ensures draws { IfOk result (λ rows. (⟦<Refusing as Rows>⟧.seen rows).draws ≡ 2 ^ 47) }
+    ensures hand { IfOk result (λ rows. (r : ℕ) → (⟦<Refusing as Rows>⟧.seen rows).hand r ≡ None) }
 {
     let rows = admin::store(alloc, setting)?;
     Ok(Refusing {
@@ -153,19 +150,19 @@ fn record<R: Rows>(
     requires digest { IfSome what.now.digest (λ n. n < 64) }
     requires closed { session.old.state.opened ≡ record { depth = 1; events = [] } }
     requires early { session.old.state.drawn + 1 < 2 ^ 64 }
-    requires alone { (r : ℕ) → 0 < r → R.hand rows.old r ≡ None }
-    requires spare { 6 ≤ R.left rows.old }
-    requires tickets { 1 ≤ R.draws rows.old }
+    requires alone { (r : ℕ) → 0 < r → (R.seen rows.old).hand r ≡ None }
+    requires spare { 6 ≤ (R.seen rows.old).left }
+    requires tickets { 1 ≤ (R.seen rows.old).draws }
     requires room { 8 ≤ session.old.journal.room }
     ensures closed { session.new.state.opened ≡ record { depth = 1; events = [] } }
     ensures drawn { session.new.state.drawn ≤ session.old.state.drawn + 1 }
     ensures owed { length (owed_by_state session.new.state) ≤ length (owed_by_state session.old.state) + 2 }
-    ensures hand { (r : ℕ) → R.hand rows.new r ≡ R.hand rows.old r }
-    ensures left { R.left rows.old ≤ R.left rows.new + 6 }
-    ensures draws { R.draws rows.old ≤ R.draws rows.new + 1 }
+    ensures hand { (r : ℕ) → (R.seen rows.new).hand r ≡ (R.seen rows.old).hand r }
+    ensures left { (R.seen rows.old).left ≤ (R.seen rows.new).left + 6 }
+    ensures draws { (R.seen rows.old).draws ≤ (R.seen rows.new).draws + 1 }
     ensures room { session.old.journal.room ≤ session.new.journal.room + 8 }
     ensures actions { session.new.state.actions ≡ session.old.state.actions }
-    ensures words { R.words rows.new ≡ R.words rows.old }
+    ensures words { (R.seen rows.new).words ≡ (R.seen rows.old).words }
 {
     let started = session.start(rows, what);
     session.spend(time);
@@ -190,13 +187,13 @@ fn record_often<R: Rows>(
     requires digest { IfSome what.now.digest (λ n. n < 64) }
     requires closed { session.old.state.opened ≡ record { depth = 1; events = [] } }
     requires early { session.old.state.drawn ≡ 0 }
-    requires alone { (r : ℕ) → 0 < r → R.hand rows.old r ≡ None }
-    requires spare { 18 ≤ R.left rows.old }
-    requires tickets { 3 ≤ R.draws rows.old }
+    requires alone { (r : ℕ) → 0 < r → (R.seen rows.old).hand r ≡ None }
+    requires spare { 18 ≤ (R.seen rows.old).left }
+    requires tickets { 3 ≤ (R.seen rows.old).draws }
     requires room { 24 ≤ session.old.journal.room }
     ensures owed { length (owed_by_state session.new.state) ≤ length (owed_by_state session.old.state) + 6 }
-    ensures hand { (r : ℕ) → R.hand rows.new r ≡ R.hand rows.old r }
-    ensures left { R.left rows.old ≤ R.left rows.new + 18 }
+    ensures hand { (r : ℕ) → (R.seen rows.new).hand r ≡ (R.seen rows.old).hand r }
+    ensures left { (R.seen rows.old).left ≤ (R.seen rows.new).left + 18 }
     ensures room { session.old.journal.room ≤ session.new.journal.room + 24 }
 {
     for time in times {
@@ -228,10 +225,10 @@ fn session_records(
     requires class { IfSome what.now.class (λ n. n < 63) }
     requires table { IfSome what.now.table (λ n. n < 64) }
     requires digest { IfSome what.now.digest (λ n. n < 64) }
-    requires words { ⟦<Refusing as Rows>⟧.words rows ≡ Some (opened setting.now).words }
-    requires left { ⟦<Refusing as Rows>⟧.left rows ≡ 2 ^ 47 }
-    requires draws { ⟦<Refusing as Rows>⟧.draws rows ≡ 2 ^ 47 }
-    requires hand { (r : ℕ) → ⟦<Refusing as Rows>⟧.hand rows r ≡ None }
+    requires words { (⟦<Refusing as Rows>⟧.seen rows).words ≡ Some (opened setting.now).words }
+    requires left { (⟦<Refusing as Rows>⟧.seen rows).left ≡ 2 ^ 47 }
+    requires draws { (⟦<Refusing as Rows>⟧.seen rows).draws ≡ 2 ^ 47 }
+    requires hand { (r : ℕ) → (⟦<Refusing as Rows>⟧.seen rows).hand r ≡ None }
     requires names { 2 ≤ length setting.now.names }
     requires row { 0 < row }
     requires few_rows { row < 14242 }

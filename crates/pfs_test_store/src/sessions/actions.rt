@@ -19,15 +19,15 @@ use std::test::Fail;
 
 // A session that has connected and recorded a wait, whose addition is refused where the store refuses one.
 fn waiting(alloc: Global, rows: &mut Refusing, admin: &mut Admin) -> Result<Session, Fail>
-    requires words { ⟦<Refusing as Rows>⟧.words rows.old ≡ Some admin.old.words }
-    requires left { ⟦<Refusing as Rows>⟧.left rows.old ≡ 2 ^ 47 }
-    requires draws { ⟦<Refusing as Rows>⟧.draws rows.old ≡ 2 ^ 47 }
-    requires hand { (r : ℕ) → ⟦<Refusing as Rows>⟧.hand rows.old r ≡ None }
+    requires words { (⟦<Refusing as Rows>⟧.seen rows.old).words ≡ Some admin.old.words }
+    requires left { (⟦<Refusing as Rows>⟧.seen rows.old).left ≡ 2 ^ 47 }
+    requires draws { (⟦<Refusing as Rows>⟧.seen rows.old).draws ≡ 2 ^ 47 }
+    requires hand { (r : ℕ) → (⟦<Refusing as Rows>⟧.seen rows.old).hand r ≡ None }
     requires fresh { admin.old.actions ≡ 0 }
     requires names { 2 ≤ length admin.old.names }
-    ensures words { ⟦<Refusing as Rows>⟧.words rows.new ≡ Some admin.new.words }
-    ensures left { 2 ^ 47 ≤ ⟦<Refusing as Rows>⟧.left rows.new + 10 }
-    ensures hand { (r : ℕ) → ⟦<Refusing as Rows>⟧.hand rows.new r ≡ None }
+    ensures words { (⟦<Refusing as Rows>⟧.seen rows.new).words ≡ Some admin.new.words }
+    ensures left { 2 ^ 47 ≤ (⟦<Refusing as Rows>⟧.seen rows.new).left + 10 }
+    ensures hand { (r : ℕ) → (⟦<Refusing as Rows>⟧.seen rows.new).hand r ≡ None }
     ensures few { admin.new.actions ≤ 1 }
     ensures closed { IfOk result (λ s. s.state.opened ≡ record { depth = 1; events = [] }) }
     ensures early { IfOk result (λ s. s.state.actions ≡ 1) }
@@ -45,8 +45,8 @@ fn waiting(alloc: Global, rows: &mut Refusing, admin: &mut Admin) -> Result<Sess
 fn counted<R: Rows>(rows: &mut R, row: u64) -> Result<(u64, u64), Fail>
     requires row { 0 < row }
     requires few_rows { row < 14242 }
-    requires away { R.hand rows.old row ≡ None }
-    ensures hand { (r : ℕ) → R.hand rows.new r ≡ R.hand rows.old r }
+    requires away { (R.seen rows.old).hand row ≡ None }
+    ensures hand { (r : ℕ) → (R.seen rows.new).hand r ≡ (R.seen rows.old).hand r }
 {
     match rows.read(row) {
         Seen::Whole { content, .. } => {

@@ -16,10 +16,10 @@ use std::test::Fail;
 
 // How many readings a session's looks make until there is none, of at most 40.
 fn looked<R: Rows>(session: &mut Session, rows: &mut R, reader: &mut Reader) -> u64
-    requires hand { (r : ℕ) → R.hand rows.old r ≡ None }
+    requires hand { (r : ℕ) → (R.seen rows.old).hand r ≡ None }
     requires room { 40 ≤ session.old.journal.room }
-    ensures hand { (r : ℕ) → R.hand rows.new r ≡ None }
-    ensures left { R.left rows.old ≤ R.left rows.new }
+    ensures hand { (r : ℕ) → (R.seen rows.new).hand r ≡ None }
+    ensures left { (R.seen rows.old).left ≤ (R.seen rows.new).left }
     ensures room { session.old.journal.room ≤ session.new.journal.room + 40 }
     ensures owed { owed_by_state session.new.state ≡ owed_by_state session.old.state }
 {

@@ -10,8 +10,8 @@ invariant-loop-at g l =
     let change = inserts.flags_by_answer l.fn.names l.fn.objects l.fn.table l.fn.answer in
     let first = l.first in
     record {
-      did : Did (flagging_calls l.fn.words (up_to (change_at change l.fn.words first) l.at)) (flagging_entries l.fn.words (up_to (change_at change l.fn.words first) l.at)) l.fn.log l.log (g.H.Rows.reached l.fn.rows) (g.H.Rows.reached l.rows);
+      did : Did (flagging_calls l.fn.words (up_to (change_at change l.fn.words first) l.at)) (flagging_entries l.fn.words (up_to (change_at change l.fn.words first) l.at)) l.fn.log l.log (g.H.Rows.seen l.fn.rows).reached (g.H.Rows.seen l.rows).reached;
       mine : l.words ≡ changed_up_to change l.fn.words first l.at;
-      lent : g.H.Rows.words l.rows ≡ Some l.words;
-      leaves : Leaves 0 l.at (g.H.Rows.hand l.fn.rows) (g.H.Rows.hand l.rows) (g.H.Rows.left l.fn.rows) (g.H.Rows.left l.rows) (g.H.Rows.draws l.fn.rows) (g.H.Rows.draws l.rows) (g.H.Rows.name l.fn.rows) (g.H.Rows.name l.rows) l.fn.log l.log;
+      lent : (g.H.Rows.seen l.rows).words ≡ Some l.words;
+      leaves : Leaves 0 l.at (g.H.Rows.seen l.fn.rows).hand (g.H.Rows.seen l.rows).hand (g.H.Rows.seen l.fn.rows).left (g.H.Rows.seen l.rows).left (g.H.Rows.seen l.fn.rows).draws (g.H.Rows.seen l.rows).draws (g.H.Rows.seen l.fn.rows).name (g.H.Rows.seen l.rows).name l.fn.log l.log;
     }

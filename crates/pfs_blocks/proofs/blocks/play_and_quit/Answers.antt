@@ -43,9 +43,9 @@ returns-in-Ok-clause-did g c =
     (c.in-Ok.ensures.kinds ∙ (ends_so c.args.session.now.state.opened.depth (kinds_at c.args.session.now.state) (c.args.body.now ++ said.Quit ∷ []) c.args.body.now c.requires.may refl).1) in
     record {
       over = true;
-      did = quit_deeds c.args.setting.now c.args.admin.now c.args.body.now c.args.session.now c.play_written.new.session c.quit.new.session c.args.answers.now.items c.play_written.new.answers.items (g.A.Rows.reached c.args.rows.now) (g.A.Rows.reached c.play_written.new.rows) (g.A.Rows.reached c.quit.new.rows)
+      did = quit_deeds c.args.setting.now c.args.admin.now c.args.body.now c.args.session.now c.play_written.new.session c.quit.new.session c.args.answers.now.items c.play_written.new.answers.items (g.A.Rows.seen c.args.rows.now).reached (g.A.Rows.seen c.play_written.new.rows).reached (g.A.Rows.seen c.quit.new.rows).reached
           c.in-Ok.ensures.played
-          (subst (λ (a : Administration). HasActed (Quitting a) c.play_written.new.session c.quit.new.session (g.A.Rows.reached c.play_written.new.rows) (g.A.Rows.reached c.quit.new.rows)) c.in-Ok.ensures.admin c.quit.ensures.acted) closed;
+          (subst (λ (a : Administration). HasActed (Quitting a) c.play_written.new.session c.quit.new.session (g.A.Rows.seen c.play_written.new.rows).reached (g.A.Rows.seen c.quit.new.rows).reached) c.in-Ok.ensures.admin c.quit.ensures.acted) closed;
       after_is = c.quit.ensures.admin
           ∙ (ap (λ n. has_quit c.play_written.new.admin n) (ap (λ (s : State). s.number) c.in-Ok.ensures.rest)
           ∙ ap (λ (a : Administration). has_quit a c.args.session.now.state.number) (c.in-Ok.ensures.admin ∙ sym (quit_admin c.args.admin.now c.args.body.now)));

@@ -86,8 +86,8 @@ returns-in-Ok-clause-did g c few =
     let setting = c.args.setting.now in
     let answers = c.args.answers.now.items in
     let behind = c.play_to_end.new.answers.items in
-    let from = g.A.Rows.reached c.connect_by.new.rows in
-    let to = g.A.Rows.reached c.play_to_end.new.rows in
+    let from = (g.A.Rows.seen c.connect_by.new.rows).reached in
+    let to = (g.A.Rows.seen c.play_to_end.new.rows).reached in
     let said : List BlockLine = c.args.block.now.lines in
     let its : HasDeeds setting (map selection_on (written_out said)) (deeds_along c.connect_by.new.admin (written_out said)) p.over one two answers behind from to =
     subst (λ (l : List BlockLine). HasDeeds setting (map selection_on (written_out l)) (deeds_along c.connect_by.new.admin (written_out l)) p.over one two answers behind from to) c.as_slice.ensures p.did in
@@ -95,7 +95,7 @@ returns-in-Ok-clause-did g c few =
     subst (λ (a : Administration). HasDeeds setting (map selection_on (written_out said)) (deeds_along a (written_out said)) p.over one two answers behind from to) c.connect_by.ensures.admin its in
     record {
       over = p.over;
-      did = block_deeds setting admin number c.args.block.now.connect said p.over old one two c.pause.result answers behind (g.A.Rows.reached c.args.rows.now) from to (g.A.Rows.reached c.pause.new.rows)
+      did = block_deeds setting admin number c.args.block.now.connect said p.over old one two c.pause.result answers behind (g.A.Rows.seen c.args.rows.now).reached from to (g.A.Rows.seen c.pause.new.rows).reached
           (c.connect_by.ensures.did few setting answers) lines c.pause.ensures.played;
       after_is = p.after_is
           ∙ (ap (λ (l : List BlockLine). ended_by (admin_after c.connect_by.new.admin (written_out l)) c.connect_by.new.session.state.number p.over) c.as_slice.ensures

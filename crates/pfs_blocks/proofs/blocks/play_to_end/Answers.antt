@@ -56,7 +56,7 @@ play_written-requires-clause-may g c = goes_on c.args.session.now.state.opened.d
 
 pub returns-in-Some-clause-did : goal.returns-in-Some-clause-did
 returns-in-Some-clause-did g c =
-    on_ok_weaker c.play_and_quit.result (subst (λ (l : List BlockLine). HasEnded c.args.setting.now l c.args.admin.now c.play_and_quit.new.admin c.args.session.now c.play_and_quit.new.session c.args.answers.now.items c.play_and_quit.new.answers.items (g.A.Rows.reached c.args.rows.now) (g.A.Rows.reached c.play_and_quit.new.rows)) (sym c.in-Some.ensures))
+    on_ok_weaker c.play_and_quit.result (subst (λ (l : List BlockLine). HasEnded c.args.setting.now l c.args.admin.now c.play_and_quit.new.admin c.args.session.now c.play_and_quit.new.session c.args.answers.now.items c.play_and_quit.new.answers.items (g.A.Rows.seen c.args.rows.now).reached (g.A.Rows.seen c.play_and_quit.new.rows).reached) (sym c.in-Some.ensures))
     c.play_and_quit.ensures.did
 
 pub returns-in-Some-clause-kinds : goal.returns-in-Some-clause-kinds
@@ -101,7 +101,7 @@ returns-in-Some-clause-counted g c =
 pub returns-in-None-clause-did : goal.returns-in-None-clause-did
 returns-in-None-clause-did g c = on_ok_both c.play_written.result (λ played after. record {
   over = false;
-  did = played_deeds c.args.setting.now c.args.admin.now (written_out c.args.lines.now) c.args.session.now c.play_written.new.session c.args.answers.now.items c.play_written.new.answers.items (g.A.Rows.reached c.args.rows.now) (g.A.Rows.reached c.play_written.new.rows) played;
+  did = played_deeds c.args.setting.now c.args.admin.now (written_out c.args.lines.now) c.args.session.now c.play_written.new.session c.args.answers.now.items c.play_written.new.answers.items (g.A.Rows.seen c.args.rows.now).reached (g.A.Rows.seen c.play_written.new.rows).reached played;
   after_is = after;
 }) c.play_written.ensures.played c.play_written.ensures.admin
 

@@ -6,6 +6,6 @@ use Rattle.pfs_levels.proofs.flushes.flush_cells.Given as goal
 abbrev pub invariant-loop-cell : goal.invariant-loop-cell
 invariant-loop-cell g l =
     record {
-      moved : Moved (map (ask_of l.source) (take l.cell-index l.cells)) l.fn.log l.log (g.H.Rows.reached l.fn.rows) (g.H.Rows.reached l.rows);
-      stays : Stays (cost (map (ask_of l.source) (take l.cell-index l.cells))) (g.H.Rows.hand l.fn.rows) (g.H.Rows.hand l.rows) (g.H.Rows.left l.fn.rows) (g.H.Rows.left l.rows) (g.H.Rows.draws l.fn.rows) (g.H.Rows.draws l.rows) (g.H.Rows.words l.fn.rows) (g.H.Rows.words l.rows) (g.H.Rows.name l.fn.rows) (g.H.Rows.name l.rows) l.fn.log l.log;
+      moved : Moved (map (ask_of l.source) (take l.cell-index l.cells)) l.fn.log l.log (g.H.Rows.seen l.fn.rows).reached (g.H.Rows.seen l.rows).reached;
+      stays : Stays (cost (map (ask_of l.source) (take l.cell-index l.cells))) (g.H.Rows.seen l.fn.rows).hand (g.H.Rows.seen l.rows).hand (g.H.Rows.seen l.fn.rows).left (g.H.Rows.seen l.rows).left (g.H.Rows.seen l.fn.rows).draws (g.H.Rows.seen l.rows).draws (g.H.Rows.seen l.fn.rows).words (g.H.Rows.seen l.rows).words (g.H.Rows.seen l.fn.rows).name (g.H.Rows.seen l.rows).name l.fn.log l.log;
     }

@@ -7,6 +7,6 @@ use Rattle.pfs_play.proofs.actions.quit.Goals as goal
 
 pub returns-clause-acted : goal.returns-clause-acted
 returns-clause-acted g c =
-    acted (Quitting c.args.admin.now) (c.args.admin.now.actions + 1) c.enter.result c.args.session.now c.quit.new.self (g.A.Rows.reached c.args.rows.now) (g.A.Rows.reached c.enter.new.self)
-    (g.A.Rows.reached c.quit.new.rows) (g.A.Rows.reached c.leave.new.self) refl
-    (subst (λ (label : Label). Begins (g.A.Rows.reached c.args.rows.now) (g.A.Rows.reached c.enter.new.self) label c.enter.result) c.label.ensures c.enter.ensures.call) c.quit.ensures.played c.leave.ensures.call
+    acted (Quitting c.args.admin.now) (c.args.admin.now.actions + 1) c.enter.result c.args.session.now c.quit.new.self (g.A.Rows.seen c.args.rows.now).reached (g.A.Rows.seen c.enter.new.self).reached
+    (g.A.Rows.seen c.quit.new.rows).reached (g.A.Rows.seen c.leave.new.self).reached refl
+    (subst (λ (label : Label). Begins (g.A.Rows.seen c.args.rows.now).reached (g.A.Rows.seen c.enter.new.self).reached label c.enter.result) c.label.ensures c.enter.ensures.call) c.quit.ensures.played c.leave.ensures.call

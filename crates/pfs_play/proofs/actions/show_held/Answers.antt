@@ -9,9 +9,9 @@ use Rattle.pfs_play.proofs.actions.show_held.Goals as goal
 
 pub returns-in-Ok-clause-acted : goal.returns-in-Ok-clause-acted
 returns-in-Ok-clause-acted g c =
-    let tells = subst (λ (n : ℕ). Played (remark (Rows n) ∷ []) c.act.new.self c.append.new.self (g.A.Rows.reached c.act.new.rows) (g.A.Rows.reached c.act.new.rows)) (ap length c.as_slice.ensures)
-    (remarked (Rows (length c.as_slice.result.now)) c.act.new.self c.append.new.self (g.A.Rows.reached c.act.new.rows) c.append.ensures.does c.append.ensures.entries) in
-    acted (Showing c.args.admin.now (length c.in-Ok.answer)) (c.args.admin.now.actions + 1) c.enter.result c.args.session.now c.append.new.self (g.A.Rows.reached c.args.rows.now) (g.A.Rows.reached c.enter.new.self)
-    (g.A.Rows.reached c.act.new.rows) (g.A.Rows.reached c.leave.new.self) refl
-    (subst (λ (label : Label). Begins (g.A.Rows.reached c.args.rows.now) (g.A.Rows.reached c.enter.new.self) label c.enter.result) c.label.ensures c.enter.ensures.call)
-    (shown c.args.admin.now (length c.in-Ok.answer) c.args.session.now c.act.new.self c.append.new.self (g.A.Rows.reached c.enter.new.self) (g.A.Rows.reached c.act.new.rows) c.act.ensures.played tells) c.leave.ensures.call
+    let tells = subst (λ (n : ℕ). Played (remark (Rows n) ∷ []) c.act.new.self c.append.new.self (g.A.Rows.seen c.act.new.rows).reached (g.A.Rows.seen c.act.new.rows).reached) (ap length c.as_slice.ensures)
+    (remarked (Rows (length c.as_slice.result.now)) c.act.new.self c.append.new.self (g.A.Rows.seen c.act.new.rows).reached c.append.ensures.does c.append.ensures.entries) in
+    acted (Showing c.args.admin.now (length c.in-Ok.answer)) (c.args.admin.now.actions + 1) c.enter.result c.args.session.now c.append.new.self (g.A.Rows.seen c.args.rows.now).reached (g.A.Rows.seen c.enter.new.self).reached
+    (g.A.Rows.seen c.act.new.rows).reached (g.A.Rows.seen c.leave.new.self).reached refl
+    (subst (λ (label : Label). Begins (g.A.Rows.seen c.args.rows.now).reached (g.A.Rows.seen c.enter.new.self).reached label c.enter.result) c.label.ensures c.enter.ensures.call)
+    (shown c.args.admin.now (length c.in-Ok.answer) c.args.session.now c.act.new.self c.append.new.self (g.A.Rows.seen c.enter.new.self).reached (g.A.Rows.seen c.act.new.rows).reached c.act.ensures.played tells) c.leave.ensures.call

@@ -25,7 +25,7 @@ fronts lines i line lt is = take_more lines i line lt ∙ ap (λ (l : BlockLine)
 
 pub loop-line-init : goal.loop-line-init
 loop-line-init g c = record {
-  played = played_nothing c.args.setting.now c.args.admin.now c.args.session.now c.args.answers.now.items (g.A.Rows.reached c.args.rows.now);
+  played = played_nothing c.args.setting.now c.args.admin.now c.args.session.now c.args.answers.now.items (g.A.Rows.seen c.args.rows.now).reached;
   admin = refl;
   can = c.requires.can;
   kinds = refl;
@@ -120,18 +120,18 @@ loop-line-preserved g c =
     let split = splits lines i line c.loop-line-test.true c.line-item.is in
     let front = fronts lines i line c.loop-line-test.true c.line-item.is in
     let can : CanPlay 62 at.state.opened.depth (kinds_at at.state) (line ∷ drop (i + 1) lines) = subst (CanPlay 62 at.state.opened.depth (kinds_at at.state)) split before.can in
-    let run_here : HasRun c.args.setting.now c.loop-line.admin (errand_on line) at new c.loop-line.answers.items c.play_line.new.answers.items (g.A.Rows.reached c.loop-line.rows) (g.A.Rows.reached c.play_line.new.rows) = now.run in
-    let run : HasRun c.args.setting.now (admin_after admin (take i lines)) (errand_on line) at new c.loop-line.answers.items c.play_line.new.answers.items (g.A.Rows.reached c.loop-line.rows) (g.A.Rows.reached c.play_line.new.rows) =
-    subst (λ (a : Administration). HasRun c.args.setting.now a (errand_on line) at new c.loop-line.answers.items c.play_line.new.answers.items (g.A.Rows.reached c.loop-line.rows) (g.A.Rows.reached c.play_line.new.rows)) before.admin run_here in
-    let kinds : kinds_at new.state ≡ kinds_behind (mark_of line) (kinds_at at.state) = run_kinds c.args.setting.now c.loop-line.admin line at new c.loop-line.answers.items c.play_line.new.answers.items (g.A.Rows.reached c.loop-line.rows) (g.A.Rows.reached c.play_line.new.rows) run_here in
+    let run_here : HasRun c.args.setting.now c.loop-line.admin (errand_on line) at new c.loop-line.answers.items c.play_line.new.answers.items (g.A.Rows.seen c.loop-line.rows).reached (g.A.Rows.seen c.play_line.new.rows).reached = now.run in
+    let run : HasRun c.args.setting.now (admin_after admin (take i lines)) (errand_on line) at new c.loop-line.answers.items c.play_line.new.answers.items (g.A.Rows.seen c.loop-line.rows).reached (g.A.Rows.seen c.play_line.new.rows).reached =
+    subst (λ (a : Administration). HasRun c.args.setting.now a (errand_on line) at new c.loop-line.answers.items c.play_line.new.answers.items (g.A.Rows.seen c.loop-line.rows).reached (g.A.Rows.seen c.play_line.new.rows).reached) before.admin run_here in
+    let kinds : kinds_at new.state ≡ kinds_behind (mark_of line) (kinds_at at.state) = run_kinds c.args.setting.now c.loop-line.admin line at new c.loop-line.answers.items c.play_line.new.answers.items (g.A.Rows.seen c.loop-line.rows).reached (g.A.Rows.seen c.play_line.new.rows).reached run_here in
     let left_acts : actions_on (drop i lines) ≡ actions_of (errand_on line) + actions_on (drop (i + 1) lines) = ap actions_on split in
     let left_cost : cost_on (drop i lines) ≡ cost_of (errand_on line) + cost_on (drop (i + 1) lines) = ap cost_on split in
     let behind : c.play_line.new.admin ≡ admin_behind (admin_after admin (take i lines)) (errand_on line) =
     now.admin ∙ ap (λ (a : Administration). admin_behind a (errand_on line)) before.admin in
     let stepped : c.play_line.new.admin.actions ≡ c.loop-line.admin.actions + actions_of (errand_on line) = ap (λ (a : Administration). a.actions) now.admin ∙ one_counted c.loop-line.admin (errand_on line) in
     record {
-      played = subst (λ (z : List BlockLine). HavePlayed c.args.setting.now z admin c.args.session.now new c.args.answers.now.items c.play_line.new.answers.items (g.A.Rows.reached c.args.rows.now) (g.A.Rows.reached c.play_line.new.rows)) (sym front)
-          (played_more c.args.setting.now (take i lines) line admin c.args.session.now at new c.args.answers.now.items c.loop-line.answers.items c.play_line.new.answers.items (g.A.Rows.reached c.args.rows.now) (g.A.Rows.reached c.loop-line.rows) (g.A.Rows.reached c.play_line.new.rows) can.0.quits before.played run);
+      played = subst (λ (z : List BlockLine). HavePlayed c.args.setting.now z admin c.args.session.now new c.args.answers.now.items c.play_line.new.answers.items (g.A.Rows.seen c.args.rows.now).reached (g.A.Rows.seen c.play_line.new.rows).reached) (sym front)
+          (played_more c.args.setting.now (take i lines) line admin c.args.session.now at new c.args.answers.now.items c.loop-line.answers.items c.play_line.new.answers.items (g.A.Rows.seen c.args.rows.now).reached (g.A.Rows.seen c.loop-line.rows).reached (g.A.Rows.seen c.play_line.new.rows).reached can.0.quits before.played run);
       admin = behind ∙ (sym (after_then admin (take i lines) (line ∷ [])) ∙ ap (admin_after admin) (sym front));
       can = subst (λ (k : List EventKind). CanPlay 62 new.state.opened.depth k (drop (i + 1) lines)) (sym kinds)
           (subst (λ d. CanPlay 62 d (kinds_behind (mark_of line) (kinds_at at.state)) (drop (i + 1) lines)) (sym now.depth) can.1);

@@ -5,7 +5,7 @@ use Rattle.pfs_play.proofs.lines.play_lines.Given as goal
 
 abbrev pub invariant-loop-line : goal.invariant-loop-line
 invariant-loop-line g l = record {
-  played : HavePlayed l.setting (take l.line-index l.lines) l.fn.admin l.fn.session l.session l.fn.answers.items l.answers.items (g.A.Rows.reached l.fn.rows) (g.A.Rows.reached l.rows);
+  played : HavePlayed l.setting (take l.line-index l.lines) l.fn.admin l.fn.session l.session l.fn.answers.items l.answers.items (g.A.Rows.seen l.fn.rows).reached (g.A.Rows.seen l.rows).reached;
   admin : l.admin ≡ admin_after l.fn.admin (take l.line-index l.lines);
   can : CanPlay 62 l.session.state.opened.depth (kinds_at l.session.state) (drop l.line-index l.lines);
   kinds : kinds_after (kinds_at l.session.state) (drop l.line-index l.lines) ≡ kinds_after (kinds_at l.fn.session.state) l.lines;
@@ -18,10 +18,10 @@ invariant-loop-line g l = record {
   last : actions_on l.lines ≡ 0 → l.session.state.last ≡ l.fn.session.state.last;
   wide : length l.session.state.held ≡ 193;
   depth : l.session.state.opened.depth ≡ l.fn.session.state.opened.depth;
-  hand : (r : ℕ) → g.A.Rows.hand l.rows r ≡ g.A.Rows.hand l.fn.rows r;
-  left : g.A.Rows.left l.fn.rows + 20192 * actions_on (drop l.line-index l.lines) ≤ g.A.Rows.left l.rows + (11 * l.line-index + 20192 * actions_on l.lines);
-  draws : g.A.Rows.draws l.fn.rows ≤ g.A.Rows.draws l.rows + 2 * l.line-index;
-  name : g.A.Rows.name l.rows ≡ g.A.Rows.name l.fn.rows;
-  lent : g.A.Rows.words l.rows ≡ Some l.admin.words;
+  hand : (r : ℕ) → (g.A.Rows.seen l.rows).hand r ≡ (g.A.Rows.seen l.fn.rows).hand r;
+  left : (g.A.Rows.seen l.fn.rows).left + 20192 * actions_on (drop l.line-index l.lines) ≤ (g.A.Rows.seen l.rows).left + (11 * l.line-index + 20192 * actions_on l.lines);
+  draws : (g.A.Rows.seen l.fn.rows).draws ≤ (g.A.Rows.seen l.rows).draws + 2 * l.line-index;
+  name : (g.A.Rows.seen l.rows).name ≡ (g.A.Rows.seen l.fn.rows).name;
+  lent : (g.A.Rows.seen l.rows).words ≡ Some l.admin.words;
   room : l.fn.session.journal.room + cost_on (drop l.line-index l.lines) ≤ l.session.journal.room + cost_on l.lines;
 }

@@ -11,7 +11,7 @@ pub loop-reading-init : goal.loop-reading-init
 loop-reading-init g c =
     rw c.new-readings.ensures.items (record {
       reached = c.open-reader.ensures;
-      played = played_none c.args.session.now (g.R.Rows.reached c.args.rows.now);
+      played = played_none c.args.session.now (g.R.Rows.seen c.args.rows.now).reached;
       state = refl;
       uses = record { hand = λ r. refl; left = omega arith; draws = omega arith; name = refl; room = omega arith };
       words = refl;
@@ -40,7 +40,7 @@ loop-reading-preserved g c =
     let long : length (items ++ c.in-Some.reading ∷ []) ≡ length items + 1 = length-append items (c.in-Some.reading ∷ []) in
     rw c.in_ok-push.ensures.items (record {
       reached = now.reached (scope_of c.args.setting.now) c.args.table items before.reached;
-      played = look_more items c.in-Some.reading c.args.session.now c.loop-reading.session c.look.new.self (g.R.Rows.reached c.args.rows.now) (g.R.Rows.reached c.loop-reading.rows) (g.R.Rows.reached c.look.new.rows) before.played now.played;
+      played = look_more items c.in-Some.reading c.args.session.now c.loop-reading.session c.look.new.self (g.R.Rows.seen c.args.rows.now).reached (g.R.Rows.seen c.loop-reading.rows).reached (g.R.Rows.seen c.look.new.rows).reached before.played now.played;
       state = now.state ∙ before.state;
       uses = record { hand = λ r. now.uses.hand r ∙ before.uses.hand r; left = omega (arith, before.uses.left, now.uses.left); draws = omega (arith, before.uses.draws, now.uses.draws); name = now.uses.name ∙ before.uses.name; room = omega (arith, long, before.uses.room, now.uses.room) };
       words = now.words ∙ before.words;
@@ -51,7 +51,7 @@ returns-clause-whole g c = rw c.new.ensures (c.in_default.ensures.next (scope_of
 
 pub returns-clause-played : goal.returns-clause-played
 returns-clause-played g c =
-    rw c.new.ensures (look_last c.loop-reading.readings.items c.args.session.now c.loop-reading.session c.look.new.self (g.R.Rows.reached c.args.rows.now) (g.R.Rows.reached c.loop-reading.rows) (g.R.Rows.reached c.look.new.rows) c.loop-reading.invariant.played c.in_default.ensures.played)
+    rw c.new.ensures (look_last c.loop-reading.readings.items c.args.session.now c.loop-reading.session c.look.new.self (g.R.Rows.seen c.args.rows.now).reached (g.R.Rows.seen c.loop-reading.rows).reached (g.R.Rows.seen c.look.new.rows).reached c.loop-reading.invariant.played c.in_default.ensures.played)
 
 pub returns-clause-uses : goal.returns-clause-uses
 returns-clause-uses g c =

@@ -9,10 +9,10 @@ use Rattle.pfs_play.proofs.queries.look_at.Given as goal
 abbrev pub invariant-loop-reading : goal.invariant-loop-reading
 invariant-loop-reading g l = record {
   reached : Reached l.reader (scope_of l.setting) l.fn.table l.readings.items;
-  played : Played (looks l.readings.items) l.fn.session l.session (g.R.Rows.reached l.fn.rows) (g.R.Rows.reached l.rows);
+  played : Played (looks l.readings.items) l.fn.session l.session (g.R.Rows.seen l.fn.rows).reached (g.R.Rows.seen l.rows).reached;
   state : l.session.state ≡ l.fn.session.state;
-  uses : Uses 0 0 (length l.readings.items) (g.R.Rows.hand l.fn.rows) (g.R.Rows.hand l.rows) (g.R.Rows.left l.fn.rows) (g.R.Rows.left l.rows) (g.R.Rows.draws l.fn.rows) (g.R.Rows.draws l.rows) (g.R.Rows.name l.fn.rows) (g.R.Rows.name l.rows) l.fn.session.journal l.session.journal;
-  words : g.R.Rows.words l.rows ≡ g.R.Rows.words l.fn.rows;
+  uses : Uses 0 0 (length l.readings.items) (g.R.Rows.seen l.fn.rows).hand (g.R.Rows.seen l.rows).hand (g.R.Rows.seen l.fn.rows).left (g.R.Rows.seen l.rows).left (g.R.Rows.seen l.fn.rows).draws (g.R.Rows.seen l.rows).draws (g.R.Rows.seen l.fn.rows).name (g.R.Rows.seen l.rows).name l.fn.session.journal l.session.journal;
+  words : (g.R.Rows.seen l.rows).words ≡ (g.R.Rows.seen l.fn.rows).words;
 }
 
 abbrev pub decreases-loop-reading : goal.decreases-loop-reading

@@ -18,7 +18,7 @@ show_held-requires-clause-room g c =
 
 pub returns-clause-run : goal.returns-clause-run
 returns-clause-run g c = λ setting.
-    show_ran setting c.args.admin.now c.args.what c.in_ok-answer.answer c.args.session.now c.show_held.new.session c.args.answers.now.items c.push.new.self.items (g.A.Rows.reached c.args.rows.now) (g.A.Rows.reached c.show_held.new.rows)
+    show_ran setting c.args.admin.now c.args.what c.in_ok-answer.answer c.args.session.now c.show_held.new.session c.args.answers.now.items c.push.new.self.items (g.A.Rows.seen c.args.rows.now).reached (g.A.Rows.seen c.show_held.new.rows).reached
     c.in_ok-answer.ensures.answered c.in_ok-push.ensures.items c.in_ok-answer.ensures.acted
 
 pub returns-clause-owed : goal.returns-clause-owed

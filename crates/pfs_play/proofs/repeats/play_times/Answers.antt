@@ -13,8 +13,8 @@ use Rattle.pfs_play.proofs.repeats.play_times.Goals as goal
 pub returns-then-is_empty-clause-played : goal.returns-then-is_empty-clause-played
 returns-then-is_empty-clause-played g c =
     let none : c.args.body.now ≡ [] = nil_from_length c.args.body.now (eqb-true (length c.args.body.now) 0 (sym c.is_empty.ensures ∙ c.if-is_empty.true)) in
-    subst (λ (lines : List BlockLine). HavePlayed c.args.setting.now lines c.args.admin.now c.args.session.now c.args.session.now c.args.answers.now.items c.args.answers.now.items (g.A.Rows.reached c.args.rows.now) (g.A.Rows.reached c.args.rows.now))
-    (sym (copies_of_none c.args.times c.args.body.now none)) (played_nothing c.args.setting.now c.args.admin.now c.args.session.now c.args.answers.now.items (g.A.Rows.reached c.args.rows.now))
+    subst (λ (lines : List BlockLine). HavePlayed c.args.setting.now lines c.args.admin.now c.args.session.now c.args.session.now c.args.answers.now.items c.args.answers.now.items (g.A.Rows.seen c.args.rows.now).reached (g.A.Rows.seen c.args.rows.now).reached)
+    (sym (copies_of_none c.args.times c.args.body.now none)) (played_nothing c.args.setting.now c.args.admin.now c.args.session.now c.args.answers.now.items (g.A.Rows.seen c.args.rows.now).reached)
 
 pub returns-then-is_empty-clause-admin : goal.returns-then-is_empty-clause-admin
 returns-then-is_empty-clause-admin g c =
@@ -35,8 +35,8 @@ returns-then-is_empty-clause-actions g c =
 
 pub loop-round-init : goal.loop-round-init
 loop-round-init g c = record {
-  played = subst (λ (lines : List BlockLine). HavePlayed c.args.setting.now lines c.args.admin.now c.args.session.now c.args.session.now c.args.answers.now.items c.args.answers.now.items (g.A.Rows.reached c.args.rows.now) (g.A.Rows.reached c.args.rows.now)) (sym (no_copies c.args.body.now))
-      (played_nothing c.args.setting.now c.args.admin.now c.args.session.now c.args.answers.now.items (g.A.Rows.reached c.args.rows.now));
+  played = subst (λ (lines : List BlockLine). HavePlayed c.args.setting.now lines c.args.admin.now c.args.session.now c.args.session.now c.args.answers.now.items c.args.answers.now.items (g.A.Rows.seen c.args.rows.now).reached (g.A.Rows.seen c.args.rows.now).reached) (sym (no_copies c.args.body.now))
+      (played_nothing c.args.setting.now c.args.admin.now c.args.session.now c.args.answers.now.items (g.A.Rows.seen c.args.rows.now).reached);
   admin = sym (ap (admin_after c.args.admin.now) (no_copies c.args.body.now));
   kinds = refl;
   lie = c.requires.lie;
@@ -63,9 +63,9 @@ loop-round-preserved g c =
     let admin : Administration = c.args.admin.now in
     let before = c.loop-round.invariant in
     record {
-      played = subst (λ (lines : List BlockLine). HavePlayed c.args.setting.now lines admin c.args.session.now new c.args.answers.now.items c.play_lines.new.answers.items (g.A.Rows.reached c.args.rows.now) (g.A.Rows.reached c.play_lines.new.rows)) (sym (copies_more round body))
-          (played_both c.args.setting.now (copies round body) body admin c.args.session.now c.loop-round.session new c.args.answers.now.items c.loop-round.answers.items c.play_lines.new.answers.items (g.A.Rows.reached c.args.rows.now) (g.A.Rows.reached c.loop-round.rows) (g.A.Rows.reached c.play_lines.new.rows) before.played
-          (subst (λ (a : Administration). HavePlayed c.args.setting.now body a c.loop-round.session new c.loop-round.answers.items c.play_lines.new.answers.items (g.A.Rows.reached c.loop-round.rows) (g.A.Rows.reached c.play_lines.new.rows)) before.admin c.in-Ok.ensures.played));
+      played = subst (λ (lines : List BlockLine). HavePlayed c.args.setting.now lines admin c.args.session.now new c.args.answers.now.items c.play_lines.new.answers.items (g.A.Rows.seen c.args.rows.now).reached (g.A.Rows.seen c.play_lines.new.rows).reached) (sym (copies_more round body))
+          (played_both c.args.setting.now (copies round body) body admin c.args.session.now c.loop-round.session new c.args.answers.now.items c.loop-round.answers.items c.play_lines.new.answers.items (g.A.Rows.seen c.args.rows.now).reached (g.A.Rows.seen c.loop-round.rows).reached (g.A.Rows.seen c.play_lines.new.rows).reached before.played
+          (subst (λ (a : Administration). HavePlayed c.args.setting.now body a c.loop-round.session new c.loop-round.answers.items c.play_lines.new.answers.items (g.A.Rows.seen c.loop-round.rows).reached (g.A.Rows.seen c.play_lines.new.rows).reached) before.admin c.in-Ok.ensures.played));
       admin = c.in-Ok.ensures.admin ∙ (ap (λ (a : Administration). admin_after a body) before.admin ∙ (sym (after_then admin (copies round body) body) ∙ ap (admin_after admin) (sym (copies_more round body))));
       kinds = c.in-Ok.ensures.kinds ∙ (ap (λ k. kinds_after k body) before.kinds ∙ c.requires.same);
       lie = c.in-Ok.ensures.lie;

@@ -6,7 +6,7 @@ use Rattle.pfs_play.proofs.repeats.play_times.Given as goal
 
 abbrev pub invariant-loop-round : goal.invariant-loop-round
 invariant-loop-round g l = record {
-  played : HavePlayed l.setting (copies l.round l.body) l.fn.admin l.fn.session l.session l.fn.answers.items l.answers.items (g.A.Rows.reached l.fn.rows) (g.A.Rows.reached l.rows);
+  played : HavePlayed l.setting (copies l.round l.body) l.fn.admin l.fn.session l.session l.fn.answers.items l.answers.items (g.A.Rows.seen l.fn.rows).reached (g.A.Rows.seen l.rows).reached;
   admin : l.admin ≡ admin_after l.fn.admin (copies l.round l.body);
   kinds : kinds_at l.session.state ≡ kinds_at l.fn.session.state;
   lie : StagesLie (kinds_at l.session.state);
@@ -17,10 +17,10 @@ invariant-loop-round g l = record {
   last : l.round * actions_on l.body ≡ 0 → l.session.state.last ≡ l.fn.session.state.last;
   wide : length l.session.state.held ≡ 193;
   depth : l.session.state.opened.depth ≡ l.fn.session.state.opened.depth;
-  hand : (r : ℕ) → g.A.Rows.hand l.rows r ≡ g.A.Rows.hand l.fn.rows r;
-  left : g.A.Rows.left l.fn.rows ≤ g.A.Rows.left l.rows + (11 * (l.round * length l.body) + 20192 * (l.round * actions_on l.body));
-  draws : g.A.Rows.draws l.fn.rows ≤ g.A.Rows.draws l.rows + 2 * (l.round * length l.body);
-  name : g.A.Rows.name l.rows ≡ g.A.Rows.name l.fn.rows;
-  lent : g.A.Rows.words l.rows ≡ Some l.admin.words;
+  hand : (r : ℕ) → (g.A.Rows.seen l.rows).hand r ≡ (g.A.Rows.seen l.fn.rows).hand r;
+  left : (g.A.Rows.seen l.fn.rows).left ≤ (g.A.Rows.seen l.rows).left + (11 * (l.round * length l.body) + 20192 * (l.round * actions_on l.body));
+  draws : (g.A.Rows.seen l.fn.rows).draws ≤ (g.A.Rows.seen l.rows).draws + 2 * (l.round * length l.body);
+  name : (g.A.Rows.seen l.rows).name ≡ (g.A.Rows.seen l.fn.rows).name;
+  lent : (g.A.Rows.seen l.rows).words ≡ Some l.admin.words;
   room : l.fn.session.journal.room ≤ l.session.journal.room + l.round * cost_on l.body;
 }

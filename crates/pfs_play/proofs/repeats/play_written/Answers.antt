@@ -13,7 +13,7 @@ pub loop-at-init : goal.loop-at-init
 loop-at-init g c = record {
   count = omega arith;
   may = c.requires.may;
-  gone = gone_nowhere c.args.setting.now (written_out c.args.lines.now) c.args.admin.now c.args.session.now c.args.answers.now.items (g.A.Rows.reached c.args.rows.now);
+  gone = gone_nowhere c.args.setting.now (written_out c.args.lines.now) c.args.admin.now c.args.session.now c.args.answers.now.items (g.A.Rows.seen c.args.rows.now).reached;
   kinds = refl;
   lie = c.requires.lie;
   drawn = omega arith;
@@ -55,20 +55,20 @@ play_next-requires-clause-idle g c = λ r. c.loop-at.invariant.hand r ∙ c.requ
 pub play_next-requires-clause-tickets : goal.play_next-requires-clause-tickets
 play_next-requires-clause-tickets g c =
     let e = ap (λ (l : List BlockLine). length (written_out l)) (to_the_end c.loop-at.at c.args.lines.now) in
-    let less = gone_less c.args.setting.now (written_out c.args.lines.now) (written_out (drop c.loop-at.at c.args.lines.now)) c.args.admin.now c.loop-at.admin c.args.session.now c.loop-at.session c.args.answers.now.items c.loop-at.answers.items (g.A.Rows.reached c.args.rows.now) (g.A.Rows.reached c.loop-at.rows) c.loop-at.invariant.gone in
+    let less = gone_less c.args.setting.now (written_out c.args.lines.now) (written_out (drop c.loop-at.at c.args.lines.now)) c.args.admin.now c.loop-at.admin c.args.session.now c.loop-at.session c.args.answers.now.items c.loop-at.answers.items (g.A.Rows.seen c.args.rows.now).reached (g.A.Rows.seen c.loop-at.rows).reached c.loop-at.invariant.gone in
     omega (arith, e, less.lines, c.loop-at.invariant.draws, c.requires.tickets)
 
 pub play_next-requires-clause-spare : goal.play_next-requires-clause-spare
 play_next-requires-clause-spare g c =
     let e = ap (λ (l : List BlockLine). length (written_out l)) (to_the_end c.loop-at.at c.args.lines.now) in
-    let less = gone_less c.args.setting.now (written_out c.args.lines.now) (written_out (drop c.loop-at.at c.args.lines.now)) c.args.admin.now c.loop-at.admin c.args.session.now c.loop-at.session c.args.answers.now.items c.loop-at.answers.items (g.A.Rows.reached c.args.rows.now) (g.A.Rows.reached c.loop-at.rows) c.loop-at.invariant.gone in
+    let less = gone_less c.args.setting.now (written_out c.args.lines.now) (written_out (drop c.loop-at.at c.args.lines.now)) c.args.admin.now c.loop-at.admin c.args.session.now c.loop-at.session c.args.answers.now.items c.loop-at.answers.items (g.A.Rows.seen c.args.rows.now).reached (g.A.Rows.seen c.loop-at.rows).reached c.loop-at.invariant.gone in
     let k = ap (λ (l : List BlockLine). actions_on (written_out l)) (to_the_end c.loop-at.at c.args.lines.now) in
     omega (arith, e, k, less.lines, less.actions, c.loop-at.invariant.left, c.requires.spare)
 
 pub play_next-requires-clause-room : goal.play_next-requires-clause-room
 play_next-requires-clause-room g c =
     let e = ap (λ (l : List BlockLine). cost_on (written_out l)) (to_the_end c.loop-at.at c.args.lines.now) in
-    let less = gone_less c.args.setting.now (written_out c.args.lines.now) (written_out (drop c.loop-at.at c.args.lines.now)) c.args.admin.now c.loop-at.admin c.args.session.now c.loop-at.session c.args.answers.now.items c.loop-at.answers.items (g.A.Rows.reached c.args.rows.now) (g.A.Rows.reached c.loop-at.rows) c.loop-at.invariant.gone in
+    let less = gone_less c.args.setting.now (written_out c.args.lines.now) (written_out (drop c.loop-at.at c.args.lines.now)) c.args.admin.now c.loop-at.admin c.args.session.now c.loop-at.session c.args.answers.now.items c.loop-at.answers.items (g.A.Rows.seen c.args.rows.now).reached (g.A.Rows.seen c.loop-at.rows).reached c.loop-at.invariant.gone in
     omega (arith, e, less.costs, c.loop-at.invariant.room, c.requires.room)
 
 pub loop-at-preserved : goal.loop-at-preserved
@@ -84,11 +84,11 @@ loop-at-preserved g c =
     let rest : List BlockLine = written_out (drop (at + n) lines) in
     let here : take (length lines - at) (drop at lines) ≡ drop at lines = to_the_end at lines in
     let there : drop n (take (length lines - at) (drop at lines)) ≡ drop (at + n) lines = ap (λ (l : List BlockLine). drop n l) here ∙ drop_both at n lines in
-    let one : HaveGone c.args.setting.now mid rest c.loop-at.admin c.play_next.new.admin c.loop-at.session new c.loop-at.answers.items c.play_next.new.answers.items (g.A.Rows.reached c.loop-at.rows) (g.A.Rows.reached c.play_next.new.rows) =
-    subst (λ (l : List BlockLine). HaveGone c.args.setting.now mid (written_out l) c.loop-at.admin c.play_next.new.admin c.loop-at.session new c.loop-at.answers.items c.play_next.new.answers.items (g.A.Rows.reached c.loop-at.rows) (g.A.Rows.reached c.play_next.new.rows)) there
-    (subst (λ (l : List BlockLine). HaveGone c.args.setting.now (written_out l) (written_out (drop n (take (length lines - at) (drop at lines)))) c.loop-at.admin c.play_next.new.admin c.loop-at.session new c.loop-at.answers.items c.play_next.new.answers.items (g.A.Rows.reached c.loop-at.rows) (g.A.Rows.reached c.play_next.new.rows)) here now.gone) in
-    let less = gone_less c.args.setting.now whole mid c.args.admin.now c.loop-at.admin c.args.session.now c.loop-at.session c.args.answers.now.items c.loop-at.answers.items (g.A.Rows.reached c.args.rows.now) (g.A.Rows.reached c.loop-at.rows) before.gone in
-    let less_one = gone_less c.args.setting.now mid rest c.loop-at.admin c.play_next.new.admin c.loop-at.session new c.loop-at.answers.items c.play_next.new.answers.items (g.A.Rows.reached c.loop-at.rows) (g.A.Rows.reached c.play_next.new.rows) one in
+    let one : HaveGone c.args.setting.now mid rest c.loop-at.admin c.play_next.new.admin c.loop-at.session new c.loop-at.answers.items c.play_next.new.answers.items (g.A.Rows.seen c.loop-at.rows).reached (g.A.Rows.seen c.play_next.new.rows).reached =
+    subst (λ (l : List BlockLine). HaveGone c.args.setting.now mid (written_out l) c.loop-at.admin c.play_next.new.admin c.loop-at.session new c.loop-at.answers.items c.play_next.new.answers.items (g.A.Rows.seen c.loop-at.rows).reached (g.A.Rows.seen c.play_next.new.rows).reached) there
+    (subst (λ (l : List BlockLine). HaveGone c.args.setting.now (written_out l) (written_out (drop n (take (length lines - at) (drop at lines)))) c.loop-at.admin c.play_next.new.admin c.loop-at.session new c.loop-at.answers.items c.play_next.new.answers.items (g.A.Rows.seen c.loop-at.rows).reached (g.A.Rows.seen c.play_next.new.rows).reached) here now.gone) in
+    let less = gone_less c.args.setting.now whole mid c.args.admin.now c.loop-at.admin c.args.session.now c.loop-at.session c.args.answers.now.items c.loop-at.answers.items (g.A.Rows.seen c.args.rows.now).reached (g.A.Rows.seen c.loop-at.rows).reached before.gone in
+    let less_one = gone_less c.args.setting.now mid rest c.loop-at.admin c.play_next.new.admin c.loop-at.session new c.loop-at.answers.items c.play_next.new.answers.items (g.A.Rows.seen c.loop-at.rows).reached (g.A.Rows.seen c.play_next.new.rows).reached one in
     let size_here = ap (λ (l : List BlockLine). length (written_out l)) here in
     let size_there = ap (λ (l : List BlockLine). length (written_out l)) there in
     let cost_here = ap (λ (l : List BlockLine). cost_on (written_out l)) here in
@@ -101,7 +101,7 @@ loop-at-preserved g c =
     record {
       count = omega (arith, before.count, shorter, left_over, few);
       may = subst (λ (l : List BlockLine). AllMayPlay 62 new.state.opened.depth (kinds_at new.state) None l) there (subst (λ d. AllMayPlay 62 d (kinds_at new.state) None (drop n (take (length lines - at) (drop at lines)))) (sym now.depth) now.may);
-      gone = gone_both c.args.setting.now whole mid rest c.args.admin.now c.loop-at.admin c.play_next.new.admin c.args.session.now c.loop-at.session new c.args.answers.now.items c.loop-at.answers.items c.play_next.new.answers.items (g.A.Rows.reached c.args.rows.now) (g.A.Rows.reached c.loop-at.rows) (g.A.Rows.reached c.play_next.new.rows) before.gone one;
+      gone = gone_both c.args.setting.now whole mid rest c.args.admin.now c.loop-at.admin c.play_next.new.admin c.args.session.now c.loop-at.session new c.args.answers.now.items c.loop-at.answers.items c.play_next.new.answers.items (g.A.Rows.seen c.args.rows.now).reached (g.A.Rows.seen c.loop-at.rows).reached (g.A.Rows.seen c.play_next.new.rows).reached before.gone one;
       kinds = ap (λ (l : List BlockLine). kinds_after (kinds_at new.state) (written_out l)) (sym there) ∙ (now.kinds ∙ (ap (λ (l : List BlockLine). kinds_after (kinds_at c.loop-at.session.state) (written_out l)) here ∙ before.kinds));
       lie = now.lie;
       drawn = omega (arith, size_here, size_there, before.drawn, now.drawn);
@@ -121,7 +121,7 @@ loop-at-preserved g c =
 
 pub returns-clause-played : goal.returns-clause-played
 returns-clause-played g c =
-    gone_whole c.args.setting.now (written_out c.args.lines.now) (written_out (drop c.loop-at.at c.args.lines.now)) c.args.admin.now c.loop-at.admin c.args.session.now c.loop-at.session c.args.answers.now.items c.loop-at.answers.items (g.A.Rows.reached c.args.rows.now) (g.A.Rows.reached c.loop-at.rows)
+    gone_whole c.args.setting.now (written_out c.args.lines.now) (written_out (drop c.loop-at.at c.args.lines.now)) c.args.admin.now c.loop-at.admin c.args.session.now c.loop-at.session c.args.answers.now.items c.loop-at.answers.items (g.A.Rows.seen c.args.rows.now).reached (g.A.Rows.seen c.loop-at.rows).reached
     (at_the_end c.loop-at.at c.args.lines.now (omega (arith, c.loop-at-test.false))) c.loop-at.invariant.gone
 
 pub returns-clause-kinds : goal.returns-clause-kinds
@@ -147,7 +147,7 @@ returns-clause-leaves g c =
 
 pub returns-clause-admin : goal.returns-clause-admin
 returns-clause-admin g c =
-    gone_after c.args.setting.now (written_out c.args.lines.now) (written_out (drop c.loop-at.at c.args.lines.now)) c.args.admin.now c.loop-at.admin c.args.session.now c.loop-at.session c.args.answers.now.items c.loop-at.answers.items (g.A.Rows.reached c.args.rows.now) (g.A.Rows.reached c.loop-at.rows)
+    gone_after c.args.setting.now (written_out c.args.lines.now) (written_out (drop c.loop-at.at c.args.lines.now)) c.args.admin.now c.loop-at.admin c.args.session.now c.loop-at.session c.args.answers.now.items c.loop-at.answers.items (g.A.Rows.seen c.args.rows.now).reached (g.A.Rows.seen c.loop-at.rows).reached
     (at_the_end c.loop-at.at c.args.lines.now (omega (arith, c.loop-at-test.false))) c.loop-at.invariant.gone
 
 pub returns-clause-actions : goal.returns-clause-actions

@@ -9,7 +9,7 @@ abbrev pub invariant-loop-at : goal.invariant-loop-at
 invariant-loop-at g l = record {
   count : l.at ≤ length l.lines;
   may : AllMayPlay 62 l.session.state.opened.depth (kinds_at l.session.state) None (drop l.at l.lines);
-  gone : HaveGone l.setting (written_out l.lines) (written_out (drop l.at l.lines)) l.fn.admin l.admin l.fn.session l.session l.fn.answers.items l.answers.items (g.A.Rows.reached l.fn.rows) (g.A.Rows.reached l.rows);
+  gone : HaveGone l.setting (written_out l.lines) (written_out (drop l.at l.lines)) l.fn.admin l.admin l.fn.session l.session l.fn.answers.items l.answers.items (g.A.Rows.seen l.fn.rows).reached (g.A.Rows.seen l.rows).reached;
   kinds : kinds_after (kinds_at l.session.state) (written_out (drop l.at l.lines)) ≡ kinds_after (kinds_at l.fn.session.state) (written_out l.lines);
   lie : StagesLie (kinds_at l.session.state);
   drawn : l.session.state.drawn + length (written_out (drop l.at l.lines)) ≤ l.fn.session.state.drawn + length (written_out l.lines);
@@ -19,11 +19,11 @@ invariant-loop-at g l = record {
   last : actions_on (written_out l.lines) ≡ 0 → l.session.state.last ≡ l.fn.session.state.last;
   wide : length l.session.state.held ≡ 193;
   depth : l.session.state.opened.depth ≡ l.fn.session.state.opened.depth;
-  hand : (r : ℕ) → g.A.Rows.hand l.rows r ≡ g.A.Rows.hand l.fn.rows r;
-  left : g.A.Rows.left l.fn.rows ≤ g.A.Rows.left l.rows + (11 * (length (written_out l.lines) - length (written_out (drop l.at l.lines))) + 20192 * (actions_on (written_out l.lines) - actions_on (written_out (drop l.at l.lines))));
-  draws : g.A.Rows.draws l.fn.rows ≤ g.A.Rows.draws l.rows + 2 * (length (written_out l.lines) - length (written_out (drop l.at l.lines)));
-  name : g.A.Rows.name l.rows ≡ g.A.Rows.name l.fn.rows;
-  lent : g.A.Rows.words l.rows ≡ Some l.admin.words;
+  hand : (r : ℕ) → (g.A.Rows.seen l.rows).hand r ≡ (g.A.Rows.seen l.fn.rows).hand r;
+  left : (g.A.Rows.seen l.fn.rows).left ≤ (g.A.Rows.seen l.rows).left + (11 * (length (written_out l.lines) - length (written_out (drop l.at l.lines))) + 20192 * (actions_on (written_out l.lines) - actions_on (written_out (drop l.at l.lines))));
+  draws : (g.A.Rows.seen l.fn.rows).draws ≤ (g.A.Rows.seen l.rows).draws + 2 * (length (written_out l.lines) - length (written_out (drop l.at l.lines)));
+  name : (g.A.Rows.seen l.rows).name ≡ (g.A.Rows.seen l.fn.rows).name;
+  lent : (g.A.Rows.seen l.rows).words ≡ Some l.admin.words;
   room : l.fn.session.journal.room ≤ l.session.journal.room + (cost_on (written_out l.lines) - cost_on (written_out (drop l.at l.lines)));
 }
 

@@ -9,8 +9,8 @@ abbrev pub invariant-loop-reading : goal.invariant-loop-reading
 invariant-loop-reading g l =
     record {
       reached : Reached l.reader (scope_of l.setting) l.fn.table l.readings.items;
-      calls : Goes (g.R.Rows.reached l.fn.rows) (g.R.Rows.reached l.rows) (calls_of l.readings.items);
-      kept : AreKept (g.R.Rows.left l.fn.rows) (g.R.Rows.left l.rows) (g.R.Rows.draws l.fn.rows) (g.R.Rows.draws l.rows) (g.R.Rows.hand l.fn.rows) (g.R.Rows.hand l.rows) (g.R.Rows.words l.fn.rows) (g.R.Rows.words l.rows) (g.R.Rows.name l.fn.rows) (g.R.Rows.name l.rows);
+      calls : Goes (g.R.Rows.seen l.fn.rows).reached (g.R.Rows.seen l.rows).reached (calls_of l.readings.items);
+      kept : AreKept (g.R.Rows.seen l.fn.rows).left (g.R.Rows.seen l.rows).left (g.R.Rows.seen l.fn.rows).draws (g.R.Rows.seen l.rows).draws (g.R.Rows.seen l.fn.rows).hand (g.R.Rows.seen l.rows).hand (g.R.Rows.seen l.fn.rows).words (g.R.Rows.seen l.rows).words (g.R.Rows.seen l.fn.rows).name (g.R.Rows.seen l.rows).name;
     }
 
 abbrev pub decreases-loop-reading : goal.decreases-loop-reading
