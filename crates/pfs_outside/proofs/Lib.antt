@@ -1,2 +1,2 @@
 pub mod SinkWrites
-mod SourceReads
+pub mod SourceReads

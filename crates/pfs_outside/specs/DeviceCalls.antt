@@ -23,10 +23,10 @@ Moved before after size buffer (Bytes n) = (0 < n) × (n ≤ size) × Gave befor
 Moved before after size buffer End = (after ≡ before) × IfSome before (λ bytes. bytes ≡ [])
 Moved before after size buffer Failed = after ≡ before
 
--- the count never falls, and at a failure it rose
+-- the count is of failed reads: at a failure it rose, and a read that doesn't fail leaves it
 abbrev pub RoseAtFault : ℕ → ℕ → Got → Type 0
-RoseAtFault before now (Bytes n) = before ≤ now
-RoseAtFault before now End = before ≤ now
+RoseAtFault before now (Bytes n) = now ≡ before
+RoseAtFault before now End = now ≡ before
 RoseAtFault before now Failed = (before ≤ now) × Rose before now
 
 -- what a write of this buffer took

@@ -25,6 +25,11 @@ NextReadFails s = Contains s.fails (call_after s.calls)
 abbrev pub new_source : List ℕ → List ℕ → Reading
 new_source bytes fails = record { left = bytes; fails = fails; calls = 0; faults = 0 }
 
+-- one that gives at most so many bytes a read
+pub record ShortReading : Type 0 where
+  pub device : Reading
+  pub most : ℕ
+
 -- one more read was made, and the same reads are to fail
 pub record CountsRead (before after : Reading) : Type 0 where
   pub counted : after.calls ≡ call_after before.calls
@@ -58,6 +63,11 @@ NextWriteFails s = Contains s.fails (call_after s.calls) ⊎ (s.room ≤ length 
 -- a sink with nothing in it, with this room, that will fail at these calls
 abbrev pub new_sink : ℕ → List ℕ → Writing
 new_sink room fails = record { text = []; room = room; fails = fails; calls = 0; faults = 0 }
+
+-- one that takes at most so many bytes a write
+pub record ShortWriting : Type 0 where
+  pub device : Writing
+  pub most : ℕ
 
 -- one more write was made; the room and the writes that are to fail are the same
 pub record CountsWrite (before after : Writing) : Type 0 where

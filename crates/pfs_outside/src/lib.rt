@@ -4,6 +4,7 @@
 
 mod memory;
 mod reading;
+mod short;
 mod sink;
 mod source;
 mod standard;
@@ -11,6 +12,7 @@ mod writing;
 
 pub use memory::{MemorySink, MemorySource};
 pub use reading::{ReadStop, read_all};
+pub use short::{ShortSink, ShortSource};
 pub use sink::{Sink, Wrote};
 pub use source::{Got, Source};
 pub use standard::{StdSink, StdSource};

@@ -25,11 +25,12 @@ pub enum ReadStop {
     NoMemory,
 }
 
-/// Reads a source in pieces until its end, or until more than `most` bytes were taken. The first
-/// failed read ends the reading.
+/// Reads a source in pieces of 65,536 bytes at most until its end, or until more than `most` bytes were taken. The
+/// first failed read ends the reading. At each refusal what was taken is a front of what was left, and the rest is left:
+/// more than `most` bytes by one piece at most, those before the failed read, or as many as there was memory for.
 pub fn read_all<S: Source>(alloc: Global, source: &mut S, most: usize) -> Result<Vec<u8>, ReadStop>
     requires { most < 2 ^ 62 }
-    ensures { Reads (S.left source.old) (S.left source.new) (S.faults source.old) (S.faults source.new) most result }
+    ensures { Reads S.left S.faults source.old source.new most result }
 {
     let mut piece = zeros(alloc, PIECE).map_err(|_| ReadStop::NoMemory)?;
     read_by(alloc, source, most, &mut piece)
@@ -49,9 +50,9 @@ fn read_by<S: Source>(
     most: usize,
     piece: &mut [u8],
 ) -> Result<Vec<u8>, ReadStop>
-    requires some { 0 < length piece.old }
+    requires size { length piece.old ≡ PIECE }
     requires bound { most < 2 ^ 62 }
-    ensures { Reads (S.left source.old) (S.left source.new) (S.faults source.old) (S.faults source.new) most result }
+    ensures { Reads S.left S.faults source.old source.new most result }
 {
     let mut bytes = Vec::new(alloc);
     while bytes.len() <= most {
