@@ -3,7 +3,7 @@ use Rattle.std.proofs.Common.{ℕ, ◌≡◌, ◌≤◌, ◌<◌, ◌⊎◌, inl
 use Rattle.std.specs.Prelude.{String}
 use Rattle.std.specs.declared.alloc.Global.{Global}
 use Rattle.pfs_outside.specs.DeviceCalls.{Rose, Added}
-use Rattle.pfs_outside.specs.WholeStreams.{Puts}
+use Rattle.pfs_outside.specs.WholeStreams.{Puts, ReadToEnd, ReadPast}
 use Rattle.pfs_outside.specs.declared.writing.WriteStop.{WriteStop}
 use Rattle.pfs_outside.specs.declared.writing.WriteStop.TheVariants as stop
 use Rattle.pfs_top.specs.declared.statuses.Status.{Status}
@@ -13,7 +13,7 @@ use Rattle.pfs_script.specs.declared.blocks.Phase.{Phase}
 use Rattle.pfs_script.specs.declared.reasons.Reason.TheVariants.{TooLong}
 use Rattle.pfs_script.specs.Scripts.{IsScript}
 use Rattle.pfs_gen.specs.GeneratedScript.{script_text}
-use Rattle.pfs_top.specs.Commands.{most_bytes, HasReport, HasSummaries, HasLoad, HasFault, HasRead, HasInput, HasPlain, Has, ToldPart, Tells, Ends, status_after}
+use Rattle.pfs_top.specs.Commands.{most_bytes, HasReport, HasSummaries, HasLoad, HasFault, HasRead, HasInput, HasPlain, Has, ToldPart, Tells, Ends, ReadBy, status_after}
 use Rattle.pfs_top.specs.CommandWords.{AsksRun, AsksPlain, AsksScript, AsksLoad}
 
 -- a status that goes with a text of its own
@@ -147,3 +147,23 @@ handed_told words input run load (BadScript line reason) due h = inl (inr h.0, h
 handed_told words input run load ReadFault due h = inl (inr h.0, h.1)
 handed_told words input run load WriteFault due h = inl (inr h.0, h.1)
 handed_told words input run load NoMemory due h = inl (inr h.0, h.1)
+
+-- what was read, where the bytes were run that came
+pub read_whole : {S : Type 0} (left : S → Option (List ℕ)) (faults : S → ℕ) (source rest : S) (bytes : List ℕ) (before after : Option (List ℕ)) (W : Type 0) (status : Status)
+    → ReadToEnd left faults source rest most_bytes bytes → Tells (HasRead bytes) before after W status → ReadBy left faults source rest status
+read_whole left faults source rest bytes before after W Done r t = (bytes, r)
+read_whole left faults source rest bytes before after W Usage r t = absurd t.1
+read_whole left faults source rest bytes before after W (BadScript line reason) r t = inl (bytes, r)
+read_whole left faults source rest bytes before after W ReadFault r t = absurd t
+read_whole left faults source rest bytes before after W WriteFault r t = inl (bytes, r)
+read_whole left faults source rest bytes before after W NoMemory r t = record { bytes = bytes; took = r.took; within = omega (arith, r.within) }
+
+-- and where there were too many
+pub read_past : {S : Type 0} (left : S → Option (List ℕ)) (faults : S → ℕ) (source rest : S) (before after : Option (List ℕ)) (W : Type 0) (status : Status)
+    → ReadPast left faults source rest most_bytes → Tells (HasFault 0 TooLong) before after W status → ReadBy left faults source rest status
+read_past left faults source rest before after W Done r t = absurd t.1
+read_past left faults source rest before after W Usage r t = absurd t.1
+read_past left faults source rest before after W (BadScript line reason) r t = inr r
+read_past left faults source rest before after W ReadFault r t = absurd t
+read_past left faults source rest before after W WriteFault r t = inr r
+read_past left faults source rest before after W NoMemory r t = record { bytes = r.bytes; took = r.took; within = r.within }

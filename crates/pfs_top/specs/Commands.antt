@@ -2,7 +2,7 @@
 use Rattle.std.specs.Prelude.{ℕ, ◌≡◌, ◌≤◌, ◌<◌, ◌⊎◌, List, [], ◌++◌, length, codes, decimal, Option, Some, IfSome, Result, Ok, Err, String}
 use Rattle.std.specs.declared.alloc.Global.{Global}
 use Rattle.pfs_outside.specs.DeviceCalls.{Added}
-use Rattle.pfs_outside.specs.WholeStreams.{AddedPart}
+use Rattle.pfs_outside.specs.WholeStreams.{AddedPart, ReadToEnd, ReadPast, ReadToFault, ReadPart}
 use Rattle.pfs_outside.specs.declared.writing.WriteStop.{WriteStop}
 use Rattle.pfs_outside.specs.declared.writing.WriteStop.TheVariants as stop
 use Rattle.pfs_classes.specs.declared.setting.Setting.{Setting}
@@ -149,12 +149,24 @@ abbrev pub CompletesLoad : List (String Global) → Type 0 → Status → Type 0
 CompletesLoad words WriteRose status =
     (number : ℕ) → AsksLoad words number → ¬ WriteRose → (status ≡ Done) ⊎ (status ≡ NoMemory)
 
--- at the end the source has nothing left
-abbrev pub LeavesNothing : Option (List ℕ) → Status → Type 0
-LeavesNothing left Done = IfSome left (λ rest. rest ≡ [])
-LeavesNothing left _ = Unit {0}
+-- a script was read to its end
+abbrev pub ReadWhole : {S : Type 0} → (S → Option (List ℕ)) → (S → ℕ) → S → S → Type 0
+ReadWhole left faults before after = (bytes : List ℕ) × ReadToEnd left faults before after most_bytes bytes
 
--- what was read: at the end of a script's run all that there was; of a source that wasn't asked nothing
-pub record LeavesSource (Asked : Type 0) (before after : Option (List ℕ)) (status : Status) : Type 0 where
-  pub all : Asked → LeavesNothing after status
+-- what was read where a script was asked for, by the status: all that there was, or more than a script may have; up to
+-- the first read that failed; or as much as there was memory for
+abbrev pub ReadBy : {S : Type 0} → (S → Option (List ℕ)) → (S → ℕ) → S → S → Status → Type 0
+ReadBy left faults before after Done = ReadWhole left faults before after
+ReadBy left faults before after Usage = ⊥
+ReadBy left faults before after (BadScript line reason) =
+    ReadWhole left faults before after ⊎ ReadPast left faults before after most_bytes
+ReadBy left faults before after ReadFault = ReadToFault left faults before after most_bytes
+ReadBy left faults before after WriteFault =
+    ReadWhole left faults before after ⊎ ReadPast left faults before after most_bytes
+ReadBy left faults before after NoMemory = ReadPart left faults before after most_bytes
+
+-- what was read; a source that wasn't asked is as it was
+pub record LeavesSource {S : Type 0} (left : S → Option (List ℕ)) (faults : S → ℕ) (Asked : Type 0) (before after : S)
+    (status : Status) : Type 0 where
+  pub asked : Asked → ReadBy left faults before after status
   pub none : ¬ Asked → after ≡ before

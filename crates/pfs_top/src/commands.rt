@@ -40,7 +40,7 @@ pub fn pfs_plain<S: Source, K: Sink>(
     ensures ends { Ends (AsksPlain words.now) (HasPlain words.now (S.left source.old)) (K.written sink.old)
         (K.written sink.new) (Rose (S.faults source.old) (S.faults source.new))
         (Rose (K.faults sink.old) (K.faults sink.new)) result }
-    ensures reads { LeavesSource (AsksPlain words.now) (S.left source.old) (S.left source.new) result }
+    ensures reads { LeavesSource S.left S.faults (AsksPlain words.now) source.old source.new result }
     ensures completes { Completes (AsksPlain words.now) (S.left source.old)
         (Rose (S.faults source.old) (S.faults source.new)) (Rose (K.faults sink.old) (K.faults sink.new)) result }
 {
@@ -66,7 +66,7 @@ pub fn pfs<S: Source, K: Sink>(
     ensures ends { Ends (AsksScript words.now) (Has words.now (S.left source.old)) (K.written sink.old)
         (K.written sink.new) (Rose (S.faults source.old) (S.faults source.new))
         (Rose (K.faults sink.old) (K.faults sink.new)) result }
-    ensures reads { LeavesSource (AsksScript words.now) (S.left source.old) (S.left source.new) result }
+    ensures reads { LeavesSource S.left S.faults (AsksScript words.now) source.old source.new result }
     ensures completes { Completes (AsksScript words.now) (S.left source.old)
         (Rose (S.faults source.old) (S.faults source.new)) (Rose (K.faults sink.old) (K.faults sink.new)) result }
     ensures loads { CompletesLoad words.now (Rose (K.faults sink.old) (K.faults sink.new)) result }

@@ -4,7 +4,7 @@ ghost use Rattle.std.specs.Prelude.{ℕ, ◌≡◌, List, IfOk};
 ghost use Rattle.pfs_law_summaries.specs.SummaryLaws.{IsCountedRun};
 ghost use Rattle.pfs_outside.specs.DeviceCalls.{Rose};
 ghost use Rattle.pfs_script.specs.Scripts.{IsScript};
-ghost use Rattle.pfs_top.specs.Commands.{reason_number, fault_text, HasFault, HasRead, HasReport, HasInput, Tells, Ends, LeavesNothing};
+ghost use Rattle.pfs_top.specs.Commands.{reason_number, fault_text, HasFault, HasRead, HasReport, HasInput, Tells, Ends, ReadBy};
 
 use crate::NoMemory;
 use crate::statuses::{Status, status_after};
@@ -97,7 +97,7 @@ fn run_bytes<K: Sink>(alloc: Global, sink: &mut K, bytes: &[u8]) -> Status
 pub fn run<S: Source, K: Sink>(alloc: Global, source: &mut S, sink: &mut K) -> Status
     ensures ends { Ends (Unit {0}) (HasInput (S.left source.old)) (K.written sink.old) (K.written sink.new)
         (Rose (S.faults source.old) (S.faults source.new)) (Rose (K.faults sink.old) (K.faults sink.new)) result }
-    ensures reads { LeavesNothing (S.left source.new) result }
+    ensures reads { ReadBy S.left S.faults source.old source.new result }
 {
     match read_all(alloc, source, MOST_BYTES) {
         Ok(bytes) => run_bytes(alloc, sink, &bytes),
