@@ -11,7 +11,7 @@ mod LineFeeds
 mod LineReadings
 mod OneLine
 mod OneReport
-mod LinePages
+mod EntryLines
 mod PartReadings
 mod PhaseReadings
 mod ReportRuns

@@ -1,6 +1,6 @@
-//! Writing a report: its lines, offered to a sink in order, those of a journal many at a time.
+//! Writing a report: its lines, offered to a sink one by one, in order.
 
-ghost use Rattle.std.specs.Prelude.{ℕ, List, ◌≡◌, ◌+◌, ◌^◌, ◌≤◌, ◌-◌, ◌<◌, OnOk, [], drop, length, take, if◌then◌else◌};
+ghost use Rattle.std.specs.Prelude.{ℕ, List, ◌≡◌, ◌+◌, ◌^◌, ◌<◌, OnOk, [], drop, if◌then◌else◌};
 ghost use Rattle.std.specs.List.{flat_map, slice_index_or};
 ghost use Rattle.pfs_outside.specs.WholeStreams.{Puts};
 ghost use Rattle.pfs_journal.specs.Spelling.{entry_text, is_answered, answered_text, journal_text, block_text, session_line, row_text, table_line, table_text, lost_text, results_text, final_line, final_text, body_text, phase_line, phase_text, phases_text, first_line, spelling};
@@ -14,12 +14,6 @@ use pfs_event::Entry;
 use pfs_outside::{Sink, WriteStop, write_all};
 use pfs_text::{Row, Rowset};
 use std::alloc::Global;
-
-/// How many lines of entries are offered at a time, at most.
-const MANY: usize = 64;
-
-/// The bytes of so many of the longest.
-const PAGE: usize = MANY * ENTRY;
 
 /// A part of a report that is spelled in lines.
 trait Spelled {
@@ -145,51 +139,18 @@ fn put_entry<K: Sink>(
     put_answer(line, sink, entry, answers, place)
 }
 
-/// Puts the lines of the entries between two places at the end of the page, and tells where they begin. They are made
-/// from the last to the first, as each line is.
-#[tactic(auto, using(crate::proofs::LinePages::page_none))]
-fn page_of(page: &mut [u8; PAGE], entries: &EntryList, from: usize, to: usize) -> usize
-    requires order { from ≤ to }
-    requires within { to ≤ length entries.now }
-    requires few { to ≤ from + MANY }
-    ensures text { drop result page.new ≡ flat_map entry_text (take (to - from) (drop from entries.now)) }
-    ensures high { result ≤ PAGE }
-{
-    let mut start = PAGE;
-    let mut at = to;
-    while at > from {
-        at -= 1;
-        start = entry_before(page, start, &entries.entry(at));
-    }
-    start
-}
-
-/// How many lines the next page has, where so many are left.
-fn page_size(left: usize) -> usize
-    ensures few { result ≤ MANY }
-    ensures within { result ≤ left }
-    ensures some { 0 < left → 0 < result }
-{
-    left.min(MANY)
-}
-
-/// Offers a journal without answers, a page of lines at a time.
-#[tactic(auto, using(crate::proofs::LinePages::leaving_all))]
+/// Offers a journal without answers, line by line.
+#[tactic(auto, using(crate::proofs::EntryLines::leaving_all))]
 fn put_entries<K: Sink>(sink: &mut K, entries: &EntryList) -> Result<(), WriteStop>
     ensures { Puts (K.written sink.old) (K.written sink.new) (K.faults sink.old) (K.faults sink.new)
         (flat_map entry_text entries.now) result }
 {
-    let mut page = [b'\n'; PAGE];
-    let count = entries.count();
-    let mut at = 0;
-    while at < count {
-        let end = at + page_size(count - at);
-        let start = page_of(&mut page, entries, at, end);
-        match write_all(sink, &page[start..]) {
+    let mut buffer = [b'\n'; ENTRY];
+    for at in 0..entries.count() {
+        match put_entry_line(&mut buffer, sink, &entries.entry(at)) {
             Ok(()) => {}
             Err(stop) => return Err(stop),
         }
-        at = end;
     }
     Ok(())
 }
@@ -388,9 +349,8 @@ pub fn write_table<K: Sink>(
     table.put(&mut line, sink)
 }
 
-/// Writes a report to a sink: the entries of a journal without answers up to 64 lines at a time, all else line by
-/// line, each built in a buffer. The rest of what was taken in part is offered again. On a refusal a front of the
-/// report was written.
+/// Writes a report to a sink, line by line, each with its line feed and built in a buffer. The rest of a line that was
+/// taken in part is offered again. On a refusal a front of the report was written.
 #[tactic(auto, using(pfs_outside::proofs::SinkWrites::puts_then, pfs_outside::proofs::SinkWrites::puts_stop), unfolding(crate::specs::Spelling::spelling))]
 pub fn write<K: Sink>(alloc: Global, report: &Report, sink: &mut K) -> Result<(), WriteStop>
     ensures { Puts (K.written sink.old) (K.written sink.new) (K.faults sink.old) (K.faults sink.new)

@@ -1,7 +1,7 @@
 use Rattle.std.proofs.Common.{ℕ, List, ◌≡◌, ◌∙◌, subst, length, refl, rules, arith}
 use Rattle.pfs_outside.specs.WholeStreams.{Puts}
 use Rattle.pfs_journal.specs.Spelling.{entry_text}
-use Rattle.pfs_journal.proofs.LinePages.{alone, to_the_end}
+use Rattle.pfs_journal.proofs.EntryLines.{alone, to_the_end}
 use Rattle.pfs_journal.proofs.writing.put_entry_line.Goals as goal
 
 pub returns : goal.returns

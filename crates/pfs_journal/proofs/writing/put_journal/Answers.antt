@@ -2,7 +2,7 @@ use Rattle.std.proofs.Common.{ℕ, List, ◌≡◌, ◌∙◌, [], ap, sym, subs
 use Rattle.pfs_outside.specs.WholeStreams.{Puts}
 use Rattle.pfs_journal.specs.Spelling.{journal_text}
 use Rattle.pfs_journal.proofs.WrittenJournals.{Answers}
-use Rattle.pfs_journal.proofs.LinePages.{unanswered}
+use Rattle.pfs_journal.proofs.EntryLines.{unanswered}
 use Rattle.pfs_journal.proofs.PartReadings.{is_empty}
 use Rattle.pfs_journal.proofs.writing.put_journal.Goals as goal
 
