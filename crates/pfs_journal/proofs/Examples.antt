@@ -22,8 +22,8 @@ unfolding row_text value_text field_text digits
 row_line = refl
 
 -- a report with one answer
-answered_report : spelling (record { format = 0; phases = record { number = 1; blocks = record { session = 3; entries = entry.Query ∷ entry.Rows 1 ∷ []; answers = ((value.Number 5 ∷ []) ∷ []) ∷ [] } ∷ []; tables = []; lost = [] } ∷ [] })
-    ≡ codes "pfs-report 0\nphase 1\nsession 3\nquery\nrows 1\nrow 5\nfinal\nend\n"
+answered_report : spelling (record { format = 1; phases = record { number = 1; blocks = record { session = 3; entries = entry.Query ∷ entry.Rows 1 ∷ []; answers = ((value.Number 5 ∷ []) ∷ []) ∷ [] } ∷ []; tables = []; lost = [] } ∷ [] })
+    ≡ codes "pfs-report 1\nphase 1\nsession 3\nquery\nrows 1\nrow 5\nfinal\nend\n"
 unfolding spelling first_line phases_text phase_text phase_line body_text block_text session_line journal_text answered_text row_text value_text final_text final_line results_text numbers_text field_text digits
 answered_report = refl
 

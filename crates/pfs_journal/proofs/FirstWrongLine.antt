@@ -30,7 +30,7 @@ rows_closing zero = says.Final ∷ says.End ∷ []
 rows_closing (suc due) = says.Row [] ∷ rows_closing due
 
 closing : Place → List Line
-closing Start = says.Head 0 ∷ says.End ∷ []
+closing Start = says.Head 1 ∷ says.End ∷ []
 closing Phases = says.End ∷ []
 closing Blocks = says.Final ∷ says.End ∷ []
 closing (Journal due) = rows_closing due
@@ -69,7 +69,7 @@ rows_good (suc due) = empty_row (rows_closing due) (rows_good due)
 
 closing_good : (place : Place) → All IsGoodLine (closing place)
 unfolding closing
-closing_good Start = one_good (says.Head 0) (says.End ∷ []) (omega arith) (All-cons FitsField (Some 0) [] (omega arith) (All-nil FitsField)) end_good
+closing_good Start = one_good (says.Head 1) (says.End ∷ []) refl (All-cons FitsField (Some 1) [] (omega arith) (All-nil FitsField)) end_good
 closing_good Phases = end_good
 closing_good Blocks = final_good
 closing_good (Journal due) = rows_good due

@@ -1,5 +1,5 @@
 -- The report of lines that run from its first place to its last.
-use Rattle.std.proofs.Common.{ℕ, zero, suc, ◌≡◌, ◌≢◌, ◌≤◌, List, [], ◌∷◌, ◌++◌, length, map, Option, Some, None, append_assoc, sym, ap, subst, ◌∙◌, refl, arith}
+use Rattle.std.proofs.Common.{ℕ, zero, suc, ◌≡◌, ◌≢◌, List, [], ◌∷◌, ◌++◌, length, map, Option, Some, None, append_assoc, sym, ap, subst, ◌∙◌, refl, arith}
 use Rattle.std.specs.Prelude.{if◌then◌else◌}
 use Rattle.std.specs.List.{All, flat_map}
 use Rattle.std.proofs.lemmas.List.Elements.{All-head, All-tail, All-nil, All-cons}
@@ -31,11 +31,11 @@ pub record Parts : Type 0 where
   pub format : ℕ
 
 abbrev pub no_parts : List PhaseParts → Parts
-no_parts phases = record { rows = []; entries = []; answers = []; blocks = []; tables = []; lost = []; phases = phases; format = 0 }
+no_parts phases = record { rows = []; entries = []; answers = []; blocks = []; tables = []; lost = []; phases = phases; format = 1 }
 
 -- the tables and counters at a phase's end, and the phases behind it
 abbrev pub results : List TableReport → List LostReport → List PhaseParts → Parts
-results tables lost phases = record { rows = []; entries = []; answers = []; blocks = []; tables = tables; lost = lost; phases = phases; format = 0 }
+results tables lost phases = record { rows = []; entries = []; answers = []; blocks = []; tables = tables; lost = lost; phases = phases; format = 1 }
 
 -- a line in front of these parts
 abbrev pub add : Line → Parts → Parts
@@ -171,10 +171,10 @@ pub record AreGood (p : Parts) : Type 0 where
   pub tables : All IsTable p.tables
   pub lost : All IsLost p.lost
   pub phases : All IsPhase p.phases
-  pub format : p.format ≤ 2
+  pub format : p.format ≡ 1
 
 good_results : (tables : List TableReport) (lost : List LostReport) (phases : List PhaseParts) → All IsTable tables → All IsLost lost → All IsPhase phases → AreGood (results tables lost phases)
-good_results tables lost phases t l p = record { rows = All-nil IsRow; answers = All-nil (All IsRow); answered = refl; blocks = All-nil IsBlock; tables = t; lost = l; phases = p; format = omega arith }
+good_results tables lost phases t l p = record { rows = All-nil IsRow; answers = All-nil (All IsRow); answered = refl; blocks = All-nil IsBlock; tables = t; lost = l; phases = p; format = refl }
 
 good_none : (phases : List PhaseParts) → All IsPhase phases → AreGood (no_parts phases)
 good_none phases good = good_results [] [] phases (All-nil IsTable) (All-nil IsLost) good
@@ -202,7 +202,7 @@ good_table name p g good some =
 good_lost : (lost : LostReport) (p : Parts) → AreGood p → IsLost lost → AreGood (add (says.Lost lost) p)
 good_lost lost p g good = good_results [] (lost ∷ p.lost) p.phases (All-nil IsTable) (All-cons IsLost lost p.lost good g.lost) g.phases
 
-good_format : (format : ℕ) (p : Parts) → AreGood p → format ≤ 2 → AreGood (add (says.Head format) p)
+good_format : (format : ℕ) (p : Parts) → AreGood p → format ≡ 1 → AreGood (add (says.Head format) p)
 good_format format p g good = record { rows = g.rows; answers = g.answers; answered = g.answered; blocks = g.blocks; tables = g.tables; lost = g.lost; phases = g.phases; format = good }
 
 some_row : {X : Type 0} (x : X) (xs : List X) → x ∷ xs ≢ []

@@ -25,7 +25,7 @@ Answer = List (List RowValue)
 
 -- parts where no answer and no table is open
 abbrev open_parts : List Entry → List Answer → List BlockReport → List TableReport → List LostReport → List PhaseParts → Parts
-open_parts entries answers blocks tables lost phases = record { rows = []; entries = entries; answers = answers; blocks = blocks; tables = tables; lost = lost; phases = phases; format = 0 }
+open_parts entries answers blocks tables lost phases = record { rows = []; entries = entries; answers = answers; blocks = blocks; tables = tables; lost = lost; phases = phases; format = 1 }
 
 abbrev with_rows : Answer → Parts → Parts
 with_rows rows p = record p { rows = rows }

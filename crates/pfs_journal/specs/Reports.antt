@@ -1,5 +1,5 @@
 -- Which values a report can have.
-use Rattle.std.specs.Prelude.{ℕ, ◌≡◌, ◌≢◌, ◌≤◌, ◌==◌, Bool, true, ◌&&◌, ◌||◌, nat_le, List, [], length, map, Option, Some, None}
+use Rattle.std.specs.Prelude.{ℕ, ◌≡◌, ◌≢◌, ◌==◌, Bool, true, ◌&&◌, ◌||◌, nat_le, List, [], length, map, Option, Some, None}
 use Rattle.std.specs.List.{All, filter_map}
 use Rattle.pfs_event.specs.declared.entry.Entry.{Entry}
 use Rattle.pfs_event.specs.declared.entry.Entry.TheVariants as entry
@@ -67,7 +67,7 @@ pub record IsPhase (phase : PhaseParts) : Type 0 where
   pub tables : All IsTable phase.tables
   pub lost : All IsLost phase.lost
 
--- the formats are numbered from 0 to 2
+-- there is one format
 pub record IsReport (report : ReportParts) : Type 0 where
-  pub format : report.format ≤ 2
+  pub format : report.format ≡ 1
   pub phases : All IsPhase report.phases

@@ -1,5 +1,5 @@
 -- The lines of a report one by one.
-use Rattle.std.specs.Prelude.{ℕ, ◌≤◌, List, codes}
+use Rattle.std.specs.Prelude.{ℕ, ◌≡◌, List, codes}
 use Rattle.pfs_journal.specs.declared.line.Line.{Line}
 use Rattle.pfs_journal.specs.declared.line.Line.TheVariants.{Head, Phase, Session, Entry, Row, Final, Table, Lost, End}
 use Rattle.pfs_journal.specs.Reports.{IsRow, IsName, IsLost}
@@ -23,7 +23,7 @@ abbrev pub IsLine : Line → Type 0
 IsLine (Row row) = IsRow row
 IsLine (Table name) = IsName name
 IsLine (Lost lost) = IsLost lost
-IsLine (Head format) = format ≤ 2
+IsLine (Head format) = format ≡ 1
 IsLine _ = Unit {0}
 
 -- a line of a report whose numbers are below 2^64

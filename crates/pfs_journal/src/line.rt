@@ -61,7 +61,7 @@ pub fn is_line(says: &Line) -> bool
         Line::Row(row) => is_row(row),
         Line::Table(name) => is_name(name.as_bytes()),
         Line::Lost(lost) => is_name(lost.name.as_bytes()),
-        Line::Head(format) => *format <= 2,
+        Line::Head(format) => *format == 1,
         _ => true,
     }
 }

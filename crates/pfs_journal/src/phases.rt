@@ -1,6 +1,6 @@
 //! Reading the blocks and phases of a report, and the whole of it.
 
-ghost use Rattle.std.specs.Prelude.{ℕ, List, ◌≡◌, ◌≢◌, ◌++◌, [], ◌<◌, ◌≤◌, length, IfOk, Some};
+ghost use Rattle.std.specs.Prelude.{ℕ, List, ◌≡◌, ◌≢◌, ◌++◌, [], ◌<◌, length, IfOk, Some};
 ghost use Rattle.std.specs.List.{All, flat_map};
 ghost use Rattle.pfs_journal.specs.declared.line.Line.TheVariants as says;
 ghost use Rattle.pfs_journal.specs.SingleLines.{line_text, IsLine};
@@ -187,7 +187,7 @@ fn read_phases(
 
 /// The report of these phases, where nothing is left.
 fn end_report(lines: &Lines<'_>, format: u64, phases: PhaseList) -> Result<Report, ReadStop>
-    requires format { format ≤ 2 }
+    requires format { format ≡ 1 }
     requires phases { All IsPhase phases }
     ensures report { IfOk result (λ report. report ≡ record { format = format; phases = phases }) }
     ensures whole { IfOk result (λ _. lines.now.rest.now ≡ []) }
@@ -202,7 +202,7 @@ fn end_report(lines: &Lines<'_>, format: u64, phases: PhaseList) -> Result<Repor
 
 /// What follows the first line.
 fn read_report(alloc: Global, lines: &mut Lines<'_>, format: u64) -> Result<Report, ReadStop>
-    requires { format ≤ 2 }
+    requires { format ≡ 1 }
     ensures report { IfOk result (λ report. line_text (says.Head format) ++ lines.old.rest.now ≡ spelling report) }
     ensures stops { IfBad result (λ at. StopsAfter (Some Phases) lines.old.rest.now lines.old.taken at) }
 {

@@ -126,8 +126,7 @@ pub struct ReportParts {
     pub phases: PhaseList,
 }
 
-/// A report. The number of its format is 0 while parts of the report are not built, 1 for the whole
-/// report, and 2 for the one with the processor time.
+/// A report that the grammar spells. The number of its format is 1.
 #[derive(Drop)]
 pub struct Report {
     parts: ReportParts,

@@ -21,7 +21,7 @@ fn reread(alloc: Global, bytes: &[u8]) -> Result<MemorySink, ReadStop> {
 
 #[test]
 fn reports_go_both_ways(rt: HostRuntime) -> Result<(), Fail> {
-    for text in [WHOLE, b"pfs-report 0\nend\n", b"pfs-report 2\nend\n"] {
+    for text in [WHOLE, b"pfs-report 1\nend\n"] {
         match reread(rt.alloc(), text) {
             Ok(sink) => assert_eq!(rt; sink.bytes(), text),
             Err(_) => return Err(Fail::from("the report is read and written")),
@@ -30,10 +30,11 @@ fn reports_go_both_ways(rt: HostRuntime) -> Result<(), Fail> {
     Ok(())
 }
 
-const WRONG_LINES: [(&[u8], u64); 26] = [
+const WRONG_LINES: [(&[u8], u64); 27] = [
     (b"", 1),
-    (b"pfs-report 0", 1),
-    (b"pfs-report 3\nend\n", 1),
+    (b"pfs-report 1", 1),
+    (b"pfs-report 0\nend\n", 1),
+    (b"pfs-report 2\nend\n", 1),
     (b"pfs-report 01\nend\n", 1),
     (b"phase 1\n", 1),
     (b"pfs-report 1\n", 2),
