@@ -34,6 +34,33 @@ fn a_sink_takes_what_fits_and_fails_where_it_is_told(rt: HostRuntime) -> Result<
 }
 
 #[test]
+fn short_devices_move_few_bytes_a_call(rt: HostRuntime) -> Result<(), Fail> {
+    let mut source = ShortSource::new(rt.alloc(), b"abcde", 2, &[2])?;
+    let mut buffer = [0u8; 4];
+    for (told, held) in [
+        (Got::Bytes(2), *b"ab\0\0"),
+        (Got::Failed, *b"ab\0\0"),
+        (Got::Bytes(2), *b"cd\0\0"),
+        (Got::Bytes(1), *b"ed\0\0"),
+        (Got::End, *b"ed\0\0"),
+    ] {
+        let got = source.read(&mut buffer);
+        same(&rt, "read", (got, buffer), (told, held));
+    }
+    let mut sink = ShortSink::new(rt.alloc(), 4, 3, &[2])?;
+    for (bytes, told) in [
+        (b"abcd".as_slice(), Wrote::Bytes(3)),
+        (b"de".as_slice(), Wrote::Failed),
+        (b"de".as_slice(), Wrote::Bytes(1)),
+        (b"e".as_slice(), Wrote::Failed),
+    ] {
+        same(&rt, "written", sink.write(bytes), told);
+    }
+    same(&rt, "bytes", sink.bytes(), b"abcd".as_slice());
+    Ok(())
+}
+
+#[test]
 fn whole_streams_are_read_and_written(rt: HostRuntime) -> Result<(), Fail> {
     let alloc = rt.alloc();
     let mut source = MemorySource::new(alloc, b"abcde", &[])?;
