@@ -9,6 +9,7 @@ use std::alloc::{AllocError, Global};
 use std::test::Fail;
 
 mod commands;
+mod devices;
 mod queries;
 mod rings;
 mod statements;
