@@ -3,6 +3,7 @@
 ghost use Rattle.std.specs.Prelude.{◌≡◌, ◌≤◌, ◌<◌, ◌+◌, ◌^◌, ℕ, [], Some, None, IfOk, IfSome, length};
 ghost use Rattle.pfs_admin.specs.OpeningState.{opened};
 ghost use Rattle.pfs_event.specs.Nests.{MayStart};
+ghost use Rattle.pfs_session.specs.CallCosts.{Uses};
 ghost use Rattle.pfs_session.specs.Settlements.{owed_by_state};
 
 use crate::admin;
@@ -138,6 +139,33 @@ const STATEMENT: Subject = Subject {
 };
 
 // An event of so many picoseconds, of a session with nothing open.
+fn event<R: Rows>(session: &mut Session, rows: &mut R, what: &Subject, time: u64) -> Verdict
+    requires may { MayStart session.old.state.opened what.now.kind }
+    requires class { IfSome what.now.class (λ n. n < 63) }
+    requires table { IfSome what.now.table (λ n. n < 64) }
+    requires digest { IfSome what.now.digest (λ n. n < 64) }
+    requires closed { session.old.state.opened ≡ record { depth = 1; events = [] } }
+    requires early { session.old.state.drawn + 1 < 2 ^ 64 }
+    requires alone { (r : ℕ) → 0 < r → (R.seen rows.old).hand r ≡ None }
+    requires spare { 6 ≤ (R.seen rows.old).left }
+    requires tickets { 1 ≤ (R.seen rows.old).draws }
+    requires room { 8 ≤ session.old.journal.room }
+    ensures closed { session.new.state.opened ≡ record { depth = 1; events = [] } }
+    ensures drawn { session.new.state.drawn ≤ session.old.state.drawn + 1 }
+    ensures owed { length (owed_by_state session.new.state) ≤ length (owed_by_state session.old.state) + 2 }
+    ensures uses { Uses 6 1 8 (R.seen rows.old).hand (R.seen rows.new).hand (R.seen rows.old).left
+        (R.seen rows.new).left (R.seen rows.old).draws (R.seen rows.new).draws (R.seen rows.old).name
+        (R.seen rows.new).name session.old.journal session.new.journal }
+    ensures actions { session.new.state.actions ≡ session.old.state.actions }
+    ensures words { (R.seen rows.new).words ≡ (R.seen rows.old).words }
+{
+    let started = session.start(rows, what);
+    session.spend(time);
+    session.end(rows, &Numbers::NONE);
+    started.verdict
+}
+
+// The same of one that counts.
 fn record<R: Rows>(
     session: &mut Session,
     rows: &mut R,
@@ -157,20 +185,15 @@ fn record<R: Rows>(
     ensures closed { session.new.state.opened ≡ record { depth = 1; events = [] } }
     ensures drawn { session.new.state.drawn ≤ session.old.state.drawn + 1 }
     ensures owed { length (owed_by_state session.new.state) ≤ length (owed_by_state session.old.state) + 2 }
-    ensures hand { (r : ℕ) → (R.seen rows.new).hand r ≡ (R.seen rows.old).hand r }
-    ensures left { (R.seen rows.old).left ≤ (R.seen rows.new).left + 6 }
-    ensures draws { (R.seen rows.old).draws ≤ (R.seen rows.new).draws + 1 }
-    ensures room { session.old.journal.room ≤ session.new.journal.room + 8 }
+    ensures uses { Uses 6 1 8 (R.seen rows.old).hand (R.seen rows.new).hand (R.seen rows.old).left
+        (R.seen rows.new).left (R.seen rows.old).draws (R.seen rows.new).draws (R.seen rows.old).name
+        (R.seen rows.new).name session.old.journal session.new.journal }
     ensures actions { session.new.state.actions ≡ session.old.state.actions }
     ensures words { (R.seen rows.new).words ≡ (R.seen rows.old).words }
 {
-    let started = session.start(rows, what);
-    session.spend(time);
-    session.end(rows, &Numbers::NONE);
-    if started.verdict == Verdict::Attributed {
-        Ok(())
-    } else {
-        Err(Fail::from("not attributed"))
+    match event(session, rows, what, time) {
+        Verdict::Attributed => Ok(()),
+        _ => Err(Fail::from("not attributed")),
     }
 }
 
