@@ -1,0 +1,16 @@
+mod ActedEntries
+mod AnswersKept
+mod BlockCuts
+mod ChainFacts
+mod EntryFacts
+mod FaultExamples
+mod KeptRules
+mod MemberCounts
+mod MovesKept
+mod OneJudgement
+mod OneLabels
+mod RisingFacts
+mod RunRules
+mod SetCounts
+mod SetsOnce
+mod TicketFacts

@@ -1,0 +1,9 @@
+pub mod ActionFaults
+pub mod AnswerFaults
+pub mod EntryFaults
+pub mod FaultExamples
+pub mod FinalFaults
+pub mod Judgements
+pub mod ReportCases
+pub mod RingFaults
+pub mod ShapeFaults
