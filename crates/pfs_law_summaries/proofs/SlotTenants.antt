@@ -36,7 +36,7 @@ use Rattle.pfs_law_conservation.proofs.InfoActions.{asked_among}
 use Rattle.pfs_model.proofs.Members.{among_back, among_either}
 use Rattle.pfs_runs.specs.Labels.{asked_at, label_at, rooms_at, work_at, work_for, work_of_label}
 use Rattle.pfs_law_conservation.proofs.AdditionOrder.{IsQuitting, IsSayer, IsSplit, after_quit, before_said, follow_front, last_split, near_split, onto, quits_onto, quitting_is, sayer_is, split_at}
-use Rattle.pfs_law_conservation.proofs.AdditionOrder.{among_either as among_around}
+use Rattle.pfs_law_conservation.proofs.AdditionOrder.{among_split as among_around}
 use Rattle.pfs_law_conservation.proofs.ConnectLines.{IsApart, is_act, is_connecting}
 use Rattle.pfs_law_conservation.proofs.AdditionFloors.{place_among}
 use Rattle.pfs_law_conservation.proofs.SingleQuits.{IsActed, IsIndexed, acted_of, no_other_quit, said_index}
