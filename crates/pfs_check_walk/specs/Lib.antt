@@ -1,0 +1,2 @@
+pub mod NumberTests
+pub mod Walks
