@@ -1,0 +1,4 @@
+mod CutSteps
+mod LineSteps
+mod OpenSteps
+pub mod TrailSteps

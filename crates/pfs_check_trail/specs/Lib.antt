@@ -1,0 +1,4 @@
+pub mod OpenCounts
+pub mod Parts
+pub mod Stops
+pub mod Trails
