@@ -42,8 +42,8 @@ fn cut_line(
     Ok(stop)
 }
 
-/// Cuts a journal by its lines, behind the entries that the trail has. At parts the trail has this journal's entries too,
-/// at a misfit those of the lines before it.
+/// Cuts a journal by its lines, behind the entries that the trail has. At parts the trail has this journal's entries too;
+/// what it has at a misfit isn't said.
 pub fn cut_journal(
     alloc: Global,
     trail: &mut Trail,
