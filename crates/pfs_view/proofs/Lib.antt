@@ -1,0 +1,2 @@
+mod GridLists
+mod WrittenParts

@@ -1,0 +1,8 @@
+use Rattle.std.proofs.Common.{ℕ, List, length}
+use Rattle.pfs_text.specs.declared.values.RowValue.{RowValue}
+use Rattle.pfs_view.specs.ColumnHeadings.{heading_count}
+use Rattle.pfs_view.proofs.GridLists.{wider}
+use Rattle.pfs_view.proofs.grids.Grid.columns.Goals as goal
+
+pub loop-row-preserved : goal.loop-row-preserved
+loop-row-preserved c = wider (λ (row : List RowValue). length row) c.args.self.now.rows.now c.loop-row.row-index _ (heading_count c.args.self.now.layout.headings) c.loop-row-test.true c.loop-row.invariant

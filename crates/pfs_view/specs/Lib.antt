@@ -1,0 +1,5 @@
+pub mod Cells
+pub mod ColumnHeadings
+pub mod Grids
+pub mod ShownReports
+pub mod TimeTexts

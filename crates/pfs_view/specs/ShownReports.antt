@@ -1,0 +1,81 @@
+-- What is shown of a report.
+use Rattle.std.specs.Prelude.{ℕ, ◌==◌, Bool, true, if◌then◌else◌, List, [], ◌∷◌, ◌++◌, map, Option, codes, decimal}
+use Rattle.std.specs.List.{find, flat_map}
+use Rattle.std.specs.Option.{option_map, option_map_or}
+use Rattle.std.specs.Str.{bytes_eq}
+use Rattle.pfs_catalogue.specs.declared.tables.TheConstants.{TABLES}
+use Rattle.pfs_journal.specs.declared.report.PhaseParts.{PhaseParts}
+use Rattle.pfs_journal.specs.declared.report.ReportParts.{ReportParts}
+use Rattle.pfs_journal.specs.declared.values.LostReport.{LostReport}
+use Rattle.pfs_journal.specs.declared.values.TableReport.{TableReport}
+use Rattle.pfs_rows.specs.Tables.{table_name}
+use Rattle.pfs_rows.specs.declared.table.Table.{Table}
+use Rattle.pfs_text.specs.declared.values.RowValue.{RowValue}
+use Rattle.pfs_text.specs.declared.values.RowValue.TheVariants.{Number, Text}
+use Rattle.pfs_view.specs.Grids.{grid_text}
+use Rattle.pfs_view.specs.declared.columns.Headings.{Headings}
+use Rattle.pfs_view.specs.declared.columns.Headings.TheVariants.{Of, Counters, Numbered}
+use Rattle.pfs_view.specs.declared.columns.Times.{Times}
+use Rattle.pfs_view.specs.declared.phases.Choice.{Choice}
+
+-- which phase and which table are shown, all where none is named, and how times are
+pub record Chosen : Type 0 where
+  pub phase : Option ℕ
+  pub table : Option (List ℕ)
+  pub times : Times
+
+abbrev pub chosen_of : Choice → Chosen
+chosen_of choice = record {
+  phase = choice.phase;
+  table = option_map (λ name. name.now) choice.table;
+  times = choice.times;
+}
+
+-- the columns of the table of that name
+abbrev pub headings_of : List ℕ → Headings
+headings_of name = option_map_or Of (find (λ (table : Table). bytes_eq (table_name table) name) TABLES) Numbered
+
+-- a name on a line of its own, behind an empty one
+abbrev pub name_line : List ℕ → List ℕ
+name_line name = codes "\n" ++ name ++ codes "\n"
+
+-- a table under its name
+abbrev pub table_text : Times → TableReport → List ℕ
+table_text times table = name_line table.name ++ grid_text (headings_of table.name) times table.rows
+
+abbrev pub is_chosen_table : Option (List ℕ) → List ℕ → Bool
+is_chosen_table chosen name = option_map_or (λ (one : List ℕ). bytes_eq name one) chosen true
+
+abbrev pub chosen_text : Chosen → TableReport → List ℕ
+chosen_text chosen table = if is_chosen_table chosen.table table.name then table_text chosen.times table else []
+
+-- the counters, as rows of a name and a number
+abbrev pub counter_row : LostReport → List RowValue
+counter_row lost = Text lost.name ∷ Number lost.number ∷ []
+
+-- the counters in a table of their own, where there are some
+abbrev pub counters_text : Times → List LostReport → List ℕ
+counters_text times [] = []
+counters_text times (one ∷ lost) =
+    name_line (codes "lost") ++ grid_text Counters times (map counter_row (one ∷ lost))
+
+-- they are left out where one table is asked for
+abbrev pub lost_text : Chosen → List LostReport → List ℕ
+lost_text chosen lost = option_map_or (λ (name : List ℕ). []) chosen.table (counters_text chosen.times lost)
+
+abbrev pub is_chosen_phase : Option ℕ → ℕ → Bool
+is_chosen_phase chosen number = option_map_or (λ (one : ℕ). number == one) chosen true
+
+abbrev pub phase_line : ℕ → List ℕ
+phase_line number = codes "phase " ++ decimal number ++ codes "\n"
+
+-- a phase under its number, and an empty line behind it
+abbrev pub phase_body : Chosen → PhaseParts → List ℕ
+phase_body chosen phase = phase_line phase.number ++ flat_map (chosen_text chosen) phase.tables
+    ++ lost_text chosen phase.lost ++ codes "\n"
+
+abbrev pub phase_text : Chosen → PhaseParts → List ℕ
+phase_text chosen phase = if is_chosen_phase chosen.phase phase.number then phase_body chosen phase else []
+
+abbrev pub shown_text : Chosen → ReportParts → List ℕ
+shown_text chosen report = flat_map (phase_text chosen) report.phases

@@ -1,0 +1,208 @@
+//! Rows laid out under their headings, in columns as wide as their widest cells.
+
+ghost use Rattle.std.specs.Prelude.{ℕ, ◌≡◌, ◌<◌, ◌+◌, ◌++◌, ◌^◌, OnOk, IfOk};
+ghost use Rattle.std.specs.List.{flat_map};
+ghost use Rattle.pfs_outside.specs.WholeStreams.{Puts};
+ghost use Rattle.pfs_view.specs.Grids.{border_line as spec_border_line, column_total, grid_text, heading_line as spec_heading_line, lines_of, row_line as spec_row_line, width_at, widths_of};
+
+use crate::NoMemory;
+use crate::lines::{Buffers, Layout, border_line};
+use pfs_outside::{Sink, WriteStop, write_all};
+use pfs_text::Row;
+use std::alloc::Global;
+
+/// Rows under their headings.
+#[derive(Clone, Copy)]
+pub struct Grid<'a> {
+    pub layout: Layout,
+    pub rows: &'a [Row],
+}
+
+/// Offers a line that was built, or says that memory ran out.
+pub(crate) fn offer<K: Sink>(sink: &mut K, line: &[u8], built: Result<(), NoMemory>) -> Result<(), WriteStop>
+    ensures { (text : List ℕ) → OnOk built (line.now ≡ text)
+        → Puts (K.written sink.old) (K.written sink.new) (K.faults sink.old) (K.faults sink.new) text result }
+{
+    match built {
+        Ok(()) => write_all(sink, line),
+        Err(_) => Err(WriteStop::NoMemory),
+    }
+}
+
+fn put_border<K: Sink>(
+    buffers: &mut Buffers,
+    sink: &mut K,
+    widths: &[usize],
+) -> Result<(), WriteStop>
+    ensures { Puts (K.written sink.old) (K.written sink.new) (K.faults sink.old) (K.faults sink.new)
+        (spec_border_line widths.now) result }
+{
+    let built = border_line(&mut buffers.line, widths);
+    offer(sink, buffers.line.as_slice(), built)
+}
+
+impl Grid<'_> {
+    /// How many columns there are: each with a heading of its own, and each that a row has a value in.
+    fn columns(&self) -> usize
+        ensures { result ≡ column_total self.now.layout.headings self.now.rows.now }
+    {
+        let mut columns = self.layout.headings.count() as usize;
+        for row in self.rows {
+            columns = columns.max(row.as_slice().len());
+        }
+        columns
+    }
+
+    /// How wide a column is: as its widest cell, or its heading.
+    fn width(&self, cell: &mut Vec<u8>, place: usize) -> Result<usize, NoMemory>
+        requires { place + 1 < 2 ^ 64 }
+        ensures { IfOk result (λ width. width ≡ width_at self.now.layout.headings self.now.layout.times
+            self.now.rows.now place) }
+    {
+        let mut width = self.layout.heading_width(cell, place)?;
+        for row in self.rows {
+            width = width.max(self.layout.cell_width(cell, row.as_slice(), place)?);
+        }
+        Ok(width)
+    }
+
+    /// How wide each column is.
+    fn widths(&self, alloc: Global, cell: &mut Vec<u8>) -> Result<Vec<usize>, NoMemory>
+        ensures { IfOk result (λ widths. widths.items ≡ widths_of self.now.layout.headings self.now.layout.times
+            self.now.rows.now) }
+    {
+        let columns = self.columns();
+        let mut widths = Vec::new(alloc);
+        for place in 0..columns {
+            widths.push(self.width(cell, place)?)?;
+        }
+        Ok(widths)
+    }
+
+    fn put_heading<K: Sink>(
+        &self,
+        buffers: &mut Buffers,
+        sink: &mut K,
+        widths: &[usize],
+    ) -> Result<(), WriteStop>
+        ensures { Puts (K.written sink.old) (K.written sink.new) (K.faults sink.old) (K.faults sink.new)
+            (spec_heading_line self.now.layout.headings widths.now) result }
+    {
+        let built = self.layout.heading_line(buffers, widths);
+        offer(sink, buffers.line.as_slice(), built)
+    }
+
+    fn put_row<K: Sink>(
+        &self,
+        buffers: &mut Buffers,
+        sink: &mut K,
+        widths: &[usize],
+        row: &Row,
+    ) -> Result<(), WriteStop>
+        ensures { Puts (K.written sink.old) (K.written sink.new) (K.faults sink.old) (K.faults sink.new)
+            (spec_row_line self.now.layout.headings self.now.layout.times widths.now row.now) result }
+    {
+        let built = self.layout.row_line(buffers, widths, row);
+        offer(sink, buffers.line.as_slice(), built)
+    }
+
+    /// Offers the rows, in order.
+    fn put_rows<K: Sink>(
+        &self,
+        buffers: &mut Buffers,
+        sink: &mut K,
+        widths: &[usize],
+    ) -> Result<(), WriteStop>
+        ensures { Puts (K.written sink.old) (K.written sink.new) (K.faults sink.old) (K.faults sink.new)
+            (flat_map (spec_row_line self.now.layout.headings self.now.layout.times widths.now) self.now.rows.now)
+            result }
+    {
+        for row in self.rows {
+            match self.put_row(buffers, sink, widths, row) {
+                Ok(()) => {}
+                Err(stop) => return Err(stop),
+            }
+        }
+        Ok(())
+    }
+
+    #[tactic(auto, using(pfs_outside::proofs::SinkWrites::puts_then, pfs_outside::proofs::SinkWrites::puts_stop))]
+    fn put_rows_and_border<K: Sink>(
+        &self,
+        buffers: &mut Buffers,
+        sink: &mut K,
+        widths: &[usize],
+    ) -> Result<(), WriteStop>
+        ensures { Puts (K.written sink.old) (K.written sink.new) (K.faults sink.old) (K.faults sink.new)
+            (flat_map (spec_row_line self.now.layout.headings self.now.layout.times widths.now) self.now.rows.now
+            ++ spec_border_line widths.now) result }
+    {
+        self.put_rows(buffers, sink, widths)?;
+        put_border(buffers, sink, widths)
+    }
+
+    #[tactic(auto, using(pfs_outside::proofs::SinkWrites::puts_then, pfs_outside::proofs::SinkWrites::puts_stop))]
+    fn put_body<K: Sink>(
+        &self,
+        buffers: &mut Buffers,
+        sink: &mut K,
+        widths: &[usize],
+    ) -> Result<(), WriteStop>
+        ensures { Puts (K.written sink.old) (K.written sink.new) (K.faults sink.old) (K.faults sink.new)
+            (spec_border_line widths.now
+            ++ flat_map (spec_row_line self.now.layout.headings self.now.layout.times widths.now) self.now.rows.now
+            ++ spec_border_line widths.now) result }
+    {
+        put_border(buffers, sink, widths)?;
+        self.put_rows_and_border(buffers, sink, widths)
+    }
+
+    #[tactic(auto, using(pfs_outside::proofs::SinkWrites::puts_then, pfs_outside::proofs::SinkWrites::puts_stop))]
+    fn put_below_border<K: Sink>(
+        &self,
+        buffers: &mut Buffers,
+        sink: &mut K,
+        widths: &[usize],
+    ) -> Result<(), WriteStop>
+        ensures { Puts (K.written sink.old) (K.written sink.new) (K.faults sink.old) (K.faults sink.new)
+            (spec_heading_line self.now.layout.headings widths.now ++ spec_border_line widths.now
+            ++ flat_map (spec_row_line self.now.layout.headings self.now.layout.times widths.now) self.now.rows.now
+            ++ spec_border_line widths.now) result }
+    {
+        self.put_heading(buffers, sink, widths)?;
+        self.put_body(buffers, sink, widths)
+    }
+
+    #[tactic(auto, using(pfs_outside::proofs::SinkWrites::puts_then, pfs_outside::proofs::SinkWrites::puts_stop))]
+    fn put_lines<K: Sink>(
+        &self,
+        buffers: &mut Buffers,
+        sink: &mut K,
+        widths: &[usize],
+    ) -> Result<(), WriteStop>
+        ensures { Puts (K.written sink.old) (K.written sink.new) (K.faults sink.old) (K.faults sink.new)
+            (lines_of self.now.layout.headings self.now.layout.times widths.now self.now.rows.now) result }
+    {
+        put_border(buffers, sink, widths)?;
+        self.put_below_border(buffers, sink, widths)
+    }
+
+    /// Offers the grid to a sink line by line: a border, the headings, a border, the rows in their order, a border.
+    /// Each cell stands behind a bar, filled up to its column's width, a number at the right. A row with fewer values
+    /// than there are columns has empty cells behind them, and a value that no heading is known for stands under its
+    /// column's number. On a refusal a front of these lines was written.
+    pub fn put<K: Sink>(
+        &self,
+        alloc: Global,
+        buffers: &mut Buffers,
+        sink: &mut K,
+    ) -> Result<(), WriteStop>
+        ensures { Puts (K.written sink.old) (K.written sink.new) (K.faults sink.old) (K.faults sink.new)
+            (grid_text self.now.layout.headings self.now.layout.times self.now.rows.now) result }
+    {
+        match self.widths(alloc, &mut buffers.cell) {
+            Ok(widths) => self.put_lines(buffers, sink, widths.as_slice()),
+            Err(_) => Err(WriteStop::NoMemory),
+        }
+    }
+}

@@ -1,0 +1,16 @@
+//! A report as tables that people read: each column under its heading, times with units.
+#![tactic(auto)]
+
+mod cells;
+mod columns;
+mod grids;
+mod lines;
+mod phases;
+mod times;
+
+pub use columns::{Headings, Times};
+pub use grids::Grid;
+pub use phases::{Choice, show};
+
+/// Memory ran out.
+pub type NoMemory = std::alloc::AllocError;

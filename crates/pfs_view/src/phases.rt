@@ -1,0 +1,355 @@
+//! What is shown of a report: its tables and counters, phase by phase.
+
+ghost use Rattle.std.specs.Prelude.{ℕ, List, ◌≡◌, ◌++◌, codes, map, IfOk, OnOk};
+ghost use Rattle.std.specs.List.{find, flat_map};
+ghost use Rattle.std.specs.Str.{bytes_eq};
+ghost use Rattle.pfs_outside.specs.WholeStreams.{Puts};
+ghost use Rattle.pfs_rows.specs.Tables.{table_name};
+ghost use Rattle.pfs_view.specs.Grids.{grid_text};
+ghost use Rattle.pfs_view.specs.declared.columns.Headings.TheVariants.{Counters};
+ghost use Rattle.pfs_view.specs.ShownReports.{chosen_of, chosen_text, counter_row as spec_counter_row, counters_text, headings_of as spec_headings_of, is_chosen_phase, is_chosen_table, lost_text, name_line as spec_name_line, phase_body, phase_line as spec_phase_line, phase_text, shown_text, table_text};
+
+use crate::NoMemory;
+use crate::columns::{Headings, Times};
+use crate::grids::{Grid, offer};
+use crate::lines::{Buffers, Layout};
+use pfs_catalogue::TABLES;
+use pfs_journal::{LostReport, PhaseParts, PhaseReport, Report, TableReport};
+use pfs_outside::{Sink, WriteStop, write_all};
+use pfs_rows::Table;
+use pfs_text::{Row, RowValue, Text, put_u64};
+use std::alloc::Global;
+
+/// What of a report is shown.
+#[derive(Clone, Copy)]
+pub struct Choice<'a> {
+    /// The phase of this number alone, or each.
+    pub phase: Option<u64>,
+    /// The tables of this name alone, or each, and the counters.
+    pub table: Option<&'a [u8]>,
+    /// How times are shown.
+    pub times: Times,
+}
+
+/// The first of the tables that has this name.
+fn table_named(tables: &[Table], name: &[u8]) -> Option<Table>
+    ensures { result ≡ find (λ table. bytes_eq (table_name table) name.now) tables.now }
+{
+    for table in tables {
+        if has_name(*table, name) {
+            return Some(*table);
+        }
+    }
+    None
+}
+
+fn has_name(table: Table, name: &[u8]) -> bool
+    ensures { result ≡ bytes_eq (table_name table) name.now }
+{
+    table.name().as_bytes() == name
+}
+
+/// The columns of the table of that name, in small letters and without its schema, as a report names it.
+fn headings_of(name: &[u8]) -> Headings
+    ensures { result ≡ spec_headings_of name.now }
+{
+    match table_named(&TABLES, name) {
+        Some(table) => Headings::Of(table),
+        None => Headings::Numbered,
+    }
+}
+
+/// The line of a table's name, with an empty line before it.
+fn name_line(line: &mut Vec<u8>, name: &[u8]) -> Result<(), NoMemory>
+    ensures { OnOk result (line.new.items ≡ spec_name_line name.now) }
+{
+    line.clear();
+    line.extend_from_slice(b"\n")?;
+    line.extend_from_slice(name)?;
+    line.extend_from_slice(b"\n")
+}
+
+/// A row of a counter's name and its number.
+fn counter_row(alloc: Global, lost: &LostReport) -> Result<Row, NoMemory>
+    ensures { IfOk result (λ row. row ≡ spec_counter_row lost.now) }
+{
+    let mut values = Vec::new(alloc);
+    values.push(RowValue::Text(Text::from_slice(alloc, lost.name.as_bytes())?))?;
+    values.push(RowValue::Number(lost.number))?;
+    Ok(Row::new(values))
+}
+
+/// The counters as rows.
+fn counter_rows(alloc: Global, lost: &[LostReport]) -> Result<Vec<Row>, NoMemory>
+    ensures { IfOk result (λ rows. rows.items ≡ map spec_counter_row lost.now) }
+{
+    let mut rows = Vec::new(alloc);
+    for one in lost {
+        rows.push(counter_row(alloc, one)?)?;
+    }
+    Ok(rows)
+}
+
+impl Choice<'_> {
+    /// Whether tables of this name are shown.
+    fn shows_table(&self, name: &[u8]) -> bool
+        ensures { result ≡ is_chosen_table (chosen_of self.now).table name.now }
+    {
+        match self.table {
+            Some(one) => name == one,
+            None => true,
+        }
+    }
+
+    /// Whether the phase of this number is shown.
+    fn shows_phase(&self, number: u64) -> bool
+        ensures { result ≡ is_chosen_phase (chosen_of self.now).phase number }
+    {
+        match self.phase {
+            Some(one) => number == one,
+            None => true,
+        }
+    }
+}
+
+fn put_name<K: Sink>(buffers: &mut Buffers, sink: &mut K, name: &[u8]) -> Result<(), WriteStop>
+    ensures { Puts (K.written sink.old) (K.written sink.new) (K.faults sink.old) (K.faults sink.new)
+        (spec_name_line name.now) result }
+{
+    let built = name_line(&mut buffers.line, name);
+    offer(sink, buffers.line.as_slice(), built)
+}
+
+fn put_grid<K: Sink>(
+    alloc: Global,
+    headings: Headings,
+    times: Times,
+    rows: &[Row],
+    buffers: &mut Buffers,
+    sink: &mut K,
+) -> Result<(), WriteStop>
+    ensures { Puts (K.written sink.old) (K.written sink.new) (K.faults sink.old) (K.faults sink.new)
+        (grid_text headings times rows.now) result }
+{
+    let layout = Layout { headings, times };
+    Grid { layout, rows }.put(alloc, buffers, sink)
+}
+
+/// Offers a table under its name.
+#[tactic(auto, using(pfs_outside::proofs::SinkWrites::puts_then, pfs_outside::proofs::SinkWrites::puts_stop))]
+fn put_table<K: Sink>(
+    alloc: Global,
+    times: Times,
+    table: &TableReport,
+    buffers: &mut Buffers,
+    sink: &mut K,
+) -> Result<(), WriteStop>
+    ensures { Puts (K.written sink.old) (K.written sink.new) (K.faults sink.old) (K.faults sink.new)
+        (table_text times table.now) result }
+{
+    let name = table.name.as_bytes();
+    put_name(buffers, sink, name)?;
+    put_grid(alloc, headings_of(name), times, table.rows.as_slice(), buffers, sink)
+}
+
+/// Offers a table, where it is shown.
+fn put_chosen<K: Sink>(
+    alloc: Global,
+    choice: &Choice<'_>,
+    table: &TableReport,
+    buffers: &mut Buffers,
+    sink: &mut K,
+) -> Result<(), WriteStop>
+    ensures { Puts (K.written sink.old) (K.written sink.new) (K.faults sink.old) (K.faults sink.new)
+        (chosen_text (chosen_of choice.now) table.now) result }
+{
+    if choice.shows_table(table.name.as_bytes()) {
+        put_table(alloc, choice.times, table, buffers, sink)
+    } else {
+        Ok(())
+    }
+}
+
+/// Offers the tables that are shown, in order.
+fn put_tables<K: Sink>(
+    alloc: Global,
+    choice: &Choice<'_>,
+    tables: &[TableReport],
+    buffers: &mut Buffers,
+    sink: &mut K,
+) -> Result<(), WriteStop>
+    ensures { Puts (K.written sink.old) (K.written sink.new) (K.faults sink.old) (K.faults sink.new)
+        (flat_map (chosen_text (chosen_of choice.now)) tables.now) result }
+{
+    for table in tables {
+        match put_chosen(alloc, choice, table, buffers, sink) {
+            Ok(()) => {}
+            Err(stop) => return Err(stop),
+        }
+    }
+    Ok(())
+}
+
+/// Offers the counters under their name, where there are some.
+#[tactic(auto, using(pfs_outside::proofs::SinkWrites::puts_then, pfs_outside::proofs::SinkWrites::puts_stop))]
+fn put_counters<K: Sink>(
+    alloc: Global,
+    times: Times,
+    rows: &[Row],
+    buffers: &mut Buffers,
+    sink: &mut K,
+) -> Result<(), WriteStop>
+    ensures { Puts (K.written sink.old) (K.written sink.new) (K.faults sink.old) (K.faults sink.new)
+        (spec_name_line (codes "lost") ++ grid_text Counters times rows.now) result }
+{
+    put_name(buffers, sink, b"lost")?;
+    put_grid(alloc, Headings::Counters, times, rows, buffers, sink)
+}
+
+fn put_some_lost<K: Sink>(
+    alloc: Global,
+    times: Times,
+    lost: &[LostReport],
+    buffers: &mut Buffers,
+    sink: &mut K,
+) -> Result<(), WriteStop>
+    ensures { Puts (K.written sink.old) (K.written sink.new) (K.faults sink.old) (K.faults sink.new)
+        (counters_text times lost.now) result }
+{
+    if lost.is_empty() {
+        return Ok(());
+    }
+    match counter_rows(alloc, lost) {
+        Ok(rows) => put_counters(alloc, times, rows.as_slice(), buffers, sink),
+        Err(_) => Err(WriteStop::NoMemory),
+    }
+}
+
+/// Offers the counters, unless one table is asked for.
+fn put_lost<K: Sink>(
+    alloc: Global,
+    choice: &Choice<'_>,
+    lost: &[LostReport],
+    buffers: &mut Buffers,
+    sink: &mut K,
+) -> Result<(), WriteStop>
+    ensures { Puts (K.written sink.old) (K.written sink.new) (K.faults sink.old) (K.faults sink.new)
+        (lost_text (chosen_of choice.now) lost.now) result }
+{
+    match choice.table {
+        Some(_) => Ok(()),
+        None => put_some_lost(alloc, choice.times, lost, buffers, sink),
+    }
+}
+
+/// The line of a phase's number.
+fn phase_line(line: &mut Vec<u8>, number: u64) -> Result<(), NoMemory>
+    ensures { OnOk result (line.new.items ≡ spec_phase_line number) }
+{
+    line.clear();
+    line.extend_from_slice(b"phase ")?;
+    put_u64(line, number)?;
+    line.extend_from_slice(b"\n")
+}
+
+fn put_phase_line<K: Sink>(
+    buffers: &mut Buffers,
+    sink: &mut K,
+    number: u64,
+) -> Result<(), WriteStop>
+    ensures { Puts (K.written sink.old) (K.written sink.new) (K.faults sink.old) (K.faults sink.new)
+        (spec_phase_line number) result }
+{
+    let built = phase_line(&mut buffers.line, number);
+    offer(sink, buffers.line.as_slice(), built)
+}
+
+#[tactic(auto, using(pfs_outside::proofs::SinkWrites::puts_then, pfs_outside::proofs::SinkWrites::puts_stop))]
+fn put_lost_and_end<K: Sink>(
+    alloc: Global,
+    choice: &Choice<'_>,
+    lost: &[LostReport],
+    buffers: &mut Buffers,
+    sink: &mut K,
+) -> Result<(), WriteStop>
+    ensures { Puts (K.written sink.old) (K.written sink.new) (K.faults sink.old) (K.faults sink.new)
+        (lost_text (chosen_of choice.now) lost.now ++ codes "\n") result }
+{
+    put_lost(alloc, choice, lost, buffers, sink)?;
+    write_all(sink, b"\n")
+}
+
+#[tactic(auto, using(pfs_outside::proofs::SinkWrites::puts_then, pfs_outside::proofs::SinkWrites::puts_stop))]
+fn put_below_phase<K: Sink>(
+    alloc: Global,
+    choice: &Choice<'_>,
+    phase: &PhaseParts,
+    buffers: &mut Buffers,
+    sink: &mut K,
+) -> Result<(), WriteStop>
+    ensures { Puts (K.written sink.old) (K.written sink.new) (K.faults sink.old) (K.faults sink.new)
+        (flat_map (chosen_text (chosen_of choice.now)) phase.now.tables
+        ++ lost_text (chosen_of choice.now) phase.now.lost ++ codes "\n") result }
+{
+    put_tables(alloc, choice, phase.tables.as_slice(), buffers, sink)?;
+    put_lost_and_end(alloc, choice, phase.lost.as_slice(), buffers, sink)
+}
+
+#[tactic(auto, using(pfs_outside::proofs::SinkWrites::puts_then, pfs_outside::proofs::SinkWrites::puts_stop))]
+fn put_phase_body<K: Sink>(
+    alloc: Global,
+    choice: &Choice<'_>,
+    phase: &PhaseParts,
+    buffers: &mut Buffers,
+    sink: &mut K,
+) -> Result<(), WriteStop>
+    ensures { Puts (K.written sink.old) (K.written sink.new) (K.faults sink.old) (K.faults sink.new)
+        (phase_body (chosen_of choice.now) phase.now) result }
+{
+    put_phase_line(buffers, sink, phase.number)?;
+    put_below_phase(alloc, choice, phase, buffers, sink)
+}
+
+/// Offers a phase, where it is shown.
+fn put_phase<K: Sink>(
+    alloc: Global,
+    choice: &Choice<'_>,
+    phase: &PhaseReport,
+    buffers: &mut Buffers,
+    sink: &mut K,
+) -> Result<(), WriteStop>
+    ensures { Puts (K.written sink.old) (K.written sink.new) (K.faults sink.old) (K.faults sink.new)
+        (phase_text (chosen_of choice.now) phase.now) result }
+{
+    let parts = phase.parts();
+    if choice.shows_phase(parts.number) {
+        put_phase_body(alloc, choice, parts, buffers, sink)
+    } else {
+        Ok(())
+    }
+}
+
+/// Writes the tables and counters of a report to a sink, line by line: each phase that is shown under its number, each
+/// table that is shown under its name, in the report's order. The journal is left out. On a refusal a front of this
+/// was written.
+pub fn show<K: Sink>(
+    alloc: Global,
+    choice: &Choice<'_>,
+    report: &Report,
+    sink: &mut K,
+) -> Result<(), WriteStop>
+    ensures { Puts (K.written sink.old) (K.written sink.new) (K.faults sink.old) (K.faults sink.new)
+        (shown_text (chosen_of choice.now) report.now) result }
+{
+    let mut buffers = Buffers {
+        line: Vec::new(alloc),
+        cell: Vec::new(alloc),
+    };
+    for phase in report.parts().phases.as_slice() {
+        match put_phase(alloc, choice, phase, &mut buffers, sink) {
+            Ok(()) => {}
+            Err(stop) => return Err(stop),
+        }
+    }
+    Ok(())
+}
