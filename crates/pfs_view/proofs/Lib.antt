@@ -1,2 +1,4 @@
 mod GridLists
+mod Outcomes
 mod WrittenParts
+mod WrongLines

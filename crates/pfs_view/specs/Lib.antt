@@ -3,3 +3,4 @@ pub mod ColumnHeadings
 pub mod Grids
 pub mod ShownReports
 pub mod TimeTexts
+pub mod Views

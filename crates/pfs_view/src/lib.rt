@@ -7,10 +7,12 @@ mod grids;
 mod lines;
 mod phases;
 mod times;
+mod viewing;
 
 pub use columns::{Headings, Times};
 pub use grids::Grid;
 pub use phases::{Choice, show};
+pub use viewing::{Status, view};
 
 /// Memory ran out.
 pub type NoMemory = std::alloc::AllocError;
