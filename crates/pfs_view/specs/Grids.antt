@@ -54,12 +54,12 @@ abbrev pub bars : (ℕ → List ℕ) → ℕ → List ℕ
 bars cell zero = []
 bars cell (suc n) = bars cell n ++ codes "| " ++ cell n ++ codes " "
 
-abbrev pub row_line : Headings → Times → List ℕ → List RowValue → List ℕ
+unfoldable pub row_line : Headings → Times → List ℕ → List RowValue → List ℕ
 row_line headings times widths row =
     bars (λ (place : ℕ). padded (is_right row place) (slice_index widths place) (cell_text headings times row place))
     (length widths) ++ codes "|\n"
 
-abbrev pub heading_line : Headings → List ℕ → List ℕ
+unfoldable pub heading_line : Headings → List ℕ → List ℕ
 heading_line headings widths =
     bars (λ (place : ℕ). padded false (slice_index widths place) (heading_text headings place)) (length widths)
     ++ codes "|\n"
@@ -69,13 +69,27 @@ abbrev pub dashes : List ℕ → ℕ → List ℕ
 dashes widths zero = []
 dashes widths (suc n) = dashes widths n ++ codes "+-" ++ replicate (slice_index widths n) 45 ++ codes "-"
 
-abbrev pub border_line : List ℕ → List ℕ
+unfoldable pub border_line : List ℕ → List ℕ
 border_line widths = dashes widths (length widths) ++ codes "+\n"
 
--- the lines of a grid with columns so wide
-abbrev pub lines_of : Headings → Times → List ℕ → List (List RowValue) → List ℕ
-lines_of headings times widths rows = border_line widths ++ heading_line headings widths ++ border_line widths
-    ++ flat_map (row_line headings times widths) rows ++ border_line widths
+-- the rows, each on its line
+unfoldable pub row_lines : Headings → Times → List ℕ → List (List RowValue) → List ℕ
+row_lines headings times widths rows = flat_map (row_line headings times widths) rows
 
-abbrev pub grid_text : Headings → Times → List (List RowValue) → List ℕ
+-- behind them the last border
+unfoldable pub rows_and_border : Headings → Times → List ℕ → List (List RowValue) → List ℕ
+rows_and_border headings times widths rows = row_lines headings times widths rows ++ border_line widths
+
+unfoldable pub body_lines : Headings → Times → List ℕ → List (List RowValue) → List ℕ
+body_lines headings times widths rows = border_line widths ++ rows_and_border headings times widths rows
+
+unfoldable pub lines_below : Headings → Times → List ℕ → List (List RowValue) → List ℕ
+lines_below headings times widths rows = heading_line headings widths ++ body_lines headings times widths rows
+
+-- the lines of a grid with columns so wide: a border, the headings, a border, the rows, a border
+unfoldable pub lines_of : Headings → Times → List ℕ → List (List RowValue) → List ℕ
+lines_of headings times widths rows = border_line widths ++ lines_below headings times widths rows
+
+-- each column is as wide as its widest cell or its heading
+unfoldable pub grid_text : Headings → Times → List (List RowValue) → List ℕ
 grid_text headings times rows = lines_of headings times (widths_of headings times rows) rows

@@ -43,7 +43,7 @@ abbrev pub nearest : ℕ → ℕ → ℕ
 nearest n step = if nat_lt (n % step * 2) step then n / step else n / step + 1
 
 abbrev pub hundredths_text : ℕ → List ℕ
-hundredths_text n = decimal (n / 100) ++ 46 ∷ 48 + n / 10 % 10 ∷ 48 + n % 10 ∷ []
+hundredths_text n = decimal (n / 100) ++ (46 ∷ (48 + n / 10 % 10) ∷ (48 + n % 10) ∷ [])
 
 abbrev pub amount_text : ℕ → Unit → List ℕ
 amount_text n unit = hundredths_text (nearest n (step_of unit)) ++ unit_name unit

@@ -15,7 +15,7 @@ use Rattle.pfs_view.specs.declared.viewing.Status.TheVariants.{Done, BadReport, 
 abbrev pub most_bytes : ℕ
 most_bytes = 268435456
 
-abbrev pub wrong_line : ℕ → List ℕ
+unfoldable pub wrong_line : ℕ → List ℕ
 wrong_line at = codes "this is no report: line " ++ decimal at ++ codes " is wrong\n"
 
 -- the line of a text that is no report

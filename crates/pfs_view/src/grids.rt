@@ -1,9 +1,8 @@
 //! Rows laid out under their headings, in columns as wide as their widest cells.
 
-ghost use Rattle.std.specs.Prelude.{ℕ, ◌≡◌, ◌<◌, ◌+◌, ◌++◌, ◌^◌, OnOk, IfOk};
-ghost use Rattle.std.specs.List.{flat_map};
+ghost use Rattle.std.specs.Prelude.{ℕ, List, ◌≡◌, ◌<◌, ◌+◌, ◌^◌, OnOk, IfOk};
 ghost use Rattle.pfs_outside.specs.WholeStreams.{Puts};
-ghost use Rattle.pfs_view.specs.Grids.{border_line as spec_border_line, column_total, grid_text, heading_line as spec_heading_line, lines_of, row_line as spec_row_line, width_at, widths_of};
+ghost use Rattle.pfs_view.specs.Grids.{body_lines, border_line as spec_border_line, column_total, grid_text, heading_line as spec_heading_line, lines_below, lines_of, row_line as spec_row_line, row_lines, rows_and_border, width_at, widths_of};
 
 use crate::NoMemory;
 use crate::lines::{Buffers, Layout, border_line};
@@ -67,6 +66,7 @@ impl Grid<'_> {
     }
 
     /// How wide each column is.
+    #[tactic(auto, using(crate::proofs::GridLists::first_more))]
     fn widths(&self, alloc: Global, cell: &mut Vec<u8>) -> Result<Vec<usize>, NoMemory>
         ensures { IfOk result (λ widths. widths.items ≡ widths_of self.now.layout.headings self.now.layout.times
             self.now.rows.now) }
@@ -107,6 +107,7 @@ impl Grid<'_> {
     }
 
     /// Offers the rows, in order.
+    #[tactic(auto, unfolding(crate::specs::Grids::row_lines))]
     fn put_rows<K: Sink>(
         &self,
         buffers: &mut Buffers,
@@ -114,8 +115,7 @@ impl Grid<'_> {
         widths: &[usize],
     ) -> Result<(), WriteStop>
         ensures { Puts (K.written sink.old) (K.written sink.new) (K.faults sink.old) (K.faults sink.new)
-            (flat_map (spec_row_line self.now.layout.headings self.now.layout.times widths.now) self.now.rows.now)
-            result }
+            (row_lines self.now.layout.headings self.now.layout.times widths.now self.now.rows.now) result }
     {
         for row in self.rows {
             match self.put_row(buffers, sink, widths, row) {
@@ -126,7 +126,7 @@ impl Grid<'_> {
         Ok(())
     }
 
-    #[tactic(auto, using(pfs_outside::proofs::SinkWrites::puts_then, pfs_outside::proofs::SinkWrites::puts_stop))]
+    #[tactic(auto, using(pfs_outside::proofs::SinkWrites::puts_then, pfs_outside::proofs::SinkWrites::puts_stop), unfolding(crate::specs::Grids::rows_and_border))]
     fn put_rows_and_border<K: Sink>(
         &self,
         buffers: &mut Buffers,
@@ -134,14 +134,13 @@ impl Grid<'_> {
         widths: &[usize],
     ) -> Result<(), WriteStop>
         ensures { Puts (K.written sink.old) (K.written sink.new) (K.faults sink.old) (K.faults sink.new)
-            (flat_map (spec_row_line self.now.layout.headings self.now.layout.times widths.now) self.now.rows.now
-            ++ spec_border_line widths.now) result }
+            (rows_and_border self.now.layout.headings self.now.layout.times widths.now self.now.rows.now) result }
     {
         self.put_rows(buffers, sink, widths)?;
         put_border(buffers, sink, widths)
     }
 
-    #[tactic(auto, using(pfs_outside::proofs::SinkWrites::puts_then, pfs_outside::proofs::SinkWrites::puts_stop))]
+    #[tactic(auto, using(pfs_outside::proofs::SinkWrites::puts_then, pfs_outside::proofs::SinkWrites::puts_stop), unfolding(crate::specs::Grids::body_lines))]
     fn put_body<K: Sink>(
         &self,
         buffers: &mut Buffers,
@@ -149,15 +148,13 @@ impl Grid<'_> {
         widths: &[usize],
     ) -> Result<(), WriteStop>
         ensures { Puts (K.written sink.old) (K.written sink.new) (K.faults sink.old) (K.faults sink.new)
-            (spec_border_line widths.now
-            ++ flat_map (spec_row_line self.now.layout.headings self.now.layout.times widths.now) self.now.rows.now
-            ++ spec_border_line widths.now) result }
+            (body_lines self.now.layout.headings self.now.layout.times widths.now self.now.rows.now) result }
     {
         put_border(buffers, sink, widths)?;
         self.put_rows_and_border(buffers, sink, widths)
     }
 
-    #[tactic(auto, using(pfs_outside::proofs::SinkWrites::puts_then, pfs_outside::proofs::SinkWrites::puts_stop))]
+    #[tactic(auto, using(pfs_outside::proofs::SinkWrites::puts_then, pfs_outside::proofs::SinkWrites::puts_stop), unfolding(crate::specs::Grids::lines_below))]
     fn put_below_border<K: Sink>(
         &self,
         buffers: &mut Buffers,
@@ -165,15 +162,13 @@ impl Grid<'_> {
         widths: &[usize],
     ) -> Result<(), WriteStop>
         ensures { Puts (K.written sink.old) (K.written sink.new) (K.faults sink.old) (K.faults sink.new)
-            (spec_heading_line self.now.layout.headings widths.now ++ spec_border_line widths.now
-            ++ flat_map (spec_row_line self.now.layout.headings self.now.layout.times widths.now) self.now.rows.now
-            ++ spec_border_line widths.now) result }
+            (lines_below self.now.layout.headings self.now.layout.times widths.now self.now.rows.now) result }
     {
         self.put_heading(buffers, sink, widths)?;
         self.put_body(buffers, sink, widths)
     }
 
-    #[tactic(auto, using(pfs_outside::proofs::SinkWrites::puts_then, pfs_outside::proofs::SinkWrites::puts_stop))]
+    #[tactic(auto, using(pfs_outside::proofs::SinkWrites::puts_then, pfs_outside::proofs::SinkWrites::puts_stop), unfolding(crate::specs::Grids::lines_of))]
     fn put_lines<K: Sink>(
         &self,
         buffers: &mut Buffers,
@@ -191,6 +186,7 @@ impl Grid<'_> {
     /// Each cell stands behind a bar, filled up to its column's width, a number at the right. A row with fewer values
     /// than there are columns has empty cells behind them, and a value that no heading is known for stands under its
     /// column's number. On a refusal a front of these lines was written.
+    #[tactic(auto, unfolding(crate::specs::Grids::grid_text))]
     pub fn put<K: Sink>(
         &self,
         alloc: Global,

@@ -5,12 +5,16 @@ mod cells;
 mod columns;
 mod grids;
 mod lines;
+mod options;
 mod phases;
+#[cfg(test)]
+mod tests;
 mod times;
 mod viewing;
 
 pub use columns::{Headings, Times};
 pub use grids::Grid;
+pub use options::choose;
 pub use phases::{Choice, show};
 pub use viewing::{Status, view};
 

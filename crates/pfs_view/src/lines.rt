@@ -1,6 +1,6 @@
 //! The lines of a grid, each built in a buffer that serves for many.
 
-ghost use Rattle.std.specs.Prelude.{◌≡◌, ◌<◌, ◌+◌, ◌++◌, ◌^◌, codes, length, replicate, slice_index, IfOk, OnOk};
+ghost use Rattle.std.specs.Prelude.{◌≡◌, ◌<◌, ◌+◌, ◌++◌, ◌^◌, false, codes, length, replicate, slice_index, IfOk, OnOk};
 ghost use Rattle.pfs_view.specs.Grids.{bars, border_line as spec_border_line, cell_text, dashes, heading_line as spec_heading_line, is_right as spec_is_right, padded, row_line as spec_row_line};
 ghost use Rattle.pfs_view.specs.ColumnHeadings.{heading_text};
 
@@ -95,6 +95,7 @@ impl Layout {
     }
 
     /// Builds the line of a row, in columns so wide.
+    #[tactic(auto, unfolding(crate::specs::Grids::row_line))]
     pub fn row_line(
         self,
         buffers: &mut Buffers,
@@ -131,6 +132,7 @@ impl Layout {
     }
 
     /// Builds the line of the headings, in columns so wide.
+    #[tactic(auto, unfolding(crate::specs::Grids::heading_line))]
     pub fn heading_line(self, buffers: &mut Buffers, widths: &[usize]) -> Result<(), NoMemory>
         ensures { OnOk result (buffers.new.line.items ≡ spec_heading_line self.headings widths.now) }
     {
@@ -178,6 +180,7 @@ fn put_dashes(line: &mut Vec<u8>, width: usize) -> Result<(), NoMemory>
 }
 
 /// Builds the line above and below the headings and the rows.
+#[tactic(auto, unfolding(crate::specs::Grids::border_line))]
 pub fn border_line(line: &mut Vec<u8>, widths: &[usize]) -> Result<(), NoMemory>
     ensures { OnOk result (line.new.items ≡ spec_border_line widths.now) }
 {

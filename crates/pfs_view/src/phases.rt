@@ -1,13 +1,12 @@
 //! What is shown of a report: its tables and counters, phase by phase.
 
-ghost use Rattle.std.specs.Prelude.{ℕ, List, ◌≡◌, ◌++◌, codes, map, IfOk, OnOk};
-ghost use Rattle.std.specs.List.{find, flat_map};
+ghost use Rattle.std.specs.Prelude.{ℕ, List, ◌≡◌, map, IfOk, OnOk};
+ghost use Rattle.std.specs.List.{find};
 ghost use Rattle.std.specs.Str.{bytes_eq};
 ghost use Rattle.pfs_outside.specs.WholeStreams.{Puts};
 ghost use Rattle.pfs_rows.specs.Tables.{table_name};
 ghost use Rattle.pfs_view.specs.Grids.{grid_text};
-ghost use Rattle.pfs_view.specs.declared.columns.Headings.TheVariants.{Counters};
-ghost use Rattle.pfs_view.specs.ShownReports.{chosen_of, chosen_text, counter_row as spec_counter_row, counters_text, headings_of as spec_headings_of, is_chosen_phase, is_chosen_table, lost_text, name_line as spec_name_line, phase_body, phase_line as spec_phase_line, phase_text, shown_text, table_text};
+ghost use Rattle.pfs_view.specs.ShownReports.{below_phase, chosen_of, chosen_text, counter_row as spec_counter_row, counter_table, counters_text, headings_of as spec_headings_of, is_chosen_phase, is_chosen_table, lost_and_end, lost_text, name_line as spec_name_line, phase_body, phase_line as spec_phase_line, phase_text, named_rows, phases_text, shown_text, table_grid, table_text, tables_text};
 
 use crate::NoMemory;
 use crate::columns::{Headings, Times};
@@ -60,6 +59,7 @@ fn headings_of(name: &[u8]) -> Headings
 }
 
 /// The line of a table's name, with an empty line before it.
+#[tactic(auto, unfolding(crate::specs::ShownReports::name_line))]
 fn name_line(line: &mut Vec<u8>, name: &[u8]) -> Result<(), NoMemory>
     ensures { OnOk result (line.new.items ≡ spec_name_line name.now) }
 {
@@ -135,8 +135,37 @@ fn put_grid<K: Sink>(
     Grid { layout, rows }.put(alloc, buffers, sink)
 }
 
+fn put_table_grid<K: Sink>(
+    alloc: Global,
+    times: Times,
+    name: &[u8],
+    rows: &[Row],
+    buffers: &mut Buffers,
+    sink: &mut K,
+) -> Result<(), WriteStop>
+    ensures { Puts (K.written sink.old) (K.written sink.new) (K.faults sink.old) (K.faults sink.new)
+        (table_grid times name.now rows.now) result }
+{
+    put_grid(alloc, headings_of(name), times, rows, buffers, sink)
+}
+
+#[tactic(auto, using(pfs_outside::proofs::SinkWrites::puts_then, pfs_outside::proofs::SinkWrites::puts_stop), unfolding(crate::specs::ShownReports::named_rows))]
+fn put_named_rows<K: Sink>(
+    alloc: Global,
+    times: Times,
+    name: &[u8],
+    rows: &[Row],
+    buffers: &mut Buffers,
+    sink: &mut K,
+) -> Result<(), WriteStop>
+    ensures { Puts (K.written sink.old) (K.written sink.new) (K.faults sink.old) (K.faults sink.new)
+        (named_rows times name.now rows.now) result }
+{
+    put_name(buffers, sink, name)?;
+    put_table_grid(alloc, times, name, rows, buffers, sink)
+}
+
 /// Offers a table under its name.
-#[tactic(auto, using(pfs_outside::proofs::SinkWrites::puts_then, pfs_outside::proofs::SinkWrites::puts_stop))]
 fn put_table<K: Sink>(
     alloc: Global,
     times: Times,
@@ -147,12 +176,12 @@ fn put_table<K: Sink>(
     ensures { Puts (K.written sink.old) (K.written sink.new) (K.faults sink.old) (K.faults sink.new)
         (table_text times table.now) result }
 {
-    let name = table.name.as_bytes();
-    put_name(buffers, sink, name)?;
-    put_grid(alloc, headings_of(name), times, table.rows.as_slice(), buffers, sink)
+    let rows = table.rows.as_slice();
+    put_named_rows(alloc, times, table.name.as_bytes(), rows, buffers, sink)
 }
 
 /// Offers a table, where it is shown.
+#[tactic(auto, unfolding(crate::specs::ShownReports::chosen_text))]
 fn put_chosen<K: Sink>(
     alloc: Global,
     choice: &Choice<'_>,
@@ -171,6 +200,7 @@ fn put_chosen<K: Sink>(
 }
 
 /// Offers the tables that are shown, in order.
+#[tactic(auto, unfolding(crate::specs::ShownReports::tables_text))]
 fn put_tables<K: Sink>(
     alloc: Global,
     choice: &Choice<'_>,
@@ -179,7 +209,7 @@ fn put_tables<K: Sink>(
     sink: &mut K,
 ) -> Result<(), WriteStop>
     ensures { Puts (K.written sink.old) (K.written sink.new) (K.faults sink.old) (K.faults sink.new)
-        (flat_map (chosen_text (chosen_of choice.now)) tables.now) result }
+        (tables_text (chosen_of choice.now) tables.now) result }
 {
     for table in tables {
         match put_chosen(alloc, choice, table, buffers, sink) {
@@ -191,7 +221,7 @@ fn put_tables<K: Sink>(
 }
 
 /// Offers the counters under their name, where there are some.
-#[tactic(auto, using(pfs_outside::proofs::SinkWrites::puts_then, pfs_outside::proofs::SinkWrites::puts_stop))]
+#[tactic(auto, using(pfs_outside::proofs::SinkWrites::puts_then, pfs_outside::proofs::SinkWrites::puts_stop), unfolding(crate::specs::ShownReports::counter_table))]
 fn put_counters<K: Sink>(
     alloc: Global,
     times: Times,
@@ -200,12 +230,12 @@ fn put_counters<K: Sink>(
     sink: &mut K,
 ) -> Result<(), WriteStop>
     ensures { Puts (K.written sink.old) (K.written sink.new) (K.faults sink.old) (K.faults sink.new)
-        (spec_name_line (codes "lost") ++ grid_text Counters times rows.now) result }
+        (counter_table times rows.now) result }
 {
     put_name(buffers, sink, b"lost")?;
     put_grid(alloc, Headings::Counters, times, rows, buffers, sink)
 }
-
+#[tactic(auto, unfolding(crate::specs::ShownReports::counters_text))]
 fn put_some_lost<K: Sink>(
     alloc: Global,
     times: Times,
@@ -226,6 +256,7 @@ fn put_some_lost<K: Sink>(
 }
 
 /// Offers the counters, unless one table is asked for.
+#[tactic(auto, unfolding(crate::specs::ShownReports::lost_text))]
 fn put_lost<K: Sink>(
     alloc: Global,
     choice: &Choice<'_>,
@@ -243,6 +274,7 @@ fn put_lost<K: Sink>(
 }
 
 /// The line of a phase's number.
+#[tactic(auto, unfolding(crate::specs::ShownReports::phase_line))]
 fn phase_line(line: &mut Vec<u8>, number: u64) -> Result<(), NoMemory>
     ensures { OnOk result (line.new.items ≡ spec_phase_line number) }
 {
@@ -264,7 +296,7 @@ fn put_phase_line<K: Sink>(
     offer(sink, buffers.line.as_slice(), built)
 }
 
-#[tactic(auto, using(pfs_outside::proofs::SinkWrites::puts_then, pfs_outside::proofs::SinkWrites::puts_stop))]
+#[tactic(auto, using(pfs_outside::proofs::SinkWrites::puts_then, pfs_outside::proofs::SinkWrites::puts_stop), unfolding(crate::specs::ShownReports::lost_and_end))]
 fn put_lost_and_end<K: Sink>(
     alloc: Global,
     choice: &Choice<'_>,
@@ -273,29 +305,29 @@ fn put_lost_and_end<K: Sink>(
     sink: &mut K,
 ) -> Result<(), WriteStop>
     ensures { Puts (K.written sink.old) (K.written sink.new) (K.faults sink.old) (K.faults sink.new)
-        (lost_text (chosen_of choice.now) lost.now ++ codes "\n") result }
+        (lost_and_end (chosen_of choice.now) lost.now) result }
 {
     put_lost(alloc, choice, lost, buffers, sink)?;
     write_all(sink, b"\n")
 }
 
-#[tactic(auto, using(pfs_outside::proofs::SinkWrites::puts_then, pfs_outside::proofs::SinkWrites::puts_stop))]
+#[tactic(auto, using(pfs_outside::proofs::SinkWrites::puts_then, pfs_outside::proofs::SinkWrites::puts_stop), unfolding(crate::specs::ShownReports::below_phase))]
 fn put_below_phase<K: Sink>(
     alloc: Global,
     choice: &Choice<'_>,
-    phase: &PhaseParts,
+    tables: &[TableReport],
+    lost: &[LostReport],
     buffers: &mut Buffers,
     sink: &mut K,
 ) -> Result<(), WriteStop>
     ensures { Puts (K.written sink.old) (K.written sink.new) (K.faults sink.old) (K.faults sink.new)
-        (flat_map (chosen_text (chosen_of choice.now)) phase.now.tables
-        ++ lost_text (chosen_of choice.now) phase.now.lost ++ codes "\n") result }
+        (below_phase (chosen_of choice.now) tables.now lost.now) result }
 {
-    put_tables(alloc, choice, phase.tables.as_slice(), buffers, sink)?;
-    put_lost_and_end(alloc, choice, phase.lost.as_slice(), buffers, sink)
+    put_tables(alloc, choice, tables, buffers, sink)?;
+    put_lost_and_end(alloc, choice, lost, buffers, sink)
 }
 
-#[tactic(auto, using(pfs_outside::proofs::SinkWrites::puts_then, pfs_outside::proofs::SinkWrites::puts_stop))]
+#[tactic(auto, using(pfs_outside::proofs::SinkWrites::puts_then, pfs_outside::proofs::SinkWrites::puts_stop), unfolding(crate::specs::ShownReports::phase_body))]
 fn put_phase_body<K: Sink>(
     alloc: Global,
     choice: &Choice<'_>,
@@ -307,10 +339,18 @@ fn put_phase_body<K: Sink>(
         (phase_body (chosen_of choice.now) phase.now) result }
 {
     put_phase_line(buffers, sink, phase.number)?;
-    put_below_phase(alloc, choice, phase, buffers, sink)
+    put_below_phase(
+        alloc,
+        choice,
+        phase.tables.as_slice(),
+        phase.lost.as_slice(),
+        buffers,
+        sink,
+    )
 }
 
 /// Offers a phase, where it is shown.
+#[tactic(auto, unfolding(crate::specs::ShownReports::phase_text))]
 fn put_phase<K: Sink>(
     alloc: Global,
     choice: &Choice<'_>,
@@ -329,9 +369,31 @@ fn put_phase<K: Sink>(
     }
 }
 
+/// Offers the phases that are shown, in order.
+#[tactic(auto, unfolding(crate::specs::ShownReports::phases_text))]
+fn put_phases<K: Sink>(
+    alloc: Global,
+    choice: &Choice<'_>,
+    phases: &[PhaseReport],
+    buffers: &mut Buffers,
+    sink: &mut K,
+) -> Result<(), WriteStop>
+    ensures { Puts (K.written sink.old) (K.written sink.new) (K.faults sink.old) (K.faults sink.new)
+        (phases_text (chosen_of choice.now) phases.now) result }
+{
+    for phase in phases {
+        match put_phase(alloc, choice, phase, buffers, sink) {
+            Ok(()) => {}
+            Err(stop) => return Err(stop),
+        }
+    }
+    Ok(())
+}
+
 /// Writes the tables and counters of a report to a sink, line by line: each phase that is shown under its number, each
 /// table that is shown under its name, in the report's order. The journal is left out. On a refusal a front of this
 /// was written.
+#[tactic(auto, unfolding(crate::specs::ShownReports::shown_text))]
 pub fn show<K: Sink>(
     alloc: Global,
     choice: &Choice<'_>,
@@ -345,11 +407,6 @@ pub fn show<K: Sink>(
         line: Vec::new(alloc),
         cell: Vec::new(alloc),
     };
-    for phase in report.parts().phases.as_slice() {
-        match put_phase(alloc, choice, phase, &mut buffers, sink) {
-            Ok(()) => {}
-            Err(stop) => return Err(stop),
-        }
-    }
-    Ok(())
+    let phases = report.parts().phases.as_slice();
+    put_phases(alloc, choice, phases, &mut buffers, sink)
 }

@@ -129,8 +129,8 @@ fn put_amount(out: &mut Vec<u8>, picoseconds: u64, unit: Unit) -> Result<(), NoM
     out.extend_from_slice(unit.name())
 }
 
-/// Appends a time in picoseconds: below a nanosecond as it is, else in the largest unit of which it is one at least, with
-/// two decimals. This is MySQL's `sys.format_time`.
+/// Appends a time in picoseconds: below a nanosecond as it is, else in the largest unit of which it is one at least,
+/// with two decimals. This is MySQL's `sys.format_time`.
 pub fn put_time(out: &mut Vec<u8>, picoseconds: u64) -> Result<(), NoMemory>
     ensures { OnOk result (out.new.items ≡ out.old.items ++ time_text picoseconds) }
 {

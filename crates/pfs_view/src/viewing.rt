@@ -44,6 +44,7 @@ fn status_after(outcome: Result<(), WriteStop>, status: Status) -> Status
 }
 
 /// The line that tells that a text is no report.
+#[tactic(auto, unfolding(crate::specs::Views::wrong_line))]
 fn wrong_line(alloc: Global, at: u64) -> Result<Vec<u8>, NoMemory>
     ensures { IfOk result (λ line. line.items ≡ spec_wrong_line at) }
 {
@@ -77,8 +78,8 @@ fn view_bytes<K: Sink>(alloc: Global, choice: &Choice<'_>, sink: &mut K, bytes: 
     }
 }
 
-/// Reads a report from a source and writes what is chosen of it to a sink: its tables and counters under their headings.
-/// Of a text that is no report its first wrong line is told.
+/// Reads a report from a source and writes what is chosen of it to a sink: its tables and counters under their
+/// headings. Of a text that is no report its first wrong line is told.
 pub fn view<S: Source, K: Sink>(
     alloc: Global,
     choice: &Choice<'_>,

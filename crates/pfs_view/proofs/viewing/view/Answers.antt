@@ -12,15 +12,15 @@ returns-in-Ok g c =
     let chosen = chosen_of c.args.choice.now in
     let left = g.S.Source.left c.args.source.now in
     let came = gave_all left (g.S.Source.left c.read_all.new.source) c.deref.result.now read.took.gave read.ended in
-    ends_told chosen left _ _ _ _ c.view_bytes.result (tells_as (HasView chosen c.deref.result.now) (HasInput chosen left) _ _ _ c.view_bytes.result (input_viewed chosen left c.deref.result.now came read.within) c.view_bytes.ensures)
+    record { ends = ends_told chosen left _ _ _ _ c.view_bytes.result (tells_as (HasView chosen c.deref.result.now) (HasInput chosen left) _ _ _ c.view_bytes.result (input_viewed chosen left c.deref.result.now came read.within) c.view_bytes.ensures) }
 
 pub returns-in-Err-TooLong : goal.returns-in-Err-TooLong
 returns-in-Err-TooLong g c =
     let read = rw c.in-Err-TooLong.field-0-is at c.in-Err-TooLong.ensures in
-    (gave_long (g.S.Source.left c.args.source.now) (g.S.Source.left c.read_all.new.source) read.bytes most_bytes read.took.gave read.long, refl)
+    record { ends = (gave_long (g.S.Source.left c.args.source.now) (g.S.Source.left c.read_all.new.source) read.bytes most_bytes read.took.gave read.long, refl) }
 
 pub returns-in-Err-Failed : goal.returns-in-Err-Failed
 returns-in-Err-Failed g c =
     let read = rw c.in-Err-Failed.field-0-is at c.in-Err-Failed.ensures in
     let rose = subst (λ (n : ℕ). Rose n (g.S.Source.faults c.read_all.new.source)) read.took.unfailed read.rose in
-    (rose, refl)
+    record { ends = (rose, refl) }
