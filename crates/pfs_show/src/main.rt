@@ -60,12 +60,7 @@ fn number(status: Status) -> u8 {
 const USAGE: &[u8] = b"usage: show [--raw] [--phase N] [--table NAME]\n";
 
 // Shows what the words choose of the report that the source has.
-fn shown<S: Source, K: Sink>(
-    alloc: Global,
-    words: &[String],
-    source: &mut S,
-    sink: &mut K,
-) -> u8 {
+fn shown<S: Source, K: Sink>(alloc: Global, words: &[String], source: &mut S, sink: &mut K) -> u8 {
     let all = Choice {
         phase: None,
         table: None,

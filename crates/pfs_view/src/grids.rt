@@ -18,7 +18,11 @@ pub struct Grid<'a> {
 }
 
 /// Offers a line that was built, or says that memory ran out.
-pub(crate) fn offer<K: Sink>(sink: &mut K, line: &[u8], built: Result<(), NoMemory>) -> Result<(), WriteStop>
+pub(crate) fn offer<K: Sink>(
+    sink: &mut K,
+    line: &[u8],
+    built: Result<(), NoMemory>,
+) -> Result<(), WriteStop>
     ensures { (text : List ℕ) → OnOk built (line.now ≡ text)
         → Puts (K.written sink.old) (K.written sink.new) (K.faults sink.old) (K.faults sink.new) text result }
 {

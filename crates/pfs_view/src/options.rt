@@ -5,8 +5,7 @@ use crate::phases::Choice;
 use pfs_text::read_u64;
 
 /// The choice with what one option and its value ask for.
-fn with_value<'a>(choice: Choice<'a>, option: &str, value: &'a str) -> Option<Choice<'a>>
-{
+fn with_value<'a>(choice: Choice<'a>, option: &str, value: &'a str) -> Option<Choice<'a>> {
     let Choice {
         phase,
         table,
@@ -32,8 +31,7 @@ fn with_value<'a>(choice: Choice<'a>, option: &str, value: &'a str) -> Option<Ch
 }
 
 /// The choice with times in picoseconds.
-fn raw(choice: Choice<'_>) -> Choice<'_>
-{
+fn raw(choice: Choice<'_>) -> Choice<'_> {
     Choice {
         phase: choice.phase,
         table: choice.table,
@@ -44,8 +42,7 @@ fn raw(choice: Choice<'_>) -> Choice<'_>
 /// What the words ask to be shown besides this choice: `--raw` times in picoseconds, `--phase N` that phase alone,
 /// `--table NAME` those tables alone, a later one in place of an earlier one of its kind. None where a word is no such
 /// option, lacks its value, or its number is none below 2^64.
-pub fn choose<'a>(words: &'a [String], choice: Choice<'a>) -> Option<Choice<'a>>
-{
+pub fn choose<'a>(words: &'a [String], choice: Choice<'a>) -> Option<Choice<'a>> {
     match words {
         [] => Some(choice),
         [option, rest @ ..] => {

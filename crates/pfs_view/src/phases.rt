@@ -235,6 +235,7 @@ fn put_counters<K: Sink>(
     put_name(buffers, sink, b"lost")?;
     put_grid(alloc, Headings::Counters, times, rows, buffers, sink)
 }
+
 #[tactic(auto, unfolding(crate::specs::ShownReports::counters_text))]
 fn put_some_lost<K: Sink>(
     alloc: Global,

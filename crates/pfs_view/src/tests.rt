@@ -95,7 +95,8 @@ fn shown(alloc: Global, choice: &Choice<'_>, text: &[u8]) -> Result<(Status, Mem
     Ok((status, sink))
 }
 
-const REPORT: &[u8] = b"pfs-report 1\nphase 1\nsession 1\nsettle\nfinal\ntable users\nrow 'u' 1 1\nrow NULL 10 2\ntable events_waits_summary_by_user_by_event_name\nrow 'u' 'wait/io/file/sql/binlog' 2 3000 1000 1500 2000\ntable mine\nrow 'a\tb\\' 7\nrow\nlost Performance_schema_users_lost 3\nphase 2\nfinal\nend\n";
+const REPORT: &[u8] =
+    b"pfs-report 1\nphase 1\nsession 1\nsettle\nfinal\ntable users\nrow 'u' 1 1\nrow NULL 10 2\ntable events_waits_summary_by_user_by_event_name\nrow 'u' 'wait/io/file/sql/binlog' 2 3000 1000 1500 2000\ntable mine\nrow 'a\tb\\' 7\nrow\nlost Performance_schema_users_lost 3\nphase 2\nfinal\nend\n";
 
 const SHOWN: &[u8] = b"phase 1
 
