@@ -1,4 +1,2 @@
-mod CutSteps
-mod LineSteps
 mod OpenSteps
 pub mod TrailSteps

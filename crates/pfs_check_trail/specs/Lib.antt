@@ -1,4 +1,2 @@
 pub mod OpenCounts
-pub mod Parts
-pub mod Stops
 pub mod Trails

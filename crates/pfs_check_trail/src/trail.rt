@@ -3,18 +3,13 @@
 ghost use Rattle.std.specs.Prelude.{◌≡◌, ◌+◌, ◌-◌, ◌≤◌, ◌==◌, ◌++◌, cond, length, take, drop, reverse, None, OnOk};
 ghost use Rattle.pfs_event.specs.Verdicts.{is_let_through};
 ghost use Rattle.pfs_model.specs.Contexts.{after_entries, fresh, noted, subject_of, turned};
-ghost use Rattle.pfs_model.specs.Shapes.{shape};
-ghost use Rattle.pfs_check_trail.specs.Trails.{IsTrailOf, opened_behind, shaping};
+ghost use Rattle.pfs_check_trail.specs.Trails.{IsTrailOf, opened_behind};
 
 use crate::NoMemory;
-use crate::items::{
-    put_change, put_connect, put_ending_both, put_ending_stage, put_one, put_query, put_settling,
-    put_stage, put_starting, put_told,
-};
 use crate::open_events::{OpenEvents, plus};
 use pfs_event::{Entry, Verdict};
 use pfs_journal::EntryList;
-use pfs_model::{Ask, Item, Line, Opened, Subject};
+use pfs_model::{Line, Opened, Subject};
 use std::alloc::Global;
 use std::collections::BTreeSet;
 use std::marker::Model;
@@ -63,40 +58,14 @@ impl Model for Trail {
     } };
 }
 
-/// What a line starts.
-pub(crate) fn subject_in(line: &Line) -> Option<Subject>
+// What a line starts.
+fn subject_in(line: &Line) -> Option<Subject>
     ensures { result ≡ subject_of line.now }
 {
     match line {
         Line::Start { subject } => Some(*subject),
         Line::Stage { subject } => Some(*subject),
         _ => None,
-    }
-}
-
-fn put_shape(
-    items: &mut Vec<Item>,
-    slot: Option<u64>,
-    opened: &[Opened],
-    held: &BTreeSet<u64>,
-    line: &Line,
-) -> Result<(), NoMemory>
-    ensures { OnOk result (items.new.items ≡ items.old.items
-        ++ shape (shaping slot (reverse opened.now) held.now.keys) line.now) }
-{
-    match line {
-        Line::Connect => put_connect(items),
-        Line::Start { subject } => put_starting(items, slot, subject),
-        Line::Stage { subject } => put_stage(items, slot, opened, subject),
-        Line::StageEnd => put_ending_stage(items, slot, opened),
-        Line::End => put_ending_both(items, slot, opened),
-        Line::Spend => Ok(()),
-        Line::Change => put_told(items, held, Ask::Answer),
-        Line::Quit => put_change(items, held),
-        Line::Show => put_told(items, held, Ask::Rows),
-        Line::Query => put_query(items),
-        Line::Refused { .. } => put_one(items, Ask::Error),
-        Line::Close => put_settling(items, held),
     }
 }
 
@@ -191,12 +160,11 @@ impl Trail {
         self.drawn
     }
 
-    /// What the line asks for and allows, in place of what the list had.
-    pub(crate) fn put_shape(&self, items: &mut Vec<Item>, line: &Line) -> Result<(), NoMemory>
-        ensures { OnOk result (items.new.items ≡ shape (shaping self.now.slot self.now.opened self.now.held) line.now) }
+    /// The rows for which something is held.
+    pub fn held(&self) -> &BTreeSet<u64>
+        ensures { result.now.keys ≡ self.now.held }
     {
-        items.clear();
-        put_shape(items, self.slot, self.opened.as_slice(), &self.held, line)
+        &self.held
     }
 
     /// A new line: what the line before did has ended.
@@ -283,7 +251,7 @@ impl Trail {
     }
 
     /// The entries of a line from one place up to another, behind those of the line that were noted already.
-    pub(crate) fn note_part(
+    pub fn note_part(
         &mut self,
         line: &Line,
         entries: &EntryList,

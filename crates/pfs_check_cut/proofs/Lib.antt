@@ -1,0 +1,4 @@
+mod BlockSteps
+mod LineSteps
+mod PhaseSteps
+mod SessionSteps

@@ -1,0 +1,3 @@
+pub mod CutReports
+pub mod LineCounts
+pub mod Sessions

@@ -1,0 +1,2 @@
+mod CutSteps
+mod LineSteps

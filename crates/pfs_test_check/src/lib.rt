@@ -1,0 +1,5 @@
+//! Tests of the judge of reports, by public calls alone.
+#![tactic(auto)]
+
+#[cfg(test)]
+mod cut;
