@@ -81,8 +81,8 @@ fn action_change(entry: &Entry) -> Option<Change>
     }
 }
 
-/// The change that an entry is.
-pub(crate) fn change_in(what: Chained, entry: &Entry) -> Option<Change>
+/// The change that an entry is, of what is asked; None where it is none.
+pub fn change_in(what: Chained, entry: &Entry) -> Option<Change>
     ensures { option_to_list result ≡ given_by what entry.now }
 {
     match what {

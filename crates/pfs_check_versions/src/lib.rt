@@ -11,7 +11,7 @@ mod line_counts;
 mod links;
 mod rising;
 
-pub use changes::{Chained, Made, PlacedChange};
+pub use changes::{Chained, Made, PlacedChange, change_in};
 pub use gathering::gather;
 pub use judging::{ActionRule, ActionsFound, ChainRule, Versions, judge_actions, judge_chain};
 

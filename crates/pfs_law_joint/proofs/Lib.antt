@@ -1,0 +1,14 @@
+pub mod Sums
+pub mod VersionChains
+mod WordFlags
+mod NeverFalling
+pub mod MarkSums
+pub mod CallPlaces
+pub mod NamedVersions
+mod LaterActions
+mod HadVersions
+mod Floors
+mod Causes
+mod SameContents
+mod PlainShares
+mod Examples

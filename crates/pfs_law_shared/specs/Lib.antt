@@ -1,0 +1,5 @@
+pub mod Shares
+pub mod Journals
+pub mod Order
+pub mod Labels
+pub mod Rules

@@ -1,0 +1,94 @@
+//! Laws of the definitions.
+
+ghost use Rattle.pfs_law_shared.specs.Journals.{AgreedLaw, ChainedLaw};
+ghost use Rattle.pfs_law_shared.specs.Labels.{LabelledLaw};
+ghost use Rattle.pfs_law_shared.specs.Order.{NearLaw, OrderedLaw, RisingLaw, ThereLaw};
+ghost use Rattle.pfs_law_shared.specs.Rules.{RuledLaw};
+ghost use Rattle.pfs_law_shared.specs.Shares.{PlainLaw};
+
+/// At each phase's end the changes of rows that the journals of sessions at once print are chains along each row, and
+/// their sets of words along each word, whoever ran when, held and settled additions among them.
+pub fn chained()
+    ensures { ChainedLaw }
+{
+    pfs_law_joint::laws::chained();
+    pfs_law_plain::journals::told();
+    pfs_law_plain::journals::weighed();
+}
+
+/// The sets that they print give the flags that they have in common, and their calls agree with these and with the
+/// contents that they have in common; so their journals are what their lines ask for, with the verdicts of these flags
+/// and the numbers of the events.
+pub fn agreed()
+    ensures { AgreedLaw }
+{
+    pfs_law_joint::laws::chained();
+    pfs_law_plain::journals::told();
+    pfs_law_plain::journals::weighed();
+    pfs_law_session::journal::contents();
+    pfs_law_session::journal::journals();
+}
+
+/// The actions' numbers that they print are 1 to n at each phase's end, each once; along a row, and along a word, they
+/// never fall.
+pub fn ordered()
+    ensures { OrderedLaw }
+{
+    agreed();
+    pfs_law_joint::laws::chained();
+    pfs_law_joint::laws::never_fall();
+    pfs_law_plain::journals::told();
+    pfs_law_plain::journals::weighed();
+}
+
+/// Along each session that does what it does in a phase as one, the numbers rise.
+pub fn rising()
+    ensures { RisingLaw }
+{
+    pfs_law_joint::laws::later();
+    pfs_law_plain::journals::told_through();
+}
+
+/// The rows and words that the journals name are there.
+pub fn there()
+    ensures { ThereLaw }
+{
+    pfs_law_plain::journals::told_through();
+}
+
+/// The labels that they have in common are those of the printed actions by their numbers, each with its session and its
+/// place among this one's actions.
+pub fn labelled()
+    ensures { LabelledLaw }
+{
+    agreed();
+    pfs_law_joint::laws::chained();
+    pfs_law_joint::laws::never_fall();
+    pfs_law_plain::journals::told();
+    pfs_law_plain::journals::told_through();
+    pfs_law_plain::journals::weighed();
+}
+
+/// With the administration that is the fold of their actions, sessions at once keep the rules of a run that go by shapes,
+/// chains, orders, verdicts, labels and contents: all but floors, causes, tickets and the places of the long history.
+pub fn ruled()
+    ensures { RuledLaw }
+{
+    agreed();
+    chained();
+    labelled();
+    ordered();
+    rising();
+    there();
+    pfs_law_plain::journals::told();
+    pfs_stat::laws::merge();
+}
+
+/// A plain store that its sessions use one after another gives what they have in common, and their calls name its rows
+/// and words.
+pub fn plain()
+    ensures shared { PlainLaw }
+    ensures near { NearLaw }
+{
+    pfs_law_joint::laws::plain();
+}
