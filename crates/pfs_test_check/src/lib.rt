@@ -3,3 +3,5 @@
 
 #[cfg(test)]
 mod cut;
+#[cfg(test)]
+mod visits;

@@ -1,0 +1,2 @@
+pub mod EntryNumbers
+mod LineSteps

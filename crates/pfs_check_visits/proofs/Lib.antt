@@ -1,0 +1,5 @@
+mod BlockVisits
+mod EntryCounts
+mod LineVisits
+mod SessionSteps
+mod VisitSteps

@@ -1,0 +1,2 @@
+pub mod ReportVisits
+pub mod Visits
