@@ -1,11 +1,11 @@
 -- Levels that are emptied place by place, and moves one after another.
-use Rattle.std.proofs.Common.{ℕ, zero, suc, ◌≡◌, ◌≤◌, ◌+◌, ◌-◌, List, [], ◌++◌, Option, refl, ap, arith}
+use Rattle.std.proofs.Common.{ℕ, zero, suc, ◌≡◌, ◌≤◌, ◌+◌, ◌-◌, List, [], ◌++◌, refl, ap, arith}
 use Rattle.pfs_containers.specs.Connections.{State}
-use Rattle.pfs_levels.specs.declared.answers.Word.{Word}
 use Rattle.pfs_levels.specs.declared.places.Level.{Level}
 use Rattle.pfs_levels.specs.Calls.{Call, Opening}
 use Rattle.pfs_event.specs.Logs.{Journal}
 use Rattle.pfs_levels.specs.Moves.{Ask, ask, Moved, Stays, cost}
+use Rattle.pfs_levels.specs.Views.{Store}
 use Rattle.pfs_rows.specs.declared.place.Place.TheVariants.{GlobalCell}
 use Rattle.pfs_rows.specs.Rows.{row_number}
 use Rattle.pfs_levels.proofs.FlushSteps.{cost_then, stays_more}
@@ -36,12 +36,12 @@ level_whole s cells level n e = ap (up_to (asks_at s cells level)) e
 pub moved_nothing : (log : Journal) (was : Opening → List Call → Type 0) → Moved [] log log was was
 moved_nothing log was = moved_none log was
 
-pub stays_nothing : (count : ℕ) (hand : ℕ → Option ℕ) (left draws : ℕ) (words : Option (List Word)) (name : ℕ) (log : Journal)
-    → Stays count hand hand left left draws draws words words name name log log
-stays_nothing count hand left draws words name log = record {
-  hand = λ r. refl;
+pub stays_nothing : (count : ℕ) (s : Store) (log : Journal) → Stays count s s log log
+stays_nothing count s log = record {
   left = omega arith;
-  draws = refl;
+  draws = omega arith;
+  no_more = omega arith;
+  hand = λ r. refl;
   words = refl;
   name = refl;
   room = omega arith;
@@ -54,11 +54,9 @@ first_fits xs ys have l = omega (arith, cost_then xs ys, l)
 pub next_fits : (xs ys : List Ask) (have now : ℕ) → cost (xs ++ ys) ≤ have → have ≤ now + cost xs → cost ys ≤ now
 next_fits xs ys have now l used = omega (arith, cost_then xs ys, l, used)
 
-pub stays_both : (xs ys : List Ask) (h0 h1 h2 : ℕ → Option ℕ) (l0 l1 l2 d0 d1 d2 : ℕ) (w0 w1 w2 : Option (List Word)) (n0 n1 n2 : ℕ) (old at new : Journal)
-    → Stays (cost xs) h0 h1 l0 l1 d0 d1 w0 w1 n0 n1 old at → Stays (cost ys) h1 h2 l1 l2 d1 d2 w1 w2 n1 n2 at new
-    → Stays (cost (xs ++ ys)) h0 h2 l0 l2 d0 d2 w0 w2 n0 n2 old new
-stays_both xs ys h0 h1 h2 l0 l1 l2 d0 d1 d2 w0 w1 w2 n0 n1 n2 old at new p q =
-    stays_more xs ys (xs ++ ys) h0 h1 h2 l0 l1 l2 d0 d1 d2 w0 w1 w2 n0 n1 n2 old at new refl p q
+pub stays_both : (xs ys : List Ask) (a b c : Store) (old at new : Journal)
+    → Stays (cost xs) a b old at → Stays (cost ys) b c at new → Stays (cost (xs ++ ys)) a c old new
+stays_both xs ys a b c old at new p q = stays_more xs ys (xs ++ ys) a b c old at new refl p q
 
 -- a global cell that is cleared
 abbrev pub clearing : ℕ → Ask

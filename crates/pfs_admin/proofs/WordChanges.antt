@@ -1,5 +1,5 @@
 -- Words that are changed one after another.
-use Rattle.std.proofs.Common.{ℕ, zero, suc, ◌≡◌, ◌<◌, ◌≤◌, ◌+◌, ◌^◌, ◌==◌, Bool, true, false, if◌then◌else◌, List, [], ◌∷◌, ◌++◌, Option, Ok, length, slice_set, refl, ap, sym, subst, ◌∙◌, arith}
+use Rattle.std.proofs.Common.{ℕ, zero, suc, ◌≡◌, ◌<◌, ◌≤◌, ◌+◌, ◌^◌, ◌==◌, Bool, true, false, if◌then◌else◌, List, [], ◌∷◌, ◌++◌, Some, Ok, length, slice_set, refl, ap, sym, subst, ◌∙◌, arith}
 use Rattle.std.proofs.lemmas.List.{append_assoc, append-nil}
 use Rattle.pfs_event.specs.declared.entry.Entry.{Entry}
 use Rattle.pfs_event.specs.declared.entry.Entry.TheVariants as says
@@ -7,6 +7,7 @@ use Rattle.pfs_levels.specs.declared.answers.Word.{Word}
 use Rattle.pfs_levels.specs.Calls.{Call, Sets, Opening}
 use Rattle.pfs_event.specs.Logs.{Journal}
 use Rattle.pfs_levels.specs.Moves.{Did}
+use Rattle.pfs_levels.specs.Views.{Store, Used, lent_as}
 use Rattle.pfs_levels.proofs.MoveLists.{did_as, did_then}
 use Rattle.pfs_containers.specs.ContainerState.{Kept}
 use Rattle.pfs_matching.specs.declared.actor_rows.ActorRow.{ActorRow}
@@ -16,7 +17,7 @@ use Rattle.pfs_rows.specs.declared.truncations.Truncation.{Truncation}
 use Rattle.pfs_rows.specs.declared.truncations.Truncation.TheVariants.{Events, Summary, DigestSummary, Accounts, Users, Hosts, SetupActors, SetupObjects}
 use Rattle.pfs_admin.specs.WordChanges.{up_to, change_at, changed_up_to, flags_changed, words_changed}
 use Rattle.pfs_admin.specs.Truncations.{words_behind, off}
-use Rattle.pfs_admin.specs.Works.{Flagging, flagging, flagged, flagging_calls, flagging_entries, word_at, set_word, Leaves}
+use Rattle.pfs_admin.specs.Works.{Flagging, flagging, flagged, flagging_calls, flagging_entries, word_at, set_word}
 use Rattle.pfs_rows.specs.declared.table.Table.{Table}
 use Rattle.pfs_setups.specs.Deletes.{flags_by_rows}
 use Rattle.pfs_setups.specs.Inserts.{flags_by_answer}
@@ -24,12 +25,13 @@ use Rattle.pfs_setups.specs.SetupRows.{Naming}
 use Rattle.pfs_admin.proofs.QuitCosts.{len_if, early_at, early_set, early_wider}
 use Rattle.pfs_admin.proofs.LevelMoves.{up_next}
 
-pub leaves_nothing : (count entries : ℕ) (hand : ℕ → Option ℕ) (left draws name : ℕ) (log : Journal)
-    → Leaves count entries hand hand left left draws draws name name log log
-leaves_nothing count entries hand left draws name log = record {
-  hand = λ r. refl;
+pub used_nothing : (count entries : ℕ) (words : List Word) (s : Store) (log : Journal) → s.words ≡ Some words → Used count 0 entries (lent_as words s) s log log
+used_nothing count entries words s log lent = record {
   left = omega arith;
-  draws = refl;
+  draws = omega arith;
+  no_more = omega arith;
+  hand = λ r. refl;
+  words = lent;
   name = refl;
   room = omega arith;
 }

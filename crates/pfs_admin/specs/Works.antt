@@ -1,5 +1,5 @@
 -- What an action writes beside its moves: info rows, releases and switch words, as calls of the store and as entries.
-use Rattle.std.specs.Prelude.{ℕ, ◌≡◌, ◌+◌, ◌≤◌, ◌==◌, if◌then◌else◌, List, [], ◌∷◌, ◌++◌, slice_set, Option}
+use Rattle.std.specs.Prelude.{ℕ, ◌≡◌, ◌+◌, ◌==◌, if◌then◌else◌, List, [], ◌∷◌, ◌++◌, slice_set}
 use Rattle.std.specs.List.{slice_index_or}
 use Rattle.pfs_event.specs.declared.entry.Entry.{Entry}
 use Rattle.pfs_event.specs.declared.entry.Entry.TheVariants as says
@@ -101,12 +101,3 @@ pub record Worked (work : Work) (words : List Word) (head : List Entry) (old new
   pub signs_are : signs_of made ≡ work.signs
   pub did : Did (flagging_calls words work.flags ++ (signs_calls made ++ moves_calls moves))
       (head ++ (moves_entries moves ++ (signs_entries made ++ flagging_entries words work.flags))) old new was now
-
--- what a call leaves as it was, and what it may have used up; the words change as the flags say
-pub record Leaves (count entries : ℕ) (hand_old hand_new : ℕ
-    → Option ℕ) (left_old left_new draws_old draws_new : ℕ) (name_old name_new : ℕ) (old new : Journal) : Type 0 where
-  pub hand : (r : ℕ) → hand_new r ≡ hand_old r
-  pub left : left_old ≤ left_new + count
-  pub draws : draws_new ≡ draws_old
-  pub name : name_new ≡ name_old
-  pub room : old.room ≤ new.room + entries

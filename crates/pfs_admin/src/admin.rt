@@ -1,9 +1,10 @@
 //! The administration's calls.
 
 ghost use Rattle.std.specs.Prelude.{◌≡◌, ◌<◌, ◌≤◌, ◌+◌, ◌*◌, ◌^◌, ◌∷◌, [], ℕ, Some, None, IfOk, IfSome, length};
+ghost use Rattle.pfs_levels.specs.Views.{Used, lent_as};
 ghost use Rattle.pfs_exec.specs.NewRows.{table_of};
 ghost use Rattle.pfs_containers.specs.ContainerState.{lost_in};
-ghost use Rattle.pfs_admin.specs.Works.{Worked, Leaves};
+ghost use Rattle.pfs_admin.specs.Works.{Worked};
 ghost use Rattle.pfs_admin.specs.AdministrationStates.{thread_flags, connected, has_quit, seat_at, seat_in, name_text};
 ghost use Rattle.pfs_admin.specs.declared.changes.Change.TheVariants.{Connect, Quit, Truncate, Setup};
 ghost use Rattle.pfs_admin.specs.declared.changes.SetupStatement.TheVariants as statements;
@@ -133,10 +134,7 @@ impl Admin {
         ensures worked { Worked (work_of_connect self.old number user host) self.old.words
             (connect_entry (self.old.actions + 1) (seat_at self.old number user host) ∷ []) log.old log.new
             (H.seen rows.old).reached (H.seen rows.new).reached }
-        ensures lent { (H.seen rows.new).words ≡ Some self.new.words }
-        ensures leaves { Leaves 4 6 (H.seen rows.old).hand (H.seen rows.new).hand (H.seen rows.old).left
-            (H.seen rows.new).left (H.seen rows.old).draws (H.seen rows.new).draws (H.seen rows.old).name
-            (H.seen rows.new).name log.old log.new }
+        ensures used { Used 4 0 6 (lent_as self.new.words (H.seen rows.old)) (H.seen rows.new) log.old log.new }
     {
         let flags = self.thread_flags(user, host);
         let seat = self.containers.connect(number, user, host);
@@ -167,10 +165,7 @@ impl Admin {
         ensures stands { Follows number Quit self.old self.new }
         ensures worked { Worked (work_of_quit self.old number) self.old.words [] log.old log.new
             (H.seen rows.old).reached (H.seen rows.new).reached }
-        ensures lent { (H.seen rows.new).words ≡ Some self.new.words }
-        ensures leaves { Leaves 252 253 (H.seen rows.old).hand (H.seen rows.new).hand (H.seen rows.old).left
-            (H.seen rows.new).left (H.seen rows.old).draws (H.seen rows.new).draws (H.seen rows.old).name
-            (H.seen rows.new).name log.old log.new }
+        ensures used { Used 252 0 253 (lent_as self.new.words (H.seen rows.old)) (H.seen rows.new) log.old log.new }
     {
         let seat = self.containers.quit(number);
         self.actions += 1;
@@ -199,10 +194,8 @@ impl Admin {
         ensures stands { (session : ℕ) → Follows session (Truncate what) self.old self.new }
         ensures worked { Worked (work_of_truncation self.old what) self.old.words [] log.old log.new
             (H.seen rows.old).reached (H.seen rows.new).reached }
-        ensures lent { (H.seen rows.new).words ≡ Some self.new.words }
-        ensures leaves { Leaves (truncation_cost self.old what) (truncation_cost self.old what) (H.seen rows.old).hand
-            (H.seen rows.new).hand (H.seen rows.old).left (H.seen rows.new).left (H.seen rows.old).draws
-            (H.seen rows.new).draws (H.seen rows.old).name (H.seen rows.new).name log.old log.new }
+        ensures used { Used (truncation_cost self.old what) 0 (truncation_cost self.old what) (lent_as self.new.words
+            (H.seen rows.old)) (H.seen rows.new) log.old log.new }
     {
         write_truncation(
             rows,
@@ -242,10 +235,8 @@ impl Admin {
         ensures reply { result ≡ reply_to self.old (statements.Update what.now) }
         ensures worked { Worked (work_of_statement self.old (statements.Update what.now)) self.old.words [] log.old
             log.new (H.seen rows.old).reached (H.seen rows.new).reached }
-        ensures lent { (H.seen rows.new).words ≡ Some self.new.words }
-        ensures leaves { Leaves 0 (word_count what.now.table) (H.seen rows.old).hand (H.seen rows.new).hand
-            (H.seen rows.old).left (H.seen rows.new).left (H.seen rows.old).draws (H.seen rows.new).draws
-            (H.seen rows.old).name (H.seen rows.new).name log.old log.new }
+        ensures used { Used 0 0 (word_count what.now.table) (lent_as self.new.words (H.seen rows.old))
+            (H.seen rows.new) log.old log.new }
     {
         let flags = flags_of(self.words.as_slice());
         let met = update(
@@ -281,10 +272,8 @@ impl Admin {
         ensures reply { result ≡ reply_to self.old (statements.Insert what) }
         ensures worked { Worked (work_of_statement self.old (statements.Insert what)) self.old.words [] log.old
             log.new (H.seen rows.old).reached (H.seen rows.new).reached }
-        ensures lent { (H.seen rows.new).words ≡ Some self.new.words }
-        ensures leaves { Leaves 0 (word_count (table_of what.row)) (H.seen rows.old).hand (H.seen rows.new).hand
-            (H.seen rows.old).left (H.seen rows.new).left (H.seen rows.old).draws (H.seen rows.new).draws
-            (H.seen rows.old).name (H.seen rows.new).name log.old log.new }
+        ensures used { Used 0 0 (word_count (table_of what.row)) (lent_as self.new.words (H.seen rows.old))
+            (H.seen rows.new) log.old log.new }
     {
         let table = table_of(&what.row);
         let answer = insert(&mut self.actors, &mut self.objects, what);
@@ -312,10 +301,8 @@ impl Admin {
         ensures reply { result ≡ reply_to self.old (statements.Delete what.now) }
         ensures worked { Worked (work_of_statement self.old (statements.Delete what.now)) self.old.words [] log.old
             log.new (H.seen rows.old).reached (H.seen rows.new).reached }
-        ensures lent { (H.seen rows.new).words ≡ Some self.new.words }
-        ensures leaves { Leaves 0 (word_count what.now.table) (H.seen rows.old).hand (H.seen rows.new).hand
-            (H.seen rows.old).left (H.seen rows.new).left (H.seen rows.old).draws (H.seen rows.new).draws
-            (H.seen rows.old).name (H.seen rows.new).name log.old log.new }
+        ensures used { Used 0 0 (word_count what.now.table) (lent_as self.new.words (H.seen rows.old))
+            (H.seen rows.new) log.old log.new }
     {
         let met = delete(&mut self.actors, &mut self.objects, what);
         set_deleted(

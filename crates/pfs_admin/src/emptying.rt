@@ -24,10 +24,8 @@ pub(crate) fn empty_level<H: Hold>(
     requires room { cost (level_asks containers.now.now.places cells.now level) ≤ log.old.room }
     ensures moved { Moved (level_asks containers.now.now.places cells.now level) log.old log.new
         (H.seen rows.old).reached (H.seen rows.new).reached }
-    ensures stays { Stays (cost (level_asks containers.now.now.places cells.now level)) (H.seen rows.old).hand
-        (H.seen rows.new).hand (H.seen rows.old).left (H.seen rows.new).left (H.seen rows.old).draws
-        (H.seen rows.new).draws (H.seen rows.old).words (H.seen rows.new).words (H.seen rows.old).name
-        (H.seen rows.new).name log.old log.new }
+    ensures stays { Stays (cost (level_asks containers.now.now.places cells.now level)) (H.seen rows.old)
+        (H.seen rows.new) log.old log.new }
 {
     for place in 0..32 {
         let source = source_at(containers, level, place);
@@ -51,10 +49,8 @@ pub(crate) fn empty_level_if<H: Hold>(
     requires room { cost (emptied due containers.now.now.places cells.now level) ≤ log.old.room }
     ensures moved { Moved (emptied due containers.now.now.places cells.now level) log.old log.new
         (H.seen rows.old).reached (H.seen rows.new).reached }
-    ensures stays { Stays (cost (emptied due containers.now.now.places cells.now level)) (H.seen rows.old).hand
-        (H.seen rows.new).hand (H.seen rows.old).left (H.seen rows.new).left (H.seen rows.old).draws
-        (H.seen rows.new).draws (H.seen rows.old).words (H.seen rows.new).words (H.seen rows.old).name
-        (H.seen rows.new).name log.old log.new }
+    ensures stays { Stays (cost (emptied due containers.now.now.places cells.now level)) (H.seen rows.old)
+        (H.seen rows.new) log.old log.new }
 {
     if due {
         empty_level(rows, containers, level, cells, log);
@@ -71,9 +67,7 @@ fn empty_place<H: Hold>(rows: &mut H, source: Option<Source>, cells: &[u64], log
     requires room { cost (place_asks cells.now source) ≤ log.old.room }
     ensures moved { Moved (place_asks cells.now source) log.old log.new (H.seen rows.old).reached
         (H.seen rows.new).reached }
-    ensures stays { Stays (cost (place_asks cells.now source)) (H.seen rows.old).hand (H.seen rows.new).hand
-        (H.seen rows.old).left (H.seen rows.new).left (H.seen rows.old).draws (H.seen rows.new).draws
-        (H.seen rows.old).words (H.seen rows.new).words (H.seen rows.old).name (H.seen rows.new).name log.old log.new }
+    ensures stays { Stays (cost (place_asks cells.now source)) (H.seen rows.old) (H.seen rows.new) log.old log.new }
 {
     if let Some(source) = source {
         flush_cells(rows, source, cells, log);

@@ -22,9 +22,7 @@ pub(crate) fn release_ring<H: Hold>(rows: &mut H, slot: u64, log: &mut Log)
     requires spare { 56 ≤ (H.seen rows.old).left }
     requires room { 56 ≤ log.old.room }
     ensures signed { Signed (free_ring slot) log.old log.new (H.seen rows.old).reached (H.seen rows.new).reached }
-    ensures stays { Stays 56 (H.seen rows.old).hand (H.seen rows.new).hand (H.seen rows.old).left
-        (H.seen rows.new).left (H.seen rows.old).draws (H.seen rows.new).draws (H.seen rows.old).words
-        (H.seen rows.new).words (H.seen rows.old).name (H.seen rows.new).name log.old log.new }
+    ensures stays { Stays 56 (H.seen rows.old) (H.seen rows.new) log.old log.new }
 {
     release_rows(rows, RINGS + RING_PLACES * slot, RING_PLACES, log);
 }
@@ -43,9 +41,7 @@ pub(crate) fn release_events<H: Hold>(
     requires room { event_most table ≤ log.old.room }
     ensures signed { Signed (event_signs (is_there containers.now.now.places levels.Thread) kind table) log.old log.new
         (H.seen rows.old).reached (H.seen rows.new).reached }
-    ensures stays { Stays (event_most table) (H.seen rows.old).hand (H.seen rows.new).hand (H.seen rows.old).left
-        (H.seen rows.new).left (H.seen rows.old).draws (H.seen rows.new).draws (H.seen rows.old).words
-        (H.seen rows.new).words (H.seen rows.old).name (H.seen rows.new).name log.old log.new }
+    ensures stays { Stays (event_most table) (H.seen rows.old) (H.seen rows.new) log.old log.new }
 {
     match table {
         EventTable::Current => {
@@ -108,9 +104,7 @@ fn release_threads<H: Hold>(
     requires room { 320 ≤ log.old.room }
     ensures signed { Signed (free_threads (is_there containers.now.now.places levels.Thread) first count) log.old
         log.new (H.seen rows.old).reached (H.seen rows.new).reached }
-    ensures stays { Stays 320 (H.seen rows.old).hand (H.seen rows.new).hand (H.seen rows.old).left
-        (H.seen rows.new).left (H.seen rows.old).draws (H.seen rows.new).draws (H.seen rows.old).words
-        (H.seen rows.new).words (H.seen rows.old).name (H.seen rows.new).name log.old log.new }
+    ensures stays { Stays 320 (H.seen rows.old) (H.seen rows.new) log.old log.new }
 {
     for slot in 0..32 {
         let there = source_at(containers, Level::Thread, slot).is_some();
@@ -136,9 +130,7 @@ fn release_slot<H: Hold>(
     requires room { 10 ≤ log.old.room }
     ensures signed { Signed (cond there (free_rows (8450 + 56 * slot + first) count) []) log.old log.new
         (H.seen rows.old).reached (H.seen rows.new).reached }
-    ensures stays { Stays 10 (H.seen rows.old).hand (H.seen rows.new).hand (H.seen rows.old).left
-        (H.seen rows.new).left (H.seen rows.old).draws (H.seen rows.new).draws (H.seen rows.old).words
-        (H.seen rows.new).words (H.seen rows.old).name (H.seen rows.new).name log.old log.new }
+    ensures stays { Stays 10 (H.seen rows.old) (H.seen rows.new) log.old log.new }
 {
     if there {
         release_rows(rows, RINGS + RING_PLACES * slot + first, count, log);
@@ -154,9 +146,7 @@ fn release_rows<H: Hold>(rows: &mut H, first: u64, count: u64, log: &mut Log)
     requires room { count ≤ log.old.room }
     ensures signed { Signed (free_rows first count) log.old log.new (H.seen rows.old).reached
         (H.seen rows.new).reached }
-    ensures stays { Stays count (H.seen rows.old).hand (H.seen rows.new).hand (H.seen rows.old).left
-        (H.seen rows.new).left (H.seen rows.old).draws (H.seen rows.new).draws (H.seen rows.old).words
-        (H.seen rows.new).words (H.seen rows.old).name (H.seen rows.new).name log.old log.new }
+    ensures stays { Stays count (H.seen rows.old) (H.seen rows.new) log.old log.new }
 {
     for place in 0..count {
         release(rows, first + place, log);

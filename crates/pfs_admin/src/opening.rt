@@ -11,10 +11,9 @@ use crate::NoMemory;
 use pfs_classes::{ClassId, Classes, Setting, TableName};
 use pfs_levels::Word;
 use pfs_matching::Objects;
+use pfs_rows::WORDS;
 use pfs_setups::RowNames;
 use std::alloc::Global;
-
-const WORDS: u64 = 160;
 
 /// The opening flags of the switch words: word 0 has the consumers; words 1 to 32 the threads, all off; words 33 to 95
 /// the classes by id, ENABLED and TIMED; words 96 to 159 the tables by number, as the objects decide. What isn't

@@ -63,9 +63,7 @@ pub(crate) fn sign_truncated<H: Hold>(
     requires room { signs_most (was_by before.now) what ≤ log.old.room }
     ensures signed { Signed (truncation_signs (was_by before.now) containers.now.now what) log.old log.new
         (H.seen rows.old).reached (H.seen rows.new).reached }
-    ensures stays { Stays (signs_most (was_by before.now) what) (H.seen rows.old).hand (H.seen rows.new).hand
-        (H.seen rows.old).left (H.seen rows.new).left (H.seen rows.old).draws (H.seen rows.new).draws
-        (H.seen rows.old).words (H.seen rows.new).words (H.seen rows.old).name (H.seen rows.new).name log.old log.new }
+    ensures stays { Stays (signs_most (was_by before.now) what) (H.seen rows.old) (H.seen rows.new) log.old log.new }
 {
     match what {
         Truncation::Accounts => {
@@ -95,9 +93,7 @@ fn sign_users<H: Hold>(rows: &mut H, containers: &Containers, before: &Standing,
     requires room { signs_most (was_by before.now) Users ≤ log.old.room }
     ensures signed { Signed (truncation_signs (was_by before.now) containers.now.now Users) log.old log.new
         (H.seen rows.old).reached (H.seen rows.new).reached }
-    ensures stays { Stays (signs_most (was_by before.now) Users) (H.seen rows.old).hand (H.seen rows.new).hand
-        (H.seen rows.old).left (H.seen rows.new).left (H.seen rows.old).draws (H.seen rows.new).draws
-        (H.seen rows.old).words (H.seen rows.new).words (H.seen rows.old).name (H.seen rows.new).name log.old log.new }
+    ensures stays { Stays (signs_most (was_by before.now) Users) (H.seen rows.old) (H.seen rows.new) log.old log.new }
 {
     sign_level(
         rows,
@@ -117,9 +113,7 @@ fn sign_hosts<H: Hold>(rows: &mut H, containers: &Containers, before: &Standing,
     requires room { signs_most (was_by before.now) Hosts ≤ log.old.room }
     ensures signed { Signed (truncation_signs (was_by before.now) containers.now.now Hosts) log.old log.new
         (H.seen rows.old).reached (H.seen rows.new).reached }
-    ensures stays { Stays (signs_most (was_by before.now) Hosts) (H.seen rows.old).hand (H.seen rows.new).hand
-        (H.seen rows.old).left (H.seen rows.new).left (H.seen rows.old).draws (H.seen rows.new).draws
-        (H.seen rows.old).words (H.seen rows.new).words (H.seen rows.old).name (H.seen rows.new).name log.old log.new }
+    ensures stays { Stays (signs_most (was_by before.now) Hosts) (H.seen rows.old) (H.seen rows.new) log.old log.new }
 {
     sign_level(
         rows,
@@ -146,9 +140,7 @@ fn sign_level<H: Hold>(
     requires room { standing (flag_at was.now) ≤ log.old.room }
     ensures signed { Signed (level_signs written (flag_at was.now) containers.now.now level) log.old log.new
         (H.seen rows.old).reached (H.seen rows.new).reached }
-    ensures stays { Stays (standing (flag_at was.now)) (H.seen rows.old).hand (H.seen rows.new).hand
-        (H.seen rows.old).left (H.seen rows.new).left (H.seen rows.old).draws (H.seen rows.new).draws
-        (H.seen rows.old).words (H.seen rows.new).words (H.seen rows.old).name (H.seen rows.new).name log.old log.new }
+    ensures stays { Stays (standing (flag_at was.now)) (H.seen rows.old) (H.seen rows.new) log.old log.new }
 {
     for place in 0..32 {
         let due = was[place as usize];
@@ -173,9 +165,7 @@ fn sign_place<H: Hold>(
     requires room { cond due 1 0 ≤ log.old.room }
     ensures signed { Signed (place_sign written due (first_row level + place) (content_at containers.now.now level
         place)) log.old log.new (H.seen rows.old).reached (H.seen rows.new).reached }
-    ensures stays { Stays (cond due 1 0) (H.seen rows.old).hand (H.seen rows.new).hand (H.seen rows.old).left
-        (H.seen rows.new).left (H.seen rows.old).draws (H.seen rows.new).draws (H.seen rows.old).words
-        (H.seen rows.new).words (H.seen rows.old).name (H.seen rows.new).name log.old log.new }
+    ensures stays { Stays (cond due 1 0) (H.seen rows.old) (H.seen rows.new) log.old log.new }
 {
     if due {
         let content = content_at(containers, level, place);
@@ -196,9 +186,7 @@ fn sign_row<H: Hold>(
     requires room { 1 ≤ log.old.room }
     ensures signed { Signed (place_sign written true row content.now) log.old log.new (H.seen rows.old).reached
         (H.seen rows.new).reached }
-    ensures stays { Stays (1) (H.seen rows.old).hand (H.seen rows.new).hand (H.seen rows.old).left
-        (H.seen rows.new).left (H.seen rows.old).draws (H.seen rows.new).draws (H.seen rows.old).words
-        (H.seen rows.new).words (H.seen rows.old).name (H.seen rows.new).name log.old log.new }
+    ensures stays { Stays (1) (H.seen rows.old) (H.seen rows.new) log.old log.new }
 {
     match content {
         Some(content) => tag_if(rows, row, content, written, log),
@@ -213,9 +201,7 @@ fn tag_if<H: Hold>(rows: &mut H, row: u64, content: &Content, written: bool, log
     requires room { 1 ≤ log.old.room }
     ensures signed { Signed (place_sign written true row (Some content.now)) log.old log.new (H.seen rows.old).reached
         (H.seen rows.new).reached }
-    ensures stays { Stays (1) (H.seen rows.old).hand (H.seen rows.new).hand (H.seen rows.old).left
-        (H.seen rows.new).left (H.seen rows.old).draws (H.seen rows.new).draws (H.seen rows.old).words
-        (H.seen rows.new).words (H.seen rows.old).name (H.seen rows.new).name log.old log.new }
+    ensures stays { Stays (1) (H.seen rows.old) (H.seen rows.new) log.old log.new }
 {
     if written {
         tag(rows, row, content, log);

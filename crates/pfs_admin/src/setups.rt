@@ -1,6 +1,7 @@
 //! What a statement on the setup tables writes: the switch words whose flags change.
 
 ghost use Rattle.std.specs.Prelude.{◌≡◌, ◌<◌, ◌≤◌, ◌+◌, ◌^◌, ℕ, Some, length, map, take, Result};
+ghost use Rattle.pfs_levels.specs.Views.{Used, lent_as};
 ghost use Rattle.pfs_exec.specs.NewRows.{table_of};
 ghost use Rattle.pfs_levels.specs.Moves.{Did};
 ghost use Rattle.pfs_setups.specs.Deletes as deletes;
@@ -8,7 +9,7 @@ ghost use Rattle.pfs_setups.specs.Inserts as inserts;
 ghost use Rattle.pfs_setups.specs.Updates as updates;
 ghost use Rattle.pfs_admin.specs.WordChanges.{flags_changed, words_changed};
 ghost use Rattle.pfs_admin.specs.SetupStatements.{first_word, flags_in, word_count};
-ghost use Rattle.pfs_admin.specs.Works.{Leaves, word_at, flagging_calls, flagging_entries};
+ghost use Rattle.pfs_admin.specs.Works.{word_at, flagging_calls, flagging_entries};
 
 use crate::signs::flag;
 use pfs_containers::Containers;
@@ -90,10 +91,8 @@ pub(crate) fn set_updated<H: Hold>(
     ensures mine { words.new ≡ words_changed
         (updates.flags_behind names.now containers.now.now.places.threads objects.now what.now) words.old
         (first_word what.now.table) (word_count what.now.table) }
-    ensures lent { (H.seen rows.new).words ≡ Some words.new }
-    ensures leaves { Leaves 0 (word_count what.now.table) (H.seen rows.old).hand (H.seen rows.new).hand
-        (H.seen rows.old).left (H.seen rows.new).left (H.seen rows.old).draws (H.seen rows.new).draws
-        (H.seen rows.old).name (H.seen rows.new).name log.old log.new }
+    ensures used { Used 0 0 (word_count what.now.table) (lent_as words.new (H.seen rows.old)) (H.seen rows.new) log.old
+        log.new }
 {
     let first = first_word(what.table);
     for at in 0..word_count(what.table) {
@@ -123,10 +122,7 @@ pub(crate) fn set_deleted<H: Hold>(
         (first_word table) (word_count table))) log.old log.new (H.seen rows.old).reached (H.seen rows.new).reached }
     ensures mine { words.new ≡ words_changed (deletes.flags_by_rows names.now objects.now table) words.old
         (first_word table) (word_count table) }
-    ensures lent { (H.seen rows.new).words ≡ Some words.new }
-    ensures leaves { Leaves 0 (word_count table) (H.seen rows.old).hand (H.seen rows.new).hand (H.seen rows.old).left
-        (H.seen rows.new).left (H.seen rows.old).draws (H.seen rows.new).draws (H.seen rows.old).name
-        (H.seen rows.new).name log.old log.new }
+    ensures used { Used 0 0 (word_count table) (lent_as words.new (H.seen rows.old)) (H.seen rows.new) log.old log.new }
 {
     // As an INSERT that adds a row: all tables are decided again.
     set_inserted(rows, names, objects, words, table, &Ok(1), log);
@@ -152,10 +148,7 @@ pub(crate) fn set_inserted<H: Hold>(
         (word_count table))) log.old log.new (H.seen rows.old).reached (H.seen rows.new).reached }
     ensures mine { words.new ≡ words_changed (inserts.flags_by_answer names.now objects.now table answer.now)
         words.old (first_word table) (word_count table) }
-    ensures lent { (H.seen rows.new).words ≡ Some words.new }
-    ensures leaves { Leaves 0 (word_count table) (H.seen rows.old).hand (H.seen rows.new).hand (H.seen rows.old).left
-        (H.seen rows.new).left (H.seen rows.old).draws (H.seen rows.new).draws (H.seen rows.old).name
-        (H.seen rows.new).name log.old log.new }
+    ensures used { Used 0 0 (word_count table) (lent_as words.new (H.seen rows.old)) (H.seen rows.new) log.old log.new }
 {
     let first = first_word(table);
     for at in 0..word_count(table) {

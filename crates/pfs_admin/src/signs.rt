@@ -2,8 +2,9 @@
 
 ghost use Rattle.std.specs.Prelude.{◌≡◌, ◌<◌, ◌≤◌, ◌+◌, ◌^◌, ◌∷◌, [], ℕ, Option, Some, None, length};
 ghost use Rattle.std.specs.Option.{option_map};
+ghost use Rattle.pfs_levels.specs.Views.{Used, lent_as};
 ghost use Rattle.pfs_levels.specs.Moves.{IsAway, Did, Stays};
-ghost use Rattle.pfs_admin.specs.Works.{Signed, Tags, Releases, flagging, flagged, flagging_calls, flagging_entries, word_at, Leaves};
+ghost use Rattle.pfs_admin.specs.Works.{Signed, Tags, Releases, flagging, flagged, flagging_calls, flagging_entries, word_at};
 
 use pfs_event::Entry;
 use pfs_levels::{Content, Hold, Log, Word};
@@ -15,9 +16,7 @@ pub(crate) fn tag<H: Hold>(rows: &mut H, row: u64, content: &Content, log: &mut 
     requires room { 1 ≤ log.old.room }
     ensures signed { Signed (Tags row content.now ∷ []) log.old log.new (H.seen rows.old).reached
         (H.seen rows.new).reached }
-    ensures stays { Stays 1 (H.seen rows.old).hand (H.seen rows.new).hand (H.seen rows.old).left (H.seen rows.new).left
-        (H.seen rows.old).draws (H.seen rows.new).draws (H.seen rows.old).words (H.seen rows.new).words
-        (H.seen rows.old).name (H.seen rows.new).name log.old log.new }
+    ensures stays { Stays 1 (H.seen rows.old) (H.seen rows.new) log.old log.new }
 {
     rows.take(row);
     let version = rows.put(row, content);
@@ -30,9 +29,7 @@ pub(crate) fn release<H: Hold>(rows: &mut H, row: u64, log: &mut Log)
     requires spare { 1 ≤ (H.seen rows.old).left }
     requires room { 1 ≤ log.old.room }
     ensures signed { Signed (Releases row ∷ []) log.old log.new (H.seen rows.old).reached (H.seen rows.new).reached }
-    ensures stays { Stays 1 (H.seen rows.old).hand (H.seen rows.new).hand (H.seen rows.old).left (H.seen rows.new).left
-        (H.seen rows.old).draws (H.seen rows.new).draws (H.seen rows.old).words (H.seen rows.new).words
-        (H.seen rows.old).name (H.seen rows.new).name log.old log.new }
+    ensures stays { Stays 1 (H.seen rows.old) (H.seen rows.new) log.old log.new }
 {
     let (version, _) = rows.take(row);
     rows.free(row);
@@ -50,10 +47,7 @@ pub(crate) fn flag<H: Hold>(rows: &mut H, words: &mut [Word], at: u64, flags: u1
         (flagging_entries words.old (flagging words.old at flags)) log.old log.new (H.seen rows.old).reached
         (H.seen rows.new).reached }
     ensures mine { words.new ≡ flagged words.old at flags }
-    ensures lent { (H.seen rows.new).words ≡ Some words.new }
-    ensures leaves { Leaves 0 1 (H.seen rows.old).hand (H.seen rows.new).hand (H.seen rows.old).left
-        (H.seen rows.new).left (H.seen rows.old).draws (H.seen rows.new).draws (H.seen rows.old).name
-        (H.seen rows.new).name log.old log.new }
+    ensures used { Used 0 0 1 (lent_as words.new (H.seen rows.old)) (H.seen rows.new) log.old log.new }
 {
     let here = words[at as usize];
     if here.flags == flags {

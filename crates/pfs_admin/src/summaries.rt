@@ -29,10 +29,8 @@ pub(crate) fn move_truncated<H: Hold>(
     requires room { cost (truncation_asks cells.now containers.now.now.places what) ≤ log.old.room }
     ensures moved { Moved (truncation_asks cells.now containers.now.now.places what) log.old log.new
         (H.seen rows.old).reached (H.seen rows.new).reached }
-    ensures stays { Stays (cost (truncation_asks cells.now containers.now.now.places what)) (H.seen rows.old).hand
-        (H.seen rows.new).hand (H.seen rows.old).left (H.seen rows.new).left (H.seen rows.old).draws
-        (H.seen rows.new).draws (H.seen rows.old).words (H.seen rows.new).words (H.seen rows.old).name
-        (H.seen rows.new).name log.old log.new }
+    ensures stays { Stays (cost (truncation_asks cells.now containers.now.now.places what)) (H.seen rows.old)
+        (H.seen rows.new) log.old log.new }
 {
     match what {
         Truncation::Summary(kind, table) => {
@@ -83,10 +81,8 @@ fn empty_all<H: Hold>(
     requires room { cost (all_asks cells.now containers.now.now.places table) ≤ log.old.room }
     ensures moved { Moved (all_asks cells.now containers.now.now.places table) log.old log.new
         (H.seen rows.old).reached (H.seen rows.new).reached }
-    ensures stays { Stays (cost (all_asks cells.now containers.now.now.places table)) (H.seen rows.old).hand
-        (H.seen rows.new).hand (H.seen rows.old).left (H.seen rows.new).left (H.seen rows.old).draws
-        (H.seen rows.new).draws (H.seen rows.old).words (H.seen rows.new).words (H.seen rows.old).name
-        (H.seen rows.new).name log.old log.new }
+    ensures stays { Stays (cost (all_asks cells.now containers.now.now.places table)) (H.seen rows.old)
+        (H.seen rows.new) log.old log.new }
 {
     empty_kind(rows, containers, table, cells, TableKind::Waits, log);
     empty_kind(rows, containers, table, cells, TableKind::Stages, log);
@@ -111,9 +107,7 @@ fn empty_kind<H: Hold>(
     ensures moved { Moved (summary_asks containers.now.now.places table (kind_cells cells.now kind)) log.old log.new
         (H.seen rows.old).reached (H.seen rows.new).reached }
     ensures stays { Stays (cost (summary_asks containers.now.now.places table (kind_cells cells.now kind)))
-        (H.seen rows.old).hand (H.seen rows.new).hand (H.seen rows.old).left (H.seen rows.new).left
-        (H.seen rows.old).draws (H.seen rows.new).draws (H.seen rows.old).words (H.seen rows.new).words
-        (H.seen rows.old).name (H.seen rows.new).name log.old log.new }
+        (H.seen rows.old) (H.seen rows.new) log.old log.new }
 {
     let list = cells.of_kind(kind);
     empty_summary(rows, containers, table, list, log);
@@ -133,10 +127,8 @@ fn empty_summary<H: Hold>(
     requires room { cost (summary_asks containers.now.now.places table cells.now) ≤ log.old.room }
     ensures moved { Moved (summary_asks containers.now.now.places table cells.now) log.old log.new
         (H.seen rows.old).reached (H.seen rows.new).reached }
-    ensures stays { Stays (cost (summary_asks containers.now.now.places table cells.now)) (H.seen rows.old).hand
-        (H.seen rows.new).hand (H.seen rows.old).left (H.seen rows.new).left (H.seen rows.old).draws
-        (H.seen rows.new).draws (H.seen rows.old).words (H.seen rows.new).words (H.seen rows.old).name
-        (H.seen rows.new).name log.old log.new }
+    ensures stays { Stays (cost (summary_asks containers.now.now.places table cells.now)) (H.seen rows.old)
+        (H.seen rows.new) log.old log.new }
 {
     let reach = Reach::of(table);
     empty_levels(rows, containers, reach, cells, log);
@@ -156,10 +148,8 @@ fn empty_levels<H: Hold>(
     requires room { cost (reach_asks containers.now.now.places reach cells.now) ≤ log.old.room }
     ensures moved { Moved (reach_asks containers.now.now.places reach cells.now) log.old log.new
         (H.seen rows.old).reached (H.seen rows.new).reached }
-    ensures stays { Stays (cost (reach_asks containers.now.now.places reach cells.now)) (H.seen rows.old).hand
-        (H.seen rows.new).hand (H.seen rows.old).left (H.seen rows.new).left (H.seen rows.old).draws
-        (H.seen rows.new).draws (H.seen rows.old).words (H.seen rows.new).words (H.seen rows.old).name
-        (H.seen rows.new).name log.old log.new }
+    ensures stays { Stays (cost (reach_asks containers.now.now.places reach cells.now)) (H.seen rows.old)
+        (H.seen rows.new) log.old log.new }
 {
     empty_lower(rows, containers, reach, cells, log);
     empty_upper(rows, containers, reach, cells, log);
@@ -179,10 +169,8 @@ fn empty_lower<H: Hold>(
     requires room { cost (lower_asks containers.now.now.places reach cells.now) ≤ log.old.room }
     ensures moved { Moved (lower_asks containers.now.now.places reach cells.now) log.old log.new
         (H.seen rows.old).reached (H.seen rows.new).reached }
-    ensures stays { Stays (cost (lower_asks containers.now.now.places reach cells.now)) (H.seen rows.old).hand
-        (H.seen rows.new).hand (H.seen rows.old).left (H.seen rows.new).left (H.seen rows.old).draws
-        (H.seen rows.new).draws (H.seen rows.old).words (H.seen rows.new).words (H.seen rows.old).name
-        (H.seen rows.new).name log.old log.new }
+    ensures stays { Stays (cost (lower_asks containers.now.now.places reach cells.now)) (H.seen rows.old)
+        (H.seen rows.new) log.old log.new }
 {
     empty_level(rows, containers, Level::Thread, cells, log);
     empty_level_if(rows, containers, reach.accounts, Level::Account, cells, log);
@@ -202,10 +190,8 @@ fn empty_upper<H: Hold>(
     requires room { cost (upper_asks containers.now.now.places reach cells.now) ≤ log.old.room }
     ensures moved { Moved (upper_asks containers.now.now.places reach cells.now) log.old log.new
         (H.seen rows.old).reached (H.seen rows.new).reached }
-    ensures stays { Stays (cost (upper_asks containers.now.now.places reach cells.now)) (H.seen rows.old).hand
-        (H.seen rows.new).hand (H.seen rows.old).left (H.seen rows.new).left (H.seen rows.old).draws
-        (H.seen rows.new).draws (H.seen rows.old).words (H.seen rows.new).words (H.seen rows.old).name
-        (H.seen rows.new).name log.old log.new }
+    ensures stays { Stays (cost (upper_asks containers.now.now.places reach cells.now)) (H.seen rows.old)
+        (H.seen rows.new) log.old log.new }
 {
     empty_level_if(rows, containers, reach.users, Level::User, cells, log);
     empty_beyond(rows, containers, reach, cells, log);
@@ -228,9 +214,7 @@ fn empty_beyond<H: Hold>(
     ensures moved { Moved (emptied reach.hosts containers.now.now.places cells.now levels.Host ++ cleared reach.global
         cells.now) log.old log.new (H.seen rows.old).reached (H.seen rows.new).reached }
     ensures stays { Stays (cost (emptied reach.hosts containers.now.now.places cells.now levels.Host ++ cleared
-        reach.global cells.now)) (H.seen rows.old).hand (H.seen rows.new).hand (H.seen rows.old).left
-        (H.seen rows.new).left (H.seen rows.old).draws (H.seen rows.new).draws (H.seen rows.old).words
-        (H.seen rows.new).words (H.seen rows.old).name (H.seen rows.new).name log.old log.new }
+        reach.global cells.now)) (H.seen rows.old) (H.seen rows.new) log.old log.new }
 {
     empty_level_if(rows, containers, reach.hosts, Level::Host, cells, log);
     clear_global_if(rows, reach.global, cells, log);
@@ -244,9 +228,7 @@ fn clear_global_if<H: Hold>(rows: &mut H, due: bool, cells: &[u64], log: &mut Lo
     requires spare { cost (cleared due cells.now) ≤ (H.seen rows.old).left }
     requires room { cost (cleared due cells.now) ≤ log.old.room }
     ensures moved { Moved (cleared due cells.now) log.old log.new (H.seen rows.old).reached (H.seen rows.new).reached }
-    ensures stays { Stays (cost (cleared due cells.now)) (H.seen rows.old).hand (H.seen rows.new).hand
-        (H.seen rows.old).left (H.seen rows.new).left (H.seen rows.old).draws (H.seen rows.new).draws
-        (H.seen rows.old).words (H.seen rows.new).words (H.seen rows.old).name (H.seen rows.new).name log.old log.new }
+    ensures stays { Stays (cost (cleared due cells.now)) (H.seen rows.old) (H.seen rows.new) log.old log.new }
 {
     if due {
         clear_global(rows, cells, log);
@@ -260,9 +242,7 @@ fn clear_global<H: Hold>(rows: &mut H, cells: &[u64], log: &mut Log)
     requires room { cost (cleared true cells.now) ≤ log.old.room }
     ensures moved { Moved (cleared true cells.now) log.old log.new (H.seen rows.old).reached
         (H.seen rows.new).reached }
-    ensures stays { Stays (cost (cleared true cells.now)) (H.seen rows.old).hand (H.seen rows.new).hand
-        (H.seen rows.old).left (H.seen rows.new).left (H.seen rows.old).draws (H.seen rows.new).draws
-        (H.seen rows.old).words (H.seen rows.new).words (H.seen rows.old).name (H.seen rows.new).name log.old log.new }
+    ensures stays { Stays (cost (cleared true cells.now)) (H.seen rows.old) (H.seen rows.new) log.old log.new }
 {
     for cell in cells {
         clear(rows, row_of(Place::GlobalCell(*cell)), log);
@@ -276,9 +256,7 @@ fn clear_digests<H: Hold>(rows: &mut H, places: u64, log: &mut Log)
     requires spare { cost (digest_asks places) ≤ (H.seen rows.old).left }
     requires room { cost (digest_asks places) ≤ log.old.room }
     ensures moved { Moved (digest_asks places) log.old log.new (H.seen rows.old).reached (H.seen rows.new).reached }
-    ensures stays { Stays (cost (digest_asks places)) (H.seen rows.old).hand (H.seen rows.new).hand
-        (H.seen rows.old).left (H.seen rows.new).left (H.seen rows.old).draws (H.seen rows.new).draws
-        (H.seen rows.old).words (H.seen rows.new).words (H.seen rows.old).name (H.seen rows.new).name log.old log.new }
+    ensures stays { Stays (cost (digest_asks places)) (H.seen rows.old) (H.seen rows.new) log.old log.new }
 {
     for at in 0..places + 1 {
         clear(rows, row_of(Place::DigestNull) + at, log);

@@ -25,9 +25,7 @@ pub(crate) fn tag_uppers<H: Hold>(
     requires room { 3 ≤ log.old.room }
     ensures signed { Signed (upper_tags containers.now.now session.now) log.old log.new (H.seen rows.old).reached
         (H.seen rows.new).reached }
-    ensures stays { Stays 3 (H.seen rows.old).hand (H.seen rows.new).hand (H.seen rows.old).left (H.seen rows.new).left
-        (H.seen rows.old).draws (H.seen rows.new).draws (H.seen rows.old).words (H.seen rows.new).words
-        (H.seen rows.old).name (H.seen rows.new).name log.old log.new }
+    ensures stays { Stays 3 (H.seen rows.old) (H.seen rows.new) log.old log.new }
 {
     tag_account(rows, containers, session.account, log);
     tag_user(rows, containers, session.user, log);
@@ -41,9 +39,7 @@ fn tag_account<H: Hold>(rows: &mut H, containers: &Containers, account: Option<u
     requires room { 1 ≤ log.old.room }
     ensures signed { Signed (account_tag containers.now.now account) log.old log.new (H.seen rows.old).reached
         (H.seen rows.new).reached }
-    ensures stays { Stays 1 (H.seen rows.old).hand (H.seen rows.new).hand (H.seen rows.old).left (H.seen rows.new).left
-        (H.seen rows.old).draws (H.seen rows.new).draws (H.seen rows.old).words (H.seen rows.new).words
-        (H.seen rows.old).name (H.seen rows.new).name log.old log.new }
+    ensures stays { Stays 1 (H.seen rows.old) (H.seen rows.new) log.old log.new }
 {
     if let Some(place) = account {
         let content = match containers.account_info(place) {
@@ -61,9 +57,7 @@ fn tag_user<H: Hold>(rows: &mut H, containers: &Containers, user: Option<u64>, l
     requires room { 1 ≤ log.old.room }
     ensures signed { Signed (user_tag containers.now.now user) log.old log.new (H.seen rows.old).reached
         (H.seen rows.new).reached }
-    ensures stays { Stays 1 (H.seen rows.old).hand (H.seen rows.new).hand (H.seen rows.old).left (H.seen rows.new).left
-        (H.seen rows.old).draws (H.seen rows.new).draws (H.seen rows.old).words (H.seen rows.new).words
-        (H.seen rows.old).name (H.seen rows.new).name log.old log.new }
+    ensures stays { Stays 1 (H.seen rows.old) (H.seen rows.new) log.old log.new }
 {
     if let Some(place) = user {
         let content = match containers.user_info(place) {
@@ -81,9 +75,7 @@ fn tag_host<H: Hold>(rows: &mut H, containers: &Containers, host: Option<u64>, l
     requires room { 1 ≤ log.old.room }
     ensures signed { Signed (host_tag containers.now.now host) log.old log.new (H.seen rows.old).reached
         (H.seen rows.new).reached }
-    ensures stays { Stays 1 (H.seen rows.old).hand (H.seen rows.new).hand (H.seen rows.old).left (H.seen rows.new).left
-        (H.seen rows.old).draws (H.seen rows.new).draws (H.seen rows.old).words (H.seen rows.new).words
-        (H.seen rows.old).name (H.seen rows.new).name log.old log.new }
+    ensures stays { Stays 1 (H.seen rows.old) (H.seen rows.new) log.old log.new }
 {
     if let Some(place) = host {
         let content = match containers.host_info(place) {
@@ -101,9 +93,7 @@ fn tag_some<H: Hold>(rows: &mut H, row: u64, content: &Option<Content>, log: &mu
     requires room { 1 ≤ log.old.room }
     ensures signed { Signed (tag_of row content.now) log.old log.new (H.seen rows.old).reached
         (H.seen rows.new).reached }
-    ensures stays { Stays 1 (H.seen rows.old).hand (H.seen rows.new).hand (H.seen rows.old).left (H.seen rows.new).left
-        (H.seen rows.old).draws (H.seen rows.new).draws (H.seen rows.old).words (H.seen rows.new).words
-        (H.seen rows.old).name (H.seen rows.new).name log.old log.new }
+    ensures stays { Stays 1 (H.seen rows.old) (H.seen rows.new) log.old log.new }
 {
     if let Some(content) = content {
         tag(rows, row, content, log);

@@ -1,8 +1,9 @@
 //! What a connect and a quit write for their thread slot.
 
 ghost use Rattle.std.specs.Prelude.{◌≡◌, ◌<◌, ◌≤◌, ◌+◌, ◌*◌, ◌^◌, [], ℕ, All, IfSome, Some, None, length};
+ghost use Rattle.pfs_levels.specs.Views.{Used, lent_as};
 ghost use Rattle.pfs_containers.specs.ContainerState.{IsInRange};
-ghost use Rattle.pfs_admin.specs.Works.{Worked, Leaves, word_at};
+ghost use Rattle.pfs_admin.specs.Works.{Worked, word_at};
 ghost use Rattle.pfs_admin.specs.AdministrationStates.{words_by};
 ghost use Rattle.pfs_admin.specs.ConnectionAsks.{connect_work, quit_work};
 
@@ -32,10 +33,7 @@ pub(crate) fn write_connect<H: Hold>(
     ensures worked { Worked (connect_work words.old flags containers.now.now seat.now) words.old [] log.old log.new
         (H.seen rows.old).reached (H.seen rows.new).reached }
     ensures mine { words.new ≡ words_by words.old flags seat.now }
-    ensures lent { (H.seen rows.new).words ≡ Some words.new }
-    ensures leaves { Leaves 4 5 (H.seen rows.old).hand (H.seen rows.new).hand (H.seen rows.old).left
-        (H.seen rows.new).left (H.seen rows.old).draws (H.seen rows.new).draws (H.seen rows.old).name
-        (H.seen rows.new).name log.old log.new }
+    ensures used { Used 4 0 5 (lent_as words.new (H.seen rows.old)) (H.seen rows.new) log.old log.new }
 {
     if let Some(seat) = seat {
         seat_thread(rows, containers, words, seat, flags, log);
@@ -63,10 +61,8 @@ pub(crate) fn write_quit<H: Hold>(
     ensures worked { Worked (quit_work words.old cells.now containers.now.now seat.now) words.old [] log.old log.new
         (H.seen rows.old).reached (H.seen rows.new).reached }
     ensures mine { words.new ≡ words_by words.old 0 seat.now }
-    ensures lent { (H.seen rows.new).words ≡ Some words.new }
-    ensures leaves { Leaves (3 * length cells.now + 60) (3 * length cells.now + 61) (H.seen rows.old).hand
-        (H.seen rows.new).hand (H.seen rows.old).left (H.seen rows.new).left (H.seen rows.old).draws
-        (H.seen rows.new).draws (H.seen rows.old).name (H.seen rows.new).name log.old log.new }
+    ensures used { Used (3 * length cells.now + 60) 0 (3 * length cells.now + 61) (lent_as words.new (H.seen rows.old))
+        (H.seen rows.new) log.old log.new }
 {
     if let Some(seat) = seat {
         clear_thread(rows, containers, words, cells, seat, log);
@@ -92,10 +88,7 @@ fn seat_thread<H: Hold>(
     ensures worked { Worked (connect_work words.old flags containers.now.now (Some seat.now)) words.old [] log.old
         log.new (H.seen rows.old).reached (H.seen rows.new).reached }
     ensures mine { words.new ≡ words_by words.old flags (Some seat.now) }
-    ensures lent { (H.seen rows.new).words ≡ Some words.new }
-    ensures leaves { Leaves 4 5 (H.seen rows.old).hand (H.seen rows.new).hand (H.seen rows.old).left
-        (H.seen rows.new).left (H.seen rows.old).draws (H.seen rows.new).draws (H.seen rows.old).name
-        (H.seen rows.new).name log.old log.new }
+    ensures used { Used 4 0 5 (lent_as words.new (H.seen rows.old)) (H.seen rows.new) log.old log.new }
 {
     let content = seat.connection.info().to_content();
     tag(rows, 1 + seat.slot, &content, log);
@@ -124,10 +117,8 @@ fn clear_thread<H: Hold>(
     ensures worked { Worked (quit_work words.old cells.now containers.now.now (Some seat.now)) words.old [] log.old
         log.new (H.seen rows.old).reached (H.seen rows.new).reached }
     ensures mine { words.new ≡ words_by words.old 0 (Some seat.now) }
-    ensures lent { (H.seen rows.new).words ≡ Some words.new }
-    ensures leaves { Leaves (3 * length cells.now + 60) (3 * length cells.now + 61) (H.seen rows.old).hand
-        (H.seen rows.new).hand (H.seen rows.old).left (H.seen rows.new).left (H.seen rows.old).draws
-        (H.seen rows.new).draws (H.seen rows.old).name (H.seen rows.new).name log.old log.new }
+    ensures used { Used (3 * length cells.now + 60) 0 (3 * length cells.now + 61) (lent_as words.new (H.seen rows.old))
+        (H.seen rows.new) log.old log.new }
 {
     let up = Up {
         place: seat.slot,

@@ -1,8 +1,9 @@
 //! What a truncation writes.
 
 ghost use Rattle.std.specs.Prelude.{◌≡◌, ◌<◌, ◌≤◌, ◌+◌, ◌^◌, [], ℕ, Option, Some, None, length};
+ghost use Rattle.pfs_levels.specs.Views.{Used, lent_as};
 ghost use Rattle.pfs_levels.specs.Moves.{Did};
-ghost use Rattle.pfs_admin.specs.Works.{Worked, Leaves, word_at, flagging_calls, flagging_entries};
+ghost use Rattle.pfs_admin.specs.Works.{Worked, word_at, flagging_calls, flagging_entries};
 ghost use Rattle.pfs_admin.specs.AdministrationStates.{AreKindCells};
 ghost use Rattle.pfs_admin.specs.Truncations.{cost_most, flags_most, kept_behind, off_flags, off_words, truncation_flags, truncation_work, words_behind};
 
@@ -34,11 +35,8 @@ pub(crate) fn write_truncation<H: Hold>(
         (H.seen rows.old).reached (H.seen rows.new).reached }
     ensures kept { containers.new ≡ kept_behind containers.old what }
     ensures mine { words.new ≡ words_behind what words.old }
-    ensures lent { (H.seen rows.new).words ≡ Some words.new }
-    ensures leaves { Leaves (cost_most cells.now containers.old.now.places what)
-        (cost_most cells.now containers.old.now.places what) (H.seen rows.old).hand (H.seen rows.new).hand
-        (H.seen rows.old).left (H.seen rows.new).left (H.seen rows.old).draws (H.seen rows.new).draws
-        (H.seen rows.old).name (H.seen rows.new).name log.old log.new }
+    ensures used { Used (cost_most cells.now containers.old.now.places what) 0 (cost_most cells.now
+        containers.old.now.places what) (lent_as words.new (H.seen rows.old)) (H.seen rows.new) log.old log.new }
 {
     move_truncated(rows, containers, cells, what, log);
     let before = Standing::of(containers);
@@ -64,7 +62,7 @@ fn free_truncated(containers: &mut Containers, what: Truncation)
 }
 
 // Sets the words that change: without a row of `setup_objects` no table is instrumented.
-#[tactic(auto, using(crate::proofs::WordChanges::leaves_nothing, pfs_levels::proofs::MoveLists::did_none))]
+#[tactic(auto, using(crate::proofs::WordChanges::used_nothing, pfs_levels::proofs::MoveLists::did_none))]
 fn set_truncated<H: Hold>(rows: &mut H, words: &mut [Word], what: Truncation, log: &mut Log)
     requires wide { length words.old ≡ 160 }
     requires lent { (H.seen rows.old).words ≡ Some words.old }
@@ -74,10 +72,7 @@ fn set_truncated<H: Hold>(rows: &mut H, words: &mut [Word], what: Truncation, lo
         (flagging_entries words.old (truncation_flags words.old what)) log.old log.new (H.seen rows.old).reached
         (H.seen rows.new).reached }
     ensures mine { words.new ≡ words_behind what words.old }
-    ensures lent { (H.seen rows.new).words ≡ Some words.new }
-    ensures leaves { Leaves 0 (flags_most what) (H.seen rows.old).hand (H.seen rows.new).hand (H.seen rows.old).left
-        (H.seen rows.new).left (H.seen rows.old).draws (H.seen rows.new).draws (H.seen rows.old).name
-        (H.seen rows.new).name log.old log.new }
+    ensures used { Used 0 0 (flags_most what) (lent_as words.new (H.seen rows.old)) (H.seen rows.new) log.old log.new }
 {
     match what {
         Truncation::SetupObjects => turn_off(rows, words, log),
@@ -100,10 +95,7 @@ fn turn_off<H: Hold>(rows: &mut H, words: &mut [Word], log: &mut Log)
     ensures did { Did (flagging_calls words.old (off_flags words.old)) (flagging_entries words.old
         (off_flags words.old)) log.old log.new (H.seen rows.old).reached (H.seen rows.new).reached }
     ensures mine { words.new ≡ off_words words.old }
-    ensures lent { (H.seen rows.new).words ≡ Some words.new }
-    ensures leaves { Leaves 0 64 (H.seen rows.old).hand (H.seen rows.new).hand (H.seen rows.old).left
-        (H.seen rows.new).left (H.seen rows.old).draws (H.seen rows.new).draws (H.seen rows.old).name
-        (H.seen rows.new).name log.old log.new }
+    ensures used { Used 0 0 64 (lent_as words.new (H.seen rows.old)) (H.seen rows.new) log.old log.new }
 {
     for table in 0..64 {
         flag(rows, words, 96 + table, 0, log);

@@ -3,3 +3,4 @@ mod DeedLists
 pub mod BlockQuits
 mod PlayedLines
 pub mod RepeatKinds
+mod BlockNeeds

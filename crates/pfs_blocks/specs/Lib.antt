@@ -1,1 +1,2 @@
 pub mod PlayedBlocks
+pub mod BlockNeeds

@@ -8,7 +8,7 @@ ghost use Rattle.pfs_levels.specs.Calls.{Call, Opening};
 ghost use Rattle.pfs_session.specs.Settlements.{owed_by_state, settle_cost};
 ghost use Rattle.pfs_session.specs.SessionStates.{no_place, nothing_held};
 ghost use Rattle.pfs_session.specs.Turns.{Connects, Played, Quits, SettlesHeld};
-ghost use Rattle.pfs_board_session.specs.SessionActions.{HasActed, KeepsToWords};
+ghost use Rattle.pfs_board_session.specs.SessionActions.{HasActed, IsIdle, IsIdleAgain, KeepsToWords};
 
 use crate::desks::{begin, finish};
 use pfs_board::Kept;
@@ -34,9 +34,7 @@ pub fn connect<'a, R: Wait, N: Shared>(
     requires first { session.old.state.actions ≡ 0 }
     requires unplaced { session.old.state.place ≡ no_place }
     requires closed { session.old.state.opened.events ≡ [] }
-    requires alone { (r : ℕ) → (⟦<BoardRows<'a, Desk<N>> as Rows>⟧.seen rows).hand r ≡ None }
-    requires spare { 5 ≤ (⟦<BoardRows<'a, Desk<N>> as Rows>⟧.seen rows).left }
-    requires room { 6 ≤ session.old.journal.room }
+    requires idle { IsIdle 5 6 (⟦<BoardRows<'a, Desk<N>> as Rows>⟧.seen rows) session.old }
     requires begun { (start : Opening) × (calls : List Call)
         × ((⟦<BoardRows<'a, Desk<N>> as Rows>⟧.seen rows).reached start calls) × (start.switches.table ≡ N.switches) }
     ensures acted { (start : Opening) → (calls : List Call)
@@ -51,10 +49,8 @@ pub fn connect<'a, R: Wait, N: Shared>(
     } }
     ensures held { session.new.state.held ≡ nothing_held }
     ensures owed { owed_by_state session.new.state ≡ [] }
-    ensures hand { (r : ℕ) → (⟦<BoardRows<'a, Desk<N>> as Rows>⟧.seen result).hand r ≡ None }
-    ensures left { (⟦<BoardRows<'a, Desk<N>> as Rows>⟧.seen rows.entry).left
-        ≤ (⟦<BoardRows<'a, Desk<N>> as Rows>⟧.seen result).left + 5 }
-    ensures room { session.old.journal.room ≤ session.new.journal.room + 6 }
+    ensures idle { IsIdleAgain 5 6 (⟦<BoardRows<'a, Desk<N>> as Rows>⟧.seen rows.entry)
+        (⟦<BoardRows<'a, Desk<N>> as Rows>⟧.seen result) session.old session.new }
 {
     let (mut admin, mut hold) = begin(rt, rows, session.label());
     session.connect(&mut hold, &mut admin, user, host);
@@ -71,10 +67,8 @@ pub fn quit<'a, R: Wait, N: Shared>(
     requires named { N.change (label_of session.old.state) ≡ Quit }
     requires closed { session.old.state.opened.events ≡ [] }
     requires early { session.old.state.actions + 1 < 2 ^ 64 }
-    requires alone { (r : ℕ) → (⟦<BoardRows<'a, Desk<N>> as Rows>⟧.seen rows).hand r ≡ None }
-    requires spare { length (owed_by_state session.old.state) + 253
-        ≤ (⟦<BoardRows<'a, Desk<N>> as Rows>⟧.seen rows).left }
-    requires room { settle_cost (owed_by_state session.old.state) + 254 ≤ session.old.journal.room }
+    requires idle { IsIdle (length (owed_by_state session.old.state) + 253) (settle_cost
+        (owed_by_state session.old.state) + 254) (⟦<BoardRows<'a, Desk<N>> as Rows>⟧.seen rows) session.old }
     requires begun { (start : Opening) × (calls : List Call)
         × ((⟦<BoardRows<'a, Desk<N>> as Rows>⟧.seen rows).reached start calls) × (start.switches.table ≡ N.switches) }
     ensures acted { (start : Opening) → (calls : List Call)
@@ -88,11 +82,9 @@ pub fn quit<'a, R: Wait, N: Shared>(
       actions = session.old.state.actions + 1;
       last = session.new.state.last;
     } }
-    ensures hand { (r : ℕ) → (⟦<BoardRows<'a, Desk<N>> as Rows>⟧.seen result).hand r ≡ None }
-    ensures left { (⟦<BoardRows<'a, Desk<N>> as Rows>⟧.seen rows.entry).left
-        ≤ (⟦<BoardRows<'a, Desk<N>> as Rows>⟧.seen result).left + (length (owed_by_state session.old.state) + 253) }
-    ensures room { session.old.journal.room
-        ≤ session.new.journal.room + (settle_cost (owed_by_state session.old.state) + 254) }
+    ensures idle { IsIdleAgain (length (owed_by_state session.old.state) + 253) (settle_cost
+        (owed_by_state session.old.state) + 254) (⟦<BoardRows<'a, Desk<N>> as Rows>⟧.seen rows.entry)
+        (⟦<BoardRows<'a, Desk<N>> as Rows>⟧.seen result) session.old session.new }
 {
     let (mut admin, mut hold) = begin(rt, rows, session.label());
     session.quit(&mut hold, &mut admin);

@@ -72,6 +72,7 @@ ordered flags start words v w pen t actors g o empty h told written known =
         ended = c.ended;
         floored = all_floored start words v h o empty r.order actors v.made g.tied g.shown g.done (covers P (all_below start h.t.log h.chain)) (r.floored (all_floors (all_word_marks (calls_of_all actors)) (calls_of_all actors) c.rising known));
         rising = c.rising;
+        there = c.there;
         caused = all_caused start words v h o empty actors v.made g.tied g.shown covers;
         named = c.named;
       },

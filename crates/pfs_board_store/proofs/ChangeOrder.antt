@@ -9,7 +9,7 @@ use Rattle.pfs_levels.specs.declared.answers.Added.TheVariants.{Counted, Held}
 use Rattle.pfs_levels.specs.declared.answers.RingPut.TheVariants.{Done, Busy, Late}
 use Rattle.pfs_levels.specs.Calls.{Call, Adds, Rings, Reads, Loads, Draws, Takes, Puts, Frees, Sets, Enters, Leaves, Meets, Start}
 use Rattle.pfs_levels.specs.JointCalls.{total, one_if, At, changes_by, changes_of, count, IsCounted, all_calls}
-use Rattle.pfs_levels.specs.CallOrder.{Mark, mark, marks_of, all_marks, marked, AreMarked, falls, AreOrdered, AreRising, AllCalls}
+use Rattle.pfs_levels.specs.CallOrder.{Mark, mark, marks_of, all_marks, marked, AreMarked, falls, AreOrdered, AreRising, AreThere, AllCalls}
 use Rattle.pfs_board_store.specs.Ties.{IsMade, IsTied}
 use Rattle.pfs_board_store.proofs.ActionLabels.{are_named}
 use Rattle.pfs_board_store.specs.RootActors.{Worked, calls_of_all, AreParts, AllDone, ats_by, ats_of, marks_in, ChangedLaw}
@@ -201,6 +201,10 @@ all_rise : (actors : List Worked) → AllDone actors → AllCalls AreRising (cal
 all_rise [] d = tt
 all_rise (a ∷ actors) d = (d.0.rising, all_rise actors d.1)
 
+all_there : (actors : List Worked) → AllDone actors → AllCalls AreThere (calls_of_all actors)
+all_there [] d = tt
+all_there (a ∷ actors) d = (d.0.there, all_there actors d.1)
+
 pub changed : ChangedLaw
 changed start words v w t actors g h = record {
   chain = chain start h.t.log h.chain;
@@ -209,6 +213,7 @@ changed start words v w t actors g h = record {
   marks_once = λ f. ap (total f) (all_marked actors v.made g.tied) ∙ sym (marks_weigh f v.made) ∙ h.once (λ p. f (mark p.row p.version p.puts p.action p.after)) ∙ marks_weigh f h.t.log;
   ordered = order h.t.log h.rising;
   rising = all_rise actors g.done;
+  there = all_there actors g.done;
   ended = length_labels h.t.log ∙ sym (mark_counts h.t.log 0);
   named = are_named start words v h actors g.tied g.shown;
 }

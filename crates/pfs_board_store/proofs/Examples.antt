@@ -268,7 +268,7 @@ module _ (rows : List FirstRow) (many : length rows ≡ 14242) (each : (row : �
   }
 
   done_reading : IsDone (record { start = begun 1 1; calls = reading })
-  done_reading = record { outside = refl; empty = λ row some. refl; rising = (omega arith, (omega arith, tt)) }
+  done_reading = record { outside = refl; empty = λ row some. refl; rising = (omega arith, (omega arith, tt)); there = (omega arith, (omega arith, tt)) }
 
   hands : (row : ℕ) → hand_in freeing row ≡ None
   hands row = elim (cases_eq 8450 row) [
@@ -277,7 +277,7 @@ module _ (rows : List FirstRow) (many : length rows ≡ 14242) (each : (row : �
   ]
 
   done_freeing : IsDone (record { start = begun 2 0; calls = freeing })
-  done_freeing = record { outside = refl; empty = λ row some. hands row; rising = (omega arith, (omega arith, (omega arith, tt))) }
+  done_freeing = record { outside = refl; empty = λ row some. hands row; rising = (omega arith, (omega arith, (omega arith, tt))); there = (omega arith, (omega arith, (omega arith, tt))) }
 
   gathered : AreGathered both board_view word_view ticket_view
   gathered = record {

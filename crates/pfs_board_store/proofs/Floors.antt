@@ -4,9 +4,10 @@ use Rattle.std.proofs.lemmas.Bool.{cases_eq, eqb-true, and_parts, cases_Bool, le
 use Rattle.pfs_lemmas.proofs.Options.{some_same}
 use Rattle.pfs_board.specs.declared.view.Change.{Change}
 use Rattle.pfs_board.specs.declared.view.Finished.{Finished}
+use Rattle.pfs_board.specs.declared.view.Sight.{Sight}
 use Rattle.pfs_board.specs.declared.view.View.{View}
 use Rattle.pfs_board.specs.History.{Each, Some_of, IsChain, version, version_of, step_of, level}
-use Rattle.pfs_board.specs.Rule.{IsRead}
+use Rattle.pfs_board.specs.Rule.{IsRead, IsSight}
 use Rattle.pfs_board.specs.WholeSeats.{History}
 use Rattle.pfs_board.proofs.HistoryFacts.{each_map, each_both, below_all, afters_below, level_put, level_release, step_put, step_release}
 use Rattle.pfs_levels.specs.declared.answers.Added.TheVariants.{Counted, Held}
@@ -17,7 +18,7 @@ use Rattle.pfs_levels.specs.CallOrder.{Mark, mark, is_past, above, reaching, fre
 use Rattle.pfs_rows.specs.declared.table.Seen.TheVariants.{Whole, Free}
 use Rattle.pfs_rows.specs.declared.table.Seen.TheVariants as sees
 use Rattle.pfs_board_store.specs.RootActors.{marks_in}
-use Rattle.pfs_board_store.specs.Ties.{IsMade, IsTied, IsFinished, AreShown}
+use Rattle.pfs_board_store.specs.Ties.{IsMade, IsTied, IsFinished, IsSighted, AreShown}
 use Rattle.pfs_board_store.proofs.ActionLabels.{some_each}
 use Rattle.pfs_board_store.proofs.ViewCorners.{away_if, here_if, none_some}
 
@@ -171,6 +172,14 @@ module _ (start words : List ℕ) (v : View) (h : History start words v) (sets :
       let step : (e : Change) → A e → B e = λ e g at some low. omega (arith, g (at ∙ sym m.row_is) some (omega (arith, low, m.after_is)), m.version_is) in
       each_map A B step log r.floor.actions
 
+  -- and a row that was seen free
+  free_sight_floor : (begun : Start) (row n action after : ℕ) (x : Sight) → IsSighted begun row n n action after x → IsSight start h.t x → Past row after (λ e. e.version ≤ n / 4) log
+  free_sight_floor begun row n action after x m r =
+      let A : Change → Type 0 = λ e. e.row ≡ x.row → 0 < e.action → e.action ≤ x.after → e.version ≤ x.first / 4 in
+      let B : Change → Type 0 = λ e. e.row ≡ row → 0 < e.action → e.action ≤ after → e.version ≤ n / 4 in
+      let step : (e : Change) → A e → B e = λ e g at some low. subst (λ z. e.version ≤ z / 4) m.first_is (g (at ∙ sym m.row_is) some (omega (arith, low, m.after_is))) in
+      each_map A B step log r.one.known.floor.actions
+
   owed_taken : (row k : ℕ) (found : List ℕ) (calls : List Call) → hand_in calls row ≡ None → Owed (Takes row k found ∷ calls) → Owed calls
   owed_taken row k found calls none w q some j e = elim (cases_eq q row) [
     | inl i ↦ absurd (none_some j (sym (ap (hand_in calls) i ∙ none) ∙ e))
@@ -208,7 +217,11 @@ module _ (start words : List ℕ) (v : View) (h : History start words v) (sets :
       let low : R = some_each P (IsRead start h.t) R (λ e m d. read_floor begun row k _ _ e m.0 d) v.reads s.0.1 h.fits.reads in
       let high : Past row (after_in calls) (λ e. e.version ≤ k) log = past_map row (after_in calls) (after_in calls) (λ e. level e ≤ k) (λ e. e.version ≤ k) (omega arith) (λ e d. omega (arith, d, level_up e)) log low in
       ((above_none log row k (after_in calls) high, freed_none log row k (after_in calls) low), floored begun calls made t s.1 r.1 u f.1 w)
-  floored begun (Reads row (Free n) ∷ calls) made t s r u f w = (tt, floored begun calls made t s.1 r.1 u f.1 w)
+  floored begun (Reads row (Free n) ∷ calls) made t s r u f w =
+      let P : Sight → Type 0 = IsSighted begun row n n (action_in calls) (after_in calls) in
+      let R : Type 0 = Past row (after_in calls) (λ e. e.version ≤ n / 4) log in
+      let low : R = some_each P (IsSight start h.t) R (λ x m d. free_sight_floor begun row n _ _ x m d) v.sights s.0.2 h.fits.sights in
+      (above_none log row (n / 4) (after_in calls) low, floored begun calls made t s.1 r.1 u f.1 w)
   floored begun (Reads row (sees.Busy first second) ∷ calls) made t s r u f w = (tt, floored begun calls made t s.1 r.1 u f.1 w)
   floored begun (Loads at k found ∷ calls) made t s r u f w = (f.0, floored begun calls made t s.1 r.1 u f.1 w)
   floored begun (Draws kind ticket ∷ calls) made t s r u f w = (tt, floored begun calls made t s.1 r.1 u f.1 w)

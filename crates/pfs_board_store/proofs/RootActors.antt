@@ -35,7 +35,7 @@ gathers actors v w t g start calls b words tickets m =
       loaded = (words.view.loads, w.loads, refl, r.words.3, g.loaded);
       met = (words.view.meets, w.meets, refl, r.words.5, g.met);
       drawn = (tickets.view.tickets, t.tickets, refl, r.tickets.2, g.drawn);
-      done = (record { outside = m.outside; empty = m.empty; rising = r.rising }, g.done);
+      done = (record { outside = m.outside; empty = m.empty; rising = r.rising; there = r.there }, g.done);
     }
 
 pub meets : MeetLaw
@@ -45,5 +45,5 @@ meets actors v w pen t g start same = record {
   loaded = ([], w.loads, refl, refl, g.loaded);
   met = (meet_of w pen ∷ [], w.meets, refl, (sym same, refl, refl), g.met);
   drawn = ([], t.tickets, refl, refl, g.drawn);
-  done = (record { outside = refl; empty = λ row some. refl; rising = ((λ at low. omega arith), tt) }, g.done);
+  done = (record { outside = refl; empty = λ row some. refl; rising = ((λ at low. omega arith), tt); there = (tt, tt) }, g.done);
 }

@@ -91,7 +91,7 @@ module _ (marks : List Mark) where
   floors (Rings row put (Busy first second) ∷ calls) r f = (tt, floors calls r.1 f.1)
   floors (Rings row put (Late ticket) ∷ calls) r f = (tt, floors calls r.1 f.1)
   floors (Reads row (Whole k found) ∷ calls) r f = ((refl, refl), floors calls r.1 f.1)
-  floors (Reads row (Free n) ∷ calls) r f = (tt, floors calls r.1 f.1)
+  floors (Reads row (Free n) ∷ calls) r f = (refl, floors calls r.1 f.1)
   floors (Reads row (sees.Busy first second) ∷ calls) r f = (tt, floors calls r.1 f.1)
   floors (Draws kind ticket ∷ calls) r f = (tt, floors calls r.1 f.1)
   floors (Takes row k found ∷ calls) r f = (refl, floors calls r.1 f.1)

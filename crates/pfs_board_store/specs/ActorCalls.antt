@@ -10,7 +10,7 @@ use Rattle.pfs_switches.specs.SeatViews.{Known as WordsKnown}
 use Rattle.pfs_tickets.specs.SeatViews.{Known as TicketsKnown}
 use Rattle.pfs_board.specs.Knowledge.{corner, is_holding, found_in, stake, no_label}
 use Rattle.pfs_levels.specs.Calls.{Call, Enters, Leaves, Adds, Rings, Reads, Loads, Draws, Takes, Puts, Frees, Sets, Meets, Start, Opening, action_in, after_in, label_in, hand_in}
-use Rattle.pfs_levels.specs.CallOrder.{top_in, top_word, AreRising}
+use Rattle.pfs_levels.specs.CallOrder.{top_in, top_word, AreRising, AreThere}
 use Rattle.pfs_board_store.specs.Ties.{IsTied, AreLoaded, AreMet, AreDrawn, AreShown, last_found}
 use Rattle.pfs_switches.specs.declared.view.View.{View as WordView}
 use Rattle.pfs_switches.specs.OpeningWords.{opening_words}
@@ -73,6 +73,7 @@ pub record IsReached (start : Opening) (calls : List Call) (v : View) (w : WordV
   pub words : OnWords start calls w
   pub tickets : OnTickets start.tickets calls t
   pub rising : AreRising calls
+  pub there : AreThere calls
 
 -- outside an action the kept value isn't out with the seat
 abbrev pub IsIn : View → Type 0

@@ -11,7 +11,7 @@ use Rattle.pfs_board.specs.SeatViews.{Known as BoardKnown}
 use Rattle.pfs_board.specs.Knowledge.{joined}
 use Rattle.pfs_levels.specs.Calls.{Call, Opening, action_in, hand_in}
 use Rattle.pfs_levels.specs.JointCalls.{total, At, changes_of, IsCounted, all_calls}
-use Rattle.pfs_levels.specs.CallOrder.{Mark, mark, all_marks, marked, AreMarked, AreOrdered, AreRising, AreNamed, AllCalls}
+use Rattle.pfs_levels.specs.CallOrder.{Mark, mark, all_marks, marked, AreMarked, AreOrdered, AreRising, AreThere, AreNamed, AllCalls}
 use Rattle.pfs_board_store.specs.ActorCalls.{HasMade}
 use Rattle.pfs_board_store.specs.Ties.{IsTied, AreLoaded, AreMet, AreDrawn, AreShown}
 use Rattle.pfs_switches.specs.declared.view.Loaded.{Loaded}
@@ -50,6 +50,7 @@ pub record IsDone (a : Worked) : Type 0 where
   pub outside : action_in a.calls ≡ 0
   pub empty : (row : ℕ) → 0 < row → hand_in a.calls row ≡ None
   pub rising : AreRising a.calls
+  pub there : AreThere a.calls
 
 abbrev pub AllDone : List Worked → Type 0
 AllDone [] = Unit {0}
@@ -96,6 +97,7 @@ pub record AreChanged (actors : List (List Call)) (log : List Change) : Type 0 w
   pub marks_once : (h : Mark → ℕ) → total h (all_marks actors) ≡ total h (marks_in log)
   pub ordered : AreOrdered (marks_in log)
   pub rising : AllCalls AreRising actors
+  pub there : AllCalls AreThere actors
   pub ended : length (labels_of log) ≡ marked (marks_in log) 0
   pub named : AllCalls (AreNamed (labels_of log)) actors
 

@@ -1,8 +1,9 @@
 //! How an actor holds rows and sets words.
 
-ghost use Rattle.std.specs.Prelude.{◌≡◌, ◌<◌, ◌≤◌, ◌+◌, ◌^◌, ◌==◌, ◌∷◌, [], ℕ, List, Option, Some, None, IsSome, if◌then◌else◌, length, slice_index};
+ghost use Rattle.std.specs.Prelude.{◌≡◌, ◌<◌, ◌≤◌, ◌+◌, ◌^◌, ◌∷◌, [], ℕ, List, Option, Some, None, IsSome, length, slice_index};
 ghost use Rattle.pfs_board.specs.Knowledge.{corner, held};
 ghost use Rattle.pfs_levels.specs.Calls.{Call, Opening, Goes, Takes, Puts, Frees, Sets, Meets, IsRow};
+ghost use Rattle.pfs_levels.specs.Views.{Kept as StoreKept, Same, given_back, taken};
 ghost use Rattle.pfs_board_store.specs.ActorCalls.{IsReached, in_hand};
 ghost use Rattle.pfs_switches.specs.Knowledge.{was_set};
 
@@ -21,13 +22,9 @@ impl<'a, V: Kept> BoardRows<'a, V> {
         requires room { 0 < (⟦<BoardRows<'a, V> as Rows>⟧.seen self.old).left }
         ensures call { Goes (⟦<BoardRows<'a, V> as Rows>⟧.seen self.old).reached
             (⟦<BoardRows<'a, V> as Rows>⟧.seen self.new).reached (Takes row result.0 result.1 ∷ []) }
-        ensures left { (⟦<BoardRows<'a, V> as Rows>⟧.seen self.old).left
-            ≤ (⟦<BoardRows<'a, V> as Rows>⟧.seen self.new).left + 1 }
-        ensures draws { (⟦<BoardRows<'a, V> as Rows>⟧.seen self.new).draws
-            ≡ (⟦<BoardRows<'a, V> as Rows>⟧.seen self.old).draws }
+        ensures kept { StoreKept 1 0 (taken row result.0 (⟦<BoardRows<'a, V> as Rows>⟧.seen self.old))
+            (⟦<BoardRows<'a, V> as Rows>⟧.seen self.new) }
         ensures mine { (⟦<BoardRows<'a, V> as Rows>⟧.seen self.new).hand row ≡ Some result.0 }
-        ensures hand { (r : ℕ) → (⟦<BoardRows<'a, V> as Rows>⟧.seen self.new).hand r ≡ (if r == row then Some result.0
-            else (⟦<BoardRows<'a, V> as Rows>⟧.seen self.old).hand r) }
         ensures table { self.new.switches.now.id ≡ self.old.switches.now.id }
     {
         for _ in rt.forever() {
@@ -46,12 +43,8 @@ impl<'a, V: Kept> BoardRows<'a, V> {
         ensures call { Goes (⟦<BoardRows<'a, V> as Rows>⟧.seen self.old).reached
             (⟦<BoardRows<'a, V> as Rows>⟧.seen self.new).reached (Puts row content.now result ∷ []) }
         ensures next { (v : ℕ) → (⟦<BoardRows<'a, V> as Rows>⟧.seen self.old).hand row ≡ Some v → result ≡ v + 1 }
-        ensures left { (⟦<BoardRows<'a, V> as Rows>⟧.seen self.new).left
-            ≡ (⟦<BoardRows<'a, V> as Rows>⟧.seen self.old).left }
-        ensures draws { (⟦<BoardRows<'a, V> as Rows>⟧.seen self.new).draws
-            ≡ (⟦<BoardRows<'a, V> as Rows>⟧.seen self.old).draws }
-        ensures hand { (r : ℕ) → (⟦<BoardRows<'a, V> as Rows>⟧.seen self.new).hand r ≡ (if r == row then None
-            else (⟦<BoardRows<'a, V> as Rows>⟧.seen self.old).hand r) }
+        ensures kept { Same (given_back row (⟦<BoardRows<'a, V> as Rows>⟧.seen self.old))
+            (⟦<BoardRows<'a, V> as Rows>⟧.seen self.new) }
         ensures table { self.new.switches.now.id ≡ self.old.switches.now.id }
     {
         self.board.put(&mut self.seat, row, content)
@@ -64,12 +57,8 @@ impl<'a, V: Kept> BoardRows<'a, V> {
         ensures call { (v : ℕ) → (⟦<BoardRows<'a, V> as Rows>⟧.seen self.old).hand row ≡ Some v → Goes
             (⟦<BoardRows<'a, V> as Rows>⟧.seen self.old).reached (⟦<BoardRows<'a, V> as Rows>⟧.seen self.new).reached
             (Frees row v ∷ []) }
-        ensures left { (⟦<BoardRows<'a, V> as Rows>⟧.seen self.old).left
-            ≤ (⟦<BoardRows<'a, V> as Rows>⟧.seen self.new).left }
-        ensures draws { (⟦<BoardRows<'a, V> as Rows>⟧.seen self.new).draws
-            ≡ (⟦<BoardRows<'a, V> as Rows>⟧.seen self.old).draws }
-        ensures hand { (r : ℕ) → (⟦<BoardRows<'a, V> as Rows>⟧.seen self.new).hand r ≡ (if r == row then None
-            else (⟦<BoardRows<'a, V> as Rows>⟧.seen self.old).hand r) }
+        ensures kept { StoreKept 0 0 (given_back row (⟦<BoardRows<'a, V> as Rows>⟧.seen self.old))
+            (⟦<BoardRows<'a, V> as Rows>⟧.seen self.new) }
         ensures table { self.new.switches.now.id ≡ self.old.switches.now.id }
     {
         self.board.free(&mut self.seat, row);
@@ -82,12 +71,7 @@ impl<'a, V: Kept> BoardRows<'a, V> {
         ensures writer { result ≡ writer }
         ensures call { Goes (⟦<BoardRows<'a, V> as Rows>⟧.seen self.old).reached
             (⟦<BoardRows<'a, V> as Rows>⟧.seen self.new).reached (Meets writer.view.seen ∷ []) }
-        ensures left { (⟦<BoardRows<'a, V> as Rows>⟧.seen self.new).left
-            ≡ (⟦<BoardRows<'a, V> as Rows>⟧.seen self.old).left }
-        ensures draws { (⟦<BoardRows<'a, V> as Rows>⟧.seen self.new).draws
-            ≡ (⟦<BoardRows<'a, V> as Rows>⟧.seen self.old).draws }
-        ensures hand { (r : ℕ) → (⟦<BoardRows<'a, V> as Rows>⟧.seen self.new).hand r
-            ≡ (⟦<BoardRows<'a, V> as Rows>⟧.seen self.old).hand r }
+        ensures kept { Same (⟦<BoardRows<'a, V> as Rows>⟧.seen self.old) (⟦<BoardRows<'a, V> as Rows>⟧.seen self.new) }
         ensures table { self.new.switches.now.id ≡ self.old.switches.now.id }
     {
         let mut writer = writer;
@@ -107,12 +91,7 @@ impl<'a, V: Kept> BoardRows<'a, V> {
         ensures next { result ≡ slice_index writer.old.view.seen word + 1 }
         ensures writer { (writer.new.switches ≡ writer.old.switches)
             × (writer.new.view ≡ was_set writer.old.view word result flags) }
-        ensures left { (⟦<BoardRows<'a, V> as Rows>⟧.seen self.new).left
-            ≡ (⟦<BoardRows<'a, V> as Rows>⟧.seen self.old).left }
-        ensures draws { (⟦<BoardRows<'a, V> as Rows>⟧.seen self.new).draws
-            ≡ (⟦<BoardRows<'a, V> as Rows>⟧.seen self.old).draws }
-        ensures hand { (r : ℕ) → (⟦<BoardRows<'a, V> as Rows>⟧.seen self.new).hand r
-            ≡ (⟦<BoardRows<'a, V> as Rows>⟧.seen self.old).hand r }
+        ensures kept { Same (⟦<BoardRows<'a, V> as Rows>⟧.seen self.old) (⟦<BoardRows<'a, V> as Rows>⟧.seen self.new) }
         ensures table { self.new.switches.now.id ≡ self.old.switches.now.id }
     {
         self.seat.tell();

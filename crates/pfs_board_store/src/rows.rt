@@ -5,6 +5,7 @@ ghost use Rattle.pfs_board.specs.SeatViews.{HasRow};
 ghost use Rattle.pfs_board.specs.Knowledge.{corner, held, stake};
 ghost use Rattle.pfs_board.specs.declared.view.Label.{Label};
 ghost use Rattle.pfs_levels.specs.Calls.{Call, Opening, Goes, Adds, Rings, Reads, Loads, Draws, Enters, Leaves, row_in, IsLate, IsCell, IsRing, IsRow, action_in, after_in, label_in};
+ghost use Rattle.pfs_levels.specs.Views.{Kept as StoreKept, Same, empty_handed};
 ghost use Rattle.pfs_switches.specs.OpeningWords.{opening_words};
 ghost use Rattle.pfs_board_store.specs.Ties.{WasOlder};
 ghost use Rattle.pfs_board_store.specs.ActorCalls.{IsReached, HasMade, IsFresh, IsIn, in_hand, opening_of, labels_in};
@@ -135,11 +136,8 @@ impl<'a, V: Kept> BoardRows<'a, V> {
             × V.stands_for value (labels_in calls ++ label_in calls ∷ []) }
         ensures call { Goes (⟦<BoardRows<'a, V> as Rows>⟧.seen self.old).reached
             (⟦<BoardRows<'a, V> as Rows>⟧.seen self.new).reached (Leaves ∷ []) }
-        ensures left { (⟦<BoardRows<'a, V> as Rows>⟧.seen self.new).left
-            ≡ (⟦<BoardRows<'a, V> as Rows>⟧.seen self.old).left }
-        ensures draws { (⟦<BoardRows<'a, V> as Rows>⟧.seen self.new).draws
-            ≡ (⟦<BoardRows<'a, V> as Rows>⟧.seen self.old).draws }
-        ensures hand { (r : ℕ) → (⟦<BoardRows<'a, V> as Rows>⟧.seen self.new).hand r ≡ None }
+        ensures kept { Same (empty_handed (⟦<BoardRows<'a, V> as Rows>⟧.seen self.old))
+            (⟦<BoardRows<'a, V> as Rows>⟧.seen self.new) }
     {
         self.seat.tell();
         self.board.leave(&mut self.seat, value);
@@ -152,12 +150,8 @@ impl<'a, V: Kept> BoardRows<'a, V> {
         requires room { 0 < (⟦<BoardRows<'a, V> as Rows>⟧.seen self.old).left }
         ensures call { Goes (⟦<BoardRows<'a, V> as Rows>⟧.seen self.old).reached
             (⟦<BoardRows<'a, V> as Rows>⟧.seen self.new).reached (Rings row content.now result ∷ []) }
-        ensures left { (⟦<BoardRows<'a, V> as Rows>⟧.seen self.old).left
-            ≤ (⟦<BoardRows<'a, V> as Rows>⟧.seen self.new).left + 1 }
-        ensures draws { (⟦<BoardRows<'a, V> as Rows>⟧.seen self.new).draws
-            ≡ (⟦<BoardRows<'a, V> as Rows>⟧.seen self.old).draws }
-        ensures hand { (r : ℕ) → (⟦<BoardRows<'a, V> as Rows>⟧.seen self.new).hand r
-            ≡ (⟦<BoardRows<'a, V> as Rows>⟧.seen self.old).hand r }
+        ensures kept { StoreKept 1 0 (⟦<BoardRows<'a, V> as Rows>⟧.seen self.old)
+            (⟦<BoardRows<'a, V> as Rows>⟧.seen self.new) }
         ensures late { IsLate row content.now result }
         ensures table { self.new.switches.now.id ≡ self.old.switches.now.id }
     {
@@ -184,12 +178,8 @@ impl<'a, V: Kept> BoardRows<'a, V> {
             content.now (action_in calls) (after_in calls) }
         ensures call { Goes (⟦<BoardRows<'a, V> as Rows>⟧.seen self.old).reached
             (⟦<BoardRows<'a, V> as Rows>⟧.seen self.new).reached (Rings row content.now result ∷ []) }
-        ensures left { (⟦<BoardRows<'a, V> as Rows>⟧.seen self.old).left
-            ≤ (⟦<BoardRows<'a, V> as Rows>⟧.seen self.new).left + 1 }
-        ensures draws { (⟦<BoardRows<'a, V> as Rows>⟧.seen self.new).draws
-            ≡ (⟦<BoardRows<'a, V> as Rows>⟧.seen self.old).draws }
-        ensures hand { (r : ℕ) → (⟦<BoardRows<'a, V> as Rows>⟧.seen self.new).hand r
-            ≡ (⟦<BoardRows<'a, V> as Rows>⟧.seen self.old).hand r }
+        ensures kept { StoreKept 1 0 (⟦<BoardRows<'a, V> as Rows>⟧.seen self.old)
+            (⟦<BoardRows<'a, V> as Rows>⟧.seen self.new) }
         ensures late { IsLate row content.now result }
         ensures table { self.new.switches.now.id ≡ self.old.switches.now.id }
     {
@@ -224,16 +214,8 @@ impl<'a, V: Kept> Rows for BoardRows<'a, V> {
         ensures call { Goes (⟦<BoardRows<'a, V> as Rows>⟧.seen self.old).reached
             (⟦<BoardRows<'a, V> as Rows>⟧.seen self.new).reached (Adds row amount.now result ∷ []) }
         ensures row { row_in result ≡ row }
-        ensures left { (⟦<BoardRows<'a, V> as Rows>⟧.seen self.old).left
-            ≤ (⟦<BoardRows<'a, V> as Rows>⟧.seen self.new).left + 1 }
-        ensures draws { (⟦<BoardRows<'a, V> as Rows>⟧.seen self.new).draws
-            ≡ (⟦<BoardRows<'a, V> as Rows>⟧.seen self.old).draws }
-        ensures hand { (r : ℕ) → (⟦<BoardRows<'a, V> as Rows>⟧.seen self.new).hand r
-            ≡ (⟦<BoardRows<'a, V> as Rows>⟧.seen self.old).hand r }
-        ensures words { (⟦<BoardRows<'a, V> as Rows>⟧.seen self.new).words
-            ≡ (⟦<BoardRows<'a, V> as Rows>⟧.seen self.old).words }
-        ensures name { (⟦<BoardRows<'a, V> as Rows>⟧.seen self.new).name
-            ≡ (⟦<BoardRows<'a, V> as Rows>⟧.seen self.old).name }
+        ensures kept { StoreKept 1 0 (⟦<BoardRows<'a, V> as Rows>⟧.seen self.old)
+            (⟦<BoardRows<'a, V> as Rows>⟧.seen self.new) }
         ensures table { self.new.switches.now.id ≡ self.old.switches.now.id }
     {
         match self.board.take(&mut self.seat, row) {
@@ -253,16 +235,8 @@ impl<'a, V: Kept> Rows for BoardRows<'a, V> {
         ensures call { Goes (⟦<BoardRows<'a, V> as Rows>⟧.seen self.old).reached
             (⟦<BoardRows<'a, V> as Rows>⟧.seen self.new).reached (Rings row content.now result ∷ []) }
         ensures late { IsLate row content.now result }
-        ensures left { (⟦<BoardRows<'a, V> as Rows>⟧.seen self.old).left
-            ≤ (⟦<BoardRows<'a, V> as Rows>⟧.seen self.new).left + 1 }
-        ensures draws { (⟦<BoardRows<'a, V> as Rows>⟧.seen self.new).draws
-            ≡ (⟦<BoardRows<'a, V> as Rows>⟧.seen self.old).draws }
-        ensures hand { (r : ℕ) → (⟦<BoardRows<'a, V> as Rows>⟧.seen self.new).hand r
-            ≡ (⟦<BoardRows<'a, V> as Rows>⟧.seen self.old).hand r }
-        ensures words { (⟦<BoardRows<'a, V> as Rows>⟧.seen self.new).words
-            ≡ (⟦<BoardRows<'a, V> as Rows>⟧.seen self.old).words }
-        ensures name { (⟦<BoardRows<'a, V> as Rows>⟧.seen self.new).name
-            ≡ (⟦<BoardRows<'a, V> as Rows>⟧.seen self.old).name }
+        ensures kept { StoreKept 1 0 (⟦<BoardRows<'a, V> as Rows>⟧.seen self.old)
+            (⟦<BoardRows<'a, V> as Rows>⟧.seen self.new) }
         ensures table { self.new.switches.now.id ≡ self.old.switches.now.id }
     {
         if row < LONG_HISTORY {
@@ -291,16 +265,7 @@ impl<'a, V: Kept> Rows for BoardRows<'a, V> {
         requires away { (⟦<BoardRows<'a, V> as Rows>⟧.seen self.old).hand row ≡ None }
         ensures call { Goes (⟦<BoardRows<'a, V> as Rows>⟧.seen self.old).reached
             (⟦<BoardRows<'a, V> as Rows>⟧.seen self.new).reached (Reads row result ∷ []) }
-        ensures left { (⟦<BoardRows<'a, V> as Rows>⟧.seen self.new).left
-            ≡ (⟦<BoardRows<'a, V> as Rows>⟧.seen self.old).left }
-        ensures draws { (⟦<BoardRows<'a, V> as Rows>⟧.seen self.new).draws
-            ≡ (⟦<BoardRows<'a, V> as Rows>⟧.seen self.old).draws }
-        ensures hand { (r : ℕ) → (⟦<BoardRows<'a, V> as Rows>⟧.seen self.new).hand r
-            ≡ (⟦<BoardRows<'a, V> as Rows>⟧.seen self.old).hand r }
-        ensures words { (⟦<BoardRows<'a, V> as Rows>⟧.seen self.new).words
-            ≡ (⟦<BoardRows<'a, V> as Rows>⟧.seen self.old).words }
-        ensures name { (⟦<BoardRows<'a, V> as Rows>⟧.seen self.new).name
-            ≡ (⟦<BoardRows<'a, V> as Rows>⟧.seen self.old).name }
+        ensures kept { Same (⟦<BoardRows<'a, V> as Rows>⟧.seen self.old) (⟦<BoardRows<'a, V> as Rows>⟧.seen self.new) }
         ensures table { self.new.switches.now.id ≡ self.old.switches.now.id }
     {
         match self.board.read(&mut self.seat, row) {
@@ -314,16 +279,7 @@ impl<'a, V: Kept> Rows for BoardRows<'a, V> {
         requires { word < 160 }
         ensures call { Goes (⟦<BoardRows<'a, V> as Rows>⟧.seen self.old).reached
             (⟦<BoardRows<'a, V> as Rows>⟧.seen self.new).reached (Loads word result.0 result.1 ∷ []) }
-        ensures left { (⟦<BoardRows<'a, V> as Rows>⟧.seen self.new).left
-            ≡ (⟦<BoardRows<'a, V> as Rows>⟧.seen self.old).left }
-        ensures draws { (⟦<BoardRows<'a, V> as Rows>⟧.seen self.new).draws
-            ≡ (⟦<BoardRows<'a, V> as Rows>⟧.seen self.old).draws }
-        ensures hand { (r : ℕ) → (⟦<BoardRows<'a, V> as Rows>⟧.seen self.new).hand r
-            ≡ (⟦<BoardRows<'a, V> as Rows>⟧.seen self.old).hand r }
-        ensures words { (⟦<BoardRows<'a, V> as Rows>⟧.seen self.new).words
-            ≡ (⟦<BoardRows<'a, V> as Rows>⟧.seen self.old).words }
-        ensures name { (⟦<BoardRows<'a, V> as Rows>⟧.seen self.new).name
-            ≡ (⟦<BoardRows<'a, V> as Rows>⟧.seen self.old).name }
+        ensures kept { Same (⟦<BoardRows<'a, V> as Rows>⟧.seen self.old) (⟦<BoardRows<'a, V> as Rows>⟧.seen self.new) }
         ensures table { self.new.switches.now.id ≡ self.old.switches.now.id }
     {
         self.switches.load(&mut self.words, word)
@@ -337,14 +293,8 @@ impl<'a, V: Kept> Rows for BoardRows<'a, V> {
         ensures small { result < 2 ^ 47 }
         ensures left { (⟦<BoardRows<'a, V> as Rows>⟧.seen self.new).left
             ≡ (⟦<BoardRows<'a, V> as Rows>⟧.seen self.old).left }
-        ensures draws { (⟦<BoardRows<'a, V> as Rows>⟧.seen self.old).draws
-            ≤ (⟦<BoardRows<'a, V> as Rows>⟧.seen self.new).draws + 1 }
-        ensures hand { (r : ℕ) → (⟦<BoardRows<'a, V> as Rows>⟧.seen self.new).hand r
-            ≡ (⟦<BoardRows<'a, V> as Rows>⟧.seen self.old).hand r }
-        ensures words { (⟦<BoardRows<'a, V> as Rows>⟧.seen self.new).words
-            ≡ (⟦<BoardRows<'a, V> as Rows>⟧.seen self.old).words }
-        ensures name { (⟦<BoardRows<'a, V> as Rows>⟧.seen self.new).name
-            ≡ (⟦<BoardRows<'a, V> as Rows>⟧.seen self.old).name }
+        ensures kept { StoreKept 0 1 (⟦<BoardRows<'a, V> as Rows>⟧.seen self.old)
+            (⟦<BoardRows<'a, V> as Rows>⟧.seen self.new) }
         ensures table { self.new.switches.now.id ≡ self.old.switches.now.id }
     {
         self.tickets.draw(&mut self.draws, kind)

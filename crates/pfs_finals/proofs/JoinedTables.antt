@@ -1,7 +1,8 @@
 -- Tables and counters put one behind the other.
-use Rattle.std.proofs.Common.{ℕ, ◌≡◌, ◌+◌, ◌<◌, List, [], ◌∷◌, ◌++◌, refl, sym, ap, subst, ◌∙◌, append-nil, length, take, get_or}
+use Rattle.std.proofs.Common.{ℕ, ◌≡◌, ◌+◌, ◌<◌, List, [], ◌∷◌, ◌++◌, refl, sym, ap, subst, ◌∙◌, append-nil, length, take, drop, get_or}
 use Rattle.std.specs.List.{flat_map}
-use Rattle.std.proofs.lemmas.List.{take_more, map-append}
+use Rattle.std.specs.Prelude.{Result, Ok, Err, OnErr}
+use Rattle.std.proofs.lemmas.List.{take_more, map-append, at_drop_more, take-append-drop}
 use Rattle.std.proofs.lemmas.List.Concat.{flat_map-append}
 use Rattle.std.proofs.lemmas.List.Elements.{All-nil, All-cons, All-append}
 use Rattle.pfs_rows.specs.declared.table.Reading.{Reading}
@@ -13,7 +14,7 @@ use Rattle.pfs_reader.specs.Readings.{calls_of}
 use Rattle.pfs_reader.proofs.Readings.{goes_none, goes_then}
 use Rattle.pfs_readsets.specs.TablePlaces.{scope_of}
 use Rattle.pfs_readsets.specs.ReadSets.{IsReadSet}
-use Rattle.pfs_finals.specs.Finals.{TableRead, table_read, table_report, all_readings, IsPut, AreShown}
+use Rattle.pfs_finals.specs.Finals.{TableRead, table_read, table_report, all_readings, IsPut, AreShown, IsReadInPart, AreReadInPart}
 
 -- what is made along a list, with that of one more
 pub taken_more : {X Row : Type 0} (f : X → List Row) (xs : List X) (i : ℕ) (d : X) → i < length xs → flat_map f (take (i + 1) xs) ≡ flat_map f (take i xs) ++ f (get_or xs i d)
@@ -50,3 +51,27 @@ pub shown_next : (setting : Setting) (order : List Table) (i : ℕ) (d : Table) 
     → AreShown setting (take i order) old was mid → IsPut setting (get_or order i d) old new mid now → AreShown setting (take (i + 1) order) new was now
 shown_next setting order i d old new was mid now low p q =
     subst (λ (z : List Table). AreShown setting z new was now) (sym (take_more order i d low)) (shown_more setting (take i order) (get_or order i d) old new was mid now p q)
+
+-- a table that was read whole was read in part
+pub whole_in_part : (setting : Setting) (table : Table) (readings : List Reading) (was now : Opening → List Call → Type 0)
+    → IsReadSet (scope_of setting) table readings → Goes was now (calls_of readings) → IsReadInPart setting table was now
+whole_in_part setting table readings was now read calls = (readings, ([], sym (append-nil _ ∙ read)), calls)
+
+-- the reading stopped at a table of an order
+pub shown_stop : (setting : Setting) (order : List Table) (i : ℕ) (d : Table) (old : List TableReport) (was mid now : Opening → List Call → Type 0) → i < length order
+    → AreShown setting (take i order) old was mid → IsReadInPart setting (get_or order i d) mid now → AreReadInPart setting order was now
+shown_stop setting order i d old was mid now low p q = record {
+  reads = p.reads;
+  table = get_or order i d;
+  behind = drop (i + 1) order;
+  readings = q.0;
+  order_is = sym (take-append-drop i order) ∙ (ap (λ (z : List Table). take i order ++ z) (at_drop_more (λ (z : List Table). z) order i d low) ∙ ap (λ (z : List Table). z ++ (get_or order i d ∷ drop (i + 1) order)) (sym p.order_is));
+  each = p.each;
+  front = q.1;
+  calls = goes_then (all_readings p.reads) q.0 was mid now p.calls q.2;
+}
+
+-- what holds anyway holds at an error
+pub on_err : {T E P : Type 0} (r : Result T E) → P → OnErr r P
+on_err (Ok x) p = tt
+on_err (Err e) p = p

@@ -13,7 +13,7 @@ use Rattle.pfs_rows.specs.Tables.{table_name}
 use Rattle.pfs_classes.specs.declared.setting.Setting.{Setting}
 use Rattle.pfs_journal.specs.declared.values.TableReport.{TableReport}
 use Rattle.pfs_levels.specs.Calls.{Call, Goes, Opening}
-use Rattle.pfs_reader.specs.Readings.{calls_of}
+use Rattle.pfs_reader.specs.Readings.{calls_of, IsFront}
 use Rattle.pfs_readsets.specs.TablePlaces.{scope_of}
 use Rattle.pfs_readsets.specs.ReadSets.{IsReadSet}
 use Rattle.pfs_tables.specs.ListedRows.{listed_rows}
@@ -112,3 +112,19 @@ pub record AreShown (setting : Setting) (order : List Table) (tables : List Tabl
 abbrev pub AreFinal : Setting → List TableReport → (Opening → List Call → Type 0) → (Opening → List Call → Type 0)
     → Type 0
 AreFinal setting tables was now = AreShown setting final_order tables was now
+
+-- of a table some of the first readings were made, maybe all, and no more was asked of the store
+abbrev pub IsReadInPart : Setting → Table → (Opening → List Call → Type 0) → (Opening → List Call → Type 0) → Type 0
+IsReadInPart setting table was now =
+    (readings : List Reading) × IsFront (scope_of setting) table readings × Goes was now (calls_of readings)
+
+-- the tables before one of this order were read, and that one in part, and no more was asked of the store
+pub record AreReadInPart (setting : Setting) (order : List Table) (was now : Opening → List Call → Type 0) : Type 0 where
+  pub reads : List TableRead
+  pub table : Table
+  pub behind : List Table
+  pub readings : List Reading
+  pub order_is : order ≡ map (λ (read : TableRead). read.table) reads ++ table ∷ behind
+  pub each : All (λ (read : TableRead). IsReadSet (scope_of setting) read.table read.readings) reads
+  pub front : IsFront (scope_of setting) table readings
+  pub calls : Goes was now (calls_of (all_readings reads ++ readings))

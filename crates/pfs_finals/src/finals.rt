@@ -1,7 +1,8 @@
 //! The tables at a phase's end.
 
-ghost use Rattle.std.specs.Prelude.{◌≡◌, ◌++◌, filter, IfOk, OnOk};
-ghost use Rattle.pfs_reader.specs.Readings.{HoldsNone, AreKept};
+ghost use Rattle.std.specs.Prelude.{◌≡◌, ◌++◌, filter, IfOk, OnErr, OnOk};
+ghost use Rattle.pfs_levels.specs.Views.{Same};
+ghost use Rattle.pfs_reader.specs.Readings.{HoldsNone};
 ghost use Rattle.pfs_finals.specs.Finals as spec;
 
 use crate::NoMemory;
@@ -156,9 +157,9 @@ fn put_table<R: Rows>(
     requires away { HoldsNone (R.seen rows.old).hand }
     ensures put { OnOk result (spec.IsPut setting.now table tables.old.items tables.new.items (R.seen rows.old).reached
         (R.seen rows.new).reached) }
-    ensures kept { AreKept (R.seen rows.old).left (R.seen rows.new).left (R.seen rows.old).draws
-        (R.seen rows.new).draws (R.seen rows.old).hand (R.seen rows.new).hand (R.seen rows.old).words
-        (R.seen rows.new).words (R.seen rows.old).name (R.seen rows.new).name }
+    ensures stopped { OnErr result (spec.IsReadInPart setting.now table (R.seen rows.old).reached
+        (R.seen rows.new).reached) }
+    ensures kept { Same (R.seen rows.old) (R.seen rows.new) }
 {
     let readings = read_table(alloc, setting, table, rows)?;
     let shown = shown_rows(alloc, setting, table, readings.as_slice())?;
@@ -167,7 +168,8 @@ fn put_table<R: Rows>(
 
 /// The tables at a phase's end, in the report's order: each table's listed rows by the readings of its read set, of a
 /// summary without the rows whose COUNT_STAR is 0. A table without rows is left out. These rules are our own. The
-/// tables are read one after another, and nothing else is asked of the store.
+/// tables are read one after another, and nothing else is asked of the store. Out of memory the tables before one were
+/// read, of that one some of the first readings were made, and nothing else was; no row is in hand but what was.
 pub fn final_tables<R: Rows>(
     alloc: Global,
     setting: &Setting,
@@ -176,9 +178,9 @@ pub fn final_tables<R: Rows>(
     requires away { HoldsNone (R.seen rows.old).hand }
     ensures tables { IfOk result
         (λ tables. spec.AreFinal setting.now tables (R.seen rows.old).reached (R.seen rows.new).reached) }
-    ensures kept { AreKept (R.seen rows.old).left (R.seen rows.new).left (R.seen rows.old).draws
-        (R.seen rows.new).draws (R.seen rows.old).hand (R.seen rows.new).hand (R.seen rows.old).words
-        (R.seen rows.new).words (R.seen rows.old).name (R.seen rows.new).name }
+    ensures stopped { OnErr result (spec.AreReadInPart setting.now spec.final_order (R.seen rows.old).reached
+        (R.seen rows.new).reached) }
+    ensures kept { Same (R.seen rows.old) (R.seen rows.new) }
 {
     let mut tables = Vec::new(alloc);
     for table in &FINAL_TABLES {

@@ -1,5 +1,5 @@
 -- Floors of a plain store's calls, actor by actor.
-use Rattle.std.proofs.Common.{ℕ, ◌⊎◌, inl, inr, ◌≡◌, ◌<◌, ◌≤◌, ◌==◌, false, true, List, [], ◌∷◌, ◌++◌, length, refl, ap, sym, ◌∙◌, subst, arith, append_assoc}
+use Rattle.std.proofs.Common.{ℕ, ◌⊎◌, inl, inr, ◌≡◌, ◌<◌, ◌≤◌, ◌/◌, ◌==◌, false, true, List, [], ◌∷◌, ◌++◌, length, refl, ap, sym, ◌∙◌, subst, arith, append_assoc}
 use Rattle.pfs_rows.specs.declared.table.Seen.TheVariants.{Whole, Free}
 use Rattle.pfs_rows.specs.declared.table.Seen.TheVariants as sees
 use Rattle.pfs_levels.specs.declared.answers.Added.TheVariants.{Counted, Held}
@@ -79,7 +79,8 @@ newest flags (Reads at (Whole v found)) calls rest log words a l =
       none_above (marks_of calls ++ log) at v (after_in calls) m (omega (arith, a.0.2, at_count calls rest log at l.rows)),
       subst F (sym (a.0.2 ∙ versions (ops_of (calls ++ rest)) at)) (unfreed flags calls rest log words a.1 l at (after_in calls) a.0.1),
     )
-newest flags (Reads at (Free w)) calls rest log words a l = tt
+newest flags (Reads at (Free w)) calls rest log words a l =
+    none_above (marks_of calls ++ log) at (w / 4) (after_in calls) (marks_chain flags calls rest log a.1 l.idle l.rows l.chain) (omega (arith, a.0.2, at_count calls rest log at l.rows))
 newest flags (Reads at (sees.Busy v w)) calls rest log words a l = tt
 newest flags (Loads at v found) calls rest log words a l =
     none_above (word_marks_of calls ++ words) at v (after_in calls) (word_marks_chain flags calls rest words a.1 l.sets l.word_chain)

@@ -2,9 +2,10 @@
 use Rattle.std.proofs.Common.{ℕ, List, ◌≡◌, ◌≤◌, inl, inr, true, [], ◌∷◌, replicate, Some, None, refl, arith, lit<, lit≤}
 use Rattle.pfs_stat.specs.declared.Stat.{Stat}
 use Rattle.pfs_board.specs.declared.view.Label.{Label}
+use Rattle.pfs_rows.specs.declared.table.Seen.TheVariants.{Free}
 use Rattle.pfs_levels.specs.declared.answers.Added.TheVariants.{Counted, Held}
 use Rattle.pfs_levels.specs.declared.flushes.Source.TheVariants as of
-use Rattle.pfs_levels.specs.Calls.{Adds, Loads, Takes, Puts, Enters, Meets, hand_in, IsLongPlace}
+use Rattle.pfs_levels.specs.Calls.{Adds, Reads, Loads, Takes, Puts, Enters, Meets, hand_in, IsLongPlace}
 use Rattle.pfs_levels.specs.RowWords.{merged, zero_words, opening_content}
 use Rattle.pfs_levels.specs.Flushes.{asks_of, Ascends}
 use Rattle.pfs_levels.specs.JointCalls.{total, at_put, at_free, count, IsCounted, frees_at, word_version, Agrees}
@@ -76,6 +77,11 @@ above_floor amount = refl
 pub below_floor : (amount : Stat) → ¬ IsFloored (mark 129 3 true 1 0 ∷ []) [] 1 (Adds 129 amount (Counted 129 3))
 unfolding total
 below_floor amount h = omega (arith, h)
+
+-- nor does it find the row free below it
+pub free_below_floor : ¬ IsFloored (mark 129 3 true 1 0 ∷ []) [] 1 (Reads 129 (Free 8))
+unfolding total
+free_below_floor h = omega (arith, h)
 
 -- a load behind a meet can't name a version below the one that was met, and a meet none below an earlier load
 pub below_the_meet : ¬ IsRising (Meets (7 ∷ 2 ∷ []) ∷ []) (Loads 1 1 0)

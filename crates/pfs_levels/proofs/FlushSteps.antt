@@ -3,24 +3,24 @@ use Rattle.std.proofs.Common.{ℕ, zero, suc, ◌≡◌, ◌<◌, ◌≤◌, ◌
 use Rattle.std.specs.List.{flat_map, All}
 use Rattle.std.proofs.lemmas.List.{take_more, append-nil, map-append, take-append-drop}
 use Rattle.std.proofs.lemmas.Grind.{flat_map-append}
-use Rattle.pfs_levels.specs.declared.answers.Word.{Word}
 use Rattle.pfs_levels.specs.declared.flushes.Source.{Source}
 use Rattle.pfs_levels.specs.Calls.{Call, Opening}
 use Rattle.pfs_levels.specs.Flushes.{Ascends, asks_of, CellsAreAway}
 use Rattle.pfs_event.specs.Logs.{Journal}
 use Rattle.pfs_levels.specs.Moves.{Ask, ask, Moved, Stays, cost, AreAway}
+use Rattle.pfs_levels.specs.Views.{Store}
 use Rattle.pfs_levels.proofs.MoveLists.{moved_then}
 
 pub cost_then : (xs ys : List Ask) → cost (xs ++ ys) ≡ cost xs + cost ys
 cost_then [] ys = omega arith
 cost_then (x ∷ xs) ys = omega (arith, cost_then xs ys)
 
-pub stays_then : (m n : ℕ) (h0 h1 h2 : ℕ → Option ℕ) (l0 l1 l2 d0 d1 d2 : ℕ) (w0 w1 w2 : Option (List Word)) (n0 n1 n2 : ℕ) (old at new : Journal)
-    → Stays m h0 h1 l0 l1 d0 d1 w0 w1 n0 n1 old at → Stays n h1 h2 l1 l2 d1 d2 w1 w2 n1 n2 at new → Stays (m + n) h0 h2 l0 l2 d0 d2 w0 w2 n0 n2 old new
-stays_then m n h0 h1 h2 l0 l1 l2 d0 d1 d2 w0 w1 w2 n0 n1 n2 old at new p q = record {
-  hand = λ r. q.hand r ∙ p.hand r;
+pub stays_then : (m n : ℕ) (a b c : Store) (old at new : Journal) → Stays m a b old at → Stays n b c at new → Stays (m + n) a c old new
+stays_then m n a b c old at new p q = record {
   left = omega (arith, p.left, q.left);
-  draws = q.draws ∙ p.draws;
+  draws = omega (arith, p.draws, q.draws);
+  no_more = omega (arith, p.no_more, q.no_more);
+  hand = λ r. q.hand r ∙ p.hand r;
   words = q.words ∙ p.words;
   name = q.name ∙ p.name;
   room = omega (arith, p.room, q.room);
@@ -30,10 +30,10 @@ stays_then m n h0 h1 h2 l0 l1 l2 d0 d1 d2 w0 w1 w2 n0 n1 n2 old at new p q = rec
 pub moved_more : (before more whole : List Ask) (old at new : Journal) (was mid now : Opening → List Call → Type 0) → whole ≡ before ++ more → Moved before old at was mid → Moved more at new mid now → Moved whole old new was now
 moved_more before more whole old at new was mid now e p q = subst (λ z. Moved z old new was now) (sym e) (moved_then before more old at new was mid now p q)
 
-pub stays_more : (before more whole : List Ask) (h0 h1 h2 : ℕ → Option ℕ) (l0 l1 l2 d0 d1 d2 : ℕ) (w0 w1 w2 : Option (List Word)) (n0 n1 n2 : ℕ) (old at new : Journal) → whole ≡ before ++ more
-    → Stays (cost before) h0 h1 l0 l1 d0 d1 w0 w1 n0 n1 old at → Stays (cost more) h1 h2 l1 l2 d1 d2 w1 w2 n1 n2 at new → Stays (cost whole) h0 h2 l0 l2 d0 d2 w0 w2 n0 n2 old new
-stays_more before more whole h0 h1 h2 l0 l1 l2 d0 d1 d2 w0 w1 w2 n0 n1 n2 old at new e p q =
-    subst (λ z. Stays z h0 h2 l0 l2 d0 d2 w0 w2 n0 n2 old new) (sym (ap cost e ∙ cost_then before more)) (stays_then (cost before) (cost more) h0 h1 h2 l0 l1 l2 d0 d1 d2 w0 w1 w2 n0 n1 n2 old at new p q)
+pub stays_more : (before more whole : List Ask) (a b c : Store) (old at new : Journal) → whole ≡ before ++ more
+    → Stays (cost before) a b old at → Stays (cost more) b c at new → Stays (cost whole) a c old new
+stays_more before more whole a b c old at new e p q =
+    subst (λ z. Stays z a c old new) (sym (ap cost e ∙ cost_then before more)) (stays_then (cost before) (cost more) a b c old at new p q)
 
 -- what is left is enough for one more
 pub enough : (before more whole all : List Ask) (have now : ℕ) → whole ≡ before ++ more → cost whole ≤ cost all → cost all ≤ have → have ≤ now + cost before → cost more ≤ now
@@ -57,8 +57,8 @@ sources_more g sources i s k e = ap (flat_map g) (take_more sources i s k) ∙ f
 pub sources_fit : (g : Source → List Ask) (sources : List Source) (i : ℕ) → cost (flat_map g (take i sources)) ≤ cost (flat_map g sources)
 sources_fit g sources i = subst (λ z. cost (flat_map g (take i sources)) ≤ cost z) (sym (flat_map-append g (take i sources) (drop i sources)) ∙ ap (flat_map g) (take-append-drop i sources)) (front_fits (flat_map g (take i sources)) (flat_map g (drop i sources)))
 
-pub stays_as : (m n : ℕ) (h0 h1 : ℕ → Option ℕ) (l0 l1 d0 d1 : ℕ) (w0 w1 : Option (List Word)) (n0 n1 : ℕ) (old new : Journal) → m ≡ n → Stays m h0 h1 l0 l1 d0 d1 w0 w1 n0 n1 old new → Stays n h0 h1 l0 l1 d0 d1 w0 w1 n0 n1 old new
-stays_as m n h0 h1 l0 l1 d0 d1 w0 w1 n0 n1 old new e s = subst (λ z. Stays z h0 h1 l0 l1 d0 d1 w0 w1 n0 n1 old new) e s
+pub stays_as : (m n : ℕ) (a b : Store) (old new : Journal) → m ≡ n → Stays m a b old new → Stays n a b old new
+stays_as m n a b old new e s = subst (λ z. Stays z a b old new) e s
 
 pub ascends_below : (low limit : ℕ) (xs : List ℕ) → Ascends low limit xs → All (λ x. x < limit) xs
 ascends_below low limit [] a zero d k = absurd (omega (arith, k))

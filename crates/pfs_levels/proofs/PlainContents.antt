@@ -1,5 +1,5 @@
 -- What the fold of a plain store's calls says of versions, contents and releases.
-use Rattle.std.proofs.Common.{ℕ, inl, inr, ◌≡◌, ◌<◌, ◌≤◌, ◌+◌, ◌==◌, nat_lt, false, true, Bool, cond, ◌&&◌, List, [], ◌∷◌, ◌++◌, refl, ap, sym, ◌∙◌, arith, eq-eqb, ne_eqb}
+use Rattle.std.proofs.Common.{ℕ, inl, inr, ◌≡◌, ◌≤◌, ◌+◌, ◌==◌, nat_lt, false, true, Bool, cond, ◌&&◌, List, [], ◌∷◌, ◌++◌, refl, ap, sym, ◌∙◌, arith, eq-eqb, ne_eqb}
 use Rattle.std.proofs.lemmas.Bool.{cases_eq, le-ltb, lt-ltb}
 use Rattle.pfs_lemmas.proofs.Bools.{counted_once_more}
 use Rattle.pfs_levels.specs.declared.plain.Slot.{Slot}

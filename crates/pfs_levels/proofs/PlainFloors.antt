@@ -1,5 +1,5 @@
 -- No call of a plain store is below what actions gave that had ended: each names what stands there, and later actions have greater numbers.
-use Rattle.std.proofs.Common.{ℕ, ◌⊎◌, inl, inr, ◌≡◌, ◌<◌, ◌≤◌, ◌+◌, ◌==◌, nat_lt, nat_le, false, true, Bool, cond, not, ◌&&◌, List, [], ◌∷◌, ◌++◌, slice_index, refl, ap, sym, ◌∙◌, subst, arith, eq-eqb, ne_eqb, zero-add}
+use Rattle.std.proofs.Common.{ℕ, ◌⊎◌, inl, inr, ◌≡◌, ◌<◌, ◌≤◌, ◌+◌, ◌/◌, ◌==◌, nat_lt, nat_le, false, true, Bool, cond, not, ◌&&◌, List, [], ◌∷◌, ◌++◌, slice_index, refl, ap, sym, ◌∙◌, subst, arith, eq-eqb, ne_eqb, zero-add}
 use Rattle.std.proofs.lemmas.Bool.{cases_eq, le-ltb}
 use Rattle.std.proofs.lemmas.Bool.Decides.{nat_tests}
 use Rattle.pfs_lemmas.proofs.Bools.{and_false, counted_once_more}
@@ -101,7 +101,7 @@ floor_more p log words after ended (Rings row content (Done k)) low later h = re
 floor_more p log words after ended (Rings row content (Busy v w)) low later h = h
 floor_more p log words after ended (Rings row content (Late t)) low later h = h
 floor_more p log words after ended (Reads row (Whole k found)) low later h = (above_more p log row k after (not_past row after ended p low later) h.0, freed_more p log row k after (not_past row after ended p low later) h.1)
-floor_more p log words after ended (Reads row (Free w)) low later h = h
+floor_more p log words after ended (Reads row (Free w)) low later h = above_more p log row (w / 4) after (not_past row after ended p low later) h
 floor_more p log words after ended (Reads row (sees.Busy v w)) low later h = h
 floor_more p log words after ended (Loads at k flags) low later h = h
 floor_more p log words after ended (Draws kind ticket) low later h = h

@@ -1,5 +1,5 @@
 -- Late events and labels of a plain store, and the whole order.
-use Rattle.std.proofs.Common.{ℕ, ◌≡◌, ◌<◌, ◌≤◌, ◌+◌, ◌-◌, false, List, [], ◌∷◌, ◌++◌, slice_index, slice_index_or, length, refl, ap, sym, ◌∙◌, subst, arith, append_assoc, length-append}
+use Rattle.std.proofs.Common.{ℕ, ◌≡◌, ◌<◌, ◌≤◌, ◌+◌, ◌-◌, inl, inr, false, List, [], ◌∷◌, ◌++◌, slice_index, slice_index_or, length, refl, ap, sym, ◌∙◌, subst, arith, append_assoc, length-append}
 use Rattle.std.proofs.lemmas.List.{append-nil, get_or_append_left}
 use Rattle.std.proofs.Math.Seq.{get_or-append_seam}
 use Rattle.pfs_board.specs.declared.view.Label.{Label}
@@ -8,9 +8,9 @@ use Rattle.pfs_rows.specs.declared.table.Seen.TheVariants.{Whole, Free}
 use Rattle.pfs_rows.specs.declared.table.Seen.TheVariants as sees
 use Rattle.pfs_levels.specs.declared.answers.Added.TheVariants.{Counted, Held}
 use Rattle.pfs_levels.specs.declared.answers.RingPut.TheVariants.{Done, Busy, Late}
-use Rattle.pfs_levels.specs.Calls.{Call, Adds, Rings, Reads, Loads, Draws, Takes, Puts, Frees, Sets, Enters, Leaves, Meets, action_in, after_in, label_in}
+use Rattle.pfs_levels.specs.Calls.{Call, Adds, Rings, Reads, Loads, Draws, Takes, Puts, Frees, Sets, Enters, Leaves, Meets, IsRing, action_in, after_in, label_in}
 use Rattle.pfs_levels.specs.JointCalls.{all_calls}
-use Rattle.pfs_levels.specs.CallOrder.{Mark, marks_by, marks_of, all_marks, all_word_marks, marked, above, IsOverdue, HasCause, AreCaused, IsNamed, AreNamed, AllCalls, AreFloored, AreRising, Order}
+use Rattle.pfs_levels.specs.CallOrder.{Mark, marks_by, marks_of, all_marks, all_word_marks, marked, above, IsOverdue, HasCause, AreCaused, IsNamed, AreNamed, AllCalls, AreFloored, AreRising, IsThere, AreThere, Order}
 use Rattle.pfs_levels.specs.PlainStore.{ops_by, ops_of, slot_after, Answers, AllAnswer, puts_in, content_at, labels_after}
 use Rattle.pfs_levels.specs.PlainCalls.{AllOutside}
 use Rattle.pfs_levels.proofs.PlainActions.{labels_count}
@@ -321,6 +321,38 @@ all_rising flags (calls ∷ actors) a out =
     let b = answers_rest flags calls (all_calls actors) a in
     (rising flags calls (all_calls actors) a (stood flags actors b out.1).left.idle, all_rising flags actors b out.1)
 
+ring_there : (row : ℕ) (content : List ℕ) → IsRing row content → row < 14242
+ring_there row content (inl h) = omega (arith, h)
+ring_there row content (inr h) = h.1
+
+one_there : (flags : List ℕ) (calls : List Call) (call : Call) → Answers flags calls call → IsThere call
+one_there flags calls (Adds row amount (Counted r v)) a = omega (arith, a.0)
+one_there flags calls (Adds row amount (Held r v w)) a = absurd a
+one_there flags calls (Rings row put (Done v)) a = ring_there row put a.0
+one_there flags calls (Rings row put (Busy v w)) a = absurd a
+one_there flags calls (Rings row put (Late t)) a = ring_there row put a.0
+one_there flags calls (Reads row (Whole v found)) a = a.0.1
+one_there flags calls (Reads row (Free w)) a = a.0.1
+one_there flags calls (Reads row (sees.Busy v w)) a = absurd a
+one_there flags calls (Loads at v found) a = a.0
+one_there flags calls (Draws kind ticket) a = a.0
+one_there flags calls (Meets versions) a = absurd a
+one_there flags calls (Takes row v found) a = a.0.1
+one_there flags calls (Puts row put v) a = a.0.1
+one_there flags calls (Frees row v) a = a.0.1
+one_there flags calls (Sets at to v) a = a.0
+one_there flags calls (Enters label labels) a = tt
+one_there flags calls Leaves a = tt
+
+are_there : (flags : List ℕ) (calls rest : List Call) → AllAnswer flags (calls ++ rest) → AreThere calls
+are_there flags [] rest a = tt
+are_there flags (call ∷ calls) rest a = (one_there flags (calls ++ rest) call a.0, are_there flags calls rest a.1)
+
+all_there : (flags : List ℕ) (actors : List (List Call)) → AllAnswer flags (all_calls actors) → AllCalls AreThere actors
+unfolding all_calls
+all_there flags [] a = tt
+all_there flags (calls ∷ actors) a = (are_there flags calls (all_calls actors) a, all_there flags actors (answers_rest flags calls (all_calls actors) a))
+
 -- any number of actors that used a plain store one after another, the last one first, none of them in an action at its end
 pub plain_order : (flags : List ℕ) (actors : List (List Call)) → AllAnswer flags (all_calls actors) → AllOutside actors
     → Order actors (content_at (ops_of (all_calls actors))) (all_marks actors) (all_word_marks actors) (labels_after (all_calls actors))
@@ -335,6 +367,7 @@ plain_order flags actors a out =
       ended = labels_count flags (all_calls actors) a ∙ versions (ops_of (all_calls actors)) 0 ∙ sym (s.left.rows 0);
       floored = s.floors;
       rising = all_rising flags actors a out;
+      there = all_there flags actors a;
       caused = all_caused flags (content_at (ops_of (all_calls actors))) (all_marks actors) actors a (overdue flags actors a out);
       named = all_named (labels_after (all_calls actors)) actors (named flags actors a out);
     }

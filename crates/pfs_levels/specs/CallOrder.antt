@@ -114,8 +114,8 @@ abbrev pub freed : List Mark → ℕ → ℕ → ℕ → ℕ
 freed log row version after = total (λ p. one_if (is_past row after p && not p.puts && nat_le version p.version)) log
 
 -- by the changes and sets of the actions that a call's actor knew as ended: a change is above them; a take, a read
--- and a release are not below them, a read is above each release; a set is above those of its word, and a load is not
--- below them
+-- of a whole or a free row and a release are not below them, a whole read is above each release; a set is above those
+-- of its word, and a load is not below them
 abbrev pub IsFloored : List Mark → List Mark → ℕ → Call → Type 0
 IsFloored log words after (Adds row amount (Counted r k)) = reaching log r k after ≡ 0
 IsFloored log words after (Adds row amount (Held r first second)) = Unit {0}
@@ -123,7 +123,7 @@ IsFloored log words after (Rings row content (Done k)) = reaching log row k afte
 IsFloored log words after (Rings row content (Busy first second)) = Unit {0}
 IsFloored log words after (Rings row content (Late ticket)) = Unit {0}
 IsFloored log words after (Reads row (Whole k found)) = (above log row k after ≡ 0) × (freed log row k after ≡ 0)
-IsFloored log words after (Reads row (Free w)) = Unit {0}
+IsFloored log words after (Reads row (Free w)) = above log row (w / 4) after ≡ 0
 IsFloored log words after (Reads row (sees.Busy first second)) = Unit {0}
 IsFloored log words after (Loads at k flags) = above words at k after ≡ 0
 IsFloored log words after (Draws kind ticket) = Unit {0}
@@ -215,6 +215,25 @@ IsRising calls Leaves = top_in calls 0 < action_in calls
 abbrev pub AreRising : List Call → Type 0
 AreRising [] = Unit {0}
 AreRising (call ∷ calls) = IsRising calls call × AreRising calls
+
+-- a call names a row, a word or a kind of tickets that there is
+abbrev pub IsThere : Call → Type 0
+IsThere (Adds row amount answer) = row < 14242
+IsThere (Rings row content answer) = row < 14242
+IsThere (Reads row seen) = row < 14242
+IsThere (Loads at version flags) = at < 160
+IsThere (Draws kind ticket) = kind < 4
+IsThere (Meets versions) = Unit {0}
+IsThere (Takes row version found) = row < 14242
+IsThere (Puts row content version) = row < 14242
+IsThere (Frees row version) = row < 14242
+IsThere (Sets at flags version) = at < 160
+IsThere (Enters label labels) = Unit {0}
+IsThere Leaves = Unit {0}
+
+abbrev pub AreThere : List Call → Type 0
+AreThere [] = Unit {0}
+AreThere (call ∷ calls) = IsThere call × AreThere calls
 
 -- a load behind a meet with the writer names no version of its word below the one that was met
 abbrev pub LoadsAfterMeet : Type 0
@@ -321,5 +340,6 @@ pub record Order (actors : List (List Call)) (content : ℕ → ℕ
   pub ended : length labels ≡ marked log 0
   pub floored : AllCalls (AreFloored log words) actors
   pub rising : AllCalls AreRising actors
+  pub there : AllCalls AreThere actors
   pub caused : AllCalls (λ calls. AreCaused content log (marks_of calls) calls) actors
   pub named : AllCalls (AreNamed labels) actors

@@ -1,13 +1,13 @@
 -- Moves: each takes a row, publishes zero there, and gives what it found to other rows.
-use Rattle.std.specs.Prelude.{ℕ, ◌≡◌, ◌+◌, ◌≤◌, ◌==◌, if◌then◌else◌, List, [], ◌∷◌, ◌++◌, length, Option, Some, None}
+use Rattle.std.specs.Prelude.{ℕ, ◌≡◌, ◌+◌, ◌==◌, if◌then◌else◌, List, [], ◌∷◌, ◌++◌, length, Option, Some, None}
 use Rattle.pfs_event.specs.declared.entry.Entry.{Entry}
 use Rattle.pfs_event.specs.declared.entry.Entry.TheVariants as says
 use Rattle.pfs_stat.specs.declared.Stat.{Stat}
 use Rattle.pfs_stat.specs.Stat.{stat_of_words}
-use Rattle.pfs_levels.specs.declared.answers.Word.{Word}
 use Rattle.pfs_levels.specs.declared.places.Targets.{Targets}
 use Rattle.pfs_levels.specs.Calls.{Call, Takes, Puts, Frees, Goes, Opening, IsRow}
 use Rattle.pfs_levels.specs.RowWords.{merged, zero_words}
+use Rattle.pfs_levels.specs.Views.{Store, Used}
 use Rattle.pfs_event.specs.Logs.{Journal}
 
 -- what is asked for: the row to be taken, and those that get what it holds
@@ -147,13 +147,6 @@ abbrev pub cost : List Ask → ℕ
 cost [] = 0
 cost (a ∷ asks) = 1 + length a.to + cost asks
 
--- what a call over a store leaves as it was, and what it may have used up
-pub record Stays (count : ℕ) (hand_old hand_new : ℕ
-    → Option ℕ) (left_old left_new draws_old draws_new : ℕ) (words_old words_new : Option (List Word))
-    (name_old name_new : ℕ) (old new : Journal) : Type 0 where
-  pub hand : (r : ℕ) → hand_new r ≡ hand_old r
-  pub left : left_old ≤ left_new + count
-  pub draws : draws_new ≡ draws_old
-  pub words : words_new ≡ words_old
-  pub name : name_new ≡ name_old
-  pub room : old.room ≤ new.room + count
+-- no more was used up than one publication and one entry for each of so many rows
+abbrev pub Stays : ℕ → Store → Store → Journal → Journal → Type 0
+Stays count was now old new = Used count 0 count was now old new

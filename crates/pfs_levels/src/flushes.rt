@@ -31,9 +31,7 @@ pub fn flush<H: Hold>(rows: &mut H, kind: EventKind, level: Level, places: &Plac
     requires room { cost (flushed places.now kind level) ≤ log.old.room }
     ensures moved { Moved (flushed places.now kind level) log.old log.new (H.seen rows.old).reached
         (H.seen rows.new).reached }
-    ensures stays { Stays (cost (flushed places.now kind level)) (H.seen rows.old).hand (H.seen rows.new).hand
-        (H.seen rows.old).left (H.seen rows.new).left (H.seen rows.old).draws (H.seen rows.new).draws
-        (H.seen rows.old).words (H.seen rows.new).words (H.seen rows.old).name (H.seen rows.new).name log.old log.new }
+    ensures stays { Stays (cost (flushed places.now kind level)) (H.seen rows.old) (H.seen rows.new) log.old log.new }
 {
     let cells = places.cells(kind);
     for at in 0..places.count(level) {
@@ -51,9 +49,7 @@ pub fn flush_cells<H: Hold>(rows: &mut H, source: Source, cells: &[u64], log: &m
     requires room { cost (asks_of cells.now source) ≤ log.old.room }
     ensures moved { Moved (asks_of cells.now source) log.old log.new (H.seen rows.old).reached
         (H.seen rows.new).reached }
-    ensures stays { Stays (cost (asks_of cells.now source)) (H.seen rows.old).hand (H.seen rows.new).hand
-        (H.seen rows.old).left (H.seen rows.new).left (H.seen rows.old).draws (H.seen rows.new).draws
-        (H.seen rows.old).words (H.seen rows.new).words (H.seen rows.old).name (H.seen rows.new).name log.old log.new }
+    ensures stays { Stays (cost (asks_of cells.now source)) (H.seen rows.old) (H.seen rows.new) log.old log.new }
 {
     for cell in cells {
         let from = row_from(source, *cell);

@@ -18,9 +18,7 @@ pub fn move_up<H: Hold>(rows: &mut H, from: u64, to: &Targets, log: &mut Log)
     requires room { 1 + length (targets_of to.now) ≤ log.old.room }
     ensures moved { Moved (ask from (targets_of to.now) ∷ []) log.old log.new (H.seen rows.old).reached
         (H.seen rows.new).reached }
-    ensures stays { Stays (1 + length (targets_of to.now)) (H.seen rows.old).hand (H.seen rows.new).hand
-        (H.seen rows.old).left (H.seen rows.new).left (H.seen rows.old).draws (H.seen rows.new).draws
-        (H.seen rows.old).words (H.seen rows.new).words (H.seen rows.old).name (H.seen rows.new).name log.old log.new }
+    ensures stays { Stays (1 + length (targets_of to.now)) (H.seen rows.old) (H.seen rows.new) log.old log.new }
 {
     let found = empty(rows, from, log);
     if found.count == 0 {
@@ -35,9 +33,7 @@ pub fn clear<H: Hold>(rows: &mut H, row: u64, log: &mut Log)
     requires spare { 1 ≤ (H.seen rows.old).left }
     requires room { 1 ≤ log.old.room }
     ensures moved { Moved (ask row [] ∷ []) log.old log.new (H.seen rows.old).reached (H.seen rows.new).reached }
-    ensures stays { Stays 1 (H.seen rows.old).hand (H.seen rows.new).hand (H.seen rows.old).left (H.seen rows.new).left
-        (H.seen rows.old).draws (H.seen rows.new).draws (H.seen rows.old).words (H.seen rows.new).words
-        (H.seen rows.old).name (H.seen rows.new).name log.old log.new }
+    ensures stays { Stays 1 (H.seen rows.old) (H.seen rows.new) log.old log.new }
 {
     let _ = empty(rows, row, log);
 }
@@ -49,9 +45,7 @@ pub fn purge<H: Hold>(rows: &mut H, place: Place, log: &mut Log)
     requires spare { 1 ≤ (H.seen rows.old).left }
     requires room { 1 ≤ log.old.room }
     ensures purged { Purged (row_number place) log.old log.new (H.seen rows.old).reached (H.seen rows.new).reached }
-    ensures stays { Stays 1 (H.seen rows.old).hand (H.seen rows.new).hand (H.seen rows.old).left (H.seen rows.new).left
-        (H.seen rows.old).draws (H.seen rows.new).draws (H.seen rows.old).words (H.seen rows.new).words
-        (H.seen rows.old).name (H.seen rows.new).name log.old log.new }
+    ensures stays { Stays 1 (H.seen rows.old) (H.seen rows.new) log.old log.new }
 {
     let row = row_of(place);
     let (version, _) = rows.take(row);
@@ -65,9 +59,7 @@ fn empty<H: Hold>(rows: &mut H, from: u64, log: &mut Log) -> Stat
     requires spare { 1 ≤ (H.seen rows.old).left }
     requires room { 1 ≤ log.old.room }
     ensures emptied { Emptied from result log.old log.new (H.seen rows.old).reached (H.seen rows.new).reached }
-    ensures stays { Stays 1 (H.seen rows.old).hand (H.seen rows.new).hand (H.seen rows.old).left (H.seen rows.new).left
-        (H.seen rows.old).draws (H.seen rows.new).draws (H.seen rows.old).words (H.seen rows.new).words
-        (H.seen rows.old).name (H.seen rows.new).name log.old log.new }
+    ensures stays { Stays 1 (H.seen rows.old) (H.seen rows.new) log.old log.new }
 {
     let (_, content) = rows.take(from);
     let version = rows.put(from, &zero().to_words());
@@ -82,9 +74,7 @@ fn give_all<H: Hold>(rows: &mut H, from: u64, to: &Targets, amount: &Stat, log: 
     requires room { length (targets_of to.now) ≤ log.old.room }
     ensures given { Given from (targets_of to.now) amount.now log.old log.new (H.seen rows.old).reached
         (H.seen rows.new).reached }
-    ensures stays { Stays (length (targets_of to.now)) (H.seen rows.old).hand (H.seen rows.new).hand
-        (H.seen rows.old).left (H.seen rows.new).left (H.seen rows.old).draws (H.seen rows.new).draws
-        (H.seen rows.old).words (H.seen rows.new).words (H.seen rows.old).name (H.seen rows.new).name log.old log.new }
+    ensures stays { Stays (length (targets_of to.now)) (H.seen rows.old) (H.seen rows.new) log.old log.new }
 {
     give_to(rows, from, to.first, amount, log);
     give_to(rows, from, to.second, amount, log);
@@ -97,9 +87,7 @@ fn give_to<H: Hold>(rows: &mut H, from: u64, to: Option<u64>, amount: &Stat, log
     requires room { length (some_list to) ≤ log.old.room }
     ensures given { Given from (some_list to) amount.now log.old log.new (H.seen rows.old).reached
         (H.seen rows.new).reached }
-    ensures stays { Stays (length (some_list to)) (H.seen rows.old).hand (H.seen rows.new).hand (H.seen rows.old).left
-        (H.seen rows.new).left (H.seen rows.old).draws (H.seen rows.new).draws (H.seen rows.old).words
-        (H.seen rows.new).words (H.seen rows.old).name (H.seen rows.new).name log.old log.new }
+    ensures stays { Stays (length (some_list to)) (H.seen rows.old) (H.seen rows.new) log.old log.new }
 {
     match to {
         Some(row) => give(rows, from, row, amount, log),
@@ -114,9 +102,7 @@ fn give<H: Hold>(rows: &mut H, from: u64, to: u64, amount: &Stat, log: &mut Log)
     requires room { 1 ≤ log.old.room }
     ensures given { Given from (to ∷ []) amount.now log.old log.new (H.seen rows.old).reached
         (H.seen rows.new).reached }
-    ensures stays { Stays 1 (H.seen rows.old).hand (H.seen rows.new).hand (H.seen rows.old).left (H.seen rows.new).left
-        (H.seen rows.old).draws (H.seen rows.new).draws (H.seen rows.old).words (H.seen rows.new).words
-        (H.seen rows.old).name (H.seen rows.new).name log.old log.new }
+    ensures stays { Stays 1 (H.seen rows.old) (H.seen rows.new) log.old log.new }
 {
     let (_, there) = rows.take(to);
     let sum = Stat::of_words(&there).merge(*amount);

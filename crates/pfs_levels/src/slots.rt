@@ -7,12 +7,13 @@ ghost use Rattle.pfs_levels.specs.RowHeads.{IsOwn, slot_of, words_at, to_place, 
 ghost use Rattle.pfs_levels.specs.PlainStore.{Merges, Becomes, Holds, Releases, slot_by, slot_at, opening_slot};
 
 use crate::NoMemory;
+use pfs_rows::{RINGS, THREAD_CELLS};
 use pfs_stat::Stat;
 use std::alloc::Global;
 use std::marker::Model;
 
 /// How many rows a store has.
-const ROWS: usize = 14_242;
+const ROWS: usize = pfs_rows::ROWS as usize;
 
 /// The words of a cell that has counted nothing.
 static ZERO_STAT: [u64; 16] = [0, 0, u64::MAX, 0, 0, 0, 0, 0, 0, 0, 0, 0, 0, 0, 0, 0];
@@ -171,7 +172,7 @@ fn opening_head(row: u64) -> Head
     ensures row { slot_of [] result ≡ opening_slot row }
     ensures nowhere { to_place result.home ≡ 1 }
 {
-    let cell = 129 <= row && row < 8450;
+    let cell = THREAD_CELLS <= row && row < RINGS;
     let home = opening_home(cell);
     Head {
         version: 0,

@@ -1,8 +1,8 @@
 //! The shared store as an actor sees it: rows, switch words and tickets.
 
-ghost use Rattle.std.specs.Prelude.{◌≡◌, ◌<◌, ◌≤◌, ◌+◌, ◌^◌, ◌==◌, ◌∷◌, [], ℕ, List, Option, Some, None, IsSome, if◌then◌else◌};
-ghost use Rattle.pfs_levels.specs.Calls.{Adds, Rings, Reads, Loads, Draws, Takes, Puts, Frees, Sets, Leaves, Goes, Begins, IsRow, IsCell, IsRing, IsLate, row_in, known_version, with_set};
-ghost use Rattle.pfs_levels.specs.Views.{Store};
+ghost use Rattle.std.specs.Prelude.{◌≡◌, ◌<◌, ◌≤◌, ◌+◌, ◌-◌, ◌^◌, ◌∷◌, [], ℕ, List, Option, Some, None, IsSome};
+ghost use Rattle.pfs_levels.specs.Calls.{Adds, Rings, Reads, Loads, Draws, Takes, Puts, Frees, Sets, Leaves, Goes, Begins, IsRow, IsCell, IsRing, IsLate, row_in, known_version};
+ghost use Rattle.pfs_levels.specs.Views.{Store, Same, Kept, taken, given_back, empty_handed, with_word};
 
 use crate::answers::{Added, RingPut};
 use pfs_board::{Content, Label};
@@ -26,11 +26,7 @@ pub trait Rows {
         requires room { 0 < (seen self.old).left }
         ensures call { Goes (seen self.old).reached (seen self.new).reached (Adds row amount.now result ∷ []) }
         ensures row { row_in result ≡ row }
-        ensures left { (seen self.old).left ≤ (seen self.new).left + 1 }
-        ensures draws { (seen self.new).draws ≡ (seen self.old).draws }
-        ensures hand { (r : ℕ) → (seen self.new).hand r ≡ (seen self.old).hand r }
-        ensures words { (seen self.new).words ≡ (seen self.old).words }
-        ensures name { (seen self.new).name ≡ (seen self.old).name };
+        ensures kept { Kept 1 0 (seen self.old) (seen self.new) };
 
     /// Writes an event to a ring place, or to the long place of its ticket. Busy comes only where another actor had
     /// the row in hand, and Late exactly where the row holds the greater ticket given, in the long history alone;
@@ -41,32 +37,20 @@ pub trait Rows {
         requires room { 0 < (seen self.old).left }
         ensures call { Goes (seen self.old).reached (seen self.new).reached (Rings row content.now result ∷ []) }
         ensures late { IsLate row content.now result }
-        ensures left { (seen self.old).left ≤ (seen self.new).left + 1 }
-        ensures draws { (seen self.new).draws ≡ (seen self.old).draws }
-        ensures hand { (r : ℕ) → (seen self.new).hand r ≡ (seen self.old).hand r }
-        ensures words { (seen self.new).words ≡ (seen self.old).words }
-        ensures name { (seen self.new).name ≡ (seen self.old).name };
+        ensures kept { Kept 1 0 (seen self.old) (seen self.new) };
 
     /// Reads a row whole, or says that it is free or in another actor's hand.
     fn read(&mut self, row: u64) -> Seen
         requires known { IsRow row }
         requires away { (seen self.old).hand row ≡ None }
         ensures call { Goes (seen self.old).reached (seen self.new).reached (Reads row result ∷ []) }
-        ensures left { (seen self.new).left ≡ (seen self.old).left }
-        ensures draws { (seen self.new).draws ≡ (seen self.old).draws }
-        ensures hand { (r : ℕ) → (seen self.new).hand r ≡ (seen self.old).hand r }
-        ensures words { (seen self.new).words ≡ (seen self.old).words }
-        ensures name { (seen self.new).name ≡ (seen self.old).name };
+        ensures kept { Same (seen self.old) (seen self.new) };
 
     /// Loads a switch word: its version and its flags.
     fn load(&mut self, word: u64) -> (u64, u16)
         requires { word < 160 }
         ensures call { Goes (seen self.old).reached (seen self.new).reached (Loads word result.0 result.1 ∷ []) }
-        ensures left { (seen self.new).left ≡ (seen self.old).left }
-        ensures draws { (seen self.new).draws ≡ (seen self.old).draws }
-        ensures hand { (r : ℕ) → (seen self.new).hand r ≡ (seen self.old).hand r }
-        ensures words { (seen self.new).words ≡ (seen self.old).words }
-        ensures name { (seen self.new).name ≡ (seen self.old).name };
+        ensures kept { Same (seen self.old) (seen self.new) };
 
     /// Draws the next ticket of a kind.
     fn ticket(&mut self, kind: u64) -> u64
@@ -75,10 +59,7 @@ pub trait Rows {
         ensures call { Goes (seen self.old).reached (seen self.new).reached (Draws kind result ∷ []) }
         ensures small { result < 2 ^ 47 }
         ensures left { (seen self.new).left ≡ (seen self.old).left }
-        ensures draws { (seen self.old).draws ≤ (seen self.new).draws + 1 }
-        ensures hand { (r : ℕ) → (seen self.new).hand r ≡ (seen self.old).hand r }
-        ensures words { (seen self.new).words ≡ (seen self.old).words }
-        ensures name { (seen self.new).name ≡ (seen self.old).name };
+        ensures kept { Kept 0 1 (seen self.old) (seen self.new) };
 }
 
 /// What an actor may do besides inside an action, and as it pauses: it holds rows, and sets words.
@@ -90,13 +71,8 @@ pub trait Hold: Rows {
         requires room { 0 < (Self.seen self.old).left }
         ensures call { Goes (Self.seen self.old).reached (Self.seen self.new).reached
             (Takes row result.0 result.1 ∷ []) }
-        ensures left { (Self.seen self.old).left ≤ (Self.seen self.new).left + 1 }
-        ensures draws { (Self.seen self.new).draws ≡ (Self.seen self.old).draws }
         ensures mine { (Self.seen self.new).hand row ≡ Some result.0 }
-        ensures hand { (r : ℕ) → (Self.seen self.new).hand r ≡ (if r == row then Some result.0 else
-            (Self.seen self.old).hand r) }
-        ensures words { (Self.seen self.new).words ≡ (Self.seen self.old).words }
-        ensures name { (Self.seen self.new).name ≡ (Self.seen self.old).name };
+        ensures kept { Kept 1 0 (taken row result.0 (Self.seen self.old)) (Self.seen self.new) };
 
     /// Publishes a content in a row in hand, which it gives back: the row's version, one above that of the take.
     fn put(&mut self, row: u64, content: &Content) -> u64
@@ -105,12 +81,7 @@ pub trait Hold: Rows {
         ensures call { Goes (Self.seen self.old).reached (Self.seen self.new).reached
             (Puts row content.now result ∷ []) }
         ensures next { (v : ℕ) → (Self.seen self.old).hand row ≡ Some v → result ≡ v + 1 }
-        ensures left { (Self.seen self.new).left ≡ (Self.seen self.old).left }
-        ensures draws { (Self.seen self.new).draws ≡ (Self.seen self.old).draws }
-        ensures hand { (r : ℕ) → (Self.seen self.new).hand r ≡ (if r == row then None else (Self.seen self.old).hand
-            r) }
-        ensures words { (Self.seen self.new).words ≡ (Self.seen self.old).words }
-        ensures name { (Self.seen self.new).name ≡ (Self.seen self.old).name };
+        ensures kept { Same (given_back row (Self.seen self.old)) (Self.seen self.new) };
 
     /// Releases a row in hand as free, at the version at which it was taken.
     fn free(&mut self, row: u64)
@@ -118,12 +89,7 @@ pub trait Hold: Rows {
         requires held { IsSome ((Self.seen self.old).hand row) }
         ensures call { (v : ℕ) → (Self.seen self.old).hand row ≡ Some v
             → Goes (Self.seen self.old).reached (Self.seen self.new).reached (Frees row v ∷ []) }
-        ensures left { (Self.seen self.old).left ≤ (Self.seen self.new).left }
-        ensures draws { (Self.seen self.new).draws ≡ (Self.seen self.old).draws }
-        ensures hand { (r : ℕ) → (Self.seen self.new).hand r ≡ (if r == row then None else (Self.seen self.old).hand
-            r) }
-        ensures words { (Self.seen self.new).words ≡ (Self.seen self.old).words }
-        ensures name { (Self.seen self.new).name ≡ (Self.seen self.old).name };
+        ensures kept { Kept 0 0 (given_back row (Self.seen self.old)) (Self.seen self.new) };
 
     /// Sets a switch word: its version, one above the one before. The actor may set words, and the word's version is
     /// below 2^48 - 1.
@@ -133,11 +99,7 @@ pub trait Hold: Rows {
         requires early { known_version (Self.seen self.old).words word + 1 < 2 ^ 48 }
         ensures call { Goes (Self.seen self.old).reached (Self.seen self.new).reached (Sets word flags result ∷ []) }
         ensures next { result ≡ known_version (Self.seen self.old).words word + 1 }
-        ensures left { (Self.seen self.new).left ≡ (Self.seen self.old).left }
-        ensures draws { (Self.seen self.new).draws ≡ (Self.seen self.old).draws }
-        ensures hand { (r : ℕ) → (Self.seen self.new).hand r ≡ (Self.seen self.old).hand r }
-        ensures words { (Self.seen self.new).words ≡ with_set (Self.seen self.old).words word result flags }
-        ensures name { (Self.seen self.new).name ≡ (Self.seen self.old).name };
+        ensures kept { Same (with_word word result flags (Self.seen self.old)) (Self.seen self.new) };
 }
 
 /// What an actor may do besides that begins actions.
@@ -148,22 +110,14 @@ pub trait Acts: Hold {
         requires room { 0 < (Self.seen self.old).left }
         ensures call { Begins (Self.seen self.old).reached (Self.seen self.new).reached label result }
         ensures number { result ≤ 2 ^ 47 }
-        ensures left { (Self.seen self.old).left ≤ (Self.seen self.new).left + 1 }
-        ensures draws { (Self.seen self.new).draws ≡ (Self.seen self.old).draws }
         ensures inside { IsSome ((Self.seen self.new).hand 0) }
         ensures mine { (n : ℕ) → result ≡ n + 1 → (Self.seen self.new).hand 0 ≡ Some n }
-        ensures hand { (r : ℕ) → 0 < r → (Self.seen self.new).hand r ≡ (Self.seen self.old).hand r }
-        ensures words { (Self.seen self.new).words ≡ (Self.seen self.old).words }
-        ensures name { (Self.seen self.new).name ≡ (Self.seen self.old).name };
+        ensures kept { Kept 1 0 (taken 0 (result - 1) (Self.seen self.old)) (Self.seen self.new) };
 
     /// Ends the action. No other row may be in hand.
     fn leave(&mut self)
         requires inside { IsSome ((Self.seen self.old).hand 0) }
         requires alone { (r : ℕ) → 0 < r → (Self.seen self.old).hand r ≡ None }
         ensures call { Goes (Self.seen self.old).reached (Self.seen self.new).reached (Leaves ∷ []) }
-        ensures left { (Self.seen self.new).left ≡ (Self.seen self.old).left }
-        ensures draws { (Self.seen self.new).draws ≡ (Self.seen self.old).draws }
-        ensures hand { (r : ℕ) → (Self.seen self.new).hand r ≡ None }
-        ensures words { (Self.seen self.new).words ≡ (Self.seen self.old).words }
-        ensures name { (Self.seen self.new).name ≡ (Self.seen self.old).name };
+        ensures kept { Same (empty_handed (Self.seen self.old)) (Self.seen self.new) };
 }

@@ -1,5 +1,5 @@
 -- An action as a part of its session, and parts one after another.
-use Rattle.std.proofs.Common.{false, ℕ, ◌≡◌, ◌<◌, ◌≤◌, length, arith, List, [], ◌∷◌, ◌++◌, Option, Some, None, refl, ap, sym, ◌∙◌, subst, append_assoc}
+use Rattle.std.proofs.Common.{false, ℕ, ◌≡◌, ◌<◌, ◌≤◌, ◌∷◌, ◌++◌, ◌∙◌, ◌+◌, ◌==◌, if◌then◌else◌, length, arith, List, [], Option, Some, None, refl, ap, sym, subst, append_assoc, ne_eqb}
 use Rattle.std.specs.Prelude.{IfSome}
 use Rattle.std.proofs.lemmas.List.{append-nil}
 use Rattle.pfs_admin.specs.ConnectionAsks.{placed_of}
@@ -11,7 +11,10 @@ use Rattle.pfs_containers.specs.Administration.{Containers, lowest_free}
 use Rattle.pfs_containers.specs.ContainerState.{seat_by}
 use Rattle.pfs_containers.proofs.PlaceBounds.{free_inside}
 use Rattle.pfs_event.specs.declared.entry.Entry.{Entry}
+use Rattle.pfs_event.specs.Logs.{Journal}
 use Rattle.pfs_levels.specs.Calls.{Call, Opening, Goes, Begins, Enters, Leaves}
+use Rattle.pfs_levels.specs.Views.{Store, Kept, Same, Used, empty_handed, lent_as, taken}
+use Rattle.pfs_levels.specs.declared.answers.Word.{Word}
 use Rattle.pfs_model.specs.JournalCuts.{joined}
 use Rattle.pfs_law_session.specs.Deeds.{Connecting, Deed, MayDo, Part, Quitting, Showing, action_of, part_calls, part_entries, remark, steps_for}
 use Rattle.pfs_session.specs.SessionStates.{State, Book, nothing_held}
@@ -29,6 +32,23 @@ joined_one entries = append-nil entries
 -- the calls of an action, behind others
 around_calls : (label : Label) (labels : List Label) (its calls : List Call) → (Leaves ∷ (its ++ Enters label labels ∷ [])) ++ calls ≡ (Leaves ∷ []) ++ (its ++ Enters label labels ∷ calls)
 around_calls label labels its calls = ap (λ (z : List Call). Leaves ∷ z) (append_assoc its (Enters label labels ∷ []) calls)
+
+-- inside an action that began with no row in hand, row 0 alone is in hand
+pub alone_inside : (version : ℕ) (was within : Store) → ((r : ℕ) → was.hand r ≡ None) → Kept 1 0 (taken 0 version was) within → (r : ℕ) → 0 < r → within.hand r ≡ None
+alone_inside version was within idle begun r above = begun.hand r ∙ (ap (λ b. if b then Some version else was.hand r) (ne_eqb r 0 (λ same. omega (arith, same, above))) ∙ idle r)
+
+-- an action uses a publication more than what is done inside it
+pub used_whole : (spent most entries version : ℕ) (words : List Word) (was within done now : Store) (old new : Journal) → spent + 1 ≤ most → ((r : ℕ) → was.hand r ≡ None) → Kept 1 0 (taken 0 version was) within
+    → Used spent 0 entries (lent_as words within) done old new → Same (empty_handed done) now → Used most 0 entries (lent_as words was) now old new
+used_whole spent most entries version words was within done now old new few idle begun used ended = record {
+  left = omega (arith, few, begun.left, used.left, ended.left);
+  draws = omega (arith, begun.draws, used.draws, ended.draws);
+  no_more = omega (arith, begun.no_more, used.no_more, ended.draws);
+  hand = λ r. ended.hand r ∙ sym (idle r);
+  words = ended.words ∙ used.words;
+  name = ended.name ∙ (used.name ∙ begun.name);
+  room = used.room;
+}
 
 -- a session that entered, did the steps of a deed, and left
 pub acted : (deed : Deed) (number answer : ℕ) (old new : Book) (was begun did now : Opening → List Call → Type 0) → action_of deed ≡ Some number → Begins was begun (label_of old.state) answer → Played (steps_for old.state deed) old new begun did → Goes did now (Leaves ∷ []) → HasActed deed old new was now

@@ -4,6 +4,7 @@ mod ErrandParts
 pub mod NextLines
 pub mod RepeatedLines
 pub mod WrittenRepeats
+pub mod NeedSteps
 mod ReadingCounts
 mod LineCosts
 pub mod HeldBounds

@@ -70,7 +70,7 @@ pub no_copies : (lines : List BlockLine) → copies 0 lines ≡ []
 unfolding copies
 no_copies lines = refl
 
-one_copy : (times : ℕ) (lines : List BlockLine) → copies (suc times) lines ≡ lines ++ copies times lines
+pub one_copy : (times : ℕ) (lines : List BlockLine) → copies (suc times) lines ≡ lines ++ copies times lines
 unfolding copies
 one_copy times lines = refl
 
@@ -81,6 +81,16 @@ copies_more (suc times) lines =
     let next : suc times + 1 ≡ suc (times + 1) = omega arith in
     ap (λ n. copies n lines) next
     ∙ (one_copy (times + 1) lines ∙ (ap (λ (z : List BlockLine). lines ++ z) (copies_more times lines) ∙ (sym (append_assoc lines (copies times lines) lines) ∙ sym (ap (λ (z : List BlockLine). z ++ lines) (one_copy times lines)))))
+
+-- some times, and then others
+pub copies_then : (times more : ℕ) (lines : List BlockLine) → copies (times + more) lines ≡ copies times lines ++ copies more lines
+copies_then zero more lines =
+    let none : 0 + more ≡ more = omega arith in
+    ap (λ n. copies n lines) none ∙ sym (ap (λ (z : List BlockLine). z ++ copies more lines) (no_copies lines))
+copies_then (suc times) more lines =
+    let next : suc times + more ≡ suc (times + more) = omega arith in
+    ap (λ n. copies n lines) next
+    ∙ (one_copy (times + more) lines ∙ (ap (λ (z : List BlockLine). lines ++ z) (copies_then times more lines) ∙ (sym (append_assoc lines (copies times lines) (copies more lines)) ∙ sym (ap (λ (z : List BlockLine). z ++ copies more lines) (one_copy times lines)))))
 
 pub copies_of_none : (times : ℕ) (none : List BlockLine) → none ≡ [] → copies times none ≡ []
 copies_of_none zero none e = no_copies none

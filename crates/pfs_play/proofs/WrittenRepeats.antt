@@ -5,19 +5,12 @@ use Rattle.std.proofs.lemmas.Bool.Decides.{nat_tests}
 use Rattle.std.proofs.lemmas.Grind.{common_steps}
 use Rattle.std.proofs.lemmas.List.{append-nil, length-append, drop_all}
 use Rattle.pfs_event.specs.declared.kind.EventKind.{EventKind}
-use Rattle.pfs_admin.specs.AdministrationStates.{State as Administration}
-use Rattle.pfs_levels.specs.Calls.{Call, Opening}
 use Rattle.pfs_script.specs.declared.blocks.BlockLine.{BlockLine}
 use Rattle.pfs_script.specs.declared.blocks.BlockLine.TheVariants as said
 use Rattle.pfs_script.specs.Brackets.{kinds_behind}
 use Rattle.pfs_script.specs.Marks.{Repeated, mark_of, is_done, repeats_of, copies, written_from, written_out}
-use Rattle.pfs_classes.specs.declared.setting.Setting.{Setting}
-use Rattle.pfs_runs.specs.SelectAnswers.{Answer}
-use Rattle.pfs_play.specs.Errands.{CanPlay, HavePlayed, MayPlay, actions_of, actions_on, admin_after, cost_on, cost_of, errand_on, kinds_after}
-use Rattle.pfs_session.specs.SessionStates.{Book}
-use Rattle.pfs_play.specs.Repeats.{AllMayPlay, HaveGone, repeated}
-use Rattle.pfs_play.proofs.NextLines.{played_nothing}
-use Rattle.pfs_play.proofs.RepeatedLines.{after_then, played_both}
+use Rattle.pfs_play.specs.Errands.{CanPlay, MayPlay, actions_of, actions_on, cost_on, cost_of, errand_on, kinds_after}
+use Rattle.pfs_play.specs.Repeats.{AllMayPlay, repeated}
 
 abbrev pub place : List BlockLine → ℕ
 place lines = position_or_len is_done lines
@@ -302,9 +295,6 @@ pub record Rounds (classes depth : ℕ) (kinds : List EventKind) (times end : �
   pub back : kinds_after kinds (take end lines) ≡ kinds
   pub others : AllMayPlay classes depth kinds None (drop (end + 1) lines)
   pub written : repeated times lines ≡ copies times (take end lines) ++ written_out (drop (end + 1) lines)
-  pub lengths : length (repeated times lines) ≡ times * length (take end lines) + length (written_out (drop (end + 1) lines))
-  pub actions : actions_on (repeated times lines) ≡ times * actions_on (take end lines) + actions_on (written_out (drop (end + 1) lines))
-  pub costs : cost_on (repeated times lines) ≡ times * cost_on (take end lines) + cost_on (written_out (drop (end + 1) lines))
   pub kinds_behind_it : kinds_after kinds (repeated times lines) ≡ kinds_after kinds (written_out (drop (end + 1) lines))
 
 pub rounds_at : (classes depth : ℕ) (kinds : List EventKind) (times end : ℕ) (lines : List BlockLine) → position is_done lines ≡ Some end → AllMayPlay classes depth kinds (Some kinds) lines → Rounds classes depth kinds times end lines
@@ -321,9 +311,6 @@ rounds_at classes depth kinds times end lines is may =
       back = round.back;
       others = round.others;
       written = written;
-      lengths = ap length written ∙ (length-append (copies times body) others ∙ ap (λ n. n + length others) (length_copies times body));
-      actions = ap actions_on written ∙ (actions_then (copies times body) others ∙ ap (λ n. n + actions_on others) (actions_copies times body));
-      costs = ap cost_on written ∙ (cost_then (copies times body) others ∙ ap (λ n. n + cost_on others) (cost_copies times body));
       kinds_behind_it = ap (kinds_after kinds) written ∙ (kinds_then kinds (copies times body) others ∙ ap (λ (k : List EventKind). kinds_after k others) (kinds_copies kinds times body round.back));
     })
 
@@ -364,9 +351,6 @@ pub record Played (classes depth : ℕ) (kinds : List EventKind) (lines rest : L
   pub can : CanPlay classes depth kinds (take 1 lines)
   pub others : AllMayPlay classes depth (kinds_after kinds (take 1 lines)) None (drop 1 lines)
   pub written : written_out lines ≡ take 1 lines ++ written_out (drop 1 lines)
-  pub lengths : length (written_out lines) ≡ length (take 1 lines) + length (written_out (drop 1 lines))
-  pub actions : actions_on (written_out lines) ≡ actions_on (take 1 lines) + actions_on (written_out (drop 1 lines))
-  pub costs : cost_on (written_out lines) ≡ cost_on (take 1 lines) + cost_on (written_out (drop 1 lines))
   pub count : 1 ≤ length lines
 
 pub played : (classes depth : ℕ) (kinds : List EventKind) (lines : List BlockLine) (line : BlockLine) (rest : List BlockLine) → lines ≡ line ∷ rest → repeats_of line ≡ None → AllMayPlay classes depth kinds None lines → Played classes depth kinds lines rest
@@ -378,9 +362,6 @@ played classes depth kinds lines line rest are is may =
       can = (both.0, tt);
       others = both.1;
       written = written;
-      lengths = ap length written ∙ omega arith;
-      actions = ap actions_on written ∙ omega arith;
-      costs = ap cost_on written ∙ omega arith;
       count = omega arith;
     })
 
@@ -391,43 +372,5 @@ to_the_end at lines = grind (arith, common_steps)
 pub drop_both : (at n : ℕ) (lines : List BlockLine) → drop n (drop at lines) ≡ drop (at + n) lines
 drop_both at n lines = grind (arith, common_steps)
 
--- one front behind another
-pub gone_both : (setting : Setting) (whole mid rest : List BlockLine) (admin between after : Administration) (old at new : Book) (answers behind last : List Answer) (was then now : Opening → List Call → Type 0)
-    → HaveGone setting whole mid admin between old at answers behind was then → HaveGone setting mid rest between after at new behind last then now → HaveGone setting whole rest admin after old new answers last was now
-gone_both setting whole mid rest admin between after old at new answers behind last was then now p q =
-    let more : HavePlayed setting q.first (admin_after admin p.first) at new behind last then now = subst (λ (a : Administration). HavePlayed setting q.first a at new behind last then now) p.after_is q.played in
-    record {
-      first = p.first ++ q.first;
-      are = p.are ∙ (ap (λ (l : List BlockLine). p.first ++ l) q.are ∙ sym (append_assoc p.first q.first rest));
-      played = played_both setting p.first q.first admin old at new answers behind last was then now p.played more;
-      after_is = q.after_is ∙ (ap (λ (a : Administration). admin_after a q.first) p.after_is ∙ sym (after_then admin p.first q.first));
-    }
-
--- no more lines are left than there were
-pub record IsLess (whole rest : List BlockLine) : Type 0 where
-  pub lines : length rest ≤ length whole
-  pub costs : cost_on rest ≤ cost_on whole
-  pub actions : actions_on rest ≤ actions_on whole
-
-pub gone_less : (setting : Setting) (whole rest : List BlockLine) (admin after : Administration) (old new : Book) (answers behind : List Answer) (was now : Opening → List Call → Type 0) → HaveGone setting whole rest admin after old new answers behind was now → IsLess whole rest
-gone_less setting whole rest admin after old new answers behind was now p =
-    let n : length whole ≡ length p.first + length rest = ap length p.are ∙ length-append p.first rest in
-    let m : cost_on whole ≡ cost_on p.first + cost_on rest = ap cost_on p.are ∙ cost_then p.first rest in
-    let k : actions_on whole ≡ actions_on p.first + actions_on rest = ap actions_on p.are ∙ actions_then p.first rest in
-    record { lines = omega (arith, n); costs = omega (arith, m); actions = omega (arith, k) }
-
 pub at_the_end : (at : ℕ) (lines : List BlockLine) → length lines ≤ at → written_out (drop at lines) ≡ []
 at_the_end at lines most = ap written_out (drop_all at lines most) ∙ written_none
-
-pub gone_nowhere : (setting : Setting) (whole : List BlockLine) (admin : Administration) (old : Book) (answers : List Answer) (was : Opening → List Call → Type 0) → HaveGone setting whole whole admin admin old old answers answers was was
-gone_nowhere setting whole admin old answers was = record { first = []; are = refl; played = played_nothing setting admin old answers was; after_is = refl }
-
--- all were played where nothing is left
-pub gone_all : (whole rest first : List BlockLine) → rest ≡ [] → whole ≡ first ++ rest → first ≡ whole
-gone_all whole rest first none are = sym (are ∙ (ap (λ (l : List BlockLine). first ++ l) none ∙ append-nil first))
-
-pub gone_whole : (setting : Setting) (whole rest : List BlockLine) (admin after : Administration) (old new : Book) (answers behind : List Answer) (was now : Opening → List Call → Type 0) → rest ≡ [] → HaveGone setting whole rest admin after old new answers behind was now → HavePlayed setting whole admin old new answers behind was now
-gone_whole setting whole rest admin after old new answers behind was now none p = subst (λ (l : List BlockLine). HavePlayed setting l admin old new answers behind was now) (gone_all whole rest p.first none p.are) p.played
-
-pub gone_after : (setting : Setting) (whole rest : List BlockLine) (admin after : Administration) (old new : Book) (answers behind : List Answer) (was now : Opening → List Call → Type 0) → rest ≡ [] → HaveGone setting whole rest admin after old new answers behind was now → after ≡ admin_after admin whole
-gone_after setting whole rest admin after old new answers behind was now none p = p.after_is ∙ ap (admin_after admin) (gone_all whole rest p.first none p.are)

@@ -1,4 +1,5 @@
 pub mod StoreDeeds
 pub mod Errand
 pub mod Errands
+pub mod Needs
 pub mod Repeats

@@ -7,11 +7,12 @@ use Rattle.pfs_script.specs.declared.blocks.BlockLine.{BlockLine}
 use Rattle.pfs_script.specs.declared.blocks.BlockLine.TheVariants as said
 use Rattle.pfs_script.specs.Brackets.{kinds_behind}
 use Rattle.pfs_script.specs.Marks.{mark_of}
-use Rattle.pfs_levels.specs.Calls.{Call, Opening}
+use Rattle.pfs_levels.specs.Views.{Store}
 use Rattle.pfs_script.specs.Marks.{written_from}
 use Rattle.pfs_runs.specs.SelectAnswers.{Answer}
 use Rattle.pfs_session.specs.SessionStates.{Book}
 use Rattle.pfs_play.specs.Errands.{HavePlayed, MayPlay, admin_after}
+use Rattle.pfs_play.specs.Needs.{Advanced, need_on}
 
 -- Where events of these kinds are open, each line may be played where it stands; the lines of a repeat, that began where
 -- events of those kinds were open, stand once, and at its end events of the same kinds are open again.
@@ -23,13 +24,15 @@ AllMayPlay classes depth kinds (Some start) (said.Done ∷ rest) =
 AllMayPlay classes depth kinds start (line ∷ rest) =
     MayPlay classes depth kinds line × AllMayPlay classes depth (kinds_behind (mark_of line) kinds) start rest
 
--- of lines that are written out, those before the others were played, from the one administration to the other
+-- of lines that are written out, those before the others were played, from the one administration to the other, by what
+-- they need
 pub record HaveGone (setting : Setting) (whole rest : List BlockLine) (admin after : Administration) (old new : Book)
-    (answers behind : List Answer) (was now : Opening → List Call → Type 0) : Type 0 where
+    (answers behind : List Answer) (was now : Store) : Type 0 where
   pub first : List BlockLine
   pub are : whole ≡ first ++ rest
-  pub played : HavePlayed setting first admin old new answers behind was now
+  pub played : HavePlayed setting first admin old new answers behind was.reached now.reached
   pub after_is : after ≡ admin_after admin first
+  pub advanced : Advanced (need_on first) old new admin after was now
 
 -- the lines of a repeat, from here on, written out
 abbrev pub repeated : ℕ → List BlockLine → List BlockLine

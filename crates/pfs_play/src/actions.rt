@@ -1,16 +1,17 @@
 //! Actions of a session: it enters with its label, does what it asks for, and leaves.
 
 ghost use Rattle.std.specs.Prelude.{◌≡◌, ◌<◌, ◌≤◌, ◌+◌, ◌^◌, ℕ, [], None, Some, IfOk, length};
+ghost use Rattle.pfs_levels.specs.Views.{Used, lent_as};
 ghost use Rattle.pfs_admin.specs.SetupStatements.{has_changed, most_of};
 ghost use Rattle.pfs_admin.specs.AdministrationStates.{connected, has_quit};
 ghost use Rattle.pfs_admin.specs.Truncations.{has_truncated, truncation_cost};
-ghost use Rattle.pfs_admin.specs.Works.{Leaves};
 ghost use Rattle.pfs_admin.specs.declared.changes.SetupStatement.TheVariants.{Show};
 ghost use Rattle.pfs_exec.specs.Selections.{IsAnswer};
 ghost use Rattle.pfs_law_session.specs.Deeds.{Changing, Connecting, IsReplied, Quitting, Showing, Truncating};
 ghost use Rattle.pfs_session.specs.Settlements.{owed_by_state, settle_cost};
 ghost use Rattle.pfs_session.specs.SessionStates.{no_place, nothing_held};
 ghost use Rattle.pfs_setups.specs.HeldRows.{IsHeld, held_rows};
+ghost use Rattle.pfs_play.specs.Needs.{MayAct};
 ghost use Rattle.pfs_play.specs.StoreDeeds.{HasActed};
 
 use crate::NoMemory;
@@ -35,13 +36,9 @@ pub fn connect<A: Acts>(
     requires first { session.old.state.actions ≡ 0 }
     requires unplaced { session.old.state.place ≡ no_place }
     requires closed { session.old.state.opened.events ≡ [] }
-    requires few { admin.old.actions < 2 ^ 47 }
     requires user { user < length admin.old.names }
     requires host { host < length admin.old.names }
-    requires idle { (r : ℕ) → (A.seen rows.old).hand r ≡ None }
-    requires lent { (A.seen rows.old).words ≡ Some admin.old.words }
-    requires spare { 5 ≤ (A.seen rows.old).left }
-    requires room { 6 ≤ session.old.journal.room }
+    requires acts { MayAct 5 6 admin.old (A.seen rows.old) session.old.journal }
     ensures acted { HasActed (Connecting admin.old user host) session.old session.new (A.seen rows.old).reached
         (A.seen rows.new).reached }
     ensures admin { admin.new ≡ connected admin.old session.old.state.number user host }
@@ -50,10 +47,8 @@ pub fn connect<A: Acts>(
       actions = 1;
       last = session.new.state.last;
     } }
-    ensures leaves { Leaves 5 6 (A.seen rows.old).hand (A.seen rows.new).hand (A.seen rows.old).left
-        (A.seen rows.new).left (A.seen rows.old).draws (A.seen rows.new).draws (A.seen rows.old).name
-        (A.seen rows.new).name session.old.journal session.new.journal }
-    ensures lent { (A.seen rows.new).words ≡ Some admin.new.words }
+    ensures used { Used 5 0 6 (lent_as admin.new.words (A.seen rows.old)) (A.seen rows.new) session.old.journal
+        session.new.journal }
 {
     rows.enter(session.label());
     session.connect(rows, admin, user, host);
@@ -64,11 +59,8 @@ pub fn connect<A: Acts>(
 pub fn quit<A: Acts>(session: &mut Session, rows: &mut A, admin: &mut Admin)
     requires closed { session.old.state.opened.events ≡ [] }
     requires early { session.old.state.actions + 1 < 2 ^ 64 }
-    requires few { admin.old.actions < 2 ^ 47 }
-    requires idle { (r : ℕ) → (A.seen rows.old).hand r ≡ None }
-    requires lent { (A.seen rows.old).words ≡ Some admin.old.words }
-    requires spare { length (owed_by_state session.old.state) + 253 ≤ (A.seen rows.old).left }
-    requires room { settle_cost (owed_by_state session.old.state) + 254 ≤ session.old.journal.room }
+    requires acts { MayAct (length (owed_by_state session.old.state) + 253) (settle_cost
+        (owed_by_state session.old.state) + 254) admin.old (A.seen rows.old) session.old.journal }
     ensures acted { HasActed (Quitting admin.old) session.old session.new (A.seen rows.old).reached
         (A.seen rows.new).reached }
     ensures admin { admin.new ≡ has_quit admin.old session.old.state.number }
@@ -78,11 +70,9 @@ pub fn quit<A: Acts>(session: &mut Session, rows: &mut A, admin: &mut Admin)
       actions = session.old.state.actions + 1;
       last = session.new.state.last;
     } }
-    ensures leaves { Leaves (length (owed_by_state session.old.state) + 253) (settle_cost
-        (owed_by_state session.old.state) + 254) (A.seen rows.old).hand (A.seen rows.new).hand (A.seen rows.old).left
-        (A.seen rows.new).left (A.seen rows.old).draws (A.seen rows.new).draws (A.seen rows.old).name
-        (A.seen rows.new).name session.old.journal session.new.journal }
-    ensures lent { (A.seen rows.new).words ≡ Some admin.new.words }
+    ensures used { Used (length (owed_by_state session.old.state) + 253) 0 (settle_cost
+        (owed_by_state session.old.state) + 254) (lent_as admin.new.words (A.seen rows.old)) (A.seen rows.new)
+        session.old.journal session.new.journal }
 {
     rows.enter(session.label());
     session.quit(rows, admin);
@@ -92,13 +82,9 @@ pub fn quit<A: Acts>(session: &mut Session, rows: &mut A, admin: &mut Admin)
 /// Truncates a table, an action: what the session holds is settled first. The journal gets the answer, which is 0.
 pub fn truncate<A: Acts>(session: &mut Session, rows: &mut A, admin: &mut Admin, what: Truncation)
     requires early { session.old.state.actions + 1 < 2 ^ 64 }
-    requires few { admin.old.actions < 2 ^ 47 }
-    requires idle { (r : ℕ) → (A.seen rows.old).hand r ≡ None }
-    requires lent { (A.seen rows.old).words ≡ Some admin.old.words }
-    requires spare { length (owed_by_state session.old.state) + (truncation_cost admin.old what + 1)
-        ≤ (A.seen rows.old).left }
-    requires room { settle_cost (owed_by_state session.old.state) + (truncation_cost admin.old what + 2)
-        ≤ session.old.journal.room }
+    requires acts { MayAct (length (owed_by_state session.old.state) + (truncation_cost admin.old what + 1))
+        (settle_cost (owed_by_state session.old.state) + (truncation_cost admin.old what + 2)) admin.old
+        (A.seen rows.old) session.old.journal }
     ensures acted { HasActed (Truncating admin.old what) session.old session.new (A.seen rows.old).reached
         (A.seen rows.new).reached }
     ensures admin { admin.new ≡ has_truncated admin.old what }
@@ -107,11 +93,9 @@ pub fn truncate<A: Acts>(session: &mut Session, rows: &mut A, admin: &mut Admin,
       actions = session.old.state.actions + 1;
       last = session.new.state.last;
     } }
-    ensures leaves { Leaves (length (owed_by_state session.old.state) + (truncation_cost admin.old what + 1))
-        (settle_cost (owed_by_state session.old.state) + (truncation_cost admin.old what + 2)) (A.seen rows.old).hand
-        (A.seen rows.new).hand (A.seen rows.old).left (A.seen rows.new).left (A.seen rows.old).draws
-        (A.seen rows.new).draws (A.seen rows.old).name (A.seen rows.new).name session.old.journal session.new.journal }
-    ensures lent { (A.seen rows.new).words ≡ Some admin.new.words }
+    ensures used { Used (length (owed_by_state session.old.state) + (truncation_cost admin.old what + 1)) 0
+        (settle_cost (owed_by_state session.old.state) + (truncation_cost admin.old what + 2)) (lent_as admin.new.words
+        (A.seen rows.old)) (A.seen rows.new) session.old.journal session.new.journal }
 {
     rows.enter(session.label());
     session.truncate(rows, admin, what);
@@ -122,11 +106,8 @@ pub fn truncate<A: Acts>(session: &mut Session, rows: &mut A, admin: &mut Admin,
 pub fn act<A: Acts>(session: &mut Session, rows: &mut A, admin: &mut Admin, what: SetupStatement)
     requires replied { IsReplied what }
     requires early { session.old.state.actions + 1 < 2 ^ 64 }
-    requires few { admin.old.actions < 2 ^ 47 }
-    requires idle { (r : ℕ) → (A.seen rows.old).hand r ≡ None }
-    requires lent { (A.seen rows.old).words ≡ Some admin.old.words }
-    requires spare { length (owed_by_state session.old.state) + 1 ≤ (A.seen rows.old).left }
-    requires room { settle_cost (owed_by_state session.old.state) + (most_of what + 2) ≤ session.old.journal.room }
+    requires acts { MayAct (length (owed_by_state session.old.state) + 1) (settle_cost
+        (owed_by_state session.old.state) + (most_of what + 2)) admin.old (A.seen rows.old) session.old.journal }
     ensures acted { HasActed (Changing admin.old what) session.old session.new (A.seen rows.old).reached
         (A.seen rows.new).reached }
     ensures admin { admin.new ≡ has_changed admin.old what }
@@ -135,11 +116,9 @@ pub fn act<A: Acts>(session: &mut Session, rows: &mut A, admin: &mut Admin, what
       actions = session.old.state.actions + 1;
       last = session.new.state.last;
     } }
-    ensures leaves { Leaves (length (owed_by_state session.old.state) + 1) (settle_cost
-        (owed_by_state session.old.state) + (most_of what + 2)) (A.seen rows.old).hand (A.seen rows.new).hand
-        (A.seen rows.old).left (A.seen rows.new).left (A.seen rows.old).draws (A.seen rows.new).draws
-        (A.seen rows.old).name (A.seen rows.new).name session.old.journal session.new.journal }
-    ensures lent { (A.seen rows.new).words ≡ Some admin.new.words }
+    ensures used { Used (length (owed_by_state session.old.state) + 1) 0 (settle_cost (owed_by_state session.old.state)
+        + (most_of what + 2)) (lent_as admin.new.words (A.seen rows.old)) (A.seen rows.new) session.old.journal
+        session.new.journal }
 {
     rows.enter(session.label());
     session.act(rows, admin, what);
@@ -158,11 +137,8 @@ pub fn show_held<A: Acts>(
 ) -> Result<Rowset, NoMemory>
     requires held { IsHeld query.now.table }
     requires early { session.old.state.actions + 1 < 2 ^ 64 }
-    requires few { admin.old.actions < 2 ^ 47 }
-    requires idle { (r : ℕ) → (A.seen rows.old).hand r ≡ None }
-    requires lent { (A.seen rows.old).words ≡ Some admin.old.words }
-    requires spare { length (owed_by_state session.old.state) + 1 ≤ (A.seen rows.old).left }
-    requires room { settle_cost (owed_by_state session.old.state) + 3 ≤ session.old.journal.room }
+    requires acts { MayAct (length (owed_by_state session.old.state) + 1) (settle_cost
+        (owed_by_state session.old.state) + 3) admin.old (A.seen rows.old) session.old.journal }
     ensures acted { IfOk result (λ answer. HasActed (Showing admin.old (length answer)) session.old session.new
         (A.seen rows.old).reached (A.seen rows.new).reached) }
     ensures answered { IfOk result (IsAnswer query.now (held_rows query.now.table admin.old.actors admin.old.objects)) }
@@ -172,11 +148,8 @@ pub fn show_held<A: Acts>(
       actions = session.old.state.actions + 1;
       last = session.new.state.last;
     } }
-    ensures leaves { Leaves (length (owed_by_state session.old.state) + 1) (settle_cost
-        (owed_by_state session.old.state) + 3) (A.seen rows.old).hand (A.seen rows.new).hand (A.seen rows.old).left
-        (A.seen rows.new).left (A.seen rows.old).draws (A.seen rows.new).draws (A.seen rows.old).name
-        (A.seen rows.new).name session.old.journal session.new.journal }
-    ensures lent { (A.seen rows.new).words ≡ Some admin.new.words }
+    ensures used { Used (length (owed_by_state session.old.state) + 1) 0 (settle_cost (owed_by_state session.old.state)
+        + 3) (lent_as admin.new.words (A.seen rows.old)) (A.seen rows.new) session.old.journal session.new.journal }
 {
     rows.enter(session.label());
     session.act(rows, admin, SetupStatement::Show);

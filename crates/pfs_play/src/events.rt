@@ -1,6 +1,7 @@
 //! Lines that start and end events, and let time pass.
 
 ghost use Rattle.std.specs.Prelude.{◌≡◌, ◌<◌, ◌≤◌, ◌+◌, ◌^◌, ℕ, List, None, false, length};
+ghost use Rattle.pfs_levels.specs.Views.{Affords, Used};
 ghost use Rattle.pfs_play.specs.StoreDeeds.{HasActed};
 ghost use Rattle.pfs_admin.specs.AdministrationStates.{State as Administration};
 ghost use Rattle.pfs_classes.specs.declared.setting.Setting.{Setting};
@@ -9,7 +10,6 @@ ghost use Rattle.pfs_runs.specs.SelectAnswers.{Answer};
 ghost use Rattle.pfs_runs.specs.ScriptLines.{class_in, cell_in, wait_on, statement_on, transaction_on, stage_on};
 ghost use Rattle.pfs_law_plain.specs.LineSteps.{numbers_in};
 ghost use Rattle.pfs_session.specs.Settlements.{owed_by_state};
-ghost use Rattle.pfs_session.specs.CallCosts.{Uses};
 ghost use Rattle.pfs_play.specs.Errand as ask;
 ghost use Rattle.pfs_play.specs.Errands.{HasRun, MayRun, cost_of, errand_on, is_quit, is_sql};
 
@@ -113,9 +113,7 @@ pub(crate) fn play_event<R: Rows>(session: &mut Session, rows: &mut R, line: &Bl
     requires early { session.old.state.drawn + 1 < 2 ^ 64 }
     requires wide { length session.old.state.held ≡ 193 }
     requires alone { (r : ℕ) → 0 < r → (R.seen rows.old).hand r ≡ None }
-    requires tickets { 2 ≤ (R.seen rows.old).draws }
-    requires spare { 11 ≤ (R.seen rows.old).left }
-    requires room { cost_of (errand_on line.now) ≤ session.old.journal.room }
+    requires affords { Affords 11 2 (cost_of (errand_on line.now)) (R.seen rows.old) session.old.journal }
     ensures run { (setting : Setting) (admin : Administration) (answers : List Answer) → HasRun setting admin
         (errand_on line.now) session.old session.new answers answers (R.seen rows.old).reached
         (R.seen rows.new).reached }
@@ -130,10 +128,8 @@ pub(crate) fn play_event<R: Rows>(session: &mut Session, rows: &mut R, line: &Bl
     ensures depth { session.new.state.opened.depth ≡ session.old.state.opened.depth }
     ensures wide { length session.new.state.held ≡ 193 }
     ensures owed { length (owed_by_state session.new.state) ≤ length (owed_by_state session.old.state) + 4 }
-    ensures leaves { Uses 11 2 (cost_of (errand_on line.now)) (R.seen rows.old).hand (R.seen rows.new).hand
-        (R.seen rows.old).left (R.seen rows.new).left (R.seen rows.old).draws (R.seen rows.new).draws
-        (R.seen rows.old).name (R.seen rows.new).name session.old.journal session.new.journal }
-    ensures words { (R.seen rows.new).words ≡ (R.seen rows.old).words }
+    ensures used { Used 11 2 (cost_of (errand_on line.now)) (R.seen rows.old) (R.seen rows.new) session.old.journal
+        session.new.journal }
 {
     match line {
         BlockLine::Wait(class) => {
@@ -168,9 +164,7 @@ fn end<R: Rows>(session: &mut Session, rows: &mut R, numbers: &Numbers)
     requires may { MayRun (ask.End numbers.now) session.old.state.opened }
     requires early { session.old.state.drawn + 1 < 2 ^ 64 }
     requires alone { (r : ℕ) → 0 < r → (R.seen rows.old).hand r ≡ None }
-    requires tickets { 2 ≤ (R.seen rows.old).draws }
-    requires spare { 11 ≤ (R.seen rows.old).left }
-    requires room { 14 ≤ session.old.journal.room }
+    requires affords { Affords 11 2 14 (R.seen rows.old) session.old.journal }
     ensures run { HasActed (Ending numbers.now) session.old session.new (R.seen rows.old).reached
         (R.seen rows.new).reached }
     ensures drawn { session.new.state.drawn ≤ session.old.state.drawn + 1 }
@@ -183,10 +177,7 @@ fn end<R: Rows>(session: &mut Session, rows: &mut R, numbers: &Numbers)
     } }
     ensures depth { session.new.state.opened.depth ≡ session.old.state.opened.depth }
     ensures owed { length (owed_by_state session.new.state) ≤ length (owed_by_state session.old.state) + 4 }
-    ensures leaves { Uses 11 2 14 (R.seen rows.old).hand (R.seen rows.new).hand (R.seen rows.old).left
-        (R.seen rows.new).left (R.seen rows.old).draws (R.seen rows.new).draws (R.seen rows.old).name
-        (R.seen rows.new).name session.old.journal session.new.journal }
-    ensures words { (R.seen rows.new).words ≡ (R.seen rows.old).words }
+    ensures used { Used 11 2 14 (R.seen rows.old) (R.seen rows.new) session.old.journal session.new.journal }
 {
     session.stage(rows, &None);
     session.end(rows, numbers);

@@ -1,9 +1,9 @@
 //! SELECTs of a session: what is read of the store, and what is held by the administration.
 
 ghost use Rattle.std.specs.Prelude.{◌≡◌, ◌<◌, ◌≤◌, ◌+◌, ◌^◌, ℕ, None, Some, IfOk, OnOk, length};
+ghost use Rattle.pfs_levels.specs.Views.{Used, lent_as};
 ghost use Rattle.pfs_admin.specs.SetupStatements.{has_changed};
 ghost use Rattle.pfs_admin.specs.AdministrationStates.{State as Administration};
-ghost use Rattle.pfs_admin.specs.Works.{Leaves};
 ghost use Rattle.pfs_admin.specs.declared.changes.SetupStatement.TheVariants.{Show};
 ghost use Rattle.pfs_classes.specs.declared.setting.Setting.{Setting as AnySetting};
 ghost use Rattle.pfs_law_session.specs.Deeds.{looks};
@@ -13,9 +13,9 @@ ghost use Rattle.pfs_readsets.specs.ReadSets.{IsReadSet};
 ghost use Rattle.pfs_session.specs.Settlements.{owed_by_state};
 ghost use Rattle.pfs_session.specs.SessionStates.{nothing_held};
 ghost use Rattle.pfs_session.specs.Turns.{Played};
-ghost use Rattle.pfs_session.specs.CallCosts.{Uses};
 ghost use Rattle.pfs_setups.specs.HeldRows.{IsHeld};
 ghost use Rattle.pfs_play.specs.Errands.{HasRun};
+ghost use Rattle.pfs_play.specs.Needs.{MayAct};
 ghost use Rattle.pfs_play.specs.Errand as ask;
 
 use crate::{NoMemory, show_held};
@@ -44,10 +44,8 @@ fn look_at<R: Rows>(
     ensures played { IfOk result (λ readings. Played (looks readings) session.old session.new (R.seen rows.old).reached
         (R.seen rows.new).reached) }
     ensures state { session.new.state ≡ session.old.state }
-    ensures uses { OnOk result (Uses 0 0 14403 (R.seen rows.old).hand (R.seen rows.new).hand (R.seen rows.old).left
-        (R.seen rows.new).left (R.seen rows.old).draws (R.seen rows.new).draws (R.seen rows.old).name
-        (R.seen rows.new).name session.old.journal session.new.journal) }
-    ensures words { (R.seen rows.new).words ≡ (R.seen rows.old).words }
+    ensures used { OnOk result (Used 0 0 14403 (R.seen rows.old) (R.seen rows.new) session.old.journal
+        session.new.journal) }
 {
     let mut reader = Reader::open(setting, table);
     let mut readings = Vec::new(alloc);
@@ -72,10 +70,8 @@ pub(crate) fn query<R: Rows>(
     ensures run { OnOk result ((admin : Administration) → HasRun setting.now admin (ask.Query what) session.old
         session.new answers.old.items answers.new.items (R.seen rows.old).reached (R.seen rows.new).reached) }
     ensures state { OnOk result (session.new.state ≡ session.old.state) }
-    ensures uses { OnOk result (Uses 0 0 14405 (R.seen rows.old).hand (R.seen rows.new).hand (R.seen rows.old).left
-        (R.seen rows.new).left (R.seen rows.old).draws (R.seen rows.new).draws (R.seen rows.old).name
-        (R.seen rows.new).name session.old.journal session.new.journal) }
-    ensures words { OnOk result ((R.seen rows.new).words ≡ (R.seen rows.old).words) }
+    ensures used { OnOk result (Used 0 0 14405 (R.seen rows.old) (R.seen rows.new) session.old.journal
+        session.new.journal) }
 {
     session.append(Remark::Query);
     let readings = look_at(alloc, setting, session, rows, what.table)?;
@@ -99,11 +95,7 @@ pub(crate) fn show_table<A: Acts>(
     requires held { IsHeld what.table }
     requires rare { session.old.state.actions + 1 < 2 ^ 64 }
     requires wide { length session.old.state.held ≡ 193 }
-    requires few { admin.old.actions < 2 ^ 47 }
-    requires idle { (r : ℕ) → (A.seen rows.old).hand r ≡ None }
-    requires lent { (A.seen rows.old).words ≡ Some admin.old.words }
-    requires spare { 194 ≤ (A.seen rows.old).left }
-    requires room { 260 ≤ session.old.journal.room }
+    requires acts { MayAct 194 260 admin.old (A.seen rows.old) session.old.journal }
     ensures run { OnOk result ((setting : AnySetting) → HasRun setting admin.old (ask.Show what) session.old
         session.new answers.old.items answers.new.items (A.seen rows.old).reached (A.seen rows.new).reached) }
     ensures admin { OnOk result (admin.new ≡ has_changed admin.old Show) }
@@ -114,10 +106,8 @@ pub(crate) fn show_table<A: Acts>(
     }) }
     ensures owed { OnOk result (length (owed_by_state session.new.state)
         ≤ length (owed_by_state session.old.state)) }
-    ensures leaves { OnOk result (Leaves 194 260 (A.seen rows.old).hand (A.seen rows.new).hand (A.seen rows.old).left
-        (A.seen rows.new).left (A.seen rows.old).draws (A.seen rows.new).draws (A.seen rows.old).name
-        (A.seen rows.new).name session.old.journal session.new.journal) }
-    ensures lent { OnOk result ((A.seen rows.new).words ≡ Some admin.new.words) }
+    ensures used { OnOk result (Used 194 0 260 (lent_as admin.new.words (A.seen rows.old)) (A.seen rows.new)
+        session.old.journal session.new.journal) }
 {
     let answer = show_held(alloc, session, rows, admin, &what)?;
     answers.push(answer)?;

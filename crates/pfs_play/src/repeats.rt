@@ -1,12 +1,12 @@
 //! Playing the lines of a block, those of a repeat so many times.
 
-ghost use Rattle.std.specs.Prelude.{◌≡◌, ◌<◌, ◌≤◌, ◌+◌, ◌-◌, ◌*◌, ◌^◌, ℕ, [], List, None, Some, IfOk, OnOk, length, take, drop};
+ghost use Rattle.std.specs.Prelude.{◌≡◌, ◌<◌, ◌≤◌, None, Some, IfOk, OnOk, length, drop};
 ghost use Rattle.std.specs.List.{position};
-ghost use Rattle.pfs_session.specs.CallCosts.{Uses};
 ghost use Rattle.pfs_law_plain.specs.LineSteps.{kinds_at};
 ghost use Rattle.pfs_script.specs.Marks.{copies, is_done, repeats_of, written_out};
 ghost use Rattle.pfs_play.specs.Repeats.{AllMayPlay, HaveGone, repeated};
-ghost use Rattle.pfs_play.specs.Errands.{CanPlay, HavePlayed, StagesLie, actions_on, admin_after, cost_on, kinds_after};
+ghost use Rattle.pfs_play.specs.Errands.{CanPlay, HavePlayed, StagesLie, admin_after, kinds_after};
+ghost use Rattle.pfs_play.specs.Needs.{Advanced, Ready, need_on};
 
 use crate::NoMemory;
 use crate::lines::play_lines;
@@ -33,40 +33,14 @@ pub fn play_times<A: Acts>(
     requires can { CanPlay 62 session.old.state.opened.depth (kinds_at session.old.state) body.now }
     requires same { kinds_after (kinds_at session.old.state) body.now ≡ kinds_at session.old.state }
     requires lie { StagesLie (kinds_at session.old.state) }
-    requires early { session.old.state.drawn + times * length body.now < 2 ^ 64 }
-    requires rare { session.old.state.actions + times * actions_on body.now < 2 ^ 64 }
     requires wide { length session.old.state.held ≡ 193 }
-    requires few { admin.old.actions + times * actions_on body.now ≤ 2 ^ 47 }
-    requires idle { (r : ℕ) → (A.seen rows.old).hand r ≡ None }
-    requires lent { (A.seen rows.old).words ≡ Some admin.old.words }
-    requires tickets { 2 * (times * length body.now) ≤ (A.seen rows.old).draws }
-    requires spare { 11 * (times * length body.now) + 20192 * (times * actions_on body.now) ≤ (A.seen rows.old).left }
-    requires room { times * cost_on body.now ≤ session.old.journal.room }
+    requires ready { Ready (need_on (copies times body.now)) session.old admin.old (A.seen rows.old) }
     ensures played { OnOk result (HavePlayed setting.now (copies times body.now) admin.old session.old session.new
         answers.old.items answers.new.items (A.seen rows.old).reached (A.seen rows.new).reached) }
     ensures admin { OnOk result (admin.new ≡ admin_after admin.old (copies times body.now)) }
     ensures kinds { OnOk result (kinds_at session.new.state ≡ kinds_at session.old.state) }
-    ensures drawn { OnOk result (session.new.state.drawn ≤ session.old.state.drawn + times * length body.now) }
-    ensures counted { OnOk result (admin.new.actions ≡ admin.old.actions + times * actions_on body.now) }
-    ensures actions { OnOk result (session.new.state.actions ≡ session.old.state.actions
-        + times * actions_on body.now) }
-    ensures rest { OnOk result (session.new.state ≡ record session.old.state {
-      clock = session.new.state.clock;
-      drawn = session.new.state.drawn;
-      opened = session.new.state.opened;
-      held = session.new.state.held;
-      actions = session.new.state.actions;
-      last = session.new.state.last;
-      nexts = session.new.state.nexts;
-    }) }
-    ensures last { OnOk result (times * actions_on body.now ≡ 0 → session.new.state.last ≡ session.old.state.last) }
-    ensures depth { OnOk result (session.new.state.opened.depth ≡ session.old.state.opened.depth) }
-    ensures wide { OnOk result (length session.new.state.held ≡ 193) }
-    ensures leaves { OnOk result (Uses (11 * (times * length body.now) + 20192 * (times * actions_on body.now))
-        (2 * (times * length body.now)) (times * cost_on body.now) (A.seen rows.old).hand (A.seen rows.new).hand
-        (A.seen rows.old).left (A.seen rows.new).left (A.seen rows.old).draws (A.seen rows.new).draws
-        (A.seen rows.old).name (A.seen rows.new).name session.old.journal session.new.journal) }
-    ensures lent { OnOk result ((A.seen rows.new).words ≡ Some admin.new.words) }
+    ensures advanced { OnOk result (Advanced (need_on (copies times body.now)) session.old session.new admin.old
+        admin.new (A.seen rows.old) (A.seen rows.new)) }
 {
     // Empty rounds change nothing, and there may be up to 2^64 - 1 of them.
     if body.is_empty() {
@@ -120,52 +94,17 @@ fn play_repeat<A: Acts>(
     requires may { AllMayPlay 62 session.old.state.opened.depth (kinds_at session.old.state)
         (Some (kinds_at session.old.state)) lines.now }
     requires lie { StagesLie (kinds_at session.old.state) }
-    requires early { session.old.state.drawn + length (repeated times lines.now) < 2 ^ 64 }
-    requires rare { session.old.state.actions + actions_on (repeated times lines.now) < 2 ^ 64 }
     requires wide { length session.old.state.held ≡ 193 }
-    requires few { admin.old.actions + actions_on (repeated times lines.now) ≤ 2 ^ 47 }
-    requires idle { (r : ℕ) → (A.seen rows.old).hand r ≡ None }
-    requires lent { (A.seen rows.old).words ≡ Some admin.old.words }
-    requires tickets { 2 * length (repeated times lines.now) ≤ (A.seen rows.old).draws }
-    requires spare { 11 * length (repeated times lines.now) + 20192 * actions_on (repeated times lines.now)
-        ≤ (A.seen rows.old).left }
-    requires room { cost_on (repeated times lines.now) ≤ session.old.journal.room }
+    requires ready { Ready (need_on (repeated times lines.now)) session.old admin.old (A.seen rows.old) }
     ensures count { IfOk result (λ taken. taken ≤ length lines.now) }
     ensures gone { IfOk result (λ taken. HaveGone setting.now (repeated times lines.now)
         (written_out (drop taken lines.now)) admin.old admin.new session.old session.new answers.old.items
-        answers.new.items (A.seen rows.old).reached (A.seen rows.new).reached) }
+        answers.new.items (A.seen rows.old) (A.seen rows.new)) }
     ensures may { IfOk result (λ taken. AllMayPlay 62 session.old.state.opened.depth (kinds_at session.new.state) None
         (drop taken lines.now)) }
     ensures kinds { IfOk result (λ taken. kinds_after (kinds_at session.new.state) (written_out (drop taken lines.now))
         ≡ kinds_after (kinds_at session.old.state) (repeated times lines.now)) }
     ensures lie { OnOk result (StagesLie (kinds_at session.new.state)) }
-    ensures drawn { IfOk result (λ taken. session.new.state.drawn + length (written_out (drop taken lines.now))
-        ≤ session.old.state.drawn + length (repeated times lines.now)) }
-    ensures actions { IfOk result (λ taken. session.new.state.actions + actions_on (written_out (drop taken lines.now))
-        ≡ session.old.state.actions + actions_on (repeated times lines.now)) }
-    ensures counted { IfOk result (λ taken. admin.new.actions + actions_on (written_out (drop taken lines.now))
-        ≡ admin.old.actions + actions_on (repeated times lines.now)) }
-    ensures rest { OnOk result (session.new.state ≡ record session.old.state {
-      clock = session.new.state.clock;
-      drawn = session.new.state.drawn;
-      opened = session.new.state.opened;
-      held = session.new.state.held;
-      actions = session.new.state.actions;
-      last = session.new.state.last;
-      nexts = session.new.state.nexts;
-    }) }
-    ensures last { OnOk result (actions_on (repeated times lines.now) ≡ 0 → session.new.state.last
-        ≡ session.old.state.last) }
-    ensures depth { OnOk result (session.new.state.opened.depth ≡ session.old.state.opened.depth) }
-    ensures wide { OnOk result (length session.new.state.held ≡ 193) }
-    ensures leaves { IfOk result (λ taken. Uses (11 * (length (repeated times lines.now) - length
-        (written_out (drop taken lines.now))) + 20192 * (actions_on (repeated times lines.now) - actions_on
-        (written_out (drop taken lines.now)))) (2 * (length (repeated times lines.now) - length
-        (written_out (drop taken lines.now)))) (cost_on (repeated times lines.now) - cost_on
-        (written_out (drop taken lines.now))) (A.seen rows.old).hand (A.seen rows.new).hand (A.seen rows.old).left
-        (A.seen rows.new).left (A.seen rows.old).draws (A.seen rows.new).draws (A.seen rows.old).name
-        (A.seen rows.new).name session.old.journal session.new.journal) }
-    ensures lent { OnOk result ((A.seen rows.new).words ≡ Some admin.new.words) }
 {
     match done_in(lines) {
         Some(end) => match play_times(
@@ -201,52 +140,17 @@ fn play_next<A: Acts>(
     requires some { 0 < length lines.now }
     requires may { AllMayPlay 62 session.old.state.opened.depth (kinds_at session.old.state) None lines.now }
     requires lie { StagesLie (kinds_at session.old.state) }
-    requires early { session.old.state.drawn + length (written_out lines.now) < 2 ^ 64 }
-    requires rare { session.old.state.actions + actions_on (written_out lines.now) < 2 ^ 64 }
     requires wide { length session.old.state.held ≡ 193 }
-    requires few { admin.old.actions + actions_on (written_out lines.now) ≤ 2 ^ 47 }
-    requires idle { (r : ℕ) → (A.seen rows.old).hand r ≡ None }
-    requires lent { (A.seen rows.old).words ≡ Some admin.old.words }
-    requires tickets { 2 * length (written_out lines.now) ≤ (A.seen rows.old).draws }
-    requires spare { 11 * length (written_out lines.now) + 20192 * actions_on (written_out lines.now)
-        ≤ (A.seen rows.old).left }
-    requires room { cost_on (written_out lines.now) ≤ session.old.journal.room }
+    requires ready { Ready (need_on (written_out lines.now)) session.old admin.old (A.seen rows.old) }
     ensures count { IfOk result (λ taken. (0 < taken) × (taken ≤ length lines.now)) }
     ensures gone { IfOk result (λ taken. HaveGone setting.now (written_out lines.now)
         (written_out (drop taken lines.now)) admin.old admin.new session.old session.new answers.old.items
-        answers.new.items (A.seen rows.old).reached (A.seen rows.new).reached) }
+        answers.new.items (A.seen rows.old) (A.seen rows.new)) }
     ensures may { IfOk result (λ taken. AllMayPlay 62 session.old.state.opened.depth (kinds_at session.new.state) None
         (drop taken lines.now)) }
     ensures kinds { IfOk result (λ taken. kinds_after (kinds_at session.new.state) (written_out (drop taken lines.now))
         ≡ kinds_after (kinds_at session.old.state) (written_out lines.now)) }
     ensures lie { OnOk result (StagesLie (kinds_at session.new.state)) }
-    ensures drawn { IfOk result (λ taken. session.new.state.drawn + length (written_out (drop taken lines.now))
-        ≤ session.old.state.drawn + length (written_out lines.now)) }
-    ensures actions { IfOk result (λ taken. session.new.state.actions + actions_on (written_out (drop taken lines.now))
-        ≡ session.old.state.actions + actions_on (written_out lines.now)) }
-    ensures counted { IfOk result (λ taken. admin.new.actions + actions_on (written_out (drop taken lines.now))
-        ≡ admin.old.actions + actions_on (written_out lines.now)) }
-    ensures rest { OnOk result (session.new.state ≡ record session.old.state {
-      clock = session.new.state.clock;
-      drawn = session.new.state.drawn;
-      opened = session.new.state.opened;
-      held = session.new.state.held;
-      actions = session.new.state.actions;
-      last = session.new.state.last;
-      nexts = session.new.state.nexts;
-    }) }
-    ensures last { OnOk result (actions_on (written_out lines.now) ≡ 0 → session.new.state.last
-        ≡ session.old.state.last) }
-    ensures depth { OnOk result (session.new.state.opened.depth ≡ session.old.state.opened.depth) }
-    ensures wide { OnOk result (length session.new.state.held ≡ 193) }
-    ensures leaves { IfOk result (λ taken. Uses (11 * (length (written_out lines.now) - length
-        (written_out (drop taken lines.now))) + 20192 * (actions_on (written_out lines.now) - actions_on
-        (written_out (drop taken lines.now)))) (2 * (length (written_out lines.now) - length
-        (written_out (drop taken lines.now)))) (cost_on (written_out lines.now) - cost_on
-        (written_out (drop taken lines.now))) (A.seen rows.old).hand (A.seen rows.new).hand (A.seen rows.old).left
-        (A.seen rows.new).left (A.seen rows.old).draws (A.seen rows.new).draws (A.seen rows.old).name
-        (A.seen rows.new).name session.old.journal session.new.journal) }
-    ensures lent { OnOk result ((A.seen rows.new).words ≡ Some admin.new.words) }
 {
     let Some((first, others)) = lines.split_first() else {
         return Ok(0);
@@ -278,45 +182,16 @@ pub fn play_written<A: Acts>(
 ) -> Result<(), NoMemory>
     requires may { AllMayPlay 62 session.old.state.opened.depth (kinds_at session.old.state) None lines.now }
     requires lie { StagesLie (kinds_at session.old.state) }
-    requires early { session.old.state.drawn + length (written_out lines.now) < 2 ^ 64 }
-    requires rare { session.old.state.actions + actions_on (written_out lines.now) < 2 ^ 64 }
     requires wide { length session.old.state.held ≡ 193 }
-    requires few { admin.old.actions + actions_on (written_out lines.now) ≤ 2 ^ 47 }
-    requires idle { (r : ℕ) → (A.seen rows.old).hand r ≡ None }
-    requires lent { (A.seen rows.old).words ≡ Some admin.old.words }
-    requires tickets { 2 * length (written_out lines.now) ≤ (A.seen rows.old).draws }
-    requires spare { 11 * length (written_out lines.now) + 20192 * actions_on (written_out lines.now)
-        ≤ (A.seen rows.old).left }
-    requires room { cost_on (written_out lines.now) ≤ session.old.journal.room }
+    requires ready { Ready (need_on (written_out lines.now)) session.old admin.old (A.seen rows.old) }
     ensures played { OnOk result (HavePlayed setting.now (written_out lines.now) admin.old session.old session.new
         answers.old.items answers.new.items (A.seen rows.old).reached (A.seen rows.new).reached) }
     ensures admin { OnOk result (admin.new ≡ admin_after admin.old (written_out lines.now)) }
     ensures kinds { OnOk result (kinds_at session.new.state ≡ kinds_after (kinds_at session.old.state)
         (written_out lines.now)) }
     ensures lie { OnOk result (StagesLie (kinds_at session.new.state)) }
-    ensures drawn { OnOk result (session.new.state.drawn ≤ session.old.state.drawn + length (written_out lines.now)) }
-    ensures counted { OnOk result (admin.new.actions ≡ admin.old.actions + actions_on (written_out lines.now)) }
-    ensures actions { OnOk result (session.new.state.actions ≡ session.old.state.actions
-        + actions_on (written_out lines.now)) }
-    ensures rest { OnOk result (session.new.state ≡ record session.old.state {
-      clock = session.new.state.clock;
-      drawn = session.new.state.drawn;
-      opened = session.new.state.opened;
-      held = session.new.state.held;
-      actions = session.new.state.actions;
-      last = session.new.state.last;
-      nexts = session.new.state.nexts;
-    }) }
-    ensures last { OnOk result (actions_on (written_out lines.now) ≡ 0 → session.new.state.last
-        ≡ session.old.state.last) }
-    ensures depth { OnOk result (session.new.state.opened.depth ≡ session.old.state.opened.depth) }
-    ensures wide { OnOk result (length session.new.state.held ≡ 193) }
-    ensures leaves { OnOk result (Uses (11 * length (written_out lines.now) + 20192 * actions_on
-        (written_out lines.now)) (2 * length (written_out lines.now)) (cost_on (written_out lines.now))
-        (A.seen rows.old).hand (A.seen rows.new).hand (A.seen rows.old).left (A.seen rows.new).left
-        (A.seen rows.old).draws (A.seen rows.new).draws (A.seen rows.old).name (A.seen rows.new).name
-        session.old.journal session.new.journal) }
-    ensures lent { OnOk result ((A.seen rows.new).words ≡ Some admin.new.words) }
+    ensures advanced { OnOk result (Advanced (need_on (written_out lines.now)) session.old session.new admin.old
+        admin.new (A.seen rows.old) (A.seen rows.new)) }
 {
     let mut at = 0;
     while at < lines.len() {

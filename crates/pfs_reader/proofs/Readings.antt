@@ -1,13 +1,13 @@
 -- Readings, the calls that they are, and how far they are in a read set.
-use Rattle.std.proofs.Common.{◌≡◌, ℕ, zero, suc, ◌+◌, ◌-◌, ◌<◌, ◌≤◌, Bool, true, false, inl, inr, Option, List, [], ◌∷◌, ◌++◌, length, map, refl, sym, ◌∙◌, ap, subst, arith}
+use Rattle.std.proofs.Common.{◌≡◌, ℕ, zero, suc, ◌+◌, ◌-◌, ◌<◌, ◌≤◌, Bool, true, false, inl, inr, List, [], ◌∷◌, ◌++◌, length, map, refl, sym, ◌∙◌, ap, subst, arith}
 use Rattle.std.specs.Prelude.{Contains, OnErr, Result, Ok, Err, reverse}
 use Rattle.std.proofs.lemmas.List.{append_assoc, append-nil, length-map, length-append, map-append, reverse-append}
 use Rattle.std.proofs.lemmas.List.Elements.{Contains-append_right}
 use Rattle.std.proofs.lemmas.Bool.{cases_lt, false≢true}
 use Rattle.pfs_rows.specs.declared.table.Table.{Table}
 use Rattle.pfs_rows.specs.declared.table.Reading.{Reading}
-use Rattle.pfs_levels.specs.declared.answers.Word.{Word}
 use Rattle.pfs_levels.specs.Calls.{Call, Opening, Goes}
+use Rattle.pfs_levels.specs.Views.{Store, Same}
 use Rattle.pfs_readsets.specs.declared.read_set.ReadSet.{ReadSet}
 use Rattle.pfs_readsets.specs.declared.target.Target.{Target}
 use Rattle.pfs_readsets.specs.declared.target.Target.TheVariants as targets
@@ -16,7 +16,7 @@ use Rattle.pfs_readsets.specs.ReadSets.{IsNext, read_set, target_of, passing, ro
 use Rattle.pfs_readsets.specs.ReadProgress.{Reached}
 use Rattle.pfs_readsets.proofs.Members.{rows_are, words_are}
 use Rattle.pfs_readsets.proofs.TestedNumbers.{passing_none, passing_no, passing_yes, passing_split}
-use Rattle.pfs_reader.specs.Readings.{call_of, calls_of, IsThere, IsFront, AreKept}
+use Rattle.pfs_reader.specs.Readings.{call_of, calls_of, IsThere, IsFront}
 
 -- the next target is one of the read set's
 has_next : (scope : Scope) (table : Table) (readings : List Reading) (target : Target) → IsNext scope table readings target → Contains (read_set scope table readings) target
@@ -114,14 +114,11 @@ goes_then xs ys was mid now p q = λ start calls h.
     subst (λ l. now start (l ++ calls)) (sym (calls_then xs ys)) (subst (now start) (sym (append_assoc (calls_of ys) (calls_of xs) calls)) (q start (calls_of xs ++ calls) (p start calls h)))
 
 -- what stays
-pub kept_all : (left draws : ℕ) (hand : ℕ → Option ℕ) (words : Option (List Word)) (name : ℕ) → AreKept left left draws draws hand hand words words name name
-kept_all left draws hand words name = record { left = refl; draws = refl; hand = λ row. refl; words = refl; name = refl }
+pub kept_all : (s : Store) → Same s s
+kept_all s = record { left = refl; draws = refl; hand = λ row. refl; words = refl; name = refl }
 
-pub kept_then : (left left_mid left_new draws draws_mid draws_new : ℕ) (hand hand_mid hand_new : ℕ → Option ℕ) (words words_mid words_new : Option (List Word)) (name name_mid name_new : ℕ)
-    → AreKept left left_mid draws draws_mid hand hand_mid words words_mid name name_mid
-    → AreKept left_mid left_new draws_mid draws_new hand_mid hand_new words_mid words_new name_mid name_new
-    → AreKept left left_new draws draws_new hand hand_new words words_new name name_new
-kept_then left left_mid left_new draws draws_mid draws_new hand hand_mid hand_new words words_mid words_new name name_mid name_new p q = record {
+pub kept_then : (a b c : Store) → Same a b → Same b c → Same a c
+kept_then a b c p q = record {
   left = q.left ∙ p.left;
   draws = q.draws ∙ p.draws;
   hand = λ row. q.hand row ∙ p.hand row;

@@ -1,9 +1,8 @@
--- What a reader asks of a store, and what it leaves as it was.
+-- What a reader asks of a store.
 use Rattle.std.specs.Prelude.{◌≡◌, ℕ, ◌<◌, List, ◌++◌, map, reverse, Option, None}
 use Rattle.pfs_rows.specs.declared.table.Table.{Table}
 use Rattle.pfs_rows.specs.declared.table.Reading.{Reading}
 use Rattle.pfs_rows.specs.declared.table.Reading.TheVariants as readings
-use Rattle.pfs_levels.specs.declared.answers.Word.{Word}
 use Rattle.pfs_levels.specs.Calls.{Call, Reads, Loads, IsRow}
 use Rattle.pfs_readsets.specs.declared.read_set.ReadSet.{ReadSet}
 use Rattle.pfs_readsets.specs.declared.target.Target.{Target}
@@ -38,12 +37,3 @@ IsFront scope table readings =
 -- some readings brought the read set here
 abbrev pub IsReading : ReadSet → Type 0
 IsReading set = (scope : Scope) × (table : Table) × (readings : List Reading) × Reached set scope table readings
-
--- what readings leave as it was: what is left and may be drawn, the rows in hand, the known words, and the name
-pub record AreKept (left_old left_new draws_old draws_new : ℕ) (hand_old hand_new : ℕ → Option ℕ)
-    (words_old words_new : Option (List Word)) (name_old name_new : ℕ) : Type 0 where
-  pub left : left_new ≡ left_old
-  pub draws : draws_new ≡ draws_old
-  pub hand : (row : ℕ) → hand_new row ≡ hand_old row
-  pub words : words_new ≡ words_old
-  pub name : name_new ≡ name_old

@@ -5,10 +5,11 @@ ghost use Rattle.std.specs.Option.{option_to_list};
 ghost use Rattle.pfs_rows.specs.declared.table.Table.{Table};
 ghost use Rattle.pfs_rows.specs.declared.table.Reading.{Reading};
 ghost use Rattle.pfs_levels.specs.Calls.{Goes};
+ghost use Rattle.pfs_levels.specs.Views.{Same};
 ghost use Rattle.pfs_readsets.specs.TablePlaces.{Scope, scope_of};
 ghost use Rattle.pfs_readsets.specs.ReadSets.{IsNext, IsReadSet, target_of};
 ghost use Rattle.pfs_readsets.specs.ReadProgress.{Reached};
-ghost use Rattle.pfs_reader.specs.Readings.{call_of, calls_of, IsThere, HoldsNone, IsFront, AreKept};
+ghost use Rattle.pfs_reader.specs.Readings.{call_of, calls_of, IsThere, HoldsNone, IsFront};
 
 use crate::{NoMemory, ReadingList};
 use pfs_classes::Setting;
@@ -58,9 +59,7 @@ impl Reader {
             → Reached self.old scope table readings
             → Reached self.new scope table (readings ++ option_to_list result) }
         ensures call { Goes (R.seen rows.old).reached (R.seen rows.new).reached (map call_of (option_to_list result)) }
-        ensures kept { AreKept (R.seen rows.old).left (R.seen rows.new).left (R.seen rows.old).draws
-            (R.seen rows.new).draws (R.seen rows.old).hand (R.seen rows.new).hand (R.seen rows.old).words
-            (R.seen rows.new).words (R.seen rows.old).name (R.seen rows.new).name }
+        ensures kept { Same (R.seen rows.old) (R.seen rows.new) }
     {
         match self.set.target() {
             Some(target) => {
@@ -79,9 +78,7 @@ fn read_target<R: Rows>(rows: &mut R, target: Target) -> Reading
     requires away { HoldsNone (R.seen rows.old).hand }
     ensures target { target_of result ≡ target }
     ensures call { Goes (R.seen rows.old).reached (R.seen rows.new).reached (call_of result ∷ []) }
-    ensures kept { AreKept (R.seen rows.old).left (R.seen rows.new).left (R.seen rows.old).draws
-        (R.seen rows.new).draws (R.seen rows.old).hand (R.seen rows.new).hand (R.seen rows.old).words
-        (R.seen rows.new).words (R.seen rows.old).name (R.seen rows.new).name }
+    ensures kept { Same (R.seen rows.old) (R.seen rows.new) }
 {
     match target {
         Target::Row(row) => {
@@ -113,9 +110,7 @@ pub fn read_table<R: Rows>(
         (calls_of readings)) }
     ensures front { OnErr result ((readings : List Reading) × IsFront (scope_of setting.now) table readings
         × Goes (R.seen rows.old).reached (R.seen rows.new).reached (calls_of readings)) }
-    ensures kept { AreKept (R.seen rows.old).left (R.seen rows.new).left (R.seen rows.old).draws
-        (R.seen rows.new).draws (R.seen rows.old).hand (R.seen rows.new).hand (R.seen rows.old).words
-        (R.seen rows.new).words (R.seen rows.old).name (R.seen rows.new).name }
+    ensures kept { Same (R.seen rows.old) (R.seen rows.new) }
 {
     let mut reader = Reader::open(setting, table);
     let mut readings = Vec::new(alloc);

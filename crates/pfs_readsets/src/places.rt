@@ -5,7 +5,7 @@ ghost use Rattle.pfs_readsets.specs.TablePlaces as spec;
 ghost use Rattle.pfs_readsets.specs.TablePlaces.{scope_of};
 
 use pfs_classes::{Class, ClassId, Classes, Kind, Setting};
-use pfs_rows::{EventTable, SummaryTable, Table, TableKind};
+use pfs_rows::{CURRENT_PLACES, EventTable, HISTORY_PLACES, SummaryTable, Table, TableKind};
 
 // How many cells a thread, account, user or host has.
 pub(crate) const CELLS: usize = 64;
@@ -147,8 +147,8 @@ fn is_current(kind: TableKind, place: u64) -> bool
 fn is_history(kind: TableKind, place: u64) -> bool
     ensures { result ≡ spec.is_history kind place }
 {
-    let first = 16 + 10 * kind.number();
-    first <= place && place < first + 10
+    let first = CURRENT_PLACES + HISTORY_PLACES * kind.number();
+    first <= place && place < first + HISTORY_PLACES
 }
 
 /// Whether the table has the ring place, of the 56 that a thread has: 0 to 3 are its current waits by

@@ -8,13 +8,13 @@ use crate::places::{
     is_digest, is_global,
 };
 use pfs_classes::Setting;
-use pfs_rows::{LONG_PLACES, Place, RING_PLACES, ROWS, Reading, Seen, Table, laws, place_of};
+use pfs_rows::{
+    LONG_PLACES, Place, RING_PLACES, ROWS, Reading, Seen, THREAD_CELLS, Table, WORDS, laws,
+    place_of,
+};
 
-// Rows 1 to 128 are infos.
-const INFO_ROWS: usize = 129;
-
-// How many switch words there are.
-const WORDS: u64 = 160;
+// The infos stand before the cells.
+const INFO_ROWS: usize = THREAD_CELLS as usize;
 
 /// The read set of a table, which tells its targets one after another: first rows, then switch
 /// words, each ascending. Which cells, ring places and words come depends on the infos that were

@@ -1,12 +1,11 @@
 -- An offer by one call of the store.
-use Rattle.std.proofs.Common.{ℕ, ◌≡◌, ◌+◌, ◌∷◌, [], ◌++◌, List, Option, Some, None, refl, sym, subst, ap}
+use Rattle.std.proofs.Common.{ℕ, ◌≡◌, ◌∷◌, [], List, Some, None, subst}
 use Rattle.pfs_event.specs.declared.event.Event.{Event}
-use Rattle.pfs_event.specs.EventWords.{words_of}
 use Rattle.pfs_levels.specs.Calls.{Call, Opening, Goes, Rings, Draws}
 use Rattle.pfs_levels.specs.declared.answers.RingPut.{RingPut}
 use Rattle.pfs_model.specs.Causes.{long_row}
 use Rattle.pfs_rings.specs.declared.puts.Put.{Put}
-use Rattle.pfs_rings.specs.Offers.{IsOffered, IsOfferedLong, Says, offered, ticket_word}
+use Rattle.pfs_rings.specs.Offers.{IsOffered, IsOfferedLong, Says, offered}
 
 -- to a place of a thread, without a ticket
 pub once : (row : ℕ) (event : Event) (content : List ℕ) (found answer : RingPut) (put : Put) (was now : Opening → List Call → Type 0)

@@ -1,11 +1,10 @@
 -- The places of a thread are side by side, and no row is two of them.
-use Rattle.std.proofs.Common.{ℕ, zero, ◌≡◌, ◌<◌, ◌≤◌, ◌+◌, ◌*◌, ◌%◌, Option, Some, None, refl, sym, ap, subst, ◌∙◌, arith}
+use Rattle.std.proofs.Common.{ℕ, ◌≡◌, ◌<◌, ◌≤◌, ◌+◌, ◌*◌, Option, Some, None, sym, ap, ◌∙◌, arith}
 use Rattle.pfs_event.specs.declared.kind.EventKind.{EventKind}
 use Rattle.pfs_event.specs.declared.kind.EventKind.TheVariants.{Wait, Stage, Statement, Transaction}
 use Rattle.pfs_model.specs.Rings.{ring_number, current_row, history_row}
-use Rattle.pfs_rings.specs.declared.rings.Ring.{Ring}
 use Rattle.pfs_rings.specs.declared.rings.Ring.TheVariants.{Current, History, Long}
-use Rattle.pfs_rings.specs.RingPlaces.{depths, IsRing, row_of, thread_of, WithinLaw, ApartLaw}
+use Rattle.pfs_rings.specs.RingPlaces.{depths, WithinLaw, ApartLaw}
 
 some_same : {x y : ℕ} → Some x ≡ Some y → x ≡ y
 some_same {x} {y} e = ap or_zero e where

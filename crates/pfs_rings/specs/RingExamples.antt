@@ -5,7 +5,7 @@ use Rattle.pfs_event.specs.declared.kind.EventKind.TheVariants.{Wait, Stage, Sta
 use Rattle.pfs_model.specs.Causes.{long_row}
 use Rattle.pfs_model.specs.Rings.{ring_number, history_row}
 use Rattle.pfs_rings.specs.declared.puts.Put.TheVariants.{Done, Busy, Late}
-use Rattle.pfs_rings.specs.declared.rings.Ring.TheVariants.{Current, History, Long}
+use Rattle.pfs_rings.specs.declared.rings.Ring.TheVariants.{Current, History}
 use Rattle.pfs_rings.specs.Offers.{put_entry, ticket_word}
 use Rattle.pfs_rings.specs.RingPlaces.{row_of}
 

@@ -1,7 +1,8 @@
 //! Putting an event to its place.
 
-ghost use Rattle.std.specs.Prelude.{◌≡◌, ◌<◌, ◌≤◌, ◌+◌, [], ℕ, None};
+ghost use Rattle.std.specs.Prelude.{◌≡◌, ◌<◌, ◌≤◌, [], ℕ, None};
 ghost use Rattle.pfs_event.specs.EventWords.{words_of};
+ghost use Rattle.pfs_levels.specs.Views.{Kept};
 ghost use Rattle.pfs_model.specs.Rings.{ring_number};
 ghost use Rattle.pfs_rings.specs.Offers.{IsOffered, IsOfferedLong, Offers, put_entry};
 ghost use Rattle.pfs_rings.specs.RingPlaces.{IsRing, tickets_for};
@@ -79,11 +80,7 @@ pub fn put_event<R: Rows>(rows: &mut R, ring: Ring, event: &Event) -> Put
     requires spare { 1 ≤ (R.seen rows.old).left }
     requires tickets { tickets_for ring ≤ (R.seen rows.old).draws }
     ensures offers { Offers ring event.now result (R.seen rows.old).reached (R.seen rows.new).reached }
-    ensures left { (R.seen rows.old).left ≤ (R.seen rows.new).left + 1 }
-    ensures draws { (R.seen rows.old).draws ≤ (R.seen rows.new).draws + tickets_for ring }
-    ensures hand { (r : ℕ) → (R.seen rows.new).hand r ≡ (R.seen rows.old).hand r }
-    ensures words { (R.seen rows.new).words ≡ (R.seen rows.old).words }
-    ensures name { (R.seen rows.new).name ≡ (R.seen rows.old).name }
+    ensures kept { Kept 1 (tickets_for ring) (R.seen rows.old) (R.seen rows.new) }
 {
     match ring {
         Ring::Current {
@@ -117,11 +114,7 @@ fn offer<R: Rows>(rows: &mut R, row: u64, event: &Event) -> Put
     requires alone { (r : ℕ) → 0 < r → (R.seen rows.old).hand r ≡ None }
     requires spare { 1 ≤ (R.seen rows.old).left }
     ensures offered { IsOffered row None [] event.now result (R.seen rows.old).reached (R.seen rows.new).reached }
-    ensures left { (R.seen rows.old).left ≤ (R.seen rows.new).left + 1 }
-    ensures draws { (R.seen rows.new).draws ≡ (R.seen rows.old).draws }
-    ensures hand { (r : ℕ) → (R.seen rows.new).hand r ≡ (R.seen rows.old).hand r }
-    ensures words { (R.seen rows.new).words ≡ (R.seen rows.old).words }
-    ensures name { (R.seen rows.new).name ≡ (R.seen rows.old).name }
+    ensures kept { Kept 1 0 (R.seen rows.old) (R.seen rows.new) }
 {
     let content = words_with(event, 0);
     match rows.ring_try(row, &content) {
@@ -142,11 +135,7 @@ fn offer_long<R: Rows>(rows: &mut R, kind: EventKind, event: &Event) -> Put
     requires tickets { 1 ≤ (R.seen rows.old).draws }
     ensures offered { IsOfferedLong (ring_number kind) event.now result (R.seen rows.old).reached
         (R.seen rows.new).reached }
-    ensures left { (R.seen rows.old).left ≤ (R.seen rows.new).left + 1 }
-    ensures draws { (R.seen rows.old).draws ≤ (R.seen rows.new).draws + 1 }
-    ensures hand { (r : ℕ) → (R.seen rows.new).hand r ≡ (R.seen rows.old).hand r }
-    ensures words { (R.seen rows.new).words ≡ (R.seen rows.old).words }
-    ensures name { (R.seen rows.new).name ≡ (R.seen rows.old).name }
+    ensures kept { Kept 1 1 (R.seen rows.old) (R.seen rows.new) }
 {
     let number = ring_number(kind);
     let ticket = rows.ticket(number);

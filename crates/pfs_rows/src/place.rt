@@ -19,7 +19,7 @@ const USER_INFOS: u64 = 65;
 const HOST_INFOS: u64 = 97;
 
 /// The first of the cells, which stand by level: threads, accounts, users, hosts, global ones.
-const THREAD_CELLS: u64 = 129;
+pub const THREAD_CELLS: u64 = 129;
 
 const ACCOUNT_CELLS: u64 = 2_177;
 
@@ -61,6 +61,9 @@ pub const HISTORY_PLACES: u64 = 10;
 
 /// How many places a kind's long history has. The number is our own; MySQL's is set by an option, at first 10,000.
 pub const LONG_PLACES: u64 = 1_000;
+
+/// How many switch words there are: for each thread, class and consumer its flags.
+pub const WORDS: u64 = 160;
 
 /// A place of the board, in the order of the rows.
 #[derive(Clone, Copy, Debug, PartialEq, Eq)]

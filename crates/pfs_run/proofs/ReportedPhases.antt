@@ -3,19 +3,15 @@ use Rattle.std.proofs.Common.{ℕ, ◌+◌, List, [], ◌∷◌, ◌++◌, lengt
 use Rattle.std.specs.List.{All, AllByRecursion, filter_map}
 use Rattle.std.proofs.lemmas.List.Elements.{All-from_recursion}
 use Rattle.pfs_model.proofs.EachLists.{each_behind}
-use Rattle.pfs_admin.specs.AdministrationStates.{State as Administration}
 use Rattle.pfs_law_plain.specs.Spells.{Spell, parts_in}
 use Rattle.pfs_classes.specs.declared.setting.DigestText.{DigestText}
 use Rattle.pfs_classes.specs.declared.setting.Setting.{Setting}
 use Rattle.pfs_law_script.specs.ReportSpells.{AreTold, IsTold}
-use Rattle.pfs_law_report.specs.declared.counts.LostEvents.{LostEvents}
 use Rattle.pfs_finals.specs.Finals.{AreFinal as AreTables}
 use Rattle.pfs_journal.specs.Reports.{IsBlock, IsTable, IsText, rows_asked}
 use Rattle.pfs_journal.specs.declared.blocks.BlockReport.{BlockReport}
-use Rattle.pfs_journal.specs.declared.report.PhaseParts.{PhaseParts}
 use Rattle.pfs_journal.specs.declared.values.TableReport.{TableReport}
 use Rattle.pfs_levels.specs.Calls.{Call, Opening}
-use Rattle.pfs_levels.specs.declared.answers.Word.{Word}
 use Rattle.pfs_model.specs.Chains.{Each}
 use Rattle.pfs_law_script.specs.BlocksAhead.{ahead_of}
 use Rattle.pfs_model.specs.JournalCuts.{joined}
@@ -26,8 +22,7 @@ use Rattle.pfs_runs.specs.SelectAnswers.{selections_in}
 use Rattle.pfs_script.specs.Scripts.{IsScript}
 use Rattle.pfs_script.specs.declared.blocks.Block.{Block}
 use Rattle.pfs_script.specs.declared.blocks.Phase.{Phase}
-use Rattle.pfs_session.specs.SessionStates.{Book}
-use Rattle.pfs_run.specs.RunPositions.{IsAlong, depth_of}
+use Rattle.pfs_run.specs.RunPositions.{IsAlong, Standing, depth_of, position}
 use Rattle.pfs_run.proofs.SelectLines.{behind_phases, spell_asked}
 
 one_good : (setting : Setting) (number : ℕ) (block : Block) (spell : Spell) (report : BlockReport) → IsTold setting number block spell report → IsSpellOf (record { phase = number; block = block }) spell → IsReportable setting spell → IsBlock report
@@ -45,14 +40,13 @@ told_good setting number (x ∷ xs) [] reports told of good = absurd told
 told_good setting number (x ∷ xs) (y ∷ ys) [] told of good = absurd told
 told_good setting number (x ∷ xs) (y ∷ ys) (z ∷ zs) told of good = (one_good setting number x y z told.0 of.0 good.0, told_good setting number xs ys zs told.1 of.1 good.1)
 
-pub blocks_good : BlocksLaw → (text : List ℕ) (setting : Setting) (phases before : List Phase) (first : List Block) (after : List Phase) (reached : Opening → List Call → Type 0) (hand : ℕ → Option ℕ) (left draws : ℕ)
-    (words : Option (List Word)) (admin : Administration) (seats : List (Option Book)) (lost : LostEvents) (ended : List PhaseParts) (told : List BlockReport) → IsScript text setting phases
-    → IsAlong setting phases before first (ahead_of before [] after) reached hand left draws words admin seats lost ended told → All IsBlock told
-blocks_good law text setting phases before first after reached hand left draws words admin seats lost ended told script a =
+pub blocks_good : BlocksLaw → (text : List ℕ) (setting : Setting) (phases before : List Phase) (first : List Block) (after : List Phase) (run : Standing) → IsScript text setting phases
+    → IsAlong setting phases (position before first (ahead_of before [] after)) run → All IsBlock run.told
+blocks_good law text setting phases before first after run script a =
     let of : AreSpellsOf (phased (1 + length before) first) a.current =
-    behind_phases setting 1 before ended a.earlier a.current (phased (1 + length before) first) a.phases_told a.course.blocks in
-    All-from_recursion IsBlock told
-    (told_good setting (1 + length before) first a.current told a.blocks_told of
+    behind_phases setting 1 before run.ended a.earlier a.current (phased (1 + length before) first) a.phases_told a.course.blocks in
+    All-from_recursion IsBlock run.told
+    (told_good setting (1 + length before) first a.current run.told a.blocks_told of
     (each_behind (IsReportable setting) a.earlier a.current
     (law text setting phases (depth_of phases) (a.earlier ++ a.current) script a.course.are_spells a.course.answer a.course.folded)))
 

@@ -1,11 +1,12 @@
 -- All that is known of a run behind one block more.
-use Rattle.std.proofs.Common.{ℕ, ◌≡◌, ◌≢◌, ◌≤◌, ◌<◌, ◌+◌, ◌-◌, ◌*◌, ◌==◌, Bool, true, false, List, [], ◌∷◌, ◌++◌, length, Option, Some, None, slice_set, refl, ap, sym, ◌∙◌, subst, append_assoc, append-nil, eq-eqb, arith}
+use Rattle.std.proofs.Common.{ℕ, ◌≡◌, ◌≢◌, ◌≤◌, ◌<◌, ◌+◌, ◌-◌, ◌==◌, Bool, true, false, List, [], ◌∷◌, ◌++◌, length, Option, Some, None, slice_set, refl, ap, sym, ◌∙◌, subst, append_assoc, append-nil, eq-eqb, arith}
 use Rattle.std.specs.List.{flat_map}
 use Rattle.std.proofs.lemmas.Bool.{eqb-true}
 use Rattle.std.proofs.lemmas.List.{get_or-set_same, get_or-set_other, length-set}
 use Rattle.pfs_admin.specs.AdministrationStates.{State as Administration}
 use Rattle.pfs_law_plain.specs.Spells.{Doing, Spell, calls_of, doings_calls, parts_in}
 use Rattle.pfs_blocks.proofs.BlockQuits.{written_quit}
+use Rattle.pfs_blocks.specs.BlockNeeds.{Within, need_of_block}
 use Rattle.pfs_blocks.proofs.RepeatKinds.{written_kinds}
 use Rattle.pfs_classes.specs.declared.setting.Setting.{Setting}
 use Rattle.pfs_law_script.specs.BlocksAhead.{NoneIsOver, ahead_of, block_at, done_before}
@@ -25,11 +26,10 @@ use Rattle.pfs_event.specs.declared.kind.EventKind.{EventKind}
 use Rattle.pfs_law_plain.specs.LineSteps.{kinds_at}
 use Rattle.pfs_journal.specs.declared.blocks.BlockReport.{BlockReport}
 use Rattle.pfs_journal.specs.declared.report.PhaseParts.{PhaseParts}
-use Rattle.pfs_levels.specs.Calls.{Call, Opening}
-use Rattle.pfs_levels.specs.declared.answers.Word.{Word}
+use Rattle.pfs_levels.specs.Views.{Store}
 use Rattle.pfs_model.specs.Chains.{each_of, times}
 use Rattle.pfs_law_session.specs.JournalLaws.{over_behind}
-use Rattle.pfs_play.specs.Errands.{StagesLie, actions_on, kinds_after}
+use Rattle.pfs_play.specs.Errands.{StagesLie, kinds_after}
 use Rattle.pfs_play.specs.Repeats.{AllMayPlay}
 use Rattle.pfs_play.proofs.WrittenRepeats.{kinds_then}
 use Rattle.pfs_law_script.specs.PlayableBlocks.{HasBody, end_of, kinds_before, kinds_left, lines_among}
@@ -45,7 +45,7 @@ use Rattle.pfs_script.specs.declared.blocks.BlockLine.{BlockLine}
 use Rattle.pfs_script.specs.declared.blocks.BlockLine.TheVariants as said
 use Rattle.pfs_script.specs.declared.blocks.Phase.{Phase}
 use Rattle.pfs_session.specs.SessionStates.{Book, nothing_held}
-use Rattle.pfs_run.specs.RunPositions.{IsAlong, Sits, depth_of, lines_at, seat_of}
+use Rattle.pfs_run.specs.RunPositions.{IsAlong, Sits, Standing, depth_of, lines_at, position, seat_of}
 use Rattle.pfs_run.proofs.BlockPlaces.{IsHere}
 use Rattle.pfs_run.proofs.ReadySessions.{IsReady}
 use Rattle.pfs_run.proofs.RunSteps.{IsDone, more_done, others_by, own_waits}
@@ -104,23 +104,19 @@ lower most next (report ∷ reports) is low = (below report.number low.0, lower 
   below : (n : ℕ) → n ≤ most → n < next
   below n h = omega (arith, is, h)
 
-pub next_along : (setting : Setting) (phases before : List Phase) (first : List Block) (block : Block) (others : List Block) (after : List Phase)
-    (was now : Opening → List Call → Type 0) (hand_old hand_new : ℕ → Option ℕ) (left_old left_new draws_old draws_new : ℕ) (words_old words_new : Option (List Word)) (admin new_admin : Administration) (seats new_seats : List (Option Book)) (lost new_lost : LostEvents)
-    (ended : List PhaseParts) (told new_told : List BlockReport) (report : BlockReport) (book paused waiting : Book)
-    → IsHere setting phases before first block others after
-    → (along : IsAlong setting phases before first (block_at before block ∷ ahead_of before others after) was hand_old left_old draws_old words_old admin seats lost ended told)
-    → IsReady setting phases (done_before before first) (along.earlier ++ along.current) admin block book
-    → IsDone setting phases before first block others after (along.earlier ++ along.current) admin new_admin book paused report.answers along.start along.calls now
+pub next_along : (setting : Setting) (phases before : List Phase) (first : List Block) (block : Block) (others : List Block) (after : List Phase) (run : Standing) (now : Store) (new_admin : Administration) (new_seats : List (Option Book)) (new_lost : LostEvents)
+    (new_told : List BlockReport) (report : BlockReport) (book paused waiting : Book) → IsHere setting phases before first block others after
+    → (along : IsAlong setting phases (position before first (block_at before block ∷ ahead_of before others after)) run)
+    → IsReady setting phases (done_before before first) (along.earlier ++ along.current) run.admin block book
+    → IsDone setting phases before first block others after (along.earlier ++ along.current) run.admin new_admin book paused report.answers along.start along.calls now.reached
     → waiting.state ≡ paused.state → waiting.journal.entries ≡ [] → paused.state.held ≡ nothing_held
-    → kinds_at paused.state ≡ kinds_after (kinds_at book.state) (written_out block.lines) → StagesLie (kinds_at paused.state) → paused.state.drawn ≤ book.state.drawn + length (written_out block.lines)
-    → paused.state.opened.depth ≡ book.state.opened.depth → paused.state.actions ≤ book.state.actions + actions_on (written_out block.lines) + 2
-    → ((r : ℕ) → hand_new r ≡ hand_old r) → left_old ≤ left_new + (11 * length (written_out block.lines) + 20192 * actions_on (written_out block.lines) + 644) → draws_old ≤ draws_new + 2 * length (written_out block.lines) → words_new ≡ Some new_admin.words → new_admin.actions ≤ admin.actions + actions_on (written_out block.lines) + 2
-    → new_seats ≡ slice_set (slice_set seats (block.session - 1) None) (block.session - 1) (Some waiting)
-    → new_lost.digests ≡ lost.digests + lost_digests paused.journal.entries → new_lost.statements ≡ lost.statements + lost_statements paused.journal.entries → new_lost.waits ≡ lost.waits + lost_waits paused.journal.entries
-    → report.session ≡ block.session → report.entries ≡ paused.journal.entries → new_told ≡ told ++ report ∷ []
-    → IsAlong setting phases before (first ++ block ∷ []) (ahead_of before others after) now hand_new left_new draws_new words_new new_admin new_seats new_lost ended new_told
-next_along setting phases before first block others after was now hand_old hand_new left_old left_new draws_old draws_new words_old words_new admin new_admin seats new_seats lost new_lost ended told new_told report book paused waiting
-    here along ready done same empty free kinds lie drawn depth actions hand left draws words counted seats_are digests statements waits reported entries told_is =
+    → kinds_at paused.state ≡ kinds_after (kinds_at book.state) (written_out block.lines) → StagesLie (kinds_at paused.state)
+    → Within (need_of_block block) book paused run.admin new_admin run.store now → new_seats ≡ slice_set (slice_set run.seats (block.session - 1) None) (block.session - 1) (Some waiting)
+    → new_lost.digests ≡ run.lost.digests + lost_digests paused.journal.entries → new_lost.statements ≡ run.lost.statements + lost_statements paused.journal.entries → new_lost.waits ≡ run.lost.waits + lost_waits paused.journal.entries
+    → report.session ≡ block.session → report.entries ≡ paused.journal.entries → new_told ≡ run.told ++ report ∷ []
+    → IsAlong setting phases (position before (first ++ block ∷ []) (ahead_of before others after)) (record { store = now; admin = new_admin; seats = new_seats; lost = new_lost; ended = run.ended; told = new_told })
+next_along setting phases before first block others after run now new_admin new_seats new_lost new_told report book paused waiting
+    here along ready done same empty free kinds lie within seats_are digests statements waits reported entries told_is =
     let spells : List Spell = along.earlier ++ along.current in
     let spell : Spell = spell_at (block_at before block) done.doings in
     let all : spells ++ spell ∷ [] ≡ along.earlier ++ (along.current ++ spell ∷ []) = append_assoc along.earlier along.current (spell ∷ []) in
@@ -135,9 +131,9 @@ next_along setting phases before first block others after was now hand_old hand_
     let course : IsCourse setting (change_in phases) (depth_of phases) (done_before before (first ++ block ∷ [])) (along.earlier ++ (along.current ++ spell ∷ [])) new_admin =
     subst (λ (ss : List Spell). IsCourse setting (change_in phases) (depth_of phases) (done_before before (first ++ block ∷ [])) ss new_admin) all
     (subst (λ (a : Administration). IsCourse setting (change_in phases) (depth_of phases) (done_before before (first ++ block ∷ [])) (spells ++ spell ∷ []) a) (sym done.admin_is)
-    (subst (λ (d : List PhasedBlock). IsCourse setting (change_in phases) (depth_of phases) d (spells ++ spell ∷ []) (behind_block admin block (over_behind false (parts_in done.doings)))) (sym (done_block before first block)) done.more.course)) in
-    let own = own_waits setting phases before first block others after spells admin done.doings book paused waiting here ready done.more done.state same empty free kinds lie drawn depth actions left_is in
-    let sits = seats_along setting phases before first block spells admin done.doings seats new_seats waiting done.more along.wide low high along.seated own seats_are in
+    (subst (λ (d : List PhasedBlock). IsCourse setting (change_in phases) (depth_of phases) d (spells ++ spell ∷ []) (behind_block run.admin block (over_behind false (parts_in done.doings)))) (sym (done_block before first block)) done.more.course)) in
+    let own = own_waits setting phases before first block others after spells run.admin done.doings book paused waiting here ready done.more done.state same empty free kinds lie within.drawn within.depth (omega (arith, within.actions)) left_is in
+    let sits = seats_along setting phases before first block spells run.admin done.doings run.seats new_seats waiting done.more along.wide low high along.seated own seats_are in
     record {
       limits = along.limits;
       earlier = along.earlier;
@@ -146,8 +142,8 @@ next_along setting phases before first block others after was now hand_old hand_
       none_over = subst (λ (ss : List Spell). NoneIsOver ss (ahead_of before others after)) all done.ahead;
       phases_told = along.phases_told;
       blocks_told = subst (λ (reports : List BlockReport). AreTold setting (1 + length before) (first ++ block ∷ []) (along.current ++ spell ∷ []) reports) (sym told_is)
-          (told_more setting (1 + length before) first along.current told block spell report along.blocks_told (record { phase = refl; session = refl; reported = reported; entries = entries ∙ done.entries; answers = done.answered }));
-      finals = subst (λ (ss : List Spell). AreFinal (HasEnded setting (change_in phases) ss) ended) all (all_ended_more setting (change_in phases) spells spell ended along.finals (lower (length before) (1 + length before) ended refl along.numbers));
+          (told_more setting (1 + length before) first along.current run.told block spell report along.blocks_told (record { phase = refl; session = refl; reported = reported; entries = entries ∙ done.entries; answers = done.answered }));
+      finals = subst (λ (ss : List Spell). AreFinal (HasEnded setting (change_in phases) ss) run.ended) all (all_ended_more setting (change_in phases) spells spell run.ended along.finals (lower (length before) (1 + length before) run.ended refl along.numbers));
       numbers = along.numbers;
       good = along.good;
       start = along.start;
@@ -155,16 +151,16 @@ next_along setting phases before first block others after was now hand_old hand_
       calls = doings_calls done.doings ++ along.calls;
       led = done.led;
       alike = subst (λ (ss : List Spell). LeadAlike (doings_calls done.doings ++ along.calls) (calls_of ss)) all (leads_more spells spell along.calls along.alike);
-      idle = λ row. hand row ∙ along.idle row;
-      lent = words;
-      spare = omega (arith, count, short, here.rare, left, along.spare);
-      tickets = omega (arith, count, short, draws, along.tickets);
-      acted = omega (arith, count, here.rare, counted, along.acted);
-      wide = ap length seats_are ∙ (length-set (slice_set seats (block.session - 1) None) (block.session - 1) (Some waiting) ∙ (length-set seats (block.session - 1) None ∙ along.wide));
+      idle = λ row. within.used.hand row ∙ along.idle row;
+      lent = within.used.words;
+      spare = omega (arith, count, short, here.rare, within.used.left, along.spare);
+      tickets = omega (arith, count, short, within.used.draws, along.tickets);
+      acted = omega (arith, count, here.rare, within.counted, along.acted);
+      wide = ap length seats_are ∙ (length-set (slice_set run.seats (block.session - 1) None) (block.session - 1) (Some waiting) ∙ (length-set run.seats (block.session - 1) None ∙ along.wide));
       seated = subst (λ (ss : List Spell). (session : ℕ) → 1 ≤ session → session ≤ 64 → Sits setting phases (done_before before (first ++ block ∷ [])) ss session (seat_of new_seats session)) all sits;
-      digests = subst (λ (ss : List Spell). new_lost.digests ≡ times is_digest_lost (entries_of ss)) all (digests_more spells spell (session_at setting (depth_of phases) spells block.session) paused.journal.entries lost.digests new_lost.digests done.are_parts done.entries along.digests digests);
-      statements = subst (λ (ss : List Spell). new_lost.statements ≡ times is_lost_nested (each_of verdict_at (entries_of ss))) all (statements_more spells spell paused.journal.entries lost.statements new_lost.statements done.entries along.statements statements);
-      waits = subst (λ (ss : List Spell). new_lost.waits ≡ times is_lost_locker (each_of verdict_at (entries_of ss))) all (waits_more spells spell paused.journal.entries lost.waits new_lost.waits done.entries along.waits waits);
+      digests = subst (λ (ss : List Spell). new_lost.digests ≡ times is_digest_lost (entries_of ss)) all (digests_more spells spell (session_at setting (depth_of phases) spells block.session) paused.journal.entries run.lost.digests new_lost.digests done.are_parts done.entries along.digests digests);
+      statements = subst (λ (ss : List Spell). new_lost.statements ≡ times is_lost_nested (each_of verdict_at (entries_of ss))) all (statements_more spells spell paused.journal.entries run.lost.statements new_lost.statements done.entries along.statements statements);
+      waits = subst (λ (ss : List Spell). new_lost.waits ≡ times is_lost_locker (each_of verdict_at (entries_of ss))) all (waits_more spells spell paused.journal.entries run.lost.waits new_lost.waits done.entries along.waits waits);
       few_digests = omega (arith, count, digests, done.digests, along.few_digests);
       few_statements = omega (arith, count, statements, done.statements, along.few_statements);
       few_waits = omega (arith, count, waits, done.waits, along.few_waits);

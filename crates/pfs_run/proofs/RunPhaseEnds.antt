@@ -3,7 +3,6 @@ use Rattle.std.proofs.Common.{ℕ, suc, ◌≡◌, ◌≤◌, ◌+◌, ◌*◌, 
 use Rattle.std.specs.List.{flat_map}
 use Rattle.std.proofs.lemmas.List.Elements.{All-push}
 use Rattle.pfs_admin.specs.OpeningState.{opening_flags}
-use Rattle.pfs_admin.specs.AdministrationStates.{State as Administration}
 use Rattle.pfs_law_plain.specs.Spells.{Spell, calls_of}
 use Rattle.pfs_classes.specs.declared.setting.Setting.{Setting}
 use Rattle.pfs_law_script.proofs.BlocksAhead.{done_phase}
@@ -14,7 +13,6 @@ use Rattle.pfs_law_script.specs.ReportSpells.{ArePhasesTold, AreTold}
 use Rattle.pfs_law_report.proofs.SpellCalls.{leads_still}
 use Rattle.pfs_law_report.proofs.NextPhase.{AreCounted, end_of, ended_now, ended_last}
 use Rattle.pfs_law_report.specs.PhaseEnds.{HasEnded, IsEnd}
-use Rattle.pfs_law_report.specs.declared.counts.LostEvents.{LostEvents}
 use Rattle.pfs_finals.specs.Counters.{counters, lost_row}
 use Rattle.pfs_finals.specs.Finals.{all_readings}
 use Rattle.pfs_finals.specs.Finals.{AreFinal as AreTables}
@@ -24,7 +22,7 @@ use Rattle.pfs_journal.specs.declared.blocks.BlockReport.{BlockReport}
 use Rattle.pfs_journal.specs.declared.report.PhaseParts.{PhaseParts}
 use Rattle.pfs_levels.specs.Calls.{Call, Opening}
 use Rattle.pfs_levels.specs.PlainStore.{AllAnswer}
-use Rattle.pfs_levels.specs.declared.answers.Word.{Word}
+use Rattle.pfs_levels.specs.Views.{Store, Same}
 use Rattle.pfs_matching.specs.ObjectRules.{opening_objects}
 use Rattle.pfs_model.specs.Chains.{Each, each_of, times}
 use Rattle.pfs_reader.specs.Readings.{calls_of as calls_of_readings}
@@ -35,8 +33,7 @@ use Rattle.pfs_runs.specs.ScriptLines.{change_in}
 use Rattle.pfs_runs.specs.Runs.{AreFinal}
 use Rattle.pfs_script.specs.declared.blocks.Block.{Block}
 use Rattle.pfs_script.specs.declared.blocks.Phase.{Phase}
-use Rattle.pfs_session.specs.SessionStates.{Book}
-use Rattle.pfs_run.specs.RunPositions.{IsAlong, Sits, depth_of, seat_of}
+use Rattle.pfs_run.specs.RunPositions.{IsAlong, Sits, Standing, depth_of, position, seat_of}
 
 -- the reports of phases are as many as these
 told_long : (setting : Setting) (number : ℕ) (phases : List Phase) (reports : List PhaseParts) (spells : List Spell) → ArePhasesTold setting number phases reports spells → length reports ≡ length phases
@@ -85,51 +82,47 @@ numbers_more most now (r ∷ rs) report low one all = (within r.number all.0, nu
   within n h = omega (arith, h, low)
 
 -- what a phase's end leaves: the store, read and no more, and the report
-pub record IsEndOf (setting : Setting) (was now : Opening → List Call → Type 0) (hand_old hand_new : ℕ → Option ℕ) (left_old left_new draws_old draws_new : ℕ) (words_old words_new : Option (List Word))
-    (admin : Administration) (lost : LostEvents) (ended : List PhaseParts) (told : List BlockReport) (report : PhaseParts) : Type 0 where
-  pub answers : (start : Opening) (calls : List Call) → now start calls → AllAnswer start.flags calls
-  pub hand : (row : ℕ) → hand_new row ≡ hand_old row
-  pub left : left_new ≡ left_old
-  pub draws : draws_new ≡ draws_old
-  pub words : words_new ≡ words_old
-  pub number : report.number ≡ length ended + 1
-  pub blocks : report.blocks ≡ told
-  pub tables : AreTables setting report.tables was now
+pub record IsEndOf (setting : Setting) (run : Standing) (now : Store) (report : PhaseParts) : Type 0 where
+  pub answers : (start : Opening) (calls : List Call) → now.reached start calls → AllAnswer start.flags calls
+  pub kept : Same run.store now
+  pub number : report.number ≡ length run.ended + 1
+  pub blocks : report.blocks ≡ run.told
+  pub tables : AreTables setting report.tables run.store.reached now.reached
   pub counters_of : LostCounters
-  pub threads : counters_of.threads ≡ admin.kept.now.lost_threads
-  pub accounts : counters_of.accounts ≡ admin.kept.now.lost_accounts
-  pub users : counters_of.users ≡ admin.kept.now.lost_users
-  pub hosts : counters_of.hosts ≡ admin.kept.now.lost_hosts
-  pub digests : counters_of.digests ≡ lost.digests
-  pub statements : counters_of.statements ≡ lost.statements
-  pub waits : counters_of.waits ≡ lost.waits
+  pub threads : counters_of.threads ≡ run.admin.kept.now.lost_threads
+  pub accounts : counters_of.accounts ≡ run.admin.kept.now.lost_accounts
+  pub users : counters_of.users ≡ run.admin.kept.now.lost_users
+  pub hosts : counters_of.hosts ≡ run.admin.kept.now.lost_hosts
+  pub digests : counters_of.digests ≡ run.lost.digests
+  pub statements : counters_of.statements ≡ run.lost.statements
+  pub waits : counters_of.waits ≡ run.lost.waits
   pub good : IsPhase report
   pub lost_are : report.lost ≡ flat_map (lost_row setting.classes counters_of) counters
+
+-- the run behind it, with these phases ended and these blocks told
+abbrev pub behind : Standing → Store → List PhaseParts → List BlockReport → Standing
+behind run store ended told = record run { store = store; ended = ended; told = told }
 
 abbrev pub as_phase : List Block → Phase
 as_phase blocks = record { blocks = blocks }
 
-phase_ended : (setting : Setting) (phases before : List Phase) (first : List Block) (after : List Phase) (was now : Opening → List Call → Type 0) (hand_old hand_new : ℕ → Option ℕ)
-    (left_old left_new draws_old draws_new : ℕ) (words_old words_new : Option (List Word)) (admin : Administration) (seats : List (Option Book)) (lost : LostEvents) (ended : List PhaseParts)
-    (told : List BlockReport) (report : PhaseParts) → IsAlong setting phases before first (ahead_of before [] after) was hand_old left_old draws_old words_old admin seats lost ended told
-    → IsEndOf setting was now hand_old hand_new left_old left_new draws_old draws_new words_old words_new admin lost ended told report
-    → IsAlong setting phases (before ++ as_phase first ∷ []) [] (numbered (1 + length (before ++ as_phase first ∷ [])) after) now hand_new left_new draws_new words_new admin seats lost
-    (ended ++ report ∷ []) []
-phase_ended setting phases before first after was now hand_old hand_new left_old left_new draws_old draws_new words_old words_new admin seats lost ended told report a e =
+phase_ended : (setting : Setting) (phases before : List Phase) (first : List Block) (after : List Phase) (run : Standing) (now : Store) (report : PhaseParts) → IsAlong setting phases (position before first (ahead_of before [] after)) run
+    → IsEndOf setting run now report → IsAlong setting phases (position (before ++ as_phase first ∷ []) [] (numbered (1 + length (before ++ as_phase first ∷ [])) after)) (behind run now (run.ended ++ report ∷ []) [])
+phase_ended setting phases before first after run now report a e =
     let spells : List Spell = a.earlier ++ a.current in
     let phase : Phase = as_phase first in
     let all : List Phase = before ++ phase ∷ [] in
     let done : List PhasedBlock = done_before before first in
     let same : spells ≡ spells ++ [] = sym (append-nil spells) in
-    let behind : done ≡ done_before all [] = sym (done_phase before phase) in
+    let further : done ≡ done_before all [] = sym (done_phase before phase) in
     let long : length all ≡ length before + 1 = length-append before (phase ∷ []) in
-    let number : report.number ≡ 1 + length before = omega (arith, e.number, told_long setting 1 before ended a.earlier a.phases_told) in
+    let number : report.number ≡ 1 + length before = omega (arith, e.number, told_long setting 1 before run.ended a.earlier a.phases_told) in
     let read : List Call = calls_of_readings (all_readings e.tables.reads) in
-    let led : now a.start (read ++ a.calls) = e.tables.calls a.start a.calls a.led in
+    let led : now.reached a.start (read ++ a.calls) = e.tables.calls a.start a.calls a.led in
     let low : AreUpTo report.number spells =
-    up_to_then report.number a.earlier a.current (phases_up_to setting report.number 1 before ended a.earlier (omega (arith, number)) a.phases_told)
-    (told_up_to setting report.number (1 + length before) first a.current told (omega (arith, number)) a.blocks_told) in
-    let counted : AreCounted admin.kept.now spells e.counters_of = record {
+    up_to_then report.number a.earlier a.current (phases_up_to setting report.number 1 before run.ended a.earlier (omega (arith, number)) a.phases_told)
+    (told_up_to setting report.number (1 + length before) first a.current run.told (omega (arith, number)) a.blocks_told) in
+    let counted : AreCounted run.admin.kept.now spells e.counters_of = record {
       threads = e.threads;
       accounts = e.accounts;
       users = e.users;
@@ -140,56 +133,52 @@ phase_ended setting phases before first after was now hand_old hand_new left_old
     } in
     let answers : AllAnswer (opening_flags setting opening_objects) (read ++ a.calls) = subst (λ z. AllAnswer z (read ++ a.calls)) a.opens (e.answers a.start (read ++ a.calls) led) in
     let is_end : IsEnd setting (change_in phases) spells a.calls report =
-    end_of setting (change_in phases) spells a.calls report was now admin e.counters_of a.alike e.tables answers a.course.admin_is counted e.lost_are in
-    let finals : AreFinal (HasEnded setting (change_in phases) spells) (ended ++ report ∷ []) =
-    ended_last setting (change_in phases) spells ended report a.finals (ended_now setting (change_in phases) spells a.calls report low is_end) in
+    end_of setting (change_in phases) spells a.calls report run.store.reached now.reached run.admin e.counters_of a.alike e.tables answers a.course.admin_is counted e.lost_are in
+    let finals : AreFinal (HasEnded setting (change_in phases) spells) (run.ended ++ report ∷ []) =
+    ended_last setting (change_in phases) spells run.ended report a.finals (ended_now setting (change_in phases) spells a.calls report low is_end) in
     let told_now : AreTold setting report.number first a.current report.blocks =
-    subst (λ z. AreTold setting report.number first a.current z) (sym e.blocks) (subst (λ n. AreTold setting n first a.current told) (sym number) a.blocks_told) in
+    subst (λ z. AreTold setting report.number first a.current z) (sym e.blocks) (subst (λ n. AreTold setting n first a.current run.told) (sym number) a.blocks_told) in
     record {
       limits = a.limits;
       earlier = spells;
       current = [];
-      course = subst (λ z. IsCourse setting (change_in phases) (depth_of phases) (done_before all []) z admin) same
-          (subst (λ z. IsCourse setting (change_in phases) (depth_of phases) z spells admin) behind a.course);
+      course = subst (λ z. IsCourse setting (change_in phases) (depth_of phases) (done_before all []) z run.admin) same
+          (subst (λ z. IsCourse setting (change_in phases) (depth_of phases) z spells run.admin) further a.course);
       none_over = subst (λ z. NoneIsOver z (numbered (1 + length all) after)) same
           (subst (λ n. NoneIsOver spells (numbered n after)) (one_further (length before) (length all) long) a.none_over);
-      phases_told = phases_more setting 1 before ended a.earlier phase report a.current a.phases_told number told_now;
+      phases_told = phases_more setting 1 before run.ended a.earlier phase report a.current a.phases_told number told_now;
       blocks_told = tt;
-      finals = subst (λ z. AreFinal (HasEnded setting (change_in phases) z) (ended ++ report ∷ [])) same finals;
-      numbers = numbers_more (length before) (length all) ended report (omega (arith, long)) (omega (arith, long, number)) a.numbers;
-      good = All-push IsPhase ended report a.good e.good;
+      finals = subst (λ z. AreFinal (HasEnded setting (change_in phases) z) (run.ended ++ report ∷ [])) same finals;
+      numbers = numbers_more (length before) (length all) run.ended report (omega (arith, long)) (omega (arith, long, number)) a.numbers;
+      good = All-push IsPhase run.ended report a.good e.good;
       start = a.start;
       opens = a.opens;
       calls = read ++ a.calls;
       led = led;
       alike = subst (λ z. LeadAlike (read ++ a.calls) (calls_of z)) same (leads_still (all_readings e.tables.reads) a.calls (calls_of spells) a.alike);
-      idle = λ row. e.hand row ∙ a.idle row;
-      lent = e.words ∙ a.lent;
-      spare = subst (λ z. 2 ^ 47 ≤ left_new + 340000000 * length z) behind (subst (λ z. 2 ^ 47 ≤ z + 340000000 * length done) (sym e.left) a.spare);
-      tickets = subst (λ z. 2 ^ 47 ≤ draws_new + 400000 * length z) behind (subst (λ z. 2 ^ 47 ≤ z + 400000 * length done) (sym e.draws) a.tickets);
-      acted = subst (λ z. admin.actions ≤ 16668 * length z) behind a.acted;
+      idle = λ row. e.kept.hand row ∙ a.idle row;
+      lent = e.kept.words ∙ a.lent;
+      spare = subst (λ z. 2 ^ 47 ≤ now.left + 340000000 * length z) further (subst (λ z. 2 ^ 47 ≤ z + 340000000 * length done) (sym e.kept.left) a.spare);
+      tickets = subst (λ z. 2 ^ 47 ≤ now.draws + 400000 * length z) further (subst (λ z. 2 ^ 47 ≤ z + 400000 * length done) (sym e.kept.draws) a.tickets);
+      acted = subst (λ z. run.admin.actions ≤ 16668 * length z) further a.acted;
       wide = a.wide;
-      seated = λ session one many. subst (λ z. Sits setting phases (done_before all []) z session (seat_of seats session)) same
-          (subst (λ z. Sits setting phases z spells session (seat_of seats session)) behind (a.seated session one many));
-      digests = subst (λ z. lost.digests ≡ times is_digest_lost (entries_of z)) same a.digests;
-      statements = subst (λ z. lost.statements ≡ times is_lost_nested (each_of verdict_at (entries_of z))) same a.statements;
-      waits = subst (λ z. lost.waits ≡ times is_lost_locker (each_of verdict_at (entries_of z))) same a.waits;
-      few_digests = subst (λ z. lost.digests ≤ 1200012 * length z) behind a.few_digests;
-      few_statements = subst (λ z. lost.statements ≤ 200002 * length z) behind a.few_statements;
-      few_waits = subst (λ z. lost.waits ≤ 200002 * length z) behind a.few_waits;
+      seated = λ session one many. subst (λ z. Sits setting phases (done_before all []) z session (seat_of run.seats session)) same
+          (subst (λ z. Sits setting phases z spells session (seat_of run.seats session)) further (a.seated session one many));
+      digests = subst (λ z. run.lost.digests ≡ times is_digest_lost (entries_of z)) same a.digests;
+      statements = subst (λ z. run.lost.statements ≡ times is_lost_nested (each_of verdict_at (entries_of z))) same a.statements;
+      waits = subst (λ z. run.lost.waits ≡ times is_lost_locker (each_of verdict_at (entries_of z))) same a.waits;
+      few_digests = subst (λ z. run.lost.digests ≤ 1200012 * length z) further a.few_digests;
+      few_statements = subst (λ z. run.lost.statements ≤ 200002 * length z) further a.few_statements;
+      few_waits = subst (λ z. run.lost.waits ≤ 200002 * length z) further a.few_waits;
     } where
       one_further : (n m : ℕ) → m ≡ n + 1 → 1 + n + 1 ≡ 1 + m
       one_further n m e = omega (arith, e)
 
 -- with that report behind those so far, and no block told
-pub ended_along : (setting : Setting) (phases before : List Phase) (first : List Block) (after : List Phase) (was now : Opening → List Call → Type 0) (hand_old hand_new : ℕ → Option ℕ)
-    (left_old left_new draws_old draws_new : ℕ) (words_old words_new : Option (List Word)) (admin : Administration) (seats : List (Option Book)) (lost : LostEvents) (ended ended_now : List PhaseParts)
-    (told told_now : List BlockReport) (report : PhaseParts) → IsAlong setting phases before first (ahead_of before [] after) was hand_old left_old draws_old words_old admin seats lost ended told
-    → IsEndOf setting was now hand_old hand_new left_old left_new draws_old draws_new words_old words_new admin lost ended told report → ended_now ≡ ended ++ report ∷ [] → told_now ≡ []
-    → IsAlong setting phases (before ++ as_phase first ∷ []) [] (numbered (1 + length (before ++ as_phase first ∷ [])) after) now hand_new left_new draws_new words_new admin seats lost
-    ended_now told_now
-ended_along setting phases before first after was now hand_old hand_new left_old left_new draws_old draws_new words_old words_new admin seats lost ended ended_now told told_now report a e reports none =
-    let along : (reports : List PhaseParts) → List BlockReport → Type 0 = λ reports told. IsAlong setting phases (before ++ as_phase first ∷ []) []
-    (numbered (1 + length (before ++ as_phase first ∷ [])) after) now hand_new left_new draws_new words_new admin seats lost reports told in
-    subst (λ z. along ended_now z) (sym none) (subst (λ z. along z []) (sym reports)
-    (phase_ended setting phases before first after was now hand_old hand_new left_old left_new draws_old draws_new words_old words_new admin seats lost ended told report a e))
+pub ended_along : (setting : Setting) (phases before : List Phase) (first : List Block) (after : List Phase) (run : Standing) (now : Store) (ended_now : List PhaseParts) (told_now : List BlockReport) (report : PhaseParts)
+    → IsAlong setting phases (position before first (ahead_of before [] after)) run → IsEndOf setting run now report → ended_now ≡ run.ended ++ report ∷ [] → told_now ≡ []
+    → IsAlong setting phases (position (before ++ as_phase first ∷ []) [] (numbered (1 + length (before ++ as_phase first ∷ [])) after)) (behind run now ended_now told_now)
+ended_along setting phases before first after run now ended_now told_now report a e reports none =
+    let along : (reports : List PhaseParts) → List BlockReport → Type 0 = λ reports told. IsAlong setting phases (position (before ++ as_phase first ∷ []) []
+    (numbered (1 + length (before ++ as_phase first ∷ [])) after)) (behind run now reports told) in
+    subst (λ z. along ended_now z) (sym none) (subst (λ z. along z []) (sym reports) (phase_ended setting phases before first after run now report a e))

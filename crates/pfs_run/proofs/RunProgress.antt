@@ -3,7 +3,6 @@ use Rattle.std.proofs.Common.{ℕ, suc, ◌≡◌, ◌<◌, ◌≤◌, ◌+◌, 
 use Rattle.std.proofs.Math.ListN.{drop_of_length-le}
 use Rattle.std.proofs.Math.Seq.{drop-cons}
 use Rattle.std.proofs.lemmas.List.{take_all, take_more, take-append-drop}
-use Rattle.pfs_admin.specs.AdministrationStates.{State as Administration}
 use Rattle.pfs_law_plain.specs.Spells.{Spell}
 use Rattle.pfs_classes.specs.declared.setting.Setting.{Setting}
 use Rattle.pfs_law_script.proofs.BlocksAhead.{done_whole}
@@ -12,18 +11,14 @@ use Rattle.pfs_law_script.specs.Course.{IsCourse, numbered}
 use Rattle.pfs_law_script.specs.ReportSpells.{ArePhasesTold, AreTold}
 use Rattle.pfs_law_script.specs.WholeCourse.{WholeLaw, RunLaw, IsRunButFinals}
 use Rattle.pfs_law_report.specs.PhaseEnds.{AllEndLaw, HasEnded}
-use Rattle.pfs_law_report.specs.declared.counts.LostEvents.{LostEvents}
 use Rattle.pfs_journal.specs.declared.blocks.BlockReport.{BlockReport}
 use Rattle.pfs_journal.specs.declared.report.PhaseParts.{PhaseParts}
 use Rattle.pfs_journal.specs.declared.report.ReportParts.{ReportParts}
-use Rattle.pfs_levels.specs.Calls.{Call, Opening}
-use Rattle.pfs_levels.specs.declared.answers.Word.{Word}
 use Rattle.pfs_runs.specs.ScriptLines.{change_in, facts_in}
 use Rattle.pfs_runs.specs.Runs.{AreFinal, IsPlainRun}
 use Rattle.pfs_script.specs.declared.blocks.Block.{Block}
 use Rattle.pfs_script.specs.declared.blocks.Phase.{Phase}
-use Rattle.pfs_session.specs.SessionStates.{Book}
-use Rattle.pfs_run.specs.RunPositions.{IsAlong, depth_of}
+use Rattle.pfs_run.specs.RunPositions.{IsAlong, Standing, depth_of, position}
 
 -- an element of a list stands between those before it and those behind
 pub parted : {A : Type 0} (xs : List A) (i : ℕ) (x : A) → i < length xs → x ≡ get_or xs i x → drop i xs ≡ x ∷ drop (i + 1) xs
@@ -71,19 +66,17 @@ none_told setting number [] (z ∷ zs) are = absurd are
 none_told setting number (y ∷ ys) reports are = absurd are
 
 -- behind all phases, what is reported of them is a run of the script
-pub run_is : WholeLaw → RunLaw → AllEndLaw → (setting : Setting) (phases : List Phase) (report : ReportParts) (reached : Opening → List Call → Type 0) (hand : ℕ → Option ℕ) (left draws : ℕ)
-    (words : Option (List Word)) (admin : Administration) (seats : List (Option Book)) (lost : LostEvents) (ended : List PhaseParts) (told : List BlockReport)
-    → IsAlong setting phases phases [] [] reached hand left draws words admin seats lost ended told → report.format ≡ 1 → report.phases ≡ ended → IsPlainRun setting phases report
-run_is whole run all_end setting phases report reached hand left draws words admin seats lost ended told a format is =
+pub run_is : WholeLaw → RunLaw → AllEndLaw → (setting : Setting) (phases : List Phase) (report : ReportParts) (at_end : Standing) → IsAlong setting phases (position phases [] []) at_end → report.format ≡ 1 → report.phases ≡ at_end.ended → IsPlainRun setting phases report
+run_is whole run all_end setting phases report at_end a format is =
     let change = change_in phases in
     let spells : List Spell = a.earlier in
-    let same : a.earlier ++ a.current ≡ spells = ap (λ z. a.earlier ++ z) (none_told setting (1 + length phases) a.current told a.blocks_told) ∙ append-nil a.earlier in
-    let course : IsCourse setting change (depth_of phases) (numbered 1 phases) spells admin =
-    subst (λ z. IsCourse setting change (depth_of phases) z spells admin) (done_whole phases)
-    (subst (λ z. IsCourse setting change (depth_of phases) (numbered 1 phases ++ []) z admin) same a.course) in
+    let same : a.earlier ++ a.current ≡ spells = ap (λ z. a.earlier ++ z) (none_told setting (1 + length phases) a.current at_end.told a.blocks_told) ∙ append-nil a.earlier in
+    let course : IsCourse setting change (depth_of phases) (numbered 1 phases) spells at_end.admin =
+    subst (λ z. IsCourse setting change (depth_of phases) z spells at_end.admin) (done_whole phases)
+    (subst (λ z. IsCourse setting change (depth_of phases) (numbered 1 phases ++ []) z at_end.admin) same a.course) in
     let finals : AreFinal (HasEnded setting change spells) report.phases =
-    subst (AreFinal (HasEnded setting change spells)) (sym is) (subst (λ z. AreFinal (HasEnded setting change z) ended) same a.finals) in
+    subst (AreFinal (HasEnded setting change spells)) (sym is) (subst (λ z. AreFinal (HasEnded setting change z) at_end.ended) same a.finals) in
     let but : IsRunButFinals setting phases report spells =
-    whole setting phases report (depth_of phases) spells admin course (subst (λ z. ArePhasesTold setting 1 phases z spells) (sym is) a.phases_told) format in
+    whole setting phases report (depth_of phases) spells at_end.admin course (subst (λ z. ArePhasesTold setting 1 phases z spells) (sym is) a.phases_told) format in
     run setting phases report spells but
     (all_end setting change (facts_in phases) (depth_of phases) spells report.phases course.are_spells course.answer finals)

@@ -14,13 +14,10 @@ use Rattle.pfs_law_script.specs.ReportSpells.{ArePhasesTold, AreTold}
 use Rattle.pfs_law_report.proofs.JournalLosses.{started_in}
 use Rattle.pfs_law_report.proofs.DigestLosses.{lost_in}
 use Rattle.pfs_law_report.specs.PhaseEnds.{HasEnded}
-use Rattle.pfs_law_report.specs.declared.counts.LostEvents.{LostEvents}
 use Rattle.pfs_journal.specs.Reports.{IsPhase}
-use Rattle.pfs_journal.specs.declared.blocks.BlockReport.{BlockReport}
 use Rattle.pfs_journal.specs.declared.report.PhaseParts.{PhaseParts}
-use Rattle.pfs_levels.specs.Calls.{Call, Opening, Start}
+use Rattle.pfs_levels.specs.Calls.{Opening, Start}
 use Rattle.pfs_levels.specs.PlainStore.{word}
-use Rattle.pfs_levels.specs.declared.answers.Word.{Word}
 use Rattle.pfs_matching.specs.ObjectRules.{opening_objects}
 use Rattle.pfs_rows.specs.Limits.{AreInRange}
 use Rattle.pfs_law_plain.proofs.ReadCalls.{alike_none}
@@ -29,7 +26,7 @@ use Rattle.pfs_runs.specs.ScriptLines.{change_in}
 use Rattle.pfs_runs.specs.Runs.{AreFinal}
 use Rattle.pfs_script.specs.declared.blocks.Phase.{Phase}
 use Rattle.pfs_session.specs.SessionStates.{Book}
-use Rattle.pfs_run.specs.RunPositions.{IsAlong, Sits, depth_of, seat_of}
+use Rattle.pfs_run.specs.RunPositions.{IsAlong, Sits, Standing, depth_of, position, seat_of}
 
 -- the fold of no labels is the opening
 nothing_done : (setting : Setting) (phases : List Phase) → state_of setting (change_in phases) [] ≡ opened setting
@@ -43,12 +40,11 @@ empty_seat session seats e low high = ap (λ z. seat_of z session) e ∙ get_or-
 sits_empty : (setting : Setting) (phases : List Phase) (session : ℕ) (seat : Option Book) → seat ≡ None → Sits setting phases [] [] session seat
 sits_empty setting phases session seat e = subst (Sits setting phases [] [] session) (sym e) refl
 
-pub begun : (setting : Setting) (phases : List Phase) (reached : Opening → List Call → Type 0) (hand : ℕ → Option ℕ) (left draws : ℕ) (words : Option (List Word))
-    (admin : Administration) (seats : List (Option Book)) (lost : LostEvents) (ended : List PhaseParts) (told : List BlockReport) → AreInRange setting.limits
-    → IsBegun setting (change_in phases) (depth_of phases) → ((start : Opening) → start.flags ≡ opening_flags setting opening_objects → reached start [])
-    → ((row : ℕ) → hand row ≡ None) → left ≡ 2 ^ 47 → draws ≡ 2 ^ 47 → words ≡ Some (map (word 0) (opening_flags setting opening_objects)) → admin ≡ opened setting → seats ≡ replicate 64 None
-    → lost.digests ≡ 0 → lost.statements ≡ 0 → lost.waits ≡ 0 → ended ≡ [] → told ≡ [] → IsAlong setting phases [] [] (numbered 1 phases) reached hand left draws words admin seats lost ended told
-begun setting phases reached hand left draws words admin seats lost ended told limits is leads idle all every lent is_open empty digests statements waits none nothing =
+pub begun : (setting : Setting) (phases : List Phase) (run : Standing) → AreInRange setting.limits
+    → IsBegun setting (change_in phases) (depth_of phases) → ((start : Opening) → start.flags ≡ opening_flags setting opening_objects → run.store.reached start [])
+    → ((row : ℕ) → run.store.hand row ≡ None) → run.store.left ≡ 2 ^ 47 → run.store.draws ≡ 2 ^ 47 → run.store.words ≡ Some (map (word 0) (opening_flags setting opening_objects)) → run.admin ≡ opened setting → run.seats ≡ replicate 64 None
+    → run.lost.digests ≡ 0 → run.lost.statements ≡ 0 → run.lost.waits ≡ 0 → run.ended ≡ [] → run.told ≡ [] → IsAlong setting phases (position [] [] (numbered 1 phases)) run
+begun setting phases run limits is leads idle all every lent is_open empty digests statements waits none nothing =
     let nowhere : Start = record {
       table = record { words = 0; slots = 0; views_name = 0; atom = 0; block = 0; offset = 0; slot_names = [] };
       number = 0;
@@ -78,7 +74,7 @@ begun setting phases reached hand left draws words admin seats lost ended told l
       tickets = omega (arith, every);
       acted = omega (arith, ap (λ (z : Administration). z.actions) is_open);
       wide = ap length empty ∙ length-replicate {A = Option Book} 64 None;
-      seated = λ session low high. sits_empty setting phases session (seat_of seats session) (empty_seat session seats empty low high);
+      seated = λ session low high. sits_empty setting phases session (seat_of run.seats session) (empty_seat session run.seats empty low high);
       digests = digests ∙ sym (lost_in []);
       statements = statements ∙ sym (started_in is_lost_nested []);
       waits = waits ∙ sym (started_in is_lost_locker []);

@@ -15,7 +15,7 @@ use Rattle.pfs_journal.specs.Reports.{IsPhase}
 use Rattle.pfs_journal.specs.declared.blocks.BlockReport.{BlockReport}
 use Rattle.pfs_journal.specs.declared.report.PhaseParts.{PhaseParts}
 use Rattle.pfs_levels.specs.Calls.{Call, Opening}
-use Rattle.pfs_levels.specs.declared.answers.Word.{Word}
+use Rattle.pfs_levels.specs.Views.{Store}
 use Rattle.pfs_matching.specs.ObjectRules.{opening_objects}
 use Rattle.pfs_model.specs.Chains.{each_of, times}
 use Rattle.pfs_law_session.specs.Stints.{resumed}
@@ -33,6 +33,7 @@ use Rattle.pfs_script.specs.declared.blocks.Block.{Block}
 use Rattle.pfs_script.specs.declared.blocks.BlockLine.{BlockLine}
 use Rattle.pfs_script.specs.declared.blocks.Phase.{Phase}
 use Rattle.pfs_session.specs.SessionStates.{Book, fresh, nothing_held}
+use Rattle.pfs_run.specs.declared.runner.Runner.{Runner}
 
 -- a session has room for as many open events as its blocks have lines
 abbrev pub depth_of : List Phase → ℕ → ℕ
@@ -73,40 +74,65 @@ GoesOn seat number stack depth book =
       journal = record { entries = []; room = 0 };
     }) (λ was. book ≡ record was { state = resumed was.state })
 
--- Behind these phases, and these blocks of the one behind them, with those blocks ahead: what the sessions did, that the
--- store was led there by just that and by reads between, what is told of it, the phases that ended, and the sessions
--- that wait for their next blocks.
-pub record IsAlong (setting : Setting) (phases before : List Phase) (first : List Block) (ahead : List PhasedBlock)
-    (reached : Opening → List Call → Type 0) (hand : ℕ → Option ℕ) (left draws : ℕ) (words : Option (List Word))
-    (admin : Administration) (seats : List (Option Book)) (lost : LostEvents) (ended : List PhaseParts)
-    (told : List BlockReport) : Type 0 where
+-- between two blocks: behind these phases, and these blocks of the one behind them, with those blocks ahead
+pub record Position : Type 0 where
+  pub before : List Phase
+  pub first : List Block
+  pub ahead : List PhasedBlock
+
+abbrev pub position : List Phase → List Block → List PhasedBlock → Position
+position before first ahead = record { before = before; first = first; ahead = ahead }
+
+-- a run as its runner has it: the store, the administration, the seats of the sessions, what was lost so far, the phases
+-- that ended, and the blocks of the one under way
+pub record Standing : Type 1 where
+  pub store : Store
+  pub admin : Administration
+  pub seats : List (Option Book)
+  pub lost : LostEvents
+  pub ended : List PhaseParts
+  pub told : List BlockReport
+
+abbrev pub standing : Store → Runner → Standing
+standing store runner = record {
+  store = store;
+  admin = runner.admin;
+  seats = runner.seats.items;
+  lost = runner.lost;
+  ended = runner.phases.items;
+  told = runner.blocks.items;
+}
+
+-- At this position: what the sessions did, that the store was led there by just that and by reads between, what is told
+-- of it, the phases that ended, and the sessions that wait for their next blocks.
+pub record IsAlong (setting : Setting) (phases : List Phase) (at : Position) (run : Standing) : Type 0 where
   pub limits : AreInRange setting.limits
   pub earlier : List Spell
   pub current : List Spell
-  pub course : IsCourse setting (change_in phases) (depth_of phases) (done_before before first) (earlier ++ current)
-      admin
-  pub none_over : NoneIsOver (earlier ++ current) ahead
-  pub phases_told : ArePhasesTold setting 1 before ended earlier
-  pub blocks_told : AreTold setting (1 + length before) first current told
-  pub finals : AreFinal (HasEnded setting (change_in phases) (earlier ++ current)) ended
-  pub numbers : AreFinal (λ (report : PhaseParts). report.number ≤ length before) ended
-  pub good : All IsPhase ended
+  pub course : IsCourse setting (change_in phases) (depth_of phases) (done_before at.before at.first)
+      (earlier ++ current) run.admin
+  pub none_over : NoneIsOver (earlier ++ current) at.ahead
+  pub phases_told : ArePhasesTold setting 1 at.before run.ended earlier
+  pub blocks_told : AreTold setting (1 + length at.before) at.first current run.told
+  pub finals : AreFinal (HasEnded setting (change_in phases) (earlier ++ current)) run.ended
+  pub numbers : AreFinal (λ (report : PhaseParts). report.number ≤ length at.before) run.ended
+  pub good : All IsPhase run.ended
   pub start : Opening
   pub opens : start.flags ≡ opening_flags setting opening_objects
   pub calls : List Call
-  pub led : reached start calls
+  pub led : run.store.reached start calls
   pub alike : LeadAlike calls (calls_of (earlier ++ current))
-  pub idle : (row : ℕ) → hand row ≡ None
-  pub lent : words ≡ Some admin.words
-  pub spare : 2 ^ 47 ≤ left + 340000000 * length (done_before before first)
-  pub tickets : 2 ^ 47 ≤ draws + 400000 * length (done_before before first)
-  pub acted : admin.actions ≤ 16668 * length (done_before before first)
-  pub wide : length seats ≡ 64
+  pub idle : (row : ℕ) → run.store.hand row ≡ None
+  pub lent : run.store.words ≡ Some run.admin.words
+  pub spare : 2 ^ 47 ≤ run.store.left + 340000000 * length (done_before at.before at.first)
+  pub tickets : 2 ^ 47 ≤ run.store.draws + 400000 * length (done_before at.before at.first)
+  pub acted : run.admin.actions ≤ 16668 * length (done_before at.before at.first)
+  pub wide : length run.seats ≡ 64
   pub seated : (session : ℕ) → 1 ≤ session → session ≤ 64
-      → Sits setting phases (done_before before first) (earlier ++ current) session (seat_of seats session)
-  pub digests : lost.digests ≡ times is_digest_lost (entries_of (earlier ++ current))
-  pub statements : lost.statements ≡ times is_lost_nested (each_of verdict_at (entries_of (earlier ++ current)))
-  pub waits : lost.waits ≡ times is_lost_locker (each_of verdict_at (entries_of (earlier ++ current)))
-  pub few_digests : lost.digests ≤ 1200012 * length (done_before before first)
-  pub few_statements : lost.statements ≤ 200002 * length (done_before before first)
-  pub few_waits : lost.waits ≤ 200002 * length (done_before before first)
+      → Sits setting phases (done_before at.before at.first) (earlier ++ current) session (seat_of run.seats session)
+  pub digests : run.lost.digests ≡ times is_digest_lost (entries_of (earlier ++ current))
+  pub statements : run.lost.statements ≡ times is_lost_nested (each_of verdict_at (entries_of (earlier ++ current)))
+  pub waits : run.lost.waits ≡ times is_lost_locker (each_of verdict_at (entries_of (earlier ++ current)))
+  pub few_digests : run.lost.digests ≤ 1200012 * length (done_before at.before at.first)
+  pub few_statements : run.lost.statements ≤ 200002 * length (done_before at.before at.first)
+  pub few_waits : run.lost.waits ≤ 200002 * length (done_before at.before at.first)

@@ -5,7 +5,7 @@ ghost use Rattle.pfs_law_script.specs.Course.{numbered};
 ghost use Rattle.pfs_script.specs.Scripts.{IsScript};
 ghost use Rattle.pfs_script.specs.declared.blocks.Phase.{Phase as SaidPhase};
 ghost use Rattle.pfs_runs.specs.Runs.{IsPlainRun};
-ghost use Rattle.pfs_run.specs.RunPositions.{IsAlong};
+ghost use Rattle.pfs_run.specs.RunPositions.{IsAlong, position, standing};
 
 use crate::NoMemory;
 use crate::runner::Runner;
@@ -49,24 +49,15 @@ fn run_phase(
     requires script { (text : List ℕ) × IsScript text setting.now phases.now }
     requires here { (before : List SaidPhase) × (after : List SaidPhase)
         × (phases.now ≡ before ++ phase.now ∷ after)
-        × IsAlong setting.now phases.now before [] (numbered (1 + length before) (phase.now ∷ after))
-        (⟦<PlainRows as Rows>⟧.seen runner.old.rows).reached (⟦<PlainRows as Rows>⟧.seen runner.old.rows).hand
-        (⟦<PlainRows as Rows>⟧.seen runner.old.rows).left (⟦<PlainRows as Rows>⟧.seen runner.old.rows).draws
-        (⟦<PlainRows as Rows>⟧.seen runner.old.rows).words runner.old.admin
-        runner.old.seats.items runner.old.lost runner.old.phases.items runner.old.blocks.items }
+        × IsAlong setting.now phases.now (position before [] (numbered (1 + length before) (phase.now ∷ after)))
+        (standing (⟦<PlainRows as Rows>⟧.seen runner.old.rows) runner.old) }
     ensures { OnOk result ((before : List SaidPhase) → (after : List SaidPhase)
         → phases.now ≡ before ++ phase.now ∷ after
-        → IsAlong setting.now phases.now before [] (numbered (1 + length before) (phase.now ∷ after))
-        (⟦<PlainRows as Rows>⟧.seen runner.old.rows).reached (⟦<PlainRows as Rows>⟧.seen runner.old.rows).hand
-        (⟦<PlainRows as Rows>⟧.seen runner.old.rows).left (⟦<PlainRows as Rows>⟧.seen runner.old.rows).draws
-        (⟦<PlainRows as Rows>⟧.seen runner.old.rows).words runner.old.admin
-        runner.old.seats.items runner.old.lost runner.old.phases.items runner.old.blocks.items
-        → IsAlong setting.now phases.now (before ++ phase.now ∷ []) []
-        (numbered (1 + length (before ++ phase.now ∷ [])) after)
-        (⟦<PlainRows as Rows>⟧.seen runner.new.rows).reached (⟦<PlainRows as Rows>⟧.seen runner.new.rows).hand
-        (⟦<PlainRows as Rows>⟧.seen runner.new.rows).left (⟦<PlainRows as Rows>⟧.seen runner.new.rows).draws
-        (⟦<PlainRows as Rows>⟧.seen runner.new.rows).words runner.new.admin
-        runner.new.seats.items runner.new.lost runner.new.phases.items runner.new.blocks.items) }
+        → IsAlong setting.now phases.now (position before [] (numbered (1 + length before) (phase.now ∷ after)))
+        (standing (⟦<PlainRows as Rows>⟧.seen runner.old.rows) runner.old)
+        → IsAlong setting.now phases.now (position (before ++ phase.now ∷ []) []
+        (numbered (1 + length (before ++ phase.now ∷ [])) after))
+        (standing (⟦<PlainRows as Rows>⟧.seen runner.new.rows) runner.new)) }
 {
     pfs_law_report::report_values::names();
     pfs_law_report::report_values::texts();

@@ -9,7 +9,7 @@ ghost use Rattle.pfs_law_report.specs.ReportableRuns.{IsNamedTable};
 ghost use Rattle.pfs_script.specs.Scripts.{IsScript};
 ghost use Rattle.pfs_script.specs.declared.blocks.Block.{Block as Said};
 ghost use Rattle.pfs_script.specs.declared.blocks.Phase.{Phase as SaidPhase};
-ghost use Rattle.pfs_run.specs.RunPositions.{IsAlong};
+ghost use Rattle.pfs_run.specs.RunPositions.{IsAlong, position, standing};
 
 use crate::NoMemory;
 use crate::seats::{empty_seats, keep_seat, take_seat};
@@ -47,11 +47,8 @@ pub struct Runner {
 impl Runner {
     /// Nothing done yet: the store and the administration as the setting opens them.
     pub fn open(alloc: Global, setting: &Setting) -> Result<Runner, NoMemory>
-        ensures { IfOk result (λ runner. (phases : List SaidPhase) → IsAlong setting.now phases [] []
-            (numbered 1 phases) (⟦<PlainRows as Rows>⟧.seen runner.rows).reached
-            (⟦<PlainRows as Rows>⟧.seen runner.rows).hand (⟦<PlainRows as Rows>⟧.seen runner.rows).left
-            (⟦<PlainRows as Rows>⟧.seen runner.rows).draws (⟦<PlainRows as Rows>⟧.seen runner.rows).words runner.admin
-            runner.seats.items runner.lost runner.phases.items runner.blocks.items) }
+        ensures { IfOk result (λ runner. (phases : List SaidPhase) → IsAlong setting.now phases
+            (position [] [] (numbered 1 phases)) (standing (⟦<PlainRows as Rows>⟧.seen runner.rows) runner)) }
     {
         pfs_law_script::runs::no_course();
         let objects = Objects::open(alloc)?;
@@ -78,24 +75,17 @@ impl Runner {
         requires here { (before : List SaidPhase) × (first : List Said) × (others : List Said)
             × (after : List SaidPhase)
             × (phases.now ≡ before ++ record { blocks = first ++ block.now ∷ others } ∷ after)
-            × IsAlong setting.now phases.now before first (block_at before block.now ∷ ahead_of before others after)
-            (⟦<PlainRows as Rows>⟧.seen self.old.rows).reached (⟦<PlainRows as Rows>⟧.seen self.old.rows).hand
-            (⟦<PlainRows as Rows>⟧.seen self.old.rows).left (⟦<PlainRows as Rows>⟧.seen self.old.rows).draws
-            (⟦<PlainRows as Rows>⟧.seen self.old.rows).words self.old.admin
-            self.old.seats.items self.old.lost self.old.phases.items self.old.blocks.items }
+            × IsAlong setting.now phases.now
+            (position before first (block_at before block.now ∷ ahead_of before others after))
+            (standing (⟦<PlainRows as Rows>⟧.seen self.old.rows) self.old) }
         ensures { OnOk result ((before : List SaidPhase) → (first : List Said) → (others : List Said)
             → (after : List SaidPhase)
             → phases.now ≡ before ++ record { blocks = first ++ block.now ∷ others } ∷ after
-            → IsAlong setting.now phases.now before first (block_at before block.now ∷ ahead_of before others after)
-            (⟦<PlainRows as Rows>⟧.seen self.old.rows).reached (⟦<PlainRows as Rows>⟧.seen self.old.rows).hand
-            (⟦<PlainRows as Rows>⟧.seen self.old.rows).left (⟦<PlainRows as Rows>⟧.seen self.old.rows).draws
-            (⟦<PlainRows as Rows>⟧.seen self.old.rows).words self.old.admin
-            self.old.seats.items self.old.lost self.old.phases.items self.old.blocks.items
-            → IsAlong setting.now phases.now before (first ++ block.now ∷ []) (ahead_of before others after)
-            (⟦<PlainRows as Rows>⟧.seen self.new.rows).reached (⟦<PlainRows as Rows>⟧.seen self.new.rows).hand
-            (⟦<PlainRows as Rows>⟧.seen self.new.rows).left (⟦<PlainRows as Rows>⟧.seen self.new.rows).draws
-            (⟦<PlainRows as Rows>⟧.seen self.new.rows).words self.new.admin
-            self.new.seats.items self.new.lost self.new.phases.items self.new.blocks.items) }
+            → IsAlong setting.now phases.now
+            (position before first (block_at before block.now ∷ ahead_of before others after))
+            (standing (⟦<PlainRows as Rows>⟧.seen self.old.rows) self.old)
+            → IsAlong setting.now phases.now (position before (first ++ block.now ∷ []) (ahead_of before others after))
+            (standing (⟦<PlainRows as Rows>⟧.seen self.new.rows) self.new)) }
     {
         pfs_law_script::blocks::playable();
         pfs_law_script::blocks::few();
@@ -133,23 +123,14 @@ impl Runner {
         requires tables { All IsNamedTable setting.now.tables }
         requires here { (text : List ℕ) × (phases : List SaidPhase) × (before : List SaidPhase) × (first : List Said)
             × (after : List SaidPhase) × IsScript text setting.now phases
-            × IsAlong setting.now phases before first (ahead_of before [] after)
-            (⟦<PlainRows as Rows>⟧.seen self.old.rows).reached (⟦<PlainRows as Rows>⟧.seen self.old.rows).hand
-            (⟦<PlainRows as Rows>⟧.seen self.old.rows).left (⟦<PlainRows as Rows>⟧.seen self.old.rows).draws
-            (⟦<PlainRows as Rows>⟧.seen self.old.rows).words self.old.admin
-            self.old.seats.items self.old.lost self.old.phases.items self.old.blocks.items }
+            × IsAlong setting.now phases (position before first (ahead_of before [] after))
+            (standing (⟦<PlainRows as Rows>⟧.seen self.old.rows) self.old) }
         ensures { OnOk result ((phases : List SaidPhase) → (before : List SaidPhase) → (first : List Said)
-            → (after : List SaidPhase) → IsAlong setting.now phases before first (ahead_of before [] after)
-            (⟦<PlainRows as Rows>⟧.seen self.old.rows).reached (⟦<PlainRows as Rows>⟧.seen self.old.rows).hand
-            (⟦<PlainRows as Rows>⟧.seen self.old.rows).left (⟦<PlainRows as Rows>⟧.seen self.old.rows).draws
-            (⟦<PlainRows as Rows>⟧.seen self.old.rows).words self.old.admin
-            self.old.seats.items self.old.lost self.old.phases.items self.old.blocks.items
-            → IsAlong setting.now phases (before ++ record { blocks = first } ∷ []) []
-            (numbered (1 + length (before ++ record { blocks = first } ∷ [])) after)
-            (⟦<PlainRows as Rows>⟧.seen self.new.rows).reached (⟦<PlainRows as Rows>⟧.seen self.new.rows).hand
-            (⟦<PlainRows as Rows>⟧.seen self.new.rows).left (⟦<PlainRows as Rows>⟧.seen self.new.rows).draws
-            (⟦<PlainRows as Rows>⟧.seen self.new.rows).words self.new.admin
-            self.new.seats.items self.new.lost self.new.phases.items self.new.blocks.items) }
+            → (after : List SaidPhase) → IsAlong setting.now phases (position before first (ahead_of before [] after))
+            (standing (⟦<PlainRows as Rows>⟧.seen self.old.rows) self.old)
+            → IsAlong setting.now phases (position (before ++ record { blocks = first } ∷ []) []
+            (numbered (1 + length (before ++ record { blocks = first } ∷ [])) after))
+            (standing (⟦<PlainRows as Rows>⟧.seen self.new.rows) self.new)) }
     {
         pfs_law_report::report_values::tables();
         pfs_law_report::report_values::blocks();

@@ -2,6 +2,7 @@
 
 ghost use Rattle.std.specs.Prelude.{◌≡◌, ◌<◌, ◌≤◌, ◌+◌, ◌-◌, ◌++◌, ◌∷◌, [], ℕ, Option, None, length, slice_set};
 ghost use Rattle.pfs_levels.specs.Calls.{Goes, Adds};
+ghost use Rattle.pfs_levels.specs.Views.{Kept};
 ghost use Rattle.pfs_session.specs.SessionStates.{held_row, held_at};
 ghost use Rattle.pfs_session.specs.Ends.{with_held};
 ghost use Rattle.pfs_session.specs.RowAmounts.{Brings};
@@ -53,11 +54,7 @@ pub(crate) fn bring<R: Rows>(
     requires room { 1 ≤ log.old.room }
     ensures brings { Brings slot cell amount held.old held.new result log.old log.new (R.seen rows.old).reached
         (R.seen rows.new).reached }
-    ensures left { (R.seen rows.old).left ≤ (R.seen rows.new).left + 1 }
-    ensures draws { (R.seen rows.new).draws ≡ (R.seen rows.old).draws }
-    ensures hand { (r : ℕ) → (R.seen rows.new).hand r ≡ (R.seen rows.old).hand r }
-    ensures words { (R.seen rows.new).words ≡ (R.seen rows.old).words }
-    ensures name { (R.seen rows.new).name ≡ (R.seen rows.old).name }
+    ensures kept { Kept 1 0 (R.seen rows.old) (R.seen rows.new) }
     ensures room { log.new.room ≡ log.old.room - 1 }
 {
     let amount = with_held(held[cell as usize], amount);

@@ -2,6 +2,7 @@
 
 ghost use Rattle.std.specs.Prelude.{◌≡◌, ◌≤◌, ◌+◌, ◌++◌, ◌∷◌, [], ℕ, List, MatchOption, map};
 ghost use Rattle.std.specs.Option.{option_to_list};
+ghost use Rattle.pfs_levels.specs.Views.{Used};
 ghost use Rattle.pfs_reader.specs.Readings.{HoldsNone};
 ghost use Rattle.pfs_readsets.specs.TablePlaces.{Scope};
 ghost use Rattle.pfs_readsets.specs.ReadSets.{IsNext, IsReadSet, target_of};
@@ -10,7 +11,6 @@ ghost use Rattle.pfs_rows.specs.declared.table.Reading.{Reading};
 ghost use Rattle.pfs_rows.specs.declared.table.Table.{Table};
 ghost use Rattle.pfs_session.specs.Inquiries.{Remarks, reading_entry, remark_entry, seen_entry};
 ghost use Rattle.pfs_session.specs.Turns.{Played, Does, Inquires, looks_at};
-ghost use Rattle.pfs_session.specs.CallCosts.{Uses};
 
 use crate::remarks::Remark;
 use crate::session::Session;
@@ -36,10 +36,7 @@ impl Session {
         ensures played { Played (looks_at result) self.old self.new (R.seen rows.old).reached
             (R.seen rows.new).reached }
         ensures state { self.new.state ≡ self.old.state }
-        ensures uses { Uses 0 0 1 (R.seen rows.old).hand (R.seen rows.new).hand (R.seen rows.old).left
-            (R.seen rows.new).left (R.seen rows.old).draws (R.seen rows.new).draws (R.seen rows.old).name
-            (R.seen rows.new).name self.old.journal self.new.journal }
-        ensures words { (R.seen rows.new).words ≡ (R.seen rows.old).words }
+        ensures used { Used 0 0 1 (R.seen rows.old) (R.seen rows.new) self.old.journal self.new.journal }
     {
         match reader.next(rows) {
             Some(reading) => {

@@ -1,7 +1,7 @@
 //! Adding all that a session holds back.
 
 ghost use Rattle.std.specs.Prelude.{◌≡◌, ◌<◌, ◌≤◌, ◌∷◌, [], ℕ, None, IfSome, IsTrue, false, length};
-ghost use Rattle.pfs_admin.specs.Works.{Leaves};
+ghost use Rattle.pfs_levels.specs.Views.{Used};
 ghost use Rattle.pfs_levels.specs.Moves.{IsAway, Stays};
 ghost use Rattle.pfs_session.specs.SessionStates.{nothing_held, owed_of};
 ghost use Rattle.pfs_session.specs.Settlements.{Pays, PaysAll, owed_from, owed_in, settle_cost};
@@ -26,10 +26,8 @@ pub(crate) fn settle_all<H: Hold>(
     requires room { settle_cost (owed_in slot held.now) ≤ log.old.room }
     ensures pays { PaysAll (owed_in slot held.now) log.old log.new (H.seen rows.old).reached
         (H.seen rows.new).reached }
-    ensures leaves { Leaves (length (owed_in slot held.now)) (settle_cost (owed_in slot held.now))
-        (H.seen rows.old).hand (H.seen rows.new).hand (H.seen rows.old).left (H.seen rows.new).left
-        (H.seen rows.old).draws (H.seen rows.new).draws (H.seen rows.old).name (H.seen rows.new).name log.old log.new }
-    ensures words { (H.seen rows.new).words ≡ (H.seen rows.old).words }
+    ensures used { Used (length (owed_in slot held.now)) 0 (settle_cost (owed_in slot held.now)) (H.seen rows.old)
+        (H.seen rows.new) log.old log.new }
 {
     let Some(slot) = slot else {
         return;
@@ -50,9 +48,7 @@ fn pay_all<H: Hold>(rows: &mut H, slot: u64, held: &[Option<Stat>], log: &mut Lo
     requires room { length (owed_from slot 0 held.now) ≤ log.old.room }
     ensures pays { Pays (owed_from slot 0 held.now) log.old log.new (H.seen rows.old).reached
         (H.seen rows.new).reached }
-    ensures stays { Stays (length (owed_from slot 0 held.now)) (H.seen rows.old).hand (H.seen rows.new).hand
-        (H.seen rows.old).left (H.seen rows.new).left (H.seen rows.old).draws (H.seen rows.new).draws
-        (H.seen rows.old).words (H.seen rows.new).words (H.seen rows.old).name (H.seen rows.new).name log.old log.new }
+    ensures stays { Stays (length (owed_from slot 0 held.now)) (H.seen rows.old) (H.seen rows.new) log.old log.new }
 {
     for (cell, amount) in held.iter().enumerate() {
         pay_some(rows, slot, cell as u64, amount, log);
@@ -68,9 +64,7 @@ fn pay_some<H: Hold>(rows: &mut H, slot: u64, cell: u64, held: &Option<Stat>, lo
     requires room { length (owed_of slot cell held.now) ≤ log.old.room }
     ensures pays { Pays (owed_of slot cell held.now) log.old log.new (H.seen rows.old).reached
         (H.seen rows.new).reached }
-    ensures stays { Stays (length (owed_of slot cell held.now)) (H.seen rows.old).hand (H.seen rows.new).hand
-        (H.seen rows.old).left (H.seen rows.new).left (H.seen rows.old).draws (H.seen rows.new).draws
-        (H.seen rows.old).words (H.seen rows.new).words (H.seen rows.old).name (H.seen rows.new).name log.old log.new }
+    ensures stays { Stays (length (owed_of slot cell held.now)) (H.seen rows.old) (H.seen rows.new) log.old log.new }
 {
     if let Some(amount) = held {
         pay(rows, held_row(slot, cell), amount, log);
@@ -84,9 +78,7 @@ fn pay<H: Hold>(rows: &mut H, row: u64, amount: &Stat, log: &mut Log)
     requires room { 1 ≤ log.old.room }
     ensures pays { Pays (record { row = row; amount = amount.now } ∷ []) log.old log.new (H.seen rows.old).reached
         (H.seen rows.new).reached }
-    ensures stays { Stays 1 (H.seen rows.old).hand (H.seen rows.new).hand (H.seen rows.old).left (H.seen rows.new).left
-        (H.seen rows.old).draws (H.seen rows.new).draws (H.seen rows.old).words (H.seen rows.new).words
-        (H.seen rows.old).name (H.seen rows.new).name log.old log.new }
+    ensures stays { Stays 1 (H.seen rows.old) (H.seen rows.new) log.old log.new }
 {
     let (_, found) = rows.take(row);
     let sum = Stat::of_words(&found).merge(*amount);

@@ -1,11 +1,11 @@
 //! Putting events to rings: which rings an event is offered to, and what becomes of it.
 
 ghost use Rattle.std.specs.Prelude.{true, ◌≡◌, ◌<◌, ◌≤◌, ℕ, None, IfSome};
+ghost use Rattle.pfs_levels.specs.Views.{Affords, Used};
 ghost use Rattle.pfs_model.specs.SetupFlags.{current_consumer, has_history, history_consumer, is_attributed, long_consumer};
 ghost use Rattle.pfs_rings.specs.RingPlaces.{IsRing, tickets_for};
 ghost use Rattle.pfs_session.specs.EventPuts.{HasPut, IsPutOf, goes_on, is_placed_by};
 ghost use Rattle.pfs_session.specs.Ends.{ended_event};
-ghost use Rattle.pfs_session.specs.CallCosts.{Uses};
 
 use crate::events::{Numbers, numbers_for};
 use crate::setup::Setup;
@@ -26,16 +26,11 @@ pub(crate) fn offer<R: Rows>(
 ) -> Option<Put>
     requires ring { due ≡ true → IsRing ring }
     requires alone { (r : ℕ) → 0 < r → (R.seen rows.old).hand r ≡ None }
-    requires spare { 1 ≤ (R.seen rows.old).left }
-    requires tickets { tickets_for ring ≤ (R.seen rows.old).draws }
-    requires room { 1 ≤ log.old.room }
+    requires affords { Affords 1 (tickets_for ring) 1 (R.seen rows.old) log.old }
     ensures put { HasPut due ring event.now result log.old log.new (R.seen rows.old).reached
         (R.seen rows.new).reached }
     ensures stands { IfSome result (λ put. IsPutOf ring put) }
-    ensures uses { Uses 1 (tickets_for ring) 1 (R.seen rows.old).hand (R.seen rows.new).hand (R.seen rows.old).left
-        (R.seen rows.new).left (R.seen rows.old).draws (R.seen rows.new).draws (R.seen rows.old).name
-        (R.seen rows.new).name log.old log.new }
-    ensures words { (R.seen rows.new).words ≡ (R.seen rows.old).words }
+    ensures used { Used 1 (tickets_for ring) 1 (R.seen rows.old) (R.seen rows.new) log.old log.new }
 {
     if !due {
         return None;

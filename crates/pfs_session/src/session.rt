@@ -1,21 +1,21 @@
 //! A session: its calls, each of which is one or two steps.
 
 ghost use Rattle.std.specs.Prelude.{◌≡◌, ◌<◌, ◌≤◌, ◌+◌, ◌%◌, ◌^◌, ◌∷◌, ◌&&◌, [], ℕ, length, Some, None, IfOk, IfSome, OnOk, OnErr, IsSome, false, true};
+ghost use Rattle.pfs_levels.specs.Views.{Affords, Used, lent_as};
 ghost use Rattle.pfs_admin.specs.ConnectionAsks.{placed_of};
 ghost use Rattle.pfs_admin.specs.AdministrationStates.{connected, has_quit, seat_at};
 ghost use Rattle.pfs_admin.specs.Truncations.{has_truncated, truncation_cost};
-ghost use Rattle.pfs_admin.specs.Works.{Leaves};
 ghost use Rattle.pfs_event.specs.Nests.{MayStart};
 ghost use Rattle.pfs_event.specs.Verdicts.{is_let_through};
 ghost use Rattle.pfs_session.specs.EventAnswers.{SaysStart, SaysEnd, SaysStage, SaysStageEnd, EndsAs, is_in_stage};
 ghost use Rattle.pfs_rings.specs.RingPlaces.{depths};
 ghost use Rattle.pfs_session.specs.Ends.{Finished, HasCounted, HasDigested, HasPuts, outer_events, without_innermost};
+ghost use Rattle.pfs_session.specs.CallCosts.{MayWork};
 ghost use Rattle.pfs_session.specs.CallEnds.{HasStarted, HasStaged};
 ghost use Rattle.pfs_session.specs.EventPuts.{HasPutIn, depth_of, StandInRings};
 ghost use Rattle.pfs_session.specs.Settlements.{owed_by_state, settle_cost};
 ghost use Rattle.pfs_session.specs.Starts.{started, if_through};
 ghost use Rattle.pfs_session.specs.SessionStates.{fresh, around, one_if, no_place, nothing_held, without_stage};
-ghost use Rattle.pfs_session.specs.CallCosts.{Uses};
 ghost use Rattle.pfs_session.specs.Turns.{Played, Does, StartsEvent, EndsEvent, Spends, SettlesHeld, Connects, Quits, Truncates, StageMayStart, stage_steps, stage_ends};
 
 use crate::NoMemory;
@@ -183,8 +183,7 @@ impl Session {
         requires digest { IfSome what.now.digest (λ n. n < 64) }
         requires early { self.old.state.drawn + 1 < 2 ^ 64 }
         requires alone { (r : ℕ) → 0 < r → (R.seen rows.old).hand r ≡ None }
-        requires spare { 1 ≤ (R.seen rows.old).left }
-        requires room { 2 ≤ self.old.journal.room }
+        requires affords { Affords 1 0 2 (R.seen rows.old) self.old.journal }
         ensures played { Played (StartsEvent what.now ∷ []) self.old self.new (R.seen rows.old).reached
             (R.seen rows.new).reached }
         ensures answer { SaysStart result self.old.journal.entries self.new.journal.entries }
@@ -194,10 +193,7 @@ impl Session {
           drawn = self.new.state.drawn;
           opened = self.new.state.opened;
         } }
-        ensures uses { Uses 1 0 2 (R.seen rows.old).hand (R.seen rows.new).hand (R.seen rows.old).left
-            (R.seen rows.new).left (R.seen rows.old).draws (R.seen rows.new).draws (R.seen rows.old).name
-            (R.seen rows.new).name self.old.journal self.new.journal }
-        ensures words { (R.seen rows.new).words ≡ (R.seen rows.old).words }
+        ensures used { Used 1 0 2 (R.seen rows.old) (R.seen rows.new) self.old.journal self.new.journal }
     {
         let seen = load(rows, self.place.thread, what);
         let verdict = judge(
@@ -249,15 +245,11 @@ impl Session {
     fn place<R: Rows>(&mut self, rows: &mut R, what: &Open, depth: u64) -> Option<Put>
         requires deep { what.now.placed ≡ true → depth < depths what.now.kind }
         requires alone { (r : ℕ) → 0 < r → (R.seen rows.old).hand r ≡ None }
-        requires spare { 1 ≤ (R.seen rows.old).left }
-        requires room { 1 ≤ self.old.journal.room }
+        requires affords { Affords 1 0 1 (R.seen rows.old) self.old.journal }
         ensures put { HasPutIn self.old.state.place.thread what.now depth result self.old.journal self.new.journal
             (R.seen rows.old).reached (R.seen rows.new).reached }
         ensures state { self.new.state ≡ self.old.state }
-        ensures uses { Uses 1 0 1 (R.seen rows.old).hand (R.seen rows.new).hand (R.seen rows.old).left
-            (R.seen rows.new).left (R.seen rows.old).draws (R.seen rows.new).draws (R.seen rows.old).name
-            (R.seen rows.new).name self.old.journal self.new.journal }
-        ensures words { (R.seen rows.new).words ≡ (R.seen rows.old).words }
+        ensures used { Used 1 0 1 (R.seen rows.old) (R.seen rows.new) self.old.journal self.new.journal }
     {
         let Some(slot) = self.place.thread else {
             return None;
@@ -305,9 +297,7 @@ impl Session {
     pub fn end<R: Rows>(&mut self, rows: &mut R, numbers: &Numbers) -> End
         requires open { 0 < length self.old.state.opened.events }
         requires alone { (r : ℕ) → 0 < r → (R.seen rows.old).hand r ≡ None }
-        requires spare { 5 ≤ (R.seen rows.old).left }
-        requires tickets { 1 ≤ (R.seen rows.old).draws }
-        requires room { 6 ≤ self.old.journal.room }
+        requires affords { Affords 5 1 6 (R.seen rows.old) self.old.journal }
         ensures played { Played (EndsEvent numbers.now ∷ []) self.old self.new (R.seen rows.old).reached
             (R.seen rows.new).reached }
         ensures answer { SaysEnd result self.old.journal.entries self.new.journal.entries }
@@ -318,10 +308,7 @@ impl Session {
           nexts = self.new.state.nexts;
         } }
         ensures owed { length (owed_by_state self.new.state) ≤ length (owed_by_state self.old.state) + 2 }
-        ensures uses { Uses 5 1 6 (R.seen rows.old).hand (R.seen rows.new).hand (R.seen rows.old).left
-            (R.seen rows.new).left (R.seen rows.old).draws (R.seen rows.new).draws (R.seen rows.old).name
-            (R.seen rows.new).name self.old.journal self.new.journal }
-        ensures words { (R.seen rows.new).words ≡ (R.seen rows.old).words }
+        ensures used { Used 5 1 6 (R.seen rows.old) (R.seen rows.new) self.old.journal self.new.journal }
     {
         let what = self.close();
         if what.verdict.is_let_through() {
@@ -363,9 +350,7 @@ impl Session {
         requires deep { what.now.placed ≡ true
             → depth_of what.now.kind self.old.state.opened.events < depths what.now.kind }
         requires alone { (r : ℕ) → 0 < r → (R.seen rows.old).hand r ≡ None }
-        requires spare { 5 ≤ (R.seen rows.old).left }
-        requires tickets { 1 ≤ (R.seen rows.old).draws }
-        requires room { 6 ≤ self.old.journal.room }
+        requires affords { Affords 5 1 6 (R.seen rows.old) self.old.journal }
         ensures finished { Finished self.old self.new what.now numbers.now result (R.seen rows.old).reached
             (R.seen rows.new).reached }
         ensures rest { self.new.state ≡ record self.old.state {
@@ -373,10 +358,7 @@ impl Session {
           nexts = self.new.state.nexts;
         } }
         ensures owed { length (owed_by_state self.new.state) ≤ length (owed_by_state self.old.state) + 2 }
-        ensures uses { Uses 5 1 6 (R.seen rows.old).hand (R.seen rows.new).hand (R.seen rows.old).left
-            (R.seen rows.new).left (R.seen rows.old).draws (R.seen rows.new).draws (R.seen rows.old).name
-            (R.seen rows.new).name self.old.journal self.new.journal }
-        ensures words { (R.seen rows.new).words ≡ (R.seen rows.old).words }
+        ensures used { Used 5 1 6 (R.seen rows.old) (R.seen rows.new) self.old.journal self.new.journal }
     {
         let counting = self.count(rows, what, numbers);
         let digest = self.digest(rows, what, numbers);
@@ -394,16 +376,12 @@ impl Session {
     fn count<R: Rows>(&mut self, rows: &mut R, what: &Open, numbers: &Numbers) -> Counting
         requires there { IsSome self.old.state.place.thread }
         requires alone { (r : ℕ) → 0 < r → (R.seen rows.old).hand r ≡ None }
-        requires spare { 1 ≤ (R.seen rows.old).left }
-        requires room { 2 ≤ self.old.journal.room }
+        requires affords { Affords 1 0 2 (R.seen rows.old) self.old.journal }
         ensures counted { HasCounted self.old self.new what.now numbers.now result.summary result.consumers
             result.thread (R.seen rows.old).reached (R.seen rows.new).reached }
         ensures rest { self.new.state ≡ record self.old.state { held = self.new.state.held } }
         ensures owed { length (owed_by_state self.new.state) ≤ length (owed_by_state self.old.state) + 1 }
-        ensures leaves { Leaves 1 2 (R.seen rows.old).hand (R.seen rows.new).hand (R.seen rows.old).left
-            (R.seen rows.new).left (R.seen rows.old).draws (R.seen rows.new).draws (R.seen rows.old).name
-            (R.seen rows.new).name self.old.journal self.new.journal }
-        ensures words { (R.seen rows.new).words ≡ (R.seen rows.old).words }
+        ensures used { Used 1 0 2 (R.seen rows.old) (R.seen rows.new) self.old.journal self.new.journal }
     {
         let slot = match self.place.thread {
             Some(slot) => slot,
@@ -437,16 +415,12 @@ impl Session {
     fn digest<R: Rows>(&mut self, rows: &mut R, what: &Open, numbers: &Numbers) -> Option<Added>
         requires there { IsSome self.old.state.place.thread }
         requires alone { (r : ℕ) → 0 < r → (R.seen rows.old).hand r ≡ None }
-        requires spare { 1 ≤ (R.seen rows.old).left }
-        requires room { 1 ≤ self.old.journal.room }
+        requires affords { Affords 1 0 1 (R.seen rows.old) self.old.journal }
         ensures digested { HasDigested self.old self.new what.now numbers.now result (R.seen rows.old).reached
             (R.seen rows.new).reached }
         ensures rest { self.new.state ≡ record self.old.state { held = self.new.state.held } }
         ensures owed { length (owed_by_state self.new.state) ≤ length (owed_by_state self.old.state) + 1 }
-        ensures leaves { Leaves 1 1 (R.seen rows.old).hand (R.seen rows.new).hand (R.seen rows.old).left
-            (R.seen rows.new).left (R.seen rows.old).draws (R.seen rows.new).draws (R.seen rows.old).name
-            (R.seen rows.new).name self.old.journal self.new.journal }
-        ensures words { (R.seen rows.new).words ≡ (R.seen rows.old).words }
+        ensures used { Used 1 0 1 (R.seen rows.old) (R.seen rows.new) self.old.journal self.new.journal }
     {
         let slot = match self.place.thread {
             Some(slot) => slot,
@@ -480,17 +454,12 @@ impl Session {
         requires deep { what.now.placed ≡ true
             → depth_of what.now.kind self.old.state.opened.events < depths what.now.kind }
         requires alone { (r : ℕ) → 0 < r → (R.seen rows.old).hand r ≡ None }
-        requires spare { 3 ≤ (R.seen rows.old).left }
-        requires tickets { 1 ≤ (R.seen rows.old).draws }
-        requires room { 3 ≤ self.old.journal.room }
+        requires affords { Affords 3 1 3 (R.seen rows.old) self.old.journal }
         ensures puts { HasPuts self.old self.new what.now numbers.now consumers thread result.current result.history
             result.long (R.seen rows.old).reached (R.seen rows.new).reached }
         ensures stand { StandInRings result.current result.history result.long }
         ensures rest { self.new.state ≡ record self.old.state { nexts = self.new.state.nexts } }
-        ensures uses { Uses 3 1 3 (R.seen rows.old).hand (R.seen rows.new).hand (R.seen rows.old).left
-            (R.seen rows.new).left (R.seen rows.old).draws (R.seen rows.new).draws (R.seen rows.old).name
-            (R.seen rows.new).name self.old.journal self.new.journal }
-        ensures words { (R.seen rows.new).words ≡ (R.seen rows.old).words }
+        ensures used { Used 3 1 3 (R.seen rows.old) (R.seen rows.new) self.old.journal self.new.journal }
     {
         if !what.placed {
             return Puts {
@@ -540,9 +509,7 @@ impl Session {
         }) what.now }
         requires early { IfSome what.now (λ subject. self.old.state.drawn + 1 < 2 ^ 64) }
         requires alone { (r : ℕ) → 0 < r → (R.seen rows.old).hand r ≡ None }
-        requires spare { 6 ≤ (R.seen rows.old).left }
-        requires tickets { 1 ≤ (R.seen rows.old).draws }
-        requires room { 8 ≤ self.old.journal.room }
+        requires affords { Affords 6 1 8 (R.seen rows.old) self.old.journal }
         ensures played { Played (stage_steps self.old.state.opened.events what.now) self.old self.new
             (R.seen rows.old).reached (R.seen rows.new).reached }
         ensures answer { SaysStage self.old.state.opened.events what.now result.0 result.1
@@ -557,10 +524,7 @@ impl Session {
           nexts = self.new.state.nexts;
         } }
         ensures owed { length (owed_by_state self.new.state) ≤ length (owed_by_state self.old.state) + 2 }
-        ensures uses { Uses 6 1 8 (R.seen rows.old).hand (R.seen rows.new).hand (R.seen rows.old).left
-            (R.seen rows.new).left (R.seen rows.old).draws (R.seen rows.new).draws (R.seen rows.old).name
-            (R.seen rows.new).name self.old.journal self.new.journal }
-        ensures words { (R.seen rows.new).words ≡ (R.seen rows.old).words }
+        ensures used { Used 6 1 8 (R.seen rows.old) (R.seen rows.new) self.old.journal self.new.journal }
     {
         let ended = self.end_stage(rows);
         match what {
@@ -575,9 +539,7 @@ impl Session {
     // Ends the open stage, where the innermost open event is one.
     fn end_stage<R: Rows>(&mut self, rows: &mut R) -> Option<End>
         requires alone { (r : ℕ) → 0 < r → (R.seen rows.old).hand r ≡ None }
-        requires spare { 5 ≤ (R.seen rows.old).left }
-        requires tickets { 1 ≤ (R.seen rows.old).draws }
-        requires room { 6 ≤ self.old.journal.room }
+        requires affords { Affords 5 1 6 (R.seen rows.old) self.old.journal }
         ensures played { Played (stage_ends self.old.state.opened.events) self.old self.new (R.seen rows.old).reached
             (R.seen rows.new).reached }
         ensures answer { SaysStageEnd (is_in_stage self.old.state.opened.events) result self.old.journal.entries
@@ -589,10 +551,7 @@ impl Session {
           nexts = self.new.state.nexts;
         } }
         ensures owed { length (owed_by_state self.new.state) ≤ length (owed_by_state self.old.state) + 2 }
-        ensures uses { Uses 5 1 6 (R.seen rows.old).hand (R.seen rows.new).hand (R.seen rows.old).left
-            (R.seen rows.new).left (R.seen rows.old).draws (R.seen rows.new).draws (R.seen rows.old).name
-            (R.seen rows.new).name self.old.journal self.new.journal }
-        ensures words { (R.seen rows.new).words ≡ (R.seen rows.old).words }
+        ensures used { Used 5 1 6 (R.seen rows.old) (R.seen rows.new) self.old.journal self.new.journal }
     {
         let is_open = match self.nest.innermost() {
             Some(what) => what.kind == EventKind::Stage,
@@ -617,13 +576,9 @@ impl Session {
         requires first { self.old.state.actions ≡ 0 }
         requires unplaced { self.old.state.place ≡ no_place }
         requires closed { self.old.state.opened.events ≡ [] }
-        requires few { admin.old.actions < 2 ^ 47 }
         requires user { user < length admin.old.names }
         requires host { host < length admin.old.names }
-        requires alone { (r : ℕ) → 0 < r → (H.seen rows.old).hand r ≡ None }
-        requires lent { (H.seen rows.old).words ≡ Some admin.old.words }
-        requires spare { 4 ≤ (H.seen rows.old).left }
-        requires room { 6 ≤ self.old.journal.room }
+        requires may { MayWork 4 6 admin.old (H.seen rows.old) self.old.journal }
         ensures played { Played (Connects admin.old user host ∷ []) self.old self.new (H.seen rows.old).reached
             (H.seen rows.new).reached }
         ensures admin { admin.new ≡ connected admin.old self.old.state.number user host }
@@ -636,10 +591,8 @@ impl Session {
         } }
         ensures owed { owed_by_state self.new.state ≡ [] }
         ensures held { self.new.state.held ≡ nothing_held }
-        ensures leaves { Leaves 4 6 (H.seen rows.old).hand (H.seen rows.new).hand (H.seen rows.old).left
-            (H.seen rows.new).left (H.seen rows.old).draws (H.seen rows.new).draws (H.seen rows.old).name
-            (H.seen rows.new).name self.old.journal self.new.journal }
-        ensures lent { (H.seen rows.new).words ≡ Some admin.new.words }
+        ensures used { Used 4 0 6 (lent_as admin.new.words (H.seen rows.old)) (H.seen rows.new) self.old.journal
+            self.new.journal }
     {
         let placed = admin.connect(rows, self.number, user, host, &mut self.log);
         self.place = placed;
@@ -656,11 +609,8 @@ impl Session {
     pub fn quit<H: Hold>(&mut self, rows: &mut H, admin: &mut Admin)
         requires closed { self.old.state.opened.events ≡ [] }
         requires early { self.old.state.actions + 1 < 2 ^ 64 }
-        requires few { admin.old.actions < 2 ^ 47 }
-        requires alone { (r : ℕ) → 0 < r → (H.seen rows.old).hand r ≡ None }
-        requires lent { (H.seen rows.old).words ≡ Some admin.old.words }
-        requires spare { length (owed_by_state self.old.state) + 252 ≤ (H.seen rows.old).left }
-        requires room { settle_cost (owed_by_state self.old.state) + 254 ≤ self.old.journal.room }
+        requires may { MayWork (length (owed_by_state self.old.state) + 252) (settle_cost
+            (owed_by_state self.old.state) + 254) admin.old (H.seen rows.old) self.old.journal }
         ensures played { Played (SettlesHeld ∷ Quits admin.old ∷ []) self.old self.new (H.seen rows.old).reached
             (H.seen rows.new).reached }
         ensures admin { admin.new ≡ has_quit admin.old self.old.state.number }
@@ -670,11 +620,8 @@ impl Session {
           actions = self.old.state.actions + 1;
           last = self.new.state.last;
         } }
-        ensures leaves { Leaves (length (owed_by_state self.old.state) + 252) (settle_cost
-            (owed_by_state self.old.state) + 254) (H.seen rows.old).hand (H.seen rows.new).hand (H.seen rows.old).left
-            (H.seen rows.new).left (H.seen rows.old).draws (H.seen rows.new).draws (H.seen rows.old).name
-            (H.seen rows.new).name self.old.journal self.new.journal }
-        ensures lent { (H.seen rows.new).words ≡ Some admin.new.words }
+        ensures used { Used (length (owed_by_state self.old.state) + 252) 0 (settle_cost (owed_by_state self.old.state)
+            + 254) (lent_as admin.new.words (H.seen rows.old)) (H.seen rows.new) self.old.journal self.new.journal }
     {
         self.settle(rows);
         self.log.push(Entry::Act {
@@ -698,13 +645,9 @@ impl Session {
     /// what `Admin::truncate` gives it, and the answer: a truncation changes no rows, as MySQL counts them.
     pub fn truncate<H: Hold>(&mut self, rows: &mut H, admin: &mut Admin, what: Truncation) -> Reply
         requires early { self.old.state.actions + 1 < 2 ^ 64 }
-        requires few { admin.old.actions < 2 ^ 47 }
-        requires alone { (r : ℕ) → 0 < r → (H.seen rows.old).hand r ≡ None }
-        requires lent { (H.seen rows.old).words ≡ Some admin.old.words }
-        requires spare { length (owed_by_state self.old.state) + truncation_cost admin.old what
-            ≤ (H.seen rows.old).left }
-        requires room { settle_cost (owed_by_state self.old.state) + (truncation_cost admin.old what + 2)
-            ≤ self.old.journal.room }
+        requires may { MayWork (length (owed_by_state self.old.state) + truncation_cost admin.old what) (settle_cost
+            (owed_by_state self.old.state) + (truncation_cost admin.old what + 2)) admin.old (H.seen rows.old)
+            self.old.journal }
         ensures played { Played (SettlesHeld ∷ Truncates admin.old what ∷ []) self.old self.new
             (H.seen rows.old).reached (H.seen rows.new).reached }
         ensures admin { admin.new ≡ has_truncated admin.old what }
@@ -714,11 +657,9 @@ impl Session {
           last = self.new.state.last;
         } }
         ensures reply { result ≡ Reply.Changed 0 }
-        ensures leaves { Leaves (length (owed_by_state self.old.state) + truncation_cost admin.old what)
-            (settle_cost (owed_by_state self.old.state) + (truncation_cost admin.old what + 2)) (H.seen rows.old).hand
-            (H.seen rows.new).hand (H.seen rows.old).left (H.seen rows.new).left (H.seen rows.old).draws
-            (H.seen rows.new).draws (H.seen rows.old).name (H.seen rows.new).name self.old.journal self.new.journal }
-        ensures lent { (H.seen rows.new).words ≡ Some admin.new.words }
+        ensures used { Used (length (owed_by_state self.old.state) + truncation_cost admin.old what) 0 (settle_cost
+            (owed_by_state self.old.state) + (truncation_cost admin.old what + 2)) (lent_as admin.new.words
+            (H.seen rows.old)) (H.seen rows.new) self.old.journal self.new.journal }
     {
         self.settle(rows);
         self.log.push(Entry::Act {
@@ -737,16 +678,13 @@ impl Session {
     /// Adds all that is held, each amount to its row, in the order of the rows, and holds nothing any more.
     pub(crate) fn settle<H: Hold>(&mut self, rows: &mut H)
         requires alone { (r : ℕ) → 0 < r → (H.seen rows.old).hand r ≡ None }
-        requires spare { length (owed_by_state self.old.state) ≤ (H.seen rows.old).left }
-        requires room { settle_cost (owed_by_state self.old.state) ≤ self.old.journal.room }
+        requires affords { Affords (length (owed_by_state self.old.state)) 0
+            (settle_cost (owed_by_state self.old.state)) (H.seen rows.old) self.old.journal }
         ensures played { Played (SettlesHeld ∷ []) self.old self.new (H.seen rows.old).reached
             (H.seen rows.new).reached }
         ensures state { self.new.state ≡ record self.old.state { held = nothing_held } }
-        ensures leaves { Leaves (length (owed_by_state self.old.state)) (settle_cost (owed_by_state self.old.state))
-            (H.seen rows.old).hand (H.seen rows.new).hand (H.seen rows.old).left (H.seen rows.new).left
-            (H.seen rows.old).draws (H.seen rows.new).draws (H.seen rows.old).name (H.seen rows.new).name
-            self.old.journal self.new.journal }
-        ensures words { (H.seen rows.new).words ≡ (H.seen rows.old).words }
+        ensures used { Used (length (owed_by_state self.old.state)) 0 (settle_cost (owed_by_state self.old.state))
+            (H.seen rows.old) (H.seen rows.new) self.old.journal self.new.journal }
     {
         settle_all(rows, self.place.thread, self.held.as_slice(), &mut self.log);
         clear(self.held.as_mut_slice());
@@ -755,15 +693,12 @@ impl Session {
     /// Settles all that is held, at the end of the session's block in a phase.
     pub fn pause<H: Hold>(self, rows: &mut H) -> Paused
         requires alone { (r : ℕ) → 0 < r → (H.seen rows.old).hand r ≡ None }
-        requires spare { length (owed_by_state self.state) ≤ (H.seen rows.old).left }
-        requires room { settle_cost (owed_by_state self.state) ≤ self.journal.room }
+        requires affords { Affords (length (owed_by_state self.state)) 0 (settle_cost (owed_by_state self.state))
+            (H.seen rows.old) self.journal }
         ensures played { Played (SettlesHeld ∷ []) self result (H.seen rows.old).reached (H.seen rows.new).reached }
         ensures state { result.state ≡ record self.state { held = nothing_held } }
-        ensures leaves { Leaves (length (owed_by_state self.state)) (settle_cost (owed_by_state self.state))
-            (H.seen rows.old).hand (H.seen rows.new).hand (H.seen rows.old).left (H.seen rows.new).left
-            (H.seen rows.old).draws (H.seen rows.new).draws (H.seen rows.old).name (H.seen rows.new).name self.journal
-            result.journal }
-        ensures words { (H.seen rows.new).words ≡ (H.seen rows.old).words }
+        ensures used { Used (length (owed_by_state self.state)) 0 (settle_cost (owed_by_state self.state))
+            (H.seen rows.old) (H.seen rows.new) self.journal result.journal }
     {
         let mut session = self;
         session.settle(rows);

@@ -3,6 +3,7 @@
 ghost use Rattle.std.specs.Prelude.{◌≡◌, ◌<◌, ◌∷◌, [], ℕ, IfSome, is_some};
 ghost use Rattle.std.specs.Option.{option_map};
 ghost use Rattle.pfs_levels.specs.Calls.{Goes, Loads};
+ghost use Rattle.pfs_levels.specs.Views.{Same};
 ghost use Rattle.pfs_model.specs.SetupFlags.{is_enabled, has_time, verdict_by};
 ghost use Rattle.pfs_session.specs.Starts.{IsLoaded, load_calls, table_calls, flags_in, flags_of, verdict_seen, is_timed_by, is_digested_by, if_through, start_entry, version_of};
 
@@ -33,11 +34,7 @@ pub(crate) fn load<R: Rows>(rows: &mut R, slot: Option<u64>, subject: &Subject) 
     ensures loaded { IsLoaded slot subject.now.class subject.now.table result }
     ensures goes { Goes (R.seen rows.old).reached (R.seen rows.new).reached
         (load_calls slot subject.now.class subject.now.table result) }
-    ensures left { (R.seen rows.new).left ≡ (R.seen rows.old).left }
-    ensures draws { (R.seen rows.new).draws ≡ (R.seen rows.old).draws }
-    ensures hand { (r : ℕ) → (R.seen rows.new).hand r ≡ (R.seen rows.old).hand r }
-    ensures words { (R.seen rows.new).words ≡ (R.seen rows.old).words }
-    ensures name { (R.seen rows.new).name ≡ (R.seen rows.old).name }
+    ensures kept { Same (R.seen rows.old) (R.seen rows.new) }
 {
     let Some(slot) = slot else {
         return None;
@@ -70,11 +67,7 @@ fn load_table<R: Rows>(rows: &mut R, table: Option<u64>) -> Option<Word>
     requires { IfSome table (λ n. n < 64) }
     ensures loaded { is_some result ≡ is_some table }
     ensures goes { Goes (R.seen rows.old).reached (R.seen rows.new).reached (table_calls table result) }
-    ensures left { (R.seen rows.new).left ≡ (R.seen rows.old).left }
-    ensures draws { (R.seen rows.new).draws ≡ (R.seen rows.old).draws }
-    ensures hand { (r : ℕ) → (R.seen rows.new).hand r ≡ (R.seen rows.old).hand r }
-    ensures words { (R.seen rows.new).words ≡ (R.seen rows.old).words }
-    ensures name { (R.seen rows.new).name ≡ (R.seen rows.old).name }
+    ensures kept { Same (R.seen rows.old) (R.seen rows.new) }
 {
     match table {
         Some(table) => Some(load_word(rows, 96 + table)),
@@ -87,11 +80,7 @@ pub(crate) fn load_word<R: Rows>(rows: &mut R, at: u64) -> Word
     requires { at < 160 }
     ensures goes { Goes (R.seen rows.old).reached (R.seen rows.new).reached (Loads at result.version result.flags
         ∷ []) }
-    ensures left { (R.seen rows.new).left ≡ (R.seen rows.old).left }
-    ensures draws { (R.seen rows.new).draws ≡ (R.seen rows.old).draws }
-    ensures hand { (r : ℕ) → (R.seen rows.new).hand r ≡ (R.seen rows.old).hand r }
-    ensures words { (R.seen rows.new).words ≡ (R.seen rows.old).words }
-    ensures name { (R.seen rows.new).name ≡ (R.seen rows.old).name }
+    ensures kept { Same (R.seen rows.old) (R.seen rows.new) }
 {
     let (version, flags) = rows.load(at);
     Word { version, flags }

@@ -1,8 +1,10 @@
 //! A session's statements on the setup tables.
 
 ghost use Rattle.std.specs.Prelude.{◌≡◌, ◌<◌, ◌≤◌, ◌+◌, ◌^◌, ◌∷◌, ◌++◌, [], ℕ, length, Some, None};
+ghost use Rattle.pfs_levels.specs.Views.{Used, lent_as};
 ghost use Rattle.pfs_admin.specs.SetupStatements.{has_changed, most_of, reply_to, work_of_statement};
-ghost use Rattle.pfs_admin.specs.Works.{Worked, Leaves};
+ghost use Rattle.pfs_admin.specs.Works.{Worked};
+ghost use Rattle.pfs_session.specs.CallCosts.{MayWork};
 ghost use Rattle.pfs_session.specs.Settlements.{owed_by_state, settle_cost};
 ghost use Rattle.pfs_session.specs.SessionStates.{nothing_held};
 ghost use Rattle.pfs_session.specs.Turns.{Played, Changes, SettlesHeld, is_answered, reply_entry, answer_entries};
@@ -19,11 +21,8 @@ impl Session {
     /// answer here: how many rows it shows is said by [append](Session::append), before the administration is left.
     pub fn act<H: Hold>(&mut self, rows: &mut H, admin: &mut Admin, what: SetupStatement) -> Reply
         requires early { self.old.state.actions + 1 < 2 ^ 64 }
-        requires few { admin.old.actions < 2 ^ 47 }
-        requires alone { (r : ℕ) → 0 < r → (H.seen rows.old).hand r ≡ None }
-        requires lent { (H.seen rows.old).words ≡ Some admin.old.words }
-        requires spare { length (owed_by_state self.old.state) ≤ (H.seen rows.old).left }
-        requires room { settle_cost (owed_by_state self.old.state) + (most_of what + 2) ≤ self.old.journal.room }
+        requires may { MayWork (length (owed_by_state self.old.state)) (settle_cost (owed_by_state self.old.state) +
+            (most_of what + 2)) admin.old (H.seen rows.old) self.old.journal }
         ensures played { Played (SettlesHeld ∷ Changes admin.old what ∷ []) self.old self.new (H.seen rows.old).reached
             (H.seen rows.new).reached }
         ensures admin { admin.new ≡ has_changed admin.old what }
@@ -33,11 +32,9 @@ impl Session {
           last = self.new.state.last;
         } }
         ensures reply { result ≡ reply_to admin.old what }
-        ensures leaves { Leaves (length (owed_by_state self.old.state)) (settle_cost (owed_by_state self.old.state)
-            + (most_of what + 2)) (H.seen rows.old).hand (H.seen rows.new).hand (H.seen rows.old).left
-            (H.seen rows.new).left (H.seen rows.old).draws (H.seen rows.new).draws (H.seen rows.old).name
-            (H.seen rows.new).name self.old.journal self.new.journal }
-        ensures lent { (H.seen rows.new).words ≡ Some admin.new.words }
+        ensures used { Used (length (owed_by_state self.old.state)) 0 (settle_cost (owed_by_state self.old.state) +
+            (most_of what + 2)) (lent_as admin.new.words (H.seen rows.old)) (H.seen rows.new) self.old.journal
+            self.new.journal }
     {
         self.settle(rows);
         self.log.push(Entry::Act {
@@ -74,10 +71,8 @@ fn state<H: Hold>(rows: &mut H, admin: &mut Admin, what: SetupStatement, log: &m
     ensures reply { result ≡ reply_to admin.old what }
     ensures worked { Worked (work_of_statement admin.old what) admin.old.words [] log.old log.new
         (H.seen rows.old).reached (H.seen rows.new).reached }
-    ensures lent { (H.seen rows.new).words ≡ Some admin.new.words }
-    ensures leaves { Leaves 0 (most_of what) (H.seen rows.old).hand (H.seen rows.new).hand (H.seen rows.old).left
-        (H.seen rows.new).left (H.seen rows.old).draws (H.seen rows.new).draws (H.seen rows.old).name
-        (H.seen rows.new).name log.old log.new }
+    ensures used { Used 0 0 (most_of what) (lent_as admin.new.words (H.seen rows.old)) (H.seen rows.new) log.old
+        log.new }
 {
     match what {
         SetupStatement::Update(update) => admin.update(rows, &update, log),

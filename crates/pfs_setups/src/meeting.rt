@@ -10,7 +10,7 @@ use crate::shown::{actor_shown, class_shown, consumer_shown, object_shown, sessi
 use pfs_consumers::Consumer;
 use pfs_containers::{Connection, Containers};
 use pfs_matching::{ActorRow, ObjectRow};
-use pfs_rows::Table;
+use pfs_rows::{Table, WORDS};
 use pfs_text::{Shown, Test, meets};
 
 pub(crate) fn actor_meets(tests: &[Test], row: &ActorRow) -> bool
@@ -111,7 +111,7 @@ pub(crate) fn words_met(
 ) -> u64
     ensures { result ≡ words_met names.now containers.now.now.places.threads table tests.now flags.now }
 {
-    met_up_to(names, containers, table, tests, flags, 160)
+    met_up_to(names, containers, table, tests, flags, WORDS)
 }
 
 fn met_up_to(

@@ -37,7 +37,7 @@ loop-place-preserved g c =
     up_next f i ∙ ap (λ z. up_to f i ++ place_asks cells z) (sym c.source_at-source.ensures.source) in
     record {
       moved = moved_more (up_to f i) more (up_to f (i + 1)) _ _ _ _ _ _ e c.loop-place.invariant.moved c.empty_place.ensures.moved;
-      stays = stays_more (up_to f i) more (up_to f (i + 1)) _ _ _ _ _ _ _ _ _ _ _ _ _ _ _ _ _ _ e c.loop-place.invariant.stays c.empty_place.ensures.stays;
+      stays = stays_more (up_to f i) more (up_to f (i + 1)) _ _ _ _ _ _ e c.loop-place.invariant.stays c.empty_place.ensures.stays;
     }
 
 pub returns-clause-moved : goal.returns-clause-moved
@@ -52,4 +52,4 @@ returns-clause-stays g c =
     let whole : up_to (asks_at c.args.containers.now.now.places c.args.cells.now c.args.level) c.loop-place.place
     ≡ level_asks c.args.containers.now.now.places c.args.cells.now c.args.level =
     level_whole c.args.containers.now.now.places c.args.cells.now c.args.level c.loop-place.place (omega arith) in
-    stays_as _ _ _ _ _ _ _ _ _ _ _ _ _ _ (ap cost whole) c.loop-place.invariant.stays
+    stays_as _ _ _ _ _ _ (ap cost whole) c.loop-place.invariant.stays

@@ -21,7 +21,7 @@ loop-place-preserved g c =
     record {
       signed = subst (λ z. Signed z c.args.log.now c.release.new.log (g.H.Rows.seen c.args.rows.now).reached (g.H.Rows.seen c.release.new.rows).reached) (sym (up_next f i))
           (signed_then (up_to f i) (f i) _ _ _ _ _ _ c.loop-place.invariant.signed c.release.ensures.signed);
-      stays = stays_then i 1 _ _ _ _ _ _ _ _ _ _ _ _ _ _ _ _ _ _ c.loop-place.invariant.stays c.release.ensures.stays;
+      stays = stays_then i 1 _ _ _ _ _ _ c.loop-place.invariant.stays c.release.ensures.stays;
     }
 
 pub returns-clause-signed : goal.returns-clause-signed
@@ -32,4 +32,4 @@ returns-clause-signed g c =
 
 pub returns-clause-stays : goal.returns-clause-stays
 returns-clause-stays g c =
-    stays_as _ _ _ _ _ _ _ _ _ _ _ _ _ _ (omega arith) c.loop-place.invariant.stays
+    stays_as _ _ _ _ _ _ (omega arith) c.loop-place.invariant.stays

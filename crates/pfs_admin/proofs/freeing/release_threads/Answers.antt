@@ -25,8 +25,8 @@ loop-slot-preserved g c =
     record {
       signed = subst (λ z. Signed z c.args.log.now c.release_slot.new.log (g.H.Rows.seen c.args.rows.now).reached (g.H.Rows.seen c.release_slot.new.rows).reached) (sym (up_next f i))
           (signed_then (up_to f i) (f i) _ _ _ _ _ _ c.loop-slot.invariant.signed signed);
-      stays = stays_as _ _ _ _ _ _ _ _ _ _ _ _ _ _ (omega arith)
-          (stays_then (10 * i) 10 _ _ _ _ _ _ _ _ _ _ _ _ _ _ _ _ _ _ c.loop-slot.invariant.stays c.release_slot.ensures.stays);
+      stays = stays_as _ _ _ _ _ _ (omega arith)
+          (stays_then (10 * i) 10 _ _ _ _ _ _ c.loop-slot.invariant.stays c.release_slot.ensures.stays);
     }
 
 pub returns-clause-signed : goal.returns-clause-signed
@@ -38,4 +38,4 @@ returns-clause-signed g c =
 
 pub returns-clause-stays : goal.returns-clause-stays
 returns-clause-stays g c =
-    stays_as _ _ _ _ _ _ _ _ _ _ _ _ _ _ (omega arith) c.loop-slot.invariant.stays
+    stays_as _ _ _ _ _ _ (omega arith) c.loop-slot.invariant.stays

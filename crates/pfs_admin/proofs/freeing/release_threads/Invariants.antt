@@ -10,5 +10,5 @@ abbrev pub invariant-loop-slot : goal.invariant-loop-slot
 invariant-loop-slot g l =
     record {
       signed : Signed (up_to (free_slot (is_there l.containers.now.places levels.Thread) l.first l.count) l.slot) l.fn.log l.log (g.H.Rows.seen l.fn.rows).reached (g.H.Rows.seen l.rows).reached;
-      stays : Stays (10 * l.slot) (g.H.Rows.seen l.fn.rows).hand (g.H.Rows.seen l.rows).hand (g.H.Rows.seen l.fn.rows).left (g.H.Rows.seen l.rows).left (g.H.Rows.seen l.fn.rows).draws (g.H.Rows.seen l.rows).draws (g.H.Rows.seen l.fn.rows).words (g.H.Rows.seen l.rows).words (g.H.Rows.seen l.fn.rows).name (g.H.Rows.seen l.rows).name l.fn.log l.log;
+      stays : Stays (10 * l.slot) (g.H.Rows.seen l.fn.rows) (g.H.Rows.seen l.rows) l.fn.log l.log;
     }

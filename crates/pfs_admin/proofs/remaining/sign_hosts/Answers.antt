@@ -13,5 +13,5 @@ returns-clause-signed g c =
 
 pub returns-clause-stays : goal.returns-clause-stays
 returns-clause-stays g c =
-    stays_then (standing (flag_at c.args.before.now.accounts)) (standing (flag_at c.args.before.now.hosts)) _ _ _ _ _ _ _ _ _ _ _ _ _ _ _ _ _ _
+    stays_then (standing (flag_at c.args.before.now.accounts)) (standing (flag_at c.args.before.now.hosts)) _ _ _ _ _ _
     c.sign_level.ensures.stays c.sign_level-2.ensures.stays

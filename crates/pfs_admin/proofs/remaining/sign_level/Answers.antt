@@ -23,8 +23,8 @@ loop-place-preserved g c =
     record {
       signed = subst (λ z. Signed z c.args.log.now c.sign_place.new.log (g.H.Rows.seen c.args.rows.now).reached (g.H.Rows.seen c.sign_place.new.rows).reached) (sym (up_next f i))
           (signed_then (up_to f i) (f i) _ _ _ _ _ _ c.loop-place.invariant.signed c.sign_place.ensures.signed);
-      stays = stays_as _ _ _ _ _ _ _ _ _ _ _ _ _ _ (sym (count_next (flag_at c.args.was.now) i))
-          (stays_then (count_up_to (flag_at c.args.was.now) i) (cond (flag_at c.args.was.now i) 1 0) _ _ _ _ _ _ _ _ _ _ _ _ _ _ _ _ _ _ c.loop-place.invariant.stays c.sign_place.ensures.stays);
+      stays = stays_as _ _ _ _ _ _ (sym (count_next (flag_at c.args.was.now) i))
+          (stays_then (count_up_to (flag_at c.args.was.now) i) (cond (flag_at c.args.was.now i) 1 0) _ _ _ _ _ _ c.loop-place.invariant.stays c.sign_place.ensures.stays);
     }
 
 pub returns-clause-signed : goal.returns-clause-signed
@@ -36,4 +36,4 @@ returns-clause-signed g c =
 
 pub returns-clause-stays : goal.returns-clause-stays
 returns-clause-stays g c =
-    stays_as _ _ _ _ _ _ _ _ _ _ _ _ _ _ (count_whole (flag_at c.args.was.now) c.loop-place.place (omega arith)) c.loop-place.invariant.stays
+    stays_as _ _ _ _ _ _ (count_whole (flag_at c.args.was.now) c.loop-place.place (omega arith)) c.loop-place.invariant.stays

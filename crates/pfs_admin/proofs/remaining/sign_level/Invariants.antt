@@ -8,5 +8,5 @@ abbrev pub invariant-loop-place : goal.invariant-loop-place
 invariant-loop-place g l =
     record {
       signed : Signed (up_to (sign_at l.written (flag_at l.was) l.containers.now l.level) l.place) l.fn.log l.log (g.H.Rows.seen l.fn.rows).reached (g.H.Rows.seen l.rows).reached;
-      stays : Stays (count_up_to (flag_at l.was) l.place) (g.H.Rows.seen l.fn.rows).hand (g.H.Rows.seen l.rows).hand (g.H.Rows.seen l.fn.rows).left (g.H.Rows.seen l.rows).left (g.H.Rows.seen l.fn.rows).draws (g.H.Rows.seen l.rows).draws (g.H.Rows.seen l.fn.rows).words (g.H.Rows.seen l.rows).words (g.H.Rows.seen l.fn.rows).name (g.H.Rows.seen l.rows).name l.fn.log l.log;
+      stays : Stays (count_up_to (flag_at l.was) l.place) (g.H.Rows.seen l.fn.rows) (g.H.Rows.seen l.rows) l.fn.log l.log;
     }

@@ -34,13 +34,14 @@ loop-at-preserved g c =
           (subst (λ z. Did (flagging_calls z (flagging z (first + i) c.flags_behind-flags.result)) (flagging_entries z (flagging z (first + i) c.flags_behind-flags.result)) c.loop-at.log c.flag.new.log (g.H.Rows.seen c.loop-at.rows).reached (g.H.Rows.seen c.flag.new.rows).reached) c.loop-at.invariant.mine c.flag.ensures.did);
       mine = c.flag.ensures.mine ∙ (ap (λ (z : List Word). flagged z (first + i) c.flags_behind-flags.result) c.loop-at.invariant.mine
           ∙ (ap (λ z. flagged (changed_up_to change words first i) (first + i) z) flags ∙ sym (changed_next change words first i)));
-      lent = c.flag.ensures.lent;
-      leaves = record {
-        hand = λ r. c.flag.ensures.leaves.hand r ∙ c.loop-at.invariant.leaves.hand r;
-        left = omega (arith, c.flag.ensures.leaves.left, c.loop-at.invariant.leaves.left);
-        draws = c.flag.ensures.leaves.draws ∙ c.loop-at.invariant.leaves.draws;
-        name = c.flag.ensures.leaves.name ∙ c.loop-at.invariant.leaves.name;
-        room = omega (arith, c.flag.ensures.leaves.room, c.loop-at.invariant.leaves.room);
+      used = record {
+        left = omega (arith, c.flag.ensures.used.left, c.loop-at.invariant.used.left);
+        draws = omega (arith, c.flag.ensures.used.draws, c.loop-at.invariant.used.draws);
+        no_more = omega (arith, c.flag.ensures.used.no_more, c.loop-at.invariant.used.no_more);
+        hand = λ r. c.flag.ensures.used.hand r ∙ c.loop-at.invariant.used.hand r;
+        words = c.flag.ensures.used.words;
+        name = c.flag.ensures.used.name ∙ c.loop-at.invariant.used.name;
+        room = omega (arith, c.flag.ensures.used.room, c.loop-at.invariant.used.room);
       };
     }
 

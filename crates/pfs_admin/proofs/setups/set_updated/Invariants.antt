@@ -1,7 +1,8 @@
-use Rattle.std.proofs.Common.{◌≡◌, Some}
+use Rattle.std.proofs.Common.{◌≡◌}
 use Rattle.pfs_levels.specs.Moves.{Did}
+use Rattle.pfs_levels.specs.Views.{Used, lent_as}
 use Rattle.pfs_admin.specs.WordChanges.{up_to, change_at, changed_up_to}
-use Rattle.pfs_admin.specs.Works.{flagging_calls, flagging_entries, Leaves}
+use Rattle.pfs_admin.specs.Works.{flagging_calls, flagging_entries}
 use Rattle.pfs_setups.specs.Updates as updates
 use Rattle.pfs_admin.proofs.setups.set_updated.Given as goal
 
@@ -12,6 +13,5 @@ invariant-loop-at g l =
     record {
       did : Did (flagging_calls l.fn.words (up_to (change_at change l.fn.words first) l.at)) (flagging_entries l.fn.words (up_to (change_at change l.fn.words first) l.at)) l.fn.log l.log (g.H.Rows.seen l.fn.rows).reached (g.H.Rows.seen l.rows).reached;
       mine : l.words ≡ changed_up_to change l.fn.words first l.at;
-      lent : (g.H.Rows.seen l.rows).words ≡ Some l.words;
-      leaves : Leaves 0 l.at (g.H.Rows.seen l.fn.rows).hand (g.H.Rows.seen l.rows).hand (g.H.Rows.seen l.fn.rows).left (g.H.Rows.seen l.rows).left (g.H.Rows.seen l.fn.rows).draws (g.H.Rows.seen l.rows).draws (g.H.Rows.seen l.fn.rows).name (g.H.Rows.seen l.rows).name l.fn.log l.log;
+      used : Used 0 0 l.at (lent_as l.words (g.H.Rows.seen l.fn.rows)) (g.H.Rows.seen l.rows) l.fn.log l.log;
     }

@@ -28,7 +28,7 @@ loop-at-preserved g c =
     up_next digest_ask i ∙ ap (λ z. up_to digest_ask i ++ ask (z + i) [] ∷ []) (sym c.row_of.ensures.number) in
     record {
       moved = moved_more (up_to digest_ask i) more (up_to digest_ask (i + 1)) _ _ _ _ _ _ e c.loop-at.invariant.moved c.clear.ensures.moved;
-      stays = stays_more (up_to digest_ask i) more (up_to digest_ask (i + 1)) _ _ _ _ _ _ _ _ _ _ _ _ _ _ _ _ _ _ e c.loop-at.invariant.stays c.clear.ensures.stays;
+      stays = stays_more (up_to digest_ask i) more (up_to digest_ask (i + 1)) _ _ _ _ _ _ e c.loop-at.invariant.stays c.clear.ensures.stays;
     }
 
 pub returns-clause-moved : goal.returns-clause-moved
@@ -39,4 +39,4 @@ returns-clause-moved g c =
 pub returns-clause-stays : goal.returns-clause-stays
 returns-clause-stays g c =
     let whole : up_to digest_ask c.loop-at.at ≡ digest_asks c.args.places = digests_whole c.args.places c.loop-at.at (omega arith) in
-    stays_as _ _ _ _ _ _ _ _ _ _ _ _ _ _ (ap cost whole) c.loop-at.invariant.stays
+    stays_as _ _ _ _ _ _ (ap cost whole) c.loop-at.invariant.stays

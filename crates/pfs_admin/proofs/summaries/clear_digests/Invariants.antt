@@ -7,5 +7,5 @@ abbrev pub invariant-loop-at : goal.invariant-loop-at
 invariant-loop-at g l =
     record {
       moved : Moved (up_to digest_ask l.at) l.fn.log l.log (g.H.Rows.seen l.fn.rows).reached (g.H.Rows.seen l.rows).reached;
-      stays : Stays (cost (up_to digest_ask l.at)) (g.H.Rows.seen l.fn.rows).hand (g.H.Rows.seen l.rows).hand (g.H.Rows.seen l.fn.rows).left (g.H.Rows.seen l.rows).left (g.H.Rows.seen l.fn.rows).draws (g.H.Rows.seen l.rows).draws (g.H.Rows.seen l.fn.rows).words (g.H.Rows.seen l.rows).words (g.H.Rows.seen l.fn.rows).name (g.H.Rows.seen l.rows).name l.fn.log l.log;
+      stays : Stays (cost (up_to digest_ask l.at)) (g.H.Rows.seen l.fn.rows) (g.H.Rows.seen l.rows) l.fn.log l.log;
     }

@@ -26,5 +26,5 @@ loop-cell-preserved g c =
     let e : map clearing (take (i + 1) cells) ≡ map clearing (take i cells) ++ more = cells_more clearing cells i c.row_of.result [] c.loop-cell-test.true c.row_of.ensures.number refl in
     record {
       moved = moved_more (map clearing (take i cells)) more (map clearing (take (i + 1) cells)) _ _ _ _ _ _ e c.loop-cell.invariant.moved c.clear.ensures.moved;
-      stays = stays_more (map clearing (take i cells)) more (map clearing (take (i + 1) cells)) _ _ _ _ _ _ _ _ _ _ _ _ _ _ _ _ _ _ e c.loop-cell.invariant.stays c.clear.ensures.stays;
+      stays = stays_more (map clearing (take i cells)) more (map clearing (take (i + 1) cells)) _ _ _ _ _ _ e c.loop-cell.invariant.stays c.clear.ensures.stays;
     }

@@ -65,4 +65,4 @@ returns-clause-moved g c =
 pub returns-clause-stays : goal.returns-clause-stays
 returns-clause-stays g c =
     let s = c.args.containers.now.now.places in
-    stays_both (summary_asks s c.args.table c.args.cells.now.waits) ((summary_asks s c.args.table c.args.cells.now.stages) ++ ((summary_asks s c.args.table c.args.cells.now.statements) ++ (summary_asks s c.args.table c.args.cells.now.transactions))) _ _ _ _ _ _ _ _ _ _ _ _ _ _ _ _ _ _ c.empty_kind.ensures.stays (stays_both (summary_asks s c.args.table c.args.cells.now.stages) ((summary_asks s c.args.table c.args.cells.now.statements) ++ (summary_asks s c.args.table c.args.cells.now.transactions)) _ _ _ _ _ _ _ _ _ _ _ _ _ _ _ _ _ _ c.empty_kind-2.ensures.stays (stays_both (summary_asks s c.args.table c.args.cells.now.statements) (summary_asks s c.args.table c.args.cells.now.transactions) _ _ _ _ _ _ _ _ _ _ _ _ _ _ _ _ _ _ c.empty_kind-3.ensures.stays c.empty_kind-4.ensures.stays))
+    stays_both (summary_asks s c.args.table c.args.cells.now.waits) ((summary_asks s c.args.table c.args.cells.now.stages) ++ ((summary_asks s c.args.table c.args.cells.now.statements) ++ (summary_asks s c.args.table c.args.cells.now.transactions))) _ _ _ _ _ _ c.empty_kind.ensures.stays (stays_both (summary_asks s c.args.table c.args.cells.now.stages) ((summary_asks s c.args.table c.args.cells.now.statements) ++ (summary_asks s c.args.table c.args.cells.now.transactions)) _ _ _ _ _ _ c.empty_kind-2.ensures.stays (stays_both (summary_asks s c.args.table c.args.cells.now.statements) (summary_asks s c.args.table c.args.cells.now.transactions) _ _ _ _ _ _ c.empty_kind-3.ensures.stays c.empty_kind-4.ensures.stays))

@@ -36,4 +36,4 @@ returns-clause-moved g c =
 pub returns-clause-stays : goal.returns-clause-stays
 returns-clause-stays g c =
     let s = c.args.containers.now.now.places in
-    stays_both (emptied c.args.reach.hosts s c.args.cells.now levels.Host) (cleared c.args.reach.global c.args.cells.now) _ _ _ _ _ _ _ _ _ _ _ _ _ _ _ _ _ _ c.empty_level_if.ensures.stays c.clear_global_if.ensures.stays
+    stays_both (emptied c.args.reach.hosts s c.args.cells.now levels.Host) (cleared c.args.reach.global c.args.cells.now) _ _ _ _ _ _ c.empty_level_if.ensures.stays c.clear_global_if.ensures.stays

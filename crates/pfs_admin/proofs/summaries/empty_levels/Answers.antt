@@ -35,4 +35,4 @@ returns-clause-moved g c =
 pub returns-clause-stays : goal.returns-clause-stays
 returns-clause-stays g c =
     let s = c.args.containers.now.now.places in
-    stays_both (lower_asks s c.args.reach c.args.cells.now) (upper_asks s c.args.reach c.args.cells.now) _ _ _ _ _ _ _ _ _ _ _ _ _ _ _ _ _ _ c.empty_lower.ensures.stays c.empty_upper.ensures.stays
+    stays_both (lower_asks s c.args.reach c.args.cells.now) (upper_asks s c.args.reach c.args.cells.now) _ _ _ _ _ _ c.empty_lower.ensures.stays c.empty_upper.ensures.stays

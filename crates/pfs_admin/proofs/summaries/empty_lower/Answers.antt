@@ -36,4 +36,4 @@ returns-clause-moved g c =
 pub returns-clause-stays : goal.returns-clause-stays
 returns-clause-stays g c =
     let s = c.args.containers.now.now.places in
-    stays_both (level_asks s c.args.cells.now levels.Thread) (emptied c.args.reach.accounts s c.args.cells.now levels.Account) _ _ _ _ _ _ _ _ _ _ _ _ _ _ _ _ _ _ c.empty_level.ensures.stays c.empty_level_if.ensures.stays
+    stays_both (level_asks s c.args.cells.now levels.Thread) (emptied c.args.reach.accounts s c.args.cells.now levels.Account) _ _ _ _ _ _ c.empty_level.ensures.stays c.empty_level_if.ensures.stays

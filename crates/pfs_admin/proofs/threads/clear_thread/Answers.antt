@@ -51,9 +51,9 @@ returns-clause-worked g c =
     worked_all _ _ _ _ _ _ _ _ _ _ _ _ c.flush_cells.ensures.moved
     (signed_then _ _ _ _ _ _ _ _ c.release.ensures.signed (signed_then _ _ _ _ _ _ _ _ c.tag_uppers.ensures.signed c.release_ring.ensures.signed)) c.flag.ensures.did
 
-pub returns-clause-leaves : goal.returns-clause-leaves
-returns-clause-leaves g c = record {
-  hand = λ r. c.flag.ensures.leaves.hand r
+pub returns-clause-used : goal.returns-clause-used
+returns-clause-used g c = record {
+  hand = λ r. c.flag.ensures.used.hand r
       ∙ (c.release_ring.ensures.stays.hand r ∙ (c.tag_uppers.ensures.stays.hand r ∙ (c.release.ensures.stays.hand r ∙ c.flush_cells.ensures.stays.hand r)));
   left = omega (
     arith,
@@ -62,9 +62,11 @@ returns-clause-leaves g c = record {
     c.release.ensures.stays.left,
     c.tag_uppers.ensures.stays.left,
     c.release_ring.ensures.stays.left,
-    c.flag.ensures.leaves.left,
+    c.flag.ensures.used.left,
   );
   draws = search rules;
+  no_more = search rules;
+  words = search rules;
   name = search rules;
   room = omega (
     arith,
@@ -73,6 +75,6 @@ returns-clause-leaves g c = record {
     c.release.ensures.stays.room,
     c.tag_uppers.ensures.stays.room,
     c.release_ring.ensures.stays.room,
-    c.flag.ensures.leaves.room,
+    c.flag.ensures.used.room,
   );
 }

@@ -24,13 +24,14 @@ loop-table-preserved g c =
       did = changed_more off words 96 i 0 c.args.log.now c.loop-table.log c.flag.new.log _ _ _ refl c.loop-table.invariant.did
           (subst (λ z. Did (flagging_calls z (flagging z (96 + i) 0)) (flagging_entries z (flagging z (96 + i) 0)) c.loop-table.log c.flag.new.log (g.H.Rows.seen c.loop-table.rows).reached (g.H.Rows.seen c.flag.new.rows).reached) c.loop-table.invariant.mine c.flag.ensures.did);
       mine = c.flag.ensures.mine ∙ (ap (λ (z : List Word). flagged z (96 + i) 0) c.loop-table.invariant.mine ∙ sym (changed_next off words 96 i));
-      lent = c.flag.ensures.lent;
-      leaves = record {
-        hand = λ r. c.flag.ensures.leaves.hand r ∙ c.loop-table.invariant.leaves.hand r;
-        left = omega (arith, c.flag.ensures.leaves.left, c.loop-table.invariant.leaves.left);
-        draws = c.flag.ensures.leaves.draws ∙ c.loop-table.invariant.leaves.draws;
-        name = c.flag.ensures.leaves.name ∙ c.loop-table.invariant.leaves.name;
-        room = omega (arith, c.flag.ensures.leaves.room, c.loop-table.invariant.leaves.room);
+      used = record {
+        left = omega (arith, c.flag.ensures.used.left, c.loop-table.invariant.used.left);
+        draws = omega (arith, c.flag.ensures.used.draws, c.loop-table.invariant.used.draws);
+        no_more = omega (arith, c.flag.ensures.used.no_more, c.loop-table.invariant.used.no_more);
+        hand = λ r. c.flag.ensures.used.hand r ∙ c.loop-table.invariant.used.hand r;
+        words = c.flag.ensures.used.words;
+        name = c.flag.ensures.used.name ∙ c.loop-table.invariant.used.name;
+        room = omega (arith, c.flag.ensures.used.room, c.loop-table.invariant.used.room);
       };
     }
 
@@ -43,4 +44,4 @@ pub returns-clause-mine : goal.returns-clause-mine
 returns-clause-mine g c = c.loop-table.invariant.mine ∙ words_whole off c.args.words.now 96 c.loop-table.table 64 (omega arith)
 
 pub flag-requires-clause-room : goal.flag-requires-clause-room
-flag-requires-clause-room g c = omega (arith, c.loop-table.invariant.leaves.room, c.requires.room)
+flag-requires-clause-room g c = omega (arith, c.loop-table.invariant.used.room, c.requires.room)

@@ -34,14 +34,16 @@ returns-clause-worked g c =
     (signs_same c.args.containers.now.now.places c.of-before.result (kept_behind c.args.containers.now c.args.what).now c.args.what c.of-before.ensures) signed)
     c.set_truncated.ensures.did
 
-pub returns-clause-leaves : goal.returns-clause-leaves
-returns-clause-leaves g c =
+pub returns-clause-used : goal.returns-clause-used
+returns-clause-used g c =
     let most : signs_most (was_by c.of-before.result) c.args.what ≡ signs_most (is_there c.args.containers.now.now.places) c.args.what =
     most_same c.args.containers.now.now.places c.of-before.result c.args.what c.of-before.ensures in
     record {
-      hand = λ r. c.set_truncated.ensures.leaves.hand r ∙ (c.sign_truncated.ensures.stays.hand r ∙ c.move_truncated.ensures.stays.hand r);
-      left = omega (arith, most, c.move_truncated.ensures.stays.left, c.sign_truncated.ensures.stays.left, c.set_truncated.ensures.leaves.left);
-      draws = c.set_truncated.ensures.leaves.draws ∙ (c.sign_truncated.ensures.stays.draws ∙ c.move_truncated.ensures.stays.draws);
-      name = c.set_truncated.ensures.leaves.name ∙ (c.sign_truncated.ensures.stays.name ∙ c.move_truncated.ensures.stays.name);
-      room = omega (arith, most, c.move_truncated.ensures.stays.room, c.sign_truncated.ensures.stays.room, c.set_truncated.ensures.leaves.room);
+      left = omega (arith, most, c.move_truncated.ensures.stays.left, c.sign_truncated.ensures.stays.left, c.set_truncated.ensures.used.left);
+      draws = omega (arith, c.move_truncated.ensures.stays.draws, c.sign_truncated.ensures.stays.draws, c.set_truncated.ensures.used.draws);
+      no_more = omega (arith, c.move_truncated.ensures.stays.no_more, c.sign_truncated.ensures.stays.no_more, c.set_truncated.ensures.used.no_more);
+      hand = λ r. c.set_truncated.ensures.used.hand r ∙ (c.sign_truncated.ensures.stays.hand r ∙ c.move_truncated.ensures.stays.hand r);
+      words = c.set_truncated.ensures.used.words;
+      name = c.set_truncated.ensures.used.name ∙ (c.sign_truncated.ensures.stays.name ∙ c.move_truncated.ensures.stays.name);
+      room = omega (arith, most, c.move_truncated.ensures.stays.room, c.sign_truncated.ensures.stays.room, c.set_truncated.ensures.used.room);
     }

@@ -1,18 +1,24 @@
-use Rattle.std.proofs.Common.{◌≡◌, ◌∙◌, ℕ, List, map, ap, sym, subst, length, arith}
+use Rattle.std.proofs.Common.{◌≡◌, ◌∙◌, ℕ, List, map, ap, sym, subst, length}
 use Rattle.pfs_admin.specs.AdministrationStates.{State as Administration}
 use Rattle.pfs_event.specs.declared.kind.EventKind.{EventKind}
 use Rattle.pfs_event.specs.Nests.{OpenEvents}
 use Rattle.pfs_law_plain.specs.LineSteps.{kinds_at, kinds_in}
-use Rattle.pfs_play.specs.Errands.{StagesLie, actions_on, admin_after, cost_on, kinds_after}
+use Rattle.pfs_play.specs.Errands.{StagesLie, admin_after, kinds_after}
+use Rattle.pfs_play.specs.Needs.{Ready}
 use Rattle.pfs_runs.specs.SelectAnswers.{selection_on}
 use Rattle.pfs_script.specs.declared.blocks.BlockLine.{BlockLine}
 use Rattle.pfs_script.specs.Marks.{written_out}
 use Rattle.pfs_session.specs.SessionStates.{State}
 use Rattle.pfs_law_script.specs.Course.{connected_by, deeds_along, ended_by}
 use Rattle.pfs_blocks.specs.PlayedBlocks.{HasDeeds, MayEnd}
+use Rattle.pfs_blocks.specs.BlockNeeds.{Within, need_to_end}
 use Rattle.pfs_blocks.proofs.BlockEnds.{block_deeds}
-use Rattle.pfs_play.proofs.HeldBounds.{none_wide, owed_fits, settling_fits}
+use Rattle.pfs_blocks.proofs.BlockNeeds.{IsConnected, block_within, may_pause, ready_connect, ready_connected}
+use Rattle.pfs_play.proofs.HeldBounds.{none_wide}
 use Rattle.pfs_blocks.proofs.blocks.play_block.Goals as goal
+
+pub connect_by-requires-clause-acts : goal.connect_by-requires-clause-acts
+connect_by-requires-clause-acts g c = ready_connect c.args.block.now c.args.session c.args.admin.now (g.A.Rows.seen c.args.rows.now) c.requires.ready
 
 pub play_to_end-requires-clause-may : goal.play_to_end-requires-clause-may
 play_to_end-requires-clause-may g c =
@@ -25,54 +31,24 @@ play_to_end-requires-clause-lie g c = subst (λ (o : OpenEvents). StagesLie (kin
 pub play_to_end-requires-clause-wide : goal.play_to_end-requires-clause-wide
 play_to_end-requires-clause-wide g c = ap (λ (s : State). length s.held) c.connect_by.ensures.rest ∙ (ap length c.requires.free ∙ none_wide)
 
-pub play_to_end-requires-clause-early : goal.play_to_end-requires-clause-early
-play_to_end-requires-clause-early g c =
-    let e = ap (λ (s : State). s.drawn) c.connect_by.ensures.rest in
-    let n = ap (λ (l : List BlockLine). length (written_out l)) c.as_slice.ensures in
-    omega (arith, e, n, c.requires.early)
-
-pub play_to_end-requires-clause-rare : goal.play_to_end-requires-clause-rare
-play_to_end-requires-clause-rare g c =
-    let k = ap (λ (l : List BlockLine). actions_on (written_out l)) c.as_slice.ensures in
-    omega (arith, k, c.connect_by.ensures.actions, c.requires.rare)
-
-pub play_to_end-requires-clause-few : goal.play_to_end-requires-clause-few
-play_to_end-requires-clause-few g c =
-    let k = ap (λ (l : List BlockLine). actions_on (written_out l)) c.as_slice.ensures in
-    omega (arith, k, c.connect_by.ensures.counted, c.requires.few)
-
-pub play_to_end-requires-clause-idle : goal.play_to_end-requires-clause-idle
-play_to_end-requires-clause-idle g c = λ r. c.connect_by.ensures.leaves.hand r ∙ c.requires.idle r
-
-pub play_to_end-requires-clause-tickets : goal.play_to_end-requires-clause-tickets
-play_to_end-requires-clause-tickets g c =
-    let n = ap (λ (l : List BlockLine). length (written_out l)) c.as_slice.ensures in
-    omega (arith, n, c.connect_by.ensures.leaves.draws, c.requires.tickets)
-
-pub play_to_end-requires-clause-spare : goal.play_to_end-requires-clause-spare
-play_to_end-requires-clause-spare g c =
-    let n = ap (λ (l : List BlockLine). length (written_out l)) c.as_slice.ensures in
-    let k = ap (λ (l : List BlockLine). actions_on (written_out l)) c.as_slice.ensures in
-    omega (arith, n, k, c.connect_by.ensures.leaves.left, c.requires.spare)
-
-pub play_to_end-requires-clause-room : goal.play_to_end-requires-clause-room
-play_to_end-requires-clause-room g c =
-    let m = ap (λ (l : List BlockLine). cost_on (written_out l)) c.as_slice.ensures in
-    omega (arith, m, c.connect_by.ensures.leaves.room, c.requires.room)
+pub play_to_end-requires-clause-ready : goal.play_to_end-requires-clause-ready
+play_to_end-requires-clause-ready g c =
+    let connected : IsConnected c.args.session c.connect_by.new.session c.args.admin.now c.connect_by.new.admin (g.A.Rows.seen c.args.rows.now) (g.A.Rows.seen c.connect_by.new.rows) =
+    record { rest = c.connect_by.ensures.rest; actions = c.connect_by.ensures.actions; counted = c.connect_by.ensures.counted; used = c.connect_by.ensures.used } in
+    subst (λ (l : List BlockLine). Ready (need_to_end l) c.connect_by.new.session c.connect_by.new.admin (g.A.Rows.seen c.connect_by.new.rows)) (sym c.as_slice.ensures)
+    (ready_connected c.args.block.now c.args.session c.connect_by.new.session c.args.admin.now c.connect_by.new.admin (g.A.Rows.seen c.args.rows.now) (g.A.Rows.seen c.connect_by.new.rows) c.requires.ready connected)
 
 pub pause-requires-clause-alone : goal.pause-requires-clause-alone
-pause-requires-clause-alone g c = λ r some. c.in-Ok.ensures.leaves.hand r ∙ (c.connect_by.ensures.leaves.hand r ∙ c.requires.idle r)
+pause-requires-clause-alone g c = λ r some. c.in-Ok.ensures.within.used.hand r ∙ (c.connect_by.ensures.used.hand r ∙ c.requires.ready.idle r)
 
-pub pause-requires-clause-spare : goal.pause-requires-clause-spare
-pause-requires-clause-spare g c =
-    let n = ap (λ (l : List BlockLine). length (written_out l)) c.as_slice.ensures in
-    let k = ap (λ (l : List BlockLine). actions_on (written_out l)) c.as_slice.ensures in
-    omega (arith, n, k, owed_fits c.play_to_end.new.session.state c.in-Ok.ensures.wide, c.connect_by.ensures.leaves.left, c.in-Ok.ensures.leaves.left, c.requires.spare)
-
-pub pause-requires-clause-room : goal.pause-requires-clause-room
-pause-requires-clause-room g c =
-    let m = ap (λ (l : List BlockLine). cost_on (written_out l)) c.as_slice.ensures in
-    omega (arith, m, settling_fits c.play_to_end.new.session.state c.in-Ok.ensures.wide, c.connect_by.ensures.leaves.room, c.in-Ok.ensures.leaves.room, c.requires.room)
+pub pause-requires-clause-affords : goal.pause-requires-clause-affords
+pause-requires-clause-affords g c =
+    let connected : IsConnected c.args.session c.connect_by.new.session c.args.admin.now c.connect_by.new.admin (g.A.Rows.seen c.args.rows.now) (g.A.Rows.seen c.connect_by.new.rows) =
+    record { rest = c.connect_by.ensures.rest; actions = c.connect_by.ensures.actions; counted = c.connect_by.ensures.counted; used = c.connect_by.ensures.used } in
+    let within : Within (need_to_end c.args.block.now.lines) c.connect_by.new.session c.play_to_end.new.session c.connect_by.new.admin c.play_to_end.new.admin (g.A.Rows.seen c.connect_by.new.rows) (g.A.Rows.seen c.play_to_end.new.rows) =
+    subst (λ (l : List BlockLine). Within (need_to_end l) c.connect_by.new.session c.play_to_end.new.session c.connect_by.new.admin c.play_to_end.new.admin (g.A.Rows.seen c.connect_by.new.rows) (g.A.Rows.seen c.play_to_end.new.rows)) c.as_slice.ensures c.in-Ok.ensures.within in
+    may_pause c.args.block.now c.args.session c.connect_by.new.session c.play_to_end.new.session c.args.admin.now c.connect_by.new.admin c.play_to_end.new.admin (g.A.Rows.seen c.args.rows.now) (g.A.Rows.seen c.connect_by.new.rows) (g.A.Rows.seen c.play_to_end.new.rows)
+    c.requires.ready connected within c.in-Ok.ensures.wide
 
 pub returns-in-Ok-clause-did : goal.returns-in-Ok-clause-did
 returns-in-Ok-clause-did g c few =
@@ -114,42 +90,11 @@ returns-in-Ok-clause-lie g c = subst StagesLie (sym (ap (λ (s : State). kinds_a
 pub returns-in-Ok-clause-free : goal.returns-in-Ok-clause-free
 returns-in-Ok-clause-free g c = ap (λ (s : State). s.held) c.pause.ensures.state
 
-pub returns-in-Ok-clause-drawn : goal.returns-in-Ok-clause-drawn
-returns-in-Ok-clause-drawn g c =
-    let e = ap (λ (s : State). s.drawn) c.pause.ensures.state in
-    let f = ap (λ (s : State). s.drawn) c.connect_by.ensures.rest in
-    let n = ap (λ (l : List BlockLine). length (written_out l)) c.as_slice.ensures in
-    omega (arith, e, f, n, c.in-Ok.ensures.drawn)
-
-pub returns-in-Ok-clause-number : goal.returns-in-Ok-clause-number
-returns-in-Ok-clause-number g c = ap (λ (s : State). s.number) c.pause.ensures.state ∙ (c.in-Ok.ensures.number ∙ ap (λ (s : State). s.number) c.connect_by.ensures.rest)
-
-pub returns-in-Ok-clause-depth : goal.returns-in-Ok-clause-depth
-returns-in-Ok-clause-depth g c = ap (λ (s : State). s.opened.depth) c.pause.ensures.state ∙ (c.in-Ok.ensures.depth ∙ ap (λ (s : State). s.opened.depth) c.connect_by.ensures.rest)
-
-pub returns-in-Ok-clause-actions : goal.returns-in-Ok-clause-actions
-returns-in-Ok-clause-actions g c =
-    let e = ap (λ (s : State). s.actions) c.pause.ensures.state in
-    let k = ap (λ (l : List BlockLine). actions_on (written_out l)) c.as_slice.ensures in
-    omega (arith, e, k, c.connect_by.ensures.actions, c.in-Ok.ensures.actions)
-
-pub returns-in-Ok-clause-counted : goal.returns-in-Ok-clause-counted
-returns-in-Ok-clause-counted g c =
-    let k = ap (λ (l : List BlockLine). actions_on (written_out l)) c.as_slice.ensures in
-    omega (arith, k, c.connect_by.ensures.counted, c.in-Ok.ensures.counted)
-
-pub returns-in-Ok-clause-leaves : goal.returns-in-Ok-clause-leaves
-returns-in-Ok-clause-leaves g c =
-    let n = ap (λ (l : List BlockLine). length (written_out l)) c.as_slice.ensures in
-    let m = ap (λ (l : List BlockLine). cost_on (written_out l)) c.as_slice.ensures in
-    let k = ap (λ (l : List BlockLine). actions_on (written_out l)) c.as_slice.ensures in
-    record {
-      hand = λ r. c.pause.ensures.leaves.hand r ∙ (c.in-Ok.ensures.leaves.hand r ∙ c.connect_by.ensures.leaves.hand r);
-      left = omega (arith, n, k, owed_fits c.play_to_end.new.session.state c.in-Ok.ensures.wide, c.connect_by.ensures.leaves.left, c.in-Ok.ensures.leaves.left, c.pause.ensures.leaves.left);
-      draws = omega (arith, n, c.connect_by.ensures.leaves.draws, c.in-Ok.ensures.leaves.draws, c.pause.ensures.leaves.draws);
-      name = c.pause.ensures.leaves.name ∙ (c.in-Ok.ensures.leaves.name ∙ c.connect_by.ensures.leaves.name);
-      room = omega (arith, m, settling_fits c.play_to_end.new.session.state c.in-Ok.ensures.wide, c.connect_by.ensures.leaves.room, c.in-Ok.ensures.leaves.room, c.pause.ensures.leaves.room);
-    }
-
-pub returns-in-Ok-clause-lent : goal.returns-in-Ok-clause-lent
-returns-in-Ok-clause-lent g c = c.pause.ensures.words ∙ c.in-Ok.ensures.lent
+pub returns-in-Ok-clause-within : goal.returns-in-Ok-clause-within
+returns-in-Ok-clause-within g c =
+    let connected : IsConnected c.args.session c.connect_by.new.session c.args.admin.now c.connect_by.new.admin (g.A.Rows.seen c.args.rows.now) (g.A.Rows.seen c.connect_by.new.rows) =
+    record { rest = c.connect_by.ensures.rest; actions = c.connect_by.ensures.actions; counted = c.connect_by.ensures.counted; used = c.connect_by.ensures.used } in
+    let within : Within (need_to_end c.args.block.now.lines) c.connect_by.new.session c.play_to_end.new.session c.connect_by.new.admin c.play_to_end.new.admin (g.A.Rows.seen c.connect_by.new.rows) (g.A.Rows.seen c.play_to_end.new.rows) =
+    subst (λ (l : List BlockLine). Within (need_to_end l) c.connect_by.new.session c.play_to_end.new.session c.connect_by.new.admin c.play_to_end.new.admin (g.A.Rows.seen c.connect_by.new.rows) (g.A.Rows.seen c.play_to_end.new.rows)) c.as_slice.ensures c.in-Ok.ensures.within in
+    block_within c.args.block.now c.args.session c.connect_by.new.session c.play_to_end.new.session c.pause.result c.args.admin.now c.connect_by.new.admin c.play_to_end.new.admin (g.A.Rows.seen c.args.rows.now) (g.A.Rows.seen c.connect_by.new.rows) (g.A.Rows.seen c.play_to_end.new.rows)
+    (g.A.Rows.seen c.pause.new.rows) connected within c.in-Ok.ensures.wide c.pause.ensures.state c.pause.ensures.used

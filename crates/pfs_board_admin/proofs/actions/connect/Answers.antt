@@ -43,9 +43,9 @@ leave-requires-clause-value g c =
     let done = worked.did.goes begun.0 _ met in
     let from = subst (λ (t : TableId). IfSome c.into_parts-rows.result.1 (λ (x : Known). x.switches ≡ t)) begun.3 (c.into_parts-rows.ensures.same begun.0 _ done) in
     let sets = returned c.into_parts-rows.result.1 old.words what.flags worked.made worked.moves c.into_parts-admin.result.1.view.seen (Enters c.args.label entered.0 ∷ begun.1) _ _
-    (c.into_parts-rows.ensures.sets begun.0 _ done c.into_parts-admin.result.1.view.sets (c.connect-placed.ensures.leaves.name ∙ c.new-hold.ensures.name)) is.sets in
+    (c.into_parts-rows.ensures.sets begun.0 _ done c.into_parts-admin.result.1.view.sets (c.connect-placed.ensures.used.name ∙ c.new-hold.ensures.name)) is.sets in
     let then = followed g.N.Named.setting g.N.Named.change g.N.Shared.switches entered.0 _ _ is c.args.label _ _ _ _ _ _ _ c.requires.named c.connect-placed.ensures.stands c.new.ensures.admin c.new.ensures.writer c.in-Some.is
-    c.into_parts-rows.ensures.words c.connect-placed.ensures.lent from sets in (
+    c.into_parts-rows.ensures.words c.connect-placed.ensures.used.words from sets in (
       begun.0,
       _,
       c.into_parts-rows.ensures.call begun.0 _ done,
@@ -64,9 +64,9 @@ returns-clause-acted g c = λ start calls reached.
     let known = worked.did.goes begun.0 _ (c.new-hold.ensures.call begun.0 (Enters c.args.label before.0 ∷ begun.1) before.1.2) in
     let from = subst (λ (t : TableId). IfSome c.into_parts-rows.result.1 (λ (x : Known). x.switches ≡ t)) begun.3 (c.into_parts-rows.ensures.same begun.0 _ known) in
     let sets = returned c.into_parts-rows.result.1 old.words what.flags worked.made worked.moves c.into_parts-admin.result.1.view.seen (Enters c.args.label before.0 ∷ begun.1) _ _
-    (c.into_parts-rows.ensures.sets begun.0 _ known c.into_parts-admin.result.1.view.sets (c.connect-placed.ensures.leaves.name ∙ c.new-hold.ensures.name)) is.sets in
+    (c.into_parts-rows.ensures.sets begun.0 _ known c.into_parts-admin.result.1.view.sets (c.connect-placed.ensures.used.name ∙ c.new-hold.ensures.name)) is.sets in
     let then = followed g.N.Named.setting g.N.Named.change g.N.Shared.switches entered.0 _ _ is c.args.label _ _ _ _ _ _ _ c.requires.named c.connect-placed.ensures.stands c.new.ensures.admin c.new.ensures.writer c.in-Some.is
-    c.into_parts-rows.ensures.words c.connect-placed.ensures.lent from sets in
+    c.into_parts-rows.ensures.words c.connect-placed.ensures.used.words from sets in
     let done = worked.did.goes start _ (c.new-hold.ensures.call start (Enters c.args.label entered.0 ∷ calls) entered.1.2) in
     let low = subst (λ (p : Placed). IfSome p.thread (λ n. n < 32)) c.connect-placed.ensures.placed c.connect-placed.ensures.slot in
     let words = ap (λ (s : State). s.words) (c.new.ensures.admin ∙ c.connect-placed.ensures.step) in

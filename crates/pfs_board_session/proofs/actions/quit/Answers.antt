@@ -1,4 +1,4 @@
-use Rattle.std.proofs.Common.{List, ap, subst, sym, ◌∙◌}
+use Rattle.std.proofs.Common.{List, arith, ap, subst, sym, ◌∙◌}
 use Rattle.pfs_admin.specs.ConnectionAsks.{work_of_quit}
 use Rattle.pfs_admin.specs.declared.changes.Change.TheVariants.{Quit}
 use Rattle.pfs_admin.specs.AdministrationStates.{State as Administration, has_quit, seat_in}
@@ -25,7 +25,7 @@ finish-requires-clause-stands g c =
       begun.3,
       stands_behind g.N.Named.setting g.N.Named.change g.N.Shared.switches _ met.0 admin met.1 begun.1 _ _ _ work behind,
       sets.0,
-      c.quit.ensures.leaves.name ∙ met.4 ∙ ap (λ ls. number_of (sets_of g.N.Named.setting g.N.Named.change ls)) (sym sets.1),
+      c.quit.ensures.used.name ∙ met.4 ∙ ap (λ ls. number_of (sets_of g.N.Named.setting g.N.Named.change ls)) (sym sets.1),
     )
 
 pub returns-clause-acted : goal.returns-clause-acted
@@ -45,3 +45,22 @@ returns-clause-acted g c = λ start calls reached.
       acted g.N.Named.setting g.N.Named.change g.N.Shared.switches _ met.0 admin met.1 calls _ _ _ _ _ p c.label.ensures met.2,
       keeps_behind g.N.Named.setting g.N.Named.change g.N.Shared.switches _ met.0 admin met.1 calls _ _ _ met.2 work one behind,
     )
+
+pub quit-requires-clause-may : goal.quit-requires-clause-may
+quit-requires-clause-may g c = record {
+  few = c.begin-admin.ensures.few;
+  alone = c.begin-admin.ensures.alone;
+  lent = c.begin-admin.ensures.lent;
+  affords = record {
+    left = omega (arith, c.begin-admin.ensures.left, c.requires.idle.left);
+    draws = omega arith;
+    room = c.requires.idle.room;
+  };
+}
+
+pub returns-clause-idle : goal.returns-clause-idle
+returns-clause-idle g c = record {
+  hand = c.finish.ensures.hand;
+  left = omega (arith, c.begin-admin.ensures.left, c.quit.ensures.used.left, c.finish.ensures.left);
+  room = c.quit.ensures.used.room;
+}

@@ -1,5 +1,5 @@
 use Rattle.std.proofs.Common.{take}
-use Rattle.pfs_reader.specs.Readings.{AreKept}
+use Rattle.pfs_levels.specs.Views.{Same}
 use Rattle.pfs_finals.specs.Finals.{final_order, AreShown}
 use Rattle.pfs_finals.proofs.finals.final_tables.Given as goal
 
@@ -7,5 +7,5 @@ abbrev pub invariant-loop-table : goal.invariant-loop-table
 invariant-loop-table g l =
     record {
       shown : AreShown l.setting (take l.table-index final_order) l.tables.items (g.R.Rows.seen l.fn.rows).reached (g.R.Rows.seen l.rows).reached;
-      kept : AreKept (g.R.Rows.seen l.fn.rows).left (g.R.Rows.seen l.rows).left (g.R.Rows.seen l.fn.rows).draws (g.R.Rows.seen l.rows).draws (g.R.Rows.seen l.fn.rows).hand (g.R.Rows.seen l.rows).hand (g.R.Rows.seen l.fn.rows).words (g.R.Rows.seen l.rows).words (g.R.Rows.seen l.fn.rows).name (g.R.Rows.seen l.rows).name;
+      kept : Same (g.R.Rows.seen l.fn.rows) (g.R.Rows.seen l.rows);
     }

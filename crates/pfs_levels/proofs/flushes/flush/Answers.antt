@@ -45,5 +45,5 @@ loop-at-preserved g c =
     let e : flat_map k (take (i + 1) ss) ≡ flat_map k (take i ss) ++ more = sources_more_at _ c.cells-cells.result.now ss i c.source.result low (sym c.cells-cells.ensures) (c.source.ensures c.source.result) in
     record {
       moved = moved_more (flat_map k (take i ss)) more (flat_map k (take (i + 1) ss)) _ _ _ _ _ _ e c.loop-at.invariant.moved c.flush_cells.ensures.moved;
-      stays = stays_more (flat_map k (take i ss)) more (flat_map k (take (i + 1) ss)) _ _ _ _ _ _ _ _ _ _ _ _ _ _ _ _ _ _ e c.loop-at.invariant.stays c.flush_cells.ensures.stays;
+      stays = stays_more (flat_map k (take i ss)) more (flat_map k (take (i + 1) ss)) _ _ _ _ _ _ e c.loop-at.invariant.stays c.flush_cells.ensures.stays;
     }

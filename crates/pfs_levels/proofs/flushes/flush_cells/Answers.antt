@@ -39,5 +39,5 @@ loop-cell-preserved g c =
     let one : 1 + length to ≡ cost more = omega arith in
     record {
       moved = moved_more (map f (take i cells)) more (map f (take (i + 1) cells)) _ _ _ _ _ _ e c.loop-cell.invariant.moved c.move_up.ensures.moved;
-      stays = stays_more (map f (take i cells)) more (map f (take (i + 1) cells)) _ _ _ _ _ _ _ _ _ _ _ _ _ _ _ _ _ _ e c.loop-cell.invariant.stays (stays_as _ _ _ _ _ _ _ _ _ _ _ _ _ _ one c.move_up.ensures.stays);
+      stays = stays_more (map f (take i cells)) more (map f (take (i + 1) cells)) _ _ _ _ _ _ e c.loop-cell.invariant.stays (stays_as _ _ _ _ _ _ one c.move_up.ensures.stays);
     }

@@ -1,11 +1,33 @@
-use Rattle.std.proofs.Common.{◌∙◌, ◌≡◌, List, ℕ, ap, sym}
-use Rattle.std.proofs.lemmas.Result.{on_ok_weaker}
+use Rattle.std.proofs.Common.{◌∙◌, ◌≡◌, List, ℕ, ap, sym, subst, arith}
+use Rattle.std.specs.Prelude.{OnOk}
 use Rattle.pfs_exec.specs.Requests.{request_of}
-use Rattle.pfs_play.specs.Errands.{actions_of, errand_on, sql_errand}
+use Rattle.pfs_play.specs.Errand.{Errand}
+use Rattle.pfs_play.specs.Errands.{errand_on, sql_errand}
+use Rattle.pfs_play.specs.Needs.{Advanced, Ready, need_of}
+use Rattle.pfs_play.proofs.NeedSteps.{event_advanced, no_action}
 use Rattle.pfs_play.proofs.lines.play_line.Goals as goal
 
-pub returns-in-Ok-clause-last : goal.returns-in-Ok-clause-last
-returns-in-Ok-clause-last g c =
+pub play_request-requires-clause-ready : goal.play_request-requires-clause-ready
+play_request-requires-clause-ready g c =
     let same : sql_errand c.in-Ok.what ≡ errand_on c.args.line.now =
     ap sql_errand c.in-Ok.ensures ∙ (ap (λ (t : List ℕ). sql_errand (request_of t)) c.as_bytes.ensures ∙ sym (ap errand_on c.in-Sql.is)) in
-    on_ok_weaker c.play_request.result (λ last none. last (ap actions_of same ∙ none)) c.play_request.ensures.last
+    subst (λ (errand : Errand). Ready (need_of errand) c.args.session.now c.args.admin.now (g.A.Rows.seen c.args.rows.now)) (sym same) c.requires.ready
+
+pub returns-in-Ok-clause-advanced : goal.returns-in-Ok-clause-advanced
+returns-in-Ok-clause-advanced g c =
+    let same : sql_errand c.in-Ok.what ≡ errand_on c.args.line.now =
+    ap sql_errand c.in-Ok.ensures ∙ (ap (λ (t : List ℕ). sql_errand (request_of t)) c.as_bytes.ensures ∙ sym (ap errand_on c.in-Sql.is)) in
+    subst (λ (errand : Errand). OnOk c.play_request.result (Advanced (need_of errand) c.args.session.now c.play_request.new.session c.args.admin.now c.play_request.new.admin (g.A.Rows.seen c.args.rows.now) (g.A.Rows.seen c.play_request.new.rows))) same
+    c.play_request.ensures.advanced
+
+pub play_event-requires-clause-affords : goal.play_event-requires-clause-affords
+play_event-requires-clause-affords g c = record {
+  left = omega (arith, c.requires.ready.affords.left);
+  draws = c.requires.ready.affords.draws;
+  room = c.requires.ready.affords.room;
+}
+
+pub returns-in_default-clause-advanced : goal.returns-in_default-clause-advanced
+returns-in_default-clause-advanced g c =
+    event_advanced c.args.line.now c.args.session.now c.play_event.new.session c.args.admin.now (g.A.Rows.seen c.args.rows.now) (g.A.Rows.seen c.play_event.new.rows) (no_action c.args.line.now (λ text same. c.in_default.not-Sql text same))
+    c.play_event.ensures.drawn c.play_event.ensures.rest c.play_event.ensures.depth c.play_event.ensures.wide c.requires.ready.lent c.play_event.ensures.used

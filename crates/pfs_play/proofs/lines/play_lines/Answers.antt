@@ -1,17 +1,18 @@
 use Rattle.std.proofs.Common.{◌≡◌, ◌<◌, ◌+◌, ◌++◌, ◌∷◌, [], List, ℕ, refl, ap, sym, ◌∙◌, subst, take, drop, suc, length, get_or, arith}
 use Rattle.std.proofs.Math.Seq.{drop-cons}
-use Rattle.std.proofs.lemmas.List.{take_more}
+use Rattle.std.proofs.lemmas.List.{take-append-drop, take_all, take_more}
 use Rattle.pfs_admin.specs.AdministrationStates.{State as Administration}
 use Rattle.pfs_event.specs.declared.kind.EventKind.{EventKind}
 use Rattle.pfs_law_plain.specs.LineSteps.{kinds_at}
 use Rattle.pfs_script.specs.declared.blocks.BlockLine.{BlockLine}
 use Rattle.pfs_script.specs.Brackets.{kinds_behind}
 use Rattle.pfs_script.specs.Marks.{mark_of}
-use Rattle.pfs_session.specs.SessionStates.{State}
-use Rattle.pfs_play.specs.Errands.{CanPlay, MayRun, HasRun, HavePlayed, StagesLie, actions_of, actions_on, admin_after, admin_behind, cost_of, cost_on, errand_on, kinds_after}
+use Rattle.pfs_play.specs.Errands.{CanPlay, HasRun, HavePlayed, StagesLie, admin_after, admin_behind, errand_on, kinds_after}
+use Rattle.pfs_play.specs.Needs.{Advanced, need_on}
 use Rattle.pfs_play.proofs.ErrandParts.{may_run}
 use Rattle.pfs_play.proofs.NextLines.{played_nothing, played_more, run_kinds, still_lies}
-use Rattle.pfs_play.proofs.RepeatedLines.{after_then, one_counted}
+use Rattle.pfs_play.proofs.NeedSteps.{advanced_both, advanced_none, advanced_one, ready_at}
+use Rattle.pfs_play.proofs.RepeatedLines.{after_then}
 use Rattle.pfs_play.proofs.lines.play_lines.Goals as goal
 
 -- the line at a place, and those behind it
@@ -30,20 +31,7 @@ loop-line-init g c = record {
   can = c.requires.can;
   kinds = refl;
   lie = c.requires.lie;
-  drawn = omega arith;
-  few = omega arith;
-  actions = refl;
-  counted = refl;
-  rest = refl;
-  last = λ none. refl;
-  wide = c.requires.wide;
-  depth = refl;
-  hand = λ r. refl;
-  left = omega arith;
-  draws = omega arith;
-  name = refl;
-  lent = c.requires.lent;
-  room = omega arith;
+  advanced = advanced_none c.args.session.now c.args.admin.now (g.A.Rows.seen c.args.rows.now) c.requires.wide c.requires.ready.lent;
 }
 
 pub play_line-requires-clause-may : goal.play_line-requires-clause-may
@@ -64,48 +52,17 @@ play_line-requires-clause-stays g c =
     subst (CanPlay 62 c.loop-line.session.state.opened.depth (kinds_at c.loop-line.session.state)) split c.loop-line.invariant.can in
     can.0.quits
 
-pub play_line-requires-clause-rare : goal.play_line-requires-clause-rare
-play_line-requires-clause-rare g c =
+pub play_line-requires-clause-wide : goal.play_line-requires-clause-wide
+play_line-requires-clause-wide g c = c.loop-line.invariant.advanced.wide
+
+pub play_line-requires-clause-ready : goal.play_line-requires-clause-ready
+play_line-requires-clause-ready g c =
     let line = c.line-item.result in
     let i = c.loop-line.line-index in
     let lines = c.args.lines.now in
     let split = splits lines i line c.loop-line-test.true c.line-item.is in
-    let left_acts : actions_on (drop i lines) ≡ actions_of (errand_on line) + actions_on (drop (i + 1) lines) = ap actions_on split in
-    let left_cost : cost_on (drop i lines) ≡ cost_of (errand_on line) + cost_on (drop (i + 1) lines) = ap cost_on split in
-    omega (arith, left_acts, c.loop-line.invariant.actions, c.requires.rare)
-
-pub play_line-requires-clause-few : goal.play_line-requires-clause-few
-play_line-requires-clause-few g c =
-    let line = c.line-item.result in
-    let i = c.loop-line.line-index in
-    let lines = c.args.lines.now in
-    let split = splits lines i line c.loop-line-test.true c.line-item.is in
-    let left_acts : actions_on (drop i lines) ≡ actions_of (errand_on line) + actions_on (drop (i + 1) lines) = ap actions_on split in
-    let left_cost : cost_on (drop i lines) ≡ cost_of (errand_on line) + cost_on (drop (i + 1) lines) = ap cost_on split in
-    omega (arith, left_acts, c.loop-line.invariant.counted, c.requires.few)
-
-pub play_line-requires-clause-tickets : goal.play_line-requires-clause-tickets
-play_line-requires-clause-tickets g c = omega (arith, c.loop-line.invariant.draws, c.loop-line-test.true, c.requires.tickets)
-
-pub play_line-requires-clause-spare : goal.play_line-requires-clause-spare
-play_line-requires-clause-spare g c =
-    let line = c.line-item.result in
-    let i = c.loop-line.line-index in
-    let lines = c.args.lines.now in
-    let split = splits lines i line c.loop-line-test.true c.line-item.is in
-    let left_acts : actions_on (drop i lines) ≡ actions_of (errand_on line) + actions_on (drop (i + 1) lines) = ap actions_on split in
-    let left_cost : cost_on (drop i lines) ≡ cost_of (errand_on line) + cost_on (drop (i + 1) lines) = ap cost_on split in
-    omega (arith, left_acts, c.loop-line.invariant.left, c.loop-line-test.true, c.requires.spare)
-
-pub play_line-requires-clause-room : goal.play_line-requires-clause-room
-play_line-requires-clause-room g c =
-    let line = c.line-item.result in
-    let i = c.loop-line.line-index in
-    let lines = c.args.lines.now in
-    let split = splits lines i line c.loop-line-test.true c.line-item.is in
-    let left_acts : actions_on (drop i lines) ≡ actions_of (errand_on line) + actions_on (drop (i + 1) lines) = ap actions_on split in
-    let left_cost : cost_on (drop i lines) ≡ cost_of (errand_on line) + cost_on (drop (i + 1) lines) = ap cost_on split in
-    omega (arith, left_cost, c.loop-line.invariant.room, c.requires.room)
+    let are : lines ≡ take i lines ++ line ∷ drop (i + 1) lines = sym (take-append-drop i lines) ∙ ap (λ (z : List BlockLine). take i lines ++ z) split in
+    ready_at lines (take i lines) (drop (i + 1) lines) line c.args.session.now c.loop-line.session c.args.admin.now c.loop-line.admin (g.A.Rows.seen c.args.rows.now) (g.A.Rows.seen c.loop-line.rows) are c.requires.ready c.loop-line.invariant.advanced
 
 pub loop-line-preserved : goal.loop-line-preserved
 loop-line-preserved g c =
@@ -124,31 +81,22 @@ loop-line-preserved g c =
     let run : HasRun c.args.setting.now (admin_after admin (take i lines)) (errand_on line) at new c.loop-line.answers.items c.play_line.new.answers.items (g.A.Rows.seen c.loop-line.rows).reached (g.A.Rows.seen c.play_line.new.rows).reached =
     subst (λ (a : Administration). HasRun c.args.setting.now a (errand_on line) at new c.loop-line.answers.items c.play_line.new.answers.items (g.A.Rows.seen c.loop-line.rows).reached (g.A.Rows.seen c.play_line.new.rows).reached) before.admin run_here in
     let kinds : kinds_at new.state ≡ kinds_behind (mark_of line) (kinds_at at.state) = run_kinds c.args.setting.now c.loop-line.admin line at new c.loop-line.answers.items c.play_line.new.answers.items (g.A.Rows.seen c.loop-line.rows).reached (g.A.Rows.seen c.play_line.new.rows).reached run_here in
-    let left_acts : actions_on (drop i lines) ≡ actions_of (errand_on line) + actions_on (drop (i + 1) lines) = ap actions_on split in
-    let left_cost : cost_on (drop i lines) ≡ cost_of (errand_on line) + cost_on (drop (i + 1) lines) = ap cost_on split in
     let behind : c.play_line.new.admin ≡ admin_behind (admin_after admin (take i lines)) (errand_on line) =
     now.admin ∙ ap (λ (a : Administration). admin_behind a (errand_on line)) before.admin in
-    let stepped : c.play_line.new.admin.actions ≡ c.loop-line.admin.actions + actions_of (errand_on line) = ap (λ (a : Administration). a.actions) now.admin ∙ one_counted c.loop-line.admin (errand_on line) in
     record {
       played = subst (λ (z : List BlockLine). HavePlayed c.args.setting.now z admin c.args.session.now new c.args.answers.now.items c.play_line.new.answers.items (g.A.Rows.seen c.args.rows.now).reached (g.A.Rows.seen c.play_line.new.rows).reached) (sym front)
           (played_more c.args.setting.now (take i lines) line admin c.args.session.now at new c.args.answers.now.items c.loop-line.answers.items c.play_line.new.answers.items (g.A.Rows.seen c.args.rows.now).reached (g.A.Rows.seen c.loop-line.rows).reached (g.A.Rows.seen c.play_line.new.rows).reached can.0.quits before.played run);
       admin = behind ∙ (sym (after_then admin (take i lines) (line ∷ [])) ∙ ap (admin_after admin) (sym front));
       can = subst (λ (k : List EventKind). CanPlay 62 new.state.opened.depth k (drop (i + 1) lines)) (sym kinds)
-          (subst (λ d. CanPlay 62 d (kinds_behind (mark_of line) (kinds_at at.state)) (drop (i + 1) lines)) (sym now.depth) can.1);
+          (subst (λ d. CanPlay 62 d (kinds_behind (mark_of line) (kinds_at at.state)) (drop (i + 1) lines)) (sym now.advanced.depth) can.1);
       kinds = ap (λ (k : List EventKind). kinds_after k (drop (i + 1) lines)) kinds ∙ (sym (ap (kinds_after (kinds_at at.state)) split) ∙ before.kinds);
       lie = subst StagesLie (sym kinds) (still_lies (mark_of line) (kinds_at at.state) before.lie can.0.stands);
-      drawn = omega (arith, before.drawn, now.drawn);
-      few = omega (arith, before.few, left_acts);
-      actions = omega (arith, before.actions, now.actions, left_acts);
-      counted = omega (arith, before.counted, stepped, left_acts);
-      rest = now.rest ∙ ap (λ (s : State). record s { clock = new.state.clock; drawn = new.state.drawn; opened = new.state.opened; held = new.state.held; actions = new.state.actions; last = new.state.last; nexts = new.state.nexts }) before.rest;
-      last = λ none. now.last (omega (arith, none, before.few, left_acts)) ∙ before.last none;
-      wide = now.wide;
-      depth = now.depth ∙ before.depth;
-      hand = λ r. now.leaves.hand r ∙ before.hand r;
-      left = omega (arith, before.left, now.leaves.left, left_acts);
-      draws = omega (arith, before.draws, now.leaves.draws);
-      name = now.leaves.name ∙ before.name;
-      lent = now.lent;
-      room = omega (arith, before.room, now.leaves.room, left_cost);
+      advanced = subst (λ (z : List BlockLine). Advanced (need_on z) c.args.session.now new admin c.play_line.new.admin (g.A.Rows.seen c.args.rows.now) (g.A.Rows.seen c.play_line.new.rows)) (sym front)
+          (advanced_both (take i lines) (line ∷ []) c.args.session.now at new admin c.loop-line.admin c.play_line.new.admin (g.A.Rows.seen c.args.rows.now) (g.A.Rows.seen c.loop-line.rows) (g.A.Rows.seen c.play_line.new.rows) before.advanced
+          (advanced_one line at new c.loop-line.admin c.play_line.new.admin (g.A.Rows.seen c.loop-line.rows) (g.A.Rows.seen c.play_line.new.rows) now.advanced));
     }
+
+pub returns-clause-advanced : goal.returns-clause-advanced
+returns-clause-advanced g c =
+    let all : take c.loop-line.line-index c.args.lines.now ≡ c.args.lines.now = take_all c.loop-line.line-index c.args.lines.now (omega arith) in
+    subst (λ (z : List BlockLine). Advanced (need_on z) c.args.session.now c.loop-line.session c.args.admin.now c.loop-line.admin (g.A.Rows.seen c.args.rows.now) (g.A.Rows.seen c.loop-line.rows)) all c.loop-line.invariant.advanced

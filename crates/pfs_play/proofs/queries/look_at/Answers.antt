@@ -13,17 +13,16 @@ loop-reading-init g c =
       reached = c.open-reader.ensures;
       played = played_none c.args.session.now (g.R.Rows.seen c.args.rows.now).reached;
       state = refl;
-      uses = record { hand = λ r. refl; left = omega arith; draws = omega arith; name = refl; room = omega arith };
-      words = refl;
+      used = record { left = omega arith; draws = omega arith; no_more = omega arith; hand = λ r. refl; words = refl; name = refl; room = omega arith };
     })
 
 pub look-requires-clause-away : goal.look-requires-clause-away
-look-requires-clause-away g c = λ row some. c.loop-reading.invariant.uses.hand row ∙ c.requires.away row some
+look-requires-clause-away g c = λ row some. c.loop-reading.invariant.used.hand row ∙ c.requires.away row some
 
 pub look-requires-clause-room : goal.look-requires-clause-room
 look-requires-clause-room g c =
     let few = reached_few c.loop-reading.reader (scope_of c.args.setting.now) c.args.table c.loop-reading.readings.items c.loop-reading.invariant.reached in
-    omega (arith, few, c.loop-reading.invariant.uses.room, c.requires.room)
+    omega (arith, few, c.loop-reading.invariant.used.room, c.requires.room)
 
 pub loop-reading-smaller : goal.loop-reading-smaller
 loop-reading-smaller g c =
@@ -42,8 +41,15 @@ loop-reading-preserved g c =
       reached = now.reached (scope_of c.args.setting.now) c.args.table items before.reached;
       played = look_more items c.in-Some.reading c.args.session.now c.loop-reading.session c.look.new.self (g.R.Rows.seen c.args.rows.now).reached (g.R.Rows.seen c.loop-reading.rows).reached (g.R.Rows.seen c.look.new.rows).reached before.played now.played;
       state = now.state ∙ before.state;
-      uses = record { hand = λ r. now.uses.hand r ∙ before.uses.hand r; left = omega (arith, before.uses.left, now.uses.left); draws = omega (arith, before.uses.draws, now.uses.draws); name = now.uses.name ∙ before.uses.name; room = omega (arith, long, before.uses.room, now.uses.room) };
-      words = now.words ∙ before.words;
+      used = record {
+        left = omega (arith, before.used.left, now.used.left);
+        draws = omega (arith, before.used.draws, now.used.draws);
+        no_more = omega (arith, before.used.no_more, now.used.no_more);
+        hand = λ r. now.used.hand r ∙ before.used.hand r;
+        words = now.used.words ∙ before.used.words;
+        name = now.used.name ∙ before.used.name;
+        room = omega (arith, long, before.used.room, now.used.room);
+      };
     })
 
 pub returns-clause-whole : goal.returns-clause-whole
@@ -53,9 +59,17 @@ pub returns-clause-played : goal.returns-clause-played
 returns-clause-played g c =
     rw c.new.ensures (look_last c.loop-reading.readings.items c.args.session.now c.loop-reading.session c.look.new.self (g.R.Rows.seen c.args.rows.now).reached (g.R.Rows.seen c.loop-reading.rows).reached (g.R.Rows.seen c.look.new.rows).reached c.loop-reading.invariant.played c.in_default.ensures.played)
 
-pub returns-clause-uses : goal.returns-clause-uses
-returns-clause-uses g c =
+pub returns-clause-used : goal.returns-clause-used
+returns-clause-used g c =
     let few = reached_few c.loop-reading.reader (scope_of c.args.setting.now) c.args.table c.loop-reading.readings.items c.loop-reading.invariant.reached in
-    let before = c.loop-reading.invariant.uses in
-    let now = c.in_default.ensures.uses in
-    record { hand = λ r. now.hand r ∙ before.hand r; left = omega (arith, before.left, now.left); draws = omega (arith, before.draws, now.draws); name = now.name ∙ before.name; room = omega (arith, few, before.room, now.room) }
+    let before = c.loop-reading.invariant.used in
+    let now = c.in_default.ensures.used in
+    record {
+      left = omega (arith, before.left, now.left);
+      draws = omega (arith, before.draws, now.draws);
+      no_more = omega (arith, before.no_more, now.no_more);
+      hand = λ r. now.hand r ∙ before.hand r;
+      words = now.words ∙ before.words;
+      name = now.name ∙ before.name;
+      room = omega (arith, few, before.room, now.room);
+    }

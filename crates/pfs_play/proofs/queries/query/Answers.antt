@@ -12,7 +12,7 @@ use Rattle.pfs_play.proofs.ErrandParts.{query_ran}
 use Rattle.pfs_play.proofs.queries.query.Goals as goal
 
 pub append-requires-2 : goal.append-requires-2
-append-requires-2 g c = record { room = omega (arith, c.append.ensures.room, c.in_ok-readings.ensures.uses.room, c.requires.room) }
+append-requires-2 g c = record { room = omega (arith, c.append.ensures.room, c.in_ok-readings.ensures.used.room, c.requires.room) }
 
 pub returns-clause-run : goal.returns-clause-run
 returns-clause-run g c =
@@ -28,7 +28,15 @@ returns-clause-run g c =
     c.in_ok-readings.ensures.whole (subst (λ (rows : Answer). IsAnswer c.args.what rows answer) listed c.in_ok-answer.ensures) c.in_ok-push.ensures.items
     (queried readings (length answer) c.args.session.now c.append.new.self c.look_at.new.session c.append-2.new.self (g.R.Rows.seen c.args.rows.now).reached (g.R.Rows.seen c.look_at.new.rows).reached begin c.in_ok-readings.ensures.played end)
 
-pub returns-clause-uses : goal.returns-clause-uses
-returns-clause-uses g c =
-    let used = c.in_ok-readings.ensures.uses in
-    record { hand = used.hand; left = used.left; draws = used.draws; name = used.name; room = omega (arith, c.append.ensures.room, used.room, c.append-2.ensures.room) }
+pub returns-clause-used : goal.returns-clause-used
+returns-clause-used g c =
+    let used = c.in_ok-readings.ensures.used in
+    record {
+      left = used.left;
+      draws = used.draws;
+      no_more = used.no_more;
+      hand = used.hand;
+      words = used.words;
+      name = used.name;
+      room = omega (arith, c.append.ensures.room, used.room, c.append-2.ensures.room);
+    }

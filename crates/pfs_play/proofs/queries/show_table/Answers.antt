@@ -6,15 +6,21 @@ use Rattle.pfs_play.proofs.ErrandParts.{show_ran}
 use Rattle.pfs_play.proofs.HeldBounds.{owed_fits, settling_fits}
 use Rattle.pfs_play.proofs.queries.show_table.Goals as goal
 
-pub show_held-requires-clause-spare : goal.show_held-requires-clause-spare
-show_held-requires-clause-spare g c =
+pub show_held-requires-clause-acts : goal.show_held-requires-clause-acts
+show_held-requires-clause-acts g c =
     let owed = owed_fits c.args.session.now.state c.requires.wide in
-    omega (arith, owed, c.requires.spare)
-
-pub show_held-requires-clause-room : goal.show_held-requires-clause-room
-show_held-requires-clause-room g c =
-    let owed = settling_fits c.args.session.now.state c.requires.wide in
-    omega (arith, owed, c.requires.room)
+    let settling = settling_fits c.args.session.now.state c.requires.wide in
+    let acts = c.requires.acts in
+    record {
+      few = acts.few;
+      idle = acts.idle;
+      lent = acts.lent;
+      affords = record {
+        left = omega (arith, owed, acts.affords.left);
+        draws = omega arith;
+        room = omega (arith, settling, acts.affords.room);
+      };
+    }
 
 pub returns-clause-run : goal.returns-clause-run
 returns-clause-run g c = λ setting.
@@ -27,14 +33,17 @@ returns-clause-owed g c =
     let none = ap length (nothing_owed c.args.session.now.state.place.thread) in
     omega (arith, same, none)
 
-pub returns-clause-leaves : goal.returns-clause-leaves
-returns-clause-leaves g c =
+pub returns-clause-used : goal.returns-clause-used
+returns-clause-used g c =
     let owed = owed_fits c.args.session.now.state c.requires.wide in
     let settling = settling_fits c.args.session.now.state c.requires.wide in
+    let used = c.show_held.ensures.used in
     record {
-      hand = c.show_held.ensures.leaves.hand;
-      left = omega (arith, owed, c.show_held.ensures.leaves.left);
-      draws = c.show_held.ensures.leaves.draws;
-      name = c.show_held.ensures.leaves.name;
-      room = omega (arith, settling, c.show_held.ensures.leaves.room);
+      left = omega (arith, owed, used.left);
+      draws = used.draws;
+      no_more = used.no_more;
+      hand = used.hand;
+      words = used.words;
+      name = used.name;
+      room = omega (arith, settling, used.room);
     }

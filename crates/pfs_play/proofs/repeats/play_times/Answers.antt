@@ -1,11 +1,14 @@
-use Rattle.std.proofs.Common.{◌≡◌, ◌*◌, ◌∙◌, List, [], refl, ap, sym, subst, length, arith}
+use Rattle.std.proofs.Common.{◌≡◌, ◌∙◌, List, [], refl, ap, sym, subst, length, arith}
 use Rattle.std.proofs.lemmas.Bool.{eqb-true}
 use Rattle.std.proofs.lemmas.List.{nil_from_length}
 use Rattle.pfs_admin.specs.AdministrationStates.{State as Administration}
+use Rattle.pfs_event.specs.declared.kind.EventKind.{EventKind}
+use Rattle.pfs_law_plain.specs.LineSteps.{kinds_at}
 use Rattle.pfs_script.specs.declared.blocks.BlockLine.{BlockLine}
 use Rattle.pfs_script.specs.Marks.{copies}
-use Rattle.pfs_session.specs.SessionStates.{State}
-use Rattle.pfs_play.specs.Errands.{HavePlayed, actions_on, admin_after, kinds_after}
+use Rattle.pfs_play.specs.Errands.{CanPlay, HavePlayed, admin_after, kinds_after}
+use Rattle.pfs_play.specs.Needs.{Advanced, need_on}
+use Rattle.pfs_play.proofs.NeedSteps.{advanced_both, advanced_none, ready_round}
 use Rattle.pfs_play.proofs.NextLines.{played_nothing}
 use Rattle.pfs_play.proofs.RepeatedLines.{after_then, copies_of_none, copies_more, no_copies, played_both}
 use Rattle.pfs_play.proofs.repeats.play_times.Goals as goal
@@ -21,17 +24,11 @@ returns-then-is_empty-clause-admin g c =
     let none : c.args.body.now ≡ [] = nil_from_length c.args.body.now (eqb-true (length c.args.body.now) 0 (sym c.is_empty.ensures ∙ c.if-is_empty.true)) in
     sym (ap (admin_after c.args.admin.now) (copies_of_none c.args.times c.args.body.now none))
 
-pub returns-then-is_empty-clause-counted : goal.returns-then-is_empty-clause-counted
-returns-then-is_empty-clause-counted g c =
+pub returns-then-is_empty-clause-advanced : goal.returns-then-is_empty-clause-advanced
+returns-then-is_empty-clause-advanced g c =
     let none : c.args.body.now ≡ [] = nil_from_length c.args.body.now (eqb-true (length c.args.body.now) 0 (sym c.is_empty.ensures ∙ c.if-is_empty.true)) in
-    let free : c.args.times * actions_on c.args.body.now ≡ 0 = ap (λ (l : List BlockLine). c.args.times * actions_on l) none ∙ omega arith in
-    omega (arith, free)
-
-pub returns-then-is_empty-clause-actions : goal.returns-then-is_empty-clause-actions
-returns-then-is_empty-clause-actions g c =
-    let none : c.args.body.now ≡ [] = nil_from_length c.args.body.now (eqb-true (length c.args.body.now) 0 (sym c.is_empty.ensures ∙ c.if-is_empty.true)) in
-    let free : c.args.times * actions_on c.args.body.now ≡ 0 = ap (λ (l : List BlockLine). c.args.times * actions_on l) none ∙ omega arith in
-    omega (arith, free)
+    subst (λ (lines : List BlockLine). Advanced (need_on lines) c.args.session.now c.args.session.now c.args.admin.now c.args.admin.now (g.A.Rows.seen c.args.rows.now) (g.A.Rows.seen c.args.rows.now))
+    (sym (copies_of_none c.args.times c.args.body.now none)) (advanced_none c.args.session.now c.args.admin.now (g.A.Rows.seen c.args.rows.now) c.requires.wide c.requires.ready.lent)
 
 pub loop-round-init : goal.loop-round-init
 loop-round-init g c = record {
@@ -40,20 +37,23 @@ loop-round-init g c = record {
   admin = sym (ap (admin_after c.args.admin.now) (no_copies c.args.body.now));
   kinds = refl;
   lie = c.requires.lie;
-  drawn = omega arith;
-  actions = omega arith;
-  counted = omega arith;
-  rest = refl;
-  last = λ none. refl;
-  wide = c.requires.wide;
-  depth = refl;
-  hand = λ r. refl;
-  left = omega arith;
-  draws = omega arith;
-  name = refl;
-  lent = c.requires.lent;
-  room = omega arith;
+  advanced = subst (λ (lines : List BlockLine). Advanced (need_on lines) c.args.session.now c.args.session.now c.args.admin.now c.args.admin.now (g.A.Rows.seen c.args.rows.now) (g.A.Rows.seen c.args.rows.now)) (sym (no_copies c.args.body.now))
+      (advanced_none c.args.session.now c.args.admin.now (g.A.Rows.seen c.args.rows.now) c.requires.wide c.requires.ready.lent);
 }
+
+pub play_lines-requires-clause-can : goal.play_lines-requires-clause-can
+play_lines-requires-clause-can g c =
+    let before = c.loop-round.invariant in
+    subst (λ (k : List EventKind). CanPlay 62 c.loop-round.session.state.opened.depth k c.args.body.now) (sym before.kinds)
+    (subst (λ d. CanPlay 62 d (kinds_at c.args.session.now.state) c.args.body.now) (sym before.advanced.depth) c.requires.can)
+
+pub play_lines-requires-clause-wide : goal.play_lines-requires-clause-wide
+play_lines-requires-clause-wide g c = c.loop-round.invariant.advanced.wide
+
+pub play_lines-requires-clause-ready : goal.play_lines-requires-clause-ready
+play_lines-requires-clause-ready g c =
+    ready_round c.loop-round.round c.args.times c.args.body.now c.args.session.now c.loop-round.session c.args.admin.now c.loop-round.admin (g.A.Rows.seen c.args.rows.now) (g.A.Rows.seen c.loop-round.rows)
+    c.loop-round-test.true c.requires.ready c.loop-round.invariant.advanced
 
 pub loop-round-preserved : goal.loop-round-preserved
 loop-round-preserved g c =
@@ -69,17 +69,12 @@ loop-round-preserved g c =
       admin = c.in-Ok.ensures.admin ∙ (ap (λ (a : Administration). admin_after a body) before.admin ∙ (sym (after_then admin (copies round body) body) ∙ ap (admin_after admin) (sym (copies_more round body))));
       kinds = c.in-Ok.ensures.kinds ∙ (ap (λ k. kinds_after k body) before.kinds ∙ c.requires.same);
       lie = c.in-Ok.ensures.lie;
-      drawn = omega (arith, before.drawn, c.in-Ok.ensures.drawn);
-      actions = omega (arith, before.actions, c.in-Ok.ensures.actions);
-      counted = omega (arith, before.counted, c.in-Ok.ensures.counted);
-      rest = c.in-Ok.ensures.rest ∙ ap (λ (s : State). record s { clock = new.state.clock; drawn = new.state.drawn; opened = new.state.opened; held = new.state.held; actions = new.state.actions; last = new.state.last; nexts = new.state.nexts }) before.rest;
-      last = λ none. c.in-Ok.ensures.last (omega (arith, none)) ∙ before.last (omega (arith, none));
-      wide = c.in-Ok.ensures.wide;
-      depth = c.in-Ok.ensures.depth ∙ before.depth;
-      hand = λ r. c.in-Ok.ensures.leaves.hand r ∙ before.hand r;
-      left = omega (arith, before.left, c.in-Ok.ensures.leaves.left);
-      draws = omega (arith, before.draws, c.in-Ok.ensures.leaves.draws);
-      name = c.in-Ok.ensures.leaves.name ∙ before.name;
-      lent = c.in-Ok.ensures.lent;
-      room = omega (arith, before.room, c.in-Ok.ensures.leaves.room);
+      advanced = subst (λ (lines : List BlockLine). Advanced (need_on lines) c.args.session.now new admin c.play_lines.new.admin (g.A.Rows.seen c.args.rows.now) (g.A.Rows.seen c.play_lines.new.rows)) (sym (copies_more round body))
+          (advanced_both (copies round body) body c.args.session.now c.loop-round.session new admin c.loop-round.admin c.play_lines.new.admin (g.A.Rows.seen c.args.rows.now) (g.A.Rows.seen c.loop-round.rows) (g.A.Rows.seen c.play_lines.new.rows)
+          before.advanced c.in-Ok.ensures.advanced);
     }
+
+pub returns-clause-advanced : goal.returns-clause-advanced
+returns-clause-advanced g c =
+    let all : c.loop-round.round ≡ c.args.times = omega arith in
+    subst (λ n. Advanced (need_on (copies n c.args.body.now)) c.args.session.now c.loop-round.session c.args.admin.now c.loop-round.admin (g.A.Rows.seen c.args.rows.now) (g.A.Rows.seen c.loop-round.rows)) all c.loop-round.invariant.advanced

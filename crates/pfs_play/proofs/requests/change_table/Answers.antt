@@ -5,15 +5,21 @@ use Rattle.pfs_session.proofs.HeldAmounts.{nothing_owed}
 use Rattle.pfs_play.proofs.HeldBounds.{owed_fits, settling_fits, words_fit}
 use Rattle.pfs_play.proofs.requests.change_table.Goals as goal
 
-pub act-requires-clause-spare : goal.act-requires-clause-spare
-act-requires-clause-spare g c =
+pub act-requires-clause-acts : goal.act-requires-clause-acts
+act-requires-clause-acts g c =
     let owed = owed_fits c.args.session.now.state c.requires.wide in
-    omega (arith, owed, c.requires.spare)
-
-pub act-requires-clause-room : goal.act-requires-clause-room
-act-requires-clause-room g c =
-    let owed = settling_fits c.args.session.now.state c.requires.wide in
-    omega (arith, owed, words_fit c.args.what, c.requires.room)
+    let settling = settling_fits c.args.session.now.state c.requires.wide in
+    let acts = c.requires.acts in
+    record {
+      few = acts.few;
+      idle = acts.idle;
+      lent = acts.lent;
+      affords = record {
+        left = omega (arith, owed, acts.affords.left);
+        draws = omega arith;
+        room = omega (arith, settling, words_fit c.args.what, acts.affords.room);
+      };
+    }
 
 pub returns-clause-owed : goal.returns-clause-owed
 returns-clause-owed g c =
@@ -21,14 +27,17 @@ returns-clause-owed g c =
     let none = ap length (nothing_owed c.args.session.now.state.place.thread) in
     omega (arith, same, none)
 
-pub returns-clause-leaves : goal.returns-clause-leaves
-returns-clause-leaves g c =
+pub returns-clause-used : goal.returns-clause-used
+returns-clause-used g c =
     let owed = owed_fits c.args.session.now.state c.requires.wide in
     let settling = settling_fits c.args.session.now.state c.requires.wide in
+    let used = c.act.ensures.used in
     record {
-      hand = c.act.ensures.leaves.hand;
-      left = omega (arith, owed, c.act.ensures.leaves.left);
-      draws = c.act.ensures.leaves.draws;
-      name = c.act.ensures.leaves.name;
-      room = omega (arith, settling, words_fit c.args.what, c.act.ensures.leaves.room);
+      left = omega (arith, owed, used.left);
+      draws = used.draws;
+      no_more = used.no_more;
+      hand = used.hand;
+      words = used.words;
+      name = used.name;
+      room = omega (arith, settling, words_fit c.args.what, used.room);
     }

@@ -5,15 +5,21 @@ use Rattle.pfs_session.proofs.HeldAmounts.{nothing_owed}
 use Rattle.pfs_play.proofs.HeldBounds.{owed_fits, settling_fits}
 use Rattle.pfs_play.proofs.requests.truncate_table.Goals as goal
 
-pub truncate-requires-clause-spare : goal.truncate-requires-clause-spare
-truncate-requires-clause-spare g c =
+pub truncate-requires-clause-acts : goal.truncate-requires-clause-acts
+truncate-requires-clause-acts g c =
     let owed = owed_fits c.args.session.now.state c.requires.wide in
-    omega (arith, owed, c.truncation_cost.ensures.cost, c.truncation_cost.ensures.few, c.requires.spare)
-
-pub truncate-requires-clause-room : goal.truncate-requires-clause-room
-truncate-requires-clause-room g c =
-    let owed = settling_fits c.args.session.now.state c.requires.wide in
-    omega (arith, owed, c.truncation_cost.ensures.cost, c.truncation_cost.ensures.few, c.requires.room)
+    let settling = settling_fits c.args.session.now.state c.requires.wide in
+    let acts = c.requires.acts in
+    record {
+      few = acts.few;
+      idle = acts.idle;
+      lent = acts.lent;
+      affords = record {
+        left = omega (arith, owed, c.truncation_cost.ensures.cost, c.truncation_cost.ensures.few, acts.affords.left);
+        draws = omega arith;
+        room = omega (arith, settling, c.truncation_cost.ensures.cost, c.truncation_cost.ensures.few, acts.affords.room);
+      };
+    }
 
 pub returns-clause-owed : goal.returns-clause-owed
 returns-clause-owed g c =
@@ -21,14 +27,17 @@ returns-clause-owed g c =
     let none = ap length (nothing_owed c.args.session.now.state.place.thread) in
     omega (arith, same, none)
 
-pub returns-clause-leaves : goal.returns-clause-leaves
-returns-clause-leaves g c =
+pub returns-clause-used : goal.returns-clause-used
+returns-clause-used g c =
     let owed = owed_fits c.args.session.now.state c.requires.wide in
     let settling = settling_fits c.args.session.now.state c.requires.wide in
+    let used = c.truncate.ensures.used in
     record {
-      hand = c.truncate.ensures.leaves.hand;
-      left = omega (arith, owed, c.truncation_cost.ensures.cost, c.truncation_cost.ensures.few, c.truncate.ensures.leaves.left);
-      draws = c.truncate.ensures.leaves.draws;
-      name = c.truncate.ensures.leaves.name;
-      room = omega (arith, settling, c.truncation_cost.ensures.cost, c.truncation_cost.ensures.few, c.truncate.ensures.leaves.room);
+      left = omega (arith, owed, c.truncation_cost.ensures.cost, c.truncation_cost.ensures.few, used.left);
+      draws = used.draws;
+      no_more = used.no_more;
+      hand = used.hand;
+      words = used.words;
+      name = used.name;
+      room = omega (arith, settling, c.truncation_cost.ensures.cost, c.truncation_cost.ensures.few, used.room);
     }

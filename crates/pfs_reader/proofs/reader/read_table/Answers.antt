@@ -18,7 +18,7 @@ loop-reading-preserved g c =
     rw c.in_ok-push.ensures.items (record {
       reached = c.in-Some.ensures.reached (scope_of c.args.setting.now) c.args.table items c.loop-reading.invariant.reached;
       calls = goes_then items (c.in-Some.reading ∷ []) (g.R.Rows.seen c.args.rows.now).reached (g.R.Rows.seen c.loop-reading.rows).reached (g.R.Rows.seen c.next.new.rows).reached c.loop-reading.invariant.calls c.in-Some.ensures.call;
-      kept = kept_then _ _ _ _ _ _ _ _ _ _ _ _ _ _ _ c.loop-reading.invariant.kept c.in-Some.ensures.kept;
+      kept = kept_then _ _ _ c.loop-reading.invariant.kept c.in-Some.ensures.kept;
     })
 
 pub returns-in_err-push-clause-front : goal.returns-in_err-push-clause-front

@@ -1,8 +1,9 @@
 use Rattle.std.proofs.Common.{◌-◌, length}
 use Rattle.pfs_levels.specs.Calls.{Goes}
+use Rattle.pfs_levels.specs.Views.{Same}
 use Rattle.pfs_readsets.specs.TablePlaces.{scope_of}
 use Rattle.pfs_readsets.specs.ReadProgress.{Reached}
-use Rattle.pfs_reader.specs.Readings.{calls_of, AreKept}
+use Rattle.pfs_reader.specs.Readings.{calls_of}
 use Rattle.pfs_reader.proofs.reader.read_table.Given as goal
 
 abbrev pub invariant-loop-reading : goal.invariant-loop-reading
@@ -10,7 +11,7 @@ invariant-loop-reading g l =
     record {
       reached : Reached l.reader (scope_of l.setting) l.fn.table l.readings.items;
       calls : Goes (g.R.Rows.seen l.fn.rows).reached (g.R.Rows.seen l.rows).reached (calls_of l.readings.items);
-      kept : AreKept (g.R.Rows.seen l.fn.rows).left (g.R.Rows.seen l.rows).left (g.R.Rows.seen l.fn.rows).draws (g.R.Rows.seen l.rows).draws (g.R.Rows.seen l.fn.rows).hand (g.R.Rows.seen l.rows).hand (g.R.Rows.seen l.fn.rows).words (g.R.Rows.seen l.rows).words (g.R.Rows.seen l.fn.rows).name (g.R.Rows.seen l.rows).name;
+      kept : Same (g.R.Rows.seen l.fn.rows) (g.R.Rows.seen l.rows);
     }
 
 abbrev pub decreases-loop-reading : goal.decreases-loop-reading

@@ -4,7 +4,7 @@ use Rattle.pfs_law_script.specs.Course.{numbered}
 use Rattle.pfs_journal.specs.Reports.{IsPhase}
 use Rattle.pfs_script.specs.declared.blocks.Phase.{Phase}
 use Rattle.pfs_run.proofs.RunProgress.{parted, parted_all, taken_more, past, run_is}
-use Rattle.pfs_run.proofs.RunnerState.{Stands}
+use Rattle.pfs_run.proofs.RunnerState.{Stands, standing_of}
 use Rattle.pfs_run.proofs.run.run_plain.Goals as goal
 
 pub loop-phase-init : goal.loop-phase-init
@@ -44,5 +44,5 @@ returns c =
     let stands = subst (λ (z : List Phase). Stands c.args.setting.now phases z [] (numbered (1 + length z) []) runner) p.taken
     (subst (λ (z : List Phase). Stands c.args.setting.now phases (take c.loop-phase.phase-index phases) [] (numbered (1 + length (take c.loop-phase.phase-index phases)) z) runner) p.dropped
     c.loop-phase.invariant) in
-    run_is c.whole.ensures c.run.ensures c.all_end.ensures c.args.setting.now phases c.new-2.result _ _ _ _ _ _ _ _ runner.phases.items runner.blocks.items stands
+    run_is c.whole.ensures c.run.ensures c.all_end.ensures c.args.setting.now phases c.new-2.result (standing_of runner) stands
     (ap (λ z. z.format) c.new-2.ensures) (ap (λ z. z.phases) c.new-2.ensures ∙ (c.new.ensures ∙ c.into_phases.ensures))

@@ -6,7 +6,7 @@ use Rattle.pfs_session.proofs.paying.pay_all.Goals as goal
 pub loop-cell-init : goal.loop-cell-init
 loop-cell-init g c = record {
   pays = pays_as _ _ _ _ _ _ (sym (owed_nothing c.args.slot 0)) (pays_none c.args.log.now (g.H.Rows.seen c.args.rows.now).reached);
-  stays = stays_as 0 _ _ _ _ _ _ _ _ _ _ _ _ _ (sym (ap length (owed_nothing c.args.slot 0))) (search rules);
+  stays = stays_as 0 _ _ _ _ _ (sym (ap length (owed_nothing c.args.slot 0))) (search rules);
 }
 
 pub pay_some-requires-clause-spare : goal.pay_some-requires-clause-spare
@@ -22,6 +22,6 @@ pay_some-requires-clause-room g c =
 pub loop-cell-preserved : goal.loop-cell-preserved
 loop-cell-preserved g c = record {
   pays = pays_more c.args.slot c.args.held.now c.loop-cell.cell None _ _ _ _ _ _ c.loop-cell-test.true c.loop-cell.invariant.pays c.pay_some.ensures.pays;
-  stays = stays_as _ _ _ _ _ _ _ _ _ _ _ _ _ _ (length_more c.args.slot c.args.held.now c.loop-cell.cell None c.loop-cell-test.true)
-      (stays_then _ _ _ _ _ _ _ _ _ _ _ _ _ _ _ _ _ _ _ _ c.loop-cell.invariant.stays c.pay_some.ensures.stays);
+  stays = stays_as _ _ _ _ _ _ (length_more c.args.slot c.args.held.now c.loop-cell.cell None c.loop-cell-test.true)
+      (stays_then _ _ _ _ _ _ _ _ c.loop-cell.invariant.stays c.pay_some.ensures.stays);
 }

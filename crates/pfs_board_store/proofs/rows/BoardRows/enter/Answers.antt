@@ -22,6 +22,7 @@ returns-clause-call g c = λ start calls r.
             words = r.3.words;
             tickets = r.3.tickets;
             rising = (omega (arith, r.3.board.seen 0, later), r.3.rising);
+            there = (tt, r.3.there);
           },
         ),
       ),

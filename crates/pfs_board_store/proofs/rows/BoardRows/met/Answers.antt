@@ -21,5 +21,6 @@ returns-clause-call g c = λ start calls r.
         words = met_on start calls w _ pen is r.3.words;
         tickets = r.3.tickets;
         rising = ((λ at up. omega (arith, r.3.words.4 at, least at)), r.3.rising);
+        there = (tt, r.3.there);
       },
     )

@@ -28,5 +28,6 @@ returns-in-Busy-clause-call g c = λ start calls r.
         words = r.3.words;
         tickets = r.3.tickets;
         rising = ((omega (arith, b.seen row, a.6), a.2), r.3.rising);
+        there = (place.1, r.3.there);
       },
     )

@@ -37,5 +37,6 @@ returns-clause-call g c = λ start calls r.
         words = set_on start calls w _ pen word version flags (omega (arith, wide, c.requires.known)) next (λ q. omega (arith, r.3.words.4 q, least q)) is r.3.words;
         tickets = r.3.tickets;
         rising = (omega (arith, r.3.words.4 word, least word, next), r.3.rising);
+        there = (c.requires.known, r.3.there);
       },
     )

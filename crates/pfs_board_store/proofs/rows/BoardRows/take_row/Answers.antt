@@ -23,6 +23,7 @@ returns-in-Mine-clause-call g c = λ start calls r.
         words = subst (λ z. OnWords start calls z.view) (sym i.words) r.3.words;
         tickets = subst (λ z. OnTickets start.tickets calls z.view) (sym i.draws) r.3.tickets;
         rising = (omega (arith, b.seen row, a.2), r.3.rising);
+        there = (known.1, r.3.there);
       },
     )
 

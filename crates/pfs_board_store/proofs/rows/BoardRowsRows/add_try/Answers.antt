@@ -32,6 +32,7 @@ returns-in-Busy-clause-call g c = λ start calls r.
         words = r.3.words;
         tickets = r.3.tickets;
         rising = ((omega (arith, b.seen row, a.6), a.2), r.3.rising);
+        there = (omega (arith, cell), r.3.there);
       },
     )
 
@@ -61,5 +62,6 @@ returns-in-Mine-clause-call g c = λ start calls r.
         words = r.3.words;
         tickets = r.3.tickets;
         rising = (omega (arith, r.3.board.seen row, a.2, next), r.3.rising);
+        there = (omega (arith, cell), r.3.there);
       },
     )

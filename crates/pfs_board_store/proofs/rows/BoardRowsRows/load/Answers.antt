@@ -20,5 +20,6 @@ returns-clause-call g c = λ start calls r.
         words = loaded_on start calls w _ word c.load.result.0 c.load.result.1 (omega (arith, looks, low)) c.load.ensures.view r.3.words;
         tickets = r.3.tickets;
         rising = (omega (arith, r.3.words.4 word, c.load.ensures.later), r.3.rising);
+        there = (low, r.3.there);
       },
     )

@@ -28,6 +28,7 @@ returns-in-Whole-clause-call g c = λ start calls r.
         words = r.3.words;
         tickets = r.3.tickets;
         rising = (omega (arith, b.seen row, a.0), r.3.rising);
+        there = (known.1, r.3.there);
       },
     )
 
@@ -51,6 +52,7 @@ returns-in-Free-clause-call g c = λ start calls r.
         words = r.3.words;
         tickets = r.3.tickets;
         rising = (omega (arith, b.seen row, a.1), r.3.rising);
+        there = (known.1, r.3.there);
       },
     )
 
@@ -75,5 +77,6 @@ returns-in-Busy-clause-call g c = λ start calls r.
         words = r.3.words;
         tickets = r.3.tickets;
         rising = ((omega (arith, b.seen row, a.1), a.2), r.3.rising);
+        there = (known.1, r.3.there);
       },
     )

@@ -34,6 +34,7 @@ returns-in-Busy-clause-call g c = λ start calls r.
         words = r.3.words;
         tickets = r.3.tickets;
         rising = ((omega (arith, b.seen row, a.1), a.2), r.3.rising);
+        there = (low, r.3.there);
       },
     )
 
@@ -56,6 +57,7 @@ returns-in-Free-clause-call g c = λ start calls r.
         words = r.3.words;
         tickets = r.3.tickets;
         rising = r.3.rising;
+        there = r.3.there;
       },
     )
 
@@ -80,6 +82,7 @@ returns-then-found-content-clause-call g c = λ start calls r.
         words = r.3.words;
         tickets = r.3.tickets;
         rising = (tt, r.3.rising);
+        there = (low, r.3.there);
       },
     )
 
@@ -103,5 +106,6 @@ returns-else-found-content-clause-call g c = λ start calls r.
         words = r.3.words;
         tickets = r.3.tickets;
         rising = r.3.rising;
+        there = r.3.there;
       },
     )

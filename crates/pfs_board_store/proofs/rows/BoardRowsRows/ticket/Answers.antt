@@ -18,5 +18,6 @@ returns-clause-call g c = λ start calls r.
         words = r.3.words;
         tickets = drawn_on start.tickets calls t _ _ c.args.kind c.draw.result c.requires.room c.draw.ensures.seat r.3.tickets;
         rising = (ticket_rises start.tickets calls t.tickets c.args.kind c.draw.result c.draw.ensures.above r.3.tickets.2, r.3.rising);
+        there = (c.requires.known, r.3.there);
       },
     )

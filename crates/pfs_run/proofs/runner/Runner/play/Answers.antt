@@ -5,15 +5,16 @@ use Rattle.pfs_law_report.specs.LostCounts.{lost_digests, lost_statements, lost_
 use Rattle.pfs_law_plain.specs.LineSteps.{kinds_at}
 use Rattle.pfs_journal.specs.declared.blocks.BlockReport.{BlockReport}
 use Rattle.pfs_event.specs.Logs.{Journal}
-use Rattle.pfs_play.specs.Errands.{StagesLie, actions_on}
+use Rattle.pfs_play.specs.Errands.{StagesLie, actions_on, cost_on}
 use Rattle.pfs_script.specs.Marks.{written_out}
 use Rattle.pfs_script.specs.declared.blocks.BlockLine.{BlockLine}
 use Rattle.pfs_session.specs.SessionStates.{State, Book}
-use Rattle.pfs_run.proofs.BlockStarts.{ready_at, slots_at, spare_at, tickets_at, actions_at, digests_at, statements_at, waits_at}
+use Rattle.pfs_run.proofs.BlockStarts.{ready_at, slots_at, needs_at, digests_at, statements_at, waits_at}
 use Rattle.pfs_run.proofs.RunKnowledge.{next_along}
 use Rattle.pfs_run.proofs.BlockPlaces.{is_here}
 use Rattle.pfs_run.proofs.ReadySessions.{ready_same}
 use Rattle.pfs_run.proofs.RunSteps.{from_none, is_done}
+use Rattle.pfs_run.proofs.RunnerState.{standing_of, store_of}
 use Rattle.pfs_run.proofs.runner.Runner.play.Goals as goal
 
 pub take_seat-requires-clause-low : goal.take_seat-requires-clause-low
@@ -50,61 +51,42 @@ pub play_block-requires-clause-connects : goal.play_block-requires-clause-connec
 play_block-requires-clause-connects c =
     let h = c.requires.here in
     let here = is_here c.playable.ensures c.few.ensures c.named.ensures c.actions.ensures c.requires.script.0 c.args.setting.now c.args.phases.now h.0 h.1 c.args.block.now h.2 h.3 c.requires.script.1 h.4 in
-    let is = ready_at c.args.setting.now c.args.phases.now h.0 h.1 c.args.block.now h.2 h.3 _ _ _ _ _ c.args.self.now.admin c.args.self.now.seats.items c.args.self.now.lost _ _ h.5 here c.in_ok-session.session c.in_ok-session.ensures.session in
+    let is = ready_at c.args.setting.now c.args.phases.now h.0 h.1 c.args.block.now h.2 h.3 (standing_of c.args.self.now) h.5 here c.in_ok-session.session c.in_ok-session.ensures.session in
     subst (λ (s : State). IfSome c.args.block.now.connect (λ names. MayConnect s c.args.self.now.admin names)) (sym c.reserve.ensures.state) is.connects
 
 pub play_block-requires-clause-may : goal.play_block-requires-clause-may
 play_block-requires-clause-may c =
     let h = c.requires.here in
     let here = is_here c.playable.ensures c.few.ensures c.named.ensures c.actions.ensures c.requires.script.0 c.args.setting.now c.args.phases.now h.0 h.1 c.args.block.now h.2 h.3 c.requires.script.1 h.4 in
-    let is = ready_at c.args.setting.now c.args.phases.now h.0 h.1 c.args.block.now h.2 h.3 _ _ _ _ _ c.args.self.now.admin c.args.self.now.seats.items c.args.self.now.lost _ _ h.5 here c.in_ok-session.session c.in_ok-session.ensures.session in
+    let is = ready_at c.args.setting.now c.args.phases.now h.0 h.1 c.args.block.now h.2 h.3 (standing_of c.args.self.now) h.5 here c.in_ok-session.session c.in_ok-session.ensures.session in
     subst (λ (s : State). MayEnd s.opened.depth (kinds_at s) c.args.block.now.lines) (sym c.reserve.ensures.state) is.may
 
 pub play_block-requires-clause-lie : goal.play_block-requires-clause-lie
 play_block-requires-clause-lie c =
     let h = c.requires.here in
     let here = is_here c.playable.ensures c.few.ensures c.named.ensures c.actions.ensures c.requires.script.0 c.args.setting.now c.args.phases.now h.0 h.1 c.args.block.now h.2 h.3 c.requires.script.1 h.4 in
-    let is = ready_at c.args.setting.now c.args.phases.now h.0 h.1 c.args.block.now h.2 h.3 _ _ _ _ _ c.args.self.now.admin c.args.self.now.seats.items c.args.self.now.lost _ _ h.5 here c.in_ok-session.session c.in_ok-session.ensures.session in
+    let is = ready_at c.args.setting.now c.args.phases.now h.0 h.1 c.args.block.now h.2 h.3 (standing_of c.args.self.now) h.5 here c.in_ok-session.session c.in_ok-session.ensures.session in
     subst (λ (s : State). StagesLie (kinds_at s)) (sym c.reserve.ensures.state) is.lie
 
 pub play_block-requires-clause-free : goal.play_block-requires-clause-free
 play_block-requires-clause-free c =
     let h = c.requires.here in
     let here = is_here c.playable.ensures c.few.ensures c.named.ensures c.actions.ensures c.requires.script.0 c.args.setting.now c.args.phases.now h.0 h.1 c.args.block.now h.2 h.3 c.requires.script.1 h.4 in
-    let is = ready_at c.args.setting.now c.args.phases.now h.0 h.1 c.args.block.now h.2 h.3 _ _ _ _ _ c.args.self.now.admin c.args.self.now.seats.items c.args.self.now.lost _ _ h.5 here c.in_ok-session.session c.in_ok-session.ensures.session in
+    let is = ready_at c.args.setting.now c.args.phases.now h.0 h.1 c.args.block.now h.2 h.3 (standing_of c.args.self.now) h.5 here c.in_ok-session.session c.in_ok-session.ensures.session in
     ap (λ (s : State). s.held) c.reserve.ensures.state ∙ is.free
 
-pub play_block-requires-clause-early : goal.play_block-requires-clause-early
-play_block-requires-clause-early c =
+pub play_block-requires-clause-ready : goal.play_block-requires-clause-ready
+play_block-requires-clause-ready c =
     let h = c.requires.here in
     let here = is_here c.playable.ensures c.few.ensures c.named.ensures c.actions.ensures c.requires.script.0 c.args.setting.now c.args.phases.now h.0 h.1 c.args.block.now h.2 h.3 c.requires.script.1 h.4 in
-    let is = ready_at c.args.setting.now c.args.phases.now h.0 h.1 c.args.block.now h.2 h.3 _ _ _ _ _ c.args.self.now.admin c.args.self.now.seats.items c.args.self.now.lost _ _ h.5 here c.in_ok-session.session c.in_ok-session.ensures.session in
-    let same = ap (λ (s : State). s.drawn) c.reserve.ensures.state in omega (arith, same, is.drawn, here.few, here.playable.short)
-
-pub play_block-requires-clause-rare : goal.play_block-requires-clause-rare
-play_block-requires-clause-rare c =
-    let h = c.requires.here in
-    let here = is_here c.playable.ensures c.few.ensures c.named.ensures c.actions.ensures c.requires.script.0 c.args.setting.now c.args.phases.now h.0 h.1 c.args.block.now h.2 h.3 c.requires.script.1 h.4 in
-    let is = ready_at c.args.setting.now c.args.phases.now h.0 h.1 c.args.block.now h.2 h.3 _ _ _ _ _ c.args.self.now.admin c.args.self.now.seats.items c.args.self.now.lost _ _ h.5 here c.in_ok-session.session c.in_ok-session.ensures.session in
-    let same = ap (λ (s : State). s.actions) c.reserve.ensures.state in omega (arith, same, is.actions, here.few, here.rare)
-
-pub play_block-requires-clause-few : goal.play_block-requires-clause-few
-play_block-requires-clause-few c =
-    let h = c.requires.here in
-    let here = is_here c.playable.ensures c.few.ensures c.named.ensures c.actions.ensures c.requires.script.0 c.args.setting.now c.args.phases.now h.0 h.1 c.args.block.now h.2 h.3 c.requires.script.1 h.4 in
-    actions_at c.args.setting.now c.args.phases.now h.0 h.1 c.args.block.now h.2 h.3 _ _ _ _ _ c.args.self.now.admin c.args.self.now.seats.items c.args.self.now.lost _ _ h.5 here
-
-pub play_block-requires-clause-tickets : goal.play_block-requires-clause-tickets
-play_block-requires-clause-tickets c =
-    let h = c.requires.here in
-    let here = is_here c.playable.ensures c.few.ensures c.named.ensures c.actions.ensures c.requires.script.0 c.args.setting.now c.args.phases.now h.0 h.1 c.args.block.now h.2 h.3 c.requires.script.1 h.4 in
-    tickets_at c.args.setting.now c.args.phases.now h.0 h.1 c.args.block.now h.2 h.3 _ _ _ _ _ c.args.self.now.admin c.args.self.now.seats.items c.args.self.now.lost _ _ h.5 here
-
-pub play_block-requires-clause-spare : goal.play_block-requires-clause-spare
-play_block-requires-clause-spare c =
-    let h = c.requires.here in
-    let here = is_here c.playable.ensures c.few.ensures c.named.ensures c.actions.ensures c.requires.script.0 c.args.setting.now c.args.phases.now h.0 h.1 c.args.block.now h.2 h.3 c.requires.script.1 h.4 in
-    spare_at c.args.setting.now c.args.phases.now h.0 h.1 c.args.block.now h.2 h.3 _ _ _ _ _ c.args.self.now.admin c.args.self.now.seats.items c.args.self.now.lost _ _ h.5 here
+    let is = ready_at c.args.setting.now c.args.phases.now h.0 h.1 c.args.block.now h.2 h.3 (standing_of c.args.self.now) h.5 here c.in_ok-session.session c.in_ok-session.ensures.session in
+    let drawn = ap (λ (s : State). s.drawn) c.reserve.ensures.state in
+    let actions = ap (λ (s : State). s.actions) c.reserve.ensures.state in
+    let cost = c.in_ok-cost.ensures.cost in
+    let said = ap (λ (l : List BlockLine). cost_on (written_out l)) c.as_slice.ensures in
+    let grown = ap (λ (j : Journal). j.room) c.in_ok-reserve.ensures.ok in
+    let room : cost_on (written_out c.args.block.now.lines) + 648 ≤ c.reserve.new.self.journal.room = omega (arith, cost, said, grown) in
+    needs_at c.args.setting.now c.args.phases.now h.0 h.1 c.args.block.now h.2 h.3 (standing_of c.args.self.now) h.5 here c.reserve.new.self (omega (arith, drawn, is.drawn)) (omega (arith, actions, is.actions)) room
 
 pub keep_seat-requires-clause-low : goal.keep_seat-requires-clause-low
 keep_seat-requires-clause-low c =
@@ -122,37 +104,36 @@ pub count_lost-self-requires-clause-digests : goal.count_lost-self-requires-clau
 count_lost-self-requires-clause-digests c =
     let h = c.requires.here in
     let here = is_here c.playable.ensures c.few.ensures c.named.ensures c.actions.ensures c.requires.script.0 c.args.setting.now c.args.phases.now h.0 h.1 c.args.block.now h.2 h.3 c.requires.script.1 h.4 in
-    digests_at c.args.setting.now c.args.phases.now h.0 h.1 c.args.block.now h.2 h.3 _ _ _ _ _ c.args.self.now.admin c.args.self.now.seats.items c.args.self.now.lost _ _ h.5 here
+    digests_at c.args.setting.now c.args.phases.now h.0 h.1 c.args.block.now h.2 h.3 (standing_of c.args.self.now) h.5 here
 
 pub count_lost-self-requires-clause-statements : goal.count_lost-self-requires-clause-statements
 count_lost-self-requires-clause-statements c =
     let h = c.requires.here in
     let here = is_here c.playable.ensures c.few.ensures c.named.ensures c.actions.ensures c.requires.script.0 c.args.setting.now c.args.phases.now h.0 h.1 c.args.block.now h.2 h.3 c.requires.script.1 h.4 in
-    statements_at c.args.setting.now c.args.phases.now h.0 h.1 c.args.block.now h.2 h.3 _ _ _ _ _ c.args.self.now.admin c.args.self.now.seats.items c.args.self.now.lost _ _ h.5 here
+    statements_at c.args.setting.now c.args.phases.now h.0 h.1 c.args.block.now h.2 h.3 (standing_of c.args.self.now) h.5 here
 
 pub count_lost-self-requires-clause-waits : goal.count_lost-self-requires-clause-waits
 count_lost-self-requires-clause-waits c =
     let h = c.requires.here in
     let here = is_here c.playable.ensures c.few.ensures c.named.ensures c.actions.ensures c.requires.script.0 c.args.setting.now c.args.phases.now h.0 h.1 c.args.block.now h.2 h.3 c.requires.script.1 h.4 in
-    waits_at c.args.setting.now c.args.phases.now h.0 h.1 c.args.block.now h.2 h.3 _ _ _ _ _ c.args.self.now.admin c.args.self.now.seats.items c.args.self.now.lost _ _ h.5 here
+    waits_at c.args.setting.now c.args.phases.now h.0 h.1 c.args.block.now h.2 h.3 (standing_of c.args.self.now) h.5 here
 
 pub returns : goal.returns
 returns c before first others after is along =
     let here = is_here c.playable.ensures c.few.ensures c.named.ensures c.actions.ensures c.requires.script.0 c.args.setting.now c.args.phases.now before first c.args.block.now others after c.requires.script.1 is in
-    let taken = ready_at c.args.setting.now c.args.phases.now before first c.args.block.now others after _ _ _ _ _ c.args.self.now.admin c.args.self.now.seats.items c.args.self.now.lost _ _ along here c.in_ok-session.session c.in_ok-session.ensures.session in
+    let taken = ready_at c.args.setting.now c.args.phases.now before first c.args.block.now others after (standing_of c.args.self.now) along here c.in_ok-session.session c.in_ok-session.ensures.session in
     let empty : c.reserve.new.self.journal.entries ≡ c.in_ok-session.session.journal.entries = ap (λ (j : Journal). j.entries) c.in_ok-reserve.ensures.ok in
     let begun = ready_same c.args.setting.now c.args.phases.now _ (along.earlier ++ along.current) c.args.self.now.admin c.args.block.now c.in_ok-session.session c.reserve.new.self c.reserve.ensures.state empty taken in
-    let few = slots_at c.args.setting.now c.args.phases.now before first c.args.block.now others after _ _ _ _ _ c.args.self.now.admin c.args.self.now.seats.items c.args.self.now.lost _ _ along here in
+    let few = slots_at c.args.setting.now c.args.phases.now before first c.args.block.now others after (standing_of c.args.self.now) along here in
     let text : c.take_log-log.result.entries ≡ c.in_ok-paused.paused.journal.entries = ap (λ (j : Journal). j.entries) c.take_log-log.ensures.journal in
     let report : BlockReport = record { session = c.args.block.now.session; entries = c.new.result; answers = c.new-2.result } in
     let played = from_none c.args.setting.now c.args.block.now c.args.self.now.admin c.play_block.new.admin c.reserve.new.self c.in_ok-paused.paused c.new-answers.result.items c.play_block.new.answers.items report.answers _ _
     (c.in_ok-paused.ensures.did few) c.new-answers.ensures.items c.new-2.ensures in
     let done = is_done c.args.setting.now c.args.phases.now before first c.args.block.now others after (along.earlier ++ along.current) c.args.self.now.admin c.play_block.new.admin c.reserve.new.self c.in_ok-paused.paused report.answers along.start along.calls _ _
     here along.course along.none_over begun.state begun.entries played along.opens along.led along.alike (λ more r. r.answers) here.playable.short in
-    next_along c.args.setting.now c.args.phases.now before first c.args.block.now others after _ _ _ _ _ _ _ _ _ _ c.args.self.now.admin c.play_block.new.admin c.args.self.now.seats.items c.keep_seat.new.seats.items c.args.self.now.lost c.count_lost-self.result
-    _ c.args.self.now.blocks.items c.push.new.self.items report c.reserve.new.self c.in_ok-paused.paused c.take_log-log.new.self here along begun done
-    (ap (λ (b : Book). b.state) c.take_log-log.ensures.rest) (ap (λ (b : Book). b.journal.entries) c.take_log-log.ensures.rest) c.in_ok-paused.ensures.free c.in_ok-paused.ensures.kinds c.in_ok-paused.ensures.lie c.in_ok-paused.ensures.drawn
-    c.in_ok-paused.ensures.depth c.in_ok-paused.ensures.actions c.in_ok-paused.ensures.leaves.hand c.in_ok-paused.ensures.leaves.left c.in_ok-paused.ensures.leaves.draws c.in_ok-paused.ensures.lent c.in_ok-paused.ensures.counted
+    next_along c.args.setting.now c.args.phases.now before first c.args.block.now others after (standing_of c.args.self.now) (store_of c.play_block.new.rows) c.play_block.new.admin c.keep_seat.new.seats.items c.count_lost-self.result
+    c.push.new.self.items report c.reserve.new.self c.in_ok-paused.paused c.take_log-log.new.self here along begun done
+    (ap (λ (b : Book). b.state) c.take_log-log.ensures.rest) (ap (λ (b : Book). b.journal.entries) c.take_log-log.ensures.rest) c.in_ok-paused.ensures.free c.in_ok-paused.ensures.kinds c.in_ok-paused.ensures.lie c.in_ok-paused.ensures.within
     (c.keep_seat.ensures ∙ ap (λ (z : List (Option Book)). slice_set z (c.args.block.now.session - 1) (Some c.take_log-log.new.self)) c.in_ok-session.ensures.seats)
     (c.count_lost-self.ensures.digests ∙ ap (λ (es : List Entry). c.args.self.now.lost.digests + lost_digests es) text)
     (c.count_lost-self.ensures.statements ∙ ap (λ (es : List Entry). c.args.self.now.lost.statements + lost_statements es) text) (c.count_lost-self.ensures.waits ∙ ap (λ (es : List Entry). c.args.self.now.lost.waits + lost_waits es) text)
