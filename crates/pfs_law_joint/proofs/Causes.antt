@@ -1,5 +1,5 @@
 -- Why a call was held back, busy or late: others published, and nobody twice.
-use Rattle.std.proofs.Common.{ℕ, ◌≡◌, ◌+◌, ◌*◌, ◌/◌, ◌<◌, ◌≤◌, ◌==◌, Bool, true, false, not, ◌&&◌, List, [], ◌∷◌, ◌++◌, slice_index, inl, inr, refl, ◌∙◌, arith}
+use Rattle.std.proofs.Common.{ℕ, ◌≡◌, ◌+◌, ◌*◌, ◌/◌, ◌<◌, ◌≤◌, ◌==◌, Bool, true, false, not, ◌&&◌, List, [], ◌∷◌, ◌++◌, slice_index, inl, inr, refl, ◌∙◌, subst, arith}
 use Rattle.std.specs.Prelude.{nat_lt, nat_le}
 use Rattle.pfs_rows.specs.declared.table.Seen.TheVariants.{Whole, Free}
 use Rattle.pfs_rows.specs.declared.table.Seen.TheVariants as sees
@@ -7,7 +7,7 @@ use Rattle.pfs_levels.specs.declared.answers.Added.TheVariants.{Counted, Held}
 use Rattle.pfs_levels.specs.declared.answers.RingPut.TheVariants.{Done, Busy, Late}
 use Rattle.pfs_levels.specs.Calls.{Call, Adds, Rings, Reads, Loads, Draws, Takes, Puts, Frees, Sets, Enters, Leaves, Meets, after_in}
 use Rattle.pfs_levels.specs.JointCalls.{total, one_if, count, changes_of, frees_at, all_calls}
-use Rattle.pfs_levels.specs.CallOrder.{Mark, AllCalls, marks_of, all_marks, marked, is_past, is_between, published, released, top_in, IsCaused, IsOverdue}
+use Rattle.pfs_levels.specs.CallOrder.{Mark, AllCalls, marks_of, all_marks, marked, is_past, above, is_between, published, released, top_in, IsCaused, IsOverdue}
 use Rattle.pfs_levels.specs.CallOrder.{IsOthers as AreOthers}
 use Rattle.pfs_law_joint.specs.Phases.{IsShared, HaveEnded, AreWhole, Moment, own_of, phase_of, others_of, WereDone}
 use Rattle.pfs_law_joint.specs.Causes.{IsOthers, WasOthers, WasLate, WasFree, HasCause, CausesLaw}
@@ -74,8 +74,9 @@ module _ (flags : List ℕ) (before : List (List Call)) (m : Moment) (done : ℕ
     began = since;
   }
 
-  vacant : (row w : ℕ) → ((k : ℕ) × ((w ≡ 4 * k) × (0 < frees_at s.log row k))) → top_in m.earlier row ≤ w / 4 → count (changes_of (all_calls before)) row ≤ w / 4 → WasFree before m row w
-  vacant row w agrees rise began =
+  vacant : (row w : ℕ) → ((k : ℕ) × ((w ≡ 4 * k) × (0 < frees_at s.log row k))) → top_in m.earlier row ≤ w / 4 → count (changes_of (all_calls before)) row ≤ w / 4
+      → above s.marks row (w / 4) (after_in m.earlier) ≡ 0 → WasFree before m done row w
+  vacant row w agrees rise began floor =
       let v : ℕ = agrees.0 in
       let q : w / 4 ≡ v = four w v agrees.1.0 in
       record {
@@ -84,6 +85,7 @@ module _ (flags : List ℕ) (before : List (List Call)) (m : Moment) (done : ℕ
         stood = omega (arith, agrees.1.1, s.joint.once (λ x. one_if (frees_it row v x)));
         began = omega (arith, began, q);
         own = omega (arith, rise, q);
+        given = λ up. subst (λ z. above (all_marks (phase_of m ++ before)) row z done ≡ 0) q (row_above flags before m done s e whole were row (w / 4) up began floor);
       }
 
   has_cause : (call : Call) → Facts flags before m s call → HasCause s.content before m done call
@@ -93,7 +95,7 @@ module _ (flags : List ℕ) (before : List (List Call)) (m : Moment) (done : ℕ
   has_cause (Rings at content (Late t)) f = λ up. late at t up f.caused f.since
   has_cause (Rings at content (Done v)) f = tt
   has_cause (Reads at (sees.Busy v w)) f = λ up. held at v w up f.caused f.rising f.since
-  has_cause (Reads at (Free w)) f = vacant at w f.agrees f.rising f.since
+  has_cause (Reads at (Free w)) f = vacant at w f.agrees f.rising f.since f.floored
   has_cause (Reads at (Whole v found)) f = tt
   has_cause (Loads at v found) f = tt
   has_cause (Draws kind ticket) f = tt

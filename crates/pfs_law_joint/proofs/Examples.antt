@@ -98,6 +98,7 @@ module _ (amount : Stat) (one two three : Label) where
     ended = refl;
     floored = ((tt, (refl, (tt, (tt, (tt, tt))))), ((tt, (refl, (refl, (tt, (refl, tt))))), ((tt, (tt, (refl, tt))), tt)));
     rising = ((lit< tt, (lit< tt, (lit≤ tt, (tt, ((lit≤ tt, lit≤ tt), tt))))), ((lit< tt, (lit< tt, (lit≤ tt, (lit≤ tt, (lit< tt, tt))))), ((lit< tt, (lit≤ tt, (lit< tt, tt))), tt)));
+    there = ((tt, (lit< tt, (tt, (lit< tt, (lit< tt, tt))))), ((tt, (lit< tt, (lit< tt, (tt, (lit< tt, tt))))), ((tt, (tt, (lit< tt, tt))), tt)));
     caused = ((tt, (tt, (tt, (late, (was_held, tt))))), ((tt, (tt, (tt, (tt, (tt, tt))))), ((tt, (tt, (tt, tt))), tt)));
     named = ((refl, (tt, ((three ∷ [], refl), (tt, (tt, tt))))), ((refl, (tt, (tt, ((two ∷ three ∷ [], refl), (tt, tt))))), ((refl, ((one ∷ two ∷ three ∷ [], refl), (tt, tt))), tt)));
   }

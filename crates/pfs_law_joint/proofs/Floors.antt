@@ -1,5 +1,5 @@
 -- Each call is above, or not below, what its actor knew: floors of all that ended actions gave, in this phase or before.
-use Rattle.std.proofs.Common.{ℕ, ◌≡◌, ◌+◌, ◌<◌, ◌≤◌, ◌==◌, Bool, true, false, not, ◌&&◌, List, [], ◌∷◌, ◌++◌, slice_index, inl, inr, refl, ap, sym, ◌∙◌, subst, arith, eqb-true, eq-eqb, le-leb}
+use Rattle.std.proofs.Common.{ℕ, ◌≡◌, ◌+◌, ◌/◌, ◌<◌, ◌≤◌, ◌==◌, Bool, true, false, not, ◌&&◌, List, [], ◌∷◌, ◌++◌, slice_index, inl, inr, refl, ap, sym, ◌∙◌, subst, arith, eqb-true, eq-eqb, le-leb}
 use Rattle.std.specs.Prelude.{nat_lt, nat_le, ◌⊎◌}
 use Rattle.std.proofs.lemmas.Bool.{cases_lt, and_from, ltb-true, leb-true}
 use Rattle.pfs_lemmas.proofs.Bools.{and_first, and_second}
@@ -240,7 +240,7 @@ module _ (flags : List ℕ) (before : List (List Call)) (m : Moment) (done : ℕ
     not_below at v f.since.0 f.rising f.floored.0 up,
     record { released = row_freed at v up f.since.0 f.since.1 f.floored.1; stood = f.since.1 },
   )
-  keeps (Reads at (Free w)) f = record { began = f.since; own = f.rising }
+  keeps (Reads at (Free w)) f = record { began = f.since; own = f.rising; given = λ up. row_above at (w / 4) up f.since f.floored }
   keeps (Reads at (sees.Busy v w)) f = tt
   keeps (Loads at v found) f = loaded at v f.since f.rising f.floored
   keeps (Draws kind ticket) f = tt

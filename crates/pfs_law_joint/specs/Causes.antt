@@ -44,14 +44,15 @@ pub record WasLate (content : ℕ → ℕ → List ℕ) (before : List (List Cal
     pub began : (k : ℕ)
         × ((count (changes_of (all_calls before)) row ≤ k) × (slice_index (content row k) 15 ≡ ticket + 1))
 
--- a row that was read free was released at that version or opened free, not below what stood as the phase began and
--- what the actor named. What ended actions gave is left out: the actors' calls don't say it
-pub record WasFree (before : List (List Call)) (m : Moment) (row word : ℕ) : Type 0 where
+-- a row that was read free was released at that version or opened free, not below what stood as the phase began, what
+-- the actor named and what the actions gave that it knew as ended
+pub record WasFree (before : List (List Call)) (m : Moment) (done row word : ℕ) : Type 0 where
   pub version : ℕ
   pub word_is : word ≡ 4 * version
   pub stood : 0 < frees_at (changes_of (all_calls (phase_of m ++ before))) row version
   pub began : count (changes_of (all_calls before)) row ≤ version
   pub own : top_in m.earlier row ≤ version
+  pub given : 0 < row → above (all_marks (phase_of m ++ before)) row version done ≡ 0
 
 abbrev pub HasCause : (ℕ → ℕ → List ℕ) → List (List Call) → Moment → ℕ → Call → Type 0
 HasCause content before m done (Adds at amount (Held row first second)) =
@@ -63,7 +64,7 @@ HasCause content before m done (Rings row put (Late ticket)) = 0 < row → WasLa
 HasCause content before m done (Rings row put (Done version)) = Unit {0}
 HasCause content before m done (Reads row (sees.Busy first second)) =
     0 < row → WasOthers before m done row first second
-HasCause content before m done (Reads row (Free word)) = WasFree before m row word
+HasCause content before m done (Reads row (Free word)) = WasFree before m done row word
 HasCause content before m done (Reads row (Whole version found)) = Unit {0}
 HasCause content before m done (Loads at version flags) = Unit {0}
 HasCause content before m done (Draws kind ticket) = Unit {0}

@@ -27,10 +27,11 @@ pub record IsUnreleased (before : List (List Call)) (m : Moment) (done row versi
   pub stood : 0 < frees_at (changes_of (all_calls before)) row version
       → version ≡ count (changes_of (all_calls before)) row → ⊥
 
--- a row that was read free: of ended actions the actors' calls say nothing here
-pub record IsVacantAbove (before : List (List Call)) (m : Moment) (row version : ℕ) : Type 0 where
+-- nor is a row below them that was read free
+pub record IsVacantAbove (before : List (List Call)) (m : Moment) (done row version : ℕ) : Type 0 where
   pub began : count (changes_of (all_calls before)) row ≤ version
   pub own : top_in m.earlier row ≤ version
+  pub given : 0 < row → above (all_marks (phase_of m ++ before)) row version done ≡ 0
 
 pub record IsSetAbove (before : List (List Call)) (m : Moment) (done word version : ℕ) : Type 0 where
   pub began : word_version (sets_of (all_calls before)) word < version
@@ -51,7 +52,7 @@ Keeps before m done (Rings row content (Busy first second)) = Unit {0}
 Keeps before m done (Rings row content (Late ticket)) = Unit {0}
 Keeps before m done (Reads row (Whole version found)) =
     0 < row → IsNotBelow before m done row version × IsUnreleased before m done row version
-Keeps before m done (Reads row (Free w)) = IsVacantAbove before m row (w / 4)
+Keeps before m done (Reads row (Free w)) = IsVacantAbove before m done row (w / 4)
 Keeps before m done (Reads row (sees.Busy first second)) = Unit {0}
 Keeps before m done (Loads word version flags) = IsLoadedAbove before m done word version
 Keeps before m done (Draws kind ticket) = Unit {0}
