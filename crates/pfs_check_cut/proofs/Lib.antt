@@ -1,4 +1,4 @@
 mod BlockSteps
 mod LineSteps
 mod PhaseSteps
-mod SessionSteps
+pub mod SessionSteps

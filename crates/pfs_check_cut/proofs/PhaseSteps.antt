@@ -17,10 +17,10 @@ use Rattle.pfs_script.specs.declared.blocks.Phase.{Phase}
 use Rattle.pfs_check_lines.proofs.ListPlaces.{parted}
 use Rattle.pfs_check_faults.specs.ShapeFaults.{blocks_cut, phases_cut, report_cut, with_blocks}
 use Rattle.pfs_check_cut.specs.CutReports.{AreBlocksCut, IsPhaseCut, IsReportCut, blocks_by, phases_by}
-use Rattle.pfs_check_cut.specs.LineCounts.{result_lines}
+use Rattle.pfs_check_line_numbers.specs.LineCounts.{result_lines}
 use Rattle.pfs_check_cut.specs.Sessions.{AreTrailsOf}
 use Rattle.pfs_check_cut.specs.declared.blocks.CutBlock.{CutBlock}
-use Rattle.pfs_check_cut.proofs.LineSteps.{phase_reaches}
+use Rattle.pfs_check_line_numbers.proofs.LineSteps.{phase_reaches}
 use Rattle.pfs_check_cut.specs.declared.blocks.CutPhase.{CutPhase}
 use Rattle.pfs_check_cut.specs.declared.blocks.ShapeFault.{ShapeFault}
 use Rattle.pfs_check_cut.specs.declared.blocks.ShapeFault.TheVariants.{Line as at_line, NoMemory}

@@ -1,3 +1,2 @@
 pub mod CutReports
-pub mod LineCounts
 pub mod Sessions

@@ -8,8 +8,8 @@ ghost use Rattle.pfs_check_trail.specs.Trails.{IsTrailOf};
 ghost use Rattle.pfs_model.specs.Contexts.{Context};
 
 use crate::NoMemory;
-use crate::line_counts::{behind, behind_block, behind_entries};
 use crate::sessions::{keep_trail, take_trail};
+use pfs_check_line_numbers::{behind, behind_block, behind_entries};
 use pfs_check_lines::lines_in;
 use pfs_check_parts::{Cut, cut_journal};
 use pfs_check_trail::Trail;

@@ -3,7 +3,6 @@
 #![tactic(auto)]
 
 mod blocks;
-mod line_counts;
 mod phases;
 mod sessions;
 

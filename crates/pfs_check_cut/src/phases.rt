@@ -7,7 +7,7 @@ ghost use Rattle.pfs_check_cut.specs.Sessions.{AreTrailsOf};
 
 use crate::NoMemory;
 use crate::blocks::{CutPhase, ShapeFault, cut_blocks};
-use crate::line_counts::{behind, behind_results};
+use pfs_check_line_numbers::{behind, behind_results};
 use pfs_check_trail::Trail;
 use pfs_journal::{PhaseParts, ReportParts};
 use pfs_script::Phase;

@@ -3,7 +3,7 @@ use Rattle.std.proofs.Common.{ℕ, zero, suc, ◌<◌, ◌≤◌, inl, inr, List
 use Rattle.pfs_event.specs.declared.entry.Entry.{Entry}
 use Rattle.pfs_model.specs.Actions.{Deed, IsAmong, NeverFall, deed_at, deeds_of}
 use Rattle.pfs_model.specs.ActionAsks.{Answer, AreAnswered, Rooms}
-use Rattle.pfs_model.specs.Chains.{each_of}
+use Rattle.pfs_model.specs.Chains.{Each, each_of}
 use Rattle.pfs_model.specs.Contexts.{noted, subject_of}
 use Rattle.pfs_model.specs.EntryPlaces.{Placed}
 use Rattle.pfs_model.specs.EventNumbers.{AreNumbered}
@@ -15,7 +15,7 @@ use Rattle.pfs_model.specs.Rings.{LongRises, Ticketed, ticketed_at}
 use Rattle.pfs_model.specs.SetupFlags.{AreJudged}
 use Rattle.pfs_check_faults.proofs.MemberCounts.{among_left, among_right, each_among}
 use Rattle.pfs_check_faults.specs.ActionFaults.{IsPredecessor, NeverFallsAt, Precedes}
-use Rattle.pfs_check_faults.specs.EntryFaults.{JudgesAt, NumbersAt, SeesAt}
+use Rattle.pfs_check_faults.specs.EntryFaults.{IsSlotThere, JudgesAt, NumbersAt, SeesAt}
 use Rattle.pfs_check_faults.specs.ReportCases.{AllHave, Lacks}
 use Rattle.pfs_check_faults.specs.RingFaults.{IsUnbrought, IsUnpaid, LongRisesAt, UnbroughtAt}
 
@@ -27,10 +27,17 @@ none_lacks fact earlier (place ∷ places) zero h l = l h.0
 none_lacks fact earlier (place ∷ places) (suc at) h l = none_lacks fact (place ∷ earlier) places at h.1 l
 
 pub all_see : (all earlier places : List Placed) → AreFlooredBehind all earlier places → AreThere places
-    → AllHave (SeesAt all) earlier places
-all_see all earlier [] h t = tt
-all_see all earlier (place ∷ places) h t =
-    (record { rows = h.0; words = h.1; there = t.0 }, all_see all (place ∷ earlier) places h.2 t.1)
+    → Each IsSlotThere places → AllHave (SeesAt all) earlier places
+all_see all earlier [] h t s = tt
+all_see all earlier (place ∷ places) h t s = (
+  record {
+    rows = h.0;
+    words = h.1;
+    there = t.0;
+    slot = s.0;
+  },
+  all_see all (place ∷ earlier) places h.2 t.1 s.1,
+)
 
 pub all_judge : (stack : ℕ) (flags : ℕ → ℕ → ℕ) (earlier places : List Placed) → AreJudged stack flags places
     → AllHave (JudgesAt stack flags) earlier places

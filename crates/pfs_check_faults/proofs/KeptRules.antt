@@ -80,7 +80,7 @@ excluded rules.Setup case found line before keeps f =
     f.wrong (ap (take (f.at + 1)) (sets_are (terms_in case found).asked (entries_of found)
     (are_sets case found (before rules.Shape (omega arith)) (before rules.Actions (omega arith)) keeps) f.number f.positive))
 excluded rules.Seen case found line before keeps f =
-    none_lacks (SeesAt (entries_of found)) [] (entries_of found) f.0 (all_see (entries_of found) [] (entries_of found) keeps.floored keeps.there) f.2
+    none_lacks (SeesAt (entries_of found)) [] (entries_of found) f.0 (all_see (entries_of found) [] (entries_of found) keeps.floored keeps.there keeps.slots) f.2
 excluded rules.Verdict case found line before keeps f =
     none_lacks (JudgesAt (terms_in case found).stack (flags_in case found)) [] (entries_of found) f.0 (all_judge (terms_in case found).stack (flags_in case found) [] (entries_of found) keeps) f.2
 excluded rules.Numbers case found line before keeps f =

@@ -13,4 +13,5 @@ mod RisingFacts
 mod RunRules
 mod SetCounts
 mod SetsOnce
+mod SlotFacts
 mod TicketFacts

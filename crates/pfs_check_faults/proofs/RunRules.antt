@@ -8,11 +8,12 @@ use Rattle.pfs_model.specs.Causes.{AreCausedBehind, ShowsCause}
 use Rattle.pfs_model.specs.Chains.{each_of}
 use Rattle.pfs_model.specs.EntryPlaces.{Placed, places}
 use Rattle.pfs_model.specs.Rings.{is_reading_line}
-use Rattle.pfs_runs.specs.Runs.{AreFinal, IsRun}
+use Rattle.pfs_runs.specs.Runs.{AreFinal, IsRun, all_blocks}
 use Rattle.pfs_runs.specs.PhaseFinals.{IsFinal}
 use Rattle.pfs_runs.specs.ScriptLines.{change_in}
 use Rattle.pfs_check_faults.specs.declared.rules.Rule.{Rule}
 use Rattle.pfs_check_faults.specs.declared.rules.Rule.TheVariants as rules
+use Rattle.pfs_check_faults.proofs.SlotFacts.{slots_there}
 use Rattle.pfs_check_faults.specs.ActionFaults.{SetAsAsked, flagging_at, moving_at}
 use Rattle.pfs_check_faults.specs.EntryFaults.{EventCauseAt, QueryCauseAt}
 use Rattle.pfs_check_faults.specs.Judgements.{IsGood, Keeps, LostOf, RunLaw, TablesOf, so_far}
@@ -217,7 +218,12 @@ run_keeps case run rules.Setup = record {
   sets = run.rules.joint.ordered.sets;
   asked = set_as_asked (terms_in case (found_by case run)).asked run.counted (entries_of (found_by case run)) run.rules.done;
 }
-run_keeps case run rules.Seen = record { floored = run.rules.joint.floored; there = run.rules.there }
+run_keeps case run rules.Seen = record {
+  floored = run.rules.joint.floored;
+  there = run.rules.there;
+  slots = slots_there case.setting (change_in case.phases) run.labels (terms_in case (found_by case run)).answers
+      (all_blocks run.blocks) run.rules.answered;
+}
 run_keeps case run rules.Verdict = run.rules.judged
 run_keeps case run rules.Numbers = record { numbered = run.rules.numbered; answered = run.rules.answered }
 run_keeps case run rules.Moves = record {

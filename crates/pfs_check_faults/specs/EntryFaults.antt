@@ -1,7 +1,8 @@
 -- The rules that are facts of one entry and of those before it: the numbers of actions and of changes, what is seen,
 -- verdicts, the numbers of events, and the causes of what was held.
-use Rattle.std.specs.Prelude.{ℕ, ◌≡◌, ◌↔◌, ◌<◌, ◌≤◌, true, false, List, [], ◌++◌, length}
+use Rattle.std.specs.Prelude.{ℕ, ◌≡◌, ◌↔◌, ◌<◌, ◌≤◌, true, false, List, [], ◌++◌, length, Option, None}
 use Rattle.pfs_event.specs.declared.entry.Entry.{Entry}
+use Rattle.pfs_event.specs.declared.entry.Entry.TheVariants as says
 use Rattle.pfs_model.specs.declared.changes.Change.{Change}
 use Rattle.pfs_model.specs.ActionAsks.{Answer, IsAnswered, Rooms}
 use Rattle.pfs_model.specs.Actions.{AreRising, numbers_by}
@@ -12,7 +13,7 @@ use Rattle.pfs_model.specs.EntryPlaces.{Placed, up_to_phase}
 use Rattle.pfs_model.specs.EventNumbers.{IsNumbered}
 use Rattle.pfs_model.specs.Floors.{IsThere, LoadsKeep, NamingsKeep, namings_of}
 use Rattle.pfs_model.specs.Rings.{is_reading_line}
-use Rattle.pfs_model.specs.SetupFlags.{IsJudged, loads_of}
+use Rattle.pfs_model.specs.SetupFlags.{IsJudged, loads_of, thread_word, word_named}
 use Rattle.pfs_check_faults.specs.ReportCases.{AllHave}
 
 -- a number that a change may have: from 1 to as many as there are of its row up to the end of its phase, and on no
@@ -37,11 +38,23 @@ pub record ActsAt (all earlier : List Placed) (place : Placed) : Type 0 where
   pub numbered : LinksAt action_change all earlier place
   pub rises : RisesAt earlier place
 
+-- the version of its thread's switch word that a start or an end names
+abbrev pub thread_named : Entry → Option ℕ
+thread_named (says.Start event verdict consumers thread class table) = thread
+thread_named (says.End event last consumers thread) = thread
+thread_named _ = None
+
+-- There are 160 switch words: that of the printed slot is one of them, where a version of it is named.
+abbrev pub IsSlotThere : Placed → Type 0
+IsSlotThere place =
+    Each (λ word. word.row < 160) (word_named thread_word place.context.slot (thread_named place.entry))
+
 -- the fifth rule
 pub record SeesAt (all earlier : List Placed) (place : Placed) : Type 0 where
   pub rows : NamingsKeep all earlier place (namings_of place.entry)
   pub words : LoadsKeep all earlier place (loads_of place ++ word_change place.entry)
   pub there : IsThere place.entry
+  pub slot : IsSlotThere place
 
 -- the sixth
 abbrev pub JudgesAt : ℕ → (ℕ → ℕ → ℕ) → List Placed → Placed → Type 0

@@ -4,7 +4,7 @@ use Rattle.pfs_event.specs.declared.entry.Entry.{Entry}
 use Rattle.pfs_journal.specs.declared.report.PhaseParts.{PhaseParts}
 use Rattle.pfs_model.specs.Actions.{AreRising, NeverFall, deeds_of, numbers_by, sets_of}
 use Rattle.pfs_model.specs.ActionAsks.{AreAnswered, DoAsAsked}
-use Rattle.pfs_model.specs.Chains.{AreChained, action_change, row_change, word_change}
+use Rattle.pfs_model.specs.Chains.{AreChained, Each, action_change, row_change, word_change}
 use Rattle.pfs_model.specs.Contents.{AreContents, AreFoundAsCounted}
 use Rattle.pfs_model.specs.EntryPlaces.{Placed, up_to_phase}
 use Rattle.pfs_model.specs.EventNumbers.{AreNumbered}
@@ -23,7 +23,7 @@ use Rattle.pfs_check_faults.specs.declared.rules.Judgement.{Judgement}
 use Rattle.pfs_check_faults.specs.declared.rules.Judgement.TheVariants.{Good, Wrong}
 use Rattle.pfs_check_faults.specs.ActionFaults.{MovesFail, NeverFallsAt, SetAsAsked, SetsFail}
 use Rattle.pfs_check_faults.specs.AnswerFaults.{SomePhaseFails}
-use Rattle.pfs_check_faults.specs.EntryFaults.{ActsAt, EventCauseAt, JudgesAt, LinksAt, NumbersAt, QueryCauseAt, SeesAt}
+use Rattle.pfs_check_faults.specs.EntryFaults.{ActsAt, EventCauseAt, IsSlotThere, JudgesAt, LinksAt, NumbersAt, QueryCauseAt, SeesAt}
 use Rattle.pfs_check_faults.specs.FinalFaults.{AreTables, LostFail, SomeEndFails, TablesFail, lost_due}
 use Rattle.pfs_check_faults.specs.ReportCases.{AllHave, Case, Findings, LacksOn, entries_of, flags_in, terms_in}
 use Rattle.pfs_check_faults.specs.RingFaults.{RingsFail}
@@ -57,6 +57,7 @@ pub record KeepsSetup (case : Case) (found : Findings) : Type 0 where
 pub record KeepsSeen (found : Findings) : Type 0 where
   pub floored : AreFloored (entries_of found)
   pub there : AreThere (entries_of found)
+  pub slots : Each IsSlotThere (entries_of found)
 
 pub record KeepsNumbers (case : Case) (found : Findings) : Type 0 where
   pub numbered : AreNumbered (entries_of found)

@@ -1,11 +1,11 @@
 -- The lines of the entries of a report.
-use Rattle.std.proofs.Common.{◌≡◌, refl, ℕ, zero, suc, ◌+◌, ◌-◌, ◌<◌, ◌≤◌, Bool, true, false, cond, List, [], ◌∷◌, ◌++◌, length, map, get_or, take, drop, sym, ◌∙◌, ap, arith, append_assoc, Some, None}
-use Rattle.std.specs.Prelude.{slice_get, if◌then◌else◌}
+use Rattle.std.proofs.Common.{◌≡◌, refl, ℕ, zero, suc, ◌+◌, ◌-◌, ◌<◌, ◌≤◌, Bool, true, false, cond, List, [], ◌∷◌, ◌++◌, length, map, get_or, take, drop, sym, ◌∙◌, ap, arith, append_assoc, Some, None, IsErrAnd}
+use Rattle.std.specs.Prelude.{◌^◌, OnErr, Result, Ok, Err, slice_get, if◌then◌else◌}
 use Rattle.std.specs.List.{flat_map, slice_index_or}
 use Rattle.std.proofs.lemmas.List.{drop_all, drop_more, length-append}
 use Rattle.std.proofs.lemmas.Option.{same_Some}
 use Rattle.pfs_event.specs.declared.entry.Entry.{Entry}
-use Rattle.pfs_journal.specs.ReportLines.{block_lines, journal_lines, phase_lines, row_lines, table_lines}
+use Rattle.pfs_journal.specs.ReportLines.{block_lines, journal_lines, phase_lines, report_lines, row_lines, table_lines}
 use Rattle.pfs_journal.specs.Spelling.{is_answered}
 use Rattle.pfs_journal.specs.declared.blocks.BlockReport.{BlockReport}
 use Rattle.pfs_journal.specs.declared.line.Line.{Line}
@@ -16,8 +16,10 @@ use Rattle.pfs_journal.specs.declared.values.LostReport.{LostReport}
 use Rattle.pfs_journal.specs.declared.values.TableReport.{TableReport}
 use Rattle.pfs_text.specs.declared.values.RowValue.{RowValue}
 use Rattle.pfs_check_faults.specs.ReportCases.{entry_lines, is_entry_line, numbers_where}
-use Rattle.pfs_check_line_numbers.specs.EntryLines.{IsFound, sought}
+use Rattle.pfs_check_line_numbers.specs.EntryLines.{GoesOn, IsFound, sought}
 use Rattle.pfs_check_line_numbers.specs.LineCounts.{result_lines}
+use Rattle.pfs_check_line_numbers.proofs.LineSteps.{take_fits}
+use Rattle.pfs_check_line_numbers.specs.declared.searches.Found.{Found}
 use Rattle.pfs_check_line_numbers.specs.declared.searches.Found.TheVariants.{On, Behind}
 use Rattle.pfs_check_line_numbers.specs.declared.searches.Search.{Search}
 
@@ -30,7 +32,7 @@ where_append test n (x ∷ xs) ys =
     ∙ ap (λ (z : ℕ). cond (test x) (n ∷ []) [] ++ (numbers_where test (n + 1) xs ++ numbers_where test z ys)) reach
     ∙ sym (append_assoc (cond (test x) (n ∷ []) []) (numbers_where test (n + 1) xs) (numbers_where test (n + suc (length xs)) ys))
 
-no_row : (n : ℕ) (rows : List (List RowValue)) → numbers_where is_entry_line n (row_lines rows) ≡ []
+pub no_row : (n : ℕ) (rows : List (List RowValue)) → numbers_where is_entry_line n (row_lines rows) ≡ []
 no_row n [] = refl
 no_row n (row ∷ rows) = no_row (n + 1) rows
 
@@ -208,6 +210,28 @@ pub report_passed : (report : ReportParts) (phases : List PhaseParts) (place : �
     → IsFound (record { line = 2; left = place }) (flat_map phase_lines phases) (Behind rest) → None ≡ slice_get (entry_lines report) place
 report_passed report phases place rest p found =
     sym (sym (ap (λ (z : List PhaseParts). sought (record { line = 2; left = place }) (flat_map phase_lines z ++ says.End ∷ [])) p) ∙ found (says.End ∷ []))
+
+-- What reaches 2^64 or more: a block whose first entries do, and a report whose phases do. An Err says so.
+pub block_long : (search : Search) (block : BlockReport) (first place : ℕ) (answers : Answers) → first ≡ search.line + 1 → answers ≡ block.answers
+    → 2 ^ 64 ≤ first + length (journal_lines (take place block.entries) answers) → 2 ^ 64 ≤ search.line + length (block_lines block)
+block_long search block first place answers f a long =
+    let own = ap (λ (z : Answers). length (journal_lines (take place block.entries) z)) a in
+    omega (arith, f, own, take_fits block.entries block.answers place, long)
+
+pub report_long : (report : ReportParts) (phases : List PhaseParts) → phases ≡ report.phases → 2 ^ 64 ≤ 2 + length (flat_map phase_lines phases)
+    → 2 ^ 64 ≤ length (report_lines report)
+report_long report phases p long =
+    let same = ap (λ (z : List PhaseParts). length (flat_map phase_lines z)) p in
+    omega (arith, same, length-append (flat_map phase_lines report.phases) (says.End ∷ []), long)
+
+pub goes_too_far : {E : Type 0} (P : E → Type 0) (search : Search) (lines : List Line) (r : Result Found E) → IsErrAnd r P
+    → 2 ^ 64 ≤ search.line + length lines → GoesOn search lines r
+goes_too_far P search lines (Ok found) is long = absurd is
+goes_too_far P search lines (Err fault) is long = long
+
+pub at_err : {A E : Type 0} (r : Result A E) {X : Type 0} → X → OnErr r X
+at_err (Ok value) x = tt
+at_err (Err fault) x = x
 
 -- the numbers of lines rise
 from_here : (test : Line → Bool) (n : ℕ) (ls : List Line) (i a : ℕ) → slice_get (numbers_where test n ls) i ≡ Some a → n ≤ a

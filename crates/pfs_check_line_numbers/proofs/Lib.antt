@@ -1,2 +1,2 @@
 pub mod EntryNumbers
-mod LineSteps
+pub mod LineSteps

@@ -1,20 +1,21 @@
 -- Lines of a report counted, part by part.
-use Rattle.std.proofs.Common.{◌≡◌, refl, ℕ, suc, ◌+◌, ◌-◌, ◌<◌, ◌≤◌, Bool, true, false, List, [], ◌∷◌, ◌++◌, length, map, get_or, take, drop, sym, ◌∙◌, ap, arith, Some}
-use Rattle.std.specs.Prelude.{slice_get, if◌then◌else◌}
+use Rattle.std.proofs.Common.{◌≡◌, refl, ℕ, zero, suc, ◌+◌, ◌-◌, ◌<◌, ◌≤◌, Bool, true, false, List, [], ◌∷◌, ◌++◌, length, map, get_or, take, drop, sym, ◌∙◌, ap, arith, Some, IsErrAnd}
+use Rattle.std.specs.Prelude.{◌^◌, Result, Ok, Err, slice_get, if◌then◌else◌}
 use Rattle.std.specs.List.{flat_map, slice_index_or}
 use Rattle.std.proofs.lemmas.Grind.{flat_map-append}
 use Rattle.std.proofs.lemmas.List.{append-nil, drop-drop, drop_all, drop_more, length-append, length-map, take_all, take_more}
 use Rattle.std.proofs.lemmas.Option.{get_or_from_slice_get}
 use Rattle.pfs_event.specs.declared.entry.Entry.{Entry}
 use Rattle.pfs_text.specs.declared.values.RowValue.{RowValue}
-use Rattle.pfs_journal.specs.ReportLines.{block_lines, journal_lines, row_lines, table_lines}
+use Rattle.pfs_journal.specs.ReportLines.{block_lines, journal_lines, phase_lines, row_lines, table_lines}
 use Rattle.pfs_journal.specs.Spelling.{is_answered}
+use Rattle.pfs_journal.specs.declared.line.Line.{Line}
 use Rattle.pfs_journal.specs.declared.line.Line.TheVariants as says
 use Rattle.pfs_journal.specs.declared.blocks.BlockReport.{BlockReport}
 use Rattle.pfs_journal.specs.declared.report.PhaseParts.{PhaseParts}
 use Rattle.pfs_journal.specs.declared.values.LostReport.{LostReport}
 use Rattle.pfs_journal.specs.declared.values.TableReport.{TableReport}
-use Rattle.pfs_check_line_numbers.specs.LineCounts.{IsLineOf, result_lines}
+use Rattle.pfs_check_line_numbers.specs.LineCounts.{IsLineOf, Reaches, result_lines}
 use Rattle.pfs_check_line_numbers.specs.declared.line_counts.Spot.{Spot}
 
 -- an entry without an answer, and one with its answer
@@ -62,6 +63,11 @@ one_answer answers place answer h is =
     ∙ sym (length-map (get_or answers place answer) says.Row)
     ∙ sym (ap (λ (z : List (List (List RowValue))). length (row_lines (slice_index_or z 0 []))) (drop_more answers place answer h))
 
+-- a phase's lines: its own, those of its blocks, and the results
+pub phase_reaches : (report : PhaseParts) (line first last : ℕ) → first ≡ line + 1 → last ≡ first + length (flat_map block_lines report.blocks) → last + length (result_lines report) ≡ line + length (phase_lines report)
+phase_reaches report line first last f l =
+    omega (arith, f, l, length-append (flat_map block_lines report.blocks) (result_lines report))
+
 -- a block's: its own, and its journal
 pub block_reaches : (report : BlockReport) (line first count : ℕ) (answers : List (List (List RowValue))) → answers ≡ report.answers → count ≡ length report.entries → first ≡ line + 1 → first + length (journal_lines (take count report.entries) answers) ≡ line + length (block_lines report)
 block_reaches report line first count answers a n f =
@@ -76,21 +82,41 @@ table_reaches table rows line first r f =
     let same = ap length r in
     omega (arith, f, same, length-map table.rows says.Row)
 
-pub tables_reach : (tables : List TableReport) (line end next at : ℕ) (table : TableReport) → at < length tables → table ≡ get_or tables at table → end ≡ line + length (flat_map table_lines (take at tables)) → next ≡ end + length (table_lines table) → next ≡ line + length (flat_map table_lines (take (at + 1) tables))
-tables_reach tables line end next at table h is before n =
-    let one = get_or tables at table in
-    let more : length (flat_map table_lines (take (at + 1) tables)) ≡ length (flat_map table_lines (take at tables)) + length (flat_map table_lines (one ∷ [])) =
-    ap (λ (z : List TableReport). length (flat_map table_lines z)) (take_more tables at table h)
-    ∙ ap length (flat_map-append table_lines (take at tables) (one ∷ []))
-    ∙ length-append (flat_map table_lines (take at tables)) (flat_map table_lines (one ∷ [])) in
-    let alone : length (flat_map table_lines (one ∷ [])) ≡ length (table_lines one) = ap length (append-nil (table_lines one)) in
-    let own = ap (λ (z : TableReport). length (table_lines z)) is in
+-- Of parts that are counted one after another: the line behind one more, behind all, and what is so if one of them
+-- reaches too far.
+pub reach_more : {A : Type 0} (lines : A → List Line) (from end next at : ℕ) (all : List A) (x : A) → at < length all → x ≡ get_or all at x
+    → end ≡ from + length (flat_map lines (take at all)) → next ≡ end + length (lines x) → next ≡ from + length (flat_map lines (take (at + 1) all))
+reach_more {A} lines from end next at all x h is before n =
+    let one = get_or all at x in
+    let more : length (flat_map lines (take (at + 1) all)) ≡ length (flat_map lines (take at all)) + length (flat_map lines (one ∷ [])) =
+    ap (λ (z : List A). length (flat_map lines z)) (take_more all at x h)
+    ∙ ap length (flat_map-append lines (take at all) (one ∷ []))
+    ∙ length-append (flat_map lines (take at all)) (flat_map lines (one ∷ [])) in
+    let alone : length (flat_map lines (one ∷ [])) ≡ length (lines one) = ap length (append-nil (lines one)) in
+    let own = ap (λ (z : A). length (lines z)) is in
     omega (arith, more, alone, own, before, n)
 
-pub tables_over : (tables : List TableReport) (line end at : ℕ) → length tables ≤ at → end ≡ line + length (flat_map table_lines (take at tables)) → end ≡ line + length (flat_map table_lines tables)
-tables_over tables line end at h before =
-    let all = ap (λ (z : List TableReport). length (flat_map table_lines z)) (take_all at tables h) in
-    omega (arith, all, before)
+pub reach_over : {A : Type 0} (lines : A → List Line) (from end at : ℕ) (all : List A) → length all ≤ at
+    → end ≡ from + length (flat_map lines (take at all)) → end ≡ from + length (flat_map lines all)
+reach_over {A} lines from end at all h before =
+    let whole = ap (λ (z : List A). length (flat_map lines z)) (take_all at all h) in
+    omega (arith, whole, before)
+
+front_fits : {A : Type 0} (lines : A → List Line) (all : List A) (at : ℕ) (x : A) → at < length all → x ≡ get_or all at x
+    → length (flat_map lines (take at all)) + length (lines x) ≤ length (flat_map lines all)
+front_fits lines [] at x h is = absurd (omega (arith, h))
+front_fits {A} lines (y ∷ ys) zero x h is =
+    let own = ap (λ (z : A). length (lines z)) is in
+    omega (arith, own, length-append (lines y) (flat_map lines ys))
+front_fits lines (y ∷ ys) (suc at) x h is =
+    let rest = front_fits lines ys at x (omega (arith, h)) is in
+    omega (arith, rest, length-append (lines y) (flat_map lines (take at ys)), length-append (lines y) (flat_map lines ys))
+
+pub part_long : {A : Type 0} (lines : A → List Line) (from end at : ℕ) (all : List A) (x : A) → at < length all → x ≡ get_or all at x
+    → end ≡ from + length (flat_map lines (take at all)) → 2 ^ 64 ≤ end + length (lines x) → 2 ^ 64 ≤ from + length (flat_map lines all)
+part_long lines from end at all x h is before long =
+    let fits = front_fits lines all at x h is in
+    omega (arith, fits, before, long)
 
 -- the results: their own line, the tables and the counters
 pub results_reach : (report : PhaseParts) (tables : List TableReport) (counters : List LostReport) (line first lost : ℕ) → tables ≡ report.tables → counters ≡ report.lost → first ≡ line + 1 → lost ≡ first + length (flat_map table_lines tables) → lost + length counters ≡ line + length (result_lines report)
@@ -134,3 +160,33 @@ spot_ended spot line es answers whole at count h before =
     let none : count - at ≡ 0 = omega arith in
     let left = ap (λ (n : ℕ). length (journal_lines (take n (drop at es)) (drop spot.place answers))) none in
     omega (arith, left, before.same)
+
+-- a journal in which an entry reaches too far
+pub spot_long : (spot : Spot) (line : ℕ) (es : List Entry) (answers : List (List (List RowValue))) (at count : ℕ) (e : Entry) → slice_get es at ≡ Some e
+    → at < length es → at < count → 2 ^ 64 ≤ spot.line + length (journal_lines (e ∷ take (count - (at + 1)) (drop (at + 1) es)) (drop spot.place answers))
+    → IsLineOf spot (take (count - at) (drop at es)) answers (record { line = line; place = 0 }) (take count es)
+    → 2 ^ 64 ≤ line + length (journal_lines (take count es) answers)
+spot_long spot line es answers at count e s h k long before =
+    let step = ap (λ z. spot.line + length (journal_lines z (drop spot.place answers))) (part_step es at count e s h k) in
+    omega (arith, long, step, before.same)
+
+-- the entries of a journal before a place reach no further than all
+pub take_fits : (es : List Entry) (answers : List (List (List RowValue))) (n : ℕ) → length (journal_lines (take n es) answers) ≤ length (journal_lines es answers)
+take_fits es answers zero = omega arith
+take_fits [] answers (suc n) = omega arith
+take_fits (e ∷ es) answers (suc n) = on (is_answered e) (λ left. take_fits es left n) where
+  rows : List Line
+  rows = row_lines (slice_index_or answers 0 [])
+
+  on : (b : Bool) → ((left : List (List (List RowValue))) → length (journal_lines (take n es) left) ≤ length (journal_lines es left))
+      → length ((says.Entry e ∷ (if b then rows else [])) ++ journal_lines (take n es) (if b then drop 1 answers else answers))
+      ≤ length ((says.Entry e ∷ (if b then rows else [])) ++ journal_lines es (if b then drop 1 answers else answers))
+  on true go =
+      let fits = go (drop 1 answers) in
+      omega (arith, fits, length-append rows (journal_lines (take n es) (drop 1 answers)), length-append rows (journal_lines es (drop 1 answers)))
+  on false go = let fits = go answers in omega (arith, fits)
+
+-- an Err says so
+pub too_many : {E : Type 0} (P : E → Type 0) (r : Result ℕ E) (due : ℕ) → IsErrAnd r P → 2 ^ 64 ≤ due → Reaches r due
+too_many P (Ok line) due is long = absurd is
+too_many P (Err fault) due is long = long

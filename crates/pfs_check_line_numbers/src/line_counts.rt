@@ -1,12 +1,12 @@
-//! How far the parts of a report reach, by the numbers of its lines. Lines are counted from 1. NoMemory stands too for
-//! more lines than can be counted, which no memory holds.
+//! How far the parts of a report reach, by the numbers of its lines. Lines are counted from 1. None of these calls asks
+//! for memory: an Err says that 2^64 lines or more stand there, which no memory holds.
 
 ghost use Rattle.std.specs.Prelude.{◌≡◌, ◌+◌, ◌^◌, ◌<◌, ◌≤◌, ◌∷◌, [], List, length, take, drop, IfOk};
 ghost use Rattle.pfs_event.specs.declared.entry.Entry.{Entry};
 ghost use Rattle.std.specs.List.{flat_map, slice_index_or};
 ghost use Rattle.pfs_journal.specs.ReportLines.{block_lines, journal_lines, row_lines, table_lines};
 ghost use Rattle.pfs_journal.specs.Spelling.{is_answered};
-ghost use Rattle.pfs_check_line_numbers.specs.LineCounts.{IsLineOf, result_lines};
+ghost use Rattle.pfs_check_line_numbers.specs.LineCounts.{Reaches, ReachesSpot, result_lines};
 
 use crate::NoMemory;
 use pfs_event::Entry;
@@ -16,7 +16,7 @@ use std::alloc::AllocError;
 
 /// The line behind so many.
 pub fn behind(line: u64, lines: u64) -> Result<u64, NoMemory>
-    ensures { IfOk result (λ end. end ≡ line + lines) }
+    ensures { Reaches result (line + lines) }
 {
     match line.checked_add(lines) {
         Some(end) => Ok(end),
@@ -32,8 +32,7 @@ fn is_answered(entry: &Entry) -> bool
 
 // The line behind the rows of the answer at a place, if there is one.
 fn behind_answer(line: u64, answers: &[Rowset], place: usize) -> Result<u64, NoMemory>
-    ensures { IfOk result
-        (λ end. end ≡ line + length (row_lines (slice_index_or (drop place answers.now) 0 []))) }
+    ensures { Reaches result (line + length (row_lines (slice_index_or (drop place answers.now) 0 []))) }
 {
     if place >= answers.len() {
         return Ok(line);
@@ -51,7 +50,7 @@ pub(crate) struct Spot {
 // Behind an entry and its answer, where it has one.
 fn behind_entry(spot: Spot, entry: &Entry, answers: &[Rowset]) -> Result<Spot, NoMemory>
     requires { spot.place + 1 < 2 ^ 64 }
-    ensures same { (rest : List Entry) → IfOk result (λ end. IsLineOf end rest answers.now spot (entry.now ∷ rest)) }
+    ensures same { (rest : List Entry) → ReachesSpot result rest answers.now spot (entry.now ∷ rest) }
     ensures few { IfOk result (λ end. end.place ≤ spot.place + 1) }
 {
     let line = behind(spot.line, 1)?;
@@ -77,7 +76,7 @@ pub fn behind_entries(
     count: usize,
 ) -> Result<u64, NoMemory>
     requires { count ≤ length entries.now }
-    ensures { IfOk result (λ end. end ≡ line + length (journal_lines (take count entries.now) answers.now)) }
+    ensures { Reaches result (line + length (journal_lines (take count entries.now) answers.now)) }
 {
     let mut spot = Spot { line, place: 0 };
     for at in 0..count {
@@ -88,7 +87,7 @@ pub fn behind_entries(
 
 /// The line behind a block, where this is its first line.
 pub fn behind_block(line: u64, report: &BlockReport) -> Result<u64, NoMemory>
-    ensures { IfOk result (λ end. end ≡ line + length (block_lines report.now)) }
+    ensures { Reaches result (line + length (block_lines report.now)) }
 {
     let first = behind(line, 1)?;
     behind_entries(
@@ -100,14 +99,14 @@ pub fn behind_block(line: u64, report: &BlockReport) -> Result<u64, NoMemory>
 }
 
 fn behind_table(line: u64, table: &TableReport) -> Result<u64, NoMemory>
-    ensures { IfOk result (λ end. end ≡ line + length (table_lines table.now)) }
+    ensures { Reaches result (line + length (table_lines table.now)) }
 {
     let first = behind(line, 1)?;
     behind(first, table.rows.as_slice().len() as u64)
 }
 
 fn behind_tables(line: u64, tables: &[TableReport]) -> Result<u64, NoMemory>
-    ensures { IfOk result (λ end. end ≡ line + length (flat_map table_lines tables.now)) }
+    ensures { Reaches result (line + length (flat_map table_lines tables.now)) }
 {
     let mut end = line;
     for table in tables {
@@ -118,7 +117,7 @@ fn behind_tables(line: u64, tables: &[TableReport]) -> Result<u64, NoMemory>
 
 /// The line behind a phase, where this is its line `final`.
 pub fn behind_results(line: u64, report: &PhaseParts) -> Result<u64, NoMemory>
-    ensures { IfOk result (λ end. end ≡ line + length (result_lines report.now)) }
+    ensures { Reaches result (line + length (result_lines report.now)) }
 {
     let first = behind(line, 1)?;
     let lost = behind_tables(first, report.tables.as_slice())?;

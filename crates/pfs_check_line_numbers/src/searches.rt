@@ -1,10 +1,10 @@
 //! The line of an entry.
 
-ghost use Rattle.std.specs.Prelude.{◌≡◌, slice_get, IfOk};
+ghost use Rattle.std.specs.Prelude.{◌≡◌, ◌^◌, ◌≤◌, length, slice_get, IfOk, OnErr};
 ghost use Rattle.std.specs.List.{flat_map};
-ghost use Rattle.pfs_journal.specs.ReportLines.{block_lines, phase_lines};
+ghost use Rattle.pfs_journal.specs.ReportLines.{block_lines, phase_lines, report_lines};
 ghost use Rattle.pfs_check_faults.specs.ReportCases.{entry_lines};
-ghost use Rattle.pfs_check_line_numbers.specs.EntryLines.{IsFound};
+ghost use Rattle.pfs_check_line_numbers.specs.EntryLines.{GoesOn, IsFound};
 
 use crate::NoMemory;
 use crate::line_counts::{behind, behind_block, behind_entries, behind_results};
@@ -25,7 +25,8 @@ pub(crate) enum Found {
 }
 
 fn seek_block(search: Search, block: &BlockReport) -> Result<Found, NoMemory>
-    ensures { IfOk result (IsFound search (block_lines block.now)) }
+    ensures found { IfOk result (IsFound search (block_lines block.now)) }
+    ensures goes { GoesOn search (block_lines block.now) result }
 {
     let count = block.entries.count() as u64;
     if search.left < count {
@@ -42,7 +43,8 @@ fn seek_block(search: Search, block: &BlockReport) -> Result<Found, NoMemory>
 }
 
 fn seek_blocks(search: Search, blocks: &[BlockReport]) -> Result<Found, NoMemory>
-    ensures { IfOk result (IsFound search (flat_map block_lines blocks.now)) }
+    ensures found { IfOk result (IsFound search (flat_map block_lines blocks.now)) }
+    ensures goes { GoesOn search (flat_map block_lines blocks.now) result }
 {
     let mut rest = search;
     for block in blocks {
@@ -56,7 +58,8 @@ fn seek_blocks(search: Search, blocks: &[BlockReport]) -> Result<Found, NoMemory
 }
 
 fn seek_phase(search: Search, phase: &PhaseParts) -> Result<Found, NoMemory>
-    ensures { IfOk result (IsFound search (phase_lines phase.now)) }
+    ensures found { IfOk result (IsFound search (phase_lines phase.now)) }
+    ensures goes { GoesOn search (phase_lines phase.now) result }
 {
     let first = behind(search.line, 1)?;
     let inner = Search {
@@ -78,9 +81,10 @@ fn seek_phase(search: Search, phase: &PhaseParts) -> Result<Found, NoMemory>
 }
 
 /// The line of the entry at a place, counted from 0 over all journals; None where there are no more. Lines are counted
-/// from 1. Err where memory runs out.
+/// from 1. Err where the report has 2^64 lines or more, which no memory holds; none is asked for.
 pub fn entry_line(report: &ReportParts, place: u64) -> Result<Option<u64>, NoMemory>
-    ensures { IfOk result (λ line. line ≡ slice_get (entry_lines report.now) place) }
+    ensures found { IfOk result (λ line. line ≡ slice_get (entry_lines report.now) place) }
+    ensures long { OnErr result (2 ^ 64 ≤ length (report_lines report.now)) }
 {
     let phases = report.phases.as_slice();
     let mut rest = Search {

@@ -5,7 +5,7 @@ mod open_events;
 mod trail;
 
 pub use open_events::OpenEvents;
-pub use trail::Trail;
+pub use trail::{Trail, subject_in};
 
 /// Memory ran out.
 pub type NoMemory = std::alloc::AllocError;

@@ -172,6 +172,13 @@ impl OpenEvents {
         self.items.as_slice()
     }
 
+    /// The innermost of them.
+    pub fn innermost(&self) -> Option<Opened>
+        ensures { result ≡ first_of self.now }
+    {
+        last_of(self.as_slice())
+    }
+
     /// How many let-through statements are open.
     pub fn statements(&self) -> u64
         ensures { result ≡ open_through is_statement self.now }

@@ -58,8 +58,8 @@ impl Model for Trail {
     } };
 }
 
-// What a line starts.
-fn subject_in(line: &Line) -> Option<Subject>
+/// What a line starts.
+pub fn subject_in(line: &Line) -> Option<Subject>
     ensures { result ≡ subject_of line.now }
 {
     match line {
@@ -158,6 +158,20 @@ impl Trail {
         ensures { result ≡ self.now.drawn }
     {
         self.drawn
+    }
+
+    /// The number of its last action that has ended; 0 before its first.
+    pub fn done(&self) -> u64
+        ensures { result ≡ self.now.done }
+    {
+        self.done
+    }
+
+    /// The number of the action of the line at hand; 0 where it has none so far.
+    pub fn action(&self) -> u64
+        ensures { result ≡ self.now.action }
+    {
+        self.action
     }
 
     /// The rows for which something is held.

@@ -27,7 +27,8 @@ use Rattle.pfs_check_versions.specs.PlacedChanges.{AreInOrder, changes_of, place
 use Rattle.pfs_check_versions.specs.PrintedEntries.{Printed, printed_in}
 use Rattle.pfs_check_versions.specs.VersionRules.{IsFound, IsIndex}
 use Rattle.pfs_check_versions.proofs.ChangeOrder.{order_low, phases_order}
-use Rattle.pfs_check_versions.proofs.LineNumbers.{line_of, lines_rise, printed_lines}
+use Rattle.pfs_check_line_numbers.proofs.EntryNumbers.{lines_rise}
+use Rattle.pfs_check_versions.proofs.LineNumbers.{line_of, printed_lines}
 use Rattle.pfs_check_versions.proofs.PlacedFacts.{FoundAt, IsShort, LacksThere, all_have, counted_alike, first_lacks, found_at, times_alike}
 use Rattle.pfs_check_versions.proofs.PrintedPlaces.{ArePrinted, IsPrinted}
 

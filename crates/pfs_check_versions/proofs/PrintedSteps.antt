@@ -15,7 +15,8 @@ use Rattle.pfs_text.specs.declared.values.RowValue.{RowValue}
 use Rattle.pfs_model.specs.declared.changes.Change.{Change}
 use Rattle.pfs_check_versions.specs.declared.changes.PlacedChange.{PlacedChange}
 use Rattle.pfs_check_versions.specs.PlacedChanges.{IsGathered, changes_at, changes_of}
-use Rattle.pfs_check_versions.specs.PrintedEntries.{Printed, answers_behind, printed_blocks, printed_entries, printed_phases, result_lines, rows_behind}
+use Rattle.pfs_check_line_numbers.specs.LineCounts.{result_lines}
+use Rattle.pfs_check_versions.specs.PrintedEntries.{Printed, answers_behind, printed_blocks, printed_entries, printed_phases, rows_behind}
 
 -- What is gathered, with what is left behind this line, is the whole.
 pub record Rests (given : Entry → List Change) (now : List PlacedChange) (line : ℕ) (printed : List Printed) (lines : ℕ)

@@ -1,12 +1,10 @@
 -- The entries of a report as it prints them: each with its line, its phase and its session.
-use Rattle.std.specs.Prelude.{ℕ, ◌+◌, if◌then◌else◌, List, [], ◌∷◌, ◌++◌, length, map, drop}
-use Rattle.std.specs.List.{flat_map, slice_index_or}
+use Rattle.std.specs.Prelude.{ℕ, ◌+◌, if◌then◌else◌, List, [], ◌∷◌, ◌++◌, length, drop}
+use Rattle.std.specs.List.{slice_index_or}
 use Rattle.pfs_event.specs.declared.entry.Entry.{Entry}
-use Rattle.pfs_journal.specs.ReportLines.{block_lines, phase_lines, table_lines}
+use Rattle.pfs_journal.specs.ReportLines.{block_lines, phase_lines}
 use Rattle.pfs_journal.specs.Spelling.{is_answered}
 use Rattle.pfs_journal.specs.declared.blocks.BlockReport.{BlockReport}
-use Rattle.pfs_journal.specs.declared.line.Line.{Line}
-use Rattle.pfs_journal.specs.declared.line.Line.TheVariants as says
 use Rattle.pfs_journal.specs.declared.report.PhaseParts.{PhaseParts}
 use Rattle.pfs_journal.specs.declared.report.ReportParts.{ReportParts}
 use Rattle.pfs_text.specs.declared.values.RowValue.{RowValue}
@@ -48,7 +46,3 @@ printed_phases line number (phase ∷ phases) =
 -- The first line is that of the format.
 abbrev pub printed_in : ReportParts → List Printed
 printed_in report = printed_phases 2 1 report.phases
-
--- the lines of a phase behind its blocks
-abbrev pub result_lines : PhaseParts → List Line
-result_lines phase = says.Final ∷ (flat_map table_lines phase.tables ++ map says.Lost phase.lost)

@@ -8,7 +8,8 @@ ghost use Rattle.pfs_check_versions.specs.PrintedEntries.{printed_blocks, printe
 
 use crate::NoMemory;
 use crate::changes::{Chained, PlacedChange, change_in};
-use crate::line_counts::{Spot, behind_entry, behind_results, plus};
+use crate::line_counts::{Spot, behind_entry, plus};
+use pfs_check_line_numbers::behind_results;
 use pfs_event::Entry;
 use pfs_journal::{BlockReport, PhaseParts, PhaseReport, ReportParts};
 use std::alloc::Global;
@@ -102,7 +103,8 @@ fn push_phase(
 {
     let first = plus(line, 1)?;
     let last = push_blocks(changes, what, first, number, phase.blocks.as_slice())?;
-    behind_results(last, phase)
+    let end = behind_results(last, phase)?;
+    Ok(end)
 }
 
 fn gather_phases(

@@ -1,16 +1,14 @@
-//! How far the parts of a report reach, by the numbers of its lines. Lines are counted from 1. NoMemory stands too for
-//! more lines than can be counted, which no memory holds.
+//! How far the entries of a journal reach, by the numbers of their lines. Lines are counted from 1. NoMemory stands too
+//! for more lines than can be counted, which no memory holds.
 
-ghost use Rattle.std.specs.Prelude.{◌≡◌, ◌+◌, ◌^◌, ◌<◌, ◌≤◌, List, [], length, drop, IfOk};
-ghost use Rattle.std.specs.List.{flat_map, slice_index_or};
-ghost use Rattle.pfs_journal.specs.ReportLines.{table_lines};
+ghost use Rattle.std.specs.Prelude.{◌≡◌, ◌+◌, ◌^◌, ◌<◌, ◌≤◌, List, [], drop, IfOk};
+ghost use Rattle.std.specs.List.{slice_index_or};
 ghost use Rattle.pfs_journal.specs.Spelling.{is_answered};
 ghost use Rattle.pfs_text.specs.declared.values.RowValue.{RowValue};
-ghost use Rattle.pfs_check_versions.specs.PrintedEntries.{answers_behind, result_lines, rows_behind};
+ghost use Rattle.pfs_check_versions.specs.PrintedEntries.{answers_behind, rows_behind};
 
 use crate::NoMemory;
 use pfs_event::Entry;
-use pfs_journal::{PhaseParts, TableReport};
 use pfs_text::{Row, Rowset};
 use std::alloc::AllocError;
 
@@ -84,30 +82,4 @@ pub(crate) fn behind_entry(spot: Spot, entry: &Entry, answers: &[Rowset]) -> Res
         line,
         answer: answer_behind(entry, spot.answer),
     })
-}
-
-fn behind_table(line: u64, table: &TableReport) -> Result<u64, NoMemory>
-    ensures { IfOk result (λ end. end ≡ line + length (table_lines table.now)) }
-{
-    let first = plus(line, 1)?;
-    plus(first, table.rows.as_slice().len() as u64)
-}
-
-fn behind_tables(line: u64, tables: &[TableReport]) -> Result<u64, NoMemory>
-    ensures { IfOk result (λ end. end ≡ line + length (flat_map table_lines tables.now)) }
-{
-    let mut end = line;
-    for table in tables {
-        end = behind_table(end, table)?;
-    }
-    Ok(end)
-}
-
-/// The line behind a phase, where this is its line `final`.
-pub(crate) fn behind_results(line: u64, phase: &PhaseParts) -> Result<u64, NoMemory>
-    ensures { IfOk result (λ end. end ≡ line + length (result_lines phase.now)) }
-{
-    let first = plus(line, 1)?;
-    let lost = behind_tables(first, phase.tables.as_slice())?;
-    plus(lost, phase.lost.as_slice().len() as u64)
 }

@@ -1,5 +1,4 @@
 mod BlockVisits
 mod EntryCounts
 mod LineVisits
-mod SessionSteps
 mod VisitSteps

@@ -4,18 +4,10 @@ use Rattle.std.proofs.lemmas.List.{append-nil, drop_more, length-append}
 use Rattle.pfs_model.specs.EntryPlaces.{Placed}
 use Rattle.pfs_check_faults.specs.ReportCases.{AllHave}
 use Rattle.pfs_check_walk.specs.Walks.{LacksFirst, onto}
+use Rattle.pfs_check_walk.proofs.EntryWalks.{keep_append, onto_append}
 use Rattle.pfs_check_visits.specs.declared.visited.Visited.{Visited}
 use Rattle.pfs_check_visits.specs.declared.visited.Visited.TheVariants.{Kept, Lacking}
 use Rattle.pfs_check_visits.specs.Visits.{AreKept, AreVisited}
-
-keep_append : (rule : List Placed → Placed → Type 0) (earlier xs ys : List Placed) → AllHave rule earlier xs
-    → AllHave rule (onto earlier xs) ys → AllHave rule earlier (xs ++ ys)
-keep_append rule earlier [] ys a b = b
-keep_append rule earlier (x ∷ xs) ys a b = (a.0, keep_append rule (x ∷ earlier) xs ys a.1 b)
-
-onto_append : (earlier xs ys : List Placed) → onto earlier (xs ++ ys) ≡ onto (onto earlier xs) ys
-onto_append earlier [] ys = refl
-onto_append earlier (x ∷ xs) ys = onto_append (x ∷ earlier) xs ys
 
 lacks_front : (rule : List Placed → Placed → Type 0) (earlier xs ys : List Placed) (at : ℕ) → LacksFirst rule earlier xs at
     → LacksFirst rule earlier (xs ++ ys) at

@@ -1,13 +1,13 @@
 //! What a session's entries so far tell of it, for whoever visits the next one.
 
-ghost use Rattle.std.specs.Prelude.{◌≡◌, reverse, OnOk};
-ghost use Rattle.pfs_model.specs.Contexts.{Context, first_of, fresh, subject_of, turned};
+ghost use Rattle.std.specs.Prelude.{◌≡◌, OnOk};
+ghost use Rattle.pfs_model.specs.Contexts.{Context, fresh, turned};
 
 use crate::NoMemory;
-use pfs_check_trail::Trail;
+use pfs_check_trail::{Trail, subject_in};
 use pfs_check_walk::Track;
 use pfs_event::Entry;
-use pfs_model::{Line, Opened, Subject};
+use pfs_model::{Line, Opened};
 use std::alloc::Global;
 use std::marker::Model;
 
@@ -23,26 +23,6 @@ impl Model for SessionTrack {
     ghost Value = { Context };
 
     ghost view = { λ track. track.trail };
-}
-
-// What a line starts.
-fn subject_in(line: &Line) -> Option<Subject>
-    ensures { result ≡ subject_of line.now }
-{
-    match line {
-        Line::Start { subject } => Some(*subject),
-        Line::Stage { subject } => Some(*subject),
-        _ => None,
-    }
-}
-
-fn last_of(events: &[Opened]) -> Option<Opened>
-    ensures { result ≡ first_of (reverse events.now) }
-{
-    match events.last() {
-        Some(event) => Some(*event),
-        None => None,
-    }
 }
 
 impl SessionTrack {
@@ -72,8 +52,20 @@ impl Track for SessionTrack {
         self.trail.drawn()
     }
 
+    fn slot(&self) -> Option<u64> {
+        self.trail.slot()
+    }
+
+    fn done(&self) -> u64 {
+        self.trail.done()
+    }
+
+    fn action(&self) -> u64 {
+        self.trail.action()
+    }
+
     fn innermost(&self) -> Option<Opened> {
-        last_of(self.trail.opened().as_slice())
+        self.trail.opened().innermost()
     }
 
     fn note(&mut self, line: &Line, entry: &Entry) -> Result<(), NoMemory> {

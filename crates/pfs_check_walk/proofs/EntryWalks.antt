@@ -23,12 +23,12 @@ after_append : (subject : Option Subject) (context : Context) (xs ys : List Entr
 after_append subject context [] ys = refl
 after_append subject context (x ∷ xs) ys = after_append subject (noted subject context x) xs ys
 
-keep_append : (rule : List Placed → Placed → Type 0) (earlier xs ys : List Placed) → AllHave rule earlier xs
+pub keep_append : (rule : List Placed → Placed → Type 0) (earlier xs ys : List Placed) → AllHave rule earlier xs
     → AllHave rule (onto earlier xs) ys → AllHave rule earlier (xs ++ ys)
 keep_append rule earlier [] ys a b = b
 keep_append rule earlier (x ∷ xs) ys a b = (a.0, keep_append rule (x ∷ earlier) xs ys a.1 b)
 
-onto_append : (earlier xs ys : List Placed) → onto earlier (xs ++ ys) ≡ onto (onto earlier xs) ys
+pub onto_append : (earlier xs ys : List Placed) → onto earlier (xs ++ ys) ≡ onto (onto earlier xs) ys
 onto_append earlier [] ys = refl
 onto_append earlier (x ∷ xs) ys = onto_append (x ∷ earlier) xs ys
 

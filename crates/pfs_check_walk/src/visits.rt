@@ -20,6 +20,18 @@ pub trait Track {
     fn drawn(&self) -> u64
         ensures { (context : Context) → tells self.now context → result ≡ context.drawn };
 
+    /// The printed thread slot.
+    fn slot(&self) -> Option<u64>
+        ensures { (context : Context) → tells self.now context → result ≡ context.slot };
+
+    /// The number of its last action that has ended before the line at hand; 0 before its first.
+    fn done(&self) -> u64
+        ensures { (context : Context) → tells self.now context → result ≡ context.done };
+
+    /// The number of the action of the line at hand; 0 where it has none so far.
+    fn action(&self) -> u64
+        ensures { (context : Context) → tells self.now context → result ≡ context.action };
+
     /// The innermost of its open events.
     fn innermost(&self) -> Option<Opened>
         ensures { (context : Context) → tells self.now context → result ≡ first_opened context };

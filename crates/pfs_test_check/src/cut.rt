@@ -7,7 +7,7 @@ use std::alloc::Global;
 use std::test::Fail;
 
 /// The line at which the cut of a report stops, 0 where it is cut; None where a text isn't read, or memory runs out.
-fn stops_at(alloc: Global, script: &[u8], report: &[u8]) -> Option<u64> {
+pub(crate) fn stops_at(alloc: Global, script: &[u8], report: &[u8]) -> Option<u64> {
     let Ok(script) = Script::read(alloc, script) else {
         return None;
     };

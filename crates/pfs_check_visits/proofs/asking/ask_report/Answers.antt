@@ -13,4 +13,4 @@ pub returns-in_ok-line-in-Lacking : goal.returns-in_ok-line-in-Lacking
 returns-in_ok-line-in-Lacking g c = λ phases cut case found known.
     line_lacking phases c.args.report.now (phases_by c.args.cuts.now c.args.report.now.phases) (g.V.Visit.rule case found)
     (g.V.Visit.knows c.visit_report.new.visitor case found) c.in-Lacking.at c.in_ok-line-in-Lacking.line cut
-    (rw c.in-Lacking.is at (c.in_ok-visited.ensures case found known)) c.in_ok-line-in-Lacking.ensures
+    (rw c.in-Lacking.is at (c.in_ok-visited.ensures case found known)) c.in_ok-line-in-Lacking.ensures.found

@@ -4,7 +4,7 @@ use Rattle.pfs_model.specs.EntryPlaces.{told_by}
 use Rattle.pfs_check_cut.specs.CutReports.{block_by}
 use Rattle.pfs_check_trail.specs.Trails.{trimmed}
 use Rattle.pfs_check_visits.proofs.BlockVisits.{block_visited}
-use Rattle.pfs_check_visits.proofs.SessionSteps.{one_more}
+use Rattle.pfs_check_cut.proofs.SessionSteps.{one_more}
 use Rattle.pfs_check_visits.proofs.block_visits.visit_block.Goals as goal
 
 pub returns : goal.returns

@@ -5,7 +5,7 @@ use Rattle.pfs_check_cut.specs.Sessions.{AreTrailsOf}
 use Rattle.pfs_check_walk.specs.Walks.{onto}
 use Rattle.pfs_check_visits.specs.declared.visited.Visited.TheVariants.{Kept, Lacking}
 use Rattle.pfs_check_visits.proofs.BlockVisits.{all_visited, left_end, left_first, left_lacking, left_more, next_phase_of, parts_over, phases_over}
-use Rattle.pfs_check_visits.proofs.SessionSteps.{none_told}
+use Rattle.pfs_check_cut.proofs.SessionSteps.{none_told}
 use Rattle.pfs_check_visits.proofs.VisitSteps.{same_read}
 use Rattle.pfs_check_visits.proofs.report_visits.visit_report.Goals as goal
 

@@ -1,4 +1,4 @@
-use Rattle.pfs_check_visits.proofs.SessionSteps.{kept_at}
+use Rattle.pfs_check_cut.proofs.SessionSteps.{kept_at}
 use Rattle.pfs_check_visits.proofs.sessions.keep_track.Goals as goal
 
 pub returns : goal.returns

@@ -1,6 +1,6 @@
 use Rattle.std.proofs.Common.{◌∙◌, ap}
 use Rattle.pfs_check_cut.specs.Sessions.{told_in}
-use Rattle.pfs_check_visits.proofs.SessionSteps.{taken_other}
+use Rattle.pfs_check_cut.proofs.SessionSteps.{taken_other}
 use Rattle.pfs_check_visits.proofs.sessions.take_track.Goals as goal
 
 pub returns-in-Some-clause-own : goal.returns-in-Some-clause-own

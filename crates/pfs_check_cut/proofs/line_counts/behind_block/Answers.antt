@@ -1,8 +1,0 @@
-use Rattle.std.proofs.Common.{ℕ, ◌≡◌, IfOk, subst}
-use Rattle.pfs_check_cut.proofs.LineSteps.{block_reaches}
-use Rattle.pfs_check_cut.proofs.line_counts.behind_block.Goals as goal
-
-pub returns : goal.returns
-returns c = subst (λ (z : ℕ). IfOk c.behind_entries.result (λ end. end ≡ z))
-    (block_reaches c.args.report.now c.args.line c.in_ok-first.first c.count.result c.as_slice.result.now c.as_slice.ensures c.count.ensures c.in_ok-first.ensures)
-    c.behind_entries.ensures

@@ -1,9 +1,0 @@
-use Rattle.std.proofs.Common.{ℕ, ◌≡◌, IfOk, subst}
-use Rattle.pfs_check_cut.proofs.LineSteps.{results_reach}
-use Rattle.pfs_check_cut.proofs.line_counts.behind_results.Goals as goal
-
-pub returns : goal.returns
-returns c = subst (λ (z : ℕ). IfOk c.behind-2.result (λ end. end ≡ z))
-    (results_reach c.args.report.now c.as_slice.result.now c.as_slice-2.result.now c.args.line c.in_ok-first.first c.in_ok-lost.lost
-    c.as_slice.ensures c.as_slice-2.ensures c.in_ok-first.ensures c.in_ok-lost.ensures)
-    c.behind-2.ensures
