@@ -4,7 +4,7 @@
 ghost use Rattle.std.specs.Prelude.{◌≡◌, length, IfOk};
 
 use pfs_outside::{NoMemory, Sink, Source, StdSink, StdSource, write_all};
-use pfs_view::{Choice, Status, Times, choose, view};
+use pfs_view::{Asked, Choice, Times, choose, view};
 use std::alloc::Global;
 use std::env::FillError;
 use std::process::ExitCode;
@@ -46,18 +46,7 @@ fn zeros(alloc: Global, len: usize) -> Result<Vec<u8>, NoMemory>
     Vec::from_elem(alloc, 0, len)
 }
 
-// The exit status of a call that ended so.
-fn number(status: Status) -> u8 {
-    match status {
-        Status::Done => 0,
-        Status::BadReport { .. } | Status::TooLong => 2,
-        Status::ReadFault => 3,
-        Status::WriteFault => 4,
-        Status::NoMemory => 5,
-    }
-}
-
-const USAGE: &[u8] = b"usage: show [--raw] [--phase N] [--table NAME]\n";
+const USAGE: &[u8] = b"usage: show [--raw] [--phase N] [--table NAME] [--script FILE]\n";
 
 // Shows what the words choose of the report that the source has.
 fn shown<S: Source, K: Sink>(alloc: Global, words: &[String], source: &mut S, sink: &mut K) -> u8 {
@@ -66,8 +55,12 @@ fn shown<S: Source, K: Sink>(alloc: Global, words: &[String], source: &mut S, si
         table: None,
         times: Times::Units,
     };
-    match choose(words, all) {
-        Some(choice) => number(view(alloc, &choice, source, sink)),
+    let asked = Asked {
+        choice: all,
+        script_bytes: 0,
+    };
+    match choose(words, asked) {
+        Some(asked) => view(alloc, &asked.choice, asked.script_bytes, source, sink).exit_number(),
         None => match write_all(sink, USAGE) {
             Ok(()) => 1,
             Err(_) => 4,

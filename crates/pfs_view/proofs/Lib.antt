@@ -1,4 +1,6 @@
-mod GridLists
+pub mod GridLaws
+pub mod GridLists
+mod LineSteps
 mod Outcomes
-mod WrittenParts
+pub mod WrittenParts
 mod WrongLines

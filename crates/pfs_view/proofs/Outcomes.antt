@@ -1,13 +1,13 @@
 -- How a call ends, from how its parts end.
-use Rattle.std.proofs.Common.{ℕ, ◌≡◌, ◌≤◌, ◌⊎◌, inl, inr, List, length, Option, IfSome, Result, Ok, Err}
+use Rattle.std.proofs.Common.{ℕ, ◌≡◌, ◌≤◌, ◌⊎◌, inl, inr, List, length, take, drop, Option, IfSome, Result, Ok, Err}
 use Rattle.pfs_outside.specs.DeviceCalls.{Rose, Added}
 use Rattle.pfs_outside.specs.WholeStreams.{Puts}
 use Rattle.pfs_outside.specs.declared.writing.WriteStop.{WriteStop}
 use Rattle.pfs_outside.specs.declared.writing.WriteStop.TheVariants as stop
-use Rattle.pfs_view.specs.ShownReports.{Chosen}
+use Rattle.pfs_journal.specs.declared.report.ReportParts.{ReportParts}
 use Rattle.pfs_view.specs.Views.{most_bytes, HasView, HasInput, ToldPart, Tells, Ends, status_after}
 use Rattle.pfs_view.specs.declared.viewing.Status.{Status}
-use Rattle.pfs_view.specs.declared.viewing.Status.TheVariants.{Done, BadReport, TooLong, ReadFault, WriteFault, NoMemory}
+use Rattle.pfs_view.specs.declared.viewing.Status.TheVariants.{Done, BadReport, BadScript, TooLong, ReadFault, WriteFault, NoMemory}
 
 -- a status that goes with a text of its own
 abbrev pub HasOwnText : Status → Type 0
@@ -20,6 +20,7 @@ HasOwnText _ = Unit {0}
 told_whole : (P : Status → List ℕ → Type 0) (before after : Option (List ℕ)) (due : List ℕ) (W : Type 0) (status : Status) → HasOwnText status → P status due → Added before after due → Tells P before after W status
 told_whole P before after due W Done own h a = (due, h, a)
 told_whole P before after due W (BadReport at) own h a = (due, h, a)
+told_whole P before after due W (BadScript line reason) own h a = (due, h, a)
 told_whole P before after due W TooLong own h a = absurd own
 told_whole P before after due W ReadFault own h a = absurd own
 told_whole P before after due W WriteFault own h a = absurd own
@@ -38,6 +39,7 @@ part_as P Q before after f p = (p.0, p.1, f p.0 p.1 p.2, p.3)
 pub tells_as : (P Q : Status → List ℕ → Type 0) (before after : Option (List ℕ)) (W : Type 0) (status : Status) → ((s : Status) (due : List ℕ) → P s due → Q s due) → Tells P before after W status → Tells Q before after W status
 tells_as P Q before after W Done f t = (t.0, f Done t.0 t.1, t.2)
 tells_as P Q before after W (BadReport at) f t = (t.0, f (BadReport at) t.0 t.1, t.2)
+tells_as P Q before after W (BadScript line reason) f t = (t.0, f (BadScript line reason) t.0 t.1, t.2)
 tells_as P Q before after W TooLong f t = absurd t
 tells_as P Q before after W ReadFault f t = absurd t
 tells_as P Q before after W WriteFault f t = (t.0, part_as P Q before after f t.1)
@@ -45,14 +47,15 @@ tells_as P Q before after W NoMemory f (inl e) = inl e
 tells_as P Q before after W NoMemory f (inr p) = inr (part_as P Q before after f p)
 
 -- a call that told a status ended
-pub ends_told : (chosen : Chosen) (input before after : Option (List ℕ)) (R W : Type 0) (status : Status) → Tells (HasInput chosen input) before after W status → Ends chosen input before after R W status
-ends_told chosen input before after R W Done t = t
-ends_told chosen input before after R W (BadReport at) t = t
-ends_told chosen input before after R W TooLong t = absurd t
-ends_told chosen input before after R W ReadFault t = absurd t
-ends_told chosen input before after R W WriteFault t = t
-ends_told chosen input before after R W NoMemory t = t
+pub ends_told : (shown : ReportParts → List ℕ) (count : ℕ) (input before after : Option (List ℕ)) (R W : Type 0) (status : Status) → Tells (HasInput shown count input) before after W status → Ends shown count input before after R W status
+ends_told shown count input before after R W Done t = t
+ends_told shown count input before after R W (BadReport at) t = t
+ends_told shown count input before after R W (BadScript line reason) t = t
+ends_told shown count input before after R W TooLong t = absurd t
+ends_told shown count input before after R W ReadFault t = absurd t
+ends_told shown count input before after R W WriteFault t = t
+ends_told shown count input before after R W NoMemory t = t
 
 -- the text of the bytes that came is that of the source
-pub input_viewed : (chosen : Chosen) (input : Option (List ℕ)) (bytes : List ℕ) → IfSome input (λ text. bytes ≡ text) → length bytes ≤ most_bytes → (status : Status) (due : List ℕ) → HasView chosen bytes status due → HasInput chosen input status due
-input_viewed chosen input bytes came short status due h = (bytes, came, short, h)
+pub input_viewed : (shown : ReportParts → List ℕ) (count : ℕ) (input : Option (List ℕ)) (bytes : List ℕ) → IfSome input (λ text. bytes ≡ text) → length bytes ≤ most_bytes → (status : Status) (due : List ℕ) → HasView shown (take count bytes) (drop count bytes) status due → HasInput shown count input status due
+input_viewed shown count input bytes came short status due h = (bytes, came, short, h)

@@ -1,6 +1,9 @@
 pub mod Cells
 pub mod ColumnHeadings
 pub mod Grids
+pub mod Readings
+pub mod Refusals
+pub mod ScriptLines
 pub mod ShownReports
 pub mod TimeTexts
 pub mod Views

@@ -80,7 +80,7 @@ impl Headings {
     }
 
     /// Appends what stands above the column at a place, from 0: its heading, or its number from 1.
-    pub(crate) fn put(self, out: &mut Vec<u8>, place: u64) -> Result<(), NoMemory>
+    pub fn put(self, out: &mut Vec<u8>, place: u64) -> Result<(), NoMemory>
         requires { place + 1 < 2 ^ 64 }
         ensures { OnOk result (out.new.items ≡ out.old.items ++ heading_text self place) }
     {

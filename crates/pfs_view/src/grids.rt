@@ -46,7 +46,7 @@ fn put_border<K: Sink>(
 
 impl Grid<'_> {
     /// How many columns there are: each with a heading of its own, and each that a row has a value in.
-    fn columns(&self) -> usize
+    pub fn columns(&self) -> usize
         ensures { result ≡ column_total self.now.layout.headings self.now.rows.now }
     {
         let mut columns = self.layout.headings.count() as usize;

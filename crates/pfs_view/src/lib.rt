@@ -4,9 +4,12 @@
 mod cells;
 mod columns;
 mod grids;
+pub mod laws;
 mod lines;
 mod options;
 mod phases;
+mod refusals;
+mod script_lines;
 #[cfg(test)]
 mod tests;
 mod times;
@@ -14,9 +17,10 @@ mod viewing;
 
 pub use columns::{Headings, Times};
 pub use grids::Grid;
-pub use options::choose;
-pub use phases::{Choice, show};
-pub use viewing::{Status, view};
+pub use lines::{Layout, is_right};
+pub use options::{Asked, choose};
+pub use phases::{Choice, counter_rows, headings_of, show};
+pub use viewing::{Rendering, Status, view};
 
 /// Memory ran out.
 pub type NoMemory = std::alloc::AllocError;

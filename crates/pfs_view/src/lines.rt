@@ -58,7 +58,7 @@ fn put_bar(out: &mut Vec<u8>, cell: &[u8], right: bool, width: usize) -> Result<
 
 impl Layout {
     /// Appends what stands in a column of a row: nothing behind the row's last value.
-    fn put_cell(self, out: &mut Vec<u8>, row: &[RowValue], place: usize) -> Result<(), NoMemory>
+    pub fn put_cell(self, out: &mut Vec<u8>, row: &[RowValue], place: usize) -> Result<(), NoMemory>
         ensures { OnOk result (out.new.items ≡ out.old.items ++ cell_text self.headings self.times row.now place) }
     {
         match row.get(place) {
@@ -161,7 +161,7 @@ impl Layout {
 }
 
 /// Whether a row's cell is a number, which stands at the right of its column.
-fn is_right(row: &[RowValue], place: usize) -> bool
+pub fn is_right(row: &[RowValue], place: usize) -> bool
     ensures { result ≡ spec_is_right row.now place }
 {
     match row.get(place) {

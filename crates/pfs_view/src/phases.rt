@@ -49,7 +49,7 @@ fn has_name(table: Table, name: &[u8]) -> bool
 }
 
 /// The columns of the table of that name, in small letters and without its schema, as a report names it.
-fn headings_of(name: &[u8]) -> Headings
+pub fn headings_of(name: &[u8]) -> Headings
     ensures { result ≡ spec_headings_of name.now }
 {
     match table_named(&TABLES, name) {
@@ -79,8 +79,8 @@ fn counter_row(alloc: Global, lost: &LostReport) -> Result<Row, NoMemory>
     Ok(Row::new(values))
 }
 
-/// The counters as rows.
-fn counter_rows(alloc: Global, lost: &[LostReport]) -> Result<Vec<Row>, NoMemory>
+/// The counters as rows, each of a name and a number.
+pub fn counter_rows(alloc: Global, lost: &[LostReport]) -> Result<Vec<Row>, NoMemory>
     ensures { IfOk result (λ rows. rows.items ≡ map spec_counter_row lost.now) }
 {
     let mut rows = Vec::new(alloc);

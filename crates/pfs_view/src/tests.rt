@@ -1,7 +1,7 @@
 //! What is shown, of what no clause says: MySQL's own examples of times, words, and whole texts.
 
 use crate::times::put_time;
-use crate::{Choice, Status, Times, choose, view};
+use crate::{Asked, Choice, Status, Times, choose, view};
 use pfs_outside::{MemorySink, MemorySource};
 use std::alloc::{AllocError, Global};
 use std::fmt::Debug;
@@ -48,6 +48,13 @@ fn all<'a>() -> Choice<'a> {
     }
 }
 
+fn whole<'a>() -> Asked<'a> {
+    Asked {
+        choice: all(),
+        script_bytes: 0,
+    }
+}
+
 fn words(alloc: Global, each: &[&str]) -> Result<Vec<String>, AllocError> {
     let mut words = Vec::new(alloc);
     for word in each {
@@ -58,9 +65,20 @@ fn words(alloc: Global, each: &[&str]) -> Result<Vec<String>, AllocError> {
 
 #[test]
 fn words_choose(rt: HostRuntime) -> Result<(), Fail> {
-    let asked = words(rt.alloc(), &["--phase", "2", "--raw", "--table", "users"])?;
-    match choose(&asked, all()) {
-        Some(choice) => {
+    let asked = words(
+        rt.alloc(),
+        &[
+            "--phase", "2", "--raw", "--script", "12", "--table", "users",
+        ],
+    )?;
+    match choose(&asked, whole()) {
+        Some(
+            Asked {
+                choice,
+                script_bytes,
+            },
+        ) => {
+            same(&rt, "script", script_bytes, 12);
             same(&rt, "phase", choice.phase, Some(2));
             same(&rt, "table", choice.table, Some(b"users".as_slice()));
             same(&rt, "times", choice.times, Times::Picoseconds);
@@ -82,7 +100,7 @@ const NO_OPTIONS: [&[&str]; 5] = [
 fn other_words_choose_nothing(rt: HostRuntime) -> Result<(), Fail> {
     for each in &NO_OPTIONS {
         let asked = words(rt.alloc(), each)?;
-        same(&rt, "chosen", choose(&asked, all()).is_some(), false);
+        same(&rt, "chosen", choose(&asked, whole()).is_some(), false);
     }
     Ok(())
 }
@@ -91,7 +109,7 @@ fn other_words_choose_nothing(rt: HostRuntime) -> Result<(), Fail> {
 fn shown(alloc: Global, choice: &Choice<'_>, text: &[u8]) -> Result<(Status, MemorySink), Fail> {
     let mut source = MemorySource::new(alloc, text, &[])?;
     let mut sink = MemorySink::new(alloc, 4_000, &[])?;
-    let status = view(alloc, choice, &mut source, &mut sink);
+    let status = view(alloc, choice, 0, &mut source, &mut sink);
     Ok((status, sink))
 }
 
@@ -176,5 +194,22 @@ fn the_first_wrong_line_is_told(rt: HostRuntime) -> Result<(), Fail> {
     same(&rt, "text", sink.bytes(), text.as_slice());
     let (status, _) = shown(rt.alloc(), &all(), b"")?;
     same(&rt, "of nothing", status, Status::BadReport { at: 1 });
+    Ok(())
+}
+
+const EXPLAINED: &[u8] = b"bad script: line 3 reason 1
+Line 3 is the first faulty line: a byte of it is none of a script's.
+    end<27>'<9>
+";
+
+#[test]
+fn a_bad_script_is_explained(rt: HostRuntime) -> Result<(), Fail> {
+    let text = b"phase\n\nend\x1b'\t\nbad script: line 3 reason 1\n";
+    let mut source = MemorySource::new(rt.alloc(), text, &[])?;
+    let mut sink = MemorySink::new(rt.alloc(), 4_000, &[])?;
+    let status = view(rt.alloc(), &all(), 14, &mut source, &mut sink);
+    let told = Status::BadScript { line: 3, reason: 1 };
+    same(&rt, "status", status, told);
+    same(&rt, "text", sink.bytes(), EXPLAINED);
     Ok(())
 }
