@@ -3,10 +3,11 @@
 ghost use Rattle.std.specs.Prelude.{◌≡◌, ◌≤◌, ◌<◌, ◌+◌, ◌^◌, ℕ, List, [], Some, None, IfOk, IsSome, length};
 ghost use Rattle.pfs_admin.specs.Truncations.{truncation_cost};
 ghost use Rattle.pfs_levels.specs.Calls.{Call, IsRow, Opening};
+ghost use Rattle.pfs_levels.specs.Views.{Affords};
 ghost use Rattle.pfs_board_store.specs.WriterWords.{words_of};
 ghost use Rattle.pfs_session.specs.Settlements.{owed_by_state};
 ghost use Rattle.pfs_session.specs.SessionStates.{no_place};
-ghost use Rattle.pfs_test_store.specs.ActorStores.{IsBegun, IsIdle};
+ghost use Rattle.pfs_test_store.specs.ActorStores.{IsBegun, IsBetween, IsIdle};
 
 use crate::actors::Anything;
 use pfs_admin::{Admin, Reply, Truncation};
@@ -96,20 +97,13 @@ pub(crate) fn connect<'b, R: Wait>(
     session: &mut Session,
     admin: &mut Admin,
 ) -> (BoardRows<'b, Anything>, Writer)
-    requires begun { IsBegun (⟦<BoardRows<'b, Anything> as Rows>⟧.seen rows).reached writer.switches }
-    requires wide { 160 ≤ length writer.view.seen }
-    requires idle { IsIdle (⟦<BoardRows<'b, Anything> as Rows>⟧.seen rows).hand }
-    requires lent { Some (words_of writer.view) ≡ Some admin.old.words }
+    requires between { IsBetween (⟦<BoardRows<'b, Anything> as Rows>⟧.seen rows) writer admin.old }
     requires few { admin.old.actions ≡ 0 }
     requires names { 2 ≤ length admin.old.names }
     requires first { (session.old.state.actions ≡ 0) × (session.old.state.place ≡ no_place) }
     requires closed { session.old.state.opened ≡ record { depth = 1; events = [] } }
-    requires spare { 5 ≤ (⟦<BoardRows<'b, Anything> as Rows>⟧.seen rows).left }
-    requires room { 6 ≤ session.old.journal.room }
-    ensures begun { IsBegun (⟦<BoardRows<'b, Anything> as Rows>⟧.seen result.0).reached result.1.switches }
-    ensures wide { 160 ≤ length result.1.view.seen }
-    ensures idle { IsIdle (⟦<BoardRows<'b, Anything> as Rows>⟧.seen result.0).hand }
-    ensures lent { Some (words_of result.1.view) ≡ Some admin.new.words }
+    requires affords { Affords 5 0 6 (⟦<BoardRows<'b, Anything> as Rows>⟧.seen rows) session.old.journal }
+    ensures between { IsBetween (⟦<BoardRows<'b, Anything> as Rows>⟧.seen result.0) result.1 admin.new }
     ensures actions { (admin.new.actions ≡ 1) × (session.new.state.actions ≡ 1) }
     ensures drawn { session.new.state.drawn ≡ session.old.state.drawn }
     ensures closed { session.new.state.opened ≡ record { depth = 1; events = [] } }

@@ -3,9 +3,11 @@
 ghost use Rattle.std.specs.Prelude.{◌≡◌, ◌≤◌, ◌<◌, ◌+◌, ◌^◌, ℕ, [], Some, None, IfOk, IfSome, length};
 ghost use Rattle.pfs_admin.specs.OpeningState.{opened};
 ghost use Rattle.pfs_event.specs.Nests.{MayStart};
-ghost use Rattle.pfs_session.specs.CallCosts.{Uses};
+ghost use Rattle.pfs_levels.specs.Calls.{IsRow};
+ghost use Rattle.pfs_levels.specs.Views.{Affords, Used};
 ghost use Rattle.pfs_session.specs.Settlements.{owed_by_state};
 
+use crate::actions::opened;
 use crate::admin;
 use crate::asserts::same;
 use crate::levels::said;
@@ -121,6 +123,25 @@ fn store(alloc: Global, setting: &Setting, additions: u64, puts: u64) -> Result<
     })
 }
 
+// The same store, and the administration as it opens.
+fn fresh(
+    alloc: Global,
+    setting: &Setting,
+    additions: u64,
+    puts: u64,
+) -> Result<(Refusing, Admin), NoMemory>
+    requires names { 2 ≤ length setting.now.names }
+    ensures words { IfOk result (λ b. (⟦<Refusing as Rows>⟧.seen b.0).words ≡ Some b.1.words) }
+    ensures left { IfOk result (λ b. (⟦<Refusing as Rows>⟧.seen b.0).left ≡ 2 ^ 47) }
+    ensures draws { IfOk result (λ b. (⟦<Refusing as Rows>⟧.seen b.0).draws ≡ 2 ^ 47) }
+    ensures hand { IfOk result (λ b. (r : ℕ) → (⟦<Refusing as Rows>⟧.seen b.0).hand r ≡ None) }
+    ensures admin { IfOk result (λ b. (b.1.actions ≡ 0) × (2 ≤ length b.1.names)) }
+{
+    let rows = store(alloc, setting, additions, puts)?;
+    let admin = Admin::open(alloc, setting)?;
+    Ok((rows, admin))
+}
+
 // What a wait of class 6 is, and a statement of class 17 without a digest's place.
 const WAIT: Subject = Subject {
     kind: EventKind::Wait,
@@ -147,17 +168,12 @@ fn event<R: Rows>(session: &mut Session, rows: &mut R, what: &Subject, time: u64
     requires closed { session.old.state.opened ≡ record { depth = 1; events = [] } }
     requires early { session.old.state.drawn + 1 < 2 ^ 64 }
     requires alone { (r : ℕ) → 0 < r → (R.seen rows.old).hand r ≡ None }
-    requires spare { 6 ≤ (R.seen rows.old).left }
-    requires tickets { 1 ≤ (R.seen rows.old).draws }
-    requires room { 8 ≤ session.old.journal.room }
+    requires affords { Affords 6 1 8 (R.seen rows.old) session.old.journal }
     ensures closed { session.new.state.opened ≡ record { depth = 1; events = [] } }
     ensures drawn { session.new.state.drawn ≤ session.old.state.drawn + 1 }
     ensures owed { length (owed_by_state session.new.state) ≤ length (owed_by_state session.old.state) + 2 }
-    ensures uses { Uses 6 1 8 (R.seen rows.old).hand (R.seen rows.new).hand (R.seen rows.old).left
-        (R.seen rows.new).left (R.seen rows.old).draws (R.seen rows.new).draws (R.seen rows.old).name
-        (R.seen rows.new).name session.old.journal session.new.journal }
+    ensures used { Used 6 1 8 (R.seen rows.old) (R.seen rows.new) session.old.journal session.new.journal }
     ensures actions { session.new.state.actions ≡ session.old.state.actions }
-    ensures words { (R.seen rows.new).words ≡ (R.seen rows.old).words }
 {
     let started = session.start(rows, what);
     session.spend(time);
@@ -179,17 +195,12 @@ fn record<R: Rows>(
     requires closed { session.old.state.opened ≡ record { depth = 1; events = [] } }
     requires early { session.old.state.drawn + 1 < 2 ^ 64 }
     requires alone { (r : ℕ) → 0 < r → (R.seen rows.old).hand r ≡ None }
-    requires spare { 6 ≤ (R.seen rows.old).left }
-    requires tickets { 1 ≤ (R.seen rows.old).draws }
-    requires room { 8 ≤ session.old.journal.room }
+    requires affords { Affords 6 1 8 (R.seen rows.old) session.old.journal }
     ensures closed { session.new.state.opened ≡ record { depth = 1; events = [] } }
     ensures drawn { session.new.state.drawn ≤ session.old.state.drawn + 1 }
     ensures owed { length (owed_by_state session.new.state) ≤ length (owed_by_state session.old.state) + 2 }
-    ensures uses { Uses 6 1 8 (R.seen rows.old).hand (R.seen rows.new).hand (R.seen rows.old).left
-        (R.seen rows.new).left (R.seen rows.old).draws (R.seen rows.new).draws (R.seen rows.old).name
-        (R.seen rows.new).name session.old.journal session.new.journal }
+    ensures used { Used 6 1 8 (R.seen rows.old) (R.seen rows.new) session.old.journal session.new.journal }
     ensures actions { session.new.state.actions ≡ session.old.state.actions }
-    ensures words { (R.seen rows.new).words ≡ (R.seen rows.old).words }
 {
     match event(session, rows, what, time) {
         Verdict::Attributed => Ok(()),
@@ -211,9 +222,7 @@ fn record_often<R: Rows>(
     requires closed { session.old.state.opened ≡ record { depth = 1; events = [] } }
     requires early { session.old.state.drawn ≡ 0 }
     requires alone { (r : ℕ) → 0 < r → (R.seen rows.old).hand r ≡ None }
-    requires spare { 18 ≤ (R.seen rows.old).left }
-    requires tickets { 3 ≤ (R.seen rows.old).draws }
-    requires room { 24 ≤ session.old.journal.room }
+    requires affords { Affords 18 3 24 (R.seen rows.old) session.old.journal }
     ensures owed { length (owed_by_state session.new.state) ≤ length (owed_by_state session.old.state) + 6 }
     ensures hand { (r : ℕ) → (R.seen rows.new).hand r ≡ (R.seen rows.old).hand r }
     ensures left { (R.seen rows.old).left ≤ (R.seen rows.new).left + 18 }
@@ -233,12 +242,47 @@ struct Recorded {
     content: Content,
 }
 
+// A session that has connected with the first two names.
+fn connected_session<H: Hold>(
+    alloc: Global,
+    rows: &mut H,
+    admin: &mut Admin,
+) -> Result<Session, Fail>
+    requires fresh { (admin.old.actions ≡ 0) × (2 ≤ length admin.old.names) }
+    requires words { (H.seen rows.old).words ≡ Some admin.old.words }
+    requires hand { (r : ℕ) → (H.seen rows.old).hand r ≡ None }
+    requires left { 4 ≤ (H.seen rows.old).left }
+    ensures session { IfOk result (λ s. (s.state.opened ≡ record { depth = 1; events = [] }) × (s.state.drawn ≡ 0)
+        × (length (owed_by_state s.state) ≡ 0) × (302 ≤ s.journal.room)) }
+    ensures hand { (r : ℕ) → (H.seen rows.new).hand r ≡ None }
+    ensures left { (H.seen rows.old).left ≤ (H.seen rows.new).left + 4 }
+    ensures draws { (H.seen rows.old).draws ≤ (H.seen rows.new).draws }
+{
+    let mut session = opened(alloc, 308)?;
+    session.connect(rows, admin, NameId(0), NameId(1));
+    Ok(session)
+}
+
+// What a session has written when it has paused, and how many entries it writes as it pauses again.
+fn settled<H: Hold>(session: Session, rows: &mut H) -> (Log, usize)
+    requires hand { (r : ℕ) → (H.seen rows.old).hand r ≡ None }
+    requires owed { length (owed_by_state session.state) ≤ 6 }
+    requires spare { 6 ≤ (H.seen rows.old).left }
+    requires room { 7 ≤ session.journal.room }
+    ensures { (r : ℕ) → (H.seen rows.new).hand r ≡ None }
+{
+    let mut paused = session.pause(rows);
+    let log = paused.take_log();
+    let mut again = paused.resume().pause(rows);
+    (log, again.take_log().count())
+}
+
 // A session connects, records events as often as there are times and pauses, over this store; then a row is read. To
 // pause again writes nothing.
-fn session_records(
+fn session_records<H: Hold>(
     alloc: Global,
-    setting: &Setting,
-    mut rows: Refusing,
+    rows: &mut H,
+    admin: &mut Admin,
     what: &Subject,
     times: &[u64],
     row: u64,
@@ -248,23 +292,16 @@ fn session_records(
     requires class { IfSome what.now.class (λ n. n < 63) }
     requires table { IfSome what.now.table (λ n. n < 64) }
     requires digest { IfSome what.now.digest (λ n. n < 64) }
-    requires words { (⟦<Refusing as Rows>⟧.seen rows).words ≡ Some (opened setting.now).words }
-    requires left { (⟦<Refusing as Rows>⟧.seen rows).left ≡ 2 ^ 47 }
-    requires draws { (⟦<Refusing as Rows>⟧.seen rows).draws ≡ 2 ^ 47 }
-    requires hand { (r : ℕ) → (⟦<Refusing as Rows>⟧.seen rows).hand r ≡ None }
-    requires names { 2 ≤ length setting.now.names }
-    requires row { 0 < row }
-    requires few_rows { row < 14242 }
+    requires fresh { (admin.old.actions ≡ 0) × (2 ≤ length admin.old.names) }
+    requires words { (H.seen rows.old).words ≡ Some admin.old.words }
+    requires hand { (r : ℕ) → (H.seen rows.old).hand r ≡ None }
+    requires spare { (28 ≤ (H.seen rows.old).left) × (3 ≤ (H.seen rows.old).draws) }
+    requires row { IsRow row }
 {
-    let mut admin = Admin::open(alloc, setting)?;
-    let mut session = Session::open(alloc, 1, 10, 1)?;
-    session.reserve(308)?;
-    session.connect(&mut rows, &mut admin, NameId(0), NameId(1));
-    record_often(&mut session, &mut rows, what, times)?;
-    let mut paused = session.pause(&mut rows);
-    let log = paused.take_log();
-    let mut again = paused.resume().pause(&mut rows);
-    if again.take_log().count() != 0 {
+    let mut session = connected_session(alloc, rows, admin)?;
+    record_often(&mut session, rows, what, times)?;
+    let (log, more) = settled(session, rows);
+    if more != 0 {
         return Err(Fail::from("something was settled twice"));
     }
     match rows.read(row) {
@@ -282,8 +319,8 @@ fn record_waits(alloc: Global, additions: u64, times: &[u64]) -> Result<Recorded
     requires { length times.now ≤ 3 }
 {
     let setting = admin::setting(alloc)?;
-    let rows = store(alloc, &setting, additions, 0)?;
-    session_records(alloc, &setting, rows, &WAIT, times, 135)
+    let (mut rows, mut admin) = fresh(alloc, &setting, additions, 0)?;
+    session_records(alloc, &mut rows, &mut admin, &WAIT, times, 135)
 }
 
 // The entries of a session's connect.

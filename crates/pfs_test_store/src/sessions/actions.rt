@@ -3,7 +3,7 @@
 ghost use Rattle.std.specs.Prelude.{◌≡◌, ◌≤◌, ◌<◌, ◌+◌, ◌^◌, ℕ, [], Some, None, IfOk, length};
 ghost use Rattle.pfs_session.specs.Settlements.{owed_by_state};
 
-use super::{ADDED, HELD, Refusing, WAIT, record, store};
+use super::{ADDED, HELD, Refusing, WAIT, fresh, record};
 use crate::admin;
 use crate::asserts::same;
 use crate::levels::said;
@@ -61,8 +61,7 @@ fn counted<R: Rows>(rows: &mut R, row: u64) -> Result<(u64, u64), Fail>
 fn what_is_held_is_settled_before_a_quit(rt: HostRuntime) -> Result<(), Fail> {
     let alloc = rt.alloc();
     let setting = admin::setting(alloc)?;
-    let mut rows = store(alloc, &setting, 1, 0)?;
-    let mut admin = Admin::open(alloc, &setting)?;
+    let (mut rows, mut admin) = fresh(alloc, &setting, 1, 0)?;
     let mut session = waiting(alloc, &mut rows, &mut admin)?;
     session.quit(&mut rows, &mut admin);
     let log = session.pause(&mut rows).take_log();

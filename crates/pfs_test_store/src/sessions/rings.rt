@@ -2,7 +2,7 @@
 
 ghost use Rattle.std.specs.Prelude.{◌≡◌, ◌≤◌, ◌<◌, length};
 
-use super::{Recorded, STATEMENT, behind_connect, end, session_records, start, store};
+use super::{Recorded, STATEMENT, behind_connect, end, fresh, session_records, start};
 use crate::admin;
 use crate::asserts::same;
 use crate::levels::said;
@@ -28,8 +28,8 @@ fn record_statements(
     requires few_rows { row < 14242 }
 {
     let setting = admin::setting_with(alloc, consumers)?;
-    let rows = store(alloc, &setting, 0, puts)?;
-    session_records(alloc, &setting, rows, &STATEMENT, times, row)
+    let (mut rows, mut admin) = fresh(alloc, &setting, 0, puts)?;
+    session_records(alloc, &mut rows, &mut admin, &STATEMENT, times, row)
 }
 
 const fn add(row: u64, version: u64) -> Entry {

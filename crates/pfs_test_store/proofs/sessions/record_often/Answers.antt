@@ -6,8 +6,8 @@ loop-time-preserved g c = record {
   closed = c.record.ensures.closed;
   drawn = omega (arith, c.record.ensures.drawn, c.loop-time.invariant.drawn);
   owed = omega (arith, c.record.ensures.owed, c.loop-time.invariant.owed);
-  hand = λ r. c.record.ensures.uses.hand r ∙ c.loop-time.invariant.hand r;
-  left = omega (arith, c.record.ensures.uses.left, c.loop-time.invariant.left);
-  draws = omega (arith, c.record.ensures.uses.draws, c.loop-time.invariant.draws);
-  room = omega (arith, c.record.ensures.uses.room, c.loop-time.invariant.room);
+  hand = λ r. c.record.ensures.used.hand r ∙ c.loop-time.invariant.hand r;
+  left = omega (arith, c.record.ensures.used.left, c.loop-time.invariant.left);
+  draws = omega (arith, c.record.ensures.used.draws, c.loop-time.invariant.draws);
+  room = omega (arith, c.record.ensures.used.room, c.loop-time.invariant.room);
 }

@@ -1,28 +1,15 @@
-use Rattle.std.proofs.Common.{◌∙◌, ap, arith, length, rules}
-use Rattle.pfs_session.specs.Settlements.{owed_by_state, settle_cost}
-use Rattle.pfs_session.proofs.HeldAmounts.{settle_few}
+use Rattle.std.proofs.Common.{◌∙◌, arith}
 use Rattle.pfs_test_store.proofs.sessions.session_records.Goals as goal
 
-pub pause-paused-requires-clause-room : goal.pause-paused-requires-clause-room
-pause-paused-requires-clause-room c =
-    omega (
-      arith,
-      settle_few (owed_by_state c.record_often.new.session.state),
-      c.record_often.ensures.owed,
-      ap length c.connect.ensures.owed,
-      c.record_often.ensures.room,
-      c.connect.ensures.leaves.room,
-      ap (λ j. j.room) c.in_ok-reserve.ensures.ok,
-      ap (λ b. b.journal.room) c.in_ok-session.ensures,
-    )
+pub record_often-requires-clause-affords : goal.record_often-requires-clause-affords
+record_often-requires-clause-affords g c = record {
+  left = omega (arith, c.connected_session.ensures.left, c.requires.spare.0);
+  draws = omega (arith, c.connected_session.ensures.draws, c.requires.spare.1);
+  room = omega (arith, c.in_ok-session.ensures.session);
+}
 
-pub pause-again-requires-clause-spare : goal.pause-again-requires-clause-spare
-pause-again-requires-clause-spare c = omega (arith, ap length c.resume.ensures.owed)
-
-pub pause-again-requires-clause-room : goal.pause-again-requires-clause-room
-pause-again-requires-clause-room c = omega (arith, ap settle_cost c.resume.ensures.owed)
+pub settled-log-requires-clause-hand : goal.settled-log-requires-clause-hand
+settled-log-requires-clause-hand g c = λ r. c.record_often.ensures.hand r ∙ c.connected_session.ensures.hand r
 
 pub read-requires-clause-away : goal.read-requires-clause-away
-read-requires-clause-away c =
-    c.pause-again.ensures.leaves.hand c.args.row ∙ c.pause-paused.ensures.leaves.hand c.args.row
-    ∙ c.record_often.ensures.hand c.args.row ∙ c.connect.ensures.leaves.hand c.args.row ∙ c.requires.hand c.args.row
+read-requires-clause-away g c = c.settled-log.ensures c.args.row

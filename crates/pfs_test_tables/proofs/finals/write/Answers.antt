@@ -11,4 +11,4 @@ put_back : (row v : ℕ) (old mid new : ℕ → Option ℕ) → ((r : ℕ) → o
 put_back row v old mid new o m n r = one_back (r == row) v (old r) (mid r) (new r) (o r) (m r) (n r)
 
 pub returns-clause-away : goal.returns-clause-away
-returns-clause-away c = put_back c.args.row c.take.result.0 _ _ _ c.requires.away c.take.ensures.hand c.put.ensures.hand
+returns-clause-away c = put_back c.args.row c.take.result.0 _ _ _ c.requires.away c.take.ensures.kept.hand c.put.ensures.kept.hand

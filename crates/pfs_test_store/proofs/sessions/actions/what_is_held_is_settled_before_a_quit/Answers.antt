@@ -4,4 +4,4 @@ use Rattle.pfs_test_store.proofs.sessions.actions.what_is_held_is_settled_before
 
 pub counted-requires-2-clause-away : goal.counted-requires-2-clause-away
 counted-requires-2-clause-away g c =
-    c.counted.ensures.hand 2183 ∙ (c.pause.ensures.leaves.hand 2183 ∙ (c.quit.ensures.leaves.hand 2183 ∙ c.waiting.ensures.hand 2183))
+    c.counted.ensures.hand 2183 ∙ (c.pause.ensures.used.hand 2183 ∙ (c.quit.ensures.used.hand 2183 ∙ c.waiting.ensures.hand 2183))
