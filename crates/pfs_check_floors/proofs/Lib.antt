@@ -1,0 +1,5 @@
+pub mod CollectFacts
+pub mod FloorFacts
+pub mod GreatestFacts
+pub mod LoadFacts
+pub mod RowFacts

@@ -1,0 +1,3 @@
+mod TopRanks
+mod TopSearch
+mod TopValues
