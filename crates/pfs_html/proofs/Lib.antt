@@ -1,0 +1,4 @@
+mod EscapeLaws
+mod PlaceLists
+mod RankOrders
+mod TableReadings

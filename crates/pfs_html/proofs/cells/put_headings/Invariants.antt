@@ -1,0 +1,7 @@
+use Rattle.std.proofs.Common.{◌≡◌, ◌++◌, take}
+use Rattle.std.specs.List.{flat_map}
+use Rattle.pfs_html.specs.Cells.{heading_html}
+use Rattle.pfs_html.proofs.cells.put_headings.Given as goal
+
+abbrev pub invariant-loop-place : goal.invariant-loop-place
+invariant-loop-place l = l.pen.page.items ≡ l.initial.pen.page.items ++ flat_map (heading_html l.headings) (take l.place-index l.places)
