@@ -1,4 +1,4 @@
-//! What stands in the info rows of threads, accounts, users and hosts, and their sixteen words both ways.
+//! Laws of the words of info rows: what stands in them, both ways.
 
 ghost use Rattle.std.specs.Prelude.{◌≡◌, ℕ};
 ghost use Rattle.pfs_containers.specs.declared.infos.ThreadInfo.{ThreadInfo};

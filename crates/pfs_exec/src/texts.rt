@@ -1,4 +1,4 @@
-//! What a text of SQL asks of the engine.
+//! Laws of what a text of SQL asks for.
 
 ghost use Rattle.std.specs.Prelude.{◌≡◌, ℕ, List, Some, None};
 ghost use Rattle.pfs_sql.specs.Grammar.{Says};

@@ -1,6 +1,6 @@
 //! Actions of a session: it enters with its label, does what it asks for, and leaves.
 
-ghost use Rattle.std.specs.Prelude.{◌≡◌, ◌<◌, ◌≤◌, ◌+◌, ◌^◌, ℕ, [], None, Some, IfOk, length};
+ghost use Rattle.std.specs.Prelude.{◌≡◌, ◌<◌, ◌≤◌, ◌+◌, ◌^◌, [], IfOk, length};
 ghost use Rattle.pfs_levels.specs.Views.{Used, lent_as};
 ghost use Rattle.pfs_admin.specs.SetupStatements.{has_changed, most_of};
 ghost use Rattle.pfs_admin.specs.AdministrationStates.{connected, has_quit};

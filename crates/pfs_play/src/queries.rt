@@ -1,6 +1,6 @@
 //! SELECTs of a session: what is read of the store, and what is held by the administration.
 
-ghost use Rattle.std.specs.Prelude.{◌≡◌, ◌<◌, ◌≤◌, ◌+◌, ◌^◌, ℕ, None, Some, IfOk, OnOk, length};
+ghost use Rattle.std.specs.Prelude.{◌≡◌, ◌<◌, ◌≤◌, ◌+◌, ◌^◌, Some, IfOk, OnOk, length};
 ghost use Rattle.pfs_levels.specs.Views.{Used, lent_as};
 ghost use Rattle.pfs_admin.specs.SetupStatements.{has_changed};
 ghost use Rattle.pfs_admin.specs.AdministrationStates.{State as Administration};

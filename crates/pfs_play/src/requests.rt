@@ -1,6 +1,6 @@
 //! What a text of SQL asks for, done in its session.
 
-ghost use Rattle.std.specs.Prelude.{◌≡◌, ◌<◌, ◌≤◌, ◌+◌, ◌*◌, ◌^◌, ℕ, None, Some, OnOk, length};
+ghost use Rattle.std.specs.Prelude.{◌≡◌, ◌<◌, ◌≤◌, ◌+◌, ◌*◌, ◌^◌, OnOk, length};
 ghost use Rattle.pfs_levels.specs.Views.{Used, lent_as};
 ghost use Rattle.pfs_play.specs.StoreDeeds.{HasActed};
 ghost use Rattle.pfs_admin.specs.SetupStatements.{has_changed};

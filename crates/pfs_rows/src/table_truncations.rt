@@ -1,4 +1,4 @@
-//! The tables that are truncated.
+//! Laws of truncations and their tables.
 
 ghost use Rattle.pfs_rows.specs.TruncationTables.{TableLaw};
 

@@ -1,4 +1,4 @@
-//! Texts as lists of bytes: decimal numbers, `LIKE`, quoting and the conditions of a `WHERE`.
+//! Texts as lists of bytes: decimal numbers, `LIKE`, quoting, conditions of a `WHERE`, and the values that tables show.
 #![tactic(auto)]
 
 mod conditions;
