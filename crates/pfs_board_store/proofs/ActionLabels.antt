@@ -125,7 +125,7 @@ module _ (start : List ℕ) (words : List ℕ) (v : View) (h : History start wor
   named begun (Rings row content (Done k) ∷ calls) [] t e s = absurd t
   named begun (Rings row content (Done k) ∷ calls) (p ∷ made) t e s = (tt, named begun calls made t.3 (omega (arith, e)) s.1)
   named begun (Rings row content (Busy f g) ∷ calls) made t e s = (tt, named begun calls made t e s.1)
-  named begun (Rings row content (Late n) ∷ calls) made t e s = (tt, named begun calls made t e s.1)
+  named begun (Rings row content (Late n v) ∷ calls) made t e s = (tt, named begun calls made t e s.1)
   named begun (Reads row seen ∷ calls) made t e s = (tt, named begun calls made t e s.1)
   named begun (Loads at k flags ∷ calls) made t e s = (tt, named begun calls made t e s.1)
   named begun (Draws kind ticket ∷ calls) made t e s = (tt, named begun calls made t e s.1)

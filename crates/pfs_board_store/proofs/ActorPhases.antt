@@ -220,7 +220,7 @@ module _ (start words : List ℕ) (v : View) (h : History start words v) (o : Is
   among_more p made a g = omega (arith, a g)
 
   pub since : (begun : Start) (calls : List Call) (made : List Change) → begun.base ≡ length rest → IsTied begun calls made → AreShown begun v.reads v.sights v.entered calls → Among made → Each Floored made → AllWordsSince sets calls → Owed calls
-      → AreSince content (ats_of rest) sets calls
+      → AreSince (ats_of rest) sets calls
   since begun [] made b t s a d f w = tt
   since begun (Adds row amount (Counted q k) ∷ calls) [] b t s a d f w = absurd t
   since begun (Adds row amount (Counted q k) ∷ calls) (p ∷ made) b t s a d f w =
@@ -230,12 +230,11 @@ module _ (start words : List ℕ) (v : View) (h : History start words v) (o : Is
   since begun (Rings row put (Done k) ∷ calls) (p ∷ made) b t s a d f w =
       (under_count row k p t.0 t.1.row_is t.1.puts_is t.1.version_is (among_one p made a) (change_low begun _ _ row k true p b t.1 d.0), since begun calls made b t.3 s.1 (among_more p made a) d.1 f.1 w)
   since begun (Rings row put (Busy first second) ∷ calls) made b t s a d f w = (sighted_low begun row first second _ _ b s.0.0.0 s.0.2, since begun calls made b t s.1 a d f.1 w)
-  since begun (Rings row put (Late ticket) ∷ calls) made b t s a d f w =
-      let k : ℕ = s.0.1 in
+  since begun (Rings row put (Late ticket k) ∷ calls) made b t s a d f w =
       let some : 0 < row = omega (arith, s.0.0) in
       let P : Finished → Type 0 = λ e. IsFinished begun row k (action_in calls) (after_in calls) e × (slice_index e.content 15 ≡ ticket + 1) in
-      let R : Type 0 = (count (ats_of rest) row ≤ k) × (slice_index (content row k) 15 ≡ ticket + 1) in
-      ((k, some_each P (IsRead start h.t) R (λ e m r. (low_count row k some (level_low row k (read_low begun row k _ _ e b m.0 r)), ap (λ z. slice_index z 15) (read_is start words v h o [] [] begun row k _ _ e m.0 r).0 ∙ m.1)) v.reads s.0.3 h.fits.reads), since begun calls made b t s.1 a d f.1 w)
+      let R : Type 0 = count (ats_of rest) row ≤ k in
+      (some_each P (IsRead start h.t) R (λ e m r. low_count row k some (level_low row k (read_low begun row k _ _ e b m.0 r))) v.reads s.0.1 h.fits.reads, since begun calls made b t s.1 a d f.1 w)
   since begun (Reads row (Whole k found) ∷ calls) made b t s a d f w =
       let P : Finished → Type 0 = λ e. IsFinished begun row k (action_in calls) (after_in calls) e × (e.content ≡ found) in
       let R : Type 0 = (count (ats_of rest) row ≤ k) × (0 < frees_at (ats_of rest) row k → k ≡ count (ats_of rest) row → ⊥) in
@@ -323,7 +322,7 @@ module _ (start words : List ℕ) (v : View) (h : History start words v) (o : Is
 
   all_since : (now : List Worked) (made : List Change) (loads : List Loaded) → AreParts Tied now made → AreParts Loading now loads → AllShown v.reads v.sights v.entered now → AllDone now
       → ((g : Change → ℕ) → board.total g made + board.total g rest ≤ board.total g h.t.log) → Each (λ (p : Change). Floor (shows_to p) h.t.log h.t.had p.row p.version p.after p.base) made → switches.Each (IsSo flags written) loads → AllLater was now
-      → AllCalls (AreSince (content_of start h.t.log) (changes_of (all_calls was)) (sets_of (all_calls was))) (calls_of_all now)
+      → AllCalls (AreSince (changes_of (all_calls was)) (sets_of (all_calls was))) (calls_of_all now)
   all_since [] made loads g l s d a f e m = tt
   all_since (x ∷ now) made loads g l s d a f e m =
       let F : Change → Type 0 = λ p. Floor (shows_to p) h.t.log h.t.had p.row p.version p.after p.base in
@@ -331,7 +330,7 @@ module _ (start words : List ℕ) (v : View) (h : History start words v) (o : Is
       let G = subst (Each F) g.2 f in
       let E = subst (switches.Each (IsSo flags written)) l.2 e in
       let sums : (q : Change → ℕ) → board.total q made ≡ board.total q g.0 + board.total q g.1 = λ q. ap (board.total q) g.2 ∙ total_append q g.0 g.1 in
-      let P : List At → Type 0 = λ z. AreSince (content_of start h.t.log) z sets x.calls in (
+      let P : List At → Type 0 = λ z. AreSince z sets x.calls in (
         subst P (sym (all_ats before rest tied)) (since start words v h o rest sets back part x.start.board x.calls g.0 (base_is x.start.board.base m.0.base) g.3 s.0 (λ q. omega (arith, a q, sums q)) (each_front F g.0 g.1 G)
             (loads_since flags written sets x.start x.calls l.0 l.3 (word_front (IsSo flags written) l.0 l.1 E) m.0.words m.0.met) (λ row some k is. absurd (none_some k (sym (d.0.empty row some) ∙ is)))),
         all_since now g.1 l.1 g.4 l.4 s.1 d.1 (λ q. omega (arith, a q, sums q)) (each_back F g.0 g.1 G) (word_back (IsSo flags written) l.0 l.1 E) m.1,

@@ -166,13 +166,11 @@ module _ (start words : List ℕ) (v : View) (h : History start words v) (o : Is
       subst Q same (older_is begun row old.0 put _ _ t.0 old.2) in
       ((n, (next, put_is begun _ _ row k p t.1 y.0 ∙ t.2, newer)), agree begun calls made t.3 s.1 y.1 f.1 w)
   agree begun (Rings row put (Busy first second) ∷ calls) made t s y f w = (tt, agree begun calls made t s.1 y f.1 w)
-  agree begun (Rings row put (Late ticket) ∷ calls) made t s y f w =
+  agree begun (Rings row put (Late ticket k) ∷ calls) made t s y f w =
       let some : 0 < row = omega (arith, s.0.0) in
-      let k : ℕ = s.0.1 in
       let P : Finished → Type 0 = λ e. IsFinished begun row k (action_in calls) (after_in calls) e × (slice_index e.content 15 ≡ ticket + 1) in
-      let R : Type 0 = (k ≤ count (ats_of log) row) × (slice_index (content row k) 15 ≡ ticket + 1) in
-      let found : R = some_each P (IsRead start h.t) R (λ e m r. let d = read_is begun row k _ _ e m.0 r in (omega (arith, d.1, count_is row some), ap (λ z. slice_index z 15) d.0 ∙ m.1)) v.reads s.0.3 h.fits.reads in
-      ((k, found), agree begun calls made t s.1 y f.1 w)
+      let R : Type 0 = (slice_index (content row k) 15 ≡ ticket + 1) × (k ≤ count (ats_of log) row) in
+      (some_each P (IsRead start h.t) R (λ e m r. let d = read_is begun row k _ _ e m.0 r in (ap (λ z. slice_index z 15) d.0 ∙ m.1, omega (arith, d.1, count_is row some))) v.reads s.0.1 h.fits.reads, agree begun calls made t s.1 y f.1 w)
   agree begun (Reads row (Whole k found) ∷ calls) made t s y f w =
       let some : 0 < row = s.0.0.0 in
       let P : Finished → Type 0 = λ e. IsFinished begun row k (action_in calls) (after_in calls) e × (e.content ≡ found) in

@@ -46,10 +46,10 @@ module _ (start words : List ℕ) (v : View) (h : History start words v) (o : Is
       )
 
   all_caused : (actors : List Worked) (made : List Change) → AreParts Tied actors made → AllShown v.reads v.sights v.entered actors → Covers h.t.log made
-      → AllCalls (λ calls. AreCaused (content_of start h.t.log) (marks_in h.t.log) (marks_of calls) calls) (calls_of_all actors)
+      → AllCalls (λ calls. AreCaused (marks_in h.t.log) (marks_of calls) calls) (calls_of_all actors)
   all_caused [] made g s c = tt
   all_caused (a ∷ actors) made g s c =
-      let Q : List Mark → Type 0 = λ z. AreCaused (content_of start h.t.log) (marks_in h.t.log) z a.calls in
+      let Q : List Mark → Type 0 = λ z. AreCaused (marks_in h.t.log) z a.calls in
       let mine : Covers h.t.log g.0 = λ P e. each_front P g.0 g.1 (subst (board.Each P) g.2 (c P e)) in
       let rest : Covers h.t.log g.1 = λ P e. each_back P g.0 g.1 (subst (board.Each P) g.2 (c P e)) in (
         subst Q (sym (tied_marks a.start.board a.calls g.0 g.3)) (caused start words v h o (λ r. idle_rows v.rows r empty) a.start.board g.0 mine (own_made a.start.board a.calls g.0 g.3) a.calls s.0),

@@ -15,7 +15,7 @@ use Rattle.pfs_levels.specs.declared.answers.Added.TheVariants.{Counted, Held}
 use Rattle.pfs_levels.specs.declared.answers.RingPut.TheVariants.{Done, Busy, Late}
 use Rattle.pfs_levels.specs.Calls.{Call, Adds, Rings, Reads, Loads, Draws, Takes, Puts, Frees, Sets, Enters, Leaves, Meets, Start, action_in, after_in}
 use Rattle.pfs_levels.specs.JointCalls.{total, one_if}
-use Rattle.pfs_levels.specs.CallOrder.{Mark, is_between, published, released, IsOthers, IsCaused, IsOverdue, AreCaused}
+use Rattle.pfs_levels.specs.CallOrder.{Mark, is_between, published, released, IsOthers, IsCaused, AreCaused}
 use Rattle.pfs_rows.specs.declared.table.Seen.TheVariants.{Whole, Free}
 use Rattle.pfs_rows.specs.declared.table.Seen.TheVariants as sees
 use Rattle.pfs_board_store.specs.RootActors.{marks_in}
@@ -39,7 +39,7 @@ own_made begun (Adds row amount (Held q first second) ∷ calls) made t = own_ma
 own_made begun (Rings row put (Done k) ∷ calls) [] t = absurd t
 own_made begun (Rings row put (Done k) ∷ calls) (p ∷ made) t = (t.1.by_is, own_made begun calls made t.3)
 own_made begun (Rings row put (Busy first second) ∷ calls) made t = own_made begun calls made t
-own_made begun (Rings row put (Late ticket) ∷ calls) made t = own_made begun calls made t
+own_made begun (Rings row put (Late ticket version) ∷ calls) made t = own_made begun calls made t
 own_made begun (Reads row seen ∷ calls) made t = own_made begun calls made t
 own_made begun (Loads at k found ∷ calls) made t = own_made begun calls made t
 own_made begun (Draws kind ticket ∷ calls) made t = own_made begun calls made t
@@ -238,28 +238,13 @@ module _ (start words : List ℕ) (v : View) (h : History start words v) (o : Is
         let R : Type 0 = IsCaused (marks_in log) (marks_in mine) row first second after in
         some_each P (IsSight start h.t) R (λ x m s. seen_is row first second action after x r.0.1 r.1 m s) v.sights r.2 h.fits.sights
 
-    pub caused : (calls : List Call) → AreShown begun v.reads v.sights v.entered calls → AreCaused content (marks_in log) (marks_in mine) calls
+    pub caused : (calls : List Call) → AreShown begun v.reads v.sights v.entered calls → AreCaused (marks_in log) (marks_in mine) calls
     caused [] s = tt
     caused (Adds row amount (Counted q k) ∷ calls) s = (tt, caused calls s.1)
     caused (Adds row amount (Held q first second) ∷ calls) s = (held_is q first second _ _ s.0, caused calls s.1)
     caused (Rings row put (Done k) ∷ calls) s = (tt, caused calls s.1)
     caused (Rings row put (Busy first second) ∷ calls) s = (held_is row first second _ _ s.0, caused calls s.1)
-    caused (Rings row put (Late ticket) ∷ calls) s =
-        let k : ℕ = s.0.1 in
-        let P : Finished → Type 0 = λ e. IsFinished begun row k (action_in calls) (after_in calls) e × (slice_index e.content 15 ≡ ticket + 1) in
-        let R : Type 0 = IsOverdue content (marks_in log) calls row ticket (after_in calls) in (
-          some_each P (IsRead start h.t) R (λ e m r.
-              let d = read_is start words v h o [] [] begun row k _ _ e m.0 r in
-              let low : Past row (after_in calls) (λ p. level p ≤ k) log = read_floor start words v h [] begun row k _ _ e m.0 r in
-              record {
-                version = k;
-                known = omega (arith, d.1, mark_counts log row);
-                holds = ap (λ z. slice_index z 15) d.0 ∙ m.1;
-                own = s.0.2;
-                floor = above_none log row k (after_in calls) (past_map row (after_in calls) (after_in calls) (λ p. level p ≤ k) (λ p. p.version ≤ k) (omega arith) (λ p z. omega (arith, z, level_up p)) log low);
-              }) v.reads s.0.3 h.fits.reads,
-          caused calls s.1,
-        )
+    caused (Rings row put (Late ticket version) ∷ calls) s = (tt, caused calls s.1)
     caused (Reads row (Whole k found) ∷ calls) s = (tt, caused calls s.1)
     caused (Reads row (Free n) ∷ calls) s = (tt, caused calls s.1)
     caused (Reads row (sees.Busy first second) ∷ calls) s = (held_is row first second _ _ s.0, caused calls s.1)

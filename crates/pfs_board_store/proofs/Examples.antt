@@ -328,7 +328,7 @@ module _ (rows : List FirstRow) (many : length rows ≡ 14242) (each : (row : �
   unfolding history
   two_joint = joint flags start start board_view word_view pen ticket_view both gathered runs history told written complete
 
-  pub two_ordered : (sets : List Mark) × Order (reading ∷ freeing ∷ []) (content_of start history_of) (marks_in history_of) sets (labels_of history_of)
+  pub two_ordered : (sets : List Mark) × Order (reading ∷ freeing ∷ []) (marks_in history_of) sets (labels_of history_of)
   unfolding history
   two_ordered = ordered flags start start board_view word_view pen ticket_view both gathered runs empty history told written known
 
@@ -337,7 +337,7 @@ module _ (rows : List FirstRow) (many : length rows ≡ 14242) (each : (row : �
   unfolding marks_of all_marks sets_of all_calls word_version
   behind_it = record { base = refl; words = λ at. omega arith; met = (tt, (tt, tt)) }
 
-  pub one_later : AllSince (content_of start history_of) (freeing ∷ []) (reading ∷ [])
+  pub one_later : AllSince (freeing ∷ []) (reading ∷ [])
   unfolding history
   one_later = later flags start start board_view word_view pen ticket_view (record { start = begun 2 0; calls = freeing } ∷ []) (record { start = begun 1 1; calls = reading } ∷ []) gathered runs history told (behind_it, tt)
 

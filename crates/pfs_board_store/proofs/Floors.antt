@@ -1,5 +1,5 @@
 -- No call is below what the actions gave that its actor knew as ended.
-use Rattle.std.proofs.Common.{ℕ, ◌≡◌, ◌≢◌, ◌+◌, ◌/◌, ◌==◌, ◌<◌, ◌≤◌, nat_lt, nat_le, ◌&&◌, not, Bool, true, false, cond, List, [], ◌∷◌, length, Option, Some, None, refl, ap, sym, ◌∙◌, subst, inl, inr, ⊎_elim, arith, eq-eqb}
+use Rattle.std.proofs.Common.{slice_index, ℕ, ◌≡◌, ◌≢◌, ◌+◌, ◌/◌, ◌==◌, ◌<◌, ◌≤◌, nat_lt, nat_le, ◌&&◌, not, Bool, true, false, cond, List, [], ◌∷◌, length, Option, Some, None, refl, ap, sym, ◌∙◌, subst, inl, inr, ⊎_elim, arith, eq-eqb}
 use Rattle.std.proofs.lemmas.Bool.{cases_eq, eqb-true, and_parts, cases_Bool, leb-true, ltb-true, not-true}
 use Rattle.pfs_lemmas.proofs.Options.{some_same}
 use Rattle.pfs_board.specs.declared.view.Change.{Change}
@@ -127,7 +127,7 @@ after_top (Adds row amount (Counted q k) ∷ calls) r = omega (arith, after_top 
 after_top (Adds row amount (Held q first second) ∷ calls) r = omega (arith, after_top calls r.1, top_up q (second / 4) calls (omega (arith, r.0.0, r.0.1)))
 after_top (Rings row put (Done k) ∷ calls) r = omega (arith, after_top calls r.1, top_up row k calls (omega (arith, r.0)))
 after_top (Rings row put (Busy first second) ∷ calls) r = omega (arith, after_top calls r.1, top_up row (second / 4) calls (omega (arith, r.0.0, r.0.1)))
-after_top (Rings row put (Late ticket) ∷ calls) r = after_top calls r.1
+after_top (Rings row put (Late ticket k) ∷ calls) r = omega (arith, after_top calls r.1, top_up row k calls r.0)
 after_top (Reads row (Whole k found) ∷ calls) r = omega (arith, after_top calls r.1, top_up row k calls r.0)
 after_top (Reads row (Free n) ∷ calls) r = omega (arith, after_top calls r.1, top_up row (n / 4) calls r.0)
 after_top (Reads row (sees.Busy first second) ∷ calls) r = omega (arith, after_top calls r.1, top_up row (second / 4) calls (omega (arith, r.0.0, r.0.1)))
@@ -210,7 +210,11 @@ module _ (start words : List ℕ) (v : View) (h : History start words v) (sets :
   floored begun (Rings row put (Done k) ∷ calls) [] t s r u f w = absurd t
   floored begun (Rings row put (Done k) ∷ calls) (p ∷ made) t s r u f w = (reaching_none log row k (after_in calls) (put_floor begun _ _ row k p t.1 u.0), floored begun calls made t.3 s.1 r.1 u.1 f.1 w)
   floored begun (Rings row put (Busy first second) ∷ calls) made t s r u f w = (tt, floored begun calls made t s.1 r.1 u f.1 w)
-  floored begun (Rings row put (Late ticket) ∷ calls) made t s r u f w = (tt, floored begun calls made t s.1 r.1 u f.1 w)
+  floored begun (Rings row put (Late ticket k) ∷ calls) made t s r u f w =
+      let P : Finished → Type 0 = λ e. IsFinished begun row k (action_in calls) (after_in calls) e × (slice_index e.content 15 ≡ ticket + 1) in
+      let R : Type 0 = Past row (after_in calls) (λ e. e.version ≤ k) log in
+      let low : R = some_each P (IsRead start h.t) R (λ e m d. past_map row (after_in calls) (after_in calls) (λ e. level e ≤ k) (λ e. e.version ≤ k) (omega arith) (λ e d. omega (arith, d, level_up e)) log (read_floor begun row k _ _ e m.0 d)) v.reads s.0.1 h.fits.reads in
+      (above_none log row k (after_in calls) low, floored begun calls made t s.1 r.1 u f.1 w)
   floored begun (Reads row (Whole k found) ∷ calls) made t s r u f w =
       let P : Finished → Type 0 = λ e. IsFinished begun row k (action_in calls) (after_in calls) e × (e.content ≡ found) in
       let R : Type 0 = Past row (after_in calls) (λ e. level e ≤ k) log in

@@ -30,7 +30,7 @@ module _ (start : Start) (reads reads' : List Finished) (sights sights' : List S
   shown_one calls (Adds row amount (Counted r version)) s = tt
   shown_one calls (Rings row content (Done version)) s = λ long. let o = s long in (o.0, o.1, older_more row o.0 content (action_in calls) (after_in calls) o.2)
   shown_one calls (Rings row content (Busy first second)) s = (s.0, s.1, g _ s.2)
-  shown_one calls (Rings row content (Late ticket)) s = (s.0, s.1, s.2, f _ s.3)
+  shown_one calls (Rings row content (Late ticket version)) s = (s.0, f _ s.1)
   shown_one calls (Reads row (Whole version found)) s = (s.0, f _ s.1)
   shown_one calls (Reads row (Free word)) s = (s.0, s.1, g _ s.2)
   shown_one calls (Reads row (sees.Busy first second)) s = (s.0, s.1, g _ s.2)

@@ -89,7 +89,7 @@ module _ (marks : List Mark) where
   floors (Adds row amount (Held q first second) ∷ calls) r f = (tt, floors calls r.1 f.1)
   floors (Rings row put (Done k) ∷ calls) r f = (refl, floors calls r.1 f.1)
   floors (Rings row put (Busy first second) ∷ calls) r f = (tt, floors calls r.1 f.1)
-  floors (Rings row put (Late ticket) ∷ calls) r f = (tt, floors calls r.1 f.1)
+  floors (Rings row put (Late ticket version) ∷ calls) r f = (refl, floors calls r.1 f.1)
   floors (Reads row (Whole k found) ∷ calls) r f = ((refl, refl), floors calls r.1 f.1)
   floors (Reads row (Free n) ∷ calls) r f = (refl, floors calls r.1 f.1)
   floors (Reads row (sees.Busy first second) ∷ calls) r f = (tt, floors calls r.1 f.1)

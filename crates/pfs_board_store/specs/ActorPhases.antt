@@ -48,4 +48,4 @@ abbrev pub SinceLaw : Type 0
 SinceLaw = (flags start words : List ℕ) (v : View) (w pen : WordView) (t : TicketView) (before now : List Worked)
     → AreGathered (now ++ before) v w t → IsRunsBoard start → (h : History start words v)
     → IsTold (opening_words flags) (met w pen) pen → AllLater (calls_of_all before) now
-    → AllSince (content_of start h.t.log) (calls_of_all before) (calls_of_all now)
+    → AllSince (calls_of_all before) (calls_of_all now)

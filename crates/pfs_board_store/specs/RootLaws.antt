@@ -121,4 +121,4 @@ OrderLaw = (flags start words : List ℕ) (v : View) (w pen : WordView) (t : Tic
     → IsTold (opening_words flags) (met w pen) pen → AreWritten (calls_of_all actors) pen.sets
     → AllCalls (AllKnowSets (all_word_marks (calls_of_all actors))) (calls_of_all actors)
     → (sets : List Mark)
-    × Order (calls_of_all actors) (content_of start h.t.log) (marks_in h.t.log) sets (labels_of h.t.log)
+    × Order (calls_of_all actors) (marks_in h.t.log) sets (labels_of h.t.log)

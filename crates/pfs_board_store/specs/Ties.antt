@@ -7,7 +7,6 @@ use Rattle.pfs_board.specs.declared.view.Sight.{Sight}
 use Rattle.pfs_board.specs.History.{Some_of}
 use Rattle.pfs_levels.specs.Calls.{Call, Adds, Rings, Reads, Loads, Draws, Takes, Puts, Frees, Sets, Enters, Leaves, Meets, Start, Opening, IsRow, action_in, after_in, label_in, hand_in}
 use Rattle.pfs_levels.specs.RowWords.{merged}
-use Rattle.pfs_levels.specs.CallOrder.{top_in}
 use Rattle.pfs_levels.specs.declared.answers.Added.TheVariants.{Counted, Held}
 use Rattle.pfs_levels.specs.declared.answers.RingPut.TheVariants.{Done, Busy, Late}
 use Rattle.pfs_rows.specs.declared.table.Seen.TheVariants.{Whole, Free}
@@ -57,7 +56,7 @@ IsTied start (Rings row content (Done version) ∷ calls) (change ∷ made) = (0
     × IsMade start (action_in calls) (after_in calls) row version true change
     × (change.put ≡ content) × IsTied start calls made
 IsTied start (Rings row content (Busy first second) ∷ calls) made = IsTied start calls made
-IsTied start (Rings row content (Late ticket) ∷ calls) made = IsTied start calls made
+IsTied start (Rings row content (Late ticket version) ∷ calls) made = IsTied start calls made
 IsTied start (Reads row seen ∷ calls) made = IsTied start calls made
 IsTied start (Loads at version flags ∷ calls) made = IsTied start calls made
 IsTied start (Draws kind ticket ∷ calls) made = IsTied start calls made
@@ -197,8 +196,7 @@ IsShown start reads sights entered calls (Rings row content (Done version)) = 10
     → (n : ℕ) × (version ≡ n + 1) × WasOlder start reads sights row n content (action_in calls) (after_in calls)
 IsShown start reads sights entered calls (Rings row content (Busy first second)) =
     WasRefused start sights row first second (action_in calls) (after_in calls)
-IsShown start reads sights entered calls (Rings row content (Late ticket)) =
-    (10242 ≤ row) × (version : ℕ) × (top_in calls row ≤ version)
+IsShown start reads sights entered calls (Rings row content (Late ticket version)) = (10242 ≤ row)
     × Some_of (λ (f : Finished). IsFinished start row version (action_in calls) (after_in calls) f
     × (slice_index f.content 15 ≡ ticket + 1)) reads
 IsShown start reads sights entered calls (Reads row (Whole version found)) = IsRow row

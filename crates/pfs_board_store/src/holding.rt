@@ -1,10 +1,9 @@
 //! How an actor holds rows and sets words.
 
-ghost use Rattle.std.specs.Prelude.{◌≡◌, ◌<◌, ◌≤◌, ◌+◌, ◌^◌, ◌∷◌, [], ℕ, List, Option, Some, None, IsSome, length, slice_index};
-ghost use Rattle.pfs_board.specs.Knowledge.{corner, held};
-ghost use Rattle.pfs_levels.specs.Calls.{Call, Opening, Goes, Takes, Puts, Frees, Sets, Meets, IsRow};
+ghost use Rattle.std.specs.Prelude.{◌≡◌, ◌<◌, ◌≤◌, ◌+◌, ◌^◌, ◌∷◌, [], ℕ, Some, None, IsSome, length, slice_index};
+ghost use Rattle.pfs_board.specs.Knowledge.{held};
+ghost use Rattle.pfs_levels.specs.Calls.{Goes, Takes, Puts, Frees, Sets, Meets, IsRow};
 ghost use Rattle.pfs_levels.specs.Views.{Kept as StoreKept, Same, given_back, taken};
-ghost use Rattle.pfs_board_store.specs.ActorCalls.{IsReached, in_hand};
 ghost use Rattle.pfs_switches.specs.Knowledge.{was_set};
 
 use crate::rows::BoardRows;

@@ -1,8 +1,7 @@
 //! What an actor records and reads with: its seats.
 
-ghost use Rattle.std.specs.Prelude.{true, ◌≢◌, ◌≡◌, ◌<◌, ◌≤◌, ◌+◌, ◌-◌, ◌*◌, ◌/◌, ◌%◌, ◌^◌, ◌∷◌, ◌++◌, [], ℕ, List, Option, Some, None, IsSome, length, slice_index};
-ghost use Rattle.pfs_board.specs.SeatViews.{HasRow};
-ghost use Rattle.pfs_board.specs.Knowledge.{corner, held, stake};
+ghost use Rattle.std.specs.Prelude.{true, ◌≢◌, ◌≡◌, ◌<◌, ◌≤◌, ◌+◌, ◌-◌, ◌*◌, ◌/◌, ◌%◌, ◌^◌, ◌∷◌, ◌++◌, [], ℕ, List, Some, None, IsSome, length};
+ghost use Rattle.pfs_board.specs.Knowledge.{corner, held};
 ghost use Rattle.pfs_board.specs.declared.view.Label.{Label};
 ghost use Rattle.pfs_levels.specs.Calls.{Call, Opening, Goes, Adds, Rings, Reads, Loads, Draws, Enters, Leaves, row_in, IsLate, IsCell, IsRing, IsRow, action_in, after_in, label_in};
 ghost use Rattle.pfs_levels.specs.Views.{Kept as StoreKept, Same, empty_handed};
@@ -252,6 +251,7 @@ impl<'a, V: Kept> Rows for BoardRows<'a, V> {
                 if found[15] > content[15] {
                     RingPut::Late {
                         ticket: found[15] - 1,
+                        version,
                     }
                 } else {
                     self.put_event_at(row, 4 * version + 2, content)

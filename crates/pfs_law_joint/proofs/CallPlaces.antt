@@ -27,13 +27,13 @@ floored_at : (log words : List Mark) (later earlier : List Call) (call : Call) �
 floored_at log words [] earlier call all = all.0
 floored_at log words (x ∷ later) earlier call all = floored_at log words later earlier call all.1
 
-caused_at : (content : ℕ → ℕ → List ℕ) (log own : List Mark) (later earlier : List Call) (call : Call) → AreCaused content log own (later ++ call ∷ earlier) → Cause content log own earlier call
-caused_at content log own [] earlier call all = all.0
-caused_at content log own (x ∷ later) earlier call all = caused_at content log own later earlier call all.1
+caused_at : (log own : List Mark) (later earlier : List Call) (call : Call) → AreCaused log own (later ++ call ∷ earlier) → Cause log own earlier call
+caused_at log own [] earlier call all = all.0
+caused_at log own (x ∷ later) earlier call all = caused_at log own later earlier call all.1
 
-since_at : (content : ℕ → ℕ → List ℕ) (log : List At) (sets : List Setting) (later earlier : List Call) (call : Call) → AreSince content log sets (later ++ call ∷ earlier) → IsSince content log sets call
-since_at content log sets [] earlier call all = all.0
-since_at content log sets (x ∷ later) earlier call all = since_at content log sets later earlier call all.1
+since_at : (log : List At) (sets : List Setting) (later earlier : List Call) (call : Call) → AreSince log sets (later ++ call ∷ earlier) → IsSince log sets call
+since_at log sets [] earlier call all = all.0
+since_at log sets (x ∷ later) earlier call all = since_at log sets later earlier call all.1
 
 agree_at : (flags : List ℕ) (content : ℕ → ℕ → List ℕ) (log : List At) (sets : List Setting) (later earlier : List Call) (call : Call) → AllAgree flags content log sets (later ++ call ∷ earlier) → Agrees flags content log sets call
 agree_at flags content log sets [] earlier call all = all.0
@@ -90,8 +90,8 @@ pub record Facts (flags : List ℕ) (before : List (List Call)) (m : Moment) (s 
   pub agrees : Agrees flags s.content s.log s.sets call
   pub rising : IsRising m.earlier call
   pub floored : IsFloored s.marks s.words (after_in m.earlier) call
-  pub caused : Cause s.content s.marks (marks_of (own_of m)) m.earlier call
-  pub since : IsSince s.content (changes_of (all_calls before)) (sets_of (all_calls before)) call
+  pub caused : Cause s.marks (marks_of (own_of m)) m.earlier call
+  pub since : IsSince (changes_of (all_calls before)) (sets_of (all_calls before)) call
   pub changes : (h : At → ℕ) → total h (changes_by call) ≤ total h s.log
   pub sets : (h : Setting → ℕ) → total h (sets_by call) ≤ total h s.sets
 
@@ -100,16 +100,16 @@ facts flags before m s =
     let own = own_of m in
     let rises : AreRising own = of_own AreRising m.front own m.behind before s.order.rising in
     let floors : AreFloored s.marks s.words own = of_own (AreFloored s.marks s.words) m.front own m.behind before s.order.floored in
-    let causes : AreCaused s.content s.marks (marks_of own) own = of_own (λ calls. AreCaused s.content s.marks (marks_of calls) calls) m.front own m.behind before s.order.caused in
-    let sinces : AreSince s.content (changes_of (all_calls before)) (sets_of (all_calls before)) own =
-    in_phase (AreSince s.content (changes_of (all_calls before)) (sets_of (all_calls before))) m.front own m.behind s.since in
+    let causes : AreCaused s.marks (marks_of own) own = of_own (λ calls. AreCaused s.marks (marks_of calls) calls) m.front own m.behind before s.order.caused in
+    let sinces : AreSince (changes_of (all_calls before)) (sets_of (all_calls before)) own =
+    in_phase (AreSince (changes_of (all_calls before)) (sets_of (all_calls before))) m.front own m.behind s.since in
     let agree : AllAgree flags s.content s.log s.sets own = agree_own flags s.content s.log s.sets m.front own m.behind before s.joint.agrees in
     record {
       agrees = agree_at flags s.content s.log s.sets m.later m.earlier m.call agree;
       rising = rising_at m.later m.earlier m.call rises;
       floored = floored_at s.marks s.words m.later m.earlier m.call floors;
-      caused = caused_at s.content s.marks (marks_of own) m.later m.earlier m.call causes;
-      since = since_at s.content (changes_of (all_calls before)) (sets_of (all_calls before)) m.later m.earlier m.call sinces;
+      caused = caused_at s.marks (marks_of own) m.later m.earlier m.call causes;
+      since = since_at (changes_of (all_calls before)) (sets_of (all_calls before)) m.later m.earlier m.call sinces;
       changes = λ h. omega (arith, call_changes h m.later m.earlier m.call, own_changes h m.front own m.behind before, s.joint.once h);
       sets = λ h. omega (arith, call_sets h m.later m.earlier m.call, own_sets h m.front own m.behind before, s.joint.sets_once h);
     }

@@ -7,14 +7,14 @@ use Rattle.pfs_levels.specs.declared.answers.Added.TheVariants.{Counted, Held}
 use Rattle.pfs_levels.specs.declared.answers.RingPut.TheVariants.{Done, Busy, Late}
 use Rattle.pfs_levels.specs.Calls.{Call, Adds, Rings, Reads, Loads, Draws, Takes, Puts, Frees, Sets, Enters, Leaves, Meets, after_in}
 use Rattle.pfs_levels.specs.JointCalls.{total, one_if, count, changes_of, frees_at, all_calls}
-use Rattle.pfs_levels.specs.CallOrder.{Mark, AllCalls, marks_of, all_marks, marked, is_past, above, is_between, published, released, top_in, IsCaused, IsOverdue}
+use Rattle.pfs_levels.specs.CallOrder.{Mark, AllCalls, marks_of, all_marks, marked, is_past, above, is_between, published, released, top_in, IsCaused}
 use Rattle.pfs_levels.specs.CallOrder.{IsOthers as AreOthers}
 use Rattle.pfs_law_joint.specs.Phases.{IsShared, HaveEnded, AreWhole, Moment, own_of, phase_of, others_of, WereDone}
 use Rattle.pfs_law_joint.specs.Causes.{IsOthers, WasOthers, WasLate, WasFree, HasCause, CausesLaw}
 use Rattle.pfs_law_joint.proofs.VersionChains.{mark_chain, there, not_there}
 use Rattle.pfs_law_joint.proofs.MarkSums.{marks_apart}
 use Rattle.pfs_law_joint.proofs.CallPlaces.{Facts, facts}
-use Rattle.pfs_law_joint.proofs.HadVersions.{frees_it, four, rows_are}
+use Rattle.pfs_law_joint.proofs.HadVersions.{changes_are, frees_it, four, rows_are}
 use Rattle.pfs_law_joint.proofs.Floors.{began_is, row_above}
 
 -- nothing between is nothing at a version between
@@ -63,15 +63,14 @@ module _ (flags : List ℕ) (before : List (List Call)) (m : Moment) (done : ℕ
     second_free = λ free. released_all row (second / 4) (c.second_free free);
   }
 
-  late : (row ticket : ℕ) → 0 < row → (o : IsOverdue s.content s.marks m.earlier row ticket (after_in m.earlier))
-      → ((k : ℕ) × ((count (changes_of (all_calls before)) row ≤ k) × (slice_index (s.content row k) 15 ≡ ticket + 1))) → WasLate s.content before m row ticket
-  late row ticket up o since = record {
-    version = o.version;
-    had = omega (arith, o.known, rows_are flags before m s row up);
-    holds = o.holds;
-    own = o.own;
-    given = s.order.once (λ p. one_if (is_past row (after_in m.earlier) p && nat_lt o.version p.version)) ∙ o.floor;
-    began = since;
+  late : (row ticket version : ℕ) → 0 < row → (slice_index (s.content row version) 15 ≡ ticket + 1) × (version ≤ count s.log row) → top_in m.earlier row ≤ version
+      → count (changes_of (all_calls before)) row ≤ version → above s.marks row version (after_in m.earlier) ≡ 0 → WasLate s.content before m done row ticket version
+  late row ticket version up agrees rise began floor = record {
+    had = omega (arith, agrees.1, changes_are flags before m s row);
+    holds = agrees.0;
+    began = began;
+    own = rise;
+    given = row_above flags before m done s e whole were row version up began floor;
   }
 
   vacant : (row w : ℕ) → ((k : ℕ) × ((w ≡ 4 * k) × (0 < frees_at s.log row k))) → top_in m.earlier row ≤ w / 4 → count (changes_of (all_calls before)) row ≤ w / 4
@@ -92,7 +91,7 @@ module _ (flags : List ℕ) (before : List (List Call)) (m : Moment) (done : ℕ
   has_cause (Adds at amount (Held r v w)) f = λ up. held r v w up f.caused f.rising f.since
   has_cause (Adds at amount (Counted r v)) f = tt
   has_cause (Rings at content (Busy v w)) f = λ up. held at v w up f.caused f.rising f.since
-  has_cause (Rings at content (Late t)) f = λ up. late at t up f.caused f.since
+  has_cause (Rings at content (Late t v)) f = λ up. late at t v up f.agrees f.rising f.since f.floored
   has_cause (Rings at content (Done v)) f = tt
   has_cause (Reads at (sees.Busy v w)) f = λ up. held at v w up f.caused f.rising f.since
   has_cause (Reads at (Free w)) f = vacant at w f.agrees f.rising f.since f.floored

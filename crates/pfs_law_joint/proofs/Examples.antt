@@ -9,7 +9,7 @@ use Rattle.pfs_levels.specs.declared.answers.RingPut.TheVariants.{Done, Late}
 use Rattle.pfs_levels.specs.Calls.{Call, Adds, Rings, Takes, Puts, Enters, Leaves}
 use Rattle.pfs_levels.specs.RowWords.{merged, zero_words, opening_content}
 use Rattle.pfs_levels.specs.JointCalls.{total, At, at_put, count, changes_of, sets_of, draws_of, all_calls, Joint}
-use Rattle.pfs_levels.specs.CallOrder.{Mark, mark, marked, marks_of, all_marks, word_marks_of, all_word_marks, IsCaused, IsOverdue, Order}
+use Rattle.pfs_levels.specs.CallOrder.{Mark, mark, marked, marks_of, all_marks, word_marks_of, all_word_marks, IsCaused, Order}
 use Rattle.pfs_law_joint.specs.Phases.{IsShared, HaveEnded, AreWhole, Moment}
 use Rattle.pfs_law_joint.specs.Causes.{WasOthers}
 use Rattle.pfs_law_joint.specs.Floors.{IsAbove}
@@ -30,7 +30,7 @@ module _ (amount : Stat) (one two three : Label) where
 
   -- the third finds the row in its hand, comes late with ticket 0, and adds in the third action
   abbrev pub third : List Call
-  third = Leaves ∷ Adds 129 amount (Counted 129 3) ∷ Enters three (one ∷ two ∷ []) ∷ Rings 10242 (event 0) (Late 1000) ∷ Adds 129 amount (Held 129 5 5) ∷ []
+  third = Leaves ∷ Adds 129 amount (Counted 129 3) ∷ Enters three (one ∷ two ∷ []) ∷ Rings 10242 (event 0) (Late 1000 1) ∷ Adds 129 amount (Held 129 5 5) ∷ []
 
   abbrev pub before : List (List Call)
   before = first ∷ []
@@ -67,12 +67,8 @@ module _ (amount : Stat) (one two three : Label) where
     once = λ h. refl;
     sets_once = λ h. refl;
     draws_once = λ h. refl;
-    agrees = (tt, ((2, (refl, refl)), (tt, ((1, (lit≤ tt, refl)), (tt, (tt, (refl, ((refl, lit≤ tt), (tt, ((0, (refl, refl, λ high. inl (lit< tt))), (tt, (tt, ((0, (refl, refl)), tt)))))))))))));
+    agrees = (tt, ((2, (refl, refl)), (tt, ((refl, lit≤ tt), (tt, (tt, (refl, ((refl, lit≤ tt), (tt, ((0, (refl, refl, λ high. inl (lit< tt))), (tt, (tt, ((0, (refl, refl)), tt)))))))))))));
   }
-
-  late : IsOverdue content marks (Adds 129 amount (Held 129 5 5) ∷ []) 10242 1000 0
-  unfolding total marked
-  late = record { version = 1; known = lit≤ tt; holds = refl; own = lit≤ tt; floor = refl }
 
   was_held : IsCaused marks (marks_of third) 129 5 5 0
   unfolding total marked marks_of
@@ -87,7 +83,7 @@ module _ (amount : Stat) (one two three : Label) where
     second_free = λ free. absurd (omega (arith, free));
   }
 
-  order : Order (now ++ before) content marks [] (one ∷ two ∷ three ∷ [])
+  order : Order (now ++ before) marks [] (one ∷ two ∷ three ∷ [])
   unfolding total marked marks_of all_marks word_marks_of all_word_marks
   order = record {
     chain = (refl, (refl, (refl, (refl, (refl, (refl, (refl, tt)))))));
@@ -96,10 +92,10 @@ module _ (amount : Stat) (one two three : Label) where
     once = λ h. refl;
     words_once = λ h. refl;
     ended = refl;
-    floored = ((tt, (refl, (tt, (tt, (tt, tt))))), ((tt, (refl, (refl, (tt, (refl, tt))))), ((tt, (tt, (refl, tt))), tt)));
-    rising = ((lit< tt, (lit< tt, (lit≤ tt, (tt, ((lit≤ tt, lit≤ tt), tt))))), ((lit< tt, (lit< tt, (lit≤ tt, (lit≤ tt, (lit< tt, tt))))), ((lit< tt, (lit≤ tt, (lit< tt, tt))), tt)));
+    floored = ((tt, (refl, (tt, (refl, (tt, tt))))), ((tt, (refl, (refl, (tt, (refl, tt))))), ((tt, (tt, (refl, tt))), tt)));
+    rising = ((lit< tt, (lit< tt, (lit≤ tt, (lit≤ tt, ((lit≤ tt, lit≤ tt), tt))))), ((lit< tt, (lit< tt, (lit≤ tt, (lit≤ tt, (lit< tt, tt))))), ((lit< tt, (lit≤ tt, (lit< tt, tt))), tt)));
     there = ((tt, (lit< tt, (tt, (lit< tt, (lit< tt, tt))))), ((tt, (lit< tt, (lit< tt, (tt, (lit< tt, tt))))), ((tt, (tt, (lit< tt, tt))), tt)));
-    caused = ((tt, (tt, (tt, (late, (was_held, tt))))), ((tt, (tt, (tt, (tt, (tt, tt))))), ((tt, (tt, (tt, tt))), tt)));
+    caused = ((tt, (tt, (tt, (tt, (was_held, tt))))), ((tt, (tt, (tt, (tt, (tt, tt))))), ((tt, (tt, (tt, tt))), tt)));
     named = ((refl, (tt, ((three ∷ [], refl), (tt, (tt, tt))))), ((refl, (tt, (tt, ((two ∷ three ∷ [], refl), (tt, tt))))), ((refl, ((one ∷ two ∷ three ∷ [], refl), (tt, tt))), tt)));
   }
 
@@ -115,7 +111,7 @@ module _ (amount : Stat) (one two three : Label) where
     labels = one ∷ two ∷ three ∷ [];
     joint = joint;
     order = order;
-    since = ((tt, (lit< tt, (tt, ((1, (lit≤ tt, refl)), (lit≤ tt, tt))))), ((tt, (lit< tt, (lit≤ tt, (tt, (lit< tt, tt))))), tt));
+    since = ((tt, (lit< tt, (tt, (lit≤ tt, (lit≤ tt, tt))))), ((tt, (lit< tt, (lit≤ tt, (tt, (lit< tt, tt))))), tt));
   }
 
   pub ended : HaveEnded before
@@ -139,7 +135,7 @@ module _ (amount : Stat) (one two three : Label) where
   abbrev pub held : Moment
   held = record {
     front = [];
-    later = Leaves ∷ Adds 129 amount (Counted 129 3) ∷ Enters three (one ∷ two ∷ []) ∷ Rings 10242 (event 0) (Late 1000) ∷ [];
+    later = Leaves ∷ Adds 129 amount (Counted 129 3) ∷ Enters three (one ∷ two ∷ []) ∷ Rings 10242 (event 0) (Late 1000 1) ∷ [];
     call = Adds 129 amount (Held 129 5 5);
     earlier = [];
     behind = second ∷ [];
@@ -150,7 +146,7 @@ module _ (amount : Stat) (one two three : Label) where
     front = [];
     later = Leaves ∷ [];
     call = Adds 129 amount (Counted 129 3);
-    earlier = Enters three (one ∷ two ∷ []) ∷ Rings 10242 (event 0) (Late 1000) ∷ Adds 129 amount (Held 129 5 5) ∷ [];
+    earlier = Enters three (one ∷ two ∷ []) ∷ Rings 10242 (event 0) (Late 1000 1) ∷ Adds 129 amount (Held 129 5 5) ∷ [];
     behind = second ∷ [];
   }
 

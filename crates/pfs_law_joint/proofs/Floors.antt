@@ -235,7 +235,7 @@ module _ (flags : List ℕ) (before : List (List Call)) (m : Moment) (done : ℕ
   keeps (Adds at amount (Held r v w)) f = tt
   keeps (Rings at content (Done v)) f = changed at v f.since f.rising f.floored
   keeps (Rings at content (Busy v w)) f = tt
-  keeps (Rings at content (Late t)) f = tt
+  keeps (Rings at content (Late t v)) f = tt
   keeps (Reads at (Whole v found)) f = λ up. (
     not_below at v f.since.0 f.rising f.floored.0 up,
     record { released = row_freed at v up f.since.0 f.since.1 f.floored.1; stood = f.since.1 },

@@ -94,7 +94,7 @@ module _ (flags : List ℕ) (before : List (List Call)) (m : Moment) (s : IsShar
   by_call (Adds at amount (Held r first second)) row k f up names = held_had r row first second k up names.0 f.rising.1 f.caused.known names.1
   by_call (Rings at content (Done v)) row k f up names = put_had at row v k names.0 names.1 f.changes
   by_call (Rings at content (Busy first second)) row k f up names = held_had at row first second k up names.0 f.rising.1 f.caused.known names.1
-  by_call (Rings at content (Late ticket)) row k f up names = absurd names
+  by_call (Rings at content (Late ticket v)) row k f up names = seen_had at row v k names.0 names.1 f.agrees.1
   by_call (Reads at (Whole v found)) row k f up names = seen_had at row v k names.0 names.1 f.agrees.1
   by_call (Reads at (Free w)) row k f up names =
       let v : ℕ = f.agrees.0 in

@@ -65,7 +65,7 @@ acting number up (Adds at amount (Held r v w) ∷ calls) out some = acting numbe
 acting number up (Rings at content (Done v) ∷ calls) out some =
     row_mark number (action_in calls) (acts number (word_marks_of calls)) (mark at v true (action_in calls) (after_in calls)) (marks_of calls) refl (acting number up calls out.1) some
 acting number up (Rings at content (Busy v w) ∷ calls) out some = acting number up calls out.1 some
-acting number up (Rings at content (Late t) ∷ calls) out some = acting number up calls out.1 some
+acting number up (Rings at content (Late t v) ∷ calls) out some = acting number up calls out.1 some
 acting number up (Reads at seen ∷ calls) out some = acting number up calls out.1 some
 acting number up (Loads at v found ∷ calls) out some = acting number up calls out.1 some
 acting number up (Draws kind ticket ∷ calls) out some = acting number up calls out.1 some

@@ -25,7 +25,7 @@ row_here (Adds at amount (Counted r v)) calls row k rise names = at_named r row 
 row_here (Adds at amount (Held r first second)) calls row k rise names = at_named r row (second / 4) (top_in calls row) k names.0 (of_two first second k rise.1 names.1)
 row_here (Rings at content (Done v)) calls row k rise names = at_named at row v (top_in calls row) k names.0 (omega (arith, names.1))
 row_here (Rings at content (Busy first second)) calls row k rise names = at_named at row (second / 4) (top_in calls row) k names.0 (of_two first second k rise.1 names.1)
-row_here (Rings at content (Late ticket)) calls row k rise names = absurd names
+row_here (Rings at content (Late ticket v)) calls row k rise names = at_named at row v (top_in calls row) k names.0 (omega (arith, names.1))
 row_here (Reads at (Whole v found)) calls row k rise names = at_named at row v (top_in calls row) k names.0 (omega (arith, names.1))
 row_here (Reads at (Free w)) calls row k rise names = at_named at row (w / 4) (top_in calls row) k names.0 (omega (arith, names.1))
 row_here (Reads at (sees.Busy first second)) calls row k rise names = at_named at row (second / 4) (top_in calls row) k names.0 (of_two first second k rise.1 names.1)
@@ -49,7 +49,8 @@ row_grows (Rings at content (Done v) ∷ more) calls row r =
     step_named (at == row) v (top_in (more ++ calls) row) (top_in calls row) (λ b. omega (arith, r.0, ap (top_in (more ++ calls)) (eqb-true at row b))) (row_grows more calls row r.1)
 row_grows (Rings at content (Busy first second) ∷ more) calls row r =
     step_named (at == row) (second / 4) (top_in (more ++ calls) row) (top_in calls row) (λ b. omega (arith, r.0.0, r.0.1, ap (top_in (more ++ calls)) (eqb-true at row b))) (row_grows more calls row r.1)
-row_grows (Rings at content (Late ticket) ∷ more) calls row r = row_grows more calls row r.1
+row_grows (Rings at content (Late ticket v) ∷ more) calls row r =
+    step_named (at == row) v (top_in (more ++ calls) row) (top_in calls row) (λ b. omega (arith, r.0, ap (top_in (more ++ calls)) (eqb-true at row b))) (row_grows more calls row r.1)
 row_grows (Reads at (Whole v found) ∷ more) calls row r =
     step_named (at == row) v (top_in (more ++ calls) row) (top_in calls row) (λ b. omega (arith, r.0, ap (top_in (more ++ calls)) (eqb-true at row b))) (row_grows more calls row r.1)
 row_grows (Reads at (Free w) ∷ more) calls row r =

@@ -50,7 +50,7 @@ module _ (flags : List ℕ) (content after : ℕ → ℕ → List ℕ) (log grow
   made (Frees at v ∷ calls) a b up = made calls a.1 b.1 (free_step at v row (k + 1) (changes_of calls) up)
   made (Adds at amount (Held r v w) ∷ calls) a b up = made calls a.1 b.1 up
   made (Rings at put (Busy v w) ∷ calls) a b up = made calls a.1 b.1 up
-  made (Rings at put (Late t) ∷ calls) a b up = made calls a.1 b.1 up
+  made (Rings at put (Late t v) ∷ calls) a b up = made calls a.1 b.1 up
   made (Reads at seen ∷ calls) a b up = made calls a.1 b.1 up
   made (Loads at v found ∷ calls) a b up = made calls a.1 b.1 up
   made (Draws kind ticket ∷ calls) a b up = made calls a.1 b.1 up

@@ -31,18 +31,15 @@ pub record WasOthers (before : List (List Call)) (m : Moment) (done row first se
   pub second_dirty : second % 4 ≡ 1 → IsOthers before m row (second / 4)
   pub second_free : second % 4 ≡ 0 → 0 < released (all_marks (phase_of m ++ before)) row (second / 4)
 
--- a place held a greater ticket, at a version that it had, not below what the actor named there and what the actions
--- gave that had ended by its calls of the phase; and at one not below that of the phase's beginning, which isn't said to
--- be the same
-pub record WasLate (content : ℕ → ℕ → List ℕ) (before : List (List Call)) (m : Moment) (row ticket : ℕ) : Type 0
-  where
-    pub version : ℕ
-    pub had : version ≤ count (changes_of (all_calls (phase_of m ++ before))) row
-    pub holds : slice_index (content row version) 15 ≡ ticket + 1
-    pub own : top_in m.earlier row ≤ version
-    pub given : above (all_marks (phase_of m ++ before)) row version (after_in m.earlier) ≡ 0
-    pub began : (k : ℕ)
-        × ((count (changes_of (all_calls before)) row ≤ k) × (slice_index (content row k) 15 ≡ ticket + 1))
+-- a place held a greater ticket at this version, which it had, not below what stood as the phase began, what the actor
+-- named there and what the actions gave that it knew as ended
+pub record WasLate (content : ℕ → ℕ → List ℕ) (before : List (List Call)) (m : Moment) (done row ticket version : ℕ)
+    : Type 0 where
+  pub had : version ≤ count (changes_of (all_calls (phase_of m ++ before))) row
+  pub holds : slice_index (content row version) 15 ≡ ticket + 1
+  pub began : count (changes_of (all_calls before)) row ≤ version
+  pub own : top_in m.earlier row ≤ version
+  pub given : above (all_marks (phase_of m ++ before)) row version done ≡ 0
 
 -- a row that was read free was released at that version or opened free, not below what stood as the phase began, what
 -- the actor named and what the actions gave that it knew as ended
@@ -60,7 +57,8 @@ HasCause content before m done (Adds at amount (Held row first second)) =
 HasCause content before m done (Adds at amount (Counted row version)) = Unit {0}
 HasCause content before m done (Rings row put (Busy first second)) =
     0 < row → WasOthers before m done row first second
-HasCause content before m done (Rings row put (Late ticket)) = 0 < row → WasLate content before m row ticket
+HasCause content before m done (Rings row put (Late ticket version)) =
+    0 < row → WasLate content before m done row ticket version
 HasCause content before m done (Rings row put (Done version)) = Unit {0}
 HasCause content before m done (Reads row (sees.Busy first second)) =
     0 < row → WasOthers before m done row first second

@@ -49,7 +49,7 @@ Keeps before m done (Adds at amount (Counted row version)) = 0 < row → IsAbove
 Keeps before m done (Adds at amount (Held row first second)) = Unit {0}
 Keeps before m done (Rings row content (Done version)) = 0 < row → IsAbove before m done row version
 Keeps before m done (Rings row content (Busy first second)) = Unit {0}
-Keeps before m done (Rings row content (Late ticket)) = Unit {0}
+Keeps before m done (Rings row content (Late ticket version)) = Unit {0}
 Keeps before m done (Reads row (Whole version found)) =
     0 < row → IsNotBelow before m done row version × IsUnreleased before m done row version
 Keeps before m done (Reads row (Free w)) = IsVacantAbove before m done row (w / 4)

@@ -23,8 +23,8 @@ pub record IsShared (flags : List ℕ) (before now : List (List Call)) : Type 0 
   pub words : List Mark
   pub labels : List Label
   pub joint : Joint flags (now ++ before) content log sets draws
-  pub order : Order (now ++ before) content marks words labels
-  pub since : AllSince content before now
+  pub order : Order (now ++ before) marks words labels
+  pub since : AllSince before now
 
 -- a plain store that its actors use one after another gives it
 abbrev pub PlainLaw : Type 0
@@ -84,7 +84,7 @@ Names (Adds at amount (Held r first second)) row version =
 Names (Rings at content (Done k)) row version = (at ≡ row) × (k ≡ version)
 Names (Rings at content (Busy first second)) row version =
     (at ≡ row) × ((first / 4 ≡ version) ⊎ (second / 4 ≡ version))
-Names (Rings at content (Late ticket)) row version = ⊥
+Names (Rings at content (Late ticket k)) row version = (at ≡ row) × (k ≡ version)
 Names (Reads at (Whole k found)) row version = (at ≡ row) × (k ≡ version)
 Names (Reads at (Free w)) row version = (at ≡ row) × (w / 4 ≡ version)
 Names (Reads at (sees.Busy first second)) row version =

@@ -44,7 +44,7 @@ place_paid row event put calls x = by_answer x.answer x.says where
   by_answer : (answer : RingPut) → Says row None answer put → is_paid (Puts row) (put_entry put) ≡ true
   by_answer (told.Done version) e = ap (λ (z : Put). is_paid (Puts row) (put_entry z)) e ∙ eq-eqb row row refl
   by_answer (told.Busy first second) e = ap (λ (z : Put). is_paid (Puts row) (put_entry z)) e ∙ eq-eqb row row refl
-  by_answer (told.Late greater) e = absurd e
+  by_answer (told.Late greater version) e = absurd e
 
 -- and one to the long history
 long_paid : (kind : ℕ) (event : Event) (put : Put) (calls : List Call) → PutLong kind event put calls → is_paid (PutsLong kind) (put_entry put) ≡ true
@@ -54,7 +54,7 @@ long_paid kind event put calls x = by_answer x.at.answer x.at.says where
   by_answer (told.Busy first second) e =
       ap (λ (z : Put). is_paid (PutsLong kind) (put_entry z)) e
       ∙ and_from _ _ (le-leb (long_row kind 0) (long_row kind x.ticket) (omega arith)) (lt-ltb (long_row kind x.ticket) (long_row (kind + 1) 0) (omega arith))
-  by_answer (told.Late greater) e = ap (λ (z : Put). is_paid (PutsLong kind) (put_entry z)) e.0 ∙ eq-eqb (long_row kind x.ticket) (long_row kind x.ticket) refl
+  by_answer (told.Late greater version) e = ap (λ (z : Put). is_paid (PutsLong kind) (put_entry z)) e.0 ∙ eq-eqb (long_row kind x.ticket) (long_row kind x.ticket) refl
 
 none_paid : (put : Option Put) → put ≡ None → ArePaid [] (put_entries put)
 none_paid put e = subst (λ (z : Option Put). ArePaid [] (put_entries z)) (sym e) tt
@@ -123,14 +123,14 @@ current_counts slot kind depth event put calls deep x other = by_answer x.answer
       ap (λ (z : Put). history_put slot other (Some slot) (put_entry z)) e
       ∙ ap (λ (z : Bool). cond z (record { row = current_row slot kind depth; version = version } ∷ []) []) (second_false (slot == slot) _ (current_apart slot kind depth other deep))
   by_answer (told.Busy first second) e = ap (λ (z : Put). history_put slot other (Some slot) (put_entry z)) e
-  by_answer (told.Late greater) e = absurd e
+  by_answer (told.Late greater version) e = absurd e
 
 long_counts : (slot kind : ℕ) (event : Event) (put : Put) (calls : List Call) → PutLong kind event put calls → (other : ℕ) → history_put slot other (Some slot) (put_entry put) ≡ []
 long_counts slot kind event put calls x other = by_answer x.at.answer x.at.says where
   by_answer : (answer : RingPut) → Says (long_row kind x.ticket) (Some x.ticket) answer put → history_put slot other (Some slot) (put_entry put) ≡ []
   by_answer (told.Done version) e = ap (λ (z : Put). history_put slot other (Some slot) (put_entry z)) e
   by_answer (told.Busy first second) e = ap (λ (z : Put). history_put slot other (Some slot) (put_entry z)) e
-  by_answer (told.Late greater) e = ap (λ (z : Put). history_put slot other (Some slot) (put_entry z)) e.0
+  by_answer (told.Late greater version) e = ap (λ (z : Put). history_put slot other (Some slot) (put_entry z)) e.0
 
 one_up : (m n : ℕ) → m % 10 ≡ n % 10 → (1 + m) % 10 ≡ (n + 1) % 10 % 10
 one_up m n e = alike_more 1 m n e ∙ (ap (λ z. z % 10) (behind_one n) ∙ sym (again (n + 1))) where
@@ -190,7 +190,7 @@ history_counts slot kind place event put calls marks nexts x fits other = by_ans
   by_answer (told.Busy first second) e =
       subst (λ (z : Put). (length (history_put slot (ring_number other) (Some slot) (put_entry z)) + marks other) % 10 ≡ next_of other (moved_by kind (Some z) nexts) % 10) (sym e)
       (as_before (marks other) (next_of other nexts) (fits other))
-  by_answer (told.Late greater) e = absurd e
+  by_answer (told.Late greater version) e = absurd e
 
 -- entries of a session in its slot
 module _ (home : Option ℕ) (subject : Option Subject) (context : Context) (slot : ℕ) (at_home : home ≡ Some slot) (here : context.slot ≡ Some slot) where

@@ -224,8 +224,8 @@ module _ (flags : ℕ → ℕ → ℕ) (facts : ℕ → Facts) (content : ℕ �
     by_answer (Some ticket) (told.Done version) e a = subst (λ z. Puts (put_entry z ∷ [])) (sym e) ((a.0, a.1, a.2 ∙ sym (w (Some ticket))), tt)
     by_answer None (told.Busy first second) e a = subst (λ z. Puts (put_entry z ∷ [])) (sym e) (tt, tt)
     by_answer (Some ticket) (told.Busy first second) e a = subst (λ z. Puts (put_entry z ∷ [])) (sym e) (tt, tt)
-    by_answer None (told.Late greater) e a = absurd e
-    by_answer (Some ticket) (told.Late greater) e a = subst (λ z. Puts (put_entry z ∷ [])) (sym e.0) (tt, tt)
+    by_answer None (told.Late greater version) e a = absurd e
+    by_answer (Some ticket) (told.Late greater version) e a = subst (λ z. Puts (put_entry z ∷ [])) (sym e.0) (tt, tt)
 
   none_put : (put : Option Put) → put ≡ None → Puts (put_entries put)
   none_put put e = subst (λ z. Puts (put_entries z)) (sym e) tt

@@ -106,14 +106,14 @@ short_at row event put calls x = by_answer x.answer x.says where
   by_answer : (answer : RingPut) → Says row None answer put → IsShort (Some put)
   by_answer (told.Done version) e = subst (λ z. IsShort (Some z)) (sym e) tt
   by_answer (told.Busy first second) e = subst (λ z. IsShort (Some z)) (sym e) tt
-  by_answer (told.Late greater) e = absurd e
+  by_answer (told.Late greater version) e = absurd e
 
 pub far_at : (kind : ℕ) (event : Event) (put : Put) (calls : List Call) → PutLong kind event put calls → IsFar (Some put)
 far_at kind event put calls x = by_answer x.at.answer x.at.says where
   by_answer : (answer : RingPut) → Says (long_row kind x.ticket) (Some x.ticket) answer put → IsFar (Some put)
   by_answer (told.Done version) e = subst (λ z. IsFar (Some z)) (sym e) tt
   by_answer (told.Busy first second) e = subst (λ z. IsFar (Some z)) (sym e) tt
-  by_answer (told.Late greater) e = subst (λ z. IsFar (Some z)) (sym e.0) tt
+  by_answer (told.Late greater version) e = subst (λ z. IsFar (Some z)) (sym e.0) tt
 
 none_short : (put : Option Put) → put ≡ None → IsShort put
 none_short put e = subst IsShort (sym e) tt

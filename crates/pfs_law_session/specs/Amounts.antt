@@ -177,7 +177,7 @@ ContentAgrees content (Puts row put version) = content row version ≡ put
 ContentAgrees content (Rings row put (Done version)) =
     (before : ℕ) × (version ≡ before + 1) × (content row version ≡ put)
 ContentAgrees content (Rings row put (Busy first second)) = Unit {0}
-ContentAgrees content (Rings row put (Late ticket)) = Unit {0}
+ContentAgrees content (Rings row put (Late ticket version)) = Unit {0}
 ContentAgrees content (Reads row seen) = Unit {0}
 ContentAgrees content (Loads at version found) = Unit {0}
 ContentAgrees content (Draws kind ticket) = Unit {0}

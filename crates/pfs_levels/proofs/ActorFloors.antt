@@ -35,7 +35,7 @@ unfreed flags (Adds at amount (Held r v w) ∷ calls) rest log words a l row aft
 unfreed flags (Rings at content (Done v) ∷ calls) rest log words a l row after whole =
     unfreed_put row at _ after _ (marks_of calls ++ log) _ _ refl refl (marks_chain flags calls rest log a.1 l.idle l.rows l.chain) (marks_count calls rest log row (l.rows row)) (unfreed flags calls rest log words a.1 l row after) whole
 unfreed flags (Rings at content (Busy v w) ∷ calls) rest log words a l row after whole = absurd a.0
-unfreed flags (Rings at content (Late t) ∷ calls) rest log words a l row after whole = unfreed flags calls rest log words a.1 l row after whole
+unfreed flags (Rings at content (Late t v) ∷ calls) rest log words a l row after whole = unfreed flags calls rest log words a.1 l row after whole
 unfreed flags (Reads at seen ∷ calls) rest log words a l row after whole = unfreed flags calls rest log words a.1 l row after whole
 unfreed flags (Loads at v found ∷ calls) rest log words a l row after whole = unfreed flags calls rest log words a.1 l row after whole
 unfreed flags (Draws kind ticket ∷ calls) rest log words a l row after whole = unfreed flags calls rest log words a.1 l row after whole
@@ -72,7 +72,8 @@ newest flags (Rings at content (Done v)) calls rest log words a l =
     reaching_more (mark at v true (action_in calls) (after_in calls)) (marks_of calls ++ log) at v (after_in calls) (not_past at (after_in calls) (length (labels_after (calls ++ rest))) (mark at v true (action_in calls) (after_in calls)) known later)
     (none_reaching (marks_of calls ++ log) at v (after_in calls) m (omega (arith, a.0.2, at_count calls rest log at l.rows)))
 newest flags (Rings at content (Busy v w)) calls rest log words a l = tt
-newest flags (Rings at content (Late t)) calls rest log words a l = tt
+newest flags (Rings at content (Late t v)) calls rest log words a l =
+    none_above (marks_of calls ++ log) at v (after_in calls) (marks_chain flags calls rest log a.1 l.idle l.rows l.chain) (omega (arith, a.0.5, at_count calls rest log at l.rows))
 newest flags (Reads at (Whole v found)) calls rest log words a l =
     let m = marks_chain flags calls rest log a.1 l.idle l.rows l.chain in
     let F : ℕ → Type 0 = λ k. freed (marks_of calls ++ log) at k (after_in calls) ≡ 0 in (

@@ -9,7 +9,7 @@ mod RowWrites
 mod PlainFloors
 pub mod PlainChanges
 pub mod ActorFloors
-mod PlainLateness
+mod PlainLabels
 pub mod NextNames
 mod PlainOrder
 mod PlainNumbers

@@ -101,12 +101,12 @@ at_ring slots after words tickets flags calls row version content ring low wide 
     at_row slots after words tickets flags calls (Rings row content (Done (version + 1))) row (Becomes content) refl refl refl low wide is
     (ring, idle slots words tickets flags calls row low free at, ap (λ v. v + 1) (here (λ s. s.version) slots words tickets flags calls row version low read at), subst (λ (s : Slot). IsFresh row s content) (at.slots_are row low) newer) at
 
-pub at_late : (slots : List Slot) (words : List Word) (tickets flags : List ℕ) (calls : List Call) (row ticket : ℕ) (content : List ℕ) → IsRing row content → row < 14242 → (slot_at slots row).allocated ≡ true → 10242 ≤ row
-    → slice_index (slot_at slots row).content 15 ≡ ticket + 1 → slice_index content 15 ≤ ticket → IsAt slots words tickets flags calls
-    → IsAt slots words tickets flags (Rings row content (Late ticket) ∷ calls)
-at_late slots words tickets flags calls row ticket content ring low whole far holds less at =
-    at_look slots words tickets flags calls (Rings row content (Late ticket)) refl refl refl
-    (ring, sym (here (λ s. s.allocated) slots words tickets flags calls row true low (sym whole) at), far, sym (here (λ s. slice_index s.content 15) slots words tickets flags calls row (ticket + 1) low (sym holds) at), less) at
+pub at_late : (slots : List Slot) (words : List Word) (tickets flags : List ℕ) (calls : List Call) (row ticket version : ℕ) (content : List ℕ) → IsRing row content → row < 14242 → (slot_at slots row).allocated ≡ true → 10242 ≤ row
+    → slice_index (slot_at slots row).content 15 ≡ ticket + 1 → slice_index content 15 ≤ ticket → version ≡ (slot_at slots row).version → IsAt slots words tickets flags calls
+    → IsAt slots words tickets flags (Rings row content (Late ticket version) ∷ calls)
+at_late slots words tickets flags calls row ticket version content ring low whole far holds less read at =
+    at_look slots words tickets flags calls (Rings row content (Late ticket version)) refl refl refl
+    (ring, sym (here (λ s. s.allocated) slots words tickets flags calls row true low (sym whole) at), far, sym (here (λ s. slice_index s.content 15) slots words tickets flags calls row (ticket + 1) low (sym holds) at), less, here (λ s. s.version) slots words tickets flags calls row version low read at) at
 
 pub at_whole : (slots : List Slot) (words : List Word) (tickets flags : List ℕ) (calls : List Call) (row version : ℕ) (content : List ℕ) → IsRow row → (slot_at slots row).allocated ≡ true → version ≡ (slot_at slots row).version
     → content ≡ (slot_at slots row).content → IsAt slots words tickets flags calls → IsAt slots words tickets flags (Reads row (Whole version content) ∷ calls)

@@ -26,7 +26,7 @@ counts (Adds at amount (Counted r v) ∷ calls) row up = ap (λ n. cond ((r == r
 counts (Adds at amount (Held r v w) ∷ calls) row up = counts calls row up
 counts (Rings at content (Done v) ∷ calls) row up = ap (λ n. cond ((at == row) && true) (n + 1) n) (counts calls row up)
 counts (Rings at content (Busy v w) ∷ calls) row up = counts calls row up
-counts (Rings at content (Late t) ∷ calls) row up = counts calls row up
+counts (Rings at content (Late t v) ∷ calls) row up = counts calls row up
 counts (Reads at seen ∷ calls) row up = counts calls row up
 counts (Loads at v found ∷ calls) row up = counts calls row up
 counts (Draws kind ticket ∷ calls) row up = counts calls row up
@@ -51,7 +51,7 @@ plain_chain flags (Adds at amount (Counted r v) ∷ calls) a =
 plain_chain flags (Adds at amount (Held r v w) ∷ calls) a = absurd a.0
 plain_chain flags (Rings at content (Done v) ∷ calls) a = (a.0.2 ∙ ap (λ z. z + 1) (slot_version calls at (ring_high at content a.0.0)), plain_chain flags calls a.1)
 plain_chain flags (Rings at content (Busy v w) ∷ calls) a = absurd a.0
-plain_chain flags (Rings at content (Late t) ∷ calls) a = plain_chain flags calls a.1
+plain_chain flags (Rings at content (Late t v) ∷ calls) a = plain_chain flags calls a.1
 plain_chain flags (Reads at seen ∷ calls) a = plain_chain flags calls a.1
 plain_chain flags (Loads at v found ∷ calls) a = plain_chain flags calls a.1
 plain_chain flags (Draws kind ticket ∷ calls) a = plain_chain flags calls a.1
@@ -141,7 +141,7 @@ frees flags (Rings at content (Done v) ∷ calls) row a up free =
     as_freed (at_put at v ∷ changes_of calls) row _ (puts_in os row) (put_elsewhere (at == row) (puts_in os row) (not_put (at == row) (slot_after os row) t refl free))
     (still_freed (at_put at v) (changes_of calls) row (puts_in os row) (frees flags calls row a.1 up (no_put_free (at == row) (slot_after os row) t refl free)))
 frees flags (Rings at content (Busy v w) ∷ calls) row a up free = absurd a.0
-frees flags (Rings at content (Late t) ∷ calls) row a up free = frees flags calls row a.1 up free
+frees flags (Rings at content (Late t v) ∷ calls) row a up free = frees flags calls row a.1 up free
 frees flags (Reads at seen ∷ calls) row a up free = frees flags calls row a.1 up free
 frees flags (Loads at v found ∷ calls) row a up free = frees flags calls row a.1 up free
 frees flags (Draws kind ticket ∷ calls) row a up free = frees flags calls row a.1 up free
@@ -169,7 +169,7 @@ Bound log sets (Adds row amount (Counted r k)) = (0 < r) × (k ≤ count log r)
 Bound log sets (Adds row amount (Held r v w)) = Unit {0}
 Bound log sets (Rings row put (Done k)) = (0 < row) × (k ≤ count log row)
 Bound log sets (Rings row put (Busy v w)) = Unit {0}
-Bound log sets (Rings row put (Late t)) = 0 < row
+Bound log sets (Rings row put (Late t v)) = 0 < row
 Bound log sets (Reads row seen) = 0 < row
 Bound log sets (Loads at k found) = Unit {0}
 Bound log sets (Draws kind ticket) = Unit {0}
@@ -207,7 +207,7 @@ agree_more flags c c2 log log2 ss ss2 (Adds row amount (Held r v w)) x f = (tt, 
 agree_more flags c c2 log log2 ss ss2 (Rings row put (Done k)) x ((n, (e, q, newer)), (up, low)) =
     ((n, (e, x.same row k up low ∙ q, newer_more row (c row n) (c2 row n) put _ _ (sym (x.same row n up (omega (arith, e, low)))) (x.freed row n) newer)), (up, omega (arith, low, x.more row)))
 agree_more flags c c2 log log2 ss ss2 (Rings row put (Busy v w)) x f = (tt, tt)
-agree_more flags c c2 log log2 ss ss2 (Rings row put (Late t)) x ((k, (low, q)), up) = ((k, (omega (arith, low, x.more row), ap (λ z. slice_index z 15) (x.same row k up low) ∙ q)), up)
+agree_more flags c c2 log log2 ss ss2 (Rings row put (Late t v)) x ((q, low), up) = ((ap (λ z. slice_index z 15) (x.same row v up low) ∙ q, omega (arith, low, x.more row)), up)
 agree_more flags c c2 log log2 ss ss2 (Reads row (Whole k found)) x ((q, low), up) = ((q ∙ sym (x.same row k up low), omega (arith, low, x.more row)), up)
 agree_more flags c c2 log log2 ss ss2 (Reads row (Free w)) x ((k, (e, q)), up) = ((k, (e, x.freed row k q)), up)
 agree_more flags c c2 log log2 ss ss2 (Reads row (sees.Busy v w)) x f = f
@@ -281,10 +281,11 @@ newest flags (Rings row put (Done v)) calls a =
     let before : content_at (op row (Becomes put) ∷ os) row n ≡ (slot_after os row).content = contents_kept (op row (Becomes put) ∷ []) os row n (omega arith) ∙ sym (now_at os row n refl) in
     ((n, (next, newest_put calls row (Becomes put) v refl a.0.2, fresh_newer calls flags row put _ (at_put row v ∷ changes_of calls) n a.1 up refl before (still_freed (at_put row v) (changes_of calls) row n) a.0.3)), (up, put_low (changes_of calls) row v n next (counts calls row up)))
 newest flags (Rings row put (Busy v w)) calls a = absurd a.0
-newest flags (Rings row put (Late t)) calls a =
+newest flags (Rings row put (Late t v)) calls a =
     let os = ops_of calls in
     let up : 0 < row = ring_high row put a.0.0 in
-    ((puts_in os row, (omega (arith, counts calls row up), ap (λ z. slice_index z 15) (sym (now_at os row _ refl)) ∙ a.0.3)), up)
+    let e : v ≡ puts_in os row = a.0.5 ∙ versions os row in
+    ((ap (λ z. slice_index z 15) (sym (now_at os row v e)) ∙ a.0.3, omega (arith, e, counts calls row up)), up)
 newest flags (Reads row (Whole v found)) calls a =
     let up = a.0.0.0 in
     let e : v ≡ puts_in (ops_of calls) row = a.0.2 ∙ versions (ops_of calls) row in

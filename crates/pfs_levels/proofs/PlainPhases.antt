@@ -1,5 +1,5 @@
 -- No call of a plain store is below what earlier actors left.
-use Rattle.std.proofs.Common.{ℕ, inl, inr, ◌≡◌, ◌<◌, ◌≤◌, ◌+◌, ◌==◌, true, false, Bool, cond, not, ◌&&◌, List, [], ◌∷◌, ◌++◌, slice_index, refl, ap, sym, ◌∙◌, subst, arith, append_assoc, zero-add, eq-eqb, ne_eqb}
+use Rattle.std.proofs.Common.{ℕ, inl, inr, ◌≡◌, ◌<◌, ◌≤◌, ◌+◌, ◌==◌, true, false, Bool, cond, not, ◌&&◌, List, [], ◌∷◌, ◌++◌, refl, ap, sym, ◌∙◌, subst, arith, append_assoc, zero-add, eq-eqb, ne_eqb}
 use Rattle.std.proofs.lemmas.Bool.{cases_eq, eqb-true}
 use Rattle.pfs_lemmas.proofs.Bools.{and_false, counted_once_more}
 use Rattle.pfs_rows.specs.declared.table.Seen.TheVariants.{Whole, Free}
@@ -10,11 +10,11 @@ use Rattle.pfs_levels.specs.declared.answers.Word.{Word}
 use Rattle.pfs_levels.specs.declared.plain.Slot.{Slot}
 use Rattle.pfs_levels.specs.Calls.{Call, Adds, Rings, Reads, Loads, Draws, Takes, Puts, Frees, Sets, Enters, Leaves, Meets}
 use Rattle.pfs_levels.specs.JointCalls.{total, one_if, At, at_put, at_free, changes_by, changes_of, count, IsCounted, sets_by, sets_of, word_version, opens_free, frees_at, all_calls}
-use Rattle.pfs_levels.specs.PlainStore.{Effect, Merges, Becomes, Renews, Holds, Releases, Op, is_put, ops_by, ops_of, slot_by, slot_after, AllAnswer, puts_in, content_at}
+use Rattle.pfs_levels.specs.PlainStore.{Effect, Merges, Becomes, Renews, Holds, Releases, Op, is_put, ops_of, slot_by, slot_after, AllAnswer, puts_in}
 use Rattle.pfs_levels.specs.PhaseFloors.{IsSince, AreSince, AllSince}
 use Rattle.pfs_levels.proofs.PlainChanges.{slot_version, counts, plain_words, plain_chain}
 use Rattle.pfs_levels.proofs.ActorFloors.{answers_rest}
-use Rattle.pfs_levels.proofs.PlainContents.{versions, word_versions, count_more, words_more, frees_more, contents, contents_kept, puts_more}
+use Rattle.pfs_levels.proofs.PlainContents.{versions, word_versions, count_more, words_more, frees_more}
 use Rattle.pfs_levels.proofs.PlainCalls.{ring_high}
 
 changes_split : (xs ys : List Call) → changes_of (xs ++ ys) ≡ changes_of xs ++ changes_of ys
@@ -102,7 +102,7 @@ whole_unfreed flags (Adds at amount (Counted r v) ∷ calls) row a up whole = pu
 whole_unfreed flags (Adds at amount (Held r v w) ∷ calls) row a up whole = absurd a.0
 whole_unfreed flags (Rings at content (Done v) ∷ calls) row a up whole = put_whole row at _ v (changes_of calls) _ _ (plain_chain flags calls a.1) (counts calls row up) (whole_unfreed flags calls row a.1 up) whole
 whole_unfreed flags (Rings at content (Busy v w) ∷ calls) row a up whole = absurd a.0
-whole_unfreed flags (Rings at content (Late t) ∷ calls) row a up whole = whole_unfreed flags calls row a.1 up whole
+whole_unfreed flags (Rings at content (Late t v) ∷ calls) row a up whole = whole_unfreed flags calls row a.1 up whole
 whole_unfreed flags (Reads at seen ∷ calls) row a up whole = whole_unfreed flags calls row a.1 up whole
 whole_unfreed flags (Loads at v found ∷ calls) row a up whole = whole_unfreed flags calls row a.1 up whole
 whole_unfreed flags (Draws kind ticket ∷ calls) row a up whole = whole_unfreed flags calls row a.1 up whole
@@ -152,56 +152,40 @@ under_more base rest calls u = record {
   freed = λ row k. omega (arith, u.freed row k, frees_since calls rest row k);
 }
 
-one_since : (flags : List ℕ) (call : Call) (all base : List Call) (content : ℕ → ℕ → List ℕ) → AllAnswer flags (call ∷ all) → Under base all → ((row k : ℕ) → k ≤ puts_in (ops_of all) row → content row k ≡ content_at (ops_of all) row k)
-    → IsSince content (changes_of base) (sets_of base) call
-one_since flags (Adds at amount (Counted r v)) all base content a u same = (let P : ℕ → Type 0 = λ z. count (changes_of base) z < v in subst P (sym a.0.1) (omega (arith, a.0.3, slot_version all at (omega (arith, a.0.0.0)), u.rows at)))
-one_since flags (Adds at amount (Held r v w)) all base content a u same = absurd a.0
-one_since flags (Rings at put (Done v)) all base content a u same = omega (arith, a.0.2, slot_version all at (ring_high at put a.0.0), u.rows at)
-one_since flags (Rings at put (Busy v w)) all base content a u same = absurd a.0
-one_since flags (Rings at put (Late t)) all base content a u same =
-    let n = puts_in (ops_of all) at in
-    (n, (omega (arith, counts all at (ring_high at put a.0.0), u.rows at), ap (λ z. slice_index z 15) (same at n (omega arith) ∙ sym (contents (ops_of all) at n (omega arith))) ∙ a.0.3))
-one_since flags (Reads at (Whole v found)) all base content a u same =
+one_since : (flags : List ℕ) (call : Call) (all base : List Call) → AllAnswer flags (call ∷ all) → Under base all → IsSince (changes_of base) (sets_of base) call
+one_since flags (Adds at amount (Counted r v)) all base a u = (let P : ℕ → Type 0 = λ z. count (changes_of base) z < v in subst P (sym a.0.1) (omega (arith, a.0.3, slot_version all at (omega (arith, a.0.0.0)), u.rows at)))
+one_since flags (Adds at amount (Held r v w)) all base a u = absurd a.0
+one_since flags (Rings at put (Done v)) all base a u = omega (arith, a.0.2, slot_version all at (ring_high at put a.0.0), u.rows at)
+one_since flags (Rings at put (Busy v w)) all base a u = absurd a.0
+one_since flags (Rings at put (Late t v)) all base a u = omega (arith, a.0.5, slot_version all at (ring_high at put a.0.0), u.rows at)
+one_since flags (Reads at (Whole v found)) all base a u =
     let F : ℕ → Type 0 = λ k. frees_at (changes_of all) at k ≡ 0 in
     let none : frees_at (changes_of all) at v ≡ 0 = subst F (sym (a.0.2 ∙ versions (ops_of all) at)) (whole_not_freed flags all at a.1 a.0.0.0 a.0.1) in
     (omega (arith, a.0.2, slot_version all at a.0.0.0, u.rows at), λ h e. omega (arith, none, u.freed at v, h))
-one_since flags (Reads at (Free w)) all base content a u same = omega (arith, a.0.2, slot_version all at a.0.0.0, u.rows at)
-one_since flags (Reads at (sees.Busy v w)) all base content a u same = absurd a.0
-one_since flags (Loads at v found) all base content a u same = omega (arith, ap (λ (y : Word). y.version) a.0.1, word_versions flags (sets_of all) at (plain_words flags all a.1), u.words at)
-one_since flags (Draws kind ticket) all base content a u same = tt
-one_since flags (Meets versions) all base content a u same = absurd a.0
-one_since flags (Takes at v found) all base content a u same = omega (arith, a.0.2, slot_version all at a.0.0.0, u.rows at)
-one_since flags (Puts at put v) all base content a u same = omega (arith, a.0.2, slot_version all at a.0.0.0, u.rows at)
-one_since flags (Frees at v) all base content a u same = omega (arith, a.0.2, slot_version all at a.0.0.0, u.rows at)
-one_since flags (Sets at to v) all base content a u same = omega (arith, a.0.1, word_versions flags (sets_of all) at (plain_words flags all a.1), u.words at)
-one_since flags (Enters label labels) all base content a u same = tt
-one_since flags Leaves all base content a u same = tt
+one_since flags (Reads at (Free w)) all base a u = omega (arith, a.0.2, slot_version all at a.0.0.0, u.rows at)
+one_since flags (Reads at (sees.Busy v w)) all base a u = absurd a.0
+one_since flags (Loads at v found) all base a u = omega (arith, ap (λ (y : Word). y.version) a.0.1, word_versions flags (sets_of all) at (plain_words flags all a.1), u.words at)
+one_since flags (Draws kind ticket) all base a u = tt
+one_since flags (Meets versions) all base a u = absurd a.0
+one_since flags (Takes at v found) all base a u = omega (arith, a.0.2, slot_version all at a.0.0.0, u.rows at)
+one_since flags (Puts at put v) all base a u = omega (arith, a.0.2, slot_version all at a.0.0.0, u.rows at)
+one_since flags (Frees at v) all base a u = omega (arith, a.0.2, slot_version all at a.0.0.0, u.rows at)
+one_since flags (Sets at to v) all base a u = omega (arith, a.0.1, word_versions flags (sets_of all) at (plain_words flags all a.1), u.words at)
+one_since flags (Enters label labels) all base a u = tt
+one_since flags Leaves all base a u = tt
 
-abbrev Same : List Call → (ℕ → ℕ → List ℕ) → Type 0
-Same all content = (row k : ℕ) → k ≤ puts_in (ops_of all) row → content row k ≡ content_at (ops_of all) row k
-
-same_less : (calls rest : List Call) (content : ℕ → ℕ → List ℕ) → Same (calls ++ rest) content → Same rest content
-unfolding ops_of
-same_less [] rest content same = same
-same_less (call ∷ calls) rest content same = same_less calls rest content (λ row k low. same row k (omega (arith, low, puts_more (ops_by call) (ops_of (calls ++ rest)) row)) ∙ contents_kept (ops_by call) (ops_of (calls ++ rest)) row k low)
-
-since_of : (flags : List ℕ) (calls rest base : List Call) (content : ℕ → ℕ → List ℕ) → AllAnswer flags (calls ++ rest) → Under base rest → Same (calls ++ rest) content → AreSince content (changes_of base) (sets_of base) calls
-since_of flags [] rest base content a u same = tt
-since_of flags (call ∷ calls) rest base content a u same =
-    let less = same_less (call ∷ []) (calls ++ rest) content same in
-    (one_since flags call (calls ++ rest) base content a (under_more base rest calls u) less, since_of flags calls rest base content a.1 u less)
+since_of : (flags : List ℕ) (calls rest base : List Call) → AllAnswer flags (calls ++ rest) → Under base rest → AreSince (changes_of base) (sets_of base) calls
+since_of flags [] rest base a u = tt
+since_of flags (call ∷ calls) rest base a u = (one_since flags call (calls ++ rest) base a (under_more base rest calls u), since_of flags calls rest base a.1 u)
 
 under_all : (now before : List (List Call)) → Under (all_calls before) (all_calls (now ++ before))
 unfolding all_calls
 under_all [] before = record { rows = λ row. omega arith; words = λ at. omega arith; freed = λ row k. omega arith }
 under_all (calls ∷ now) before = under_more (all_calls before) (all_calls (now ++ before)) calls (under_all now before)
 
-all_since : (flags : List ℕ) (now before : List (List Call)) (content : ℕ → ℕ → List ℕ) → AllAnswer flags (all_calls (now ++ before)) → Same (all_calls (now ++ before)) content → AllSince content before now
-unfolding all_calls
-all_since flags [] before content a same = tt
-all_since flags (calls ∷ now) before content a same =
-    (since_of flags calls (all_calls (now ++ before)) (all_calls before) content a (under_all now before) same, all_since flags now before content (answers_rest flags calls (all_calls (now ++ before)) a) (same_less calls (all_calls (now ++ before)) content same))
-
 -- the actors of a phase, after those of the phases before it
-pub plain_since : (flags : List ℕ) (now before : List (List Call)) → AllAnswer flags (all_calls (now ++ before)) → AllSince (content_at (ops_of (all_calls (now ++ before)))) before now
-plain_since flags now before a = all_since flags now before (content_at (ops_of (all_calls (now ++ before)))) a (λ row k low. refl)
+pub plain_since : (flags : List ℕ) (now before : List (List Call)) → AllAnswer flags (all_calls (now ++ before)) → AllSince before now
+unfolding all_calls
+plain_since flags [] before a = tt
+plain_since flags (calls ∷ now) before a =
+    (since_of flags calls (all_calls (now ++ before)) (all_calls before) a (under_all now before), plain_since flags now before (answers_rest flags calls (all_calls (now ++ before)) a))

@@ -35,7 +35,8 @@ top_low flags (Adds at amount (Held r v w) ∷ calls) rest row a idle = absurd a
 top_low flags (Rings at content (Done v) ∷ calls) rest row a idle =
     step_top (at == row) v (top_in calls row) (Becomes content) (slot_after (ops_of (calls ++ rest)) row) (λ b. omega (arith, a.0.2, ap (λ z. (slot_after (ops_of (calls ++ rest)) z).version) (eqb-true at row b))) (top_low flags calls rest row a.1 idle)
 top_low flags (Rings at content (Busy v w) ∷ calls) rest row a idle = absurd a.0
-top_low flags (Rings at content (Late t) ∷ calls) rest row a idle = top_low flags calls rest row a.1 idle
+top_low flags (Rings at content (Late t v) ∷ calls) rest row a idle =
+    step_look (at == row) v (top_in calls row) (slot_after (ops_of (calls ++ rest)) row).version (λ b. omega (arith, here_is (ops_of (calls ++ rest)) at row v b a.0.5)) (top_low flags calls rest row a.1 idle)
 top_low flags (Reads at (Whole v found) ∷ calls) rest row a idle =
     step_look (at == row) v (top_in calls row) (slot_after (ops_of (calls ++ rest)) row).version (λ b. omega (arith, here_is (ops_of (calls ++ rest)) at row v b a.0.2)) (top_low flags calls rest row a.1 idle)
 top_low flags (Reads at (Free w) ∷ calls) rest row a idle =
@@ -102,7 +103,7 @@ rises flags (Adds at amount (Counted r v)) calls rest a idle = let P : ℕ → T
 rises flags (Adds at amount (Held r v w)) calls rest a idle = absurd a.0
 rises flags (Rings at content (Done v)) calls rest a idle = omega (arith, a.0.2, top_low flags calls rest at a.1 idle)
 rises flags (Rings at content (Busy v w)) calls rest a idle = absurd a.0
-rises flags (Rings at content (Late t)) calls rest a idle = tt
+rises flags (Rings at content (Late t v)) calls rest a idle = omega (arith, a.0.5, top_low flags calls rest at a.1 idle)
 rises flags (Reads at (Whole v found)) calls rest a idle = omega (arith, a.0.2, top_low flags calls rest at a.1 idle)
 rises flags (Reads at (Free w)) calls rest a idle = omega (arith, a.0.2, top_low flags calls rest at a.1 idle)
 rises flags (Reads at (sees.Busy v w)) calls rest a idle = absurd a.0

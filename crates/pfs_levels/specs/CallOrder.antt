@@ -35,7 +35,7 @@ marks_by action after (Adds row amount (Counted r version)) = mark r version tru
 marks_by action after (Adds row amount (Held r first second)) = []
 marks_by action after (Rings row content (Done version)) = mark row version true action after ∷ []
 marks_by action after (Rings row content (Busy first second)) = []
-marks_by action after (Rings row content (Late ticket)) = []
+marks_by action after (Rings row content (Late ticket version)) = []
 marks_by action after (Reads row seen) = []
 marks_by action after (Loads at version flags) = []
 marks_by action after (Draws kind ticket) = []
@@ -114,14 +114,14 @@ abbrev pub freed : List Mark → ℕ → ℕ → ℕ → ℕ
 freed log row version after = total (λ p. one_if (is_past row after p && not p.puts && nat_le version p.version)) log
 
 -- by the changes and sets of the actions that a call's actor knew as ended: a change is above them; a take, a read
--- of a whole or a free row and a release are not below them, a whole read is above each release; a set is above those
--- of its word, and a load is not below them
+-- of a whole or a free row, a release and what an event came too late for are not below them, a whole read is above
+-- each release; a set is above those of its word, and a load is not below them
 abbrev pub IsFloored : List Mark → List Mark → ℕ → Call → Type 0
 IsFloored log words after (Adds row amount (Counted r k)) = reaching log r k after ≡ 0
 IsFloored log words after (Adds row amount (Held r first second)) = Unit {0}
 IsFloored log words after (Rings row content (Done k)) = reaching log row k after ≡ 0
 IsFloored log words after (Rings row content (Busy first second)) = Unit {0}
-IsFloored log words after (Rings row content (Late ticket)) = Unit {0}
+IsFloored log words after (Rings row content (Late ticket k)) = above log row k after ≡ 0
 IsFloored log words after (Reads row (Whole k found)) = (above log row k after ≡ 0) × (freed log row k after ≡ 0)
 IsFloored log words after (Reads row (Free w)) = above log row (w / 4) after ≡ 0
 IsFloored log words after (Reads row (sees.Busy first second)) = Unit {0}
@@ -148,7 +148,7 @@ top_in (Adds at amount (Counted r version) ∷ calls) row = if r == row then ver
 top_in (Adds at amount (Held r first second) ∷ calls) row = if r == row then second / 4 else top_in calls row
 top_in (Rings at content (Done version) ∷ calls) row = if at == row then version else top_in calls row
 top_in (Rings at content (Busy first second) ∷ calls) row = if at == row then second / 4 else top_in calls row
-top_in (Rings at content (Late ticket) ∷ calls) row = top_in calls row
+top_in (Rings at content (Late ticket version) ∷ calls) row = if at == row then version else top_in calls row
 top_in (Reads at (Whole version found) ∷ calls) row = if at == row then version else top_in calls row
 top_in (Reads at (Free w) ∷ calls) row = if at == row then w / 4 else top_in calls row
 top_in (Reads at (sees.Busy first second) ∷ calls) row = if at == row then second / 4 else top_in calls row
@@ -198,7 +198,7 @@ IsRising calls (Adds row amount (Counted r version)) = top_in calls r < version
 IsRising calls (Adds row amount (Held r first second)) = (top_in calls r ≤ first / 4) × (first / 4 ≤ second / 4)
 IsRising calls (Rings row content (Done version)) = top_in calls row < version
 IsRising calls (Rings row content (Busy first second)) = (top_in calls row ≤ first / 4) × (first / 4 ≤ second / 4)
-IsRising calls (Rings row content (Late ticket)) = Unit {0}
+IsRising calls (Rings row content (Late ticket version)) = top_in calls row ≤ version
 IsRising calls (Reads row (Whole version found)) = top_in calls row ≤ version
 IsRising calls (Reads row (Free w)) = top_in calls row ≤ w / 4
 IsRising calls (Reads row (sees.Busy first second)) = (top_in calls row ≤ first / 4) × (first / 4 ≤ second / 4)
@@ -271,40 +271,31 @@ pub record IsCaused (log own : List Mark) (row first second after : ℕ) : Type 
   pub second_dirty : second % 4 ≡ 1 → IsOthers log own row (second / 4)
   pub second_free : second % 4 ≡ 0 → 0 < released log row (second / 4)
 
--- why an event came late: at a version that the row had, no lower than what the actor named before and than what
--- actions that ended gave, it held that ticket
-pub record IsOverdue (content : ℕ → ℕ → List ℕ) (log : List Mark) (before : List Call) (row ticket after : ℕ) : Type 0
-  where
-    pub version : ℕ
-    pub known : version ≤ marked log row
-    pub holds : slice_index (content row version) 15 ≡ ticket + 1
-    pub own : top_in before row ≤ version
-    pub floor : above log row version after ≡ 0
-
--- what was held back has its cause: by the contents, all changes, and those of the actor itself
-abbrev pub HasCause : (ℕ → ℕ → List ℕ) → List Mark → List Mark → List Call → Call → Type 0
-HasCause content log own calls (Adds row amount (Held r first second)) =
+-- what was held back has its cause: by all changes, and those of the actor itself. That of an event that came late is
+-- the content at the version that its call names
+abbrev pub HasCause : List Mark → List Mark → List Call → Call → Type 0
+HasCause log own calls (Adds row amount (Held r first second)) =
     IsCaused log own r first second (after_in calls)
-HasCause content log own calls (Adds row amount (Counted r version)) = Unit {0}
-HasCause content log own calls (Rings row put (Busy first second)) = IsCaused log own row first second (after_in calls)
-HasCause content log own calls (Rings row put (Late ticket)) = IsOverdue content log calls row ticket (after_in calls)
-HasCause content log own calls (Rings row put (Done version)) = Unit {0}
-HasCause content log own calls (Reads row (sees.Busy first second)) = IsCaused log own row first second (after_in calls)
-HasCause content log own calls (Reads row (Whole version found)) = Unit {0}
-HasCause content log own calls (Reads row (Free w)) = Unit {0}
-HasCause content log own calls (Loads at version flags) = Unit {0}
-HasCause content log own calls (Draws kind ticket) = Unit {0}
-HasCause content log own calls (Meets versions) = Unit {0}
-HasCause content log own calls (Takes row version found) = Unit {0}
-HasCause content log own calls (Puts row put version) = Unit {0}
-HasCause content log own calls (Frees row version) = Unit {0}
-HasCause content log own calls (Sets at flags version) = Unit {0}
-HasCause content log own calls (Enters label labels) = Unit {0}
-HasCause content log own calls Leaves = Unit {0}
+HasCause log own calls (Adds row amount (Counted r version)) = Unit {0}
+HasCause log own calls (Rings row put (Busy first second)) = IsCaused log own row first second (after_in calls)
+HasCause log own calls (Rings row put (Late ticket version)) = Unit {0}
+HasCause log own calls (Rings row put (Done version)) = Unit {0}
+HasCause log own calls (Reads row (sees.Busy first second)) = IsCaused log own row first second (after_in calls)
+HasCause log own calls (Reads row (Whole version found)) = Unit {0}
+HasCause log own calls (Reads row (Free w)) = Unit {0}
+HasCause log own calls (Loads at version flags) = Unit {0}
+HasCause log own calls (Draws kind ticket) = Unit {0}
+HasCause log own calls (Meets versions) = Unit {0}
+HasCause log own calls (Takes row version found) = Unit {0}
+HasCause log own calls (Puts row put version) = Unit {0}
+HasCause log own calls (Frees row version) = Unit {0}
+HasCause log own calls (Sets at flags version) = Unit {0}
+HasCause log own calls (Enters label labels) = Unit {0}
+HasCause log own calls Leaves = Unit {0}
 
-abbrev pub AreCaused : (ℕ → ℕ → List ℕ) → List Mark → List Mark → List Call → Type 0
-AreCaused content log own [] = Unit {0}
-AreCaused content log own (call ∷ calls) = HasCause content log own calls call × AreCaused content log own calls
+abbrev pub AreCaused : List Mark → List Mark → List Call → Type 0
+AreCaused log own [] = Unit {0}
+AreCaused log own (call ∷ calls) = HasCause log own calls call × AreCaused log own calls
 
 -- what an action found are the first labels of all, and its own label stands at its number
 abbrev pub IsNamed : List Label → List Call → Call → Type 0
@@ -330,8 +321,7 @@ AllCalls P [] = Unit {0}
 AllCalls P (calls ∷ actors) = P calls × AllCalls P actors
 
 -- one order of all changes with their actions, one of all sets, and the labels of the actions by number
-pub record Order (actors : List (List Call)) (content : ℕ → ℕ
-    → List ℕ) (log words : List Mark) (labels : List Label) : Type 0 where
+pub record Order (actors : List (List Call)) (log words : List Mark) (labels : List Label) : Type 0 where
   pub chain : AreMarked log
   pub word_chain : AreMarked words
   pub ordered : AreOrdered log
@@ -341,5 +331,5 @@ pub record Order (actors : List (List Call)) (content : ℕ → ℕ
   pub floored : AllCalls (AreFloored log words) actors
   pub rising : AllCalls AreRising actors
   pub there : AllCalls AreThere actors
-  pub caused : AllCalls (λ calls. AreCaused content log (marks_of calls) calls) actors
+  pub caused : AllCalls (λ calls. AreCaused log (marks_of calls) calls) actors
   pub named : AllCalls (AreNamed labels) actors

@@ -84,7 +84,7 @@ row_in (Held row first second) = row
 
 -- Late comes of a long place alone, with a ticket greater than the content's own
 abbrev pub IsLate : ℕ → List ℕ → RingPut → Type 0
-IsLate row content (Late ticket) = (10242 ≤ row) × (slice_index content 15 ≤ ticket)
+IsLate row content (Late ticket version) = (10242 ≤ row) × (slice_index content 15 ≤ ticket)
 IsLate row content (Done version) = Unit {0}
 IsLate row content (Busy first second) = Unit {0}
 

@@ -35,7 +35,7 @@ changes_by (Adds row amount (Counted r version)) = at_put r version ∷ []
 changes_by (Adds row amount (Held r first second)) = []
 changes_by (Rings row content (Done version)) = at_put row version ∷ []
 changes_by (Rings row content (Busy first second)) = []
-changes_by (Rings row content (Late ticket)) = []
+changes_by (Rings row content (Late ticket version)) = []
 changes_by (Reads row seen) = []
 changes_by (Loads at version flags) = []
 changes_by (Draws kind ticket) = []
@@ -153,8 +153,8 @@ Agrees flags content log sets (Adds row amount (Held r first second)) = Unit {0}
 Agrees flags content log sets (Rings row put (Done k)) =
     (n : ℕ) × ((k ≡ n + 1) × (content row k ≡ put) × IsNewer row (content row n) put (frees_at log row n))
 Agrees flags content log sets (Rings row put (Busy first second)) = Unit {0}
-Agrees flags content log sets (Rings row put (Late ticket)) =
-    (k : ℕ) × ((k ≤ count log row) × (slice_index (content row k) 15 ≡ ticket + 1))
+Agrees flags content log sets (Rings row put (Late ticket k)) =
+    (slice_index (content row k) 15 ≡ ticket + 1) × (k ≤ count log row)
 Agrees flags content log sets (Reads row (Whole k found)) = (found ≡ content row k) × (k ≤ count log row)
 Agrees flags content log sets (Reads row (Free w)) = (k : ℕ) × ((w ≡ 4 * k) × (0 < frees_at log row k))
 Agrees flags content log sets (Reads row (sees.Busy first second)) = Unit {0}

@@ -18,9 +18,9 @@ JointLaw = (flags : List ℕ) (actors : List (List Call)) → AllAnswer flags (a
 -- and one of all actions, which no call is below that its actor knew as ended, with the causes of what came late
 abbrev pub OrderLaw : Type 0
 OrderLaw = (flags : List ℕ) (actors : List (List Call)) → AllAnswer flags (all_calls actors) → AllOutside actors
-    → Order actors (content_at (ops_of (all_calls actors))) (all_marks actors) (all_word_marks actors) (labels_after (all_calls actors))
+    → Order actors (all_marks actors) (all_word_marks actors) (labels_after (all_calls actors))
 
 -- no call of later actors is below what earlier ones left
 abbrev pub SinceLaw : Type 0
 SinceLaw = (flags : List ℕ) (now before : List (List Call)) → AllAnswer flags (all_calls (now ++ before))
-    → AllSince (content_at (ops_of (all_calls (now ++ before)))) before now
+    → AllSince before now

@@ -34,7 +34,7 @@ ops_by (Adds row amount (Counted r version)) = op r (Merges amount) ∷ []
 ops_by (Adds row amount (Held r first second)) = []
 ops_by (Rings row content (Done version)) = op row (Becomes content) ∷ []
 ops_by (Rings row content (Busy first second)) = []
-ops_by (Rings row content (Late ticket)) = []
+ops_by (Rings row content (Late ticket version)) = []
 ops_by (Reads row seen) = []
 ops_by (Loads at version flags) = []
 ops_by (Draws kind ticket) = []
@@ -123,9 +123,10 @@ Answers flags calls (Rings row content (Done version)) =
     IsRing row content × ((slot_after (ops_of calls) row).taken ≡ false)
     × (version ≡ (slot_after (ops_of calls) row).version + 1) × IsFresh row (slot_after (ops_of calls) row) content
 Answers flags calls (Rings row content (Busy first second)) = ⊥
-Answers flags calls (Rings row content (Late ticket)) =
+Answers flags calls (Rings row content (Late ticket version)) =
     IsRing row content × ((slot_after (ops_of calls) row).allocated ≡ true) × (10242 ≤ row)
     × (slice_index (slot_after (ops_of calls) row).content 15 ≡ ticket + 1) × (slice_index content 15 ≤ ticket)
+    × (version ≡ (slot_after (ops_of calls) row).version)
 Answers flags calls (Reads row (Whole version content)) =
     IsRow row × ((slot_after (ops_of calls) row).allocated ≡ true)
     × (version ≡ (slot_after (ops_of calls) row).version) × (content ≡ (slot_after (ops_of calls) row).content)
@@ -199,7 +200,8 @@ IsNext calls (Adds row amount (Counted r version)) = (r ≡ row) × (version ≡
 IsNext calls (Adds row amount (Held r first second)) = ⊥
 IsNext calls (Rings row content (Done version)) = version ≡ count (changes_of calls) row + 1
 IsNext calls (Rings row content (Busy first second)) = ⊥
-IsNext calls (Rings row content (Late ticket)) = slice_index content 15 ≤ ticket
+IsNext calls (Rings row content (Late ticket version)) =
+    (slice_index content 15 ≤ ticket) × (version ≡ count (changes_of calls) row)
 IsNext calls (Reads row (Whole version content)) = version ≡ count (changes_of calls) row
 IsNext calls (Reads row (Free w)) = w ≡ 4 * count (changes_of calls) row
 IsNext calls (Reads row (sees.Busy first second)) = ⊥

@@ -16,8 +16,8 @@ pub enum RingPut {
     Done { version: u64 },
     /// Another actor had the row in hand, as these two lock words show.
     Busy { first: u64, second: u64 },
-    /// The place of the long history held this greater ticket.
-    Late { ticket: u64 },
+    /// The place of the long history held this greater ticket, at this version.
+    Late { ticket: u64, version: u64 },
 }
 
 /// A switch word: how often it was set, and its flags.

@@ -1,6 +1,6 @@
 //! The cells of a kind at a level, moved up together.
 
-ghost use Rattle.std.specs.Prelude.{◌≡◌, ◌<◌, ◌≤◌, ◌∷◌, [], ℕ, List, Option, All, length, slice_index_or};
+ghost use Rattle.std.specs.Prelude.{◌≡◌, ◌<◌, ◌≤◌, ◌∷◌, [], Option, All, length, slice_index_or};
 ghost use Rattle.pfs_levels.specs.declared.flushes.Source.{Source};
 ghost use Rattle.pfs_levels.specs.Flushes.{cells_of, beyond, upper, ask_of, asks_of, sources_of, flushed, IsBelow, IsUp, IsSource, ArePlaces, CellsAreAway, AllAreAway};
 ghost use Rattle.pfs_levels.specs.Moves.{Moved, Stays, cost, targets_of};

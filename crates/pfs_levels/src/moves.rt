@@ -1,6 +1,6 @@
 //! Moves of numbers from row to row, over any store that can be held.
 
-ghost use Rattle.std.specs.Prelude.{◌≡◌, ◌<◌, ◌≤◌, ◌+◌, ◌∷◌, [], ℕ, Option, length};
+ghost use Rattle.std.specs.Prelude.{◌≡◌, ◌<◌, ◌≤◌, ◌+◌, ◌∷◌, [], Option, length};
 ghost use Rattle.pfs_rows.specs.Rows.{IsPlace, row_number};
 ghost use Rattle.pfs_levels.specs.Moves.{ask, targets_of, some_list, Moved, Emptied, Given, Purged, AskIsAway, IsAway, AreAway, Stays};
 

@@ -58,7 +58,10 @@ impl Rows for PlainRows {
         if row >= LONG_HISTORY && self.slots.is_allocated(at) {
             let held = self.slots.content(at)[15];
             if held > content[15] {
-                return RingPut::Late { ticket: held - 1 };
+                return RingPut::Late {
+                    ticket: held - 1,
+                    version: self.slots.version(at),
+                };
             }
         }
         let version = self.slots.version(at) + 1;

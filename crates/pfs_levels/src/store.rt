@@ -1,6 +1,6 @@
 //! The shared store as an actor sees it: rows, switch words and tickets.
 
-ghost use Rattle.std.specs.Prelude.{◌≡◌, ◌<◌, ◌≤◌, ◌+◌, ◌-◌, ◌^◌, ◌∷◌, [], ℕ, List, Option, Some, None, IsSome};
+ghost use Rattle.std.specs.Prelude.{◌≡◌, ◌<◌, ◌≤◌, ◌+◌, ◌-◌, ◌^◌, ◌∷◌, [], ℕ, Some, None, IsSome};
 ghost use Rattle.pfs_levels.specs.Calls.{Adds, Rings, Reads, Loads, Draws, Takes, Puts, Frees, Sets, Leaves, Goes, Begins, IsRow, IsCell, IsRing, IsLate, row_in, known_version};
 ghost use Rattle.pfs_levels.specs.Views.{Store, Same, Kept, taken, given_back, empty_handed, with_word};
 

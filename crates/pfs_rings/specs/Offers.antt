@@ -27,8 +27,8 @@ offered event ticket = words_of (record event { ticket = ticket_word ticket })
 abbrev pub Says : ℕ → Option ℕ → RingPut → Put → Type 0
 Says row ticket (told.Done version) put = put ≡ Done row version ticket
 Says row ticket (told.Busy first second) put = put ≡ Busy row first second
-Says row None (told.Late greater) put = ⊥
-Says row (Some ticket) (told.Late greater) put = (put ≡ Late row ticket greater) × (ticket < greater)
+Says row None (told.Late greater version) put = ⊥
+Says row (Some ticket) (told.Late greater version) put = (put ≡ Late row ticket greater) × (ticket < greater)
 
 -- the event was offered to this row, behind these calls
 pub record IsOffered (row : ℕ) (ticket : Option ℕ) (drawn : List Call) (event : Event) (put : Put) (was now : Opening

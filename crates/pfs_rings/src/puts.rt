@@ -148,7 +148,10 @@ fn offer_long<R: Rows>(rows: &mut R, kind: EventKind, event: &Event) -> Put
             ticket: Some(ticket),
         },
         RingPut::Busy { first, second } => Put::Busy { row, first, second },
-        RingPut::Late { ticket: greater } => Put::Late {
+        RingPut::Late {
+            ticket: greater,
+            ..
+        } => Put::Late {
             row,
             ticket,
             greater,

@@ -43,8 +43,8 @@ has_put ring event put entry old new due was now on o e wrote =
 says_row : (row : ℕ) (ticket : Option ℕ) (answer : RingPut) (put : Put) → Says row ticket answer put → put_row put ≡ row
 says_row row ticket (told.Done version) put is = ap put_row is
 says_row row ticket (told.Busy first second) put is = ap put_row is
-says_row row None (told.Late greater) put is = absurd is
-says_row row (Some ticket) (told.Late greater) put is = ap put_row is.0
+says_row row None (told.Late greater version) put is = absurd is
+says_row row (Some ticket) (told.Late greater version) put is = ap put_row is.0
 
 -- a put names a place of the ring that it was made to
 pub put_of : (ring : Ring) (event : Event) (put : Put) (was now : Opening → List Call → Type 0) → IsRing ring → Offers ring event put was now → IsPutOf ring put

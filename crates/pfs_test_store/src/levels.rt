@@ -143,7 +143,10 @@ fn a_late_event_is_told_the_greater_ticket(rt: HostRuntime) -> Result<(), Fail> 
     assert_eq!(rt; rows.ring_try(10_242, &early), RingPut::Done { version: 1 });
     assert_eq!(rt;
         rows.ring_try(10_242, &late),
-        RingPut::Late { ticket: 1000 }
+        RingPut::Late {
+            ticket: 1000,
+            version: 1,
+        }
     );
     Ok(())
 }

@@ -122,7 +122,11 @@ fn a_late_event_is_told_the_greater_ticket(rt: HostRuntime) -> Result<(), NoMemo
     let answer = offer(&mut first, &early);
     same(&rt, "early", answer, RingPut::Done { version: 1 });
     let answer = offer(&mut second, &event_of(0));
-    same(&rt, "late", answer, RingPut::Late { ticket: 1_000 });
+    let late = RingPut::Late {
+        ticket: 1_000,
+        version: 1,
+    };
+    same(&rt, "late", answer, late);
     let seen = look(&mut second, LONG);
     same(&rt, "seen", seen, whole(1, early));
     Ok(())

@@ -74,6 +74,7 @@ impl Rows for Refusing {
         // Word 15 is one more than the event's ticket.
         RingPut::Late {
             ticket: content[15],
+            version: 1,
         }
     }
 

@@ -71,17 +71,17 @@ returns-then-found-content-clause-call g c = λ start calls r.
     let b = r.3.board in
     let rows = c.args.self.now.rows in
     let low = in_range row c.args.content.now c.requires.ring in
-    let more = Rings row c.args.content.now (ring.Late (slice_index found 15 - 1)) ∷ calls in (
+    let more = Rings row c.args.content.now (ring.Late (slice_index found 15 - 1) k) ∷ calls in (
       r.0,
       r.1,
       r.2,
       record {
         board = glanced start.board calls more v _ row (4 * k + 2) (read_of v row k found ∷ v.reads) v.sights (omega (arith, rows, low)) a.2 c.requires.away c.in-Whole.ensures.hands.2 b b.tied
-            ((omega (arith, c.if-row-lt-LONG_HISTORY.false), k, omega (arith, b.seen row, a.0), inl (finished_now start.board calls v row k found b, omega (arith, c.if-found-content.true))), read_more start.board calls v (read_of v row k found) b) (λ q. refl) (λ q. refl)
-            (λ q n. refl) (omega (arith, b.seen row, a.0)) refl refl refl refl;
+            ((omega (arith, c.if-row-lt-LONG_HISTORY.false), inl (finished_now start.board calls v row k found b, omega (arith, c.if-found-content.true))), read_more start.board calls v (read_of v row k found) b) (λ q. refl) (λ q. refl)
+            (λ q n. away_if row q k (top_in calls q) n) (omega (arith, here_if row k (top_in calls row))) refl refl refl refl;
         words = r.3.words;
         tickets = r.3.tickets;
-        rising = (tt, r.3.rising);
+        rising = (omega (arith, b.seen row, a.0), r.3.rising);
         there = (low, r.3.there);
       },
     )

@@ -7,8 +7,8 @@ use Rattle.pfs_levels.proofs.plain.PlainRowsRows.ring_try.Goals as goal
 pub returns-then-held-content-clause-call : goal.returns-then-held-content-clause-call
 returns-then-held-content-clause-call c =
     let held = ap (λ (z : List ℕ). slice_index z 15) c.content.ensures in
-    λ start calls at. at_late _ _ _ start.flags calls c.args.row (slice_index c.content.result.now 15 - 1) c.args.content.now c.requires.ring (ring_low c.args.row c.args.content.now c.requires.ring)
-    (sym c.is_allocated.ensures ∙ c.if-is_allocated.true) c.if-row-ge-LONG_HISTORY.true (sym held ∙ omega (arith, c.if-held-content.true)) (omega (arith, c.if-held-content.true)) at
+    λ start calls at. at_late _ _ _ start.flags calls c.args.row (slice_index c.content.result.now 15 - 1) c.version.result c.args.content.now c.requires.ring (ring_low c.args.row c.args.content.now c.requires.ring)
+    (sym c.is_allocated.ensures ∙ c.if-is_allocated.true) c.if-row-ge-LONG_HISTORY.true (sym held ∙ omega (arith, c.if-held-content.true)) (omega (arith, c.if-held-content.true)) c.version.ensures at
 
 pub returns-clause-call : goal.returns-clause-call
 returns-clause-call c =
