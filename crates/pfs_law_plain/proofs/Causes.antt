@@ -3,7 +3,7 @@
 use Rattle.std.proofs.Common.{ℕ, ◌≡◌, ◌<◌, List, [], ◌∷◌, ◌++◌, Option, sym, subst, arith}
 use Rattle.pfs_law_plain.proofs.LineAgreement.{AreQuietPlaces}
 use Rattle.pfs_law_plain.proofs.QuietSessions.{IsQuiet}
-use Rattle.pfs_law_plain.specs.Notes.{Note, Wrote, Freed, Found, Vacant, Switched, Saw, Acted, notes_at, notes_of, told, all_told}
+use Rattle.pfs_law_plain.specs.Notes.{Note, Wrote, Freed, Found, Vacant, Refused, Overdue, Switched, Saw, Acted, notes_at, notes_of, told, all_told}
 use Rattle.pfs_event.specs.declared.entry.Entry.{Entry}
 use Rattle.pfs_event.specs.declared.entry.Entry.TheVariants as says
 use Rattle.pfs_levels.specs.Calls.{Call, Adds, Rings, Reads, Loads, Draws, Takes, Puts, Frees, Sets, Enters, Leaves, Meets}
@@ -50,6 +50,8 @@ IsThereNote (Switched word version flags) = Unit {0}
 IsThereNote (Saw word version) = word < 160
 IsThereNote (Found row version) = row < 14242
 IsThereNote (Vacant row) = Unit {0}
+IsThereNote (Refused row first second) = Unit {0}
+IsThereNote (Overdue row ticket) = Unit {0}
 IsThereNote (Acted number) = Unit {0}
 
 abbrev AreThereNotes : List Note → Type 0
@@ -76,7 +78,7 @@ calls_there flags (Adds row amount (Counted r v) ∷ calls) a = there_then (all_
 calls_there flags (Adds row amount (Held r v w) ∷ calls) a = absurd a.0
 calls_there flags (Rings row content (Done v) ∷ calls) a = there_then (all_told calls) (told (Rings row content (Done v))) (calls_there flags calls a.1) (tt, tt)
 calls_there flags (Rings row content (Busy v w) ∷ calls) a = absurd a.0
-calls_there flags (Rings row content (Late t) ∷ calls) a = there_then (all_told calls) [] (calls_there flags calls a.1) tt
+calls_there flags (Rings row content (Late t v) ∷ calls) a = there_then (all_told calls) (told (Rings row content (Late t v))) (calls_there flags calls a.1) (tt, tt)
 calls_there flags (Reads row (seen.Whole version content) ∷ calls) a = there_then (all_told calls) (told (Reads row (seen.Whole version content))) (calls_there flags calls a.1) (a.0.0.1, tt)
 calls_there flags (Reads row (seen.Free word) ∷ calls) a = there_then (all_told calls) (told (Reads row (seen.Free word))) (calls_there flags calls a.1) (tt, tt)
 calls_there flags (Reads row (seen.Busy first second) ∷ calls) a = absurd a.0

@@ -38,11 +38,11 @@ AllBehind before [] = Unit {0}
 AllBehind before (spell ∷ spells) = AreBehind before spell.doings × AllBehind (before ++ labels_in spell.doings) spells
 
 -- one doing
-record HasEntered (past : List Call) (label : Label) (labels : List Label) (action : Option ℕ) (calls : List Call) : Type 0 where
+pub record HasEntered (past : List Call) (label : Label) (labels : List Label) (action : Option ℕ) (calls : List Call) : Type 0 where
   pub now : labels_after (around label labels action calls ++ past) ≡ labels_after past ++ label_by action label
   pub behind : IfSome action (λ number. labels ≡ labels_after past)
 
-has_entered : (flags : List ℕ) (past : List Call) (label : Label) (labels : List Label) (action : Option ℕ) (calls : List Call) → AreWithin calls
+pub has_entered : (flags : List ℕ) (past : List Call) (label : Label) (labels : List Label) (action : Option ℕ) (calls : List Call) → AreWithin calls
     → AllAnswer flags (around label labels action calls ++ past) → HasEntered past label labels action calls
 unfolding labels_after
 has_entered flags past label labels None calls w a = record { now = no_label_more calls past w ∙ sym (append-nil (labels_after past)); behind = tt }

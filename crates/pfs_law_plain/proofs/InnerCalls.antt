@@ -4,7 +4,7 @@ use Rattle.pfs_admin.specs.ConnectionAsks.{work_of_connect, work_of_quit}
 use Rattle.pfs_admin.specs.SetupStatements.{work_of_statement}
 use Rattle.pfs_admin.specs.Truncations.{work_of_truncation}
 use Rattle.pfs_admin.specs.Works.{Sign, Releases, Tags, Made, Flagging, signs_calls, made_calls, flagging_calls, Work}
-use Rattle.pfs_law_plain.specs.Notes.{Note, Wrote, Freed, Found, Vacant, Switched, Saw, Acted, told, all_told}
+use Rattle.pfs_law_plain.specs.Notes.{Note, Wrote, Freed, Found, Vacant, Refused, Overdue, Switched, Saw, Acted, told, all_told}
 use Rattle.pfs_law_plain.proofs.NextNotes.{acts}
 use Rattle.pfs_event.specs.Verdicts.{is_let_through}
 use Rattle.pfs_event.specs.declared.entry.Entry.{Entry}
@@ -212,6 +212,8 @@ acts_then (Switched word version flags ∷ xs) ys = acts_then xs ys
 acts_then (Saw word version ∷ xs) ys = acts_then xs ys
 acts_then (Found row version ∷ xs) ys = acts_then xs ys
 acts_then (Vacant row ∷ xs) ys = acts_then xs ys
+acts_then (Refused row first second ∷ xs) ys = acts_then xs ys
+acts_then (Overdue row ticket ∷ xs) ys = acts_then xs ys
 
 call_acts : (call : Call) → IsWithin call → acts (told call) ≡ []
 call_acts (Enters label labels) w = absurd w
@@ -220,7 +222,7 @@ call_acts (Adds row amount (Counted r v)) w = refl
 call_acts (Adds row amount (Held r v u)) w = refl
 call_acts (Rings row content (Done v)) w = refl
 call_acts (Rings row content (Busy v u)) w = refl
-call_acts (Rings row content (Late t)) w = refl
+call_acts (Rings row content (Late t v)) w = refl
 call_acts (Reads row (seen.Whole version content)) w = refl
 call_acts (Reads row (seen.Free word)) w = refl
 call_acts (Reads row (seen.Busy first second)) w = refl

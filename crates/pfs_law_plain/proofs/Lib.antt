@@ -23,7 +23,7 @@ mod LineFacts
 pub mod OpenKinds
 mod SessionFacts
 mod FactExamples
-mod InnerCalls
+pub mod InnerCalls
 pub mod ActionCounts
 pub mod EnteredLabels
 mod NumberedActions

@@ -3,7 +3,7 @@ use Rattle.std.proofs.Common.{ℕ, ◌≡◌, ◌+◌, ◌==◌, Bool, true, fal
 use Rattle.pfs_model.specs.declared.changes.Change.{Change}
 use Rattle.pfs_model.specs.Chains.{change_at, opens_free}
 use Rattle.pfs_model.specs.PlainAgreement.{last_of}
-use Rattle.pfs_law_plain.specs.Notes.{Note, Wrote, Freed, Found, Vacant, Switched, Saw, Acted, saw_all}
+use Rattle.pfs_law_plain.specs.Notes.{Note, Wrote, Freed, Found, Vacant, Refused, Overdue, Switched, Saw, Acted, saw_all}
 
 -- the changes of rows, the sets of words, and the numbers of actions; lists of notes have the newest first here
 abbrev pub writes : List Note → List Change
@@ -12,6 +12,8 @@ writes (Wrote row version ∷ notes) = change_at row version ∷ writes notes
 writes (Freed row version ∷ notes) = writes notes
 writes (Found row version ∷ notes) = writes notes
 writes (Vacant row ∷ notes) = writes notes
+writes (Refused row first second ∷ notes) = writes notes
+writes (Overdue row ticket ∷ notes) = writes notes
 writes (Switched word version flags ∷ notes) = writes notes
 writes (Saw word version ∷ notes) = writes notes
 writes (Acted number ∷ notes) = writes notes
@@ -23,6 +25,8 @@ switches (Wrote row version ∷ notes) = switches notes
 switches (Freed row version ∷ notes) = switches notes
 switches (Found row version ∷ notes) = switches notes
 switches (Vacant row ∷ notes) = switches notes
+switches (Refused row first second ∷ notes) = switches notes
+switches (Overdue row ticket ∷ notes) = switches notes
 switches (Saw word version ∷ notes) = switches notes
 switches (Acted number ∷ notes) = switches notes
 
@@ -33,6 +37,8 @@ acts (Wrote row version ∷ notes) = acts notes
 acts (Freed row version ∷ notes) = acts notes
 acts (Found row version ∷ notes) = acts notes
 acts (Vacant row ∷ notes) = acts notes
+acts (Refused row first second ∷ notes) = acts notes
+acts (Overdue row ticket ∷ notes) = acts notes
 acts (Switched word version flags ∷ notes) = acts notes
 acts (Saw word version ∷ notes) = acts notes
 
@@ -43,6 +49,8 @@ free_in (Wrote at version ∷ notes) row = cond (at == row) false (free_in notes
 free_in (Freed at version ∷ notes) row = cond (at == row) true (free_in notes row)
 free_in (Found at version ∷ notes) row = free_in notes row
 free_in (Vacant at ∷ notes) row = free_in notes row
+free_in (Refused at first second ∷ notes) row = free_in notes row
+free_in (Overdue at ticket ∷ notes) row = free_in notes row
 free_in (Switched word version flags ∷ notes) row = free_in notes row
 free_in (Saw word version ∷ notes) row = free_in notes row
 free_in (Acted number ∷ notes) row = free_in notes row
@@ -52,6 +60,8 @@ IsNextNote before (Wrote row version) = version ≡ last_of row (writes before) 
 IsNextNote before (Freed row version) = version ≡ last_of row (writes before)
 IsNextNote before (Found row version) = (version ≡ last_of row (writes before)) × (free_in before row ≡ false)
 IsNextNote before (Vacant row) = free_in before row ≡ true
+IsNextNote before (Refused row first second) = Unit {0}
+IsNextNote before (Overdue row ticket) = Unit {0}
 IsNextNote before (Switched word version flags) = version ≡ last_of word (switches before) + 1
 IsNextNote before (Saw word version) = version ≡ last_of word (switches before)
 IsNextNote before (Acted number) = number ≡ last_of 0 (acts before) + 1

@@ -61,7 +61,7 @@ allocated_is (Adds at amount (Counted r v) ∷ calls) row up = put_row (r == row
 allocated_is (Adds at amount (Held r v w) ∷ calls) row up = allocated_is calls row up
 allocated_is (Rings at content (Done v) ∷ calls) row up = put_row (at == row) (stands_free (changes_of calls) row) (slot_after (ops_of calls) row) (slot_by (Becomes content) (slot_after (ops_of calls) row)) (allocated_is calls row up) refl
 allocated_is (Rings at content (Busy v w) ∷ calls) row up = allocated_is calls row up
-allocated_is (Rings at content (Late t) ∷ calls) row up = allocated_is calls row up
+allocated_is (Rings at content (Late t v) ∷ calls) row up = allocated_is calls row up
 allocated_is (Reads at seen ∷ calls) row up = allocated_is calls row up
 allocated_is (Loads at v found ∷ calls) row up = allocated_is calls row up
 allocated_is (Draws kind ticket ∷ calls) row up = allocated_is calls row up

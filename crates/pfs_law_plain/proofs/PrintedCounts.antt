@@ -3,7 +3,7 @@ use Rattle.std.proofs.Common.{ℕ, ◌≡◌, ◌+◌, ◌<◌, ◌==◌, Bool, 
 use Rattle.std.specs.Prelude.{nat_lt, ◌||◌}
 use Rattle.std.proofs.lemmas.Bool.Decides.{nat_tests}
 use Rattle.pfs_law_plain.proofs.NextNotes.{writes, switches}
-use Rattle.pfs_law_plain.specs.Notes.{Note, Wrote, Freed, Found, Vacant, Switched, Saw, Acted, saw_all, notes_at, notes_of, told, all_told}
+use Rattle.pfs_law_plain.specs.Notes.{Note, Wrote, Freed, Found, Vacant, Refused, Overdue, Switched, Saw, Acted, saw_all, notes_at, notes_of, told, all_told}
 use Rattle.pfs_event.specs.declared.entry.Entry.{Entry}
 use Rattle.pfs_event.specs.declared.entry.Entry.TheVariants as says
 use Rattle.pfs_levels.specs.Calls.{Call, Adds, Rings, Reads, Loads, Draws, Takes, Puts, Frees, Sets, Enters, Leaves, Meets}
@@ -27,6 +27,8 @@ releases (Switched word version flags ∷ notes) = releases notes
 releases (Saw word version ∷ notes) = releases notes
 releases (Found row version ∷ notes) = releases notes
 releases (Vacant row ∷ notes) = releases notes
+releases (Refused row first second ∷ notes) = releases notes
+releases (Overdue row ticket ∷ notes) = releases notes
 releases (Acted number ∷ notes) = releases notes
 
 -- along lists
@@ -38,6 +40,8 @@ writes_then (Switched word version flags ∷ xs) ys = writes_then xs ys
 writes_then (Saw word version ∷ xs) ys = writes_then xs ys
 writes_then (Found row version ∷ xs) ys = writes_then xs ys
 writes_then (Vacant row ∷ xs) ys = writes_then xs ys
+writes_then (Refused row first second ∷ xs) ys = writes_then xs ys
+writes_then (Overdue row ticket ∷ xs) ys = writes_then xs ys
 writes_then (Acted number ∷ xs) ys = writes_then xs ys
 
 switches_then : (xs ys : List Note) → switches (xs ++ ys) ≡ switches xs ++ switches ys
@@ -48,6 +52,8 @@ switches_then (Freed row version ∷ xs) ys = switches_then xs ys
 switches_then (Saw word version ∷ xs) ys = switches_then xs ys
 switches_then (Found row version ∷ xs) ys = switches_then xs ys
 switches_then (Vacant row ∷ xs) ys = switches_then xs ys
+switches_then (Refused row first second ∷ xs) ys = switches_then xs ys
+switches_then (Overdue row ticket ∷ xs) ys = switches_then xs ys
 switches_then (Acted number ∷ xs) ys = switches_then xs ys
 
 releases_then : (xs ys : List Note) → releases (xs ++ ys) ≡ releases xs ++ releases ys
@@ -58,6 +64,8 @@ releases_then (Switched word version flags ∷ xs) ys = releases_then xs ys
 releases_then (Saw word version ∷ xs) ys = releases_then xs ys
 releases_then (Found row version ∷ xs) ys = releases_then xs ys
 releases_then (Vacant row ∷ xs) ys = releases_then xs ys
+releases_then (Refused row first second ∷ xs) ys = releases_then xs ys
+releases_then (Overdue row ticket ∷ xs) ys = releases_then xs ys
 releases_then (Acted number ∷ xs) ys = releases_then xs ys
 
 -- what is printed is what is told
@@ -150,13 +158,13 @@ pub puts_are : (calls : List Call) (row : ℕ) → times (is_of row) (writes (al
 unfolding all_told changes_of count
 puts_are [] row = refl
 puts_are (Adds at amount (Counted r v) ∷ calls) row = wrote (all_told calls) row r v (count (changes_of calls) row) (puts_are calls row)
-puts_are (Adds at amount (Held r v w) ∷ calls) row = not_wrote (all_told calls) [] row (count (changes_of calls) row) refl (puts_are calls row)
+puts_are (Adds at amount (Held r v w) ∷ calls) row = not_wrote (all_told calls) (told (Adds at amount (Held r v w))) row (count (changes_of calls) row) refl (puts_are calls row)
 puts_are (Rings at content (Done v) ∷ calls) row = wrote (all_told calls) row at v (count (changes_of calls) row) (puts_are calls row)
-puts_are (Rings at content (Busy v w) ∷ calls) row = not_wrote (all_told calls) [] row (count (changes_of calls) row) refl (puts_are calls row)
-puts_are (Rings at content (Late t) ∷ calls) row = not_wrote (all_told calls) [] row (count (changes_of calls) row) refl (puts_are calls row)
+puts_are (Rings at content (Busy v w) ∷ calls) row = not_wrote (all_told calls) (told (Rings at content (Busy v w))) row (count (changes_of calls) row) refl (puts_are calls row)
+puts_are (Rings at content (Late t v) ∷ calls) row = not_wrote (all_told calls) (told (Rings at content (Late t v))) row (count (changes_of calls) row) refl (puts_are calls row)
 puts_are (Reads at (seen.Whole version content) ∷ calls) row = not_wrote (all_told calls) (told (Reads at (seen.Whole version content))) row (count (changes_of calls) row) refl (puts_are calls row)
 puts_are (Reads at (seen.Free word) ∷ calls) row = not_wrote (all_told calls) (told (Reads at (seen.Free word))) row (count (changes_of calls) row) refl (puts_are calls row)
-puts_are (Reads at (seen.Busy first second) ∷ calls) row = not_wrote (all_told calls) [] row (count (changes_of calls) row) refl (puts_are calls row)
+puts_are (Reads at (seen.Busy first second) ∷ calls) row = not_wrote (all_told calls) (told (Reads at (seen.Busy first second))) row (count (changes_of calls) row) refl (puts_are calls row)
 puts_are (Loads at v found ∷ calls) row = not_wrote (all_told calls) (told (Loads at v found)) row (count (changes_of calls) row) refl (puts_are calls row)
 puts_are (Draws kind ticket ∷ calls) row = not_wrote (all_told calls) [] row (count (changes_of calls) row) refl (puts_are calls row)
 puts_are (Meets versions ∷ calls) row = not_wrote (all_told calls) [] row (count (changes_of calls) row) refl (puts_are calls row)
@@ -178,13 +186,13 @@ sets_are (Sets word to v ∷ calls) at =
     ap (times (is_of at)) (switches_then (all_told calls) (told (Sets word to v)))
     ∙ (one_last (is_of at) (switches (all_told calls)) (change_at word v) ∙ set_more (word == at) (times (is_of at) (switches (all_told calls))) (word_version (sets_of calls) at) (sets_are calls at))
 sets_are (Adds row amount (Counted r v) ∷ calls) at = not_set (all_told calls) (told (Adds row amount (Counted r v))) at (word_version (sets_of calls) at) refl (sets_are calls at)
-sets_are (Adds row amount (Held r v w) ∷ calls) at = not_set (all_told calls) [] at (word_version (sets_of calls) at) refl (sets_are calls at)
+sets_are (Adds row amount (Held r v w) ∷ calls) at = not_set (all_told calls) (told (Adds row amount (Held r v w))) at (word_version (sets_of calls) at) refl (sets_are calls at)
 sets_are (Rings row content (Done v) ∷ calls) at = not_set (all_told calls) (told (Rings row content (Done v))) at (word_version (sets_of calls) at) refl (sets_are calls at)
-sets_are (Rings row content (Busy v w) ∷ calls) at = not_set (all_told calls) [] at (word_version (sets_of calls) at) refl (sets_are calls at)
-sets_are (Rings row content (Late t) ∷ calls) at = not_set (all_told calls) [] at (word_version (sets_of calls) at) refl (sets_are calls at)
+sets_are (Rings row content (Busy v w) ∷ calls) at = not_set (all_told calls) (told (Rings row content (Busy v w))) at (word_version (sets_of calls) at) refl (sets_are calls at)
+sets_are (Rings row content (Late t v) ∷ calls) at = not_set (all_told calls) (told (Rings row content (Late t v))) at (word_version (sets_of calls) at) refl (sets_are calls at)
 sets_are (Reads row (seen.Whole version content) ∷ calls) at = not_set (all_told calls) (told (Reads row (seen.Whole version content))) at (word_version (sets_of calls) at) refl (sets_are calls at)
 sets_are (Reads row (seen.Free word) ∷ calls) at = not_set (all_told calls) (told (Reads row (seen.Free word))) at (word_version (sets_of calls) at) refl (sets_are calls at)
-sets_are (Reads row (seen.Busy first second) ∷ calls) at = not_set (all_told calls) [] at (word_version (sets_of calls) at) refl (sets_are calls at)
+sets_are (Reads row (seen.Busy first second) ∷ calls) at = not_set (all_told calls) (told (Reads row (seen.Busy first second))) at (word_version (sets_of calls) at) refl (sets_are calls at)
 sets_are (Loads word v found ∷ calls) at = not_set (all_told calls) (told (Loads word v found)) at (word_version (sets_of calls) at) refl (sets_are calls at)
 sets_are (Draws kind ticket ∷ calls) at = not_set (all_told calls) [] at (word_version (sets_of calls) at) refl (sets_are calls at)
 sets_are (Meets versions ∷ calls) at = not_set (all_told calls) [] at (word_version (sets_of calls) at) refl (sets_are calls at)
@@ -220,13 +228,13 @@ frees_are (Frees at v ∷ calls) row k =
     ap (times (is_that (change_at row k))) (releases_then (all_told calls) (told (Frees at v)))
     ∙ (one_last (is_that (change_at row k)) (releases (all_told calls)) (change_at at v) ∙ free_frees (at == row) (v == k) (times (is_that (change_at row k)) (releases (all_told calls))) (freed_in (changes_of calls) row k) (frees_are calls row k))
 frees_are (Adds at amount (Counted r v) ∷ calls) row k = put_frees (r == row) (v == k) _ (freed_in (changes_of calls) row k) (not_freed (all_told calls) (told (Adds at amount (Counted r v))) row k (freed_in (changes_of calls) row k) refl (frees_are calls row k))
-frees_are (Adds at amount (Held r v w) ∷ calls) row k = not_freed (all_told calls) [] row k (freed_in (changes_of calls) row k) refl (frees_are calls row k)
+frees_are (Adds at amount (Held r v w) ∷ calls) row k = not_freed (all_told calls) (told (Adds at amount (Held r v w))) row k (freed_in (changes_of calls) row k) refl (frees_are calls row k)
 frees_are (Rings at content (Done v) ∷ calls) row k = put_frees (at == row) (v == k) _ (freed_in (changes_of calls) row k) (not_freed (all_told calls) (told (Rings at content (Done v))) row k (freed_in (changes_of calls) row k) refl (frees_are calls row k))
-frees_are (Rings at content (Busy v w) ∷ calls) row k = not_freed (all_told calls) [] row k (freed_in (changes_of calls) row k) refl (frees_are calls row k)
-frees_are (Rings at content (Late t) ∷ calls) row k = not_freed (all_told calls) [] row k (freed_in (changes_of calls) row k) refl (frees_are calls row k)
+frees_are (Rings at content (Busy v w) ∷ calls) row k = not_freed (all_told calls) (told (Rings at content (Busy v w))) row k (freed_in (changes_of calls) row k) refl (frees_are calls row k)
+frees_are (Rings at content (Late t v) ∷ calls) row k = not_freed (all_told calls) (told (Rings at content (Late t v))) row k (freed_in (changes_of calls) row k) refl (frees_are calls row k)
 frees_are (Reads at (seen.Whole version content) ∷ calls) row k = not_freed (all_told calls) (told (Reads at (seen.Whole version content))) row k (freed_in (changes_of calls) row k) refl (frees_are calls row k)
 frees_are (Reads at (seen.Free word) ∷ calls) row k = not_freed (all_told calls) (told (Reads at (seen.Free word))) row k (freed_in (changes_of calls) row k) refl (frees_are calls row k)
-frees_are (Reads at (seen.Busy first second) ∷ calls) row k = not_freed (all_told calls) [] row k (freed_in (changes_of calls) row k) refl (frees_are calls row k)
+frees_are (Reads at (seen.Busy first second) ∷ calls) row k = not_freed (all_told calls) (told (Reads at (seen.Busy first second))) row k (freed_in (changes_of calls) row k) refl (frees_are calls row k)
 frees_are (Loads at v found ∷ calls) row k = not_freed (all_told calls) (told (Loads at v found)) row k (freed_in (changes_of calls) row k) refl (frees_are calls row k)
 frees_are (Draws kind ticket ∷ calls) row k = not_freed (all_told calls) [] row k (freed_in (changes_of calls) row k) refl (frees_are calls row k)
 frees_are (Meets versions ∷ calls) row k = not_freed (all_told calls) [] row k (freed_in (changes_of calls) row k) refl (frees_are calls row k)

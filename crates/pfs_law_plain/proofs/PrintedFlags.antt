@@ -17,7 +17,7 @@ use Rattle.pfs_model.specs.EntryPlaces.{Placed}
 use Rattle.pfs_model.specs.SetupFlags.{loads_at}
 use Rattle.pfs_model.specs.SetupFlags.{flags_at as printed_at}
 use Rattle.pfs_rows.specs.declared.table.Seen.TheVariants as seen
-use Rattle.pfs_law_plain.specs.Notes.{Note, Wrote, Freed, Found, Vacant, Switched, Saw, Acted, saw_all, notes_at, notes_of, told, all_told}
+use Rattle.pfs_law_plain.specs.Notes.{Note, Wrote, Freed, Found, Vacant, Refused, Overdue, Switched, Saw, Acted, saw_all, notes_at, notes_of, told, all_told}
 use Rattle.pfs_law_plain.specs.PlainJournals.{printed}
 
 -- what the first set of a word to a version gives it, or else this
@@ -28,6 +28,8 @@ first_or d (Wrote at k ∷ notes) word version = first_or d notes word version
 first_or d (Freed at k ∷ notes) word version = first_or d notes word version
 first_or d (Found at k ∷ notes) word version = first_or d notes word version
 first_or d (Vacant at ∷ notes) word version = first_or d notes word version
+first_or d (Refused at first second ∷ notes) word version = first_or d notes word version
+first_or d (Overdue at ticket ∷ notes) word version = first_or d notes word version
 first_or d (Saw at k ∷ notes) word version = first_or d notes word version
 first_or d (Acted number ∷ notes) word version = first_or d notes word version
 
@@ -38,6 +40,8 @@ first_then d (Wrote at k ∷ xs) ys word version = first_then d xs ys word versi
 first_then d (Freed at k ∷ xs) ys word version = first_then d xs ys word version
 first_then d (Found at k ∷ xs) ys word version = first_then d xs ys word version
 first_then d (Vacant at ∷ xs) ys word version = first_then d xs ys word version
+first_then d (Refused at first second ∷ xs) ys word version = first_then d xs ys word version
+first_then d (Overdue at ticket ∷ xs) ys word version = first_then d xs ys word version
 first_then d (Saw at k ∷ xs) ys word version = first_then d xs ys word version
 first_then d (Acted number ∷ xs) ys word version = first_then d xs ys word version
 
@@ -69,14 +73,14 @@ sets_first : (calls : List Call) (d word version : ℕ) → first_or d (all_told
 unfolding all_told sets_of
 sets_first [] d word version = refl
 sets_first (Adds at amount (Counted r v) ∷ calls) d word version = first_then d (all_told calls) (told (Adds at amount (Counted r v))) word version ∙ sets_first calls d word version
-sets_first (Adds at amount (Held r v w) ∷ calls) d word version = first_then d (all_told calls) [] word version ∙ sets_first calls d word version
+sets_first (Adds at amount (Held r v w) ∷ calls) d word version = first_then d (all_told calls) (told (Adds at amount (Held r v w))) word version ∙ sets_first calls d word version
 sets_first (Rings at content (Done v) ∷ calls) d word version = first_then d (all_told calls) (told (Rings at content (Done v))) word version ∙ sets_first calls d word version
-sets_first (Rings at content (Busy v w) ∷ calls) d word version = first_then d (all_told calls) [] word version ∙ sets_first calls d word version
-sets_first (Rings at content (Late t) ∷ calls) d word version = first_then d (all_told calls) [] word version ∙ sets_first calls d word version
+sets_first (Rings at content (Busy v w) ∷ calls) d word version = first_then d (all_told calls) (told (Rings at content (Busy v w))) word version ∙ sets_first calls d word version
+sets_first (Rings at content (Late t v) ∷ calls) d word version = first_then d (all_told calls) (told (Rings at content (Late t v))) word version ∙ sets_first calls d word version
 sets_first (Reads at (seen.Whole v found) ∷ calls) d word version =
     first_then d (all_told calls) (told (Reads at (seen.Whole v found))) word version ∙ sets_first calls d word version
 sets_first (Reads at (seen.Free w) ∷ calls) d word version = first_then d (all_told calls) (told (Reads at (seen.Free w))) word version ∙ sets_first calls d word version
-sets_first (Reads at (seen.Busy v w) ∷ calls) d word version = first_then d (all_told calls) [] word version ∙ sets_first calls d word version
+sets_first (Reads at (seen.Busy v w) ∷ calls) d word version = first_then d (all_told calls) (told (Reads at (seen.Busy v w))) word version ∙ sets_first calls d word version
 sets_first (Loads at v found ∷ calls) d word version = first_then d (all_told calls) (told (Loads at v found)) word version ∙ sets_first calls d word version
 sets_first (Draws kind ticket ∷ calls) d word version = first_then d (all_told calls) [] word version ∙ sets_first calls d word version
 sets_first (Meets versions ∷ calls) d word version = first_then d (all_told calls) [] word version ∙ sets_first calls d word version

@@ -48,7 +48,7 @@ IsAdded (Adds row amount (Counted r version)) = Unit {0}
 IsAdded (Adds row amount (Held r first second)) = ⊥
 IsAdded (Rings row content (Done version)) = Unit {0}
 IsAdded (Rings row content (Busy first second)) = ⊥
-IsAdded (Rings row content (Late greater)) = ⊥
+IsAdded (Rings row content (Late greater version)) = ⊥
 IsAdded (Reads row (seen.Whole version content)) = Unit {0}
 IsAdded (Reads row (seen.Free word)) = Unit {0}
 IsAdded (Reads row (seen.Busy first second)) = ⊥
@@ -81,7 +81,7 @@ plain_added flags None (Adds row amount (Counted r v) ∷ calls) a q = (tt, plai
 plain_added flags None (Adds row amount (Held r v w) ∷ calls) a q = absurd a.0
 plain_added flags None (Rings row content (Done v) ∷ calls) a q = (tt, plain_added flags (pending row (slice_index content 15)) calls a.1 q)
 plain_added flags None (Rings row content (Busy v w) ∷ calls) a q = absurd a.0
-plain_added flags None (Rings row content (Late t) ∷ calls) a q = absurd (never_late flags row t content calls a q)
+plain_added flags None (Rings row content (Late t v) ∷ calls) a q = absurd (never_late flags row t v content calls a q)
 plain_added flags None (Draws kind ticket ∷ calls) a q = absurd q
 plain_added flags None (Puts row content version ∷ calls) a q = (tt, plain_added flags None calls a.1 q.1)
 plain_added flags None (Reads row (seen.Whole v content) ∷ calls) a q = (tt, plain_added flags None calls a.1 q)
@@ -211,7 +211,7 @@ put_quiet put calls row ticket drawn event one e x added = by_answer ticket x.an
   by_answer None (told.Done version) s a = subst (λ z. AreQuiet (put_entries z)) (sym (e ∙ ap Some s)) (tt, tt)
   by_answer (Some ticket) (told.Done version) s a = subst (λ z. AreQuiet (put_entries z)) (sym (e ∙ ap Some s)) (tt, tt)
   by_answer ticket (told.Busy first second) s a = absurd a
-  by_answer ticket (told.Late greater) s a = absurd a
+  by_answer ticket (told.Late greater version) s a = absurd a
 
 none_quiet : (put : Option Put) → put ≡ None → AreQuiet (put_entries put)
 none_quiet put e = subst (λ z. AreQuiet (put_entries z)) (sym e) tt

@@ -99,8 +99,8 @@ answers_alike flags some others (Adds row amount (Held r first second)) l a = ab
 answers_alike flags some others (Rings row content (Done version)) l a =
     subst (λ (z : List Op). IsRing row content × ((slot_after z row).taken ≡ false) × (version ≡ (slot_after z row).version + 1) × IsFresh row (slot_after z row) content) l.ops a
 answers_alike flags some others (Rings row content (Busy first second)) l a = absurd a
-answers_alike flags some others (Rings row content (Late ticket)) l a =
-    subst (λ (z : List Op). IsRing row content × ((slot_after z row).allocated ≡ true) × (10242 ≤ row) × (slice_index (slot_after z row).content 15 ≡ ticket + 1) × (slice_index content 15 ≤ ticket)) l.ops a
+answers_alike flags some others (Rings row content (Late ticket version)) l a =
+    subst (λ (z : List Op). IsRing row content × ((slot_after z row).allocated ≡ true) × (10242 ≤ row) × (slice_index (slot_after z row).content 15 ≡ ticket + 1) × (slice_index content 15 ≤ ticket) × (version ≡ (slot_after z row).version)) l.ops a
 answers_alike flags some others (Reads row (Whole version content)) l a =
     subst (λ (z : List Op). IsRow row × ((slot_after z row).allocated ≡ true) × (version ≡ (slot_after z row).version) × (content ≡ (slot_after z row).content)) l.ops a
 answers_alike flags some others (Reads row (Free w)) l a = subst (λ (z : List Op). IsRow row × ((slot_after z row).allocated ≡ false) × (w ≡ 4 * (slot_after z row).version)) l.ops a

@@ -49,7 +49,7 @@ use Rattle.pfs_session.specs.Turns.{Step, StartsEvent, EndsEvent, Spends, Settle
 use Rattle.pfs_session.specs.declared.events.Numbers.{Numbers}
 use Rattle.pfs_session.specs.declared.setup.Setup.{Setup}
 use Rattle.pfs_stat.specs.declared.Stat.{Stat}
-use Rattle.pfs_law_plain.specs.Notes.{Note, Wrote, Saw, Acted, saw_all, notes_at, notes_in, told, all_told}
+use Rattle.pfs_law_plain.specs.Notes.{Note, Wrote, Refused, Overdue, Saw, Acted, saw_all, notes_at, notes_in, told, all_told}
 use Rattle.pfs_law_plain.specs.SessionNotes.{Sits, head_of}
 use Rattle.pfs_law_plain.proofs.InnerEntries.{told_then, notes_then, entries_then, inner_slots, IsSame, same_then, reply_same, answers_same, moves_same, signs_same, flags_same, paid_same}
 
@@ -136,9 +136,9 @@ put_told subject context put row ticket drawn calls event none x = by_answer tic
   by_answer : (ticket : Option ℕ) (answer : RingPut) → Says row ticket answer put → notes_in subject context (put_entry put ∷ []) ≡ all_told (Rings row (offered event ticket) answer ∷ drawn)
   by_answer None (rings.Done version) e = ap (λ z. notes_in subject context (put_entry z ∷ [])) e ∙ ap (λ z. z ++ Wrote row version ∷ []) (sym none)
   by_answer (Some ticket) (rings.Done version) e = ap (λ z. notes_in subject context (put_entry z ∷ [])) e ∙ ap (λ z. z ++ Wrote row version ∷ []) (sym none)
-  by_answer ticket (rings.Busy first second) e = ap (λ z. notes_in subject context (put_entry z ∷ [])) e ∙ ap (λ z. z ++ []) (sym none)
-  by_answer None (rings.Late greater) e = absurd e
-  by_answer (Some ticket) (rings.Late greater) e = ap (λ z. notes_in subject context (put_entry z ∷ [])) e.0 ∙ ap (λ z. z ++ []) (sym none)
+  by_answer ticket (rings.Busy first second) e = ap (λ z. notes_in subject context (put_entry z ∷ [])) e ∙ ap (λ z. z ++ Refused row first second ∷ []) (sym none)
+  by_answer None (rings.Late greater version) e = absurd e
+  by_answer (Some ticket) (rings.Late greater version) e = ap (λ z. notes_in subject context (put_entry z ∷ [])) e.0 ∙ ap (λ z. z ++ Overdue row greater ∷ []) (sym none)
 
 none_told : (subject : Option Subject) (context : Context) (put : Option Put) (calls : List Call) → (put ≡ None) × (calls ≡ []) → notes_in subject context (put_entries put) ≡ all_told calls
 unfolding all_told

@@ -100,7 +100,7 @@ short_ticketed row event put calls x = by_answer x.answer x.says x.calls_are whe
   by_answer : (answer : RingPut) → Says row None answer put → calls ≡ Rings row (offered event None) answer ∷ [] → IsTicketed calls (put_entry put ∷ [])
   by_answer (told.Done version) e c = ticketed_as calls _ _ (says.Ring row version ∷ []) c (ap (λ z. put_entry z ∷ []) e) (record { paired = tt; same = refl })
   by_answer (told.Busy first second) e c = ticketed_as calls _ _ (says.Busy row first second ∷ []) c (ap (λ z. put_entry z ∷ []) e) (record { paired = tt; same = refl })
-  by_answer (told.Late greater) e c = absurd e
+  by_answer (told.Late greater version) e c = absurd e
 
 waiting_none : (row ticket : ℕ) → pending row (ticket + 1) ≡ Some (record { row = row; word = ticket + 1 })
 waiting_none row ticket = ap (λ b. cond b None (Some (record { row = row; word = ticket + 1 }))) (ne_eqb (ticket + 1) 0 (λ e. absurd (omega (arith, e))))
@@ -125,8 +125,8 @@ far_ticketed kind event put calls x = by_answer x.at.answer x.at.says x.at.calls
       (record { paired = long_paired kind x.ticket event (told.Done version); same = printed_one row version x.ticket })
   by_answer (told.Busy first second) e c =
       ticketed_as calls _ _ (says.Busy row first second ∷ []) c (ap (λ z. put_entry z ∷ []) e) (record { paired = long_paired kind x.ticket event (told.Busy first second); same = refl })
-  by_answer (told.Late greater) e c =
-      ticketed_as calls _ _ (says.Late row x.ticket greater ∷ []) c (ap (λ z. put_entry z ∷ []) e.0) (record { paired = long_paired kind x.ticket event (told.Late greater); same = refl })
+  by_answer (told.Late greater version) e c =
+      ticketed_as calls _ _ (says.Late row x.ticket greater ∷ []) c (ap (λ z. put_entry z ∷ []) e.0) (record { paired = long_paired kind x.ticket event (told.Late greater version); same = refl })
 
 none_ticketed : (put : Option Put) (calls : List Call) → (put ≡ None) × (calls ≡ []) → IsTicketed calls (put_entries put)
 none_ticketed put calls x = ticketed_as calls [] (put_entries put) [] x.1 (ap put_entries x.0) nothing_ticketed

@@ -147,7 +147,7 @@ stored flags None (Rings at content (Done v) ∷ calls) a q row up =
     written_word (at == row) content (slot_after (ops_of calls) row) (drawn (draws_of calls) (kind_of_row row))
     (λ e. own_word flags at (slice_index content 15) row calls a.1 q (eqb-true at row e)) (stored flags (pending at (slice_index content 15)) calls a.1 q row up)
 stored flags None (Rings at content (Busy v w) ∷ calls) a q row up = absurd a.0
-stored flags None (Rings at content (Late t) ∷ calls) a q row up = stored flags (pending at (slice_index content 15)) calls a.1 q row up
+stored flags None (Rings at content (Late t v) ∷ calls) a q row up = stored flags (pending at (slice_index content 15)) calls a.1 q row up
 stored flags None (Reads at seen ∷ calls) a q row up = stored flags None calls a.1 q row up
 stored flags None (Loads at v found ∷ calls) a q row up = stored flags None calls a.1 q row up
 stored flags None (Draws kind ticket ∷ calls) a q row up = absurd q
@@ -177,9 +177,9 @@ unfolding ops_of
 later older kind ticket at = refl
 
 -- so no place holds a greater ticket than that of a put
-pub never_late : (flags : List ℕ) (at greater : ℕ) (content : List ℕ) (calls : List Call) → AllAnswer flags (Rings at content (Late greater) ∷ calls)
-    → ArePaired None (Rings at content (Late greater) ∷ calls) → ⊥
-never_late flags at greater content calls a q = by_ring a.0.0 where
+pub never_late : (flags : List ℕ) (at greater version : ℕ) (content : List ℕ) (calls : List Call) → AllAnswer flags (Rings at content (Late greater version) ∷ calls)
+    → ArePaired None (Rings at content (Late greater version) ∷ calls) → ⊥
+never_late flags at greater version content calls a q = by_ring a.0.0 where
   up : 10242 ≤ at
   up = a.0.2
 
@@ -268,7 +268,7 @@ counts flags kind None (Rings row content (Done v) ∷ calls) a q =
     let rest = counts flags kind (pending row (slice_index content 15)) calls a.1 q in
     omega (arith, one_more kind row v (slice_index content 15) calls (drawn (draws_of calls) kind) rest)
 counts flags kind None (Rings row content (Busy first second) ∷ calls) a q = absurd a.0
-counts flags kind None (Rings row content (Late greater) ∷ calls) a q = absurd (never_late flags row greater content calls a q)
+counts flags kind None (Rings row content (Late greater version) ∷ calls) a q = absurd (never_late flags row greater version content calls a q)
 counts flags kind None (Draws k ticket ∷ calls) a q = absurd q
 counts flags kind None (Puts row content version ∷ calls) a q =
     omega (arith, same_drawn kind calls (drawn (draws_of calls) kind) (omega (arith, counts flags kind None calls a.1 q.1)))
@@ -345,7 +345,7 @@ tickets_next flags None (Rings row content (Done v) ∷ calls) a q =
     next_then [] (all_ticketed calls) (ticketed_if row v (slice_index content 15)) (tickets_next flags (pending row (slice_index content 15)) calls a.1 q)
     (own_ticket flags row v (slice_index content 15) calls a.1 q)
 tickets_next flags None (Rings row content (Busy first second) ∷ calls) a q = absurd a.0
-tickets_next flags None (Rings row content (Late greater) ∷ calls) a q = absurd (never_late flags row greater content calls a q)
+tickets_next flags None (Rings row content (Late greater version) ∷ calls) a q = absurd (never_late flags row greater version content calls a q)
 tickets_next flags None (Draws kind ticket ∷ calls) a q = absurd q
 tickets_next flags None (Puts row content version ∷ calls) a q = next_then [] (all_ticketed calls) [] (tickets_next flags None calls a.1 q.1) tt
 tickets_next flags None (Adds row amount answer ∷ calls) a q = next_then [] (all_ticketed calls) [] (tickets_next flags None calls a.1 q) tt

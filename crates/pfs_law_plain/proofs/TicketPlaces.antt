@@ -87,14 +87,14 @@ long_own kind event put calls x = by_answer x.at.answer x.at.says where
   by_answer : (answer : RingPut) → Says (long_row kind x.ticket) (Some x.ticket) answer put → AreOwn (put_entries (Some put))
   by_answer (told.Done version) e = subst (λ z. AreOwn (put_entries (Some z))) (sym e) (kind_is kind x.ticket, tt)
   by_answer (told.Busy first second) e = subst (λ z. AreOwn (put_entries (Some z))) (sym e) (tt, tt)
-  by_answer (told.Late greater) e = subst (λ z. AreOwn (put_entries (Some z))) (sym e.0) (kind_is kind x.ticket, tt)
+  by_answer (told.Late greater version) e = subst (λ z. AreOwn (put_entries (Some z))) (sym e.0) (kind_is kind x.ticket, tt)
 
 short_own : (row : ℕ) (event : Event) (put : Put) (calls : List Call) → PutAt row None [] event put calls → AreOwn (put_entries (Some put))
 short_own row event put calls x = by_answer x.answer x.says where
   by_answer : (answer : RingPut) → Says row None answer put → AreOwn (put_entries (Some put))
   by_answer (told.Done version) e = subst (λ z. AreOwn (put_entries (Some z))) (sym e) (tt, tt)
   by_answer (told.Busy first second) e = subst (λ z. AreOwn (put_entries (Some z))) (sym e) (tt, tt)
-  by_answer (told.Late greater) e = absurd e
+  by_answer (told.Late greater version) e = absurd e
 
 put_own : (ring : Ring) (event : Event) (put : Put) (calls : List Call) → PutIf true ring event (Some put) calls → AreOwn (put_entries (Some put))
 put_own (Current slot kind depth) event put calls x = short_own _ event put calls x

@@ -18,7 +18,7 @@ use Rattle.pfs_session.specs.Turns.{Step, StartsEvent, EndsEvent, Spends, Settle
 use Rattle.pfs_law_session.specs.Deeds.{Part, part_calls, parts_calls}
 use Rattle.pfs_law_session.specs.JournalLaws.{lines_of, entries_of}
 use Rattle.pfs_law_session.specs.Stints.{blocks_of, parts_by}
-use Rattle.pfs_law_plain.specs.Notes.{Note, Wrote, Freed, Found, Vacant, Switched, Saw, Acted, saw_all, notes_at, notes_of, told, all_told}
+use Rattle.pfs_law_plain.specs.Notes.{Note, Wrote, Freed, Found, Vacant, Refused, Overdue, Switched, Saw, Acted, saw_all, notes_at, notes_of, told, all_told}
 use Rattle.pfs_law_plain.specs.SessionNotes.{head_of, turns_notes, parts_notes}
 use Rattle.pfs_law_plain.specs.Weights.{put_at, free_at, setting_of, AreWeighed, WeighedLaw, WeighedThroughLaw}
 use Rattle.pfs_law_plain.proofs.InnerEntries.{told_then}
@@ -34,6 +34,8 @@ of_row h (Wrote row version) = h (at_put row version)
 of_row h (Freed row version) = h (at_free row version)
 of_row h (Found row version) = 0
 of_row h (Vacant row) = 0
+of_row h (Refused row first second) = 0
+of_row h (Overdue row ticket) = 0
 of_row h (Switched word version flags) = 0
 of_row h (Saw word version) = 0
 of_row h (Acted number) = 0
@@ -44,6 +46,8 @@ of_set h (Wrote row version) = 0
 of_set h (Freed row version) = 0
 of_set h (Found row version) = 0
 of_set h (Vacant row) = 0
+of_set h (Refused row first second) = 0
+of_set h (Overdue row ticket) = 0
 of_set h (Saw word version) = 0
 of_set h (Acted number) = 0
 
@@ -109,10 +113,10 @@ calls_rows : (h : At → ℕ) (calls : List Call) → total (of_row h) (all_told
 unfolding total all_told changes_of
 calls_rows h [] = refl
 calls_rows h (Adds at amount (Counted r v) ∷ calls) = more_rows h calls (told (Adds at amount (Counted r v))) (h (at_put r v)) _ (calls_rows h calls) (omega arith)
-calls_rows h (Adds at amount (Held r v w) ∷ calls) = same_rows h calls [] _ (calls_rows h calls) refl
+calls_rows h (Adds at amount (Held r v w) ∷ calls) = same_rows h calls (told (Adds at amount (Held r v w))) _ (calls_rows h calls) refl
 calls_rows h (Rings at content (Done v) ∷ calls) = more_rows h calls (told (Rings at content (Done v))) (h (at_put at v)) _ (calls_rows h calls) (omega arith)
-calls_rows h (Rings at content (Busy v w) ∷ calls) = same_rows h calls [] _ (calls_rows h calls) refl
-calls_rows h (Rings at content (Late t) ∷ calls) = same_rows h calls [] _ (calls_rows h calls) refl
+calls_rows h (Rings at content (Busy v w) ∷ calls) = same_rows h calls (told (Rings at content (Busy v w))) _ (calls_rows h calls) refl
+calls_rows h (Rings at content (Late t v) ∷ calls) = same_rows h calls (told (Rings at content (Late t v))) _ (calls_rows h calls) refl
 calls_rows h (Reads at (seen.Whole v found) ∷ calls) = same_rows h calls (told (Reads at (seen.Whole v found))) _ (calls_rows h calls) refl
 calls_rows h (Reads at (seen.Free w) ∷ calls) = same_rows h calls (told (Reads at (seen.Free w))) _ (calls_rows h calls) refl
 calls_rows h (Reads at (seen.Busy v w) ∷ calls) = same_rows h calls (told (Reads at (seen.Busy v w))) _ (calls_rows h calls) refl
@@ -136,10 +140,10 @@ calls_sets : (h : Setting → ℕ) (calls : List Call) → total (of_set h) (all
 unfolding total all_told sets_of
 calls_sets h [] = refl
 calls_sets h (Adds at amount (Counted r v) ∷ calls) = same_sets h calls (told (Adds at amount (Counted r v))) _ (calls_sets h calls) refl
-calls_sets h (Adds at amount (Held r v w) ∷ calls) = same_sets h calls [] _ (calls_sets h calls) refl
+calls_sets h (Adds at amount (Held r v w) ∷ calls) = same_sets h calls (told (Adds at amount (Held r v w))) _ (calls_sets h calls) refl
 calls_sets h (Rings at content (Done v) ∷ calls) = same_sets h calls (told (Rings at content (Done v))) _ (calls_sets h calls) refl
-calls_sets h (Rings at content (Busy v w) ∷ calls) = same_sets h calls [] _ (calls_sets h calls) refl
-calls_sets h (Rings at content (Late t) ∷ calls) = same_sets h calls [] _ (calls_sets h calls) refl
+calls_sets h (Rings at content (Busy v w) ∷ calls) = same_sets h calls (told (Rings at content (Busy v w))) _ (calls_sets h calls) refl
+calls_sets h (Rings at content (Late t v) ∷ calls) = same_sets h calls (told (Rings at content (Late t v))) _ (calls_sets h calls) refl
 calls_sets h (Reads at (seen.Whole v found) ∷ calls) = same_sets h calls (told (Reads at (seen.Whole v found))) _ (calls_sets h calls) refl
 calls_sets h (Reads at (seen.Free w) ∷ calls) = same_sets h calls (told (Reads at (seen.Free w))) _ (calls_sets h calls) refl
 calls_sets h (Reads at (seen.Busy v w) ∷ calls) = same_sets h calls (told (Reads at (seen.Busy v w))) _ (calls_sets h calls) refl

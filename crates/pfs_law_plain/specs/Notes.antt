@@ -13,12 +13,15 @@ use Rattle.pfs_model.specs.SetupFlags.{loads_at}
 use Rattle.pfs_rows.specs.declared.table.Seen.{Seen}
 use Rattle.pfs_rows.specs.declared.table.Seen.TheVariants as seen
 
--- a row was changed, released, or read; a switch word was set, or loaded; an action of this number began
+-- a row was changed, released, read or refused, or an event came late at it; a switch word was set, or loaded; an
+-- action of this number began
 pub data Note : Type 0 where
   Wrote : ℕ → ℕ → Note  -- the row and its new version
   Freed : ℕ → ℕ → Note  -- the row and its version
   Found : ℕ → ℕ → Note  -- the row and the version at which it was read
   Vacant : ℕ → Note  -- the row, which was free
+  Refused : ℕ → ℕ → ℕ → Note  -- the row, which was held or busy, and its two lock words
+  Overdue : ℕ → ℕ → Note  -- the place of the long history, and the greater ticket that it held
   Switched : ℕ → ℕ → ℕ → Note  -- the word, its new version and its flags
   Saw : ℕ → ℕ → Note  -- the word and its version
   Acted : ℕ → Note
@@ -37,8 +40,11 @@ notes_at subject context (says.End event last consumers thread) =
     saw_all (loads_at subject context (says.End event last consumers thread))
 notes_at subject context (says.Saw word version) = Saw word version ∷ []
 notes_at subject context (says.Add row version) = Wrote row version ∷ []
+notes_at subject context (says.Held row first second) = Refused row first second ∷ []
 notes_at subject context (says.Ring row version) = Wrote row version ∷ []
 notes_at subject context (says.Long row version ticket) = Wrote row version ∷ []
+notes_at subject context (says.Busy row first second) = Refused row first second ∷ []
+notes_at subject context (says.Late row ticket greater) = Overdue row greater ∷ []
 notes_at subject context (says.Take row version) = Wrote row version ∷ []
 notes_at subject context (says.Give row version from) = Wrote row version ∷ []
 notes_at subject context (says.Tag row version) = Wrote row version ∷ []
@@ -63,15 +69,15 @@ notes_of (place ∷ places) = notes_at (subject_of place.line) place.context pla
 abbrev pub found_notes : ℕ → Seen → List Note
 found_notes row (seen.Whole version content) = Found row version ∷ []
 found_notes row (seen.Free word) = Vacant row ∷ []
-found_notes row (seen.Busy first second) = []
+found_notes row (seen.Busy first second) = Refused row first second ∷ []
 
 -- what a call tells
 abbrev pub told : Call → List Note
 told (Adds row amount (Counted r version)) = Wrote r version ∷ []
-told (Adds row amount (Held r first second)) = []
+told (Adds row amount (Held r first second)) = Refused r first second ∷ []
 told (Rings row content (Done version)) = Wrote row version ∷ []
-told (Rings row content (Busy first second)) = []
-told (Rings row content (Late ticket)) = []
+told (Rings row content (Busy first second)) = Refused row first second ∷ []
+told (Rings row content (Late ticket version)) = Overdue row ticket ∷ []
 told (Reads row found) = found_notes row found
 told (Loads at version flags) = Saw at version ∷ []
 told (Draws kind ticket) = []

@@ -23,7 +23,7 @@ use Rattle.pfs_session.specs.declared.remarks.Remark.TheVariants.{Rows}
 use Rattle.pfs_law_session.specs.Deeds.{Deed, Connecting, Starting, Staging, StageEnding, Ending, Spending, Quitting, Truncating, Changing, Showing, Querying, Refusing, Closing, Part, IsPart, action_of, looks, remark, steps_for}
 use Rattle.pfs_law_session.specs.JournalLaws.{AreParts}
 use Rattle.pfs_law_session.specs.Stints.{Stint, AreDone, parts_by}
-use Rattle.pfs_law_plain.specs.Notes.{Note, Wrote, Freed, Found, Vacant, Switched, Saw, Acted, saw_all, notes_at, notes_of, told, all_told}
+use Rattle.pfs_law_plain.specs.Notes.{Note, Wrote, Freed, Found, Vacant, Refused, Overdue, Switched, Saw, Acted, saw_all, notes_at, notes_of, told, all_told}
 use Rattle.pfs_law_plain.specs.SessionNotes.{head_of, turns_notes, parts_notes}
 use Rattle.pfs_law_shared.proofs.InnerCalls.{IsWithin, AreWithin, TurnsWithin, turns_within}
 
@@ -34,6 +34,8 @@ acts (Wrote row version ∷ notes) = acts notes
 acts (Freed row version ∷ notes) = acts notes
 acts (Found row version ∷ notes) = acts notes
 acts (Vacant row ∷ notes) = acts notes
+acts (Refused row first second ∷ notes) = acts notes
+acts (Overdue row ticket ∷ notes) = acts notes
 acts (Switched word version flags ∷ notes) = acts notes
 acts (Saw word version ∷ notes) = acts notes
 
@@ -46,6 +48,8 @@ acts_then (Switched word version flags ∷ xs) ys = acts_then xs ys
 acts_then (Saw word version ∷ xs) ys = acts_then xs ys
 acts_then (Found row version ∷ xs) ys = acts_then xs ys
 acts_then (Vacant row ∷ xs) ys = acts_then xs ys
+acts_then (Refused row first second ∷ xs) ys = acts_then xs ys
+acts_then (Overdue row ticket ∷ xs) ys = acts_then xs ys
 
 -- of entries
 saw_none : (loads : List Change) → acts (saw_all loads) ≡ []
@@ -80,7 +84,7 @@ call_acts (Adds at amount (Counted r v)) w = refl
 call_acts (Adds at amount (Held r v x)) w = refl
 call_acts (Rings at content (Done v)) w = refl
 call_acts (Rings at content (Busy v x)) w = refl
-call_acts (Rings at content (Late t)) w = refl
+call_acts (Rings at content (Late t v)) w = refl
 call_acts (Reads at (seen.Whole v found)) w = refl
 call_acts (Reads at (seen.Free x)) w = refl
 call_acts (Reads at (seen.Busy v x)) w = refl

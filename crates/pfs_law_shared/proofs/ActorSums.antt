@@ -57,7 +57,7 @@ module _ (weigh : List Call → ℕ) (adds : IsAdditive weigh) where
       let b = adds.both calls (Enters label labels ∷ []) in
       omega (arith, a, b, adds.enters label labels, adds.leaves)
 
-  doings_sum : (ds : List Doing) → weigh (doings_calls ds) ≡ weigh (parts_calls (parts_in ds))
+  pub doings_sum : (ds : List Doing) → weigh (doings_calls ds) ≡ weigh (parts_calls (parts_in ds))
   doings_sum [] = refl
   doings_sum (d ∷ ds) =
       let a = adds.both (doings_calls ds) (doing_calls d) in

@@ -73,7 +73,7 @@ module _ (g : At → ℕ → ℕ) where
   marks_then (Adds at amount (Held r v w) ∷ xs) ys e = marks_then xs ys e
   marks_then (Rings at content (Done v) ∷ xs) ys e = omega (arith, ap (g (at_put at v)) (action_then xs ys e), marks_then xs ys e)
   marks_then (Rings at content (Busy v w) ∷ xs) ys e = marks_then xs ys e
-  marks_then (Rings at content (Late t) ∷ xs) ys e = marks_then xs ys e
+  marks_then (Rings at content (Late t v) ∷ xs) ys e = marks_then xs ys e
   marks_then (Reads at seen ∷ xs) ys e = marks_then xs ys e
   marks_then (Loads at v found ∷ xs) ys e = marks_then xs ys e
   marks_then (Draws kind ticket ∷ xs) ys e = marks_then xs ys e
@@ -112,7 +112,7 @@ module _ (g : At → ℕ → ℕ) where
   within_marks number past (Adds at amount (Held r v x) ∷ calls) w e none = within_marks number past calls w.1 e none
   within_marks number past (Rings at content (Done v) ∷ calls) w e none = omega (arith, ap (g (at_put at v)) (within_action calls past w.1 ∙ e), within_marks number past calls w.1 e none)
   within_marks number past (Rings at content (Busy v x) ∷ calls) w e none = within_marks number past calls w.1 e none
-  within_marks number past (Rings at content (Late t) ∷ calls) w e none = within_marks number past calls w.1 e none
+  within_marks number past (Rings at content (Late t v) ∷ calls) w e none = within_marks number past calls w.1 e none
   within_marks number past (Reads at seen ∷ calls) w e none = within_marks number past calls w.1 e none
   within_marks number past (Loads at v found ∷ calls) w e none = within_marks number past calls w.1 e none
   within_marks number past (Draws kind ticket ∷ calls) w e none = within_marks number past calls w.1 e none

@@ -17,3 +17,13 @@ mod NamedThere
 mod LabelWork
 mod NumberedActions
 mod RunRules
+mod NamedNotes
+mod PhaseCounts
+mod ActedPlaces
+mod FittingNotes
+mod FlooredLines
+mod FlooredBlocks
+mod FlooredJournals
+mod DrawnPuts
+mod PhaseTickets
+mod PlainPlaced

@@ -15,7 +15,7 @@ use Rattle.pfs_model.specs.Floors.{IsThere, AreThere}
 use Rattle.pfs_model.specs.declared.lines.Subject.{Subject}
 use Rattle.pfs_session.specs.Turns.{Step, StartsEvent, EndsEvent, Spends, SettlesHeld, Connects, Quits, Truncates, Changes, Inquires, Turn, turns_calls}
 use Rattle.pfs_law_session.specs.Deeds.{Part, part_calls}
-use Rattle.pfs_law_plain.specs.Notes.{Note, Wrote, Freed, Found, Vacant, Switched, Saw, Acted, notes_at, notes_of, told, all_told}
+use Rattle.pfs_law_plain.specs.Notes.{Note, Wrote, Freed, Found, Vacant, Refused, Overdue, Switched, Saw, Acted, notes_at, notes_of, told, all_told}
 use Rattle.pfs_law_plain.specs.SessionNotes.{head_of, turns_notes, parts_notes}
 use Rattle.pfs_law_joint.proofs.Sums.{total_then}
 use Rattle.pfs_law_plain.specs.RunRules.{entries_of}
@@ -34,6 +34,8 @@ missing (Found row version) = one_if (not (nat_lt row 14242))
 missing (Saw word version) = one_if (not (nat_lt word 160))
 missing (Wrote row version) = 0
 missing (Vacant row) = 0
+missing (Refused row first second) = 0
+missing (Overdue row ticket) = 0
 missing (Switched word version flags) = 0
 missing (Acted number) = 0
 
@@ -63,7 +65,7 @@ call_there (Adds at amount (Counted r v)) near = refl
 call_there (Adds at amount (Held r v w)) near = refl
 call_there (Rings at content (Done v)) near = refl
 call_there (Rings at content (Busy v w)) near = refl
-call_there (Rings at content (Late t)) near = refl
+call_there (Rings at content (Late t v)) near = refl
 call_there (Reads at (seen.Whole v found)) near = omega (arith, not_missing at 14242 near.1)
 call_there (Reads at (seen.Free w)) near = refl
 call_there (Reads at (seen.Busy v w)) near = refl

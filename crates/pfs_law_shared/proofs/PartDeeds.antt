@@ -24,12 +24,12 @@ abbrev pub at_deed : Deed → At
 at_deed d = record { row = d.row; version = d.version; puts = not d.releases }
 
 -- the numbers that entries begin
-abbrev BeginsBy : (ℕ → Type 0) → Entry → Type 0
+abbrev pub BeginsBy : (ℕ → Type 0) → Entry → Type 0
 BeginsBy P (says.Connect action thread account user host) = P action
 BeginsBy P (says.Act action) = P action
 BeginsBy P _ = Unit {0}
 
-abbrev AllBegin : (ℕ → Type 0) → List Entry → Type 0
+abbrev pub AllBegin : (ℕ → Type 0) → List Entry → Type 0
 AllBegin P [] = Unit {0}
 AllBegin P (e ∷ es) = BeginsBy P e × AllBegin P es
 
@@ -49,7 +49,7 @@ all_begin P h so phase session line context (e ∷ es) none =
     (one_begins P h so e (omega (arith, none, t)), all_begin P h so phase session line (noted (subject_of line) context e) es (omega (arith, none, t)))
 
 -- the action in hand is that of the number that was printed last
-action_kept : (subject : Option Subject) (context : Context) (e : Entry) → begins e ≡ false → (noted subject context e).action ≡ context.action
+pub action_kept : (subject : Option Subject) (context : Context) (e : Entry) → begins e ≡ false → (noted subject context e).action ≡ context.action
 action_kept subject context (says.Connect action thread account user host) none = absurd (false≢true (sym none))
 action_kept subject context (says.Act action) none = absurd (false≢true (sym none))
 action_kept subject context (says.Start event verdict consumers thread class table) none = refl
@@ -60,7 +60,7 @@ action_kept subject context says.Settle none = refl
 action_kept subject context (says.Take row version) none = refl
 action_kept subject context _ none = refl
 
-action_begun : (P : ℕ → Type 0) (subject : Option Subject) (context : Context) (e : Entry) → begins e ≡ true → BeginsBy P e → P (noted subject context e).action
+pub action_begun : (P : ℕ → Type 0) (subject : Option Subject) (context : Context) (e : Entry) → begins e ≡ true → BeginsBy P e → P (noted subject context e).action
 action_begun P subject context (says.Connect action thread account user host) is p = p
 action_begun P subject context (says.Act action) is p = p
 action_begun P subject context _ is p = absurd (false≢true is)
@@ -168,10 +168,10 @@ IsOwnNumber (Some number) n = n ≡ number
 
 -- of one line of a session
 module _ (told : ToldLaw) (weighed : WeighedLaw) (phase session : ℕ) (context : Context) (s : State) (p : Part) (sits : Sits context s) (is : IsPart s p) where
-  abbrev own : List Placed
+  abbrev pub own : List Placed
   own = placed_part phase session (line_of p.deed) (turned context) (part_entries p)
 
-  numbers : each_of action_change own ≡ act_by (action_of p.deed)
+  pub numbers : each_of action_change own ≡ act_by (action_of p.deed)
   numbers =
       let t = (told context s (p ∷ []) sits (is, tt)).same phase session in
       let e : notes_of own ≡ turns_notes p.turns = sym (ap notes_of (append-nil own)) ∙ (t ∙ append-nil (turns_notes p.turns)) in
@@ -187,7 +187,7 @@ module _ (told : ToldLaw) (weighed : WeighedLaw) (phase session : ℕ) (context 
       let w : AreWeighed (own ++ []) (part_calls p) = weighed phase session context s (p ∷ []) sits (is, tt) in
       subst (λ z. total (λ s. k (at_set (setting_of s))) (settings_of z) ≡ total (λ z. k (at_set z)) (sets_of (part_calls p))) (append-nil own) (w.sets (λ z. k (at_set z)))
 
-  begun : (action : Option ℕ) → each_of action_change own ≡ act_by action → AllBegin (IsOwnNumber action) (part_entries p)
+  pub begun : (action : Option ℕ) → each_of action_change own ≡ act_by action → AllBegin (IsOwnNumber action) (part_entries p)
   unfolding total
   begun None e = all_begin (IsOwnNumber None) (λ n. 1) (λ n e. omega (arith, e)) phase session (line_of p.deed) (turned context) (part_entries p) (ap (total (λ c. 1)) e)
   begun (Some number) e = all_begin (IsOwnNumber (Some number)) (λ n. one_if (not (n == number))) (λ n e. by n (n == number) refl e) phase session (line_of p.deed) (turned context) (part_entries p)

@@ -50,11 +50,11 @@ abbrev last_top : ℕ → List Doing → ℕ
 last_top m [] = m
 last_top m (d ∷ ds) = last_top (next_top m (action_of d.part.deed)) ds
 
-abbrev AllOver : ℕ → List Doing → Type 0
+abbrev pub AllOver : ℕ → List Doing → Type 0
 AllOver m [] = Unit {0}
 AllOver m (d ∷ ds) = IfSome (action_of d.part.deed) (λ number. m < number) × AllOver m ds
 
-abbrev AllUnder : ℕ → List Doing → Type 0
+abbrev pub AllUnder : ℕ → List Doing → Type 0
 AllUnder m [] = Unit {0}
 AllUnder m (d ∷ ds) = IfSome (action_of d.part.deed) (λ number. number ≤ m) × AllUnder m ds
 
@@ -121,7 +121,7 @@ lined_counted session made (d ∷ ds) l = (by (action_of d.part.deed) l.0, lined
   by None e = tt
   by (Some number) e = e.0
 
-all_counted : (made : ℕ → ℕ) (spells : List Spell) → AllLined made spells → Each (λ spell. AreCounted spell.doings) spells
+pub all_counted : (made : ℕ → ℕ) (spells : List Spell) → AllLined made spells → Each (λ spell. AreCounted spell.doings) spells
 all_counted made [] l = tt
 all_counted made (spell ∷ spells) l = (lined_counted spell.session (made spell.session) spell.doings l.0, all_counted (more_made made spell) spells l.1)
 
@@ -156,7 +156,7 @@ all_under bound (d ∷ ds) low = (by (action_of d.part.deed) (λ n some. low n (
 no_phase : (n : ℕ) → nat_lt n 0 ≡ false
 no_phase n = grind arith
 
-before_zero : (spells : List Spell) → spells_before 0 spells ≡ []
+pub before_zero : (spells : List Spell) → spells_before 0 spells ≡ []
 before_zero [] = refl
 before_zero (spell ∷ spells) = ap (λ b. cond b (spell ∷ []) [] ++ spells_before 0 spells) (no_phase spell.phase) ∙ before_zero spells
 
@@ -173,7 +173,7 @@ split_cond false true false w e = absurd (omega (arith, e))
 split_cond false false true w e = absurd (omega (arith, e))
 split_cond false false false w e = omega arith
 
-over_next : (weigh : List Call → ℕ) (phase : ℕ) (spells : List Spell)
+pub over_next : (weigh : List Call → ℕ) (phase : ℕ) (spells : List Spell)
     → over weigh (actors_of (spells_before (suc phase) spells)) ≡ over weigh (actors_of (spells_at phase spells)) + over weigh (actors_of (spells_before phase spells))
 over_next weigh phase [] = refl
 over_next weigh phase (spell ∷ spells) =
@@ -188,7 +188,7 @@ none_ended : HaveEnded []
 unfolding total all_marks all_word_marks
 none_ended = record { marks = []; words = []; chain = tt; word_chain = tt; once = λ h. refl; words_once = λ h. refl }
 
-have_ended : (flags : List ℕ) (spells : List Spell) → AreShared flags spells → (phase : ℕ) → HaveEnded (actors_of (spells_before phase spells))
+pub have_ended : (flags : List ℕ) (spells : List Spell) → AreShared flags spells → (phase : ℕ) → HaveEnded (actors_of (spells_before phase spells))
 have_ended flags spells shared zero = subst (λ z. HaveEnded (actors_of z)) (sym (before_zero spells)) none_ended
 have_ended flags spells shared (suc phase) =
     let now : List (List Call) = actors_of (spells_at phase spells) in
@@ -205,7 +205,7 @@ have_ended flags spells shared (suc phase) =
     }
 
 -- a spell is one of the actors of its phase, and of those before each later one
-at_own : (all spells : List Spell) → ((weigh : List Call → ℕ) (phase : ℕ) → over weigh (actors_of (spells_at phase spells)) ≤ over weigh (actors_of (spells_at phase all)))
+pub at_own : (all spells : List Spell) → ((weigh : List Call → ℕ) (phase : ℕ) → over weigh (actors_of (spells_at phase spells)) ≤ over weigh (actors_of (spells_at phase all)))
     → Each (λ spell. (weigh : List Call → ℕ) → weigh (doings_calls spell.doings) ≤ over weigh (actors_of (spells_at spell.phase all))) spells
 at_own all [] low = tt
 at_own all (spell ∷ spells) low = (
@@ -213,7 +213,7 @@ at_own all (spell ∷ spells) low = (
   at_own all spells (λ weigh phase. omega (arith, low weigh phase, picked_over weigh (spell.phase == phase) spell (spells_at phase spells))),
 )
 
-before_own : (all spells : List Spell) → ((weigh : List Call → ℕ) (phase : ℕ) → over weigh (actors_of (spells_before phase spells)) ≤ over weigh (actors_of (spells_before phase all)))
+pub before_own : (all spells : List Spell) → ((weigh : List Call → ℕ) (phase : ℕ) → over weigh (actors_of (spells_before phase spells)) ≤ over weigh (actors_of (spells_before phase all)))
     → Each (λ spell. (weigh : List Call → ℕ) (phase : ℕ) → spell.phase < phase → weigh (doings_calls spell.doings) ≤ over weigh (actors_of (spells_before phase all))) spells
 before_own all [] low = tt
 before_own all (spell ∷ spells) low = (
@@ -225,7 +225,7 @@ both_facts : (P Q R : Spell → Type 0) → ((x : Spell) → P x → Q x → R x
 both_facts P Q R so [] p q = tt
 both_facts P Q R so (x ∷ xs) p q = (so x p.0 q.0, both_facts P Q R so xs p.1 q.1)
 
-done_of : (spells : List Spell) → AreDone (stints_of spells) → Each (λ spell. (s : State) × AreParts s (parts_in spell.doings)) spells
+pub done_of : (spells : List Spell) → AreDone (stints_of spells) → Each (λ spell. (s : State) × AreParts s (parts_in spell.doings)) spells
 done_of [] d = tt
 done_of (spell ∷ spells) d = ((d.0.from, d.0.are_parts), done_of spells d.1)
 
@@ -244,7 +244,7 @@ above q p up not = elim (cases_lt q p) [
 ]
 
 module _ (later : LaterLaw) (flags : List ℕ) (all : List Spell) (shared : AreShared flags all) (is_done : AreDone (stints_of all)) where
-  abbrev bound : ℕ → ℕ
+  abbrev pub bound : ℕ → ℕ
   bound phase = marked (all_marks (actors_of (spells_before phase all))) 0
 
   -- what is said of each spell: its numbers rise, are above those of the phases before, and not above those before a later one
@@ -298,7 +298,7 @@ module _ (later : LaterLaw) (flags : List ℕ) (all : List Spell) (shared : AreS
     at true e rest go = let s : spell.session ≡ session = eqb-true spell.session session e in rise_then m spell.doings (own_doings session spells) (own s) (go (behind s))
     at false e rest go = rest
 
-  risen_all : (spells : List Spell) → Each (λ spell. (s : State) × AreParts s (parts_in spell.doings)) spells → Each (λ spell. AreCounted spell.doings) spells → Each (λ spell. CallsRise (doings_calls spell.doings)) spells
+  pub risen_all : (spells : List Spell) → Each (λ spell. (s : State) × AreParts s (parts_in spell.doings)) spells → Each (λ spell. AreCounted spell.doings) spells → Each (λ spell. CallsRise (doings_calls spell.doings)) spells
       → Each (λ spell. (weigh : List Call → ℕ) → weigh (doings_calls spell.doings) ≤ over weigh (actors_of (spells_at spell.phase all))) spells
       → Each (λ spell. (weigh : List Call → ℕ) (phase : ℕ) → spell.phase < phase → weigh (doings_calls spell.doings) ≤ over weigh (actors_of (spells_before phase all))) spells
       → Each IsRisen spells

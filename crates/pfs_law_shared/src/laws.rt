@@ -1,10 +1,12 @@
 //! Laws of the definitions.
 
+ghost use Rattle.pfs_law_shared.specs.Floors.{FlooredLaw};
 ghost use Rattle.pfs_law_shared.specs.Journals.{AgreedLaw, ChainedLaw};
 ghost use Rattle.pfs_law_shared.specs.Labels.{LabelledLaw};
 ghost use Rattle.pfs_law_shared.specs.Order.{NearLaw, OrderedLaw, RisingLaw, ThereLaw};
 ghost use Rattle.pfs_law_shared.specs.Rules.{RuledLaw};
 ghost use Rattle.pfs_law_shared.specs.Shares.{PlainLaw};
+ghost use Rattle.pfs_law_shared.specs.Tickets.{PlacedLaw, TicketedLaw};
 
 /// At each phase's end the changes of rows that the journals of sessions at once print are chains along each row, and
 /// their sets of words along each word, whoever ran when, held and settled additions among them.
@@ -56,6 +58,21 @@ pub fn there()
     pfs_law_plain::journals::told_through();
 }
 
+/// Each line is above, or not below, what its session must have seen: what stood as its phase began, what the session's
+/// lines before it show, and what the actions gave that had ended. What was held or busy, or found a row vacant, has its
+/// cause; that of what came late is left out.
+pub fn floored()
+    ensures { FlooredLaw }
+{
+    agreed();
+    pfs_law_joint::laws::caused();
+    pfs_law_joint::laws::floored();
+    pfs_law_joint::laws::later();
+    pfs_law_joint::laws::named();
+    pfs_law_plain::journals::told();
+    pfs_law_plain::journals::weighed();
+}
+
 /// The labels that they have in common are those of the printed actions by their numbers, each with its session and its
 /// place among this one's actions.
 pub fn labelled()
@@ -84,11 +101,21 @@ pub fn ruled()
     pfs_stat::laws::merge();
 }
 
-/// A plain store that its sessions use one after another gives what they have in common, and their calls name its rows
-/// and words.
+/// Phase by phase each place of a long history has as many puts as there are tickets of it; these stand at their places,
+/// each once, and rise along a session.
+pub fn ticketed()
+    ensures { TicketedLaw }
+{
+    pfs_law_plain::journals::told();
+    pfs_law_plain::journals::weighed();
+}
+
+/// A plain store that its sessions use one after another gives what they have in common; their calls name its rows and
+/// words, and their puts go to places of rings.
 pub fn plain()
     ensures shared { PlainLaw }
     ensures near { NearLaw }
+    ensures placed { PlacedLaw }
 {
     pfs_law_joint::laws::plain();
 }
