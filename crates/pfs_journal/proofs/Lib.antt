@@ -16,6 +16,7 @@ mod PartReadings
 mod PhaseReadings
 mod ReportRuns
 mod ReaderStops
+mod WrittenFits
 mod WrittenParts
 mod ValueReadings
 mod WordReadings

@@ -5,6 +5,7 @@ use Rattle.pfs_event.specs.declared.entry.Entry.{Entry}
 use Rattle.pfs_text.specs.declared.values.RowValue.{RowValue}
 use Rattle.pfs_journal.specs.declared.line.Line.{Line}
 use Rattle.pfs_journal.specs.declared.line.Line.TheVariants as says
+use Rattle.pfs_journal.specs.declared.values.LostReport.{LostReport}
 use Rattle.pfs_journal.specs.declared.values.TableReport.{TableReport}
 use Rattle.pfs_journal.specs.declared.blocks.BlockReport.{BlockReport}
 use Rattle.pfs_journal.specs.declared.report.PhaseParts.{PhaseParts}
@@ -32,11 +33,15 @@ block_lines block = says.Session block.session ∷ journal_lines block.entries b
 abbrev pub table_lines : TableReport → List Line
 table_lines table = says.Table table.name ∷ row_lines table.rows
 
+-- the tables and counters, and what follows a phase's line
+abbrev pub results_lines : List TableReport → List LostReport → List Line
+results_lines tables lost = flat_map table_lines tables ++ map says.Lost lost
+
+abbrev pub body_lines : PhaseParts → List Line
+body_lines phase = flat_map block_lines phase.blocks ++ says.Final ∷ results_lines phase.tables phase.lost
+
 abbrev pub phase_lines : PhaseParts → List Line
-phase_lines phase =
-    says.Phase phase.number
-    ∷ (flat_map block_lines phase.blocks
-    ++ says.Final ∷ (flat_map table_lines phase.tables ++ map says.Lost phase.lost))
+phase_lines phase = says.Phase phase.number ∷ body_lines phase
 
 abbrev pub report_lines : ReportParts → List Line
 report_lines report = says.Head report.format ∷ (flat_map phase_lines report.phases ++ says.End ∷ [])

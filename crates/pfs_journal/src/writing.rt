@@ -1,8 +1,11 @@
 //! Writing a report: its lines, offered to a sink one by one, in order.
 
-ghost use Rattle.std.specs.Prelude.{ℕ, List, ◌≡◌, ◌+◌, ◌^◌, ◌<◌, OnOk, [], drop, if◌then◌else◌};
-ghost use Rattle.std.specs.List.{flat_map, slice_index_or};
+ghost use Rattle.std.specs.Prelude.{ℕ, List, ◌≡◌, ◌+◌, ◌^◌, ◌<◌, ◌∷◌, ◌++◌, IsOk, OnOk, [], drop, if◌then◌else◌};
+ghost use Rattle.std.specs.List.{All, flat_map, slice_index_or};
 ghost use Rattle.pfs_outside.specs.WholeStreams.{Puts};
+ghost use Rattle.pfs_journal.specs.declared.line.Line.TheVariants as says;
+ghost use Rattle.pfs_journal.specs.LineWords.{FitsLine};
+ghost use Rattle.pfs_journal.specs.ReportLines.{FitsReport, answered_lines, block_lines, body_lines, journal_lines, phase_lines, results_lines, row_lines, table_lines};
 ghost use Rattle.pfs_journal.specs.Spelling.{entry_text, is_answered, answered_text, journal_text, block_text, session_line, row_text, table_line, table_text, lost_text, results_text, final_line, final_text, body_text, phase_line, phase_text, phases_text, first_line, spelling};
 
 use crate::NoMemory;
@@ -18,11 +21,14 @@ use std::alloc::Global;
 /// A part of a report that is spelled in lines.
 trait Spelled {
     ghost text: { Self → List ℕ };
+    // Each number on its lines is below 2^64.
+    ghost fits: { Self → Type 0 };
 
     /// Offers the lines to a sink, in order. Those that may be of any length are built in this buffer.
     fn put<K: Sink>(&self, line: &mut Vec<u8>, sink: &mut K) -> Result<(), WriteStop>
-        ensures { Puts (K.written sink.old) (K.written sink.new) (K.faults sink.old) (K.faults sink.new)
-            (text self.now) result };
+        ensures puts { Puts (K.written sink.old) (K.written sink.new) (K.faults sink.old) (K.faults sink.new)
+            (text self.now) result }
+        ensures fits { OnOk result (fits self.now) };
 }
 
 /// Offers the parts of a list, in order.
@@ -31,8 +37,9 @@ fn put_each<T: Spelled, K: Sink>(
     sink: &mut K,
     parts: &[T],
 ) -> Result<(), WriteStop>
-    ensures { Puts (K.written sink.old) (K.written sink.new) (K.faults sink.old) (K.faults sink.new)
+    ensures puts { Puts (K.written sink.old) (K.written sink.new) (K.faults sink.old) (K.faults sink.new)
         (flat_map T.text parts.now) result }
+    ensures fits { OnOk result (All T.fits parts.now) }
 {
     for part in parts {
         match part.put(line, sink) {
@@ -45,8 +52,9 @@ fn put_each<T: Spelled, K: Sink>(
 
 /// Offers a line, or says that memory ran out while it was built.
 fn offer<K: Sink>(sink: &mut K, line: &[u8], built: Result<(), NoMemory>) -> Result<(), WriteStop>
-    ensures { (text : List ℕ) → OnOk built (line.now ≡ text)
+    ensures puts { (text : List ℕ) → OnOk built (line.now ≡ text)
         → Puts (K.written sink.old) (K.written sink.new) (K.faults sink.old) (K.faults sink.new) text result }
+    ensures built { OnOk result (IsOk built) }
 {
     match built {
         Ok(()) => write_all(sink, line),
@@ -61,8 +69,9 @@ fn put_entry_line<K: Sink>(
     sink: &mut K,
     entry: &Entry,
 ) -> Result<(), WriteStop>
-    ensures { Puts (K.written sink.old) (K.written sink.new) (K.faults sink.old) (K.faults sink.new)
+    ensures puts { Puts (K.written sink.old) (K.written sink.new) (K.faults sink.old) (K.faults sink.new)
         (entry_text entry.now) result }
+    ensures fits { FitsLine (says.Entry entry.now) }
 {
     let start = entry_before(buffer, ENTRY, entry);
     write_all(sink, &buffer[start..])
@@ -70,6 +79,8 @@ fn put_entry_line<K: Sink>(
 
 impl Spelled for Row {
     ghost text = { row_text };
+
+    ghost fits = { λ row. FitsLine (says.Row row) };
 
     fn put<K: Sink>(&self, line: &mut Vec<u8>, sink: &mut K) -> Result<(), WriteStop> {
         let built = row_line(line, self);
@@ -111,9 +122,11 @@ fn put_answer<K: Sink>(
     answers: &[Rowset],
     place: usize,
 ) -> Result<(), WriteStop>
-    ensures { Puts (K.written sink.old) (K.written sink.new) (K.faults sink.old) (K.faults sink.new)
+    ensures puts { Puts (K.written sink.old) (K.written sink.new) (K.faults sink.old) (K.faults sink.new)
         (if is_answered entry.now then flat_map row_text (slice_index_or (drop place answers.now) 0 [])
         else []) result }
+    ensures fits { OnOk result (All FitsLine (if is_answered entry.now then row_lines (slice_index_or
+        (drop place answers.now) 0 []) else [])) }
 {
     if is_answered(entry) {
         put_each(line, sink, answer_at(answers, place))
@@ -132,8 +145,9 @@ fn put_entry<K: Sink>(
     answers: &[Rowset],
     place: usize,
 ) -> Result<(), WriteStop>
-    ensures { Puts (K.written sink.old) (K.written sink.new) (K.faults sink.old) (K.faults sink.new)
+    ensures puts { Puts (K.written sink.old) (K.written sink.new) (K.faults sink.old) (K.faults sink.new)
         (answered_text entry.now (drop place answers.now)) result }
+    ensures fits { OnOk result (All FitsLine (answered_lines entry.now (drop place answers.now))) }
 {
     put_entry_line(buffer, sink, entry)?;
     put_answer(line, sink, entry, answers, place)
@@ -142,8 +156,9 @@ fn put_entry<K: Sink>(
 /// Offers a journal without answers, line by line.
 #[tactic(auto, using(crate::proofs::EntryLines::leaving_all))]
 fn put_entries<K: Sink>(sink: &mut K, entries: &EntryList) -> Result<(), WriteStop>
-    ensures { Puts (K.written sink.old) (K.written sink.new) (K.faults sink.old) (K.faults sink.new)
+    ensures puts { Puts (K.written sink.old) (K.written sink.new) (K.faults sink.old) (K.faults sink.new)
         (flat_map entry_text entries.now) result }
+    ensures fits { OnOk result (All (λ entry. FitsLine (says.Entry entry)) entries.now) }
 {
     let mut buffer = [b'\n'; ENTRY];
     for at in 0..entries.count() {
@@ -162,8 +177,9 @@ fn put_answered<K: Sink>(
     entries: &EntryList,
     answers: &[Rowset],
 ) -> Result<(), WriteStop>
-    ensures { Puts (K.written sink.old) (K.written sink.new) (K.faults sink.old) (K.faults sink.new)
+    ensures puts { Puts (K.written sink.old) (K.written sink.new) (K.faults sink.old) (K.faults sink.new)
         (journal_text entries.now answers.now) result }
+    ensures fits { OnOk result (All FitsLine (journal_lines entries.now answers.now)) }
 {
     let mut buffer = [b'\n'; ENTRY];
     let mut place = 0usize;
@@ -185,8 +201,9 @@ fn put_journal<K: Sink>(
     entries: &EntryList,
     answers: &[Rowset],
 ) -> Result<(), WriteStop>
-    ensures { Puts (K.written sink.old) (K.written sink.new) (K.faults sink.old) (K.faults sink.new)
+    ensures puts { Puts (K.written sink.old) (K.written sink.new) (K.faults sink.old) (K.faults sink.new)
         (journal_text entries.now answers.now) result }
+    ensures fits { OnOk result (All FitsLine (journal_lines entries.now answers.now)) }
 {
     if answers.is_empty() {
         put_entries(sink, entries)
@@ -197,8 +214,9 @@ fn put_journal<K: Sink>(
 
 #[tactic(auto, unfolding(crate::specs::Spelling::session_line))]
 fn put_session_line<K: Sink>(line: &mut Vec<u8>, sink: &mut K, number: u64) -> Result<(), WriteStop>
-    ensures { Puts (K.written sink.old) (K.written sink.new) (K.faults sink.old) (K.faults sink.new)
+    ensures puts { Puts (K.written sink.old) (K.written sink.new) (K.faults sink.old) (K.faults sink.new)
         (session_line number) result }
+    ensures fits { FitsLine (says.Session number) }
 {
     let built = one_line(line, b"session", number);
     offer(sink, line, built)
@@ -206,6 +224,8 @@ fn put_session_line<K: Sink>(line: &mut Vec<u8>, sink: &mut K, number: u64) -> R
 
 impl Spelled for BlockReport {
     ghost text = { block_text };
+
+    ghost fits = { λ block. All FitsLine (block_lines block) };
 
     #[tactic(auto, using(pfs_outside::proofs::SinkWrites::puts_then, pfs_outside::proofs::SinkWrites::puts_stop), unfolding(crate::specs::Spelling::block_text))]
     fn put<K: Sink>(&self, line: &mut Vec<u8>, sink: &mut K) -> Result<(), WriteStop> {
@@ -225,6 +245,8 @@ fn put_table_line<K: Sink>(line: &mut Vec<u8>, sink: &mut K, name: &[u8]) -> Res
 impl Spelled for TableReport {
     ghost text = { table_text };
 
+    ghost fits = { λ table. All FitsLine (table_lines table) };
+
     #[tactic(auto, using(pfs_outside::proofs::SinkWrites::puts_then, pfs_outside::proofs::SinkWrites::puts_stop), unfolding(crate::specs::Spelling::table_text))]
     fn put<K: Sink>(&self, line: &mut Vec<u8>, sink: &mut K) -> Result<(), WriteStop> {
         put_table_line(line, sink, self.name.as_bytes())?;
@@ -234,6 +256,8 @@ impl Spelled for TableReport {
 
 impl Spelled for LostReport {
     ghost text = { lost_text };
+
+    ghost fits = { λ lost. FitsLine (says.Lost lost) };
 
     fn put<K: Sink>(&self, line: &mut Vec<u8>, sink: &mut K) -> Result<(), WriteStop> {
         let built = lost_line(line, self);
@@ -249,8 +273,9 @@ fn put_results<K: Sink>(
     tables: &[TableReport],
     lost: &[LostReport],
 ) -> Result<(), WriteStop>
-    ensures { Puts (K.written sink.old) (K.written sink.new) (K.faults sink.old) (K.faults sink.new)
+    ensures puts { Puts (K.written sink.old) (K.written sink.new) (K.faults sink.old) (K.faults sink.new)
         (results_text tables.now lost.now) result }
+    ensures fits { OnOk result (All FitsLine (results_lines tables.now lost.now)) }
 {
     put_each(line, sink, tables)?;
     put_each(line, sink, lost)
@@ -271,8 +296,9 @@ fn put_final<K: Sink>(
     tables: &[TableReport],
     lost: &[LostReport],
 ) -> Result<(), WriteStop>
-    ensures { Puts (K.written sink.old) (K.written sink.new) (K.faults sink.old) (K.faults sink.new)
+    ensures puts { Puts (K.written sink.old) (K.written sink.new) (K.faults sink.old) (K.faults sink.new)
         (final_text tables.now lost.now) result }
+    ensures fits { OnOk result (All FitsLine (says.Final ∷ results_lines tables.now lost.now)) }
 {
     put_final_line(sink)?;
     put_results(line, sink, tables, lost)
@@ -280,8 +306,9 @@ fn put_final<K: Sink>(
 
 #[tactic(auto, using(pfs_outside::proofs::SinkWrites::puts_then, pfs_outside::proofs::SinkWrites::puts_stop), unfolding(crate::specs::Spelling::body_text))]
 fn put_body<K: Sink>(line: &mut Vec<u8>, sink: &mut K, phase: &PhaseParts) -> Result<(), WriteStop>
-    ensures { Puts (K.written sink.old) (K.written sink.new) (K.faults sink.old) (K.faults sink.new)
+    ensures puts { Puts (K.written sink.old) (K.written sink.new) (K.faults sink.old) (K.faults sink.new)
         (body_text phase.now) result }
+    ensures fits { OnOk result (All FitsLine (body_lines phase.now)) }
 {
     put_each(line, sink, phase.blocks.as_slice())?;
     put_final(line, sink, phase.tables.as_slice(), phase.lost.as_slice())
@@ -289,8 +316,9 @@ fn put_body<K: Sink>(line: &mut Vec<u8>, sink: &mut K, phase: &PhaseParts) -> Re
 
 #[tactic(auto, unfolding(crate::specs::Spelling::phase_line))]
 fn put_phase_line<K: Sink>(line: &mut Vec<u8>, sink: &mut K, number: u64) -> Result<(), WriteStop>
-    ensures { Puts (K.written sink.old) (K.written sink.new) (K.faults sink.old) (K.faults sink.new)
+    ensures puts { Puts (K.written sink.old) (K.written sink.new) (K.faults sink.old) (K.faults sink.new)
         (phase_line number) result }
+    ensures fits { FitsLine (says.Phase number) }
 {
     let built = one_line(line, b"phase", number);
     offer(sink, line, built)
@@ -298,8 +326,9 @@ fn put_phase_line<K: Sink>(line: &mut Vec<u8>, sink: &mut K, number: u64) -> Res
 
 #[tactic(auto, using(pfs_outside::proofs::SinkWrites::puts_then, pfs_outside::proofs::SinkWrites::puts_stop), unfolding(crate::specs::Spelling::phase_text))]
 fn put_phase<K: Sink>(line: &mut Vec<u8>, sink: &mut K, phase: &PhaseParts) -> Result<(), WriteStop>
-    ensures { Puts (K.written sink.old) (K.written sink.new) (K.faults sink.old) (K.faults sink.new)
+    ensures puts { Puts (K.written sink.old) (K.written sink.new) (K.faults sink.old) (K.faults sink.new)
         (phase_text phase.now) result }
+    ensures fits { OnOk result (All FitsLine (phase_lines phase.now)) }
 {
     put_phase_line(line, sink, phase.number)?;
     put_body(line, sink, phase)
@@ -307,6 +336,8 @@ fn put_phase<K: Sink>(line: &mut Vec<u8>, sink: &mut K, phase: &PhaseParts) -> R
 
 impl Spelled for PhaseReport {
     ghost text = { phase_text };
+
+    ghost fits = { λ phase. All FitsLine (phase_lines phase) };
 
     fn put<K: Sink>(&self, line: &mut Vec<u8>, sink: &mut K) -> Result<(), WriteStop> {
         put_phase(line, sink, self.parts())
@@ -319,8 +350,9 @@ fn put_phases<K: Sink>(
     sink: &mut K,
     phases: &[PhaseReport],
 ) -> Result<(), WriteStop>
-    ensures { Puts (K.written sink.old) (K.written sink.new) (K.faults sink.old) (K.faults sink.new)
+    ensures puts { Puts (K.written sink.old) (K.written sink.new) (K.faults sink.old) (K.faults sink.new)
         (phases_text phases.now) result }
+    ensures fits { OnOk result (All FitsLine (flat_map phase_lines phases.now ++ says.End ∷ [])) }
 {
     put_each(line, sink, phases)?;
     write_all(sink, b"end\n")
@@ -328,8 +360,9 @@ fn put_phases<K: Sink>(
 
 #[tactic(auto, unfolding(crate::specs::Spelling::first_line))]
 fn put_first_line<K: Sink>(line: &mut Vec<u8>, sink: &mut K, format: u64) -> Result<(), WriteStop>
-    ensures { Puts (K.written sink.old) (K.written sink.new) (K.faults sink.old) (K.faults sink.new)
+    ensures puts { Puts (K.written sink.old) (K.written sink.new) (K.faults sink.old) (K.faults sink.new)
         (first_line format) result }
+    ensures fits { FitsLine (says.Head format) }
 {
     let built = one_line(line, b"pfs-report", format);
     offer(sink, line, built)
@@ -342,8 +375,9 @@ pub fn write_table<K: Sink>(
     table: &TableReport,
     sink: &mut K,
 ) -> Result<(), WriteStop>
-    ensures { Puts (K.written sink.old) (K.written sink.new) (K.faults sink.old) (K.faults sink.new)
+    ensures puts { Puts (K.written sink.old) (K.written sink.new) (K.faults sink.old) (K.faults sink.new)
         (table_text table.now) result }
+    ensures fits { OnOk result (All FitsLine (table_lines table.now)) }
 {
     let mut line = Vec::new(alloc);
     table.put(&mut line, sink)
@@ -353,8 +387,9 @@ pub fn write_table<K: Sink>(
 /// taken in part is offered again. On a refusal a front of the report was written.
 #[tactic(auto, using(pfs_outside::proofs::SinkWrites::puts_then, pfs_outside::proofs::SinkWrites::puts_stop), unfolding(crate::specs::Spelling::spelling))]
 pub fn write<K: Sink>(alloc: Global, report: &Report, sink: &mut K) -> Result<(), WriteStop>
-    ensures { Puts (K.written sink.old) (K.written sink.new) (K.faults sink.old) (K.faults sink.new)
+    ensures puts { Puts (K.written sink.old) (K.written sink.new) (K.faults sink.old) (K.faults sink.new)
         (spelling report.now) result }
+    ensures fits { OnOk result (FitsReport report.now) }
 {
     let parts = report.parts();
     let mut line = Vec::new(alloc);

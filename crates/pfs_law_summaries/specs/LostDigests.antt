@@ -34,8 +34,14 @@ abbrev pub AreLostDigests : Run → PhaseParts → Type 0
 AreLostDigests run phase =
     counter_named (counter_name Digests) phase.lost ≡ length (unplaced_events (past_to run phase.number))
 
--- under the end of each phase of a run of a script
+-- under the end of each phase of a run
+abbrev pub AllHaveLostDigests : (setting : Setting) (phases : List Phase) (report : ReportParts)
+    → IsRun setting phases report → Type 0
+AllHaveLostDigests setting phases report run =
+    AreFinal (AreLostDigests (run_of setting phases report run)) report.phases
+
+-- of any script
 abbrev pub LostDigestsLaw : Type 0
 LostDigestsLaw = (text : List ℕ) (setting : Setting) (phases : List Phase) (report : ReportParts)
     → IsScript text setting phases → (run : IsRun setting phases report)
-    → AreFinal (AreLostDigests (run_of setting phases report run)) report.phases
+    → AllHaveLostDigests setting phases report run

@@ -17,6 +17,7 @@ use Rattle.pfs_law_summaries.specs.CurrentPlaces.{AllHaveCurrents}
 use Rattle.pfs_law_summaries.specs.DigestSummary.{AllAreDigested}
 use Rattle.pfs_law_summaries.specs.ThreadHistories.{AllHaveHistories}
 use Rattle.pfs_law_summaries.specs.LongHistory.{AllHaveLongs}
+use Rattle.pfs_law_summaries.specs.LostDigests.{AllHaveLostDigests}
 
 -- what counts by the numbers that conservation gives to events is what counts by the entries
 abbrev pub AgreedLaw : Type 0
@@ -36,8 +37,8 @@ CountedLaw = (text : List ℕ) (setting : Setting) (phases : List Phase) (report
     → AllAreCounted setting phases report run
 
 -- a plain run whose summaries, that by digest among them, show what counts there, whose histories show just the last
--- puts of each session that is there, whose current places show the last put of each, and whose long history the
--- greatest ticket of each place
+-- puts of each session that is there, whose current places show the last put of each, whose long history the greatest
+-- ticket of each place, and whose counter of lost digests the number of statements whose digest texts have no place
 pub record IsCountedRun (setting : Setting) (phases : List Phase) (report : ReportParts) : Type 0 where
   pub plain : IsPlainRun setting phases report
   pub counted : AllAreCounted setting phases report plain.run
@@ -45,3 +46,4 @@ pub record IsCountedRun (setting : Setting) (phases : List Phase) (report : Repo
   pub histories : AllHaveHistories setting phases report plain.run
   pub currents : AllHaveCurrents setting phases report plain.run
   pub longs : AllHaveLongs setting phases report plain.run
+  pub lost_digests : AllHaveLostDigests setting phases report plain.run

@@ -1,5 +1,5 @@
 -- How a call ends, from how its parts end.
-use Rattle.std.proofs.Common.{ℕ, ◌≡◌, ◌≤◌, ◌<◌, ◌⊎◌, inl, inr, List, length, Option, Some, IfSome, Result, Ok, Err, ap, subst, refl, arith}
+use Rattle.std.proofs.Common.{ℕ, ◌≡◌, ◌≤◌, ◌<◌, ◌⊎◌, inl, inr, List, length, Option, Some, IfSome, Result, Ok, Err, OnOk, ap, subst, refl, arith}
 use Rattle.std.specs.Prelude.{String}
 use Rattle.std.specs.declared.alloc.Global.{Global}
 use Rattle.pfs_outside.specs.DeviceCalls.{Rose, Added}
@@ -10,8 +10,9 @@ use Rattle.pfs_top.specs.declared.statuses.Status.{Status}
 use Rattle.pfs_top.specs.declared.statuses.Status.TheVariants.{Done, Usage, BadScript, ReadFault, WriteFault, NoMemory}
 use Rattle.pfs_classes.specs.declared.setting.Setting.{Setting}
 use Rattle.pfs_script.specs.declared.blocks.Phase.{Phase}
+use Rattle.pfs_script.specs.declared.reasons.Reason.{Reason}
 use Rattle.pfs_script.specs.declared.reasons.Reason.TheVariants.{TooLong}
-use Rattle.pfs_script.specs.Scripts.{IsScript}
+use Rattle.pfs_script.specs.Scripts.{IsScript, IsFirstFault}
 use Rattle.pfs_gen.specs.GeneratedScript.{script_text}
 use Rattle.pfs_top.specs.Commands.{most_bytes, HasReport, HasSummaries, HasLoad, HasFault, HasRead, HasInput, HasPlain, Has, ToldPart, Tells, Ends, ReadBy, status_after}
 use Rattle.pfs_top.specs.CommandWords.{AsksRun, AsksPlain, AsksScript, AsksLoad}
@@ -36,6 +37,13 @@ pub told : (P : Status → List ℕ → Type 0) (before after : Option (List ℕ
 told P before after old now due status (Ok done) own h p = told_whole P before after due (Rose old now) status own h p.0
 told P before after old now due status (Err stop.Failed) own h p = (p.1, (status, due, h, p.0))
 told P before after old now due status (Err stop.NoMemory) own h p = inr (status, due, h, p.0)
+
+-- and where more is told of it once it was written
+pub told_more : (P : Status → List ℕ → Type 0) (before after : Option (List ℕ)) (old now : ℕ) (due : List ℕ) (status : Status) (outcome : Result (Unit {0}) WriteStop) → HasOwnText status → OnOk outcome (P status due) → P WriteFault due → Puts before after old now due outcome
+    → Tells P before after (Rose old now) (status_after outcome status)
+told_more P before after old now due status (Ok done) own h part p = told_whole P before after due (Rose old now) status own h p.0
+told_more P before after old now due status (Err stop.Failed) own h part p = (p.1, (WriteFault, due, part, p.0))
+told_more P before after old now due status (Err stop.NoMemory) own h part p = inr (WriteFault, due, part, p.0)
 
 part_as : (P Q : Status → List ℕ → Type 0) (before after : Option (List ℕ)) → ((status : Status) (due : List ℕ) → P status due → Q status due) → ToldPart P before after → ToldPart Q before after
 part_as P Q before after f p = (p.0, p.1, f p.0 p.1 p.2, p.3)
@@ -74,8 +82,17 @@ read_ran bytes setting phases script Done due h = (setting, phases, script, h)
 read_ran bytes setting phases script Usage due h = absurd h
 read_ran bytes setting phases script (BadScript line reason) due h = absurd h
 read_ran bytes setting phases script ReadFault due h = absurd h
-read_ran bytes setting phases script WriteFault due h = absurd h
+read_ran bytes setting phases script WriteFault due h = (setting, phases, script, h)
 read_ran bytes setting phases script NoMemory due h = absurd h
+
+-- nor is a fault's line that of other bytes
+pub fault_read : (bytes : List ℕ) (line : ℕ) (reason : Reason) → IsFirstFault bytes line reason → (status : Status) (due : List ℕ) → HasFault line reason status due → HasRead bytes status due
+fault_read bytes line reason first Done due h = absurd h
+fault_read bytes line reason first Usage due h = absurd h
+fault_read bytes line reason first (BadScript l r) due h = (rw (h.0, h.1) first, rw (h.0, h.1) h.2)
+fault_read bytes line reason first ReadFault due h = absurd h
+fault_read bytes line reason first WriteFault due h = absurd h
+fault_read bytes line reason first NoMemory due h = absurd h
 
 -- the text of the bytes that came is that of the source
 pub input_read : (input : Option (List ℕ)) (bytes : List ℕ) → IfSome input (λ text. bytes ≡ text) → length bytes ≤ most_bytes → (status : Status) (due : List ℕ) → HasRead bytes status due → HasInput input status due
@@ -83,7 +100,7 @@ input_read input bytes came short Done due h = (bytes, came, short, h)
 input_read input bytes came short Usage due h = absurd h
 input_read input bytes came short (BadScript line reason) due h = inr (bytes, came, short, h)
 input_read input bytes came short ReadFault due h = absurd h
-input_read input bytes came short WriteFault due h = absurd h
+input_read input bytes came short WriteFault due h = (bytes, came, short, h)
 input_read input bytes came short NoMemory due h = absurd h
 
 -- the summaries of a generated script's phases are a load's
@@ -110,7 +127,7 @@ plain_told words input asks Done due h = (asks, h)
 plain_told words input asks Usage due h = absurd h
 plain_told words input asks (BadScript line reason) due h = (asks, h)
 plain_told words input asks ReadFault due h = absurd h
-plain_told words input asks WriteFault due h = absurd h
+plain_told words input asks WriteFault due h = (asks, h)
 plain_told words input asks NoMemory due h = absurd h
 
 pub script_told : (words : List (String Global)) (input : Option (List ℕ)) → AsksScript words → (status : Status) (due : List ℕ) → HasInput input status due → Has words input status due
@@ -118,7 +135,7 @@ script_told words input asks Done due h = inl (asks, h)
 script_told words input asks Usage due h = absurd h
 script_told words input asks (BadScript line reason) due h = inl (asks, h)
 script_told words input asks ReadFault due h = absurd h
-script_told words input asks WriteFault due h = absurd h
+script_told words input asks WriteFault due h = inl (asks, h)
 script_told words input asks NoMemory due h = absurd h
 
 -- what a load tells

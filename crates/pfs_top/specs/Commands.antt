@@ -12,6 +12,7 @@ use Rattle.pfs_script.specs.declared.reasons.Reason.TheVariants.{BadByte, OpenLi
 use Rattle.pfs_script.specs.Scripts.{IsScript, IsFirstFault}
 use Rattle.pfs_law_summaries.specs.SummaryLaws.{IsCountedRun}
 use Rattle.pfs_journal.specs.declared.report.ReportParts.{ReportParts}
+use Rattle.pfs_journal.specs.ReportLines.{FitsReport}
 use Rattle.pfs_journal.specs.Reports.{IsReport}
 use Rattle.pfs_journal.specs.Spelling.{spelling}
 use Rattle.pfs_gen.specs.GeneratedScript.{script_text}
@@ -61,9 +62,13 @@ HasRun written setting phases Done due = (report : ReportParts) × IsReport repo
     × (due ≡ written report)
 HasRun written setting phases _ due = ⊥
 
--- `run` and `plain` write the whole report
+-- `run` and `plain` write the whole report: at Done each number on its lines is below 2^64, so that what was written can
+-- be read back. The row of WriteFault is for a front of it, of which that is not told
 abbrev pub HasReport : Setting → List Phase → Status → List ℕ → Type 0
-HasReport setting phases status due = HasRun spelling setting phases status due
+HasReport setting phases Done due = (report : ReportParts) × IsReport report × FitsReport report
+    × IsCountedRun setting phases report × (due ≡ spelling report)
+HasReport setting phases WriteFault due = HasRun spelling setting phases Done due
+HasReport setting phases _ due = ⊥
 
 -- `load` writes the summaries of its last phase
 abbrev pub HasSummaries : Setting → List Phase → Status → List ℕ → Type 0
@@ -84,6 +89,8 @@ HasFault line reason _ due = ⊥
 abbrev pub HasRead : List ℕ → Status → List ℕ → Type 0
 HasRead bytes Done due = (setting : Setting) × (phases : List Phase) × IsScript bytes setting phases
     × HasReport setting phases Done due
+HasRead bytes WriteFault due = (setting : Setting) × (phases : List Phase) × IsScript bytes setting phases
+    × HasReport setting phases WriteFault due
 HasRead bytes (BadScript line reason) due = IsFirstFault bytes line reason × (due ≡ fault_text line reason)
 HasRead bytes _ due = ⊥
 
@@ -91,6 +98,8 @@ HasRead bytes _ due = ⊥
 abbrev pub HasInput : Option (List ℕ) → Status → List ℕ → Type 0
 HasInput input Done due = (bytes : List ℕ) × IfSome input (λ text. bytes ≡ text) × (length bytes ≤ most_bytes)
     × HasRead bytes Done due
+HasInput input WriteFault due = (bytes : List ℕ) × IfSome input (λ text. bytes ≡ text) × (length bytes ≤ most_bytes)
+    × HasRead bytes WriteFault due
 HasInput input (BadScript line reason) due =
     ((line ≡ 0) × (reason ≡ TooLong) × (due ≡ fault_text line reason) × IfSome input (λ text. most_bytes < length text))
     ⊎ ((bytes : List ℕ) × IfSome input (λ text. bytes ≡ text) × (length bytes ≤ most_bytes)

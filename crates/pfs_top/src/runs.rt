@@ -52,7 +52,8 @@ fn complain<K: Sink>(alloc: Global, sink: &mut K, line: u64, reason: Reason) -> 
 }
 
 /// Runs a script on one thread. The summaries of its report show what counts there, its histories and current places
-/// the last puts, and its long history the greatest tickets.
+/// the last puts, its long history the greatest tickets, and its counter of lost digests how many digested statements
+/// had no place.
 pub fn run_script(alloc: Global, script: &Script) -> Result<Report, NoMemory>
     requires { (text : List ℕ) × IsScript text script.now.setting script.now.phases }
     ensures { IfOk result (λ report. IsCountedRun script.now.setting script.now.phases report) }
@@ -62,6 +63,7 @@ pub fn run_script(alloc: Global, script: &Script) -> Result<Report, NoMemory>
     pfs_law_summaries::summaries::histories();
     pfs_law_summaries::summaries::currents();
     pfs_law_summaries::summaries::longs();
+    pfs_law_summaries::summaries::lost_digests();
     run_plain(alloc, &script.setting, script.phases.as_slice())
 }
 

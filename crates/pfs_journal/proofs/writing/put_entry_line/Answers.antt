@@ -4,8 +4,8 @@ use Rattle.pfs_journal.specs.Spelling.{entry_text}
 use Rattle.pfs_journal.proofs.EntryLines.{alone, to_the_end}
 use Rattle.pfs_journal.proofs.writing.put_entry_line.Goals as goal
 
-pub returns : goal.returns
-returns g c =
+pub returns-clause-puts : goal.returns-clause-puts
+returns-clause-puts g c =
     let line = c.entry_before-start in
     let whole : length c.args.buffer.now ≡ 124 = search (rules, c.told-buffer) in
     let long : length line.new.buffer ≡ 124 = omega (arith, whole, line.auto.buffer) in

@@ -18,4 +18,5 @@ returns c =
       histories = c.histories.ensures text setting phases report c.requires.1 run.run;
       currents = c.currents.ensures text setting phases report c.requires.1 run.run;
       longs = c.longs.ensures text setting phases report c.requires.1 run.run;
+      lost_digests = c.lost_digests.ensures text setting phases report c.requires.1 run.run;
     }) c.run_plain.ensures
